@@ -1,0 +1,4 @@
+pub mod Arithmetics
+pub mod Packing
+pub mod Rows
+pub mod Spelling

@@ -1,0 +1,155 @@
+ghost use Rattle.std.specs.Prelude.{◌≡◌, ◌≢◌, ◌≤◌, IfSome, IfNone};
+ghost use Rattle.mm_isa.specs.declared.instr.Instr.{Instr};
+ghost use Rattle.mm_isa.specs.Table.{number_of, spelling, IsInstr};
+ghost use Rattle.mm_isa.specs.Decode.{instr_of, row_of, pre_in, post_in, how_in, register_in};
+
+use crate::encoding::encode;
+use crate::fields::Fields;
+use crate::instr::{AluOp, How, Instr};
+use crate::reg::{EvtReg, Reg};
+use mm_word::{Post, Pre};
+
+/// The instruction that a word spells.
+pub fn decode(w: u64) -> Option<Instr>
+    ensures value { result ≡ instr_of w }
+    ensures spelled { IfSome result (λ i. IsInstr i × (spelling i ≡ w)) }
+    ensures none { IfNone result ((i : Instr) → IsInstr i → spelling i ≢ w) }
+{
+    let i = row(Fields::of_word(w))?;
+    if encode(&i) == w { Some(i) } else { None }
+}
+
+// The row of the operation, with the used fields read off. Unused fields are not looked at.
+#[tactic(auto, unfolding(crate::specs::Decode::row_of, crate::specs::Decode::rows))]
+fn row(f: Fields) -> Option<Instr>
+    ensures { result ≡ row_of f }
+{
+    let Fields {
+        operation,
+        rd,
+        ra,
+        rb,
+        c,
+        imm,
+    } = f;
+    match operation {
+        0x00 => Some(Instr::Halt),
+        0x01 => Some(Instr::Nop),
+        0x02 => Some(Instr::Ldi { rd, imm }),
+        0x03 => Some(Instr::Ldhi { rd, imm }),
+        0x04 => Some(Instr::Mov { rd, ra }),
+        0x05 => Some(Instr::Isptr { rd, ra }),
+        0x06 => Some(Instr::Eqw { rd, ra, rb }),
+        0x07 => Some(Instr::Out { ra }),
+        0x08 => Some(Instr::SelfSlot { rd }),
+        0x10..=0x1d => {
+            let op = op_of(operation);
+            Some(Instr::Alu { op, rd, ra, rb })
+        }
+        0x1e => Some(Instr::Addi { rd, ra, imm }),
+        0x20 => Some(Instr::Lea { rd, ra, rb }),
+        0x21 => Some(Instr::Leai { rd, ra, imm }),
+        0x22 => Some(Instr::Leab { rd, ra, rb }),
+        0x23 => Some(Instr::Restrict { rd, ra, rb }),
+        0x24 => Some(Instr::Subseg { rd, ra, rb }),
+        0x25 => Some(Instr::Setptr { rd, ra }),
+        0x30 => Some(Instr::Ld {
+            rd,
+            ra,
+            pre: pre_of(c),
+            post: post_of(c),
+            imm,
+        }),
+        0x31 => Some(Instr::St {
+            ra,
+            rb,
+            pre: pre_of(c),
+            post: post_of(c),
+            imm,
+        }),
+        0x40 => Some(Instr::Br { imm }),
+        0x41 => Some(Instr::Bz { ra, imm }),
+        0x42 => Some(Instr::Bnz { ra, imm }),
+        0x43 => Some(Instr::Jmp { ra }),
+        0x44 => Some(Instr::Jal { rd, ra }),
+        0x45 => Some(Instr::Lip { rd, imm }),
+        0x50 => Some(Instr::Trap { imm }),
+        0x51 => Some(Instr::Evt {
+            rd: EvtReg::clamped(rd),
+        }),
+        0x52 => Some(Instr::Resume { ra, how: how_of(c) }),
+        0x53 => Some(Instr::Rreg {
+            rd,
+            ra,
+            reg: register_of(imm),
+        }),
+        0x54 => Some(Instr::Wreg {
+            ra,
+            rb,
+            reg: register_of(imm),
+        }),
+        0x60 => Some(Instr::Map { rd, ra }),
+        0x61 => Some(Instr::Unmap { rd, ra }),
+        _ => None,
+    }
+}
+
+// The integer operation with this number.
+fn op_of(number: u8) -> AluOp
+    requires low { 0x10 ≤ number }
+    requires high { number ≤ 0x1d }
+    ensures { number_of result ≡ number }
+{
+    match number {
+        0x10 => AluOp::Add,
+        0x11 => AluOp::Sub,
+        0x12 => AluOp::Mul,
+        0x13 => AluOp::Divu,
+        0x14 => AluOp::Remu,
+        0x15 => AluOp::And,
+        0x16 => AluOp::Or,
+        0x17 => AluOp::Xor,
+        0x18 => AluOp::Shl,
+        0x19 => AluOp::Shr,
+        0x1a => AluOp::Sar,
+        0x1b => AluOp::Eq,
+        0x1c => AluOp::Ltu,
+        _ => AluOp::Lts,
+    }
+}
+
+fn pre_of(c: u8) -> Pre
+    ensures { result ≡ pre_in c }
+{
+    match c / 4 {
+        0 => Pre::Any,
+        1 => Pre::Full,
+        _ => Pre::Empty,
+    }
+}
+
+fn post_of(c: u8) -> Post
+    ensures { result ≡ post_in c }
+{
+    match c % 4 {
+        0 => Post::Keep,
+        1 => Post::Full,
+        _ => Post::Empty,
+    }
+}
+
+fn how_of(c: u8) -> How
+    ensures { result ≡ how_in c }
+{
+    match c {
+        0 => How::Retry,
+        1 => How::Skip,
+        _ => How::Kill,
+    }
+}
+
+fn register_of(imm: i32) -> Reg
+    ensures { result ≡ register_in imm }
+{
+    Reg::of_low_bits(u64::from(imm.cast_unsigned()))
+}
