@@ -1,0 +1,29 @@
+use Rattle.std.proofs.Common.{rules, ◌≡◌, length, arith, ◌∙◌}
+use Rattle.std.proofs.lemmas.Grind.{common_steps}
+use Rattle.mm_io.specs.Files.{ReadsAt}
+use Rattle.mm_io.proofs.Reading.{Begins-++, Begins-longer, reads_same}
+use Rattle.mm_io.proofs.read.read_pieces.Goals as goal
+
+pub returns-then-len-count-clause-too_long : goal.returns-then-len-count-clause-too_long
+returns-then-len-count-clause-too_long g c _ =
+    let at : c.len.result ≡ length c.loop-bytes.bytes.items = search rules in
+    let reads : ReadsAt (g.F.Files.held c.args.files.now c.args.name.now) (length c.loop-bytes.bytes.items) c.in_ok-count.count c.read_at.new.buf =
+    reads_same c.args.name.now c.in_ok-count.count c.read_at.new.buf c.loop-bytes.invariant.kept at c.in_ok-count.ensures.bytes in
+    let len : c.len-in-loop-bytes.result ≡ length c.loop-bytes.bytes.items = search rules in
+    Begins-longer (g.F.Files.held c.args.files.now c.args.name.now) c.loop-bytes.bytes.items c.in_ok-count.count c.read_at.new.buf c.args.limit c.loop-bytes.invariant.begins
+    c.in_ok-count.ensures.bound reads (omega arith)
+
+pub loop-bytes-preserved : goal.loop-bytes-preserved
+loop-bytes-preserved g c =
+    let at : c.len.result ≡ length c.loop-bytes.bytes.items = search rules in
+    let reads : ReadsAt (g.F.Files.held c.args.files.now c.args.name.now) (length c.loop-bytes.bytes.items) c.in_ok-count.count c.read_at.new.buf =
+    reads_same c.args.name.now c.in_ok-count.count c.read_at.new.buf c.loop-bytes.invariant.kept at c.in_ok-count.ensures.bytes in
+    let begins = Begins-++ (g.F.Files.held c.args.files.now c.args.name.now) c.loop-bytes.bytes.items c.in_ok-count.count c.read_at.new.buf c.loop-bytes.invariant.begins
+    c.in_ok-count.ensures.bound reads in
+    record {
+      inside = grind (arith, common_steps);
+      begins = rw c.in_ok-extend_from_slice.ensures.items begins;
+      room = search rules;
+      kept = c.in_ok-count.ensures.kept ∙ c.loop-bytes.invariant.kept;
+      later = λ name. omega (arith, c.in_ok-count.ensures.later name, c.loop-bytes.invariant.later name);
+    }

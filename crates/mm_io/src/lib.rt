@@ -1,0 +1,24 @@
+//! Files, sources and sinks that count their faults.
+//!
+//! A tool that reads and writes through these traits can say why it failed: a call answers
+//! [`Failed`] only where its count of faults rose in this call, or stands at the counter's last
+//! value. So an error that a caller reports is one that really happened. What a file holds, what a
+//! source has left and what a sink took is told where the type tells it: those in memory do, those
+//! of the system do not.
+#![tactic(auto)]
+
+mod kinds;
+mod memory;
+mod read;
+mod sure;
+mod system;
+#[cfg(test)]
+mod tests;
+mod write;
+
+pub use kinds::{Failed, Files, Sink, Source};
+pub use memory::{MemSink, NullSink};
+pub use read::{ReadError, read_all, read_input};
+pub use sure::{SureFiles, SureSource};
+pub use system::{StdFiles, StdSink, StdSource};
+pub use write::{WriteFault, write_all};
