@@ -1,0 +1,2 @@
+pub mod FlagLists
+pub mod Unchanged

@@ -1,0 +1,41 @@
+-- What an image means: slots, memory, a version and a mode.
+use Rattle.std.specs.Prelude.{ℕ, Bool, false, ◌==◌, if◌then◌else◌, List, [], map, replicate}
+use Rattle.mm_model.specs.Memory.{Memory}
+use Rattle.mm_model.specs.Slot.{Slot}
+use Rattle.mm_model.specs.State.{State}
+
+pub record Image : Type 0 where
+  pub version : ℕ
+  -- loads are issued and their values arrive later
+  pub split : Bool
+  pub slots : List Slot
+  pub memory : Memory
+
+-- how many slots, and how many numbers of slots and groups, a version has
+abbrev pub slot_limit : ℕ → ℕ
+slot_limit version = if version == 1 then 16 else 64
+
+-- how many frames
+abbrev pub frame_limit : ℕ → ℕ
+frame_limit version = if version == 1 then 256 else 4096
+
+-- how many bytes a group may put out
+abbrev pub output_limit : ℕ → ℕ
+output_limit version = if version == 1 then 4096 else 65536
+
+-- no register waits for a load
+abbrev pub none_empty : List Bool
+none_empty = replicate 16 false
+
+-- the machine's start: empty queues and outputs, no cycle so far
+unfoldable pub start : Image → State
+start i = record {
+  core = record {
+    rows = map (λ s. record { slot = s; queue = [] }) i.slots;
+    outputs = replicate 64 [];
+    version = i.version;
+    split = i.split;
+  };
+  memory = i.memory;
+  cycles = 0;
+}

@@ -1,0 +1,15 @@
+pub mod Flags
+pub mod Memory
+pub mod Uses
+pub mod Slot
+pub mod State
+pub mod Image
+pub mod Operands
+pub mod Ask
+pub mod Effect
+pub mod Turn
+pub mod Run
+pub mod Digits
+pub mod Lines
+pub mod Report
+pub mod Spelling

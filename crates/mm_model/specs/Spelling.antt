@@ -1,0 +1,111 @@
+-- The bytes that spell an image.
+use Rattle.std.specs.Prelude.{◌≡◌, ◌≢◌, ℕ, zero, suc, ◌+◌, ◌^◌, ◌<◌, ◌≤◌, Bool, true, false, ◌==◌, if◌then◌else◌, List, [], ◌∷◌, ◌++◌, map, length, take, drop, codes, Option, Some, None, IfSome, ◌⊎◌}
+use Rattle.std.specs.List.{flat_map, AllByRecursion}
+use Rattle.std.specs.List.Sorted.{IsStrictlyIncreasing}
+use Rattle.std.specs.Int.{w16, w32, w64, to_be_bytes}
+use Rattle.mm_word.specs.Perm.{can_fetch}
+use Rattle.mm_word.specs.Pointer.{IsWellFormed, bits_of}
+use Rattle.mm_word.specs.Word.{word_bits, is_pointer, IsWord}
+use Rattle.mm_word.specs.declared.word.Word.{Word}
+use Rattle.mm_word.specs.declared.word.Cell.{Cell}
+use Rattle.mm_model.specs.declared.slot.SlotState.{SlotState}
+use Rattle.mm_model.specs.declared.slot.SlotState.TheVariants.{Running, Halted}
+use Rattle.mm_model.specs.Flags.{number_of_flags}
+use Rattle.mm_model.specs.Memory.{IsPaged}
+use Rattle.mm_model.specs.Slot.{Slot}
+use Rattle.mm_model.specs.Image.{Image, slot_limit, frame_limit, none_empty}
+
+-- 1. What an image has to be.
+
+-- a slot begins to run, or is halted without a cause
+abbrev pub Begins : SlotState → Type 0
+Begins Running = Unit {0}
+Begins (Halted None) = Unit {0}
+Begins _ = ⊥
+
+-- the numbers of slots
+abbrev pub numbers_of : List Slot → List ℕ
+numbers_of slots = map (λ s. s.number) slots
+
+-- another slot of the list
+abbrev pub IsOther : List Slot → ℕ → ℕ → Type 0
+IsOther slots n h = (h ≢ n) × ((s : Slot) × Rattle.std.specs.Prelude.Contains slots s × (s.number ≡ h))
+
+-- a slot of an image with these slots and this limit of numbers
+pub record IsFresh (limit : ℕ) (slots : List Slot) (s : Slot) : Type 0 where
+  pub number : s.number < limit
+  pub group : s.group < limit
+  pub handler : IfSome s.handler (IsOther slots s.number)
+  pub begins : Begins s.state
+  pub executable : can_fetch s.ip.perm ≡ true
+  pub ip : IsWellFormed s.ip
+  pub registers : length s.regs ≡ 16
+  pub words : AllByRecursion IsWord s.regs
+  pub past : s.past ≡ false
+  pub turns : s.turns ≡ 0
+  pub empty : s.empty ≡ none_empty
+  pub pending : s.pending ≡ []
+
+-- each cell of each page holds a word
+abbrev pub HoldsWords : ℕ × List Cell → Type 0
+HoldsWords page = AllByRecursion (λ (c : Cell). IsWord c.word) page.1
+
+pub record IsImage (i : Image) : Type 0 where
+  pub version : (i.version ≡ 1) ⊎ (i.version ≡ 2)
+  pub mode : i.version ≡ 1 → i.split ≡ false
+  pub some_slots : 1 ≤ length i.slots
+  pub few_slots : length i.slots ≤ slot_limit i.version
+  pub rising : IsStrictlyIncreasing (numbers_of i.slots)
+  pub fresh : AllByRecursion (IsFresh (slot_limit i.version) i.slots) i.slots
+  pub some_frames : 1 ≤ i.memory.frames
+  pub few_frames : i.memory.frames ≤ frame_limit i.version
+  pub paged : IsPaged i.memory
+  pub words : AllByRecursion HoldsWords i.memory.pages
+
+-- 2. How it is spelled.
+
+abbrev pub mode_of : Bool → ℕ
+mode_of split = if split then 1 else 0
+
+abbrev pub handler_byte : Option ℕ → ℕ
+handler_byte None = 255
+handler_byte (Some h) = h
+
+abbrev pub state_byte : SlotState → ℕ
+state_byte Running = 0
+state_byte _ = 1
+
+abbrev pub words_spelling : List Word → List ℕ
+words_spelling words = flat_map (λ w. to_be_bytes w64 (word_bits w)) words
+
+-- slot, group, handler, state, instruction pointer, which registers hold pointers, and the 16 registers
+unfoldable pub slot_record : Slot → List ℕ
+slot_record s =
+    (s.number ∷ s.group ∷ handler_byte s.handler ∷ state_byte s.state ∷ []) ++ to_be_bytes w64 (bits_of s.ip)
+    ++ to_be_bytes w16 (number_of_flags (map is_pointer s.regs)) ++ words_spelling s.regs
+
+-- so many bytes of eight flags each, the first flag lowest
+abbrev pub bitmap : ℕ → List Bool → List ℕ
+bitmap zero flags = []
+bitmap (suc count) flags = number_of_flags (take 8 flags) ∷ bitmap count (drop 8 flags)
+
+-- number, which cells hold pointers, which are full, and the 512 words
+unfoldable pub page_record : ℕ × List Cell → List ℕ
+page_record page =
+    to_be_bytes w64 page.0 ++ bitmap 64 (map (λ (c : Cell). is_pointer c.word) page.1) ++ bitmap 64 (map (λ (c : Cell). c.full) page.1)
+    ++ words_spelling (map (λ (c : Cell). c.word) page.1)
+
+-- magic, version, how many slots, frames and pages, and the mode
+abbrev pub header : Image → List ℕ
+header i =
+    codes "MMI1" ++ to_be_bytes w16 i.version ++ to_be_bytes w16 (length i.slots) ++ to_be_bytes w16 i.memory.frames
+    ++ to_be_bytes w16 (length i.memory.pages) ++ to_be_bytes w32 (mode_of i.split)
+
+-- the bytes of an image's file
+unfoldable pub spelling : Image → List ℕ
+spelling i = header i ++ flat_map slot_record i.slots ++ flat_map page_record i.memory.pages
+
+-- the bytes spell the image
+pub record Spells (bytes : List ℕ) (i : Image) : Type 0 where
+  pub image : IsImage i
+  pub spelled : bytes ≡ spelling i

@@ -1,0 +1,36 @@
+-- What a machine asks of its memory.
+use Rattle.std.specs.Prelude.{◌≡◌, ℕ, ◌+◌, Bool, List, [], ◌∷◌, ◌++◌}
+use Rattle.std.proofs.Common.{subst, append_assoc, sym, append-nil, arith}
+use Rattle.mm_word.specs.declared.perm.Kind.{Kind}
+
+pub data Use : Type 0 where
+  -- an access: its kind, its word, whether a page was found and whether it was done
+  Accessed : (kind : Kind) (word : ℕ) (found done : Bool) → Use
+  -- a page that was removed
+  Removed : (page : ℕ) → Use
+
+-- how many of the uses are accesses
+abbrev pub accesses : List Use → ℕ
+accesses [] = 0
+accesses (Accessed kind word found done ∷ us) = accesses us + 1
+accesses (Removed page ∷ us) = accesses us
+
+pub accesses-append : (us vs : List Use) → accesses (us ++ vs) ≡ accesses us + accesses vs
+accesses-append [] vs = omega arith
+accesses-append (Accessed kind word found done ∷ us) vs = omega (arith, accesses-append us vs)
+accesses-append (Removed page ∷ us) vs = accesses-append us vs
+
+-- each list for which old stood, new stands for with these uses added
+pub record TakesUses {M : Type 0} (stands : M → List Use → Type 0) (old new : M) (us : List Use) : Type 0 where
+  pub each : (before : List Use) → stands old before → stands new (before ++ us)
+
+module _ {M : Type 0} {stands : M → List Use → Type 0} where
+  pub takes_none : (m : M) → TakesUses stands m m []
+  takes_none m = record { each = λ before h. let P : List Use → Type 0 = λ us. stands m us in subst P (sym (append-nil before)) h }
+
+  -- one after the other
+  pub takes_both : {a b c : M} {us vs : List Use} → TakesUses stands a b us → TakesUses stands b c vs → TakesUses stands a c (us ++ vs)
+  takes_both {c = c} {us = us} {vs = vs} first second = record {
+    each = λ before h. let P : List Use → Type 0 = λ ws. stands c ws in
+        subst P (append_assoc before us vs) (second.each (before ++ us) (first.each before h));
+  }

@@ -1,0 +1,109 @@
+use arrayvec::ArrayVec;
+use mm_word::{Cause, GuardedPtr, Word};
+use std::marker::Model;
+
+/// Whether a slot takes turns.
+#[derive(Clone, Copy, Debug, PartialEq, Eq)]
+pub enum SlotState {
+    Running,
+    /// Its event is in its handler's queue.
+    Waiting,
+    /// Its event was read by its handler.
+    Taken,
+    /// It has ended, by a fault where there is a cause.
+    Halted(Option<Cause>),
+}
+
+/// A load that was issued and whose value has not arrived.
+#[derive(Clone, Copy, Debug, PartialEq, Eq)]
+pub struct Pending {
+    /// The register that waits for it, 0 to 15.
+    pub reg: u8,
+    /// The word that the cell held when the load was issued.
+    pub word: Word,
+}
+
+/// What stands in an unused place of a list of pending loads.
+impl Default for Pending {
+    ghost use Rattle.std.specs.Prelude.{◌≡◌};
+    ghost use Rattle.mm_word.specs.declared.word.Word.TheVariants.{Int};
+
+    ghost is_default = { λ p. p ≡ record { reg = 0; word = Int 0 } };
+
+    fn default() -> Pending {
+        Pending {
+            reg: 0,
+            word: Word::Int(0),
+        }
+    }
+}
+
+/// A resident thread.
+#[derive(Drop)]
+pub struct Slot {
+    /// Its number, 0 to 63.
+    pub number: u8,
+    /// The protection domain that it belongs to, 0 to 63.
+    pub group: u8,
+    /// The slot that is told of its faults.
+    pub handler: Option<u8>,
+    pub regs: [Word; 16],
+    /// The instruction pointer, which is one of executable code.
+    pub ip: GuardedPtr,
+    /// The instruction before was the last of the segment, so that the next fetch is out of bounds.
+    pub past: bool,
+    /// How many turns it has taken.
+    pub turns: u64,
+    pub state: SlotState,
+    /// Bit `r` is set where register `r` waits for a pending load.
+    pub empty: u16,
+    /// The pending loads, oldest first.
+    pub pending: ArrayVec<Pending, 16>,
+}
+
+impl Model for Slot {
+    ghost use Rattle.std.specs.Prelude.{◌≡◌, true};
+    ghost use Rattle.mm_word.specs.Perm.{can_fetch};
+    ghost use Rattle.mm_model.specs.Flags.{flags};
+    ghost use Rattle.mm_model.specs.Slot.{Slot as SlotValue};
+
+    ghost Value = { SlotValue };
+
+    ghost view = { λ s. record {
+      number = s.number;
+      group = s.group;
+      handler = s.handler;
+      regs = s.regs;
+      ip = s.ip;
+      past = s.past;
+      turns = s.turns;
+      state = s.state;
+      empty = flags 16 s.empty;
+      pending = s.pending.items;
+    } };
+
+    ghost invariant = { λ s. can_fetch s.ip.perm ≡ true };
+}
+
+impl Slot {
+    ghost use Rattle.std.specs.Prelude.{◌≡◌, ◌<◌};
+    ghost use Rattle.mm_model.specs.Slot.{register, is_empty};
+
+    /// The word of a register.
+    #[tactic(auto, unfolding(crate::specs::Slot::register))]
+    pub fn register(&self, number: u8) -> Word
+        requires { number < 16 }
+        ensures { result ≡ register self.now number }
+    {
+        self.regs[number as usize]
+    }
+
+    /// Whether a register waits for a pending load.
+    #[tactic(auto, using(crate::proofs::FlagLists::flag_test), unfolding(crate::specs::Slot::is_empty))]
+    pub fn is_empty(&self, number: u8) -> bool
+        requires { number < 16 }
+        ensures { result ≡ is_empty self.now number }
+    {
+        self.empty >> number & 1 == 1
+    }
+}

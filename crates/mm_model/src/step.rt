@@ -1,0 +1,30 @@
+use mm_word::{Access, Cause, GuardedPtr};
+
+/// How a cycle ended.
+#[derive(Clone, Copy, Debug, PartialEq, Eq)]
+pub enum Tick {
+    /// The cycle named no running slot, and no port with an entry: nothing changed.
+    Idle,
+    /// The slot stays at its instruction: it waits for a cell's synchronisation bit, an event or a register.
+    Blocked,
+    /// The instruction was carried out.
+    Did,
+    /// The instruction faulted.
+    Faulted(Cause),
+    /// A port delivered the oldest pending load of its slot to this register.
+    Delivered(u8),
+}
+
+/// What one cycle did.
+#[derive(Clone, Copy, Debug, PartialEq, Eq)]
+pub struct Step {
+    pub tick: Tick,
+    /// The slot that the cycle was about.
+    pub slot: u8,
+    /// The access that fetched the instruction, also where it found no page.
+    pub fetched: Option<Access>,
+    /// The data access, also where it found no page or a failed precondition.
+    pub touched: Option<Access>,
+    /// The enter pointer through which a jump was done.
+    pub entered: Option<GuardedPtr>,
+}
