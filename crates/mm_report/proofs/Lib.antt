@@ -1,0 +1,2 @@
+pub mod OutputRows
+pub mod RegisterLines

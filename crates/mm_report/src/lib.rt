@@ -1,0 +1,12 @@
+//! The texts of slots and of what groups have put out.
+#![tactic(auto)]
+
+mod output;
+mod slots;
+#[cfg(test)]
+mod tests;
+mod words;
+
+pub use output::put_output;
+pub use slots::{put_slot, slot_lines};
+pub use words::put_word;

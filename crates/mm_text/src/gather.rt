@@ -1,0 +1,143 @@
+// Texts that are gathered before a sink is handed them.
+ghost use Rattle.std.specs.Prelude.{◌≡◌, ◌≤◌, [], false};
+ghost use Rattle.mm_io.specs.Sinks.{Writes};
+ghost use Rattle.mm_text.specs.Gathers.{Gathers, Finishes, nothing};
+ghost use Rattle.mm_text.specs.Pieces.{piece_text, pieces_text};
+ghost use Rattle.mm_model.specs.Digits.{hex};
+
+use crate::digits::{MOST_DIGITS, fill_digits};
+use crate::piece::Piece;
+use arrayvec::ArrayVec;
+use itoa::Buffer;
+use mm_io::{Sink, WriteFault, write_all};
+use std::marker::Model;
+
+/// How many bytes are kept at most.
+const ROOM: usize = 4096;
+
+/// Text on its way to a sink, which is handed up to 4,096 bytes at a time, and a longer text at
+/// once.
+///
+/// Contracts see it as the bytes that are kept, and whether a write has failed. Each call is handed
+/// the same sink. After a write that failed nothing more is handed over, and [`Gather::finish`],
+/// which ends the text, says so.
+#[derive(Drop)]
+pub struct Gather {
+    kept: ArrayVec<u8, ROOM>,
+    failed: bool,
+}
+
+impl Model for Gather {
+    ghost use Rattle.mm_text.specs.Gathers.{Gathered};
+
+    ghost Value = { Gathered };
+
+    ghost view = { λ g. record { kept = g.kept.items; failed = g.failed } };
+}
+
+impl Gather {
+    /// A gatherer that has no text yet.
+    pub fn new() -> Gather
+        ensures { result ≡ nothing }
+    {
+        Gather {
+            kept: ArrayVec::new(),
+            failed: false,
+        }
+    }
+
+    /// Whether a write has failed.
+    pub fn has_failed(&self) -> bool
+        ensures { result ≡ self.now.failed }
+    {
+        self.failed
+    }
+
+    // Hands over what is kept.
+    fn hand_over<O: Sink>(&mut self, out: &mut O)
+        requires { self.old.failed ≡ false }
+        ensures kept { self.new.kept ≡ [] }
+        ensures gathers { Gathers O.taken O.faults out.old out.new self.old self.new [] }
+    {
+        self.failed = write_all(out, &self.kept).is_err();
+        self.kept.clear();
+    }
+
+    /// Appends a text. The sink is handed bytes only where the text has no room.
+    pub fn put_bytes<O: Sink>(&mut self, out: &mut O, text: &[u8])
+        ensures { Gathers O.taken O.faults out.old out.new self.old self.new text.now }
+    {
+        if self.failed || self.kept.try_extend_from_slice(text).is_ok() {
+            return;
+        }
+        self.hand_over(out);
+        self.put_rest(out, text);
+    }
+
+    // Appends a text where nothing is kept.
+    fn put_rest<O: Sink>(&mut self, out: &mut O, text: &[u8])
+        requires { self.old.kept ≡ [] }
+        ensures { Gathers O.taken O.faults out.old out.new self.old self.new text.now }
+    {
+        if self.failed || self.kept.try_extend_from_slice(text).is_ok() {
+            return;
+        }
+        self.failed = write_all(out, text).is_err();
+    }
+
+    /// Appends a piece, as [`Gather::put_bytes`] its text.
+    pub fn put_piece<O: Sink>(&mut self, out: &mut O, piece: &Piece)
+        ensures { Gathers O.taken O.faults out.old out.new self.old self.new (piece_text piece.now) }
+    {
+        match piece {
+            Piece::Text(text) => self.put_bytes(out, text.as_bytes()),
+            Piece::Decimal(number) => {
+                let mut buffer = Buffer::new();
+                self.put_bytes(out, buffer.format(*number).as_bytes());
+            }
+            Piece::HexByte(byte) => self.put_hex(out, *byte as u64, 2),
+            Piece::HexPage(page) => self.put_hex(out, *page, 11),
+            Piece::HexAddress(address) => self.put_hex(out, *address, 14),
+            Piece::HexWord(word) => self.put_hex(out, *word, 16),
+        }
+    }
+
+    // Appends the last hexadecimal digits of a number.
+    fn put_hex<O: Sink>(&mut self, out: &mut O, number: u64, digits: usize)
+        requires { digits ≤ 16 }
+        ensures { Gathers O.taken O.faults out.old out.new self.old self.new (hex digits number) }
+    {
+        let mut buffer = [0u8; MOST_DIGITS];
+        let start = fill_digits(&mut buffer, number, digits);
+        self.put_bytes(out, &buffer[start..]);
+    }
+
+    /// Appends the pieces, one after the other, each as [`Gather::put_piece`] does.
+    pub fn put<O: Sink>(&mut self, out: &mut O, pieces: &[Piece])
+        ensures { Gathers O.taken O.faults out.old out.new self.old self.new (pieces_text pieces.now) }
+    {
+        for piece in pieces {
+            self.put_piece(out, piece);
+        }
+    }
+
+    /// Hands over what is kept. At `Ok` the sink took all of the text; a [`WriteFault`] comes where
+    /// this or an earlier write failed, and the sink took a front part.
+    pub fn finish<O: Sink>(self, out: &mut O) -> Result<(), WriteFault>
+        ensures { Finishes O.taken O.faults out.old out.new self result }
+    {
+        if self.failed {
+            return Err(WriteFault);
+        }
+        write_all(out, &self.kept)
+    }
+}
+
+/// Writes the pieces, one after the other. At a [`WriteFault`] the sink took a front part.
+pub fn write_pieces<O: Sink>(out: &mut O, pieces: &[Piece]) -> Result<(), WriteFault>
+    ensures { Writes O.taken O.faults out.old out.new (pieces_text pieces.now) result }
+{
+    let mut text = Gather::new();
+    text.put(out, pieces);
+    text.finish(out)
+}

@@ -1,0 +1,15 @@
+//! Texts that are written piece by piece, without memory.
+//!
+//! A [`Gather`] hands a sink some kilobytes at a time, so that a stream of the system is not called
+//! for every word. It keeps in mind that a write failed, so that a function that writes many pieces
+//! looks for a fault only at its end.
+#![tactic(auto)]
+
+mod digits;
+mod gather;
+mod piece;
+#[cfg(test)]
+mod tests;
+
+pub use gather::{Gather, write_pieces};
+pub use piece::Piece;
