@@ -1,0 +1,5 @@
+pub mod Verdicts
+pub mod Clashes
+pub mod OneSection
+pub mod OneRobin
+pub mod OneRun

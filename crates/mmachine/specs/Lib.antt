@@ -1,0 +1,4 @@
+pub mod Table
+pub mod Report
+pub mod Answers
+pub mod Exit

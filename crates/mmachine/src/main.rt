@@ -1,0 +1,65 @@
+//! `mmachine` runs programs of the integer part of the M-Machine, whose threads are kept apart by guarded pointers.
+//!
+//! All that the program does is done by the top call, [`top::mmachine`]. `main` makes the real files and streams, calls it and
+//! ends with its status.
+#![tactic(auto)]
+
+ghost use Rattle.std.specs.Prelude.{◌≡◌};
+ghost use Rattle.mmachine.specs.Exit.{exit_code};
+
+mod line;
+mod report;
+mod robin;
+mod run;
+mod status;
+#[cfg(test)]
+mod tests;
+mod top;
+mod words;
+
+use crate::status::Status;
+use crate::top::mmachine;
+use mm_io::{StdFiles, StdSink, StdSource};
+use std::env;
+use std::process::ExitCode;
+
+/// The status of the process where the words of the command line cannot be had.
+const NO_WORDS: u8 = 6;
+
+/// The status of the process at an answer.
+fn code(status: Status) -> u8
+    ensures { result ≡ exit_code status }
+{
+    match status {
+        Status::Done => 0,
+        Status::Usage => 1,
+        Status::Refused(_) => 2,
+        Status::ReadFault => 3,
+        Status::WriteFault => 4,
+        Status::NoMemory => 5,
+    }
+}
+
+/// The words of the command line behind the program's name.
+fn words_of(rt: &HostRuntime) -> Option<Vec<String>> {
+    env::args(rt).ok()?.skip(1).collect(rt.alloc()).ok()
+}
+
+fn main(rt: HostRuntime) -> ExitCode {
+    let Some(words) = words_of(&rt) else {
+        return ExitCode::from(NO_WORDS);
+    };
+    let mut files = StdFiles::new(&rt);
+    let mut input = StdSource::new(rt.stdin());
+    let mut out = StdSink::new(rt.stdout());
+    let mut diag = StdSink::new(rt.stderr());
+    let status = mmachine(
+        rt.alloc(),
+        &words,
+        &mut files,
+        &mut input,
+        &mut out,
+        &mut diag,
+    );
+    ExitCode::from(code(status))
+}
