@@ -1,2 +1,4 @@
 pub mod FlagLists
 pub mod Unchanged
+pub mod CountsSay
+pub mod Memories

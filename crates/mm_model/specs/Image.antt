@@ -1,5 +1,5 @@
 -- What an image means: slots, memory, a version and a mode.
-use Rattle.std.specs.Prelude.{ℕ, Bool, false, ◌==◌, if◌then◌else◌, List, [], map, replicate}
+use Rattle.std.specs.Prelude.{ℕ, Bool, false, ◌==◌, if◌then◌else◌, List, [], ◌∷◌, map, replicate, Option, Some, None}
 use Rattle.mm_model.specs.Memory.{Memory}
 use Rattle.mm_model.specs.Slot.{Slot}
 use Rattle.mm_model.specs.State.{State}
@@ -10,6 +10,11 @@ pub record Image : Type 0 where
   pub split : Bool
   pub slots : List Slot
   pub memory : Memory
+
+-- the slot of a number, if there is one
+abbrev pub slot_in : List Slot → ℕ → Option Slot
+slot_in [] n = None
+slot_in (s ∷ slots) n = if s.number == n then Some s else slot_in slots n
 
 -- how many slots, and how many numbers of slots and groups, a version has
 abbrev pub slot_limit : ℕ → ℕ

@@ -13,3 +13,11 @@ pub mod Digits
 pub mod Lines
 pub mod Report
 pub mod Spelling
+pub mod Schedule
+pub mod Trace
+pub mod Reach
+pub mod Worlds
+pub mod Audit
+pub mod ImageFaults
+pub mod Counted
+pub mod CountFacts

@@ -1,0 +1,4 @@
+pub mod Images
+pub mod Worked
+pub mod WorkedSchedules
+pub mod WorkedReach

@@ -1,0 +1,88 @@
+//! Worked examples of the machine, as theorems that compute.
+//!
+//! These functions do nothing when they run: the contract of each says what the model makes of an image.
+#![tactic(auto)]
+
+ghost use Rattle.mm_examples.specs.Worked.{SaysA, FetchesNoPage, RunsPastTheEnd, Enters, GatesStandStill, ReadingIsNoSignal, NoForgery, MapsFrames, MapIsPrivileged, Exchanges, CountsBehindTheGate, TakesEvents, ResumesTakenAlone, TwoGroups, AbsentSlotsIdle, TracesTheGate, WaitsInTheTrace, Issues, Delivers, LoadsAtOnce, WaitsToWrite, CountsDoneStores, SpelledInBytes, FirstFaults, CountsHello, CountsGated, CountsSweeper};
+ghost use Rattle.mm_examples.specs.WorkedSchedules.{MeansItems, MeansNothing, MeansAbsentSlots, SkipsComments, CountsTooMany, ListsTooMany, CountsNone, LeadsWithZero, KeepsOneGroup, KeepsIdleItems, KeepsPorts, RobinBeginsLate};
+ghost use Rattle.mm_examples.specs.WorkedReach.{TouchesItsCode, NoGroupWrites, WritesNoCode, TwoGroupsStandApart, BothCanWrite, NeitherStandsApart};
+
+/// Runs of one slot.
+#[tactic(auto, using(crate::proofs::OneSlot::says_a, crate::proofs::OneSlot::fetches_no_page, crate::proofs::OneSlot::runs_past_the_end, crate::proofs::OneSlot::enters, crate::proofs::OneSlot::gates_stand_still, crate::proofs::OneSlot::reading_is_no_signal, crate::proofs::OneSlot::no_forgery, crate::proofs::OneSlot::maps_frames, crate::proofs::OneSlot::map_is_privileged))]
+pub fn runs_of_one_slot()
+    ensures says_a { SaysA }
+    ensures fetches_no_page { FetchesNoPage }
+    ensures runs_past_the_end { RunsPastTheEnd }
+    ensures enters { Enters }
+    ensures gates_stand_still { GatesStandStill }
+    ensures reading_is_no_signal { ReadingIsNoSignal }
+    ensures no_forgery { NoForgery }
+    ensures maps_frames { MapsFrames }
+    ensures map_is_privileged { MapIsPrivileged }
+{}
+
+/// Runs of several slots.
+#[tactic(auto, using(crate::proofs::ManySlots::exchanges, crate::proofs::ManySlots::counts_behind_the_gate, crate::proofs::ManySlots::takes_events, crate::proofs::ManySlots::resumes_taken_alone, crate::proofs::ManySlots::two_groups, crate::proofs::ManySlots::absent_slots_idle, crate::proofs::ManySlots::traces_the_gate, crate::proofs::ManySlots::waits_in_the_trace))]
+pub fn runs_of_several_slots()
+    ensures exchanges { Exchanges }
+    ensures counts_behind_the_gate { CountsBehindTheGate }
+    ensures takes_events { TakesEvents }
+    ensures resumes_taken_alone { ResumesTakenAlone }
+    ensures two_groups { TwoGroups }
+    ensures absent_slots_idle { AbsentSlotsIdle }
+    ensures traces_the_gate { TracesTheGate }
+    ensures waits_in_the_trace { WaitsInTheTrace }
+{}
+
+/// Runs of split machines.
+#[tactic(auto, using(crate::proofs::Split::issues, crate::proofs::Split::delivers, crate::proofs::Split::loads_at_once, crate::proofs::Split::waits_to_write))]
+pub fn runs_of_split_machines()
+    ensures issues { Issues }
+    ensures delivers { Delivers }
+    ensures loads_at_once { LoadsAtOnce }
+    ensures waits_to_write { WaitsToWrite }
+{}
+
+/// What a cache counts of runs.
+#[tactic(auto, using(crate::proofs::CountsOf::counts_hello, crate::proofs::CountsOf::counts_gated, crate::proofs::CountsOf::counts_sweeper, crate::proofs::CountsOf::counts_done_stores))]
+pub fn counts_of_runs()
+    ensures counts_hello { CountsHello }
+    ensures counts_gated { CountsGated }
+    ensures counts_sweeper { CountsSweeper }
+    ensures counts_done_stores { CountsDoneStores }
+{}
+
+/// The bytes of images, and their first faults.
+#[tactic(auto, using(crate::proofs::Spelled::spelled_in_bytes, crate::proofs::Spelled::first_faults))]
+pub fn bytes_of_images()
+    ensures spelled_in_bytes { SpelledInBytes }
+    ensures first_faults { FirstFaults }
+{}
+
+/// What schedules mean, where their faults are, and what of them is kept for a group.
+#[tactic(auto, using(crate::proofs::Listed::means_items, crate::proofs::Listed::means_nothing, crate::proofs::Listed::means_absent_slots, crate::proofs::Listed::skips_comments, crate::proofs::Listed::counts_too_many, crate::proofs::Listed::lists_too_many, crate::proofs::Listed::counts_none, crate::proofs::Listed::leads_with_zero, crate::proofs::Listed::keeps_one_group, crate::proofs::Listed::keeps_idle_items, crate::proofs::Listed::keeps_ports, crate::proofs::ManySlots::robin_begins_late))]
+pub fn schedules()
+    ensures means_items { MeansItems }
+    ensures means_nothing { MeansNothing }
+    ensures means_absent_slots { MeansAbsentSlots }
+    ensures skips_comments { SkipsComments }
+    ensures counts_too_many { CountsTooMany }
+    ensures lists_too_many { ListsTooMany }
+    ensures counts_none { CountsNone }
+    ensures leads_with_zero { LeadsWithZero }
+    ensures keeps_one_group { KeepsOneGroup }
+    ensures keeps_idle_items { KeepsIdleItems }
+    ensures keeps_ports { KeepsPorts }
+    ensures robin_begins_late { RobinBeginsLate }
+{}
+
+/// What groups can touch and write, and which stand apart.
+#[tactic(auto, using(crate::proofs::Reach::touches_its_code, crate::proofs::Reach::no_group_writes, crate::proofs::Reach::writes_no_code, crate::proofs::Reach::two_groups_stand_apart, crate::proofs::Reach::both_can_write, crate::proofs::Reach::neither_stands_apart))]
+pub fn reach_of_images()
+    ensures touches_its_code { TouchesItsCode }
+    ensures no_group_writes { NoGroupWrites }
+    ensures writes_no_code { WritesNoCode }
+    ensures two_groups_stand_apart { TwoGroupsStandApart }
+    ensures both_can_write { BothCanWrite }
+    ensures neither_stands_apart { NeitherStandsApart }
+{}

@@ -1,0 +1,123 @@
+-- The audit's text.
+use Rattle.std.specs.Prelude.{◌≡◌, ◌↔◌, ℕ, ◌<◌, ◌≤◌, Bool, true, false, ◌==◌, List, [], ◌∷◌, ◌++◌, Contains, zip, drop, codes, decimal, Option, Some, None}
+use Rattle.std.specs.List.{flat_map, list_any, AllByRecursion}
+use Rattle.mm_word.specs.Perm.{can_load, can_store}
+use Rattle.mm_word.specs.Pointer.{Pointer, InSegment, base_of}
+use Rattle.mm_word.specs.declared.perm.Perm.{Perm}
+use Rattle.mm_model.specs.Digits.{hex}
+use Rattle.mm_model.specs.Lines.{newline}
+use Rattle.mm_model.specs.Slot.{Slot}
+use Rattle.mm_model.specs.Image.{Image, start}
+use Rattle.mm_model.specs.Report.{groups_of}
+use Rattle.mm_model.specs.Reach.{Entries, Grants, CanWrite, Privileged}
+use Rattle.mm_model.specs.Reach.Entries.{All}
+use Rattle.mm_model.specs.Worlds.{Touchable, Apart}
+
+-- 1. Segments.
+
+-- a segment of at least a word: its base, and the logarithm of its length
+abbrev pub Segment : Type 0
+Segment = ℕ × ℕ
+
+-- a pointer with this right that is granted to the group has this segment
+pub record GrantedSegment (i : Image) (e : Entries) (g : ℕ) (right : Perm → Bool) (segment : Segment) : Type 0 where
+  pub by : Pointer
+  pub granted : Grants i e g by
+  pub has_right : right by.perm ≡ true
+  pub is : segment ≡ (base_of by, by.log)
+  pub whole_word : 3 ≤ by.log
+
+-- it lies in no longer one of them
+pub record MaximalSegment (i : Image) (e : Entries) (g : ℕ) (right : Perm → Bool) (segment : Segment) : Type 0 where
+  pub granted : GrantedSegment i e g right segment
+  pub maximal : (p : Pointer) → Grants i e g p → right p.perm ≡ true → InSegment p segment.0 → p.log ≤ segment.1
+
+-- the list has the maximal segments, ascending
+pub record MaximalSegments (i : Image) (e : Entries) (g : ℕ) (right : Perm → Bool) (list : List Segment) : Type 0 where
+  pub ascending : AllByRecursion (λ (pair : Segment × Segment). pair.0.0 < pair.1.0) (zip list (drop 1 list))
+  pub each : (segment : Segment) → Contains list segment ↔ MaximalSegment i e g right segment
+
+abbrev pub segment_line : List ℕ → Segment → List ℕ
+segment_line name segment = name ++ codes " " ++ hex 14 segment.0 ++ codes " " ++ decimal segment.1 ++ newline
+
+-- 2. Whether groups stand apart.
+
+pub data Verdict : Type 0 where
+  Yes : Verdict
+  -- the least slot whose handler is on the other side
+  Handler : (slot : ℕ) → Verdict
+  -- the least group outside that can write a word that one inside can touch, and the least such word
+  Writer : (group word : ℕ) → Verdict
+
+-- a slot of this number has its handler on the other side
+pub record Crosses (i : Image) (c : ℕ → Bool) (n : ℕ) : Type 0 where
+  pub served : Slot
+  pub server : Slot
+  pub one : Contains i.slots served
+  pub other : Contains i.slots server
+  pub number : served.number ≡ n
+  pub handled : served.handler ≡ Some server.number
+  pub sides : ¬ (c served.group ≡ c server.group)
+
+-- the group is outside and can write the word, which one inside can touch
+pub record Writes (i : Image) (c : ℕ → Bool) (g w : ℕ) : Type 0 where
+  pub outside : c g ≡ false
+  pub writes : CanWrite i All g w
+  pub touched : Touchable i c w
+
+abbrev pub Judged : Image → (ℕ → Bool) → Verdict → Type 0
+Judged i c Yes = Apart i c
+Judged i c (Handler n) = Crosses i c n × ((m : ℕ) → Crosses i c m → n ≤ m)
+Judged i c (Writer g w) =
+    ((n : ℕ) → ¬ Crosses i c n) × Writes i c g w × ((h v : ℕ) → Writes i c h v → g ≤ h) × ((v : ℕ) → Writes i c g v → w ≤ v)
+
+-- groups as they are written: their numbers, with commas between
+abbrev pub groups_text : List ℕ → List ℕ
+groups_text [] = []
+groups_text (g ∷ []) = decimal g
+groups_text (g ∷ gs) = decimal g ++ codes "," ++ groups_text gs
+
+abbrev pub verdict_text : Verdict → List ℕ
+verdict_text Yes = codes "yes"
+verdict_text (Handler n) = codes "handler " ++ decimal n
+verdict_text (Writer g w) = codes "writer " ++ decimal g ++ codes " word " ++ hex 14 w
+
+abbrev pub apart_line : List ℕ → Verdict → List ℕ
+apart_line groups verdict = codes "apart " ++ groups_text groups ++ codes " " ++ verdict_text verdict ++ newline
+
+-- the line says whether these groups stand apart
+pub record ApartLine (i : Image) (groups line : List ℕ) : Type 0 where
+  pub verdict : Verdict
+  pub judged : Judged i (λ g. list_any (λ h. g == h) groups) verdict
+  pub is : line ≡ apart_line groups verdict
+
+-- 3. The text.
+
+abbrev pub kind_line : ℕ → Bool → List ℕ
+kind_line g true = codes "group " ++ decimal g ++ codes " privileged\n"
+kind_line g false = codes "group " ++ decimal g ++ codes " user\n"
+
+-- what is written of a group
+pub record AuditOf (i : Image) (g : ℕ) (text : List ℕ) : Type 0 where
+  pub privileged : Bool
+  pub touch : List Segment
+  pub write : List Segment
+  pub privileged_is : (privileged ≡ true) ↔ Privileged i All g
+  pub touch_is : MaximalSegments i All g can_load touch
+  pub write_is : MaximalSegments i All g can_store write
+  pub is : text ≡ kind_line g privileged ++ flat_map (segment_line (codes "touch")) touch ++ flat_map (segment_line (codes "write")) write
+
+-- each of these groups, with its own apart line
+pub data AuditEach (i : Image) : List ℕ → List ℕ → Type 0 where
+  no_group : AuditEach i [] []
+  group : {g : ℕ} {gs own line text : List ℕ} → AuditOf i g own → ApartLine i (g ∷ []) line → AuditEach i gs text → AuditEach i (g ∷ gs) (own ++ line ++ text)
+
+-- each of these groups alone
+pub data AuditGroups (i : Image) : List ℕ → List ℕ → Type 0 where
+  no_group : AuditGroups i [] []
+  group : {g : ℕ} {gs own text : List ℕ} → AuditOf i g own → AuditGroups i gs text → AuditGroups i (g ∷ gs) (own ++ text)
+
+-- The text is the audit of the image: each group that has a slot, ascending, and its apart line; or, where groups are given, their apart line at the end.
+abbrev pub IsAudit : Image → Option (List ℕ) → List ℕ → Type 0
+IsAudit i None text = AuditEach i (groups_of (start i).core) text
+IsAudit i (Some groups) text = (own : List ℕ) × AuditGroups i (groups_of (start i).core) own × ((line : List ℕ) × ApartLine i groups line × (text ≡ own ++ line))
