@@ -13,6 +13,7 @@ pub mod Digits
 pub mod Lines
 pub mod Report
 pub mod Spelling
+pub mod Fits
 pub mod Schedule
 pub mod Trace
 pub mod Reach

@@ -6,6 +6,7 @@
 
 mod counts;
 mod event;
+mod page;
 mod slot;
 mod step;
 #[cfg(test)]
@@ -13,5 +14,6 @@ mod tests;
 
 pub use counts::Counts;
 pub use event::Event;
+pub use page::{CELLS, Page};
 pub use slot::{Pending, Slot, SlotState};
 pub use step::{Step, Tick};

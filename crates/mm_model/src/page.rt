@@ -1,0 +1,58 @@
+ghost use Rattle.std.specs.Prelude.{◌≡◌, ◌<◌, ◌^◌, ◌↔◌, IsSome, IfSome, length};
+
+use mm_word::Cell;
+use std::marker::Model;
+
+/// The cells in a page, 4,096 bytes.
+pub const CELLS: usize = 512;
+
+/// A page of memory: its number, which is its address divided by 4,096 and below 2^42, and its 512 cells.
+#[derive(Drop)]
+pub struct Page {
+    number: u64,
+    cells: Vec<Cell>,
+}
+
+impl Model for Page {
+    ghost use Rattle.std.specs.Prelude.{ℕ, List};
+    ghost use Rattle.mm_word.specs.declared.word.Cell.{Cell};
+    ghost use Rattle.mm_model.specs.Memory.{IsPage};
+
+    ghost Value = { ℕ × List Cell };
+
+    ghost view = { λ p. (p.number, p.cells.items) };
+
+    ghost invariant = { λ p. IsPage (p.number, p.cells.items) };
+}
+
+impl Page {
+    ghost use Rattle.mm_model.specs.Memory.{IsPage};
+
+    /// The page of these cells: none exactly where the number is 2^42 or more or there are not 512 cells.
+    pub fn new(number: u64, cells: Vec<Cell>) -> Option<Page>
+        ensures made { IsSome result ↔ IsPage (number, cells.items) }
+        ensures value { IfSome result (λ p. p ≡ (number, cells.items)) }
+    {
+        if number < (1 << 42) && cells.len() == CELLS {
+            Some(Page { number, cells })
+        } else {
+            None
+        }
+    }
+
+    /// Its number.
+    pub fn number(&self) -> u64
+        ensures number { result ≡ self.now.0 }
+        ensures limit { result < 2 ^ 42 }
+    {
+        self.number
+    }
+
+    /// Its cells, in the order of their addresses.
+    pub fn cells(&self) -> &[Cell]
+        ensures cells { result.now ≡ self.now.1 }
+        ensures whole { length result.now ≡ 512 }
+    {
+        self.cells.as_slice()
+    }
+}
