@@ -1,0 +1,5 @@
+pub mod Words
+pub mod Items
+pub mod Clashes
+pub mod Texts
+pub mod Bits
