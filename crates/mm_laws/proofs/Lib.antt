@@ -1,0 +1,5 @@
+mod RunStates
+mod GrantLaws
+mod CountSums
+mod Restricting
+mod Robins
