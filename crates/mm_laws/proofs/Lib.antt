@@ -3,3 +3,4 @@ mod GrantLaws
 mod CountSums
 mod Restricting
 mod Robins
+mod Texts
