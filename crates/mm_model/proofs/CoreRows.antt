@@ -34,7 +34,7 @@ each_contained P xs x h c = subst P c.2 (each_get P xs c.0 x h c.1)
 
 -- 2. Numbers that rise.
 
-rest_rises : (x : ℕ) (xs : List ℕ) → IsStrictlyIncreasing (x ∷ xs) → IsStrictlyIncreasing xs
+pub rest_rises : (x : ℕ) (xs : List ℕ) → IsStrictlyIncreasing (x ∷ xs) → IsStrictlyIncreasing xs
 rest_rises x xs h k lt =
     let next : suc k + 1 ≡ suc (k + 1) = omega arith in
     let before : slice_index (x ∷ xs) (suc k) < slice_index (x ∷ xs) (suc k + 1) = h (suc k) (omega arith) in

@@ -177,6 +177,13 @@ module _ (core : Core) (h : IsCore core) (g : ℕ) where
   events_at_most_once : (n : ℕ) → count (λ (e : Event). e.slot) n (queue_at core g) ≤ 1
   events_at_most_once n = let once = events_once n in let one = one_at_most (waits_for g (slot_at core n)) in omega arith
 
+  -- each event is of a slot that waits for the queue's owner
+  pub queued_at : AllByRecursion (λ (e : Event). waits_for g (slot_at core e.slot) ≡ true) (queue_at core g)
+  queued_at =
+      each_map (λ (e : Event). 1 ≤ count (λ (x : Event). x.slot) e.slot (queue_at core g)) (λ (e : Event). waits_for g (slot_at core e.slot) ≡ true)
+      (λ e some. let once = events_once e.slot in some_is_true (waits_for g (slot_at core e.slot)) (omega arith))
+      (queue_at core g) (each_counts (λ (e : Event). e.slot) (queue_at core g))
+
   -- a queue holds no more events than there can be slots
   pub queue_short : length (queue_at core g) ≤ 64
   queue_short =

@@ -1,0 +1,6 @@
+mod RunStates
+mod GrantLaws
+mod CountSums
+mod Restricting
+mod Robins
+mod Texts

@@ -1,0 +1,24 @@
+-- What the counts of a list of uses sum to.
+use Rattle.std.specs.Prelude.{◌≡◌, ℕ, ◌+◌, ◌≤◌, true, false, List, [], ◌∷◌}
+use Rattle.mm_model.specs.Uses.{Use, Accessed, Removed}
+use Rattle.mm_model.specs.Counted.{counts_of}
+
+-- how many of the uses are accesses that found a page
+abbrev pub counted : List Use → ℕ
+counted [] = 0
+counted (Accessed kind word true done ∷ us) = counted us + 1
+counted (Accessed kind word false done ∷ us) = counted us
+counted (Removed page ∷ us) = counted us
+
+-- each counted access is a hit or a miss
+abbrev pub HitsAndMisses : Type 0
+HitsAndMisses = (us : List Use) → (counts_of us).hits + (counts_of us).misses ≡ counted us
+
+-- a block is written back only by a miss
+abbrev pub WritebacksAreFew : Type 0
+WritebacksAreFew = (us : List Use) → (counts_of us).writebacks ≤ (counts_of us).misses
+
+-- a page is looked up for each miss and for each block that is written back
+abbrev pub LookUpsAreMissesAndWritebacks : Type 0
+LookUpsAreMissesAndWritebacks =
+    (us : List Use) → (counts_of us).tlb_hits + (counts_of us).tlb_misses ≡ (counts_of us).misses + (counts_of us).writebacks

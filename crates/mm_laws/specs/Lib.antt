@@ -1,0 +1,6 @@
+pub mod States
+pub mod Images
+pub mod Schedules
+pub mod Restrictions
+pub mod Grants
+pub mod Counts
