@@ -2,9 +2,13 @@
 #![tactic(auto)]
 
 mod answer;
+mod bits;
+mod frame;
 mod memory;
+mod search;
 
 pub use answer::{Loaded, Stored};
+pub use bits::{full_after, passes};
 pub use memory::{Boot, Inspect, Memory, Reset};
 pub use mm_model::{Counts, Page, Pending, Slot, SlotState};
 pub use mm_word::{Post, Pre};
