@@ -3,6 +3,7 @@
 
 mod answer;
 mod bits;
+mod flat;
 mod frame;
 mod memory;
 mod search;
