@@ -1,5 +1,5 @@
 -- What an edit at a place of the list of pages is of a flat memory.
-use Rattle.std.proofs.Common.{IsTrue, subst, is_some, ◌&&◌, nat_lt, ◌≡◌, ℕ, ◌%◌, ◌<◌, ◌≤◌, Bool, true, false, not, T, List, length, get_or, set, Option, Some, None, Result, Ok, Err, IfErr, slice_get, slice_set, refl, sym, ap, arith, ◌∙◌, if◌then◌else◌}
+use Rattle.std.proofs.Common.{IsTrue, subst, is_some, ◌&&◌, nat_lt, ◌≡◌, ℕ, ◌%◌, ◌<◌, ◌≤◌, Bool, true, false, not, T, List, length, get_or, set, Option, Some, None, Result, Ok, Err, IfErr, slice_get, slice_set, inl, inr, refl, sym, ap, arith, ◌∙◌, if◌then◌else◌}
 use Rattle.std.specs.Ordering.{nat_cmp}
 use Rattle.std.specs.Option.{IfNone}
 use Rattle.std.specs.Result.{result_ok}
@@ -8,7 +8,7 @@ use Rattle.std.specs.FinMap.{is_sorted}
 use Rattle.std.proofs.lemmas.Bool.Decides.{nat_tests}
 use Rattle.mm_word.specs.declared.word.Cell.{Cell}
 use Rattle.mm_model.specs.Memory.{Memory, page_of, place_of, cell_in, page_at, is_mapped, cell_at, put_cell, put_in, can_map, map_page, unmap_page, zero_page, IsPaged}
-use Rattle.mm_model.proofs.Memories.{cell_at-aligned, put_paged, map_paged, unmap_paged}
+use Rattle.mm_model.proofs.Memories.{cell_at-aligned, cell_at-unaligned, word_or_none, put_paged, map_paged, unmap_paged}
 use Rattle.mm_mem.specs.Answers.{after_map, after_unmap}
 use Rattle.mm_mem.specs.Places.{IsAt, IsGap}
 use Rattle.mm_mem.proofs.Places.{held, found_at, absent_in_gap, set_at, insert_in_gap, remove_at}
@@ -43,12 +43,19 @@ mapped_here m k i paged at = ap is_some (found_at k m.pages i (held _ paged.risi
 pub not_mapped : (m : Memory) (k i : ℕ) → IsGap k m.pages i → is_mapped m k ≡ false
 not_mapped m k i gap = ap is_some (absent_in_gap k m.pages i gap)
 
--- a search that ends in a gap says that the page is not mapped
-pub absent_unless : (m : Memory) (k : ℕ) (r : Result ℕ ℕ) (o : Option ℕ) → o ≡ result_ok r → IfErr r (IsGap k m.pages) → IfNone o (page_at m k ≡ None)
-absent_unless m k (Ok i) None e gap = cc
-absent_unless m k (Ok i) (Some j) e gap = tt
-absent_unless m k (Err i) None e gap = absent_in_gap k m.pages i gap
-absent_unless m k (Err i) (Some j) e gap = tt
+-- a word whose page is not mapped has no cell
+pub no_cell : (m : Memory) (w : ℕ) → page_at m (page_of w) ≡ None → cell_at m w ≡ None
+no_cell m w h = elim (word_or_none w) [
+  | inl a ↦ cell_at-aligned m w a ∙ ap (λ o. cell_in o (place_of w)) h
+  | inr odd ↦ cell_at-unaligned m w odd
+]
+
+-- a search that ends in a gap says that the word has no cell
+pub absent_unless : (m : Memory) (w : ℕ) (r : Result ℕ ℕ) (o : Option ℕ) → o ≡ result_ok r → IfErr r (IsGap (page_of w) m.pages) → IfNone o (cell_at m w ≡ None)
+absent_unless m w (Ok i) None e gap = cc
+absent_unless m w (Ok i) (Some j) e gap = tt
+absent_unless m w (Err i) None e gap = no_cell m w (absent_in_gap (page_of w) m.pages i gap)
+absent_unless m w (Err i) (Some j) e gap = tt
 
 -- the test of `can_map`, by its two parts
 

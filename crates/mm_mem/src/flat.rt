@@ -13,7 +13,7 @@ use std::alloc::Global;
 use std::marker::Model;
 
 // The number of the page that a word lies in.
-pub(crate) fn page_of(word: u64) -> u64
+fn page_of(word: u64) -> u64
     ensures { result ≡ page_of word }
 {
     word / 4096
@@ -95,7 +95,7 @@ impl Model for FlatPages {
 impl FlatPages {
     ghost use Rattle.mm_mem.specs.Places.{IsAt};
     ghost use Rattle.mm_mem.specs.Answers.{after_map, after_unmap};
-    ghost use Rattle.mm_model.specs.Memory.{IsPaged, page_at, is_mapped, cell_at, put_cell, can_map};
+    ghost use Rattle.mm_model.specs.Memory.{IsPaged, is_mapped, cell_at, put_cell, can_map};
 
     // The memory of these pages. All its frames are taken here.
     pub(crate) fn new(alloc: Global, pages: &[Page], frames: u32) -> Result<FlatPages, NoMemory>
@@ -122,12 +122,12 @@ impl FlatPages {
         let _frames = self.frames;
     }
 
-    // Where a page stands among the mapped ones.
-    pub(crate) fn find(&self, number: u64) -> Option<usize>
-        ensures found { IfSome result (IsAt number self.now.pages) }
-        ensures absent { IfNone result (page_at self.now number ≡ None) }
+    // Where a word's page stands among the mapped ones.
+    pub(crate) fn find(&self, word: u64) -> Option<usize>
+        ensures found { IfSome result (IsAt (page_of word) self.now.pages) }
+        ensures absent { IfNone result (cell_at self.now word ≡ None) }
     {
-        search(&self.pages, number).ok()
+        search(&self.pages, page_of(word)).ok()
     }
 
     // The cell of a word whose page stands here.

@@ -6,10 +6,12 @@ mod bits;
 mod flat;
 mod frame;
 mod memory;
+mod plain;
 mod search;
 
 pub use answer::{Loaded, Stored};
 pub use bits::{full_after, passes};
 pub use memory::{Boot, Inspect, Memory, Reset};
+pub use plain::PlainMem;
 pub use mm_model::{Counts, Page, Pending, Slot, SlotState};
 pub use mm_word::{Post, Pre};
