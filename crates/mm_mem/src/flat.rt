@@ -205,7 +205,8 @@ impl FlatPages {
     pub(crate) fn reset(&mut self, pages: &[Page])
         requires ascend { IsTrue (is_sorted nat_cmp pages.now) }
         requires fit { length pages.now ≤ self.old.frames }
-        ensures { self.new ≡ record { pages = pages.now; frames = self.old.frames } }
+        ensures contents { self.new ≡ record { pages = pages.now; frames = self.old.frames } }
+        ensures paged { IsPaged self.new }
     {
         let Ok(()) = self.free.append(&mut self.pages) else {
             unreachable!();

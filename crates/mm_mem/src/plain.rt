@@ -9,6 +9,7 @@ use crate::{Boot, Inspect, Loaded, Memory, Reset, Stored, full_after, passes};
 use mm_model::{Counts, Page};
 use mm_word::{Access, Cell, NoMemory, Post, Pre, Word};
 use std::alloc::Global;
+use std::marker::Model;
 
 /// The plain memory, the yardstick of the others: pages in ascending order, and a count of the accesses.
 ///
@@ -19,9 +20,17 @@ pub struct PlainMem {
     uses: u64,
 }
 
+impl Model for PlainMem {
+    ghost use Rattle.mm_mem.specs.Plain.{Plain};
+
+    ghost Value = { Plain };
+
+    ghost view = { λ m. record { memory = m.flat; uses = m.uses } };
+}
+
 #[tactic(auto, using(crate::proofs::Counted::one_access, crate::proofs::Counted::no_access))]
 impl Memory for PlainMem {
-    ghost meaning = { λ m. m.flat };
+    ghost meaning = { λ m. m.memory };
 
     ghost uses = { λ m. m.uses };
 
@@ -78,7 +87,7 @@ impl Memory for PlainMem {
 impl PlainMem {
     /// Of every plain memory: its pages rise, each is whole, and no more are mapped than it has frames.
     pub fn paged(&self)
-        ensures { IsPaged (PlainMem.meaning self.now) }
+        ensures { IsPaged self.now.memory }
     {
         self.flat.paged();
     }
@@ -101,7 +110,7 @@ impl Inspect for PlainMem {
     }
 
     fn counts(&self) -> Option<Counts>
-        ensures told { (us : List Use) → Self.stands self.now us → result ≡ tells us }
+        ensures told { (us : List Use) → self.now.uses ≡ accesses us → result ≡ None }
         ensures nothing { result ≡ None }
     {
         None
@@ -114,9 +123,9 @@ impl Boot for PlainMem {
         requires few { frames ≤ 4096 }
         requires ascend { IsTrue (is_sorted nat_cmp pages.now) }
         requires fit { length pages.now ≤ frames }
-        ensures meaning { IfOk result (λ m. Self.meaning m ≡ record { pages = pages.now; frames = frames }) }
-        ensures stands { IfOk result (λ m. Self.stands m []) }
-        ensures paged { IfOk result (λ m. IsPaged (Self.meaning m)) }
+        ensures meaning { IfOk result (λ m. m.memory ≡ record { pages = pages.now; frames = frames }) }
+        ensures stands { IfOk result (λ m. m.uses ≡ accesses []) }
+        ensures paged { IfOk result (λ m. IsPaged m.memory) }
     {
         let flat = FlatPages::new(alloc, pages, frames)?;
         Ok(PlainMem { flat, uses: 0 })
@@ -126,10 +135,10 @@ impl Boot for PlainMem {
 impl Reset for PlainMem {
     fn reset(&mut self, pages: &[Page])
         requires ascend { IsTrue (is_sorted nat_cmp pages.now) }
-        requires fit { length pages.now ≤ (Self.meaning self.old).frames }
-        ensures meaning { Self.meaning self.new ≡ record { pages = pages.now; frames = (Self.meaning self.old).frames } }
-        ensures stands { Self.stands self.new [] }
-        ensures paged { IsPaged (Self.meaning self.new) }
+        requires fit { length pages.now ≤ self.old.memory.frames }
+        ensures meaning { self.new.memory ≡ record { pages = pages.now; frames = self.old.memory.frames } }
+        ensures stands { self.new.uses ≡ accesses [] }
+        ensures paged { IsPaged self.new.memory }
     {
         self.flat.reset(pages);
         self.uses = 0;
