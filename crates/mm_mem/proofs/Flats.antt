@@ -1,14 +1,12 @@
 -- What an edit at a place of the list of pages is of a flat memory.
-use Rattle.std.proofs.Common.{IsTrue, subst, is_some, ◌&&◌, nat_lt, ◌≡◌, ℕ, ◌%◌, ◌<◌, ◌≤◌, Bool, true, false, not, T, List, length, get_or, set, Option, Some, None, Result, Ok, Err, IfErr, slice_get, slice_set, inl, inr, refl, sym, ap, arith, ◌∙◌, if◌then◌else◌}
-use Rattle.std.specs.Ordering.{nat_cmp}
+use Rattle.std.proofs.Common.{subst, is_some, ◌&&◌, nat_lt, ◌≡◌, ℕ, ◌%◌, ◌<◌, ◌≤◌, Bool, true, false, not, List, length, get_or, set, Option, Some, None, Result, Ok, Err, IfErr, slice_get, slice_set, inl, inr, refl, sym, ap, arith, ◌∙◌, if◌then◌else◌}
 use Rattle.std.specs.Option.{IfNone}
 use Rattle.std.specs.Result.{result_ok}
 use Rattle.std.specs.List.{insert, remove}
-use Rattle.std.specs.FinMap.{is_sorted}
 use Rattle.std.proofs.lemmas.Bool.Decides.{nat_tests}
 use Rattle.mm_word.specs.declared.word.Cell.{Cell}
 use Rattle.mm_model.specs.Memory.{Memory, page_of, place_of, cell_in, page_at, is_mapped, cell_at, put_cell, put_in, can_map, map_page, unmap_page, zero_page, IsPaged}
-use Rattle.mm_model.proofs.Memories.{cell_at-aligned, cell_at-unaligned, word_or_none, put_paged, map_paged, unmap_paged}
+use Rattle.mm_model.proofs.Memories.{cell_at-aligned, cell_at-unaligned, word_or_none}
 use Rattle.mm_mem.specs.Answers.{after_map, after_unmap}
 use Rattle.mm_mem.specs.Places.{IsAt, IsGap}
 use Rattle.mm_mem.proofs.Places.{held, found_at, absent_in_gap, set_at, insert_in_gap, remove_at}

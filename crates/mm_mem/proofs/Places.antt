@@ -1,5 +1,5 @@
 -- Entries at a place, or about a gap, of a list whose numbers rise.
-use Rattle.std.proofs.Common.{IsTrue, subst, ◌≡◌, ℕ, zero, suc, ◌+◌, ◌-◌, ◌<◌, ◌≤◌, Bool, true, false, not, T, List, [], ◌∷◌, length, get_or, set, Option, None, Some, slice_get, Result, Ok, Err, IfOk, IfErr, refl, inl, inr, sym, ap, arith, ◌∙◌, ◌==◌}
+use Rattle.std.proofs.Common.{IsTrue, subst, ◌≡◌, ℕ, zero, suc, ◌<◌, Bool, not, T, List, [], ◌∷◌, length, get_or, set, None, Some, Result, Ok, Err, IfOk, IfErr, refl, sym, ap, arith, ◌==◌}
 use Rattle.std.specs.Ordering.{nat_cmp, ordering_index}
 use Rattle.std.specs.List.{insert, remove, filter}
 use Rattle.std.specs.List.Sorted.{IsSearchInRange, IsBinarySearchResult, IsNonDecreasingBy}
@@ -8,7 +8,7 @@ use Rattle.std.specs.FinMap.Entries.{below_all}
 use Rattle.std.proofs.lemmas.Cmp.{ranked}
 use Rattle.std.proofs.lemmas.Bool.Decides.{nat_tests}
 use Rattle.std.proofs.lemmas.List.Sorted.{IsNonDecreasingBy-from_default}
-use Rattle.mm_mem.specs.Places.{number_at, IsAt, IsGap}
+use Rattle.mm_mem.specs.Places.{IsAt, IsGap}
 
 pub held : (b : Bool) → IsTrue b → T b
 held b h = subst T (sym h) tt
@@ -99,8 +99,11 @@ module _ {X : Type 0} (es : List (ℕ × X)) (sorted : T (is_sorted nat_cmp es))
   -- a binary search by number ends at the number, or at the gap for it
   pub searched : (r : Result ℕ ℕ) → IsSearchInRange r (length es) → IsBinarySearchResult (λ e. nat_cmp e.0 k) es r → IfOk r (IsAt k es) × IfErr r (IsGap k es)
   searched (Ok i) in_range equal = (record { in_range = in_range; has_number = λ d. ranked _ k _ (sym (equal d)) }, tt)
-  searched (Err i) in_range parted = (tt, record {
-    in_range = in_range;
-    smaller_before = λ j d lt. ranked _ k _ (sym ((parted (comparisons_rise d)).0 j d (omega arith) lt));
-    greater_after = λ j d le lt. ranked _ k _ (sym ((parted (comparisons_rise d)).1 j d le lt));
-  })
+  searched (Err i) in_range parted = (
+    tt,
+    record {
+      in_range = in_range;
+      smaller_before = λ j d lt. ranked _ k _ (sym ((parted (comparisons_rise d)).0 j d (omega arith) lt));
+      greater_after = λ j d le lt. ranked _ k _ (sym ((parted (comparisons_rise d)).1 j d le lt));
+    },
+  )

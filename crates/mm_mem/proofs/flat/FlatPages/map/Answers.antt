@@ -1,6 +1,6 @@
-use Rattle.std.proofs.Common.{sym, ap, subst, ◌∙◌, ◌≡◌, ◌≤◌, ◌<◌, length, arith, true, false}
+use Rattle.std.proofs.Common.{sym, ap, subst, ◌∙◌, ◌≡◌, length, arith, true, false}
 use Rattle.std.specs.List.{insert}
-use Rattle.mm_model.specs.Memory.{Memory, can_map, map_page}
+use Rattle.mm_model.specs.Memory.{can_map, map_page}
 use Rattle.mm_model.proofs.Memories.{map_paged}
 use Rattle.mm_mem.specs.Answers.{after_map}
 use Rattle.mm_mem.specs.Places.{IsAt, IsGap}

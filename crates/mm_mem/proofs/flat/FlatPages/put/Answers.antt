@@ -1,5 +1,4 @@
-use Rattle.std.proofs.Common.{sym, ap, subst, ◌∙◌, ℕ, set, slice_set, List, ◌≡◌}
-use Rattle.mm_word.specs.declared.word.Cell.{Cell}
+use Rattle.std.proofs.Common.{sym, ap, subst, ◌∙◌, ℕ, set, slice_set, ◌≡◌}
 use Rattle.mm_model.specs.Memory.{Memory, page_of, put_cell}
 use Rattle.mm_model.proofs.Memories.{put_paged}
 use Rattle.mm_mem.specs.Places.{IsAt}

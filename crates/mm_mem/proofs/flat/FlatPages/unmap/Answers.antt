@@ -1,5 +1,5 @@
-use Rattle.std.proofs.Common.{sym, ap, subst, ◌∙◌, ◌≡◌, ◌≤◌, arith, true, false}
-use Rattle.mm_model.specs.Memory.{Memory, is_mapped, unmap_page}
+use Rattle.std.proofs.Common.{sym, ap, subst, ◌∙◌, ◌≡◌, arith, true, false}
+use Rattle.mm_model.specs.Memory.{is_mapped, unmap_page}
 use Rattle.mm_model.proofs.Memories.{unmap_paged}
 use Rattle.mm_mem.specs.Answers.{after_unmap}
 use Rattle.mm_mem.specs.Places.{IsAt, IsGap}

@@ -1,4 +1,4 @@
-use Rattle.std.proofs.Common.{rules, ap, ℕ, List}
+use Rattle.std.proofs.Common.{rules, ap, List}
 use Rattle.mm_word.specs.declared.word.Cell.{Cell}
 use Rattle.mm_mem.proofs.frame.Frame.new.Goals as goal
 
