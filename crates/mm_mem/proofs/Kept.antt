@@ -12,7 +12,7 @@ use Rattle.mm_model.specs.Memory.{Memory, page_of, is_mapped, cell_at, can_map, 
 use Rattle.mm_model.proofs.Memories as cells
 use Rattle.mm_mem.specs.declared.answer.Loaded.TheVariants as loads
 use Rattle.mm_mem.specs.declared.answer.Stored.TheVariants as stores
-use Rattle.mm_mem.specs.Answers.{loaded, stored, put_where, after_map, after_unmap}
+use Rattle.mm_mem.specs.Answers.{loaded, stored, put_where, after_load, after_store, after_map, after_unmap}
 use Rattle.mm_mem.specs.Laws.{RefusalsChangeNothing, LoadsSetOneBit, StoresWriteOneCell, AccessesKeepPages, MapsOnePage, UnmapsOnePage, RemovedPagesComeBackEmpty, FramesStay, CallsKeepPaged, ContentsAreThePages}
 use Rattle.mm_mem.proofs.Places.{held, found_at}
 use Rattle.mm_mem.specs.Places.{IsAt}
@@ -153,12 +153,24 @@ come_back_empty m p w paged there a s =
     let can = can_map-from (unmap_page m p) p (ap is_some (cells.page_at-unmap_same m p)) room in
     ap (λ n. cell_at (after_map n p) w) removed ∙ map_own (unmap_page m p) p w can a s
 
+pub load_frames : (m : Memory) (w : ℕ) (pre : Pre) (post : Post) → (after_load m w pre post).frames ≡ m.frames
+load_frames m w pre post = put_where_frames m w pre (bit_set post)
+
+pub store_frames : (m : Memory) (w : ℕ) (word : Word) (pre : Pre) (post : Post) → (after_store m w word pre post).frames ≡ m.frames
+store_frames m w word pre post = put_where_frames m w pre (written word post)
+
+pub map_frames : (m : Memory) (p : ℕ) → (after_map m p).frames ≡ m.frames
+map_frames m p = chosen (λ n. n.frames ≡ m.frames) (can_map m p) (map_page m p) m (λ e. cells.map_frames m p) (λ e. refl)
+
+pub unmap_frames : (m : Memory) (p : ℕ) → (after_unmap m p).frames ≡ m.frames
+unmap_frames m p = chosen (λ n. n.frames ≡ m.frames) (is_mapped m p) (unmap_page m p) m (λ e. cells.unmap_frames m p) (λ e. refl)
+
 pub frames_stay : FramesStay
 frames_stay = record {
-  load = λ m w pre post. put_where_frames m w pre (bit_set post);
-  store = λ m w word pre post. put_where_frames m w pre (written word post);
-  map = λ m p. chosen (λ n. n.frames ≡ m.frames) (can_map m p) (map_page m p) m (λ e. cells.map_frames m p) (λ e. refl);
-  unmap = λ m p. chosen (λ n. n.frames ≡ m.frames) (is_mapped m p) (unmap_page m p) m (λ e. cells.unmap_frames m p) (λ e. refl);
+  load = load_frames;
+  store = store_frames;
+  map = map_frames;
+  unmap = unmap_frames;
 }
 
 pub paged_stay : CallsKeepPaged

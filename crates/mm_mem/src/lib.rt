@@ -9,6 +9,8 @@ pub mod laws;
 mod memory;
 mod plain;
 mod search;
+#[cfg(test)]
+mod tests;
 
 pub use answer::{Loaded, Stored};
 pub use bits::{full_after, passes};
