@@ -4,3 +4,4 @@ mod CountSums
 mod Restricting
 mod Robins
 mod Texts
+mod Spellings
