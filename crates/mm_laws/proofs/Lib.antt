@@ -5,3 +5,4 @@ mod Restricting
 mod Robins
 mod Texts
 mod Spellings
+mod CountExact
