@@ -1,9 +1,9 @@
 -- A block that was written since its last miss is a written block of its line.
-use Rattle.std.proofs.Common.{◌≡◌, ◌≢◌, ℕ, Bool, true, false, ◌&&◌, ◌||◌, nat_eq, if◌then◌else◌, List, [], ◌∷◌, ◌++◌, Option, Some, None, refl, sym, ap, ◌∙◌, subst, eqb-true, eq-eqb}
+use Rattle.std.proofs.Common.{◌≡◌, ℕ, Bool, true, false, ◌&&◌, ◌||◌, nat_eq, if◌then◌else◌, List, [], ◌∷◌, ◌++◌, Option, Some, None, refl, sym, ap, ◌∙◌, eqb-true, eq-eqb}
 use Rattle.mm_word.specs.declared.perm.Kind.{Kind}
 use Rattle.mm_model.specs.Uses.{Use, Accessed, Removed}
-use Rattle.mm_model.specs.Counted.{block_of, line_of, page_of_block, writes, kept, latest, is_block, is_hit, written}
-use Rattle.mm_model.specs.CountFacts.{HitsOnly, LatestWas, WroteSinceMiss}
+use Rattle.mm_model.specs.Counted.{block_of, line_of, page_of_block, writes, kept, latest, is_hit, written}
+use Rattle.mm_model.specs.CountFacts.{HitsOnly, WroteSinceMiss}
 use Rattle.mm_model.proofs.CountsSay.{latest_says, says_latest, hit_says}
 
 -- the block of a line has the line's index
