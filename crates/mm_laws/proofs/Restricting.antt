@@ -6,13 +6,13 @@ use Rattle.std.specs.List.Sorted.{IsStrictlyIncreasing}
 use Rattle.std.proofs.lemmas.Bool.{ne_eqb, leb-true, le-leb}
 use Rattle.mm_model.specs.Slot.{Slot}
 use Rattle.mm_model.specs.State.{State, slot_at}
-use Rattle.mm_model.specs.Image.{Image, slot_in, slot_limit, start}
+use Rattle.mm_model.specs.Image.{Image, slot_in, start}
 use Rattle.mm_model.specs.Spelling.{numbers_of, IsImage}
 use Rattle.mm_model.specs.Schedule.{in_groups, is_kept, only}
 use Rattle.mm_model.specs.Turn.{turn}
 use Rattle.mm_model.specs.Run.{after, run}
 use Rattle.mm_model.specs.Fits.{slots_of, identity_of, IsSlot, Fits}
-use Rattle.mm_model.proofs.CoreRows.{each_map, each_both, each_contained, above_first, rest_rises, slot_at-number, each_slot, slot_has, stays_by}
+use Rattle.mm_model.proofs.CoreRows.{slot_limit-few, each_map, each_both, each_contained, above_first, rest_rises, slot_at-number, each_slot, slot_has, stays_by}
 use Rattle.mm_model.proofs.TurnKeeps.{turn_keeps}
 use Rattle.mm_model.proofs.StateKeeps.{after_fits}
 use Rattle.mm_model.proofs.TurnBounds.{turn_takes}
@@ -186,16 +186,9 @@ named_inside i s c n x fits kept is = elim (either (in_groups c (slot_in i.slots
       let low = leb-true 128 n all.1 in
       let own = slot_has (IsSlot s.core.version s.core.split) s.core n x fits.core.slots is in
       let number = slot_at-number s.core n x is in
-      let few = limit_few s.core.version in
+      let few = slot_limit-few s.core.version in
       absurd (omega (arith, own.number))
 ]
-  where
-    limit_few : (version : ℕ) → slot_limit version ≤ 64
-    limit_few version = by (nat_eq version 1)
-      where
-        by : (b : Bool) → (if b then 16 else 64) ≤ 64
-        by true = omega arith
-        by false = omega arith
 
 quiet_after : (i : Image) (s : State) (c : ℕ → Bool) (n : ℕ) → Fits i s → is_kept i c n ≡ true → Quiet c s → Quiet c (after s n)
 unfolding after
