@@ -4,3 +4,5 @@ mod CountSums
 mod Restricting
 mod Robins
 mod Texts
+mod Spellings
+mod CountExact
