@@ -1,0 +1,2 @@
+pub mod GrantedWords
+pub mod GrantedRows
