@@ -1,5 +1,5 @@
 -- Each row of the table of instructions: what it does is granted, where the slot's words and the reply's are.
-use Rattle.std.proofs.Common.{◌≡◌, ℕ, ◌+◌, ◌<◌, ◌^◌, ◌%◌, ◌⊎◌, inl, inr, Bool, true, false, ◌&&◌, ◌||◌, ◌==◌, nat_lt, if◌then◌else◌, List, [], ◌∷◌, length, map, Option, Some, None, Result, Ok, Err, refl, sym, ap, ◌∙◌, subst, arith, ltb-true, ℤ, pos, negsuc, ◌*ℤ◌, ◌+ℤ◌, slice_set}
+use Rattle.std.proofs.Common.{◌≡◌, ℕ, ◌+◌, ◌<◌, ◌^◌, ◌%◌, ◌⊎◌, inl, inr, Bool, true, false, ◌&&◌, ◌==◌, nat_lt, if◌then◌else◌, List, [], ◌∷◌, length, map, Option, Some, None, Result, Ok, Err, refl, sym, ap, ◌∙◌, subst, arith, ltb-true, ℤ, pos, negsuc, ◌*ℤ◌, ◌+ℤ◌, slice_set}
 use Rattle.std.specs.Prelude.{option_map}
 use Rattle.std.specs.Int.{w64, cast_unsigned, cast_signed}
 use Rattle.std.specs.List.{AllByRecursion}
@@ -18,7 +18,7 @@ use Rattle.mm_word.specs.declared.word.Word.TheVariants.{Int, Ptr}
 use Rattle.mm_word.specs.declared.word.Cell.{Cell}
 use Rattle.mm_word.specs.Access.{Touch, IsGranted, touch_at, check_result}
 use Rattle.mm_word.specs.Perm.{can_fetch, can_move, can_load, can_store, allows, execute_form}
-use Rattle.mm_word.specs.Pointer.{Pointer, Covers, IsBelow, moved_to, lea_result, leab_result, restrict_result, subseg_result, setptr_result, next_result, enter_result}
+use Rattle.mm_word.specs.Pointer.{Pointer, IsBelow, moved_to, lea_result, leab_result, restrict_result, subseg_result, setptr_result, next_result, enter_result}
 use Rattle.mm_word.specs.Word.{IsWord, word_bits, is_pointer}
 use Rattle.mm_word.proofs.Results.{lea_result-IsBelow, leab_result-IsBelow, restrict_result-IsBelow, subseg_result-IsBelow, next_result-IsBelow, setptr_result-well_formed, check_result-IsGranted}
 use Rattle.mm_isa.specs.declared.instr.DivZero.{DivZero}
@@ -31,18 +31,18 @@ use Rattle.mm_model.specs.declared.slot.Pending.{Pending}
 use Rattle.mm_model.specs.declared.event.Event.{Event}
 use Rattle.mm_model.specs.Memory.{Memory, cell_at, is_mapped, can_map, passes}
 use Rattle.mm_model.specs.Slot.{Slot, register, is_empty}
-use Rattle.mm_model.specs.State.{Row, Core, slot_at, queue_at, output_of}
+use Rattle.mm_model.specs.State.{Core, slot_at, queue_at, output_of}
 use Rattle.mm_model.specs.Image.{Image, output_limit}
 use Rattle.mm_model.specs.Fits.{is_waiting, identity_of, IsSlot, IsCore, RowHoldsWords}
 use Rattle.mm_model.specs.Operands.{addr_operand, value_operand, word_a, word_b, field_a, field_b, field_imm}
 use Rattle.mm_model.specs.Ask.{ask, is_privileged, load_kind, reaching}
 use Rattle.mm_model.specs.Ask.Ask.{Refuse, MapPage, UnmapPage}
-use Rattle.mm_model.specs.Effect.{Reply, Change, Pages, Effect, effect, advanced, runs_past, plain, moved_on, sets, sets_pointer, sets_number, if_pointer, test, same_word, high_and_low, puts_out, set_by, loaded, stored, at_distance, branches, entry_as, entry_of, jumps, links, takes, resumed_by, resumes, delivered, reads_of, writes_of, maps, unmaps}
+use Rattle.mm_model.specs.Effect.{Reply, Change, Pages, Effect, effect, advanced, plain, moved_on, sets, sets_pointer, sets_number, if_pointer, test, same_word, high_and_low, puts_out, set_by, loaded, stored, at_distance, branches, entry_as, entry_of, jumps, links, takes, resumed_by, resumes, delivered, reads_of, writes_of, maps, unmaps}
 use Rattle.mm_model.specs.Effect.Reply.{Fine, Refused, Got, Paged, Took, Served}
 use Rattle.mm_model.specs.Effect.Pages.{Keep, Add, Remove}
 use Rattle.mm_model.specs.Effect.Effect.{Fault, Block, Deliver, Does}
 use Rattle.mm_model.specs.Turn.{reply, reached, event_reply, first_event, served, is_taken, is_handler}
-use Rattle.mm_model.specs.Reach.{Entries, Grants, LoadsAt, CanWrite, Privileged}
+use Rattle.mm_model.specs.Reach.{Entries, Grants, CanWrite, Privileged}
 use Rattle.mm_model.specs.Reach.Grants.{below}
 use Rattle.mm_model.proofs.CoreRows.{slot_at-number, slot_has, identities_of}
 use Rattle.mm_model.proofs.SlotSteps.{delivered_from}
@@ -112,7 +112,6 @@ pub record ChangeGranted (i : Image) (e : Entries) (core : Core) (m : Memory) (s
   pub issue : IssueGranted i e s.group c.issue
   pub cell : CellWritten i e m s.group c.cell
   pub pages : PagesGranted i e s.group c.pages
-  pub alone : (c.cell ≡ None) ⊎ (c.pages ≡ Keep)
   pub queue : QueueGranted i e s.group c.queue
   pub other : OtherSlot i e core s.number c.other
 
@@ -197,7 +196,7 @@ module _ (i : Image) (e : Entries) (core : Core) (m : Memory) (st : Stands i e c
   own_slot : IsSlot core.version core.split s
   own_slot = slot_has (IsSlot core.version core.split) core s.number s st.whole.slots at
 
-  reg : (r : ℕ) → WordGranted i e s.group (register s r)
+  pub reg : (r : ℕ) → WordGranted i e s.group (register s r)
   reg r = register_granted i e s own r
 
   advanced_granted : (o : Slot) → SlotGranted i e o → Grants i e o.group (advanced o.ip)
@@ -213,11 +212,11 @@ module _ (i : Image) (e : Entries) (core : Core) (m : Memory) (st : Stands i e c
 
   plain_granted : Is (Does (plain s))
   unfolding plain
-  plain_granted = record { writes = tt; next = advances; issue = tt; cell = tt; pages = tt; alone = inl refl; queue = tt; other = tt }
+  plain_granted = record { writes = tt; next = advances; issue = tt; cell = tt; pages = tt; queue = tt; other = tt }
 
   sets_granted : (rd : ℕ) (w : Word) → WordGranted i e s.group w → Is (sets s rd w)
   unfolding plain
-  sets_granted rd w g = record { writes = (g, tt); next = advances; issue = tt; cell = tt; pages = tt; alone = inl refl; queue = tt; other = tt }
+  sets_granted rd w g = record { writes = (g, tt); next = advances; issue = tt; cell = tt; pages = tt; queue = tt; other = tt }
 
   pointer_granted : (rd : ℕ) (r : Result Pointer Cause) → ((q : Pointer) → r ≡ Ok q → Grants i e s.group q) → Is (sets_pointer s rd r)
   pointer_granted rd (Ok q) g = sets_granted rd (Ptr q) (g q refl)
@@ -241,11 +240,11 @@ module _ (i : Image) (e : Entries) (core : Core) (m : Memory) (st : Stands i e c
 
   halts_granted : Is (Does (record (plain s) { next = s.ip; past = s.past; halts = true }))
   unfolding plain
-  halts_granted = record { writes = tt; next = own.ip; issue = tt; cell = tt; pages = tt; alone = inl refl; queue = tt; other = tt }
+  halts_granted = record { writes = tt; next = own.ip; issue = tt; cell = tt; pages = tt; queue = tt; other = tt }
 
   out_granted : (byte : ℕ) (b : Bool) → Is (puts_out s byte (if b then Fine else Refused cause.OutFull))
   unfolding plain
-  out_granted byte true = record { writes = tt; next = advances; issue = tt; cell = tt; pages = tt; alone = inl refl; queue = tt; other = tt }
+  out_granted byte true = record { writes = tt; next = advances; issue = tt; cell = tt; pages = tt; queue = tt; other = tt }
   out_granted byte false = tt
 
   own_privileged : is_privileged s.ip.perm ≡ true → Privileged i e s.group
@@ -267,7 +266,7 @@ module _ (i : Image) (e : Entries) (core : Core) (m : Memory) (st : Stands i e c
   branch_granted imm = by (at_distance s imm) refl
     where
       by : (r : Result Pointer Cause) → at_distance s imm ≡ r → Is (branches s r)
-      by (Ok p) is = record { writes = tt; next = distance_granted imm p is; issue = tt; cell = tt; pages = tt; alone = inl refl; queue = tt; other = tt }
+      by (Ok p) is = record { writes = tt; next = distance_granted imm p is; issue = tt; cell = tt; pages = tt; queue = tt; other = tt }
       by (Err c) is = tt
 
   next_granted : (p to : Pointer) → Grants i e s.group p → enter_result p ≡ Some to → NextGranted i e s.group to (entry_of p)
@@ -279,18 +278,18 @@ module _ (i : Image) (e : Entries) (core : Core) (m : Memory) (st : Stands i e c
   jump_granted : (p : Pointer) (o : Option Pointer) → Grants i e s.group p → enter_result p ≡ o → Is (jumps s p o)
   unfolding plain
   jump_granted p None g is = tt
-  jump_granted p (Some to) g is = record { writes = tt; next = next_granted p to g is; issue = tt; cell = tt; pages = tt; alone = inl refl; queue = tt; other = tt }
+  jump_granted p (Some to) g is = record { writes = tt; next = next_granted p to g is; issue = tt; cell = tt; pages = tt; queue = tt; other = tt }
 
   link_granted : (rd : ℕ) (p : Pointer) (o behind : Option Pointer) → Grants i e s.group p → enter_result p ≡ o → next_result s.ip ≡ behind → Is (links s rd p o behind)
   unfolding plain
   link_granted rd p None behind g is next = tt
   link_granted rd p (Some to) None g is next = tt
   link_granted rd p (Some to) (Some back) g is next =
-      record { writes = (below s.ip own.ip (next_result-IsBelow s.ip back next), tt); next = next_granted p to g is; issue = tt; cell = tt; pages = tt; alone = inl refl; queue = tt; other = tt }
+      record { writes = (below s.ip own.ip (next_result-IsBelow s.ip back next), tt); next = next_granted p to g is; issue = tt; cell = tt; pages = tt; queue = tt; other = tt }
 
   -- loads and stores
 
-  word_at : (r : ℕ) → IsWord (register s r)
+  pub word_at : (r : ℕ) → IsWord (register s r)
   word_at r = register_fits s r (slot_words core s.number s st.words at).registers
 
   -- the pointer of an access through a granted word
@@ -319,8 +318,8 @@ module _ (i : Image) (e : Entries) (core : Core) (m : Memory) (st : Stands i e c
           load_granted i e s.group t.addr t.ptr c.word (through w (load_kind post) t g ok) (record { word = ok.granted.aligned; right = kind_loads post t.ptr.perm right; covers = ok.granted.inside }) (st.cells t.addr c is)
 
       by : (split : Bool) → Is (loaded split s rd post (Got t c))
-      by false = record { writes = (word, tt); next = advances; issue = tt; cell = set_granted post w t c is g ok word; pages = tt; alone = inr refl; queue = tt; other = tt }
-      by true = record { writes = (tt, tt); next = advances; issue = word; cell = set_granted post w t c is g ok word; pages = tt; alone = inr refl; queue = tt; other = tt }
+      by false = record { writes = (word, tt); next = advances; issue = tt; cell = set_granted post w t c is g ok word; pages = tt; queue = tt; other = tt }
+      by true = record { writes = (tt, tt); next = advances; issue = word; cell = set_granted post w t c is g ok word; pages = tt; queue = tt; other = tt }
 
   load_row : (rd : ℕ) (post : Post) (pre : Pre) (w : Word) (r : Result Touch Cause) → WordGranted i e s.group w → ((t : Touch) → r ≡ Ok t → Checked w (load_kind post) t) → Is (loaded core.split s rd post (reply core m s.number (reaching r pre)))
   unfolding reply
@@ -344,7 +343,7 @@ module _ (i : Image) (e : Entries) (core : Core) (m : Memory) (st : Stands i e c
       writes = let fits = ok t refl in may_write t (through w Store t g fits) fits.granted (ap (allows t.ptr.perm) (sym fits.kind_is) ∙ fits.granted.right)
 
       passed : (c : Cell) (b : Bool) → cell_at m t.addr ≡ Some c → Is (stored s v post (if b then Got t c else Refused cause.Sync))
-      passed c true is = record { writes = tt; next = advances; issue = tt; cell = record { old = c; stands = is; writes = writes; word = gv }; pages = tt; alone = inr refl; queue = tt; other = tt }
+      passed c true is = record { writes = tt; next = advances; issue = tt; cell = record { old = c; stands = is; writes = writes; word = gv }; pages = tt; queue = tt; other = tt }
       passed c false is = tt
 
       by : (o : Option Cell) → cell_at m t.addr ≡ o → Is (stored s v post (reached t pre o))
@@ -370,7 +369,6 @@ module _ (i : Image) (e : Entries) (core : Core) (m : Memory) (st : Stands i e c
         issue = tt;
         cell = tt;
         pages = tt;
-        alone = inl refl;
         queue = others;
         other = record { old = of; stands = stands_at event.slot of is; group = refl; handler = refl; served = handled; granted = record { registers = old.registers; ip = old.ip; pending = old.pending } };
       }
@@ -409,7 +407,7 @@ module _ (i : Image) (e : Entries) (core : Core) (m : Memory) (st : Stands i e c
 
   resume_granted : (how : How) (k : ℕ) (of : Slot) → slot_at core k ≡ Some of → of.handler ≡ Some s.number → Is (resumes s how (Served of))
   unfolding plain
-  resume_granted how k of is handled = record { writes = tt; next = advances; issue = tt; cell = tt; pages = tt; alone = inl refl; queue = tt; other = resumed_granted how k of is handled }
+  resume_granted how k of is handled = record { writes = tt; next = advances; issue = tt; cell = tt; pages = tt; queue = tt; other = resumed_granted how k of is handled }
 
   other_delivered : (k : ℕ) (of : Slot) → slot_at core k ≡ Some of → of.handler ≡ Some s.number → OtherGranted i e core s.number (delivered of)
   other_delivered k of is handled =
@@ -439,7 +437,6 @@ module _ (i : Image) (e : Entries) (core : Core) (m : Memory) (st : Stands i e c
         issue = tt;
         cell = tt;
         pages = tt;
-        alone = inl refl;
         queue = tt;
         other = record {
           old = of;
@@ -458,7 +455,7 @@ module _ (i : Image) (e : Entries) (core : Core) (m : Memory) (st : Stands i e c
   map_row rd page true true y small = by (can_map m page)
     where
       by : (b : Bool) → Is (maps s rd (Paged page b))
-      by true = record { writes = (tt, tt); next = advances; issue = tt; cell = tt; pages = record { privileged = own_privileged y; small = ltb-true page (2 ^ 42) small }; alone = inl refl; queue = tt; other = tt }
+      by true = record { writes = (tt, tt); next = advances; issue = tt; cell = tt; pages = record { privileged = own_privileged y; small = ltb-true page (2 ^ 42) small }; queue = tt; other = tt }
       by false = sets_granted rd (Int 0) tt
   map_row rd page true false y small = tt
   map_row rd page false c y small = tt
@@ -468,7 +465,7 @@ module _ (i : Image) (e : Entries) (core : Core) (m : Memory) (st : Stands i e c
   unmap_row rd page true true y small = by (is_mapped m page)
     where
       by : (b : Bool) → Is (unmaps s rd (Paged page b))
-      by true = record { writes = (tt, tt); next = advances; issue = tt; cell = tt; pages = record { privileged = own_privileged y; small = ltb-true page (2 ^ 42) small }; alone = inl refl; queue = tt; other = tt }
+      by true = record { writes = (tt, tt); next = advances; issue = tt; cell = tt; pages = record { privileged = own_privileged y; small = ltb-true page (2 ^ 42) small }; queue = tt; other = tt }
       by false = sets_granted rd (Int 0) tt
   unmap_row rd page true false y small = tt
   unmap_row rd page false c y small = tt

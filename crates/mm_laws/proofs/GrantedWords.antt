@@ -1,5 +1,5 @@
 -- Words that are granted: of slots and queues by their numbers, along services, and under more entries.
-use Rattle.std.proofs.Common.{◌≡◌, ℕ, zero, suc, ◌+◌, ◌<◌, ◌⊎◌, inl, inr, Bool, true, false, nat_eq, if◌then◌else◌, List, [], ◌∷◌, ◌++◌, length, map, Option, Some, None, refl, sym, ap, ◌∙◌, subst, arith, slice_set, slice_index_or, eqb-true}
+use Rattle.std.proofs.Common.{◌≡◌, ℕ, zero, suc, inl, inr, Bool, true, false, nat_eq, if◌then◌else◌, List, [], ◌∷◌, ◌++◌, map, Option, Some, None, refl, sym, ap, ◌∙◌, subst, arith, slice_index_or}
 use Rattle.std.specs.Prelude.{Contains}
 use Rattle.std.specs.List.{AllByRecursion}
 use Rattle.mm_word.specs.declared.word.Word.{Word}
@@ -7,9 +7,9 @@ use Rattle.mm_word.specs.declared.word.Word.TheVariants.{Int, Ptr}
 use Rattle.mm_word.specs.Pointer.{Pointer}
 use Rattle.mm_model.specs.declared.slot.Pending.{Pending}
 use Rattle.mm_model.specs.declared.event.Event.{Event}
-use Rattle.mm_model.specs.Memory.{Memory, cell_at}
+use Rattle.mm_model.specs.Memory.{Memory}
 use Rattle.mm_model.specs.Slot.{Slot, register}
-use Rattle.mm_model.specs.State.{Row, Core, State, row_in, slot_of, queue_of, slot_at, queue_at}
+use Rattle.mm_model.specs.State.{Row, Core, row_in, slot_of, queue_of, slot_at, queue_at}
 use Rattle.mm_model.specs.Image.{Image, start}
 use Rattle.mm_model.specs.Fits.{slots_of, identity_of}
 use Rattle.mm_model.specs.Effect.{delivers, delivered}
@@ -18,7 +18,7 @@ use Rattle.mm_model.specs.Reach.Entries.{All, These}
 use Rattle.mm_model.specs.Reach.Grants.{below}
 use Rattle.mm_model.proofs.CoreRows.{each_map, identities_of, stays_by, slot_contained}
 use Rattle.mm_model.proofs.EffectWords.{each_set}
-use Rattle.mm_laws.specs.Granted.{WordGranted, SlotGranted, EventGranted, RowGranted, IsOwn, IsStored, CellGranted, CellsGranted, WordsGranted, with_entries}
+use Rattle.mm_laws.specs.Granted.{WordGranted, SlotGranted, EventGranted, RowGranted, CellGranted, CellsGranted, with_entries}
 
 -- 1. Lists.
 

@@ -1,2 +1,4 @@
 pub mod GrantedWords
 pub mod GrantedRows
+pub mod GrantedTurns
+pub mod GrantedRuns

@@ -1,5 +1,5 @@
 -- What a run reaches is granted.
-use Rattle.std.specs.Prelude.{◌≡◌, ◌⊎◌, ℕ, ◌%◌, ◌^◌, ◌<◌, true, List, ◌++◌, Option, Some, IfSome}
+use Rattle.std.specs.Prelude.{◌≡◌, ◌⊎◌, ℕ, ◌%◌, ◌^◌, ◌<◌, true, List, ◌++◌, Some, IfSome}
 use Rattle.std.specs.List.{AllByRecursion}
 use Rattle.mm_word.specs.declared.perm.Perm.TheVariants.{Eu, Ep}
 use Rattle.mm_word.specs.declared.word.Word.{Word}
