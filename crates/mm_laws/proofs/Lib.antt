@@ -6,3 +6,5 @@ pub mod AlikeRows
 pub mod AlikeWorlds
 pub mod AlikeTurns
 pub mod OutsideTurns
+pub mod TwoRuns
+pub mod TwoLists
