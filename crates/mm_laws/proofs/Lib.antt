@@ -8,3 +8,7 @@ pub mod AlikeTurns
 pub mod OutsideTurns
 pub mod TwoRuns
 pub mod TwoLists
+pub mod SameSections
+pub mod CellViews
+pub mod ChangedCells
+pub mod SameViews

@@ -5,3 +5,4 @@
 #![tactic(auto)]
 
 pub mod granted;
+pub mod isolated;
