@@ -1,5 +1,5 @@
 -- Rows of some groups: where they are found, and after a slot or a queue was put.
-use Rattle.std.proofs.Common.{◌≡◌, ◌≢◌, ℕ, zero, suc, ◌+◌, ◌<◌, ◌⊎◌, inl, inr, Bool, true, false, cond, nat_eq, if◌then◌else◌, List, [], ◌∷◌, map, length, Option, Some, None, refl, sym, ap, ◌∙◌, subst, arith, eqb-true, eq-eqb}
+use Rattle.std.proofs.Common.{◌≡◌, ◌≢◌, ℕ, zero, suc, ◌+◌, ◌<◌, ◌⊎◌, inl, inr, Bool, true, false, cond, nat_eq, if◌then◌else◌, List, [], ◌∷◌, map, Option, Some, refl, sym, ap, ◌∙◌, subst, arith, eqb-true, eq-eqb}
 use Rattle.std.specs.Prelude.{Contains, slice_index}
 use Rattle.std.specs.List.{AllByRecursion, filter}
 use Rattle.std.specs.List.Sorted.{IsStrictlyIncreasing}
@@ -7,10 +7,10 @@ use Rattle.std.proofs.lemmas.Bool.{cases_eq, ne_eqb}
 use Rattle.mm_model.specs.declared.event.Event.{Event}
 use Rattle.mm_model.specs.Slot.{Slot}
 use Rattle.mm_model.specs.State.{Row, Core, row_in, slot_of, queue_of, slot_at, queue_at, at_number, put_slot, put_queue}
-use Rattle.mm_model.specs.Fits.{slots_of, identity_of}
-use Rattle.mm_model.proofs.CoreRows.{each_map, above_first, slots_of-put_queue, Rises, identities_of, rises_by, Stays, stays_by, identities_of-put_slot}
+use Rattle.mm_model.specs.Fits.{identity_of}
+use Rattle.mm_model.proofs.CoreRows.{each_map, above_first, slots_of-put_queue, Rises, identities_of, rises_by, stays_by, identities_of-put_slot}
 use Rattle.mm_laws.specs.Isolated.{is_row_of}
-use Rattle.mm_laws.proofs.GrantedWords.{row_has, RowOf, row_of}
+use Rattle.mm_laws.proofs.GrantedWords.{row_has, row_of}
 use Rattle.mm_laws.proofs.GrantedTurns.{same_slot}
 
 pub no_both : (b : Bool) → b ≡ true → b ≡ false → ⊥

@@ -1,5 +1,5 @@
 -- A turn of the groups is the same in two states that are alike to them.
-use Rattle.std.proofs.Common.{◌≡◌, ◌≢◌, ℕ, zero, suc, ◌+◌, ◌-◌, ◌*◌, ◌%◌, ◌^◌, ◌<◌, ◌≤◌, inl, inr, Bool, true, false, ◌&&◌, nat_lt, nat_le, if◌then◌else◌, pos, List, [], ◌∷◌, ◌++◌, map, length, Option, Some, None, Result, Ok, Err, refl, sym, ap, ◌∙◌, subst, arith, slice_set, slice_index_or}
+use Rattle.std.proofs.Common.{◌≡◌, ℕ, zero, suc, ◌^◌, inl, inr, Bool, true, false, ◌&&◌, nat_lt, if◌then◌else◌, pos, List, [], ◌∷◌, ◌++◌, map, length, Option, Some, None, Result, Ok, Err, refl, sym, ap, ◌∙◌, subst, arith, slice_set, slice_index_or}
 use Rattle.std.specs.Prelude.{IfSome}
 use Rattle.std.specs.List.{AllByRecursion}
 use Rattle.std.proofs.lemmas.Bool.{cases_eq}
@@ -18,36 +18,35 @@ use Rattle.mm_model.specs.declared.slot.SlotState.{SlotState}
 use Rattle.mm_model.specs.declared.slot.SlotState.TheVariants.{Running, Waiting, Halted}
 use Rattle.mm_model.specs.declared.slot.Pending.{Pending}
 use Rattle.mm_model.specs.declared.event.Event.{Event}
-use Rattle.mm_model.specs.declared.step.Tick.TheVariants.{Did}
 use Rattle.mm_model.specs.Memory.{Memory, cell_at, put_cell, map_page, unmap_page, can_map, is_mapped, IsPaged}
 use Rattle.mm_model.specs.Uses.{Use, Accessed}
 use Rattle.mm_model.specs.Slot.{Slot, register}
 use Rattle.mm_model.specs.State.{Row, Core, slot_at, queue_at, put_slot, put_queue, output_of, put_output, at_number}
 use Rattle.mm_model.specs.Image.{Image, output_limit}
 use Rattle.mm_model.specs.Spelling.{IsOther}
-use Rattle.mm_model.specs.Fits.{slots_of, identity_of, is_waiting, IsCore}
+use Rattle.mm_model.specs.Fits.{slots_of, identity_of, is_waiting}
 use Rattle.mm_model.specs.Operands.{addr_operand, value_operand, lacks}
 use Rattle.mm_model.specs.Ask.{Ask, ask, is_privileged, load_kind, reaching}
 use Rattle.mm_model.specs.Ask.Ask.{Nothing, Refuse, Reach, MapPage, UnmapPage, NextEvent, Room, Serve}
-use Rattle.mm_model.specs.Effect.{Reply, Change, Pages, Effect, effect, delivered}
+use Rattle.mm_model.specs.Effect.{Change, Pages, Effect, effect, delivered}
 use Rattle.mm_model.specs.Effect.Reply.{Fine, Refused, Paged, Served}
 use Rattle.mm_model.specs.Effect.Pages.{Keep, Add, Remove}
 use Rattle.mm_model.specs.Effect.Effect.{Fault, Block, Deliver, Does}
-use Rattle.mm_model.specs.Turn.{Turned, reply, reached, event_reply, first_event, is_taken, is_handler, served, slot_after, with_other, with_queue, with_out, with_cell, with_pages, core_after, memory_after, stood, is_sync, event_of, core_faulted, faulted, touch_of, asked_use, blocked, ended, executed, issued, decoded, instr_in, fetched, aimed, started, idle, arrives, is_running}
-use Rattle.mm_model.specs.Reach.{Grants, Privileged}
+use Rattle.mm_model.specs.Turn.{Turned, reply, reached, event_reply, first_event, is_taken, is_handler, served, slot_after, with_other, with_queue, with_out, with_cell, with_pages, core_after, memory_after, stood, is_sync, event_of, core_faulted, faulted, touch_of, asked_use, blocked, ended, executed, issued, decoded, instr_in, fetched, aimed, started, idle, arrives}
+use Rattle.mm_model.specs.Reach.{Privileged}
 use Rattle.mm_model.specs.Reach.Entries.{All}
-use Rattle.mm_model.specs.Worlds.{Touchable, IsPrivileged, Apart, Agree}
+use Rattle.mm_model.specs.Worlds.{Touchable, IsPrivileged, Apart}
 use Rattle.mm_model.proofs.CoreRows.{slot_at-number, queue_at-put_slot, slot_has, other_at}
 use Rattle.mm_model.proofs.CoreSteps.{queued_waits}
 use Rattle.mm_model.proofs.SlotSteps.{delivered_from}
-use Rattle.mm_model.proofs.EffectSteps.{both_true, handler_is}
+use Rattle.mm_model.proofs.EffectSteps.{handler_is}
 use Rattle.mm_model.proofs.Memories.{cell_at-put_same, cell_at-put_other}
-use Rattle.mm_model.proofs.TurnKeeps.{ChangedFrom, changed_from}
+use Rattle.mm_model.proofs.TurnKeeps.{changed_from}
 use Rattle.mm_laws.specs.Granted.{TouchGranted}
 use Rattle.mm_laws.proofs.GrantedWords.{slot_granted}
 use Rattle.mm_laws.proofs.GrantedRows.{Stands, CellWritten, PagesGranted, OtherSlot, ChangeGranted, EffectGranted, effect_granted, is_xp}
 use Rattle.mm_laws.proofs.GrantedTurns.{fetch_granted, touch_granted}
-use Rattle.mm_laws.proofs.AlikeRows.{no_both, bool_cases, mine, SameSlotAt, same_at, Sames, sames_self, put_slot-sames, put_queue-sames, mine-put_slot, mine-put_queue}
+use Rattle.mm_laws.proofs.AlikeRows.{no_both, bool_cases, mine, SameSlotAt, same_at, Sames, sames_self, put_slot-sames, mine-put_slot, mine-put_queue}
 use Rattle.mm_laws.proofs.AlikeWorlds.{state_side, touch_known, touches_all, whole_memory}
 
 -- what is the same of two turns

@@ -1,9 +1,9 @@
 -- What is granted to groups that stand apart is granted in both images, and memories with the same cells are equal.
 use Rattle.std.proofs.Common.{◌≡◌, ℕ, zero, suc, ◌+◌, ◌*◌, ◌/◌, ◌%◌, ◌^◌, ◌<◌, ◌≤◌, ◌⊎◌, inl, inr, Bool, true, false, nat_le, List, [], ◌∷◌, length, slice_get, Option, Some, None, refl, sym, ap, ◌∙◌, subst, arith, leb-true, leb-false, T}
-use Rattle.std.specs.Prelude.{Contains, IsTrue}
+use Rattle.std.specs.Prelude.{Contains}
 use Rattle.std.specs.List.{filter}
 use Rattle.std.specs.Ordering.{nat_cmp}
-use Rattle.std.specs.FinMap.{find, is_sorted, nat_cmp-IsAntisymmetric}
+use Rattle.std.specs.FinMap.{nat_cmp-IsAntisymmetric}
 use Rattle.std.specs.FinMap.Entries.{same_entries}
 use Rattle.std.proofs.Math.Nat.{div-eq_of_lt}
 use Rattle.std.proofs.lemmas.Cmp.{nat_cmp_total}
@@ -16,21 +16,21 @@ use Rattle.mm_word.specs.Access.{Touch}
 use Rattle.mm_word.specs.Perm.{allows, can_load, can_store}
 use Rattle.mm_word.specs.Pointer.{Pointer, IsWellFormed, Covers}
 use Rattle.mm_word.proofs.Rights.{can_fetch-loads, can_store-loads}
-use Rattle.mm_model.specs.Memory.{Memory, page_of, place_of, page_at, cell_in, cell_at, IsPage, IsPaged}
+use Rattle.mm_model.specs.Memory.{Memory, page_of, place_of, page_at, cell_in, cell_at, IsPaged}
 use Rattle.mm_model.specs.Slot.{Slot}
 use Rattle.mm_model.specs.State.{Core, slot_at}
 use Rattle.mm_model.specs.Image.{Image}
 use Rattle.mm_model.specs.Fits.{identity_of}
-use Rattle.mm_model.specs.Reach.{Grants, Serves, CanWrite}
+use Rattle.mm_model.specs.Reach.{Grants, Serves}
 use Rattle.mm_model.specs.Reach.Grants.{below}
 use Rattle.mm_model.specs.Reach.Entries.{All}
 use Rattle.mm_model.specs.Worlds.{Touchable, IsPrivileged, Apart, Agree}
 use Rattle.mm_model.proofs.CoreRows.{identities_of}
 use Rattle.mm_model.proofs.EffectSteps.{both_true}
-use Rattle.mm_model.proofs.Memories.{aligned, cell_at-aligned, page_of_cell, page_whole}
+use Rattle.mm_model.proofs.Memories.{cell_at-aligned, page_whole}
 use Rattle.mm_laws.specs.Granted.{TouchGranted}
-use Rattle.mm_laws.proofs.GrantedWords.{ImageSlot, image_slot}
-use Rattle.mm_laws.proofs.AlikeRows.{no_both, bool_cases, contained_filter, filter_contained}
+use Rattle.mm_laws.proofs.GrantedWords.{image_slot}
+use Rattle.mm_laws.proofs.AlikeRows.{bool_cases, contained_filter, filter_contained}
 
 -- 1. Sides.
 

@@ -1,20 +1,10 @@
 -- Where the cells that groups can touch are the same in two memories and in their images, so are the lines of those that changed.
-use Rattle.std.proofs.Common.{◌≡◌, ◌≢◌, ℕ, zero, suc, ◌+◌, ◌*◌, ◌/◌, ◌%◌, ◌<◌, ◌≤◌, ◌⊎◌, inl, inr, Bool, true, false, cond, if◌then◌else◌, List, [], ◌∷◌, ◌++◌, length, replicate, slice_get, Option, Some, None, refl, sym, ap, ◌∙◌, subst, arith, T}
-use Rattle.std.specs.Prelude.{IsTrue}
-use Rattle.std.specs.List.{AllByRecursion, flat_map}
-use Rattle.std.specs.Ordering.{nat_cmp, eq_by_cmp}
-use Rattle.std.specs.FinMap.{find, is_sorted}
-use Rattle.std.specs.FinMap.Entries.{below_all}
-use Rattle.std.specs.Cmp.{unsigned_tied}
-use Rattle.std.proofs.lemmas.Bool.{cases_eq, cases_lt, ne_eqb}
-use Rattle.std.proofs.lemmas.Bool.Decides.{nat_tests}
+use Rattle.std.proofs.Common.{◌≡◌, ℕ, ◌<◌, ◌⊎◌, inl, inr, List, [], ◌∷◌, ◌++◌, refl, sym, ap, ◌∙◌, subst, arith}
+use Rattle.std.specs.List.{AllByRecursion}
+use Rattle.std.proofs.lemmas.Bool.{cases_eq, cases_lt}
 use Rattle.mm_word.specs.declared.word.Cell.{Cell}
-use Rattle.mm_model.specs.Memory.{Memory, page_of, place_of, page_at, cell_in, cell_at, zero_cell, zero_page, IsPage, IsPaged}
 use Rattle.mm_model.specs.Lines.{cell_line}
-use Rattle.mm_model.specs.Report.{same_cell, cells_or_zero}
-use Rattle.mm_model.specs.Worlds.{LinesOf, changes_from, changes}
-use Rattle.mm_model.proofs.CoreRows.{each_map}
-use Rattle.mm_model.proofs.Memories.{cell_at-aligned, aligned, page_whole}
+use Rattle.mm_model.specs.Worlds.{LinesOf}
 
 -- 1. Lines of cells that pass, in two lists that rise by their words.
 

@@ -1,20 +1,18 @@
 -- Which cells differ from the image's, word by word.
 use Rattle.std.proofs.Common.{◌≡◌, ◌≢◌, ℕ, zero, suc, ◌+◌, ◌*◌, ◌/◌, ◌%◌, ◌<◌, ◌≤◌, ◌⊎◌, inl, inr, Bool, true, false, cond, if◌then◌else◌, List, [], ◌∷◌, ◌++◌, length, replicate, slice_get, Option, Some, None, refl, sym, ap, ◌∙◌, subst, arith, T, eq-eqb, nat_eq}
-use Rattle.std.specs.Prelude.{IsTrue}
 use Rattle.std.specs.List.{AllByRecursion, flat_map}
-use Rattle.std.specs.Ordering.{nat_cmp, eq_by_cmp}
+use Rattle.std.specs.Ordering.{nat_cmp}
 use Rattle.std.specs.FinMap.{find, is_sorted}
 use Rattle.std.specs.FinMap.Entries.{below_all}
 use Rattle.std.specs.Cmp.{unsigned_tied}
-use Rattle.std.proofs.lemmas.Bool.{cases_eq, ne_eqb}
+use Rattle.std.proofs.lemmas.Bool.{ne_eqb}
 use Rattle.std.proofs.lemmas.Bool.Decides.{nat_tests}
 use Rattle.mm_word.specs.declared.word.Cell.{Cell}
-use Rattle.mm_model.specs.Memory.{Memory, page_of, place_of, page_at, cell_in, cell_at, zero_cell, zero_page, IsPage, IsPaged}
+use Rattle.mm_model.specs.Memory.{Memory, page_of, place_of, page_at, cell_in, cell_at, zero_cell, IsPage, IsPaged}
 use Rattle.mm_model.specs.Report.{same_cell, cells_or_zero}
 use Rattle.mm_model.specs.Worlds.{changes_from, changes}
 use Rattle.mm_model.proofs.CoreRows.{each_map}
 use Rattle.mm_model.proofs.Memories.{cell_at-aligned, aligned, page_whole}
-use Rattle.mm_laws.proofs.AlikeRows.{bool_cases}
 use Rattle.mm_laws.proofs.CellViews.{IsIn, Rising}
 
 -- 1. Lists.
@@ -198,7 +196,7 @@ page_found (e ∷ es) q cells is = by (nat_eq q e.0) refl (sym (ap (λ b. cond b
         inl (ap (λ n. (n, cells)) number ∙ ap (λ (l : List Cell). (e.0, l)) same)
     by false n found later = inr (later found)
 
-found_page : (es : List (ℕ × List Cell)) → T (is_sorted nat_cmp es) → (q : ℕ) (cells : List Cell) → IsIn (q, cells) es → find nat_cmp q es ≡ Some cells
+pub found_page : (es : List (ℕ × List Cell)) → T (is_sorted nat_cmp es) → (q : ℕ) (cells : List Cell) → IsIn (q, cells) es → find nat_cmp q es ≡ Some cells
 found_page [] sorted q cells h = absurd h
 found_page (e ∷ es) sorted q cells (inl first) =
     let number : q ≡ e.0 = ap (λ (p : ℕ × List Cell). p.0) first in
@@ -226,12 +224,12 @@ zeros_get zero k lt = absurd (omega arith)
 zeros_get (suc n) zero lt = refl
 zeros_get (suc n) (suc k) lt = zeros_get n k (omega arith)
 
-get_short : {A : Type 0} (xs : List A) (k : ℕ) (x : A) → slice_get xs k ≡ Some x → k < length xs
+pub get_short : {A : Type 0} (xs : List A) (k : ℕ) (x : A) → slice_get xs k ≡ Some x → k < length xs
 get_short [] k x e = cc
 get_short (y ∷ xs) zero x e = omega arith
 get_short (y ∷ xs) (suc k) x e = let rest = get_short xs k x e in omega arith
 
-cell_of : (m : Memory) (q k : ℕ) → k < 512 → cell_at m (q * 4096 + 8 * k) ≡ cell_in (page_at m q) k
+pub cell_of : (m : Memory) (q k : ℕ) → k < 512 → cell_at m (q * 4096 + 8 * k) ≡ cell_in (page_at m q) k
 cell_of m q k lt =
     let a : (q * 4096 + 8 * k) % 8 ≡ 0 = omega arith in
     let p : page_of (q * 4096 + 8 * k) ≡ q = omega arith in

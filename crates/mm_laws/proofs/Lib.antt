@@ -12,3 +12,4 @@ pub mod SameSections
 pub mod CellViews
 pub mod ChangedCells
 pub mod SameViews
+pub mod OwnImages

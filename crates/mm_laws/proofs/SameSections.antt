@@ -1,9 +1,9 @@
 -- Where groups' rows and outputs are the same, so are their sections of a report.
-use Rattle.std.proofs.Common.{◌≡◌, ℕ, Bool, true, false, cond, ◌||◌, nat_eq, List, [], ◌∷◌, ◌++◌, length, refl, sym, ap, ◌∙◌, inl, inr, eqb-true}
+use Rattle.std.proofs.Common.{◌≡◌, ℕ, Bool, true, false, cond, ◌||◌, List, [], ◌∷◌, ◌++◌, length, refl, sym, ap, ◌∙◌, inl, inr, eqb-true}
 use Rattle.std.specs.List.{flat_map, filter, list_any, range_with_len}
 use Rattle.mm_model.specs.State.{Row, Core, output_of}
 use Rattle.mm_model.specs.Lines.{slot_lines, output_lines}
-use Rattle.mm_model.specs.Report.{is_of, group_line, section, groups_of}
+use Rattle.mm_model.specs.Report.{is_of, group_line, section}
 use Rattle.mm_model.specs.Worlds.{sections_of}
 use Rattle.mm_laws.specs.Isolated.{is_row_of}
 use Rattle.mm_laws.proofs.AlikeRows.{no_both, bool_cases, filter_takes, filter_drops, mine}

@@ -1,19 +1,17 @@
 -- Two runs whose items of the groups are the same show them the same.
-use Rattle.std.proofs.Common.{◌≡◌, ℕ, Bool, true, List, Option, refl, sym, ap, ◌∙◌}
-use Rattle.mm_word.specs.declared.word.Cell.{Cell}
+use Rattle.std.proofs.Common.{◌≡◌, ℕ, Bool, List, sym, ap, ◌∙◌}
 use Rattle.mm_model.specs.Memory.{Memory, cell_at, IsPaged}
-use Rattle.mm_model.specs.State.{State}
 use Rattle.mm_model.specs.Image.{Image, start}
 use Rattle.mm_model.specs.Report.{same_cell}
 use Rattle.mm_model.specs.Schedule.{only}
 use Rattle.mm_model.specs.Run.{run}
-use Rattle.mm_model.specs.Worlds.{Touchable, LinesOf, changes, CellLinesOf, SameView}
-use Rattle.mm_laws.specs.Isolated.{Alike, AgreeApart, Worlds, SameWorlds}
+use Rattle.mm_model.specs.Worlds.{Touchable, LinesOf, changes}
+use Rattle.mm_laws.specs.Isolated.{AgreeApart, SameWorlds}
 use Rattle.mm_laws.proofs.AlikeWorlds.{touchable_other, touchable_back}
-use Rattle.mm_laws.proofs.TwoLists.{Ends, two_runs}
+use Rattle.mm_laws.proofs.TwoLists.{two_runs}
 use Rattle.mm_laws.proofs.SameSections.{same_sections}
-use Rattle.mm_laws.proofs.CellViews.{IsIn, Passing, lines_over, lines_by}
-use Rattle.mm_laws.proofs.ChangedCells.{cell_or_zero, DiffersAt, changes_rising, in_changes, changes_in}
+use Rattle.mm_laws.proofs.CellViews.{Passing, lines_over, lines_by}
+use Rattle.mm_laws.proofs.ChangedCells.{cell_or_zero, changes_rising, in_changes, changes_in}
 
 -- the cells that pass differ in both
 passing : (P : ℕ → Type 0) (m a n b : Memory) → IsPaged m → IsPaged a → IsPaged n → IsPaged b → ((w : ℕ) → P w → cell_at m w ≡ cell_at n w) → ((w : ℕ) → P w → cell_at a w ≡ cell_at b w)
@@ -43,7 +41,7 @@ same_worlds i j c s t g e =
         cells = λ text. (
           lines_there (Touchable i c) (Touchable j c) (run (start i) s).memory i.memory (run (start j) t).memory j.memory w.one.paged g.one.paged w.other.paged g.other.paged w.alike.cells g.agree.cells over back text,
           lines_there (Touchable j c) (Touchable i c) (run (start j) t).memory j.memory (run (start i) s).memory i.memory w.other.paged g.other.paged w.one.paged g.one.paged
-          (λ v p. sym (w.alike.cells v (back v p))) (λ v p. sym (g.agree.cells v (back v p))) back over text,
+              (λ v p. sym (w.alike.cells v (back v p))) (λ v p. sym (g.agree.cells v (back v p))) back over text,
         );
       };
     }

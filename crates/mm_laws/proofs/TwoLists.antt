@@ -1,5 +1,5 @@
 -- Two runs whose items of the groups are the same, by induction over both lists.
-use Rattle.std.proofs.Common.{◌≡◌, ℕ, ◌-◌, Bool, true, false, cond, ◌&&◌, nat_le, if◌then◌else◌, pos, List, [], ◌∷◌, ◌++◌, map, replicate, Option, Some, None, Result, Ok, Err, refl, sym, ap, ◌∙◌, subst, inl, inr}
+use Rattle.std.proofs.Common.{◌≡◌, ℕ, Bool, true, false, cond, ◌&&◌, if◌then◌else◌, pos, List, [], ◌∷◌, ◌++◌, map, Option, Some, None, Result, Ok, Err, refl, sym, ap, ◌∙◌, subst, inl, inr}
 use Rattle.std.specs.List.{filter}
 use Rattle.mm_word.specs.declared.perm.Kind.TheVariants.{Fetch}
 use Rattle.mm_word.specs.declared.cause.Cause.{Cause}
@@ -15,26 +15,23 @@ use Rattle.mm_model.specs.Uses.{Use, Accessed}
 use Rattle.mm_model.specs.Slot.{Slot}
 use Rattle.mm_model.specs.State.{Row, Core, State, slot_at, output_of}
 use Rattle.mm_model.specs.Image.{Image, start}
-use Rattle.mm_model.specs.Spelling.{IsImage}
-use Rattle.mm_model.specs.Fits.{identity_of, Fits}
 use Rattle.mm_model.specs.Schedule.{is_kept, only}
 use Rattle.mm_model.specs.Operands.{lacks}
 use Rattle.mm_model.specs.Ask.{ask}
 use Rattle.mm_model.specs.Effect.{Effect, effect, delivered}
 use Rattle.mm_model.specs.Effect.Effect.{Fault, Block, Deliver, Does}
-use Rattle.mm_model.specs.Turn.{Turned, reply, faulted, touch_of, asked_use, blocked, ended, executed, issued, decoded, instr_in, fetched, aimed, started, idle, arrives, taken_by_port, taken_by, port_of, is_running, turn}
+use Rattle.mm_model.specs.Turn.{Turned, reply, faulted, touch_of, asked_use, blocked, ended, executed, issued, decoded, instr_in, fetched, aimed, started, idle, arrives, taken_by_port, taken_by, is_running, turn}
 use Rattle.mm_model.specs.Run.{turn_of, after, run}
 use Rattle.mm_model.specs.Trace.{group_of, turns_of, step_line, trace_line, traced}
 use Rattle.mm_model.specs.Reach.Entries.{All}
-use Rattle.mm_model.specs.Worlds.{Agree, is_turn_of, trace_of}
-use Rattle.mm_model.proofs.CoreRows.{slot_at-number, Stays, stays_by}
+use Rattle.mm_model.specs.Worlds.{is_turn_of, trace_of}
+use Rattle.mm_model.proofs.CoreRows.{slot_at-number, stays_by}
 use Rattle.mm_model.proofs.SlotSteps.{delivered_from}
 use Rattle.mm_model.proofs.Starts.{start_fits}
 use Rattle.mm_model.proofs.TurnKeeps.{turn_keeps}
 use Rattle.mm_laws.specs.Isolated.{is_row_of, Alike, AgreeApart, Worlds}
 use Rattle.mm_laws.proofs.GrantedRuns.{start_granted}
 use Rattle.mm_laws.proofs.AlikeRows.{bool_cases, filter_takes, filter_drops, same_at}
-use Rattle.mm_laws.proofs.AlikeTurns.{SameTurn}
 use Rattle.mm_laws.proofs.OutsideTurns.{QuietTurn}
 use Rattle.mm_laws.proofs.TwoRuns.{Item, item, same_turns, quiet_s, quiet_t, both_go_on, one_goes_on, other_goes_on}
 

@@ -1,31 +1,21 @@
 -- Two worlds, step by step, and by induction over both lists of items.
-use Rattle.std.proofs.Common.{◌≡◌, ◌≢◌, ℕ, ◌+◌, ◌-◌, ◌<◌, ◌≤◌, ◌⊎◌, inl, inr, Bool, true, false, cond, ◌||◌, ◌&&◌, nat_eq, nat_le, if◌then◌else◌, List, [], ◌∷◌, ◌++◌, map, replicate, Option, Some, None, refl, sym, ap, ◌∙◌, subst, arith, leb-true, eqb-true}
+use Rattle.std.proofs.Common.{◌≡◌, ℕ, ◌-◌, ◌≤◌, ◌⊎◌, inl, inr, Bool, true, false, ◌||◌, ◌&&◌, nat_eq, nat_le, if◌then◌else◌, List, [], ◌∷◌, map, Option, Some, None, refl, sym, ap, ◌∙◌, subst, arith, leb-true}
 use Rattle.std.specs.List.{filter}
-use Rattle.std.proofs.lemmas.Bool.{cases_eq}
-use Rattle.mm_model.specs.declared.step.Step.{Step}
-use Rattle.mm_model.specs.Memory.{Memory, cell_at}
 use Rattle.mm_model.specs.Slot.{Slot}
-use Rattle.mm_model.specs.State.{Row, Core, State, row_in, slot_of, slot_at, output_of}
+use Rattle.mm_model.specs.State.{Core, State, row_in, slot_of, slot_at}
 use Rattle.mm_model.specs.Image.{Image, slot_in, slot_limit, start}
-use Rattle.mm_model.specs.Spelling.{IsImage}
-use Rattle.mm_model.specs.Fits.{slots_of, identity_of, IsSlot, Fits}
-use Rattle.mm_model.specs.Schedule.{in_groups, is_kept, only}
-use Rattle.mm_model.specs.Turn.{Turned, started, idle, arrives, taken_by_port, taken_by, port_of, is_running, turn}
-use Rattle.mm_model.specs.Run.{turn_of, after, run}
-use Rattle.mm_model.specs.Trace.{group_of, turns_of, step_line, trace_line, traced}
-use Rattle.mm_model.specs.Reach.{CanWrite}
+use Rattle.mm_model.specs.Fits.{identity_of, IsSlot, Fits}
+use Rattle.mm_model.specs.Schedule.{in_groups, is_kept}
+use Rattle.mm_model.specs.Turn.{Turned, started, idle, taken_by_port, taken_by, port_of, is_running, turn}
+use Rattle.mm_model.specs.Run.{turn_of, after}
 use Rattle.mm_model.specs.Reach.Entries.{All}
-use Rattle.mm_model.specs.Worlds.{Touchable, IsPrivileged, Apart, Agree, is_turn_of, trace_of}
-use Rattle.mm_model.proofs.CoreRows.{slot_at-number, slot_has, identities_of, identity_at, stays_by}
-use Rattle.mm_model.proofs.Starts.{start_fits}
-use Rattle.mm_model.proofs.TurnKeeps.{turn_keeps}
-use Rattle.mm_laws.specs.Granted.{WordsGranted, StepGranted, with_entries}
-use Rattle.mm_laws.specs.Isolated.{is_row_of, Alike, AgreeApart, Worlds, WorldsGoOn}
+use Rattle.mm_model.proofs.CoreRows.{slot_at-number, slot_has, identities_of, identity_at}
+use Rattle.mm_laws.specs.Granted.{WordsGranted, StepGranted}
+use Rattle.mm_laws.specs.Isolated.{AgreeApart, Worlds, WorldsGoOn}
 use Rattle.mm_laws.proofs.GrantedWords.{slots_of-start}
 use Rattle.mm_laws.proofs.GrantedRows.{Stands}
 use Rattle.mm_laws.proofs.GrantedTurns.{stands_of, step_granted}
-use Rattle.mm_laws.proofs.GrantedRuns.{start_granted}
-use Rattle.mm_laws.proofs.AlikeRows.{no_both, bool_cases, filter_takes, filter_drops, mine, same_at}
+use Rattle.mm_laws.proofs.AlikeRows.{same_at}
 use Rattle.mm_laws.proofs.AlikeWorlds.{touchable_other}
 use Rattle.mm_laws.proofs.AlikeTurns.{SameTurn, Both, same_idle, same_started, same_arrives}
 use Rattle.mm_laws.proofs.OutsideTurns.{QuietTurn, turn_quiet}

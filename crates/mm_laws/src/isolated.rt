@@ -1,5 +1,5 @@
 //! Groups that stand apart see nothing of the others.
-ghost use Rattle.mm_laws.specs.Isolated.{WorldsStep, TwoWorlds};
+ghost use Rattle.mm_laws.specs.Isolated.{WorldsStep, TwoWorlds, AloneAgrees, ExtractsAgree};
 
 /// In two states that are alike to groups that stand apart, the same turn of the groups goes on in both and tells the same, and
 /// a turn outside them goes on in one of them alone.
@@ -11,4 +11,15 @@ pub fn worlds_step()
 /// the report, the lines of the trace and the lines of cells.
 pub fn two_worlds()
     ensures { TwoWorlds }
+{}
+
+/// Where groups that have a slot stand apart, their slots alone are an image that agrees with the whole on them, and they stand
+/// apart in it.
+pub fn alone_agrees()
+    ensures { AloneAgrees }
+{}
+
+/// So is each image of their slots and the pages that they can touch.
+pub fn extracts_agree()
+    ensures { ExtractsAgree }
 {}
