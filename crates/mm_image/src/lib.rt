@@ -1,0 +1,6 @@
+//! Image files: slots, pages and frames, in bytes and as values.
+#![tactic(auto)]
+
+mod fault;
+
+pub use fault::{ImageError, ImageFault};
