@@ -11,15 +11,8 @@ use Rattle.mm_model.specs.declared.slot.SlotState.TheVariants.{Running, Halted}
 use Rattle.mm_model.specs.Slot.{Slot}
 use Rattle.mm_model.specs.Image.{Image, slot_limit, frame_limit, none_empty}
 use Rattle.mm_model.specs.ImageFaults.{slot_place}
+use Rattle.mm_image.specs.declared.header.Header.{Header}
 use Rattle.mm_image.specs.Fields.{earlier, first_over, bad, short, field, bit}
-
--- The header of an image.
-pub record Header : Type 0 where
-  pub version : ℕ
-  pub slots : ℕ
-  pub frames : ℕ
-  pub pages : ℕ
-  pub split : Bool
 
 -- a slot of the list has this number
 abbrev pub has_number : List Slot → ℕ → Bool

@@ -2,5 +2,7 @@
 #![tactic(auto)]
 
 mod fault;
+mod fields;
+mod header;
 
 pub use fault::{ImageError, ImageFault};
