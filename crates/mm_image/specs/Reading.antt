@@ -1,5 +1,5 @@
 -- What the bytes of an image say, field by field, and the first fault of each part.
-use Rattle.std.specs.Prelude.{ℕ, zero, suc, ◌+◌, ◌*◌, ◌-◌, ◌/◌, ◌%◌, ◌^◌, Bool, false, not, ◌&&◌, ◌||◌, ◌==◌, nat_lt, nat_le, if◌then◌else◌, List, [], ◌∷◌, map, length, take, codes, Option, Some, None}
+use Rattle.std.specs.Prelude.{◌≡◌, ◌<◌, slice_index_or, ℕ, zero, suc, ◌+◌, ◌*◌, ◌-◌, ◌/◌, ◌%◌, ◌^◌, Bool, false, not, ◌&&◌, ◌||◌, ◌==◌, nat_lt, nat_le, if◌then◌else◌, List, [], ◌∷◌, map, length, take, codes, Option, Some, None}
 use Rattle.std.specs.List.{list_any, range_with_len}
 use Rattle.std.specs.Str.{bytes_eq}
 use Rattle.mm_word.specs.declared.word.Word.{Word}
@@ -21,6 +21,10 @@ has_number slots n = list_any (λ s. s.number == n) slots
 -- the handler is the slot itself or no slot of the list
 abbrev pub is_bad_handler : List Slot → Slot → Bool
 is_bad_handler slots s = elim s.handler [ None ↦ false | Some h ↦ h == s.number || not (has_number slots h) ]
+
+-- a table says of each number whether a slot of the list has it
+abbrev pub HoldsNumbers : List Bool → List Slot → Type 0
+HoldsNumbers present slots = (n : ℕ) → n < 256 → slice_index_or present n false ≡ has_number slots n
 
 -- where the record of slot k begins
 abbrev pub slot_offset : ℕ → ℕ
@@ -94,11 +98,11 @@ module _ (bytes : List ℕ) where
   abbrev pub slot_record_fault : ℕ → ℕ → ℕ → Option (ℕ × ℕ)
   slot_record_fault limit least at =
       earlier (short bytes (at + 1)) (earlier (bad (nat_le limit (field bytes at 1) || nat_lt (field bytes at 1) least) 5 at)
-      (earlier (short bytes (at + 2)) (earlier (bad (nat_le limit (field bytes (at + 1) 1)) 6 (at + 1))
-      (earlier (short bytes (at + 3))
-      (earlier (short bytes (at + 4)) (earlier (bad (nat_lt 1 (field bytes (at + 3) 1)) 8 (at + 3))
+      (earlier (short bytes (at + 1 + 1)) (earlier (bad (nat_le limit (field bytes (at + 1) 1)) 6 (at + 1))
+      (earlier (short bytes (at + 2 + 1))
+      (earlier (short bytes (at + 3 + 1)) (earlier (bad (nat_lt 1 (field bytes (at + 3) 1)) 8 (at + 3))
       (earlier (ip_fault (at + 4))
-      (earlier (short bytes (at + 14))
+      (earlier (short bytes (at + 12 + 2))
       (registers_fault at)))))))))
 
   -- 4. The slots, each by its number.

@@ -4,5 +4,8 @@
 mod fault;
 mod fields;
 mod header;
+mod pages;
+mod slots;
+mod words;
 
 pub use fault::{ImageError, ImageFault};
