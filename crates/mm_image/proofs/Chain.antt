@@ -111,3 +111,29 @@ module _ (bytes : List ℕ) where
   pub place-untested : (at size number : ℕ) → place_fault (record { at = at; size = size; number = number; bad = false }) ≡ short bytes (at + size)
   unfolding bad
   place-untested at size number = earlier-none (short bytes (at + size))
+
+  -- the first fault of these places
+  pub record HasFault (places : List Place) (fault : Found) : Type 0 where
+    pub is : places_fault places ≡ fault
+
+  pub chain : {p : Place} {ps : List Place} {rest : Found} → HasFault ps rest → HasFault (p ∷ ps) (earlier (short bytes (p.at + p.size)) (earlier (bad p.bad p.number p.at) rest))
+  chain {p} {ps} {rest} h = record {
+    is =
+        places-cons p ps ∙ earlier-assoc (short bytes (p.at + p.size)) (bad p.bad p.number p.at) (places_fault ps)
+        ∙ ap (λ (x : Found). earlier (short bytes (p.at + p.size)) (earlier (bad p.bad p.number p.at) x)) h.is;
+  }
+
+  pub chain_last : {p : Place} → HasFault (p ∷ []) (earlier (short bytes (p.at + p.size)) (bad p.bad p.number p.at))
+  chain_last {p} = record {
+    is = places-cons p [] ∙ earlier-none (place_fault p);
+  }
+
+  pub chain_whole : {p : Place} {ps : List Place} {rest : Found} → HasFault ps rest → HasFault (p ∷ ps) (earlier (place_fault p) rest)
+  chain_whole {p} {ps} {rest} h = record { is = places-cons p ps ∙ ap (λ (x : Found). earlier (place_fault p) x) h.is }
+
+  pub chain_untested : {p : Place} {ps : List Place} {rest : Found} → p.bad ≡ false → HasFault ps rest → HasFault (p ∷ ps) (earlier (short bytes (p.at + p.size)) rest)
+  chain_untested {p} {ps} {rest} untested h = record {
+    is =
+        places-cons p ps ∙ ap (λ (x : Found). earlier (earlier (short bytes (p.at + p.size)) x) (places_fault ps)) (right p.bad p.number p.at untested)
+        ∙ ap (λ (x : Found). earlier x (places_fault ps)) (earlier-none (short bytes (p.at + p.size))) ∙ ap (λ (x : Found). earlier (short bytes (p.at + p.size)) x) h.is;
+  }
