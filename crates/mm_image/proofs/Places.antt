@@ -24,7 +24,7 @@ not_below_zero n = grind (arith, nat_tests)
 module _ (bytes : List ℕ) where
   -- 1. The header.
 
-  header_are : HasFault bytes (header_places bytes) (header_fault bytes)
+  pub header_are : HasFault bytes (header_places bytes) (header_fault bytes)
   unfolding field
   header_are = chain bytes (chain bytes (chain bytes (chain bytes (chain bytes (chain_last bytes)))))
 
@@ -39,7 +39,7 @@ module _ (bytes : List ℕ) where
   unfolding registers_fault word_fault field
   registers_are at = places-map bytes (register_place bytes at) 0 16
 
-  slot_is : (k : ℕ) → places_fault bytes (slot_places bytes k) ≡ slot_fault bytes (version_of bytes) k
+  pub slot_is : (k : ℕ) → places_fault bytes (slot_places bytes k) ≡ slot_fault bytes (version_of bytes) k
   unfolding slot_fault ip_fault field
   slot_is k =
       let at : ℕ = slot_offset k in
@@ -68,7 +68,7 @@ module _ (bytes : List ℕ) where
   unfolding cells_fault word_fault field
   cells_are at = places-map bytes (cell_place bytes at) 0 512
 
-  page_is : (k : ℕ) → places_fault bytes (page_places bytes k) ≡ page_fault bytes (slots_of bytes) k
+  pub page_is : (k : ℕ) → places_fault bytes (page_places bytes k) ≡ page_fault bytes (slots_of bytes) k
   unfolding page_fault field
   page_is k =
       let at : ℕ = page_offset (slots_of bytes) k in
