@@ -138,3 +138,72 @@ module _ (bytes : List ℕ) (fits : IsBytes bytes) where
       let t2 = join_at bytes 0 8 8 2 10 (a ++ b ++ c) d t1 (two_bytes bytes 8 fits (omega (arith, long))) refl refl in
       let t3 = join_at bytes 0 10 10 2 12 (a ++ b ++ c ++ d) e t2 (two_bytes bytes 10 fits (omega (arith, long))) refl refl in
       join_at bytes 0 12 12 4 16 (a ++ b ++ c ++ d ++ e) (to_be_bytes w32 (mode_of (field bytes 12 4 == 1))) t3 mode refl refl
+
+  -- 4. The image.
+
+  pub record IsCleanImage : Type 0 where
+    pub head : header_fault bytes ≡ None
+    pub slots : slots_fault bytes (field bytes 4 2) (field bytes 6 2) ≡ None
+    pub handlers : handlers_fault bytes (field bytes 6 2) ≡ None
+    pub pages : pages_fault bytes (field bytes 6 2) (field bytes 10 2) ≡ None
+    pub end : end_fault bytes (page_offset (field bytes 6 2) (field bytes 10 2)) ≡ None
+
+  parts_clean : read_fault bytes ≡ None → IsCleanImage
+  unfolding read_fault
+  parts_clean e =
+      let p0 = both_clean _ _ e in
+      let p1 = both_clean _ _ p0.1 in
+      let p2 = both_clean _ _ p1.1 in
+      let p3 = both_clean _ _ p2.1 in
+      record { head = p0.0; slots = p1.0; handlers = p2.0; pages = p3.0; end = p3.1 }
+
+  is_image : IsCleanImage → IsImage (image_of bytes)
+  unfolding image_of
+  is_image clean =
+      let h = clean_header bytes clean.head in
+      let version = field bytes 4 2 in
+      let count = field bytes 6 2 in
+      let many = field bytes 10 2 in
+      let slots_length = length-slots count in
+      let pages_length = length-pages count many in
+      record {
+        version = one_or_two version h.version;
+        mode = λ one. not_split (field bytes 12 4) (omega (arith, h.mode, one));
+        some_slots = omega (arith, slots_length, h.some_slots);
+        few_slots = subst (λ n. n ≤ slot_limit version) (sym slots_length) h.few_slots;
+        rising = slots_rise version count clean.slots;
+        fresh = slots_fresh version count clean.slots clean.handlers;
+        some_frames = h.some_frames;
+        few_frames = h.few_frames;
+        paged = record { rising = pages_rise count many clean.pages; whole = pages_whole count many clean.pages; fitting = subst (λ n. n ≤ field bytes 8 2) (sym pages_length) h.few_pages };
+        words = pages_words count many clean.pages;
+      }
+
+  end_is : IsCleanImage → length bytes ≡ page_offset (field bytes 6 2) (field bytes 10 2)
+  unfolding field
+  end_is clean =
+      let at = page_offset (field bytes 6 2) (field bytes 10 2) in
+      let low : at ≤ length bytes = all_ends bytes clean.head clean.slots (field bytes 10 2) clean.pages in
+      let high = is_above at (length bytes) (is_right _ 13 at clean.end) in
+      omega (arith, low, high)
+
+  spelled : IsCleanImage → bytes ≡ spelling (image_of bytes)
+  unfolding spelling image_of
+  spelled clean =
+      let h = clean_header bytes clean.head in
+      let count = field bytes 6 2 in
+      let many = field bytes 10 2 in
+      let slots = flat_map slot_record (slots_at bytes count) in
+      let pages = flat_map page_record (pages_at bytes count many) in
+      let head : header (image_of bytes) ≡ spelled_header =
+      ap (λ n. codes "MMI1" ++ to_be_bytes w16 (field bytes 4 2) ++ to_be_bytes w16 n ++ to_be_bytes w16 (field bytes 8 2) ++ to_be_bytes w16 (length (pages_at bytes count many)) ++ to_be_bytes w32 (mode_of (field bytes 12 4 == 1))) (length-slots count)
+      ∙ ap (λ n. codes "MMI1" ++ to_be_bytes w16 (field bytes 4 2) ++ to_be_bytes w16 count ++ to_be_bytes w16 (field bytes 8 2) ++ to_be_bytes w16 n ++ to_be_bytes w32 (mode_of (field bytes 12 4 == 1))) (length-pages count many) in
+      let t0 = join_at bytes 0 16 16 (142 * count) (16 + 142 * count) (header (image_of bytes)) slots (head ∙ header_text h) (slots_text (field bytes 4 2) count clean.slots) refl refl in
+      let t1 = join_at bytes 0 (16 + 142 * count) (16 + 142 * count) (4232 * many) (16 + 142 * count + 4232 * many) (header (image_of bytes) ++ slots) pages t0 (pages_text count many clean.pages) (omega arith) refl in
+      let whole : part bytes 0 (16 + 142 * count + 4232 * many) ≡ bytes = take_all (16 + 142 * count + 4232 * many) bytes (omega (arith, end_is clean)) in
+      sym (t1 ∙ whole)
+
+  pub clean_spells : read_fault bytes ≡ None → Spells bytes (image_of bytes)
+  clean_spells e =
+      let clean = parts_clean e in
+      record { image = is_image clean; spelled = spelled clean }
