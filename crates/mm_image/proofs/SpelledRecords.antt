@@ -48,10 +48,6 @@ word_bits-small : (w : Word) → IsWord w → word_bits w < 2 ^ 64
 word_bits-small (Int n) h = h
 word_bits-small (Ptr p) h = bits_of-small p h
 
-word_of : Bool → ℕ → Word
-unfolding field
-word_of tagged n = cond tagged (Ptr (pointer_of n)) (Int n)
-
 module _ (bytes : List ℕ) where
   -- a word that is spelled at a place with its tag
   pub record IsReadWord (tagged : Bool) (at : ℕ) (w : Word) : Type 0 where
