@@ -92,7 +92,7 @@ module _ (bytes : List ℕ) where
     pub tags : field bytes (at + 12) 2 ≡ number_of_flags (map is_pointer s.regs)
     pub words : part bytes (at + 14) 128 ≡ words_spelling s.regs
 
-  slot_text_again : (at : ℕ) (s : Slot) → length s.regs ≡ 16 → part bytes at 142 ≡ slot_record s → IsSlotText at s
+  pub slot_text_again : (at : ℕ) (s : Slot) → length s.regs ≡ 16 → part bytes at 142 ≡ slot_record s → IsSlotText at s
   unfolding slot_record
   slot_text_again at s long text =
       let head = s.number ∷ s.group ∷ handler_byte s.handler ∷ state_byte s.state ∷ [] in
