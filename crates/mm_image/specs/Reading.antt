@@ -12,6 +12,7 @@ use Rattle.mm_model.specs.Slot.{Slot}
 use Rattle.mm_model.specs.Image.{Image, slot_limit, frame_limit, none_empty}
 use Rattle.mm_model.specs.ImageFaults.{slot_place}
 use Rattle.mm_image.specs.declared.header.Header.{Header}
+use Rattle.mm_image.specs.Images.{image_from}
 use Rattle.mm_image.specs.Fields.{earlier, first_over, bad, short, field, bit}
 
 -- a slot of the list has this number
@@ -187,9 +188,4 @@ module _ (bytes : List ℕ) where
       (end_fault (page_offset (field bytes 6 2) (field bytes 10 2))))))
 
   unfoldable pub image_of : Image
-  image_of = record {
-    version = field bytes 4 2;
-    split = field bytes 12 4 == 1;
-    slots = slots_at (field bytes 6 2);
-    memory = record { pages = pages_at (field bytes 6 2) (field bytes 10 2); frames = field bytes 8 2 };
-  }
+  image_of = image_from (field bytes 4 2) (field bytes 12 4 == 1) (slots_at (field bytes 6 2)) (pages_at (field bytes 6 2) (field bytes 10 2)) (field bytes 8 2)

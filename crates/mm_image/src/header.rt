@@ -23,6 +23,7 @@ pub(crate) fn frame_limit(version: u16) -> u16
 }
 
 /// What the header says.
+#[derive(Clone, Copy)]
 pub(crate) struct Header {
     pub version: u16,
     pub slots: u16,

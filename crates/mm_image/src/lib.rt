@@ -4,8 +4,12 @@
 mod fault;
 mod fields;
 mod header;
+mod image;
 mod pages;
+mod reading;
 mod slots;
 mod words;
 
+pub use image::Image;
 pub use fault::{ImageError, ImageFault};
+pub use reading::read;
