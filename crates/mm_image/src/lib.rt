@@ -9,7 +9,9 @@ mod pages;
 mod reading;
 mod slots;
 mod words;
+mod writing;
 
 pub use image::Image;
 pub use fault::{ImageError, ImageFault};
 pub use reading::read;
+pub use writing::write;
