@@ -23,6 +23,13 @@ has_number slots n = list_any (λ s. s.number == n) slots
 abbrev pub is_bad_handler : List Slot → Slot → Bool
 is_bad_handler slots s = elim s.handler [ None ↦ false | Some h ↦ h == s.number || not (has_number slots h) ]
 
+-- the slot has taken no turn and waits for nothing
+pub record HasNotRun (s : Slot) : Type 0 where
+  pub past : s.past ≡ false
+  pub turns : s.turns ≡ 0
+  pub empty : s.empty ≡ none_empty
+  pub pending : s.pending ≡ []
+
 -- a table says of each number whether a slot of the list has it
 abbrev pub HoldsNumbers : List Bool → List Slot → Type 0
 HoldsNumbers present slots = (n : ℕ) → n < 256 → slice_index_or present n false ≡ has_number slots n

@@ -3,6 +3,7 @@
 
 mod fault;
 mod fields;
+mod fits;
 mod header;
 mod image;
 mod pages;

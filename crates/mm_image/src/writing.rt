@@ -68,17 +68,10 @@ fn put_pages(out: &mut Vec<u8>, pages: &[Page]) -> Result<(), AllocError>
 fn put_slot(out: &mut Vec<u8>, slot: &Slot) -> Result<(), AllocError>
     ensures { OnOk result (out.new.items ≡ out.old.items ++ slot_record slot.now) }
 {
-    put(out, &slot_head(slot))?;
-    put(out, &slot.ip.bits().to_be_bytes())?;
-    put(out, &tags_of(&slot.regs).to_be_bytes())?;
+    out.extend_from_slice(&slot_head(slot))?;
+    out.extend_from_slice(&slot.ip.bits().to_be_bytes())?;
+    out.extend_from_slice(&tags_of(&slot.regs).to_be_bytes())?;
     put_words(out, &slot.regs)?;
-    Ok(())
-}
-
-fn put(out: &mut Vec<u8>, bytes: &[u8]) -> Result<(), AllocError>
-    ensures { OnOk result (out.new.items ≡ out.old.items ++ bytes.now) }
-{
-    out.extend_from_slice(bytes)?;
     Ok(())
 }
 
