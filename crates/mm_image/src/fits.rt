@@ -7,25 +7,59 @@ ghost use Rattle.std.specs.Ordering.{nat_cmp};
 ghost use Rattle.std.specs.FinMap.{is_sorted};
 ghost use Rattle.mm_word.specs.declared.word.Cell.{Cell};
 ghost use Rattle.mm_word.specs.Word.{IsWord};
-ghost use Rattle.mm_model.specs.Image.{slot_limit, frame_limit};
 ghost use Rattle.mm_model.specs.Memory.{IsPage};
 ghost use Rattle.mm_model.specs.Slot.{Slot};
-ghost use Rattle.mm_model.specs.Spelling.{Begins, IsFresh, HoldsWords, numbers_of};
+ghost use Rattle.mm_model.specs.Spelling.{Begins, IsFresh, IsImage, HoldsWords, numbers_of};
+ghost use Rattle.mm_image.specs.Images.{image_from, SlotsFit, MemoryFits};
 ghost use Rattle.mm_image.specs.Reading.{HasNotRun, HoldsNumbers};
 
+use crate::header::{frame_limit, slot_limit};
 use crate::slots::{is_bad_handler, numbers};
 use mm_model::{Page, Slot, SlotState};
 use mm_word::{Cell, Word};
 
-/// Whether a version is known and has the mode.
-pub(crate) fn has_mode(version: u16, split: bool) -> bool
+/// Whether parts make an image.
+pub(crate) fn is_image(
+    version: u16,
+    split: bool,
+    slots: &[Slot],
+    pages: &[Page],
+    frames: u32,
+) -> bool
+    ensures { IsTrue result ↔ IsImage (image_from version split slots.now pages.now frames) }
+{
+    has_mode(version, split) && slots_fit(version, slots) && memory_fits(version, pages, frames)
+}
+
+fn slots_fit(version: u16, slots: &[Slot]) -> bool
+    ensures { IsTrue result ↔ SlotsFit version slots.now }
+{
+    let limit = slot_limit(version);
+    !slots.is_empty()
+        && slots.len() <= usize::from(limit)
+        && slots_ascend(slots)
+        && are_fresh(limit, slots)
+}
+
+fn memory_fits(version: u16, pages: &[Page], frames: u32) -> bool
+    ensures { IsTrue result ↔ MemoryFits version pages.now frames }
+{
+    are_pages(pages);
+    frames != 0
+        && frames <= u32::from(frame_limit(version))
+        && pages.len() <= frames as usize
+        && pages_ascend(pages)
+}
+
+// Whether a version is known and has the mode.
+fn has_mode(version: u16, split: bool) -> bool
     ensures { IsTrue result ↔ (((version ≡ 1) ⊎ (version ≡ 2)) × (version ≡ 1 → split ≡ false)) }
 {
     version == 1 && !split || version == 2
 }
 
-/// Whether the numbers of the slots ascend.
-pub(crate) fn slots_ascend(slots: &[Slot]) -> bool
+// Whether the numbers of the slots ascend.
+fn slots_ascend(slots: &[Slot]) -> bool
     ensures { IsTrue result ↔ IsStrictlyIncreasing (numbers_of slots.now) }
 {
     for k in 1..slots.len() {
@@ -38,8 +72,8 @@ pub(crate) fn slots_ascend(slots: &[Slot]) -> bool
     true
 }
 
-/// Whether each slot is one of an image with these slots and this limit of numbers.
-pub(crate) fn are_fresh(limit: u8, slots: &[Slot]) -> bool
+// Whether each slot is one of an image with these slots and this limit of numbers.
+fn are_fresh(limit: u8, slots: &[Slot]) -> bool
     ensures { IsTrue result ↔ AllByRecursion (IsFresh limit slots.now) slots.now }
 {
     let present = numbers(slots);
@@ -84,8 +118,8 @@ fn are_words(words: &[Word; 16])
     }
 }
 
-/// Whether the numbers of the pages ascend.
-pub(crate) fn pages_ascend(pages: &[Page]) -> bool
+// Whether the numbers of the pages ascend.
+fn pages_ascend(pages: &[Page]) -> bool
     ensures { IsTrue result ↔ IsTrue (is_sorted nat_cmp pages.now) }
 {
     let mut least = 0;
@@ -98,8 +132,8 @@ pub(crate) fn pages_ascend(pages: &[Page]) -> bool
     true
 }
 
-/// Each page is whole, and each of its cells holds a word.
-pub(crate) fn are_pages(pages: &[Page])
+// Each page is whole, and each of its cells holds a word.
+fn are_pages(pages: &[Page])
     ensures whole { AllByRecursion IsPage pages.now }
     ensures words { AllByRecursion HoldsWords pages.now }
 {
