@@ -7,12 +7,9 @@ use Rattle.std.proofs.lemmas.Bool.{cases_lt}
 use Rattle.std.proofs.lemmas.List.{drop-drop, drop_more, length-take, length-drop, get_or-take, get_or-drop, get_or_past, take-take, take-append-drop, drop-take}
 use Rattle.std.proofs.lemmas.Nat.{be_bytes_2, be_bytes_4, be_bytes_8}
 use Rattle.mm_model.specs.ImageFaults.{number_at}
+pub use Rattle.mm_image.specs.Fields.{IsBytes}
 use Rattle.mm_image.specs.Fields.{short, field}
 use Rattle.mm_image.proofs.Numbers.{whole, number_is_2, number_is_4, number_is_8, field_1}
-
--- each is below 256
-abbrev pub IsBytes : List ℕ → Type 0
-IsBytes bytes = (i : ℕ) → get_or bytes i 0 < 256
 
 abbrev pub part : List ℕ → ℕ → ℕ → List ℕ
 part bytes at size = take size (drop at bytes)

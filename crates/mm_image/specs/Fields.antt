@@ -1,6 +1,10 @@
 -- Fields of bytes, and the first fault among several parts.
-use Rattle.std.specs.Prelude.{ℕ, zero, suc, ◌+◌, ◌/◌, ◌%◌, ◌^◌, Bool, ◌==◌, nat_lt, if◌then◌else◌, List, length, Option, Some, None}
+use Rattle.std.specs.Prelude.{ℕ, zero, suc, ◌+◌, ◌/◌, ◌%◌, ◌^◌, ◌<◌, slice_index, Bool, ◌==◌, nat_lt, if◌then◌else◌, List, length, Option, Some, None}
 use Rattle.mm_model.specs.ImageFaults.{number_at, bit_at}
+
+-- each is a byte
+abbrev pub IsBytes : List ℕ → Type 0
+IsBytes bytes = (i : ℕ) → slice_index bytes i < 256
 
 -- the earlier of two faults, where the first part is read first
 abbrev pub earlier : Option (ℕ × ℕ) → Option (ℕ × ℕ) → Option (ℕ × ℕ)

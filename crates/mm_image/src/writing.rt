@@ -6,7 +6,7 @@ ghost use Rattle.std.specs.List.{flat_map};
 ghost use Rattle.mm_word.specs.declared.word.Cell.{Cell};
 ghost use Rattle.mm_word.specs.Word.{is_pointer, word_bits};
 ghost use Rattle.mm_model.specs.Flags.{number_of_flags};
-ghost use Rattle.mm_model.specs.Spelling.{header, handler_byte, state_byte, words_spelling, bitmap, slot_record, page_record, spelling};
+ghost use Rattle.mm_model.specs.Spelling.{header, handler_byte, state_byte, words_spelling, bitmap, slot_record, page_record, spelling, Spells};
 
 use crate::image::Image;
 use crate::slots::NO_HANDLER;
@@ -14,10 +14,12 @@ use mm_model::{Page, Slot, SlotState};
 use mm_word::{Cell, NoMemory, Word};
 use std::alloc::{AllocError, Global};
 
-/// The bytes of an image's file.
+/// The bytes of an image's file. They spell the image, so that it is read from them again.
 pub fn write(alloc: Global, img: &Image) -> Result<Vec<u8>, NoMemory>
-    ensures { IfOk result (λ bytes. bytes.items ≡ spelling img.now) }
+    ensures written { IfOk result (λ bytes. bytes.items ≡ spelling img.now) }
+    ensures spelled { IfOk result (λ bytes. Spells bytes.items img.now) }
 {
+    let _ = img.version();
     match spelled(alloc, img) {
         Ok(bytes) => Ok(bytes),
         Err(_) => Err(NoMemory),
