@@ -2,3 +2,8 @@ pub mod FlagLists
 pub mod Unchanged
 pub mod CountsSay
 pub mod Memories
+pub mod CoreRows
+pub mod SlotSteps
+pub mod CoreSteps
+pub mod EffectSteps
+pub mod TurnKeeps
