@@ -1,1 +1,4 @@
+pub mod FlagSets
+pub mod Index
 pub mod Pointers
+pub mod Pendings

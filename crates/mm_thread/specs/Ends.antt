@@ -1,15 +1,30 @@
 -- What a row of the table leaves.
-use Rattle.std.specs.Prelude.{◌≡◌, Bool, Option, Some, None, Result, Ok, Err}
+use Rattle.std.specs.Prelude.{◌≡◌, Bool, true, false, Option, Some, None, Result, Ok, Err}
 use Rattle.mm_word.specs.declared.cause.Cause.{Cause}
 use Rattle.mm_word.specs.declared.cause.Cause.TheVariants.{NotPointer}
 use Rattle.mm_word.specs.declared.word.Word.{Word}
 use Rattle.mm_word.specs.declared.word.Word.TheVariants.{Int, Ptr}
 use Rattle.mm_word.specs.Pointer.{Pointer}
+use Rattle.mm_isa.specs.declared.instr.Instr.{Instr}
+use Rattle.mm_isa.specs.declared.instr.Instr.TheVariants.{Out, Ld, St, Evt, Resume, Rreg, Wreg, Map, Unmap}
 use Rattle.mm_model.specs.Slot.{Slot}
 use Rattle.mm_model.specs.Effect.{Change, Effect}
 use Rattle.mm_model.specs.Effect.Pages.{Keep}
 use Rattle.mm_model.specs.Effect.Effect.{Fault, Block, Deliver, Does}
 use Rattle.mm_model.specs.Turn.{slot_after}
+
+-- the rows that ask nothing of the machine around their slot
+abbrev pub is_alone : Instr → Bool
+is_alone (Out ra) = false
+is_alone (Ld rd ra pre post imm) = false
+is_alone (St ra rb pre post imm) = false
+is_alone (Evt rd) = false
+is_alone (Resume ra how) = false
+is_alone (Rreg rd ra reg) = false
+is_alone (Wreg ra rb reg) = false
+is_alone (Map rd ra) = false
+is_alone (Unmap rd ra) = false
+is_alone _ = true
 
 -- what a change does to its slot and to nothing else
 abbrev pub alone : Change → Change

@@ -158,7 +158,7 @@ fn sets_pointer(slot: &mut Slot, rd: Reg, made: Result<GuardedPtr, Cause>) -> En
     }
 }
 
-pub(crate) fn lea_by_register(slot: &mut Slot, rd: Reg, ra: Reg, rb: Reg) -> Entered
+pub(crate) fn lea_by(slot: &mut Slot, rd: Reg, ra: Reg, rb: Reg) -> Entered
     requires { slot.old.turns < 2 ^ 62 }
     ensures { (split : Bool) → EndsAlone (effect split (Instr.Lea rd ra rb) slot.old Fine) slot.old slot.new result }
 {
@@ -179,7 +179,7 @@ pub(crate) fn leai(slot: &mut Slot, rd: Reg, ra: Reg, imm: i32) -> Entered
     }
 }
 
-pub(crate) fn leab_by_register(slot: &mut Slot, rd: Reg, ra: Reg, rb: Reg) -> Entered
+pub(crate) fn leab_by(slot: &mut Slot, rd: Reg, ra: Reg, rb: Reg) -> Entered
     requires { slot.old.turns < 2 ^ 62 }
     ensures { (split : Bool) → EndsAlone (effect split (Instr.Leab rd ra rb) slot.old Fine) slot.old slot.new result }
 {
@@ -190,7 +190,7 @@ pub(crate) fn leab_by_register(slot: &mut Slot, rd: Reg, ra: Reg, rb: Reg) -> En
     }
 }
 
-pub(crate) fn restrict_by_register(slot: &mut Slot, rd: Reg, ra: Reg, rb: Reg) -> Entered
+pub(crate) fn restrict_to(slot: &mut Slot, rd: Reg, ra: Reg, rb: Reg) -> Entered
     requires { slot.old.turns < 2 ^ 62 }
     ensures { (split : Bool) → EndsAlone (effect split (Instr.Restrict rd ra rb) slot.old Fine) slot.old slot.new result }
 {
@@ -201,7 +201,7 @@ pub(crate) fn restrict_by_register(slot: &mut Slot, rd: Reg, ra: Reg, rb: Reg) -
     }
 }
 
-pub(crate) fn subseg_by_register(slot: &mut Slot, rd: Reg, ra: Reg, rb: Reg) -> Entered
+pub(crate) fn subseg_to(slot: &mut Slot, rd: Reg, ra: Reg, rb: Reg) -> Entered
     requires { slot.old.turns < 2 ^ 62 }
     ensures { (split : Bool) → EndsAlone (effect split (Instr.Subseg rd ra rb) slot.old Fine) slot.old slot.new result }
 {
@@ -348,4 +348,10 @@ pub(crate) fn lip(slot: &mut Slot, rd: Reg, imm: i32) -> Entered
 {
     let made = at_distance(slot, imm);
     sets_pointer(slot, rd, made)
+}
+
+pub(crate) fn trap(slot: &mut Slot, imm: i32) -> Entered
+    ensures { (split : Bool) → EndsAlone (effect split (Instr.Trap imm) slot.old Fine) slot.old slot.new result }
+{
+    Err(Cause::Trap)
 }
