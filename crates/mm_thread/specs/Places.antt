@@ -1,7 +1,10 @@
 -- Slots by their places in the table of rows.
-use Rattle.std.specs.Prelude.{◌≡◌, ℕ, ◌<◌, Bool, false, List, [], ◌∷◌, length, map, slice_set, slice_index_or, slice_index, Option, None, Some}
+use Rattle.std.specs.Prelude.{◌≡◌, ℕ, ◌+◌, ◌*◌, ◌<◌, Bool, false, List, [], ◌∷◌, length, map, slice_set, slice_index_or, slice_index, Option, None, Some}
 use Rattle.mm_word.specs.declared.perm.Perm.TheVariants.{Xu}
 use Rattle.mm_word.specs.Pointer.{Pointer}
+use Rattle.mm_word.specs.Cause.{number_of}
+use Rattle.mm_word.specs.declared.word.Word.{Word}
+use Rattle.mm_word.specs.declared.word.Word.TheVariants.{Int, Ptr}
 use Rattle.mm_model.specs.declared.slot.SlotState.TheVariants.{Running}
 use Rattle.mm_model.specs.declared.event.Event.{Event}
 use Rattle.mm_model.specs.declared.slot.Pending.{Pending}
@@ -61,3 +64,7 @@ pub record IsIndex (numbers places : List ℕ) : Type 0 where
 abbrev pub first_register : List Pending → Option ℕ
 first_register [] = None
 first_register (p ∷ ps) = Some p.reg
+
+-- the words of an event in four registers from rd on
+abbrev pub event_writes : ℕ → Event → List (ℕ × Word)
+event_writes rd e = (rd, Int (number_of e.cause + 256 * e.slot)) ∷ (rd + 1, Ptr e.ip) ∷ (rd + 2, e.addr_op) ∷ (rd + 3, e.value_op) ∷ []

@@ -1,15 +1,14 @@
 //! What a turn does to its slot.
 
-ghost use Rattle.std.specs.Prelude.{◌≡◌, ◌+◌, ◌*◌, ◌<◌, ◌^◌, true, false, None, Some, [], ◌∷◌, length, slice_set};
+ghost use Rattle.std.specs.Prelude.{◌≡◌, ◌+◌, ◌<◌, ◌^◌, true, false, None, Some, [], ◌∷◌, length, slice_set};
 ghost use Rattle.std.specs.List.{AllByRecursion};
-ghost use Rattle.mm_word.specs.Cause.{number_of};
 ghost use Rattle.mm_word.specs.Perm.{can_fetch};
 ghost use Rattle.mm_model.specs.declared.slot.SlotState.TheVariants.{Halted, Running};
 ghost use Rattle.mm_model.specs.Slot.{register};
 ghost use Rattle.mm_model.specs.declared.slot.Pending.{Pending};
 ghost use Rattle.mm_model.specs.Effect.{plain, delivered, resumed_by};
 ghost use Rattle.mm_model.specs.Turn.{slot_after, stood};
-ghost use Rattle.mm_thread.specs.Places.{first_register};
+ghost use Rattle.mm_thread.specs.Places.{first_register, event_writes};
 ghost use Rattle.mm_word.specs.declared.word.Word.TheVariants.{Int, Ptr};
 
 use mm_isa::{EvtReg, How, Reg};
@@ -123,9 +122,7 @@ pub(crate) fn deliver(slot: &mut Slot) -> Option<u8>
 #[tactic(auto, unfolding(mm_model::specs::Turn::slot_after, mm_model::specs::Effect::plain))]
 pub(crate) fn take_event(slot: &mut Slot, rd: EvtReg, event: &Event)
     requires { slot.old.turns < 2 ^ 62 }
-    ensures { slot.new ≡ slot_after slot.old (record (plain slot.old) {
-      writes = (rd, Int (number_of event.now.cause + 256 * event.now.slot)) ∷ (rd + 1, Ptr event.now.ip) ∷ (rd + 2, event.now.addr_op) ∷ (rd + 3, event.now.value_op) ∷ [];
-    }) }
+    ensures { slot.new ≡ slot_after slot.old (record (plain slot.old) { writes = event_writes rd event.now }) }
 {
     let first = rd.number() as usize;
     let code = u64::from(event.cause.number()) + 256 * u64::from(event.slot);
