@@ -2,3 +2,5 @@ pub mod FlagSets
 pub mod Index
 pub mod Pointers
 pub mod Pendings
+pub mod Counting
+pub mod Cores

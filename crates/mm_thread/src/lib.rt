@@ -3,7 +3,9 @@
 
 mod alone;
 mod carry_out;
+mod fault;
 mod group_output;
+mod outcome;
 mod queue;
 mod row;
 mod slot;

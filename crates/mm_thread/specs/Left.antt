@@ -1,0 +1,94 @@
+-- What an instruction leaves of the machine, before its turn is ended.
+use Rattle.std.specs.Prelude.{◌≡◌, ℕ, ◌+◌, ◌<◌, ◌^◌, true, List, length, Option, Some, None}
+use Rattle.mm_word.specs.Access.{Touch}
+use Rattle.mm_isa.specs.declared.instr.Instr.{Instr}
+use Rattle.mm_model.specs.declared.slot.SlotState.TheVariants.{Running}
+use Rattle.mm_model.specs.declared.step.Step.{Step}
+use Rattle.mm_model.specs.declared.step.Tick.TheVariants.{Did, Blocked}
+use Rattle.mm_model.specs.Memory.{Memory}
+use Rattle.mm_model.specs.Slot.{Slot}
+use Rattle.mm_model.specs.State.{Core, put_slot}
+use Rattle.mm_model.specs.Uses.{Use, accesses, TakesUses}
+use Rattle.mm_model.specs.Operands.{addr_operand, value_operand}
+use Rattle.mm_model.specs.Ask.{ask}
+use Rattle.mm_model.specs.Effect.{Effect, effect}
+use Rattle.mm_model.specs.Effect.Effect.{Fault, Block, Deliver, Does}
+use Rattle.mm_model.specs.Turn.{Turned, core_after, memory_after, reply, touch_of, asked_use, is_running, stood, core_faulted, event_of, tick_faulted}
+use Rattle.mm_model.specs.Fits.{IsCore}
+use Rattle.mm_thread.specs.declared.outcome.Outcome.{Outcome}
+use Rattle.mm_thread.specs.declared.outcome.Outcome.TheVariants.{Goes, Waits, Fails}
+use Rattle.mm_thread.specs.declared.outcome.Told.{Told}
+use Rattle.mm_thread.specs.Places.{slot_in, with_slot, numbers_in, IsIndex}
+
+-- 1. A slot that takes a turn.
+
+-- the slot at a place takes a turn
+pub record CanTurn (core : Core) (places : List ℕ) (place : ℕ) : Type 0 where
+  pub whole : IsCore core
+  pub index : IsIndex (numbers_in core) places
+  pub within : place < length core.rows
+  pub turns : (slot_in core place).turns < 2 ^ 62
+  pub runs : is_running (slot_in core place).state ≡ true
+
+-- 2. What an effect leaves, but for the slot's own turn where it waits or faults.
+
+abbrev pub core_left : Core → Slot → Effect → Core
+core_left core s (Fault c) = core
+core_left core s Block = core
+core_left core s (Deliver other) = put_slot core other
+core_left core s (Does c) = core_after core s c
+
+abbrev pub memory_left : Memory → Effect → Memory
+memory_left m (Does c) = memory_after m c
+memory_left m _ = m
+
+abbrev pub outcome_of : Effect → Outcome
+outcome_of (Fault c) = Fails c
+outcome_of Block = Waits
+outcome_of (Deliver other) = Waits
+outcome_of (Does c) = Goes c.entered
+
+pub record Leaves (core : Core) (m : Memory) (s : Slot) (e : Effect) (core' : Core) (m' : Memory) (outcome : Outcome) : Type 0 where
+  pub core_is : core' ≡ core_left core s e
+  pub memory_is : m' ≡ memory_left m e
+  pub outcome_is : outcome ≡ outcome_of e
+
+-- the effect of an instruction in this machine
+abbrev pub effect_in : Core → Memory → Slot → Instr → Effect
+effect_in core m s i = effect core.split i s (reply core m s.number (ask i s))
+
+-- 3. The same with what is asked of a memory.
+
+module _ {M : Type 0} (meaning : M → Memory) (uses : M → ℕ) (stands : M → List Use → Type 0) where
+  -- the instruction is carried out
+  pub record Executes (core : Core) (s : Slot) (i : Instr) (old new : M) (core' : Core) (told : Told) : Type 0 where
+    pub leaves : Leaves core (meaning old) s (effect_in core (meaning old) s i) core' (meaning new) told.outcome
+    pub touched : told.touched ≡ touch_of (ask i s)
+    pub takes : TakesUses stands old new (asked_use (meaning old) (ask i s))
+    pub count : uses new ≡ uses old + accesses (asked_use (meaning old) (ask i s))
+
+  -- the turn is taken
+  pub record Gives (t : Turned) (old new : M) (core' : Core) (step' : Step) : Type 0 where
+    pub core_is : core' ≡ t.core
+    pub memory_is : meaning new ≡ t.memory
+    pub step_is : step' ≡ t.step
+    pub takes : TakesUses stands old new t.uses
+    pub count : uses new ≡ uses old + accesses t.uses
+
+-- 4. The end of a turn.
+
+-- what the end of a turn needs
+abbrev pub CanEnd : Outcome → Core → List ℕ → ℕ → Type 0
+CanEnd (Goes entered) core places place = place < length core.rows
+CanEnd Waits core places place = (place < length core.rows) × ((slot_in core place).turns < 2 ^ 62)
+CanEnd (Fails c) core places place = CanTurn core places place
+
+abbrev pub core_ended : Instr → Core → Slot → ℕ → Outcome → Core
+core_ended i core s place (Goes entered) = core
+core_ended i core s place Waits = with_slot core place (stood s Running)
+core_ended i core s place (Fails c) = core_faulted core s (event_of s c (addr_operand i s) (value_operand i s)) s.handler
+
+abbrev pub step_ended : Slot → Touch → Option Touch → Outcome → Step
+step_ended s f touched (Goes entered) = record { tick = Did; slot = s.number; fetched = Some f; touched = touched; entered = entered }
+step_ended s f touched Waits = record { tick = Blocked; slot = s.number; fetched = Some f; touched = touched; entered = None }
+step_ended s f touched (Fails c) = record { tick = tick_faulted c s.handler; slot = s.number; fetched = Some f; touched = touched; entered = None }
