@@ -4,3 +4,4 @@ pub mod Pointers
 pub mod Pendings
 pub mod Counting
 pub mod Cores
+pub mod Around

@@ -2,6 +2,7 @@
 #![tactic(auto)]
 
 mod alone;
+mod asking;
 mod carry_out;
 mod fault;
 mod group_output;

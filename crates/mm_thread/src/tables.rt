@@ -1,8 +1,9 @@
-ghost use Rattle.std.specs.Prelude.{◌≡◌, ◌+◌, ◌<◌, ◌≤◌, ◌^◌, ◌++◌, [], ◌∷◌, nat_lt, None, Some, Bool, true, length, drop, slice_set};
+ghost use Rattle.std.specs.Prelude.{◌≡◌, ◌<◌, ◌^◌, ◌++◌, ◌&&◌, [], ◌∷◌, nat_lt, None, Some, Bool, true, length, drop, slice_set};
 ghost use Rattle.std.specs.List.{AllByRecursion};
 ghost use Rattle.mm_word.specs.declared.word.Word.TheVariants.{Int};
 ghost use Rattle.mm_model.specs.declared.slot.Pending.{Pending};
 ghost use Rattle.mm_model.specs.declared.slot.SlotState.TheVariants.{Taken};
+ghost use Rattle.mm_model.specs.Slot.{is_empty};
 ghost use Rattle.mm_model.specs.State.{output_of, put_output};
 ghost use Rattle.mm_model.specs.Image.{output_limit};
 ghost use Rattle.mm_model.specs.Effect.{effect, plain, delivered, resumed_by};
@@ -82,6 +83,14 @@ impl Tables {
     {
         let limit = if self.version == 1 { 4096 } else { 65536 };
         self.outputs[group as usize].len() < limit
+    }
+
+    /// Whether a register of the slot at a place waits for a load, in a split machine.
+    pub(crate) fn lacks(&self, place: usize, reg: Reg) -> bool
+        requires { place < length self.now.rows }
+        ensures { result ≡ (self.now.split && is_empty (slot_in self.now place) reg) }
+    {
+        self.split && self.slot(place).is_empty(reg.number())
     }
 
     pub(crate) fn version(&self) -> u16
