@@ -5,3 +5,4 @@ pub mod Pendings
 pub mod Counting
 pub mod Cores
 pub mod Around
+pub mod Accesses

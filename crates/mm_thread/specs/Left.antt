@@ -1,20 +1,27 @@
 -- What an instruction leaves of the machine, before its turn is ended.
-use Rattle.std.specs.Prelude.{◌≡◌, ℕ, ◌+◌, ◌<◌, ◌^◌, true, List, length, Option, Some, None}
+use Rattle.std.specs.Prelude.{◌≡◌, ℕ, ◌+◌, ◌<◌, ◌^◌, true, List, length, nat_lt, if◌then◌else◌, Option, Some, None, Result, Ok, Err}
+use Rattle.mm_word.specs.declared.cause.Cause.{Cause}
+use Rattle.mm_word.specs.declared.cause.Cause.TheVariants.{Bounds, NoPage, Sync, Priv}
+use Rattle.mm_word.specs.Word.{word_bits}
 use Rattle.mm_word.specs.Access.{Touch}
 use Rattle.mm_isa.specs.declared.instr.Instr.{Instr}
 use Rattle.mm_model.specs.declared.slot.SlotState.TheVariants.{Running}
 use Rattle.mm_model.specs.declared.step.Step.{Step}
 use Rattle.mm_model.specs.declared.step.Tick.TheVariants.{Did, Blocked}
 use Rattle.mm_model.specs.Memory.{Memory}
-use Rattle.mm_model.specs.Slot.{Slot}
+use Rattle.mm_model.specs.Slot.{Slot, register}
 use Rattle.mm_model.specs.State.{Core, put_slot}
 use Rattle.mm_model.specs.Uses.{Use, accesses, TakesUses}
 use Rattle.mm_model.specs.Operands.{addr_operand, value_operand}
-use Rattle.mm_model.specs.Ask.{ask}
-use Rattle.mm_model.specs.Effect.{Effect, effect}
+use Rattle.mm_model.specs.Ask.{ask, is_privileged}
+use Rattle.mm_model.specs.Effect.{Effect, effect, plain, loads}
 use Rattle.mm_model.specs.Effect.Effect.{Fault, Block, Deliver, Does}
-use Rattle.mm_model.specs.Turn.{Turned, core_after, memory_after, reply, touch_of, asked_use, is_running, stood, core_faulted, event_of, tick_faulted}
+use Rattle.mm_model.specs.Turn.{Turned, core_after, memory_after, reply, touch_of, asked_use, is_running, stood, slot_after, core_faulted, event_of, tick_faulted}
 use Rattle.mm_model.specs.Fits.{IsCore}
+use Rattle.mm_mem.specs.declared.answer.Loaded.{Loaded}
+use Rattle.mm_mem.specs.declared.answer.Loaded.TheVariants as loads_as
+use Rattle.mm_mem.specs.declared.answer.Stored.{Stored}
+use Rattle.mm_mem.specs.declared.answer.Stored.TheVariants as stores_as
 use Rattle.mm_thread.specs.declared.outcome.Outcome.{Outcome}
 use Rattle.mm_thread.specs.declared.outcome.Outcome.TheVariants.{Goes, Waits, Fails}
 use Rattle.mm_thread.specs.declared.outcome.Told.{Told}
@@ -92,3 +99,28 @@ abbrev pub step_ended : Slot → Touch → Option Touch → Outcome → Step
 step_ended s f touched (Goes entered) = record { tick = Did; slot = s.number; fetched = Some f; touched = touched; entered = entered }
 step_ended s f touched Waits = record { tick = Blocked; slot = s.number; fetched = Some f; touched = touched; entered = None }
 step_ended s f touched (Fails c) = record { tick = tick_faulted c s.handler; slot = s.number; fetched = Some f; touched = touched; entered = None }
+
+-- 5. What a slot makes of a memory's answers.
+
+abbrev pub core_loaded : Core → ℕ → ℕ → Loaded → Core
+core_loaded core place rd (loads_as.Value w) = with_slot core place (slot_after (slot_in core place) (loads core.split (slot_in core place) rd w))
+core_loaded core place rd _ = core
+
+abbrev pub outcome_loaded : Loaded → Outcome
+outcome_loaded (loads_as.Value w) = Goes None
+outcome_loaded loads_as.NoPage = Fails NoPage
+outcome_loaded loads_as.NotReady = Fails Sync
+
+abbrev pub core_stored : Core → ℕ → Stored → Core
+core_stored core place stores_as.Done = with_slot core place (slot_after (slot_in core place) (plain (slot_in core place)))
+core_stored core place _ = core
+
+abbrev pub outcome_stored : Stored → Outcome
+outcome_stored stores_as.Done = Goes None
+outcome_stored stores_as.NoPage = Fails NoPage
+outcome_stored stores_as.NotReady = Fails Sync
+
+-- the page that a register names, where the code is privileged and the number is below 2^42
+abbrev pub page_named : Slot → ℕ → Result ℕ Cause
+page_named s ra =
+    if is_privileged s.ip.perm then (if nat_lt (word_bits (register s ra)) (2 ^ 42) then Ok (word_bits (register s ra)) else Err Bounds) else Err Priv

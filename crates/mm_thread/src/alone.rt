@@ -94,8 +94,8 @@ fn same_word(a: Word, b: Word) -> bool
     a == b
 }
 
-// 1 for true and 0 for false.
-fn flag(b: bool) -> u64
+/// 1 for true and 0 for false.
+pub(crate) fn flag(b: bool) -> u64
     ensures { result ≡ test b }
 {
     b as u64
@@ -212,7 +212,7 @@ pub(crate) fn subseg_to(slot: &mut Slot, rd: Reg, ra: Reg, rb: Reg) -> Entered
     }
 }
 
-// Whether the slot's code is privileged.
+/// Whether the slot's code is privileged.
 pub(crate) fn is_privileged(slot: &Slot) -> bool
     ensures { result ≡ is_privileged slot.now.ip.perm }
 {

@@ -8,6 +8,7 @@ mod fault;
 mod group_output;
 mod outcome;
 mod queue;
+mod reaching;
 mod row;
 mod slot;
 mod tables;
