@@ -14,7 +14,7 @@ use Rattle.mm_isa.specs.declared.instr.Instr.TheVariants.{Ld, St, Map, Unmap}
 use Rattle.mm_model.specs.Memory.{Memory, passes, can_map, is_mapped}
 use Rattle.mm_model.specs.Slot.{Slot, register, is_empty}
 use Rattle.mm_model.specs.Operands.{lacks}
-use Rattle.mm_model.specs.State.{Core, put_slot}
+use Rattle.mm_model.specs.State.{Core, slot_at, put_slot}
 use Rattle.mm_model.specs.Uses.{Use, accesses, TakesUses, takes_none}
 use Rattle.mm_model.specs.Ask.{Ask, ask, is_privileged, page_asked}
 use Rattle.mm_model.specs.Ask.Ask.{Nothing, Refuse, Reach, MapPage, UnmapPage}
@@ -83,7 +83,7 @@ module _ (core : Core) (places : List ℕ) (index : IsIndex (numbers_in core) pl
 
   pub load_leaves : (m : Memory) (a : Touch) (rd : ℕ) (pre : Pre) (post : Post) (o : Option Cell)
       → Leaves core m s (loaded core.split s rd post (reached a pre o)) (core_loaded core p rd (loaded_answer pre o)) (set_where m a.addr pre post o) (outcome_loaded (loaded_answer pre o))
-  load_leaves m a rd pre post None = record { core_is = refl; memory_is = refl; outcome_is = refl }
+  load_leaves m a rd pre post None = record { core_is = refl; memory_is = refl; outcome_is = refl; stays = λ e. cc }
   load_leaves m a rd pre post (Some c) = by (passes pre c.full)
     where
       by : (b : Bool) → Leaves core m s (loaded core.split s rd post (cond b (Rattle.mm_model.specs.Effect.Reply.Got a c) (Refused Sync))) (core_loaded core p rd (cond b (Rattle.mm_mem.specs.declared.answer.Loaded.TheVariants.Value c.word) Rattle.mm_mem.specs.declared.answer.Loaded.TheVariants.NotReady))
@@ -92,33 +92,34 @@ module _ (core : Core) (places : List ℕ) (index : IsIndex (numbers_in core) pl
         core_is = sym (load_core core.split rd c.word (set_by post a.addr c));
         memory_is = sym (load_memory m core.split rd c.word (set_by post a.addr c));
         outcome_is = sym (load_goes core.split rd c.word None);
+        stays = λ e. cc;
       }
-      by false = record { core_is = refl; memory_is = refl; outcome_is = refl }
+      by false = record { core_is = refl; memory_is = refl; outcome_is = refl; stays = λ e. cc }
 
   pub store_leaves : (m : Memory) (a : Touch) (w : Word) (pre : Pre) (post : Post) (o : Option Cell)
       → Leaves core m s (stored s w post (reached a pre o)) (core_stored core p (stored_answer pre o)) (put_where m a.addr pre o (λ c. record { word = w; full = Rattle.mm_model.specs.Memory.full_after post c.full })) (outcome_stored (stored_answer pre o))
   unfolding core_after memory_after plain slot_after
-  store_leaves m a w pre post None = record { core_is = refl; memory_is = refl; outcome_is = refl }
+  store_leaves m a w pre post None = record { core_is = refl; memory_is = refl; outcome_is = refl; stays = λ e. cc }
   store_leaves m a w pre post (Some c) = by (passes pre c.full)
     where
       by : (b : Bool) → Leaves core m s (stored s w post (cond b (Rattle.mm_model.specs.Effect.Reply.Got a c) (Refused Sync))) (core_stored core p (cond b Rattle.mm_mem.specs.declared.answer.Stored.TheVariants.Done Rattle.mm_mem.specs.declared.answer.Stored.TheVariants.NotReady))
           (cond b (Rattle.mm_model.specs.Memory.put_cell m a.addr (record { word = w; full = Rattle.mm_model.specs.Memory.full_after post c.full })) m) (outcome_stored (cond b Rattle.mm_mem.specs.declared.answer.Stored.TheVariants.Done Rattle.mm_mem.specs.declared.answer.Stored.TheVariants.NotReady))
-      by true = record { core_is = sym (own_put core places index p within (plain s)); memory_is = refl; outcome_is = refl }
-      by false = record { core_is = refl; memory_is = refl; outcome_is = refl }
+      by true = record { core_is = sym (own_put core places index p within (plain s)); memory_is = refl; outcome_is = refl; stays = λ e. cc }
+      by false = record { core_is = refl; memory_is = refl; outcome_is = refl; stays = λ e. cc }
 
   -- 3. Pages.
 
   pub map_leaves : (m : Memory) (rd page : ℕ) (b : Bool)
       → Leaves core m s (maps s rd (Paged page b)) (with_slot core p (slot_after s (record (plain s) { writes = (rd, Int (test b)) ∷ [] }))) (cond b (Rattle.mm_model.specs.Memory.map_page m page) m) (Goes None)
   unfolding core_after memory_after plain slot_after
-  map_leaves m rd page true = record { core_is = sym (own_put core places index p within (record (plain s) { writes = (rd, Int 1) ∷ [] })); memory_is = refl; outcome_is = refl }
-  map_leaves m rd page false = record { core_is = sym (own_put core places index p within (record (plain s) { writes = (rd, Int 0) ∷ [] })); memory_is = refl; outcome_is = refl }
+  map_leaves m rd page true = record { core_is = sym (own_put core places index p within (record (plain s) { writes = (rd, Int 1) ∷ [] })); memory_is = refl; outcome_is = refl; stays = λ e. cc }
+  map_leaves m rd page false = record { core_is = sym (own_put core places index p within (record (plain s) { writes = (rd, Int 0) ∷ [] })); memory_is = refl; outcome_is = refl; stays = λ e. cc }
 
   pub unmap_leaves : (m : Memory) (rd page : ℕ) (b : Bool)
       → Leaves core m s (unmaps s rd (Paged page b)) (with_slot core p (slot_after s (record (plain s) { writes = (rd, Int (test b)) ∷ [] }))) (cond b (Rattle.mm_model.specs.Memory.unmap_page m page) m) (Goes None)
   unfolding core_after memory_after plain slot_after
-  unmap_leaves m rd page true = record { core_is = sym (own_put core places index p within (record (plain s) { writes = (rd, Int 1) ∷ [] })); memory_is = refl; outcome_is = refl }
-  unmap_leaves m rd page false = record { core_is = sym (own_put core places index p within (record (plain s) { writes = (rd, Int 0) ∷ [] })); memory_is = refl; outcome_is = refl }
+  unmap_leaves m rd page true = record { core_is = sym (own_put core places index p within (record (plain s) { writes = (rd, Int 1) ∷ [] })); memory_is = refl; outcome_is = refl; stays = λ e. cc }
+  unmap_leaves m rd page false = record { core_is = sym (own_put core places index p within (record (plain s) { writes = (rd, Int 0) ∷ [] })); memory_is = refl; outcome_is = refl; stays = λ e. cc }
 
 -- what is asked with the page that a register names
 abbrev pub page_ask : (ℕ → Ask) → Result ℕ Cause → Ask
@@ -151,6 +152,7 @@ leaves_all core m s e k n o k' n' o' h same_core same_memory same_outcome = reco
   core_is = same_core ∙ h.core_is;
   memory_is = same_memory ∙ h.memory_is;
   outcome_is = same_outcome ∙ h.outcome_is;
+  stays = λ e. ap (λ (x : Core). slot_at x s.number) same_core ∙ h.stays (sym same_outcome ∙ e);
 }
 
 -- an access is one use

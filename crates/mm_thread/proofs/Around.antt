@@ -61,6 +61,10 @@ abbrev pub outcome_alone : Result (Option Pointer) Cause → Outcome
 outcome_alone (Ok entered) = Goes entered
 outcome_alone (Err c) = Fails c
 
+alone_goes : (told : Result (Option Pointer) Cause) → outcome_alone told ≡ Waits → ⊥
+alone_goes (Ok entered) e = cc
+alone_goes (Err c) e = cc
+
 module _ (core : Core) (places : List ℕ) (index : IsIndex (numbers_in core) places) (p : ℕ) (within : p < length core.rows) where
   pub own_put : (c : Change) → put_slot core (slot_after (slot_in core p) c) ≡ with_slot core p (slot_after (slot_in core p) c)
   own_put c = put_slot-place core places index p within (slot_after (slot_in core p) c) (changed_from (slot_in core p) c).number
@@ -81,11 +85,13 @@ module _ (core : Core) (places : List ℕ) (index : IsIndex (numbers_in core) pl
     core_is = ap (with_slot core p) h.slot ∙ sym (alone_core c h.alone);
     memory_is = alone_memory m c h.alone;
     outcome_is = ap outcome_alone h.told;
+    stays = λ e. absurd (alone_goes told e);
   }
   leaves_alone m (Fault c) s' told h = record {
     core_is = ap (with_slot core p) h.slot ∙ ap (λ (rows : List Row). record core { rows = rows }) (set-get_or core.rows p no_row);
     memory_is = refl;
     outcome_is = ap outcome_alone h.told;
+    stays = λ e. absurd (alone_goes told e);
   }
   leaves_alone m Block s' told h = absurd h
   leaves_alone m (Deliver other) s' told h = absurd h
@@ -100,6 +106,7 @@ module _ (core : Core) (places : List ℕ) (index : IsIndex (numbers_in core) pl
         core_is = others ∙ left.core_is;
         memory_is = left.memory_is;
         outcome_is = left.outcome_is;
+        stays = λ e. absurd (alone_goes told e);
       })
 
   -- 2. A byte for the group's output.
@@ -115,12 +122,13 @@ module _ (core : Core) (places : List ℕ) (index : IsIndex (numbers_in core) pl
         core_is = ap (λ (k : Core). put_output k s.group (output_of k s.group ++ (word_bits (register s ra) % 256) ∷ [])) (sym (own_put (plain s)));
         memory_is = refl;
         outcome_is = refl;
+        stays = λ e. cc;
       })
 
   pub no_room_left : (m : Memory) (ra : ℕ) → nat_lt (length (output_of core (slot_in core p).group)) (output_limit core.version) ≡ false
       → let s = slot_in core p in Leaves core m s (effect_in core m s (Out ra)) core m (Fails OutFull)
   unfolding ask reply effect
-  no_room_left m ra full = rw full (record { core_is = refl; memory_is = refl; outcome_is = refl })
+  no_room_left m ra full = rw full (record { core_is = refl; memory_is = refl; outcome_is = refl; stays = λ e. cc })
 
   -- 3. Another slot.
 
@@ -134,6 +142,16 @@ module _ (core : Core) (places : List ℕ) (index : IsIndex (numbers_in core) pl
         let still : p < length one.rows = omega (arith, length-with_row core q (record (row_at core q) { slot = o })) in
         let number : (slot_after s c).number ≡ (slot_in one p).number = (changed_from s c).number ∙ sym (number-with_slot core places index q inside o numbered p within) in
         ap (λ (k : Core). put_slot k (slot_after s c)) (put_slot-place core places index q inside o numbered) ∙ put_slot-place one places indexed p still (slot_after s c) number
+
+    -- the slot itself stays
+    others_stay : slot_at (with_slot core q o) (slot_in core p).number ≡ slot_at core (slot_in core p).number
+    others_stay =
+        let s = slot_in core p in
+        let one : Core = with_slot core q o in
+        let indexed = index-with_slot core places index q inside o numbered in
+        let still : p < length one.rows = omega (arith, length-with_row core q (record (row_at core q) { slot = o })) in
+        ap (slot_at one) (sym (number-with_slot core places index q inside o numbered p within)) ∙ slot_found one places indexed p still
+        ∙ ap (λ (x : Slot). Some x) (slot_in-other core q p o (λ same. other (sym same))) ∙ sym (slot_found core places index p within)
 
     waits_put : put_slot core o ≡ with_slot core q o
     waits_put = put_slot-place core places index q inside o numbered
@@ -170,15 +188,15 @@ taken_differs core p q runs taken same = by (slot_in core p).state runs (ap (λ 
 module _ (core : Core) (m : Memory) (s : Slot) where
   pub resume_refused : (ra : ℕ) (how : How) → served s.number (slot_at core (word_bits (register s ra))) ≡ Refused NoSlot → Leaves core m s (effect_in core m s (Resume ra how)) core m (Fails NoSlot)
   unfolding ask reply effect
-  resume_refused ra how is = rw is (record { core_is = refl; memory_is = refl; outcome_is = refl })
+  resume_refused ra how is = rw is (record { core_is = refl; memory_is = refl; outcome_is = refl; stays = λ e. cc })
 
   pub read_refused : (rd ra reg : ℕ) → served s.number (slot_at core (word_bits (register s ra))) ≡ Refused NoSlot → Leaves core m s (effect_in core m s (Rreg rd ra reg)) core m (Fails NoSlot)
   unfolding ask reply effect
-  read_refused rd ra reg is = rw is (record { core_is = refl; memory_is = refl; outcome_is = refl })
+  read_refused rd ra reg is = rw is (record { core_is = refl; memory_is = refl; outcome_is = refl; stays = λ e. cc })
 
   pub write_refused : (ra rb reg : ℕ) → served s.number (slot_at core (word_bits (register s ra))) ≡ Refused NoSlot → Leaves core m s (effect_in core m s (Wreg ra rb reg)) core m (Fails NoSlot)
   unfolding ask reply effect
-  write_refused ra rb reg is = rw is (record { core_is = refl; memory_is = refl; outcome_is = refl })
+  write_refused ra rb reg is = rw is (record { core_is = refl; memory_is = refl; outcome_is = refl; stays = λ e. cc })
 
 module _ (core : Core) (places : List ℕ) (index : IsIndex (numbers_in core) places) (p : ℕ) (within : p < length core.rows) (q : ℕ) (inside : q < length core.rows) (other : q ≢ p) (m : Memory) where
   abbrev me : Slot
@@ -194,6 +212,7 @@ module _ (core : Core) (places : List ℕ) (index : IsIndex (numbers_in core) pl
     core_is = sym (two_slots core places index p within q inside other (resumed_by how of) (resumed_number how of) (plain me));
     memory_is = refl;
     outcome_is = refl;
+    stays = λ e. cc;
   })
 
   pub read_waits : (rd ra reg : ℕ) → served me.number (slot_at core (word_bits (register me ra))) ≡ Served of → (core.split && is_empty of reg) ≡ true
@@ -203,6 +222,7 @@ module _ (core : Core) (places : List ℕ) (index : IsIndex (numbers_in core) pl
     core_is = sym (waits_put core places index p within q inside other (delivered of) (delivered_from of).number);
     memory_is = refl;
     outcome_is = refl;
+    stays = λ e. others_stay core places index p within q inside other (delivered of) (delivered_from of).number;
   })
 
   pub read_reads : (rd ra reg : ℕ) → served me.number (slot_at core (word_bits (register me ra))) ≡ Served of → (core.split && is_empty of reg) ≡ false
@@ -212,6 +232,7 @@ module _ (core : Core) (places : List ℕ) (index : IsIndex (numbers_in core) pl
     core_is = sym (own_put core places index p within (record (plain me) { writes = (rd, register of reg) ∷ [] }));
     memory_is = refl;
     outcome_is = refl;
+    stays = λ e. cc;
   })
 
   pub write_waits : (ra rb reg : ℕ) → served me.number (slot_at core (word_bits (register me ra))) ≡ Served of → (core.split && is_empty of reg) ≡ true
@@ -221,6 +242,7 @@ module _ (core : Core) (places : List ℕ) (index : IsIndex (numbers_in core) pl
     core_is = sym (waits_put core places index p within q inside other (delivered of) (delivered_from of).number);
     memory_is = refl;
     outcome_is = refl;
+    stays = λ e. others_stay core places index p within q inside other (delivered of) (delivered_from of).number;
   })
 
   pub write_writes : (ra rb reg : ℕ) → served me.number (slot_at core (word_bits (register me ra))) ≡ Served of → (core.split && is_empty of reg) ≡ false
@@ -230,6 +252,7 @@ module _ (core : Core) (places : List ℕ) (index : IsIndex (numbers_in core) pl
     core_is = sym (two_slots core places index p within q inside other (record of { regs = set of.regs reg (register me rb) }) refl (plain me));
     memory_is = refl;
     outcome_is = refl;
+    stays = λ e. cc;
   })
 
 -- 5. Events.
@@ -240,11 +263,11 @@ module _ (core : Core) (places : List ℕ) (index : IsIndex (numbers_in core) pl
 
   pub no_event : (rd : ℕ) → queue_in core p ≡ [] → Leaves core m self (effect_in core m self (Evt rd)) core m Waits
   unfolding ask reply effect
-  no_event rd none = rw (queue_found core places index p within, none) (record { core_is = refl; memory_is = refl; outcome_is = refl })
+  no_event rd none = rw (queue_found core places index p within, none) (record { core_is = refl; memory_is = refl; outcome_is = refl; stays = λ e. refl })
 
   pub no_slot_of_event : (rd : ℕ) (e : Event) (rest : List Event) → queue_in core p ≡ e ∷ rest → slot_at core e.slot ≡ None → Leaves core m self (effect_in core m self (Evt rd)) core m Waits
   unfolding ask reply effect
-  no_slot_of_event rd e rest some none = rw (queue_found core places index p within, some, none) (record { core_is = refl; memory_is = refl; outcome_is = refl })
+  no_slot_of_event rd e rest some none = rw (queue_found core places index p within, some, none) (record { core_is = refl; memory_is = refl; outcome_is = refl; stays = λ e. refl })
 
   module _ (e : Event) (rest : List Event) (some : queue_in core p ≡ e ∷ rest) (q : ℕ) (inside : q < length core.rows) (other : q ≢ p) (found : slot_at core e.slot ≡ Some (slot_in core q)) where
     abbrev taken : Core
@@ -275,12 +298,13 @@ module _ (core : Core) (places : List ℕ) (index : IsIndex (numbers_in core) pl
               ∙ ap (λ (k : Core). put_queue k self.number rest) (sym (two_slots core places index p within q inside other (record (slot_in core q) { state = Taken }) refl c));
           memory_is = refl;
           outcome_is = refl;
+          stays = λ e. cc;
         })
 
 -- 6. The same facts at values that are equal to these.
 
 pub leaves_at : (core : Core) (m : Memory) (s : Slot) (e : Effect) (k core' : Core) (o : Outcome) → Leaves core m s e k m o → core' ≡ k → Leaves core m s e core' m o
-leaves_at core m s e k core' o h same = record { core_is = same ∙ h.core_is; memory_is = h.memory_is; outcome_is = h.outcome_is }
+leaves_at core m s e k core' o h same = record { core_is = same ∙ h.core_is; memory_is = h.memory_is; outcome_is = h.outcome_is; stays = λ e. ap (λ (x : Core). slot_at x s.number) same ∙ h.stays e }
 
 -- a change of the slot at p after one of the slot at q
 pub goes_after : (core : Core) (q p : ℕ) (o : Slot) (f : Slot → Slot) → q ≢ p → (k k' : Core) → k ≡ with_slot core q o → k' ≡ with_slot k p (f (slot_in k p)) → k' ≡ with_slot (with_slot core q o) p (f (slot_in core p))

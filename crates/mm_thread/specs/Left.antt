@@ -10,7 +10,7 @@ use Rattle.mm_model.specs.declared.step.Step.{Step}
 use Rattle.mm_model.specs.declared.step.Tick.TheVariants.{Did, Blocked}
 use Rattle.mm_model.specs.Memory.{Memory}
 use Rattle.mm_model.specs.Slot.{Slot, register}
-use Rattle.mm_model.specs.State.{Core, put_slot}
+use Rattle.mm_model.specs.State.{Core, slot_at, put_slot}
 use Rattle.mm_model.specs.Uses.{Use, accesses, TakesUses}
 use Rattle.mm_model.specs.Operands.{addr_operand, value_operand}
 use Rattle.mm_model.specs.Ask.{ask, is_privileged}
@@ -59,6 +59,8 @@ pub record Leaves (core : Core) (m : Memory) (s : Slot) (e : Effect) (core' : Co
   pub core_is : core' ≡ core_left core s e
   pub memory_is : m' ≡ memory_left m e
   pub outcome_is : outcome ≡ outcome_of e
+  -- a slot that waits is as it was
+  pub stays : outcome ≡ Waits → slot_at core' s.number ≡ slot_at core s.number
 
 -- the effect of an instruction in this machine
 abbrev pub effect_in : Core → Memory → Slot → Instr → Effect
@@ -95,10 +97,10 @@ core_ended i core s place (Goes entered) = core
 core_ended i core s place Waits = with_slot core place (stood s Running)
 core_ended i core s place (Fails c) = core_faulted core s (event_of s c (addr_operand i s) (value_operand i s)) s.handler
 
-abbrev pub step_ended : Slot → Touch → Option Touch → Outcome → Step
-step_ended s f touched (Goes entered) = record { tick = Did; slot = s.number; fetched = Some f; touched = touched; entered = entered }
-step_ended s f touched Waits = record { tick = Blocked; slot = s.number; fetched = Some f; touched = touched; entered = None }
-step_ended s f touched (Fails c) = record { tick = tick_faulted c s.handler; slot = s.number; fetched = Some f; touched = touched; entered = None }
+abbrev pub step_ended : ℕ → Slot → Touch → Option Touch → Outcome → Step
+step_ended n s f touched (Goes entered) = record { tick = Did; slot = n; fetched = Some f; touched = touched; entered = entered }
+step_ended n s f touched Waits = record { tick = Blocked; slot = n; fetched = Some f; touched = touched; entered = None }
+step_ended n s f touched (Fails c) = record { tick = tick_faulted c s.handler; slot = n; fetched = Some f; touched = touched; entered = None }
 
 -- 5. What a slot makes of a memory's answers.
 

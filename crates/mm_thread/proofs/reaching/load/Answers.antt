@@ -44,7 +44,7 @@ returns-in-Err g c =
     let checked = rw (to_z-of_z w32 a.imm fits, c.load_kind.ensures, c.slot.ensures) at c.in-Err.ensures.value in
     executes_by g.M.Memory.meaning g.M.Memory.uses g.M.Memory.stands t s (Ld a.rd a.ra a.pre a.post a.imm) a.mem.now a.mem.now t c.untouched.result (Refuse c.in-Err.cause)
     (ap (λ (x : Result Touch Cause). reaching x a.pre) (sym checked))
-    (record { core_is = refl; memory_is = refl; outcome_is = ap (λ (x : Told). x.outcome) c.untouched.ensures })
+    (record { core_is = refl; memory_is = refl; outcome_is = ap (λ (x : Told). x.outcome) c.untouched.ensures; stays = λ e. refl })
     (ap (λ (x : Told). x.touched) c.untouched.ensures) (takes_none a.mem.now) (omega arith)
 
 pub returns-in-Ok : goal.returns-in-Ok

@@ -34,7 +34,7 @@ returns-in-Err g c =
     let named : page_named s a.ra ≡ Err c.in-Err.cause = ap (λ (x : Slot). page_named x a.ra) (sym c.slot.ensures) ∙ sym c.in-Err.ensures.value in
     executes_by g.M.Memory.meaning g.M.Memory.uses g.M.Memory.stands t s (Map a.rd a.ra) a.mem.now a.mem.now t c.untouched.result (Refuse c.in-Err.cause)
     (page_asked-named s a.ra MapPage ∙ ap (page_ask MapPage) named)
-    (record { core_is = refl; memory_is = refl; outcome_is = ap (λ (x : Told). x.outcome) c.untouched.ensures })
+    (record { core_is = refl; memory_is = refl; outcome_is = ap (λ (x : Told). x.outcome) c.untouched.ensures; stays = λ e. refl })
     (ap (λ (x : Told). x.touched) c.untouched.ensures) (takes_none a.mem.now) (omega arith)
 
 pub returns-in-Ok : goal.returns-in-Ok
