@@ -10,7 +10,8 @@ use Rattle.mm_word.specs.declared.word.Cell.{Cell}
 use Rattle.mm_word.specs.Word.{word_bits}
 use Rattle.mm_word.specs.Access.{Touch}
 use Rattle.mm_isa.specs.declared.instr.Instr.{Instr}
-use Rattle.mm_isa.specs.declared.instr.Instr.TheVariants.{Ld, St, Map, Unmap}
+use Rattle.mm_isa.specs.declared.instr.Instr.TheVariants.{Out, Ld, St, Evt, Resume, Rreg, Wreg, Map, Unmap}
+use Rattle.mm_isa.specs.declared.instr.How.{How}
 use Rattle.mm_model.specs.Memory.{Memory, passes, can_map, is_mapped}
 use Rattle.mm_model.specs.Slot.{Slot, register, is_empty}
 use Rattle.mm_model.specs.Operands.{lacks}
@@ -25,6 +26,7 @@ use Rattle.mm_mem.specs.Answers.{loaded as loaded_answer, stored as stored_answe
 use Rattle.mm_thread.specs.declared.outcome.Outcome.{Outcome}
 use Rattle.mm_thread.specs.declared.outcome.Outcome.TheVariants.{Goes, Waits, Fails}
 use Rattle.mm_thread.specs.declared.outcome.Told.{Told}
+use Rattle.mm_thread.specs.Ends.{is_alone}
 use Rattle.mm_thread.specs.Places.{slot_in, with_slot, numbers_in, IsIndex}
 use Rattle.mm_thread.specs.Left.{Leaves, effect_in, Executes, core_loaded, outcome_loaded, core_stored, outcome_stored, page_named}
 use Rattle.mm_thread.proofs.Around.{own_put}
@@ -164,3 +166,27 @@ one_access a pre (Some c) = omega arith
 pub no_access : (page : ℕ) (b : Bool) → accesses (removal_use page b) ≡ 0
 no_access page true = refl
 no_access page false = refl
+
+module _ {M : Type 0} (meaning : M → Memory) (uses : M → ℕ) (stands : M → List Use → Type 0) where
+  -- what reaches no cell
+  pub executes_untouched : (core : Core) (s : Slot) (i : Instr) (old : M) (core' : Core) (told : Told) (o : Outcome) (a : Ask) → told ≡ record { outcome = o; touched = None }
+      → ask i s ≡ a → touch_of a ≡ None → asked_use (meaning old) a ≡ [] → Leaves core (meaning old) s (effect_in core (meaning old) s i) core' (meaning old) o
+      → Executes meaning uses stands core s i old old core' told
+  executes_untouched core s i old core' told o a is asks untouched unasked leaves =
+      executes_quietly meaning uses stands core s i old core' told a asks untouched unasked
+      (leaves_all core (meaning old) s _ core' (meaning old) o core' (meaning old) told.outcome leaves refl refl (ap (λ (x : Told). x.outcome) is))
+      (ap (λ (x : Told). x.touched) is)
+
+pub is_alone-others : (i : Instr) → ((ra : ℕ) → i ≡ Out ra → ⊥) → ((rd ra : ℕ) (pre : Pre) (post : Post) (imm : ℤ) → i ≡ Ld rd ra pre post imm → ⊥) → ((ra rb : ℕ) (pre : Pre) (post : Post) (imm : ℤ) → i ≡ St ra rb pre post imm → ⊥)
+    → ((rd : ℕ) → i ≡ Evt rd → ⊥) → ((ra : ℕ) (how : How) → i ≡ Resume ra how → ⊥) → ((rd ra reg : ℕ) → i ≡ Rreg rd ra reg → ⊥) → ((ra rb reg : ℕ) → i ≡ Wreg ra rb reg → ⊥)
+    → ((rd ra : ℕ) → i ≡ Map rd ra → ⊥) → ((rd ra : ℕ) → i ≡ Unmap rd ra → ⊥) → is_alone i ≡ true
+is_alone-others (Out ra) out ld st evt resume rreg wreg mapped unmapped = absurd (out ra refl)
+is_alone-others (Ld rd ra pre post imm) out ld st evt resume rreg wreg mapped unmapped = absurd (ld rd ra pre post imm refl)
+is_alone-others (St ra rb pre post imm) out ld st evt resume rreg wreg mapped unmapped = absurd (st ra rb pre post imm refl)
+is_alone-others (Evt rd) out ld st evt resume rreg wreg mapped unmapped = absurd (evt rd refl)
+is_alone-others (Resume ra how) out ld st evt resume rreg wreg mapped unmapped = absurd (resume ra how refl)
+is_alone-others (Rreg rd ra reg) out ld st evt resume rreg wreg mapped unmapped = absurd (rreg rd ra reg refl)
+is_alone-others (Wreg ra rb reg) out ld st evt resume rreg wreg mapped unmapped = absurd (wreg ra rb reg refl)
+is_alone-others (Map rd ra) out ld st evt resume rreg wreg mapped unmapped = absurd (mapped rd ra refl)
+is_alone-others (Unmap rd ra) out ld st evt resume rreg wreg mapped unmapped = absurd (unmapped rd ra refl)
+is_alone-others _ out ld st evt resume rreg wreg mapped unmapped = refl

@@ -4,11 +4,14 @@
 mod alone;
 mod asking;
 mod carry_out;
+mod execute;
 mod fault;
 mod group_output;
+mod operands;
 mod outcome;
 mod queue;
 mod reaching;
 mod row;
 mod slot;
 mod tables;
+mod turn;
