@@ -6,3 +6,4 @@ pub mod Counting
 pub mod Cores
 pub mod Around
 pub mod Accesses
+pub mod Turns

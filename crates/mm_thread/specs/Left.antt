@@ -88,7 +88,7 @@ module _ {M : Type 0} (meaning : M → Memory) (uses : M → ℕ) (stands : M �
 
 -- what the end of a turn needs
 abbrev pub CanEnd : Outcome → Core → List ℕ → ℕ → Type 0
-CanEnd (Goes entered) core places place = place < length core.rows
+CanEnd (Goes entered) core places place = Unit {0}
 CanEnd Waits core places place = (place < length core.rows) × ((slot_in core place).turns < 2 ^ 62)
 CanEnd (Fails c) core places place = CanTurn core places place
 

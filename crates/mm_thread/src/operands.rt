@@ -14,8 +14,8 @@ use mm_model::Slot;
 use mm_word::Word;
 
 // The field ra.
-fn field_a(instr: Instr) -> Option<Reg>
-    ensures { result ≡ field_a instr }
+fn field_a(instr: &Instr) -> Option<Reg>
+    ensures { result ≡ field_a instr.now }
 {
     match instr {
         Instr::Mov { ra, .. }
@@ -40,14 +40,14 @@ fn field_a(instr: Instr) -> Option<Reg>
         | Instr::Rreg { ra, .. }
         | Instr::Wreg { ra, .. }
         | Instr::Map { ra, .. }
-        | Instr::Unmap { ra, .. } => Some(ra),
+        | Instr::Unmap { ra, .. } => Some(*ra),
         _ => None,
     }
 }
 
 // The field rb.
-fn field_b(instr: Instr) -> Option<Reg>
-    ensures { result ≡ field_b instr }
+fn field_b(instr: &Instr) -> Option<Reg>
+    ensures { result ≡ field_b instr.now }
 {
     match instr {
         Instr::Eqw { rb, .. }
@@ -57,36 +57,36 @@ fn field_b(instr: Instr) -> Option<Reg>
         | Instr::Restrict { rb, .. }
         | Instr::Subseg { rb, .. }
         | Instr::St { rb, .. }
-        | Instr::Wreg { rb, .. } => Some(rb),
+        | Instr::Wreg { rb, .. } => Some(*rb),
         _ => None,
     }
 }
 
 // The number of the field imm, 0 where the operation has none.
-fn field_imm(instr: Instr) -> i64
-    ensures { result ≡ field_imm instr }
+fn field_imm(instr: &Instr) -> i64
+    ensures { result ≡ field_imm instr.now }
 {
     match instr {
-        Instr::Ldi { imm, .. } => i64::from(imm),
-        Instr::Ldhi { imm, .. } => i64::from(imm),
-        Instr::Addi { imm, .. } => i64::from(imm),
-        Instr::Leai { imm, .. } => i64::from(imm),
-        Instr::Ld { imm, .. } => i64::from(imm),
-        Instr::St { imm, .. } => i64::from(imm),
-        Instr::Br { imm } => i64::from(imm),
-        Instr::Bz { imm, .. } => i64::from(imm),
-        Instr::Bnz { imm, .. } => i64::from(imm),
-        Instr::Lip { imm, .. } => i64::from(imm),
-        Instr::Trap { imm } => i64::from(imm),
+        Instr::Ldi { imm, .. } => i64::from(*imm),
+        Instr::Ldhi { imm, .. } => i64::from(*imm),
+        Instr::Addi { imm, .. } => i64::from(*imm),
+        Instr::Leai { imm, .. } => i64::from(*imm),
+        Instr::Ld { imm, .. } => i64::from(*imm),
+        Instr::St { imm, .. } => i64::from(*imm),
+        Instr::Br { imm } => i64::from(*imm),
+        Instr::Bz { imm, .. } => i64::from(*imm),
+        Instr::Bnz { imm, .. } => i64::from(*imm),
+        Instr::Lip { imm, .. } => i64::from(*imm),
+        Instr::Trap { imm } => i64::from(*imm),
         Instr::Rreg { reg, .. } | Instr::Wreg { reg, .. } => i64::from(reg.number()),
         _ => 0,
     }
 }
 
 // The field rd of an operation that writes one register at most.
-fn field_d(instr: Instr) -> Option<Reg>
-    requires { is_evt instr ≡ false }
-    ensures { fields_d instr ≡ option_to_list result }
+fn field_d(instr: &Instr) -> Option<Reg>
+    requires { is_evt instr.now ≡ false }
+    ensures { fields_d instr.now ≡ option_to_list result }
 {
     match instr {
         Instr::Ldi { rd, .. }
@@ -108,14 +108,14 @@ fn field_d(instr: Instr) -> Option<Reg>
         | Instr::Lip { rd, .. }
         | Instr::Rreg { rd, .. }
         | Instr::Map { rd, .. }
-        | Instr::Unmap { rd, .. } => Some(rd),
+        | Instr::Unmap { rd, .. } => Some(*rd),
         _ => None,
     }
 }
 
 /// The address operand of an event: the word of ra, else integer 0.
-pub(crate) fn addr_operand(instr: Instr, slot: &Slot) -> Word
-    ensures { result ≡ addr_operand instr slot.now }
+pub(crate) fn addr_operand(instr: &Instr, slot: &Slot) -> Word
+    ensures { result ≡ addr_operand instr.now slot.now }
 {
     match field_a(instr) {
         Some(ra) => word_of(slot, ra),
@@ -124,8 +124,8 @@ pub(crate) fn addr_operand(instr: Instr, slot: &Slot) -> Word
 }
 
 /// Its data operand: the word of rb, else the number of imm.
-pub(crate) fn value_operand(instr: Instr, slot: &Slot) -> Word
-    ensures { result ≡ value_operand instr slot.now }
+pub(crate) fn value_operand(instr: &Instr, slot: &Slot) -> Word
+    ensures { result ≡ value_operand instr.now slot.now }
 {
     match field_b(instr) {
         Some(rb) => word_of(slot, rb),
@@ -144,8 +144,8 @@ fn field_waits(slot: &Slot, field: Option<Reg>) -> bool
 }
 
 // One of the registers that the instruction writes waits for a pending load.
-fn destination_waits(instr: Instr, slot: &Slot) -> bool
-    ensures { result ≡ list_any (is_empty slot.now) (fields_d instr) }
+fn destination_waits(instr: &Instr, slot: &Slot) -> bool
+    ensures { result ≡ list_any (is_empty slot.now) (fields_d instr.now) }
 {
     match instr {
         Instr::Evt { rd } => {
@@ -157,8 +157,8 @@ fn destination_waits(instr: Instr, slot: &Slot) -> bool
 }
 
 /// Whether a register that the instruction names waits for a pending load.
-pub(crate) fn lacks(instr: Instr, slot: &Slot) -> bool
-    ensures { result ≡ lacks instr slot.now }
+pub(crate) fn lacks(instr: &Instr, slot: &Slot) -> bool
+    ensures { result ≡ lacks instr.now slot.now }
 {
     destination_waits(instr, slot) || field_waits(slot, field_a(instr)) || field_waits(slot, field_b(instr))
 }

@@ -78,28 +78,29 @@ fn issue<M: Memory>(tables: &mut Tables, places: &Places, place: usize, mem: &mu
 {
     let slot = tables.slot(place);
     let number = slot.number;
-    if tables.split() && lacks(instr, slot) {
+    if tables.split() && lacks(&instr, slot) {
         let _register = tables.deliver(place);
         tables.stand(place, SlotState::Running);
         return step(Tick::Blocked, number, Some(access), None);
     }
-    let told = execute(tables, places, place, mem, instr);
-    end(tables, places, place, number, instr, access, told)
+    let told = execute(tables, places, place, mem, &instr);
+    end(tables, places, place, number, &instr, access, told)
 }
 
 // The end of a turn: a slot that waits stands where it is, and one that faults goes to its handler.
-fn end(tables: &mut Tables, places: &Places, place: usize, number: u8, instr: Instr, access: Access, told: Told) -> Step
+fn end(tables: &mut Tables, places: &Places, place: usize, number: u8, instr: &Instr, access: Access, told: Told) -> Step
     requires { CanEnd told.outcome tables.old places.now place }
-    ensures core { tables.new ≡ core_ended instr tables.old (slot_in tables.old place) place told.outcome }
+    ensures core { tables.new ≡ core_ended instr.now tables.old (slot_in tables.old place) place told.outcome }
     ensures step { result ≡ step_ended number (slot_in tables.old place) access told.touched told.outcome }
 {
-    let tick = match told.outcome {
+    let Told { outcome, touched } = told;
+    let tick = match outcome {
         Outcome::Goes(entered) => {
             return Step {
                 tick: Tick::Did,
                 slot: number,
                 fetched: Some(access),
-                touched: told.touched,
+                touched,
                 entered,
             };
         }
@@ -113,7 +114,7 @@ fn end(tables: &mut Tables, places: &Places, place: usize, number: u8, instr: In
             fault(tables, places, place, cause, addr_op, value_op)
         }
     };
-    step(tick, number, Some(access), told.touched)
+    step(tick, number, Some(access), touched)
 }
 
 /// The step of a turn that enters nothing.

@@ -55,5 +55,5 @@ returns-in_default g c =
     let t = a.tables.now in
     let s = slot_in t a.place in
     let n = c.in_default in
-    let is = is_alone-others a.instr n.not-Out n.not-Ld n.not-St n.not-Evt n.not-Resume n.not-Rreg n.not-Wreg n.not-Map n.not-Unmap in
-    executes_untouched g.M.Memory.meaning g.M.Memory.uses g.M.Memory.stands t s a.instr a.mem.now c.go_alone.new.tables c.untouched-in_default.result c.go_alone.result Nothing c.untouched-in_default.ensures (asks_nothing a.instr s is) refl refl (c.go_alone.ensures (g.M.Memory.meaning a.mem.now))
+    let is = is_alone-others a.instr.now n.not-Out n.not-Ld n.not-St n.not-Evt n.not-Resume n.not-Rreg n.not-Wreg n.not-Map n.not-Unmap in
+    executes_untouched g.M.Memory.meaning g.M.Memory.uses g.M.Memory.stands t s a.instr.now a.mem.now c.go_alone.new.tables c.untouched-in_default.result c.go_alone.result Nothing c.untouched-in_default.ensures (asks_nothing a.instr.now s is) refl refl (c.go_alone.ensures (g.M.Memory.meaning a.mem.now))
