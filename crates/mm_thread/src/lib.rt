@@ -7,6 +7,7 @@ mod carry_out;
 mod execute;
 mod fault;
 mod group_output;
+mod item;
 mod operands;
 mod outcome;
 mod queue;

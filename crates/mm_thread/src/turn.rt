@@ -1,8 +1,9 @@
 //! The turn of a slot, from its fetch to its end.
 
-ghost use Rattle.std.specs.Prelude.{◌≡◌, ◌+◌, ◌<◌, ◌^◌, None, Some, [], ◌∷◌};
+ghost use Rattle.std.specs.Prelude.{◌≡◌, ◌+◌, ◌<◌, ◌^◌, ◌&&◌, length, None, Some, [], ◌∷◌};
 ghost use Rattle.mm_model.specs.Memory.{cell_at};
 ghost use Rattle.mm_model.specs.Uses.{Use, accesses, TakesUses};
+ghost use Rattle.mm_model.specs.Operands.{lacks};
 ghost use Rattle.mm_model.specs.Turn.{issued, fetched, started, instr_in};
 ghost use Rattle.mm_thread.specs.Places.{slot_in};
 ghost use Rattle.mm_thread.specs.Left.{CanTurn, CanEnd, Gives, core_ended, step_ended};
@@ -24,7 +25,9 @@ pub(crate) fn start<M: Memory>(tables: &mut Tables, places: &Places, place: usiz
     ensures { Gives M.meaning M.uses M.stands (started tables.old (M.meaning mem.old) (slot_in tables.old place)) mem.old mem.new tables.new result }
 {
     let slot = tables.slot(place);
-    let (number, past, ip) = (slot.number, slot.past, slot.ip);
+    let number = slot.number;
+    let past = slot.past;
+    let ip = slot.ip;
     if past {
         let tick = fault(tables, places, place, Cause::Bounds, Word::Int(0), Word::Int(0));
         return step(tick, number, None, None);
@@ -76,15 +79,22 @@ fn issue<M: Memory>(tables: &mut Tables, places: &Places, place: usize, mem: &mu
     ensures { (before : M) (u : Use) → TakesUses M.stands before mem.old (u ∷ []) → M.meaning mem.old ≡ M.meaning before → M.uses mem.old ≡ M.uses before + accesses (u ∷ []) →
         Gives M.meaning M.uses M.stands (issued tables.old (M.meaning before) (slot_in tables.old place) access u instr) before mem.new tables.new result }
 {
-    let slot = tables.slot(place);
-    let number = slot.number;
-    if tables.split() && lacks(&instr, slot) {
+    let number = tables.slot(place).number;
+    if must_wait(tables, place, &instr) {
         let _register = tables.deliver(place);
         tables.stand(place, SlotState::Running);
         return step(Tick::Blocked, number, Some(access), None);
     }
     let told = execute(tables, places, place, mem, &instr);
     end(tables, places, place, number, &instr, access, told)
+}
+
+// Whether a register that the instruction names waits for a load, in a split machine.
+fn must_wait(tables: &Tables, place: usize, instr: &Instr) -> bool
+    requires { place < length tables.now.rows }
+    ensures { result ≡ (tables.now.split && lacks instr.now (slot_in tables.now place)) }
+{
+    tables.split() && lacks(instr, tables.slot(place))
 }
 
 // The end of a turn: a slot that waits stands where it is, and one that faults goes to its handler.

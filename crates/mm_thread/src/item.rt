@@ -1,0 +1,64 @@
+//! The turn of an item: a running slot takes one, a port delivers, and any other item is idle.
+
+ghost use Rattle.std.specs.Prelude.{◌≡◌, ◌<◌, ◌^◌, ◌-◌, None, length};
+ghost use Rattle.std.specs.List.{AllByRecursion};
+ghost use Rattle.mm_model.specs.Slot.{Slot as SlotValue};
+ghost use Rattle.mm_model.specs.State.{slot_at};
+ghost use Rattle.mm_model.specs.Fits.{IsCore, slots_of};
+ghost use Rattle.mm_model.specs.Turn.{turn, taken_by_port, port_of, is_running};
+ghost use Rattle.mm_model.specs.Memory.{Memory as MemoryValue};
+ghost use Rattle.mm_thread.specs.Places.{numbers_in, IsIndex};
+ghost use Rattle.mm_thread.specs.Left.{Gives};
+
+use crate::fault::{Places, place_of};
+use crate::tables::Tables;
+use crate::turn::{start, step};
+use mm_mem::Memory;
+use mm_model::{Slot, SlotState, Step, Tick};
+
+/// The turn of an item.
+pub(crate) fn take_item<M: Memory>(tables: &mut Tables, places: &Places, mem: &mut M, item: u8) -> Step
+    requires whole { IsCore tables.old }
+    requires index { IsIndex (numbers_in tables.old) places.now }
+    requires turns { AllByRecursion (λ (s : SlotValue). s.turns < 2 ^ 61) (slots_of tables.old) }
+    requires room { M.uses mem.old < 2 ^ 61 }
+    ensures { Gives M.meaning M.uses M.stands (turn tables.old (M.meaning mem.old) item) mem.old mem.new tables.new result }
+{
+    match place_of(places, tables, u64::from(item)) {
+        None => take_port(tables, places, item),
+        Some(place) => {
+            if is_running(tables.slot(place)) {
+                start(tables, places, place, mem)
+            } else {
+                step(Tick::Idle, item, None, None)
+            }
+        }
+    }
+}
+
+/// Whether a slot takes turns.
+pub(crate) fn is_running(slot: &Slot) -> bool
+    ensures { result ≡ is_running slot.now.state }
+{
+    matches!(slot.state, SlotState::Running)
+}
+
+// The turn of an item that is no slot's number: in a split machine the items from 128 on are ports.
+fn take_port(tables: &mut Tables, places: &Places, item: u8) -> Step
+    requires whole { IsCore tables.old }
+    requires index { IsIndex (numbers_in tables.old) places.now }
+    ensures core { (m : MemoryValue) → tables.new ≡ (taken_by_port tables.old m item (port_of tables.old item)).core }
+    ensures step { (m : MemoryValue) → result ≡ (taken_by_port tables.old m item (port_of tables.old item)).step }
+{
+    if !tables.split() || item < 128 {
+        return step(Tick::Idle, item, None, None);
+    }
+    let slot = item - 128;
+    let Some(place) = place_of(places, tables, u64::from(slot)) else {
+        return step(Tick::Idle, item, None, None);
+    };
+    match tables.deliver(place) {
+        None => step(Tick::Idle, slot, None, None),
+        Some(register) => step(Tick::Delivered(register), slot, None, None),
+    }
+}
