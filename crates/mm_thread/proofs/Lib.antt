@@ -7,3 +7,4 @@ pub mod Cores
 pub mod Around
 pub mod Accesses
 pub mod Turns
+pub mod Items

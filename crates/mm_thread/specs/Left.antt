@@ -1,5 +1,5 @@
 -- What an instruction leaves of the machine, before its turn is ended.
-use Rattle.std.specs.Prelude.{◌≡◌, ℕ, ◌+◌, ◌<◌, ◌^◌, true, List, length, nat_lt, if◌then◌else◌, Option, Some, None, Result, Ok, Err}
+use Rattle.std.specs.Prelude.{◌≡◌, ℕ, ◌+◌, ◌<◌, ◌^◌, true, List, [], length, nat_lt, if◌then◌else◌, Option, Some, None, Result, Ok, Err}
 use Rattle.mm_word.specs.declared.cause.Cause.{Cause}
 use Rattle.mm_word.specs.declared.cause.Cause.TheVariants.{Bounds, NoPage, Sync, Priv}
 use Rattle.mm_word.specs.Word.{word_bits}
@@ -126,3 +126,10 @@ outcome_stored stores_as.NotReady = Fails Sync
 abbrev pub page_named : Slot → ℕ → Result ℕ Cause
 page_named s ra =
     if is_privileged s.ip.perm then (if nat_lt (word_bits (register s ra)) (2 ^ 42) then Ok (word_bits (register s ra)) else Err Bounds) else Err Priv
+
+-- a turn that asks nothing of a memory and leaves it as it is
+pub record AsksNothing (t : Turned) (m : Memory) (core' : Core) (step' : Step) : Type 0 where
+  pub core_is : core' ≡ t.core
+  pub memory_is : m ≡ t.memory
+  pub step_is : step' ≡ t.step
+  pub uses_are : t.uses ≡ []

@@ -1,14 +1,13 @@
 //! The turn of an item: a running slot takes one, a port delivers, and any other item is idle.
 
-ghost use Rattle.std.specs.Prelude.{◌≡◌, ◌<◌, ◌^◌, ◌-◌, None, length};
+ghost use Rattle.std.specs.Prelude.{◌≡◌, ◌<◌, ◌^◌, None, Some, IfSome, IfNone, length};
 ghost use Rattle.std.specs.List.{AllByRecursion};
 ghost use Rattle.mm_model.specs.Slot.{Slot as SlotValue};
-ghost use Rattle.mm_model.specs.State.{slot_at};
 ghost use Rattle.mm_model.specs.Fits.{IsCore, slots_of};
 ghost use Rattle.mm_model.specs.Turn.{turn, taken_by_port, port_of, is_running};
 ghost use Rattle.mm_model.specs.Memory.{Memory as MemoryValue};
-ghost use Rattle.mm_thread.specs.Places.{numbers_in, IsIndex};
-ghost use Rattle.mm_thread.specs.Left.{Gives};
+ghost use Rattle.mm_thread.specs.Places.{slot_in, numbers_in, IsIndex};
+ghost use Rattle.mm_thread.specs.Left.{Gives, AsksNothing};
 
 use crate::fault::{Places, place_of};
 use crate::tables::Tables;
@@ -43,22 +42,34 @@ pub(crate) fn is_running(slot: &Slot) -> bool
     matches!(slot.state, SlotState::Running)
 }
 
-// The turn of an item that is no slot's number: in a split machine the items from 128 on are ports.
+// The turn of an item that is no slot's number.
 fn take_port(tables: &mut Tables, places: &Places, item: u8) -> Step
     requires whole { IsCore tables.old }
     requires index { IsIndex (numbers_in tables.old) places.now }
-    ensures core { (m : MemoryValue) → tables.new ≡ (taken_by_port tables.old m item (port_of tables.old item)).core }
-    ensures step { (m : MemoryValue) → result ≡ (taken_by_port tables.old m item (port_of tables.old item)).step }
+    ensures { (m : MemoryValue) → AsksNothing (taken_by_port tables.old m item (port_of tables.old item)) m tables.new result }
 {
-    if !tables.split() || item < 128 {
-        return step(Tick::Idle, item, None, None);
-    }
-    let slot = item - 128;
-    let Some(place) = place_of(places, tables, u64::from(slot)) else {
+    let Some(place) = port_of(tables, places, item) else {
         return step(Tick::Idle, item, None, None);
     };
-    match tables.deliver(place) {
-        None => step(Tick::Idle, slot, None, None),
-        Some(register) => step(Tick::Delivered(register), slot, None, None),
+    let number = tables.slot(place).number;
+    let tick = match tables.deliver(place) {
+        Some(register) => Tick::Delivered(register),
+        None => Tick::Idle,
+    };
+    step(tick, number, None, None)
+}
+
+// The place of the slot whose port the item is: in a split machine the items from 128 on are ports.
+fn port_of(tables: &Tables, places: &Places, item: u8) -> Option<usize>
+    requires whole { IsCore tables.now }
+    requires index { IsIndex (numbers_in tables.now) places.now }
+    ensures within { IfSome result (λ p. p < length tables.now.rows) }
+    ensures port { IfSome result (λ p. port_of tables.now item ≡ Some (slot_in tables.now p)) }
+    ensures none { IfNone result (port_of tables.now item ≡ None) }
+{
+    if tables.split() && item >= 128 {
+        place_of(places, tables, u64::from(item - 128))
+    } else {
+        None
     }
 }
