@@ -11,7 +11,7 @@ use Rattle.mm_model.specs.declared.slot.Pending.{Pending}
 use Rattle.mm_model.specs.Slot.{Slot}
 use Rattle.mm_model.specs.State.{Row, Core}
 use Rattle.mm_model.specs.Spelling.{numbers_of}
-use Rattle.mm_model.specs.Fits.{slots_of}
+use Rattle.mm_model.specs.Fits.{slots_of, IsCore}
 
 -- what stands for a row where there is none
 abbrev pub no_slot : Slot
@@ -68,3 +68,8 @@ first_register (p ∷ ps) = Some p.reg
 -- the words of an event in four registers from rd on
 abbrev pub event_writes : ℕ → Event → List (ℕ × Word)
 event_writes rd e = (rd, Int (number_of e.cause + 256 * e.slot)) ∷ (rd + 1, Ptr e.ip) ∷ (rd + 2, e.addr_op) ∷ (rd + 3, e.value_op) ∷ []
+
+-- a core whose table of places is right
+pub record IsSound (core : Core) (places : List ℕ) : Type 0 where
+  pub whole : IsCore core
+  pub index : IsIndex (numbers_in core) places

@@ -11,7 +11,7 @@ ghost use Rattle.mm_thread.specs.Left.{Gives, AsksNothing};
 
 use crate::fault::{Places, place_of};
 use crate::tables::Tables;
-use crate::turn::{start, step};
+use crate::running::{start, step};
 use mm_mem::Memory;
 use mm_model::{Slot, SlotState, Step, Tick};
 

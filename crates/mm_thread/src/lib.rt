@@ -13,6 +13,10 @@ mod outcome;
 mod queue;
 mod reaching;
 mod row;
+mod running;
 mod slot;
+mod state;
 mod tables;
-mod turn;
+
+pub use mm_model::{Event, Pending, Slot, SlotState, Step, Tick};
+pub use state::{Core, turn};

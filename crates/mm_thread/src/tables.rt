@@ -1,4 +1,4 @@
-ghost use Rattle.std.specs.Prelude.{◌≡◌, ◌<◌, ◌^◌, ◌++◌, ◌&&◌, [], ◌∷◌, nat_lt, None, Some, Bool, true, length, drop, slice_set};
+ghost use Rattle.std.specs.Prelude.{◌≡◌, ◌<◌, ◌^◌, ◌++◌, ◌&&◌, [], ◌∷◌, nat_lt, None, Some, Bool, true, false, length, drop, slice_set};
 ghost use Rattle.std.specs.List.{AllByRecursion};
 ghost use Rattle.mm_word.specs.declared.word.Word.TheVariants.{Int};
 ghost use Rattle.mm_model.specs.declared.slot.Pending.{Pending};
@@ -37,6 +37,32 @@ impl Model for Tables {
     ghost Value = { Core };
 
     ghost view = { λ t. record { rows = t.rows.items; outputs = t.outputs.items; version = t.version; split = t.split } };
+}
+
+impl Tables {
+    /// Tables of these rows, of version 2 and not split.
+    pub(crate) fn new(rows: Vec<Row>, outputs: Vec<GroupOutput>) -> Tables
+        ensures { result ≡ record { rows = rows.items; outputs = outputs.items; version = 2; split = false } }
+    {
+        Tables {
+            rows,
+            outputs,
+            version: 2,
+            split: false,
+        }
+    }
+
+    pub(crate) fn set_split(&mut self, on: bool)
+        ensures { self.new ≡ record self.old { split = on } }
+    {
+        self.split = on;
+    }
+
+    pub(crate) fn set_version(&mut self, version: u16)
+        ensures { self.new ≡ record self.old { version = version } }
+    {
+        self.version = version;
+    }
 }
 
 // What is read.

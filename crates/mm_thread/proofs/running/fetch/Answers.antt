@@ -11,7 +11,7 @@ use Rattle.mm_model.specs.Turn.{Turned, fetched, decoded, instr_in}
 use Rattle.mm_thread.specs.Places.{slot_in}
 use Rattle.mm_thread.specs.Left.{Gives}
 use Rattle.mm_thread.proofs.Turns.{faults_give, fetched-none, fetched-some}
-use Rattle.mm_thread.proofs.turn.fetch.Goals as goal
+use Rattle.mm_thread.proofs.running.fetch.Goals as goal
 
 pub returns-in_default : goal.returns-in_default
 returns-in_default g c =

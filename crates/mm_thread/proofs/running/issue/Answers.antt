@@ -4,7 +4,7 @@ use Rattle.mm_thread.specs.Places.{slot_in}
 use Rattle.mm_thread.specs.Left.{step_ended}
 use Rattle.mm_thread.proofs.Cores.{own, registers_small}
 use Rattle.mm_thread.proofs.Turns.{can_end, issued_gives, issued_waits, turns-delivered}
-use Rattle.mm_thread.proofs.turn.issue.Goals as goal
+use Rattle.mm_thread.proofs.running.issue.Goals as goal
 
 pub deliver-register-requires-clause-registers : goal.deliver-register-requires-clause-registers
 deliver-register-requires-clause-registers g c =

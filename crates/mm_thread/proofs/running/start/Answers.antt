@@ -10,7 +10,7 @@ use Rattle.mm_model.specs.Uses.{takes_none}
 use Rattle.mm_model.specs.Turn.{started}
 use Rattle.mm_thread.specs.Places.{slot_in}
 use Rattle.mm_thread.proofs.Turns.{faults_give, starts_past, starts_unfetched, starts_fetched}
-use Rattle.mm_thread.proofs.turn.start.Goals as goal
+use Rattle.mm_thread.proofs.running.start.Goals as goal
 
 pub returns-then-past : goal.returns-then-past
 returns-then-past g c =
