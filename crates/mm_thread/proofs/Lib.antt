@@ -10,3 +10,5 @@ pub mod Turns
 pub mod Items
 pub mod Sound
 pub mod Exactly
+pub mod Fresh
+pub mod Placing

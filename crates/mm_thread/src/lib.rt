@@ -8,6 +8,7 @@ mod execute;
 mod fault;
 mod group_output;
 mod item;
+mod making;
 mod operands;
 mod outcome;
 mod queue;
