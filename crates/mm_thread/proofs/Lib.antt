@@ -12,3 +12,4 @@ pub mod Sound
 pub mod Exactly
 pub mod Fresh
 pub mod Placing
+pub mod RunningSlots

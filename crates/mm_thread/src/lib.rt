@@ -14,6 +14,7 @@ mod outcome;
 mod queue;
 mod reaching;
 mod row;
+mod runners;
 mod running;
 mod slot;
 mod state;

@@ -1,5 +1,7 @@
-ghost use Rattle.std.specs.Prelude.{◌≡◌, ℕ, ◌+◌, ◌<◌, ◌≤◌, ◌^◌, ◌⊎◌, false, [], length, map, replicate, IfOk, slice_get};
+ghost use Rattle.std.specs.Prelude.{◌≡◌, ℕ, ◌+◌, ◌<◌, ◌≤◌, ◌^◌, ◌⊎◌, false, [], length, map, replicate, IfOk, IsSomeAnd, slice_get, ◌↔◌};
+ghost use Rattle.std.specs.Int.{IsBitSet};
 ghost use Rattle.std.specs.Option.{option_copied};
+ghost use Rattle.mm_model.specs.declared.slot.SlotState.TheVariants.{Running};
 ghost use Rattle.std.specs.List.{AllByRecursion};
 ghost use Rattle.std.specs.List.Sorted.{IsStrictlyIncreasing};
 ghost use Rattle.mm_model.specs.Spelling.{numbers_of, IsFresh};
@@ -15,6 +17,7 @@ ghost use Rattle.mm_thread.specs.Told.{accesses_in, accesses_told};
 use crate::fault::{Places, place_of};
 use crate::item::take_item;
 use crate::making::{no_outputs, places_of, rows_of};
+use crate::runners::runners_of;
 use crate::tables::Tables;
 use mm_mem::Memory;
 use mm_model::{Event, Slot, Step};
@@ -105,6 +108,13 @@ impl Core {
             Some(place) => Some(self.tables.slot(place)),
             None => None,
         }
+    }
+
+    /// The running slots: bit n is set exactly where slot n runs.
+    pub fn running(&self) -> u64
+        ensures { (n : ℕ) → n < 64 → (IsBitSet result n ↔ IsSomeAnd (slot_at self.now n) (λ s. s.state ≡ Running)) }
+    {
+        runners_of(&self.tables, &self.places)
     }
 
     /// The events that the slot of a number has still to handle, oldest first.
