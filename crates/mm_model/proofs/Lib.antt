@@ -7,3 +7,10 @@ pub mod SlotSteps
 pub mod CoreSteps
 pub mod EffectSteps
 pub mod TurnKeeps
+pub mod TurnShapes
+pub mod EffectWords
+pub mod StateKeeps
+pub mod TurnBounds
+pub mod Starts
+pub mod Shortness
+pub mod ImageBytes

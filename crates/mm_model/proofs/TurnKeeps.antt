@@ -84,6 +84,11 @@ unfolding lacks
 fields_free version true s i h e = none_passes (is_empty s) (fields_d i) (first_false (list_any (is_empty s) (fields_d i)) (or (field_empty s (field_a i)) (field_empty s (field_b i))) e)
 fields_free version false s i h e = each_of (λ (r : ℕ). is_empty s r ≡ false) (none_waits version s h) (fields_d i)
 
+-- what an instruction does keeps the core whole
+pub row_keeps : (core : Core) → IsCore core → (s : Slot) → slot_at core s.number ≡ Some s → (m : Memory) (i : Instr) → IsInstr i → (core.split && lacks i s) ≡ false → EffectKeeps core s (effect core.split i s (reply core m s.number (ask i s)))
+row_keeps core h s at m i instr e =
+    effect_keeps core h s at m i (fields_free core.version core.split s i (slot_has (IsSlot core.version core.split) core s.number s h.slots at) e) (fields_small i instr)
+
 -- 2. What the slot itself goes on to be.
 
 rests_after : (b : Bool) → (is_waiting (state_after b) ≡ false) × (is_handled (state_after b) ≡ false)
@@ -170,7 +175,7 @@ module _ (core : Core) (h : IsCore core) (s : Slot) (at : slot_at core s.number 
       (waits_not ∙ sym (ap is_waiting from.state ∙ (rests_after c.halts).0)))
 
   -- another slot, that does not run, is put
-  still_there : (o : Slot) (r : Replaces core o) → is_running r.old.state ≡ false → slot_at (put_slot core o) s.number ≡ Some s
+  pub still_there : (o : Slot) (r : Replaces core o) → is_running r.old.state ≡ false → slot_at (put_slot core o) s.number ≡ Some s
   still_there o r runs_not =
       slot_at-put_other core o s.number
       (λ same.
@@ -284,13 +289,10 @@ module _ (core : Core) (h : IsCore core) (s : Slot) (at : slot_at core s.number 
   unfolding issued executed
   issued_keeps m f u i instr = by (core.split && lacks i s) refl
     where
-      own : IsSlot core.version core.split s
-      own = slot_has (IsSlot core.version core.split) core s.number s h.slots at
-
       by : (b : Bool) → (core.split && lacks i s) ≡ b → Keeps core (if b then blocked core m (delivered s) f None (u ∷ []) else executed core m s f u i).core
       by true e = lacking_keeps m f (u ∷ [])
       by false e = ended_keeps m i f (touch_of (ask i s)) (u ∷ asked_use m (ask i s)) (effect core.split i s (reply core m s.number (ask i s)))
-          (effect_keeps core h s at m i (fields_free core.version core.split s i own e) (fields_small i instr))
+          (row_keeps core h s at m i instr e)
 
   decoded_keeps : (m : Memory) (f : Touch) (u : Use) (w : Word) → Keeps core (decoded core m s f u (instr_in w)).core
   decoded_keeps m f u (Ptr p) = fault_keeps core h s at running m Illegal (Int 0) (Int 0) (Some f) None (u ∷ [])
