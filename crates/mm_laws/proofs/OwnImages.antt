@@ -52,7 +52,7 @@ module _ {A : Type 0} (p : A → Bool) where
   ]
 
 -- numbers of slots that rise
-abbrev Ascends : List Slot → Type 0
+abbrev pub Ascends : List Slot → Type 0
 Ascends [] = Unit {0}
 Ascends (s ∷ slots) = AllByRecursion (λ (x : Slot). s.number < x.number) slots × Ascends slots
 
@@ -66,7 +66,7 @@ rest_rises x xs h k lt =
     let before : slice_index (x ∷ xs) (suc k) < slice_index (x ∷ xs) (suc k + 1) = h (suc k) (omega arith) in
     rw next at before
 
-ascends : (slots : List Slot) → IsStrictlyIncreasing (numbers_of slots) → Ascends slots
+pub ascends : (slots : List Slot) → IsStrictlyIncreasing (numbers_of slots) → Ascends slots
 ascends [] h = tt
 ascends (s ∷ slots) h = (numbers_above s.number slots (above_first s.number (numbers_of slots) h), ascends slots (rest_rises s.number (numbers_of slots) h))
 
