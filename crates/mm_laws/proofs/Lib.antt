@@ -1,3 +1,11 @@
+mod RunStates
+mod GrantLaws
+mod CountSums
+mod Restricting
+mod Robins
+mod Texts
+mod Spellings
+mod CountExact
 pub mod GrantedWords
 pub mod GrantedRows
 pub mod GrantedTurns

@@ -4,5 +4,11 @@
 //! definition that is wrong breaks one of them.
 #![tactic(auto)]
 
+pub mod counts;
+pub mod grants;
+pub mod images;
+pub mod restrictions;
+pub mod schedules;
+pub mod states;
 pub mod granted;
 pub mod isolated;

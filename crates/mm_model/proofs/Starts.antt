@@ -7,8 +7,8 @@ use Rattle.mm_model.specs.declared.slot.SlotState.{SlotState}
 use Rattle.mm_model.specs.declared.slot.SlotState.TheVariants.{Running, Waiting, Taken, Halted}
 use Rattle.mm_model.specs.declared.slot.Pending.{Pending}
 use Rattle.mm_model.specs.Slot.{Slot, is_empty}
-use Rattle.mm_model.specs.State.{Row, row_in, queue_of, slot_at, queue_at, output_of}
-use Rattle.mm_model.specs.Image.{Image, slot_limit, output_limit, start}
+use Rattle.mm_model.specs.State.{Row, row_in, slot_of, queue_of, slot_at, queue_at, output_of}
+use Rattle.mm_model.specs.Image.{Image, slot_in, slot_limit, output_limit, start}
 use Rattle.mm_model.specs.Spelling.{Begins, numbers_of, IsOther, IsFresh, IsImage}
 use Rattle.mm_model.specs.Fits.{one_if, loads_for, is_handled, is_waiting, waits_for, events_of, slots_of, identity_of, IsAtSlot, IsSlot, IsCore, SlotHoldsWords, RowHoldsWords, Fits, TurnsWithin}
 use Rattle.mm_model.proofs.CoreRows.{each_map, slot_has}
@@ -29,7 +29,20 @@ no_queue (s ∷ slots) n = by (nat_eq s.number n) (no_queue slots n)
     by true rest = refl
     by false rest = rest
 
-start_slots : (i : Image) → slots_of (start i).core ≡ i.slots
+slot_alone : (slots : List Slot) (n : ℕ) → slot_of (row_in (map alone slots) n) ≡ slot_in slots n
+slot_alone [] n = refl
+slot_alone (s ∷ slots) n = by (nat_eq s.number n) (slot_alone slots n)
+  where
+    by : (b : Bool) → slot_of (row_in (map alone slots) n) ≡ slot_in slots n → slot_of (if b then Some (alone s) else row_in (map alone slots) n) ≡ (if b then Some s else slot_in slots n)
+    by true rest = refl
+    by false rest = rest
+
+-- the machine starts with the image's slots
+pub start_at : (i : Image) (n : ℕ) → slot_at (start i).core n ≡ slot_in i.slots n
+unfolding start slot_at
+start_at i n = slot_alone i.slots n
+
+pub start_slots : (i : Image) → slots_of (start i).core ≡ i.slots
 unfolding start
 start_slots i = slots_alone i.slots
 

@@ -175,7 +175,7 @@ module _ (core : Core) (h : IsCore core) (s : Slot) (at : slot_at core s.number 
       (waits_not ∙ sym (ap is_waiting from.state ∙ (rests_after c.halts).0)))
 
   -- another slot, that does not run, is put
-  still_there : (o : Slot) (r : Replaces core o) → is_running r.old.state ≡ false → slot_at (put_slot core o) s.number ≡ Some s
+  pub still_there : (o : Slot) (r : Replaces core o) → is_running r.old.state ≡ false → slot_at (put_slot core o) s.number ≡ Some s
   still_there o r runs_not =
       slot_at-put_other core o s.number
       (λ same.

@@ -3,3 +3,4 @@ pub mod Items
 pub mod Clashes
 pub mod Texts
 pub mod Bits
+pub mod Rounds
