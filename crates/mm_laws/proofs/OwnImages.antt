@@ -17,7 +17,7 @@ use Rattle.mm_model.specs.Reach.{Entries, Grants, Serves}
 use Rattle.mm_model.specs.Reach.Grants.{below}
 use Rattle.mm_model.specs.Reach.Entries.{All}
 use Rattle.mm_model.specs.Worlds.{Touchable, Apart, Extracts, alone}
-use Rattle.mm_model.proofs.CoreRows.{each_map, each_both, above_first}
+use Rattle.mm_model.proofs.CoreRows.{each_map, each_both, above_first, rest_rises}
 use Rattle.mm_model.proofs.EffectWords.{cell_words}
 use Rattle.mm_model.proofs.Memories.{page_whole}
 use Rattle.mm_laws.specs.Isolated.{HasSlot, AgreeApart}
@@ -59,12 +59,6 @@ Ascends (s ∷ slots) = AllByRecursion (λ (x : Slot). s.number < x.number) slot
 numbers_above : (n : ℕ) (slots : List Slot) → AllByRecursion (λ y. n < y) (numbers_of slots) → AllByRecursion (λ (x : Slot). n < x.number) slots
 numbers_above n [] h = tt
 numbers_above n (s ∷ slots) h = (h.0, numbers_above n slots h.1)
-
-rest_rises : (x : ℕ) (xs : List ℕ) → IsStrictlyIncreasing (x ∷ xs) → IsStrictlyIncreasing xs
-rest_rises x xs h k lt =
-    let next : suc k + 1 ≡ suc (k + 1) = omega arith in
-    let before : slice_index (x ∷ xs) (suc k) < slice_index (x ∷ xs) (suc k + 1) = h (suc k) (omega arith) in
-    rw next at before
 
 pub ascends : (slots : List Slot) → IsStrictlyIncreasing (numbers_of slots) → Ascends slots
 ascends [] h = tt
