@@ -1,11 +1,7 @@
-//! Machines: slots over a memory, cycle by cycle, and their snapshots.
+//! Machines: slots over a memory, cycle by cycle.
 #![tactic(auto)]
 
 mod machine;
-mod snapshot;
-#[cfg(test)]
-mod tests;
 
 pub use machine::Machine;
-pub use mm_thread::{Event, Output, Slot, SlotState, Step, Tick};
-pub use snapshot::Snapshot;
+pub use mm_thread::{Event, Pending, Slot, SlotState, Step, Tick};

@@ -21,7 +21,8 @@ pub struct Machine<M: Memory> {
 }
 
 impl<M: Memory> Machine<M> {
-    ghost use Rattle.std.specs.Prelude.{◌≡◌, ◌↔◌, ℕ, ◌+◌, ◌<◌, ◌≤◌, ◌^◌, [], ◌∷◌, ◌++◌, true, List, IfOk};
+    ghost use Rattle.std.specs.Prelude.{◌≡◌, ◌↔◌, ℕ, ◌+◌, ◌<◌, ◌≤◌, ◌^◌, [], ◌∷◌, ◌++◌, true, List, length, slice_get, IfOk, Some};
+    ghost use Rattle.mm_model.specs.Fits.{slots_of};
     ghost use Rattle.std.specs.Option.{option_copied};
     ghost use Rattle.std.specs.Int.{bit_at};
     ghost use Rattle.mm_model.specs.Memory.{IsPaged, cell_at};
@@ -89,6 +90,21 @@ impl<M: Memory> Machine<M> {
         ensures { option_copied result ≡ slot_at (state_of self.now).core n }
     {
         self.core.slot(n)
+    }
+
+    /// How many slots there are.
+    pub fn slot_count(&self) -> usize
+        ensures { result ≡ length (slots_of (state_of self.now).core) }
+    {
+        self.core.count()
+    }
+
+    /// The i-th slot, by ascending number.
+    pub fn nth_slot(&self, i: usize) -> &Slot
+        requires { i < length (slots_of (state_of self.now).core) }
+        ensures { slice_get (slots_of (state_of self.now).core) i ≡ Some result.now }
+    {
+        self.core.nth(i)
     }
 
     /// What a group has put out. A group without a slot has put out nothing.
