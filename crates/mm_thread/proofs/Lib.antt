@@ -8,3 +8,5 @@ pub mod Around
 pub mod Accesses
 pub mod Turns
 pub mod Items
+pub mod Sound
+pub mod Exactly
