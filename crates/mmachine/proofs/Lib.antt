@@ -1,5 +1,1 @@
 pub mod Verdicts
-pub mod Clashes
-pub mod OneSection
-pub mod OneRobin
-pub mod OneRun
