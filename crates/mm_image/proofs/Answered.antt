@@ -1,5 +1,5 @@
 -- What an answer of the reader says of the bytes.
-use Rattle.std.proofs.Common.{◌≡◌, ℕ, List, get_or, ◌<◌, Option, Some, None, Result, Ok, Err, refl, sym, ap, subst, ◌∙◌}
+use Rattle.std.proofs.Common.{◌≡◌, ℕ, List, Some, None, Result, Ok, Err, refl, sym, subst, ◌∙◌}
 use Rattle.std.specs.Prelude.{IfOk}
 use Rattle.mm_model.specs.Image.{Image}
 use Rattle.mm_model.specs.ImageFaults.{image_fault}

@@ -1,7 +1,7 @@
 -- Bits of bytes.
-use Rattle.std.proofs.Common.{◌≡◌, ℕ, ◌+◌, ◌/◌, ◌%◌, ◌^◌, ◌<◌, ◌≤◌, Bool, List, length, get_or, None, refl, sym, ap, ◌∙◌, arith}
+use Rattle.std.proofs.Common.{◌≡◌, ℕ, ◌+◌, ◌/◌, ◌%◌, ◌^◌, ◌<◌, List, length, get_or, None, sym, ap, arith}
 use Rattle.std.specs.Prelude.{◌==◌}
-use Rattle.mm_image.specs.Fields.{short, field, bit}
+use Rattle.mm_image.specs.Fields.{short, bit}
 use Rattle.mm_image.proofs.Numbers.{whole, field_1}
 
 -- the byte of a bit is there

@@ -1,11 +1,11 @@
 -- What is known of parts without a fault.
-use Rattle.std.proofs.Common.{◌≡◌, ℕ, zero, suc, ◌+◌, ◌*◌, ◌-◌, ◌^◌, ◌<◌, ◌≤◌, Bool, true, false, not, nat_lt, List, length, Option, Some, None, refl, sym, ap, subst, ◌∙◌, arith}
-use Rattle.std.specs.Prelude.{◌&&◌, ◌||◌, ◌==◌, nat_le}
+use Rattle.std.proofs.Common.{◌≡◌, ℕ, ◌+◌, ◌-◌, ◌^◌, ◌<◌, ◌≤◌, Bool, true, false, not, nat_lt, List, length, Option, None, refl, arith}
+use Rattle.std.specs.Prelude.{◌||◌, ◌==◌, nat_le}
 use Rattle.std.proofs.lemmas.Bool.Decides.{nat_tests}
 use Rattle.mm_model.specs.Image.{slot_limit, frame_limit}
-use Rattle.mm_image.specs.Fields.{earlier, first_over, bad, short, field, bit}
-use Rattle.mm_image.specs.Reading.{is_magic, header_fault, is_bad_ip, ip_fault, word_fault, register_fault, registers_fault, slot_record_fault, slot_fault, least_slot, slot_offset, cell_fault, cells_fault, page_record_fault, page_fault, least_page, page_offset}
-use Rattle.mm_image.proofs.Chain.{both_clean, is_right, each_clean}
+use Rattle.mm_image.specs.Fields.{short, field}
+use Rattle.mm_image.specs.Reading.{is_magic, header_fault, ip_fault, registers_fault, slot_record_fault, cells_fault, page_record_fault}
+use Rattle.mm_image.proofs.Chain.{both_clean, is_right}
 use Rattle.mm_image.proofs.Numbers.{whole}
 
 abbrev Found : Type 0

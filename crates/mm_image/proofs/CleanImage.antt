@@ -1,5 +1,5 @@
 -- Bytes without a fault spell the image that is read from them.
-use Rattle.std.proofs.Common.{◌≡◌, ℕ, zero, suc, ◌+◌, ◌*◌, ◌-◌, ◌^◌, ◌<◌, ◌≤◌, Bool, true, false, not, List, [], ◌∷◌, ◌++◌, length, get_or, take, drop, map, None, refl, sym, ap, subst, ◌∙◌, arith, inl, inr, eqb-true}
+use Rattle.std.proofs.Common.{◌≡◌, ℕ, zero, suc, ◌+◌, ◌*◌, ◌<◌, ◌≤◌, Bool, true, false, List, ◌++◌, length, get_or, take, map, None, refl, sym, ap, subst, ◌∙◌, arith, inl, inr, eqb-true}
 use Rattle.std.specs.Prelude.{◌==◌, ◌||◌, codes, IsTrue, ◌⊎◌, slice_index}
 use Rattle.std.specs.List.{flat_map, range_with_len, AllByRecursion}
 use Rattle.std.specs.List.Sorted.{IsStrictlyIncreasing}
@@ -11,12 +11,11 @@ use Rattle.std.proofs.lemmas.List.{take_all}
 use Rattle.std.proofs.lemmas.List.Folds.{flat_map-map}
 use Rattle.std.proofs.lemmas.List.FromFn.{length-map-range_with_len, get_or-map-range_with_len}
 use Rattle.std.proofs.lemmas.Slice.Eq.{bytes_eq-Decides}
-use Rattle.mm_word.specs.declared.word.Cell.{Cell}
-use Rattle.mm_model.specs.Memory.{IsPage, IsPaged}
+use Rattle.mm_model.specs.Memory.{IsPage}
 use Rattle.mm_model.specs.Slot.{Slot}
-use Rattle.mm_model.specs.Image.{Image, slot_limit, frame_limit}
+use Rattle.mm_model.specs.Image.{slot_limit}
 use Rattle.mm_model.specs.Spelling.{numbers_of, IsFresh, IsImage, HoldsWords, mode_of, slot_record, page_record, header, spelling, Spells}
-use Rattle.mm_image.specs.Fields.{short, field, first_over}
+use Rattle.mm_image.specs.Fields.{field}
 use Rattle.mm_image.specs.Reading.{header_fault, slot_at, slot_fault, slots_at, slots_fault, least_slot, slot_offset, handler_fault, handlers_fault, is_bad_handler, page_at, page_fault, pages_at, pages_fault, least_page, page_offset, end_fault, read_fault, image_of}
 use Rattle.mm_image.proofs.Chain.{both_clean, is_right, each_clean}
 use Rattle.mm_image.proofs.Clean.{IsCleanHeader, clean_header, is_above, is_not}

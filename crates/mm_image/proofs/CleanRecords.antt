@@ -1,22 +1,18 @@
 -- Records without a fault are spelled by their bytes.
-use Rattle.std.proofs.Common.{◌≡◌, ◌≢◌, ℕ, zero, suc, ◌+◌, ◌*◌, ◌-◌, ◌^◌, ◌<◌, ◌≤◌, Bool, true, false, not, cond, List, [], ◌∷◌, ◌++◌, length, get_or, map, Option, Some, None, refl, sym, ap, ◌∙◌, arith, inl, inr, eqb-true}
+use Rattle.std.proofs.Common.{◌≡◌, ◌≢◌, ℕ, suc, ◌+◌, ◌<◌, ◌≤◌, Bool, true, false, not, cond, List, [], ◌∷◌, ◌++◌, length, map, Option, Some, None, refl, sym, ap, ◌∙◌, arith, eqb-true}
 use Rattle.std.specs.Prelude.{◌==◌, ◌||◌, IfSome, Contains}
-use Rattle.std.specs.List.{list_any, AllByRecursion}
 use Rattle.std.specs.Int.{w16, w64, to_be_bytes}
-use Rattle.std.proofs.lemmas.Bool.Decides.{nat_tests}
 use Rattle.mm_word.specs.declared.word.Cell.{Cell}
-use Rattle.mm_word.specs.Word.{is_pointer, IsWord}
-use Rattle.mm_word.specs.Pointer.{pointer_of, bits_of}
-use Rattle.mm_model.specs.declared.slot.SlotState.{SlotState}
+use Rattle.mm_word.specs.Word.{is_pointer}
+use Rattle.mm_word.specs.Pointer.{bits_of}
 use Rattle.mm_model.specs.declared.slot.SlotState.TheVariants.{Running, Halted}
 use Rattle.mm_model.specs.Flags.{number_of_flags}
 use Rattle.mm_model.specs.Memory.{IsPage}
 use Rattle.mm_model.specs.Slot.{Slot}
 use Rattle.mm_model.specs.Spelling.{Begins, IsOther, IsFresh, HoldsWords, handler_byte, state_byte, words_spelling, bitmap, slot_record, page_record}
-use Rattle.mm_image.specs.Fields.{short, field}
-use Rattle.mm_image.specs.Reading.{has_number, is_bad_handler, registers_at, slot_record_at, slot_record_fault, cells_at, page_record_at, page_record_fault}
-use Rattle.mm_image.proofs.Chain.{both_clean}
-use Rattle.mm_image.proofs.Clean.{IsCleanSlot, clean_slot, IsCleanPage, clean_page, neither, not_not, is_not}
+use Rattle.mm_image.specs.Fields.{field}
+use Rattle.mm_image.specs.Reading.{has_number, is_bad_handler, slot_record_at, slot_record_fault, cells_at, page_record_at, page_record_fault}
+use Rattle.mm_image.proofs.Clean.{IsCleanSlot, clean_slot, clean_page, neither, not_not, is_not}
 use Rattle.mm_image.proofs.Parts.{IsBytes, part, join_at, one_byte, two_bytes, eight_bytes}
 use Rattle.mm_image.proofs.CleanWords.{IsSpelledIp, ip_clean, AreSpelledRegisters, registers_clean, AreSpelledCells, cells_clean}
 

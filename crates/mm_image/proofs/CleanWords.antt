@@ -1,22 +1,21 @@
 -- Words without a fault are spelled by their bytes.
-use Rattle.std.proofs.Common.{◌≡◌, ℕ, zero, suc, ◌+◌, ◌*◌, ◌-◌, ◌/◌, ◌%◌, ◌^◌, ◌<◌, ◌≤◌, Bool, true, false, not, List, [], ◌∷◌, ◌++◌, length, map, None, refl, sym, ap, ◌∙◌, arith}
-use Rattle.std.specs.Prelude.{◌&&◌, ◌==◌, is_some}
-use Rattle.std.specs.List.{flat_map, range_with_len, AllByRecursion}
+use Rattle.std.proofs.Common.{◌≡◌, ℕ, ◌+◌, ◌*◌, ◌/◌, ◌%◌, ◌^◌, ◌<◌, ◌≤◌, Bool, true, false, List, length, map, None, refl, ap, ◌∙◌, arith}
+use Rattle.std.specs.Prelude.{◌==◌, is_some}
+use Rattle.std.specs.List.{range_with_len, AllByRecursion}
 use Rattle.std.specs.Int.{w64, to_be_bytes}
 use Rattle.std.proofs.lemmas.Bool.{leb-true}
 use Rattle.std.proofs.lemmas.Bool.Decides.{nat_tests}
 use Rattle.std.proofs.lemmas.List.Folds.{flat_map-map}
 use Rattle.std.proofs.lemmas.List.FromFn.{length-map-range_with_len}
 use Rattle.mm_word.specs.declared.word.Word.{Word}
-use Rattle.mm_word.specs.declared.word.Word.TheVariants.{Int, Ptr}
 use Rattle.mm_word.specs.declared.word.Cell.{Cell}
 use Rattle.mm_word.specs.Perm.{perm_of, can_fetch}
-use Rattle.mm_word.specs.Pointer.{Pointer, IsWellFormed, SpellsPointer, spells_pointer, pointer_of, bits_of}
+use Rattle.mm_word.specs.Pointer.{IsWellFormed, SpellsPointer, spells_pointer, pointer_of, bits_of}
 use Rattle.mm_word.specs.PointerBits.{bits_of-pointer_of}
 use Rattle.mm_word.specs.Word.{IsWord, is_pointer, word_bits}
 use Rattle.mm_model.specs.Flags.{number_of_flags}
 use Rattle.mm_model.specs.Spelling.{words_spelling, bitmap}
-use Rattle.mm_image.specs.Fields.{earlier, first_over, bad, short, field, bit}
+use Rattle.mm_image.specs.Fields.{field, bit}
 use Rattle.mm_image.specs.Reading.{word_at, word_fault, ip_fault, register_at, register_fault, registers_at, registers_fault, page_cell_at, cell_fault, cells_at, cells_fault}
 use Rattle.mm_image.proofs.Numbers.{whole}
 use Rattle.mm_image.proofs.Chain.{both_clean, is_right, each_clean}

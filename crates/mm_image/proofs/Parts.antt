@@ -1,15 +1,14 @@
 -- Parts of bytes: so many from a place on.
-use Rattle.std.proofs.Common.{◌≡◌, ℕ, zero, suc, ◌+◌, ◌*◌, ◌-◌, ◌^◌, ◌<◌, ◌≤◌, List, [], ◌∷◌, ◌++◌, length, get_or, take, drop, map, None, refl, sym, ap, subst, ◌∙◌, arith, inl, inr}
+use Rattle.std.proofs.Common.{◌≡◌, ℕ, zero, suc, ◌+◌, ◌*◌, ◌-◌, ◌^◌, ◌<◌, ◌≤◌, List, [], ◌∷◌, ◌++◌, length, take, drop, sym, ap, ◌∙◌, arith, inl, inr}
 use Rattle.std.specs.List.{flat_map, range_with_len}
 use Rattle.std.specs.Int.{w16, w32, w64, from_be_bytes, to_be_bytes}
 use Rattle.std.proofs.Math.Seq.{take-add}
 use Rattle.std.proofs.lemmas.Bool.{cases_lt}
-use Rattle.std.proofs.lemmas.List.{drop-drop, drop_more, length-take, length-drop, get_or-take, get_or-drop, get_or_past, take-take, take-append-drop, drop-take}
+use Rattle.std.proofs.lemmas.List.{drop-drop, drop_more, length-take, length-drop, get_or-take, get_or-drop, get_or_past, take-take, drop-take}
 use Rattle.std.proofs.lemmas.Nat.{be_bytes_2, be_bytes_4, be_bytes_8}
-use Rattle.mm_model.specs.ImageFaults.{number_at}
 pub use Rattle.mm_image.specs.Fields.{IsBytes}
-use Rattle.mm_image.specs.Fields.{short, field}
-use Rattle.mm_image.proofs.Numbers.{whole, number_is_2, number_is_4, number_is_8, field_1}
+use Rattle.mm_image.specs.Fields.{field}
+use Rattle.mm_image.proofs.Numbers.{number_is_2, number_is_4, number_is_8, field_1}
 
 abbrev pub part : List ℕ → ℕ → ℕ → List ℕ
 part bytes at size = take size (drop at bytes)

@@ -1,16 +1,13 @@
 -- The reader's first fault is that of the list of places.
-use Rattle.std.proofs.Common.{◌≡◌, ℕ, zero, suc, ◌+◌, ◌*◌, ◌-◌, ◌/◌, ◌%◌, ◌^◌, ◌<◌, ◌≤◌, Bool, true, false, cond, not, nat_eq, nat_lt, List, [], ◌∷◌, ◌++◌, map, length, take, Option, Some, None, refl, sym, ap, ◌∙◌, arith}
-use Rattle.std.specs.Prelude.{◌&&◌, ◌||◌, ◌==◌, nat_le, codes}
-use Rattle.std.specs.List.{flat_map, range_with_len, list_any}
+use Rattle.std.proofs.Common.{◌≡◌, ℕ, zero, suc, ◌+◌, ◌^◌, Bool, false, nat_lt, List, map, Option, refl, sym, ap, ◌∙◌, arith}
+use Rattle.std.specs.Prelude.{◌||◌, nat_le}
+use Rattle.std.specs.List.{range_with_len}
 use Rattle.std.proofs.lemmas.Bool.Decides.{nat_tests}
-use Rattle.mm_model.specs.declared.slot.SlotState.TheVariants.{Running, Halted}
-use Rattle.mm_model.specs.Slot.{Slot}
 use Rattle.mm_model.specs.Image.{slot_limit}
-use Rattle.mm_model.specs.ImageFaults.{Place, first_bad, number_at, version_of, slots_of, slot_place, page_place, does_not_rise, register_place, header_places, slot_places, handler_place, cell_place, page_places, end_place, places, image_fault}
-use Rattle.mm_image.specs.Fields.{earlier, first_over, bad, short, field, bit}
-use Rattle.mm_image.specs.Reading.{header_fault, word_fault, register_fault, registers_fault, slot_record_fault, slot_fault, slots_fault, least_slot, slot_offset, slots_at, slot_at, is_bad_handler, has_number, handler_fault, handlers_fault, cell_fault, cells_fault, page_record_fault, page_fault, pages_fault, least_page, page_offset, end_fault, ip_fault, read_fault}
-use Rattle.mm_image.proofs.Numbers.{whole, is_whole}
-use Rattle.mm_image.proofs.Chain.{earlier-none, earlier-assoc, earlier-same, both_clean, clean_both, is_right, right, each_clean, clean_each, first_over-same, place_fault, places_fault, places-cons, places-append, places-map, places-flat_map, place-untested, HasFault, chain, chain_last, chain_untested, chain_whole}
+use Rattle.mm_model.specs.ImageFaults.{number_at, version_of, slots_of, slot_place, page_place, does_not_rise, register_place, header_places, slot_places, cell_place, page_places}
+use Rattle.mm_image.specs.Fields.{earlier, bad, short, field}
+use Rattle.mm_image.specs.Reading.{header_fault, word_fault, registers_fault, slot_fault, least_slot, slot_offset, cells_fault, page_fault, least_page, page_offset, ip_fault}
+use Rattle.mm_image.proofs.Chain.{places_fault, places-map, HasFault, chain, chain_last, chain_untested, chain_whole}
 
 abbrev Found : Type 0
 Found = Option (ℕ × ℕ)

@@ -1,8 +1,7 @@
 -- Bytes that spell an image have no fault, and the image is read from them.
-use Rattle.std.proofs.Common.{◌≡◌, ◌≢◌, ℕ, zero, suc, ◌+◌, ◌*◌, ◌-◌, ◌^◌, ◌<◌, ◌≤◌, Bool, true, false, not, cond, nat_lt, List, [], ◌∷◌, ◌++◌, length, get_or, take, drop, map, None, refl, sym, ap, subst, ◌∙◌, arith, inl, inr}
+use Rattle.std.proofs.Common.{◌≡◌, ℕ, zero, suc, ◌+◌, ◌*◌, ◌-◌, ◌^◌, ◌<◌, ◌≤◌, Bool, true, false, not, cond, nat_lt, List, [], ◌∷◌, ◌++◌, length, get_or, take, drop, map, None, refl, sym, ap, ◌∙◌, arith, inl, inr}
 use Rattle.std.specs.Prelude.{◌==◌, ◌||◌, nat_le, codes, IsTrue, ◌⊎◌, slice_index, IfSome}
 use Rattle.std.specs.List.{flat_map, range_with_len, AllByRecursion}
-use Rattle.std.specs.List.Sorted.{IsStrictlyIncreasing}
 use Rattle.std.specs.Int.{w16, w32, w64, to_be_bytes}
 use Rattle.std.specs.Str.{bytes_eq}
 use Rattle.std.proofs.lemmas.Bool.Decides.{nat_tests}
@@ -13,19 +12,19 @@ use Rattle.mm_word.specs.declared.word.Cell.{Cell}
 use Rattle.mm_word.specs.Word.{is_pointer, word_bits}
 use Rattle.mm_word.specs.Pointer.{bits_of}
 use Rattle.mm_model.specs.Flags.{number_of_flags}
-use Rattle.mm_model.specs.Memory.{Memory, IsPage, IsPaged}
+use Rattle.mm_model.specs.Memory.{IsPage}
 use Rattle.mm_model.specs.Slot.{Slot}
 use Rattle.mm_model.specs.Image.{Image, slot_limit, frame_limit}
-use Rattle.mm_model.specs.Spelling.{numbers_of, IsFresh, IsImage, HoldsWords, mode_of, handler_byte, state_byte, words_spelling, bitmap, slot_record, page_record, header, spelling, Spells}
-use Rattle.mm_image.specs.Fields.{short, field, first_over, bad}
-use Rattle.mm_image.specs.Reading.{header_fault, slot_at, slot_record_at, slot_fault, slots_at, slots_fault, least_slot, slot_offset, handler_fault, handlers_fault, is_bad_handler, page_at, page_fault, pages_at, pages_fault, least_page, page_offset, end_fault, read_fault, image_of, is_magic}
+use Rattle.mm_model.specs.Spelling.{numbers_of, IsFresh, IsImage, HoldsWords, mode_of, handler_byte, state_byte, words_spelling, bitmap, slot_record, page_record, header, spelling}
+use Rattle.mm_image.specs.Fields.{field}
+use Rattle.mm_image.specs.Reading.{header_fault, slot_at, slot_fault, slots_at, slots_fault, least_slot, slot_offset, handler_fault, handlers_fault, is_bad_handler, page_at, page_fault, pages_at, pages_fault, least_page, page_offset, read_fault, image_of, is_magic}
 use Rattle.mm_image.proofs.Numbers.{is_whole}
 use Rattle.mm_image.proofs.Chain.{clean_both, right, clean_each}
 use Rattle.mm_image.proofs.Parts.{part}
 use Rattle.mm_image.proofs.Apart.{split, apart, number_in_2, number_in_4}
 use Rattle.mm_image.proofs.Ranges.{range-list}
 use Rattle.mm_image.proofs.Rising.{AreRisingFrom, rising_from_sorted}
-use Rattle.mm_image.proofs.SpelledRecords.{IsReadPage, page_text_again, page_again, not_le, not_lt}
+use Rattle.mm_image.proofs.SpelledRecords.{IsReadPage, page_text_again, page_again, not_lt}
 use Rattle.mm_image.proofs.SpelledSlots.{all_at, element, handler_small, handler_good, IsReadSlot, slot_text_again, slot_again}
 
 -- 1. Lengths.

@@ -1,8 +1,8 @@
 -- Records that are spelled so have no fault and are read again.
-use Rattle.std.proofs.Common.{◌≡◌, ◌≢◌, ℕ, zero, suc, ◌+◌, ◌*◌, ◌-◌, ◌/◌, ◌%◌, ◌^◌, ◌<◌, ◌≤◌, Bool, true, false, not, cond, nat_lt, List, [], ◌∷◌, ◌++◌, length, get_or, map, Option, Some, None, refl, sym, ap, subst, ◌∙◌, arith, inl, inr}
-use Rattle.std.specs.Prelude.{◌==◌, ◌&&◌, ◌||◌, nat_le, is_some, IfSome, Contains}
-use Rattle.std.specs.List.{flat_map, range_with_len, AllByRecursion, list_any}
-use Rattle.std.specs.Int.{w16, w64, to_be_bytes}
+use Rattle.std.proofs.Common.{◌≡◌, ℕ, zero, suc, ◌+◌, ◌*◌, ◌/◌, ◌%◌, ◌^◌, ◌<◌, ◌≤◌, Bool, true, false, not, nat_lt, List, [], ◌∷◌, ◌++◌, length, get_or, map, None, refl, sym, ap, subst, ◌∙◌, arith}
+use Rattle.std.specs.Prelude.{◌==◌, ◌||◌, nat_le, is_some}
+use Rattle.std.specs.List.{range_with_len, AllByRecursion}
+use Rattle.std.specs.Int.{w64, to_be_bytes}
 use Rattle.std.proofs.lemmas.Bool.{le-leb}
 use Rattle.std.proofs.lemmas.Bool.Decides.{nat_tests}
 use Rattle.std.proofs.lemmas.List.{get_or-map, length-map}
@@ -10,18 +10,18 @@ use Rattle.mm_word.specs.declared.word.Word.{Word}
 use Rattle.mm_word.specs.declared.word.Word.TheVariants.{Int, Ptr}
 use Rattle.mm_word.specs.declared.word.Cell.{Cell}
 use Rattle.mm_word.specs.Perm.{perm_of, can_fetch}
-use Rattle.mm_word.specs.Pointer.{Pointer, IsWellFormed, SpellsPointer, spells_pointer, pointer_of, bits_of}
+use Rattle.mm_word.specs.Pointer.{Pointer, IsWellFormed, spells_pointer, pointer_of, bits_of}
 use Rattle.mm_word.specs.Word.{IsWord, is_pointer, word_bits}
 use Rattle.mm_word.proofs.Packing.{code_of-in_range, pointer_of-bits_of, SpellsPointer-bits_of}
 use Rattle.mm_model.specs.Flags.{number_of_flags}
 use Rattle.mm_model.specs.Memory.{IsPage}
 use Rattle.mm_model.specs.Spelling.{HoldsWords, words_spelling, bitmap, page_record}
-use Rattle.mm_image.specs.Fields.{earlier, first_over, bad, short, field, bit}
+use Rattle.mm_image.specs.Fields.{bad, short, field, bit}
 use Rattle.mm_image.specs.Reading.{word_at, word_fault, ip_fault, register_at, register_fault, registers_at, registers_fault, page_cell_at, cell_fault, cells_at, cells_fault, page_record_at, page_record_fault}
 use Rattle.mm_image.proofs.Numbers.{is_whole}
 use Rattle.mm_image.proofs.Chain.{clean_both, right, clean_each}
-use Rattle.mm_image.proofs.Parts.{part, field-within}
-use Rattle.mm_image.proofs.Apart.{split, apart, number_in_8, number_in_2, number_of_flags-below, flag-get, bit-bitmap}
+use Rattle.mm_image.proofs.Parts.{part}
+use Rattle.mm_image.proofs.Apart.{split, apart, number_in_8, flag-get, bit-bitmap}
 use Rattle.mm_image.proofs.Ranges.{range-list}
 use Rattle.mm_image.proofs.Rising.{and_true}
 

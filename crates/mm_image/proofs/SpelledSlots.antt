@@ -1,12 +1,12 @@
 -- The record of a slot that is spelled so has no fault and is read again.
-use Rattle.std.proofs.Common.{◌≡◌, ◌≢◌, ℕ, zero, suc, ◌+◌, ◌*◌, ◌-◌, ◌^◌, ◌<◌, ◌≤◌, Bool, true, false, not, cond, nat_lt, List, [], ◌∷◌, ◌++◌, length, get_or, map, Option, Some, None, refl, sym, ap, subst, ◌∙◌, arith, eq-eqb}
-use Rattle.std.specs.Prelude.{◌==◌, ◌||◌, nat_le, IfSome, Contains}
-use Rattle.std.specs.List.{AllByRecursion, list_any}
+use Rattle.std.proofs.Common.{◌≡◌, ◌≢◌, ℕ, zero, suc, ◌+◌, ◌^◌, ◌<◌, ◌≤◌, Bool, true, false, not, cond, nat_lt, List, [], ◌∷◌, ◌++◌, length, get_or, map, Option, Some, None, refl, sym, ap, subst, ◌∙◌, arith, eq-eqb}
+use Rattle.std.specs.Prelude.{◌==◌, ◌||◌, nat_le, IfSome}
+use Rattle.std.specs.List.{AllByRecursion}
 use Rattle.std.specs.Int.{w16, w64, to_be_bytes}
 use Rattle.std.proofs.lemmas.Bool.Decides.{nat_tests}
 use Rattle.std.proofs.lemmas.List.Folds.{list_any_at}
 use Rattle.mm_word.specs.declared.word.Word.{Word}
-use Rattle.mm_word.specs.Pointer.{Pointer, pointer_of, bits_of}
+use Rattle.mm_word.specs.Pointer.{Pointer, bits_of}
 use Rattle.mm_word.specs.Word.{is_pointer}
 use Rattle.mm_model.specs.declared.slot.SlotState.{SlotState}
 use Rattle.mm_model.specs.declared.slot.SlotState.TheVariants.{Running, Waiting, Taken, Halted}
@@ -14,8 +14,8 @@ use Rattle.mm_model.specs.declared.slot.Pending.{Pending}
 use Rattle.mm_model.specs.Flags.{number_of_flags}
 use Rattle.mm_model.specs.Slot.{Slot}
 use Rattle.mm_model.specs.Spelling.{Begins, IsOther, IsFresh, handler_byte, state_byte, words_spelling, slot_record}
-use Rattle.mm_image.specs.Fields.{short, field, bad}
-use Rattle.mm_image.specs.Reading.{has_number, is_bad_handler, registers_at, slot_record_at, slot_record_fault}
+use Rattle.mm_image.specs.Fields.{field}
+use Rattle.mm_image.specs.Reading.{has_number, slot_record_at, slot_record_fault}
 use Rattle.mm_image.proofs.Numbers.{is_whole}
 use Rattle.mm_image.proofs.Chain.{clean_both, right}
 use Rattle.mm_image.proofs.Parts.{part, field-within}

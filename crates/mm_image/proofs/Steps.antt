@@ -1,5 +1,5 @@
 -- The reader's steps: the first fault of the whole is that of the part where it stops.
-use Rattle.std.proofs.Common.{◌≡◌, ℕ, List, length, Option, Some, None, refl, sym, ap, subst, ◌∙◌}
+use Rattle.std.proofs.Common.{◌≡◌, ℕ, List, length, Option, None, sym, ap, subst, ◌∙◌}
 use Rattle.std.proofs.lemmas.List.FromFn.{length-map-range_with_len}
 use Rattle.mm_word.specs.declared.word.Cell.{Cell}
 use Rattle.mm_model.specs.Slot.{Slot}
@@ -8,7 +8,7 @@ use Rattle.mm_image.specs.Images.{image_from}
 use Rattle.mm_image.specs.declared.fault.ImageError.{ImageError}
 use Rattle.mm_image.specs.Faults.{Fails}
 use Rattle.mm_image.specs.Fields.{earlier, field}
-use Rattle.mm_image.specs.Reading.{header_of, image_of, header_fault, slot_at, slots_at, slots_fault, handlers_fault, page_at, pages_at, pages_fault, page_offset, end_fault, read_fault}
+use Rattle.mm_image.specs.Reading.{header_of, image_of, header_fault, slot_at, slots_at, slots_fault, handlers_fault, pages_at, pages_fault, page_offset, end_fault, read_fault}
 use Rattle.mm_image.proofs.Chain.{clean_both}
 use Rattle.mm_image.proofs.Over.{fails}
 

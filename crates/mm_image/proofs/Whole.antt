@@ -1,15 +1,14 @@
 -- The first fault of the whole, read part by part.
-use Rattle.std.proofs.Common.{◌≡◌, ℕ, zero, suc, ◌+◌, ◌*◌, ◌-◌, ◌^◌, ◌<◌, ◌≤◌, Bool, true, false, not, nat_lt, List, [], ◌∷◌, ◌++◌, map, length, Option, Some, None, refl, sym, ap, subst, ◌∙◌, arith, inl, inr}
+use Rattle.std.proofs.Common.{◌≡◌, ℕ, zero, suc, ◌+◌, ◌*◌, ◌≤◌, Bool, true, false, not, List, [], ◌∷◌, ◌++◌, map, length, Option, Some, None, refl, sym, ap, ◌∙◌, arith}
 use Rattle.std.specs.Prelude.{◌&&◌, ◌||◌, ◌==◌, nat_le}
 use Rattle.std.specs.List.{flat_map, range_with_len, list_any}
-use Rattle.std.proofs.lemmas.Bool.{cases_eq}
 use Rattle.mm_model.specs.Slot.{Slot}
 use Rattle.mm_model.specs.Image.{slot_limit}
-use Rattle.mm_model.specs.ImageFaults.{Place, number_at, version_of, slots_of, slot_place, page_place, header_places, slot_places, handler_place, page_places, end_place, places, image_fault, is_bad_handler as is_bad_byte}
-use Rattle.mm_image.specs.Fields.{earlier, first_over, bad, short, field}
+use Rattle.mm_model.specs.ImageFaults.{Place, number_at, version_of, slots_of, slot_place, page_place, header_places, slot_places, handler_place, page_places, end_place, image_fault, is_bad_handler as is_bad_byte}
+use Rattle.mm_image.specs.Fields.{earlier, bad, field}
 use Rattle.mm_image.specs.Reading.{header_fault, slot_fault, slots_fault, least_slot, slot_offset, slots_at, slot_at, is_bad_handler, has_number, handler_fault, handlers_fault, page_fault, pages_fault, page_offset, end_fault, read_fault, registers_fault, register_fault, word_fault, cells_fault, cell_fault}
 use Rattle.mm_image.proofs.Numbers.{whole, is_whole}
-use Rattle.mm_image.proofs.Chain.{earlier-none, earlier-assoc, earlier-same, both_clean, right, each_clean, first_over-same, place_fault, places_fault, places-cons, places-append, places-map, places-flat_map}
+use Rattle.mm_image.proofs.Chain.{earlier-none, earlier-assoc, earlier-same, both_clean, each_clean, first_over-same, place_fault, places_fault, places-cons, places-append, places-map, places-flat_map}
 use Rattle.mm_image.proofs.Clean.{clean_header, clean_slot, clean_page}
 use Rattle.mm_image.proofs.Places.{header_are, slot_is, page_is}
 

@@ -1,6 +1,6 @@
 -- Fields of bytes, and the first fault among several parts.
 use Rattle.std.specs.Prelude.{ℕ, zero, suc, ◌+◌, ◌/◌, ◌%◌, ◌^◌, ◌<◌, slice_index, Bool, ◌==◌, nat_lt, if◌then◌else◌, List, length, Option, Some, None}
-use Rattle.mm_model.specs.ImageFaults.{number_at, bit_at}
+use Rattle.mm_model.specs.ImageFaults.{number_at}
 
 -- each is a byte
 abbrev pub IsBytes : List ℕ → Type 0

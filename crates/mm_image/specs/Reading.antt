@@ -1,5 +1,5 @@
 -- What the bytes of an image say, field by field, and the first fault of each part.
-use Rattle.std.specs.Prelude.{◌≡◌, ◌<◌, slice_index_or, ℕ, zero, suc, ◌+◌, ◌*◌, ◌-◌, ◌/◌, ◌%◌, ◌^◌, Bool, false, not, ◌&&◌, ◌||◌, ◌==◌, nat_lt, nat_le, if◌then◌else◌, List, [], ◌∷◌, map, length, take, codes, Option, Some, None}
+use Rattle.std.specs.Prelude.{◌≡◌, ◌<◌, slice_index_or, ℕ, zero, suc, ◌+◌, ◌*◌, ◌-◌, ◌/◌, ◌%◌, ◌^◌, Bool, false, not, ◌&&◌, ◌||◌, ◌==◌, nat_lt, nat_le, if◌then◌else◌, List, [], map, length, take, codes, Option, Some, None}
 use Rattle.std.specs.List.{list_any, range_with_len}
 use Rattle.std.specs.Str.{bytes_eq}
 use Rattle.mm_word.specs.declared.word.Word.{Word}
@@ -10,7 +10,6 @@ use Rattle.mm_word.specs.Pointer.{pointer_of, spells_pointer}
 use Rattle.mm_model.specs.declared.slot.SlotState.TheVariants.{Running, Halted}
 use Rattle.mm_model.specs.Slot.{Slot}
 use Rattle.mm_model.specs.Image.{Image, slot_limit, frame_limit, none_empty}
-use Rattle.mm_model.specs.ImageFaults.{slot_place}
 use Rattle.mm_image.specs.declared.header.Header.{Header}
 use Rattle.mm_image.specs.Images.{image_from}
 use Rattle.mm_image.specs.Fields.{earlier, first_over, bad, short, field, bit}

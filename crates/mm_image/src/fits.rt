@@ -44,6 +44,7 @@ fn slots_fit(version: u16, slots: &[Slot]) -> bool
 fn memory_fits(version: u16, pages: &[Page], frames: u32) -> bool
     ensures { IsTrue result ↔ MemoryFits version pages.now frames }
 {
+    // What the types of its pages and words say.
     are_pages(pages);
     frames != 0
         && frames <= u32::from(frame_limit(version))
@@ -88,6 +89,7 @@ fn are_fresh(limit: u8, slots: &[Slot]) -> bool
 fn is_fresh(limit: u8, present: &[bool; 256], slot: &Slot) -> bool
     ensures { (slots : List Slot) → HoldsNumbers present.now slots → IsTrue result ↔ IsFresh limit slots slot.now }
 {
+    // What the types of its words say.
     are_words(&slot.regs);
     slot.ip.perm();
     if slot.number >= limit || slot.group >= limit || is_bad_handler(present, slot) {

@@ -42,9 +42,17 @@ impl Reader<'_> {
         let version = self.u16_at(4)?;
         refuse_if(!(version == 1 || version == 2), ImageFault::Version, 4)?;
         let slots = self.u16_at(6)?;
-        refuse_if(slots == 0 || slots > u16::from(slot_limit(version)), ImageFault::Count, 6)?;
+        refuse_if(
+            slots == 0 || slots > u16::from(slot_limit(version)),
+            ImageFault::Count,
+            6,
+        )?;
         let frames = self.u16_at(8)?;
-        refuse_if(frames == 0 || frames > frame_limit(version), ImageFault::Frames, 8)?;
+        refuse_if(
+            frames == 0 || frames > frame_limit(version),
+            ImageFault::Frames,
+            8,
+        )?;
         let pages = self.u16_at(10)?;
         refuse_if(pages > frames, ImageFault::Frames, 10)?;
         let mode = self.u32_at(12)?;

@@ -27,6 +27,7 @@ mod fits;
 mod header;
 mod image;
 pub mod laws;
+mod layout;
 mod pages;
 mod reading;
 mod slots;

@@ -7,6 +7,7 @@ ghost use Rattle.mm_image.specs.Reading.{cells_at, cells_fault, page_record_at, 
 
 use crate::fault::{ImageError, ImageFault};
 use crate::fields::{Reader, refuse_if};
+use crate::layout::{HEADER_BYTES, PAGE_BYTES, SLOT_BYTES};
 use mm_model::{CELLS, Page};
 use mm_word::Cell;
 use std::alloc::Global;
@@ -14,11 +15,12 @@ use std::alloc::Global;
 /// One more than the greatest number of a page.
 const PAGE_LIMIT: u64 = 1 << 42;
 
-/// The offsets of a page's tags, full bits and words in its record, and how long that is.
+/// The offsets of a page's tags, full bits and words in its record.
 const TAGS: usize = 8;
+
 const FULL: usize = TAGS + 64;
+
 const WORDS: usize = FULL + 64;
-const PAGE_BYTES: usize = WORDS + 8 * CELLS;
 
 impl Reader<'_> {
     /// The cells of the page whose record begins here.
@@ -46,7 +48,11 @@ impl Reader<'_> {
         ensures { Gives (λ p. p) (page_record_fault self.now.bytes.now least at) (page_record_at self.now.bytes.now at) result }
     {
         let number = self.u64_at(at)?;
-        refuse_if(number >= PAGE_LIMIT || number < least, ImageFault::PageOrder, at)?;
+        refuse_if(
+            number >= PAGE_LIMIT || number < least,
+            ImageFault::PageOrder,
+            at,
+        )?;
         self.whole(at + FULL)?;
         self.whole(at + WORDS)?;
         let cells = self.cells(alloc, at)?;
@@ -60,7 +66,7 @@ impl Reader<'_> {
     pub fn pages(&self, alloc: Global, slots: u16, count: u16) -> Result<Vec<Page>, ImageError>
         ensures { Gives (λ pages. pages.items) (pages_fault self.now.bytes.now slots count) (pages_at self.now.bytes.now slots count) result }
     {
-        let start = 16 + 142 * usize::from(slots);
+        let start = HEADER_BYTES + SLOT_BYTES * usize::from(slots);
         let mut pages = Vec::with_capacity(alloc, usize::from(count))?;
         let mut least = 0;
         for k in 0..usize::from(count) {

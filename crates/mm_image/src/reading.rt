@@ -11,6 +11,7 @@ ghost use Rattle.mm_image.specs.declared.fault.ImageFault.{ImageFault};
 use crate::fault::{ImageError, ImageFault};
 use crate::fields::{Reader, refuse_if};
 use crate::image::Image;
+use crate::layout::{HEADER_BYTES, PAGE_BYTES, SLOT_BYTES};
 use std::alloc::Global;
 
 /// The image that the bytes of a file spell, or the first fault that is met when its fields are read from the front.
@@ -36,7 +37,9 @@ fn read_parts(alloc: Global, bytes: &[u8]) -> Result<Image, ImageError>
     let slots = reader.slots(alloc, header.version, header.slots)?;
     reader.handlers(&slots)?;
     let pages = reader.pages(alloc, header.slots, header.pages)?;
-    let end = 16 + 142 * usize::from(header.slots) + 4232 * usize::from(header.pages);
+    let end = HEADER_BYTES
+        + SLOT_BYTES * usize::from(header.slots)
+        + PAGE_BYTES * usize::from(header.pages);
     refuse_if(bytes.len() > end, ImageFault::Trailing, end)?;
     Ok(Image {
         version: header.version,

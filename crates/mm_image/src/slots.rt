@@ -8,16 +8,13 @@ ghost use Rattle.mm_image.specs.Reading.{slot_record_at, slot_record_fault, slot
 use crate::fault::{ImageError, ImageFault};
 use crate::fields::{Reader, refuse_if};
 use crate::header::slot_limit;
+use crate::layout::{HEADER_BYTES, SLOT_BYTES};
 use arrayvec::ArrayVec;
 use mm_model::{Slot, SlotState};
 use std::alloc::Global;
 
 /// The handler byte of a slot that has no handler.
 pub(crate) const NO_HANDLER: u8 = 255;
-
-/// Where the records of slots begin, and how long each is.
-const SLOTS: usize = 16;
-const SLOT_BYTES: usize = 142;
 
 /// The offset of a slot's handler byte in its record.
 const HANDLER: usize = 2;
@@ -63,12 +60,20 @@ impl Reader<'_> {
         Ok(Slot {
             number,
             group,
-            handler: if handler == NO_HANDLER { None } else { Some(handler) },
+            handler: if handler == NO_HANDLER {
+                None
+            } else {
+                Some(handler)
+            },
             regs,
             ip,
             past: false,
             turns: 0,
-            state: if state == 0 { SlotState::Running } else { SlotState::Halted(None) },
+            state: if state == 0 {
+                SlotState::Running
+            } else {
+                SlotState::Halted(None)
+            },
             empty: 0,
             pending: ArrayVec::new(),
         })
@@ -82,7 +87,7 @@ impl Reader<'_> {
         let mut slots = Vec::with_capacity(alloc, usize::from(count))?;
         let mut least = 0;
         for k in 0..usize::from(count) {
-            let slot = self.slot(limit, least, SLOTS + SLOT_BYTES * k)?;
+            let slot = self.slot(limit, least, HEADER_BYTES + SLOT_BYTES * k)?;
             least = slot.number + 1;
             slots.push(slot)?;
         }
@@ -99,7 +104,11 @@ impl Reader<'_> {
         let present = numbers(slots);
         for (k, slot) in slots.iter().enumerate() {
             let wrong = is_bad_handler(&present, slot);
-            refuse_if(wrong, ImageFault::Handler, SLOTS + SLOT_BYTES * k + HANDLER)?;
+            refuse_if(
+                wrong,
+                ImageFault::Handler,
+                HEADER_BYTES + SLOT_BYTES * k + HANDLER,
+            )?;
         }
         Ok(())
     }

@@ -7,6 +7,7 @@ use std::test::Fail;
 
 /// Offsets of the fields of an image of one slot.
 const SLOT: usize = 16;
+
 const REGISTERS: usize = SLOT + 14;
 
 /// User code of 4,096 bytes at 0x100000.
@@ -14,14 +15,20 @@ const CODE: u64 = 0x3300_0000_0010_0000;
 
 /// One slot and no page: 158 bytes.
 fn smallest(alloc: Global) -> Result<Vec<u8>, AllocError> {
-    let mut bytes = Vec::from_slice(alloc, b"MMI1\x00\x01\x00\x01\x00\x01\x00\x00\x00\x00\x00\x00")?;
+    let mut bytes = Vec::from_slice(
+        alloc,
+        b"MMI1\x00\x01\x00\x01\x00\x01\x00\x00\x00\x00\x00\x00",
+    )?;
     put_slot(&mut bytes, 0, 0, 0)?;
     Ok(bytes)
 }
 
 /// Two slots of two groups that put out a byte again and again: 4,532 bytes.
 fn two_groups(alloc: Global) -> Result<Vec<u8>, AllocError> {
-    let mut bytes = Vec::from_slice(alloc, b"MMI1\x00\x01\x00\x02\x00\x01\x00\x01\x00\x00\x00\x00")?;
+    let mut bytes = Vec::from_slice(
+        alloc,
+        b"MMI1\x00\x01\x00\x02\x00\x01\x00\x01\x00\x00\x00\x00",
+    )?;
     put_slot(&mut bytes, 0, 0, 0x41)?;
     put_slot(&mut bytes, 1, 1, 0x42)?;
     bytes.extend_from_slice(&0x100_u64.to_be_bytes())?;
@@ -208,7 +215,11 @@ fn many_slots(alloc: Global, count: u8) -> Result<Vec<Slot>, Fail> {
             ip: code,
             past: false,
             turns: 0,
-            state: if number % 2 == 0 { SlotState::Running } else { SlotState::Halted(None) },
+            state: if number % 2 == 0 {
+                SlotState::Running
+            } else {
+                SlotState::Halted(None)
+            },
             empty: 0,
             pending: ArrayVec::new(),
         })?;
@@ -223,7 +234,11 @@ fn many_pages(alloc: Global, count: u64) -> Result<Vec<Page>, Fail> {
     for number in 0..count {
         let mut cells = Vec::with_capacity(alloc, CELLS)?;
         for place in 0..CELLS {
-            let word = if place % 7 == 3 { Word::Ptr(data) } else { Word::Int(number) };
+            let word = if place % 7 == 3 {
+                Word::Ptr(data)
+            } else {
+                Word::Int(number)
+            };
             cells.push(Cell {
                 word,
                 full: place % 5 != 0,
@@ -270,7 +285,11 @@ fn parts_that_make_no_image(rt: HostRuntime) -> Result<(), Fail> {
         let slots = many_slots(rt.alloc(), count)?;
         let pages = Vec::new(rt.alloc());
         let found = Image::new(version, split, slots, pages, frames);
-        assert_eq!(rt; found.is_some(), makes, "{count} slots of version {version}");
+        assert_eq!(rt;
+            found.is_some(),
+            makes,
+            "{count} slots of version {version}"
+        );
     }
     let slots = many_slots(rt.alloc(), 2)?;
     let pages = many_pages(rt.alloc(), 3)?;

@@ -9,6 +9,7 @@ ghost use Rattle.mm_model.specs.Flags.{number_of_flags};
 ghost use Rattle.mm_model.specs.Spelling.{header, handler_byte, state_byte, words_spelling, bitmap, slot_record, page_record, spelling, Spells};
 
 use crate::image::Image;
+use crate::layout::{HEADER_BYTES, PAGE_BYTES, SLOT_BYTES};
 use crate::slots::NO_HANDLER;
 use mm_model::{Page, Slot, SlotState};
 use mm_word::{Cell, NoMemory, Word};
@@ -19,7 +20,6 @@ pub fn write(alloc: Global, img: &Image) -> Result<Vec<u8>, NoMemory>
     ensures written { IfOk result (λ bytes. bytes.items ≡ spelling img.now) }
     ensures spelled { IfOk result (λ bytes. Spells bytes.items img.now) }
 {
-    let _ = img.version();
     match spelled(alloc, img) {
         Ok(bytes) => Ok(bytes),
         Err(_) => Err(NoMemory),
@@ -27,9 +27,11 @@ pub fn write(alloc: Global, img: &Image) -> Result<Vec<u8>, NoMemory>
 }
 
 fn spelled(alloc: Global, img: &Image) -> Result<Vec<u8>, AllocError>
-    ensures { IfOk result (λ bytes. bytes.items ≡ spelling img.now) }
+    ensures written { IfOk result (λ bytes. bytes.items ≡ spelling img.now) }
+    ensures spelled { IfOk result (λ bytes. Spells bytes.items img.now) }
 {
-    let mut out = Vec::with_capacity(alloc, 16 + 142 * img.slots().len() + 4232 * img.pages().len())?;
+    let length = HEADER_BYTES + SLOT_BYTES * img.slots().len() + PAGE_BYTES * img.pages().len();
+    let mut out = Vec::with_capacity(alloc, length)?;
     put_header(&mut out, img)?;
     put_slots(&mut out, img.slots())?;
     put_pages(&mut out, img.pages())?;

@@ -1,13 +1,11 @@
-use Rattle.std.proofs.Common.{◌≡◌, ℕ, ◌<◌, ◌≤◌, Bool, true, false, List, length, refl, sym, ap, subst, ◌∙◌, arith}
-use Rattle.std.specs.Prelude.{IsTrue}
+use Rattle.std.proofs.Common.{◌≡◌, true, List, length, sym, ap, subst, ◌∙◌, arith}
 use Rattle.std.specs.List.{AllByRecursion}
 use Rattle.mm_word.specs.declared.word.Word.{Word}
 use Rattle.mm_word.specs.Perm.{can_fetch}
 use Rattle.mm_word.specs.Pointer.{Pointer, IsWellFormed}
 use Rattle.mm_word.specs.Word.{IsWord}
-use Rattle.mm_model.specs.declared.slot.SlotState.{SlotState}
 use Rattle.mm_model.specs.Slot.{Slot}
-use Rattle.mm_model.specs.Spelling.{Begins, IsFresh}
+use Rattle.mm_model.specs.Spelling.{Begins}
 use Rattle.mm_image.proofs.CleanRecords.{handler_is_other}
 use Rattle.mm_image.proofs.SpelledSlots.{handler_good}
 use Rattle.mm_image.proofs.fits.is_fresh.Goals as goal
@@ -16,8 +14,7 @@ use Rattle.mm_image.proofs.fits.is_fresh.Goals.{then-slot-limit-via-then-slot-li
 pub returns-then-slot-limit : goal.returns-then-slot-limit
 returns-then-slot-limit c = λ slots holds.
     let number = ap (λ (s : Slot). s.number) c.slot.view_is in
-    let group = ap (λ (s : Slot). s.group) c.slot.view_is in
-    (
+    let group = ap (λ (s : Slot). s.group) c.slot.view_is in (
       λ f. absurd cc,
       λ fresh. elim c.then-slot-limit.branch [
         | then-slot-limit-via-then-slot-limit w ↦ absurd (omega (arith, number, fresh.number, w.if-slot-limit.true))
@@ -39,8 +36,7 @@ returns-then-begins c = λ slots holds.
     let ip = ap (λ (s : Slot). s.ip) c.slot.view_is in
     let regs = ap (λ (s : Slot). s.regs) c.slot.view_is in
     let good = sym (c.is_bad_handler.ensures slots holds) ∙ c.if-is_bad_handler.false in
-    let starts = c.begins.ensures.0 c.if-begins.true in
-    (
+    let starts = c.begins.ensures.0 c.if-begins.true in (
       λ t.
           let rest = c.has_not_run.ensures.0 t in
           record {

@@ -4,8 +4,7 @@ use Rattle.mm_image.proofs.fits.pages_ascend.Goals as goal
 
 pub returns-then-number-least : goal.returns-then-number-least
 returns-then-number-least c =
-    let l = c.loop-page in
-    (
+    let l = c.loop-page in (
       λ f. absurd cc,
       λ sorted. sym (pages_fall c.args.pages.now l.page-index l.least c.page-item.result l.invariant c.loop-page-test.true c.page-item.is (omega (arith, c.number.ensures.number, c.if-number-least.true)) sorted),
     )

@@ -1,4 +1,4 @@
-use Rattle.std.proofs.Common.{drop, ◌↔◌, ◌≤◌, ◌^◌}
+use Rattle.std.proofs.Common.{drop, ◌↔◌}
 use Rattle.mm_image.proofs.Rising.{AreRisingFrom}
 use Rattle.mm_image.proofs.fits.pages_ascend.Given as goal
 

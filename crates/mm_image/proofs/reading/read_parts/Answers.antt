@@ -1,13 +1,11 @@
-use Rattle.std.proofs.Common.{◌≡◌, ◌<◌, ◌^◌, ℕ, ◌*◌, ◌+◌, List, length, None, refl, sym, ap, subst, ◌∙◌, arith, nat_lt}
+use Rattle.std.proofs.Common.{◌≡◌, ℕ, List, length, None, sym, ap, subst, ◌∙◌, arith}
 use Rattle.std.proofs.lemmas.Result.{err_from_is_err_and}
 use Rattle.mm_model.specs.Slot.{Slot}
 use Rattle.mm_model.specs.Spelling.{IsImage}
-use Rattle.mm_model.specs.Image.{Image}
 use Rattle.mm_image.specs.declared.header.Header.{Header}
 use Rattle.mm_image.specs.Faults.{Fails}
-use Rattle.mm_image.specs.Fields.{field, bad}
-use Rattle.mm_image.specs.Images.{image_from}
-use Rattle.mm_image.specs.Reading.{slots_at, slots_fault, handlers_fault, pages_at, pages_fault, page_offset, end_fault, read_fault, image_of}
+use Rattle.mm_image.specs.Fields.{field}
+use Rattle.mm_image.specs.Reading.{slots_at, slots_fault, handlers_fault, pages_fault, page_offset, end_fault}
 use Rattle.mm_image.proofs.Steps.{at_header, at_slots, at_handlers, at_pages, at_end, at_none, length-slots_at, same_image}
 use Rattle.mm_image.proofs.Clean.{clean_header}
 use Rattle.mm_image.proofs.Parts.{below_16}
@@ -102,8 +100,7 @@ returns c =
     let handlers : handlers_fault bytes (field bytes 6 2) ≡ None = subst (λ (n : ℕ). handlers_fault bytes n ≡ None) count c.in_ok-handlers.ensures.0 in
     let pages : pages_fault bytes (field bytes 6 2) (field bytes 10 2) ≡ None = subst (λ (x : Header). pages_fault bytes x.slots x.pages ≡ None) h.1 c.in_ok-pages.ensures.0 in
     let end : page_offset c.from.result c.from-2.result ≡ page_offset (field bytes 6 2) (field bytes 10 2) =
-    ap (λ (n : ℕ). page_offset n c.from-2.result) (c.from.ensures ∙ ap (λ (x : Header). x.slots) h.1) ∙ ap (page_offset (field bytes 6 2)) (c.from-2.ensures ∙ ap (λ (x : Header). x.pages) h.1) in
-    (
+    ap (λ (n : ℕ). page_offset n c.from-2.result) (c.from.ensures ∙ ap (λ (x : Header). x.slots) h.1) ∙ ap (page_offset (field bytes 6 2)) (c.from-2.ensures ∙ ap (λ (x : Header). x.pages) h.1) in (
       at_none bytes h.0 slots handlers pages (subst (λ (n : ℕ). end_fault bytes n ≡ None) end c.in_ok-refuse_if.ensures.fault.0),
       same_image bytes c.in_ok-header.header c.in_ok-slots.slots.items c.in_ok-pages.pages.items c.from-3.result h.1 c.in_ok-slots.ensures.1 c.in_ok-pages.ensures.1 c.from-3.ensures,
     )

@@ -1,6 +1,5 @@
-use Rattle.std.proofs.Common.{◌≡◌, ℕ, ◌+◌, ◌*◌, ◌-◌, ◌∷◌, ◌++◌, [], Bool, List, map, refl, sym, ap, ◌∙◌, arith}
+use Rattle.std.proofs.Common.{◌≡◌, ℕ, ◌+◌, ◌*◌, ◌-◌, ◌∷◌, ◌++◌, [], Bool, List, map, sym, ap, ◌∙◌, arith}
 use Rattle.mm_word.specs.declared.word.Cell.{Cell}
-use Rattle.mm_word.specs.Word.{is_pointer}
 use Rattle.mm_model.specs.Flags.{number_of_flags}
 use Rattle.mm_model.specs.Spelling.{bitmap}
 use Rattle.mm_image.proofs.Written.{both_written, bitmap_more, flags_of_part}

@@ -1,7 +1,7 @@
-use Rattle.std.proofs.Common.{◌≡◌, ◌++◌, ◌∷◌, [], ℕ, List, map, refl, ap, ◌∙◌}
+use Rattle.std.proofs.Common.{◌≡◌, ◌++◌, ◌∷◌, [], ℕ, List, map, ap, ◌∙◌}
 use Rattle.std.specs.Int.{w16, w64, to_be_bytes}
 use Rattle.mm_word.specs.declared.word.Word.{Word}
-use Rattle.mm_word.specs.Pointer.{Pointer, bits_of}
+use Rattle.mm_word.specs.Pointer.{bits_of}
 use Rattle.mm_word.specs.Word.{is_pointer}
 use Rattle.mm_model.specs.Slot.{Slot}
 use Rattle.mm_model.specs.Flags.{number_of_flags}

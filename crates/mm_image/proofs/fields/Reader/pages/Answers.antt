@@ -1,4 +1,4 @@
-use Rattle.std.proofs.Common.{◌≡◌, ℕ, suc, ◌+◌, ◌*◌, List, None, refl, sym, ap, subst, ◌∙◌, arith}
+use Rattle.std.proofs.Common.{◌≡◌, ℕ, suc, ◌+◌, List, None, sym, ap, subst, ◌∙◌, arith}
 use Rattle.std.proofs.lemmas.Result.{err_from_is_err_and}
 use Rattle.mm_word.specs.declared.word.Cell.{Cell}
 use Rattle.mm_image.specs.Faults.{Fails}
@@ -41,8 +41,7 @@ pub returns : goal.returns
 unfolding pages_at
 returns c =
     let l = c.loop-k in
-    let bytes = c.args.self.now.bytes.now in
-    (
+    let bytes = c.args.self.now.bytes.now in (
       is_done (page_fault bytes c.args.slots) c.args.count l.k _ l.invariant.faults (omega arith),
       all_read (page_at bytes c.args.slots) c.args.count l.k l.pages.items l.invariant.read (omega arith) (omega arith),
     )

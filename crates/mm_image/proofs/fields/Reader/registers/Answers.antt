@@ -1,10 +1,8 @@
-use Rattle.std.proofs.Common.{◌≡◌, ℕ, ◌+◌, ◌*◌, ◌/◌, ◌%◌, ◌^◌, ◌<◌, ◌≤◌, Bool, List, None, length, take, refl, sym, ap, subst, ◌∙◌, arith, length-set}
+use Rattle.std.proofs.Common.{◌≡◌, ℕ, ◌+◌, ◌*◌, ◌/◌, ◌%◌, ◌^◌, ◌<◌, Bool, None, length, take, sym, ap, subst, ◌∙◌, arith, length-set}
 use Rattle.std.specs.Prelude.{◌==◌}
 use Rattle.std.proofs.lemmas.Result.{err_from_is_err_and}
 use Rattle.std.proofs.lemmas.List.{take_more_set, take_all}
-use Rattle.mm_word.specs.declared.word.Word.{Word}
 use Rattle.mm_image.specs.Faults.{Fails}
-use Rattle.mm_image.specs.Fields.{field}
 use Rattle.mm_image.specs.Reading.{word_at, word_fault, register_at, register_fault, registers_at, registers_fault}
 use Rattle.mm_image.proofs.Over.{goes_on, ends, is_done, one_more, all_read}
 use Rattle.mm_image.proofs.fields.Reader.registers.Goals as goal
@@ -39,8 +37,7 @@ pub returns : goal.returns
 unfolding registers_fault registers_at
 returns c =
     let l = c.loop-r in
-    let bytes = c.args.self.now.bytes.now in
-    (
+    let bytes = c.args.self.now.bytes.now in (
       is_done (register_fault bytes c.args.at) 16 l.r _ l.invariant.faults c.loop-r-test.false,
       sym (take_all l.r l.regs (omega (arith, l.invariant.count, c.loop-r-test.false))) ∙ all_read (register_at bytes c.args.at) 16 l.r (take l.r l.regs) l.invariant.read l.auto.r-end c.loop-r-test.false,
     )

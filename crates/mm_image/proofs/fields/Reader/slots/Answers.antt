@@ -1,4 +1,4 @@
-use Rattle.std.proofs.Common.{◌≡◌, ℕ, suc, ◌+◌, ◌*◌, None, refl, sym, ap, subst, ◌∙◌, arith}
+use Rattle.std.proofs.Common.{◌≡◌, ℕ, suc, ◌+◌, None, sym, ap, subst, ◌∙◌, arith}
 use Rattle.std.proofs.lemmas.Result.{err_from_is_err_and}
 use Rattle.mm_model.specs.Slot.{Slot}
 use Rattle.mm_model.specs.Image.{slot_limit}
@@ -41,8 +41,7 @@ pub returns : goal.returns
 unfolding slots_at
 returns c =
     let l = c.loop-k in
-    let bytes = c.args.self.now.bytes.now in
-    (
+    let bytes = c.args.self.now.bytes.now in (
       is_done (slot_fault bytes c.args.version) c.args.count l.k _ l.invariant.faults (omega arith),
       all_read (slot_at bytes) c.args.count l.k l.slots.items l.invariant.read (omega arith) (omega arith),
     )
