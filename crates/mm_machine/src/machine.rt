@@ -1,11 +1,8 @@
 ghost use Rattle.std.specs.Prelude.{◌≡◌, ◌+◌, ◌*◌, ◌≤◌, ◌^◌};
 ghost use Rattle.mm_machine.specs.Kept.{Kept};
 
-use mm_image::Image;
-use mm_mem::{Loaded, Memory, Post, Pre, Stored};
+use mm_mem::Memory;
 use mm_thread::{Core, Slot, Step, turn};
-use mm_word::{Access, NoMemory, Word};
-use std::alloc::Global;
 
 /// Slots over a memory, and a count of cycles.
 #[derive(Drop)]
@@ -35,25 +32,6 @@ impl<M: Memory> Machine<M> {
     ghost use Rattle.mm_machine.specs.Machine.{state_of, StandsTo, Takes, StandsFor};
     ghost use Rattle.mm_machine.specs.Running.{runs_at};
 
-    /// The machine of an image at its start, over a memory that holds the image's pages and was not used yet.
-    pub fn new(alloc: Global, img: &Image, mem: M) -> Result<Machine<M>, NoMemory>
-        requires memory { M.meaning mem ≡ img.now.memory }
-        requires unused { M.stands mem [] }
-        ensures state { IfOk result (λ m. state_of m ≡ start img.now) }
-        ensures stands { IfOk result (λ m. StandsFor img.now [] m) }
-        ensures no_port { IfOk result (λ m. m.ports ≡ 0) }
-    {
-        let mut core = Core::new(alloc, img.slots())?;
-        core.set_version(img.version());
-        core.set_split(img.split());
-        Ok(Machine {
-            core,
-            mem,
-            cycles: 0,
-            ports: 0,
-        })
-    }
-
     /// One cycle. The item names a slot or, in a split machine, is 128 more than the number of the slot whose port it is.
     pub fn cycle(&mut self, item: u8) -> Step
         requires { self.old.cycles < 2 ^ 32 }
@@ -76,13 +54,6 @@ impl<M: Memory> Machine<M> {
         ensures { result ≡ (state_of self.now).cycles }
     {
         self.cycles
-    }
-
-    /// Which slots run: bit `s` is set exactly where slot `s` is there and running.
-    pub fn running(&self) -> u64
-        ensures { (n : ℕ) → (bit_at result n ≡ 1) ↔ (runs_at (state_of self.now).core n ≡ true) }
-    {
-        self.core.running()
     }
 
     /// The slot of a number, if there is one.
