@@ -1,8 +1,11 @@
 ghost use Rattle.std.specs.Prelude.{◌≡◌, ◌+◌, ◌*◌, ◌≤◌, ◌^◌};
 ghost use Rattle.mm_machine.specs.Kept.{Kept};
 
+use mm_image::Image;
 use mm_mem::Memory;
 use mm_thread::{Core, Slot, Step, turn};
+use mm_word::NoMemory;
+use std::alloc::Global;
 
 /// Slots over a memory, and a count of cycles.
 #[derive(Drop)]
@@ -18,10 +21,11 @@ pub struct Machine<M: Memory> {
 }
 
 impl<M: Memory> Machine<M> {
-    ghost use Rattle.std.specs.Prelude.{◌≡◌, ◌↔◌, ℕ, ◌+◌, ◌<◌, ◌≤◌, ◌^◌, [], ◌∷◌, ◌++◌, true, List, length, slice_get, IfOk, Some};
+    ghost use Rattle.std.specs.Prelude.{◌≡◌, ◌↔◌, ℕ, ◌+◌, ◌<◌, ◌≤◌, ◌^◌, [], ◌∷◌, ◌++◌, true, List, length, slice_get, IfOk, IsSomeAnd, Some};
     ghost use Rattle.mm_model.specs.Fits.{slots_of};
     ghost use Rattle.std.specs.Option.{option_copied};
-    ghost use Rattle.std.specs.Int.{bit_at};
+    ghost use Rattle.std.specs.Int.{IsBitSet};
+    ghost use Rattle.mm_model.specs.declared.slot.SlotState.TheVariants.{Running};
     ghost use Rattle.mm_model.specs.Memory.{IsPaged, cell_at};
     ghost use Rattle.mm_model.specs.Ask.{load_kind};
     ghost use Rattle.mm_model.specs.Uses.{Use};
@@ -30,7 +34,25 @@ impl<M: Memory> Machine<M> {
     ghost use Rattle.mm_model.specs.Run.{turn_of, after};
     ghost use Rattle.mm_mem.specs.Answers.{loaded, stored, after_load, after_store, access_uses};
     ghost use Rattle.mm_machine.specs.Machine.{state_of, StandsTo, Takes, StandsFor};
-    ghost use Rattle.mm_machine.specs.Running.{runs_at};
+
+    /// The machine of an image at its start, over a memory that holds the image's pages and was not used yet.
+    pub fn new(alloc: Global, img: &Image, mem: M) -> Result<Machine<M>, NoMemory>
+        requires memory { M.meaning mem ≡ img.now.memory }
+        requires unused { M.stands mem [] }
+        ensures state { IfOk result (λ m. state_of m ≡ start img.now) }
+        ensures stands { IfOk result (λ m. StandsFor img.now [] m) }
+        ensures no_port { IfOk result (λ m. m.ports ≡ 0) }
+    {
+        let mut core = Core::new(alloc, img.slots())?;
+        core.set_version(img.version());
+        core.set_split(img.split());
+        Ok(Machine {
+            core,
+            mem,
+            cycles: 0,
+            ports: 0,
+        })
+    }
 
     /// One cycle. The item names a slot or, in a split machine, is 128 more than the number of the slot whose port it is.
     pub fn cycle(&mut self, item: u8) -> Step
@@ -61,6 +83,13 @@ impl<M: Memory> Machine<M> {
         ensures { option_copied result ≡ slot_at (state_of self.now).core n }
     {
         self.core.slot(n)
+    }
+
+    /// The running slots: bit n is set exactly where slot n runs.
+    pub fn running(&self) -> u64
+        ensures { (n : ℕ) → n < 64 → (IsBitSet result n ↔ IsSomeAnd (slot_at (state_of self.now).core n) (λ s. s.state ≡ Running)) }
+    {
+        self.core.running()
     }
 
     /// How many slots there are.
