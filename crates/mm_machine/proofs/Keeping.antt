@@ -1,9 +1,11 @@
 -- A machine keeps what is true of it, and goes on with the run that it stands for.
 use Rattle.std.proofs.Common.{◌≡◌, ℕ, ◌+◌, ◌<◌, ◌≤◌, ◌^◌, List, [], ◌∷◌, ◌++◌, refl, sym, ap, ◌∙◌, subst, arith, append_assoc, append-nil}
 use Rattle.std.specs.List.{AllByRecursion}
-use Rattle.mm_model.specs.Memory.{IsPaged}
+use Rattle.std.proofs.Props.{props}
+use Rattle.std.proofs.Math.Logic.{∥∥₁_elim, ∥∥₁_map}
+use Rattle.mm_model.specs.Memory.{Memory, IsPaged}
 use Rattle.mm_model.specs.Slot.{Slot}
-use Rattle.mm_model.specs.State.{State}
+use Rattle.mm_model.specs.State.{State, Core}
 use Rattle.mm_model.specs.Image.{Image, start}
 use Rattle.mm_model.specs.Spelling.{IsImage}
 use Rattle.mm_model.specs.Uses.{Use}
@@ -38,3 +40,21 @@ pub uses_more : (s : State) (items : List ℕ) (n : ℕ) → uses s (items ++ n 
 unfolding run uses
 uses_more s [] n = append-nil (turn_of s n).uses
 uses_more s (m ∷ items) n = ap (λ (us : List Use). (turn_of s m).uses ++ us) (uses_more (after s m) items n) ∙ sym (append_assoc (turn_of s m).uses (uses (after s m) items) (turn_of (run (after s m) items) n).uses)
+
+-- what is kept, from a state to the next
+
+pub memory_paged : (s : State) → ∥ Kept s ∥₁ → IsPaged s.memory
+memory_paged s h = ∥∥₁_elim h (hlevel props) (λ k. k.fits.paged)
+
+pub few_turns : (s : State) → s.cycles < 2 ^ 32 → ∥ Kept s ∥₁ → AllByRecursion (λ (slot : Slot). slot.turns < 2 ^ 61) (slots_of s.core)
+few_turns s lt h = ∥∥₁_elim h (hlevel props) (λ k. kept_turns s lt k)
+
+pub goes_on : (s t : State) (n : ℕ) → t ≡ after s n → ∥ Kept s ∥₁ → ∥ Kept t ∥₁
+goes_on s t n is h = ∥∥₁_map h (λ k. subst Kept (sym is) (kept_after s n k))
+
+pub state_made : (s : State) (n : ℕ) (core : Core) (memory : Memory) → core ≡ (turn_of s n).core → memory ≡ (turn_of s n).memory
+    → record { core = core; memory = memory; cycles = s.cycles + 1 } ≡ after s n
+unfolding after
+state_made s n core memory c m =
+    ap (λ (x : Core). let t : State = record { core = x; memory = memory; cycles = s.cycles + 1 } in t) c
+    ∙ ap (λ (x : Memory). let t : State = record { core = (turn_of s n).core; memory = x; cycles = s.cycles + 1 } in t) m

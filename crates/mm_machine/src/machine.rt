@@ -2,9 +2,9 @@ ghost use Rattle.std.specs.Prelude.{◌≡◌, ◌+◌, ◌*◌, ◌≤◌, ◌^
 ghost use Rattle.mm_machine.specs.Kept.{Kept};
 
 use mm_image::Image;
-use mm_mem::{Loaded, Memory, Post, Pre, Stored};
+use mm_mem::Memory;
 use mm_thread::{Core, Slot, Step, turn};
-use mm_word::{Access, NoMemory, Word};
+use mm_word::NoMemory;
 use std::alloc::Global;
 
 /// Slots over a memory, and a count of cycles.
@@ -21,10 +21,11 @@ pub struct Machine<M: Memory> {
 }
 
 impl<M: Memory> Machine<M> {
-    ghost use Rattle.std.specs.Prelude.{◌≡◌, ◌↔◌, ℕ, ◌+◌, ◌<◌, ◌≤◌, ◌^◌, [], ◌∷◌, ◌++◌, true, List, length, slice_get, IfOk, Some};
+    ghost use Rattle.std.specs.Prelude.{◌≡◌, ◌↔◌, ℕ, ◌+◌, ◌<◌, ◌≤◌, ◌^◌, [], ◌∷◌, ◌++◌, true, List, length, slice_get, IfOk, IsSomeAnd, Some};
     ghost use Rattle.mm_model.specs.Fits.{slots_of};
     ghost use Rattle.std.specs.Option.{option_copied};
-    ghost use Rattle.std.specs.Int.{bit_at};
+    ghost use Rattle.std.specs.Int.{IsBitSet};
+    ghost use Rattle.mm_model.specs.declared.slot.SlotState.TheVariants.{Running};
     ghost use Rattle.mm_model.specs.Memory.{IsPaged, cell_at};
     ghost use Rattle.mm_model.specs.Ask.{load_kind};
     ghost use Rattle.mm_model.specs.Uses.{Use};
@@ -33,7 +34,6 @@ impl<M: Memory> Machine<M> {
     ghost use Rattle.mm_model.specs.Run.{turn_of, after};
     ghost use Rattle.mm_mem.specs.Answers.{loaded, stored, after_load, after_store, access_uses};
     ghost use Rattle.mm_machine.specs.Machine.{state_of, StandsTo, Takes, StandsFor};
-    ghost use Rattle.mm_machine.specs.Running.{runs_at};
 
     /// The machine of an image at its start, over a memory that holds the image's pages and was not used yet.
     pub fn new(alloc: Global, img: &Image, mem: M) -> Result<Machine<M>, NoMemory>
@@ -78,18 +78,18 @@ impl<M: Memory> Machine<M> {
         self.cycles
     }
 
-    /// Which slots run: bit `s` is set exactly where slot `s` is there and running.
-    pub fn running(&self) -> u64
-        ensures { (n : ℕ) → (bit_at result n ≡ 1) ↔ (runs_at (state_of self.now).core n ≡ true) }
-    {
-        self.core.running()
-    }
-
     /// The slot of a number, if there is one.
     pub fn slot(&self, n: u8) -> Option<&Slot>
         ensures { option_copied result ≡ slot_at (state_of self.now).core n }
     {
         self.core.slot(n)
+    }
+
+    /// The running slots: bit n is set exactly where slot n runs.
+    pub fn running(&self) -> u64
+        ensures { (n : ℕ) → n < 64 → (IsBitSet result n ↔ IsSomeAnd (slot_at (state_of self.now).core n) (λ s. s.state ≡ Running)) }
+    {
+        self.core.running()
     }
 
     /// How many slots there are.

@@ -10,3 +10,6 @@ pub mod Turns
 pub mod Items
 pub mod Sound
 pub mod Exactly
+pub mod Fresh
+pub mod Placing
+pub mod RunningSlots

@@ -31,6 +31,10 @@ no_slot = record {
 abbrev pub no_row : Row
 no_row = record { slot = no_slot; queue = [] }
 
+-- a slot without events
+abbrev pub row_alone : Slot → Row
+row_alone s = record { slot = s; queue = [] }
+
 -- the row at a place
 abbrev pub row_at : Core → ℕ → Row
 row_at core place = slice_index_or core.rows place no_row

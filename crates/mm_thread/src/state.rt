@@ -1,19 +1,28 @@
-ghost use Rattle.std.specs.Prelude.{◌≡◌, ℕ, ◌+◌, ◌<◌, ◌≤◌, ◌^◌, ◌⊎◌, [], length, Some, None, IfSome, slice_get};
+ghost use Rattle.std.specs.Prelude.{◌≡◌, ℕ, ◌+◌, ◌<◌, ◌≤◌, ◌^◌, ◌⊎◌, false, [], length, map, replicate, IfOk, IsSomeAnd, slice_get, ◌↔◌};
+ghost use Rattle.std.specs.Int.{IsBitSet};
 ghost use Rattle.std.specs.Option.{option_copied};
+ghost use Rattle.mm_model.specs.declared.slot.SlotState.TheVariants.{Running};
 ghost use Rattle.std.specs.List.{AllByRecursion};
+ghost use Rattle.std.specs.List.Sorted.{IsStrictlyIncreasing};
+ghost use Rattle.mm_model.specs.Spelling.{numbers_of, IsFresh};
 ghost use Rattle.mm_model.specs.Slot.{Slot as SlotValue};
 ghost use Rattle.mm_model.specs.State.{slot_at, queue_at, output_of};
 ghost use Rattle.mm_model.specs.Image.{slot_limit};
 ghost use Rattle.mm_model.specs.Fits.{slots_of};
 ghost use Rattle.mm_model.specs.Uses.{accesses, TakesUses};
 ghost use Rattle.mm_model.specs.Turn.{turn as turn_of};
+ghost use Rattle.mm_thread.specs.Places.{row_alone};
 ghost use Rattle.mm_thread.specs.Told.{accesses_in, accesses_told};
 
 use crate::fault::{Places, place_of};
 use crate::item::take_item;
+use crate::making::{no_outputs, places_of, rows_of};
+use crate::runners::runners_of;
 use crate::tables::Tables;
 use mm_mem::Memory;
 use mm_model::{Event, Slot, Step};
+use mm_word::NoMemory;
+use std::alloc::Global;
 use std::marker::Model;
 
 /// The slots of a machine with their events, and what its groups have put out.
@@ -56,6 +65,23 @@ pub fn turn<M: Memory>(core: &mut Core, mem: &mut M, item: u8) -> Step
 }
 
 impl Core {
+    /// The core of an image's slots, before its first turn: each queue is empty and nothing was put out. It is of version 2 and
+    /// not split. No later call takes memory.
+    pub fn new(alloc: Global, slots: &[Slot]) -> Result<Core, NoMemory>
+        requires rising { IsStrictlyIncreasing (numbers_of slots.now) }
+        requires fresh { AllByRecursion (IsFresh 64 slots.now) slots.now }
+        ensures rows { IfOk result (λ core. core.rows ≡ map row_alone slots.now) }
+        ensures outputs { IfOk result (λ core. core.outputs ≡ replicate 64 []) }
+        ensures version { IfOk result (λ core. core.version ≡ 2) }
+        ensures plain { IfOk result (λ core. core.split ≡ false) }
+    {
+        let rows = rows_of(alloc, slots)?;
+        let outputs = no_outputs(alloc)?;
+        let tables = Tables::new(rows, outputs);
+        let places = places_of(&tables);
+        Ok(Core { tables, places })
+    }
+
     /// Makes it a machine that is split or one that is not.
     pub fn set_split(&mut self, on: bool)
         requires { AllByRecursion (λ (s : SlotValue). s.pending ≡ []) (slots_of self.old) }
@@ -82,6 +108,13 @@ impl Core {
             Some(place) => Some(self.tables.slot(place)),
             None => None,
         }
+    }
+
+    /// The running slots: bit n is set exactly where slot n runs.
+    pub fn running(&self) -> u64
+        ensures { (n : ℕ) → n < 64 → (IsBitSet result n ↔ IsSomeAnd (slot_at self.now n) (λ s. s.state ≡ Running)) }
+    {
+        runners_of(&self.tables, &self.places)
     }
 
     /// The events that the slot of a number has still to handle, oldest first.
