@@ -1,1 +1,5 @@
 pub mod Verdicts
+pub mod Complete
+pub mod Rounds
+pub mod Running
+pub mod Reported
