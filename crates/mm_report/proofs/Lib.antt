@@ -1,2 +1,3 @@
 pub mod OutputRows
 pub mod RegisterLines
+pub mod CellPlaces

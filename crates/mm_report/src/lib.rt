@@ -1,6 +1,7 @@
 //! The texts of slots and of what groups have put out.
 #![tactic(auto)]
 
+mod cells;
 mod output;
 mod slots;
 #[cfg(test)]
