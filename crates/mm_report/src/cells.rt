@@ -74,7 +74,7 @@ fn put_change<O: Sink>(text: &mut Gather, out: &mut O, word: u64, cell: &Cell, w
 }
 
 /// Where a page stands among pages that rise.
-fn find_page(pages: &[Page], number: u64) -> Option<usize>
+pub(crate) fn find_page(pages: &[Page], number: u64) -> Option<usize>
     requires { IsTrue (is_sorted nat_cmp pages.now) }
     ensures { MatchOption result (page_at (contents pages.now) number ≡ None) (IsAt number pages.now) }
 {

@@ -3,6 +3,7 @@
 
 mod cells;
 mod output;
+mod page_changes;
 mod slots;
 #[cfg(test)]
 mod tests;
