@@ -2,11 +2,13 @@
 #![tactic(auto)]
 
 mod cells;
+mod counts;
 mod output;
 mod page_changes;
 mod slots;
 #[cfg(test)]
 mod tests;
+mod trace;
 mod words;
 
 pub use output::put_output;
