@@ -1,10 +1,12 @@
-//! The texts of slots and of what groups have put out.
+//! The texts of a machine: its report, the lines of slots, and the lines of a trace.
 #![tactic(auto)]
 
 mod cells;
 mod counts;
 mod output;
 mod page_changes;
+mod summary;
+mod sections;
 mod slots;
 #[cfg(test)]
 mod tests;
@@ -12,5 +14,7 @@ mod trace;
 mod words;
 
 pub use output::put_output;
+pub use summary::report;
 pub use slots::{put_slot, slot_lines};
+pub use trace::{put_step, trace_line};
 pub use words::put_word;
