@@ -10,3 +10,5 @@ pub mod images;
 pub mod restrictions;
 pub mod schedules;
 pub mod states;
+pub mod granted;
+pub mod isolated;

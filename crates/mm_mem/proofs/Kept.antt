@@ -8,11 +8,12 @@ use Rattle.mm_word.specs.declared.word.Word.{Word}
 use Rattle.mm_word.specs.declared.word.Cell.{Cell}
 use Rattle.mm_word.specs.declared.word.Pre.{Pre}
 use Rattle.mm_word.specs.declared.word.Post.{Post}
+use Rattle.mm_word.specs.declared.word.Post.TheVariants as posts
 use Rattle.mm_model.specs.Memory.{Memory, page_of, is_mapped, cell_at, can_map, put_cell, map_page, unmap_page, zero_cell, passes, full_after, IsPaged}
 use Rattle.mm_model.proofs.Memories as cells
 use Rattle.mm_mem.specs.declared.answer.Loaded.TheVariants as loads
 use Rattle.mm_mem.specs.declared.answer.Stored.TheVariants as stores
-use Rattle.mm_mem.specs.Answers.{loaded, stored, put_where, after_load, after_store, after_map, after_unmap}
+use Rattle.mm_mem.specs.Answers.{loaded, stored, put_where, set_where, after_load, after_store, after_map, after_unmap}
 use Rattle.mm_mem.specs.Laws.{RefusalsChangeNothing, LoadsSetOneBit, StoresWriteOneCell, AccessesKeepPages, MapsOnePage, UnmapsOnePage, RemovedPagesComeBackEmpty, FramesStay, CallsKeepPaged, ContentsAreThePages}
 use Rattle.mm_mem.proofs.Places.{held, found_at}
 use Rattle.mm_mem.specs.Places.{IsAt}
@@ -55,19 +56,34 @@ refused_store m w pre f (Some c) refused =
 abbrev bit_set : Post → Cell → Cell
 bit_set post c = record c { full = full_after post c.full }
 
+-- what a load leaves is what it would write, or the memory itself where it keeps the bit
+set_or : (P : Memory → Type 0) (m : Memory) (w : ℕ) (pre : Pre) (post : Post) (o : Option Cell) → (post ≡ posts.Keep → P m) → P (put_where m w pre o (bit_set post)) → P (set_where m w pre post o)
+set_or P m w pre posts.Keep None keep k = keep refl
+set_or P m w pre posts.Keep (Some c) keep k = elim (passes pre c.full) as (λ b. P (if b then m else m)) [ true ↦ keep refl | false ↦ keep refl ]
+set_or P m w pre posts.Full None keep k = k
+set_or P m w pre posts.Full (Some c) keep k = k
+set_or P m w pre posts.Empty None keep k = k
+set_or P m w pre posts.Empty (Some c) keep k = k
+
+own_bit : (m : Memory) (w : ℕ) (post : Post) (c : Cell) → cell_at m w ≡ Some c → post ≡ posts.Keep → cell_at m w ≡ Some (record { word = c.word; full = full_after post c.full })
+own_bit m w posts.Keep c here e = here
+own_bit m w posts.Full c here e = cc
+own_bit m w posts.Empty c here e = cc
+
 abbrev written : Word → Post → Cell → Cell
 written word post c = record { word = word; full = full_after post c.full }
 
 pub refusals : RefusalsChangeNothing
 refusals = record {
-  load = λ m w pre post refused. refused_load m w pre (bit_set post) (cell_at m w) refused;
+  load = λ m w pre post refused. set_or (λ n. n ≡ m) m w pre post (cell_at m w) (λ e. refl) (refused_load m w pre (bit_set post) (cell_at m w) refused);
   store = λ m w word pre post refused. refused_store m w pre (written word post) (cell_at m w) refused;
 }
 
 pub one_bit : LoadsSetOneBit
 one_bit = record {
-  own = λ m w pre post c here passed. put_where_own m w pre c (bit_set post) here passed;
-  other = λ m w pre post v ne. put_where_other m w pre (bit_set post) v ne;
+  own = λ m w pre post c here passed.
+      set_or (λ n. cell_at n w ≡ Some (record { word = c.word; full = full_after post c.full })) m w pre post (cell_at m w) (own_bit m w post c here) (put_where_own m w pre c (bit_set post) here passed);
+  other = λ m w pre post v ne. set_or (λ n. cell_at n v ≡ cell_at m v) m w pre post (cell_at m w) (λ e. refl) (put_where_other m w pre (bit_set post) v ne);
 }
 
 pub one_cell : StoresWriteOneCell
@@ -87,7 +103,7 @@ put_where_paged m w pre f h = put_where_keeps IsPaged m w pre (cell_at m w) f h 
 
 pub accesses_keep_pages : AccessesKeepPages
 accesses_keep_pages = record {
-  load = λ m w pre post p. put_where_mapped m w pre (bit_set post) p;
+  load = λ m w pre post p. set_or (λ n. is_mapped n p ≡ is_mapped m p) m w pre post (cell_at m w) (λ e. refl) (put_where_mapped m w pre (bit_set post) p);
   store = λ m w word pre post p. put_where_mapped m w pre (written word post) p;
 }
 
@@ -154,7 +170,7 @@ come_back_empty m p w paged there a s =
     ap (λ n. cell_at (after_map n p) w) removed ∙ map_own (unmap_page m p) p w can a s
 
 pub load_frames : (m : Memory) (w : ℕ) (pre : Pre) (post : Post) → (after_load m w pre post).frames ≡ m.frames
-load_frames m w pre post = put_where_frames m w pre (bit_set post)
+load_frames m w pre post = set_or (λ n. n.frames ≡ m.frames) m w pre post (cell_at m w) (λ e. refl) (put_where_frames m w pre (bit_set post))
 
 pub store_frames : (m : Memory) (w : ℕ) (word : Word) (pre : Pre) (post : Post) → (after_store m w word pre post).frames ≡ m.frames
 store_frames m w word pre post = put_where_frames m w pre (written word post)
@@ -175,7 +191,7 @@ frames_stay = record {
 
 pub paged_stay : CallsKeepPaged
 paged_stay = record {
-  load = λ m w pre post h. put_where_paged m w pre (bit_set post) h;
+  load = λ m w pre post h. set_or IsPaged m w pre post (cell_at m w) (λ e. h) (put_where_paged m w pre (bit_set post) h);
   store = λ m w word pre post h. put_where_paged m w pre (written word post) h;
   map = λ m p lt h. chosen IsPaged (can_map m p) (map_page m p) m (λ can. cells.map_paged m p h can lt) (λ e. h);
   unmap = λ m p h. chosen IsPaged (is_mapped m p) (unmap_page m p) m (λ e. cells.unmap_paged m p h) (λ e. h);

@@ -55,8 +55,18 @@ impl Memory for PlainMem {
         if !passes(pre, cell.full) {
             return Loaded::NotReady;
         }
-        let full = full_after(post, cell.full);
-        self.flat.put(i, word, Cell { full, ..cell });
+        match post {
+            Post::Keep => {}
+            Post::Full => self.flat.put(i, word, Cell { full: true, ..cell }),
+            Post::Empty => self.flat.put(
+                i,
+                word,
+                Cell {
+                    full: false,
+                    ..cell
+                },
+            ),
+        }
         Loaded::Value(cell.word)
     }
 
