@@ -1,5 +1,5 @@
 -- Where the cells of a page are, and their lines place by place.
-use Rattle.std.proofs.Common.{◌≡◌, ℕ, zero, suc, ◌+◌, ◌*◌, ◌/◌, ◌%◌, ◌<◌, ◌≤◌, ◌^◌, Bool, true, false, cond, is_eq, List, [], ◌∷◌, ◌++◌, length, map, Option, Some, None, slice_get, slice_index_or, refl, sym, ap, ◌∙◌, subst, arith}
+use Rattle.std.proofs.Common.{◌≡◌, ℕ, zero, suc, ◌+◌, ◌*◌, ◌%◌, ◌<◌, ◌^◌, Bool, true, false, cond, is_eq, List, [], ◌∷◌, ◌++◌, length, map, Option, Some, None, slice_get, slice_index_or, refl, sym, ap, ◌∙◌, arith}
 use Rattle.std.specs.List.{flat_map, range_with_len, AllByRecursion}
 use Rattle.std.specs.Prelude.{IsTrue}
 use Rattle.std.specs.Ordering.{nat_cmp}
@@ -50,9 +50,9 @@ lines_from f k w (c ∷ cells) [] e h = absurd (omega arith)
 lines_from f k w (c ∷ cells) (d ∷ was) e h =
     let head : f k ≡ change_line w c d = ap f (let z : k ≡ k + 0 = omega arith in z) ∙ h 0 (omega arith) ∙ ap (λ (v : ℕ). change_line v c d) (let z : w + 8 * 0 ≡ w = omega arith in z) in
     let tail : changed_cells (w + 8) cells was ≡ flat_map f (range_with_len (k + 1) (length cells)) =
-        lines_from f (k + 1) (w + 8) cells was (omega arith) (λ j lt.
-            ap f (let z : k + 1 + j ≡ k + suc j = omega arith in z) ∙ h (suc j) (omega arith)
-            ∙ ap (λ (v : ℕ). change_line v (slice_index_or cells j zero_cell) (slice_index_or was j zero_cell)) (let z : w + 8 * suc j ≡ w + 8 + 8 * j = omega arith in z)) in
+    lines_from f (k + 1) (w + 8) cells was (omega arith) (λ j lt.
+    ap f (let z : k + 1 + j ≡ k + suc j = omega arith in z) ∙ h (suc j) (omega arith)
+    ∙ ap (λ (v : ℕ). change_line v (slice_index_or cells j zero_cell) (slice_index_or was j zero_cell)) (let z : w + 8 * suc j ≡ w + 8 + 8 * j = omega arith in z)) in
     ap (λ (text : List ℕ). text ++ changed_cells (w + 8) cells was) (sym head) ∙ ap (λ (text : List ℕ). f k ++ text) tail
 
 pub lines_by_place : (w n : ℕ) (cells was : List Cell) → length cells ≡ n → length was ≡ n → changed_cells w cells was ≡ flat_map (line_at w cells was) (range_with_len 0 n)

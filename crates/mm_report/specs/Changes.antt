@@ -1,5 +1,5 @@
 -- The lines of what changed in memory, place by place.
-use Rattle.std.specs.Prelude.{ℕ, ◌+◌, ◌*◌, if◌then◌else◌, List, [], slice_index_or, Option}
+use Rattle.std.specs.Prelude.{ℕ, ◌+◌, ◌*◌, if◌then◌else◌, List, [], slice_index_or}
 use Rattle.mm_word.specs.declared.word.Cell.{Cell}
 use Rattle.mm_model.specs.Memory.{Memory, zero_cell, page_at}
 use Rattle.mm_model.specs.Lines.{cell_line}

@@ -58,10 +58,7 @@ fn put_cell<O: Sink>(text: &mut Gather, out: &mut O, word: u64, cell: &Cell)
 fn put_bit<O: Sink>(text: &mut Gather, out: &mut O, full: bool)
     ensures { Gathers O.taken O.faults out.old out.new text.old text.new (full_text full ++ newline) }
 {
-    text.put_piece(
-        out,
-        &Piece::Text(if full { " full\n" } else { " empty\n" }),
-    );
+    text.put_piece(out, &Piece::Text(if full { " full\n" } else { " empty\n" }));
 }
 
 /// Appends the line of a cell that is not as it was.
@@ -78,7 +75,9 @@ pub(crate) fn find_page(pages: &[Page], number: u64) -> Option<usize>
     requires { IsTrue (is_sorted nat_cmp pages.now) }
     ensures { MatchOption result (page_at (contents pages.now) number ≡ None) (IsAt number pages.now) }
 {
-    pages.binary_search_by_key(&number, |page| page.number()).ok()
+    pages
+        .binary_search_by_key(&number, |page| page.number())
+        .ok()
 }
 
 /// A cell of the image's page, or integer 0, full, where the image has no such page.

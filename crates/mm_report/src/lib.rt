@@ -5,16 +5,16 @@ mod cells;
 mod counts;
 mod output;
 mod page_changes;
-mod summary;
 mod sections;
 mod slots;
+mod summary;
 #[cfg(test)]
 mod tests;
 mod trace;
 mod words;
 
 pub use output::put_output;
-pub use summary::report;
 pub use slots::{put_slot, slot_lines};
+pub use summary::report;
 pub use trace::{put_step, trace_line};
 pub use words::put_word;

@@ -121,7 +121,13 @@ pub fn put_pages<M: Inspect, O: Sink>(text: &mut Gather, out: &mut O, mem: &M, p
     let mut i = 0;
     let mut j = 0;
     while let Some(number) = lesser(mapped_at(mem, i), had_at(pages, j)) {
-        put_page_change(text, out, number, is_there(mem, number), was_there(pages, number));
+        put_page_change(
+            text,
+            out,
+            number,
+            is_there(mem, number),
+            was_there(pages, number),
+        );
         i = mapped_behind(mem, i, number);
         j = had_behind(pages, j, number);
     }

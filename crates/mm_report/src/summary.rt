@@ -18,16 +18,20 @@ use mm_text::Gather;
 /// Writes the report of a machine against an image: the number of cycles; for each group that has a slot its output and its slots;
 /// the pages that were mapped or removed; the cells that changed; and what the memory counted, where it counts. At a [`WriteFault`]
 /// the sink took a front part.
-#[tactic(auto, unfolding(mm_model::specs::Report::report))]
-pub fn report<M: Inspect, O: Sink>(m: &Machine<M>, img: &Image, out: &mut O) -> Result<(), WriteFault>
+pub fn report<M: Inspect, O: Sink>(
+    m: &Machine<M>,
+    img: &Image,
+    out: &mut O,
+) -> Result<(), WriteFault>
     ensures { (us : List Use) → StandsTo m.now us → Writes O.taken O.faults out.old out.new (report_of (state_of m.now) img.now (M.tells us)) result }
 {
     let mem = m.memory();
+    let pages = img.pages();
     let mut text = Gather::new();
     put_cycles(&mut text, out, m.cycles());
     put_sections(&mut text, out, m);
-    put_pages(&mut text, out, mem, img.pages());
-    put_cells(&mut text, out, mem, img.pages());
+    put_pages(&mut text, out, mem, pages);
+    put_cells(&mut text, out, mem, pages);
     put_counts(&mut text, out, mem.counts());
     text.finish(out)
 }

@@ -18,8 +18,8 @@ loop-index-preserved g c =
     let cells : List Cell = cells_of now c.args.number in
     let was : List Cell = cells_of (contents c.args.pages.now) c.args.number in
     let line : change_line (c.args.number * 4096 + 8 * n) c.cell_there-now.result c.cell_of-was.result ≡ line_at (c.args.number * 4096) cells was n =
-        ap (λ (x : Cell). change_line (c.args.number * 4096 + 8 * n) x c.cell_of-was.result) c.cell_there-now.ensures
-        ∙ ap (λ (x : Cell). change_line (c.args.number * 4096 + 8 * n) (get_or cells n zero_cell) x) c.cell_of-was.ensures in
+    ap (λ (x : Cell). change_line (c.args.number * 4096 + 8 * n) x c.cell_of-was.result) c.cell_there-now.ensures
+    ∙ ap (λ (x : Cell). change_line (c.args.number * 4096 + 8 * n) (get_or cells n zero_cell) x) c.cell_of-was.ensures in
     gathers_item (line_at (c.args.number * 4096) cells was) (range_with_len 0 512) n n inside same c.loop-index.invariant (gathers_same c.put_change.ensures line)
 
 pub returns : goal.returns

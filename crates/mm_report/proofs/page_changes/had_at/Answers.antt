@@ -1,4 +1,4 @@
-use Rattle.std.proofs.Common.{◌≡◌, ◌∙◌, ℕ, List, Some, sym, ap, slice_index_or}
+use Rattle.std.proofs.Common.{◌∙◌, ℕ, List, Some, sym, ap}
 use Rattle.mm_word.specs.declared.word.Cell.{Cell}
 use Rattle.mm_report.proofs.Unions.{head_at}
 use Rattle.mm_report.proofs.page_changes.had_at.Goals as goal

@@ -1,4 +1,4 @@
-use Rattle.std.proofs.Common.{◌≡◌, ◌∙◌, ◌<◌, Some, sym, refl, arith, length, drop}
+use Rattle.std.proofs.Common.{◌≡◌, ◌∙◌, ◌<◌, Some, sym, arith, length, drop}
 use Rattle.mm_report.specs.Pages.{numbers, first}
 use Rattle.mm_report.proofs.Unions.{rest_behind, inside, length_numbers, equal_says}
 use Rattle.mm_report.proofs.page_changes.had_behind.Goals as goal

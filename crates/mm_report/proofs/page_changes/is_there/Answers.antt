@@ -1,4 +1,4 @@
-use Rattle.std.proofs.Common.{◌≡◌, ◌∙◌, ap, is_some}
+use Rattle.std.proofs.Common.{◌∙◌, ap, is_some}
 use Rattle.mm_report.proofs.Unions.{mapped_word}
 use Rattle.mm_report.proofs.page_changes.is_there.Goals as goal
 

@@ -1,8 +1,7 @@
-use Rattle.std.proofs.Common.{◌≡◌, ◌∙◌, ◌<◌, List, ℕ, ◌+◌, ◌^◌, Some, sym, subst, refl, arith, length, drop}
+use Rattle.std.proofs.Common.{◌∙◌, ◌<◌, List, ℕ, ◌+◌, ◌^◌, sym, subst, refl, arith, length}
 use Rattle.std.specs.Option.{IsSome}
-use Rattle.mm_report.specs.Pages.{numbers, first}
+use Rattle.mm_report.specs.Pages.{numbers}
 use Rattle.mm_report.proofs.Unions.{rest_behind, inside, length_numbers, equal_says}
-use Rattle.mm_report.proofs.page_changes.mapped_behind.Given as given
 use Rattle.mm_report.proofs.page_changes.mapped_behind.Goals as goal
 
 pub overflow_add-result : goal.overflow_add-result

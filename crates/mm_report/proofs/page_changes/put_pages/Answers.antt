@@ -1,11 +1,11 @@
-use Rattle.std.proofs.Common.{◌≡◌, ◌∙◌, ◌++◌, ◌+◌, ◌<◌, Bool, List, [], ℕ, Option, Some, None, rules, refl, sym, ap, arith, length, drop, append_assoc, append-nil}
+use Rattle.std.proofs.Common.{◌≡◌, ◌∙◌, ◌++◌, ◌+◌, ◌<◌, Bool, List, [], ℕ, Option, Some, None, rules, sym, ap, arith, length, drop, append_assoc, append-nil}
 use Rattle.mm_word.specs.declared.word.Cell.{Cell}
 use Rattle.mm_model.specs.Report.{page_change}
 use Rattle.mm_model.specs.Memory.{Memory, is_mapped}
 use Rattle.mm_text.proofs.Gathering.{gathers_then, gathers_same}
 use Rattle.mm_report.specs.Changes.{contents}
 use Rattle.mm_report.specs.Pages.{numbers, first, lesser, behind}
-use Rattle.mm_report.proofs.Unions.{Written, lines_of, change_at, all_lines, no_lines, one_line, shorter, small_number}
+use Rattle.mm_report.proofs.Unions.{lines_of, change_at, all_lines, no_lines, one_line, shorter, small_number}
 use Rattle.mm_report.proofs.page_changes.put_pages.Goals as goal
 
 pub loop-number-init : goal.loop-number-init
@@ -40,12 +40,12 @@ loop-number-preserved g c =
     let ys : List ℕ = drop c.loop-number.j (numbers was.pages) in
     let w = c.loop-number.invariant in
     let is : lesser (first xs) (first ys) ≡ Some n =
-        least xs ys c.mapped_at.result c.had_at.result c.lesser.result n c.mapped_at.ensures.number c.had_at.ensures c.lesser.ensures c.in-Some.is in
+    least xs ys c.mapped_at.result c.had_at.result c.lesser.result n c.mapped_at.ensures.number c.had_at.ensures c.lesser.ensures c.in-Some.is in
     let line : page_change n c.is_there.result c.was_there.result ≡ change_at now was n =
-        ap (λ (b : Bool). page_change n b c.was_there.result) c.is_there.ensures ∙ ap (page_change n (is_mapped now n)) c.was_there.ensures in
+    ap (λ (b : Bool). page_change n b c.was_there.result) c.is_there.ensures ∙ ap (page_change n (is_mapped now n)) c.was_there.ensures in
     let left : lines_of now was (drop c.mapped_behind-i.result (numbers now.pages)) (drop c.had_behind-j.result (numbers was.pages)) ≡ lines_of now was (behind n xs) (behind n ys) =
-        ap (λ (zs : List ℕ). lines_of now was zs (drop c.had_behind-j.result (numbers was.pages))) c.mapped_behind-i.ensures.rest
-        ∙ ap (lines_of now was (behind n xs)) c.had_behind-j.ensures.rest in
+    ap (λ (zs : List ℕ). lines_of now was zs (drop c.had_behind-j.result (numbers was.pages))) c.mapped_behind-i.ensures.rest
+    ∙ ap (lines_of now was (behind n xs)) c.had_behind-j.ensures.rest in
     record {
       text = w.text ++ change_at now was n;
       gathered = gathers_then w.gathered (gathers_same c.put_page_change.ensures line);
@@ -65,7 +65,7 @@ loop-number-smaller g c =
     let xs : List ℕ = drop c.loop-number.i (numbers now.pages) in
     let ys : List ℕ = drop c.loop-number.j (numbers c.args.pages.now) in
     let is : lesser (first xs) (first ys) ≡ Some n =
-        least xs ys c.mapped_at.result c.had_at.result c.lesser.result n c.mapped_at.ensures.number c.had_at.ensures c.lesser.ensures c.in-Some.is in
+    least xs ys c.mapped_at.result c.had_at.result c.lesser.result n c.mapped_at.ensures.number c.had_at.ensures c.lesser.ensures c.in-Some.is in
     let lt : length (behind n xs) + length (behind n ys) < length xs + length ys = shorter xs ys n is in
     let left : length (drop c.mapped_behind-i.result (numbers now.pages)) ≡ length (behind n xs) = ap length c.mapped_behind-i.ensures.rest in
     let right : length (drop c.had_behind-j.result (numbers c.args.pages.now)) ≡ length (behind n ys) = ap length c.had_behind-j.ensures.rest in

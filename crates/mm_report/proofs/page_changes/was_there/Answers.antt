@@ -1,4 +1,4 @@
-use Rattle.std.proofs.Common.{◌≡◌, ◌∙◌}
+use Rattle.std.proofs.Common.{◌∙◌}
 use Rattle.mm_report.proofs.Unions.{was_mapped}
 use Rattle.mm_report.proofs.page_changes.was_there.Goals as goal
 

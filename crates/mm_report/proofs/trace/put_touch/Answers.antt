@@ -1,4 +1,4 @@
-use Rattle.std.proofs.Common.{◌∙◌, ◌++◌, sym, ap, ℕ, List}
+use Rattle.std.proofs.Common.{◌∙◌, ◌++◌, sym, ap, ℕ}
 use Rattle.mm_word.specs.declared.perm.Kind.{Kind}
 use Rattle.mm_model.specs.Digits.{hex}
 use Rattle.mm_model.specs.Trace.{kind_text, touch_text}
