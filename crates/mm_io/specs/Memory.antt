@@ -1,5 +1,5 @@
 -- What sinks and files in memory hold.
-use Rattle.std.specs.Prelude.{ℕ, ◌+◌, ◌<◌, ◌⊎◌, min, List, [], ◌∷◌, length, Contains, Vec, String, string_bytes, if◌then◌else◌}
+use Rattle.std.specs.Prelude.{◌≡◌, ℕ, ◌+◌, ◌-◌, ◌<◌, ◌⊎◌, min, List, [], ◌∷◌, length, Contains, Vec, String, string_bytes, if◌then◌else◌, Option, Some, None, unwrap_or}
 use Rattle.std.specs.Str.{bytes_eq}
 use Rattle.std.specs.declared.alloc.Global.{Global}
 use Rattle.mm_io.specs.Files.{raised}
@@ -22,7 +22,28 @@ Refuses s bytes = Contains s.fails (raised s.calls) ⊎ (s.room < length s.taken
 abbrev pub named : String Global × Vec ℕ Global → List ℕ × List ℕ
 named file = (string_bytes file.0, file.1.items)
 
--- the bytes of the first file of the name, and none where there is no such file
+-- the bytes of the first file of the name, if there is one
+abbrev pub file_in : List (List ℕ × List ℕ) → List ℕ → Option (List ℕ)
+file_in [] name = None
+file_in (file ∷ files) name = if bytes_eq file.0 name then Some file.1 else file_in files name
+
+-- the same, and no bytes where there is no such file
 abbrev pub file_of : List (List ℕ × List ℕ) → List ℕ → List ℕ
-file_of [] name = []
-file_of (file ∷ files) name = if bytes_eq file.0 name then file.1 else file_of files name
+file_of files name = unwrap_or (file_in files name) []
+
+-- Files in memory: their names and bytes, the numbers of the calls that fail, the most bytes that one call moves, and how many calls
+-- and faults there were.
+pub record MemoryFiles : Type 0 where
+  pub files : List (List ℕ × List ℕ)
+  pub fails : List ℕ
+  pub piece : ℕ
+  pub calls : ℕ
+  pub faults : ℕ
+
+-- a read of a name fails: its number is listed, or there is no such file
+abbrev pub RefusesRead : MemoryFiles → List ℕ → Type 0
+RefusesRead s name = Contains s.fails (raised s.calls) ⊎ (file_in s.files name ≡ None)
+
+-- how many bytes a read from an offset moves into a buffer of a length
+abbrev pub moved : MemoryFiles → List ℕ → ℕ → ℕ → ℕ
+moved s name offset room = min (length (file_of s.files name) - offset) (min room s.piece)

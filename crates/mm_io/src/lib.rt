@@ -7,8 +7,10 @@
 //! of the system do not.
 #![tactic(auto)]
 
+mod files;
 mod kinds;
 mod memory;
+mod named;
 mod read;
 mod sure;
 mod system;
@@ -16,6 +18,7 @@ mod system;
 mod tests;
 mod write;
 
+pub use files::MemFiles;
 pub use kinds::{Failed, Files, Sink, Source};
 pub use memory::{MemSink, NullSink};
 pub use read::{ReadError, read_all, read_input};

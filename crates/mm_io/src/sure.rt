@@ -2,6 +2,7 @@
 ghost use Rattle.std.specs.Prelude.{◌≡◌, ℕ, ◌≤◌, List, Some, length, drop, map};
 ghost use Rattle.mm_io.specs.Memory.{file_of, named};
 
+use crate::named::find;
 use crate::{Failed, Files, Source};
 use std::marker::Model;
 
@@ -27,24 +28,13 @@ impl SureFiles {
     }
 }
 
-fn find<'a>(files: &'a [(String, Vec<u8>)], name: &str) -> &'a [u8]
-    ensures { result.now ≡ file_of (map named files.now) name.now }
-{
-    for file in files {
-        if file.0.as_str() == name {
-            return &file.1;
-        }
-    }
-    &[]
-}
-
 impl Files for SureFiles {
     ghost held = { λ s name. Some (file_of s name) };
 
     ghost faults = { λ _ _. 0 };
 
     fn read_at(&mut self, name: &str, offset: u64, buf: &mut [u8]) -> Result<usize, Failed> {
-        let bytes = find(&self.files, name);
+        let bytes = find(&self.files, name).unwrap_or(&[]);
         let start = bytes.len().min(offset as usize);
         let rest = &bytes[start..];
         let count = rest.len().min(buf.len());

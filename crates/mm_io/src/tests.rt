@@ -1,6 +1,6 @@
 use crate::{
-    Failed, Files, MemSink, NullSink, ReadError, Sink, Source, StdFiles, StdSink, StdSource,
-    SureFiles, SureSource, WriteFault, read_all, read_input, write_all,
+    Failed, Files, MemFiles, MemSink, NullSink, ReadError, Sink, Source, StdFiles, StdSink,
+    StdSource, SureFiles, SureSource, WriteFault, read_all, read_input, write_all,
 };
 use std::fs;
 use std::io::{self, Write};
@@ -77,13 +77,39 @@ fn failing_sink(rt: HostRuntime) -> Result<(), Fail> {
     Ok(())
 }
 
-#[test]
-fn sure(rt: HostRuntime) -> Result<(), Fail> {
+/// Files with these names and texts.
+fn named(rt: &HostRuntime, files: &[(&str, &str)]) -> Result<Vec<(String, Vec<u8>)>, Fail> {
     let mut held = Vec::new(rt.alloc());
-    for (name, text) in [("a", "first"), ("b", "other"), ("a", "second")] {
+    for (name, text) in files {
         let name = String::from_str(rt.alloc(), name)?;
         held.push((name, Vec::from_slice(rt.alloc(), text.as_bytes())?))?;
     }
+    Ok(held)
+}
+
+#[test]
+fn failing_files(rt: HostRuntime) -> Result<(), Fail> {
+    let held = named(&rt, &[("a", "first"), ("b", "other"), ("a", "second")])?;
+    let mut files = MemFiles::new(held, vec![in rt.alloc(); 3]?, 4);
+    let mut buf = [b'.'; 9];
+    assert_eq!(rt; files.read_at("a", 0, &mut buf), Ok(4));
+    assert_eq!(rt; files.read_at("a", 3, &mut buf), Ok(2));
+    assert_eq!(rt; buf, *b"strs.....");
+    assert_eq!(rt; files.read_at("a", 0, &mut buf), Err(Failed));
+    assert_eq!(rt;
+        read_all(rt.alloc(), &mut files, "b", 5)?.as_slice(),
+        b"other".as_slice()
+    );
+    assert_eq!(rt;
+        read_all(rt.alloc(), &mut files, "absent", 5).err(),
+        Some(ReadError::ReadFault)
+    );
+    Ok(())
+}
+
+#[test]
+fn sure(rt: HostRuntime) -> Result<(), Fail> {
+    let held = named(&rt, &[("a", "first"), ("b", "other"), ("a", "second")])?;
     let mut files = SureFiles::new(held);
     for (name, text) in [("a", "first"), ("b", "other"), ("absent", "")] {
         let bytes = read_all(rt.alloc(), &mut files, name, 5)?;

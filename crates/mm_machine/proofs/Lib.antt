@@ -1,17 +1,2 @@
-pub mod EqualBits
-pub mod FieldLists
-pub mod FirstImages
-pub mod HeaderFields
-pub mod IntegerFields
-pub mod LoadedImages
-pub mod ManyAt
-pub mod NumberFields
-pub mod OneBit
-pub mod OneCore
-pub mod OneCycle
-pub mod OneTurn
-pub mod PageFields
-pub mod RisingPages
-pub mod SlotFields
-pub mod SortedEntries
-pub mod SortedPages
+pub mod Keeping
+mod Starting

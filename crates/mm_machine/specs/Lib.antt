@@ -1,7 +1,2 @@
-pub mod Cells
-pub mod Fields
-pub mod FirstForm
-pub mod FirstImage
-pub mod FirstTurn
-pub mod FullPages
-pub mod OneSlot
+pub mod Kept
+pub mod Machine

@@ -1,117 +1,125 @@
-ghost use Rattle.std.specs.Prelude.{◌≡◌, ◌≢◌, ℕ, ◌+◌, ◌<◌, ◌^◌, ◌↔◌, false, [], ◌∷◌, Option, None, Some, IsSomeAnd};
-ghost use Rattle.std.specs.Option.{option_copied};
-ghost use Rattle.std.specs.Int.{IsBitSet};
-ghost use Rattle.mm_model.specs.declared.slot.SlotState.TheVariants.{Running};
-ghost use Rattle.mm_model.specs.State.{slot_at, output_of};
-ghost use Rattle.mm_model.specs.Run.{next_running};
-ghost use Rattle.mm_machine.specs.FirstTurn.{first_turn, first_after};
-ghost use Rattle.mm_machine.specs.OneSlot.{IsOnlySlot, least_bit};
+ghost use Rattle.std.specs.Prelude.{◌≡◌, ◌+◌, ◌*◌, ◌≤◌, ◌^◌};
+ghost use Rattle.mm_machine.specs.Kept.{Kept};
 
-use crate::memory::Memory;
-use crate::output::Output;
-use crate::turn::{is_running, step};
-use mm_model::{Slot, Step};
-use std::marker::Model;
+use mm_image::Image;
+use mm_mem::Memory;
+use mm_thread::{Core, Slot, Step, turn};
+use mm_word::NoMemory;
+use std::alloc::Global;
 
-/// A machine of one slot over a memory of integers. Contracts see it as a state of the model.
+/// Slots over a memory, and a count of cycles.
 #[derive(Drop)]
-pub struct Machine {
-    slot: Slot,
-    output: Output,
-    memory: Memory,
+pub struct Machine<M: Memory> {
+    core: Core,
+    mem: M,
     cycles: u64,
+    /// How often a port between nodes was used.
+    ports: u64,
+    ghost kept: { ∥ Kept (record { core = core; memory = M.meaning mem; cycles = cycles }) ∥₁ },
+    ghost few_ports: { ports ≤ 2 ^ 32 },
+    ghost few_uses: { M.uses mem ≤ 2 * cycles + ports },
 }
 
-impl Model for Machine {
-    ghost use Rattle.mm_model.specs.State.{State};
+impl<M: Memory> Machine<M> {
+    ghost use Rattle.std.specs.Prelude.{◌≡◌, ◌↔◌, ℕ, ◌+◌, ◌<◌, ◌≤◌, ◌^◌, [], ◌∷◌, ◌++◌, true, List, length, slice_get, IfOk, IsSomeAnd, Some};
+    ghost use Rattle.mm_model.specs.Fits.{slots_of};
+    ghost use Rattle.std.specs.Option.{option_copied};
+    ghost use Rattle.std.specs.Int.{IsBitSet};
+    ghost use Rattle.mm_model.specs.declared.slot.SlotState.TheVariants.{Running};
+    ghost use Rattle.mm_model.specs.Memory.{IsPaged, cell_at};
+    ghost use Rattle.mm_model.specs.Ask.{load_kind};
+    ghost use Rattle.mm_model.specs.Uses.{Use};
+    ghost use Rattle.mm_model.specs.Image.{Image as ImageValue, start};
+    ghost use Rattle.mm_model.specs.State.{slot_at, output_of};
+    ghost use Rattle.mm_model.specs.Run.{turn_of, after};
+    ghost use Rattle.mm_mem.specs.Answers.{loaded, stored, after_load, after_store, access_uses};
+    ghost use Rattle.mm_machine.specs.Machine.{state_of, StandsTo, Takes, StandsFor};
 
-    ghost Value = { State };
-
-    ghost use Rattle.mm_machine.specs.OneSlot.{one_core, IsAt};
-
-    ghost view = { λ m. record { core = one_core m.slot m.output; memory = m.memory; cycles = m.cycles } };
-
-    ghost invariant = { λ m. IsAt m.slot m.cycles };
-}
-
-impl Machine {
-    ghost use Rattle.mm_machine.specs.OneSlot.{one_core};
-
-    /// The machine that begins so.
-    pub(crate) fn new(slot: Slot, output: Output, memory: Memory) -> Machine
-        requires only { IsOnlySlot slot }
-        requires turns { slot.turns ≡ 0 }
-        ensures { result ≡ record { core = one_core slot output; memory = memory; cycles = 0 } }
+    /// The machine of an image at its start, over a memory that holds the image's pages and was not used yet.
+    pub fn new(alloc: Global, img: &Image, mem: M) -> Result<Machine<M>, NoMemory>
+        requires memory { M.meaning mem ≡ img.now.memory }
+        requires unused { M.stands mem [] }
+        ensures state { IfOk result (λ m. state_of m ≡ start img.now) }
+        ensures stands { IfOk result (λ m. StandsFor img.now [] m) }
+        ensures no_port { IfOk result (λ m. m.ports ≡ 0) }
     {
-        Machine {
-            slot,
-            output,
-            memory,
+        let mut core = Core::new(alloc, img.slots())?;
+        core.set_version(img.version());
+        core.set_split(img.split());
+        Ok(Machine {
+            core,
+            mem,
             cycles: 0,
-        }
+            ports: 0,
+        })
     }
 
-    /// Carries out the cycle that names this slot, and tells what it did. It is idle where the slot is absent or does not
-    /// run.
-    pub fn cycle(&mut self, slot: u8) -> Step
+    /// One cycle. The item names a slot or, in a split machine, is 128 more than the number of the slot whose port it is.
+    pub fn cycle(&mut self, item: u8) -> Step
         requires { self.old.cycles < 2 ^ 32 }
-        ensures state { self.new ≡ first_after self.old slot }
-        ensures step { result ≡ (first_turn self.old.core self.old.memory slot).step }
-        ensures memory { self.new.memory ≡ self.old.memory }
-        ensures cycles { self.new.cycles ≡ self.old.cycles + 1 }
+
+        // From every state: the turn of the model, its step and its uses.
+        ensures state { state_of self.new ≡ after (state_of self.old) item }
+        ensures step { result ≡ (turn_of (state_of self.old) item).step }
+        ensures takes { Takes self.old self.new (turn_of (state_of self.old) item).uses }
+
+        // After any items of an image, one item more.
+        ensures runs { (i : ImageValue) (items : List ℕ) → StandsFor i items self.old → StandsFor i (items ++ item ∷ []) self.new }
+        ensures ports { self.new.ports ≡ self.old.ports }
     {
-        let step = step(&mut self.slot, &mut self.output, &self.memory, slot);
         self.cycles += 1;
-        step
+        turn(&mut self.core, &mut self.mem, item)
     }
 
-    /// How many cycles were carried out.
+    /// How many cycles there were.
     pub fn cycles(&self) -> u64
-        ensures { result ≡ self.now.cycles }
+        ensures { result ≡ (state_of self.now).cycles }
     {
         self.cycles
     }
 
-    /// The running slots: bit `n` is set exactly where slot `n` runs. The lowest one is the slot that round robin names next.
-    pub fn running(&self) -> u64
-        ensures bits { (n : ℕ) → n < 64 → (IsBitSet result n ↔ IsSomeAnd (slot_at self.now.core n) (λ slot. slot.state ≡ Running)) }
-        ensures next { (last : Option ℕ) → next_running self.now.core.rows last ≡ least_bit result }
-    {
-        let only = self.only();
-        if is_running(only) {
-            1 << only.number
-        } else {
-            0
-        }
-    }
-
     /// The slot of a number, if there is one.
     pub fn slot(&self, n: u8) -> Option<&Slot>
-        ensures { option_copied result ≡ slot_at self.now.core n }
+        ensures { option_copied result ≡ slot_at (state_of self.now).core n }
     {
-        let only = self.only();
-        (only.number == n).then_some(only)
+        self.core.slot(n)
     }
 
-    /// The bytes that a group has put out, oldest first. A group without a slot has put out none.
+    /// The running slots: bit n is set exactly where slot n runs.
+    pub fn running(&self) -> u64
+        ensures { (n : ℕ) → n < 64 → (IsBitSet result n ↔ IsSomeAnd (slot_at (state_of self.now).core n) (λ s. s.state ≡ Running)) }
+    {
+        self.core.running()
+    }
+
+    /// How many slots there are.
+    pub fn slot_count(&self) -> usize
+        ensures { result ≡ length (slots_of (state_of self.now).core) }
+    {
+        self.core.count()
+    }
+
+    /// The i-th slot, by ascending number.
+    pub fn nth_slot(&self, i: usize) -> &Slot
+        requires { i < length (slots_of (state_of self.now).core) }
+        ensures { slice_get (slots_of (state_of self.now).core) i ≡ Some result.now }
+    {
+        self.core.nth(i)
+    }
+
+    /// What a group has put out. A group without a slot has put out nothing.
     pub fn output(&self, group: u8) -> &[u8]
-        ensures { result.now ≡ output_of self.now.core group }
+        ensures { result.now ≡ output_of (state_of self.now).core group }
     {
-        if self.only().group == group {
-            self.output.bytes()
-        } else {
-            &[]
-        }
+        self.core.output(group)
     }
 
-    /// The one slot.
-    #[tactic(auto, unfolding(crate::specs::OneSlot::one_core))]
-    pub fn only(&self) -> &Slot
-        ensures rows { self.now.core.rows ≡ record { slot = result.now; queue = [] } ∷ [] }
-        ensures only { IsOnlySlot result.now }
-        ensures version { self.now.core.version ≡ 1 }
-        ensures plain { self.now.core.split ≡ false }
+    /// Its memory.
+    pub fn memory(&self) -> &M
+        ensures memory { M.meaning result.now ≡ (state_of self.now).memory }
+        ensures stands { (us : List Use) → StandsTo self.now us → M.stands result.now us }
+        ensures paged { IsPaged (M.meaning result.now) }
     {
-        &self.slot
+        &self.mem
     }
 }

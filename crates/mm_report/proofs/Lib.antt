@@ -1,2 +1,6 @@
 pub mod OutputRows
 pub mod RegisterLines
+pub mod CellPlaces
+pub mod Unions
+pub mod Members
+pub mod ReportText

@@ -1,12 +1,20 @@
-//! The texts of slots and of what groups have put out.
+//! The texts of a machine: its report, the lines of slots, and the lines of a trace.
 #![tactic(auto)]
 
+mod cells;
+mod counts;
 mod output;
+mod page_changes;
+mod sections;
 mod slots;
+mod summary;
 #[cfg(test)]
 mod tests;
+mod trace;
 mod words;
 
 pub use output::put_output;
 pub use slots::{put_slot, slot_lines};
+pub use summary::report;
+pub use trace::{put_step, trace_line};
 pub use words::put_word;

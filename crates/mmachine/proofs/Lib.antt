@@ -1,5 +1,5 @@
 pub mod Verdicts
-pub mod Clashes
-pub mod OneSection
-pub mod OneRobin
-pub mod OneRun
+pub mod Complete
+pub mod Rounds
+pub mod Running
+pub mod Reported

@@ -1,65 +1,60 @@
 -- What a call answers, and why.
-use Rattle.std.specs.Prelude.{◌≡◌, ◌⊎◌, ℕ, ◌≤◌, List, [], ◌++◌, length, Option, None, IsSome, Result, Ok, Err, codes, decimal, ⊤}
+use Rattle.std.specs.Prelude.{◌≡◌, ◌⊎◌, ℕ, List, [], ◌++◌, Option, None, Some, Result, Ok, Err, codes, decimal, ⊤}
 use Rattle.std.specs.Io.KnownBytes.{append_known}
 use Rattle.mm_io.specs.declared.read.ReadError.{ReadError}
 use Rattle.mm_io.specs.declared.read.ReadError.TheVariants as error
-use Rattle.mm_io.specs.Files.{Rose, Holds, IsLonger}
+use Rattle.mm_io.specs.Files.{Rose}
 use Rattle.mm_io.specs.Sinks.{TookPart}
-use Rattle.mm_model.specs.Image.{Image, start}
-use Rattle.mm_model.specs.State.{State}
+use Rattle.mm_image.specs.Faults.{number_of}
+use Rattle.mm_model.specs.declared.counts.Counts.{Counts}
+use Rattle.mm_model.specs.Uses.{Use}
+use Rattle.mm_model.specs.Image as model
+use Rattle.mm_model.specs.Run as machine
+use Rattle.mm_model.specs.Schedule.{first_items}
 use Rattle.mm_model.specs.Report.{report}
-use Rattle.mm_machine.specs.FirstForm.{SpellsFirst}
-use Rattle.mm_machine.specs.FirstTurn.{first_run, first_robin}
 use Rattle.mmachine.specs.declared.status.Refusal.{Refusal}
-use Rattle.mmachine.specs.declared.status.Refusal.TheVariants.{TooLong, NotBuilt}
+use Rattle.mmachine.specs.declared.status.Refusal.TheVariants.{TooLong, Image, Schedule}
 use Rattle.mmachine.specs.declared.status.Status.{Status}
 use Rattle.mmachine.specs.declared.status.Status.TheVariants.{Done, Usage, Refused, ReadFault, WriteFault, NoMemory}
 use Rattle.mmachine.specs.declared.status.Stop.{Stop}
 use Rattle.mmachine.specs.declared.status.Stop.TheVariants as stop
 use Rattle.mmachine.specs.Table.{Row, run, Asks, InNoRow}
+use Rattle.mmachine.specs.Files.{ImageAccepted, ScheduleAccepted, FilesRefused, FilesTold, FilesFailed}
 
--- the most bytes that an image file has
-abbrev pub image_limit : ℕ
-image_limit = 33554432
+-- 1. What words come to.
 
 -- What a row comes to once its files are read: a refusal, or a text that is to be written.
 pub data Outcome : Type 0 where
   refuse : Refusal → Outcome
   write : List ℕ → Outcome
 
--- The image file is refused: it is longer than its limit, or spells no image of the form that runs.
-abbrev pub ImageRefused : Option (List ℕ) → Refusal → Type 0
-ImageRefused told (TooLong file) = (file ≡ 1) × IsLonger told image_limit
-ImageRefused told (NotBuilt file) =
-    (file ≡ 1) × ((bytes : List ℕ) × Holds told bytes × (length bytes ≤ image_limit) × ((i : Image) → SpellsFirst bytes i → ⊥))
+-- The items that are issued, which a list's file may say: without one so many cycles of round robin, else the list's first so many.
+abbrev pub Issues : (List ℕ → Option (List ℕ)) → model.Image → ℕ → Option (List ℕ) → List ℕ → Type 0
+Issues held i cycles None items = items ≡ machine.robin_from (model.start i) None cycles
+Issues held i cycles (Some schedule) items = (list : List ℕ) × ScheduleAccepted (held schedule) list × (items ≡ first_items list cycles)
 
--- It is accepted, and this is the image that it spells.
-abbrev pub ImageAccepted : Option (List ℕ) → Image → Type 0
-ImageAccepted told i = (bytes : List ℕ) × Holds told bytes × (length bytes ≤ image_limit) × SpellsFirst bytes i
+-- the report of an image's run under these items, with what the memory tells of the run's uses
+abbrev pub report_after : (List Use → Option Counts) → model.Image → List ℕ → List ℕ
+report_after tells i items = report (machine.run (model.start i) items) i (tells (machine.uses (model.start i) items))
 
--- the state of the image's machine after so many cycles of round robin
-abbrev pub after_robin : Image → ℕ → State
-after_robin i cycles = first_run (start i) (first_robin (start i) None cycles)
-
--- What a row comes to, by what the files hold as far as that is told.
-abbrev pub Gives : (List ℕ → Option (List ℕ)) → Row → Outcome → Type 0
-Gives held (run image cycles) (refuse r) = ImageRefused (held image) r
-Gives held (run image cycles) (write text) = (i : Image) × ImageAccepted (held image) i × (text ≡ report (after_robin i cycles) i None)
-
--- The image file is accepted, and this is its machine at the start.
-abbrev pub ImageLoaded : Option (List ℕ) → State → Type 0
-ImageLoaded told s = (i : Image) × ImageAccepted told i × (s ≡ start i)
+-- what a row comes to, by what the files hold as far as that is told, and by what the memory tells of uses
+abbrev pub Gives : (List Use → Option Counts) → (List ℕ → Option (List ℕ)) → Row → Outcome → Type 0
+Gives tells held (run image cycles schedule) (refuse r) = FilesRefused held image schedule r
+Gives tells held (run image cycles schedule) (write text) = (i : model.Image) × (items : List ℕ) × ImageAccepted (held image) i
+    × Issues held i cycles schedule items × (text ≡ report_after tells i items)
 
 -- what words come to
-abbrev pub ComesTo : (List ℕ → Option (List ℕ)) → List (List ℕ) → Outcome → Type 0
-ComesTo held words outcome = (row : Row) × Asks words row × Gives held row outcome
+abbrev pub ComesTo : (List Use → Option Counts) → (List ℕ → Option (List ℕ)) → List (List ℕ) → Outcome → Type 0
+ComesTo tells held words outcome = (row : Row) × Asks words row × Gives tells held row outcome
+
+-- 2. Why an answer comes.
 
 -- The count of one of the row's file names rose, or stands at its last value, and each file before it was accepted.
-abbrev pub FileFailed : (List ℕ → Option (List ℕ)) → (List ℕ → ℕ) → (List ℕ → ℕ) → Row → Type 0
-FileFailed held before now (run image cycles) = Rose (before image) (now image)
+abbrev pub FileFailed : (List ℕ → Option (List ℕ)) → (before now : List ℕ → ℕ) → Row → Type 0
+FileFailed held before now (run image cycles schedule) = FilesFailed held before now image schedule
 
 -- the same of the words
-abbrev pub ReadFailed : (List ℕ → Option (List ℕ)) → (List ℕ → ℕ) → (List ℕ → ℕ) → List (List ℕ) → Type 0
+abbrev pub ReadFailed : (List ℕ → Option (List ℕ)) → (before now : List ℕ → ℕ) → List (List ℕ) → Type 0
 ReadFailed held before now words = (row : Row) × Asks words row × FileFailed held before now row
 
 -- nothing is written at these answers
@@ -73,7 +68,9 @@ abbrev pub line_of : Status → List ℕ
 line_of Done = []
 line_of Usage = codes "mmachine: usage\n"
 line_of (Refused (TooLong file)) = codes "mmachine: file " ++ decimal file ++ codes " too long\n"
-line_of (Refused (NotBuilt file)) = codes "mmachine: file " ++ decimal file ++ codes " not built\n"
+line_of (Refused (Image file fault offset)) =
+    codes "mmachine: file " ++ decimal file ++ codes " image fault " ++ decimal (number_of fault) ++ codes " at " ++ decimal offset ++ codes "\n"
+line_of (Refused (Schedule file offset)) = codes "mmachine: file " ++ decimal file ++ codes " schedule fault at " ++ decimal offset ++ codes "\n"
 line_of ReadFault = codes "mmachine: read fault\n"
 line_of WriteFault = codes "mmachine: write fault\n"
 line_of NoMemory = codes "mmachine: out of memory\n"
@@ -85,37 +82,41 @@ pub record TookLine (old new : Option (List ℕ)) (before now : ℕ) (line : Lis
 
 -- the files of a row are told
 abbrev pub AllTold : (List ℕ → Option (List ℕ)) → Row → Type 0
-AllTold held (run image cycles) = IsSome (held image)
+AllTold held (run image cycles schedule) = FilesTold held image schedule
 
 -- What completeness asks: the words are in a row, its files are told and come to a text, and no count that the row
 -- depends on rose or stands at its last value.
-pub record NothingFails (held : List ℕ → Option (List ℕ)) (words : List (List ℕ)) (before now : List ℕ → ℕ) (out_before out_now : ℕ) : Type 0 where
+pub record NothingFails (tells : List Use → Option Counts) (held : List ℕ → Option (List ℕ)) (words : List (List ℕ)) (before now : List ℕ → ℕ)
+    (out_before out_now : ℕ) : Type 0 where
   pub row : Row
   pub asks : Asks words row
   pub told : AllTold held row
   pub text : List ℕ
-  pub gives : Gives held row (write text)
+  pub gives : Gives tells held row (write text)
   pub read : ¬ FileFailed held before now row
   pub written : ¬ Rose out_before out_now
 
+-- 3. What the parts of the program answer.
+
 -- What an answer to a row says, of its outcome, its files and the sink.
-abbrev pub RowAnswers : {S : Type 0} → (List ℕ → Option (List ℕ)) → (List ℕ → ℕ) → (List ℕ → ℕ) → (S → Option (List ℕ)) → (S → ℕ)
-    → S → S → Row → Status → Type 0
-RowAnswers held before now taken faults old new row Done = (text : List ℕ) × Gives held row (write text) × (taken new ≡ append_known (taken old) text)
-RowAnswers held before now taken faults old new row Usage = ⊥
-RowAnswers held before now taken faults old new row (Refused r) = Gives held row (refuse r) × (taken new ≡ taken old)
-RowAnswers held before now taken faults old new row ReadFault = FileFailed held before now row × (taken new ≡ taken old)
-RowAnswers held before now taken faults old new row WriteFault =
-    ((text : List ℕ) × Gives held row (write text) × TookPart (taken old) (taken new) text) × Rose (faults old) (faults new)
-RowAnswers held before now taken faults old new row NoMemory = taken new ≡ taken old
+abbrev pub RowAnswers : {S : Type 0} → (List Use → Option Counts) → (List ℕ → Option (List ℕ)) → (before now : List ℕ → ℕ)
+    → (taken : S → Option (List ℕ)) → (faults : S → ℕ) → (old new : S) → Row → Status → Type 0
+RowAnswers tells held before now taken faults old new row Done =
+    (text : List ℕ) × Gives tells held row (write text) × (taken new ≡ append_known (taken old) text)
+RowAnswers tells held before now taken faults old new row Usage = ⊥
+RowAnswers tells held before now taken faults old new row (Refused r) = Gives tells held row (refuse r) × (taken new ≡ taken old)
+RowAnswers tells held before now taken faults old new row ReadFault = FileFailed held before now row × (taken new ≡ taken old)
+RowAnswers tells held before now taken faults old new row WriteFault =
+    ((text : List ℕ) × Gives tells held row (write text) × TookPart (taken old) (taken new) text) × Rose (faults old) (faults new)
+RowAnswers tells held before now taken faults old new row NoMemory = taken new ≡ taken old
 
 -- What an answer to words says.
-pub record Answers {S : Type 0} (held : List ℕ → Option (List ℕ)) (before now : List ℕ → ℕ) (taken : S → Option (List ℕ)) (faults : S → ℕ)
-    (old new : S) (words : List (List ℕ)) (status : Status) : Type 0 where
+pub record Answers {S : Type 0} (tells : List Use → Option Counts) (held : List ℕ → Option (List ℕ)) (before now : List ℕ → ℕ)
+    (taken : S → Option (List ℕ)) (faults : S → ℕ) (old new : S) (words : List (List ℕ)) (status : Status) : Type 0 where
   pub cases : (InNoRow words × (status ≡ Usage) × (taken new ≡ taken old))
-      ⊎ ((row : Row) × Asks words row × RowAnswers held before now taken faults old new row status)
+      ⊎ ((row : Row) × Asks words row × RowAnswers tells held before now taken faults old new row status)
 
--- Why the reading of a file stops: by a refusal, by a fault of the files, or by want of memory.
+-- Why the reading of files stops: by a refusal, by a fault of the files, or by want of memory.
 abbrev pub Stops : (Refusal → Type 0) → Type 0 → Stop → Type 0
 Stops Refuses Fails (stop.Refused r) = Refuses r
 Stops Refuses Fails stop.ReadFault = Fails

@@ -1,4 +1,5 @@
 pub mod Table
-pub mod Report
+pub mod Files
+pub mod Orders
 pub mod Answers
 pub mod Exit

@@ -1,5 +1,4 @@
 // The line of an answer.
-ghost use Rattle.std.specs.Prelude.{◌++◌, codes, decimal};
 ghost use Rattle.mm_io.specs.Sinks.{Writes};
 ghost use Rattle.mmachine.specs.Answers.{line_of};
 
@@ -14,24 +13,51 @@ pub fn write_line<D: Sink>(status: Status, diag: &mut D) -> Result<(), WriteFaul
     match status {
         Status::Done => Ok(()),
         Status::Usage => write_all(diag, b"mmachine: usage\n"),
-        Status::Refused(Refusal::TooLong { file }) => write_file_line(diag, file, " too long\n"),
-        Status::Refused(Refusal::NotBuilt { file }) => write_file_line(diag, file, " not built\n"),
+        Status::Refused(refusal) => write_refusal(refusal, diag),
         Status::ReadFault => write_all(diag, b"mmachine: read fault\n"),
         Status::WriteFault => write_all(diag, b"mmachine: write fault\n"),
         Status::NoMemory => write_all(diag, b"mmachine: out of memory\n"),
     }
 }
 
-/// Writes a line on the file of a number.
-fn write_file_line<D: Sink>(diag: &mut D, file: u8, what: &str) -> Result<(), WriteFault>
-    ensures { Writes D.taken D.faults diag.old diag.new (codes "mmachine: file " ++ decimal file ++ what.now) result }
+/// Writes the line of a refusal.
+fn write_refusal<D: Sink>(refusal: Refusal, diag: &mut D) -> Result<(), WriteFault>
+    ensures { Writes D.taken D.faults diag.old diag.new (line_of (Status.Refused refusal)) result }
 {
-    write_pieces(
-        diag,
-        &[
-            Piece::Text("mmachine: file "),
-            Piece::Decimal(file as u64),
-            Piece::Text(what),
-        ],
-    )
+    match refusal {
+        Refusal::TooLong { file } => write_pieces(
+            diag,
+            &[
+                Piece::Text("mmachine: file "),
+                Piece::Decimal(file as u64),
+                Piece::Text(" too long\n"),
+            ],
+        ),
+        Refusal::Image {
+            file,
+            fault,
+            offset,
+        } => write_pieces(
+            diag,
+            &[
+                Piece::Text("mmachine: file "),
+                Piece::Decimal(file as u64),
+                Piece::Text(" image fault "),
+                Piece::Decimal(fault.number() as u64),
+                Piece::Text(" at "),
+                Piece::Decimal(offset),
+                Piece::Text("\n"),
+            ],
+        ),
+        Refusal::Schedule { file, offset } => write_pieces(
+            diag,
+            &[
+                Piece::Text("mmachine: file "),
+                Piece::Decimal(file as u64),
+                Piece::Text(" schedule fault at "),
+                Piece::Decimal(offset),
+                Piece::Text("\n"),
+            ],
+        ),
+    }
 }

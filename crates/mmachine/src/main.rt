@@ -7,9 +7,9 @@
 ghost use Rattle.std.specs.Prelude.{◌≡◌};
 ghost use Rattle.mmachine.specs.Exit.{exit_code};
 
+mod cycles;
 mod line;
-mod report;
-mod robin;
+mod load;
 mod run;
 mod status;
 #[cfg(test)]
@@ -20,6 +20,7 @@ mod words;
 use crate::status::Status;
 use crate::top::mmachine;
 use mm_io::{StdFiles, StdSink, StdSource};
+use mm_mem::PlainMem;
 use std::env;
 use std::process::ExitCode;
 
@@ -53,7 +54,7 @@ fn main(rt: HostRuntime) -> ExitCode {
     let mut input = StdSource::new(rt.stdin());
     let mut out = StdSink::new(rt.stdout());
     let mut diag = StdSink::new(rt.stderr());
-    let status = mmachine(
+    let status = mmachine::<PlainMem, _, _, _, _>(
         rt.alloc(),
         &words,
         &mut files,

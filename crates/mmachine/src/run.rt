@@ -1,62 +1,59 @@
-// `run`: an image for so many cycles.
+// `run`: the report of an image after so many cycles.
 ghost use Rattle.std.specs.Prelude.{◌≡◌, ◌≤◌, IfOk, IfErr};
-ghost use Rattle.mm_io.specs.Files.{Rose};
+ghost use Rattle.std.specs.Option.{option_map};
+ghost use Rattle.mm_io.specs.Files.{Rose, NoneFell};
 ghost use Rattle.mmachine.specs.Table as table;
-ghost use Rattle.mmachine.specs.Answers.{RowAnswers, ImageLoaded, ImageRefused, Stops, status_of, stop_of_error};
+ghost use Rattle.mmachine.specs.Orders.{IsOrder};
+ghost use Rattle.mmachine.specs.Answers.{RowAnswers, status_of, Stops};
+ghost use Rattle.mmachine.specs.Files.{ImageAccepted, FilesRefused, FilesFailed};
 
-use crate::report::write_report;
-use crate::robin::round_robin;
-use crate::status::{Refusal, Stop};
-use mm_io::{Files, ReadError, Sink, WriteFault, read_all};
-use mm_machine::{Machine, load};
-use mm_word::NoMemory;
+use crate::cycles::issue;
+use crate::load::{boot, load_image, load_schedule};
+use crate::status::Stop;
+use mm_image::Image;
+use mm_io::{Files, Sink};
+use mm_machine::Machine;
+use mm_mem::Boot;
+use mm_report::report;
+use mm_sched::Order;
 use std::alloc::Global;
 
-/// The most bytes of an image file.
-const IMAGE_LIMIT: u64 = 33_554_432;
-
-/// `run IMAGE CYCLES`
-pub fn run<F: Files, O: Sink>(
+/// `run IMAGE CYCLES [SCHEDULE]`
+pub fn run<M: Boot, F: Files, O: Sink>(
     alloc: Global,
     image: &str,
     cycles: u64,
+    schedule: Option<&str>,
     files: &mut F,
     out: &mut O,
 ) -> Result<(), Stop>
     requires { cycles ≤ 1000000 }
-    ensures { RowAnswers (F.held files.old) (F.faults files.old) (F.faults files.new) O.taken O.faults out.old out.new
-        (table.run image.now cycles) (status_of result) }
+    ensures { RowAnswers M.tells (F.held files.old) (F.faults files.old) (F.faults files.new) O.taken O.faults out.old out.new
+        (table.run image.now cycles (option_map (λ name. name.now) schedule.entry)) (status_of result) }
 {
-    let mut machine = load_machine(alloc, files, image)?;
-    round_robin(&mut machine, cycles);
-    match write_report(&machine, out) {
-        Ok(()) => Ok(()),
-        Err(WriteFault) => Err(Stop::WriteFault),
-    }
+    let (image, order) = load_files(alloc, files, image, schedule)?;
+    let mut machine: Machine<M> = boot(alloc, &image)?;
+    issue(&mut machine, &order, cycles);
+    report(&machine, &image, out)?;
+    Ok(())
 }
 
-/// Reads the image file, which is the first, and makes its machine.
-fn load_machine<F: Files>(alloc: Global, files: &mut F, name: &str) -> Result<Machine, Stop>
-    ensures machine { IfOk result (λ machine. ImageLoaded (F.held files.old name.now) machine) }
-    ensures stop { IfErr result (Stops (ImageRefused (F.held files.old name.now)) (Rose (F.faults files.old name.now) (F.faults files.new name.now))) }
+/// Reads and parses the image file and then, where there is one, the schedule file.
+fn load_files<F: Files>(
+    alloc: Global,
+    files: &mut F,
+    image: &str,
+    schedule: Option<&str>,
+) -> Result<(Image, Order), Stop>
+    ensures image { IfOk result (λ both. ImageAccepted (F.held files.old image.now) both.0) }
+    ensures order { IfOk result (λ both. IsOrder (F.held files.old) (option_map (λ name. name.now) schedule.entry) both.1) }
+    ensures stop { IfErr result (Stops (FilesRefused (F.held files.old) image.now (option_map (λ name. name.now) schedule.entry))
+        (FilesFailed (F.held files.old) (F.faults files.old) (F.faults files.new) image.now (option_map (λ name. name.now) schedule.entry))) }
 {
-    let bytes = match read_all(alloc, files, name, IMAGE_LIMIT) {
-        Ok(bytes) => bytes,
-        Err(error) => return Err(stop_of(error, 1)),
+    let image = load_image(alloc, files, image)?;
+    let order = match schedule {
+        None => Order::Robin,
+        Some(name) => Order::List(load_schedule(alloc, files, name)?),
     };
-    match load(alloc, &bytes) {
-        Ok(Some(machine)) => Ok(machine),
-        Ok(None) => Err(Stop::Refused(Refusal::NotBuilt { file: 1 })),
-        Err(NoMemory) => Err(Stop::NoMemory),
-    }
-}
-
-fn stop_of(error: ReadError, file: u8) -> Stop
-    ensures { result ≡ stop_of_error error file }
-{
-    match error {
-        ReadError::ReadFault => Stop::ReadFault,
-        ReadError::TooLong => Stop::Refused(Refusal::TooLong { file }),
-        ReadError::NoMemory => Stop::NoMemory,
-    }
+    Ok((image, order))
 }

@@ -1,10 +1,24 @@
-/// Why a command is refused.
+// What a call answers.
+ghost use Rattle.std.specs.Prelude.{◌≡◌};
+ghost use Rattle.mmachine.specs.declared.status.Stop.TheVariants as stop;
+
+use mm_image::ImageFault;
+use mm_io::WriteFault;
+use mm_word::NoMemory;
+
+/// Why a command is refused. A file is counted from 1 among the command's file words.
 #[derive(Clone, Copy, Debug, PartialEq, Eq)]
 pub enum Refusal {
-    /// The file, counted from 1 among the command's file words, is longer than its limit.
+    /// The file is longer than its limit.
     TooLong { file: u8 },
-    /// The image in the file is of a form that this program does not run yet.
-    NotBuilt { file: u8 },
+    /// The file spells no image: its first fault, and where that stands.
+    Image {
+        file: u8,
+        fault: ImageFault,
+        offset: u64,
+    },
+    /// The file is no schedule: where its fault stands.
+    Schedule { file: u8, offset: u64 },
 }
 
 /// What the program answers.
@@ -30,4 +44,20 @@ pub enum Stop {
     ReadFault,
     WriteFault,
     NoMemory,
+}
+
+impl From<WriteFault> for Stop {
+    ghost from_gives = { λ _ e. e ≡ stop.WriteFault };
+
+    fn from(_: WriteFault) -> Self {
+        Stop::WriteFault
+    }
+}
+
+impl From<NoMemory> for Stop {
+    ghost from_gives = { λ _ e. e ≡ stop.NoMemory };
+
+    fn from(_: NoMemory) -> Self {
+        Stop::NoMemory
+    }
 }

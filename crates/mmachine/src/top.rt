@@ -1,5 +1,5 @@
 // The top call: all that the program does.
-ghost use Rattle.std.specs.Prelude.{◌≡◌, ◌↔◌, ◌⊎◌, List, ℕ, IfOk, IfErr};
+ghost use Rattle.std.specs.Prelude.{◌≡◌, ◌↔◌, ◌⊎◌, List, ℕ};
 ghost use Rattle.std.specs.Io.KnownBytes.{append_known};
 ghost use Rattle.mm_io.specs.Files.{Rose};
 ghost use Rattle.mm_io.specs.Sinks.{TookPart};
@@ -12,13 +12,15 @@ use crate::run::run;
 use crate::status::{Refusal, Status, Stop};
 use crate::words::{Command, read_words};
 use mm_io::{Files, Sink, Source};
+use mm_mem::Boot;
 use std::alloc::Global;
 
 /// Does what the words ask, writes the result to `out`, and one line to `diag` where it is not done.
 ///
-/// `words` are the command line without the program's name.
-#[tactic(auto, using(crate::proofs::Verdicts::usage, crate::proofs::Verdicts::refused, crate::proofs::Verdicts::read_fault, crate::proofs::Verdicts::write_fault, crate::proofs::Verdicts::done, crate::proofs::Verdicts::part, crate::proofs::Verdicts::silent))]
-pub fn mmachine<F: Files, I: Source, O: Sink, D: Sink>(
+/// `words` are the command line without the program's name. `M` is the type of the memory that every command which runs an image
+/// makes and runs on.
+#[tactic(auto, using(crate::proofs::Verdicts::usage, crate::proofs::Verdicts::refused, crate::proofs::Verdicts::read_fault, crate::proofs::Verdicts::write_fault, crate::proofs::Verdicts::done, crate::proofs::Verdicts::part, crate::proofs::Verdicts::silent, crate::proofs::Complete::complete))]
+pub fn mmachine<M: Boot, F: Files, I: Source, O: Sink, D: Sink>(
     alloc: Global,
     words: &[String],
     files: &mut F,
@@ -28,35 +30,44 @@ pub fn mmachine<F: Files, I: Source, O: Sink, D: Sink>(
 ) -> Status
     // Each answer has its cause.
     ensures usage { (result ≡ Status.Usage) ↔ InNoRow (texts words.now) }
-    ensures refused { (r : Refusal) → result ≡ Status.Refused r → ComesTo (F.held files.old) (texts words.now) (refuse r) }
+    ensures refused { (r : Refusal) → result ≡ Status.Refused r → ComesTo M.tells (F.held files.old) (texts words.now) (refuse r) }
     ensures read_fault { result ≡ Status.ReadFault → ReadFailed (F.held files.old) (F.faults files.old) (F.faults files.new) (texts words.now) }
     ensures write_fault { result ≡ Status.WriteFault → Rose (O.faults out.old) (O.faults out.new) }
 
     // What is written.
-    ensures done { result ≡ Status.Done → (text : List ℕ) × ComesTo (F.held files.old) (texts words.now) (write text)
+    ensures done { result ≡ Status.Done → (text : List ℕ) × ComesTo M.tells (F.held files.old) (texts words.now) (write text)
         × (O.taken out.new ≡ append_known (O.taken out.old) text) }
-    ensures part { result ≡ Status.WriteFault → (text : List ℕ) × ComesTo (F.held files.old) (texts words.now) (write text)
+    ensures part { result ≡ Status.WriteFault → (text : List ℕ) × ComesTo M.tells (F.held files.old) (texts words.now) (write text)
         × TookPart (O.taken out.old) (O.taken out.new) text }
     ensures nothing { WritesNothing result → O.taken out.new ≡ O.taken out.old }
     ensures line { TookLine (D.taken diag.old) (D.taken diag.new) (D.faults diag.old) (D.faults diag.new) (line_of result) }
     ensures silent { result ≡ Status.Done → D.taken diag.new ≡ D.taken diag.old }
 
     // Where nothing fails, it is done or there is no memory.
-    ensures complete { NothingFails (F.held files.old) (texts words.now) (F.faults files.old) (F.faults files.new)
+    ensures complete { NothingFails M.tells (F.held files.old) (texts words.now) (F.faults files.old) (F.faults files.new)
         (O.faults out.old) (O.faults out.new)
         → (result ≡ Status.Done) ⊎ (result ≡ Status.NoMemory) }
 {
-    let status = answer(alloc, words, files, out);
+    let status = answer::<M, F, O>(alloc, words, files, out);
     let _ = write_line(status, diag);
     status
 }
 
-fn answer<F: Files, O: Sink>(alloc: Global, words: &[String], files: &mut F, out: &mut O) -> Status
-    ensures { Answers (F.held files.old) (F.faults files.old) (F.faults files.new) O.taken O.faults out.old out.new (texts words.now) result }
+fn answer<M: Boot, F: Files, O: Sink>(
+    alloc: Global,
+    words: &[String],
+    files: &mut F,
+    out: &mut O,
+) -> Status
+    ensures { Answers M.tells (F.held files.old) (F.faults files.old) (F.faults files.new) O.taken O.faults out.old out.new (texts words.now) result }
 {
     match read_words(words) {
         None => Status::Usage,
-        Some(Command::Run { image, cycles }) => status(run(alloc, image, cycles, files, out)),
+        Some(Command::Run {
+            image,
+            cycles,
+            schedule,
+        }) => status(run::<M, F, O>(alloc, image, cycles, schedule, files, out)),
     }
 }
 

@@ -1,0 +1,60 @@
+-- A machine keeps what is true of it, and goes on with the run that it stands for.
+use Rattle.std.proofs.Common.{◌≡◌, ℕ, ◌+◌, ◌<◌, ◌≤◌, ◌^◌, List, [], ◌∷◌, ◌++◌, refl, sym, ap, ◌∙◌, subst, arith, append_assoc, append-nil}
+use Rattle.std.specs.List.{AllByRecursion}
+use Rattle.std.proofs.Props.{props}
+use Rattle.std.proofs.Math.Logic.{∥∥₁_elim, ∥∥₁_map}
+use Rattle.mm_model.specs.Memory.{Memory, IsPaged}
+use Rattle.mm_model.specs.Slot.{Slot}
+use Rattle.mm_model.specs.State.{State, Core}
+use Rattle.mm_model.specs.Image.{Image, start}
+use Rattle.mm_model.specs.Spelling.{IsImage}
+use Rattle.mm_model.specs.Uses.{Use}
+use Rattle.mm_model.specs.Run.{turn_of, after, run, uses}
+use Rattle.mm_model.specs.Fits.{Fits, TurnsWithin, IsCore, slots_of}
+use Rattle.mm_model.proofs.Starts.{start_fits, start_within}
+use Rattle.mm_model.proofs.StateKeeps.{after_fits}
+use Rattle.mm_model.proofs.TurnBounds.{after_within}
+use Rattle.mm_machine.specs.Kept.{Kept}
+
+pub kept_start : (i : Image) → IsImage i → Kept (start i)
+kept_start i h = record { image = i; fits = start_fits i h; turns = start_within i h }
+
+pub kept_after : (s : State) (n : ℕ) → Kept s → Kept (after s n)
+kept_after s n k = record { image = k.image; fits = after_fits k.image s n k.fits; turns = after_within s n k.fits.core k.turns }
+
+fewer : (slots : List Slot) (n m : ℕ) → n < m → AllByRecursion (λ (s : Slot). s.turns ≤ n) slots → AllByRecursion (λ (s : Slot). s.turns < m) slots
+fewer [] n m lt h = tt
+fewer (s ∷ slots) n m lt h = (let le = h.0 in omega arith, fewer slots n m lt h.1)
+
+pub kept_turns : (s : State) → s.cycles < 2 ^ 32 → Kept s → AllByRecursion (λ (slot : Slot). slot.turns < 2 ^ 61) (slots_of s.core)
+kept_turns s lt k = fewer (slots_of s.core) s.cycles (2 ^ 61) (omega arith) k.turns
+
+-- one item more
+
+pub run_more : (s : State) (items : List ℕ) (n : ℕ) → run s (items ++ n ∷ []) ≡ after (run s items) n
+unfolding run
+run_more s [] n = refl
+run_more s (m ∷ items) n = run_more (after s m) items n
+
+pub uses_more : (s : State) (items : List ℕ) (n : ℕ) → uses s (items ++ n ∷ []) ≡ uses s items ++ (turn_of (run s items) n).uses
+unfolding run uses
+uses_more s [] n = append-nil (turn_of s n).uses
+uses_more s (m ∷ items) n = ap (λ (us : List Use). (turn_of s m).uses ++ us) (uses_more (after s m) items n) ∙ sym (append_assoc (turn_of s m).uses (uses (after s m) items) (turn_of (run (after s m) items) n).uses)
+
+-- what is kept, from a state to the next
+
+pub memory_paged : (s : State) → ∥ Kept s ∥₁ → IsPaged s.memory
+memory_paged s h = ∥∥₁_elim h (hlevel props) (λ k. k.fits.paged)
+
+pub few_turns : (s : State) → s.cycles < 2 ^ 32 → ∥ Kept s ∥₁ → AllByRecursion (λ (slot : Slot). slot.turns < 2 ^ 61) (slots_of s.core)
+few_turns s lt h = ∥∥₁_elim h (hlevel props) (λ k. kept_turns s lt k)
+
+pub goes_on : (s t : State) (n : ℕ) → t ≡ after s n → ∥ Kept s ∥₁ → ∥ Kept t ∥₁
+goes_on s t n is h = ∥∥₁_map h (λ k. subst Kept (sym is) (kept_after s n k))
+
+pub state_made : (s : State) (n : ℕ) (core : Core) (memory : Memory) → core ≡ (turn_of s n).core → memory ≡ (turn_of s n).memory
+    → record { core = core; memory = memory; cycles = s.cycles + 1 } ≡ after s n
+unfolding after
+state_made s n core memory c m =
+    ap (λ (x : Core). let t : State = record { core = x; memory = memory; cycles = s.cycles + 1 } in t) c
+    ∙ ap (λ (x : Memory). let t : State = record { core = (turn_of s n).core; memory = x; cycles = s.cycles + 1 } in t) m

@@ -1,0 +1,119 @@
+-- Where the cells of a page are, and their lines place by place.
+use Rattle.std.proofs.Common.{◌≡◌, ℕ, zero, suc, ◌+◌, ◌*◌, ◌%◌, ◌<◌, ◌^◌, Bool, true, false, cond, is_eq, List, [], ◌∷◌, ◌++◌, length, map, Option, Some, None, slice_get, slice_index_or, refl, sym, ap, ◌∙◌, arith}
+use Rattle.std.specs.List.{flat_map, range_with_len, AllByRecursion}
+use Rattle.std.specs.Prelude.{IsTrue}
+use Rattle.std.specs.Ordering.{nat_cmp}
+use Rattle.std.specs.FinMap.{is_sorted, find}
+use Rattle.std.proofs.lemmas.List.{get_or-replicate, length-replicate}
+use Rattle.mm_word.specs.declared.word.Cell.{Cell}
+use Rattle.mm_model.specs.Memory.{Memory, page_of, place_of, page_at, is_mapped, cell_in, cell_at, zero_cell, zero_page, IsPage, IsPaged}
+use Rattle.mm_model.specs.Report.{changed_cells, cells_or_zero}
+use Rattle.mm_model.proofs.Memories.{page_whole, cell_at-aligned}
+use Rattle.mm_mem.specs.Places.{IsAt}
+use Rattle.mm_mem.proofs.Places.{held, found_at}
+use Rattle.mm_mem.proofs.Flats.{mapped_here, page_here}
+use Rattle.mm_report.specs.Changes.{change_line, line_at, contents, cells_of, changes_of}
+
+pub page_there : (m : Memory) (p : ℕ) → is_mapped m p ≡ true → page_at m p ≡ Some (cells_of m p)
+page_there m p mapped = go (page_at m p) refl mapped
+  where
+    go : (o : Option (List Cell)) → page_at m p ≡ o → Rattle.std.specs.Option.is_some o ≡ true → page_at m p ≡ Some (cells_of m p)
+    go None e h = cc
+    go (Some cells) e h = rw e refl
+
+pub whole_page : (m : Memory) (p : ℕ) → IsPaged m → is_mapped m p ≡ true → length (cells_of m p) ≡ 512
+whole_page m p paged mapped = (page_whole m paged p (cells_of m p) (page_there m p mapped)).cells
+
+got : {X : Type 0} (xs : List X) (i : ℕ) (d : X) → i < length xs → slice_get xs i ≡ Some (slice_index_or xs i d)
+got [] i d h = absurd (omega arith)
+got (x ∷ xs) zero d h = refl
+got (x ∷ xs) (suc i) d h = got xs i d (omega arith)
+
+pub word_there : (m : Memory) (p i : ℕ) → IsPaged m → is_mapped m p ≡ true → i < 512 → cell_at m (p * 4096 + 8 * i) ≡ Some (slice_index_or (cells_of m p) i zero_cell)
+word_there m p i paged mapped h =
+    let w : ℕ = p * 4096 + 8 * i in
+    let aligned : w % 8 ≡ 0 = omega arith in
+    let page : page_of w ≡ p = omega arith in
+    let place : place_of w ≡ i = omega arith in
+    cell_at-aligned m w aligned
+    ∙ ap (λ (q : ℕ). cell_in (page_at m q) (place_of w)) page
+    ∙ ap (λ (k : ℕ). cell_in (page_at m p) k) place
+    ∙ ap (λ (o : Option (List Cell)). cell_in o i) (page_there m p mapped)
+    ∙ got (cells_of m p) i zero_cell (let size : length (cells_of m p) ≡ 512 = whole_page m p paged mapped in omega arith)
+
+-- the lines of changed cells, place by place from the k-th on
+lines_from : (f : ℕ → List ℕ) (k w : ℕ) (cells was : List Cell) → length cells ≡ length was
+    → ((j : ℕ) → j < length cells → f (k + j) ≡ change_line (w + 8 * j) (slice_index_or cells j zero_cell) (slice_index_or was j zero_cell))
+    → changed_cells w cells was ≡ flat_map f (range_with_len k (length cells))
+lines_from f k w [] was e h = refl
+lines_from f k w (c ∷ cells) [] e h = absurd (omega arith)
+lines_from f k w (c ∷ cells) (d ∷ was) e h =
+    let head : f k ≡ change_line w c d = ap f (let z : k ≡ k + 0 = omega arith in z) ∙ h 0 (omega arith) ∙ ap (λ (v : ℕ). change_line v c d) (let z : w + 8 * 0 ≡ w = omega arith in z) in
+    let tail : changed_cells (w + 8) cells was ≡ flat_map f (range_with_len (k + 1) (length cells)) =
+    lines_from f (k + 1) (w + 8) cells was (omega arith) (λ j lt.
+    ap f (let z : k + 1 + j ≡ k + suc j = omega arith in z) ∙ h (suc j) (omega arith)
+    ∙ ap (λ (v : ℕ). change_line v (slice_index_or cells j zero_cell) (slice_index_or was j zero_cell)) (let z : w + 8 * suc j ≡ w + 8 + 8 * j = omega arith in z)) in
+    ap (λ (text : List ℕ). text ++ changed_cells (w + 8) cells was) (sym head) ∙ ap (λ (text : List ℕ). f k ++ text) tail
+
+pub lines_by_place : (w n : ℕ) (cells was : List Cell) → length cells ≡ n → length was ≡ n → changed_cells w cells was ≡ flat_map (line_at w cells was) (range_with_len 0 n)
+lines_by_place w n cells was e d =
+    lines_from (line_at w cells was) 0 w cells was (e ∙ sym d) (λ j lt. ap (line_at w cells was) (let z : 0 + j ≡ j = omega arith in z))
+    ∙ ap (λ (k : ℕ). flat_map (line_at w cells was) (range_with_len 0 k)) e
+
+pub any_default : {X : Type 0} (xs : List X) (i : ℕ) (d e : X) → i < length xs → slice_index_or xs i d ≡ slice_index_or xs i e
+any_default xs i d e h = let a = got xs i d h in let b = got xs i e h in cc
+
+pub zero_there : (i : ℕ) → i < 512 → zero_cell ≡ slice_index_or zero_page i zero_cell
+zero_there i h = sym (get_or-replicate 512 i zero_cell zero_cell h)
+
+-- the cells of a page at a place of the list, and of one that is not there
+pub cells_here : (pages : List (ℕ × List Cell)) (number at : ℕ) (page : ℕ × List Cell) → IsTrue (is_sorted nat_cmp pages) → IsAt number pages at → page ≡ slice_index_or pages at page
+    → cells_of (contents pages) number ≡ page.1
+cells_here pages number at page sorted here is =
+    ap cells_or_zero (found_at number pages at (held _ sorted) here page) ∙ ap (λ (e : ℕ × List Cell). e.1) (sym is)
+
+pub cells_nowhere : (pages : List (ℕ × List Cell)) (number : ℕ) → page_at (contents pages) number ≡ None → cells_of (contents pages) number ≡ zero_page
+cells_nowhere pages number none = ap cells_or_zero none
+
+size_of : (cells : Option (List Cell)) → ((xs : List Cell) → cells ≡ Some xs → length xs ≡ 512) → length (cells_or_zero cells) ≡ 512
+size_of None f = length-replicate 512 zero_cell
+size_of (Some xs) f = f xs refl
+
+find_whole : (number : ℕ) (pages : List (ℕ × List Cell)) → AllByRecursion IsPage pages → (xs : List Cell) → find nat_cmp number pages ≡ Some xs → length xs ≡ 512
+find_whole number [] h xs e = cc
+find_whole number (page ∷ pages) h xs e = by (is_eq (nat_cmp number page.0)) e (find_whole number pages h.1 xs)
+  where
+    by : (b : Bool) → cond b (Some page.1) (find nat_cmp number pages) ≡ Some xs → (find nat_cmp number pages ≡ Some xs → length xs ≡ 512) → length xs ≡ 512
+    by true e later = let same : page.1 ≡ xs = cc in sym (ap (λ (ys : List Cell). length ys) same) ∙ h.0.cells
+    by false e later = later e
+
+-- each of these pages, or a page of zeros, has 512 cells
+pub was_whole : (pages : List (ℕ × List Cell)) (number : ℕ) → AllByRecursion IsPage pages → length (cells_of (contents pages) number) ≡ 512
+was_whole pages number h = size_of (find nat_cmp number pages) (find_whole number pages h)
+
+-- the pages of a memory by their places
+
+some_same : {A : Type 0} {x y : A} → Some x ≡ Some y → x ≡ y
+some_same e = cc
+
+at_place : (es : List (ℕ × List Cell)) (i n : ℕ) → slice_get (map (λ e. e.0) es) i ≡ Some n → IsAt n es i
+at_place [] i n e = cc
+at_place (x ∷ es) zero n e = record { in_range = omega arith; has_number = λ d. some_same e }
+at_place (x ∷ es) (suc i) n e = let later = at_place es i n e in record { in_range = omega (arith, later.in_range); has_number = later.has_number }
+
+pub place_number : (m : Memory) (i n : ℕ) → IsPaged m → slice_get (map (λ e. e.0) m.pages) i ≡ Some n → n < 2 ^ 42
+place_number m i n paged e =
+    let mapped : is_mapped m n ≡ true = mapped_here m n i paged (at_place m.pages i n e) in
+    (page_whole m paged n (cells_of m n) (page_there m n mapped)).number
+
+pub place_mapped : (m : Memory) (i n : ℕ) → IsPaged m → slice_get (map (λ e. e.0) m.pages) i ≡ Some n → is_mapped m n ≡ true
+place_mapped m i n paged e = mapped_here m n i paged (at_place m.pages i n e)
+
+pub changes_here : (m was : Memory) (i n : ℕ) (d : ℕ × List Cell) → IsPaged m → slice_get (map (λ e. e.0) m.pages) i ≡ Some n
+    → changes_of m was n ≡ changed_cells ((slice_index_or m.pages i d).0 * 4096) (slice_index_or m.pages i d).1 (cells_or_zero (page_at was (slice_index_or m.pages i d).0))
+changes_here m was i n d paged e =
+    let here = at_place m.pages i n e in
+    let page : ℕ × List Cell = slice_index_or m.pages i d in
+    let number : n ≡ page.0 = sym (here.has_number d) in
+    let cells : cells_of m n ≡ page.1 = ap cells_or_zero (page_here m n i page paged here (any_default m.pages i d page here.in_range)) in
+    ap (λ (xs : List Cell). changed_cells (n * 4096) xs (cells_of was n)) cells ∙ ap (λ (k : ℕ). changed_cells (k * 4096) page.1 (cells_or_zero (page_at was k))) number

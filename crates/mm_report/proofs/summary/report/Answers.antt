@@ -1,0 +1,26 @@
+use Rattle.std.proofs.Common.{List, ℕ, sym, subst}
+use Rattle.std.specs.Prelude.{IsTrue}
+use Rattle.std.specs.List.{AllByRecursion}
+use Rattle.std.specs.Ordering.{nat_cmp}
+use Rattle.std.specs.FinMap.{is_sorted}
+use Rattle.mm_word.specs.declared.word.Cell.{Cell}
+use Rattle.mm_model.specs.Memory.{IsPage}
+use Rattle.mm_machine.specs.Machine.{state_of}
+use Rattle.mm_text.proofs.Gathering.{gathers_then, gathers_same, gathered_writes}
+use Rattle.mm_report.proofs.ReportText.{report_text}
+use Rattle.mm_report.proofs.summary.report.Goals as goal
+
+pub put_pages-requires-clause-rising : goal.put_pages-requires-clause-rising
+put_pages-requires-clause-rising g c = subst (λ (ps : List (ℕ × List Cell)). IsTrue (is_sorted nat_cmp ps)) (sym c.pages-pages.ensures.pages) c.pages-pages.ensures.image.paged.rising
+
+pub put_pages-requires-clause-whole : goal.put_pages-requires-clause-whole
+put_pages-requires-clause-whole g c = subst (λ (ps : List (ℕ × List Cell)). AllByRecursion IsPage ps) (sym c.pages-pages.ensures.pages) c.pages-pages.ensures.image.paged.whole
+
+pub returns : goal.returns
+returns g c us stands =
+    gathered_writes c.new-text.ensures
+    (gathers_same
+    (gathers_then (gathers_then (gathers_then (gathers_then c.put_cycles.ensures c.put_sections.ensures) c.put_pages.ensures) c.put_cells.ensures) c.put_counts.ensures)
+    (report_text (state_of c.args.m.now) c.args.img.now (g.M.Inspect.tells us) c.counts.result c.cycles.result (g.M.Memory.meaning c.memory-mem.result.now) c.pages-pages.result.now
+    c.cycles.ensures c.memory-mem.ensures.memory c.pages-pages.ensures.pages (c.counts.ensures us (c.memory-mem.ensures.stands us stands))))
+    c.finish.ensures

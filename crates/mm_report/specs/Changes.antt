@@ -1,0 +1,26 @@
+-- The lines of what changed in memory, place by place.
+use Rattle.std.specs.Prelude.{ℕ, ◌+◌, ◌*◌, if◌then◌else◌, List, [], slice_index_or}
+use Rattle.mm_word.specs.declared.word.Cell.{Cell}
+use Rattle.mm_model.specs.Memory.{Memory, zero_cell, page_at}
+use Rattle.mm_model.specs.Lines.{cell_line}
+use Rattle.mm_model.specs.Report.{same_cell, changed_cells, cells_or_zero}
+
+-- the line of a cell that is not as it was
+abbrev pub change_line : ℕ → Cell → Cell → List ℕ
+change_line w c was = if same_cell c was then [] else cell_line w c
+
+-- the line of the cell at a place of a page whose cells begin at a word
+abbrev pub line_at : ℕ → List Cell → List Cell → ℕ → List ℕ
+line_at w cells was i = change_line (w + 8 * i) (slice_index_or cells i zero_cell) (slice_index_or was i zero_cell)
+
+-- the contents of these pages
+abbrev pub contents : List (ℕ × List Cell) → Memory
+contents pages = record { pages = pages; frames = 0 }
+
+-- the cells of a page, or of a page of zeros where it is not mapped
+abbrev pub cells_of : Memory → ℕ → List Cell
+cells_of m p = cells_or_zero (page_at m p)
+
+-- the lines of a mapped page's cells that are not as they were
+abbrev pub changes_of : Memory → Memory → ℕ → List ℕ
+changes_of now was p = changed_cells (p * 4096) (cells_of now p) (cells_of was p)

@@ -1,0 +1,4 @@
+pub mod Changes
+pub mod Groups
+pub mod Outcomes
+pub mod Pages

@@ -1,0 +1,141 @@
+// The lines of cells that changed.
+ghost use Rattle.std.specs.Prelude.{◌≡◌, ◌%◌, ◌<◌, ◌^◌, ◌++◌, IsTrue, MatchOption, None, length, slice_index_or, true};
+ghost use Rattle.std.specs.List.{AllByRecursion};
+ghost use Rattle.std.specs.Ordering.{nat_cmp};
+ghost use Rattle.std.specs.FinMap.{is_sorted};
+ghost use Rattle.mm_text.specs.Gathers.{Gathers};
+ghost use Rattle.mm_model.specs.Effect.{same_word};
+ghost use Rattle.mm_model.specs.Lines.{cell_line, full_text, newline};
+ghost use Rattle.mm_model.specs.Report.{same_cell, cell_lines};
+ghost use Rattle.mm_model.specs.Memory.{page_at, is_mapped, zero_cell, IsPage, IsPaged};
+ghost use Rattle.mm_mem.specs.Places.{IsAt};
+ghost use Rattle.mm_report.specs.Changes.{change_line, contents, cells_of, changes_of};
+
+use crate::words::put_word;
+use mm_io::Sink;
+use mm_mem::Inspect;
+use mm_model::{CELLS, Page};
+use mm_text::{Gather, Piece};
+use mm_word::{Cell, Word};
+
+/// What a cell is compared with where the image has no such page.
+const ZERO: Cell = Cell {
+    word: Word::Int(0),
+    full: true,
+};
+
+/// Whether tag and bits of two words are equal.
+fn is_same_word(a: Word, b: Word) -> bool
+    ensures { result ≡ same_word a b }
+{
+    a == b
+}
+
+/// Whether word and bit of two cells are equal.
+fn is_same_cell(a: &Cell, b: &Cell) -> bool
+    ensures { result ≡ same_cell a.now b.now }
+{
+    is_same_word(a.word, b.word) && a.full == b.full
+}
+
+/// Appends the line of a cell: `cell A WORD full` or `cell A WORD empty`.
+fn put_cell<O: Sink>(text: &mut Gather, out: &mut O, word: u64, cell: &Cell)
+    ensures { Gathers O.taken O.faults out.old out.new text.old text.new (cell_line word cell.now) }
+{
+    text.put(
+        out,
+        &[
+            Piece::Text("cell "),
+            Piece::HexAddress(word),
+            Piece::Text(" "),
+        ],
+    );
+    put_word(text, out, cell.word);
+    put_bit(text, out, cell.full);
+}
+
+/// Ends the line of a cell with its bit.
+fn put_bit<O: Sink>(text: &mut Gather, out: &mut O, full: bool)
+    ensures { Gathers O.taken O.faults out.old out.new text.old text.new (full_text full ++ newline) }
+{
+    text.put_piece(out, &Piece::Text(if full { " full\n" } else { " empty\n" }));
+}
+
+/// Appends the line of a cell that is not as it was.
+fn put_change<O: Sink>(text: &mut Gather, out: &mut O, word: u64, cell: &Cell, was: &Cell)
+    ensures { Gathers O.taken O.faults out.old out.new text.old text.new (change_line word cell.now was.now) }
+{
+    if !is_same_cell(cell, was) {
+        put_cell(text, out, word, cell);
+    }
+}
+
+/// Where a page stands among pages that rise.
+pub(crate) fn find_page(pages: &[Page], number: u64) -> Option<usize>
+    requires { IsTrue (is_sorted nat_cmp pages.now) }
+    ensures { MatchOption result (page_at (contents pages.now) number ≡ None) (IsAt number pages.now) }
+{
+    pages
+        .binary_search_by_key(&number, |page| page.number())
+        .ok()
+}
+
+/// A cell of the image's page, or integer 0, full, where the image has no such page.
+fn cell_of(pages: &[Page], place: Option<usize>, number: u64, index: usize) -> Cell
+    requires rising { IsTrue (is_sorted nat_cmp pages.now) }
+    requires place { MatchOption place (page_at (contents pages.now) number ≡ None) (IsAt number pages.now) }
+    requires index { index < 512 }
+    ensures { result ≡ slice_index_or (cells_of (contents pages.now) number) index zero_cell }
+{
+    match place {
+        Some(at) => pages[at].cells()[index],
+        None => ZERO,
+    }
+}
+
+/// A cell of a mapped page.
+fn cell_there<M: Inspect>(mem: &M, number: u64, index: usize) -> Cell
+    requires paged { IsPaged (M.meaning mem.now) }
+    requires number { number < 2 ^ 42 }
+    requires mapped { is_mapped (M.meaning mem.now) number ≡ true }
+    requires index { index < 512 }
+    ensures { result ≡ slice_index_or (cells_of (M.meaning mem.now) number) index zero_cell }
+{
+    mem.peek(number * 4096 + 8 * index as u64).unwrap_or(ZERO)
+}
+
+/// Appends the lines of a mapped page's cells that are not those of the image's page.
+fn put_page_cells<M: Inspect, O: Sink>(
+    text: &mut Gather,
+    out: &mut O,
+    mem: &M,
+    number: u64,
+    pages: &[Page],
+)
+    requires rising { IsTrue (is_sorted nat_cmp pages.now) }
+    requires whole { AllByRecursion IsPage pages.now }
+    requires paged { IsPaged (M.meaning mem.now) }
+    requires number { number < 2 ^ 42 }
+    requires mapped { is_mapped (M.meaning mem.now) number ≡ true }
+    ensures { Gathers O.taken O.faults out.old out.new text.old text.new (changes_of (M.meaning mem.now) (contents pages.now) number) }
+{
+    let place = find_page(pages, number);
+    for index in 0..CELLS {
+        let now = cell_there(mem, number, index);
+        let was = cell_of(pages, place, number, index);
+        put_change(text, out, number * 4096 + 8 * index as u64, &now, &was);
+    }
+}
+
+/// Appends the lines of mapped cells that are not the image's.
+pub fn put_cells<M: Inspect, O: Sink>(text: &mut Gather, out: &mut O, mem: &M, pages: &[Page])
+    requires rising { IsTrue (is_sorted nat_cmp pages.now) }
+    requires whole { AllByRecursion IsPage pages.now }
+    requires paged { IsPaged (M.meaning mem.now) }
+    ensures { Gathers O.taken O.faults out.old out.new text.old text.new (cell_lines (M.meaning mem.now) (contents pages.now)) }
+{
+    for i in 0..mem.pages() {
+        let number = mem.page_at(i);
+        put_page_cells(text, out, mem, number, pages);
+    }
+}

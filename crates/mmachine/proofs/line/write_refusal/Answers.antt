@@ -1,0 +1,7 @@
+use Rattle.mmachine.proofs.line.write_refusal.Goals as goal
+
+pub returns-in-Image : goal.returns-in-Image
+returns-in-Image g c = rw (c.in-Image.is, ← c.number.ensures) c.write_pieces-in-Image.ensures
+
+pub returns-in-Schedule : goal.returns-in-Schedule
+returns-in-Schedule g c = rw (c.in-Schedule.is) c.write_pieces-in-Schedule.ensures
