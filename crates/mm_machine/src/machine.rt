@@ -2,9 +2,9 @@ ghost use Rattle.std.specs.Prelude.{◌≡◌, ◌+◌, ◌*◌, ◌≤◌, ◌^
 ghost use Rattle.mm_machine.specs.Kept.{Kept};
 
 use mm_image::Image;
-use mm_mem::Memory;
+use mm_mem::{Loaded, Memory, Stored};
 use mm_thread::{Core, Slot, Step, turn};
-use mm_word::NoMemory;
+use mm_word::{Access, NoMemory, Post, Pre, Word};
 use std::alloc::Global;
 
 /// Slots over a memory, and a count of cycles.
@@ -18,6 +18,7 @@ pub struct Machine<M: Memory> {
     ghost kept: { ∥ Kept (record { core = core; memory = M.meaning mem; cycles = cycles }) ∥₁ },
     ghost few_ports: { ports ≤ 2 ^ 32 },
     ghost few_uses: { M.uses mem ≤ 2 * cycles + ports },
+    ghost most_uses: { M.uses mem ≤ 2 ^ 33 + ports },
 }
 
 impl<M: Memory> Machine<M> {
@@ -121,5 +122,57 @@ impl<M: Memory> Machine<M> {
         ensures paged { IsPaged (M.meaning result.now) }
     {
         &self.mem
+    }
+}
+
+/// Ports between nodes.
+impl<M: Memory> Machine<M> {
+    ghost use Rattle.std.specs.Prelude.{◌≡◌, ◌+◌, ◌<◌, ◌^◌};
+    ghost use Rattle.mm_word.specs.declared.perm.Kind.TheVariants.{LoadSet, Store};
+    ghost use Rattle.mm_model.specs.Memory.{cell_at};
+    ghost use Rattle.mm_mem.specs.Answers.{loaded, stored, after_load, after_store, access_uses};
+    ghost use Rattle.mm_machine.specs.Machine.{state_of, Takes};
+
+    /// Loads the word of a full cell and leaves the cell empty, for a port. A cell that is not full stays as it is.
+    pub fn port_take(&mut self, a: &Access) -> Loaded
+        requires kind { a.now.kind ≡ LoadSet }
+        requires few { self.old.ports < 2 ^ 32 }
+        ensures answer { result ≡ loaded Pre.Full (cell_at (state_of self.old).memory a.now.addr) }
+
+        // This cell alone is changed.
+        ensures state { state_of self.new ≡ record (state_of self.old) { memory = after_load (state_of self.old).memory a.now.addr Pre.Full Post.Empty } }
+
+        // This one use is added.
+        ensures takes { Takes self.old self.new (access_uses (state_of self.old).memory a.now Pre.Full) }
+        ensures ports { self.new.ports ≡ self.old.ports + 1 }
+    {
+        self.ports += 1;
+        self.mem.load(a, Pre::Full, Post::Empty)
+    }
+
+    /// Stores an integer into an empty cell and leaves the cell full, for a port. A cell that is not empty stays as it is.
+    pub fn port_put(&mut self, a: &Access, bits: u64) -> Stored
+        requires kind { a.now.kind ≡ Store }
+        requires few { self.old.ports < 2 ^ 32 }
+        ensures answer { result ≡ stored Pre.Empty (cell_at (state_of self.old).memory a.now.addr) }
+
+        // This cell alone is changed.
+        ensures state {
+            state_of self.new ≡ record (state_of self.old) { memory = after_store (state_of self.old).memory a.now.addr (Word.Int bits) Pre.Empty Post.Full }
+        }
+
+        // This one use is added.
+        ensures takes { Takes self.old self.new (access_uses (state_of self.old).memory a.now Pre.Empty) }
+        ensures ports { self.new.ports ≡ self.old.ports + 1 }
+    {
+        self.ports += 1;
+        self.mem.store(a, Word::Int(bits), Pre::Empty, Post::Full)
+    }
+
+    /// How often a port was used.
+    pub fn port_uses(&self) -> u64
+        ensures { result ≡ self.now.ports }
+    {
+        self.ports
     }
 }

@@ -17,6 +17,7 @@ invariant_of-self g c =
       kept = goes_on old _ c.args.item (state_made old c.args.item c.turn.new.core (g.M.Memory.meaning c.turn.new.mem) c.turn.ensures.core c.turn.ensures.memory) c.args.self.now.kept;
       few_ports = c.args.self.now.few_ports;
       few_uses = omega (arith, c.turn.ensures.count, c.turn.ensures.few, c.args.self.now.few_uses);
+      most_uses = omega (arith, c.turn.ensures.count, c.turn.ensures.few, c.args.self.now.few_uses);
     }
 
 pub returns-clause-state : goal.returns-clause-state

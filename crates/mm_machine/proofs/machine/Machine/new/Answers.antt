@@ -46,6 +46,7 @@ invariant_of-result g c =
       kept = ∣ subst Kept (sym is) (kept_start c.args.img.now c.slots.ensures.image) ∣₁;
       few_ports = omega arith;
       few_uses = omega (arith, none);
+      most_uses = omega (arith, none);
     }
 
 pub returns-clause-stands : goal.returns-clause-stands
