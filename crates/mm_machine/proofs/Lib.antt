@@ -1,2 +1,3 @@
 pub mod Keeping
+mod Ports
 mod Starting

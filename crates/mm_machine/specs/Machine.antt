@@ -13,6 +13,10 @@ module _ {M : Type 0} {memory : Ghosts M} where
   abbrev pub state_of : Machine M memory → State
   state_of m = record { core = m.core; memory = memory.meaning m.mem; cycles = m.cycles }
 
+  -- how often a port between nodes was used
+  abbrev pub ports_used : Machine M memory → ℕ
+  ports_used m = m.ports
+
   -- its memory stands to this list of uses
   abbrev pub StandsTo : Machine M memory → List Use → Type 0
   StandsTo m us = memory.stands m.mem us

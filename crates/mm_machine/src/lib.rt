@@ -2,6 +2,8 @@
 #![tactic(auto)]
 
 mod machine;
+#[cfg(test)]
+mod tests;
 
 pub use machine::Machine;
 pub use mm_thread::{Event, Pending, Slot, SlotState, Step, Tick};

@@ -2,9 +2,9 @@ ghost use Rattle.std.specs.Prelude.{◌≡◌, ◌+◌, ◌*◌, ◌≤◌, ◌^
 ghost use Rattle.mm_machine.specs.Kept.{Kept};
 
 use mm_image::Image;
-use mm_mem::Memory;
+use mm_mem::{Loaded, Memory, Stored};
 use mm_thread::{Core, Slot, Step, turn};
-use mm_word::NoMemory;
+use mm_word::{Access, NoMemory, Post, Pre, Word};
 use std::alloc::Global;
 
 /// Slots over a memory, and a count of cycles.
@@ -18,6 +18,7 @@ pub struct Machine<M: Memory> {
     ghost kept: { ∥ Kept (record { core = core; memory = M.meaning mem; cycles = cycles }) ∥₁ },
     ghost few_ports: { ports ≤ 2 ^ 32 },
     ghost few_uses: { M.uses mem ≤ 2 * cycles + ports },
+    ghost most_uses: { M.uses mem ≤ 2 ^ 33 + ports },
 }
 
 impl<M: Memory> Machine<M> {
@@ -33,7 +34,7 @@ impl<M: Memory> Machine<M> {
     ghost use Rattle.mm_model.specs.State.{slot_at, output_of};
     ghost use Rattle.mm_model.specs.Run.{turn_of, after};
     ghost use Rattle.mm_mem.specs.Answers.{loaded, stored, after_load, after_store, access_uses};
-    ghost use Rattle.mm_machine.specs.Machine.{state_of, StandsTo, Takes, StandsFor};
+    ghost use Rattle.mm_machine.specs.Machine.{state_of, ports_used, StandsTo, Takes, StandsFor};
 
     /// The machine of an image at its start, over a memory that holds the image's pages and was not used yet.
     pub fn new(alloc: Global, img: &Image, mem: M) -> Result<Machine<M>, NoMemory>
@@ -41,7 +42,7 @@ impl<M: Memory> Machine<M> {
         requires unused { M.stands mem [] }
         ensures state { IfOk result (λ m. state_of m ≡ start img.now) }
         ensures stands { IfOk result (λ m. StandsFor img.now [] m) }
-        ensures no_port { IfOk result (λ m. m.ports ≡ 0) }
+        ensures no_port { IfOk result (λ m. ports_used m ≡ 0) }
     {
         let mut core = Core::new(alloc, img.slots())?;
         core.set_version(img.version());
@@ -56,7 +57,7 @@ impl<M: Memory> Machine<M> {
 
     /// One cycle. The item names a slot or, in a split machine, is 128 more than the number of the slot whose port it is.
     pub fn cycle(&mut self, item: u8) -> Step
-        requires { self.old.cycles < 2 ^ 32 }
+        requires { (state_of self.old).cycles < 2 ^ 32 }
 
         // From every state: the turn of the model, its step and its uses.
         ensures state { state_of self.new ≡ after (state_of self.old) item }
@@ -65,7 +66,7 @@ impl<M: Memory> Machine<M> {
 
         // After any items of an image, one item more.
         ensures runs { (i : ImageValue) (items : List ℕ) → StandsFor i items self.old → StandsFor i (items ++ item ∷ []) self.new }
-        ensures ports { self.new.ports ≡ self.old.ports }
+        ensures ports { ports_used self.new ≡ ports_used self.old }
     {
         self.cycles += 1;
         turn(&mut self.core, &mut self.mem, item)
@@ -121,5 +122,55 @@ impl<M: Memory> Machine<M> {
         ensures paged { IsPaged (M.meaning result.now) }
     {
         &self.mem
+    }
+}
+
+/// Ports between nodes.
+impl<M: Memory> Machine<M> {
+    ghost use Rattle.std.specs.Prelude.{◌≡◌, ◌+◌, ◌<◌, ◌^◌};
+    ghost use Rattle.mm_word.specs.declared.perm.Kind.TheVariants.{LoadSet, Store};
+    ghost use Rattle.mm_model.specs.Memory.{cell_at};
+    ghost use Rattle.mm_mem.specs.Answers.{loaded, stored, after_load, after_store, access_uses};
+    ghost use Rattle.mm_machine.specs.Machine.{state_of, ports_used, Takes};
+
+    /// Loads the word of a full cell and leaves the cell empty, for a port. A cell that is not full stays as it is.
+    pub fn port_take(&mut self, a: &Access) -> Loaded
+        requires kind { a.now.kind ≡ LoadSet }
+        requires few { ports_used self.old < 2 ^ 32 }
+        ensures answer { result ≡ loaded Pre.Full (cell_at (state_of self.old).memory a.now.addr) }
+
+        // This cell alone is changed.
+        ensures state { state_of self.new ≡ record (state_of self.old) { memory = after_load (state_of self.old).memory a.now.addr Pre.Full Post.Empty } }
+
+        // This one use is added.
+        ensures takes { Takes self.old self.new (access_uses (state_of self.old).memory a.now Pre.Full) }
+        ensures ports { ports_used self.new ≡ ports_used self.old + 1 }
+    {
+        self.ports += 1;
+        self.mem.load(a, Pre::Full, Post::Empty)
+    }
+
+    /// Stores an integer into an empty cell and leaves the cell full, for a port. A cell that is not empty stays as it is.
+    pub fn port_put(&mut self, a: &Access, bits: u64) -> Stored
+        requires kind { a.now.kind ≡ Store }
+        requires few { ports_used self.old < 2 ^ 32 }
+        ensures answer { result ≡ stored Pre.Empty (cell_at (state_of self.old).memory a.now.addr) }
+
+        // This cell alone is changed.
+        ensures state { state_of self.new ≡ record (state_of self.old) { memory = after_store (state_of self.old).memory a.now.addr (Word.Int bits) Pre.Empty Post.Full } }
+
+        // This one use is added.
+        ensures takes { Takes self.old self.new (access_uses (state_of self.old).memory a.now Pre.Empty) }
+        ensures ports { ports_used self.new ≡ ports_used self.old + 1 }
+    {
+        self.ports += 1;
+        self.mem.store(a, Word::Int(bits), Pre::Empty, Post::Full)
+    }
+
+    /// How often a port was used.
+    pub fn port_uses(&self) -> u64
+        ensures { result ≡ ports_used self.now }
+    {
+        self.ports
     }
 }
