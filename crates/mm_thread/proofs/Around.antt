@@ -113,7 +113,7 @@ module _ (core : Core) (places : List ℕ) (index : IsIndex (numbers_in core) pl
 
   pub room_left : (m : Memory) (ra : ℕ) → nat_lt (length (output_of core (slot_in core p).group)) (output_limit core.version) ≡ true
       → let s = slot_in core p in
-        Leaves core m s (effect_in core m s (Out ra)) (put_output (with_slot core p (slot_after s (plain s))) s.group (output_of core s.group ++ (word_bits (register s ra) % 256) ∷ [])) m (Goes None)
+      Leaves core m s (effect_in core m s (Out ra)) (put_output (with_slot core p (slot_after s (plain s))) s.group (output_of core s.group ++ (word_bits (register s ra) % 256) ∷ [])) m (Goes None)
   unfolding ask reply effect core_after memory_after plain slot_after put_output output_of
   room_left m ra fits =
       let s = slot_in core p in
@@ -288,7 +288,7 @@ module _ (core : Core) (places : List ℕ) (index : IsIndex (numbers_in core) pl
         let indexed_after = index-with_slot taken places indexed p was (slot_after self c) numbered in
         let number : (slot_in after p).number ≡ self.number = number-with_slot taken places indexed p was (slot_after self c) numbered p was ∙ unmoved in
         let queue : queue_in after p ≡ e ∷ rest =
-            queue_in-slot taken p p (slot_after self c) was ∙ queue_in-slot core q p (record (slot_in core q) { state = Taken }) inside ∙ some
+        queue_in-slot taken p p (slot_after self c) was ∙ queue_in-slot core q p (record (slot_in core q) { state = Taken }) inside ∙ some
         in
         rw (queue_found core places index p within, some, found) (record {
           core_is =

@@ -119,7 +119,7 @@ module _ (core : Core) (whole : IsCore core) where
         let once : (n : ℕ) → times n xs ≤ 1 = λ n. omega (arith, count n, one_if_small (waits_for h (slot_at core n))) in
         let past : (n : ℕ) → 64 ≤ n → times n xs ≡ 0 = λ n far. count n ∙ ap (λ o. one_if (waits_for h o)) (slot_at-past n far) in
         let missing : times s.number xs ≡ 0 =
-            count s.number ∙ ap (λ o. one_if (waits_for h o)) (slot_found core places index p within) ∙ ap one_if (waits_for-rests h s (runs_waits_not s.state runs))
+        count s.number ∙ ap (λ o. one_if (waits_for h o)) (slot_found core places index p within) ∙ ap one_if (waits_for-rests h s (runs_waits_not s.state runs))
         in
         let room = shorter 64 s.number xs once past number_small missing in
         omega (arith, length-map es (λ (e : Event). e.slot), room, ap length (queue_found core places index q inside))
@@ -186,7 +186,7 @@ number-with_slot core places index p within s same q inside =
 module _ (core : Core) (places : List ℕ) (index : IsIndex (numbers_in core) places) (p : ℕ) (within : p < length core.rows) where
   pub faulted-handled : (e : Event) (h at : ℕ) → at < length core.rows → (slot_in core at).number ≡ h
       → let waits = with_slot core p (stood (slot_in core p) Waiting) in
-        with_queue_in waits at (queue_in waits at ++ e ∷ []) ≡ core_faulted core (slot_in core p) e (Some h)
+      with_queue_in waits at (queue_in waits at ++ e ∷ []) ≡ core_faulted core (slot_in core p) e (Some h)
   unfolding core_faulted
   faulted-handled e h at inside is =
       let s = slot_in core p in
@@ -196,9 +196,9 @@ module _ (core : Core) (places : List ℕ) (index : IsIndex (numbers_in core) pl
       let number : (slot_in waits at).number ≡ h = number-with_slot core places index p within (stood s Waiting) refl at inside ∙ is in
       let queue : queue_at waits h ≡ queue_in waits at = ap (queue_at waits) (sym number) ∙ queue_found waits places indexed at still in
       let put : with_queue_in waits at (queue_in waits at ++ e ∷ []) ≡ put_queue waits h (queue_at waits h ++ e ∷ []) =
-          sym (put_queue-place waits places indexed at still (queue_in waits at ++ e ∷ []))
-          ∙ ap (λ (n : ℕ). put_queue waits n (queue_in waits at ++ e ∷ [])) number
-          ∙ ap (λ (q : List Event). put_queue waits h (q ++ e ∷ [])) (sym queue)
+      sym (put_queue-place waits places indexed at still (queue_in waits at ++ e ∷ []))
+      ∙ ap (λ (n : ℕ). put_queue waits n (queue_in waits at ++ e ∷ [])) number
+      ∙ ap (λ (q : List Event). put_queue waits h (q ++ e ∷ [])) (sym queue)
       in
       put ∙ ap (λ (c : Core). put_queue c h (queue_at c h ++ e ∷ [])) (sym (put_slot-place core places index p within (stood s Waiting) refl))
 

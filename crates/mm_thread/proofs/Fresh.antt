@@ -119,8 +119,8 @@ unfolding start
 fresh_core slots rising fresh rows outputs core is rows_are outputs_are =
     let i : Image = record { version = 2; split = false; slots = slots; memory = record { pages = []; frames = 0 } } in
     let same : core ≡ (start i).core =
-        is ∙ ap (λ (x : List Row). record { rows = x; outputs = outputs; version = 2; split = false }) rows_are
-        ∙ ap (λ (x : List (List ℕ)). record { rows = map alone slots; outputs = x; version = 2; split = false }) outputs_are
+    is ∙ ap (λ (x : List Row). record { rows = x; outputs = outputs; version = 2; split = false }) rows_are
+    ∙ ap (λ (x : List (List ℕ)). record { rows = map alone slots; outputs = x; version = 2; split = false }) outputs_are
     in
     subst IsCore (sym same) (start_core i rising fresh)
 

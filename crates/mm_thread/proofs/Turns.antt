@@ -68,7 +68,7 @@ same_slot core k places index p within numbers inside stays =
     let indexed : IsIndex (numbers_in k) places = subst P (sym numbers) index in
     let number : (slot_in k p).number ≡ (slot_in core p).number = sym (number-get k p inside) ∙ ap (λ (ns : List ℕ). slice_index ns p) numbers ∙ number-get core p within in
     let is : ◌≡◌ {A = Option Slot} (Some (slot_in k p)) (Some (slot_in core p)) =
-        sym (slot_found k places indexed p inside) ∙ ap (slot_at k) number ∙ stays ∙ slot_found core places index p within
+    sym (slot_found k places indexed p inside) ∙ ap (slot_at k) number ∙ stays ∙ slot_found core places index p within
     in
     cc
 
@@ -188,7 +188,7 @@ module _ {M : Type 0} (meaning : M → Memory) (uses : M → ℕ) (stands : M �
         let CountAt : Memory → Type 0 = λ x. uses new ≡ uses mid + accesses (asked_use x (ask i s)) in
         let us : List Use = u ∷ asked_use m (ask i s) in
         let so = ended_so core places p can m i f (touch_of (ask i s)) us core1 (meaning new) told.outcome core2 step core_is
-            (step_is ∙ ap (λ t. step_ended s.number (slot_in core1 p) f t told.outcome) ex.touched) (effect_in core m s i) (subst LeavesAt same ex.leaves) in
+        (step_is ∙ ap (λ t. step_ended s.number (slot_in core1 p) f t told.outcome) ex.touched) (effect_in core m s i) (subst LeavesAt same ex.leaves) in
         let listed = ended_uses core m s i f (touch_of (ask i s)) us (effect_in core m s i) in
         let Takes : List Use → Type 0 = λ ws. TakesUses stands before new ws in
         let Count : List Use → Type 0 = λ ws. uses new ≡ uses before + accesses ws in

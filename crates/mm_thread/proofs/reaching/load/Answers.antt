@@ -62,10 +62,10 @@ returns-in-Ok g c =
     executes_by g.M.Memory.meaning g.M.Memory.uses g.M.Memory.stands t s (Ld a.rd a.ra a.pre a.post a.imm) a.mem.now c.load-loaded.new.self c.receive-outcome.new.tables c.touching.result (Reach access a.pre)
     (ap (λ (x : Result Touch Cause). reaching x a.pre) (sym checked))
     (leaves_all t m s _ (core_loaded t a.place a.rd (loaded a.pre (cell_at m access.addr))) _ (outcome_loaded (loaded a.pre (cell_at m access.addr)))
-        c.receive-outcome.new.tables (g.M.Memory.meaning c.load-loaded.new.self) c.touching.result.outcome
-        (load_leaves t a.places.now r.index a.place r.within m access a.rd a.pre a.post (cell_at m access.addr))
-        (c.receive-outcome.ensures.core ∙ ap (core_loaded t a.place a.rd) answer)
-        c.load-loaded.ensures.after
-        (ap (λ (x : Told). x.outcome) c.touching.ensures ∙ c.receive-outcome.ensures.outcome ∙ ap outcome_loaded answer))
+    c.receive-outcome.new.tables (g.M.Memory.meaning c.load-loaded.new.self) c.touching.result.outcome
+    (load_leaves t a.places.now r.index a.place r.within m access a.rd a.pre a.post (cell_at m access.addr))
+    (c.receive-outcome.ensures.core ∙ ap (core_loaded t a.place a.rd) answer)
+    c.load-loaded.ensures.after
+    (ap (λ (x : Told). x.outcome) c.touching.ensures ∙ c.receive-outcome.ensures.outcome ∙ ap outcome_loaded answer))
     (ap (λ (x : Told). x.touched) c.touching.ensures) c.load-loaded.ensures.takes
     (c.load-loaded.ensures.count ∙ ap (λ (n : ℕ). g.M.Memory.uses a.mem.now + n) (sym (one_access access a.pre (cell_at m access.addr))))

@@ -51,10 +51,10 @@ returns-in-Ok g c =
     executes_by g.M.Memory.meaning g.M.Memory.uses g.M.Memory.stands t s (Map a.rd a.ra) a.mem.now c.map-mapped.new.self c.sets.new.self c.untouched-in-Ok.result (MapPage page)
     (page_asked-named s a.ra MapPage ∙ ap (page_ask MapPage) named)
     (leaves_all t m s _ (with_slot t a.place (slot_after s (record (plain s) { writes = (a.rd, Int (test (can_map m page))) ∷ [] }))) _ (Goes None)
-        c.sets.new.self (g.M.Memory.meaning c.map-mapped.new.self) c.untouched-in-Ok.result.outcome
-        (map_leaves t a.places.now r.index a.place r.within m a.rd page (can_map m page))
-        (c.sets.ensures ∙ ap (λ (n : ℕ). with_slot t a.place (slot_after s (record (plain s) { writes = (a.rd, Int n) ∷ [] }))) answer)
-        c.map-mapped.ensures.after
-        (ap (λ (x : Told). x.outcome) c.untouched-in-Ok.ensures))
+    c.sets.new.self (g.M.Memory.meaning c.map-mapped.new.self) c.untouched-in-Ok.result.outcome
+    (map_leaves t a.places.now r.index a.place r.within m a.rd page (can_map m page))
+    (c.sets.ensures ∙ ap (λ (n : ℕ). with_slot t a.place (slot_after s (record (plain s) { writes = (a.rd, Int n) ∷ [] }))) answer)
+    c.map-mapped.ensures.after
+    (ap (λ (x : Told). x.outcome) c.untouched-in-Ok.ensures))
     (ap (λ (x : Told). x.touched) c.untouched-in-Ok.ensures) c.map-mapped.ensures.takes
     (c.map-mapped.ensures.count ∙ omega arith)

@@ -54,10 +54,10 @@ returns-in-Ok g c =
     executes_by g.M.Memory.meaning g.M.Memory.uses g.M.Memory.stands t s (St a.ra a.rb a.pre a.post a.imm) a.mem.now c.store-stored.new.self c.finish_store-outcome.new.tables c.touching.result (Reach access a.pre)
     (ap (λ (x : Result Touch Cause). reaching x a.pre) (sym checked))
     (leaves_all t m s _ (core_stored t a.place (stored a.pre (cell_at m access.addr))) _ (outcome_stored (stored a.pre (cell_at m access.addr)))
-        c.finish_store-outcome.new.tables (g.M.Memory.meaning c.store-stored.new.self) c.touching.result.outcome
-        (store_leaves t a.places.now r.index a.place r.within m access (register s a.rb) a.pre a.post (cell_at m access.addr))
-        (c.finish_store-outcome.ensures.core ∙ ap (core_stored t a.place) answer)
-        (c.store-stored.ensures.after ∙ ap (λ (w : Word). put_where m access.addr a.pre (cell_at m access.addr) (λ (x : Cell). record { word = w; full = full_after a.post x.full })) word)
-        (ap (λ (x : Told). x.outcome) c.touching.ensures ∙ c.finish_store-outcome.ensures.outcome ∙ ap outcome_stored answer))
+    c.finish_store-outcome.new.tables (g.M.Memory.meaning c.store-stored.new.self) c.touching.result.outcome
+    (store_leaves t a.places.now r.index a.place r.within m access (register s a.rb) a.pre a.post (cell_at m access.addr))
+    (c.finish_store-outcome.ensures.core ∙ ap (core_stored t a.place) answer)
+    (c.store-stored.ensures.after ∙ ap (λ (w : Word). put_where m access.addr a.pre (cell_at m access.addr) (λ (x : Cell). record { word = w; full = full_after a.post x.full })) word)
+    (ap (λ (x : Told). x.outcome) c.touching.ensures ∙ c.finish_store-outcome.ensures.outcome ∙ ap outcome_stored answer))
     (ap (λ (x : Told). x.touched) c.touching.ensures) c.store-stored.ensures.takes
     (c.store-stored.ensures.count ∙ ap (λ (n : ℕ). g.M.Memory.uses a.mem.now + n) (sym (one_access access a.pre (cell_at m access.addr))))

@@ -51,10 +51,10 @@ returns-in-Ok g c =
     executes_by g.M.Memory.meaning g.M.Memory.uses g.M.Memory.stands t s (Unmap a.rd a.ra) a.mem.now c.unmap-removed.new.self c.sets.new.self c.untouched-in-Ok.result (UnmapPage page)
     (page_asked-named s a.ra UnmapPage ∙ ap (page_ask UnmapPage) named)
     (leaves_all t m s _ (with_slot t a.place (slot_after s (record (plain s) { writes = (a.rd, Int (test (is_mapped m page))) ∷ [] }))) _ (Goes None)
-        c.sets.new.self (g.M.Memory.meaning c.unmap-removed.new.self) c.untouched-in-Ok.result.outcome
-        (unmap_leaves t a.places.now r.index a.place r.within m a.rd page (is_mapped m page))
-        (c.sets.ensures ∙ ap (λ (n : ℕ). with_slot t a.place (slot_after s (record (plain s) { writes = (a.rd, Int n) ∷ [] }))) answer)
-        c.unmap-removed.ensures.after
-        (ap (λ (x : Told). x.outcome) c.untouched-in-Ok.ensures))
+    c.sets.new.self (g.M.Memory.meaning c.unmap-removed.new.self) c.untouched-in-Ok.result.outcome
+    (unmap_leaves t a.places.now r.index a.place r.within m a.rd page (is_mapped m page))
+    (c.sets.ensures ∙ ap (λ (n : ℕ). with_slot t a.place (slot_after s (record (plain s) { writes = (a.rd, Int n) ∷ [] }))) answer)
+    c.unmap-removed.ensures.after
+    (ap (λ (x : Told). x.outcome) c.untouched-in-Ok.ensures))
     (ap (λ (x : Told). x.touched) c.untouched-in-Ok.ensures) c.unmap-removed.ensures.takes
     (c.unmap-removed.ensures.count ∙ omega (arith, no_access page (is_mapped m page)))
