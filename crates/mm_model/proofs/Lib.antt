@@ -2,3 +2,15 @@ pub mod FlagLists
 pub mod Unchanged
 pub mod CountsSay
 pub mod Memories
+pub mod CoreRows
+pub mod SlotSteps
+pub mod CoreSteps
+pub mod EffectSteps
+pub mod TurnKeeps
+pub mod TurnShapes
+pub mod EffectWords
+pub mod StateKeeps
+pub mod TurnBounds
+pub mod Starts
+pub mod Shortness
+pub mod ImageBytes

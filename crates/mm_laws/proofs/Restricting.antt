@@ -1,0 +1,229 @@
+-- What stays of a list of items for groups.
+use Rattle.std.proofs.Common.{◌≡◌, ℕ, suc, ◌+◌, ◌-◌, ◌<◌, ◌≤◌, ◌⊎◌, inl, inr, Bool, true, false, ◌&&◌, ◌||◌, nat_eq, nat_le, cond, if◌then◌else◌, List, [], ◌∷◌, ◌++◌, map, Option, Some, None, refl, sym, ap, ◌∙◌, arith, eqb-true, eq-eqb}
+use Rattle.std.specs.Prelude.{Contains, ◌↔◌}
+use Rattle.std.specs.List.{filter, AllByRecursion}
+use Rattle.std.specs.List.Sorted.{IsStrictlyIncreasing}
+use Rattle.std.proofs.lemmas.Bool.{ne_eqb, leb-true, le-leb}
+use Rattle.mm_model.specs.Slot.{Slot}
+use Rattle.mm_model.specs.State.{State, slot_at}
+use Rattle.mm_model.specs.Image.{Image, slot_in, start}
+use Rattle.mm_model.specs.Spelling.{numbers_of, IsImage}
+use Rattle.mm_model.specs.Schedule.{in_groups, is_kept, only}
+use Rattle.mm_model.specs.Turn.{turn}
+use Rattle.mm_model.specs.Run.{after, run}
+use Rattle.mm_model.specs.Fits.{slots_of, identity_of, IsSlot, Fits}
+use Rattle.mm_model.proofs.CoreRows.{slot_limit-few, each_map, each_both, each_contained, above_first, rest_rises, slot_at-number, each_slot, slot_has, stays_by}
+use Rattle.mm_model.proofs.TurnKeeps.{turn_keeps}
+use Rattle.mm_model.proofs.StateKeeps.{after_fits}
+use Rattle.mm_model.proofs.TurnBounds.{turn_takes}
+use Rattle.mm_model.proofs.Starts.{start_at, start_slots, start_fits, start_within}
+use Rattle.mm_laws.specs.Restrictions.{HasSlot, Belongs}
+
+-- 1. Slots of a list by their numbers.
+
+has_slot_is : (c : ℕ → Bool) (slots : List Slot) (n : ℕ) → in_groups c (slot_in slots n) ≡ true → (s : Slot) × Contains slots s × (s.number ≡ n) × (c s.group ≡ true)
+has_slot_is c [] n e = cc
+has_slot_is c (s ∷ slots) n e = by (nat_eq s.number n) refl e (λ k. has_slot_is c slots n k)
+  where
+    by : (b : Bool) → nat_eq s.number n ≡ b → in_groups c (if b then Some s else slot_in slots n) ≡ true → (in_groups c (slot_in slots n) ≡ true → (t : Slot) × Contains slots t × (t.number ≡ n) × (c t.group ≡ true))
+        → (t : Slot) × Contains (s ∷ slots) t × (t.number ≡ n) × (c t.group ≡ true)
+    by true at e later = (s, (0, omega arith, refl), eqb-true s.number n at, e)
+    by false at e later = let rest = later e in (rest.0, (suc rest.1.0, omega (arith, rest.1.1), rest.1.2), rest.2, rest.3)
+
+in_behind : (x s : Slot) (slots : List Slot) → x.number < s.number → slot_in slots s.number ≡ Some s → slot_in (x ∷ slots) s.number ≡ Some s
+in_behind x s slots lt is = ap (λ b. if b then Some x else slot_in slots s.number) (ne_eqb x.number s.number (λ e. omega arith)) ∙ is
+
+above : (x : ℕ) (slots : List Slot) → AllByRecursion (λ y. x < y) (numbers_of slots) → AllByRecursion (λ (s : Slot). x < s.number) slots
+above x [] h = tt
+above x (s ∷ slots) h = (h.0, above x slots h.1)
+
+-- where numbers rise, each slot is found at its number
+found_each : (slots : List Slot) → IsStrictlyIncreasing (numbers_of slots) → AllByRecursion (λ (s : Slot). slot_in slots s.number ≡ Some s) slots
+found_each [] h = tt
+found_each (x ∷ slots) h = (
+  ap (λ b. if b then Some x else slot_in slots x.number) (eq-eqb x.number x.number refl),
+  each_both (λ (s : Slot). x.number < s.number) (λ (s : Slot). slot_in slots s.number ≡ Some s) (λ (s : Slot). slot_in (x ∷ slots) s.number ≡ Some s) (λ s lt is. in_behind x s slots lt is) slots
+      (above x.number slots (above_first x.number (numbers_of slots) h)) (found_each slots (rest_rises x.number (numbers_of slots) h)),
+)
+
+slot_is : (i : Image) → IsImage i → (s : Slot) → Contains i.slots s → slot_in i.slots s.number ≡ Some s
+slot_is i h s k = each_contained (λ (x : Slot). slot_in i.slots x.number ≡ Some x) i.slots s (found_each i.slots h.rising) k
+
+-- 2. An item belongs to the groups exactly where it is kept.
+
+from_slot : (i : Image) (c : ℕ → Bool) (n : ℕ) → in_groups c (slot_in i.slots n) ≡ true → HasSlot i c n
+from_slot i c n e = let found = has_slot_is c i.slots n e in record { slot = found.0; one = found.1; number = found.2; member = found.3 }
+
+to_slot : (i : Image) → IsImage i → (c : ℕ → Bool) (n : ℕ) → HasSlot i c n → in_groups c (slot_in i.slots n) ≡ true
+to_slot i h c n has = ap (in_groups c) (ap (slot_in i.slots) (sym has.number) ∙ slot_is i h has.slot has.one) ∙ has.member
+
+all_true : (a b d : Bool) → (a && b && d) ≡ true → (a ≡ true) × (b ≡ true) × (d ≡ true)
+all_true true true true e = (refl, refl, refl)
+all_true true true false e = cc
+all_true true false d e = cc
+all_true false b d e = cc
+
+true_all : (a b d : Bool) → a ≡ true → b ≡ true → d ≡ true → (a && b && d) ≡ true
+true_all true true true p q r = refl
+true_all true true false p q r = r
+true_all true false d p q r = cc
+true_all false b d p q r = cc
+
+either : (a b : Bool) → (a || b) ≡ true → (a ≡ true) ⊎ (b ≡ true)
+either true b e = inl refl
+either false b e = inr e
+
+or_left : (a b : Bool) → a ≡ true → (a || b) ≡ true
+or_left true b e = refl
+or_left false b e = cc
+
+or_right : (a b : Bool) → b ≡ true → (a || b) ≡ true
+or_right true b e = refl
+or_right false b e = e
+
+pub kept_belongs : (i : Image) (c : ℕ → Bool) (n : ℕ) → is_kept i c n ≡ true → Belongs i c n
+kept_belongs i c n e = elim (either (in_groups c (slot_in i.slots n)) (i.split && nat_le 128 n && in_groups c (slot_in i.slots (n - 128))) e) [
+  | inl own ↦ inl (from_slot i c n own)
+  | inr port ↦
+      let all = all_true i.split (nat_le 128 n) (in_groups c (slot_in i.slots (n - 128))) port in
+      let low = leb-true 128 n all.1 in
+      inr (all.0, (n - 128, omega arith, from_slot i c (n - 128) all.2))
+]
+
+pub belongs_kept : (i : Image) → IsImage i → (c : ℕ → Bool) (n : ℕ) → Belongs i c n → is_kept i c n ≡ true
+belongs_kept i h c n (inl own) = or_left (in_groups c (slot_in i.slots n)) (i.split && nat_le 128 n && in_groups c (slot_in i.slots (n - 128))) (to_slot i h c n own)
+belongs_kept i h c n (inr port) =
+    let k : ℕ = port.1.0 in
+    let is : n ≡ 128 + k = port.1.1 in
+    let back : n - 128 ≡ k = omega arith in
+    or_right (in_groups c (slot_in i.slots n)) (i.split && nat_le 128 n && in_groups c (slot_in i.slots (n - 128)))
+    (true_all i.split (nat_le 128 n) (in_groups c (slot_in i.slots (n - 128))) port.0 (le-leb 128 n (omega arith)) (ap (λ m. in_groups c (slot_in i.slots m)) back ∙ to_slot i h c k port.1.2))
+
+-- 3. Lists of items.
+
+pub stays : (i : Image) (c : ℕ → Bool) (n : ℕ) → IsImage i → (only i (n ∷ []) c ≡ n ∷ []) ↔ Belongs i c n
+unfolding only
+stays i c n h = (λ e. kept_belongs i c n (by (is_kept i c n) e), λ b. ap (λ t. cond t (n ∷ []) []) (belongs_kept i h c n b))
+  where
+    by : (b : Bool) → cond b (n ∷ []) [] ≡ n ∷ [] → b ≡ true
+    by true e = refl
+    by false e = cc
+
+pub goes : (i : Image) (c : ℕ → Bool) (n : ℕ) → IsImage i → (only i (n ∷ []) c ≡ []) ↔ (¬ Belongs i c n)
+unfolding only
+goes i c n h = (λ e b. no (is_kept i c n) e (belongs_kept i h c n b), λ none. yes_none (is_kept i c n) refl none)
+  where
+    no : (b : Bool) → cond b (n ∷ []) [] ≡ [] → b ≡ true → ⊥
+    no true e k = cc
+    no false e k = cc
+
+    yes_none : (b : Bool) → is_kept i c n ≡ b → (¬ Belongs i c n) → cond b (n ∷ []) [] ≡ []
+    yes_none true e none = absurd (none (kept_belongs i c n e))
+    yes_none false e none = refl
+
+filter_parts : (p : ℕ → Bool) (a b : List ℕ) → filter p (a ++ b) ≡ filter p a ++ filter p b
+filter_parts p [] b = refl
+filter_parts p (n ∷ a) b = by (p n) (filter_parts p a b)
+  where
+    by : (t : Bool) → filter p (a ++ b) ≡ filter p a ++ filter p b → cond t (n ∷ filter p (a ++ b)) (filter p (a ++ b)) ≡ cond t (n ∷ filter p a) (filter p a) ++ filter p b
+    by true rest = ap (λ (xs : List ℕ). n ∷ xs) rest
+    by false rest = rest
+
+pub by_parts : (i : Image) (c : ℕ → Bool) (a b : List ℕ) → only i (a ++ b) c ≡ only i a c ++ only i b c
+unfolding only
+by_parts i c a b = filter_parts (is_kept i c) a b
+
+none_in : (o : Option Slot) → in_groups (λ g. false) o ≡ false
+none_in None = refl
+none_in (Some s) = refl
+
+none_kept : (i : Image) (n : ℕ) → is_kept i (λ g. false) n ≡ false
+none_kept i n = by (in_groups (λ g. false) (slot_in i.slots n)) i.split (nat_le 128 n) (in_groups (λ g. false) (slot_in i.slots (n - 128))) (none_in (slot_in i.slots n)) (none_in (slot_in i.slots (n - 128)))
+  where
+    by : (a b d e : Bool) → a ≡ false → e ≡ false → (a || (b && d && e)) ≡ false
+    by true b d e p q = p
+    by false false d e p q = refl
+    by false true false e p q = refl
+    by false true true e p q = q
+
+pub to_none : (i : Image) (items : List ℕ) → only i items (λ g. false) ≡ []
+unfolding only
+to_none i [] = refl
+to_none i (n ∷ items) = ap (λ t. cond t (n ∷ filter (is_kept i (λ g. false)) items) (filter (is_kept i (λ g. false)) items)) (none_kept i n) ∙ to_none i items
+
+filters_commute : (p q : ℕ → Bool) (xs : List ℕ) → filter q (filter p xs) ≡ filter p (filter q xs)
+filters_commute p q [] = refl
+filters_commute p q (n ∷ xs) = by (p n) (q n) refl refl (filters_commute p q xs)
+  where
+    by : (a b : Bool) → p n ≡ a → q n ≡ b → filter q (filter p xs) ≡ filter p (filter q xs) → filter q (cond a (n ∷ filter p xs) (filter p xs)) ≡ filter p (cond b (n ∷ filter q xs) (filter q xs))
+    by true true ea eb rest =
+        ap (λ t. cond t (n ∷ filter q (filter p xs)) (filter q (filter p xs))) eb ∙ ap (λ (ys : List ℕ). n ∷ ys) rest
+        ∙ sym (ap (λ t. cond t (n ∷ filter p (filter q xs)) (filter p (filter q xs))) ea)
+    by true false ea eb rest = ap (λ t. cond t (n ∷ filter q (filter p xs)) (filter q (filter p xs))) eb ∙ rest
+    by false true ea eb rest = rest ∙ sym (ap (λ t. cond t (n ∷ filter p (filter q xs)) (filter p (filter q xs))) ea)
+    by false false ea eb rest = rest
+
+pub commute : (i : Image) (items : List ℕ) (c d : ℕ → Bool) → only i (only i items c) d ≡ only i (only i items d) c
+unfolding only
+commute i items c d = filters_commute (is_kept i c) (is_kept i d) items
+
+-- 4. A run of a restricted list.
+
+-- slots outside the groups have taken no turn
+abbrev Quiet : (ℕ → Bool) → State → Type 0
+Quiet c s = AllByRecursion (λ (x : Slot). c x.group ≡ false → x.turns ≡ 0) (slots_of s.core)
+
+-- a running slot that a kept item names is one of the groups
+named_inside : (i : Image) (s : State) (c : ℕ → Bool) (n : ℕ) (x : Slot) → Fits i s → is_kept i c n ≡ true → slot_at s.core n ≡ Some x → c x.group ≡ true
+named_inside i s c n x fits kept is = elim (either (in_groups c (slot_in i.slots n)) (i.split && nat_le 128 n && in_groups c (slot_in i.slots (n - 128))) kept) [
+  | inl own ↦
+      let was = stays_by s.core (start i).core n x (ap (map identity_of) (start_slots i) ∙ sym fits.same_slots) is in
+      let there : slot_in i.slots n ≡ Some was.now = sym (start_at i n) ∙ was.is in
+      let group : was.now.group ≡ x.group = ap (λ (k : ℕ × ℕ × Option ℕ). k.1) was.same in
+      sym (ap c group) ∙ sym (ap (in_groups c) there) ∙ own
+  | inr port ↦
+      let all = all_true i.split (nat_le 128 n) (in_groups c (slot_in i.slots (n - 128))) port in
+      let low = leb-true 128 n all.1 in
+      let own = slot_has (IsSlot s.core.version s.core.split) s.core n x fits.core.slots is in
+      let number = slot_at-number s.core n x is in
+      let few = slot_limit-few s.core.version in
+      absurd (omega (arith, own.number))
+]
+
+quiet_after : (i : Image) (s : State) (c : ℕ → Bool) (n : ℕ) → Fits i s → is_kept i c n ≡ true → Quiet c s → Quiet c (after s n)
+unfolding after
+quiet_after i s c n fits kept quiet =
+    let keeps = turn_keeps s.core s.memory fits.core n in
+    each_slot (λ (x : Slot). c x.group ≡ false → x.turns ≡ 0) (turn s.core s.memory n).core keeps.whole.rising
+    (λ k now is outside.
+    let from = turn_takes s.core s.memory n fits.core k now is in
+    let same = stays_by s.core (turn s.core s.memory n).core k from.was keeps.identities from.stands in
+    let two : ◌≡◌ {A = Option Slot} (Some same.now) (Some now) = sym same.is ∙ is in
+    let one : same.now ≡ now = cc in
+    let group : now.group ≡ from.was.group = sym (ap (λ (x : Slot). x.group) one) ∙ ap (λ (j : ℕ × ℕ × Option ℕ). j.1) same.same in
+    let before : c from.was.group ≡ false = sym (ap c group) ∙ outside in
+    elim from.turns [
+      | inl stay ↦ stay ∙ slot_has (λ (x : Slot). c x.group ≡ false → x.turns ≡ 0) s.core k from.was quiet from.stands before
+      | inr takes ↦
+          let inside = named_inside i s c n from.was fits kept (ap (slot_at s.core) (sym takes.0) ∙ from.stands) in
+          cc (inside, before)
+    ])
+
+quiet_run : (i : Image) (s : State) (c : ℕ → Bool) (items : List ℕ) → Fits i s → Quiet c s → Quiet c (run s (filter (is_kept i c) items))
+unfolding run
+quiet_run i s c [] fits quiet = quiet
+quiet_run i s c (n ∷ items) fits quiet = by (is_kept i c n) refl (λ k. quiet_run i (after s n) c items (after_fits i s n fits) k) (quiet_run i s c items fits quiet)
+  where
+    by : (b : Bool) → is_kept i c n ≡ b → (Quiet c (after s n) → Quiet c (run (after s n) (filter (is_kept i c) items))) → Quiet c (run s (filter (is_kept i c) items)) → Quiet c (run s (cond b (n ∷ filter (is_kept i c) items) (filter (is_kept i c) items)))
+    by true kept with_it without = with_it (quiet_after i s c n fits kept quiet)
+    by false kept with_it without = without
+
+pub others_rest : (i : Image) (items : List ℕ) (c : ℕ → Bool) → IsImage i → (n : ℕ) (s : Slot) → slot_at (run (start i) (only i items c)).core n ≡ Some s → c s.group ≡ false → s.turns ≡ 0
+unfolding only start
+others_rest i items c h n s is outside =
+    let none = start_within i h in
+    let quiet : Quiet c (start i) = each_map (λ (x : Slot). x.turns ≤ (start i).cycles) (λ (x : Slot). c x.group ≡ false → x.turns ≡ 0) (λ x few out. let zero : (start i).cycles ≡ 0 = start_cycles i in omega arith) (slots_of (start i).core) none in
+    slot_has (λ (x : Slot). c x.group ≡ false → x.turns ≡ 0) (run (start i) (filter (is_kept i c) items)).core n s (quiet_run i (start i) c items (start_fits i h) quiet) is outside
+  where
+    start_cycles : (i : Image) → (start i).cycles ≡ 0
+    start_cycles i = refl

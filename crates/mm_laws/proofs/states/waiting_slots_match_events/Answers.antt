@@ -1,0 +1,8 @@
+use Rattle.mm_laws.proofs.RunStates.{queued, waiting}
+use Rattle.mm_laws.proofs.states.waiting_slots_match_events.Goals as goal
+
+pub returns-clause-queued : goal.returns-clause-queued
+returns-clause-queued c = queued
+
+pub returns-clause-waiting : goal.returns-clause-waiting
+returns-clause-waiting c = waiting

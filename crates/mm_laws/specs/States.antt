@@ -1,0 +1,66 @@
+-- What each state of a run is.
+use Rattle.std.specs.Prelude.{◌≡◌, ℕ, ◌+◌, ◌≤◌, ◌⊎◌, true, List, length, Some}
+use Rattle.std.specs.List.{AllByRecursion}
+use Rattle.mm_model.specs.declared.event.Event.{Event}
+use Rattle.mm_model.specs.Slot.{Slot}
+use Rattle.mm_model.specs.State.{State, slot_at, queue_at}
+use Rattle.mm_model.specs.Image.{Image, start}
+use Rattle.mm_model.specs.Spelling.{IsImage}
+use Rattle.mm_model.specs.Turn.{is_running}
+use Rattle.mm_model.specs.Run.{after, run}
+use Rattle.mm_model.specs.Fits.{is_waiting, events_of, Fits, TurnsWithin}
+
+-- the machine's start fits its image, and no slot has taken a turn
+abbrev pub StartsFit : Type 0
+StartsFit = (i : Image) → IsImage i → Fits i (start i) × TurnsWithin (start i)
+
+-- one turn, of any item, keeps a state that fits an image
+abbrev pub TurnsKeepFit : Type 0
+TurnsKeepFit = (i : Image) (s : State) (n : ℕ) → Fits i s → Fits i (after s n)
+
+-- and no slot takes more turns than there are cycles
+abbrev pub TurnsKeepBound : Type 0
+TurnsKeepBound = (i : Image) (s : State) (n : ℕ) → Fits i s → TurnsWithin s → TurnsWithin (after s n)
+
+-- what a cycle does to the turns of a slot: they stay, or they rise by one where it is the running slot that the item names
+pub record TakesTurn (s : State) (n k : ℕ) (now : Slot) : Type 0 where
+  pub was : Slot
+  pub stands : slot_at s.core k ≡ Some was
+  pub turns : (now.turns ≡ was.turns) ⊎ ((k ≡ n) × (is_running was.state ≡ true) × (now.turns ≡ was.turns + 1))
+
+-- only the running slot that an item names takes a turn
+abbrev pub OneSlotTakesTurns : Type 0
+OneSlotTakesTurns = (i : Image) (s : State) (n k : ℕ) (now : Slot) → Fits i s → slot_at (after s n).core k ≡ Some now → TakesTurn s n k now
+
+-- after any list of items, the state fits its image
+abbrev pub RunsFit : Type 0
+RunsFit = (i : Image) (items : List ℕ) → IsImage i → Fits i (run (start i) items)
+
+-- and no slot has taken more turns than there were cycles
+abbrev pub RunsKeepBound : Type 0
+RunsKeepBound = (i : Image) (items : List ℕ) → IsImage i → TurnsWithin (run (start i) items)
+
+-- the slot of an event is there, waits for the owner of the queue, and stands where the event says
+pub record WaitsFor (s : State) (h : ℕ) (e : Event) : Type 0 where
+  pub of : Slot
+  pub stands : slot_at s.core e.slot ≡ Some of
+  pub waiting : is_waiting of.state ≡ true
+  pub handler : of.handler ≡ Some h
+  pub ip : e.ip ≡ of.ip
+
+-- in a state that fits an image, each queued event is of a slot that waits for the queue's owner
+abbrev pub QueuedSlotsWait : Type 0
+QueuedSlotsWait = (i : Image) (s : State) → Fits i s → (h : ℕ) → AllByRecursion (WaitsFor s h) (queue_at s.core h)
+
+-- and each slot that waits has exactly one event, which is in its handler's queue
+abbrev pub WaitingSlotsAreQueued : Type 0
+WaitingSlotsAreQueued =
+    (i : Image) (s : State) → Fits i s → (n h : ℕ) (x : Slot) → slot_at s.core n ≡ Some x → is_waiting x.state ≡ true → x.handler ≡ Some h → events_of n (queue_at s.core h) ≡ 1
+
+-- no queue is longer than there can be slots
+abbrev pub QueuesAreShort : Type 0
+QueuesAreShort = (i : Image) (s : State) → Fits i s → (h : ℕ) → length (queue_at s.core h) ≤ 64
+
+-- no more loads are pending than a slot has registers
+abbrev pub PendingIsShort : Type 0
+PendingIsShort = (i : Image) (s : State) → Fits i s → (n : ℕ) (x : Slot) → slot_at s.core n ≡ Some x → length x.pending ≤ 16

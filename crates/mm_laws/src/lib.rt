@@ -1,0 +1,14 @@
+//! Laws of the machine's definitions.
+//!
+//! These functions do nothing when they run: the contract of each is a law, over every image, state and list that it names. A
+//! definition that is wrong breaks one of them.
+#![tactic(auto)]
+
+pub mod counts;
+pub mod granted;
+pub mod grants;
+pub mod images;
+pub mod isolated;
+pub mod restrictions;
+pub mod schedules;
+pub mod states;

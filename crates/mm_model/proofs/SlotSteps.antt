@@ -1,0 +1,191 @@
+-- What a slot of a machine goes on to be: with another standing, with words written, with a load issued or delivered.
+use Rattle.std.proofs.Common.{◌≡◌, ◌≢◌, ℕ, zero, suc, ◌+◌, ◌<◌, ◌≤◌, inl, inr, Bool, true, false, nat_eq, if◌then◌else◌, List, [], ◌∷◌, ◌++◌, length, Some, None, refl, sym, ap, ◌∙◌, arith, eq-eqb, slice_set, slice_index_or, length-set, get_or-set_same, get_or-set_other}
+use Rattle.std.specs.List.{AllByRecursion}
+use Rattle.std.proofs.lemmas.Bool.{cases_eq, ne_eqb}
+use Rattle.mm_word.specs.declared.word.Word.{Word}
+use Rattle.mm_word.specs.declared.word.Word.TheVariants.{Int}
+use Rattle.mm_word.specs.Perm.{can_fetch}
+use Rattle.mm_word.specs.Pointer.{Pointer}
+use Rattle.mm_model.specs.declared.slot.SlotState.{SlotState}
+use Rattle.mm_model.specs.declared.slot.Pending.{Pending}
+use Rattle.mm_model.specs.Slot.{Slot, register, is_empty}
+use Rattle.mm_model.specs.Effect.{delivers, delivered}
+use Rattle.mm_model.specs.Turn.{put_all, stood, with_issue}
+use Rattle.mm_model.specs.Fits.{one_if, loads_for, is_handled, IsSlot}
+
+-- 1. Flags and pending loads.
+
+-- a register that waits is one of the slot's
+pub empty_within : (s : Slot) (r : ℕ) → is_empty s r ≡ true → r < length s.empty
+unfolding is_empty
+empty_within s r e = go s.empty r e
+  where
+    go : (flags : List Bool) (r : ℕ) → slice_index_or flags r false ≡ true → r < length flags
+    go [] r e = cc
+    go (b ∷ flags) zero e = omega arith
+    go (b ∷ flags) (suc r) e = let rest = go flags r e in omega arith
+
+one_for : (r : ℕ) (p : Pending) → p.reg ≡ r → (n : ℕ) → (if nat_eq p.reg r then n + 1 else n) ≡ n + 1
+one_for r p e n = ap (λ b. if b then n + 1 else n) (eq-eqb p.reg r e)
+
+none_for : (r : ℕ) (p : Pending) → p.reg ≢ r → (n : ℕ) → (if nat_eq p.reg r then n + 1 else n) ≡ n
+none_for r p ne n = ap (λ b. if b then n + 1 else n) (ne_eqb p.reg r ne)
+
+loads_for-push_same : (r : ℕ) (ps : List Pending) (p : Pending) → p.reg ≡ r → loads_for r (ps ++ p ∷ []) ≡ loads_for r ps + 1
+loads_for-push_same r [] p e = one_for r p e 0
+loads_for-push_same r (x ∷ ps) p e =
+    let rest = loads_for-push_same r ps p e in
+    elim (nat_eq x.reg r) as (λ b. (if b then loads_for r (ps ++ p ∷ []) + 1 else loads_for r (ps ++ p ∷ [])) ≡ (if b then loads_for r ps + 1 else loads_for r ps) + 1) [ true ↦ omega arith | false ↦ rest ]
+
+loads_for-push_other : (r : ℕ) (ps : List Pending) (p : Pending) → p.reg ≢ r → loads_for r (ps ++ p ∷ []) ≡ loads_for r ps
+loads_for-push_other r [] p ne = none_for r p ne 0
+loads_for-push_other r (x ∷ ps) p ne =
+    let rest = loads_for-push_other r ps p ne in
+    elim (nat_eq x.reg r) as (λ b. (if b then loads_for r (ps ++ p ∷ []) + 1 else loads_for r (ps ++ p ∷ [])) ≡ (if b then loads_for r ps + 1 else loads_for r ps)) [ true ↦ omega arith | false ↦ rest ]
+
+pub at_most_one : (b : Bool) → one_if b ≤ 1
+at_most_one true = omega arith
+at_most_one false = omega arith
+
+is_one : (b : Bool) (n : ℕ) → n + 1 ≡ one_if b → (b ≡ true) × (n ≡ 0)
+is_one true n e = (refl, omega arith)
+is_one false n e = absurd (omega arith)
+
+-- 2. What does not touch registers.
+
+module _ (version : ℕ) (split : Bool) where
+  -- the slot with another instruction pointer, another state and other turns
+  pub slot_stands : (s : Slot) (ip : Pointer) (past : Bool) (turns : ℕ) (state : SlotState) → IsSlot version split s → can_fetch ip.perm ≡ true → (is_handled state ≡ true → s.handler ≢ None)
+      → IsSlot version split (record s { ip = ip; past = past; turns = turns; state = state })
+  unfolding register is_empty
+  slot_stands s ip past turns state h runs handled = record {
+    number = h.number;
+    group = h.group;
+    executable = runs;
+    registers = h.registers;
+    flags = h.flags;
+    pending = h.pending;
+    zero = h.zero;
+    mode = h.mode;
+    handled = handled;
+  }
+
+  pub slot_stood : (s : Slot) (state : SlotState) → IsSlot version split s → (is_handled state ≡ true → s.handler ≢ None) → IsSlot version split (stood s state)
+  slot_stood s state h handled = slot_stands s s.ip s.past (s.turns + 1) state h h.executable handled
+
+  -- 3. Words written.
+
+  -- a word written to a register that waits for no load
+  pub slot_written : (s : Slot) (r : ℕ) (w : Word) → IsSlot version split s → is_empty s r ≡ false → IsSlot version split (record s { regs = slice_set s.regs r w })
+  unfolding register is_empty
+  slot_written s r w h free = record {
+    number = h.number;
+    group = h.group;
+    executable = h.executable;
+    registers = length-set s.regs r w ∙ h.registers;
+    flags = h.flags;
+    pending = h.pending;
+    zero = λ q e.
+        let ne : q ≢ r = λ same. cc (ap (λ k. slice_index_or s.empty k false) same, e, free) in
+        get_or-set_other s.regs r q w (Int 0) ne ∙ h.zero q e;
+    mode = h.mode;
+    handled = h.handled;
+  }
+
+  pub slot_put_all : (s : Slot) (ws : List (ℕ × Word)) → IsSlot version split s → AllByRecursion (λ w. is_empty s w.0 ≡ false) ws → IsSlot version split (record s { regs = put_all s.regs ws })
+  unfolding is_empty
+  slot_put_all s [] h free = h
+  slot_put_all s (w ∷ ws) h free = slot_put_all (record s { regs = slice_set s.regs w.0 w.1 }) ws (slot_written s w.0 w.1 h free.0) free.1
+
+  -- 4. A load that is issued.
+
+  pub slot_issued : (s : Slot) (p : Pending) → IsSlot version split s → split ≡ true → p.reg < 16 → is_empty s p.reg ≡ false → register s p.reg ≡ Int 0 → IsSlot version split (with_issue s (Some p))
+  unfolding register is_empty
+  slot_issued s p h on lt free nought = record {
+    number = h.number;
+    group = h.group;
+    executable = h.executable;
+    registers = h.registers;
+    flags = length-set s.empty p.reg true ∙ h.flags;
+    pending = λ r. elim (cases_eq p.reg r) [
+      | inl same ↦
+          let was : loads_for r s.pending ≡ 0 = h.pending r ∙ ap one_if (ap (λ k. slice_index_or s.empty k false) (sym same) ∙ free) in
+          loads_for-push_same r s.pending p same
+          ∙ ap (λ n. n + 1) was
+          ∙ sym (ap one_if (ap (λ k. slice_index_or (slice_set s.empty p.reg true) k false) (sym same) ∙ get_or-set_same s.empty p.reg true false (omega (arith, h.flags))))
+      | inr ne ↦
+          loads_for-push_other r s.pending p ne
+          ∙ h.pending r
+          ∙ sym (ap one_if (get_or-set_other s.empty p.reg r true false (λ e. ne (sym e))))
+    ];
+    zero = λ r e. elim (cases_eq r p.reg) [
+      | inl same ↦ ap (λ k. slice_index_or s.regs k (Int 0)) same ∙ nought
+      | inr ne ↦ h.zero r (sym (get_or-set_other s.empty p.reg r true false ne) ∙ e)
+    ];
+    mode = λ off. absurd (cc (on, off));
+    handled = h.handled;
+  }
+
+  -- 5. A load that is delivered.
+
+  deliver_first : (s : Slot) (p : Pending) (rest : List Pending) → s.pending ≡ p ∷ rest → IsSlot version split s → IsSlot version split (delivers s (p ∷ rest))
+  unfolding register is_empty
+  deliver_first s p rest is h =
+      let counted : (r : ℕ) → (if nat_eq p.reg r then loads_for r rest + 1 else loads_for r rest) ≡ one_if (is_empty s r) = λ r. sym (ap (loads_for r) is) ∙ h.pending r in
+      let first : (is_empty s p.reg ≡ true) × (loads_for p.reg rest ≡ 0) = is_one (is_empty s p.reg) (loads_for p.reg rest) (sym (one_for p.reg p refl (loads_for p.reg rest)) ∙ counted p.reg) in
+      let within : p.reg < length s.empty = empty_within s p.reg first.0 in
+      record {
+        number = h.number;
+        group = h.group;
+        executable = h.executable;
+        registers = length-set s.regs p.reg p.word ∙ h.registers;
+        flags = length-set s.empty p.reg false ∙ h.flags;
+        pending = λ r. elim (cases_eq p.reg r) [
+          | inl same ↦
+              ap (λ k. loads_for k rest) (sym same) ∙ first.1
+              ∙ sym (ap one_if (ap (λ k. slice_index_or (slice_set s.empty p.reg false) k false) (sym same) ∙ get_or-set_same s.empty p.reg false false within))
+          | inr ne ↦
+              sym (none_for r p ne (loads_for r rest)) ∙ counted r
+              ∙ sym (ap one_if (get_or-set_other s.empty p.reg r false false (λ e. ne (sym e))))
+        ];
+        zero = λ r e. elim (cases_eq r p.reg) [
+          | inl same ↦ cc (ap (λ k. slice_index_or (slice_set s.empty p.reg false) k false) same, get_or-set_same s.empty p.reg false false within, e)
+          | inr ne ↦ get_or-set_other s.regs p.reg r p.word (Int 0) ne ∙ h.zero r (sym (get_or-set_other s.empty p.reg r false false ne) ∙ e)
+        ];
+        mode = λ off. cc (h.mode off, is);
+        handled = h.handled;
+      }
+
+  pub slot_delivered : (s : Slot) → IsSlot version split s → IsSlot version split (delivered s)
+  unfolding delivered
+  slot_delivered s h = by s.pending refl
+    where
+      by : (ps : List Pending) → s.pending ≡ ps → IsSlot version split (delivers s ps)
+      by [] is = h
+      by (p ∷ rest) is = deliver_first s p rest is h
+
+-- what a delivery leaves of the slot
+pub record DeliveredFrom (s t : Slot) : Type 0 where
+  pub number : t.number ≡ s.number
+  pub group : t.group ≡ s.group
+  pub handler : t.handler ≡ s.handler
+  pub ip : t.ip ≡ s.ip
+  pub past : t.past ≡ s.past
+  pub turns : t.turns ≡ s.turns
+  pub state : t.state ≡ s.state
+
+pub delivered_from : (s : Slot) → DeliveredFrom s (delivered s)
+unfolding delivered
+delivered_from s = by s.pending
+  where
+    by : (ps : List Pending) → DeliveredFrom s (delivers s ps)
+    by [] = record { number = refl; group = refl; handler = refl; ip = refl; past = refl; turns = refl; state = refl }
+    by (p ∷ rest) = record { number = refl; group = refl; handler = refl; ip = refl; past = refl; turns = refl; state = refl }
+
+-- a slot of a plain machine has no register that waits
+pub none_waits : (version : ℕ) (s : Slot) → IsSlot version false s → (r : ℕ) → is_empty s r ≡ false
+none_waits version s h r = no (is_empty s r) (sym (ap (loads_for r) (h.mode refl)) ∙ h.pending r)
+  where
+    no : (b : Bool) → 0 ≡ one_if b → b ≡ false
+    no true e = absurd (omega arith)
+    no false e = refl

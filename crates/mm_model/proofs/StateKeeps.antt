@@ -1,0 +1,220 @@
+-- A turn keeps a state that fits its image, and the bound of turns by cycles.
+use Rattle.std.proofs.Common.{◌≡◌, ℕ, zero, suc, ◌+◌, ◌-◌, Bool, true, false, nat_eq, if◌then◌else◌, List, [], ◌∷◌, ◌++◌, map, Option, Some, None, refl, sym, ap, ◌∙◌, subst, slice_set, cond, replicate, not, lit<}
+use Rattle.std.specs.List.{AllByRecursion, filter}
+use Rattle.std.specs.Ordering.{nat_cmp}
+use Rattle.std.specs.declared.cmp.Ordering.TheVariants.{Less, Equal, Greater}
+use Rattle.std.specs.FinMap.{put}
+use Rattle.std.specs.FinMap.Entries.{by_order}
+use Rattle.mm_word.specs.declared.cause.Cause.{Cause}
+use Rattle.mm_word.specs.declared.word.Word.{Word}
+use Rattle.mm_word.specs.declared.word.Word.TheVariants.{Int}
+use Rattle.mm_word.specs.declared.word.Cell.{Cell}
+use Rattle.mm_word.specs.Access.{Touch}
+use Rattle.mm_word.specs.Word.{IsWord}
+use Rattle.mm_isa.specs.declared.instr.Instr.{Instr}
+use Rattle.mm_isa.specs.Table.{IsInstr}
+use Rattle.mm_model.specs.declared.slot.SlotState.{SlotState}
+use Rattle.mm_model.specs.declared.slot.SlotState.TheVariants.{Running, Waiting, Halted}
+use Rattle.mm_model.specs.declared.slot.Pending.{Pending}
+use Rattle.mm_model.specs.declared.event.Event.{Event}
+use Rattle.mm_model.specs.Memory.{Memory, page_of, place_of, page_at, put_in, put_cell, map_page, unmap_page, can_map, zero_cell, zero_page, IsPaged}
+use Rattle.mm_model.specs.Uses.{Use}
+use Rattle.mm_model.specs.Slot.{Slot}
+use Rattle.mm_model.specs.State.{Row, Core, State, slot_at, queue_at, at_number, put_slot, put_queue, put_output}
+use Rattle.mm_model.specs.Image.{Image}
+use Rattle.mm_model.specs.Spelling.{HoldsWords}
+use Rattle.mm_model.specs.Operands.{addr_operand, value_operand}
+use Rattle.mm_model.specs.Ask.{ask}
+use Rattle.mm_model.specs.Effect.{Change, Pages, Effect, effect, delivered}
+use Rattle.mm_model.specs.Effect.Pages.{Keep, Add, Remove}
+use Rattle.mm_model.specs.Effect.Effect.{Fault, Block, Deliver, Does}
+use Rattle.mm_model.specs.Turn.{Turned, reply, put_all, state_after, with_issue, slot_after, with_other, with_queue, with_out, with_cell, with_pages, core_after, memory_after, stood, is_sync, event_of, core_faulted, faulted, touch_of, asked_use, blocked, ended, executed, idle, turn}
+use Rattle.mm_model.specs.Run.{after}
+use Rattle.mm_model.specs.Fits.{IsCore, SlotHoldsWords, EventHoldsWords, RowHoldsWords, Fits}
+use Rattle.mm_model.proofs.Memories.{put_frames, map_frames, unmap_frames, put_paged, map_paged, unmap_paged}
+use Rattle.mm_model.proofs.CoreRows.{each_set, slot_at-number, each_push}
+use Rattle.mm_model.proofs.EffectWords.{page_words, IssueWords, CellWords, PagesFit, QueueWords, OtherWords, ChangeWords, EffectWords, slot_words, queue_words, delivered_words, addr_operand-fits, value_operand-fits, effect_words}
+use Rattle.mm_model.proofs.TurnKeeps.{turn_keeps}
+use Rattle.mm_model.proofs.TurnShapes.{decoded_instr, TurnShape, turn_shape}
+
+-- 1. Words of rows.
+
+each_changed : (P : Row → Type 0) (n : ℕ) (f : Row → Row) → ((row : Row) → P row → P (f row)) → (rows : List Row) → AllByRecursion P rows → AllByRecursion P (map (at_number n f) rows)
+each_changed P n f keeps [] h = tt
+each_changed P n f keeps (row ∷ rows) h = (by (nat_eq row.slot.number n), each_changed P n f keeps rows h.1)
+  where
+    by : (b : Bool) → P (if b then f row else row)
+    by true = keeps row h.0
+    by false = h.0
+
+put_slot-words : (core : Core) (s : Slot) → AllByRecursion RowHoldsWords core.rows → SlotHoldsWords s → AllByRecursion RowHoldsWords (put_slot core s).rows
+unfolding put_slot
+put_slot-words core s h k = each_changed RowHoldsWords s.number (λ (row : Row). record row { slot = s }) (λ row r. record { slot = k; events = r.events }) core.rows h
+
+put_queue-words : (core : Core) (n : ℕ) (q : List Event) → AllByRecursion RowHoldsWords core.rows → AllByRecursion EventHoldsWords q → AllByRecursion RowHoldsWords (put_queue core n q).rows
+unfolding put_queue
+put_queue-words core n q h k = each_changed RowHoldsWords n (λ (row : Row). record row { queue = q }) (λ row r. record { slot = r.slot; events = k }) core.rows h
+
+put_all-words : (regs : List Word) (ws : List (ℕ × Word)) → AllByRecursion IsWord regs → AllByRecursion (λ (w : ℕ × Word). IsWord w.1) ws → AllByRecursion IsWord (put_all regs ws)
+put_all-words regs [] h k = h
+put_all-words regs (w ∷ ws) h k = put_all-words (slice_set regs w.0 w.1) ws (each_set IsWord regs w.0 w.1 h k.0) k.1
+
+slot_after-words : (m : Memory) (s : Slot) (c : Change) → SlotHoldsWords s → ChangeWords m c → SlotHoldsWords (slot_after s c)
+unfolding slot_after
+slot_after-words m s c h k = by c.issue k.issue
+  where
+    by : (o : Option Pending) → IssueWords o → SlotHoldsWords (with_issue (record s { regs = put_all s.regs c.writes; ip = c.next; past = c.past; turns = s.turns + 1; state = state_after c.halts }) o)
+    by None i = record { registers = put_all-words s.regs c.writes h.registers k.writes; ip = k.next; pending = h.pending }
+    by (Some p) i = record { registers = put_all-words s.regs c.writes h.registers k.writes; ip = k.next; pending = each_push (λ (x : Pending). IsWord x.word) s.pending p h.pending i }
+
+stood-words : (s : Slot) (state : SlotState) → SlotHoldsWords s → SlotHoldsWords (stood s state)
+stood-words s state h = record { registers = h.registers; ip = h.ip; pending = h.pending }
+
+-- 2. Words of cells.
+
+put_page-words : (k : ℕ) (v : List Cell) (es : List (ℕ × List Cell)) → AllByRecursion (λ (c : Cell). IsWord c.word) v → AllByRecursion HoldsWords es → AllByRecursion HoldsWords (put nat_cmp k v es)
+put_page-words k v [] new old = (new, tt)
+put_page-words k v (e ∷ es) new old =
+    elim (nat_cmp k e.0) as (λ r. AllByRecursion HoldsWords (by_order r ((k, v) ∷ e ∷ es) ((e.0, v) ∷ es) (e ∷ put nat_cmp k v es))) [
+      | Less ↦ (new, old)
+      | Equal ↦ (new, old.1)
+      | Greater ↦ (old.0, put_page-words k v es new old.1)
+    ]
+
+filter-words : (p : ℕ × List Cell → Bool) (es : List (ℕ × List Cell)) → AllByRecursion HoldsWords es → AllByRecursion HoldsWords (filter p es)
+filter-words p [] h = tt
+filter-words p (e ∷ es) h =
+    elim (p e) as (λ b. AllByRecursion HoldsWords (cond b (e ∷ filter p es) (filter p es))) [ true ↦ (h.0, filter-words p es h.1) | false ↦ filter-words p es h.1 ]
+
+zeros_are_words : (n : ℕ) → AllByRecursion (λ (c : Cell). IsWord c.word) (replicate n zero_cell)
+zeros_are_words zero = tt
+zeros_are_words (suc n) = (lit< tt, zeros_are_words n)
+
+-- what a change leaves of the memory
+record MemoryKeeps (m later : Memory) : Type 0 where
+  frames : later.frames ≡ m.frames
+  paged : IsPaged later
+  cells : AllByRecursion HoldsWords later.pages
+
+memory_self : (m : Memory) → IsPaged m → AllByRecursion HoldsWords m.pages → MemoryKeeps m m
+memory_self m paged cells = record { frames = refl; paged = paged; cells = cells }
+
+put_cell-words : (m : Memory) (w : ℕ) (c : Cell) → AllByRecursion HoldsWords m.pages → IsWord c.word → AllByRecursion HoldsWords (put_cell m w c).pages
+unfolding put_cell
+put_cell-words m w c h k = by (page_at m (page_of w)) refl
+  where
+    by : (o : Option (List Cell)) → page_at m (page_of w) ≡ o → AllByRecursion HoldsWords (put_in m o w c).pages
+    by None e = h
+    by (Some cells) e = put_page-words (page_of w) (slice_set cells (place_of w) c) m.pages (each_set (λ (x : Cell). IsWord x.word) cells (place_of w) c (page_words m.pages (page_of w) cells h e) k) h
+
+cell_keeps : (m : Memory) (o : Option (ℕ × Cell)) → IsPaged m → AllByRecursion HoldsWords m.pages → CellWords o → MemoryKeeps m (with_cell m o)
+cell_keeps m None paged cells k = memory_self m paged cells
+cell_keeps m (Some w) paged cells k = record { frames = put_frames m w.0 w.1; paged = put_paged m w.0 w.1 paged; cells = put_cell-words m w.0 w.1 cells k }
+
+map_words : (m : Memory) (page : ℕ) → AllByRecursion HoldsWords m.pages → AllByRecursion HoldsWords (map_page m page).pages
+unfolding map_page
+map_words m page h = put_page-words page zero_page m.pages (zeros_are_words 512) h
+
+unmap_words : (m : Memory) (page : ℕ) → AllByRecursion HoldsWords m.pages → AllByRecursion HoldsWords (unmap_page m page).pages
+unfolding unmap_page
+unmap_words m page h = filter-words (λ e. not (nat_eq e.0 page)) m.pages h
+
+pages_keep : (m mid : Memory) (cell : Option (ℕ × Cell)) (p : Pages) → MemoryKeeps m mid → mid ≡ with_cell m cell → PagesFit m cell p → MemoryKeeps m (with_pages mid p)
+pages_keep m mid cell Keep k is fits = k
+pages_keep m mid cell (Add page) k is fits =
+    let same : mid ≡ m = is ∙ ap (with_cell m) fits.0 in
+    let can : can_map mid page ≡ true = ap (λ (x : Memory). can_map x page) same ∙ fits.1 in
+    record { frames = map_frames mid page ∙ k.frames; paged = map_paged mid page k.paged can fits.2; cells = map_words mid page k.cells }
+pages_keep m mid cell (Remove page) k is fits = record { frames = unmap_frames mid page ∙ k.frames; paged = unmap_paged mid page k.paged; cells = unmap_words mid page k.cells }
+
+change_memory : (m : Memory) (c : Change) → IsPaged m → AllByRecursion HoldsWords m.pages → ChangeWords m c → MemoryKeeps m (memory_after m c)
+unfolding memory_after
+change_memory m c paged cells k = pages_keep m (with_cell m c.cell) c.cell c.pages (cell_keeps m c.cell paged cells k.cell) refl k.pages
+
+-- 3. Words after a turn.
+
+other_words : (core : Core) (o : Option Slot) → AllByRecursion RowHoldsWords core.rows → OtherWords o → AllByRecursion RowHoldsWords (with_other core o).rows
+other_words core None h k = h
+other_words core (Some o) h k = put_slot-words core o h k
+
+later_words : (core : Core) (n : ℕ) (q : Option (List Event)) → AllByRecursion RowHoldsWords core.rows → QueueWords q → AllByRecursion RowHoldsWords (with_queue core n q).rows
+later_words core n None h k = h
+later_words core n (Some q) h k = put_queue-words core n q h k
+
+byte_words : (core : Core) (g : ℕ) (o : Option ℕ) → AllByRecursion RowHoldsWords core.rows → AllByRecursion RowHoldsWords (with_out core g o).rows
+unfolding put_output
+byte_words core g None h = h
+byte_words core g (Some byte) h = h
+
+change_rows : (core : Core) (m : Memory) (s : Slot) (c : Change) → AllByRecursion RowHoldsWords core.rows → SlotHoldsWords s → ChangeWords m c → AllByRecursion RowHoldsWords (core_after core s c).rows
+unfolding core_after
+change_rows core m s c h own k =
+    byte_words (with_queue (put_slot (with_other core c.other) (slot_after s c)) s.number c.queue) s.group c.out
+    (later_words (put_slot (with_other core c.other) (slot_after s c)) s.number c.queue (put_slot-words (with_other core c.other) (slot_after s c) (other_words core c.other h k.other) (slot_after-words m s c own k)) k.queue)
+
+faulted_rows : (core : Core) (s : Slot) (e : Event) (o : Option ℕ) → AllByRecursion RowHoldsWords core.rows → SlotHoldsWords s → EventHoldsWords e → AllByRecursion RowHoldsWords (core_faulted core s e o).rows
+unfolding core_faulted
+faulted_rows core s e (Some g) h own k =
+    let waits : Core = put_slot core (stood s Waiting) in
+    let rows = put_slot-words core (stood s Waiting) h (stood-words s Waiting own) in
+    put_queue-words waits g (queue_at waits g ++ e ∷ []) rows (each_push EventHoldsWords (queue_at waits g) e (queue_words waits g rows) k)
+faulted_rows core s e None h own k = by (is_sync e.cause)
+  where
+    by : (b : Bool) → AllByRecursion RowHoldsWords (if b then put_slot core (stood s Running) else put_slot core (stood s (Halted (Some e.cause)))).rows
+    by true = put_slot-words core (stood s Running) h (stood-words s Running own)
+    by false = put_slot-words core (stood s (Halted (Some e.cause))) h (stood-words s (Halted (Some e.cause)) own)
+
+-- what a turn leaves holds words
+record TurnWords (m : Memory) (t : Turned) : Type 0 where
+  memory : MemoryKeeps m t.memory
+  rows : AllByRecursion RowHoldsWords t.core.rows
+
+module _ (core : Core) (m : Memory) (h : IsCore core) (rows : AllByRecursion RowHoldsWords core.rows) (paged : IsPaged m) (cells : AllByRecursion HoldsWords m.pages) where
+  same_memory : MemoryKeeps m m
+  same_memory = memory_self m paged cells
+
+  fault_words : (s : Slot) (c : Cause) (a v : Word) (f t : Option Touch) (us : List Use) → SlotHoldsWords s → IsWord a → IsWord v → TurnWords m (faulted core m s c a v f t us)
+  unfolding faulted event_of
+  fault_words s c a v f t us own fits_a fits_v = record { memory = same_memory; rows = faulted_rows core s (event_of s c a v) s.handler rows own (record { ip = own.ip; address = fits_a; value = fits_v }) }
+
+  ended_words : (s : Slot) (i : Instr) (f : Touch) (t : Option Touch) (us : List Use) (x : Effect) → SlotHoldsWords s → IsInstr i → EffectWords m x → TurnWords m (ended core m s i f t us x)
+  unfolding ended blocked
+  ended_words s i f t us (Fault c) own instr k = fault_words s c (addr_operand i s) (value_operand i s) (Some f) t us own (addr_operand-fits i s own.registers) (value_operand-fits i s instr own.registers)
+  ended_words s i f t us Block own instr k = record { memory = same_memory; rows = put_slot-words core (stood s Running) rows (stood-words s Running own) }
+  ended_words s i f t us (Deliver o) own instr k = record { memory = same_memory; rows = put_slot-words (put_slot core o) (stood s Running) (put_slot-words core o rows k) (stood-words s Running own) }
+  ended_words s i f t us (Does c) own instr k = record { memory = change_memory m c paged cells k; rows = change_rows core m s c rows own k }
+
+  own_at : (n : ℕ) (s : Slot) → slot_at core n ≡ Some s → slot_at core s.number ≡ Some s
+  own_at n s is = ap (slot_at core) (slot_at-number core n s is) ∙ is
+
+  shape_words : (n : ℕ) (t : Turned) → TurnShape core m n t → TurnWords m t
+  unfolding idle blocked executed
+  shape_words n t (TurnShape.idles k is) = subst (TurnWords m) (sym is) (record { memory = same_memory; rows = rows })
+  shape_words n t (TurnShape.arrives_at s p rest on at pending is) =
+      subst (TurnWords m) (sym is) (record { memory = same_memory; rows = put_slot-words core (delivered s) rows (delivered_words s (slot_words core (n - 128) s rows at)) })
+  shape_words n t (TurnShape.faults_early s c us r is) = subst (TurnWords m) (sym is) (fault_words s c (Int 0) (Int 0) None None us (slot_words core n s rows r.at) (lit< tt) (lit< tt))
+  shape_words n t (TurnShape.faults_fetching s c f us r aim is) = subst (TurnWords m) (sym is) (fault_words s c (Int 0) (Int 0) (Some f) None us (slot_words core n s rows r.at) (lit< tt) (lit< tt))
+  shape_words n t (TurnShape.lacks_register s f i us r aim found on lacking is) =
+      subst (TurnWords m) (sym is) (record { memory = same_memory; rows = put_slot-words core (stood (delivered s) Running) rows (stood-words (delivered s) Running (delivered_words s (slot_words core n s rows r.at))) })
+  shape_words n t (TurnShape.carries_out s f u i r aim found has is) =
+      let instr = decoded_instr m f i found in
+      subst (TurnWords m) (sym is)
+      (ended_words s i f (touch_of (ask i s)) (u ∷ asked_use m (ask i s)) (effect core.split i s (reply core m s.number (ask i s))) (slot_words core n s rows r.at) instr
+      (effect_words core h rows m cells s (own_at n s r.at) i instr))
+
+-- the state after a turn fits the image
+pub after_fits : (i : Image) (s : State) (n : ℕ) → Fits i s → Fits i (after s n)
+unfolding after
+after_fits i s n h =
+    let keeps = turn_keeps s.core s.memory h.core n in
+    let words = shape_words s.core s.memory h.core h.rows h.paged h.cells n (turn s.core s.memory n) (turn_shape s.core s.memory n) in
+    record {
+      same_slots = keeps.identities ∙ h.same_slots;
+      version = keeps.version ∙ h.version;
+      split = keeps.split ∙ h.split;
+      frames = words.memory.frames ∙ h.frames;
+      core = keeps.whole;
+      paged = words.memory.paged;
+      rows = words.rows;
+      cells = words.memory.cells;
+    }

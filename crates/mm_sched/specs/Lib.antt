@@ -1,0 +1,4 @@
+pub mod Places
+pub mod Following
+pub mod Stars
+pub mod Shown

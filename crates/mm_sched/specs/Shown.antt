@@ -1,0 +1,18 @@
+-- A mask that shows which slots run.
+use Rattle.std.specs.Prelude.{◌≡◌, ◌↔◌, ℕ, Bool, true, false, Option, Some, None}
+use Rattle.std.specs.Int.{bit_at}
+use Rattle.mm_model.specs.Slot.{Slot}
+use Rattle.mm_model.specs.State.{Core, slot_at}
+use Rattle.mm_model.specs.Turn.{is_running}
+
+abbrev pub runs : Option Slot → Bool
+runs None = false
+runs (Some s) = is_running s.state
+
+-- the slot of a number is there and runs
+abbrev pub runs_at : Core → ℕ → Bool
+runs_at core n = runs (slot_at core n)
+
+-- bit n of the mask is set exactly where slot n runs
+pub record Shows (core : Core) (mask : ℕ) : Type 0 where
+  pub each : (n : ℕ) → (bit_at mask n ≡ 1) ↔ (runs_at core n ≡ true)

@@ -1,0 +1,69 @@
+ghost use Rattle.std.specs.Prelude.{◌≡◌, ◌≢◌, ◌↔◌, ◌<◌, ◌+◌, ◌^◌, IsSome, IfSome, Some, None};
+ghost use Rattle.mm_sched.specs.Following.{IsNext, IsLeast, NoneAbove};
+
+use std::marker::Model;
+
+/// Round robin: the next running slot after the last one that was issued, cyclically by number, and at first the least. Contracts
+/// see the last one.
+#[derive(Clone, Copy, Debug, PartialEq, Eq)]
+pub struct Robin {
+    last: Option<u8>,
+}
+
+impl Model for Robin {
+    ghost use Rattle.std.specs.Prelude.{ℕ, ◌<◌, Option, IfSome};
+
+    ghost Value = { Option ℕ };
+
+    ghost view = { λ r. r.last };
+
+    ghost invariant = { λ r. IfSome r.last (λ n. n < 64) };
+
+    ghost inverse = { λ last. record { last = last } };
+}
+
+impl Robin {
+    /// A round robin that has issued nothing.
+    pub fn new() -> Robin
+        ensures { result ≡ None }
+    {
+        Robin { last: None }
+    }
+
+    /// One that goes on after this slot, or begins with the least.
+    pub fn after(last: Option<u8>) -> Robin
+        requires { IfSome last (λ n. n < 64) }
+        ensures { result ≡ last }
+    {
+        Robin { last }
+    }
+
+    /// The slot that comes next, where bit `s` of the mask is set for each running slot `s`: none exactly where none is set.
+    pub fn peek(&self, running: u64) -> Option<u8>
+        ensures some { IsSome result ↔ (running ≢ 0) }
+        ensures next { IfSome result (IsNext running self.now) }
+    {
+        if let Some(last) = self.last {
+            let above = running >> last >> 1;
+            if above != 0 {
+                return Some(last + 1 + above.trailing_zeros() as u8);
+            }
+        }
+        if running == 0 {
+            None
+        } else {
+            Some(running.trailing_zeros() as u8)
+        }
+    }
+
+    /// The same, and it is issued.
+    pub fn next(&mut self, running: u64) -> Option<u8>
+        ensures some { IsSome result ↔ (running ≢ 0) }
+        ensures next { IfSome result (λ n. IsNext running self.old n × (self.new ≡ Some n)) }
+        ensures stays { result ≡ None → self.new ≡ self.old }
+    {
+        let next = self.peek(running)?;
+        self.last = Some(next);
+        Some(next)
+    }
+}
