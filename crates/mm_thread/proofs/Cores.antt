@@ -1,24 +1,23 @@
 -- What a turn relies on of a core.
-use Rattle.std.proofs.Common.{◌≡◌, ◌≢◌, ℕ, ◌+◌, ◌<◌, ◌≤◌, Bool, true, false, cond, eqb, List, [], ◌∷◌, ◌++◌, length, map, get_or, set, Option, Some, None, refl, sym, ap, subst, ◌∙◌, arith, inl, inr}
+use Rattle.std.proofs.Common.{◌≡◌, ◌≢◌, ℕ, ◌<◌, ◌≤◌, Bool, true, false, cond, eqb, List, [], ◌∷◌, ◌++◌, length, map, get_or, Option, Some, None, refl, sym, ap, subst, ◌∙◌, arith, inl, inr}
 use Rattle.std.specs.Prelude.{IfSome, slice_index}
 use Rattle.std.specs.List.{AllByRecursion}
 use Rattle.std.proofs.lemmas.Bool.{cases_eq, cases_lt}
-use Rattle.std.proofs.lemmas.List.{length-map, length-set, get_or-set_same, get_or-set_other, get_or_past, set_past}
+use Rattle.std.proofs.lemmas.List.{length-map, length-set, get_or-set_same, get_or-set_other, get_or_past}
 use Rattle.mm_model.specs.declared.slot.SlotState.{SlotState}
 use Rattle.mm_model.specs.declared.slot.SlotState.TheVariants.{Running, Waiting, Taken, Halted}
 use Rattle.mm_model.specs.declared.slot.Pending.{Pending}
 use Rattle.mm_model.specs.declared.event.Event.{Event}
 use Rattle.mm_model.specs.Slot.{Slot, is_empty}
 use Rattle.mm_model.specs.Image.{slot_limit, output_limit}
-use Rattle.mm_model.specs.State.{Row, Core, slot_at, queue_at, output_of, put_slot, put_queue}
+use Rattle.mm_model.specs.State.{Row, Core, slot_at, queue_at, output_of, put_queue}
 use Rattle.mm_model.specs.Turn.{stood, core_faulted, is_running, is_sync}
-use Rattle.mm_model.specs.Fits.{one_if, events_of, loads_for, waits_for, is_waiting, slots_of, IsSlot, IsCore}
+use Rattle.mm_model.specs.Fits.{one_if, waits_for, is_waiting, slots_of, IsSlot, IsCore}
 use Rattle.mm_model.specs.Spelling.{IsOther}
 use Rattle.mm_model.proofs.CoreRows.{each_get, slot_has, slot_at-number, other_at}
 use Rattle.mm_model.proofs.CoreSteps.{waits_for-rests}
 use Rattle.mm_model.proofs.SlotSteps.{empty_within}
 use Rattle.mm_thread.specs.Places.{no_row, row_at, slot_in, queue_in, with_row, with_slot, with_queue_in, numbers_in, IsIndex}
-use Rattle.mm_thread.specs.Left.{CanTurn}
 use Rattle.mm_thread.proofs.Counting.{times, times-events, times-loads, shorter, short, all_below}
 use Rattle.mm_thread.proofs.Index.{slot_found, queue_found, put_slot-place, put_queue-place, numbers-with_row, number-get}
 

@@ -1,3 +1,8 @@
+ghost use Rattle.std.specs.Prelude.{◌≡◌, true, [], ◌∷◌};
+ghost use Rattle.mm_word.specs.Perm.{can_fetch};
+ghost use Rattle.mm_word.specs.Pointer.{IsWellFormed};
+ghost use Rattle.mm_model.specs.Spelling.{IsFresh};
+
 use crate::{Core, Slot, SlotState, Tick, turn};
 use arrayvec::ArrayVec;
 use mm_isa::{Instr, Reg, encode};
@@ -7,7 +12,11 @@ use mm_word::{Cell, GuardedPtr, Perm, Word};
 use std::test::Fail;
 
 // A slot at the start of a page of code.
-fn slot_at_code(ip: GuardedPtr) -> Slot {
+fn slot_at_code(ip: GuardedPtr) -> Slot
+    requires executable { can_fetch ip.perm ≡ true }
+    requires formed { IsWellFormed ip }
+    ensures { IsFresh 64 (result ∷ []) result }
+{
     Slot {
         number: 3,
         group: 5,
@@ -32,11 +41,14 @@ fn one_turn(rt: HostRuntime) -> Result<(), Fail> {
     let mut cells = Vec::from_elem(rt.alloc(), zero, CELLS)?;
     cells[0].word = Word::Int(encode(&Instr::Ldi { rd, imm: -7 }));
     let page = Page::new(0x100, cells).ok_or("a page")?;
-    let mut mem = PlainMem::new(rt.alloc(), &[page], 1).ok().ok_or("memory")?;
+    let Ok(mut mem) = PlainMem::new(rt.alloc(), &[page], 1) else {
+        panic!(rt; "memory");
+    };
     let ip = GuardedPtr::new(Perm::Xu, 12, 0x10_0000).ok_or("a pointer")?;
-    let mut core = Core::new(rt.alloc(), &[slot_at_code(ip)])
-        .ok()
-        .ok_or("memory")?;
+    let slot = slot_at_code(ip);
+    let Ok(mut core) = Core::new(rt.alloc(), &[slot]) else {
+        panic!(rt; "memory");
+    };
     assert_eq!(rt; core.running(), 8);
     let step = turn(&mut core, &mut mem, 3);
     assert_eq!(rt; step.tick, Tick::Did);

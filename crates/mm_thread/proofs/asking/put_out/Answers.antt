@@ -1,4 +1,4 @@
-use Rattle.std.proofs.Common.{◌≡◌, ◌+◌, ◌%◌, ◌<◌, ◌≤◌, ℕ, ltb, cond, eqb, true, false, List, [], ◌∷◌, ◌++◌, length, refl, sym, ap, ◌∙◌, arith, ltb-true}
+use Rattle.std.proofs.Common.{◌≡◌, ◌%◌, ◌≤◌, ℕ, ltb, cond, eqb, true, false, [], ◌∷◌, ◌++◌, length, sym, ap, ◌∙◌, arith, ltb-true}
 use Rattle.mm_word.specs.Word.{word_bits}
 use Rattle.mm_model.specs.Slot.{Slot, register}
 use Rattle.mm_model.specs.State.{Core, output_of, put_output}

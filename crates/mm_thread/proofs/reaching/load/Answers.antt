@@ -1,25 +1,20 @@
-use Rattle.std.proofs.Common.{◌≡◌, ℕ, ◌+◌, Bool, true, false, List, Some, None, Ok, Err, Result, refl, sym, ap, subst, ◌∙◌, rules, arith}
+use Rattle.std.proofs.Common.{◌≡◌, ℕ, ◌+◌, Bool, false, Result, refl, sym, ap, ◌∙◌, rules, arith}
 use Rattle.std.specs.Prelude.{FitsSigned, ◌&&◌}
 use Rattle.std.specs.Int.{w32}
 use Rattle.std.proofs.lemmas.Int.{to_z-of_z}
 use Rattle.mm_word.specs.declared.cause.Cause.{Cause}
-use Rattle.mm_word.specs.Access.{Touch, check_result}
+use Rattle.mm_word.specs.Access.{Touch}
 use Rattle.mm_isa.specs.declared.instr.Instr.TheVariants.{Ld}
 use Rattle.mm_model.specs.Memory.{Memory, cell_at}
-use Rattle.mm_model.specs.Slot.{Slot, register, is_empty}
-use Rattle.mm_model.specs.State.{Core}
 use Rattle.mm_model.specs.Operands.{lacks}
-use Rattle.mm_model.specs.Ask.{Ask, ask, reaching, load_kind}
+use Rattle.mm_model.specs.Ask.{ask, reaching}
 use Rattle.mm_model.specs.Ask.Ask.{Refuse, Reach}
 use Rattle.mm_model.specs.Effect.{effect}
 use Rattle.mm_model.specs.Turn.{reply}
 use Rattle.mm_model.specs.Uses.{takes_none}
 use Rattle.mm_thread.specs.Places.{slot_in}
-use Rattle.mm_thread.specs.Left.{Leaves, core_loaded, outcome_loaded}
-use Rattle.mm_thread.specs.declared.outcome.Outcome.{Outcome}
-use Rattle.mm_thread.specs.declared.outcome.Outcome.TheVariants.{Fails}
+use Rattle.mm_thread.specs.Left.{core_loaded, outcome_loaded}
 use Rattle.mm_thread.specs.declared.outcome.Told.{Told}
-use Rattle.mm_mem.specs.declared.answer.Loaded.{Loaded}
 use Rattle.mm_mem.specs.Answers.{loaded}
 use Rattle.mm_thread.proofs.Cores.{own, pending_room}
 use Rattle.mm_thread.proofs.Accesses.{executes_by, load_leaves, free_destination, leaves_all, one_access}
