@@ -19,7 +19,7 @@ use std::alloc::Global;
 ///
 /// `words` are the command line without the program's name. `M` is the type of the memory that every command which runs an image
 /// makes and runs on.
-#[tactic(auto, using(crate::proofs::Verdicts::usage, crate::proofs::Verdicts::refused, crate::proofs::Verdicts::read_fault, crate::proofs::Verdicts::write_fault, crate::proofs::Verdicts::done, crate::proofs::Verdicts::part, crate::proofs::Verdicts::silent, crate::proofs::Complete::complete))]
+#[tactic(auto, using(crate::proofs::Verdicts::usage, crate::proofs::Verdicts::refused, crate::proofs::Verdicts::read_fault, crate::proofs::Verdicts::write_fault, crate::proofs::Verdicts::done, crate::proofs::Verdicts::part, crate::proofs::Verdicts::silent))]
 pub fn mmachine<M: Boot, F: Files, I: Source, O: Sink, D: Sink>(
     alloc: Global,
     words: &[String],
