@@ -1,10 +1,9 @@
 -- How long a list of numbers is that holds each number once at most.
-use Rattle.std.proofs.Common.{◌≡◌, ◌≢◌, ℕ, zero, suc, ◌+◌, ◌<◌, ◌≤◌, Bool, true, false, eqb, List, [], ◌∷◌, length, map, refl, sym, ap, subst, ◌∙◌, arith, inl, inr}
+use Rattle.std.proofs.Common.{◌≡◌, ◌≢◌, ℕ, zero, suc, ◌+◌, ◌<◌, ◌≤◌, eqb, List, [], ◌∷◌, length, map, refl, sym, ap, ◌∙◌, arith, inl, inr}
 use Rattle.std.specs.Prelude.{if◌then◌else◌}
 use Rattle.std.specs.List.{AllByRecursion}
 use Rattle.std.proofs.lemmas.Bool.{cases_eq, cases_lt}
 use Rattle.std.proofs.lemmas.Bool.Decides.{nat_tests}
-use Rattle.std.proofs.lemmas.List.{length-map}
 use Rattle.mm_model.specs.declared.event.Event.{Event}
 use Rattle.mm_model.specs.declared.slot.Pending.{Pending}
 use Rattle.mm_model.specs.Fits.{events_of, loads_for}
@@ -88,3 +87,7 @@ below_fewer (suc k) n xs once under none = elim (cases_eq n k) [
 -- a number below k is missing
 pub shorter : (k n : ℕ) (xs : List ℕ) → ((n : ℕ) → times n xs ≤ 1) → ((n : ℕ) → k ≤ n → times n xs ≡ 0) → n < k → times n xs ≡ 0 → length xs < k
 shorter k n xs once none under missing = omega (arith, length_below k xs (all_below k xs none), below_fewer k n xs once under missing)
+
+-- no number is missing
+pub short : (k : ℕ) (xs : List ℕ) → ((n : ℕ) → times n xs ≤ 1) → ((n : ℕ) → k ≤ n → times n xs ≡ 0) → length xs ≤ k
+short k xs once none = omega (arith, length_below k xs (all_below k xs none), below_few k xs once)

@@ -1,11 +1,10 @@
 -- Slots found by their numbers through the table of places.
-use Rattle.std.proofs.Common.{◌≡◌, ◌≢◌, ℕ, zero, suc, ◌+◌, ◌<◌, ◌≤◌, Bool, true, false, cond, eqb, List, [], ◌∷◌, length, map, get_or, set, slice_index, Option, Some, None, refl, sym, ap, subst, ◌∙◌, arith}
+use Rattle.std.proofs.Common.{◌≡◌, ◌≢◌, ℕ, zero, suc, ◌<◌, ◌≤◌, true, false, eqb, List, [], ◌∷◌, length, map, get_or, set, slice_index, Some, None, refl, sym, ap, ◌∙◌, arith}
 use Rattle.std.proofs.lemmas.Bool.Decides.{nat_tests}
-use Rattle.std.proofs.lemmas.List.{length-map, get_or-map, get_or_default, map-set, set-get_or, get_or-set_same, get_or-set_other, length-set}
+use Rattle.std.proofs.lemmas.List.{length-map, get_or-map, map-set, set-get_or}
 use Rattle.mm_model.specs.declared.event.Event.{Event}
 use Rattle.mm_model.specs.Slot.{Slot}
 use Rattle.mm_model.specs.State.{Row, Core, row_in, slot_of, queue_of, slot_at, queue_at, at_number, put_slot, put_queue}
-use Rattle.mm_model.specs.Spelling.{numbers_of}
 use Rattle.mm_model.specs.Fits.{slots_of}
 use Rattle.mm_thread.specs.Places.{no_row, row_at, slot_in, queue_in, with_row, with_slot, with_queue_in, numbers_in, IsIndex}
 
@@ -104,6 +103,10 @@ module _ (core : Core) (places : List ℕ) (index : IsIndex (numbers_in core) pl
   -- a number that leads to a place is that of the slot there
   pub number_there : (n : ℕ) → n < 64 → slice_index places n < length core.rows → (slot_in core (slice_index places n)).number ≡ n
   number_there n small within = sym (number-get core (slice_index places n) within) ∙ index.there n small (omega (arith, length-numbers core))
+
+  -- no row has a number that leads to no place
+  pub none_past : (n : ℕ) → length core.rows ≤ slice_index places n → HasNone core.rows n
+  none_past n past = λ k within same. omega (arith, ap (slice_index places) same, back_at k within)
 
   -- a number that leads to no place is no slot's
   pub row_missing : (n : ℕ) → length core.rows ≤ slice_index places n → row_in core.rows n ≡ None
