@@ -21,9 +21,6 @@ use Rattle.mmachine.specs.Answers.{Answers, AllTold, FileFailed, Gives, NothingF
 
 -- 1. Words are in one row at most.
 
-
-
-
 same_number : (n m : ℕ) → n ≤ 1000000 → m ≤ 1000000 → decimal n ≡ decimal m → n ≡ m
 same_number n m few fewer same = decimal_injective n m (omega arith) (omega arith) same
 

@@ -61,16 +61,18 @@ runs_nowhere s n kept high None is holds = cc
 runs_nowhere s n kept high (Some slot) is holds = let low : n < 64 = few_numbers s n slot kept is in omega arith
 
 shows : (s : State) (mask : ℕ) → Kept s → mask < 2 ^ 64 → Masks s mask → Shows s.core mask
-shows s mask kept fits masks = record { each = λ n. elim (cases_lt n 64) [
-  | inl low ↦
-      let bit = bit_means mask n in
-      let slot = runs_means (slot_at s.core n) in
-      (λ one. slot.0 ((masks n low).0 (bit.1 one)), λ holds. bit.0 ((masks n low).1 (slot.1 holds)))
-  | inr high ↦ (
+shows s mask kept fits masks = record {
+  each = λ n. elim (cases_lt n 64) [
+    | inl low ↦
+        let bit = bit_means mask n in
+        let slot = runs_means (slot_at s.core n) in
+        (λ one. slot.0 ((masks n low).0 (bit.1 one)), λ holds. bit.0 ((masks n low).1 (slot.1 holds)))
+    | inr high ↦ (
       λ one. let none : bit_at mask n ≡ 0 = bit_at_above mask 64 n fits high in absurd (omega arith),
-      λ holds. absurd (runs_nowhere s n kept high (slot_at s.core n) refl holds)
+      λ holds. absurd (runs_nowhere s n kept high (slot_at s.core n) refl holds),
     )
-] }
+  ];
+}
 
 -- 4. What comes next in the mask is the next running slot, and where no bit is set none runs.
 

@@ -10,7 +10,9 @@ use mm_word::NoMemory;
 #[derive(Clone, Copy, Debug, PartialEq, Eq)]
 pub enum Refusal {
     /// The file is longer than its limit.
-    TooLong { file: u8 },
+    TooLong {
+        file: u8,
+    },
     /// The file spells no image: its first fault, and where that stands.
     Image {
         file: u8,
@@ -18,7 +20,10 @@ pub enum Refusal {
         offset: u64,
     },
     /// The file is no schedule: where its fault stands.
-    Schedule { file: u8, offset: u64 },
+    Schedule {
+        file: u8,
+        offset: u64,
+    },
 }
 
 /// What the program answers.

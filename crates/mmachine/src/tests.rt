@@ -1,15 +1,18 @@
-ghost use Rattle.std.specs.Prelude.{ℕ, None};
-
 use crate::code;
 use crate::status::{Refusal, Status};
 use crate::top::mmachine;
-use mm_io::{Failed, Files, MemSink, StdFiles, StdSink, StdSource, SureFiles, SureSource};
+use mm_image::ImageFault;
+use mm_io::{MemFiles, MemSink, StdFiles, StdSink, StdSource, SureSource};
+use mm_mem::PlainMem;
 use std::fs;
-use std::marker::Model;
 use std::test::Fail;
 
 const HELLO: &[u8] =
     b"cycles 3\ngroup 0 output 1\no 41\nslot 0 turns 3 halted ip p3300000000100010\nr 1 i0000000000000041\n";
+
+// Two turns of slot 0, and one of a slot that is not there.
+const UNDER_A_SCHEDULE: &[u8] =
+    b"cycles 3\ngroup 0 output 1\no 41\nslot 0 turns 2 running ip p3300000000100010\nr 1 i0000000000000041\n";
 
 /// The image of `examples/hello.img`.
 fn hello(rt: &HostRuntime) -> Result<Vec<u8>, Fail> {
@@ -40,20 +43,27 @@ fn strings(rt: &HostRuntime, words: &[&str]) -> Result<Vec<String>, Fail> {
     Ok(strings)
 }
 
-/// The answer to the words where `IMAGE` holds the bytes, with what the sinks took.
+/// Files `IMAGE` and `SCHEDULE` with these bytes, which move so many bytes in a call.
+fn files(rt: &HostRuntime, image: Vec<u8>, schedule: &str, piece: usize) -> Result<MemFiles, Fail> {
+    let mut held = Vec::new(rt.alloc());
+    held.push((String::from_str(rt.alloc(), "IMAGE")?, image))?;
+    let schedule = Vec::from_slice(rt.alloc(), schedule.as_bytes())?;
+    held.push((String::from_str(rt.alloc(), "SCHEDULE")?, schedule))?;
+    Ok(MemFiles::new(held, Vec::new(rt.alloc()), piece.max(1)))
+}
+
+/// The answer to the words, with what the sinks took.
 fn answer(
     rt: &HostRuntime,
     words: &[&str],
-    image: Vec<u8>,
+    mut files: MemFiles,
 ) -> Result<(Status, MemSink, MemSink), Fail> {
-    let mut held = Vec::new(rt.alloc());
-    held.push((String::from_str(rt.alloc(), "IMAGE")?, image))?;
     let mut out = MemSink::new(rt.alloc(), 10_000, Vec::new(rt.alloc()), 7)?;
     let mut diag = MemSink::new(rt.alloc(), 100, Vec::new(rt.alloc()), 7)?;
-    let status = mmachine(
+    let status = mmachine::<PlainMem, _, _, _, _>(
         rt.alloc(),
         &strings(rt, words)?,
-        &mut SureFiles::new(held),
+        &mut files,
         &mut SureSource::new(Vec::new(rt.alloc())),
         &mut out,
         &mut diag,
@@ -61,18 +71,20 @@ fn answer(
     Ok((status, out, diag))
 }
 
+// The same text in whatever pieces the files are read.
 #[test]
-fn hello_says_its_letter(rt: HostRuntime) -> Result<(), Fail> {
-    let (status, out, diag) = answer(&rt, &["run", "IMAGE", "10"], hello(&rt)?)?;
-    assert_eq!(rt; status, Status::Done);
-    assert_eq!(rt; out.taken(), HELLO);
-    assert_eq!(rt; diag.taken().len(), 0);
-    let (status, out, _) = answer(&rt, &["run", "IMAGE", "0"], hello(&rt)?)?;
-    assert_eq!(rt; status, Status::Done);
-    assert_eq!(rt;
-        out.taken(),
-        b"cycles 0\ngroup 0 output 0\nslot 0 turns 0 running ip p3300000000100000\n".as_slice()
-    );
+fn runs(rt: HostRuntime) -> Result<(), Fail> {
+    for piece in [1, 4096] {
+        let held = files(&rt, hello(&rt)?, "0*2 5", piece)?;
+        let (status, out, diag) = answer(&rt, &["run", "IMAGE", "10"], held)?;
+        assert_eq!(rt; status, Status::Done);
+        assert_eq!(rt; out.taken(), HELLO);
+        assert_eq!(rt; diag.taken().len(), 0);
+        let held = files(&rt, hello(&rt)?, "0*2 5", piece)?;
+        let (status, out, _) = answer(&rt, &["run", "IMAGE", "10", "SCHEDULE"], held)?;
+        assert_eq!(rt; status, Status::Done);
+        assert_eq!(rt; out.taken(), UNDER_A_SCHEDULE);
+    }
     Ok(())
 }
 
@@ -83,15 +95,15 @@ fn usage(rt: HostRuntime) -> Result<(), Fail> {
         &[],
         &["run"],
         &["run", "IMAGE"],
-        &["run", "IMAGE", "1", "2"],
+        &["run", "IMAGE", "1", "2", "3"],
         &["walk", "IMAGE", "1"],
         &["run", "IMAGE", "1000001"],
-        &["run", "IMAGE", "01"],
+        &["run", "IMAGE", "01", "SCHEDULE"],
         &["run", "IMAGE", "+1"],
         &["run", "IMAGE", ""],
     ];
     for words in rows {
-        let (status, out, diag) = answer(&rt, words, hello(&rt)?)?;
+        let (status, out, diag) = answer(&rt, words, files(&rt, hello(&rt)?, "0", 4096)?)?;
         assert_eq!(rt; status, Status::Usage);
         assert_eq!(rt; out.taken().len(), 0);
         assert_eq!(rt; diag.taken(), b"mmachine: usage\n".as_slice());
@@ -99,75 +111,76 @@ fn usage(rt: HostRuntime) -> Result<(), Fail> {
     Ok(())
 }
 
+// Each file is read and parsed before the next, so a wrong image is refused whatever the schedule is.
 #[test]
-fn refused_images(rt: HostRuntime) -> Result<(), Fail> {
+fn refused_files(rt: HostRuntime) -> Result<(), Fail> {
     let mut cut = hello(&rt)?;
     cut.pop();
-    let (status, out, diag) = answer(&rt, &["run", "IMAGE", "10"], cut)?;
-    assert_eq!(rt; status, Status::Refused(Refusal::NotBuilt { file: 1 }));
-    assert_eq!(rt; out.taken().len(), 0);
-    assert_eq!(rt; diag.taken(), b"mmachine: file 1 not built\n".as_slice());
-
+    let short = Refusal::Image {
+        file: 1,
+        fault: ImageFault::Short,
+        offset: 4389,
+    };
     let long = vec![in rt.alloc(); 0; 33_554_433]?;
-    let (status, out, diag) = answer(&rt, &["run", "IMAGE", "10"], long)?;
-    assert_eq!(rt; status, Status::Refused(Refusal::TooLong { file: 1 }));
-    assert_eq!(rt; out.taken().len(), 0);
-    assert_eq!(rt; diag.taken(), b"mmachine: file 1 too long\n".as_slice());
-    Ok(())
-}
-
-/// Files that cannot be read.
-#[derive(Drop)]
-struct LostFiles {
-    faults: u64,
-}
-
-impl Model for LostFiles {
-    ghost Value = { ℕ };
-
-    ghost view = { λ s. s.faults };
-}
-
-impl Files for LostFiles {
-    ghost held = { λ _ _. None };
-
-    ghost faults = { λ s _. s };
-
-    fn read_at(&mut self, _name: &str, _offset: u64, _buf: &mut [u8]) -> Result<usize, Failed> {
-        self.faults = self.faults.saturating_add(1);
-        Err(Failed)
+    let rows: [(&str, &str, Vec<u8>, Status, &str); 5] = [
+        (
+            "IMAGE",
+            "SCHEDULE",
+            cut,
+            Status::Refused(short),
+            "mmachine: file 1 image fault 1 at 4389\n",
+        ),
+        (
+            "IMAGE",
+            "SCHEDULE",
+            long,
+            Status::Refused(Refusal::TooLong { file: 1 }),
+            "mmachine: file 1 too long\n",
+        ),
+        (
+            "IMAGE",
+            "SCHEDULE",
+            hello(&rt)?,
+            Status::Refused(Refusal::Schedule { file: 2, offset: 2 }),
+            "mmachine: file 2 schedule fault at 2\n",
+        ),
+        (
+            "absent",
+            "SCHEDULE",
+            hello(&rt)?,
+            Status::ReadFault,
+            "mmachine: read fault\n",
+        ),
+        (
+            "IMAGE",
+            "absent",
+            hello(&rt)?,
+            Status::ReadFault,
+            "mmachine: read fault\n",
+        ),
+    ];
+    for (image, schedule, bytes, status, line) in rows {
+        let held = files(&rt, bytes, "0 x", 65_536)?;
+        let (answered, out, diag) = answer(&rt, &["run", image, "5", schedule], held)?;
+        assert_eq!(rt; answered, status);
+        assert_eq!(rt; out.taken().len(), 0);
+        assert_eq!(rt; diag.taken(), line.as_bytes());
     }
-}
-
-#[test]
-fn lost_file(rt: HostRuntime) -> Result<(), Fail> {
-    let mut out = MemSink::new(rt.alloc(), 100, Vec::new(rt.alloc()), 100)?;
-    let mut diag = MemSink::new(rt.alloc(), 100, Vec::new(rt.alloc()), 100)?;
-    let status = mmachine(
-        rt.alloc(),
-        &strings(&rt, &["run", "IMAGE", "10"])?,
-        &mut LostFiles { faults: 0 },
-        &mut SureSource::new(Vec::new(rt.alloc())),
-        &mut out,
-        &mut diag,
-    );
-    assert_eq!(rt; status, Status::ReadFault);
-    assert_eq!(rt; out.taken().len(), 0);
-    assert_eq!(rt; diag.taken(), b"mmachine: read fault\n".as_slice());
+    let held = files(&rt, hello(&rt)?, "", 1)?;
+    let (answered, _, _) = answer(&rt, &["run", "absent", "5"], held)?;
+    assert_eq!(rt; answered, Status::ReadFault);
     Ok(())
 }
 
 // A sink whose third write fails has a front part of the text.
 #[test]
 fn failing_third_write(rt: HostRuntime) -> Result<(), Fail> {
-    let mut held = Vec::new(rt.alloc());
-    held.push((String::from_str(rt.alloc(), "IMAGE")?, hello(&rt)?))?;
     let mut out = MemSink::new(rt.alloc(), 10_000, vec![in rt.alloc(); 3]?, 10)?;
     let mut diag = MemSink::new(rt.alloc(), 0, Vec::new(rt.alloc()), 7)?;
-    let status = mmachine(
+    let status = mmachine::<PlainMem, _, _, _, _>(
         rt.alloc(),
         &strings(&rt, &["run", "IMAGE", "10"])?,
-        &mut SureFiles::new(held),
+        &mut files(&rt, hello(&rt)?, "", 4096)?,
         &mut SureSource::new(Vec::new(rt.alloc())),
         &mut out,
         &mut diag,
@@ -181,9 +194,13 @@ fn failing_third_write(rt: HostRuntime) -> Result<(), Fail> {
 // A program that always says that memory ran out keeps the contract, and fails here.
 #[test]
 fn memory_suffices(rt: HostRuntime) -> Result<(), Fail> {
-    for cycles in ["0", "1", "2", "3", "1000000"] {
-        let (status, _, _) = answer(&rt, &["run", "IMAGE", cycles], hello(&rt)?)?;
-        assert_eq!(rt; status, Status::Done);
+    for cycles in ["0", "1", "1000000"] {
+        let words = ["run", "IMAGE", cycles, "SCHEDULE"];
+        for count in [3, 4] {
+            let held = files(&rt, hello(&rt)?, "0*1000000", 4096)?;
+            let (status, _, _) = answer(&rt, &words[..count], held)?;
+            assert_eq!(rt; status, Status::Done);
+        }
     }
     Ok(())
 }
@@ -193,7 +210,7 @@ fn exit_statuses(rt: HostRuntime) -> Result<(), Fail> {
     let statuses = [
         Status::Done,
         Status::Usage,
-        Status::Refused(Refusal::NotBuilt { file: 1 }),
+        Status::Refused(Refusal::TooLong { file: 1 }),
         Status::ReadFault,
         Status::WriteFault,
         Status::NoMemory,
@@ -216,7 +233,7 @@ fn real_files(rt: HostRuntime) -> Result<(), Fail> {
     let mut said = Vec::new(rt.alloc());
     let mut out = StdSink::new(&mut kept);
     let mut diag = StdSink::new(&mut said);
-    let done = mmachine(
+    let done = mmachine::<PlainMem, _, _, _, _>(
         rt.alloc(),
         &words,
         &mut files,
@@ -225,7 +242,7 @@ fn real_files(rt: HostRuntime) -> Result<(), Fail> {
         &mut diag,
     );
     fs::remove_file(&rt, name)?;
-    let absent = mmachine(
+    let absent = mmachine::<PlainMem, _, _, _, _>(
         rt.alloc(),
         &words,
         &mut files,

@@ -63,11 +63,13 @@ fn answer<M: Boot, F: Files, O: Sink>(
 {
     match read_words(words) {
         None => Status::Usage,
-        Some(Command::Run {
-            image,
-            cycles,
-            schedule,
-        }) => status(run::<M, F, O>(alloc, image, cycles, schedule, files, out)),
+        Some(
+            Command::Run {
+                image,
+                cycles,
+                schedule,
+            },
+        ) => status(run::<M, F, O>(alloc, image, cycles, schedule, files, out)),
     }
 }
 

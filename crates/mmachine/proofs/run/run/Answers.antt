@@ -22,7 +22,7 @@ returns-in_err-report g c =
     let items = items_of c.in_ok-image.order (state_of c.in_ok-machine.machine) c.args.cycles in
     let row = table.run c.args.image.now c.args.cycles schedule in
     let issues : Issues held i c.args.cycles schedule items =
-        issued held schedule c.in_ok-image.order i (state_of c.in_ok-machine.machine) c.args.cycles c.in_ok-image.ensures.order (start_state i c.in_ok-machine.machine c.in_ok-machine.ensures) in
+    issued held schedule c.in_ok-image.order i (state_of c.in_ok-machine.machine) c.args.cycles c.in_ok-image.ensures.order (start_state i c.in_ok-machine.machine c.in_ok-machine.ensures) in
     let Says : Status → Type 0 = λ status. RowAnswers tells held before now g.O.Sink.taken g.O.Sink.faults c.args.out.now c.report.new.out row status in
     subst Says (sym (cut_status c.from_residual-in_err-report.result c.from_residual-in_err-report.ensures.1))
     (row_cut tells held before now row (report_after tells i items) _ (i, items, c.in_ok-image.ensures.image, issues, refl)
@@ -36,7 +36,7 @@ returns g c =
     let schedule : Option (List ℕ) = option_map (λ name. name.now) c.args.schedule in
     let items = items_of c.in_ok-image.order (state_of c.in_ok-machine.machine) c.args.cycles in
     let issues : Issues held i c.args.cycles schedule items =
-        issued held schedule c.in_ok-image.order i (state_of c.in_ok-machine.machine) c.args.cycles c.in_ok-image.ensures.order (start_state i c.in_ok-machine.machine c.in_ok-machine.ensures) in
+    issued held schedule c.in_ok-image.order i (state_of c.in_ok-machine.machine) c.args.cycles c.in_ok-image.ensures.order (start_state i c.in_ok-machine.machine c.in_ok-machine.ensures) in
     row_done tells held (g.F.Files.faults c.args.files.now) (g.F.Files.faults c.load_files.new.files) (table.run c.args.image.now c.args.cycles schedule)
     (report_after tells i items) _ (i, items, c.in_ok-image.ensures.image, issues, refl)
     (reported tells i items c.issue.new.machine (c.issue.ensures i _ c.in_ok-machine.ensures) c.in_ok-report.ensures)
