@@ -10,7 +10,7 @@ use Rattle.mm_model.specs.Image.{Image, start}
 use Rattle.mm_model.specs.Spelling.{IsImage}
 use Rattle.mm_model.specs.Uses.{Use}
 use Rattle.mm_model.specs.Run.{turn_of, after, run, uses}
-use Rattle.mm_model.specs.Fits.{Fits, TurnsWithin, IsCore, slots_of}
+use Rattle.mm_model.specs.Fits.{slots_of}
 use Rattle.mm_model.proofs.Starts.{start_fits, start_within}
 use Rattle.mm_model.proofs.StateKeeps.{after_fits}
 use Rattle.mm_model.proofs.TurnBounds.{after_within}

@@ -1,5 +1,4 @@
 -- What is true of a machine at every moment.
-use Rattle.std.specs.Prelude.{◌≡◌, ℕ}
 use Rattle.mm_model.specs.State.{State}
 use Rattle.mm_model.specs.Image.{Image}
 use Rattle.mm_model.specs.Fits.{Fits, TurnsWithin}
