@@ -1,12 +1,18 @@
-ghost use Rattle.std.specs.Prelude.{◌≡◌, IfSome, true};
+ghost use Rattle.std.specs.Prelude.{◌≡◌, IfOk, IfSome, true};
 ghost use Rattle.mm_word.specs.Perm.{can_fetch};
+ghost use Rattle.mm_model.specs.Memory.{IsPage};
 
-use crate::{put_output, put_slot, put_word, slot_lines};
+use crate::cells::put_cells;
+use crate::counts::{put_counts, put_cycles};
+use crate::page_changes::put_pages;
+use crate::{put_output, put_slot, put_word, slot_lines, trace_line};
 use arrayvec::ArrayVec;
 use mm_io::{MemSink, Sink, WriteFault};
-use mm_model::{Pending, Slot, SlotState};
+use mm_mem::{Boot, Inspect, PlainMem};
+use mm_model::{Counts, Page, Pending, Slot, SlotState, Step, Tick};
 use mm_text::Gather;
-use mm_word::{Cause, GuardedPtr, Perm, Word};
+use mm_word::{Cause, Cell, GuardedPtr, Kind, Perm, Word, check};
+use std::alloc::Global;
 use std::test::Fail;
 
 // The line of the slot of the tests.
@@ -184,5 +190,86 @@ fn fault(rt: HostRuntime) -> Result<(), Fail> {
     assert_eq!(rt; slot_lines(&slot, &mut out), Err(WriteFault));
     assert_eq!(rt; out.taken().len(), 60);
     assert!(rt; LINE.as_bytes().starts_with(out.taken()));
+    Ok(())
+}
+
+#[test]
+fn trace_lines(rt: HostRuntime) -> Result<(), Fail> {
+    let pointer = code().ok_or("no pointer")?;
+    let mut step = Step {
+        tick: Tick::Idle,
+        slot: 3,
+        fetched: Some(check(Word::Ptr(pointer), 0, Kind::Fetch)?),
+        touched: Some(check(Word::Ptr(pointer), 8, Kind::Load)?),
+        entered: Some(pointer),
+    };
+    let accesses = "fetch 00000000100000 load 00000000100008 enter p3300000000100000";
+    for (tick, front, rest) in [
+        (Tick::Did, "t 3 7 did ", accesses),
+        (Tick::Blocked, "t 3 7 blocked ", accesses),
+        (Tick::Faulted(Cause::NoPage), "t 3 7 faulted 5 ", accesses),
+        (Tick::Delivered(9), "m 3 9", ""),
+    ] {
+        step.tick = tick;
+        let mut out = MemSink::new(rt.alloc(), 199, Vec::new(rt.alloc()), 199)?;
+        trace_line(&step, 7, &mut out)?;
+        let want = format!(in rt.alloc(); "{front}{rest}\n")?;
+        assert_eq!(rt; out.taken(), want.as_bytes());
+    }
+    Ok(())
+}
+
+// A page of zeros but for its last cell.
+fn page_of(alloc: Global, number: u64, last: u64) -> Result<Page, Fail>
+    ensures number { IfOk result (λ p. p.0 ≡ number) }
+    ensures whole { IfOk result (λ p. IsPage p) }
+{
+    let zero = Cell {
+        word: Word::Int(0),
+        full: true,
+    };
+    let mut cells = Vec::from_elem(alloc, zero, 512)?;
+    cells[511] = Cell {
+        word: Word::Int(last),
+        full: false,
+    };
+    Ok(Page::new(number, cells).ok_or("a page")?)
+}
+
+// A page was removed and a cell changed since the image.
+#[test]
+fn memory_changes(rt: HostRuntime) -> Result<(), Fail> {
+    let pages = [page_of(rt.alloc(), 5, 9)?, page_of(rt.alloc(), 7, 0)?];
+    let mem = PlainMem::new(rt.alloc(), &[page_of(rt.alloc(), 7, 4)?], 3)?;
+    let mut out = MemSink::new(rt.alloc(), 199, Vec::new(rt.alloc()), 199)?;
+    let mut text = Gather::new();
+    mem.paged();
+    put_cycles(&mut text, &mut out, 12);
+    put_pages(&mut text, &mut out, &mem, &pages);
+    put_cells(&mut text, &mut out, &mem, &pages);
+    put_counts(&mut text, &mut out, mem.counts());
+    text.finish(&mut out)?;
+    let want = "cycles 12\npage 00000000005 gone\ncell 00000000007ff8 i0000000000000004 empty\n";
+    assert_eq!(rt; out.taken(), want.as_bytes());
+    Ok(())
+}
+
+#[test]
+fn counts(rt: HostRuntime) -> Result<(), Fail> {
+    let counts = Counts {
+        hits: 1,
+        misses: 2,
+        writebacks: 3,
+        tlb_hits: 4,
+        tlb_misses: 5,
+        reads: 6,
+        writes: 7,
+    };
+    let mut out = MemSink::new(rt.alloc(), 199, Vec::new(rt.alloc()), 199)?;
+    let mut text = Gather::new();
+    put_counts(&mut text, &mut out, Some(counts));
+    text.finish(&mut out)?;
+    let want = "counts hits 1 misses 2 writebacks 3 tlb_hits 4 tlb_misses 5 reads 6 writes 7\n";
+    assert_eq!(rt; out.taken(), want.as_bytes());
     Ok(())
 }
