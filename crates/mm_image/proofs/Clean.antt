@@ -80,7 +80,6 @@ pub record IsCleanSlot (bytes : List ℕ) (limit least at : ℕ) : Type 0 where
   pub state : field bytes (at + 3) 1 ≤ 1
   pub ip : ip_fault bytes (at + 4) ≡ None
   pub handler_short : short bytes (at + 2 + 1) ≡ None
-  pub tags_short : short bytes (at + 12 + 2) ≡ None
   pub registers : registers_fault bytes at ≡ None
 
 pub clean_slot : (bytes : List ℕ) (limit least at : ℕ) → slot_record_fault bytes limit least at ≡ None → IsCleanSlot bytes limit least at
@@ -102,7 +101,6 @@ clean_slot bytes limit least at e =
       state = is_above _ _ (is_right _ 8 (at + 3) p6.0);
       ip = p7.0;
       handler_short = p4.0;
-      tags_short = p8.0;
       registers = p8.1;
     }
 
@@ -111,7 +109,6 @@ clean_slot bytes limit least at e =
 pub record IsCleanPage (bytes : List ℕ) (least at : ℕ) : Type 0 where
   pub number : field bytes at 8 < 2 ^ 42
   pub order : least ≤ field bytes at 8
-  pub full_short : short bytes (at + 136) ≡ None
   pub cells : cells_fault bytes at ≡ None
 
 pub clean_page : (bytes : List ℕ) (least at : ℕ) → page_record_fault bytes least at ≡ None → IsCleanPage bytes least at
@@ -121,4 +118,4 @@ clean_page bytes least at e =
     let p2 = both_clean _ _ p1.1 in
     let p3 = both_clean _ _ p2.1 in
     let order = neither _ _ (is_right _ 11 at p1.0) in
-    record { number = is_below _ _ order.0; order = is_above _ _ order.1; full_short = p3.0; cells = p3.1 }
+    record { number = is_below _ _ order.0; order = is_above _ _ order.1; cells = p3.1 }

@@ -2,7 +2,7 @@
 use Rattle.std.proofs.Common.{◌≡◌, ℕ, ◌+◌, ◌*◌, ◌-◌, ◌<◌, ◌≤◌, Bool, true, false, cond, ltb, List, [], ◌∷◌, length, get_or, take, drop, Some, None, refl, sym, ap, ◌∙◌, arith}
 use Rattle.std.specs.List.{fold}
 use Rattle.std.specs.Int.{w16, w32, w64, from_be_bytes}
-use Rattle.std.proofs.lemmas.Bool.{ltb-false, le-ltb, lt-ltb}
+use Rattle.std.proofs.lemmas.Bool.{ltb-false, le-ltb}
 use Rattle.std.proofs.lemmas.List.{drop_more, length-take, length-drop, get_or-take, get_or-drop}
 use Rattle.mm_image.specs.Fields.{short, field}
 
@@ -19,10 +19,6 @@ whole bytes end e = ltb-false _ _ (short_cases (ltb (length bytes) end) (1, leng
 pub is_whole : (bytes : List ℕ) (end : ℕ) → end ≤ length bytes → short bytes end ≡ None
 unfolding short
 is_whole bytes end le = rw (le-ltb (length bytes) end le) refl
-
-pub is_short : (bytes : List ℕ) (end : ℕ) → length bytes < end → short bytes end ≡ Some (1, length bytes)
-unfolding short
-is_short bytes end lt = rw (lt-ltb (length bytes) end lt) refl
 
 -- 2. Lists of known length.
 

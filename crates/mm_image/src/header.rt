@@ -33,6 +33,7 @@ pub(crate) struct Header {
 }
 
 impl Reader<'_> {
+    /// The header of the file.
     pub fn header(&self) -> Result<Header, ImageError>
         ensures { Gives (λ h. h) (header_fault self.now.bytes.now) (header_of self.now.bytes.now) result }
     {

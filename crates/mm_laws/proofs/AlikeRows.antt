@@ -1,6 +1,6 @@
 -- Rows of some groups: where they are found, and after a slot or a queue was put.
-use Rattle.std.proofs.Common.{◌≡◌, ◌≢◌, ℕ, zero, suc, ◌+◌, ◌<◌, ◌⊎◌, inl, inr, Bool, true, false, cond, nat_eq, if◌then◌else◌, List, [], ◌∷◌, map, Option, Some, refl, sym, ap, ◌∙◌, subst, arith, eqb-true, eq-eqb}
-use Rattle.std.specs.Prelude.{Contains, slice_index}
+use Rattle.std.proofs.Common.{◌≡◌, ◌≢◌, ℕ, zero, suc, ◌<◌, ◌⊎◌, inl, inr, Bool, true, false, cond, nat_eq, if◌then◌else◌, List, [], ◌∷◌, map, Option, Some, refl, sym, ap, ◌∙◌, subst, arith, eqb-true, eq-eqb}
+use Rattle.std.specs.Prelude.{Contains}
 use Rattle.std.specs.List.{AllByRecursion, filter}
 use Rattle.std.specs.List.Sorted.{IsStrictlyIncreasing}
 use Rattle.std.proofs.lemmas.Bool.{cases_eq, ne_eqb}
@@ -8,7 +8,7 @@ use Rattle.mm_model.specs.declared.event.Event.{Event}
 use Rattle.mm_model.specs.Slot.{Slot}
 use Rattle.mm_model.specs.State.{Row, Core, row_in, slot_of, queue_of, slot_at, queue_at, at_number, put_slot, put_queue}
 use Rattle.mm_model.specs.Fits.{identity_of}
-use Rattle.mm_model.proofs.CoreRows.{each_map, above_first, slots_of-put_queue, Rises, identities_of, rises_by, stays_by, identities_of-put_slot}
+use Rattle.mm_model.proofs.CoreRows.{each_map, above_first, rest_rises, slots_of-put_queue, Rises, identities_of, rises_by, stays_by, identities_of-put_slot}
 use Rattle.mm_laws.specs.Isolated.{is_row_of}
 use Rattle.mm_laws.proofs.GrantedWords.{row_has, row_of}
 use Rattle.mm_laws.proofs.GrantedTurns.{same_slot}
@@ -65,12 +65,6 @@ Ascends (row ∷ rows) = AllByRecursion (λ (x : Row). row.slot.number < x.slot.
 numbers_above : (n : ℕ) (rows : List Row) → AllByRecursion (λ y. n < y) (map (λ (s : Slot). s.number) (map (λ (row : Row). row.slot) rows)) → AllByRecursion (λ (x : Row). n < x.slot.number) rows
 numbers_above n [] h = tt
 numbers_above n (row ∷ rows) h = (h.0, numbers_above n rows h.1)
-
-rest_rises : (x : ℕ) (xs : List ℕ) → IsStrictlyIncreasing (x ∷ xs) → IsStrictlyIncreasing xs
-rest_rises x xs h k lt =
-    let next : suc k + 1 ≡ suc (k + 1) = omega arith in
-    let before : slice_index (x ∷ xs) (suc k) < slice_index (x ∷ xs) (suc k + 1) = h (suc k) (omega arith) in
-    rw next at before
 
 ascends : (rows : List Row) → IsStrictlyIncreasing (map (λ (s : Slot). s.number) (map (λ (row : Row). row.slot) rows)) → Ascends rows
 ascends [] h = tt

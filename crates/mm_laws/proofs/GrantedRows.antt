@@ -44,10 +44,10 @@ use Rattle.mm_model.specs.Effect.Effect.{Fault, Block, Deliver, Does}
 use Rattle.mm_model.specs.Turn.{reply, reached, event_reply, first_event, served, is_taken, is_handler}
 use Rattle.mm_model.specs.Reach.{Entries, Grants, CanWrite, Privileged}
 use Rattle.mm_model.specs.Reach.Grants.{below}
-use Rattle.mm_model.proofs.CoreRows.{slot_at-number, slot_has, identities_of}
+use Rattle.mm_model.proofs.CoreRows.{each_set, slot_at-number, slot_has, identities_of}
 use Rattle.mm_model.proofs.SlotSteps.{delivered_from}
 use Rattle.mm_model.proofs.CoreSteps.{queued_waits}
-use Rattle.mm_model.proofs.EffectWords.{each_set, slot_words, register_fits}
+use Rattle.mm_model.proofs.EffectWords.{slot_words, register_fits}
 use Rattle.mm_model.proofs.EffectSteps.{both_true, handler_is}
 use Rattle.mm_laws.specs.Granted.{WordGranted, SlotGranted, EventGranted, RowGranted, CellsGranted}
 use Rattle.mm_laws.proofs.GrantedWords.{slot_granted, queue_granted, register_granted, delivered_granted, BothServe, serving, word_served, load_granted}

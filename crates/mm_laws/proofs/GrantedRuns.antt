@@ -1,8 +1,7 @@
 -- Whole runs, by induction over the list of items.
-use Rattle.std.proofs.Common.{◌≡◌, ℕ, List, [], ◌∷◌, ◌++◌, Some, refl, sym, ap, subst, inl, append_assoc, append-nil}
-use Rattle.std.specs.Prelude.{Contains}
+use Rattle.std.proofs.Common.{◌≡◌, ℕ, suc, true, List, [], ◌∷◌, ◌++◌, map, Some, refl, sym, ap, ◌∙◌, subst, inl, arith, append_assoc, append-nil}
+use Rattle.std.specs.Prelude.{Contains, IfSome}
 use Rattle.std.specs.List.{AllByRecursion}
-use Rattle.std.proofs.Common.{suc, arith, map}
 use Rattle.mm_word.specs.declared.word.Word.{Word}
 use Rattle.mm_word.specs.declared.word.Word.TheVariants.{Int, Ptr}
 use Rattle.mm_word.specs.declared.word.Cell.{Cell}
@@ -10,17 +9,20 @@ use Rattle.mm_word.specs.Pointer.{Pointer}
 use Rattle.mm_model.specs.declared.slot.Pending.{Pending}
 use Rattle.mm_model.specs.Memory.{cell_at}
 use Rattle.mm_model.specs.Slot.{Slot}
-use Rattle.mm_model.specs.State.{State}
+use Rattle.mm_model.specs.declared.event.Event.{Event}
+use Rattle.mm_model.specs.State.{State, slot_at, queue_at}
 use Rattle.mm_model.specs.Image.{Image, slot_limit, start}
-use Rattle.mm_model.specs.Spelling.{IsFresh, IsImage}
-use Rattle.mm_model.specs.Fits.{Fits}
+use Rattle.mm_model.specs.Spelling.{IsOther, IsFresh, IsImage}
+use Rattle.mm_model.specs.Fits.{is_waiting, slots_of, Fits}
 use Rattle.mm_model.specs.Run.{turn_of, after, run}
 use Rattle.mm_model.specs.Trace.{done_entry, entries}
 use Rattle.mm_model.specs.Reach.{Entries, Grants}
 use Rattle.mm_model.specs.Reach.Entries.{All, These}
-use Rattle.mm_model.proofs.CoreRows.{each_map, each_both}
+use Rattle.mm_model.proofs.CoreRows.{each_map, each_both, each_contained, slot_at-number, slot_has, other_at}
+use Rattle.mm_model.proofs.CoreSteps.{queued_waits}
 use Rattle.mm_model.proofs.Starts.{start_fits}
-use Rattle.mm_laws.specs.Granted.{WordGranted, SlotGranted, RowGranted, CellGranted, WordsGranted, RunGranted, with_entries}
+use Rattle.mm_laws.specs.Granted.{WordGranted, SlotGranted, EventGranted, RowGranted, CellGranted, WordsGranted, RunGranted, with_entries}
+use Rattle.mm_laws.proofs.GrantedWords.{queue_granted, serving, word_served}
 use Rattle.mm_laws.proofs.GrantedTurns.{step_granted}
 
 -- each element of a list is contained in it
@@ -82,3 +84,24 @@ runs_granted i items img =
       words = both.1;
       next = λ n. step_granted i (These (entries (start i) items)) (run (start i) items) n both.0 both.1;
     }
+
+-- a queued event is granted to the group of its own slot too, since its handler's group serves that
+pub events_granted : (i : Image) (e : Entries) (s : State) → Fits i s → WordsGranted i e s → (h : ℕ)
+    → AllByRecursion (λ (event : Event). (of : Slot) → slot_at s.core event.slot ≡ Some of → EventGranted i e of.group event) (queue_at s.core h)
+events_granted i e s fits words h =
+    each_map (Contains (queue_at s.core h)) (λ (event : Event). (of : Slot) → slot_at s.core event.slot ≡ Some of → EventGranted i e of.group event) one (queue_at s.core h) (each_in (queue_at s.core h))
+  where
+    one : (event : Event) → Contains (queue_at s.core h) event → (of : Slot) → slot_at s.core event.slot ≡ Some of → EventGranted i e of.group event
+    one event among of at =
+        let waits = each_contained (λ (x : Event). x.slot ≡ event.slot → (is_waiting of.state ≡ true) × (of.handler ≡ Some h)) (queue_at s.core h) event (queued_waits s.core fits.core event.slot of at h) among refl in
+        let handlers = slot_has (λ (x : Slot). IfSome x.handler (IsOther (slots_of s.core) x.number)) s.core event.slot of fits.core.handlers at in
+        let other = other_at s.core fits.core.rising of.number h (subst (λ o. IfSome o (IsOther (slots_of s.core) of.number)) waits.1 handlers) in
+        let server : Slot = other.1.0 in
+        let number : server.number ≡ h = slot_at-number s.core h server other.1.1 in
+        let sv = (serving i s.core fits.same_slots event.slot h of server at other.1.1 (waits.1 ∙ ap (λ (k : ℕ). Some k) (sym number))).there in
+        let granted = each_contained (EventGranted i e server.group) (queue_at s.core h) event (queue_granted i e s.core words.rows h server other.1.1) among in
+        record {
+          ip = Grants.served server.group granted.ip sv;
+          address = word_served i e of.group server.group event.addr_op granted.address sv;
+          value = word_served i e of.group server.group event.value_op granted.value sv;
+        }

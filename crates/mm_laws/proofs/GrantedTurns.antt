@@ -42,15 +42,17 @@ use Rattle.mm_model.specs.Turn.{Turned, reply, put_all, state_after, with_issue,
 use Rattle.mm_model.specs.Run.{after}
 use Rattle.mm_model.specs.Trace.{touches, group_of, done_entry}
 use Rattle.mm_model.specs.Reach.{Entries, Grants, CanWrite, Privileged}
-use Rattle.mm_model.proofs.CoreRows.{each_map, each_push, slot_at-number, slot_at-put_same, slot_at-put_queue, slots_of-put_queue, slots_found, slot_has, other_at, Rises, identities_of, rises_by, stays_by, identities_of-put_slot}
+use Rattle.mm_model.proofs.CoreRows.{each_set, each_map, each_push, slot_at-number, slot_at-put_same, slot_at-put_queue, slots_of-put_queue, slots_found, slot_has, other_at, Rises, identities_of, rises_by, stays_by, identities_of-put_slot}
 use Rattle.mm_model.proofs.SlotSteps.{delivered_from}
-use Rattle.mm_model.proofs.EffectWords.{each_set, slot_words}
+use Rattle.mm_model.proofs.EffectWords.{slot_words}
 use Rattle.mm_model.proofs.Memories.{put_cases, map_cases, unmap_cases, cell_at-put_other, cell_at-map_other, cell_at-unmap_other, cell_at-unaligned, word_or_none}
 use Rattle.mm_model.proofs.TurnKeeps.{changed_from}
 use Rattle.mm_model.proofs.TurnShapes.{Fetches, TurnShape, turn_shape}
 use Rattle.mm_model.proofs.StateKeeps.{after_fits}
 use Rattle.mm_laws.specs.Granted.{WordGranted, SlotGranted, EventGranted, RowGranted, CellGranted, CellsGranted, WordsGranted, TouchGranted, EntryGranted, StepGranted, with_entries, group_in}
-use Rattle.mm_laws.proofs.GrantedWords.{slot_granted, queue_granted, delivered_granted, serving, word_served, Grow, grants_grow, with_entries-grow, with_entry-last, word_grows, slot_grows, event_grows, rows_grow, cells_grow, stored_granted}
+use Rattle.mm_laws.specs.Grants.{Grow}
+use Rattle.mm_laws.proofs.GrantLaws.{grants_grow}
+use Rattle.mm_laws.proofs.GrantedWords.{slot_granted, queue_granted, delivered_granted, serving, word_served, with_entries-grow, with_entry-last, word_grows, slot_grows, event_grows, rows_grow, cells_grow, stored_granted}
 use Rattle.mm_laws.proofs.GrantedRows.{reg, word_at, Stands, CellWritten, PageGranted, PagesGranted, OtherSlot, QueueGranted, IssueGranted, NextGranted, ChangeGranted, EffectGranted, Checked, checked, effect_granted, addr_operand-granted, value_operand-granted}
 
 -- 1. Rows after a slot or a queue was put.
@@ -222,8 +224,8 @@ new_entry g None = []
 new_entry g (Some p) = (g, p) ∷ []
 
 next_later : (i : Image) (e : Entries) (g : ℕ) (next : Pointer) (o : Option Pointer) → NextGranted i e g next o → Grants i (with_entries e (new_entry g o)) g next
-next_later i e g next None h = grants_grow i e (with_entries e []) (with_entries-grow e []) h
-next_later i e g next (Some p) h = Grants.entered p (grants_grow i e (with_entries e ((g, p) ∷ [])) (with_entries-grow e ((g, p) ∷ [])) h.granted) h.enters (with_entry-last e g p) h.form
+next_later i e g next None h = grants_grow i e (with_entries e []) (with_entries-grow e []) _ _ h
+next_later i e g next (Some p) h = Grants.entered p (grants_grow i e (with_entries e ((g, p) ∷ [])) (with_entries-grow e ((g, p) ∷ [])) _ _ h.granted) h.enters (with_entry-last e g p) h.form
 
 module _ (i : Image) (e : Entries) (core : Core) (m : Memory) (st : Stands i e core m) (s : Slot) (at : slot_at core s.number ≡ Some s) where
   module _ (c : Change) (g : ChangeGranted i e core m s c) where

@@ -11,14 +11,15 @@ use Rattle.mm_model.specs.Memory.{Memory}
 use Rattle.mm_model.specs.Slot.{Slot, register}
 use Rattle.mm_model.specs.State.{Row, Core, row_in, slot_of, queue_of, slot_at, queue_at}
 use Rattle.mm_model.specs.Image.{Image, start}
-use Rattle.mm_model.specs.Fits.{slots_of, identity_of}
+use Rattle.mm_model.specs.Fits.{identity_of}
 use Rattle.mm_model.specs.Effect.{delivers, delivered}
 use Rattle.mm_model.specs.Reach.{Entries, MayEnter, Grants, Serves, CanWrite, LoadsAt}
 use Rattle.mm_model.specs.Reach.Entries.{All, These}
-use Rattle.mm_model.specs.Reach.Grants.{below}
-use Rattle.mm_model.proofs.CoreRows.{each_map, identities_of, stays_by, slot_contained}
-use Rattle.mm_model.proofs.EffectWords.{each_set}
+use Rattle.mm_model.proofs.CoreRows.{each_map, each_set, identities_of, stays_by, slot_contained}
+use Rattle.mm_model.proofs.Starts.{start_slots}
+use Rattle.mm_laws.specs.Grants.{Grow}
 use Rattle.mm_laws.specs.Granted.{WordGranted, SlotGranted, EventGranted, RowGranted, CellGranted, CellsGranted, with_entries}
+use Rattle.mm_laws.proofs.GrantLaws.{grants_grow}
 
 -- 1. Lists.
 
@@ -89,14 +90,6 @@ delivered_granted i e s h = by s.pending h.pending
 
 -- 3. Slots that serve one another in a state do so in its image.
 
-start_slots : (slots : List Slot) → map (λ (row : Row). row.slot) (map (λ (s : Slot). record { slot = s; queue = [] }) slots) ≡ slots
-start_slots [] = refl
-start_slots (s ∷ slots) = ap (λ (xs : List Slot). s ∷ xs) (start_slots slots)
-
-pub slots_of-start : (i : Image) → slots_of (start i).core ≡ i.slots
-unfolding start
-slots_of-start i = start_slots i.slots
-
 -- the image's slot of a slot
 pub record ImageSlot (i : Image) (s : Slot) : Type 0 where
   pub slot : Slot
@@ -105,8 +98,8 @@ pub record ImageSlot (i : Image) (s : Slot) : Type 0 where
 
 pub image_slot : (i : Image) (core : Core) → identities_of core ≡ map identity_of i.slots → (n : ℕ) (s : Slot) → slot_at core n ≡ Some s → ImageSlot i s
 image_slot i core same n s at =
-    let was = stays_by core (start i).core n s (ap (map identity_of) (slots_of-start i) ∙ sym same) at in
-    record { slot = was.now; stands = subst (λ (slots : List Slot). Contains slots was.now) (slots_of-start i) (slot_contained (start i).core n was.now was.is); same = was.same }
+    let was = stays_by core (start i).core n s (ap (map identity_of) (start_slots i) ∙ sym same) at in
+    record { slot = was.now; stands = subst (λ (slots : List Slot). Contains slots was.now) (start_slots i) (slot_contained (start i).core n was.now was.is); same = was.same }
 
 pub record BothServe (i : Image) (g h : ℕ) : Type 0 where
   pub here : Serves i g h
@@ -132,19 +125,6 @@ word_served i e g h (Ptr q) granted sv = Grants.served h granted sv
 
 -- 4. More entries.
 
-abbrev pub Grow : Entries → Entries → Type 0
-Grow e f = (g : ℕ) (p : Pointer) → MayEnter e g p → MayEnter f g p
-
-pub grants_grow : (i : Image) (e f : Entries) → Grow e f → {g : ℕ} {q : Pointer} → Grants i e g q → Grants i f g q
-grants_grow i e f more (Grants.in_register s a b c) = Grants.in_register s a b c
-grants_grow i e f more (Grants.runs_by s a b c) = Grants.runs_by s a b c
-grants_grow i e f more (Grants.in_cell p w c h a b d) = Grants.in_cell p w c (grants_grow i e f more h) a b d
-grants_grow i e f more (below p h a) = below p (grants_grow i e f more h) a
-grants_grow i e f more (Grants.passed h w p r a b c d k) = Grants.passed h w p r (grants_grow i e f more a) (grants_grow i e f more b) c (grants_grow i e f more d) k
-grants_grow i e f more (Grants.entered {g = g} p h a b c) = Grants.entered p (grants_grow i e f more h) a (more g p b) c
-grants_grow i e f more (Grants.served h a b) = Grants.served h (grants_grow i e f more a) b
-grants_grow i e f more (Grants.made p h a b) = Grants.made p (grants_grow i e f more h) a b
-
 pub with_entries-grow : (e : Entries) (new : List (ℕ × Pointer)) → Grow e (with_entries e new)
 with_entries-grow All new g p m = m
 with_entries-grow (These list) new g p m = contained_left list new (g, p) m
@@ -156,28 +136,28 @@ with_entry-last (These list) g p = contained_last list (g, p)
 module _ (i : Image) (e f : Entries) (more : Grow e f) where
   pub word_grows : (g : ℕ) (w : Word) → WordGranted i e g w → WordGranted i f g w
   word_grows g (Int bits) h = tt
-  word_grows g (Ptr q) h = grants_grow i e f more h
+  word_grows g (Ptr q) h = grants_grow i e f more _ _ h
 
   pub slot_grows : (s : Slot) → SlotGranted i e s → SlotGranted i f s
   slot_grows s h = record {
     registers = each_map (WordGranted i e s.group) (WordGranted i f s.group) (word_grows s.group) s.regs h.registers;
-    ip = grants_grow i e f more h.ip;
+    ip = grants_grow i e f more _ _ h.ip;
     pending = each_map (λ (p : Pending). WordGranted i e s.group p.word) (λ (p : Pending). WordGranted i f s.group p.word) (λ p. word_grows s.group p.word) s.pending h.pending;
   }
 
   pub event_grows : (g : ℕ) (event : Event) → EventGranted i e g event → EventGranted i f g event
-  event_grows g event h = record { ip = grants_grow i e f more h.ip; address = word_grows g event.addr_op h.address; value = word_grows g event.value_op h.value }
+  event_grows g event h = record { ip = grants_grow i e f more _ _ h.ip; address = word_grows g event.addr_op h.address; value = word_grows g event.value_op h.value }
 
   pub row_grows : (row : Row) → RowGranted i e row → RowGranted i f row
   row_grows row h = record { slot = slot_grows row.slot h.slot; events = each_map (EventGranted i e row.slot.group) (EventGranted i f row.slot.group) (event_grows row.slot.group) row.queue h.events }
 
   pub write_grows : (g w : ℕ) → CanWrite i e g w → CanWrite i f g w
-  write_grows g w h = record { by = h.by; granted = grants_grow i e f more h.granted; stores = h.stores }
+  write_grows g w h = record { by = h.by; granted = grants_grow i e f more _ _ h.granted; stores = h.stores }
 
   pub cell_grows : (w : ℕ) (x : Word) → CellGranted i e w x → CellGranted i f w x
   cell_grows w (Int bits) h = tt
   cell_grows w (Ptr q) (inl own) = inl own
-  cell_grows w (Ptr q) (inr h) = inr (record { group = h.group; granted = grants_grow i e f more h.granted; writes = write_grows h.group w h.writes })
+  cell_grows w (Ptr q) (inr h) = inr (record { group = h.group; granted = grants_grow i e f more _ _ h.granted; writes = write_grows h.group w h.writes })
 
   pub rows_grow : (rows : List Row) → AllByRecursion (RowGranted i e) rows → AllByRecursion (RowGranted i f) rows
   rows_grow rows h = each_map (RowGranted i e) (RowGranted i f) row_grows rows h

@@ -21,3 +21,4 @@ pub mod CellViews
 pub mod ChangedCells
 pub mod SameViews
 pub mod OwnImages
+pub mod OwnItems

@@ -17,7 +17,7 @@ use Rattle.mm_model.specs.Reach.{Entries, Grants, Serves}
 use Rattle.mm_model.specs.Reach.Grants.{below}
 use Rattle.mm_model.specs.Reach.Entries.{All}
 use Rattle.mm_model.specs.Worlds.{Touchable, Apart, Extracts, alone}
-use Rattle.mm_model.proofs.CoreRows.{each_map, each_both, above_first}
+use Rattle.mm_model.proofs.CoreRows.{each_map, each_both, above_first, rest_rises}
 use Rattle.mm_model.proofs.EffectWords.{cell_words}
 use Rattle.mm_model.proofs.Memories.{page_whole}
 use Rattle.mm_laws.specs.Isolated.{HasSlot, AgreeApart}
@@ -52,7 +52,7 @@ module _ {A : Type 0} (p : A → Bool) where
   ]
 
 -- numbers of slots that rise
-abbrev Ascends : List Slot → Type 0
+abbrev pub Ascends : List Slot → Type 0
 Ascends [] = Unit {0}
 Ascends (s ∷ slots) = AllByRecursion (λ (x : Slot). s.number < x.number) slots × Ascends slots
 
@@ -60,13 +60,7 @@ numbers_above : (n : ℕ) (slots : List Slot) → AllByRecursion (λ y. n < y) (
 numbers_above n [] h = tt
 numbers_above n (s ∷ slots) h = (h.0, numbers_above n slots h.1)
 
-rest_rises : (x : ℕ) (xs : List ℕ) → IsStrictlyIncreasing (x ∷ xs) → IsStrictlyIncreasing xs
-rest_rises x xs h k lt =
-    let next : suc k + 1 ≡ suc (k + 1) = omega arith in
-    let before : slice_index (x ∷ xs) (suc k) < slice_index (x ∷ xs) (suc k + 1) = h (suc k) (omega arith) in
-    rw next at before
-
-ascends : (slots : List Slot) → IsStrictlyIncreasing (numbers_of slots) → Ascends slots
+pub ascends : (slots : List Slot) → IsStrictlyIncreasing (numbers_of slots) → Ascends slots
 ascends [] h = tt
 ascends (s ∷ slots) h = (numbers_above s.number slots (above_first s.number (numbers_of slots) h), ascends slots (rest_rises s.number (numbers_of slots) h))
 

@@ -1,18 +1,18 @@
 -- Two worlds, step by step, and by induction over both lists of items.
-use Rattle.std.proofs.Common.{◌≡◌, ℕ, ◌-◌, ◌≤◌, ◌⊎◌, inl, inr, Bool, true, false, ◌||◌, ◌&&◌, nat_eq, nat_le, if◌then◌else◌, List, [], ◌∷◌, map, Option, Some, None, refl, sym, ap, ◌∙◌, subst, arith, leb-true}
+use Rattle.std.proofs.Common.{◌≡◌, ℕ, ◌-◌, ◌≤◌, ◌⊎◌, inl, inr, Bool, true, false, ◌||◌, ◌&&◌, nat_le, if◌then◌else◌, map, Option, Some, None, refl, sym, ap, ◌∙◌, subst, arith, leb-true}
 use Rattle.std.specs.List.{filter}
 use Rattle.mm_model.specs.Slot.{Slot}
-use Rattle.mm_model.specs.State.{Core, State, row_in, slot_of, slot_at}
-use Rattle.mm_model.specs.Image.{Image, slot_in, slot_limit, start}
+use Rattle.mm_model.specs.State.{Core, State, slot_at}
+use Rattle.mm_model.specs.Image.{Image, slot_in, start}
 use Rattle.mm_model.specs.Fits.{identity_of, IsSlot, Fits}
 use Rattle.mm_model.specs.Schedule.{in_groups, is_kept}
 use Rattle.mm_model.specs.Turn.{Turned, started, idle, taken_by_port, taken_by, port_of, is_running, turn}
 use Rattle.mm_model.specs.Run.{turn_of, after}
 use Rattle.mm_model.specs.Reach.Entries.{All}
-use Rattle.mm_model.proofs.CoreRows.{slot_at-number, slot_has, identities_of, identity_at}
+use Rattle.mm_model.proofs.Starts.{start_at, start_slots}
+use Rattle.mm_model.proofs.CoreRows.{slot_limit-few, slot_at-number, slot_has, identities_of, identity_at}
 use Rattle.mm_laws.specs.Granted.{WordsGranted, StepGranted}
 use Rattle.mm_laws.specs.Isolated.{AgreeApart, Worlds, WorldsGoOn}
-use Rattle.mm_laws.proofs.GrantedWords.{slots_of-start}
 use Rattle.mm_laws.proofs.GrantedRows.{Stands}
 use Rattle.mm_laws.proofs.GrantedTurns.{stands_of, step_granted}
 use Rattle.mm_laws.proofs.AlikeRows.{same_at}
@@ -21,20 +21,6 @@ use Rattle.mm_laws.proofs.AlikeTurns.{SameTurn, Both, same_idle, same_started, s
 use Rattle.mm_laws.proofs.OutsideTurns.{QuietTurn, turn_quiet}
 
 -- 1. Items of the groups, by the image and by a state.
-
--- the slot of the image at a number
-slot_in_rows : (slots : List Slot) (n : ℕ) → slot_of (row_in (map (λ (s : Slot). record { slot = s; queue = [] }) slots) n) ≡ slot_in slots n
-slot_in_rows [] n = refl
-slot_in_rows (s ∷ slots) n = by (nat_eq s.number n) (slot_in_rows slots n)
-  where
-    by : (b : Bool) → slot_of (row_in (map (λ (x : Slot). record { slot = x; queue = [] }) slots) n) ≡ slot_in slots n
-        → slot_of (if b then Some (record { slot = s; queue = [] }) else row_in (map (λ (x : Slot). record { slot = x; queue = [] }) slots) n) ≡ (if b then Some s else slot_in slots n)
-    by true rest = refl
-    by false rest = rest
-
-start_at : (i : Image) (n : ℕ) → slot_at (start i).core n ≡ slot_in i.slots n
-unfolding start slot_at
-start_at i n = slot_in_rows i.slots n
 
 groups_by : (c : ℕ → Bool) (o p : Option Slot) → Rattle.std.specs.Prelude.option_map identity_of o ≡ Rattle.std.specs.Prelude.option_map identity_of p → in_groups c o ≡ in_groups c p
 groups_by c None None e = refl
@@ -46,7 +32,7 @@ groups_by c (Some x) (Some y) e = let same : identity_of x ≡ identity_of y = c
 state_groups : (i : Image) (c : ℕ → Bool) (core : Core) → identities_of core ≡ map identity_of i.slots → (n : ℕ) → in_groups c (slot_at core n) ≡ in_groups c (slot_in i.slots n)
 state_groups i c core same n =
     groups_by c (slot_at core n) (slot_in i.slots n)
-    (identity_at (start i).core core n (same ∙ sym (ap (map identity_of) (slots_of-start i))) ∙ ap (Rattle.std.specs.Prelude.option_map identity_of) (start_at i n))
+    (identity_at (start i).core core n (same ∙ sym (ap (map identity_of) (start_slots i))) ∙ ap (Rattle.std.specs.Prelude.option_map identity_of) (start_at i n))
 
 or_cases : (a b : Bool) → (a || b) ≡ true → (a ≡ true) ⊎ (b ≡ true)
 or_cases true b e = inl refl
@@ -64,13 +50,6 @@ member : (c : ℕ → Bool) (o : Option Slot) → in_groups c o ≡ true → (x 
 member c None e = cc
 member c (Some x) e = (x, refl, e)
 
-few_slots : (version : ℕ) → slot_limit version ≤ 64
-few_slots version = by (nat_eq version 1)
-  where
-    by : (b : Bool) → (if b then 16 else 64) ≤ 64
-    by true = omega arith
-    by false = omega arith
-
 -- an item of the groups is a slot of them, or the port of one
 pub data Item (c : ℕ → Bool) (core : Core) (n : ℕ) : Type 0 where
   names : (x : Slot) → slot_at core n ≡ Some x → c x.group ≡ true → Item c core n
@@ -85,7 +64,7 @@ module _ (i : Image) (c : ℕ → Bool) (s : State) (fits : Fits i s) where
       by (Some x) is =
           let own = slot_has (IsSlot s.core.version s.core.split) s.core n x fits.core.slots is in
           let number = slot_at-number s.core n x is in
-          let few = few_slots s.core.version in
+          let few = slot_limit-few s.core.version in
           let low = own.number in
           absurd (omega arith)
 

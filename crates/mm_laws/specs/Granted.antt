@@ -12,7 +12,7 @@ use Rattle.mm_model.specs.declared.slot.Pending.{Pending}
 use Rattle.mm_model.specs.declared.event.Event.{Event}
 use Rattle.mm_model.specs.Memory.{Memory, cell_at}
 use Rattle.mm_model.specs.Slot.{Slot}
-use Rattle.mm_model.specs.State.{Row, State, slot_at}
+use Rattle.mm_model.specs.State.{Row, State, slot_at, queue_at}
 use Rattle.mm_model.specs.Image.{Image, start}
 use Rattle.mm_model.specs.Spelling.{IsImage}
 use Rattle.mm_model.specs.Fits.{Fits}
@@ -122,3 +122,9 @@ pub record RunGranted (i : Image) (e : Entries) (s : State) : Type 0 where
 -- after every list of items
 abbrev pub GrantsHold : Type 0
 GrantsHold = (i : Image) (items : List ℕ) → IsImage i → RunGranted i (These (entries (start i) items)) (run (start i) items)
+
+-- in a state that fits its image and whose words are granted, an event is granted to the group of the slot that it is of too
+abbrev pub EventsGranted : Type 0
+EventsGranted =
+    (i : Image) (e : Entries) (s : State) → Fits i s → WordsGranted i e s → (h : ℕ)
+    → AllByRecursion (λ (event : Event). (of : Slot) → slot_at s.core event.slot ≡ Some of → EventGranted i e of.group event) (queue_at s.core h)

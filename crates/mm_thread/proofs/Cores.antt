@@ -10,16 +10,16 @@ use Rattle.mm_model.specs.declared.slot.Pending.{Pending}
 use Rattle.mm_model.specs.declared.event.Event.{Event}
 use Rattle.mm_model.specs.Slot.{Slot, is_empty}
 use Rattle.mm_model.specs.Image.{slot_limit, output_limit}
-use Rattle.mm_model.specs.State.{Row, Core, slot_at, queue_at, put_slot, put_queue}
+use Rattle.mm_model.specs.State.{Row, Core, slot_at, queue_at, output_of, put_slot, put_queue}
 use Rattle.mm_model.specs.Turn.{stood, core_faulted, is_running, is_sync}
 use Rattle.mm_model.specs.Fits.{one_if, events_of, loads_for, waits_for, is_waiting, slots_of, IsSlot, IsCore}
 use Rattle.mm_model.specs.Spelling.{IsOther}
-use Rattle.mm_model.proofs.CoreRows.{slot_has, slot_at-number, other_at}
+use Rattle.mm_model.proofs.CoreRows.{each_get, slot_has, slot_at-number, other_at}
 use Rattle.mm_model.proofs.CoreSteps.{waits_for-rests}
 use Rattle.mm_model.proofs.SlotSteps.{empty_within}
 use Rattle.mm_thread.specs.Places.{no_row, row_at, slot_in, queue_in, with_row, with_slot, with_queue_in, numbers_in, IsIndex}
 use Rattle.mm_thread.specs.Left.{CanTurn}
-use Rattle.mm_thread.proofs.Counting.{times, times-events, times-loads, shorter, all_below}
+use Rattle.mm_thread.proofs.Counting.{times, times-events, times-loads, shorter, short, all_below}
 use Rattle.mm_thread.proofs.Index.{slot_found, queue_found, put_slot-place, put_queue-place, numbers-with_row, number-get}
 
 -- 1. A row in the place of one.
@@ -47,8 +47,11 @@ queue_in-slot core p q s within = elim (cases_eq q p) [
 
 -- 2. The bounds of a core.
 
-limit_small : (version : ℕ) → slot_limit version ≤ 64
+pub limit_small : (version : ℕ) → slot_limit version ≤ 64
 limit_small version = elim (eqb version 1) as (λ b. cond b 16 64 ≤ 64) [ true ↦ omega arith | false ↦ omega arith ]
+
+byte_limit : (version : ℕ) → output_limit version ≤ 65536
+byte_limit version = elim (eqb version 1) as (λ b. cond b 4096 65536 ≤ 65536) [ true ↦ omega arith | false ↦ omega arith ]
 
 module _ (core : Core) (whole : IsCore core) where
   pub slot_is : (n : ℕ) (s : Slot) → slot_at core n ≡ Some s → IsSlot core.version core.split s
@@ -61,6 +64,30 @@ module _ (core : Core) (whole : IsCore core) where
       by : (o : Option Slot) → slot_at core n ≡ o → o ≡ None
       by None is = refl
       by (Some s) is = absurd (omega (arith, slot_at-number core n s is, (slot_is n s is).number, limit_small core.version))
+
+  -- no queue is longer than there are numbers
+  pub queue_few : (h : ℕ) → length (queue_at core h) ≤ 64
+  queue_few h =
+      let es = queue_at core h in
+      let xs : List ℕ = map (λ (e : Event). e.slot) es in
+      let count : (n : ℕ) → times n xs ≡ one_if (waits_for h (slot_at core n)) = λ n. sym (times-events n es) ∙ whole.matched n h in
+      let once : (n : ℕ) → times n xs ≤ 1 = λ n. omega (arith, count n, at_most_one (waits_for h (slot_at core n))) in
+      let past : (n : ℕ) → 64 ≤ n → times n xs ≡ 0 = λ n far. count n ∙ ap (λ o. one_if (waits_for h o)) (slot_at-past n far) in
+      omega (arith, length-map es (λ (e : Event). e.slot), short 64 xs once past)
+    where
+      at_most_one : (b : Bool) → one_if b ≤ 1
+      at_most_one true = omega arith
+      at_most_one false = omega arith
+
+  -- no output is longer than version 2 allows
+  pub output_short : (g : ℕ) → length (output_of core g) ≤ 65536
+  unfolding output_of
+  output_short g = elim (cases_lt g 64) as (λ _. length (get_or core.outputs g []) ≤ 65536) [
+    | inl inside ↦
+        let one = each_get (λ (bytes : List ℕ). length bytes ≤ output_limit core.version) core.outputs g [] whole.within (omega (arith, whole.outputs)) in
+        omega (arith, one, byte_limit core.version)
+    | inr past ↦ omega (arith, ap length (get_or_past core.outputs g [] (omega (arith, whole.outputs))))
+  ]
 
   module _ (places : List ℕ) (index : IsIndex (numbers_in core) places) (p : ℕ) (within : p < length core.rows) where
     pub own : IsSlot core.version core.split (slot_in core p)

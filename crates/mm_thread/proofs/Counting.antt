@@ -88,3 +88,7 @@ below_fewer (suc k) n xs once under none = elim (cases_eq n k) [
 -- a number below k is missing
 pub shorter : (k n : ℕ) (xs : List ℕ) → ((n : ℕ) → times n xs ≤ 1) → ((n : ℕ) → k ≤ n → times n xs ≡ 0) → n < k → times n xs ≡ 0 → length xs < k
 shorter k n xs once none under missing = omega (arith, length_below k xs (all_below k xs none), below_fewer k n xs once under missing)
+
+-- no number is missing
+pub short : (k : ℕ) (xs : List ℕ) → ((n : ℕ) → times n xs ≤ 1) → ((n : ℕ) → k ≤ n → times n xs ≡ 0) → length xs ≤ k
+short k xs once none = omega (arith, length_below k xs (all_below k xs none), below_few k xs once)

@@ -105,6 +105,10 @@ module _ (core : Core) (places : List ℕ) (index : IsIndex (numbers_in core) pl
   pub number_there : (n : ℕ) → n < 64 → slice_index places n < length core.rows → (slot_in core (slice_index places n)).number ≡ n
   number_there n small within = sym (number-get core (slice_index places n) within) ∙ index.there n small (omega (arith, length-numbers core))
 
+  -- no row has a number that leads to no place
+  pub none_past : (n : ℕ) → length core.rows ≤ slice_index places n → HasNone core.rows n
+  none_past n past = λ k within same. omega (arith, ap (slice_index places) same, back_at k within)
+
   -- a number that leads to no place is no slot's
   pub row_missing : (n : ℕ) → length core.rows ≤ slice_index places n → row_in core.rows n ≡ None
   row_missing n past = row_in-none core.rows n (λ k within same. omega (arith, ap (slice_index places) same, back_at k within))

@@ -13,3 +13,4 @@ pub mod Exactly
 pub mod Fresh
 pub mod Placing
 pub mod RunningSlots
+pub mod Assigned

@@ -18,10 +18,13 @@ numbers-identities : (slots : List Slot) → map (λ (i : ℕ × ℕ × Option �
 numbers-identities [] = refl
 numbers-identities (s ∷ slots) = ap (λ (ns : List ℕ). s.number ∷ ns) (numbers-identities slots)
 
+pub numbers-same : (xs ys : List Slot) → map identity_of xs ≡ map identity_of ys → numbers_of xs ≡ numbers_of ys
+numbers-same xs ys same = sym (numbers-identities xs) ∙ ap (map (λ (i : ℕ × ℕ × Option ℕ). i.0)) same ∙ numbers-identities ys
+
 pub numbers-turn : (core : Core) → IsCore core → (m : Memory) (n : ℕ) → numbers_in (turn core m n).core ≡ numbers_in core
 numbers-turn core whole m n =
     let keeps = turn_keeps core m whole n in
-    sym (numbers-identities (slots_of (turn core m n).core)) ∙ ap (map (λ (i : ℕ × ℕ × Option ℕ). i.0)) keeps.identities ∙ numbers-identities (slots_of core)
+    numbers-same (slots_of (turn core m n).core) (slots_of core) keeps.identities
 
 pub turn_sound : (core core' : Core) (places : List ℕ) (m : Memory) (n : ℕ) → IsSound core places → core' ≡ (turn core m n).core → IsSound core' places
 turn_sound core core' places m n sound is =

@@ -2,3 +2,4 @@ pub mod Ends
 pub mod Places
 pub mod Left
 pub mod Told
+pub mod Parts

@@ -3,6 +3,7 @@
 
 mod alone;
 mod asking;
+mod assigning;
 mod carry_out;
 mod execute;
 mod fault;
@@ -11,6 +12,7 @@ mod item;
 mod making;
 mod operands;
 mod outcome;
+mod output;
 mod queue;
 mod reaching;
 mod row;
@@ -21,4 +23,5 @@ mod state;
 mod tables;
 
 pub use mm_model::{Event, Pending, Slot, SlotState, Step, Tick};
+pub use output::Output;
 pub use state::{Core, turn};

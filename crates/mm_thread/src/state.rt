@@ -14,9 +14,11 @@ ghost use Rattle.mm_model.specs.Turn.{turn as turn_of};
 ghost use Rattle.mm_thread.specs.Places.{row_alone};
 ghost use Rattle.mm_thread.specs.Told.{accesses_in, accesses_told};
 
-use crate::fault::{Places, place_of};
+use crate::assigning::{put_events, put_outputs, put_slots};
+use crate::fault::place_of;
 use crate::item::take_item;
 use crate::making::{no_outputs, places_of, rows_of};
+use crate::output::Output;
 use crate::runners::runners_of;
 use crate::tables::Tables;
 use mm_mem::Memory;
@@ -65,6 +67,8 @@ pub fn turn<M: Memory>(core: &mut Core, mem: &mut M, item: u8) -> Step
 }
 
 impl Core {
+    ghost use Rattle.mm_thread.specs.Parts.{AreParts, core_of};
+
     /// The core of an image's slots, before its first turn: each queue is empty and nothing was put out. It is of version 2 and
     /// not split. No later call takes memory.
     pub fn new(alloc: Global, slots: &[Slot]) -> Result<Core, NoMemory>
@@ -80,6 +84,17 @@ impl Core {
         let tables = Tables::new(rows, outputs);
         let places = places_of(&tables);
         Ok(Core { tables, places })
+    }
+
+    /// Puts the core back to these parts: the slots, their events in order, each with the number of the slot that is to handle
+    /// it, and what groups have put out. Version and mode stay. Takes no memory.
+    pub fn assign(&mut self, slots: &[Slot], events: &[(u8, Event)], outputs: &[Output])
+        requires { AreParts self.old slots.now events.now outputs.now }
+        ensures { self.new ≡ core_of self.old.version self.old.split slots.now events.now outputs.now }
+    {
+        put_slots(&mut self.tables, slots);
+        put_events(&mut self.tables, &self.places, events);
+        put_outputs(&mut self.tables, outputs);
     }
 
     /// Makes it a machine that is split or one that is not.

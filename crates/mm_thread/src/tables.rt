@@ -1,4 +1,4 @@
-ghost use Rattle.std.specs.Prelude.{◌≡◌, ◌<◌, ◌^◌, ◌++◌, ◌&&◌, [], ◌∷◌, nat_lt, None, Some, Bool, true, false, length, drop, slice_set};
+ghost use Rattle.std.specs.Prelude.{◌≡◌, ◌<◌, ◌≤◌, ◌^◌, ◌++◌, ◌&&◌, [], ◌∷◌, nat_lt, None, Some, Bool, true, false, length, drop, slice_set};
 ghost use Rattle.std.specs.List.{AllByRecursion};
 ghost use Rattle.mm_word.specs.declared.word.Word.TheVariants.{Int};
 ghost use Rattle.mm_model.specs.declared.slot.Pending.{Pending};
@@ -10,11 +10,12 @@ ghost use Rattle.mm_model.specs.Effect.{effect, plain, delivered, resumed_by};
 ghost use Rattle.mm_model.specs.Effect.Reply.{Fine};
 ghost use Rattle.mm_model.specs.Turn.{slot_after, stood};
 ghost use Rattle.mm_thread.specs.Ends.{EndsAlone, is_alone};
-ghost use Rattle.mm_thread.specs.Places.{slot_in, queue_in, with_slot, with_queue_in, first_register, event_writes};
+ghost use Rattle.mm_thread.specs.Places.{row_alone, slot_in, queue_in, with_row, with_slot, with_queue_in, first_register, event_writes};
 
 use crate::alone::Entered;
 use crate::carry_out::carry_out;
 use crate::group_output::GroupOutput;
+use crate::making::copy_of;
 use crate::row::Row;
 use crate::slot::{advance, deliver, issue, resume, set_register, sets, stand, take_event};
 use mm_isa::{EvtReg, How, Instr, Reg};
@@ -277,5 +278,25 @@ impl Tables {
     {
         let output = &mut self.outputs[group as usize];
         output.push(byte);
+    }
+
+    /// Puts a slot without events at a place.
+    pub(crate) fn set_row(&mut self, place: usize, slot: &Slot)
+        requires { place < length self.old.rows }
+        ensures { self.new ≡ with_row self.old place (row_alone slot.now) }
+    {
+        let row = &mut self.rows[place];
+        row.slot = copy_of(slot);
+        row.queue.clear();
+    }
+
+    /// Makes these bytes the output of a group.
+    pub(crate) fn set_output(&mut self, group: u8, bytes: &[u8])
+        requires group { group < length self.old.outputs }
+        requires short { length bytes.now ≤ 65536 }
+        ensures { self.new ≡ record self.old { outputs = slice_set self.old.outputs group bytes.now } }
+    {
+        let output = &mut self.outputs[group as usize];
+        output.assign(bytes);
     }
 }
