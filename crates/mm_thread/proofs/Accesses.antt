@@ -1,7 +1,7 @@
 -- What the rows that ask for memory leave.
-use Rattle.std.proofs.Common.{◌≡◌, ◌≢◌, ℕ, ◌+◌, ◌<◌, ◌^◌, Bool, true, false, cond, ltb, List, [], ◌∷◌, ◌++◌, length, Option, Some, None, Result, Ok, Err, refl, sym, ap, subst, ◌∙◌, arith, ltb-true, ℤ}
+use Rattle.std.proofs.Common.{◌≡◌, ℕ, ◌+◌, ◌<◌, ◌^◌, Bool, true, false, cond, ltb, List, [], ◌∷◌, length, Option, Some, None, Result, Ok, Err, refl, sym, ap, subst, ◌∙◌, arith, ℤ}
 use Rattle.mm_word.specs.declared.cause.Cause.{Cause}
-use Rattle.mm_word.specs.declared.cause.Cause.TheVariants.{Bounds, NoPage, Sync, Priv}
+use Rattle.mm_word.specs.declared.cause.Cause.TheVariants.{Bounds, Sync, Priv}
 use Rattle.mm_word.specs.declared.word.Pre.{Pre}
 use Rattle.mm_word.specs.declared.word.Post.{Post}
 use Rattle.mm_word.specs.declared.word.Word.{Word}
@@ -15,16 +15,16 @@ use Rattle.mm_isa.specs.declared.instr.How.{How}
 use Rattle.mm_model.specs.Memory.{Memory, passes, can_map, is_mapped}
 use Rattle.mm_model.specs.Slot.{Slot, register, is_empty}
 use Rattle.mm_model.specs.Operands.{lacks}
-use Rattle.mm_model.specs.State.{Core, slot_at, put_slot}
+use Rattle.mm_model.specs.State.{Core, slot_at}
 use Rattle.mm_model.specs.Uses.{Use, accesses, TakesUses, takes_none}
 use Rattle.mm_model.specs.Ask.{Ask, ask, is_privileged, page_asked}
-use Rattle.mm_model.specs.Ask.Ask.{Nothing, Refuse, Reach, MapPage, UnmapPage}
+use Rattle.mm_model.specs.Ask.Ask.{Refuse}
 use Rattle.mm_model.specs.Effect.{Change, Effect, effect, plain, loads, loaded, stored, maps, unmaps, set_by, test}
 use Rattle.mm_model.specs.Effect.Reply.{Refused, Paged}
 use Rattle.mm_model.specs.Turn.{reply, reached, access_use, removal_use, touch_of, asked_use, slot_after, core_after, memory_after}
-use Rattle.mm_mem.specs.Answers.{loaded as loaded_answer, stored as stored_answer, set_where, put_where, after_load, after_store, after_map, after_unmap}
+use Rattle.mm_mem.specs.Answers.{loaded as loaded_answer, stored as stored_answer, set_where, put_where}
 use Rattle.mm_thread.specs.declared.outcome.Outcome.{Outcome}
-use Rattle.mm_thread.specs.declared.outcome.Outcome.TheVariants.{Goes, Waits, Fails}
+use Rattle.mm_thread.specs.declared.outcome.Outcome.TheVariants.{Goes}
 use Rattle.mm_thread.specs.declared.outcome.Told.{Told}
 use Rattle.mm_thread.specs.Ends.{is_alone}
 use Rattle.mm_thread.specs.Places.{slot_in, with_slot, numbers_in, IsIndex}

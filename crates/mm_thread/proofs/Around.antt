@@ -1,11 +1,10 @@
 -- What the rows that ask for slots and outputs leave.
-use Rattle.std.proofs.Common.{◌≡◌, ◌≢◌, ℕ, ◌+◌, ◌%◌, ◌<◌, ◌≤◌, Bool, true, false, cond, ltb, eqb, List, [], ◌∷◌, ◌++◌, length, get_or, set, drop, Option, Some, None, Result, Ok, Err, refl, sym, ap, subst, ◌∙◌, arith}
+use Rattle.std.proofs.Common.{◌≡◌, ◌≢◌, ℕ, ◌%◌, ◌<◌, Bool, true, false, cond, List, [], ◌∷◌, ◌++◌, length, set, drop, Option, Some, None, Result, Ok, Err, refl, sym, ap, subst, ◌∙◌, arith}
 use Rattle.std.specs.Prelude.{nat_lt, ◌&&◌, slice_get}
 use Rattle.std.specs.List.{AllByRecursion}
 use Rattle.std.proofs.lemmas.List.{set-get_or}
 use Rattle.mm_word.specs.declared.cause.Cause.{Cause}
 use Rattle.mm_word.specs.declared.cause.Cause.TheVariants.{NoSlot, OutFull}
-use Rattle.mm_word.specs.declared.word.Word.{Word}
 use Rattle.mm_word.specs.Word.{word_bits}
 use Rattle.mm_word.specs.Pointer.{Pointer}
 use Rattle.mm_isa.specs.declared.instr.How.{How}
@@ -17,14 +16,14 @@ use Rattle.mm_model.specs.declared.slot.SlotState.TheVariants.{Running, Waiting,
 use Rattle.mm_model.specs.declared.event.Event.{Event}
 use Rattle.mm_model.specs.Memory.{Memory}
 use Rattle.mm_model.specs.Slot.{Slot, register, is_empty}
-use Rattle.mm_model.specs.State.{Row, Core, slot_at, queue_at, put_slot, put_queue, output_of, put_output}
+use Rattle.mm_model.specs.State.{Row, Core, slot_at, put_slot, put_queue, output_of, put_output}
 use Rattle.mm_model.specs.Image.{output_limit}
 use Rattle.mm_model.specs.Ask.{Ask, ask}
 use Rattle.mm_model.specs.Ask.Ask.{Nothing}
-use Rattle.mm_model.specs.Effect.{Reply, Change, Effect, effect, plain, takes, resumes, resumed_by, reads_of, writes_of, delivered}
-use Rattle.mm_model.specs.Effect.Reply.{Fine, Refused, NoEvent, Took, Served}
+use Rattle.mm_model.specs.Effect.{Change, Effect, effect, plain, resumed_by, delivered}
+use Rattle.mm_model.specs.Effect.Reply.{Fine, Refused, Served}
 use Rattle.mm_model.specs.Effect.Effect.{Fault, Block, Deliver, Does}
-use Rattle.mm_model.specs.Turn.{reply, first_event, event_reply, served, is_handler, is_taken, is_running, slot_after, core_after, memory_after, with_out, with_queue, with_other, with_cell, with_pages}
+use Rattle.mm_model.specs.Turn.{reply, served, is_handler, is_taken, is_running, slot_after, core_after, memory_after, with_out, with_queue, with_other, with_cell, with_pages}
 use Rattle.mm_model.specs.Fits.{is_waiting, IsCore}
 use Rattle.mm_model.proofs.CoreSteps.{queued_waits}
 use Rattle.mm_model.proofs.SlotSteps.{delivered_from}
@@ -32,10 +31,10 @@ use Rattle.mm_model.proofs.TurnKeeps.{changed_from}
 use Rattle.mm_thread.specs.declared.outcome.Outcome.{Outcome}
 use Rattle.mm_thread.specs.declared.outcome.Outcome.TheVariants.{Goes, Waits, Fails}
 use Rattle.mm_thread.specs.Ends.{is_alone, alone, EndsAlone}
-use Rattle.mm_thread.specs.Places.{no_row, row_at, slot_in, queue_in, with_row, with_slot, with_queue_in, numbers_in, IsIndex, event_writes}
-use Rattle.mm_thread.specs.Left.{Leaves, core_left, memory_left, outcome_of, effect_in}
+use Rattle.mm_thread.specs.Places.{no_row, row_at, slot_in, queue_in, with_slot, with_queue_in, numbers_in, IsIndex, event_writes}
+use Rattle.mm_thread.specs.Left.{Leaves, effect_in}
 use Rattle.mm_thread.proofs.Index.{slot_found, queue_found, put_slot-place, put_queue-place}
-use Rattle.mm_thread.proofs.Cores.{slot_in-same, slot_in-other, queue_in-slot, index-with_slot, number-with_slot, length-with_row}
+use Rattle.mm_thread.proofs.Cores.{slot_in-other, queue_in-slot, index-with_slot, number-with_slot, length-with_row}
 
 -- 1. An instruction that asks nothing.
 
@@ -113,7 +112,7 @@ module _ (core : Core) (places : List ℕ) (index : IsIndex (numbers_in core) pl
 
   pub room_left : (m : Memory) (ra : ℕ) → nat_lt (length (output_of core (slot_in core p).group)) (output_limit core.version) ≡ true
       → let s = slot_in core p in
-        Leaves core m s (effect_in core m s (Out ra)) (put_output (with_slot core p (slot_after s (plain s))) s.group (output_of core s.group ++ (word_bits (register s ra) % 256) ∷ [])) m (Goes None)
+      Leaves core m s (effect_in core m s (Out ra)) (put_output (with_slot core p (slot_after s (plain s))) s.group (output_of core s.group ++ (word_bits (register s ra) % 256) ∷ [])) m (Goes None)
   unfolding ask reply effect core_after memory_after plain slot_after put_output output_of
   room_left m ra fits =
       let s = slot_in core p in
@@ -288,7 +287,7 @@ module _ (core : Core) (places : List ℕ) (index : IsIndex (numbers_in core) pl
         let indexed_after = index-with_slot taken places indexed p was (slot_after self c) numbered in
         let number : (slot_in after p).number ≡ self.number = number-with_slot taken places indexed p was (slot_after self c) numbered p was ∙ unmoved in
         let queue : queue_in after p ≡ e ∷ rest =
-            queue_in-slot taken p p (slot_after self c) was ∙ queue_in-slot core q p (record (slot_in core q) { state = Taken }) inside ∙ some
+        queue_in-slot taken p p (slot_after self c) was ∙ queue_in-slot core q p (record (slot_in core q) { state = Taken }) inside ∙ some
         in
         rw (queue_found core places index p within, some, found) (record {
           core_is =

@@ -1,6 +1,6 @@
 -- How a core is put back part by part.
-use Rattle.std.proofs.Common.{◌≡◌, ◌≢◌, ℕ, zero, suc, ◌+◌, ◌-◌, ◌<◌, ◌≤◌, ◌⊎◌, inl, inr, Bool, true, false, cond, eqb, eqb-true, List, [], ◌∷◌, ◌++◌, length, map, take, drop, get_or, set, replicate, Option, Some, None, refl, sym, ap, subst, ◌∙◌, arith}
-use Rattle.std.specs.Prelude.{slice_index, IfSome}
+use Rattle.std.proofs.Common.{◌≡◌, ◌≢◌, ℕ, ◌+◌, ◌<◌, ◌≤◌, ◌⊎◌, inl, inr, Bool, true, false, cond, eqb, List, [], ◌∷◌, ◌++◌, length, map, take, drop, get_or, set, replicate, Option, Some, refl, sym, ap, subst, ◌∙◌, arith}
+use Rattle.std.specs.Prelude.{IfSome}
 use Rattle.std.specs.List.{AllByRecursion}
 use Rattle.std.proofs.lemmas.Bool.{cases_eq}
 use Rattle.std.proofs.lemmas.Bool.Decides.{nat_tests}
@@ -12,11 +12,11 @@ use Rattle.mm_model.specs.Spelling.{numbers_of}
 use Rattle.mm_model.specs.Fits.{identity_of, slots_of, IsSlot, IsCore}
 use Rattle.mm_model.proofs.CoreRows.{each_map, slots_found}
 use Rattle.mm_thread.specs.declared.output.Output.{Output}
-use Rattle.mm_thread.specs.Places.{no_row, row_alone, slot_in, queue_in, row_at, with_queue_in, numbers_in, IsIndex, IsSound}
-use Rattle.mm_thread.specs.Parts.{events_for, row_with, outputs_with, core_of}
+use Rattle.mm_thread.specs.Places.{row_alone, slot_in, queue_in, with_queue_in, numbers_in, IsIndex, IsSound}
+use Rattle.mm_thread.specs.Parts.{events_for, row_with, core_of}
 use Rattle.mm_thread.proofs.Cores.{limit_small, queue_few, output_short}
 use Rattle.mm_thread.proofs.Sound.{numbers-same}
-use Rattle.mm_thread.proofs.Index.{HasNone, row_found, queue_found, put_queue-place, map-none, none_past}
+use Rattle.mm_thread.proofs.Index.{HasNone, row_found, queue_found, put_queue-place, map-none}
 
 -- 1. One event.
 

@@ -1,24 +1,23 @@
 -- What a turn relies on of a core.
-use Rattle.std.proofs.Common.{◌≡◌, ◌≢◌, ℕ, ◌+◌, ◌<◌, ◌≤◌, Bool, true, false, cond, eqb, List, [], ◌∷◌, ◌++◌, length, map, get_or, set, Option, Some, None, refl, sym, ap, subst, ◌∙◌, arith, inl, inr}
+use Rattle.std.proofs.Common.{◌≡◌, ◌≢◌, ℕ, ◌<◌, ◌≤◌, Bool, true, false, cond, eqb, List, [], ◌∷◌, ◌++◌, length, map, get_or, Option, Some, None, refl, sym, ap, subst, ◌∙◌, arith, inl, inr}
 use Rattle.std.specs.Prelude.{IfSome, slice_index}
 use Rattle.std.specs.List.{AllByRecursion}
 use Rattle.std.proofs.lemmas.Bool.{cases_eq, cases_lt}
-use Rattle.std.proofs.lemmas.List.{length-map, length-set, get_or-set_same, get_or-set_other, get_or_past, set_past}
+use Rattle.std.proofs.lemmas.List.{length-map, length-set, get_or-set_same, get_or-set_other, get_or_past}
 use Rattle.mm_model.specs.declared.slot.SlotState.{SlotState}
 use Rattle.mm_model.specs.declared.slot.SlotState.TheVariants.{Running, Waiting, Taken, Halted}
 use Rattle.mm_model.specs.declared.slot.Pending.{Pending}
 use Rattle.mm_model.specs.declared.event.Event.{Event}
 use Rattle.mm_model.specs.Slot.{Slot, is_empty}
 use Rattle.mm_model.specs.Image.{slot_limit, output_limit}
-use Rattle.mm_model.specs.State.{Row, Core, slot_at, queue_at, output_of, put_slot, put_queue}
+use Rattle.mm_model.specs.State.{Row, Core, slot_at, queue_at, output_of, put_queue}
 use Rattle.mm_model.specs.Turn.{stood, core_faulted, is_running, is_sync}
-use Rattle.mm_model.specs.Fits.{one_if, events_of, loads_for, waits_for, is_waiting, slots_of, IsSlot, IsCore}
+use Rattle.mm_model.specs.Fits.{one_if, waits_for, is_waiting, slots_of, IsSlot, IsCore}
 use Rattle.mm_model.specs.Spelling.{IsOther}
 use Rattle.mm_model.proofs.CoreRows.{each_get, slot_has, slot_at-number, other_at}
 use Rattle.mm_model.proofs.CoreSteps.{waits_for-rests}
 use Rattle.mm_model.proofs.SlotSteps.{empty_within}
 use Rattle.mm_thread.specs.Places.{no_row, row_at, slot_in, queue_in, with_row, with_slot, with_queue_in, numbers_in, IsIndex}
-use Rattle.mm_thread.specs.Left.{CanTurn}
 use Rattle.mm_thread.proofs.Counting.{times, times-events, times-loads, shorter, short, all_below}
 use Rattle.mm_thread.proofs.Index.{slot_found, queue_found, put_slot-place, put_queue-place, numbers-with_row, number-get}
 
@@ -119,7 +118,7 @@ module _ (core : Core) (whole : IsCore core) where
         let once : (n : ℕ) → times n xs ≤ 1 = λ n. omega (arith, count n, one_if_small (waits_for h (slot_at core n))) in
         let past : (n : ℕ) → 64 ≤ n → times n xs ≡ 0 = λ n far. count n ∙ ap (λ o. one_if (waits_for h o)) (slot_at-past n far) in
         let missing : times s.number xs ≡ 0 =
-            count s.number ∙ ap (λ o. one_if (waits_for h o)) (slot_found core places index p within) ∙ ap one_if (waits_for-rests h s (runs_waits_not s.state runs))
+        count s.number ∙ ap (λ o. one_if (waits_for h o)) (slot_found core places index p within) ∙ ap one_if (waits_for-rests h s (runs_waits_not s.state runs))
         in
         let room = shorter 64 s.number xs once past number_small missing in
         omega (arith, length-map es (λ (e : Event). e.slot), room, ap length (queue_found core places index q inside))
@@ -186,7 +185,7 @@ number-with_slot core places index p within s same q inside =
 module _ (core : Core) (places : List ℕ) (index : IsIndex (numbers_in core) places) (p : ℕ) (within : p < length core.rows) where
   pub faulted-handled : (e : Event) (h at : ℕ) → at < length core.rows → (slot_in core at).number ≡ h
       → let waits = with_slot core p (stood (slot_in core p) Waiting) in
-        with_queue_in waits at (queue_in waits at ++ e ∷ []) ≡ core_faulted core (slot_in core p) e (Some h)
+      with_queue_in waits at (queue_in waits at ++ e ∷ []) ≡ core_faulted core (slot_in core p) e (Some h)
   unfolding core_faulted
   faulted-handled e h at inside is =
       let s = slot_in core p in
@@ -196,9 +195,9 @@ module _ (core : Core) (places : List ℕ) (index : IsIndex (numbers_in core) pl
       let number : (slot_in waits at).number ≡ h = number-with_slot core places index p within (stood s Waiting) refl at inside ∙ is in
       let queue : queue_at waits h ≡ queue_in waits at = ap (queue_at waits) (sym number) ∙ queue_found waits places indexed at still in
       let put : with_queue_in waits at (queue_in waits at ++ e ∷ []) ≡ put_queue waits h (queue_at waits h ++ e ∷ []) =
-          sym (put_queue-place waits places indexed at still (queue_in waits at ++ e ∷ []))
-          ∙ ap (λ (n : ℕ). put_queue waits n (queue_in waits at ++ e ∷ [])) number
-          ∙ ap (λ (q : List Event). put_queue waits h (q ++ e ∷ [])) (sym queue)
+      sym (put_queue-place waits places indexed at still (queue_in waits at ++ e ∷ []))
+      ∙ ap (λ (n : ℕ). put_queue waits n (queue_in waits at ++ e ∷ [])) number
+      ∙ ap (λ (q : List Event). put_queue waits h (q ++ e ∷ [])) (sym queue)
       in
       put ∙ ap (λ (c : Core). put_queue c h (queue_at c h ++ e ∷ [])) (sym (put_slot-place core places index p within (stood s Waiting) refl))
 

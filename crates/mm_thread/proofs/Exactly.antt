@@ -1,6 +1,6 @@
 -- A step tells exactly the accesses that its turn made.
-use Rattle.std.proofs.Common.{◌≡◌, ℕ, ◌+◌, ◌≤◌, Bool, true, false, cond, List, [], ◌∷◌, ◌++◌, Option, Some, None, Result, Ok, Err, refl, sym, ap, ◌∙◌, arith, pos}
-use Rattle.std.specs.Prelude.{◌&&◌, nat_le}
+use Rattle.std.proofs.Common.{◌≡◌, ℕ, ◌≤◌, Bool, true, false, cond, List, [], ◌∷◌, ◌++◌, Option, Some, None, Result, Ok, Err, refl, ap, arith, pos}
+use Rattle.std.specs.Prelude.{◌&&◌}
 use Rattle.mm_word.specs.declared.perm.Kind.{Kind}
 use Rattle.mm_word.specs.declared.perm.Kind.TheVariants.{Fetch}
 use Rattle.mm_word.specs.declared.cause.Cause.{Cause}
@@ -18,10 +18,10 @@ use Rattle.mm_model.specs.State.{Core, slot_at}
 use Rattle.mm_model.specs.Uses.{Use, Accessed, accesses}
 use Rattle.mm_model.specs.Operands.{lacks}
 use Rattle.mm_model.specs.Ask.{Ask, ask}
-use Rattle.mm_model.specs.Ask.Ask.{Nothing, Refuse, Reach, MapPage, UnmapPage, NextEvent, Room, Serve}
-use Rattle.mm_model.specs.Effect.{Effect, effect, delivered}
+use Rattle.mm_model.specs.Ask.Ask.{Reach, UnmapPage}
+use Rattle.mm_model.specs.Effect.{Effect, delivered}
 use Rattle.mm_model.specs.Effect.Effect.{Fault, Block, Deliver, Does}
-use Rattle.mm_model.specs.Turn.{Turned, reply, access_use, removal_use, asked_use, touch_of, faulted, blocked, ended, executed, issued, decoded, instr_in, fetched, aimed, started, idle, arrives, port_of, taken_by, taken_by_port, is_running, turn}
+use Rattle.mm_model.specs.Turn.{Turned, access_use, removal_use, asked_use, touch_of, faulted, blocked, ended, executed, issued, decoded, instr_in, fetched, aimed, started, idle, arrives, port_of, taken_by, taken_by_port, is_running, turn}
 use Rattle.mm_thread.specs.Told.{accesses_in, access_told, accesses_told}
 
 pub record IsTold (t : Turned) : Type 0 where

@@ -5,7 +5,6 @@ use Rattle.std.specs.List.{AllByRecursion}
 use Rattle.std.specs.List.Sorted.{IsStrictlyIncreasing}
 use Rattle.mm_model.specs.declared.slot.SlotState.{SlotState}
 use Rattle.mm_model.specs.declared.slot.SlotState.TheVariants.{Running, Waiting, Taken, Halted}
-use Rattle.mm_model.specs.declared.slot.Pending.{Pending}
 use Rattle.mm_model.specs.Slot.{Slot, is_empty}
 use Rattle.mm_model.specs.State.{Row, Core, row_in, slot_of, queue_of, slot_at, queue_at, output_of}
 use Rattle.mm_model.specs.Image.{Image, slot_in, slot_limit, output_limit, start}
@@ -119,8 +118,8 @@ unfolding start
 fresh_core slots rising fresh rows outputs core is rows_are outputs_are =
     let i : Image = record { version = 2; split = false; slots = slots; memory = record { pages = []; frames = 0 } } in
     let same : core ≡ (start i).core =
-        is ∙ ap (λ (x : List Row). record { rows = x; outputs = outputs; version = 2; split = false }) rows_are
-        ∙ ap (λ (x : List (List ℕ)). record { rows = map alone slots; outputs = x; version = 2; split = false }) outputs_are
+    is ∙ ap (λ (x : List Row). record { rows = x; outputs = outputs; version = 2; split = false }) rows_are
+    ∙ ap (λ (x : List (List ℕ)). record { rows = map alone slots; outputs = x; version = 2; split = false }) outputs_are
     in
     subst IsCore (sym same) (start_core i rising fresh)
 

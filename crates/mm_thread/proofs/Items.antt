@@ -1,6 +1,6 @@
 -- The turns of items.
-use Rattle.std.proofs.Common.{◌≡◌, ℕ, ◌+◌, ◌-◌, ◌<◌, ◌≤◌, ◌^◌, Bool, true, false, cond, leb, List, [], ◌∷◌, length, Option, Some, None, refl, sym, ap, subst, ◌∙◌, arith}
-use Rattle.std.specs.Prelude.{◌&&◌, nat_le, IfSome}
+use Rattle.std.proofs.Common.{◌≡◌, ℕ, ◌-◌, ◌<◌, ◌≤◌, ◌^◌, Bool, true, false, cond, leb, List, [], ◌∷◌, length, Option, Some, None, refl, sym, ap, subst, ◌∙◌, arith}
+use Rattle.std.specs.Prelude.{◌&&◌, IfSome}
 use Rattle.std.specs.List.{AllByRecursion}
 use Rattle.std.proofs.lemmas.List.{set-get_or}
 use Rattle.std.proofs.lemmas.Bool.Decides.{nat_tests}
@@ -10,7 +10,7 @@ use Rattle.mm_model.specs.declared.step.Tick.{Tick}
 use Rattle.mm_model.specs.declared.step.Tick.TheVariants.{Idle, Delivered}
 use Rattle.mm_model.specs.Memory.{Memory}
 use Rattle.mm_model.specs.Slot.{Slot}
-use Rattle.mm_model.specs.State.{Row, Core, slot_at, put_slot}
+use Rattle.mm_model.specs.State.{Row, Core, slot_at}
 use Rattle.mm_model.specs.Uses.{Use, accesses, TakesUses, takes_none}
 use Rattle.mm_model.specs.Effect.{delivered, delivers}
 use Rattle.mm_model.specs.Turn.{Turned, idle, arrives, port_of, taken_by, taken_by_port, turn, started, is_running}

@@ -1,5 +1,5 @@
 -- The set of running slots as bits.
-use Rattle.std.proofs.Common.{◌≡◌, ◌≢◌, ℕ, zero, suc, ◌+◌, ◌*◌, ◌%◌, ◌^◌, ◌<◌, ◌≤◌, ◌↔◌, Bool, true, false, cond, eqb, List, length, slice_index, bit_and, bit_or, Option, Some, None, refl, sym, ap, subst, ◌∙◌, arith, inl, inr}
+use Rattle.std.proofs.Common.{◌≡◌, ℕ, ◌+◌, ◌*◌, ◌%◌, ◌^◌, ◌<◌, ◌↔◌, Bool, true, false, List, length, slice_index, bit_or, Option, Some, None, refl, sym, ap, ◌∙◌, arith, inl, inr}
 use Rattle.std.specs.Prelude.{IsSomeAnd}
 use Rattle.std.specs.Int.{IsBitSet, bit_at, w64}
 use Rattle.std.proofs.lemmas.Bool.{cases_eq, cases_lt}
@@ -10,9 +10,8 @@ use Rattle.mm_model.specs.declared.slot.SlotState.TheVariants.{Running, Waiting,
 use Rattle.mm_model.specs.Slot.{Slot}
 use Rattle.mm_model.specs.State.{Core, slot_of, slot_at}
 use Rattle.mm_model.specs.Turn.{is_running}
-use Rattle.mm_thread.specs.Places.{slot_in, numbers_in, IsIndex, IsSound}
+use Rattle.mm_thread.specs.Places.{slot_in, IsSound}
 use Rattle.mm_thread.proofs.Index.{slot_found, number_there, row_missing}
-use Rattle.mm_thread.proofs.Cores.{number_small}
 
 -- one of the first slots has this number and runs
 pub record RunsBelow (core : Core) (i n : ℕ) : Type 0 where

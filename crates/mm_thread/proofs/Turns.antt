@@ -1,7 +1,6 @@
 -- How the parts of a turn make it.
-use Rattle.std.proofs.Common.{◌≡◌, ◌≢◌, ℕ, ◌+◌, ◌<◌, ◌^◌, Bool, true, false, cond, eqb, eqb-true, List, [], ◌∷◌, ◌++◌, length, map, get_or, set, Option, Some, None, Result, Ok, Err, refl, sym, ap, subst, ◌∙◌, arith, pos}
+use Rattle.std.proofs.Common.{◌≡◌, ℕ, ◌+◌, ◌<◌, ◌^◌, Bool, true, false, cond, eqb, eqb-true, List, [], ◌∷◌, length, map, Option, Some, None, Ok, Err, refl, sym, ap, subst, ◌∙◌, arith, pos}
 use Rattle.std.specs.Prelude.{◌&&◌, slice_index}
-use Rattle.std.proofs.lemmas.Bool.{cases_eq}
 use Rattle.std.proofs.lemmas.List.{set-set, length-map}
 use Rattle.mm_word.specs.declared.perm.Kind.TheVariants.{Fetch}
 use Rattle.mm_word.specs.declared.cause.Cause.{Cause}
@@ -14,25 +13,25 @@ use Rattle.mm_isa.specs.declared.instr.Instr.{Instr}
 use Rattle.mm_model.specs.declared.slot.SlotState.TheVariants.{Running}
 use Rattle.mm_model.specs.declared.step.Step.{Step}
 use Rattle.mm_model.specs.declared.step.Tick.{Tick}
-use Rattle.mm_model.specs.declared.step.Tick.TheVariants.{Did, Blocked}
+use Rattle.mm_model.specs.declared.step.Tick.TheVariants.{Blocked}
 use Rattle.mm_model.specs.Memory.{Memory, cell_at}
 use Rattle.mm_model.specs.Slot.{Slot}
 use Rattle.mm_model.specs.State.{Row, Core, slot_at, at_number, put_slot}
-use Rattle.mm_model.specs.Uses.{Use, Accessed, accesses, accesses-append, TakesUses, takes_both}
+use Rattle.mm_model.specs.Uses.{Use, accesses, accesses-append, TakesUses, takes_both}
 use Rattle.mm_model.specs.Operands.{addr_operand, value_operand, lacks}
 use Rattle.mm_model.specs.Ask.{ask}
 use Rattle.mm_model.specs.Effect.{Effect, delivered}
 use Rattle.mm_model.specs.Effect.Effect.{Fault, Block, Deliver, Does}
-use Rattle.mm_model.specs.Turn.{Turned, stood, core_faulted, event_of, tick_faulted, faulted, blocked, ended, executed, issued, decoded, fetched, aimed, started, touch_of, asked_use}
+use Rattle.mm_model.specs.Turn.{Turned, stood, core_faulted, event_of, tick_faulted, faulted, blocked, ended, executed, issued, fetched, aimed, started, touch_of, asked_use}
 use Rattle.mm_model.proofs.SlotSteps.{delivered_from}
 use Rattle.mm_mem.specs.Answers.{fetched as fetched_answer}
 use Rattle.mm_thread.specs.declared.outcome.Outcome.{Outcome}
-use Rattle.mm_thread.specs.declared.outcome.Outcome.TheVariants.{Goes, Waits, Fails}
+use Rattle.mm_thread.specs.declared.outcome.Outcome.TheVariants.{Waits, Fails}
 use Rattle.mm_thread.specs.declared.outcome.Told.{Told}
 use Rattle.mm_thread.specs.Places.{row_at, slot_in, with_row, with_slot, numbers_in, IsIndex}
 use Rattle.mm_thread.specs.Left.{CanTurn, CanEnd, Leaves, effect_in, Executes, Gives, core_ended, step_ended}
-use Rattle.mm_thread.proofs.Index.{slot_found, put_slot-place, number-get, length-numbers}
-use Rattle.mm_thread.proofs.Cores.{queue_in-slot, slot_in-same, length-with_row}
+use Rattle.mm_thread.proofs.Index.{slot_found, put_slot-place, number-get}
+use Rattle.mm_thread.proofs.Cores.{queue_in-slot, slot_in-same}
 
 -- 1. A slot that is put in a core.
 
@@ -68,7 +67,7 @@ same_slot core k places index p within numbers inside stays =
     let indexed : IsIndex (numbers_in k) places = subst P (sym numbers) index in
     let number : (slot_in k p).number ≡ (slot_in core p).number = sym (number-get k p inside) ∙ ap (λ (ns : List ℕ). slice_index ns p) numbers ∙ number-get core p within in
     let is : ◌≡◌ {A = Option Slot} (Some (slot_in k p)) (Some (slot_in core p)) =
-        sym (slot_found k places indexed p inside) ∙ ap (slot_at k) number ∙ stays ∙ slot_found core places index p within
+    sym (slot_found k places indexed p inside) ∙ ap (slot_at k) number ∙ stays ∙ slot_found core places index p within
     in
     cc
 
@@ -188,7 +187,7 @@ module _ {M : Type 0} (meaning : M → Memory) (uses : M → ℕ) (stands : M �
         let CountAt : Memory → Type 0 = λ x. uses new ≡ uses mid + accesses (asked_use x (ask i s)) in
         let us : List Use = u ∷ asked_use m (ask i s) in
         let so = ended_so core places p can m i f (touch_of (ask i s)) us core1 (meaning new) told.outcome core2 step core_is
-            (step_is ∙ ap (λ t. step_ended s.number (slot_in core1 p) f t told.outcome) ex.touched) (effect_in core m s i) (subst LeavesAt same ex.leaves) in
+        (step_is ∙ ap (λ t. step_ended s.number (slot_in core1 p) f t told.outcome) ex.touched) (effect_in core m s i) (subst LeavesAt same ex.leaves) in
         let listed = ended_uses core m s i f (touch_of (ask i s)) us (effect_in core m s i) in
         let Takes : List Use → Type 0 = λ ws. TakesUses stands before new ws in
         let Count : List Use → Type 0 = λ ws. uses new ≡ uses before + accesses ws in

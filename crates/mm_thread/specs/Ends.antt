@@ -1,5 +1,5 @@
 -- What a row of the table leaves.
-use Rattle.std.specs.Prelude.{◌≡◌, Bool, true, false, Option, Some, None, Result, Ok, Err}
+use Rattle.std.specs.Prelude.{◌≡◌, Bool, true, false, Option, None, Result, Ok, Err}
 use Rattle.mm_word.specs.declared.cause.Cause.{Cause}
 use Rattle.mm_word.specs.declared.cause.Cause.TheVariants.{NotPointer}
 use Rattle.mm_word.specs.declared.word.Word.{Word}
@@ -10,7 +10,7 @@ use Rattle.mm_isa.specs.declared.instr.Instr.TheVariants.{Out, Ld, St, Evt, Resu
 use Rattle.mm_model.specs.Slot.{Slot}
 use Rattle.mm_model.specs.Effect.{Change, Effect}
 use Rattle.mm_model.specs.Effect.Pages.{Keep}
-use Rattle.mm_model.specs.Effect.Effect.{Fault, Block, Deliver, Does}
+use Rattle.mm_model.specs.Effect.Effect.{Fault, Does}
 use Rattle.mm_model.specs.Turn.{slot_after}
 
 -- the rows that ask nothing of the machine around their slot

@@ -1,7 +1,6 @@
 -- Slots by their places in the table of rows.
-use Rattle.std.specs.Prelude.{◌≡◌, ℕ, ◌+◌, ◌*◌, ◌<◌, Bool, false, List, [], ◌∷◌, length, map, slice_set, slice_index_or, slice_index, Option, None, Some}
+use Rattle.std.specs.Prelude.{◌≡◌, ℕ, ◌+◌, ◌*◌, ◌<◌, false, List, [], ◌∷◌, length, slice_set, slice_index_or, slice_index, Option, None, Some}
 use Rattle.mm_word.specs.declared.perm.Perm.TheVariants.{Xu}
-use Rattle.mm_word.specs.Pointer.{Pointer}
 use Rattle.mm_word.specs.Cause.{number_of}
 use Rattle.mm_word.specs.declared.word.Word.{Word}
 use Rattle.mm_word.specs.declared.word.Word.TheVariants.{Int, Ptr}

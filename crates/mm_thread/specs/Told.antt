@@ -1,5 +1,5 @@
 -- What a step tells of the accesses that were made.
-use Rattle.std.specs.Prelude.{◌≡◌, ℕ, List, [], ◌∷◌, ◌++◌, Option, Some, None}
+use Rattle.std.specs.Prelude.{ℕ, List, [], ◌∷◌, ◌++◌, Option, Some, None}
 use Rattle.mm_word.specs.declared.perm.Kind.{Kind}
 use Rattle.mm_word.specs.Access.{Touch}
 use Rattle.mm_model.specs.declared.step.Step.{Step}

@@ -128,7 +128,9 @@ pub(crate) fn addi(slot: &mut Slot, rd: Reg, ra: Reg, imm: i32) -> Entered
     requires { slot.old.turns < 2 ^ 62 }
     ensures { (split : Bool) → EndsAlone (effect split (Instr.Addi rd ra imm) slot.old Fine) slot.old slot.new result }
 {
-    let sum = word_of(slot, ra).bits().wrapping_add(i64::from(imm).cast_unsigned());
+    let sum = word_of(slot, ra)
+        .bits()
+        .wrapping_add(i64::from(imm).cast_unsigned());
     sets(slot, rd, Word::Int(sum));
     Ok(None)
 }

@@ -108,7 +108,13 @@ fn is_taken(slot: &Slot) -> bool
 }
 
 /// `resume`: the slot that a register names goes on, or is halted.
-pub(crate) fn resume(tables: &mut Tables, places: &Places, place: usize, ra: Reg, how: How) -> Outcome
+pub(crate) fn resume(
+    tables: &mut Tables,
+    places: &Places,
+    place: usize,
+    ra: Reg,
+    how: How,
+) -> Outcome
     requires { CanTurn tables.old places.now place }
     ensures { (m : Memory) → let s = slot_in tables.old place in
         Leaves tables.old m s (effect_in tables.old m s (Instr.Resume ra how)) tables.new m result }
@@ -122,7 +128,14 @@ pub(crate) fn resume(tables: &mut Tables, places: &Places, place: usize, ra: Reg
 }
 
 /// `rreg`: a register of the slot that a register names is read.
-pub(crate) fn read_register(tables: &mut Tables, places: &Places, place: usize, rd: Reg, ra: Reg, reg: Reg) -> Outcome
+pub(crate) fn read_register(
+    tables: &mut Tables,
+    places: &Places,
+    place: usize,
+    rd: Reg,
+    ra: Reg,
+    reg: Reg,
+) -> Outcome
     requires { CanTurn tables.old places.now place }
     ensures { (m : Memory) → let s = slot_in tables.old place in
         Leaves tables.old m s (effect_in tables.old m s (Instr.Rreg rd ra reg)) tables.new m result }
@@ -140,7 +153,14 @@ pub(crate) fn read_register(tables: &mut Tables, places: &Places, place: usize, 
 }
 
 /// `wreg`: a register of the slot that a register names is written.
-pub(crate) fn write_register(tables: &mut Tables, places: &Places, place: usize, ra: Reg, rb: Reg, reg: Reg) -> Outcome
+pub(crate) fn write_register(
+    tables: &mut Tables,
+    places: &Places,
+    place: usize,
+    ra: Reg,
+    rb: Reg,
+    reg: Reg,
+) -> Outcome
     requires { CanTurn tables.old places.now place }
     ensures { (m : Memory) → let s = slot_in tables.old place in
         Leaves tables.old m s (effect_in tables.old m s (Instr.Wreg ra rb reg)) tables.new m result }

@@ -14,7 +14,13 @@ use mm_isa::Instr;
 use mm_mem::Memory;
 
 /// Carries out an instruction of the slot at a place.
-pub(crate) fn execute<M: Memory>(tables: &mut Tables, places: &Places, place: usize, mem: &mut M, instr: &Instr) -> Told
+pub(crate) fn execute<M: Memory>(
+    tables: &mut Tables,
+    places: &Places,
+    place: usize,
+    mem: &mut M,
+    instr: &Instr,
+) -> Told
     requires can { CanTurn tables.old places.now place }
     requires free { (tables.old.split && lacks instr.now (slot_in tables.old place)) ≡ false }
     requires room { M.uses mem.old < 2 ^ 62 }
@@ -22,12 +28,28 @@ pub(crate) fn execute<M: Memory>(tables: &mut Tables, places: &Places, place: us
 {
     match instr {
         Instr::Out { ra } => untouched(put_out(tables, places, place, *ra)),
-        Instr::Ld { rd, ra, pre, post, imm } => load(tables, places, place, mem, *rd, *ra, *pre, *post, *imm),
-        Instr::St { ra, rb, pre, post, imm } => store(tables, places, place, mem, *ra, *rb, *pre, *post, *imm),
+        Instr::Ld {
+            rd,
+            ra,
+            pre,
+            post,
+            imm,
+        } => load(tables, places, place, mem, *rd, *ra, *pre, *post, *imm),
+        Instr::St {
+            ra,
+            rb,
+            pre,
+            post,
+            imm,
+        } => store(tables, places, place, mem, *ra, *rb, *pre, *post, *imm),
         Instr::Evt { rd } => untouched(next_event(tables, places, place, *rd)),
         Instr::Resume { ra, how } => untouched(resume(tables, places, place, *ra, *how)),
-        Instr::Rreg { rd, ra, reg } => untouched(read_register(tables, places, place, *rd, *ra, *reg)),
-        Instr::Wreg { ra, rb, reg } => untouched(write_register(tables, places, place, *ra, *rb, *reg)),
+        Instr::Rreg { rd, ra, reg } => untouched(read_register(
+            tables, places, place, *rd, *ra, *reg,
+        )),
+        Instr::Wreg { ra, rb, reg } => untouched(write_register(
+            tables, places, place, *ra, *rb, *reg,
+        )),
         Instr::Map { rd, ra } => map(tables, places, place, mem, *rd, *ra),
         Instr::Unmap { rd, ra } => unmap(tables, places, place, mem, *rd, *ra),
         _ => untouched(go_alone(tables, places, place, *instr)),

@@ -27,11 +27,22 @@ pub(crate) fn place_of(places: &Places, tables: &Tables, number: u64) -> Option<
         return None;
     }
     let place = places[number as usize] as usize;
-    if place < tables.len() { Some(place) } else { None }
+    if place < tables.len() {
+        Some(place)
+    } else {
+        None
+    }
 }
 
 /// The slot at a place faults: it waits for its handler, or is halted, or waits in its place for a synchronisation bit.
-pub(crate) fn fault(tables: &mut Tables, places: &Places, place: usize, cause: Cause, addr_op: Word, value_op: Word) -> Tick
+pub(crate) fn fault(
+    tables: &mut Tables,
+    places: &Places,
+    place: usize,
+    cause: Cause,
+    addr_op: Word,
+    value_op: Word,
+) -> Tick
     requires can { CanTurn tables.old places.now place }
     ensures core { let s = slot_in tables.old place in
         tables.new ≡ core_faulted tables.old s (event_of s cause addr_op value_op) s.handler }

@@ -10,13 +10,18 @@ ghost use Rattle.mm_thread.specs.Places.{slot_in, numbers_in, IsIndex};
 ghost use Rattle.mm_thread.specs.Left.{Gives, AsksNothing};
 
 use crate::fault::{Places, place_of};
-use crate::tables::Tables;
 use crate::running::{start, step};
+use crate::tables::Tables;
 use mm_mem::Memory;
 use mm_model::{Slot, SlotState, Step, Tick};
 
 /// The turn of an item.
-pub(crate) fn take_item<M: Memory>(tables: &mut Tables, places: &Places, mem: &mut M, item: u8) -> Step
+pub(crate) fn take_item<M: Memory>(
+    tables: &mut Tables,
+    places: &Places,
+    mem: &mut M,
+    item: u8,
+) -> Step
     requires whole { IsCore tables.old }
     requires index { IsIndex (numbers_in tables.old) places.now }
     requires turns { AllByRecursion (λ (s : SlotValue). s.turns < 2 ^ 61) (slots_of tables.old) }

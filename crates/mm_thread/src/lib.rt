@@ -25,3 +25,6 @@ mod tables;
 pub use mm_model::{Event, Pending, Slot, SlotState, Step, Tick};
 pub use output::Output;
 pub use state::{Core, turn};
+
+#[cfg(test)]
+mod tests;

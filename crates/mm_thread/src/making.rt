@@ -24,7 +24,9 @@ pub(crate) fn copy_of(slot: &Slot) -> Slot
     let mut regs = [Word::Int(0); 16];
     regs.copy_from_slice(&slot.regs);
     let mut pending = ArrayVec::new();
-    pending.try_extend_from_slice(slot.pending.as_slice()).unwrap();
+    pending
+        .try_extend_from_slice(slot.pending.as_slice())
+        .unwrap();
     Slot {
         number: slot.number,
         group: slot.group,

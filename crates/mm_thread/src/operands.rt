@@ -150,7 +150,10 @@ fn destination_waits(instr: &Instr, slot: &Slot) -> bool
     match instr {
         Instr::Evt { rd } => {
             let first = rd.number();
-            slot.is_empty(first) || slot.is_empty(first + 1) || slot.is_empty(first + 2) || slot.is_empty(first + 3)
+            slot.is_empty(first)
+                || slot.is_empty(first + 1)
+                || slot.is_empty(first + 2)
+                || slot.is_empty(first + 3)
         }
         _ => field_waits(slot, field_d(instr)),
     }
@@ -160,5 +163,7 @@ fn destination_waits(instr: &Instr, slot: &Slot) -> bool
 pub(crate) fn lacks(instr: &Instr, slot: &Slot) -> bool
     ensures { result ≡ lacks instr.now slot.now }
 {
-    destination_waits(instr, slot) || field_waits(slot, field_a(instr)) || field_waits(slot, field_b(instr))
+    destination_waits(instr, slot)
+        || field_waits(slot, field_a(instr))
+        || field_waits(slot, field_b(instr))
 }

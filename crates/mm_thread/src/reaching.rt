@@ -19,7 +19,17 @@ use mm_model::Slot;
 use mm_word::{Access, Cause, Kind, Post, Pre, Word, check};
 
 /// `ld`: a cell's word goes to a register, in a split machine later.
-pub(crate) fn load<M: Memory>(tables: &mut Tables, places: &Places, place: usize, mem: &mut M, rd: Reg, ra: Reg, pre: Pre, post: Post, imm: i32) -> Told
+pub(crate) fn load<M: Memory>(
+    tables: &mut Tables,
+    places: &Places,
+    place: usize,
+    mem: &mut M,
+    rd: Reg,
+    ra: Reg,
+    pre: Pre,
+    post: Post,
+    imm: i32,
+) -> Told
     requires can { CanTurn tables.old places.now place }
     requires free { (tables.old.split && lacks (Instr.Ld rd ra pre post imm) (slot_in tables.old place)) ≡ false }
     requires room { M.uses mem.old < 2 ^ 62 }
@@ -36,7 +46,17 @@ pub(crate) fn load<M: Memory>(tables: &mut Tables, places: &Places, place: usize
 }
 
 /// `st`: a register's word goes to a cell.
-pub(crate) fn store<M: Memory>(tables: &mut Tables, places: &Places, place: usize, mem: &mut M, ra: Reg, rb: Reg, pre: Pre, post: Post, imm: i32) -> Told
+pub(crate) fn store<M: Memory>(
+    tables: &mut Tables,
+    places: &Places,
+    place: usize,
+    mem: &mut M,
+    ra: Reg,
+    rb: Reg,
+    pre: Pre,
+    post: Post,
+    imm: i32,
+) -> Told
     requires can { CanTurn tables.old places.now place }
     requires room { M.uses mem.old < 2 ^ 62 }
     ensures { Executes M.meaning M.uses M.stands tables.old (slot_in tables.old place) (Instr.St ra rb pre post imm) mem.old mem.new tables.new result }
@@ -53,7 +73,14 @@ pub(crate) fn store<M: Memory>(tables: &mut Tables, places: &Places, place: usiz
 }
 
 /// `map`: a page is mapped, and a register tells whether.
-pub(crate) fn map<M: Memory>(tables: &mut Tables, places: &Places, place: usize, mem: &mut M, rd: Reg, ra: Reg) -> Told
+pub(crate) fn map<M: Memory>(
+    tables: &mut Tables,
+    places: &Places,
+    place: usize,
+    mem: &mut M,
+    rd: Reg,
+    ra: Reg,
+) -> Told
     requires can { CanTurn tables.old places.now place }
     ensures { Executes M.meaning M.uses M.stands tables.old (slot_in tables.old place) (Instr.Map rd ra) mem.old mem.new tables.new result }
 {
@@ -68,7 +95,14 @@ pub(crate) fn map<M: Memory>(tables: &mut Tables, places: &Places, place: usize,
 }
 
 /// `unmap`: a page is removed, and a register tells whether.
-pub(crate) fn unmap<M: Memory>(tables: &mut Tables, places: &Places, place: usize, mem: &mut M, rd: Reg, ra: Reg) -> Told
+pub(crate) fn unmap<M: Memory>(
+    tables: &mut Tables,
+    places: &Places,
+    place: usize,
+    mem: &mut M,
+    rd: Reg,
+    ra: Reg,
+) -> Told
     requires can { CanTurn tables.old places.now place }
     ensures { Executes M.meaning M.uses M.stands tables.old (slot_in tables.old place) (Instr.Unmap rd ra) mem.old mem.new tables.new result }
 {

@@ -19,7 +19,12 @@ use mm_model::{SlotState, Step, Tick};
 use mm_word::{Access, Cause, Kind, Word, check};
 
 /// The turn of the running slot at a place.
-pub(crate) fn start<M: Memory>(tables: &mut Tables, places: &Places, place: usize, mem: &mut M) -> Step
+pub(crate) fn start<M: Memory>(
+    tables: &mut Tables,
+    places: &Places,
+    place: usize,
+    mem: &mut M,
+) -> Step
     requires can { CanTurn tables.old places.now place }
     requires room { M.uses mem.old < 2 ^ 61 }
     ensures { Gives M.meaning M.uses M.stands (started tables.old (M.meaning mem.old) (slot_in tables.old place)) mem.old mem.new tables.new result }
@@ -29,7 +34,14 @@ pub(crate) fn start<M: Memory>(tables: &mut Tables, places: &Places, place: usiz
     let past = slot.past;
     let ip = slot.ip;
     if past {
-        let tick = fault(tables, places, place, Cause::Bounds, Word::Int(0), Word::Int(0));
+        let tick = fault(
+            tables,
+            places,
+            place,
+            Cause::Bounds,
+            Word::Int(0),
+            Word::Int(0),
+        );
         return step(tick, number, None, None);
     }
     match check(Word::Ptr(ip), 0, Kind::Fetch) {
@@ -42,7 +54,13 @@ pub(crate) fn start<M: Memory>(tables: &mut Tables, places: &Places, place: usiz
 }
 
 // From the fetch on.
-fn fetch<M: Memory>(tables: &mut Tables, places: &Places, place: usize, mem: &mut M, access: Access) -> Step
+fn fetch<M: Memory>(
+    tables: &mut Tables,
+    places: &Places,
+    place: usize,
+    mem: &mut M,
+    access: Access,
+) -> Step
     requires can { CanTurn tables.old places.now place }
     requires room { M.uses mem.old < 2 ^ 61 }
     requires kind { access.kind ≡ Kind.Fetch }
@@ -50,12 +68,26 @@ fn fetch<M: Memory>(tables: &mut Tables, places: &Places, place: usize, mem: &mu
 {
     let number = tables.slot(place).number;
     let Some(word) = mem.fetch(&access) else {
-        let tick = fault(tables, places, place, Cause::NoPage, Word::Int(0), Word::Int(0));
+        let tick = fault(
+            tables,
+            places,
+            place,
+            Cause::NoPage,
+            Word::Int(0),
+            Word::Int(0),
+        );
         return step(tick, number, Some(access), None);
     };
     match instr_in(word) {
         None => {
-            let tick = fault(tables, places, place, Cause::Illegal, Word::Int(0), Word::Int(0));
+            let tick = fault(
+                tables,
+                places,
+                place,
+                Cause::Illegal,
+                Word::Int(0),
+                Word::Int(0),
+            );
             step(tick, number, Some(access), None)
         }
         Some(instr) => issue(tables, places, place, mem, access, instr),
@@ -73,7 +105,14 @@ fn instr_in(word: Word) -> Option<Instr>
 }
 
 // From the instruction on.
-fn issue<M: Memory>(tables: &mut Tables, places: &Places, place: usize, mem: &mut M, access: Access, instr: Instr) -> Step
+fn issue<M: Memory>(
+    tables: &mut Tables,
+    places: &Places,
+    place: usize,
+    mem: &mut M,
+    access: Access,
+    instr: Instr,
+) -> Step
     requires can { CanTurn tables.old places.now place }
     requires room { M.uses mem.old < 2 ^ 62 }
     ensures { (before : M) (u : Use) → TakesUses M.stands before mem.old (u ∷ []) → M.meaning mem.old ≡ M.meaning before → M.uses mem.old ≡ M.uses before + accesses (u ∷ []) →
@@ -98,7 +137,15 @@ fn must_wait(tables: &Tables, place: usize, instr: &Instr) -> bool
 }
 
 // The end of a turn: a slot that waits stands where it is, and one that faults goes to its handler.
-fn end(tables: &mut Tables, places: &Places, place: usize, number: u8, instr: &Instr, access: Access, told: Told) -> Step
+fn end(
+    tables: &mut Tables,
+    places: &Places,
+    place: usize,
+    number: u8,
+    instr: &Instr,
+    access: Access,
+    told: Told,
+) -> Step
     requires { CanEnd told.outcome tables.old places.now place }
     ensures core { tables.new ≡ core_ended instr.now tables.old (slot_in tables.old place) place told.outcome }
     ensures step { result ≡ step_ended number (slot_in tables.old place) access told.touched told.outcome }

@@ -1,8 +1,7 @@
-use Rattle.std.proofs.Common.{◌≡◌, ℤ, pos, ap, sym, ◌∙◌, arith, rules}
+use Rattle.std.proofs.Common.{◌≡◌, pos, ap, ◌∙◌, arith, rules}
 use Rattle.std.specs.Prelude.{◌*ℤ◌, FitsSigned}
 use Rattle.std.specs.Int.{w32, w64}
 use Rattle.std.proofs.lemmas.Int.{to_z-of_z, ints}
-use Rattle.mm_word.specs.Pointer.{lea_result}
 use Rattle.mm_model.specs.Slot.{Slot}
 use Rattle.mm_model.specs.Effect.{at_distance}
 use Rattle.mm_thread.proofs.Pointers.{lea_result-code}

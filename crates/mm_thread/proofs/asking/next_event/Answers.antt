@@ -1,4 +1,4 @@
-use Rattle.std.proofs.Common.{◌≡◌, [], ◌∷◌, ◌++◌, drop, List, ap, sym, ◌∙◌}
+use Rattle.std.proofs.Common.{◌≡◌, drop, List, ap, sym, ◌∙◌}
 use Rattle.std.specs.Prelude.{slice_get}
 use Rattle.mm_model.specs.declared.slot.SlotState.TheVariants.{Taken}
 use Rattle.mm_model.specs.declared.event.Event.{Event}

@@ -1,4 +1,4 @@
-use Rattle.std.proofs.Common.{◌≡◌, ◌+◌, ◌%◌, ◌<◌, ◌≤◌, ℕ, ltb, cond, eqb, true, false, List, [], ◌∷◌, ◌++◌, length, refl, sym, ap, ◌∙◌, arith, ltb-true}
+use Rattle.std.proofs.Common.{◌≡◌, ◌%◌, ◌≤◌, ℕ, ltb, cond, eqb, true, false, [], ◌∷◌, ◌++◌, length, sym, ap, ◌∙◌, arith, ltb-true}
 use Rattle.mm_word.specs.Word.{word_bits}
 use Rattle.mm_model.specs.Slot.{Slot, register}
 use Rattle.mm_model.specs.State.{Core, output_of, put_output}
@@ -44,16 +44,16 @@ returns-then-has_room c = λ m.
     let same = c.slot.view_is ∙ c.slot-slot.ensures in
     let group : c.slot.inside.group ≡ s.group = ap (λ (x : Slot). x.group) same in
     let byte : c.bits.result % 256 ≡ word_bits (register s c.args.ra) % 256 =
-        ap (λ (n : ℕ). n % 256) (c.bits.ensures.value ∙ ap word_bits (c.word_of.ensures ∙ ap (λ (x : Slot). register x c.args.ra) c.slot-slot.ensures))
+    ap (λ (n : ℕ). n % 256) (c.bits.ensures.value ∙ ap word_bits (c.word_of.ensures ∙ ap (λ (x : Slot). register x c.args.ra) c.slot-slot.ensures))
     in
     let gone : Core = with_slot t p (slot_after s (plain s)) in
     let put : ℕ → ℕ → Core = λ g b. put_output gone g (output_of t g ++ b ∷ []) in
     leaves_at t m s _ (put s.group (word_bits (register s c.args.ra) % 256)) c.put_byte.new.self _
     (room_left t c.args.places.now r.index p r.within m c.args.ra (ap (λ (g : ℕ). ltb (length (output_of t g)) (output_limit t.version)) (sym group) ∙ sym c.has_room.ensures ∙ c.if-has_room.true))
     (c.put_byte.ensures
-        ∙ ap (λ (k : Core). put_output k c.slot.inside.group (output_of k c.slot.inside.group ++ (c.bits.result % 256) ∷ [])) c.advance.ensures
-        ∙ ap (λ (g : ℕ). put g (c.bits.result % 256)) group
-        ∙ ap (put s.group) byte)
+    ∙ ap (λ (k : Core). put_output k c.slot.inside.group (output_of k c.slot.inside.group ++ (c.bits.result % 256) ∷ [])) c.advance.ensures
+    ∙ ap (λ (g : ℕ). put g (c.bits.result % 256)) group
+    ∙ ap (put s.group) byte)
 
 pub returns-else-has_room : goal.returns-else-has_room
 returns-else-has_room c = λ m.

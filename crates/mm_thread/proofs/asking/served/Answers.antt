@@ -1,11 +1,11 @@
-use Rattle.std.proofs.Common.{◌≡◌, ℕ, true, false, Some, None, Option, refl, sym, ap, ◌∙◌}
+use Rattle.std.proofs.Common.{◌≡◌, ℕ, sym, ap, ◌∙◌}
 use Rattle.mm_word.specs.Word.{word_bits}
 use Rattle.mm_model.specs.Slot.{Slot, register}
 use Rattle.mm_model.specs.State.{slot_at}
-use Rattle.mm_model.specs.Turn.{is_handler, is_taken, served}
+use Rattle.mm_model.specs.Turn.{is_handler, is_taken}
 use Rattle.mm_thread.specs.Places.{slot_in}
 use Rattle.mm_thread.proofs.Index.{slot_found}
-use Rattle.mm_thread.proofs.Around.{served-is, served-unhandled, served-untaken, served-none, taken_differs}
+use Rattle.mm_thread.proofs.Around.{served-is, served-unhandled, served-untaken}
 use Rattle.mm_thread.proofs.asking.served.Goals as goal
 use Rattle.mm_thread.proofs.asking.served.Goals.{else-is_handled_by-via-then-is_handled_by+else-is_taken, else-is_handled_by-via-else-is_handled_by}
 

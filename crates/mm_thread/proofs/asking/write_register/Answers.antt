@@ -1,4 +1,4 @@
-use Rattle.std.proofs.Common.{◌≡◌, set, sym, ap, ◌∙◌}
+use Rattle.std.proofs.Common.{set, sym, ap, ◌∙◌}
 use Rattle.mm_word.specs.declared.word.Word.{Word}
 use Rattle.mm_model.specs.Slot.{Slot, register}
 use Rattle.mm_model.specs.Effect.{plain, delivered}

@@ -1,4 +1,4 @@
-use Rattle.std.proofs.Common.{◌≡◌, ◌+◌, ℕ, List, [], ◌++◌, replicate, set, drop, sym, ap, ◌∙◌, arith}
+use Rattle.std.proofs.Common.{ℕ, List, [], set, ap, ◌∙◌, arith}
 use Rattle.mm_model.specs.State.{Core}
 use Rattle.mm_thread.proofs.Assigned.{nothing_more}
 use Rattle.mm_thread.proofs.assigning.clear_outputs.Goals as goal

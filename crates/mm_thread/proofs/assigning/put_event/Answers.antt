@@ -1,4 +1,4 @@
-use Rattle.std.proofs.Common.{◌≡◌, ◌≢◌, ◌<◌, ℕ, [], ◌∷◌, ◌++◌, ◌∙◌, arith}
+use Rattle.std.proofs.Common.{[], ◌∷◌, ◌++◌, ◌∙◌, arith}
 use Rattle.mm_model.specs.State.{queue_at}
 use Rattle.mm_thread.proofs.Index.{number_there, none_past}
 use Rattle.mm_thread.proofs.Placing.{number_at-small}

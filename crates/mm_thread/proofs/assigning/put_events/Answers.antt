@@ -1,4 +1,4 @@
-use Rattle.std.proofs.Common.{◌≡◌, ◌≤◌, ◌<◌, ◌+◌, ℕ, List, [], ◌∷◌, ◌++◌, map, take, drop, length, get_or, sym, ap, subst, ◌∙◌, arith}
+use Rattle.std.proofs.Common.{◌≡◌, ◌≤◌, ◌<◌, ◌+◌, ℕ, List, [], ◌∷◌, ◌++◌, map, take, drop, length, sym, ap, subst, ◌∙◌, arith}
 use Rattle.std.specs.Prelude.{IfSome}
 use Rattle.std.specs.List.{AllByRecursion}
 use Rattle.std.proofs.lemmas.List.{take_more, take-append-drop}
@@ -7,7 +7,7 @@ use Rattle.mm_model.specs.Slot.{Slot}
 use Rattle.mm_model.specs.State.{Core, Row, row_in, queue_at, put_queue}
 use Rattle.mm_model.specs.Spelling.{numbers_of}
 use Rattle.mm_model.specs.Fits.{slots_of}
-use Rattle.mm_thread.specs.Places.{IsIndex, numbers_in}
+use Rattle.mm_thread.specs.Places.{IsIndex}
 use Rattle.mm_thread.specs.Parts.{events_for, row_with}
 use Rattle.mm_thread.proofs.Assigned.{event_more, event_room, slots-with}
 use Rattle.mm_thread.proofs.assigning.put_events.Goals as goal

@@ -1,4 +1,4 @@
-use Rattle.std.proofs.Common.{◌≡◌, ◌<◌, ◌++◌, [], ◌∷◌, ℕ, length, arith, sym, ap, ◌∙◌}
+use Rattle.std.proofs.Common.{◌++◌, [], ◌∷◌, length, arith, sym, ap, ◌∙◌}
 use Rattle.mm_model.specs.declared.slot.SlotState.TheVariants.{Waiting}
 use Rattle.mm_model.specs.State.{Core, slot_at}
 use Rattle.mm_model.specs.Turn.{stood}

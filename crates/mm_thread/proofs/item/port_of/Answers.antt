@@ -1,4 +1,4 @@
-use Rattle.std.proofs.Common.{◌≡◌, ◌<◌, ℕ, ◌-◌, Some, length, ap, sym, ◌∙◌, arith}
+use Rattle.std.proofs.Common.{◌≡◌, ◌<◌, Some, length, ap, sym, ◌∙◌, arith}
 use Rattle.mm_model.specs.State.{slot_at}
 use Rattle.mm_model.specs.Turn.{port_of}
 use Rattle.mm_thread.specs.Places.{slot_in}

@@ -1,7 +1,6 @@
 use Rattle.std.proofs.Common.{◌≡◌, ap, sym, ◌∙◌}
 use Rattle.mm_model.specs.Slot.{Slot}
-use Rattle.mm_model.specs.declared.step.Tick.{Tick}
-use Rattle.mm_thread.specs.Places.{slot_in, first_register}
+use Rattle.mm_thread.specs.Places.{slot_in}
 use Rattle.mm_thread.proofs.Cores.{own, registers_small}
 use Rattle.mm_thread.proofs.Items.{port_idles, port_delivers, arrival, step_of}
 use Rattle.mm_thread.proofs.item.take_port.Goals as goal

@@ -1,4 +1,4 @@
-use Rattle.std.proofs.Common.{◌≡◌, ℕ, ◌+◌, set, replicate, slice_index, sym, ap, ◌∙◌, arith, subst, List}
+use Rattle.std.proofs.Common.{◌≡◌, ℕ, ◌+◌, set, sym, ap, ◌∙◌, arith, subst}
 use Rattle.mm_model.specs.Slot.{Slot}
 use Rattle.mm_thread.specs.Places.{slot_in, numbers_in}
 use Rattle.mm_thread.proofs.Index.{length-numbers, number-get}

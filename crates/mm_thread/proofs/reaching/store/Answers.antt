@@ -1,28 +1,25 @@
-use Rattle.std.proofs.Common.{◌≡◌, ℕ, ◌+◌, Bool, true, false, [], ◌∷◌, Some, None, Ok, Err, Result, refl, sym, ap, ◌∙◌, rules, arith}
+use Rattle.std.proofs.Common.{◌≡◌, ℕ, ◌+◌, Result, refl, sym, ap, ◌∙◌, rules, arith}
 use Rattle.std.specs.Prelude.{FitsSigned}
 use Rattle.std.specs.Int.{w32}
 use Rattle.std.proofs.lemmas.Int.{to_z-of_z}
 use Rattle.mm_word.specs.declared.cause.Cause.{Cause}
 use Rattle.mm_word.specs.declared.word.Word.{Word}
-use Rattle.mm_word.specs.declared.word.Word.TheVariants.{Int}
 use Rattle.mm_word.specs.Access.{Touch}
-use Rattle.mm_isa.specs.declared.instr.Instr.TheVariants.{St, Map, Unmap}
-use Rattle.mm_model.specs.Memory.{Memory, cell_at, can_map, is_mapped, map_page, unmap_page}
+use Rattle.mm_isa.specs.declared.instr.Instr.TheVariants.{St}
+use Rattle.mm_model.specs.Memory.{Memory, cell_at}
 use Rattle.mm_model.specs.Slot.{Slot, register}
-use Rattle.mm_model.specs.State.{Core}
-use Rattle.mm_model.specs.Ask.{Ask, ask, reaching}
-use Rattle.mm_model.specs.Ask.Ask.{Refuse, Reach, MapPage, UnmapPage}
-use Rattle.mm_model.specs.Effect.{effect, plain, test}
-use Rattle.mm_model.specs.Turn.{reply, slot_after}
+use Rattle.mm_model.specs.Ask.{ask, reaching}
+use Rattle.mm_model.specs.Ask.Ask.{Refuse, Reach}
+use Rattle.mm_model.specs.Effect.{effect}
+use Rattle.mm_model.specs.Turn.{reply}
 use Rattle.mm_model.specs.Uses.{takes_none}
-use Rattle.mm_thread.specs.Places.{slot_in, with_slot}
-use Rattle.mm_thread.specs.Left.{core_stored, outcome_stored, page_named}
-use Rattle.mm_thread.specs.declared.outcome.Outcome.TheVariants.{Goes}
+use Rattle.mm_thread.specs.Places.{slot_in}
+use Rattle.mm_thread.specs.Left.{core_stored, outcome_stored}
 use Rattle.mm_thread.specs.declared.outcome.Told.{Told}
 use Rattle.mm_mem.specs.Answers.{stored, put_where}
 use Rattle.mm_word.specs.declared.word.Cell.{Cell}
 use Rattle.mm_model.specs.Memory.{full_after}
-use Rattle.mm_thread.proofs.Accesses.{executes_by, store_leaves, map_leaves, unmap_leaves, leaves_all, one_access, no_access, page_ask, page_asked-named}
+use Rattle.mm_thread.proofs.Accesses.{executes_by, store_leaves, leaves_all, one_access}
 use Rattle.mm_thread.proofs.reaching.store.Goals as goal
 
 pub returns-in-Err : goal.returns-in-Err
@@ -54,10 +51,10 @@ returns-in-Ok g c =
     executes_by g.M.Memory.meaning g.M.Memory.uses g.M.Memory.stands t s (St a.ra a.rb a.pre a.post a.imm) a.mem.now c.store-stored.new.self c.finish_store-outcome.new.tables c.touching.result (Reach access a.pre)
     (ap (λ (x : Result Touch Cause). reaching x a.pre) (sym checked))
     (leaves_all t m s _ (core_stored t a.place (stored a.pre (cell_at m access.addr))) _ (outcome_stored (stored a.pre (cell_at m access.addr)))
-        c.finish_store-outcome.new.tables (g.M.Memory.meaning c.store-stored.new.self) c.touching.result.outcome
-        (store_leaves t a.places.now r.index a.place r.within m access (register s a.rb) a.pre a.post (cell_at m access.addr))
-        (c.finish_store-outcome.ensures.core ∙ ap (core_stored t a.place) answer)
-        (c.store-stored.ensures.after ∙ ap (λ (w : Word). put_where m access.addr a.pre (cell_at m access.addr) (λ (x : Cell). record { word = w; full = full_after a.post x.full })) word)
-        (ap (λ (x : Told). x.outcome) c.touching.ensures ∙ c.finish_store-outcome.ensures.outcome ∙ ap outcome_stored answer))
+    c.finish_store-outcome.new.tables (g.M.Memory.meaning c.store-stored.new.self) c.touching.result.outcome
+    (store_leaves t a.places.now r.index a.place r.within m access (register s a.rb) a.pre a.post (cell_at m access.addr))
+    (c.finish_store-outcome.ensures.core ∙ ap (core_stored t a.place) answer)
+    (c.store-stored.ensures.after ∙ ap (λ (w : Word). put_where m access.addr a.pre (cell_at m access.addr) (λ (x : Cell). record { word = w; full = full_after a.post x.full })) word)
+    (ap (λ (x : Told). x.outcome) c.touching.ensures ∙ c.finish_store-outcome.ensures.outcome ∙ ap outcome_stored answer))
     (ap (λ (x : Told). x.touched) c.touching.ensures) c.store-stored.ensures.takes
     (c.store-stored.ensures.count ∙ ap (λ (n : ℕ). g.M.Memory.uses a.mem.now + n) (sym (one_access access a.pre (cell_at m access.addr))))

@@ -1,4 +1,4 @@
-use Rattle.std.proofs.Common.{◌≡◌, ℕ, ◌+◌, ◌*◌, ◌%◌, ◌^◌, ◌<◌, true, false, bit_or, sym, ap, subst, ◌∙◌, arith}
+use Rattle.std.proofs.Common.{◌≡◌, ℕ, ◌+◌, ◌*◌, ◌%◌, ◌^◌, bit_or, sym, ap, subst, ◌∙◌, arith}
 use Rattle.mm_model.specs.Slot.{Slot}
 use Rattle.mm_model.specs.Turn.{is_running}
 use Rattle.mm_thread.specs.Places.{slot_in}

@@ -1,15 +1,11 @@
-use Rattle.std.proofs.Common.{◌≡◌, ℕ, ◌+◌, List, [], ◌∷◌, true, false, Some, None, Option, sym, ap, subst, ◌∙◌, refl}
+use Rattle.std.proofs.Common.{◌≡◌, [], ◌∷◌, true, false, Some, None, sym, ap, ◌∙◌}
 use Rattle.mm_word.specs.declared.cause.Cause.TheVariants.{NoPage, Illegal}
-use Rattle.mm_word.specs.declared.word.Word.{Word}
 use Rattle.mm_word.specs.declared.word.Word.TheVariants.{Int}
-use Rattle.mm_word.specs.declared.word.Cell.{Cell}
-use Rattle.mm_isa.specs.declared.instr.Instr.{Instr}
 use Rattle.mm_model.specs.Slot.{Slot}
 use Rattle.mm_model.specs.Memory.{Memory, cell_at}
-use Rattle.mm_model.specs.Uses.{Use, Accessed, TakesUses, accesses}
-use Rattle.mm_model.specs.Turn.{Turned, fetched, decoded, instr_in}
+use Rattle.mm_model.specs.Uses.{Accessed}
+use Rattle.mm_model.specs.Turn.{instr_in}
 use Rattle.mm_thread.specs.Places.{slot_in}
-use Rattle.mm_thread.specs.Left.{Gives}
 use Rattle.mm_thread.proofs.Turns.{faults_give, fetched-none, fetched-some}
 use Rattle.mm_thread.proofs.running.fetch.Goals as goal
 

@@ -1,4 +1,4 @@
-use Rattle.std.proofs.Common.{◌≡◌, ℕ, true, false, Some, None, sym, ap, ◌∙◌}
+use Rattle.std.proofs.Common.{ℕ, sym, ap, ◌∙◌}
 use Rattle.mm_model.specs.Slot.{Slot}
 use Rattle.mm_thread.specs.Places.{slot_in}
 use Rattle.mm_thread.specs.Left.{step_ended}

@@ -1,13 +1,10 @@
-use Rattle.std.proofs.Common.{◌≡◌, List, [], true, false, Some, None, Ok, Err, Result, sym, ap, ◌∙◌, refl, arith, pos}
-use Rattle.mm_word.specs.declared.cause.Cause.{Cause}
+use Rattle.std.proofs.Common.{◌≡◌, [], true, false, None, Ok, Err, sym, ap, ◌∙◌, refl, arith, pos}
 use Rattle.mm_word.specs.declared.cause.Cause.TheVariants.{Bounds}
 use Rattle.mm_word.specs.declared.perm.Kind.TheVariants.{Fetch}
 use Rattle.mm_word.specs.declared.word.Word.TheVariants.{Int, Ptr}
-use Rattle.mm_word.specs.Access.{Touch, check_result}
+use Rattle.mm_word.specs.Access.{check_result}
 use Rattle.mm_model.specs.Slot.{Slot}
-use Rattle.mm_model.specs.Memory.{Memory}
 use Rattle.mm_model.specs.Uses.{takes_none}
-use Rattle.mm_model.specs.Turn.{started}
 use Rattle.mm_thread.specs.Places.{slot_in}
 use Rattle.mm_thread.proofs.Turns.{faults_give, starts_past, starts_unfetched, starts_fetched}
 use Rattle.mm_thread.proofs.running.start.Goals as goal

@@ -1,5 +1,4 @@
-use Rattle.std.proofs.Common.{◌≡◌, sym, ap, ◌∙◌}
-use Rattle.mm_model.specs.declared.step.Step.{Step}
+use Rattle.std.proofs.Common.{sym, ap, ◌∙◌}
 use Rattle.mm_model.specs.State.{Core}
 use Rattle.mm_model.specs.Turn.{turn}
 use Rattle.mm_thread.specs.Told.{accesses_told}

@@ -1,7 +1,7 @@
 use Rattle.std.proofs.Common.{◌≡◌, ◌<◌, ◌≤◌, ℕ, List, [], map, replicate, sym, ap, subst, ◌∙◌}
 use Rattle.std.specs.List.{AllByRecursion}
 use Rattle.mm_model.specs.Slot.{Slot}
-use Rattle.mm_model.specs.State.{Core, Row}
+use Rattle.mm_model.specs.State.{Core}
 use Rattle.mm_model.specs.Spelling.{numbers_of}
 use Rattle.mm_model.specs.Fits.{slots_of}
 use Rattle.mm_thread.specs.Places.{row_alone, numbers_in, IsIndex}

@@ -1,4 +1,4 @@
-use Rattle.std.proofs.Common.{◌≡◌, ap, ◌∙◌, sym}
+use Rattle.std.proofs.Common.{ap}
 use Rattle.mm_model.specs.State.{Core}
 use Rattle.mm_model.specs.Fits.{IsCore}
 use Rattle.mm_thread.proofs.Fresh.{fresh_core, small_numbers}

@@ -1,4 +1,4 @@
-use Rattle.std.proofs.Common.{◌≡◌, length, sym, ap, ◌∙◌, arith}
+use Rattle.std.proofs.Common.{sym, ap, ◌∙◌, arith}
 use Rattle.mm_model.specs.State.{Core, output_of}
 use Rattle.mm_thread.proofs.Sound.{output-past}
 use Rattle.mm_thread.proofs.state.Core.output.Goals as goal

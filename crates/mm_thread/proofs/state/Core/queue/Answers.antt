@@ -1,4 +1,4 @@
-use Rattle.std.proofs.Common.{◌≡◌, sym, ap, ◌∙◌}
+use Rattle.std.proofs.Common.{sym, ap, ◌∙◌}
 use Rattle.mm_model.specs.State.{Core, slot_at, queue_at}
 use Rattle.mm_thread.proofs.Index.{queue_found}
 use Rattle.mm_thread.proofs.Sound.{queue-none}

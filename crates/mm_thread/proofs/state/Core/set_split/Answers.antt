@@ -1,4 +1,3 @@
-use Rattle.std.proofs.Common.{[]}
 use Rattle.mm_thread.proofs.Sound.{split_sound}
 use Rattle.mm_thread.proofs.state.Core.set_split.Goals as goal
 
