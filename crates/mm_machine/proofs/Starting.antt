@@ -58,8 +58,8 @@ Within limit s = (s.number < limit) × (s.group < limit)
 pub within : (i : Image) (core : Core) (version : ℕ) → IsImage i → core.rows ≡ map row_alone i.slots → version ≡ i.version → AllByRecursion (Within (slot_limit version)) (slots_of core)
 within i core version h rows is =
     subst (λ (v : ℕ). AllByRecursion (Within (slot_limit v)) (slots_of core)) (sym is)
-        (subst (λ (slots : List Slot). AllByRecursion (Within (slot_limit i.version)) slots) (sym (slots_made i core rows))
-            (each (λ s f. (f.number, f.group)) i.slots h.fresh))
+    (subst (λ (slots : List Slot). AllByRecursion (Within (slot_limit i.version)) slots) (sym (slots_made i core rows))
+    (each (λ s f. (f.number, f.group)) i.slots h.fresh))
 
 pub none_pending : (i : Image) (core : Core) → IsImage i → core.rows ≡ map row_alone i.slots → AllByRecursion (λ (s : Slot). s.pending ≡ []) (slots_of core)
 none_pending i core h rows =

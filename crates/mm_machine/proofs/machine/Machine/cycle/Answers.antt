@@ -27,7 +27,7 @@ returns-clause-runs g c i items h =
     let old : State = state_of c.args.self.now in
     let Stands : List Use → Type 0 = λ us. g.M.Memory.stands c.turn.new.mem us in
     let made : uses (start i) items ++ (turn_of old c.args.item).uses ≡ uses (start i) (items ++ c.args.item ∷ []) =
-        ap (λ (s : State). uses (start i) items ++ (turn_of s c.args.item).uses) h.state ∙ sym (uses_more (start i) items c.args.item) in
+    ap (λ (s : State). uses (start i) items ++ (turn_of s c.args.item).uses) h.state ∙ sym (uses_more (start i) items c.args.item) in
     record {
       state =
           state_made old c.args.item c.turn.new.core (g.M.Memory.meaning c.turn.new.mem) c.turn.ensures.core c.turn.ensures.memory

@@ -27,20 +27,20 @@ set_version-requires-clause-silent g c = no_output c.in_ok-core.core.outputs c.i
 pub set_split-requires : goal.set_split-requires
 set_split-requires g c =
     none_pending c.args.img.now c.set_version.new.self c.slots.ensures.image
-        (versioned_rows c.in_ok-core.core c.set_version.new.self c.version.result c.set_version.ensures
-            ∙ rows_made c.args.img.now c.in_ok-core.core c.slots.result.now c.in_ok-core.ensures.rows c.slots.ensures.slots)
+    (versioned_rows c.in_ok-core.core c.set_version.new.self c.version.result c.set_version.ensures
+    ∙ rows_made c.args.img.now c.in_ok-core.core c.slots.result.now c.in_ok-core.ensures.rows c.slots.ensures.slots)
 
 pub returns-clause-state : goal.returns-clause-state
 returns-clause-state g c =
     start_made c.args.img.now c.in_ok-core.core c.set_version.new.self c.set_split.new.self c.version.result c.split.result (g.M.Memory.meaning c.args.mem)
-        (rows_made c.args.img.now c.in_ok-core.core c.slots.result.now c.in_ok-core.ensures.rows c.slots.ensures.slots) c.in_ok-core.ensures.outputs
-        c.set_version.ensures c.set_split.ensures c.version.ensures.version c.split.ensures.split c.requires.memory
+    (rows_made c.args.img.now c.in_ok-core.core c.slots.result.now c.in_ok-core.ensures.rows c.slots.ensures.slots) c.in_ok-core.ensures.outputs
+    c.set_version.ensures c.set_split.ensures c.version.ensures.version c.split.ensures.split c.requires.memory
 
 pub invariant_of-result : goal.invariant_of-result
 invariant_of-result g c =
     let is : record { core = c.set_split.new.self; memory = g.M.Memory.meaning c.args.mem; cycles = 0 } ≡ start c.args.img.now = start_made c.args.img.now c.in_ok-core.core c.set_version.new.self c.set_split.new.self c.version.result c.split.result (g.M.Memory.meaning c.args.mem)
-        (rows_made c.args.img.now c.in_ok-core.core c.slots.result.now c.in_ok-core.ensures.rows c.slots.ensures.slots) c.in_ok-core.ensures.outputs
-        c.set_version.ensures c.set_split.ensures c.version.ensures.version c.split.ensures.split c.requires.memory in
+    (rows_made c.args.img.now c.in_ok-core.core c.slots.result.now c.in_ok-core.ensures.rows c.slots.ensures.slots) c.in_ok-core.ensures.outputs
+    c.set_version.ensures c.set_split.ensures c.version.ensures.version c.split.ensures.split c.requires.memory in
     let none : g.M.Memory.uses c.args.mem ≡ 0 = g.M.Memory.counted c.args.mem [] c.requires.unused in
     record {
       kept = ∣ subst Kept (sym is) (kept_start c.args.img.now c.slots.ensures.image) ∣₁;
@@ -52,7 +52,7 @@ pub returns-clause-stands : goal.returns-clause-stands
 unfolding run uses
 returns-clause-stands g c = record {
   state = start_made c.args.img.now c.in_ok-core.core c.set_version.new.self c.set_split.new.self c.version.result c.split.result (g.M.Memory.meaning c.args.mem)
-        (rows_made c.args.img.now c.in_ok-core.core c.slots.result.now c.in_ok-core.ensures.rows c.slots.ensures.slots) c.in_ok-core.ensures.outputs
-        c.set_version.ensures c.set_split.ensures c.version.ensures.version c.split.ensures.split c.requires.memory;
+      (rows_made c.args.img.now c.in_ok-core.core c.slots.result.now c.in_ok-core.ensures.rows c.slots.ensures.slots) c.in_ok-core.ensures.outputs
+      c.set_version.ensures c.set_split.ensures c.version.ensures.version c.split.ensures.split c.requires.memory;
   uses_made = c.requires.unused;
 }
