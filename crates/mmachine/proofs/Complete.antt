@@ -1,5 +1,5 @@
 -- Where nothing fails, a command is done or memory ran out.
-use Rattle.std.proofs.Common.{◌≡◌, ℕ, ◌<◌, ◌≤◌, ◌^◌, ◌⊎◌, inl, inr, List, [], ◌∷◌, length, Bool, true, false, Option, None, Some, decimal, refl, sym, ap, ◌∙◌, subst, arith}
+use Rattle.std.proofs.Common.{◌≡◌, ℕ, ◌≤◌, ◌⊎◌, inl, inr, List, length, true, false, Option, None, Some, decimal, refl, sym, ap, ◌∙◌, subst, arith}
 use Rattle.std.specs.Option.{IsSome}
 use Rattle.std.proofs.lemmas.Fmt.{decimal_injective}
 use Rattle.mm_model.specs.declared.counts.Counts.{Counts}
@@ -7,7 +7,7 @@ use Rattle.mm_model.specs.Uses.{Use}
 use Rattle.mm_model.specs.Image.{Image}
 use Rattle.mm_model.specs.Spelling.{Spells}
 use Rattle.mm_model.specs.ImageFaults.{image_fault}
-use Rattle.mm_model.specs.Schedule.{Means, FaultsAt}
+use Rattle.mm_model.specs.Schedule.{FaultsAt}
 use Rattle.mm_image.proofs.Whole.{image_fault-read}
 use Rattle.mm_image.proofs.SpelledImage.{spelled_clean}
 use Rattle.mm_sched.proofs.Texts.{never_both}
@@ -50,7 +50,7 @@ one_row words (run i n (Some s)) (run j m None) (is, few) (other, fewer) =
 no_fault : (bytes : List ℕ) (i : Image) → Spells bytes i → image_fault bytes ≡ None
 no_fault bytes i s = image_fault-read bytes ∙ spelled_clean bytes i s.image s.spelled
 
-image_once : (told : Option (List ℕ)) (r : Refusal) (i : Image) → IsSome told → ImageRefused told r → ImageAccepted told i → ⊥
+pub image_once : (told : Option (List ℕ)) (r : Refusal) (i : Image) → IsSome told → ImageRefused told r → ImageAccepted told i → ⊥
 image_once None r i told refused accepted = let clash : false ≡ true = told in absurd (cc)
 image_once (Some bytes) (refusal.TooLong file) i told (first, (longer, is, long)) (short, same, few, spells) = omega (arith, ap length is, ap length same)
 image_once (Some bytes) (refusal.Image file fault offset) i told (first, (wrong, is, few, faults)) (right, same, fewer, spells) =
@@ -67,7 +67,7 @@ schedule_once (Some bytes) (refusal.Image file fault offset) list told refused a
 
 -- 3. A row whose files are told is not both refused and done.
 
-row_once : (tells : List Use → Option Counts) (held : List ℕ → Option (List ℕ)) (row : Row) (r : Refusal) (text : List ℕ) → AllTold held row
+pub row_once : (tells : List Use → Option Counts) (held : List ℕ → Option (List ℕ)) (row : Row) (r : Refusal) (text : List ℕ) → AllTold held row
     → Gives tells held row (refuse r) → Gives tells held row (write text) → ⊥
 row_once tells held (run image cycles None) r text told refused (i, items, accepted, issues, is) = image_once (held image) r i told refused accepted
 row_once tells held (run image cycles (Some schedule)) r text told (inl refused) (i, items, accepted, issues, is) = image_once (held image) r i told.0 refused accepted

@@ -1,5 +1,5 @@
 -- The answer of a command that runs an image.
-use Rattle.std.proofs.Common.{◌≡◌, ℕ, List, [], Option, None, Some, Result, Ok, Err, refl, sym, ap, ◌∙◌}
+use Rattle.std.proofs.Common.{◌≡◌, ℕ, List, [], Option, None, Some, Result, Ok, Err, refl, ap, ◌∙◌}
 use Rattle.std.specs.Result.{IsErrAnd}
 use Rattle.mm_io.specs.Sinks.{Writes}
 use Rattle.mm_io.proofs.Known.{writes_same}

@@ -96,6 +96,20 @@ pub record NothingFails (tells : List Use → Option Counts) (held : List ℕ �
   pub read : ¬ FileFailed held before now row
   pub written : ¬ Rose out_before out_now
 
+-- A refusal that has to come: the words are in a row, its files are told and come to it.
+pub record HasToRefuse (tells : List Use → Option Counts) (held : List ℕ → Option (List ℕ)) (words : List (List ℕ)) (r : Refusal) : Type 0 where
+  pub row : Row
+  pub asks : Asks words row
+  pub told : AllTold held row
+  pub gives : Gives tells held row (refuse r)
+
+-- the answer is this refusal, unless a read failed or memory ran out
+abbrev pub RefusedUnless : Refusal → Status → Type 0
+RefusedUnless r (Refused q) = q ≡ r
+RefusedUnless r ReadFault = ⊤
+RefusedUnless r NoMemory = ⊤
+RefusedUnless r _ = ⊥
+
 -- 3. What the parts of the program answer.
 
 -- What an answer to a row says, of its outcome, its files and the sink.

@@ -1,6 +1,5 @@
 -- In which order cycles are issued.
 use Rattle.std.specs.Prelude.{◌≡◌, ℕ, List, Option, None, Some}
-use Rattle.mm_model.specs.Image.{Image, start}
 use Rattle.mm_model.specs.State.{State}
 use Rattle.mm_model.specs.Run.{robin_from}
 use Rattle.mm_model.specs.Schedule.{first_items}

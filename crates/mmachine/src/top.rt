@@ -5,7 +5,7 @@ ghost use Rattle.mm_io.specs.Files.{Rose};
 ghost use Rattle.mm_io.specs.Sinks.{TookPart};
 ghost use Rattle.mmachine.specs.declared.status.Refusal.{Refusal};
 ghost use Rattle.mmachine.specs.Table.{InNoRow, texts};
-ghost use Rattle.mmachine.specs.Answers.{ComesTo, ReadFailed, WritesNothing, TookLine, NothingFails, Answers, status_of, line_of, refuse, write};
+ghost use Rattle.mmachine.specs.Answers.{ComesTo, ReadFailed, WritesNothing, TookLine, NothingFails, HasToRefuse, RefusedUnless, Answers, status_of, line_of, refuse, write};
 
 use crate::line::write_line;
 use crate::run::run;
@@ -43,7 +43,8 @@ pub fn mmachine<M: Boot, F: Files, I: Source, O: Sink, D: Sink>(
     ensures line { TookLine (D.taken diag.old) (D.taken diag.new) (D.faults diag.old) (D.faults diag.new) (line_of result) }
     ensures silent { result ≡ Status.Done → D.taken diag.new ≡ D.taken diag.old }
 
-    // Where nothing fails, it is done or there is no memory.
+    // Where a refusal has to come, it comes; and where nothing fails, it is done or there is no memory.
+    ensures refuses { (r : Refusal) → HasToRefuse M.tells (F.held files.old) (texts words.now) r → RefusedUnless r result }
     ensures complete { NothingFails M.tells (F.held files.old) (texts words.now) (F.faults files.old) (F.faults files.new)
         (O.faults out.old) (O.faults out.new)
         → (result ≡ Status.Done) ⊎ (result ≡ Status.NoMemory) }
@@ -53,7 +54,24 @@ pub fn mmachine<M: Boot, F: Files, I: Source, O: Sink, D: Sink>(
     status
 }
 
+/// Does what the words ask.
 fn answer<M: Boot, F: Files, O: Sink>(
+    alloc: Global,
+    words: &[String],
+    files: &mut F,
+    out: &mut O,
+) -> Status
+    ensures answers { Answers M.tells (F.held files.old) (F.faults files.old) (F.faults files.new) O.taken O.faults out.old out.new (texts words.now) result }
+    ensures refuses { (r : Refusal) → HasToRefuse M.tells (F.held files.old) (texts words.now) r → RefusedUnless r result }
+    ensures complete { NothingFails M.tells (F.held files.old) (texts words.now) (F.faults files.old) (F.faults files.new)
+        (O.faults out.old) (O.faults out.new)
+        → (result ≡ Status.Done) ⊎ (result ≡ Status.NoMemory) }
+{
+    by_row::<M, F, O>(alloc, words, files, out)
+}
+
+/// The same, by the row of the table that the words are in.
+fn by_row<M: Boot, F: Files, O: Sink>(
     alloc: Global,
     words: &[String],
     files: &mut F,

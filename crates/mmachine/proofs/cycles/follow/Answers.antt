@@ -1,4 +1,4 @@
-use Rattle.std.proofs.Common.{◌+◌, ℕ, List, refl, subst, ap, ◌∙◌, arith}
+use Rattle.std.proofs.Common.{ℕ, List, refl, subst, ap, ◌∙◌, arith}
 use Rattle.mm_model.specs.State.{State}
 use Rattle.mm_machine.specs.Machine.{state_of, StandsFor}
 use Rattle.mmachine.proofs.Rounds.{after_cycles, one_item_more}

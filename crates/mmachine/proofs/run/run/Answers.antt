@@ -1,4 +1,4 @@
-use Rattle.std.proofs.Common.{◌≡◌, ℕ, List, Option, refl, sym, subst, arith}
+use Rattle.std.proofs.Common.{ℕ, List, Option, refl, sym, subst, arith}
 use Rattle.std.specs.Option.{option_map}
 use Rattle.mm_machine.specs.Machine.{state_of}
 use Rattle.mmachine.specs.declared.status.Status.{Status}
