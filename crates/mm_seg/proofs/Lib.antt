@@ -1,0 +1,4 @@
+pub mod Searches
+pub mod Inserts
+pub mod Commons
+pub mod ManyInserts

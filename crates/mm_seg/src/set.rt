@@ -1,0 +1,71 @@
+ghost use Rattle.std.specs.Prelude.{◌≡◌, ◌∷◌, [], ◌↔◌, IsTrue, MatchOption, OnOk, OnErr};
+
+use crate::insert::insert;
+use crate::meet::least;
+use crate::search::covered;
+use mm_word::NoMemory;
+use std::alloc::Global;
+use std::marker::Model;
+
+/// A set of segments: each a base and the base-2 logarithm of a length of at least a word. No
+/// segment lies in another, and they ascend by base.
+#[derive(Drop)]
+pub struct SegSet {
+    items: Vec<(u64, u8)>,
+}
+
+impl Model for SegSet {
+    ghost use Rattle.std.specs.Prelude.{ℕ, List};
+    ghost use Rattle.mm_seg.specs.Segments.{IsSet};
+
+    ghost Value = { List (ℕ × ℕ) };
+
+    ghost view = { λ s. s.items.items };
+
+    ghost invariant = { λ s. IsSet s.items.items };
+}
+
+impl SegSet {
+    ghost use Rattle.mm_seg.specs.Segments.{IsSet, IsSegment, IsMaximal, Covered, IsLeast, AreApart};
+
+    /// No segment.
+    pub fn new(alloc: Global) -> SegSet
+        ensures { result ≡ [] }
+    {
+        SegSet {
+            items: Vec::new(alloc),
+        }
+    }
+
+    /// The segments.
+    pub fn items(&self) -> &[(u64, u8)]
+        ensures items { result.now ≡ self.now }
+        ensures set { IsSet self.now }
+    {
+        self.items.as_slice()
+    }
+
+    /// Adds the segment: one that lies in a kept one changes nothing, else those that lie in it go.
+    /// An insert at the end is cheap; one further to the front moves what comes after it.
+    pub fn insert(&mut self, base: u64, log: u8) -> Result<(), NoMemory>
+        requires { IsSegment (base, log) }
+        ensures ok { OnOk result (IsMaximal ((base, log) ∷ self.old) self.new) }
+        ensures err { OnErr result (self.new ≡ self.old) }
+    {
+        insert(&mut self.items, (base, log))
+    }
+
+    /// Whether the set covers the word.
+    pub fn covers(&self, word: u64) -> bool
+        ensures { IsTrue result ↔ Covered self.now word }
+    {
+        covered(&self.items, word)
+    }
+
+    /// The least word that both sets cover.
+    pub fn meets(&self, other: &SegSet) -> Option<u64>
+        ensures { MatchOption result (AreApart self.now other.now) (IsLeast self.now other.now) }
+    {
+        least(&self.items, &other.items)
+    }
+}
