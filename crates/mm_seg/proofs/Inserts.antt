@@ -45,9 +45,13 @@ at_right (x ∷ xs) (suc i) (suc j) s k a b = ap (segment_at (x ∷ put xs i j s
     two : suc j + k ≡ suc (j + k)
     two = omega arith
 
+-- a segment that begins at a multiple of its length
+abbrev pub IsAligned : ℕ × ℕ → Type 0
+IsAligned s = s.0 / 2 ^ s.1 * 2 ^ s.1 ≡ s.0
+
 -- segments that meet lie one in the other
-longer : (s t : ℕ × ℕ) → IsSegment s → IsSegment t → t.1 ≤ s.1 → s.0 < end_of t → t.0 < end_of s → LiesIn t s
-longer s t a b le h k = scaled (2 ^ t.1) (2 ^ (s.1 - t.1)) (t.0 / 2 ^ t.1) (s.0 / 2 ^ s.1) (2 ^ s.1) s.0 t.0 (pow_pos t.1) whole b.aligned a.aligned h k
+longer : (s t : ℕ × ℕ) → IsAligned s → IsAligned t → t.1 ≤ s.1 → s.0 < end_of t → t.0 < end_of s → LiesIn t s
+longer s t a b le h k = scaled (2 ^ t.1) (2 ^ (s.1 - t.1)) (t.0 / 2 ^ t.1) (s.0 / 2 ^ s.1) (2 ^ s.1) s.0 t.0 (pow_pos t.1) whole b a h k
   where
     whole : 2 ^ (s.1 - t.1) * 2 ^ t.1 ≡ 2 ^ s.1
     whole = sym (pow-add 2 (s.1 - t.1) t.1) ∙ ap (λ v. 2 ^ v) (let e : (s.1 - t.1) + t.1 ≡ s.1 = omega arith in e)
@@ -64,11 +68,14 @@ longer s t a b le h k = scaled (2 ^ t.1) (2 ^ (s.1 - t.1)) (t.0 / 2 ^ t.1) (s.0 
         less : (a b : ℕ) → a * u < b * u → a < b
         less a b lt = elim (compare a b) [ inl z ↦ z | inr z ↦ absurd (let more = mul-le-mul_right u z in omega arith) ]
 
-pub nested : (s t : ℕ × ℕ) → IsSegment s → IsSegment t → s.0 < end_of t → t.0 < end_of s → LiesIn t s ⊎ LiesIn s t
-nested s t a b h k = elim (compare s.1 t.1) [
+pub nested_aligned : (s t : ℕ × ℕ) → IsAligned s → IsAligned t → s.0 < end_of t → t.0 < end_of s → LiesIn t s ⊎ LiesIn s t
+nested_aligned s t a b h k = elim (compare s.1 t.1) [
   | inl lt ↦ inr (longer t s b a (omega arith) k h)
   | inr le ↦ inl (longer s t a b le h k)
 ]
+
+pub nested : (s t : ℕ × ℕ) → IsSegment s → IsSegment t → s.0 < end_of t → t.0 < end_of s → LiesIn t s ⊎ LiesIn s t
+nested s t a b h k = nested_aligned s t a.aligned b.aligned h k
 
 pub at_in : (xs : List (ℕ × ℕ)) (k : ℕ) → k < length xs → Contains xs (segment_at xs k)
 at_in xs k lt = Contains-get_or xs k (0, 0) lt
