@@ -1,0 +1,49 @@
+-- What an answer of the reader says of the bytes.
+use Rattle.std.proofs.Common.{◌≡◌, ℕ, List, Some, None, Result, Ok, Err, refl, sym, subst, ◌∙◌}
+use Rattle.std.specs.Prelude.{IfOk}
+use Rattle.mm_model.specs.Image.{Image}
+use Rattle.mm_model.specs.ImageFaults.{image_fault}
+use Rattle.mm_model.specs.Spelling.{Spells}
+use Rattle.mm_image.specs.declared.fault.ImageFault.{ImageFault}
+use Rattle.mm_image.specs.declared.fault.ImageError.{ImageError}
+use Rattle.mm_image.specs.declared.fault.ImageError.TheVariants.{Fault, NoMemory}
+use Rattle.mm_image.specs.Faults.{Gives, Fails, IsUnlessNoMemory, FailsUnlessNoMemory, number_of}
+use Rattle.mm_image.specs.Reading.{image_of, read_fault}
+use Rattle.mm_image.proofs.Parts.{IsBytes}
+use Rattle.mm_image.proofs.CleanImage.{clean_spells}
+use Rattle.mm_image.proofs.SpelledImage.{spelled_clean, image_same}
+use Rattle.mm_image.proofs.Whole.{image_fault-read}
+
+abbrev Answer : Type 0
+Answer = Result Image ImageError
+
+module _ (bytes : List ℕ) where
+  abbrev Given : Answer → Type 0
+  Given r = Gives (λ (i : Image). i) (read_fault bytes) (image_of bytes) r
+
+  pub is_spelled : IsBytes bytes → (r : Answer) → Given r → IfOk r (λ i. Spells bytes i)
+  is_spelled fits (Ok i) h = subst (Spells bytes) (sym h.1) (clean_spells bytes fits h.0)
+  is_spelled fits (Err e) h = tt
+
+  again_fails : (e : ImageError) → read_fault bytes ≡ None → Fails (read_fault bytes) e → e ≡ NoMemory
+  again_fails (Fault kind offset) none h = cc
+  again_fails NoMemory none h = refl
+
+  pub is_again : (r : Answer) → Given r → (i : Image) → Spells bytes i → IsUnlessNoMemory i r
+  is_again (Ok j) h i s = h.1 ∙ image_same bytes i s.image s.spelled
+  is_again (Err e) h i s = again_fails e (spelled_clean bytes i s.image s.spelled) h
+
+  fault_of : (e : ImageError) (kind : ImageFault) (offset : ℕ) → e ≡ Fault kind offset → Fails (read_fault bytes) e → read_fault bytes ≡ Some (number_of kind, offset)
+  fault_of e kind offset same h = subst (Fails (read_fault bytes)) same h
+
+  pub is_fault : (r : Answer) → Given r → (kind : ImageFault) (offset : ℕ) → r ≡ Err (Fault kind offset) → image_fault bytes ≡ Some (number_of kind, offset)
+  is_fault (Ok i) h kind offset e = cc
+  is_fault (Err error) h kind offset e = let same : error ≡ Fault kind offset = cc in image_fault-read bytes ∙ fault_of error kind offset same h
+
+  first_fails : (e : ImageError) (f : ℕ × ℕ) → read_fault bytes ≡ Some f → Fails (read_fault bytes) e → Fails (Some f) e
+  first_fails (Fault kind offset) f some h = sym some ∙ h
+  first_fails NoMemory f some h = tt
+
+  pub is_first : (r : Answer) → Given r → (number offset : ℕ) → image_fault bytes ≡ Some (number, offset) → FailsUnlessNoMemory (number, offset) r
+  is_first (Ok i) h number offset e = let some = sym (image_fault-read bytes) ∙ e in cc (h.0)
+  is_first (Err error) h number offset e = first_fails error (number, offset) (sym (image_fault-read bytes) ∙ e) h

@@ -1,0 +1,45 @@
+-- The numbers of slots, in a table.
+use Rattle.std.proofs.Common.{◌≡◌, ◌≢◌, ℕ, ◌+◌, ◌<◌, Bool, true, false, List, [], length, get_or, take, replicate, refl, sym, ap, ◌∙◌, arith, inl, inr, eqb-true, eq-eqb}
+use Rattle.std.specs.Prelude.{◌||◌, ◌==◌, slice_index_or, slice_set}
+use Rattle.std.proofs.lemmas.Bool.{cases_eq}
+use Rattle.std.proofs.lemmas.List.{get_or-replicate, get_or-set_same, get_or-set_other}
+use Rattle.std.proofs.lemmas.List.FromFn.{get_or-map-range_with_len}
+use Rattle.std.proofs.lemmas.List.Folds.{list_any_more}
+use Rattle.mm_model.specs.Slot.{Slot}
+use Rattle.mm_image.specs.Reading.{has_number, HoldsNumbers, slot_at, slots_at}
+
+pub none_yet : HoldsNumbers (replicate 256 false) []
+none_yet n below = get_or-replicate 256 n false false below
+
+or_true : (b : Bool) → (b || true) ≡ true
+or_true true = refl
+or_true false = refl
+
+or_false : (b : Bool) → (b || false) ≡ b
+or_false true = refl
+or_false false = refl
+
+differ : (a b : ℕ) → a ≢ b → (a == b) ≡ false
+differ a b ne = go (a == b) refl
+  where
+    go : (t : Bool) → (a == b) ≡ t → t ≡ false
+    go true e = absurd (ne (eqb-true a b e))
+    go false e = refl
+
+-- one slot more
+pub one_number_more : (present : List Bool) (slots : List Slot) (i m : ℕ) (s : Slot) → length present ≡ 256 → i < length slots → get_or slots i s ≡ s → s.number ≡ m
+    → HoldsNumbers present (take i slots) → HoldsNumbers (slice_set present m true) (take (i + 1) slots)
+one_number_more present slots i m s long lt is number holds n below =
+    let more : has_number (take (i + 1) slots) n ≡ (has_number (take i slots) n || (m == n)) = list_any_more (λ (x : Slot). x.number == n) slots i s lt ∙ ap (λ (x : Slot). has_number (take i slots) n || (x.number == n)) is ∙ ap (λ k. has_number (take i slots) n || (k == n)) number in
+    elim (cases_eq m n) [
+      | inl same ↦
+          let at : slice_index_or (slice_set present m true) n false ≡ true = ap (λ k. slice_index_or (slice_set present m true) k false) (sym same) ∙ get_or-set_same present m true false (omega (arith, long, same, below)) in
+          at ∙ sym (more ∙ ap (λ t. has_number (take i slots) n || t) (eq-eqb m n same) ∙ or_true (has_number (take i slots) n))
+      | inr other ↦
+          get_or-set_other present m n true false (λ e. other (sym e)) ∙ holds n below ∙ sym (more ∙ ap (λ t. has_number (take i slots) n || t) (differ m n other) ∙ or_false (has_number (take i slots) n))
+    ]
+
+-- the slot at a place of those that were read
+pub slot_is : (bytes : List ℕ) (slots : List Slot) (k : ℕ) (s : Slot) → slots ≡ slots_at bytes (length slots) → k < length slots → s ≡ get_or slots k s → s ≡ slot_at bytes k
+unfolding slots_at
+slot_is bytes slots k s read lt is = is ∙ ap (λ (xs : List Slot). get_or xs k s) read ∙ get_or-map-range_with_len (slot_at bytes) 0 (length slots) k k s lt (omega arith)

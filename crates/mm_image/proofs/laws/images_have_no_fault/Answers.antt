@@ -1,0 +1,9 @@
+use Rattle.std.proofs.Common.{sym, ◌∙◌}
+use Rattle.mm_image.specs.Reading.{image_of}
+use Rattle.mm_image.proofs.Whole.{image_fault-read}
+use Rattle.mm_image.proofs.CleanImage.{clean_spells}
+use Rattle.mm_image.proofs.SpelledImage.{spelled_clean}
+use Rattle.mm_image.proofs.laws.images_have_no_fault.Goals as goal
+
+pub returns : goal.returns
+returns c = λ bytes fits. (λ none. (image_of bytes, clean_spells bytes fits (sym (image_fault-read bytes) ∙ none)), λ s. image_fault-read bytes ∙ spelled_clean bytes s.0 s.1.image s.1.spelled)

@@ -1,0 +1,18 @@
+-- Laws of image files.
+use Rattle.std.specs.Prelude.{◌≡◌, ◌↔◌, ℕ, List, None}
+use Rattle.mm_model.specs.Image.{Image}
+use Rattle.mm_model.specs.ImageFaults.{image_fault}
+use Rattle.mm_model.specs.Spelling.{IsImage, spelling, Spells}
+use Rattle.mm_image.specs.Fields.{IsBytes}
+
+-- bytes either spell an image or have a first fault
+abbrev pub ImagesHaveNoFault : Type 0
+ImagesHaveNoFault = (bytes : List ℕ) → IsBytes bytes → (image_fault bytes ≡ None) ↔ ((i : Image) × Spells bytes i)
+
+-- bytes spell one image at most
+abbrev pub SpelledImagesAreOne : Type 0
+SpelledImagesAreOne = (bytes : List ℕ) (i j : Image) → Spells bytes i → Spells bytes j → i ≡ j
+
+-- two images have two spellings
+abbrev pub SpellingIsInjective : Type 0
+SpellingIsInjective = (i j : Image) → IsImage i → IsImage j → spelling i ≡ spelling j → i ≡ j

@@ -1,0 +1,5 @@
+pub mod Faults
+pub mod Fields
+pub mod Images
+pub mod Laws
+pub mod Reading

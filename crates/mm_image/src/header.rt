@@ -1,0 +1,68 @@
+//! The header of an image file.
+
+ghost use Rattle.std.specs.Prelude.{◌≡◌};
+ghost use Rattle.mm_model.specs.Image.{slot_limit, frame_limit};
+ghost use Rattle.mm_image.specs.Faults.{Gives};
+ghost use Rattle.mm_image.specs.Reading.{header_of, header_fault};
+
+use crate::fault::{ImageError, ImageFault};
+use crate::fields::{Reader, refuse_if};
+
+/// How many slots a version has at most, and how many numbers of slots and groups there are.
+pub(crate) fn slot_limit(version: u16) -> u8
+    ensures { result ≡ slot_limit version }
+{
+    if version == 1 { 16 } else { 64 }
+}
+
+/// How many frames a version has at most.
+pub(crate) fn frame_limit(version: u16) -> u16
+    ensures { result ≡ frame_limit version }
+{
+    if version == 1 { 256 } else { 4096 }
+}
+
+/// What the header says.
+#[derive(Clone, Copy)]
+pub(crate) struct Header {
+    pub version: u16,
+    pub slots: u16,
+    pub frames: u16,
+    pub pages: u16,
+    pub split: bool,
+}
+
+impl Reader<'_> {
+    pub fn header(&self) -> Result<Header, ImageError>
+        ensures { Gives (λ h. h) (header_fault self.now.bytes.now) (header_of self.now.bytes.now) result }
+    {
+        self.whole(4)?;
+        let magic = &self.bytes[..4];
+        refuse_if(magic != b"MMI1".as_slice(), ImageFault::Magic, 0)?;
+        let version = self.u16_at(4)?;
+        refuse_if(!(version == 1 || version == 2), ImageFault::Version, 4)?;
+        let slots = self.u16_at(6)?;
+        refuse_if(
+            slots == 0 || slots > u16::from(slot_limit(version)),
+            ImageFault::Count,
+            6,
+        )?;
+        let frames = self.u16_at(8)?;
+        refuse_if(
+            frames == 0 || frames > frame_limit(version),
+            ImageFault::Frames,
+            8,
+        )?;
+        let pages = self.u16_at(10)?;
+        refuse_if(pages > frames, ImageFault::Frames, 10)?;
+        let mode = self.u32_at(12)?;
+        refuse_if(mode > u32::from(version - 1), ImageFault::Count, 12)?;
+        Ok(Header {
+            version,
+            slots,
+            frames,
+            pages,
+            split: mode == 1,
+        })
+    }
+}

@@ -1,0 +1,15 @@
+//! What holds of all image files.
+//!
+//! These functions do nothing when they run: the contract of each is the law.
+ghost use Rattle.mm_image.specs.Laws.{ImagesHaveNoFault, SpelledImagesAreOne, SpellingIsInjective};
+
+/// The list of places of a file has no fault exactly where its bytes spell an image.
+pub fn images_have_no_fault()
+    ensures { ImagesHaveNoFault }
+{}
+
+/// An image has one spelling, and no two images have the same.
+pub fn spelling_is_one_to_one()
+    ensures one { SpelledImagesAreOne }
+    ensures injective { SpellingIsInjective }
+{}
