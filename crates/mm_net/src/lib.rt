@@ -1,0 +1,9 @@
+//! The net of an image: a node for each distinct pointer that stands in it.
+#![tactic(auto)]
+
+mod found;
+mod key;
+mod order;
+mod seed;
+
+pub use key::Key;
