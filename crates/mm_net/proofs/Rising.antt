@@ -64,3 +64,16 @@ not_there keys x i h parts m =
       | inl lt ↦ let less = apart.0 m.0 x (omega arith) lt in cc
       | inr le ↦ let more = apart.1 m.0 x le m.1 in cc
     ]
+
+-- a key stands once
+pub same_place : (keys : List Key) (i j : ℕ) → IsRising keys → i < length keys → j < length keys → key_at keys i ≡ key_at keys j → i ≡ j
+same_place keys i j h li lj e = elim (cases_lt i j) [
+  | inl lt ↦ absurd (not_less (key_at keys i) (key_at keys j) e (h.rise i j lt lj))
+  | inr le ↦ elim (cases_lt j i) [
+    | inl lt ↦ absurd (not_less (key_at keys j) (key_at keys i) (sym e) (h.rise j i lt li))
+    | inr ge ↦ omega arith
+  ]
+]
+  where
+    not_less : (x y : Key) → x ≡ y → key_cmp x y ≡ Less → ⊥
+    not_less x y f l = let tied : key_cmp x y ≡ Equal = ap (λ v. key_cmp v y) f ∙ tied_itself key_total y in cc

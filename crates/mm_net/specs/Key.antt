@@ -1,13 +1,13 @@
 -- Keys of pointers: a pointer with the base of its segment, ordered by base, the longer segment first.
-use Rattle.std.specs.Prelude.{◌≡◌, ℕ, ◌+◌, ◌-◌, ◌<◌, Bool, true, false, ◌==◌, ◌&&◌, nat_lt, if◌then◌else◌, List, length, slice_index_or, Option, Some, None, option_and_then}
+use Rattle.std.specs.Prelude.{◌≡◌, ℕ, ◌+◌, ◌-◌, ◌<◌, Bool, true, false, ◌==◌, ◌&&◌, nat_lt, nat_le, if◌then◌else◌, List, length, slice_index_or, Option, Some, None, option_and_then}
 use Rattle.std.specs.declared.cmp.Ordering.{Ordering}
 use Rattle.std.specs.declared.cmp.Ordering.TheVariants.{Less}
 use Rattle.std.specs.Ordering.{nat_cmp, ordering_then}
 use Rattle.mm_word.specs.declared.perm.Perm.{Perm}
-use Rattle.mm_word.specs.declared.perm.Perm.TheVariants.{Xp, Ep, Key as KeyPerm}
+use Rattle.mm_word.specs.declared.perm.Perm.TheVariants.{Xp, Eu, Ep, Key as KeyPerm}
 use Rattle.mm_word.specs.declared.word.Word.{Word}
 use Rattle.mm_word.specs.declared.word.Word.TheVariants.{Int, Ptr}
-use Rattle.mm_word.specs.Perm.{can_move}
+use Rattle.mm_word.specs.Perm.{can_move, can_load, can_store}
 use Rattle.mm_word.specs.Pointer.{Pointer, SpellsPointer, IsWellFormed, pointer_of, bits_of, base_of, enter_result}
 use Rattle.mm_net.specs.declared.key.Key.{Key}
 
@@ -65,3 +65,19 @@ word_key (Ptr p) = standing_key p
 -- the key of what an entry by the pointer gives
 abbrev pub entry_key : Key → Option Key
 entry_key k = option_and_then standing_key (enter_result (pointer_at k))
+
+-- the pointer loads at least a word
+abbrev pub loads_words : Pointer → Bool
+loads_words p = can_load p.perm && nat_le 3 p.log
+
+abbrev pub stores_words : Pointer → Bool
+stores_words p = can_store p.perm && nat_le 3 p.log
+
+abbrev pub makes_pointers : Perm → Bool
+makes_pointers Xp = true
+makes_pointers _ = false
+
+abbrev pub is_entry : Perm → Bool
+is_entry Eu = true
+is_entry Ep = true
+is_entry _ = false

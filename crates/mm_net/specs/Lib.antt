@@ -1,2 +1,5 @@
 pub mod Key
 pub mod Found
+pub mod Nodes
+pub mod Marking
+pub mod Linking

@@ -2,7 +2,11 @@
 #![tactic(auto)]
 
 mod found;
+mod keys;
 mod key;
+mod links;
+mod mark;
+mod nodes;
 mod order;
 mod seed;
 
