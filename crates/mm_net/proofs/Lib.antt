@@ -6,3 +6,8 @@ pub mod Marks
 pub mod Standing
 pub mod KeyLists
 pub mod EntryKeys
+pub mod Nesting
+pub mod EntryMasks
+pub mod Cells
+pub mod Slots
+pub mod Bounds

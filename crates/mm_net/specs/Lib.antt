@@ -3,3 +3,5 @@ pub mod Found
 pub mod Nodes
 pub mod Marking
 pub mod Linking
+pub mod Forest
+pub mod Masks

@@ -19,6 +19,7 @@ impl Key {
     pub fn of(p: GuardedPtr) -> Key
         ensures value { result ≡ key_of p }
         ensures key { IsKey result }
+        ensures again { pointer_at result ≡ p }
     {
         Key {
             base: p.base(),

@@ -1,6 +1,8 @@
 //! The net of an image: a node for each distinct pointer that stands in it.
 #![tactic(auto)]
 
+mod above;
+mod entries;
 mod found;
 mod keys;
 mod key;
@@ -10,4 +12,5 @@ mod nodes;
 mod order;
 mod seed;
 
+pub use entries::Entries;
 pub use key::Key;
