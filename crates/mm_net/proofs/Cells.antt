@@ -77,7 +77,7 @@ from_flat_map f (z ∷ zs) y m = elim (Contains-append_cases (f z) (flat_map f z
 
 -- a page that is found is there
 
-found_page : (pages : List (ℕ × List Cell)) (q : ℕ) (cells : List Cell) → find nat_cmp q pages ≡ Some cells → Contains pages (q, cells)
+pub found_page : (pages : List (ℕ × List Cell)) (q : ℕ) (cells : List Cell) → find nat_cmp q pages ≡ Some cells → Contains pages (q, cells)
 found_page [] q cells h = cc
 found_page (p ∷ ps) q cells h = at (eq_by_cmp nat_cmp q p.0) refl h (found_page ps q cells)
   where

@@ -9,5 +9,7 @@ pub mod EntryKeys
 pub mod Nesting
 pub mod EntryMasks
 pub mod Cells
+pub mod CellWords
 pub mod Slots
 pub mod Bounds
+pub mod Assembly

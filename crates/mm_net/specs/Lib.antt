@@ -5,3 +5,4 @@ pub mod Marking
 pub mod Linking
 pub mod Forest
 pub mod Masks
+pub mod Marked
