@@ -1,5 +1,5 @@
 // What groups reach in a net of nodes.
-ghost use Rattle.std.specs.Prelude.{◌≡◌, ℕ, ◌<◌, ◌≤◌, ◌↔◌, IfOk, length, slice_index};
+ghost use Rattle.std.specs.Prelude.{◌≡◌, ℕ, ◌^◌, ◌<◌, ◌≤◌, ◌↔◌, IfOk, length, slice_index};
 ghost use Rattle.std.specs.Int.{bit_at};
 ghost use Rattle.mm_flow.specs.Net.{right_at};
 ghost use Rattle.mm_flow.specs.Flow.{Fits};
@@ -65,11 +65,12 @@ pub fn saturate(
 ) -> Result<(), AllocError>
     requires edges { Fits (record { nodes = nodes.now; targets = targets.now }) (length marks.old) }
     requires ties { TiesFit (record { nodes = nodes.now; parents = parents.now; links = links }) (length marks.old) }
-    ensures {
+    ensures reach {
         IfOk
             result
             (λ _. IsReach (record { nodes = nodes.now; targets = targets.now }) (record { nodes = nodes.now; parents = parents.now; links = links }) marks.old marks.new)
     }
+    ensures fits { IfOk result (λ _. (k : ℕ) → slice_index marks.new k < 2 ^ 64) }
 {
     loop {
         flow(alloc, marks, nodes, targets)?;

@@ -15,7 +15,7 @@ use Rattle.mm_net.specs.Nodes.{IsMarks}
 use Rattle.mm_net.specs.Masks.{IsEntryMasks, IsEntrySeed}
 use Rattle.mm_net.proofs.KeyLists.{contains_here, contains_rest, contains_cases}
 use Rattle.mm_net.proofs.Rising.{same_fields}
-use Rattle.mm_net.proofs.Marks.{same_seed}
+use Rattle.mm_net.proofs.Marking.{same_seed}
 
 pub any_masks : (keys : List Key) → IsEntryMasks AnyEntry keys (replicate (length keys) (2 ^ 64 - 1))
 any_masks keys = record {

@@ -2,7 +2,7 @@ pub mod Rising
 pub mod Lists
 pub mod OneBits
 pub mod GroupLinks
-pub mod Marks
+pub mod Marking
 pub mod Standing
 pub mod KeyLists
 pub mod EntryKeys
@@ -13,3 +13,4 @@ pub mod CellWords
 pub mod Slots
 pub mod Bounds
 pub mod Assembly
+pub mod Conclusion

@@ -6,3 +6,4 @@ pub mod Linking
 pub mod Forest
 pub mod Masks
 pub mod Marked
+pub mod Parts

@@ -8,9 +8,11 @@ mod keys;
 mod key;
 mod links;
 mod mark;
+mod net;
 mod nodes;
 mod order;
 mod seed;
 
 pub use entries::Entries;
 pub use key::Key;
+pub use net::{Marks, marked};

@@ -1,5 +1,5 @@
 use Rattle.std.proofs.Common.{arith, refl}
-use Rattle.mm_net.proofs.Marks.{no_mark}
+use Rattle.mm_net.proofs.Marking.{no_mark}
 use Rattle.mm_net.proofs.links.links_of.Goals as goal
 
 pub loop-k-init : goal.loop-k-init

@@ -1,6 +1,6 @@
 use Rattle.std.proofs.Common.{◌≡◌, length, replicate, rules, sym, ◌∙◌, subst, arith}
 use Rattle.mm_net.specs.Nodes.{IsMarks}
-use Rattle.mm_net.proofs.Marks.{marks_start}
+use Rattle.mm_net.proofs.Marking.{marks_start}
 use Rattle.mm_net.proofs.mark.marks_of.Goals as goal
 
 pub mark_all-requires-clause-none : goal.mark_all-requires-clause-none
