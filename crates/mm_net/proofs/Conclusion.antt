@@ -23,6 +23,7 @@ marked_all i e keys nodes targets parents links start marks image b r fits =
       all = b.is_keys.all;
       nodes_len = n.len;
       marks_len = r.len ∙ b.is_start.len;
+      fits = fits;
       loads = λ k lt. (n.each k lt).loads;
       stores = λ k lt. (n.each k lt).stores;
       exact = λ rights right. exact_marks i e (node_pointer keys) (record { nodes = nodes; targets = targets }) (record { nodes = nodes; parents = parents; links = links }) start

@@ -23,6 +23,7 @@ pub record IsMarked (i : Image) (e : Entries) (keys : List Key) (nodes : List No
   pub all : All IsKey keys
   pub nodes_len : length nodes ≡ length keys
   pub marks_len : length marks ≡ length keys
+  pub fits : (k : ℕ) → slice_index marks k < 2 ^ 64
   pub loads : (k : ℕ) → k < length keys → right_at nodes Load k ≡ loads_words (node_pointer keys k)
   pub stores : (k : ℕ) → k < length keys → right_at nodes Store k ≡ stores_words (node_pointer keys k)
   pub exact : (rights : ℕ) → ((g : ℕ) → (bit_at rights g ≡ 1) ↔ HasSome marks (right_at nodes Make) g) → IsExact i e (λ g. bit_at rights g == 1) (Marked (node_pointer keys) marks)
