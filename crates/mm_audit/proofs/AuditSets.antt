@@ -1,16 +1,15 @@
 -- The sets of an image's marks are its audit.
-use Rattle.std.proofs.Common.{◌≡◌, ◌==◌, ℕ, ◌%◌, ◌^◌, ◌<◌, ◌≤◌, ◌⊎◌, ◌↔◌, inl, inr, Bool, true, ◌&&◌, nat_le, IsTrue, List, [], ◌∷◌, length, slice_index, refl, sym, ap, ◌∙◌, subst, arith, eqb-true, eq-eqb}
+use Rattle.std.proofs.Common.{◌≡◌, ◌==◌, ℕ, ◌%◌, ◌^◌, ◌<◌, ◌≤◌, ◌⊎◌, ◌↔◌, inl, inr, Bool, true, ◌&&◌, nat_le, IsTrue, List, length, slice_index, refl, sym, subst, arith, eqb-true, eq-eqb}
 use Rattle.std.specs.Int.{bit_at}
 use Rattle.std.proofs.lemmas.Bool.{cases_lt}
 use Rattle.std.proofs.lemmas.Nat.Bits.{bit_at_above, bit_at-lt}
-use Rattle.std.proofs.lemmas.List.{get_or_past}
 use Rattle.mm_word.specs.declared.perm.Perm.{Perm}
 use Rattle.mm_word.specs.declared.perm.Perm.TheVariants.{Ro, Rw, Key as KeyPerm}
 use Rattle.mm_word.specs.Perm.{can_load, can_store}
 use Rattle.mm_word.specs.Pointer.{Pointer, IsBelow}
 use Rattle.mm_model.specs.Image.{Image}
 use Rattle.mm_model.specs.Spelling.{IsImage}
-use Rattle.mm_model.specs.Reach.{Entries, Grants, CanTouch, CanWrite, Privileged}
+use Rattle.mm_model.specs.Reach.{Entries, CanTouch, CanWrite}
 use Rattle.mm_model.specs.Audit.{MaximalSegments}
 use Rattle.mm_flow.specs.declared.node.Node.{Node}
 use Rattle.mm_flow.specs.declared.node.Right.{Right}
@@ -18,15 +17,15 @@ use Rattle.mm_flow.specs.declared.node.Right.TheVariants.{Load, Store, Make}
 use Rattle.mm_flow.specs.Net.{right_at}
 use Rattle.mm_flow.specs.Flow.{Has}
 use Rattle.mm_flow.specs.Reached.{HasSome}
-use Rattle.mm_summary.specs.Summary.{IsIdle, IsExact, Holds}
+use Rattle.mm_summary.specs.Summary.{IsExact, Holds}
 use Rattle.mm_summary.specs.NetOf.{Marked}
 use Rattle.mm_summary.proofs.Segments.{below-can_load, below-can_store, idle_loads, stores-loads}
-use Rattle.mm_seg.specs.Segments.{IsSet, Covered}
+use Rattle.mm_seg.specs.Segments.{Covered}
 use Rattle.mm_net.specs.declared.key.Key.{Key}
 use Rattle.mm_net.specs.Key.{IsKey, key_at, no_key}
 use Rattle.mm_net.specs.Marked.{IsMarked, node_pointer}
-use Rattle.mm_audit.specs.Audits.{ReachValue, Audits, set_of}
-use Rattle.mm_audit.specs.GroupSets.{IsGroupSet, AreGroupSets}
+use Rattle.mm_audit.specs.Audits.{Audits, set_of}
+use Rattle.mm_audit.specs.GroupSets.{AreGroupSets}
 use Rattle.mm_audit.proofs.Exactly.{CanUse, plain_maximal, plain_covers, top_maximal, top_covers}
 use Rattle.mm_audit.proofs.Reading.{past}
 
@@ -96,14 +95,16 @@ module _ (i : Image) (e : Entries) (image : IsImage i) (keys : List Key) (nodes 
       from (inr (inr t)) = none t.knows.at t.knows.marked
 
   load_use : (g w : ℕ) → CanTouch i e g w ↔ CanUse i e g can_load w
-  load_use g w =
-      (λ c. record { by = c.by; granted = c.granted; word = c.loads.word; right = c.loads.right; covers = c.loads.covers },
-      λ u. record { by = u.by; granted = u.granted; loads = record { word = u.word; right = u.right; covers = u.covers } })
+  load_use g w = (
+    λ c. record { by = c.by; granted = c.granted; word = c.loads.word; right = c.loads.right; covers = c.loads.covers },
+    λ u. record { by = u.by; granted = u.granted; loads = record { word = u.word; right = u.right; covers = u.covers } },
+  )
 
   store_use : (g w : ℕ) → CanWrite i e g w ↔ CanUse i e g can_store w
-  store_use g w =
-      (λ c. record { by = c.by; granted = c.granted; word = c.stores.word; right = c.stores.right; covers = c.stores.covers },
-      λ u. record { by = u.by; granted = u.granted; stores = record { word = u.word; right = u.right; covers = u.covers } })
+  store_use g w = (
+    λ c. record { by = c.by; granted = c.granted; word = c.stores.word; right = c.stores.right; covers = c.stores.covers },
+    λ u. record { by = u.by; granted = u.granted; stores = record { word = u.word; right = u.right; covers = u.covers } },
+  )
 
   no_store : (g w : ℕ) → CanUse i e g can_store w → 64 ≤ g → ⊥
   no_store g w u le = let c = (store_use g w).1 u in no_load g w (record { by = c.by; granted = c.granted; loads = stores-loads c.by w c.stores }) le

@@ -1,41 +1,38 @@
 -- The sets of an exact summary are what is granted.
-use Rattle.std.proofs.Common.{◌≡◌, ◌==◌, ℕ, zero, suc, ◌+◌, ◌-◌, ◌*◌, ◌/◌, ◌%◌, ◌^◌, ◌<◌, ◌≤◌, ◌⊎◌, ◌↔◌, inl, inr, Bool, true, false, ◌&&◌, nat_le, IsTrue, List, [], ◌∷◌, length, slice_index, get_or, zip, drop, refl, sym, ap, ◌∙◌, subst, arith, eqb-true, eq-eqb, pow_pos}
+use Rattle.std.proofs.Common.{◌≡◌, ℕ, suc, ◌+◌, ◌-◌, ◌*◌, ◌/◌, ◌%◌, ◌^◌, ◌<◌, ◌≤◌, ◌↔◌, inl, inr, Bool, true, false, ◌&&◌, nat_le, IsTrue, List, [], ◌∷◌, length, zip, drop, refl, sym, ap, ◌∙◌, subst, arith, pow_pos}
 use Rattle.std.proofs.Math.Nat.{div-mul-le_self, lt-div-mul-add, div-eq_of_lt-le, div-eq_of_lt}
 use Rattle.std.proofs.lemmas.Bool.Decides.{nat_tests}
 use Rattle.mm_seg.proofs.Inserts.{in_cases}
 use Rattle.mm_summary.proofs.Heart.{whole_covers}
-use Rattle.std.specs.Int.{bit_at}
 use Rattle.std.specs.List.{Contains, AllByRecursion}
 use Rattle.std.proofs.lemmas.Bool.{cases_lt}
 use Rattle.std.proofs.lemmas.Nat.{pow_below, shr_high}
 use Rattle.std.proofs.lemmas.List.{get_or_default}
 use Rattle.std.proofs.lemmas.List.Elements.{Contains-get_or}
 use Rattle.mm_word.specs.declared.perm.Perm.{Perm}
-use Rattle.mm_word.specs.declared.perm.Perm.TheVariants.{Xp, Ep, Key as KeyPerm}
-use Rattle.mm_word.specs.Pointer.{Pointer, InSegment, Covers, IsBelow, IsWellFormed, base_of}
+use Rattle.mm_word.specs.declared.perm.Perm.TheVariants.{Key as KeyPerm}
+use Rattle.mm_word.specs.Pointer.{Pointer, InSegment, Covers, IsBelow, base_of}
 use Rattle.mm_word.proofs.Below.{Covers-short}
 use Rattle.mm_model.specs.Image.{Image}
 use Rattle.mm_model.specs.Spelling.{IsImage}
-use Rattle.mm_model.specs.Reach.{Entries, Grants, Privileged}
+use Rattle.mm_model.specs.Reach.{Entries, Grants}
 use Rattle.mm_model.specs.Reach.Grants.{made}
 use Rattle.mm_model.specs.Audit.{GrantedSegment, MaximalSegment, MaximalSegments}
 use Rattle.mm_flow.specs.declared.node.Node.{Node}
 use Rattle.mm_flow.specs.declared.node.Right.{Right}
 use Rattle.mm_flow.specs.Net.{right_at}
-use Rattle.mm_flow.specs.Flow.{Has}
-use Rattle.mm_summary.specs.Summary.{IsIdle, IsExact, Holds, SomeAbove}
+use Rattle.mm_summary.specs.Summary.{IsIdle, IsExact, Holds}
 use Rattle.mm_summary.specs.NetOf.{Marked}
 use Rattle.mm_summary.proofs.Segments.{inside-log}
-use Rattle.mm_seg.specs.Segments.{IsSet, IsSegment, SomeHolds, Covered, At, LiesIn, segment_at, end_of}
+use Rattle.mm_seg.specs.Segments.{IsSet, SomeHolds, Covered, At, LiesIn, segment_at, end_of}
 use Rattle.mm_seg.proofs.Searches.{compare}
 use Rattle.mm_net.specs.declared.key.Key.{Key}
-use Rattle.mm_net.specs.Key.{IsKey, key_at, no_key, pointer_at}
+use Rattle.mm_net.specs.Key.{IsKey, key_at}
 use Rattle.mm_net.specs.Marked.{node_pointer}
 use Rattle.mm_net.proofs.Standing.{base-block, base_below}
 use Rattle.mm_net.proofs.Nesting.{log_is}
 use Rattle.mm_net.proofs.Bounds.{covers_in, in_covers, three_then}
-use Rattle.mm_audit.specs.Sets.{IsKept, IsKeptSet, KeptSegment, key_segment}
-use Rattle.mm_audit.specs.GroupSets.{IsGroupSet}
+use Rattle.mm_audit.specs.Sets.{IsKeptSet, key_segment}
 use Rattle.mm_audit.proofs.Granted.{granted-well_formed}
 
 both : (a b : Bool) → a && b ≡ true → (a ≡ true) × (b ≡ true)
@@ -104,7 +101,6 @@ module _ (i : Image) (e : Entries) (image : IsImage i) (keys : List Key) (nodes 
     (right : Right) (can : Perm → Bool) (whole : Perm) (can_whole : can whole ≡ true) (no_key_right : can KeyPerm ≡ true → ⊥)
     (below-can : (p q : Pointer) → IsBelow q p → can q.perm ≡ true → can p.perm ≡ true)
     (tests : (k : ℕ) → k < length keys → right_at nodes right k ≡ (can (node_pointer keys k).perm && nat_le 3 (node_pointer keys k).log)) (g : ℕ) where
-
   key_segment_is : (k : ℕ) → k < length keys → key_segment (key_at keys k) ≡ segment_of (node_pointer keys k)
   key_segment_is k lt = let h = all k lt in λ j. (h.base j, log_is (key_at keys k) h j)
 
@@ -215,20 +211,21 @@ module _ (i : Image) (e : Entries) (image : IsImage i) (keys : List Key) (nodes 
     long_of p w c = elim (cases_lt p.log 3) [ inl short ↦ absurd (Covers-short p short w c) | inr le ↦ le ]
 
     pub plain_covers : (w : ℕ) → w % 8 ≡ 0 → Covered set w ↔ CanUse i e g can w
-    plain_covers w aligned =
-        (λ c.
-            let gs = granted c.by c.at.0 in
-            record {
-              by = gs.by;
-              granted = gs.granted;
-              word = aligned;
-              right = gs.has_right;
-              covers = in_covers gs.by w gs.whole_word aligned (subst (λ v. v.0 ≤ w) gs.is c.at.1) (subst (λ v. w < end_of v) gs.is c.at.2);
-            },
-        λ u.
-            let a = above u.by u.granted u.right (long_of u.by w u.covers) in
-            let b = covers_in u.by w u.covers in
-            record { by = a.at; at = (a.small, let p = a.within.0 in let q = b.0 in omega arith, let p = a.within.1 in let q = b.1 in omega arith) })
+    plain_covers w aligned = (
+      λ c.
+          let gs = granted c.by c.at.0 in
+          record {
+            by = gs.by;
+            granted = gs.granted;
+            word = aligned;
+            right = gs.has_right;
+            covers = in_covers gs.by w gs.whole_word aligned (subst (λ v. v.0 ≤ w) gs.is c.at.1) (subst (λ v. w < end_of v) gs.is c.at.2);
+          },
+      λ u.
+          let a = above u.by u.granted u.right (long_of u.by w u.covers) in
+          let b = covers_in u.by w u.covers in
+          record { by = a.at; at = (a.small, let p = a.within.0 in let q = b.0 in omega arith, let p = a.within.1 in let q = b.1 in omega arith) },
+    )
 
   -- 2. A privileged group.
   module _ (top : IsTrue (privileged g)) where
@@ -266,11 +263,12 @@ module _ (i : Image) (e : Entries) (image : IsImage i) (keys : List Key) (nodes 
             let log_is_top : gs.by.log ≡ 54 = omega arith in
             let zero_base : base_of gs.by ≡ 0 = ap (λ v. gs.by.addr / 2 ^ v * 2 ^ v) log_is_top ∙ ap (λ v. v * 2 ^ 54) (small_div gs.by.addr addr) in
             let same : (0, 54) ≡ s = λ j. (sym (base ∙ zero_base) j, sym (log ∙ log_is_top) j) in
-            (0, omega arith, same)
+            (0, omega arith, same),
       );
     }
 
     pub top_covers : (w : ℕ) → w % 8 ≡ 0 → w < 2 ^ 54 → Covered ((0, 54) ∷ []) w ↔ CanUse i e g can w
-    top_covers w aligned lt =
-        (λ c. record { by = whole_by; granted = whole_granted; word = aligned; right = can_whole; covers = whole_covers w aligned lt },
-        λ u. record { by = 0; at = (omega arith, omega arith, omega arith) })
+    top_covers w aligned lt = (
+      λ c. record { by = whole_by; granted = whole_granted; word = aligned; right = can_whole; covers = whole_covers w aligned lt },
+      λ u. record { by = 0; at = (omega arith, omega arith, omega arith) },
+    )

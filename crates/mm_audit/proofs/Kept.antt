@@ -1,14 +1,12 @@
 -- The set of kept nodes, with one node more.
-use Rattle.std.proofs.Common.{◌≡◌, ℕ, ◌+◌, ◌-◌, ◌*◌, ◌/◌, ◌^◌, ◌<◌, ◌≤◌, ◌⊎◌, inl, inr, Bool, true, false, ◌&&◌, ◌==◌, bit_and, List, [], ◌∷◌, length, slice_index, refl, sym, ap, ◌∙◌, subst, arith, eqb-true, eq-eqb}
-use Rattle.std.specs.Int.{bit_at}
+use Rattle.std.proofs.Common.{◌≡◌, ℕ, ◌+◌, ◌-◌, ◌*◌, ◌/◌, ◌^◌, ◌≤◌, inl, inr, Bool, true, false, ◌&&◌, ◌==◌, bit_and, List, [], ◌∷◌, slice_index, refl, sym, ap, ◌∙◌, subst, arith, eqb-true, eq-eqb}
 use Rattle.std.proofs.lemmas.Nat.Bits.{shr_and_one}
 use Rattle.mm_flow.specs.declared.node.Node.{Node}
 use Rattle.mm_flow.specs.declared.node.Right.{Right}
-use Rattle.mm_flow.specs.Net.{has_right, right_at, node_at}
-use Rattle.mm_seg.specs.Segments.{IsSegment, IsMaximal, SomeHolds, segment_at, end_of}
+use Rattle.mm_flow.specs.Net.{has_right, node_at}
+use Rattle.mm_seg.specs.Segments.{IsSegment, IsMaximal, SomeHolds, segment_at}
 use Rattle.mm_seg.proofs.Searches.{same_or_below}
 use Rattle.mm_seg.proofs.Inserts.{at_in, in_at, in_first, in_rest, in_cases}
-use Rattle.mm_word.specs.Pointer.{base_of}
 use Rattle.mm_net.specs.declared.key.Key.{Key}
 use Rattle.mm_net.specs.Key.{IsKey, key_at, pointer_at}
 use Rattle.mm_net.proofs.Standing.{base-block, base_below}

@@ -1,5 +1,5 @@
 -- What an audit is.
-use Rattle.std.specs.Prelude.{◌≡◌, ℕ, ◌%◌, ◌^◌, ◌<◌, ◌↔◌, Bool, List, [], length, slice_index_or, Contains}
+use Rattle.std.specs.Prelude.{◌≡◌, ℕ, ◌%◌, ◌^◌, ◌<◌, ◌↔◌, List, [], slice_index_or}
 use Rattle.std.specs.Int.{bit_at}
 use Rattle.mm_word.specs.Perm.{can_load, can_store}
 use Rattle.mm_model.specs.Image.{Image}

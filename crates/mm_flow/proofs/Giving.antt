@@ -1,13 +1,12 @@
 -- The steps of giving.
 use Rattle.std.proofs.lemmas.Nat.{le_or_l}
 use Rattle.std.proofs.lemmas.Nat.Bits.{bit_at_or, bit_at_and, bit_at-lt, bit_at-zero, shr_and_one}
-use Rattle.std.proofs.Common.{◌≡◌, ℕ, zero, suc, ◌+◌, ◌*◌, ◌/◌, ◌^◌, ◌<◌, ◌≤◌, ◌⊎◌, ◌↔◌, inl, inr, Bool, true, false, if◌then◌else◌, List, [], ◌∷◌, ◌++◌, length, slice_index, slice_index_or, slice_set, max, min, bit_and, bit_or, refl, sym, ap, ◌∙◌, subst, arith, length-append}
+use Rattle.std.proofs.Common.{◌≡◌, ℕ, zero, suc, ◌+◌, ◌/◌, ◌^◌, ◌<◌, ◌≤◌, ◌⊎◌, ◌↔◌, inl, inr, Bool, true, false, List, [], ◌∷◌, ◌++◌, length, slice_index, slice_index_or, slice_set, max, min, bit_and, bit_or, refl, sym, ap, ◌∙◌, subst, arith, length-append}
 use Rattle.std.specs.Int.{bit_at}
 use Rattle.mm_flow.specs.Flow.{Has, Within, room}
-use Rattle.mm_flow.proofs.Masks.{set_cases, Set, or_cases, below_cases, length_set, room_set, Within-refl, Within-trans, Within-or_left}
+use Rattle.mm_flow.proofs.Masks.{set_cases, or_cases, below_cases, length_set, room_set, Within-refl, Within-trans, Within-or_left}
 use Rattle.mm_flow.proofs.Masks.Set.{here as set_here, there as set_there}
-use Rattle.mm_flow.proofs.Steps.{both_bits}
-use Rattle.mm_flow.specs.Gifts.{Up, Lifted, IsLifted, IsGift, IsGiven, GivenBy, IsSpread, Spreading, kept_mark}
+use Rattle.mm_flow.specs.Gifts.{Up, Lifted, IsLifted, IsGift, GivenBy, IsSpread, Spreading, kept_mark}
 use Rattle.mm_flow.specs.Gifts.Up.{here, over}
 
 pub or_left : (a b g : ℕ) → bit_at a g ≡ 1 → bit_at (bit_or a b) g ≡ 1
@@ -72,23 +71,25 @@ given_wider mask h g gives x = record { by = x.by; small = (let lt = x.small in 
 
 -- what one more group gives
 pub given_more : (mask h all g : ℕ) (gives : List ℕ) → bit_at mask h ≡ 1 → ((bit_at all g ≡ 1) ↔ GivenBy h mask gives g) → (bit_at (bit_or all (slice_index gives h)) g ≡ 1) ↔ GivenBy (h + 1) mask gives g
-given_more mask h all g gives bit k =
-    (λ x. elim (or_cases all (slice_index gives h) g x) [
-      | inl y ↦ given_wider mask h g gives (k.0 y)
-      | inr y ↦ record { by = h; small = omega arith; has = bit; gift = y }
-    ],
-    λ x. elim (below_cases x.by h x.small) [
-      | inl lt ↦ or_left all (slice_index gives h) g (k.1 (record { by = x.by; small = lt; has = x.has; gift = x.gift }))
-      | inr e ↦ or_right all (slice_index gives h) g (ap (λ v. bit_at (slice_index gives v) g) (sym e) ∙ x.gift)
-    ])
+given_more mask h all g gives bit k = (
+  λ x. elim (or_cases all (slice_index gives h) g x) [
+    | inl y ↦ given_wider mask h g gives (k.0 y)
+    | inr y ↦ record { by = h; small = omega arith; has = bit; gift = y }
+  ],
+  λ x. elim (below_cases x.by h x.small) [
+    | inl lt ↦ or_left all (slice_index gives h) g (k.1 (record { by = x.by; small = lt; has = x.has; gift = x.gift }))
+    | inr e ↦ or_right all (slice_index gives h) g (ap (λ v. bit_at (slice_index gives v) g) (sym e) ∙ x.gift)
+  ],
+)
 
 pub given_skip : (mask h all g : ℕ) (gives : List ℕ) → (bit_at mask h ≡ 1 → ⊥) → ((bit_at all g ≡ 1) ↔ GivenBy h mask gives g) → (bit_at all g ≡ 1) ↔ GivenBy (h + 1) mask gives g
-given_skip mask h all g gives no_bit k =
-    (λ y. given_wider mask h g gives (k.0 y),
-    λ x. elim (below_cases x.by h x.small) [
-      | inl lt ↦ k.1 (record { by = x.by; small = lt; has = x.has; gift = x.gift })
-      | inr e ↦ absurd (no_bit (ap (bit_at mask) (sym e) ∙ x.has))
-    ])
+given_skip mask h all g gives no_bit k = (
+  λ y. given_wider mask h g gives (k.0 y),
+  λ x. elim (below_cases x.by h x.small) [
+    | inl lt ↦ k.1 (record { by = x.by; small = lt; has = x.has; gift = x.gift })
+    | inr e ↦ absurd (no_bit (ap (bit_at mask) (sym e) ∙ x.has))
+  ],
+)
 
 -- what stands at a place after a push
 pub data Pushed (xs : List ℕ) (v k : ℕ) : Type 0 where

@@ -1,8 +1,8 @@
 -- Climbing, and one segment more.
-use Rattle.std.proofs.Common.{◌≡◌, ℕ, zero, suc, ◌+◌, ◌-◌, ◌<◌, ◌≤◌, ◌⊎◌, inl, inr, List, [], ◌∷◌, ◌++◌, length, slice_index, refl, sym, ap, ◌∙◌, subst, arith}
+use Rattle.std.proofs.Common.{◌≡◌, ℕ, ◌-◌, ◌<◌, ◌≤◌, inl, inr, List, [], ◌∷◌, ◌++◌, length, slice_index, refl, sym, subst, arith}
 use Rattle.mm_flow.specs.Gifts.{Up}
 use Rattle.mm_flow.specs.Gifts.Up.{here, over}
-use Rattle.mm_flow.proofs.Giving.{push_cases, Pushed, push_length}
+use Rattle.mm_flow.proofs.Giving.{push_cases, push_length}
 use Rattle.mm_flow.proofs.Giving.Pushed.{last, before}
 use Rattle.mm_flow.proofs.Masks.{below_cases}
 use Rattle.mm_flow.specs.Forest.{IsNested, IsForest, Climbed}

@@ -1,5 +1,5 @@
 -- Segments in the order of their bases, and for each the nearest one above it.
-use Rattle.std.specs.Prelude.{◌≡◌, ℕ, ◌+◌, ◌*◌, ◌/◌, ◌^◌, ◌<◌, ◌≤◌, ◌⊎◌, ◌↔◌, List, length, slice_index}
+use Rattle.std.specs.Prelude.{◌≡◌, ℕ, ◌+◌, ◌*◌, ◌/◌, ◌^◌, ◌<◌, ◌≤◌, List, length, slice_index}
 use Rattle.mm_flow.specs.Gifts.{Up}
 
 -- ascending bases; what begins within an earlier segment ends within it

@@ -1,5 +1,5 @@
 -- A net: nodes, each with the nodes that it leads to.
-use Rattle.std.specs.Prelude.{ℕ, Bool, true, false, List, slice_index_or}
+use Rattle.std.specs.Prelude.{ℕ, Bool, false, List, slice_index_or}
 use Rattle.mm_flow.specs.declared.node.Node.{Node}
 use Rattle.mm_flow.specs.declared.node.Right.{Right}
 use Rattle.mm_flow.specs.declared.node.Right.TheVariants.{Load, Store, Make}

@@ -3,7 +3,7 @@ use Rattle.std.specs.Prelude.{◌≡◌, ℕ, ◌<◌, ◌≤◌, ◌⊎◌, Boo
 use Rattle.std.specs.Int.{bit_at}
 use Rattle.mm_flow.specs.declared.node.Right.TheVariants.{Load, Store, Make}
 use Rattle.mm_flow.specs.Net.{Edges, Ties, low_at, high_at, entry_at, enters_at, right_at}
-use Rattle.mm_flow.specs.Flow.{Fits, Has, Within, Settled, room}
+use Rattle.mm_flow.specs.Flow.{Has, Within}
 use Rattle.mm_flow.specs.Gifts.{Up, Lifted}
 
 pub record TiesFit (n : Ties) (size : ℕ) : Type 0 where

@@ -31,7 +31,11 @@ pub fn parents(alloc: Global, bases: &[u64], ends: &[u64]) -> Result<Vec<usize>,
 {
     let mut par = Vec::new(alloc);
     for k in 0..bases.len() {
-        let up = if k == 0 { 0 } else { climb(bases, ends, &par, k - 1, bases[k], k) };
+        let up = if k == 0 {
+            0
+        } else {
+            climb(bases, ends, &par, k - 1, bases[k], k)
+        };
         par.push(up)?;
     }
     Ok(par)

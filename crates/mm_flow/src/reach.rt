@@ -65,11 +65,9 @@ pub fn saturate(
 ) -> Result<(), AllocError>
     requires edges { Fits (record { nodes = nodes.now; targets = targets.now }) (length marks.old) }
     requires ties { TiesFit (record { nodes = nodes.now; parents = parents.now; links = links }) (length marks.old) }
-    ensures reach {
-        IfOk
-            result
-            (λ _. IsReach (record { nodes = nodes.now; targets = targets.now }) (record { nodes = nodes.now; parents = parents.now; links = links }) marks.old marks.new)
-    }
+    ensures reach { IfOk
+        result
+        (λ _. IsReach (record { nodes = nodes.now; targets = targets.now }) (record { nodes = nodes.now; parents = parents.now; links = links }) marks.old marks.new) }
     ensures fits { IfOk result (λ _. (k : ℕ) → slice_index marks.new k < 2 ^ 64) }
 {
     loop {

@@ -1,23 +1,23 @@
 -- The parts of a net stand for their image.
-use Rattle.std.proofs.Common.{◌≡◌, ℕ, zero, suc, ◌+◌, ◌-◌, ◌*◌, ◌/◌, ◌%◌, ◌^◌, ◌<◌, ◌≤◌, ◌⊎◌, ◌↔◌, inl, inr, Bool, true, false, List, length, slice_index, get_or, Option, Some, None, option_and_then, refl, sym, ap, ◌∙◌, subst, arith, pow_pos}
+use Rattle.std.proofs.Common.{◌≡◌, ℕ, ◌+◌, ◌-◌, ◌*◌, ◌/◌, ◌%◌, ◌^◌, ◌<◌, ◌≤◌, ◌⊎◌, inl, inr, Bool, true, false, List, length, slice_index, get_or, Option, Some, None, option_and_then, refl, sym, ap, ◌∙◌, subst, arith, pow_pos}
 use Rattle.std.specs.Int.{bit_at}
-use Rattle.std.specs.List.{Contains, All, AllByRecursion}
+use Rattle.std.specs.List.{Contains}
 use Rattle.std.proofs.lemmas.List.{get_or_default}
 use Rattle.std.proofs.lemmas.List.Elements.{Contains-get_or, All-from_recursion, All-contains}
-use Rattle.mm_word.specs.declared.perm.Perm.TheVariants.{Xp, Eu, Ep}
+use Rattle.mm_word.specs.declared.perm.Perm.TheVariants.{Eu, Ep}
 use Rattle.mm_word.specs.declared.word.Word.{Word}
 use Rattle.mm_word.specs.declared.word.Word.TheVariants.{Int, Ptr}
 use Rattle.mm_word.specs.declared.word.Cell.{Cell}
 use Rattle.mm_word.specs.Word.{IsWord}
 use Rattle.mm_word.specs.Pointer.{Pointer, IsWellFormed, IsBelow, base_of, enter_result}
-use Rattle.mm_model.specs.Memory.{cell_at, IsPaged}
+use Rattle.mm_model.specs.Memory.{cell_at}
 use Rattle.mm_model.specs.Slot.{Slot}
 use Rattle.mm_model.specs.Image.{Image, slot_limit}
 use Rattle.mm_model.specs.Spelling.{IsImage, IsFresh}
-use Rattle.mm_model.specs.Reach.{Entries, Grants, MayEnter, Serves, LoadsAt, StoresAt}
+use Rattle.mm_model.specs.Reach.{Entries, Grants, MayEnter, LoadsAt, StoresAt}
 use Rattle.mm_model.specs.Reach.Grants.{in_register, runs_by, below}
 use Rattle.mm_flow.specs.declared.node.Node.{Node}
-use Rattle.mm_flow.specs.declared.node.Right.TheVariants.{Load, Store, Make}
+use Rattle.mm_flow.specs.declared.node.Right.TheVariants.{Load, Store}
 use Rattle.mm_flow.specs.Net.{Edges, Ties, node_at, low_at, high_at, entry_at, enters_at, right_at}
 use Rattle.mm_flow.specs.Flow.{Has}
 use Rattle.mm_flow.specs.Gifts.{Up}
@@ -28,10 +28,9 @@ use Rattle.mm_summary.specs.Summary.{IsIdle}
 use Rattle.mm_summary.specs.NetOf.{IsNetOf, Started, TargetOf, CellOf, EntryOf, CommonWord, Meet, LoadedWord, Entered}
 use Rattle.mm_net.specs.declared.key.Key.{Key}
 use Rattle.mm_net.specs.declared.found.Found.{Found}
-use Rattle.mm_net.specs.declared.seed.Seed.{Seed}
-use Rattle.mm_net.specs.Key.{IsKey, key_at, no_key, pointer_at, standing_key, word_key, entry_key, loads_words, stores_words, makes_pointers, is_entry}
+use Rattle.mm_net.specs.Key.{IsKey, key_at, no_key, pointer_at, standing_key, word_key, entry_key, loads_words, is_entry}
 use Rattle.mm_net.specs.Found.{page_keys, seeds_of}
-use Rattle.mm_net.specs.Nodes.{IsKeysOf, IsNodes, IsNode, IsRange, IsTargets, IsMarks, IsLinks, AreLinked, nothing, found_word}
+use Rattle.mm_net.specs.Nodes.{IsKeysOf, IsNodes, IsNode, IsTargets, IsMarks, IsLinks, nothing, found_word}
 use Rattle.mm_net.specs.Masks.{IsEntryMasks}
 use Rattle.mm_net.specs.Forest.{HasForest}
 use Rattle.mm_net.specs.Marked.{node_pointer}

@@ -6,7 +6,7 @@ use Rattle.std.proofs.lemmas.Bool.Decides.{nat_tests}
 use Rattle.mm_word.specs.declared.perm.Perm.{Perm}
 use Rattle.mm_word.specs.declared.perm.Perm.TheVariants.{Ro, Rw, Xu, Xp, Eu, Ep, Key as KeyPerm}
 use Rattle.mm_word.specs.Perm.{can_load, can_store}
-use Rattle.mm_word.specs.Pointer.{Pointer, InSegment, Covers, base_of}
+use Rattle.mm_word.specs.Pointer.{Pointer, Covers, base_of}
 use Rattle.mm_word.proofs.Below.{Covers-short}
 use Rattle.mm_model.specs.Reach.{LoadsAt, StoresAt}
 use Rattle.mm_net.specs.Key.{loads_words, stores_words, makes_pointers, is_entry}

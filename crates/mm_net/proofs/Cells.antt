@@ -1,10 +1,9 @@
 -- What was found is what the cells hold, in the order of their words.
-use Rattle.std.proofs.Common.{◌≡◌, ℕ, zero, suc, ◌+◌, ◌*◌, ◌/◌, ◌%◌, ◌^◌, ◌<◌, ◌≤◌, ◌⊎◌, inl, inr, Bool, true, false, ◌==◌, if◌then◌else◌, List, [], ◌∷◌, ◌++◌, length, get_or, slice_get, Option, Some, None, refl, sym, ap, ◌∙◌, subst, arith, eqb-true, eq-eqb}
-use Rattle.std.specs.Prelude.{IsTrue}
-use Rattle.std.specs.List.{Contains, AllByRecursion, flat_map}
+use Rattle.std.proofs.Common.{◌≡◌, ℕ, zero, suc, ◌+◌, ◌*◌, ◌%◌, ◌^◌, ◌<◌, ◌≤◌, inl, inr, Bool, true, false, if◌then◌else◌, List, [], ◌∷◌, ◌++◌, length, get_or, slice_get, Option, Some, None, refl, sym, ap, ◌∙◌, subst, arith, eqb-true}
+use Rattle.std.specs.List.{Contains, flat_map}
 use Rattle.std.specs.Ordering.{nat_cmp, eq_by_cmp}
 use Rattle.std.specs.Cmp.{unsigned_tied}
-use Rattle.std.specs.FinMap.{find, is_sorted}
+use Rattle.std.specs.FinMap.{find}
 use Rattle.std.proofs.lemmas.List.Elements.{Contains-append_left, Contains-append_right, Contains-append_cases, All-from_recursion, All-contains}
 use Rattle.mm_word.specs.declared.word.Cell.{Cell}
 use Rattle.mm_model.specs.Memory.{Memory, cell_at, cell_in, page_at, page_of, place_of, IsPage, IsPaged}
@@ -12,9 +11,9 @@ use Rattle.mm_model.proofs.Memories.{cell_at-aligned, cell_at-unaligned, word_or
 use Rattle.mm_image.proofs.SortedEntries.{rises, find-at}
 use Rattle.mm_net.specs.declared.key.Key.{Key}
 use Rattle.mm_net.specs.declared.found.Found.{Found}
-use Rattle.mm_net.specs.Key.{word_key, no_key}
+use Rattle.mm_net.specs.Key.{word_key}
 use Rattle.mm_net.specs.Found.{found_at, cell_keys, page_keys}
-use Rattle.mm_net.specs.Nodes.{IsAscending, found_word, nothing}
+use Rattle.mm_net.specs.Nodes.{IsAscending, found_word}
 use Rattle.mm_net.proofs.KeyLists.{contains_here, contains_rest, contains_cases}
 
 -- one page's cells

@@ -1,12 +1,10 @@
 -- The marks of a net that has spread are exact.
-use Rattle.std.proofs.Common.{◌≡◌, ◌==◌, ℕ, ◌^◌, ◌<◌, ◌↔◌, List, ◌++◌, length, take, slice_index, refl, sym, ap, ◌∙◌, subst, arith}
-use Rattle.std.specs.Int.{bit_at}
+use Rattle.std.proofs.Common.{◌≡◌, ℕ, ◌^◌, ◌<◌, List, ◌++◌, length, take, slice_index, ◌∙◌}
 use Rattle.std.proofs.lemmas.List.{take_at}
 use Rattle.mm_model.specs.Image.{Image}
 use Rattle.mm_model.specs.Reach.{Entries}
 use Rattle.mm_model.specs.Spelling.{IsImage}
 use Rattle.mm_flow.specs.declared.node.Node.{Node}
-use Rattle.mm_flow.specs.Net.{Edges, Ties}
 use Rattle.mm_flow.specs.Reached.{IsReach}
 use Rattle.mm_summary.proofs.Nets.{exact_marks}
 use Rattle.mm_net.specs.declared.key.Key.{Key}

@@ -1,5 +1,5 @@
 -- The key that an entry gives is one.
-use Rattle.std.proofs.Common.{◌≡◌, ℕ, ◌+◌, ◌-◌, ◌≤◌, Some, sym, ap, ◌∙◌, subst, arith}
+use Rattle.std.proofs.Common.{◌≡◌, ◌+◌, ◌-◌, Some, sym, ap, subst, arith}
 use Rattle.mm_word.specs.Pointer.{Pointer, IsWellFormed, base_of}
 use Rattle.mm_word.proofs.Packing.{SpellsPointer-bits_of}
 use Rattle.mm_net.specs.declared.key.Key.{Key}

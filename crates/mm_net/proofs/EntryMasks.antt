@@ -1,13 +1,11 @@
 -- The masks of those who may enter.
-use Rattle.std.proofs.Common.{◌≡◌, ℕ, zero, suc, ◌+◌, ◌-◌, ◌^◌, ◌<◌, ◌≤◌, ◌⊎◌, inl, inr, List, [], ◌∷◌, ◌++◌, length, take, replicate, slice_index, get_or, refl, sym, ap, ◌∙◌, subst, arith}
+use Rattle.std.proofs.Common.{◌≡◌, ℕ, ◌+◌, ◌-◌, ◌^◌, ◌<◌, inl, inr, List, [], ◌∷◌, ◌++◌, length, take, replicate, get_or, sym, ap, ◌∙◌, subst, arith}
 use Rattle.std.proofs.lemmas.List.{get_or-replicate, length-replicate, take_more}
 use Rattle.std.proofs.lemmas.Nat.Bits.{bit_at_ones}
 use Rattle.std.specs.Int.{bit_at}
 use Rattle.std.specs.List.{Contains, All, AllZip}
 use Rattle.mm_word.specs.Pointer.{Pointer, pointer_of, bits_of, SpellsPointer}
-use Rattle.mm_model.specs.Reach.{Entries, MayEnter}
 use Rattle.mm_model.specs.Reach.Entries.{All as AnyEntry, These as TheseEntries}
-use Rattle.mm_flow.specs.Flow.{Has}
 use Rattle.mm_net.specs.declared.key.Key.{Key}
 use Rattle.mm_net.specs.declared.seed.Seed.{Seed}
 use Rattle.mm_net.specs.Key.{IsKey, key_at, key_of, pointer_at, no_key}

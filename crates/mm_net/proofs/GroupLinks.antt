@@ -1,7 +1,7 @@
 -- Links, one after the other.
-use Rattle.std.proofs.Common.{◌≡◌, ℕ, ◌+◌, ◌<◌, ◌≤◌, ◌⊎◌, inl, inr, List, length, Some, get_or, refl, sym, ap, ◌∙◌, subst, arith}
+use Rattle.std.proofs.Common.{◌≡◌, ℕ, ◌+◌, ◌<◌, inl, inr, List, length, Some, get_or, refl, sym, ap, ◌∙◌, subst, arith}
 use Rattle.std.specs.List.{Contains}
-use Rattle.std.proofs.lemmas.List.{get_or_default, get_or_read}
+use Rattle.std.proofs.lemmas.List.{get_or_read}
 use Rattle.mm_flow.specs.Flow.{Has}
 use Rattle.mm_flow.proofs.Masks.{below_cases}
 use Rattle.mm_model.specs.Slot.{Slot}

@@ -1,13 +1,13 @@
 -- Lists of keys.
-use Rattle.std.proofs.Common.{◌≡◌, ℕ, zero, suc, ◌+◌, ◌<◌, ◌≤◌, ◌⊎◌, ◌↔◌, inl, inr, List, [], ◌∷◌, ◌++◌, length, take, map, get_or, Option, Some, None, refl, sym, ap, ◌∙◌, subst, arith}
+use Rattle.std.proofs.Common.{◌≡◌, ℕ, zero, suc, ◌+◌, ◌<◌, ◌⊎◌, ◌↔◌, inl, inr, List, [], ◌∷◌, ◌++◌, length, take, map, get_or, Option, Some, None, refl, sym, ap, ◌∙◌, subst, arith}
 use Rattle.std.specs.List.{Contains, All, filter_map, cons_option}
 use Rattle.std.specs.Option.{option_to_list}
-use Rattle.std.proofs.lemmas.List.{take_more, get_or_append_left, get_or_push}
-use Rattle.std.proofs.lemmas.List.Elements.{filter_map-append, All-append, All-map, All-nil, All-contains, Contains-get_or, Contains-append_left, Contains-append_right, Contains-append_cases}
+use Rattle.std.proofs.lemmas.List.{take_more}
+use Rattle.std.proofs.lemmas.List.Elements.{filter_map-append, All-append, All-map, All-contains, Contains-get_or, Contains-append_left, Contains-append_right, Contains-append_cases}
 use Rattle.mm_net.specs.declared.key.Key.{Key}
 use Rattle.mm_net.specs.declared.found.Found.{Found}
 use Rattle.mm_net.specs.declared.seed.Seed.{Seed}
-use Rattle.mm_net.specs.Key.{IsKey, IsRising, key_at, no_key, entry_key}
+use Rattle.mm_net.specs.Key.{IsKey, IsRising, entry_key}
 use Rattle.mm_net.specs.Nodes.{IsKeysOf}
 use Rattle.mm_net.proofs.Standing.{entry_again}
 

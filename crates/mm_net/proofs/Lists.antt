@@ -3,8 +3,6 @@ use Rattle.std.proofs.Common.{◌≡◌, ℕ, ◌+◌, ◌*◌, ◌<◌, List, [
 use Rattle.std.proofs.lemmas.List.{take_more, length-take-le}
 use Rattle.mm_word.specs.declared.word.Word.{Word}
 use Rattle.mm_word.specs.declared.word.Cell.{Cell}
-use Rattle.mm_net.specs.declared.found.Found.{Found}
-use Rattle.mm_net.specs.declared.seed.Seed.{Seed}
 use Rattle.mm_net.specs.Key.{word_key}
 use Rattle.mm_net.specs.Found.{found_at, cell_keys, seed_at, word_seeds}
 

@@ -1,11 +1,11 @@
 -- One bit more in a list of masks.
 use Rattle.std.proofs.lemmas.Nat.{pow_below}
-use Rattle.std.proofs.lemmas.Nat.Bits.{bit_at-pow_same, bit_at-pow_other, bit_at-lt}
+use Rattle.std.proofs.lemmas.Nat.Bits.{bit_at-pow_same, bit_at-pow_other}
 use Rattle.std.proofs.lemmas.Bool.{cases_lt}
-use Rattle.std.proofs.Common.{◌≡◌, ◌≢◌, ℕ, ◌+◌, ◌*◌, ◌%◌, ◌^◌, ◌<◌, ◌≤◌, ◌⊎◌, inl, inr, List, length, slice_index, slice_set, bit_or, refl, sym, ap, ◌∙◌, subst, arith}
+use Rattle.std.proofs.Common.{◌≡◌, ◌≢◌, ℕ, ◌*◌, ◌%◌, ◌^◌, ◌<◌, ◌⊎◌, inl, inr, List, length, slice_index, slice_set, bit_or, refl, sym, ap, ◌∙◌, arith}
 use Rattle.std.specs.Int.{bit_at}
 use Rattle.mm_flow.specs.Flow.{Has}
-use Rattle.mm_flow.proofs.Masks.{set_cases, Set, length_set, or_cases}
+use Rattle.mm_flow.proofs.Masks.{set_cases, length_set, or_cases}
 use Rattle.mm_flow.proofs.Masks.Set.{here, there}
 use Rattle.mm_flow.proofs.Giving.{or_left, or_right}
 

@@ -1,15 +1,15 @@
 -- Pointers that stand for others.
-use Rattle.std.proofs.Common.{◌≡◌, ◌≢◌, ℕ, ◌+◌, ◌-◌, ◌*◌, ◌/◌, ◌^◌, ◌<◌, ◌≤◌, ◌⊎◌, inl, inr, Bool, true, false, Option, Some, None, option_map, option_and_then, if◌then◌else◌, nat_lt, refl, sym, ap, ◌∙◌, subst, arith}
-use Rattle.std.proofs.lemmas.Nat.{shl-shr, pow_pos, shr_split, mod_below}
+use Rattle.std.proofs.Common.{◌≡◌, ◌≢◌, ℕ, ◌*◌, ◌/◌, ◌^◌, ◌<◌, ◌≤◌, ◌⊎◌, inl, inr, Bool, true, false, Option, Some, None, option_map, option_and_then, if◌then◌else◌, refl, sym, ap, ◌∙◌, subst, arith}
+use Rattle.std.proofs.lemmas.Nat.{shl-shr, shr_split}
 use Rattle.std.proofs.lemmas.Bool.Decides.{nat_tests}
 use Rattle.mm_word.specs.declared.perm.Perm.{Perm}
 use Rattle.mm_word.specs.declared.perm.Perm.TheVariants.{Ro, Rw, Xu, Xp, Eu, Ep, Key as KeyPerm}
-use Rattle.mm_word.specs.Perm.{can_move, can_become, execute_form}
-use Rattle.mm_word.specs.Pointer.{Pointer, IsWellFormed, InSegment, IsBelow, Narrows, pointer_of, bits_of, base_of, enter_result}
+use Rattle.mm_word.specs.Perm.{can_move, execute_form}
+use Rattle.mm_word.specs.Pointer.{Pointer, IsWellFormed, IsBelow, base_of, enter_result}
 use Rattle.mm_word.proofs.Packing.{pointer_of-bits_of}
 use Rattle.mm_summary.specs.Summary.{IsIdle}
 use Rattle.mm_net.specs.declared.key.Key.{Key}
-use Rattle.mm_net.specs.Key.{key_of, pointer_at, is_idle_at, is_idle, standing_for, standing_key, entry_key, word_key}
+use Rattle.mm_net.specs.Key.{key_of, pointer_at, is_idle_at, is_idle, standing_for, standing_key, entry_key}
 
 -- the test of idle pointers
 

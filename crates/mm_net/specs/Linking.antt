@@ -1,5 +1,5 @@
 -- One link, and those of one slot.
-use Rattle.std.specs.Prelude.{◌≡◌, ℕ, ◌<◌, ◌⊎◌, List, length, Contains, slice_index_or, Some}
+use Rattle.std.specs.Prelude.{◌≡◌, ℕ, ◌<◌, ◌⊎◌, List, length, slice_index_or, Some}
 use Rattle.mm_flow.specs.Flow.{Has}
 use Rattle.mm_model.specs.Slot.{Slot}
 

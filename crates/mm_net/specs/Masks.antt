@@ -1,5 +1,5 @@
 -- Who may enter by the keys of a net.
-use Rattle.std.specs.Prelude.{◌≡◌, ℕ, ◌<◌, ◌↔◌, List, length, slice_index_or}
+use Rattle.std.specs.Prelude.{◌≡◌, ℕ, ◌<◌, List, length}
 use Rattle.mm_word.specs.Pointer.{Pointer}
 use Rattle.mm_model.specs.Reach.{Entries, MayEnter}
 use Rattle.mm_model.specs.Reach.Entries.{All as AnyEntry, These as TheseEntries}
@@ -8,7 +8,7 @@ use Rattle.mm_net.specs.declared.entries.Entries.{Entries as DeclaredEntries}
 use Rattle.mm_net.specs.declared.entries.Entries.TheVariants.{All, These}
 use Rattle.mm_net.specs.declared.key.Key.{Key}
 use Rattle.mm_net.specs.declared.seed.Seed.{Seed}
-use Rattle.mm_net.specs.Key.{IsKey, key_at, key_of, pointer_at, no_key}
+use Rattle.mm_net.specs.Key.{key_at, key_of, pointer_at}
 
 -- what a value of the type means
 abbrev pub meaning : DeclaredEntries → Entries

@@ -1,6 +1,5 @@
 -- What the parts of a net are, for keys and what was found.
-use Rattle.std.specs.Prelude.{◌≡◌, ℕ, ◌+◌, ◌*◌, ◌^◌, ◌<◌, ◌≤◌, ◌↔◌, true, false, ◌⊎◌, List, [], length, slice_index, slice_index_or, Contains, All, Option, Some, None}
-use Rattle.std.specs.Int.{bit_at}
+use Rattle.std.specs.Prelude.{◌≡◌, ℕ, ◌+◌, ◌^◌, ◌<◌, ◌≤◌, true, false, ◌⊎◌, List, length, slice_index, slice_index_or, Contains, All, Some, None}
 use Rattle.mm_word.specs.Pointer.{Pointer, base_of}
 use Rattle.mm_model.specs.Slot.{Slot}
 use Rattle.mm_flow.specs.declared.node.Node.{Node}

@@ -1,5 +1,5 @@
 -- All parts of an image's net.
-use Rattle.std.specs.Prelude.{◌≡◌, ℕ, List}
+use Rattle.std.specs.Prelude.{ℕ, List}
 use Rattle.mm_model.specs.Image.{Image}
 use Rattle.mm_model.specs.Reach.{Entries}
 use Rattle.mm_flow.specs.declared.node.Node.{Node}

@@ -78,7 +78,11 @@ pub fn standing(p: GuardedPtr) -> Option<Key>
     ensures value { result ≡ standing_key p }
     ensures key { IfSome result IsKey }
 {
-    if is_idle(p) { None } else { Some(Key::of(standing_for(p))) }
+    if is_idle(p) {
+        None
+    } else {
+        Some(Key::of(standing_for(p)))
+    }
 }
 
 /// The same of a word.

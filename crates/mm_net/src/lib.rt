@@ -4,8 +4,8 @@
 mod above;
 mod entries;
 mod found;
-mod keys;
 mod key;
+mod keys;
 mod links;
 mod mark;
 mod net;

@@ -118,9 +118,5 @@ pub fn marked(alloc: Global, img: &Image, entries: &Entries) -> Result<Marks, Al
     } = net;
     let mut marks = start;
     saturate(alloc, &mut marks, &nodes, &targets, &parents, links)?;
-    Ok(Marks {
-        keys,
-        nodes,
-        marks,
-    })
+    Ok(Marks { keys, nodes, marks })
 }

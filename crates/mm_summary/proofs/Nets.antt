@@ -1,26 +1,23 @@
 -- The marks of a net are a sound and closed summary of its image.
 use Rattle.std.proofs.lemmas.Nat.Bits.{bit_at_above}
 use Rattle.std.proofs.lemmas.Bool.{cases_lt}
-use Rattle.std.proofs.Common.{◌≡◌, ℕ, ◌+◌, ◌<◌, ◌≤◌, ◌^◌, ◌⊎◌, ◌↔◌, inl, inr, Bool, true, ◌==◌, IsTrue, List, length, slice_index, Some, refl, sym, ap, ◌∙◌, subst, arith, eqb-true, eq-eqb}
+use Rattle.std.proofs.Common.{◌≡◌, ℕ, ◌<◌, ◌^◌, ◌⊎◌, ◌↔◌, inl, inr, Bool, ◌==◌, IsTrue, List, length, slice_index, Some, refl, sym, ap, ◌∙◌, subst, arith, eqb-true, eq-eqb}
 use Rattle.std.specs.Int.{bit_at}
-use Rattle.std.specs.List.{Contains}
 use Rattle.mm_word.specs.declared.perm.Perm.TheVariants.{Rw, Xp, Eu, Ep}
 use Rattle.mm_word.specs.declared.word.Word.TheVariants.{Ptr}
 use Rattle.mm_word.specs.declared.word.Cell.{Cell}
 use Rattle.mm_word.specs.Pointer.{Pointer, IsBelow, enter_result}
 use Rattle.mm_model.specs.Memory.{cell_at}
-use Rattle.mm_model.specs.Slot.{Slot}
 use Rattle.mm_model.specs.Image.{Image}
-use Rattle.mm_model.specs.Reach.{Entries, Grants, MayEnter, Serves, LoadsAt, StoresAt}
+use Rattle.mm_model.specs.Reach.{Entries, Grants, MayEnter, LoadsAt, StoresAt}
 use Rattle.mm_model.specs.Reach.Grants.{in_cell, below, passed, entered, served, made}
-use Rattle.mm_flow.specs.declared.node.Right.TheVariants.{Load, Store, Make}
-use Rattle.mm_flow.specs.Net.{Edges, Ties, low_at, high_at, entry_at, enters_at, right_at}
+use Rattle.mm_flow.specs.declared.node.Right.TheVariants.{Make}
+use Rattle.mm_flow.specs.Net.{Edges, Ties, entry_at, right_at}
 use Rattle.mm_flow.specs.Flow.{Has}
-use Rattle.mm_flow.specs.Gifts.{Up}
 use Rattle.mm_flow.specs.Reached.{HasSome, Reached, IsReach}
 use Rattle.mm_flow.specs.Reached.Reached.{from, along, through, linked, shared, lent}
-use Rattle.mm_summary.specs.Summary.{IsIdle, SomeAbove, Holds, Includes, IsClosed, IsSound, IsExact}
-use Rattle.mm_summary.specs.NetOf.{IsNetOf, Started, TargetOf, CellOf, EntryOf, CommonWord, Meet, LoadedWord, Marked, Entered}
+use Rattle.mm_summary.specs.Summary.{IsIdle, Holds, Includes, IsClosed, IsSound, IsExact}
+use Rattle.mm_summary.specs.NetOf.{IsNetOf, Started, Marked}
 use Rattle.mm_summary.proofs.Heart.{exact, whole_by, whole_covers, whole_fits}
 
 module _ (i : Image) (e : Entries) (node : ℕ → Pointer) (n : Edges) (t : Ties) (start : List ℕ) (net : IsNetOf i e node n t start) where

@@ -1,9 +1,9 @@
 -- What a pointer below another permits.
-use Rattle.std.proofs.Common.{◌≡◌, ◌≢◌, ℕ, ◌+◌, ◌/◌, ◌^◌, ◌<◌, ◌≤◌, ◌⊎◌, inl, inr, Bool, true, false, IsTrue, refl, sym, ap, ◌∙◌, subst, arith}
+use Rattle.std.proofs.Common.{◌≡◌, ℕ, ◌+◌, ◌≤◌, ◌⊎◌, inl, inr, true, refl, sym, ap, ◌∙◌, subst, arith}
 use Rattle.mm_word.specs.declared.perm.Perm.{Perm}
 use Rattle.mm_word.specs.declared.perm.Perm.TheVariants.{Ro, Rw, Xu, Xp, Eu, Ep, Key}
 use Rattle.mm_word.specs.Perm.{can_load, can_store, can_move, can_become}
-use Rattle.mm_word.specs.Pointer.{Pointer, InSegment, Covers, IsBelow, Narrows}
+use Rattle.mm_word.specs.Pointer.{Pointer, InSegment, IsBelow}
 use Rattle.mm_word.proofs.Below.{Covers-short}
 use Rattle.mm_word.proofs.Segments.{inside_is_shorter}
 use Rattle.mm_model.specs.Reach.{LoadsAt, StoresAt}

@@ -1,5 +1,5 @@
 -- What a summary says of each group's pointers, and what makes it exact.
-use Rattle.std.specs.Prelude.{◌≡◌, ◌≢◌, ℕ, ◌<◌, ◌^◌, ◌⊎◌, ◌↔◌, Bool, IsTrue, Contains, Some}
+use Rattle.std.specs.Prelude.{◌≡◌, ◌≢◌, ℕ, ◌<◌, ◌⊎◌, ◌↔◌, Bool, IsTrue, Contains, Some}
 use Rattle.mm_word.specs.declared.perm.Perm.TheVariants.{Xp, Eu, Ep, Key}
 use Rattle.mm_word.specs.declared.word.Word.TheVariants.{Ptr}
 use Rattle.mm_word.specs.declared.word.Cell.{Cell}

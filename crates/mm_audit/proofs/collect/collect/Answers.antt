@@ -1,6 +1,5 @@
-use Rattle.std.proofs.Common.{◌∙◌, subst, sym}
+use Rattle.std.proofs.Common.{◌∙◌, sym}
 use Rattle.mm_net.specs.Key.{no_key, key_at}
-use Rattle.mm_audit.specs.Sets.{IsKeptSet}
 use Rattle.mm_audit.proofs.Kept.{key_is_segment, kept_then, kept_skip, kept_more}
 use Rattle.mm_audit.proofs.collect.collect.Goals as goal
 use Rattle.mm_audit.proofs.collect.collect.Goals.{then-is_kept+in_ok-insert, else-is_kept}

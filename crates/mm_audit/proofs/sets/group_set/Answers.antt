@@ -1,5 +1,4 @@
-use Rattle.std.proofs.Common.{◌≡◌, ◌∷◌, [], ◌∙◌, sym, ap, subst}
-use Rattle.mm_seg.specs.Segments.{IsMaximal, IsSet}
+use Rattle.std.proofs.Common.{◌∙◌, sym}
 use Rattle.std.proofs.lemmas.Nat.Bits.{shr_and_one}
 use Rattle.mm_audit.proofs.OneSet.{one_set}
 use Rattle.mm_audit.proofs.sets.group_set.Goals as goal

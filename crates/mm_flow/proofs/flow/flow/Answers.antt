@@ -1,5 +1,5 @@
-use Rattle.std.proofs.Common.{◌≡◌, ℕ, ◌<◌, ◌++◌, ◌∷◌, [], List, length, slice_index, arith, refl, sym, subst, length-append}
-use Rattle.mm_flow.specs.Flow.{IsIn, Flowing, Stepped, IsFlow}
+use Rattle.std.proofs.Common.{◌≡◌, ℕ, ◌<◌, ◌++◌, ◌∷◌, [], List, length, arith, refl, sym, subst}
+use Rattle.mm_flow.specs.Flow.{IsIn, Flowing, Stepped}
 use Rattle.mm_flow.specs.Net.{Edges}
 use Rattle.mm_flow.proofs.Masks.{in_push_last}
 use Rattle.mm_flow.proofs.Steps.{flowing_start, flowing_step, flowing_end}

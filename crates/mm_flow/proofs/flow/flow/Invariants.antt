@@ -1,5 +1,5 @@
-use Rattle.std.proofs.Common.{◌≡◌, ℕ, ◌<◌, ◌+◌, ◌*◌, ◌^◌, length}
-use Rattle.mm_flow.specs.Flow.{IsIn, Fits, Flowing, room}
+use Rattle.std.proofs.Common.{◌+◌, ◌*◌, ◌^◌, length}
+use Rattle.mm_flow.specs.Flow.{Flowing, room}
 use Rattle.mm_flow.proofs.flow.flow.Given as goal
 
 abbrev pub invariant-loop-k : goal.invariant-loop-k

@@ -1,4 +1,3 @@
-use Rattle.std.proofs.Common.{◌≡◌}
 use Rattle.mm_flow.specs.Flow.{Carried, IsAmong}
 use Rattle.mm_flow.proofs.flow.visit.Given as goal
 

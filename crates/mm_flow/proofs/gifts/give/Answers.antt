@@ -1,4 +1,4 @@
-use Rattle.std.proofs.Common.{◌≡◌, ◌<◌, length, arith, rules}
+use Rattle.std.proofs.Common.{◌<◌, length, arith}
 use Rattle.mm_flow.proofs.Giving.{gift_more, gift_skip, bit_set, bit_clear}
 use Rattle.mm_flow.proofs.gifts.give.Goals as goal
 use Rattle.mm_flow.proofs.gifts.give.Goals.{then-from-h-eq1, else-from-h-eq1}

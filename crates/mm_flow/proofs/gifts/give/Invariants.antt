@@ -1,4 +1,3 @@
-use Rattle.std.proofs.Common.{◌≡◌}
 use Rattle.mm_flow.specs.Gifts.{IsGift}
 use Rattle.mm_flow.proofs.gifts.give.Given as goal
 

@@ -1,4 +1,4 @@
-use Rattle.std.proofs.Common.{◌≡◌, ◌<◌, ◌^◌, length, slice_index, arith}
+use Rattle.std.proofs.Common.{◌<◌, ◌^◌, length, slice_index, arith}
 use Rattle.mm_flow.proofs.Giving.{spread_write, spread_keep}
 use Rattle.mm_flow.proofs.gifts.spread.Goals as goal
 use Rattle.mm_flow.proofs.gifts.spread.Goals.{then-new-old, else-new-old}

@@ -1,4 +1,4 @@
-use Rattle.std.proofs.Common.{◌≡◌, ℕ, ◌<◌, ◌↔◌}
+use Rattle.std.proofs.Common.{◌≡◌, ℕ, ◌↔◌}
 use Rattle.std.specs.Int.{bit_at}
 use Rattle.mm_flow.specs.Net.{right_at}
 use Rattle.mm_flow.proofs.Kept.{SomeBefore}

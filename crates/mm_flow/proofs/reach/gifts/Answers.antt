@@ -1,6 +1,3 @@
-use Rattle.std.proofs.Common.{◌≡◌, length, arith, subst, sym}
-use Rattle.mm_flow.specs.Gifts.{IsLifted}
-use Rattle.mm_flow.specs.Reached.{Gifting}
 use Rattle.mm_flow.proofs.Saturation.{gifts_end}
 use Rattle.mm_flow.proofs.reach.gifts.Goals as goal
 

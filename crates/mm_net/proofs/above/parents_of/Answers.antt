@@ -1,5 +1,4 @@
-use Rattle.std.proofs.Common.{◌≡◌, ◌∙◌, ℕ, List, length, subst, sym, ap}
-use Rattle.mm_flow.specs.Forest.{IsNested, IsForest}
+use Rattle.std.proofs.Common.{◌∙◌, length, ap}
 use Rattle.mm_net.proofs.Nesting.{nested_keys, has_forest}
 use Rattle.mm_net.proofs.above.parents_of.Goals as goal
 

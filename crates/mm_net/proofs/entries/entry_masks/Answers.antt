@@ -1,4 +1,4 @@
-use Rattle.std.proofs.Common.{◌≡◌, ◌-◌, ◌^◌, length, replicate, rules, sym, ◌∙◌, subst, ap}
+use Rattle.std.proofs.Common.{◌≡◌, ◌-◌, ◌^◌, length, replicate, rules, sym, subst}
 use Rattle.mm_model.specs.Reach.Entries.{All as AnyEntry}
 use Rattle.mm_word.specs.PointerBits.{bits_of-pointer_of}
 use Rattle.mm_net.specs.Masks.{IsEntryMasks, meaning}

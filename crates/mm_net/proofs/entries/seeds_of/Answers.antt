@@ -1,4 +1,4 @@
-use Rattle.std.proofs.Common.{◌≡◌, refl, subst}
+use Rattle.std.proofs.Common.{refl, subst}
 use Rattle.mm_net.specs.declared.seed.Seed.{Seed}
 use Rattle.mm_net.specs.Masks.{IsEntrySeed}
 use Rattle.mm_net.proofs.EntryMasks.{zip_more}

@@ -1,4 +1,4 @@
-use Rattle.std.proofs.Common.{◌≡◌, ◌+◌, ◌*◌, ◌++◌, take, ◌∙◌, sym, ap, arith}
+use Rattle.std.proofs.Common.{◌+◌, ◌*◌, ◌++◌, take, ◌∙◌, sym, ap}
 use Rattle.mm_word.specs.declared.word.Cell.{Cell}
 use Rattle.mm_net.specs.Key.{word_key}
 use Rattle.mm_net.specs.Found.{found_at, cell_keys}

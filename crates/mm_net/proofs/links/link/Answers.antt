@@ -1,4 +1,4 @@
-use Rattle.mm_net.proofs.GroupLinks.{both_ways, no_link}
+use Rattle.mm_net.proofs.GroupLinks.{both_ways}
 use Rattle.mm_net.proofs.links.link.Goals as goal
 
 pub returns-then-h-lt64 : goal.returns-then-h-lt64

@@ -1,4 +1,4 @@
-use Rattle.mm_net.proofs.Marking.{one_mark, mark_nowhere, mark_none}
+use Rattle.mm_net.proofs.Marking.{one_mark}
 use Rattle.mm_net.proofs.mark.mark.Goals as goal
 
 pub returns-in-Some : goal.returns-in-Some

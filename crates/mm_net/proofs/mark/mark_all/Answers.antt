@@ -1,4 +1,4 @@
-use Rattle.mm_net.proofs.Marking.{marks_more, marks_end}
+use Rattle.mm_net.proofs.Marking.{marks_more}
 use Rattle.mm_net.proofs.mark.mark_all.Goals as goal
 
 pub loop-k-preserved : goal.loop-k-preserved

@@ -1,4 +1,4 @@
-use Rattle.std.proofs.Common.{◌≡◌, ◌∙◌, List, ℕ, length, sym, ap, subst, arith}
+use Rattle.std.proofs.Common.{◌≡◌, length, sym, subst, arith}
 use Rattle.mm_net.specs.Masks.{meaning}
 use Rattle.mm_net.specs.Marked.{IsMarked}
 use Rattle.mm_net.proofs.Conclusion.{marked_all, whole}

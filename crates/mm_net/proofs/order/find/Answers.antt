@@ -1,4 +1,3 @@
-use Rattle.std.proofs.Common.{◌≡◌, ◌<◌, arith}
 use Rattle.mm_net.specs.Key.{no_key}
 use Rattle.mm_net.proofs.Rising.{same_from_equal, not_there}
 use Rattle.mm_net.proofs.order.find.Goals as goal

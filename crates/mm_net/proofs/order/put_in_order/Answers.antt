@@ -1,4 +1,3 @@
-use Rattle.std.proofs.Common.{◌≡◌, ◌↔◌}
 use Rattle.std.proofs.lemmas.List.Filters.{dedup_is}
 use Rattle.std.proofs.lemmas.List.Kept.{IsStrictlySortedBy-dedup, Contains-dedup, Contains-from_dedup}
 use Rattle.std.proofs.lemmas.List.Sorted.{Contains-permutation, IsPermutation-sym}
@@ -16,6 +15,7 @@ returns-clause-rising c =
 pub returns-clause-same : goal.returns-clause-same
 returns-clause-same c x =
     let is = dedup_is key_eq _ _ c.dedup.ensures.filtered in
-    let moved = c.sort_unstable.ensures.permutation in
-    (λ m. Contains-permutation _ _ x (IsPermutation-sym _ _ moved) (Contains-from_dedup key_eq _ x (rw is at m)),
-    λ m. rw is (Contains-dedup key_equiv same_key _ x (Contains-permutation _ _ x moved m)))
+    let moved = c.sort_unstable.ensures.permutation in (
+      λ m. Contains-permutation _ _ x (IsPermutation-sym _ _ moved) (Contains-from_dedup key_eq _ x (rw is at m)),
+      λ m. rw is (Contains-dedup key_equiv same_key _ x (Contains-permutation _ _ x moved m)),
+    )

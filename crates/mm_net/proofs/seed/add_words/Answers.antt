@@ -1,4 +1,4 @@
-use Rattle.std.proofs.Common.{◌≡◌, ◌++◌, ◌∙◌, sym, ap, take, arith}
+use Rattle.std.proofs.Common.{◌++◌, ◌∙◌, sym, ap, take}
 use Rattle.mm_word.specs.declared.word.Word.{Word}
 use Rattle.mm_net.specs.Key.{word_key}
 use Rattle.mm_net.specs.Found.{seed_at, word_seeds}

@@ -1,4 +1,4 @@
-use Rattle.std.proofs.Common.{◌^◌, sym, subst, arith}
+use Rattle.std.proofs.Common.{sym, subst, arith}
 use Rattle.std.proofs.lemmas.Nat.Bits.{bit_at_above}
 use Rattle.mm_model.specs.Reach.{Privileged}
 use Rattle.mm_audit.specs.Audits.{Audits}

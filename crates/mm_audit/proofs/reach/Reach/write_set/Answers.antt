@@ -1,4 +1,4 @@
-use Rattle.std.proofs.Common.{◌≡◌, ◌∙◌, sym, subst, [], get_or, arith, length, ◌<◌}
+use Rattle.std.proofs.Common.{◌∙◌, sym, subst, [], arith, length, ◌<◌}
 use Rattle.std.proofs.lemmas.List.{get_or_default}
 use Rattle.mm_word.specs.Perm.{can_store}
 use Rattle.mm_model.specs.Audit.{MaximalSegments}
