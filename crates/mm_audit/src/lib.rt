@@ -5,6 +5,8 @@ mod auditing;
 mod collect;
 mod reach;
 mod sets;
+#[cfg(test)]
+mod tests;
 
 pub use auditing::audit;
 pub use mm_net::Entries;
