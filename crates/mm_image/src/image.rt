@@ -31,7 +31,7 @@ impl Model for Image {
 }
 
 impl Image {
-    ghost use Rattle.std.specs.Prelude.{◌<◌, ◌%◌, ◌^◌};
+    ghost use Rattle.std.specs.Prelude.{◌%◌};
     ghost use Rattle.std.specs.Option.{SomeIff};
     ghost use Rattle.mm_model.specs.Memory.{cell_at};
     ghost use Rattle.mm_model.specs.Spelling.{IsImage};
@@ -93,23 +93,22 @@ impl Image {
         self.pages.as_slice()
     }
 
-    /// The cell of a word, if its page is there.
-    #[tactic(auto, unfolding(mm_model::specs::Memory::cell_at))]
-    pub fn cell(&self, word: u64) -> Option<Cell>
-        requires aligned { word % 8 ≡ 0 }
-        requires small { word < 2 ^ 54 }
-        ensures { result ≡ cell_at self.now.memory word }
-    {
-        let page = page_of(&self.pages, word / 4096)?;
-        Some(page.cells()[(word % 4096 / 8) as usize])
-    }
-
     /// How many frames its pages may stand in.
     pub fn frames(&self) -> u32
         ensures frames { result ≡ self.now.memory.frames }
         ensures image { IsImage self.now }
     {
         self.frames
+    }
+
+    /// The cell of a word, if its page is there.
+    #[tactic(auto, unfolding(mm_model::specs::Memory::cell_at))]
+    pub fn cell(&self, word: u64) -> Option<Cell>
+        requires { word % 8 ≡ 0 }
+        ensures { result ≡ cell_at self.now.memory word }
+    {
+        let page = page_of(&self.pages, word / 4096)?;
+        Some(page.cells()[(word % 4096 / 8) as usize])
     }
 }
 

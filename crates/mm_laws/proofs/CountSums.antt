@@ -1,5 +1,5 @@
 -- What counts sum to.
-use Rattle.std.proofs.Common.{◌≡◌, ℕ, ◌+◌, ◌≤◌, Bool, true, false, not, nat_eq, if◌then◌else◌, List, [], ◌∷◌, ◌++◌, length, reverse, take, Option, Some, None, refl, sym, ap, ◌∙◌, subst, arith}
+use Rattle.std.proofs.Common.{◌≡◌, ℕ, ◌+◌, ◌≤◌, Bool, true, false, not, nat_eq, if◌then◌else◌, List, [], ◌∷◌, ◌++◌, length, reverse, take, Option, Some, None, refl, ap, arith}
 use Rattle.std.specs.Prelude.{is_some}
 use mathlib.Core.List.{reverse_aux}
 use Rattle.mm_model.specs.Uses.{Use, Accessed, Removed}

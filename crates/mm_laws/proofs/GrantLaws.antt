@@ -1,5 +1,5 @@
 -- Grants grow with entries.
-use Rattle.std.proofs.Common.{◌≡◌, ℕ, List}
+use Rattle.std.proofs.Common.{ℕ, List}
 use Rattle.mm_word.specs.Pointer.{Pointer, IsWellFormed}
 use Rattle.mm_word.proofs.Rights.{can_store-loads}
 use Rattle.mm_model.specs.Image.{Image}

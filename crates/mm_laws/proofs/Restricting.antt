@@ -1,18 +1,18 @@
 -- What stays of a list of items for groups.
-use Rattle.std.proofs.Common.{◌≡◌, ◌≢◌, ℕ, zero, suc, ◌+◌, ◌-◌, ◌<◌, ◌≤◌, ◌⊎◌, inl, inr, Bool, true, false, ◌&&◌, ◌||◌, nat_eq, nat_le, cond, if◌then◌else◌, List, [], ◌∷◌, ◌++◌, length, map, Option, Some, None, refl, sym, ap, ◌∙◌, subst, arith, eqb-true, slice_index_or, eq-eqb}
+use Rattle.std.proofs.Common.{◌≡◌, ℕ, suc, ◌+◌, ◌-◌, ◌<◌, ◌≤◌, ◌⊎◌, inl, inr, Bool, true, false, ◌&&◌, ◌||◌, nat_eq, nat_le, cond, if◌then◌else◌, List, [], ◌∷◌, ◌++◌, map, Option, Some, None, refl, sym, ap, ◌∙◌, arith, eqb-true, eq-eqb}
 use Rattle.std.specs.Prelude.{Contains, ◌↔◌}
 use Rattle.std.specs.List.{filter, AllByRecursion}
 use Rattle.std.specs.List.Sorted.{IsStrictlyIncreasing}
-use Rattle.std.proofs.lemmas.Bool.{cases_eq, ne_eqb, leb-true, le-leb}
+use Rattle.std.proofs.lemmas.Bool.{ne_eqb, leb-true, le-leb}
 use Rattle.mm_model.specs.Slot.{Slot}
-use Rattle.mm_model.specs.State.{Core, State, slot_at}
-use Rattle.mm_model.specs.Image.{Image, slot_in, slot_limit, start}
+use Rattle.mm_model.specs.State.{State, slot_at}
+use Rattle.mm_model.specs.Image.{Image, slot_in, start}
 use Rattle.mm_model.specs.Spelling.{numbers_of, IsImage}
 use Rattle.mm_model.specs.Schedule.{in_groups, is_kept, only}
 use Rattle.mm_model.specs.Turn.{turn}
 use Rattle.mm_model.specs.Run.{after, run}
 use Rattle.mm_model.specs.Fits.{slots_of, identity_of, IsSlot, Fits}
-use Rattle.mm_model.proofs.CoreRows.{each_map, each_both, each_contained, above_first, rest_rises, slot_at-number, each_slot, slot_has, stays_by}
+use Rattle.mm_model.proofs.CoreRows.{slot_limit-few, each_map, each_both, each_contained, above_first, rest_rises, slot_at-number, each_slot, slot_has, stays_by}
 use Rattle.mm_model.proofs.TurnKeeps.{turn_keeps}
 use Rattle.mm_model.proofs.StateKeeps.{after_fits}
 use Rattle.mm_model.proofs.TurnBounds.{turn_takes}
@@ -40,10 +40,11 @@ above x (s ∷ slots) h = (h.0, above x slots h.1)
 -- where numbers rise, each slot is found at its number
 found_each : (slots : List Slot) → IsStrictlyIncreasing (numbers_of slots) → AllByRecursion (λ (s : Slot). slot_in slots s.number ≡ Some s) slots
 found_each [] h = tt
-found_each (x ∷ slots) h =
-    (ap (λ b. if b then Some x else slot_in slots x.number) (eq-eqb x.number x.number refl),
-    each_both (λ (s : Slot). x.number < s.number) (λ (s : Slot). slot_in slots s.number ≡ Some s) (λ (s : Slot). slot_in (x ∷ slots) s.number ≡ Some s) (λ s lt is. in_behind x s slots lt is) slots
-    (above x.number slots (above_first x.number (numbers_of slots) h)) (found_each slots (rest_rises x.number (numbers_of slots) h)))
+found_each (x ∷ slots) h = (
+  ap (λ b. if b then Some x else slot_in slots x.number) (eq-eqb x.number x.number refl),
+  each_both (λ (s : Slot). x.number < s.number) (λ (s : Slot). slot_in slots s.number ≡ Some s) (λ (s : Slot). slot_in (x ∷ slots) s.number ≡ Some s) (λ s lt is. in_behind x s slots lt is) slots
+      (above x.number slots (above_first x.number (numbers_of slots) h)) (found_each slots (rest_rises x.number (numbers_of slots) h)),
+)
 
 slot_is : (i : Image) → IsImage i → (s : Slot) → Contains i.slots s → slot_in i.slots s.number ≡ Some s
 slot_is i h s k = each_contained (λ (x : Slot). slot_in i.slots x.number ≡ Some x) i.slots s (found_each i.slots h.rising) k
@@ -185,16 +186,9 @@ named_inside i s c n x fits kept is = elim (either (in_groups c (slot_in i.slots
       let low = leb-true 128 n all.1 in
       let own = slot_has (IsSlot s.core.version s.core.split) s.core n x fits.core.slots is in
       let number = slot_at-number s.core n x is in
-      let few = limit_few s.core.version in
+      let few = slot_limit-few s.core.version in
       absurd (omega (arith, own.number))
 ]
-  where
-    limit_few : (version : ℕ) → slot_limit version ≤ 64
-    limit_few version = by (nat_eq version 1)
-      where
-        by : (b : Bool) → (if b then 16 else 64) ≤ 64
-        by true = omega arith
-        by false = omega arith
 
 quiet_after : (i : Image) (s : State) (c : ℕ → Bool) (n : ℕ) → Fits i s → is_kept i c n ≡ true → Quiet c s → Quiet c (after s n)
 unfolding after
@@ -202,18 +196,18 @@ quiet_after i s c n fits kept quiet =
     let keeps = turn_keeps s.core s.memory fits.core n in
     each_slot (λ (x : Slot). c x.group ≡ false → x.turns ≡ 0) (turn s.core s.memory n).core keeps.whole.rising
     (λ k now is outside.
-      let from = turn_takes s.core s.memory n fits.core k now is in
-      let same = stays_by s.core (turn s.core s.memory n).core k from.was keeps.identities from.stands in
-      let two : ◌≡◌ {A = Option Slot} (Some same.now) (Some now) = sym same.is ∙ is in
-      let one : same.now ≡ now = cc in
-      let group : now.group ≡ from.was.group = sym (ap (λ (x : Slot). x.group) one) ∙ ap (λ (j : ℕ × ℕ × Option ℕ). j.1) same.same in
-      let before : c from.was.group ≡ false = sym (ap c group) ∙ outside in
-      elim from.turns [
-        | inl stay ↦ stay ∙ slot_has (λ (x : Slot). c x.group ≡ false → x.turns ≡ 0) s.core k from.was quiet from.stands before
-        | inr takes ↦
-            let inside = named_inside i s c n from.was fits kept (ap (slot_at s.core) (sym takes.0) ∙ from.stands) in
-            cc (inside, before)
-      ])
+    let from = turn_takes s.core s.memory n fits.core k now is in
+    let same = stays_by s.core (turn s.core s.memory n).core k from.was keeps.identities from.stands in
+    let two : ◌≡◌ {A = Option Slot} (Some same.now) (Some now) = sym same.is ∙ is in
+    let one : same.now ≡ now = cc in
+    let group : now.group ≡ from.was.group = sym (ap (λ (x : Slot). x.group) one) ∙ ap (λ (j : ℕ × ℕ × Option ℕ). j.1) same.same in
+    let before : c from.was.group ≡ false = sym (ap c group) ∙ outside in
+    elim from.turns [
+      | inl stay ↦ stay ∙ slot_has (λ (x : Slot). c x.group ≡ false → x.turns ≡ 0) s.core k from.was quiet from.stands before
+      | inr takes ↦
+          let inside = named_inside i s c n from.was fits kept (ap (slot_at s.core) (sym takes.0) ∙ from.stands) in
+          cc (inside, before)
+    ])
 
 quiet_run : (i : Image) (s : State) (c : ℕ → Bool) (items : List ℕ) → Fits i s → Quiet c s → Quiet c (run s (filter (is_kept i c) items))
 unfolding run

@@ -1,5 +1,5 @@
 -- Round robin issues the next running slot.
-use Rattle.std.proofs.Common.{◌≡◌, ◌≢◌, ℕ, zero, suc, ◌+◌, ◌<◌, ◌≤◌, ◌⊎◌, inl, inr, Bool, true, false, nat_lt, if◌then◌else◌, List, [], ◌∷◌, ◌++◌, length, map, Option, Some, None, refl, sym, ap, ◌∙◌, subst, arith, ltb-true}
+use Rattle.std.proofs.Common.{◌≡◌, ℕ, zero, suc, ◌<◌, ◌≤◌, inl, inr, Bool, true, false, nat_lt, if◌then◌else◌, List, [], ◌∷◌, ◌++◌, length, map, Option, Some, None, refl, sym, ap, ◌∙◌, arith, ltb-true}
 use Rattle.std.specs.Prelude.{Contains}
 use Rattle.std.specs.List.{AllByRecursion}
 use Rattle.std.specs.List.Sorted.{IsStrictlyIncreasing}
@@ -13,7 +13,7 @@ use Rattle.mm_model.specs.Run.{after, run, first_running, or_else, any_number, n
 use Rattle.mm_model.specs.Fits.{slots_of, Fits}
 use Rattle.mm_model.proofs.CoreRows.{each_map, each_contained, above_first, rest_rises, slot_at-number, slots_found, slot_has, Rises}
 use Rattle.mm_model.proofs.StateKeeps.{after_fits}
-use Rattle.mm_laws.specs.Schedules.{RunsAt, NoneRuns, AnyNumber, IsLeast, IsNext, last_item}
+use Rattle.mm_laws.specs.Schedules.{NoneRuns, AnyNumber, IsLeast, IsNext, last_item}
 
 abbrev slots_in : List Row → List Slot
 slots_in rows = map (λ (row : Row). row.slot) rows
@@ -68,9 +68,11 @@ some_says p (row ∷ rows) n up e =
           number = same;
           running = ea;
           passes = sym (ap p same) ∙ eb;
-          least = ((λ running passes. omega arith),
-          each_map (λ (s : Slot). row.slot.number < s.number) (λ (s : Slot). is_running s.state ≡ true → p s.number ≡ true → n ≤ s.number) (λ s lt running passes. omega arith) (slots_in rows)
-          (above row.slot.number (slots_in rows) (above_first row.slot.number (numbers_of (slots_in rows)) up)));
+          least = (
+            (λ running passes. omega arith),
+            each_map (λ (s : Slot). row.slot.number < s.number) (λ (s : Slot). is_running s.state ≡ true → p s.number ≡ true → n ≤ s.number) (λ s lt running passes. omega arith) (slots_in rows)
+                (above row.slot.number (slots_in rows) (above_first row.slot.number (numbers_of (slots_in rows)) up)),
+          );
         }
     by true false ea eb e later = behind (later e) (λ running passes. cc (passes, eb))
     by false b ea eb e later = behind (later e) (λ running passes. cc (running, ea))
@@ -87,10 +89,10 @@ least_of core p Passes n up from to e =
       };
       passes = from n first.passes;
       least = λ m both runs.
-        let number = slot_at-number core m runs.slot runs.stands in
-        let low : n ≤ runs.slot.number = slot_has (λ (s : Slot). is_running s.state ≡ true → p s.number ≡ true → n ≤ s.number) core m runs.slot first.least runs.stands runs.running (ap p number ∙ to m both.0) in
-        let under = both.1 in
-        omega arith;
+          let number = slot_at-number core m runs.slot runs.stands in
+          let low : n ≤ runs.slot.number = slot_has (λ (s : Slot). is_running s.state ≡ true → p s.number ≡ true → n ≤ s.number) core m runs.slot first.least runs.stands runs.running (ap p number ∙ to m both.0) in
+          let under = both.1 in
+          omega arith;
     }
 
 none_of : (core : Core) (p : ℕ → Bool) (Passes : ℕ → Type 0) → ((m : ℕ) → Passes m → p m ≡ true) → first_running p core.rows ≡ None → NoneRuns core Passes

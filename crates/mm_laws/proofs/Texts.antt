@@ -238,7 +238,9 @@ read_on text [] before items is l few = inl (items, record { lists = subst (λ (
 read_on text (w ∷ ws) before items is l few = elim (says_any w.1) [
   | inr none ↦ inr (w.0, record { before = before; word = w.1; behind = ws; split = is; items = items; lists = l; limit = few; fault = λ n k item. absurd (none n k item) })
   | inl says ↦ elim (cases_lt item_limit (length items + says.1)) [
-    | inl over ↦ inr (w.0, record {
+    | inl over ↦ inr (
+      w.0,
+      record {
         before = before;
         word = w.1;
         behind = ws;
@@ -247,7 +249,8 @@ read_on text (w ∷ ws) before items is l few = elim (says_any w.1) [
         lists = l;
         limit = few;
         fault = λ n k item. let same = (one_item w.1 says.0 says.1 n k says.2 item).1 in omega arith;
-      })
+      },
+    )
     | inr within ↦
         let long : length (items ++ replicate says.1 says.0) ≡ length items + says.1 = length-append items (replicate says.1 says.0) ∙ ap (λ (k : ℕ). length items + k) (length_copies says.1 says.0) in
         read_on text ws (before ++ w ∷ []) (items ++ replicate says.1 says.0) (is ∙ sym (append_assoc before (w ∷ []) ws)) (one_more before items w says.0 says.1 l says.2) (omega arith)

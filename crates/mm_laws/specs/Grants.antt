@@ -1,5 +1,5 @@
 -- What is granted, whatever was entered.
-use Rattle.std.specs.Prelude.{◌≡◌, ℕ, List}
+use Rattle.std.specs.Prelude.{ℕ, List}
 use Rattle.mm_word.specs.Pointer.{Pointer, IsWellFormed}
 use Rattle.mm_model.specs.Image.{Image}
 use Rattle.mm_model.specs.Reach.{Entries, MayEnter, Grants, CanTouch, CanWrite, Privileged}

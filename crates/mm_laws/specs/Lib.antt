@@ -4,3 +4,5 @@ pub mod Schedules
 pub mod Restrictions
 pub mod Grants
 pub mod Counts
+pub mod Granted
+pub mod Isolated

@@ -5,8 +5,10 @@
 #![tactic(auto)]
 
 pub mod counts;
+pub mod granted;
 pub mod grants;
 pub mod images;
+pub mod isolated;
 pub mod restrictions;
 pub mod schedules;
 pub mod states;

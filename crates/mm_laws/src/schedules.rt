@@ -11,7 +11,7 @@ pub fn texts_mean_or_fault()
 
 /// Round robin issues no more items than it is asked for, fewer only where no slot runs any more, and each item names the next
 /// running slot.
-pub fn round_robin_is_fair()
+pub fn round_robin_is_exact()
     ensures short { RobinIsShort }
     ensures ends { RobinEndsWhereNoneRuns }
     ensures next { RobinIssuesTheNext }

@@ -12,7 +12,8 @@ use Rattle.mm_mem.specs.declared.answer.Stored.{Stored}
 use Rattle.mm_mem.specs.declared.answer.Stored.TheVariants as stores
 use Rattle.mm_model.specs.Memory.{Memory, cell_at, put_cell, is_mapped, can_map, map_page, unmap_page, passes, full_after}
 use Rattle.mm_model.specs.Uses.{Use}
-use Rattle.mm_model.specs.Turn.{access_use, removal_use}
+use Rattle.mm_model.specs.Effect.{set_by}
+use Rattle.mm_model.specs.Turn.{access_use, removal_use, with_cell}
 
 -- 1. Answers, from the cell that an access finds.
 
@@ -35,9 +36,14 @@ abbrev pub put_where : Memory → ℕ → Pre → Option Cell → (Cell → Cell
 put_where m w pre None change = m
 put_where m w pre (Some c) change = if passes pre c.full then put_cell m w (change c) else m
 
--- a load sets the bit by its postcondition
+-- the memory with the bit of a word's cell set, where its old bit passes
+abbrev pub set_where : Memory → ℕ → Pre → Post → Option Cell → Memory
+set_where m w pre post None = m
+set_where m w pre post (Some c) = if passes pre c.full then with_cell m (set_by post w c) else m
+
+-- a load sets the bit by its postcondition, and changes no cell where that keeps it
 abbrev pub after_load : Memory → ℕ → Pre → Post → Memory
-after_load m w pre post = put_where m w pre (cell_at m w) (λ c. record c { full = full_after post c.full })
+after_load m w pre post = set_where m w pre post (cell_at m w)
 
 -- a store writes word and bit
 abbrev pub after_store : Memory → ℕ → Word → Pre → Post → Memory

@@ -2,9 +2,19 @@
 #![tactic(auto)]
 
 mod answer;
+mod bits;
+mod flat;
+mod frame;
+pub mod laws;
 mod memory;
+mod plain;
+mod search;
+#[cfg(test)]
+mod tests;
 
 pub use answer::{Loaded, Stored};
+pub use bits::{full_after, passes};
 pub use memory::{Boot, Inspect, Memory, Reset};
 pub use mm_model::{Counts, Page, Pending, Slot, SlotState};
 pub use mm_word::{Post, Pre};
+pub use plain::PlainMem;

@@ -1,5 +1,5 @@
 -- What stands where in a core after a slot, a queue or an output was put.
-use Rattle.std.proofs.Common.{◌≡◌, ◌≢◌, ℕ, zero, suc, ◌+◌, ◌<◌, inl, inr, ◌||◌, nat_eq, if◌then◌else◌, List, [], ◌∷◌, ◌++◌, length, map, Option, Some, None, refl, sym, ap, ◌∙◌, subst, arith, eq-eqb, slice_index_or}
+use Rattle.std.proofs.Common.{◌≡◌, ◌≢◌, ℕ, zero, suc, ◌+◌, ◌<◌, ◌≤◌, inl, inr, Bool, true, false, ◌||◌, nat_eq, if◌then◌else◌, List, [], ◌∷◌, ◌++◌, length, map, Option, Some, None, refl, sym, ap, ◌∙◌, subst, arith, eq-eqb, slice_index_or, slice_set}
 use Rattle.std.specs.Prelude.{option_map, Contains, slice_index}
 use Rattle.std.specs.List.{AllByRecursion, list_any}
 use Rattle.std.specs.List.Sorted.{IsStrictlyIncreasing}
@@ -7,6 +7,7 @@ use Rattle.std.proofs.lemmas.Bool.{cases_eq, ne_eqb}
 use Rattle.mm_model.specs.declared.event.Event.{Event}
 use Rattle.mm_model.specs.Slot.{Slot}
 use Rattle.mm_model.specs.State.{Row, Core, row_in, slot_of, queue_of, slot_at, queue_at, at_number, put_slot, put_queue}
+use Rattle.mm_model.specs.Image.{slot_limit}
 use Rattle.mm_model.specs.Spelling.{numbers_of, IsOther}
 use Rattle.mm_model.specs.Fits.{slots_of, has_slot, identity_of}
 
@@ -24,6 +25,11 @@ pub each_push : {A : Type 0} (P : A → Type 0) (xs : List A) (y : A) → AllByR
 each_push P [] y h p = (p, tt)
 each_push P (x ∷ xs) y h p = (h.0, each_push P xs y h.1 p)
 
+pub each_set : {A : Type 0} (P : A → Type 0) (xs : List A) (n : ℕ) (y : A) → AllByRecursion P xs → P y → AllByRecursion P (slice_set xs n y)
+each_set P [] n y h p = tt
+each_set P (x ∷ xs) zero y h p = (p, h.1)
+each_set P (x ∷ xs) (suc n) y h p = (h.0, each_set P xs n y h.1 p)
+
 pub each_get : {A : Type 0} (P : A → Type 0) (xs : List A) (n : ℕ) (d : A) → AllByRecursion P xs → n < length xs → P (slice_index_or xs n d)
 each_get P [] n d h lt = absurd (omega arith)
 each_get P (x ∷ xs) zero d h lt = h.0
@@ -31,6 +37,14 @@ each_get P (x ∷ xs) (suc n) d h lt = each_get P xs n d h.1 (omega arith)
 
 pub each_contained : {A : Type 0} (P : A → Type 0) (xs : List A) (x : A) → AllByRecursion P xs → Contains xs x → P x
 each_contained P xs x h c = subst P c.2 (each_get P xs c.0 x h c.1)
+
+-- a version has at most 64 numbers
+pub slot_limit-few : (version : ℕ) → slot_limit version ≤ 64
+slot_limit-few version = by (nat_eq version 1)
+  where
+    by : (b : Bool) → (if b then 16 else 64) ≤ 64
+    by true = omega arith
+    by false = omega arith
 
 -- 2. Numbers that rise.
 

@@ -1,6 +1,6 @@
 -- What a core goes on to be where a slot is put, where one begins to wait and its event is queued, where an event is taken,
 -- and where a byte is put out.
-use Rattle.std.proofs.Common.{◌≡◌, ◌≢◌, ℕ, zero, suc, ◌+◌, ◌≤◌, inl, inr, Bool, true, false, nat_eq, if◌then◌else◌, List, [], ◌∷◌, ◌++◌, length, map, Option, Some, None, refl, sym, ap, ◌∙◌, subst, arith, eq-eqb, eqb-true, slice_set, slice_index_or, length-set, get_or-set_other}
+use Rattle.std.proofs.Common.{◌≡◌, ◌≢◌, ℕ, ◌+◌, ◌≤◌, inl, inr, Bool, true, false, nat_eq, if◌then◌else◌, List, [], ◌∷◌, ◌++◌, length, map, Option, Some, None, refl, sym, ap, ◌∙◌, subst, arith, eq-eqb, eqb-true, slice_index_or, length-set, get_or-set_other}
 use Rattle.std.specs.Prelude.{IfSome}
 use Rattle.std.specs.List.{AllByRecursion}
 use Rattle.std.proofs.lemmas.Bool.{cases_eq, ne_eqb}
@@ -10,7 +10,7 @@ use Rattle.mm_model.specs.State.{Core, slot_at, queue_at, put_slot, put_queue, o
 use Rattle.mm_model.specs.Image.{output_limit}
 use Rattle.mm_model.specs.Spelling.{IsOther}
 use Rattle.mm_model.specs.Fits.{one_if, is_waiting, is_number, waits_for, events_of, slots_of, has_slot, identity_of, IsAtSlot, IsSlot, IsCore}
-use Rattle.mm_model.proofs.CoreRows.{each_map, each_both, each_push, slot_at-number, slot_at-put_same, slot_at-put_other, queue_at-put_slot, AfterPut, put_slot-cases, slot_at-put_queue, queue_at-put_same, queue_at-put_other, slots_of-put_queue, each_slot, slot_has, other_at, other_in, identities_of, rises_by, has_slot_by, stays_by, identities_of-put_slot}
+use Rattle.mm_model.proofs.CoreRows.{each_map, each_both, each_push, each_set, slot_at-number, slot_at-put_same, slot_at-put_other, queue_at-put_slot, AfterPut, put_slot-cases, slot_at-put_queue, queue_at-put_same, queue_at-put_other, slots_of-put_queue, each_slot, slot_has, other_at, other_in, identities_of, rises_by, has_slot_by, stays_by, identities_of-put_slot}
 
 -- 1. What it is to go on so.
 
@@ -387,11 +387,6 @@ module _ (core : Core) (new : Slot) (n : ℕ) (e : Event) (rest : List Event) (h
       taken_matched taken_in_place
 
 -- 6. A byte that is put out.
-
-each_set : {A : Type 0} (P : A → Type 0) (xs : List A) (n : ℕ) (y : A) → AllByRecursion P xs → P y → AllByRecursion P (slice_set xs n y)
-each_set P [] n y h p = tt
-each_set P (x ∷ xs) zero y h p = (p, h.1)
-each_set P (x ∷ xs) (suc n) y h p = (h.0, each_set P xs n y h.1 p)
 
 pub out_keeps : (core : Core) (g : ℕ) (bytes : List ℕ) → IsCore core → has_slot core g ≡ true → length bytes ≤ output_limit core.version → Keeps core (put_output core g bytes)
 unfolding put_output output_of slot_at queue_at

@@ -37,7 +37,7 @@ use Rattle.mm_model.specs.declared.event.Event.{Event}
 use Rattle.mm_model.specs.Memory.{Memory, page_of, place_of, page_at, cell_in, cell_at, is_mapped, can_map, passes}
 use Rattle.mm_model.specs.Slot.{Slot, register, is_empty}
 use Rattle.mm_model.specs.State.{Row, Core, row_in, slot_of, queue_of, slot_at, queue_at, output_of}
-use Rattle.mm_model.specs.Image.{slot_limit, output_limit}
+use Rattle.mm_model.specs.Image.{output_limit}
 use Rattle.mm_model.specs.Spelling.{HoldsWords}
 use Rattle.mm_model.specs.Operands.{addr_operand, value_operand, word_a, word_b, field_a, field_b, field_imm}
 use Rattle.mm_model.specs.Ask.{ask, is_privileged, load_kind, reaching}
@@ -48,7 +48,7 @@ use Rattle.mm_model.specs.Effect.Pages.{Keep, Add, Remove}
 use Rattle.mm_model.specs.Effect.Effect.{Fault, Block, Deliver, Does}
 use Rattle.mm_model.specs.Turn.{reply, reached, event_reply, first_event, served, is_taken, is_handler}
 use Rattle.mm_model.specs.Fits.{IsSlot, IsCore, SlotHoldsWords, EventHoldsWords, RowHoldsWords}
-use Rattle.mm_model.proofs.CoreRows.{slot_at-number, slot_has}
+use Rattle.mm_model.proofs.CoreRows.{each_set, slot_limit-few, slot_at-number, slot_has}
 
 -- 1. What an effect has to be.
 
@@ -93,11 +93,6 @@ EffectWords m (Does c) = ChangeWords m c
 
 zero_fits : IsWord (Int 0)
 zero_fits = lit< tt
-
-pub each_set : {A : Type 0} (P : A → Type 0) (xs : List A) (n : ℕ) (y : A) → AllByRecursion P xs → P y → AllByRecursion P (slice_set xs n y)
-each_set P [] n y h p = tt
-each_set P (x ∷ xs) zero y h p = (p, h.1)
-each_set P (x ∷ xs) (suc n) y h p = (h.0, each_set P xs n y h.1 p)
 
 each_or : {A : Type 0} (P : A → Type 0) (xs : List A) (n : ℕ) (d : A) → AllByRecursion P xs → P d → P (slice_index_or xs n d)
 each_or P [] n d h p = p
@@ -187,13 +182,6 @@ event_number_fits c n h = let few = cause_few c in omega arith
   where
     cause_few : (c : Cause) → number_of c ≤ 13
     cause_few c = grind arith
-
-limit_few : (version : ℕ) → slot_limit version ≤ 64
-limit_few version = by (version == 1)
-  where
-    by : (b : Bool) → (if b then 16 else 64) ≤ 64
-    by true = omega arith
-    by false = omega arith
 
 executable_moves : (p : Perm) → can_fetch p ≡ true → can_move p ≡ true
 executable_moves p e = grind arith
@@ -356,7 +344,7 @@ module _ (core : Core) (h : IsCore core) (rows : AllByRecursion RowHoldsWords co
   took_words rd e rest of is first others =
       let old = slot_words core e.slot of rows is in
       let slot = slot_has (IsSlot core.version core.split) core e.slot of h.slots is in
-      let few : of.number < 64 = let all = limit_few core.version in omega (arith, slot.number) in
+      let few : of.number < 64 = let all = slot_limit-few core.version in omega (arith, slot.number) in
       let number : number_of e.cause + 256 * e.slot < 2 ^ 64 = event_number_fits e.cause e.slot (subst (λ n. n < 64) (slot_at-number core e.slot of is) few) in
       record {
         next = advances;
@@ -443,7 +431,7 @@ module _ (core : Core) (h : IsCore core) (rows : AllByRecursion RowHoldsWords co
   effect_words (Isptr rd ra) instr = sets_words rd (Int (test (is_pointer (register s ra)))) (test_fits (is_pointer (register s ra)))
   effect_words (Eqw rd ra rb) instr = sets_words rd (Int (test (same_word (register s ra) (register s rb)))) (test_fits (same_word (register s ra) (register s rb)))
   effect_words (Out ra) instr = out_words (word_bits (register s ra) % 256) (nat_lt (length (output_of core s.group)) (output_limit core.version))
-  effect_words (SelfSlot rd) instr = sets_words rd (Int s.number) (let all = limit_few core.version in omega (arith, own_slot.number))
+  effect_words (SelfSlot rd) instr = sets_words rd (Int s.number) (let all = slot_limit-few core.version in omega (arith, own_slot.number))
   effect_words (Alu op rd ra rb) instr = number_words rd (alu_result op (word_bits (register s ra)) (word_bits (register s rb))) (alu_result-fits op (word_bits (register s ra)) (word_bits (register s rb)) (bits ra) (bits rb))
   effect_words (Addi rd ra imm) instr = sets_words rd (Int ((word_bits (register s ra) + cast_unsigned w64 imm) % 2 ^ 64)) (omega arith)
   effect_words (Lea rd ra rb) instr =

@@ -13,3 +13,4 @@ pub mod StateKeeps
 pub mod TurnBounds
 pub mod Starts
 pub mod Shortness
+pub mod ImageBytes

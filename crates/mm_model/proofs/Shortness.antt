@@ -6,10 +6,9 @@ use Rattle.mm_model.specs.declared.slot.Pending.{Pending}
 use Rattle.mm_model.specs.declared.event.Event.{Event}
 use Rattle.mm_model.specs.Slot.{Slot, is_empty}
 use Rattle.mm_model.specs.State.{Core, slot_at, queue_at}
-use Rattle.mm_model.specs.Image.{slot_limit}
 use Rattle.mm_model.specs.Fits.{one_if, loads_for, events_of, waits_for, IsSlot, IsCore}
-use Rattle.mm_model.proofs.CoreRows.{each_map, slot_at-number, slot_has}
-use Rattle.mm_model.proofs.SlotSteps.{empty_within}
+use Rattle.mm_model.proofs.CoreRows.{slot_limit-few, each_map, slot_at-number, slot_has}
+use Rattle.mm_model.proofs.SlotSteps.{at_most_one, empty_within}
 
 -- 1. A list whose keys are below a bound, and each of them at most once.
 
@@ -100,10 +99,6 @@ module _ {A : Type 0} (key : A → ℕ) where
         | inr ne ↦ let other = count-other (key y) x xs ne in omega arith
       ]
 
-one_at_most : (b : Bool) → one_if b ≤ 1
-one_at_most true = omega arith
-one_at_most false = omega arith
-
 some_is_true : (b : Bool) → 1 ≤ one_if b → b ≡ true
 some_is_true true h = refl
 some_is_true false h = absurd (omega arith)
@@ -126,7 +121,7 @@ module _ (version : ℕ) (split : Bool) (s : Slot) (h : IsSlot version split s) 
       s.pending (each_counts (λ (p : Pending). p.reg) s.pending)
 
   at_most_once : (r : ℕ) → count (λ (p : Pending). p.reg) r s.pending ≤ 1
-  at_most_once r = let once = loads_once r in let one = one_at_most (is_empty s r) in omega arith
+  at_most_once r = let once = loads_once r in let one = at_most_one (is_empty s r) in omega arith
 
   -- no more loads are pending than there are registers
   pub pending_short : length s.pending ≤ 16
@@ -153,19 +148,12 @@ module _ (core : Core) (h : IsCore core) (g : ℕ) where
   events_once : (n : ℕ) → count (λ (e : Event). e.slot) n (queue_at core g) ≡ one_if (waits_for g (slot_at core n))
   events_once n = events_count n (queue_at core g) ∙ h.matched n g
 
-  limit_few : slot_limit core.version ≤ 64
-  limit_few = by (nat_eq core.version 1)
-    where
-      by : (b : Bool) → (if b then 16 else 64) ≤ 64
-      by true = omega arith
-      by false = omega arith
-
   slot_small : (n : ℕ) (o : Option Slot) → slot_at core n ≡ o → waits_for g o ≡ true → n < 64
   slot_small n None is w = cc
   slot_small n (Some s) is w =
       let number = slot_at-number core n s is in
       let low = (slot_has (IsSlot core.version core.split) core n s h.slots is).number in
-      let all = limit_few in
+      let all = slot_limit-few core.version in
       omega arith
 
   events_small : AllByRecursion (λ (e : Event). e.slot < 64) (queue_at core g)
@@ -175,7 +163,7 @@ module _ (core : Core) (h : IsCore core) (g : ℕ) where
       (queue_at core g) (each_counts (λ (e : Event). e.slot) (queue_at core g))
 
   events_at_most_once : (n : ℕ) → count (λ (e : Event). e.slot) n (queue_at core g) ≤ 1
-  events_at_most_once n = let once = events_once n in let one = one_at_most (waits_for g (slot_at core n)) in omega arith
+  events_at_most_once n = let once = events_once n in let one = at_most_one (waits_for g (slot_at core n)) in omega arith
 
   -- each event is of a slot that waits for the queue's owner
   pub queued_at : AllByRecursion (λ (e : Event). waits_for g (slot_at core e.slot) ≡ true) (queue_at core g)

@@ -43,7 +43,7 @@ loads_for-push_other r (x ∷ ps) p ne =
     let rest = loads_for-push_other r ps p ne in
     elim (nat_eq x.reg r) as (λ b. (if b then loads_for r (ps ++ p ∷ []) + 1 else loads_for r (ps ++ p ∷ [])) ≡ (if b then loads_for r ps + 1 else loads_for r ps)) [ true ↦ omega arith | false ↦ rest ]
 
-at_most_one : (b : Bool) → one_if b ≤ 1
+pub at_most_one : (b : Bool) → one_if b ≤ 1
 at_most_one true = omega arith
 at_most_one false = omega arith
 

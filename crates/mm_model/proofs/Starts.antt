@@ -7,7 +7,7 @@ use Rattle.mm_model.specs.declared.slot.SlotState.{SlotState}
 use Rattle.mm_model.specs.declared.slot.SlotState.TheVariants.{Running, Waiting, Taken, Halted}
 use Rattle.mm_model.specs.declared.slot.Pending.{Pending}
 use Rattle.mm_model.specs.Slot.{Slot, is_empty}
-use Rattle.mm_model.specs.State.{Row, Core, row_in, slot_of, queue_of, slot_at, queue_at, output_of}
+use Rattle.mm_model.specs.State.{Row, row_in, slot_of, queue_of, slot_at, queue_at, output_of}
 use Rattle.mm_model.specs.Image.{Image, slot_in, slot_limit, output_limit, start}
 use Rattle.mm_model.specs.Spelling.{Begins, numbers_of, IsOther, IsFresh, IsImage}
 use Rattle.mm_model.specs.Fits.{one_if, loads_for, is_handled, is_waiting, waits_for, events_of, slots_of, identity_of, IsAtSlot, IsSlot, IsCore, SlotHoldsWords, RowHoldsWords, Fits, TurnsWithin}

@@ -13,7 +13,6 @@ use Rattle.mm_word.specs.Access.{Touch}
 use Rattle.mm_word.specs.Word.{IsWord}
 use Rattle.mm_isa.specs.declared.instr.Instr.{Instr}
 use Rattle.mm_isa.specs.Table.{IsInstr}
-use Rattle.mm_isa.proofs.Spelling.{instr_of-spelled}
 use Rattle.mm_model.specs.declared.slot.SlotState.{SlotState}
 use Rattle.mm_model.specs.declared.slot.SlotState.TheVariants.{Running, Waiting, Halted}
 use Rattle.mm_model.specs.declared.slot.Pending.{Pending}
@@ -29,14 +28,14 @@ use Rattle.mm_model.specs.Ask.{ask}
 use Rattle.mm_model.specs.Effect.{Change, Pages, Effect, effect, delivered}
 use Rattle.mm_model.specs.Effect.Pages.{Keep, Add, Remove}
 use Rattle.mm_model.specs.Effect.Effect.{Fault, Block, Deliver, Does}
-use Rattle.mm_model.specs.Turn.{Turned, reply, put_all, state_after, with_issue, slot_after, with_other, with_queue, with_out, with_cell, with_pages, core_after, memory_after, stood, is_sync, event_of, core_faulted, faulted, touch_of, asked_use, blocked, ended, executed, instr_in, idle, turn}
+use Rattle.mm_model.specs.Turn.{Turned, reply, put_all, state_after, with_issue, slot_after, with_other, with_queue, with_out, with_cell, with_pages, core_after, memory_after, stood, is_sync, event_of, core_faulted, faulted, touch_of, asked_use, blocked, ended, executed, idle, turn}
 use Rattle.mm_model.specs.Run.{after}
 use Rattle.mm_model.specs.Fits.{IsCore, SlotHoldsWords, EventHoldsWords, RowHoldsWords, Fits}
 use Rattle.mm_model.proofs.Memories.{put_frames, map_frames, unmap_frames, put_paged, map_paged, unmap_paged}
-use Rattle.mm_model.proofs.CoreRows.{slot_at-number, each_push}
-use Rattle.mm_model.proofs.EffectWords.{page_words, IssueWords, CellWords, PagesFit, QueueWords, OtherWords, ChangeWords, EffectWords, each_set, slot_words, queue_words, delivered_words, addr_operand-fits, value_operand-fits, effect_words}
+use Rattle.mm_model.proofs.CoreRows.{each_set, slot_at-number, each_push}
+use Rattle.mm_model.proofs.EffectWords.{page_words, IssueWords, CellWords, PagesFit, QueueWords, OtherWords, ChangeWords, EffectWords, slot_words, queue_words, delivered_words, addr_operand-fits, value_operand-fits, effect_words}
 use Rattle.mm_model.proofs.TurnKeeps.{turn_keeps}
-use Rattle.mm_model.proofs.TurnShapes.{TurnShape, turn_shape}
+use Rattle.mm_model.proofs.TurnShapes.{decoded_instr, TurnShape, turn_shape}
 
 -- 1. Words of rows.
 
@@ -188,10 +187,6 @@ module _ (core : Core) (m : Memory) (h : IsCore core) (rows : AllByRecursion Row
   own_at : (n : ℕ) (s : Slot) → slot_at core n ≡ Some s → slot_at core s.number ≡ Some s
   own_at n s is = ap (slot_at core) (slot_at-number core n s is) ∙ is
 
-  is_instr : (w : Word) (i : Instr) → instr_in w ≡ Some i → IsInstr i
-  is_instr (Int bits) i is = (instr_of-spelled bits i is).0
-  is_instr (Rattle.mm_word.specs.declared.word.Word.TheVariants.Ptr p) i is = cc
-
   shape_words : (n : ℕ) (t : Turned) → TurnShape core m n t → TurnWords m t
   unfolding idle blocked executed
   shape_words n t (TurnShape.idles k is) = subst (TurnWords m) (sym is) (record { memory = same_memory; rows = rows })
@@ -202,7 +197,7 @@ module _ (core : Core) (m : Memory) (h : IsCore core) (rows : AllByRecursion Row
   shape_words n t (TurnShape.lacks_register s f i us r aim found on lacking is) =
       subst (TurnWords m) (sym is) (record { memory = same_memory; rows = put_slot-words core (stood (delivered s) Running) rows (stood-words (delivered s) Running (delivered_words s (slot_words core n s rows r.at))) })
   shape_words n t (TurnShape.carries_out s f u i r aim found has is) =
-      let instr = is_instr found.cell.word i found.spelled in
+      let instr = decoded_instr m f i found in
       subst (TurnWords m) (sym is)
       (ended_words s i f (touch_of (ask i s)) (u ∷ asked_use m (ask i s)) (effect core.split i s (reply core m s.number (ask i s))) (slot_words core n s rows r.at) instr
       (effect_words core h rows m cells s (own_at n s r.at) i instr))

@@ -1,13 +1,8 @@
 -- Only the running slot that an item names takes a turn, so no slot takes more turns than there are cycles.
-use Rattle.std.proofs.Common.{◌≡◌, ◌≢◌, ℕ, ◌+◌, ◌-◌, ◌≤◌, ◌⊎◌, inl, inr, Bool, true, false, if◌then◌else◌, List, [], ◌∷◌, ◌++◌, Option, Some, None, refl, sym, ap, ◌∙◌, subst, arith}
-use Rattle.std.specs.List.{AllByRecursion}
-use Rattle.mm_word.specs.declared.word.Word.TheVariants.{Int, Ptr}
-use Rattle.mm_word.specs.declared.word.Word.{Word}
+use Rattle.std.proofs.Common.{◌≡◌, ℕ, ◌+◌, ◌-◌, ◌≤◌, ◌⊎◌, inl, inr, Bool, true, false, if◌then◌else◌, List, [], ◌∷◌, ◌++◌, Option, Some, None, refl, sym, ap, ◌∙◌, subst, arith}
+use Rattle.mm_word.specs.declared.word.Word.TheVariants.{Int}
 use Rattle.mm_word.specs.Access.{Touch}
 use Rattle.mm_isa.specs.declared.instr.Instr.{Instr}
-use Rattle.mm_isa.specs.Table.{IsInstr}
-use Rattle.mm_isa.proofs.Spelling.{instr_of-spelled}
-use Rattle.mm_model.specs.declared.slot.SlotState.{SlotState}
 use Rattle.mm_model.specs.declared.slot.SlotState.TheVariants.{Running, Waiting, Halted}
 use Rattle.mm_model.specs.declared.event.Event.{Event}
 use Rattle.mm_model.specs.Memory.{Memory}
@@ -18,15 +13,15 @@ use Rattle.mm_model.specs.Operands.{addr_operand, value_operand}
 use Rattle.mm_model.specs.Ask.{ask}
 use Rattle.mm_model.specs.Effect.{Change, Effect, effect, delivered}
 use Rattle.mm_model.specs.Effect.Effect.{Fault, Block, Deliver, Does}
-use Rattle.mm_model.specs.Turn.{Turned, reply, slot_after, with_other, with_queue, with_out, core_after, stood, is_sync, event_of, core_faulted, faulted, touch_of, asked_use, blocked, ended, executed, instr_in, idle, arrives, is_running, turn}
+use Rattle.mm_model.specs.Turn.{Turned, reply, slot_after, with_other, with_queue, with_out, core_after, stood, is_sync, event_of, core_faulted, faulted, touch_of, asked_use, blocked, ended, executed, idle, is_running, turn}
 use Rattle.mm_model.specs.Run.{after}
-use Rattle.mm_model.specs.Fits.{slots_of, IsCore, TurnsWithin}
-use Rattle.mm_model.proofs.CoreRows.{slot_at-number, slot_at-put_other, AfterPut, put_slot-cases, slot_at-put_queue, each_slot, slot_has}
+use Rattle.mm_model.specs.Fits.{IsCore, TurnsWithin}
+use Rattle.mm_model.proofs.CoreRows.{slot_at-number, AfterPut, put_slot-cases, slot_at-put_queue, each_slot, slot_has}
 use Rattle.mm_model.proofs.SlotSteps.{delivered_from}
 use Rattle.mm_model.proofs.CoreSteps.{Replaces}
-use Rattle.mm_model.proofs.EffectSteps.{Moves, ChangeKeeps, EffectKeeps, DeliverKeeps, waiting_runs_not}
+use Rattle.mm_model.proofs.EffectSteps.{Moves, ChangeKeeps, EffectKeeps, waiting_runs_not}
 use Rattle.mm_model.proofs.TurnKeeps.{turn_keeps, row_keeps, still_there, changed_from}
-use Rattle.mm_model.proofs.TurnShapes.{Runs, Decodes, TurnShape, turn_shape}
+use Rattle.mm_model.proofs.TurnShapes.{decoded_instr, Runs, TurnShape, turn_shape}
 
 -- the turns of a slot stay, or rise by one where it is the running slot of this number
 pub record TurnsFrom (core : Core) (n k : ℕ) (now : Slot) : Type 0 where
@@ -119,10 +114,6 @@ module _ (core : Core) (n : ℕ) (h : IsCore core) (s : Slot) (r : Runs core n s
   ended_takes m i f t us (Deliver o) keeps = other_takes o keeps.replaces keeps.turns keeps.runs_not (stood s Running) refl refl
   ended_takes m i f t us (Does c) keeps = change_takes c keeps
 
-is_instr : (w : Word) (i : Instr) → instr_in w ≡ Some i → IsInstr i
-is_instr (Int bits) i is = (instr_of-spelled bits i is).0
-is_instr (Ptr p) i is = cc
-
 shape_takes : (core : Core) (m : Memory) (n : ℕ) → IsCore core → (t : Turned) → TurnShape core m n t → TakesTurns core n t.core
 unfolding idle blocked executed faulted
 shape_takes core m n h t (TurnShape.idles k is) = subst (λ (x : Turned). TakesTurns core n x.core) (sym is) (none_takes core n)
@@ -138,7 +129,7 @@ shape_takes core m n h t (TurnShape.lacks_register s f i us r aim found on lacki
 shape_takes core m n h t (TurnShape.carries_out s f u i r aim found has is) =
     subst (λ (x : Turned). TakesTurns core n x.core) (sym is)
     (ended_takes core n h s r m i f (touch_of (ask i s)) (u ∷ asked_use m (ask i s)) (effect core.split i s (reply core m s.number (ask i s)))
-    (row_keeps core h s (own_at core n h s r) m i (is_instr found.cell.word i found.spelled) has))
+    (row_keeps core h s (own_at core n h s r) m i (decoded_instr m f i found) has))
 
 -- only the running slot that an item names takes a turn
 pub turn_takes : (core : Core) (m : Memory) (n : ℕ) → IsCore core → TakesTurns core n (turn core m n).core
@@ -150,6 +141,6 @@ unfolding after
 after_within s n h few =
     each_slot (λ (slot : Slot). slot.turns ≤ s.cycles + 1) (turn s.core s.memory n).core (turn_keeps s.core s.memory h n).whole.rising
     (λ k now is.
-      let from = turn_takes s.core s.memory n h k now is in
-      let before : from.was.turns ≤ s.cycles = slot_has (λ (slot : Slot). slot.turns ≤ s.cycles) s.core k from.was few from.stands in
-      elim from.turns [ inl same ↦ omega arith | inr one ↦ let more = one.2 in omega arith ])
+    let from = turn_takes s.core s.memory n h k now is in
+    let before : from.was.turns ≤ s.cycles = slot_has (λ (slot : Slot). slot.turns ≤ s.cycles) s.core k from.was few from.stands in
+    elim from.turns [ inl same ↦ omega arith | inr one ↦ let more = one.2 in omega arith ])

@@ -3,10 +3,13 @@ use Rattle.std.proofs.Common.{◌≡◌, ℕ, ◌-◌, Bool, true, false, ◌&&�
 use Rattle.mm_word.specs.declared.perm.Kind.TheVariants.{Fetch}
 use Rattle.mm_word.specs.declared.cause.Cause.{Cause}
 use Rattle.mm_word.specs.declared.cause.Cause.TheVariants.{Bounds, NoPage, Illegal}
+use Rattle.mm_word.specs.declared.word.Word.{Word}
 use Rattle.mm_word.specs.declared.word.Word.TheVariants.{Int, Ptr}
 use Rattle.mm_word.specs.declared.word.Cell.{Cell}
 use Rattle.mm_word.specs.Access.{Touch, check_result}
 use Rattle.mm_isa.specs.declared.instr.Instr.{Instr}
+use Rattle.mm_isa.specs.Table.{IsInstr}
+use Rattle.mm_isa.proofs.Spelling.{instr_of-spelled}
 use Rattle.mm_model.specs.declared.slot.Pending.{Pending}
 use Rattle.mm_model.specs.Memory.{Memory, cell_at}
 use Rattle.mm_model.specs.Uses.{Use, Accessed}
@@ -30,6 +33,14 @@ pub record Decodes (m : Memory) (f : Touch) (i : Instr) : Type 0 where
   pub cell : Cell
   pub found : cell_at m f.addr ≡ Some cell
   pub spelled : instr_in cell.word ≡ Some i
+
+spelled_instr : (w : Word) (i : Instr) → instr_in w ≡ Some i → IsInstr i
+spelled_instr (Int bits) i is = (instr_of-spelled bits i is).0
+spelled_instr (Ptr p) i is = cc
+
+-- which has a word, so its fields are in range
+pub decoded_instr : (m : Memory) (f : Touch) (i : Instr) → Decodes m f i → IsInstr i
+decoded_instr m f i d = spelled_instr d.cell.word i d.spelled
 
 pub data TurnShape (core : Core) (m : Memory) (n : ℕ) (t : Turned) : Type 0 where
   -- nothing happens

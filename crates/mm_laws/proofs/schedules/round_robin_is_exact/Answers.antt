@@ -1,5 +1,5 @@
 use Rattle.mm_laws.proofs.Robins.{short, ends, issues_next}
-use Rattle.mm_laws.proofs.schedules.round_robin_is_fair.Goals as goal
+use Rattle.mm_laws.proofs.schedules.round_robin_is_exact.Goals as goal
 
 pub returns-clause-short : goal.returns-clause-short
 returns-clause-short c = short

@@ -1,0 +1,232 @@
+-- Rows of some groups: where they are found, and after a slot or a queue was put.
+use Rattle.std.proofs.Common.{◌≡◌, ◌≢◌, ℕ, zero, suc, ◌<◌, ◌⊎◌, inl, inr, Bool, true, false, cond, nat_eq, if◌then◌else◌, List, [], ◌∷◌, map, Option, Some, refl, sym, ap, ◌∙◌, subst, arith, eqb-true, eq-eqb}
+use Rattle.std.specs.Prelude.{Contains}
+use Rattle.std.specs.List.{AllByRecursion, filter}
+use Rattle.std.specs.List.Sorted.{IsStrictlyIncreasing}
+use Rattle.std.proofs.lemmas.Bool.{cases_eq, ne_eqb}
+use Rattle.mm_model.specs.declared.event.Event.{Event}
+use Rattle.mm_model.specs.Slot.{Slot}
+use Rattle.mm_model.specs.State.{Row, Core, row_in, slot_of, queue_of, slot_at, queue_at, at_number, put_slot, put_queue}
+use Rattle.mm_model.specs.Fits.{identity_of}
+use Rattle.mm_model.proofs.CoreRows.{each_map, above_first, rest_rises, slots_of-put_queue, Rises, identities_of, rises_by, stays_by, identities_of-put_slot}
+use Rattle.mm_laws.specs.Isolated.{is_row_of}
+use Rattle.mm_laws.proofs.GrantedWords.{row_has, row_of}
+use Rattle.mm_laws.proofs.GrantedTurns.{same_slot}
+
+pub no_both : (b : Bool) → b ≡ true → b ≡ false → ⊥
+no_both true p q = cc
+no_both false p q = cc
+
+pub bool_cases : (b : Bool) → (b ≡ true) ⊎ (b ≡ false)
+bool_cases true = inl refl
+bool_cases false = inr refl
+
+-- 1. Filters.
+
+module _ {A : Type 0} (p : A → Bool) where
+  pub filter_takes : (x : A) (xs : List A) → p x ≡ true → filter p (x ∷ xs) ≡ x ∷ filter p xs
+  filter_takes x xs e = ap (λ b. cond b (x ∷ filter p xs) (filter p xs)) e
+
+  pub filter_drops : (x : A) (xs : List A) → p x ≡ false → filter p (x ∷ xs) ≡ filter p xs
+  filter_drops x xs e = ap (λ b. cond b (x ∷ filter p xs) (filter p xs)) e
+
+  pub contained_filter : (xs : List A) (x : A) → Contains xs x → p x ≡ true → Contains (filter p xs) x
+  contained_filter [] x h e = absurd (omega (arith, h.1))
+  contained_filter (y ∷ xs) x (zero, lt, is) e = subst (λ l. Contains l x) (sym (filter_takes y xs (ap p is ∙ e))) (0, omega arith, is)
+  contained_filter (y ∷ xs) x (suc k, lt, is) e =
+      let rest = contained_filter xs x (k, omega arith, is) e in
+      elim (bool_cases (p y)) [
+        | inl t ↦ subst (λ l. Contains l x) (sym (filter_takes y xs t)) (suc rest.0, omega (arith, rest.1), rest.2)
+        | inr f ↦ subst (λ l. Contains l x) (sym (filter_drops y xs f)) rest
+      ]
+
+  pub filter_contained : (xs : List A) (x : A) → Contains (filter p xs) x → Contains xs x × (p x ≡ true)
+  filter_contained [] x h = absurd (omega (arith, h.1))
+  filter_contained (y ∷ xs) x h =
+      elim (bool_cases (p y)) [
+        | inl t ↦ taken t (subst (λ l. Contains l x) (filter_takes y xs t) h) (λ k. filter_contained xs x k)
+        | inr f ↦ let rest = filter_contained xs x (subst (λ l. Contains l x) (filter_drops y xs f) h) in ((suc rest.0.0, omega (arith, rest.0.1), rest.0.2), rest.1)
+      ]
+    where
+      taken : p y ≡ true → Contains (y ∷ filter p xs) x → (Contains (filter p xs) x → Contains xs x × (p x ≡ true)) → Contains (y ∷ xs) x × (p x ≡ true)
+      taken t (zero, lt, is) later = ((0, omega arith, is), sym (ap p is) ∙ t)
+      taken t (suc k, lt, is) later = let rest = later (k, omega arith, is) in ((suc rest.0.0, omega (arith, rest.0.1), rest.0.2), rest.1)
+
+-- 2. Rows of the groups, by number.
+
+abbrev pub mine : (ℕ → Bool) → Core → List Row
+mine c core = filter (is_row_of c) core.rows
+
+-- each row's number is below those of the rows behind it
+abbrev Ascends : List Row → Type 0
+Ascends [] = Unit {0}
+Ascends (row ∷ rows) = AllByRecursion (λ (x : Row). row.slot.number < x.slot.number) rows × Ascends rows
+
+numbers_above : (n : ℕ) (rows : List Row) → AllByRecursion (λ y. n < y) (map (λ (s : Slot). s.number) (map (λ (row : Row). row.slot) rows)) → AllByRecursion (λ (x : Row). n < x.slot.number) rows
+numbers_above n [] h = tt
+numbers_above n (row ∷ rows) h = (h.0, numbers_above n rows h.1)
+
+ascends : (rows : List Row) → IsStrictlyIncreasing (map (λ (s : Slot). s.number) (map (λ (row : Row). row.slot) rows)) → Ascends rows
+ascends [] h = tt
+ascends (row ∷ rows) h =
+    let numbers : List ℕ = map (λ (s : Slot). s.number) (map (λ (r : Row). r.slot) rows) in
+    (numbers_above row.slot.number rows (above_first row.slot.number numbers h), ascends rows (rest_rises row.slot.number numbers h))
+
+row_here : (row : Row) (rows : List Row) (n : ℕ) → row.slot.number ≡ n → row_in (row ∷ rows) n ≡ Some row
+row_here row rows n e = ap (λ b. if b then Some row else row_in rows n) (eq-eqb row.slot.number n e)
+
+row_later : (row : Row) (rows : List Row) (n : ℕ) → row.slot.number ≢ n → row_in (row ∷ rows) n ≡ row_in rows n
+row_later row rows n ne = ap (λ b. if b then Some row else row_in rows n) (ne_eqb row.slot.number n ne)
+
+row_number : (rows : List Row) (n : ℕ) (row : Row) → row_in rows n ≡ Some row → row.slot.number ≡ n
+row_number [] n row is = cc
+row_number (r ∷ rows) n row is = elim (cases_eq r.slot.number n) [
+  | inl e ↦ let two : ◌≡◌ {A = Option Row} (Some r) (Some row) = sym (row_here r rows n e) ∙ is in let same : r ≡ row = cc in sym (ap (λ (x : Row). x.slot.number) same) ∙ e
+  | inr ne ↦ row_number rows n row (sym (row_later r rows n ne) ∙ is)
+]
+
+module _ (c : ℕ → Bool) where
+  row_kept : (rows : List Row) (n : ℕ) (row : Row) → row_in rows n ≡ Some row → is_row_of c row ≡ true → row_in (filter (is_row_of c) rows) n ≡ Some row
+  row_kept [] n row is e = cc
+  row_kept (r ∷ rows) n row is e = elim (bool_cases (is_row_of c r)) [
+    | inl t ↦ ap (λ l. row_in l n) (filter_takes (is_row_of c) r rows t) ∙ elim (cases_eq r.slot.number n) [
+      | inl here ↦ row_here r (filter (is_row_of c) rows) n here ∙ sym (row_here r rows n here) ∙ is
+      | inr ne ↦ row_later r (filter (is_row_of c) rows) n ne ∙ row_kept rows n row (sym (row_later r rows n ne) ∙ is) e
+    ]
+    | inr f ↦ ap (λ l. row_in l n) (filter_drops (is_row_of c) r rows f) ∙ elim (cases_eq r.slot.number n) [
+      | inl here ↦ absurd (let two : ◌≡◌ {A = Option Row} (Some r) (Some row) = sym (row_here r rows n here) ∙ is in let same : r ≡ row = cc in no_both (is_row_of c row) e (sym (ap (is_row_of c) same) ∙ f))
+      | inr ne ↦ row_kept rows n row (sym (row_later r rows n ne) ∙ is) e
+    ]
+  ]
+
+  each_filtered : (P : Row → Type 0) (rows : List Row) → AllByRecursion P rows → AllByRecursion P (filter (is_row_of c) rows)
+  each_filtered P [] h = tt
+  each_filtered P (row ∷ rows) h = elim (bool_cases (is_row_of c row)) [
+    | inl t ↦ subst (AllByRecursion P) (sym (filter_takes (is_row_of c) row rows t)) (h.0, each_filtered P rows h.1)
+    | inr f ↦ subst (AllByRecursion P) (sym (filter_drops (is_row_of c) row rows f)) (each_filtered P rows h.1)
+  ]
+
+  row_back : (rows : List Row) → Ascends rows → (n : ℕ) (row : Row) → row_in (filter (is_row_of c) rows) n ≡ Some row → row_in rows n ≡ Some row
+  row_back [] up n row is = cc
+  row_back (r ∷ rows) up n row is = elim (bool_cases (is_row_of c r)) [
+    | inl t ↦
+        let at = sym (ap (λ l. row_in l n) (filter_takes (is_row_of c) r rows t)) ∙ is in
+        elim (cases_eq r.slot.number n) [
+          | inl here ↦ row_here r rows n here ∙ sym (row_here r (filter (is_row_of c) rows) n here) ∙ at
+          | inr ne ↦ row_later r rows n ne ∙ row_back rows up.1 n row (sym (row_later r (filter (is_row_of c) rows) n ne) ∙ at)
+        ]
+    | inr f ↦
+        let at = sym (ap (λ l. row_in l n) (filter_drops (is_row_of c) r rows f)) ∙ is in
+        let above = row_has (λ (x : Row). r.slot.number < x.slot.number) (filter (is_row_of c) rows) n row (each_filtered (λ (x : Row). r.slot.number < x.slot.number) rows up.0) at in
+        let number = row_number (filter (is_row_of c) rows) n row at in
+        row_later r rows n (λ e. let below : r.slot.number < row.slot.number = above in absurd (omega arith)) ∙ row_back rows up.1 n row at
+  ]
+
+  -- where rows of the groups are the same, so are a slot of them and its queue
+  pub record SameSlotAt (a b : Core) (n : ℕ) (x : Slot) : Type 0 where
+    pub slot : slot_at b n ≡ Some x
+    pub queue : queue_at a n ≡ queue_at b n
+
+  pub same_at : (a b : Core) → Rises b → mine c a ≡ mine c b → (n : ℕ) (x : Slot) → slot_at a n ≡ Some x → c x.group ≡ true → SameSlotAt a b n x
+  unfolding slot_at queue_at
+  same_at a b up same n x at cx =
+      let r = row_of a n x at in
+      let here : row_in (mine c a) n ≡ Some r.row = row_kept a.rows n r.row r.is (ap (λ (s : Slot). c s.group) r.slot ∙ cx) in
+      let there : row_in b.rows n ≡ Some r.row = row_back b.rows (ascends b.rows up) n r.row (ap (λ l. row_in l n) (sym same) ∙ here) in
+      record { slot = ap slot_of there ∙ ap (λ (s : Slot). Some s) r.slot; queue = ap queue_of r.is ∙ sym (ap queue_of there) }
+
+-- 3. Rows of the groups after something was put.
+
+module _ (c : ℕ → Bool) (n : ℕ) (f : Row → Row) where
+  -- a change that leaves each row of the number in its group, or outside the groups
+  pub filter_at : (rows : List Row) → AllByRecursion (λ (row : Row). row.slot.number ≡ n → is_row_of c (f row) ≡ is_row_of c row) rows
+      → filter (is_row_of c) (map (at_number n f) rows) ≡ map (at_number n f) (filter (is_row_of c) rows)
+  filter_at [] h = refl
+  filter_at (row ∷ rows) h =
+      let rest = filter_at rows h.1 in
+      let same : is_row_of c (at_number n f row) ≡ is_row_of c row = by (nat_eq row.slot.number n) refl in
+      elim (bool_cases (is_row_of c row)) [
+        | inl t ↦
+            filter_takes (is_row_of c) (at_number n f row) (map (at_number n f) rows) (same ∙ t)
+            ∙ ap (λ l. at_number n f row ∷ l) rest
+            ∙ sym (ap (map (at_number n f)) (filter_takes (is_row_of c) row rows t))
+        | inr e ↦
+            filter_drops (is_row_of c) (at_number n f row) (map (at_number n f) rows) (same ∙ e)
+            ∙ rest
+            ∙ sym (ap (map (at_number n f)) (filter_drops (is_row_of c) row rows e))
+      ]
+    where
+      by : (b : Bool) → nat_eq row.slot.number n ≡ b → is_row_of c (if b then f row else row) ≡ is_row_of c row
+      by true e = h.0 (eqb-true row.slot.number n e)
+      by false e = refl
+
+  -- a change of rows outside the groups
+  pub filter_beside : (rows : List Row) → AllByRecursion (λ (row : Row). row.slot.number ≡ n → (is_row_of c row ≡ false) × (is_row_of c (f row) ≡ false)) rows
+      → filter (is_row_of c) (map (at_number n f) rows) ≡ filter (is_row_of c) rows
+  filter_beside [] h = refl
+  filter_beside (row ∷ rows) h = by (nat_eq row.slot.number n) refl (filter_beside rows h.1)
+    where
+      by : (b : Bool) → nat_eq row.slot.number n ≡ b → filter (is_row_of c) (map (at_number n f) rows) ≡ filter (is_row_of c) rows
+          → filter (is_row_of c) ((if b then f row else row) ∷ map (at_number n f) rows) ≡ filter (is_row_of c) (row ∷ rows)
+      by true e rest =
+          let out = h.0 (eqb-true row.slot.number n e) in
+          filter_drops (is_row_of c) (f row) (map (at_number n f) rows) out.1 ∙ rest ∙ sym (filter_drops (is_row_of c) row rows out.0)
+      by false e rest = ap (λ l. cond (is_row_of c row) (row ∷ l) l) rest
+
+-- a core with the slots of another
+pub record Sames (first core : Core) : Type 0 where
+  pub same : identities_of core ≡ identities_of first
+  pub rises : Rises core
+
+pub sames_self : (core : Core) → Rises core → Sames core core
+sames_self core up = record { same = refl; rises = up }
+
+module _ (first core : Core) (k : Sames first core) where
+  pub put_slot-sames : (s was : Slot) → slot_at first s.number ≡ Some was → identity_of was ≡ identity_of s → Sames first (put_slot core s)
+  put_slot-sames s was at same =
+      let now = stays_by first core s.number was k.same at in
+      let ids : identities_of (put_slot core s) ≡ identities_of core = identities_of-put_slot core s now.now k.rises now.is (now.same ∙ same) in
+      record { same = ids ∙ k.same; rises = rises_by core (put_slot core s) ids k.rises }
+
+  pub put_queue-sames : (n : ℕ) (q : List Event) → Sames first (put_queue core n q)
+  put_queue-sames n q =
+      let ids : identities_of (put_queue core n q) ≡ identities_of core = ap (map identity_of) (slots_of-put_queue core n q) in
+      record { same = ids ∙ k.same; rises = rises_by core (put_queue core n q) ids k.rises }
+
+  -- the rows at a number are of the slot that stood there at first
+  pub group_at : (n : ℕ) (was : Slot) → slot_at first n ≡ Some was → AllByRecursion (λ (row : Row). row.slot.number ≡ n → row.slot.group ≡ was.group) core.rows
+  group_at n was at =
+      let now = stays_by first core n was k.same at in
+      each_map (λ (row : Row). row.slot.number ≡ n → row.slot ≡ now.now) (λ (row : Row). row.slot.number ≡ n → row.slot.group ≡ was.group)
+      (λ row one number. ap (λ (x : Slot). x.group) (one number) ∙ ap (λ (x : ℕ × ℕ × Option ℕ). x.1) now.same)
+      core.rows (same_slot core k.rises n now.now now.is)
+
+  module _ (c : ℕ → Bool) where
+    pub mine-put_slot : (s was : Slot) → slot_at first s.number ≡ Some was → was.group ≡ s.group → mine c (put_slot core s) ≡ map (at_number s.number (λ (row : Row). record row { slot = s })) (mine c core)
+    unfolding put_slot
+    mine-put_slot s was at group =
+        filter_at c s.number (λ (row : Row). record row { slot = s }) core.rows
+        (each_map (λ (row : Row). row.slot.number ≡ s.number → row.slot.group ≡ was.group) (λ (row : Row). row.slot.number ≡ s.number → c s.group ≡ c row.slot.group)
+        (λ row one number. sym (ap c (one number ∙ group))) core.rows (group_at s.number was at))
+
+    pub mine-put_queue : (n : ℕ) (q : List Event) → mine c (put_queue core n q) ≡ map (at_number n (λ (row : Row). record row { queue = q })) (mine c core)
+    unfolding put_queue
+    mine-put_queue n q = filter_at c n (λ (row : Row). record row { queue = q }) core.rows (all core.rows)
+      where
+        all : (rows : List Row) → AllByRecursion (λ (row : Row). row.slot.number ≡ n → c row.slot.group ≡ c row.slot.group) rows
+        all [] = tt
+        all (row ∷ rows) = ((λ e. refl), all rows)
+
+    pub beside-put_slot : (s was : Slot) → slot_at first s.number ≡ Some was → was.group ≡ s.group → c s.group ≡ false → mine c (put_slot core s) ≡ mine c core
+    unfolding put_slot
+    beside-put_slot s was at group out =
+        filter_beside c s.number (λ (row : Row). record row { slot = s }) core.rows
+        (each_map (λ (row : Row). row.slot.number ≡ s.number → row.slot.group ≡ was.group) (λ (row : Row). row.slot.number ≡ s.number → (c row.slot.group ≡ false) × (c s.group ≡ false))
+        (λ row one number. (ap c (one number ∙ group) ∙ out, out)) core.rows (group_at s.number was at))
+
+    pub beside-put_queue : (n : ℕ) (q : List Event) (was : Slot) → slot_at first n ≡ Some was → c was.group ≡ false → mine c (put_queue core n q) ≡ mine c core
+    unfolding put_queue
+    beside-put_queue n q was at out =
+        filter_beside c n (λ (row : Row). record row { queue = q }) core.rows
+        (each_map (λ (row : Row). row.slot.number ≡ n → row.slot.group ≡ was.group) (λ (row : Row). row.slot.number ≡ n → (c row.slot.group ≡ false) × (c row.slot.group ≡ false))
+        (λ row one number. (ap c (one number) ∙ out, ap c (one number) ∙ out)) core.rows (group_at n was at))

@@ -1,0 +1,8 @@
+use Rattle.std.specs.Prelude.{ℕ}
+use Rattle.mm_model.specs.Memory.{Memory}
+
+-- a plain memory, as contracts see it
+pub record Plain : Type 0 where
+  pub memory : Memory
+  -- how many accesses were made
+  pub uses : ℕ

@@ -1,0 +1,85 @@
+ghost use Rattle.std.specs.Prelude.{◌≡◌, ◌^◌, ◌<◌, IfOk, Some, slice_get, slice_set};
+ghost use Rattle.mm_model.specs.Memory.{IsPage, zero_page};
+
+use mm_model::{CELLS, Page};
+use mm_word::{Cell, NoMemory, Word};
+use std::alloc::Global;
+use std::marker::Model;
+
+// What each cell of a page holds that was just mapped.
+const ZERO: Cell = Cell {
+    word: Word::Int(0),
+    full: true,
+};
+
+// A frame, and the page that stands in it. Its cells are taken once, and stay for as long as the memory does.
+#[derive(Drop)]
+pub(crate) struct Frame {
+    number: u64,
+    cells: Vec<Cell>,
+}
+
+impl Model for Frame {
+    ghost use Rattle.std.specs.Prelude.{ℕ, List};
+    ghost use Rattle.mm_word.specs.declared.word.Cell.{Cell};
+    ghost use Rattle.mm_model.specs.Memory.{IsPage};
+
+    ghost Value = { ℕ × List Cell };
+
+    ghost view = { λ f. (f.number, f.cells.items) };
+
+    ghost invariant = { λ f. IsPage (f.number, f.cells.items) };
+}
+
+impl Frame {
+    // A frame of zeros.
+    pub(crate) fn new(alloc: Global) -> Result<Frame, NoMemory>
+        ensures { IfOk result (λ f. f ≡ (0, zero_page)) }
+    {
+        let Ok(cells) = Vec::from_elem(alloc, ZERO, CELLS) else {
+            return Err(NoMemory);
+        };
+        Ok(Frame { number: 0, cells })
+    }
+
+    // The number of its page.
+    pub(crate) fn number(&self) -> u64
+        ensures { result ≡ self.now.0 }
+    {
+        self.number
+    }
+
+    // The cell at this place.
+    pub(crate) fn cell(&self, place: usize) -> Cell
+        requires { place < 512 }
+        ensures { slice_get self.now.1 place ≡ Some result }
+    {
+        self.cells[place]
+    }
+
+    // Writes the cell at this place.
+    pub(crate) fn put(&mut self, place: usize, cell: Cell)
+        requires { place < 512 }
+        ensures { self.new ≡ (self.old.0, slice_set self.old.1 place cell) }
+    {
+        self.cells[place] = cell;
+    }
+
+    // Makes it a page of zeros.
+    pub(crate) fn clear(&mut self, number: u64)
+        requires { number < 2 ^ 42 }
+        ensures { self.new ≡ (number, zero_page) }
+    {
+        self.number = number;
+        self.cells.fill(ZERO);
+    }
+
+    // Makes it a copy of this page.
+    pub(crate) fn copy(&mut self, page: &Page)
+        ensures copied { self.new ≡ page.now }
+        ensures whole { IsPage page.now }
+    {
+        self.number = page.number();
+        self.cells.copy_from_slice(page.cells());
+    }
+}

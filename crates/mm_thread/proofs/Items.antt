@@ -1,0 +1,114 @@
+-- The turns of items.
+use Rattle.std.proofs.Common.{◌≡◌, ℕ, ◌+◌, ◌-◌, ◌<◌, ◌≤◌, ◌^◌, Bool, true, false, cond, leb, List, [], ◌∷◌, length, Option, Some, None, refl, sym, ap, subst, ◌∙◌, arith}
+use Rattle.std.specs.Prelude.{◌&&◌, nat_le, IfSome}
+use Rattle.std.specs.List.{AllByRecursion}
+use Rattle.std.proofs.lemmas.List.{set-get_or}
+use Rattle.std.proofs.lemmas.Bool.Decides.{nat_tests}
+use Rattle.mm_model.specs.declared.slot.Pending.{Pending}
+use Rattle.mm_model.specs.declared.step.Step.{Step}
+use Rattle.mm_model.specs.declared.step.Tick.{Tick}
+use Rattle.mm_model.specs.declared.step.Tick.TheVariants.{Idle, Delivered}
+use Rattle.mm_model.specs.Memory.{Memory}
+use Rattle.mm_model.specs.Slot.{Slot}
+use Rattle.mm_model.specs.State.{Row, Core, slot_at, put_slot}
+use Rattle.mm_model.specs.Uses.{Use, accesses, TakesUses, takes_none}
+use Rattle.mm_model.specs.Effect.{delivered, delivers}
+use Rattle.mm_model.specs.Turn.{Turned, idle, arrives, port_of, taken_by, taken_by_port, turn, started, is_running}
+use Rattle.mm_model.specs.Fits.{IsCore, slots_of}
+use Rattle.mm_model.proofs.CoreRows.{slot_has}
+use Rattle.mm_model.proofs.SlotSteps.{delivered_from}
+use Rattle.mm_thread.specs.Places.{no_row, slot_in, with_slot, numbers_in, IsIndex, first_register}
+use Rattle.mm_thread.specs.Left.{CanTurn, Gives, AsksNothing}
+use Rattle.mm_thread.proofs.Index.{slot_found, put_slot-place}
+
+abbrev pub step_of : Tick → ℕ → Step
+step_of tick n = record { tick = tick; slot = n; fetched = None; touched = None; entered = None }
+
+-- 1. Ports.
+
+pub port-plain : (core : Core) (n : ℕ) → core.split ≡ false → port_of core n ≡ None
+port-plain core n plain = rw plain refl
+
+pub port-low : (core : Core) (n : ℕ) → n < 128 → port_of core n ≡ None
+port-low core n low =
+    let small : leb 128 n ≡ false = grind (arith, nat_tests) in
+    rw small (elim core.split as (λ b. cond (b && false) (slot_at core (n - 128)) None ≡ None) [ true ↦ refl | false ↦ refl ])
+
+pub port-slot : (core : Core) (n : ℕ) → core.split ≡ true → 128 ≤ n → port_of core n ≡ slot_at core (n - 128)
+port-slot core n split high =
+    let large : leb 128 n ≡ true = grind (arith, nat_tests) in
+    rw (split, large) refl
+
+pub idles : (core : Core) (m : Memory) (n : ℕ) (step : Step) → step ≡ step_of Idle n → AsksNothing (idle core m n) m core step
+unfolding idle
+idles core m n step is = record { core_is = refl; memory_is = refl; step_is = is; uses_are = refl }
+
+pub port_idles : (core : Core) (m : Memory) (n : ℕ) (step : Step) → port_of core n ≡ None → step ≡ step_of Idle n → AsksNothing (taken_by_port core m n (port_of core n)) m core step
+port_idles core m n step none is = rw none (idles core m n step is)
+
+-- what is told of a port
+abbrev pub arrival : Option ℕ → Tick
+arrival None = Idle
+arrival (Some register) = Delivered register
+
+module _ (core : Core) (places : List ℕ) (index : IsIndex (numbers_in core) places) (p : ℕ) (within : p < length core.rows) where
+  abbrev s : Slot
+  s = slot_in core p
+
+  port_arrives : (m : Memory) (core' : Core) (step : Step) → core' ≡ with_slot core p (delivered s) → (ps : List Pending) → s.pending ≡ ps → step ≡ step_of (arrival (first_register ps)) s.number
+      → AsksNothing (arrives core m s ps) m core' step
+  unfolding delivered
+  port_arrives m core' step core_is [] none step_is =
+      idles_at (core_is ∙ ap (λ (ps : List Pending). with_slot core p (delivers s ps)) none ∙ ap (λ (rows : List Row). record core { rows = rows }) (set-get_or core.rows p no_row)) (idles core m s.number step step_is)
+    where
+      idles_at : core' ≡ core → AsksNothing (idle core m s.number) m core step → AsksNothing (idle core m s.number) m core' step
+      idles_at same h = record { core_is = same ∙ h.core_is; memory_is = h.memory_is; step_is = h.step_is; uses_are = h.uses_are }
+  port_arrives m core' step core_is (q ∷ qs) some step_is = record {
+    core_is = core_is ∙ sym (put_slot-place core places index p within (delivered s) (delivered_from s).number);
+    memory_is = refl;
+    step_is = step_is;
+    uses_are = refl;
+  }
+
+  pub port_delivers : (m : Memory) (n : ℕ) (core' : Core) (step : Step) (tick : Tick) → port_of core n ≡ Some s → core' ≡ with_slot core p (delivered s) → tick ≡ arrival (first_register s.pending) → step ≡ step_of tick s.number
+      → AsksNothing (taken_by_port core m n (port_of core n)) m core' step
+  port_delivers m n core' step tick port core_is tick_is step_is =
+      rw port (port_arrives m core' step core_is s.pending refl (step_is ∙ ap (λ (t : Tick). step_of t s.number) tick_is))
+
+-- 2. Items.
+
+module _ {M : Type 0} (meaning : M → Memory) (uses : M → ℕ) (stands : M → List Use → Type 0) where
+  pub nothing_gives : (t : Turned) (old : M) (core' : Core) (step' : Step) → AsksNothing t (meaning old) core' step' → Gives meaning uses stands t old old core' step'
+  nothing_gives t old core' step' h =
+      let Takes : List Use → Type 0 = λ us. TakesUses stands old old us in
+      record {
+        core_is = h.core_is;
+        memory_is = h.memory_is;
+        step_is = h.step_is;
+        takes = subst Takes (sym h.uses_are) (takes_none old);
+        count = omega (arith, ap accesses h.uses_are);
+      }
+
+-- a running slot can take its turn
+pub can_turn : (core : Core) (places : List ℕ) → IsCore core → IsIndex (numbers_in core) places → AllByRecursion (λ (t : Slot). t.turns < 2 ^ 61) (slots_of core)
+    → (p : ℕ) → p < length core.rows → is_running (slot_in core p).state ≡ true → CanTurn core places p
+can_turn core places whole index turns p within runs =
+    let few = slot_has (λ (t : Slot). t.turns < 2 ^ 61) core (slot_in core p).number (slot_in core p) turns (slot_found core places index p within) in
+    record { whole = whole; index = index; within = within; turns = omega (arith, few); runs = runs }
+
+pub turn-none : (core : Core) (m : Memory) (n : ℕ) → slot_at core n ≡ None → turn core m n ≡ taken_by_port core m n (port_of core n)
+unfolding turn
+turn-none core m n none = ap (taken_by core m n) none
+
+pub turn-running : (core : Core) (m : Memory) (n : ℕ) (s : Slot) → slot_at core n ≡ Some s → is_running s.state ≡ true → turn core m n ≡ started core m s
+unfolding turn
+turn-running core m n s some runs = ap (taken_by core m n) some ∙ ap (λ (b : Bool). cond b (started core m s) (idle core m n)) runs
+
+pub turn-resting : (core : Core) (m : Memory) (n : ℕ) (s : Slot) → slot_at core n ≡ Some s → is_running s.state ≡ false → turn core m n ≡ idle core m n
+unfolding turn
+turn-resting core m n s some rests = ap (taken_by core m n) some ∙ ap (λ (b : Bool). cond b (started core m s) (idle core m n)) rests
+
+-- two facts of a value that may be there give a third
+pub if_some_both : (o : Option ℕ) (P Q R : ℕ → Type 0) → ((p : ℕ) → P p → Q p → R p) → IfSome o P → IfSome o Q → IfSome o R
+if_some_both None P Q R both h k = tt
+if_some_both (Some p) P Q R both h k = both p h k

@@ -1,0 +1,16 @@
+pub mod FlagSets
+pub mod Index
+pub mod Pointers
+pub mod Pendings
+pub mod Counting
+pub mod Cores
+pub mod Around
+pub mod Accesses
+pub mod Turns
+pub mod Items
+pub mod Sound
+pub mod Exactly
+pub mod Fresh
+pub mod Placing
+pub mod RunningSlots
+pub mod Assigned

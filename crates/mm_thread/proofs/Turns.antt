@@ -1,0 +1,261 @@
+-- How the parts of a turn make it.
+use Rattle.std.proofs.Common.{◌≡◌, ◌≢◌, ℕ, ◌+◌, ◌<◌, ◌^◌, Bool, true, false, cond, eqb, eqb-true, List, [], ◌∷◌, ◌++◌, length, map, get_or, set, Option, Some, None, Result, Ok, Err, refl, sym, ap, subst, ◌∙◌, arith, pos}
+use Rattle.std.specs.Prelude.{◌&&◌, slice_index}
+use Rattle.std.proofs.lemmas.Bool.{cases_eq}
+use Rattle.std.proofs.lemmas.List.{set-set, length-map}
+use Rattle.mm_word.specs.declared.perm.Kind.TheVariants.{Fetch}
+use Rattle.mm_word.specs.declared.cause.Cause.{Cause}
+use Rattle.mm_word.specs.declared.cause.Cause.TheVariants.{Bounds}
+use Rattle.mm_word.specs.declared.word.Word.{Word}
+use Rattle.mm_word.specs.declared.word.Word.TheVariants.{Int, Ptr}
+use Rattle.mm_word.specs.declared.word.Cell.{Cell}
+use Rattle.mm_word.specs.Access.{Touch, check_result}
+use Rattle.mm_isa.specs.declared.instr.Instr.{Instr}
+use Rattle.mm_model.specs.declared.slot.SlotState.TheVariants.{Running}
+use Rattle.mm_model.specs.declared.step.Step.{Step}
+use Rattle.mm_model.specs.declared.step.Tick.{Tick}
+use Rattle.mm_model.specs.declared.step.Tick.TheVariants.{Did, Blocked}
+use Rattle.mm_model.specs.Memory.{Memory, cell_at}
+use Rattle.mm_model.specs.Slot.{Slot}
+use Rattle.mm_model.specs.State.{Row, Core, slot_at, at_number, put_slot}
+use Rattle.mm_model.specs.Uses.{Use, Accessed, accesses, accesses-append, TakesUses, takes_both}
+use Rattle.mm_model.specs.Operands.{addr_operand, value_operand, lacks}
+use Rattle.mm_model.specs.Ask.{ask}
+use Rattle.mm_model.specs.Effect.{Effect, delivered}
+use Rattle.mm_model.specs.Effect.Effect.{Fault, Block, Deliver, Does}
+use Rattle.mm_model.specs.Turn.{Turned, stood, core_faulted, event_of, tick_faulted, faulted, blocked, ended, executed, issued, decoded, fetched, aimed, started, touch_of, asked_use}
+use Rattle.mm_model.proofs.SlotSteps.{delivered_from}
+use Rattle.mm_mem.specs.Answers.{fetched as fetched_answer}
+use Rattle.mm_thread.specs.declared.outcome.Outcome.{Outcome}
+use Rattle.mm_thread.specs.declared.outcome.Outcome.TheVariants.{Goes, Waits, Fails}
+use Rattle.mm_thread.specs.declared.outcome.Told.{Told}
+use Rattle.mm_thread.specs.Places.{row_at, slot_in, with_row, with_slot, numbers_in, IsIndex}
+use Rattle.mm_thread.specs.Left.{CanTurn, CanEnd, Leaves, effect_in, Executes, Gives, core_ended, step_ended}
+use Rattle.mm_thread.proofs.Index.{slot_found, put_slot-place, number-get, length-numbers}
+use Rattle.mm_thread.proofs.Cores.{queue_in-slot, slot_in-same, length-with_row}
+
+-- 1. A slot that is put in a core.
+
+put_number : (s : Slot) (row : Row) → (at_number s.number (λ r. record r { slot = s }) row).slot.number ≡ row.slot.number
+put_number s row = by (eqb row.slot.number s.number) refl
+  where
+    by : (b : Bool) → eqb row.slot.number s.number ≡ b → (cond b (record row { slot = s }) row).slot.number ≡ row.slot.number
+    by true e = sym (eqb-true row.slot.number s.number e)
+    by false e = refl
+
+put_numbers : (s : Slot) (rows : List Row) → map (λ (t : Slot). t.number) (map (λ (r : Row). r.slot) (map (at_number s.number (λ r. record r { slot = s })) rows)) ≡ map (λ (t : Slot). t.number) (map (λ (r : Row). r.slot) rows)
+put_numbers s [] = refl
+put_numbers s (row ∷ rows) = rw (put_number s row, put_numbers s rows) refl
+
+pub numbers-put_slot : (core : Core) (s : Slot) → numbers_in (put_slot core s) ≡ numbers_in core
+unfolding put_slot
+numbers-put_slot core s = put_numbers s core.rows
+
+length-put_slot : (core : Core) (s : Slot) → length (put_slot core s).rows ≡ length core.rows
+unfolding put_slot
+length-put_slot core s = length-map core.rows (at_number s.number (λ r. record r { slot = s }))
+
+pub with_slot-twice : (core : Core) (p : ℕ) (a b : Slot) → p < length core.rows → with_slot (with_slot core p a) p b ≡ with_slot core p b
+with_slot-twice core p a b within =
+    ap (λ q. with_row (with_slot core p a) p (record { slot = b; queue = q })) (queue_in-slot core p p a within)
+    ∙ ap (λ (rows : List Row). record core { rows = rows }) (set-set core.rows p (record (row_at core p) { slot = a }) (record (row_at core p) { slot = b }))
+
+-- the slot of a place whose number is found elsewhere too
+same_slot : (core k : Core) (places : List ℕ) → IsIndex (numbers_in core) places → (p : ℕ) → p < length core.rows → numbers_in k ≡ numbers_in core → p < length k.rows
+    → slot_at k (slot_in core p).number ≡ slot_at core (slot_in core p).number → slot_in k p ≡ slot_in core p
+same_slot core k places index p within numbers inside stays =
+    let P : List ℕ → Type 0 = λ ns. IsIndex ns places in
+    let indexed : IsIndex (numbers_in k) places = subst P (sym numbers) index in
+    let number : (slot_in k p).number ≡ (slot_in core p).number = sym (number-get k p inside) ∙ ap (λ (ns : List ℕ). slice_index ns p) numbers ∙ number-get core p within in
+    let is : ◌≡◌ {A = Option Slot} (Some (slot_in k p)) (Some (slot_in core p)) =
+        sym (slot_found k places indexed p inside) ∙ ap (slot_at k) number ∙ stays ∙ slot_found core places index p within
+    in
+    cc
+
+-- 2. The end of a turn.
+
+-- what is left where an instruction has ended so
+pub record EndsSo (t : Turned) (core : Core) (memory : Memory) (step : Step) : Type 0 where
+  pub core_is : core ≡ t.core
+  pub memory_is : memory ≡ t.memory
+  pub step_is : step ≡ t.step
+
+module _ (core : Core) (places : List ℕ) (p : ℕ) (can : CanTurn core places p) (m : Memory) where
+  abbrev s : Slot
+  s = slot_in core p
+
+  module _ (other : Slot) (core1 : Core) (is : core1 ≡ put_slot core other) (stays : slot_at core1 s.number ≡ slot_at core s.number) where
+    numbers_stay : numbers_in core1 ≡ numbers_in core
+    numbers_stay = ap numbers_in is ∙ numbers-put_slot core other
+
+    still : p < length core1.rows
+    still = let n = can.within in omega (arith, ap (λ (k : Core). length k.rows) is, length-put_slot core other)
+
+    slot_stays : slot_in core1 p ≡ s
+    slot_stays = same_slot core core1 places can.index p can.within numbers_stay still stays
+
+    waits_on : with_slot core1 p (stood (slot_in core1 p) Running) ≡ put_slot core1 (stood s Running)
+    waits_on =
+        let P : List ℕ → Type 0 = λ ns. IsIndex ns places in
+        let indexed : IsIndex (numbers_in core1) places = subst P (sym numbers_stay) can.index in
+        ap (λ (x : Slot). with_slot core1 p (stood x Running)) slot_stays
+        ∙ sym (put_slot-place core1 places indexed p still (stood s Running) (ap (λ (x : Slot). x.number) (sym slot_stays)))
+
+  -- what the end of a turn needs
+  pub can_end : (e : Effect) (core1 : Core) (m1 : Memory) (o : Outcome) → Leaves core m s e core1 m1 o → CanEnd o core1 places p
+  can_end e core1 m1 o h = by e o h.core_is h.outcome_is h.stays
+    where
+      waiting : (k : Core) → p < length k.rows → slot_in k p ≡ s → CanEnd Waits k places p
+      waiting k inside same = (inside, let t = can.turns in omega (arith, ap (λ (x : Slot). x.turns) same))
+
+      by : (e : Effect) (o : Outcome) → core1 ≡ Rattle.mm_thread.specs.Left.core_left core s e → o ≡ Rattle.mm_thread.specs.Left.outcome_of e
+          → (o ≡ Waits → slot_at core1 s.number ≡ slot_at core s.number) → CanEnd o core1 places p
+      by (Does c) o core_is outcome_is stays = let P : Outcome → Type 0 = λ x. CanEnd x core1 places p in subst P (sym outcome_is) tt
+      by (Fault c) o core_is outcome_is stays =
+          let P : Outcome → Type 0 = λ x. CanEnd x core1 places p in
+          let C : Core → Type 0 = λ k. CanTurn k places p in
+          subst P (sym outcome_is) (subst C (sym core_is) can)
+      by Block o core_is outcome_is stays =
+          let P : Outcome → Type 0 = λ x. CanEnd x core1 places p in
+          let C : Core → Type 0 = λ k. CanEnd Waits k places p in
+          subst P (sym outcome_is) (subst C (sym core_is) (waiting core can.within refl))
+      by (Deliver other) o core_is outcome_is stays =
+          let P : Outcome → Type 0 = λ x. CanEnd x core1 places p in
+          subst P (sym outcome_is) (waiting core1 (still other core1 core_is (stays outcome_is)) (slot_stays other core1 core_is (stays outcome_is)))
+
+  module _ (i : Instr) (f : Touch) (touched : Option Touch) (us : List Use) (core1 : Core) (m1 : Memory) (o : Outcome) (core2 : Core) (step : Step)
+      (core_is : core2 ≡ core_ended i core1 (slot_in core1 p) p o) (step_is : step ≡ step_ended s.number (slot_in core1 p) f touched o) where
+    pub ended_so : (e : Effect) → Leaves core m s e core1 m1 o → EndsSo (ended core m s i f touched us e) core2 m1 step
+    unfolding ended faulted blocked
+    ended_so (Does c) h = record {
+      core_is = core_is ∙ ap (core_ended i core1 (slot_in core1 p) p) h.outcome_is ∙ h.core_is;
+      memory_is = h.memory_is;
+      step_is = step_is ∙ ap (step_ended s.number (slot_in core1 p) f touched) h.outcome_is;
+    }
+    ended_so (Fault c) h = record {
+      core_is = core_is ∙ ap (core_ended i core1 (slot_in core1 p) p) h.outcome_is
+          ∙ ap (λ (k : Core). core_faulted k (slot_in k p) (event_of (slot_in k p) c (addr_operand i (slot_in k p)) (value_operand i (slot_in k p))) (slot_in k p).handler) h.core_is;
+      memory_is = h.memory_is;
+      step_is = step_is ∙ ap (step_ended s.number (slot_in core1 p) f touched) h.outcome_is ∙ ap (λ (k : Core). step_ended s.number (slot_in k p) f touched (Fails c)) h.core_is;
+    }
+    ended_so Block h = record {
+      core_is = core_is ∙ ap (core_ended i core1 (slot_in core1 p) p) h.outcome_is ∙ ap (λ (k : Core). with_slot k p (stood (slot_in k p) Running)) h.core_is
+          ∙ sym (put_slot-place core places can.index p can.within (stood s Running) refl);
+      memory_is = h.memory_is;
+      step_is = step_is ∙ ap (step_ended s.number (slot_in core1 p) f touched) h.outcome_is;
+    }
+    ended_so (Deliver other) h = record {
+      core_is = core_is ∙ ap (core_ended i core1 (slot_in core1 p) p) h.outcome_is ∙ waits_on other core1 h.core_is (h.stays h.outcome_is) ∙ ap (λ (k : Core). put_slot k (stood s Running)) h.core_is;
+      memory_is = h.memory_is;
+      step_is = step_is ∙ ap (step_ended s.number (slot_in core1 p) f touched) h.outcome_is;
+    }
+
+pub ended_uses : (core : Core) (m : Memory) (s : Slot) (i : Instr) (f : Touch) (touched : Option Touch) (us : List Use) (e : Effect) → (ended core m s i f touched us e).uses ≡ us
+unfolding ended faulted blocked
+ended_uses core m s i f touched us (Fault c) = refl
+ended_uses core m s i f touched us Block = refl
+ended_uses core m s i f touched us (Deliver other) = refl
+ended_uses core m s i f touched us (Does c) = refl
+
+-- 3. The same with what is asked of a memory.
+
+module _ {M : Type 0} (meaning : M → Memory) (uses : M → ℕ) (stands : M → List Use → Type 0) where
+  pub faults_give : (core : Core) (m : Memory) (s : Slot) (c : Cause) (a v : Word) (f : Option Touch) (us : List Use) (old new : M) (core' : Core) (step : Step) (tick : Tick) (n : ℕ)
+      → core' ≡ core_faulted core s (event_of s c a v) s.handler → meaning new ≡ m → tick ≡ tick_faulted c s.handler → n ≡ s.number
+      → step ≡ record { tick = tick; slot = n; fetched = f; touched = None; entered = None } → TakesUses stands old new us → uses new ≡ uses old + accesses us
+      → Gives meaning uses stands (faulted core m s c a v f None us) old new core' step
+  unfolding faulted
+  faults_give core m s c a v f us old new core' step tick n core_is memory_is tick_is number_is step_is takes count = record {
+    core_is = core_is;
+    memory_is = memory_is;
+    step_is = step_is ∙ ap (λ (t : Tick). record { tick = t; slot = n; fetched = f; touched = None; entered = None }) tick_is ∙ ap (λ (k : ℕ). record { tick = tick_faulted c s.handler; slot = k; fetched = f; touched = None; entered = None }) number_is;
+    takes = takes;
+    count = count;
+  }
+
+  module _ (core : Core) (places : List ℕ) (p : ℕ) (can : CanTurn core places p) (f : Touch) (u : Use) (i : Instr) (before mid : M)
+      (first : TakesUses stands before mid (u ∷ [])) (same : meaning mid ≡ meaning before) (counted : uses mid ≡ uses before + accesses (u ∷ [])) where
+    -- the instruction is carried out
+    pub issued_gives : (core.split && lacks i (slot_in core p)) ≡ false → (new : M) (core1 core2 : Core) (told : Told) (step : Step) → Executes meaning uses stands core (slot_in core p) i mid new core1 told
+        → core2 ≡ core_ended i core1 (slot_in core1 p) p told.outcome → step ≡ step_ended (slot_in core p).number (slot_in core1 p) f told.touched told.outcome
+        → Gives meaning uses stands (issued core (meaning before) (slot_in core p) f u i) before new core2 step
+    unfolding issued executed
+    issued_gives free new core1 core2 told step ex core_is step_is =
+        let s = slot_in core p in
+        let m : Memory = meaning before in
+        let LeavesAt : Memory → Type 0 = λ x. Leaves core x s (effect_in core x s i) core1 (meaning new) told.outcome in
+        let TakesAt : Memory → Type 0 = λ x. TakesUses stands mid new (asked_use x (ask i s)) in
+        let CountAt : Memory → Type 0 = λ x. uses new ≡ uses mid + accesses (asked_use x (ask i s)) in
+        let us : List Use = u ∷ asked_use m (ask i s) in
+        let so = ended_so core places p can m i f (touch_of (ask i s)) us core1 (meaning new) told.outcome core2 step core_is
+            (step_is ∙ ap (λ t. step_ended s.number (slot_in core1 p) f t told.outcome) ex.touched) (effect_in core m s i) (subst LeavesAt same ex.leaves) in
+        let listed = ended_uses core m s i f (touch_of (ask i s)) us (effect_in core m s i) in
+        let Takes : List Use → Type 0 = λ ws. TakesUses stands before new ws in
+        let Count : List Use → Type 0 = λ ws. uses new ≡ uses before + accesses ws in
+        let all : uses new ≡ uses before + accesses us = let one = subst CountAt same ex.count in omega (arith, accesses-append (u ∷ []) (asked_use m (ask i s))) in
+        rw free (record {
+          core_is = so.core_is;
+          memory_is = so.memory_is;
+          step_is = so.step_is;
+          takes = subst Takes (sym listed) (takes_both first (subst TakesAt same ex.takes));
+          count = subst Count (sym listed) all;
+        })
+
+    -- the slot waits for a register
+    pub issued_waits : (core.split && lacks i (slot_in core p)) ≡ true → (core1 core2 : Core) (step : Step) (n : ℕ) → core1 ≡ with_slot core p (delivered (slot_in core p)) → core2 ≡ with_slot core1 p (stood (slot_in core1 p) Running)
+        → n ≡ (slot_in core p).number → step ≡ record { tick = Blocked; slot = n; fetched = Some f; touched = None; entered = None }
+        → Gives meaning uses stands (issued core (meaning before) (slot_in core p) f u i) before mid core2 step
+    unfolding issued blocked
+    issued_waits waits core1 core2 step n first_is core_is number_is step_is =
+        let s = slot_in core p in
+        let from = delivered_from s in
+        rw waits (record {
+          core_is = core_is ∙ ap (λ (k : Core). with_slot k p (stood (slot_in k p) Running)) first_is
+              ∙ ap (λ (x : Slot). with_slot (with_slot core p (delivered s)) p (stood x Running)) (slot_in-same core p (delivered s) can.within)
+              ∙ with_slot-twice core p (delivered s) (stood (delivered s) Running) can.within
+              ∙ sym (put_slot-place core places can.index p can.within (stood (delivered s) Running) from.number);
+          memory_is = same;
+          step_is = step_is ∙ ap (λ (k : ℕ). record { tick = Blocked; slot = k; fetched = Some f; touched = None; entered = None }) (number_is ∙ sym from.number);
+          takes = first;
+          count = counted;
+        })
+
+-- 4. What a fetch brings.
+
+pub fetched-none : (o : Option Cell) → fetched_answer o ≡ None → o ≡ None
+fetched-none None e = refl
+fetched-none (Some c) e = cc
+
+pub fetched-some : (o : Option Cell) (w : Word) → fetched_answer o ≡ Some w → (c : Cell) × (o ≡ Some c) × (c.word ≡ w)
+fetched-some None w e = cc
+fetched-some (Some c) w e =
+    let same : c.word ≡ w = cc in
+    (c, refl, same)
+
+-- a delivery is no turn
+pub turns-delivered : (core : Core) (places : List ℕ) (p : ℕ) → CanTurn core places p → (core1 : Core) → core1 ≡ with_slot core p (delivered (slot_in core p)) → (slot_in core1 p).turns < 2 ^ 62
+turns-delivered core places p can core1 is =
+    let turns = can.turns in
+    let same = ap (λ (k : Core). (slot_in k p).turns) is ∙ ap (λ (x : Slot). x.turns) (slot_in-same core p (delivered (slot_in core p)) can.within) ∙ (delivered_from (slot_in core p)).turns in
+    omega arith
+
+-- 5. How a turn begins.
+
+where_true : {A : Type 0} (b : Bool) (x y : A) → b ≡ true → cond b x y ≡ x
+where_true b x y e = rw e refl
+
+where_false : {A : Type 0} (b : Bool) (x y : A) → b ≡ false → cond b x y ≡ y
+where_false b x y e = rw e refl
+
+module _ (core : Core) (m : Memory) (s : Slot) where
+  pub starts_past : s.past ≡ true → started core m s ≡ faulted core m s Bounds (Int 0) (Int 0) None None []
+  unfolding started
+  starts_past past = where_true s.past _ _ past
+
+  pub starts_unfetched : (c : Cause) → s.past ≡ false → check_result (Ptr s.ip) (pos 0) Fetch ≡ Err c → started core m s ≡ faulted core m s c (Int 0) (Int 0) None None []
+  unfolding started
+  starts_unfetched c past err = where_false s.past _ _ past ∙ ap (aimed core m s) err
+
+  pub starts_fetched : (f : Touch) → s.past ≡ false → check_result (Ptr s.ip) (pos 0) Fetch ≡ Ok f → started core m s ≡ fetched core m s f (cell_at m f.addr)
+  unfolding started
+  starts_fetched f past ok = where_false s.past _ _ past ∙ ap (aimed core m s) ok

@@ -1,0 +1,29 @@
+use Rattle.std.proofs.Common.{◌≡◌, ap, sym, ◌∙◌}
+use Rattle.mm_model.specs.Slot.{Slot}
+use Rattle.mm_model.specs.declared.step.Tick.{Tick}
+use Rattle.mm_thread.specs.Places.{slot_in, first_register}
+use Rattle.mm_thread.proofs.Cores.{own, registers_small}
+use Rattle.mm_thread.proofs.Items.{port_idles, port_delivers, arrival, step_of}
+use Rattle.mm_thread.proofs.item.take_port.Goals as goal
+use Rattle.mm_thread.proofs.item.take_port.Goals.{in-Some-deliver, in-None}
+
+pub returns-in_default : goal.returns-in_default
+returns-in_default c = λ m. port_idles c.args.tables.now m c.args.item c.step.result c.in_default.ensures.none c.step.ensures
+
+pub deliver-requires-clause-registers : goal.deliver-requires-clause-registers
+deliver-requires-clause-registers c =
+    let t = c.args.tables.now in
+    let r = c.requires in
+    registers_small t.version t.split (slot_in t c.in-Some.place) (own t r.whole c.args.places.now r.index c.in-Some.place c.in-Some.ensures.within)
+
+pub returns : goal.returns
+returns c = λ m.
+    let t = c.args.tables.now in
+    let p = c.in-Some.place in
+    let number = ap (λ (x : Slot). x.number) (c.behind-tables.view_is ∙ c.slot.ensures) in
+    let told : c.match-deliver.tick ≡ arrival c.deliver.result = elim c.match-deliver.branch [
+      | in-Some-deliver w ↦ w.tick-is ∙ ap arrival (sym w.in-Some-deliver.is)
+      | in-None w ↦ w.tick-is ∙ ap arrival (sym w.in-None.is)
+    ] in
+    port_delivers t c.args.places.now c.requires.index p c.in-Some.ensures.within m c.args.item c.deliver.new.self c.step-2.result c.match-deliver.tick
+    c.in-Some.ensures.port c.deliver.ensures.slot (told ∙ ap arrival c.deliver.ensures.register) (c.step-2.ensures ∙ ap (step_of c.match-deliver.tick) number)

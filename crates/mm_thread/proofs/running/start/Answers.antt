@@ -1,0 +1,44 @@
+use Rattle.std.proofs.Common.{◌≡◌, List, [], true, false, Some, None, Ok, Err, Result, sym, ap, ◌∙◌, refl, arith, pos}
+use Rattle.mm_word.specs.declared.cause.Cause.{Cause}
+use Rattle.mm_word.specs.declared.cause.Cause.TheVariants.{Bounds}
+use Rattle.mm_word.specs.declared.perm.Kind.TheVariants.{Fetch}
+use Rattle.mm_word.specs.declared.word.Word.TheVariants.{Int, Ptr}
+use Rattle.mm_word.specs.Access.{Touch, check_result}
+use Rattle.mm_model.specs.Slot.{Slot}
+use Rattle.mm_model.specs.Memory.{Memory}
+use Rattle.mm_model.specs.Uses.{takes_none}
+use Rattle.mm_model.specs.Turn.{started}
+use Rattle.mm_thread.specs.Places.{slot_in}
+use Rattle.mm_thread.proofs.Turns.{faults_give, starts_past, starts_unfetched, starts_fetched}
+use Rattle.mm_thread.proofs.running.start.Goals as goal
+
+pub returns-then-past : goal.returns-then-past
+returns-then-past g c =
+    let a = c.args in
+    let t = a.tables.now in
+    let s = slot_in t a.place in
+    let same = c.slot.view_is ∙ c.slot-slot.ensures in
+    let past : s.past ≡ true = ap (λ (x : Slot). x.past) (sym same) ∙ c.if-past.true in
+    rw (starts_past t (g.M.Memory.meaning a.mem.now) s past) (faults_give g.M.Memory.meaning g.M.Memory.uses g.M.Memory.stands t (g.M.Memory.meaning a.mem.now) s Bounds (Int 0) (Int 0) None [] a.mem.now a.mem.now c.fault-tick.new.tables c.step.result c.fault-tick.result c.slot.inside.number
+    c.fault-tick.ensures.core refl c.fault-tick.ensures.tick (ap (λ (x : Slot). x.number) same) c.step.ensures (takes_none a.mem.now) (omega arith))
+
+pub returns-in-Err : goal.returns-in-Err
+returns-in-Err g c =
+    let a = c.args in
+    let t = a.tables.now in
+    let s = slot_in t a.place in
+    let same = c.slot.view_is ∙ c.slot-slot.ensures in
+    let past : s.past ≡ false = ap (λ (x : Slot). x.past) (sym same) ∙ c.if-past.false in
+    let checked : check_result (Ptr s.ip) (pos 0) Fetch ≡ Err c.in-Err.cause = ap (λ (x : Slot). check_result (Ptr x.ip) (pos 0) Fetch) (sym same) ∙ sym c.in-Err.ensures.value in
+    rw (starts_unfetched t (g.M.Memory.meaning a.mem.now) s c.in-Err.cause past checked) (faults_give g.M.Memory.meaning g.M.Memory.uses g.M.Memory.stands t (g.M.Memory.meaning a.mem.now) s c.in-Err.cause (Int 0) (Int 0) None [] a.mem.now a.mem.now c.fault-tick-in-Err.new.tables c.step-in-Err.result c.fault-tick-in-Err.result c.slot.inside.number
+    c.fault-tick-in-Err.ensures.core refl c.fault-tick-in-Err.ensures.tick (ap (λ (x : Slot). x.number) same) c.step-in-Err.ensures (takes_none a.mem.now) (omega arith))
+
+pub returns-in-Ok : goal.returns-in-Ok
+returns-in-Ok g c =
+    let a = c.args in
+    let t = a.tables.now in
+    let s = slot_in t a.place in
+    let same = c.slot.view_is ∙ c.slot-slot.ensures in
+    let past : s.past ≡ false = ap (λ (x : Slot). x.past) (sym same) ∙ c.if-past.false in
+    let checked : check_result (Ptr s.ip) (pos 0) Fetch ≡ Ok c.in-Ok.access = ap (λ (x : Slot). check_result (Ptr x.ip) (pos 0) Fetch) (sym same) ∙ sym c.in-Ok.ensures.value in
+    rw (starts_fetched t (g.M.Memory.meaning a.mem.now) s c.in-Ok.access past checked) c.fetch.ensures

@@ -1,0 +1,20 @@
+use Rattle.std.proofs.Common.{◌≡◌, ap, ◌∙◌, sym}
+use Rattle.mm_model.specs.State.{Core}
+use Rattle.mm_model.specs.Fits.{IsCore}
+use Rattle.mm_thread.proofs.Fresh.{fresh_core, small_numbers}
+use Rattle.mm_thread.proofs.state.Core.new.Goals as goal
+
+pub places_of-places-requires-clause-rising : goal.places_of-places-requires-clause-rising
+places_of-places-requires-clause-rising c =
+    let whole : IsCore c.new-tables.result = fresh_core c.args.slots.now c.requires.rising c.requires.fresh _ _ c.new-tables.result c.new-tables.ensures c.in_ok-rows.ensures c.in_ok-outputs.ensures in
+    whole.rising
+
+pub places_of-places-requires-clause-small : goal.places_of-places-requires-clause-small
+places_of-places-requires-clause-small c =
+    let whole : IsCore c.new-tables.result = fresh_core c.args.slots.now c.requires.rising c.requires.fresh _ _ c.new-tables.result c.new-tables.ensures c.in_ok-rows.ensures c.in_ok-outputs.ensures in
+    small_numbers c.new-tables.result (ap (λ (k : Core). k.version) c.new-tables.ensures) whole
+
+pub invariant_of-result : goal.invariant_of-result
+invariant_of-result c =
+    let whole : IsCore c.new-tables.result = fresh_core c.args.slots.now c.requires.rising c.requires.fresh _ _ c.new-tables.result c.new-tables.ensures c.in_ok-rows.ensures c.in_ok-outputs.ensures in
+    record { whole = whole; index = c.places_of-places.ensures }

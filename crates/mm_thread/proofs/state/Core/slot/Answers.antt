@@ -1,0 +1,12 @@
+use Rattle.std.proofs.Common.{◌≡◌, Some, sym, ap, ◌∙◌}
+use Rattle.mm_model.specs.Slot.{Slot}
+use Rattle.mm_model.specs.State.{Core, slot_at}
+use Rattle.mm_thread.proofs.Index.{slot_found}
+use Rattle.mm_thread.proofs.state.Core.slot.Goals as goal
+
+pub returns-in-Some : goal.returns-in-Some
+returns-in-Some c =
+    let t = c.self.inside.tables in
+    let p = c.in-Some.place in
+    let found = slot_found t c.self.inside.places c.self.invariant.index p c.in-Some.ensures.within in
+    ap (λ (x : Slot). Some x) c.slot.ensures ∙ sym found ∙ ap (slot_at t) (c.in-Some.ensures.number ∙ c.from.ensures) ∙ ap (λ (k : Core). slot_at k c.args.n) c.self.view_is

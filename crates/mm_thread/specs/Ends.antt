@@ -1,0 +1,58 @@
+-- What a row of the table leaves.
+use Rattle.std.specs.Prelude.{◌≡◌, Bool, true, false, Option, Some, None, Result, Ok, Err}
+use Rattle.mm_word.specs.declared.cause.Cause.{Cause}
+use Rattle.mm_word.specs.declared.cause.Cause.TheVariants.{NotPointer}
+use Rattle.mm_word.specs.declared.word.Word.{Word}
+use Rattle.mm_word.specs.declared.word.Word.TheVariants.{Int, Ptr}
+use Rattle.mm_word.specs.Pointer.{Pointer}
+use Rattle.mm_isa.specs.declared.instr.Instr.{Instr}
+use Rattle.mm_isa.specs.declared.instr.Instr.TheVariants.{Out, Ld, St, Evt, Resume, Rreg, Wreg, Map, Unmap}
+use Rattle.mm_model.specs.Slot.{Slot}
+use Rattle.mm_model.specs.Effect.{Change, Effect}
+use Rattle.mm_model.specs.Effect.Pages.{Keep}
+use Rattle.mm_model.specs.Effect.Effect.{Fault, Block, Deliver, Does}
+use Rattle.mm_model.specs.Turn.{slot_after}
+
+-- the rows that ask nothing of the machine around their slot
+abbrev pub is_alone : Instr → Bool
+is_alone (Out ra) = false
+is_alone (Ld rd ra pre post imm) = false
+is_alone (St ra rb pre post imm) = false
+is_alone (Evt rd) = false
+is_alone (Resume ra how) = false
+is_alone (Rreg rd ra reg) = false
+is_alone (Wreg ra rb reg) = false
+is_alone (Map rd ra) = false
+is_alone (Unmap rd ra) = false
+is_alone _ = true
+
+-- the operation that fills four registers
+abbrev pub is_evt : Instr → Bool
+is_evt (Evt rd) = true
+is_evt _ = false
+
+-- what a change does to its slot and to nothing else
+abbrev pub alone : Change → Change
+alone c = record c { out = None; cell = None; pages = Keep; queue = None; other = None }
+
+-- the slot alone is changed, and perhaps a pointer is entered
+pub record ChangesAlone (c : Change) (old new : Slot) (ending : Result (Option Pointer) Cause) : Type 0 where
+  pub alone : alone c ≡ c
+  pub slot : new ≡ slot_after old c
+  pub told : ending ≡ Ok c.entered
+
+-- a fault leaves the slot as it was
+pub record FaultsAlone (c : Cause) (old new : Slot) (ending : Result (Option Pointer) Cause) : Type 0 where
+  pub slot : new ≡ old
+  pub told : ending ≡ Err c
+
+-- a row that concerns its slot alone leaves what its effect says
+abbrev pub EndsAlone : Effect → Slot → Slot → Result (Option Pointer) Cause → Type 0
+EndsAlone (Does c) old new told = ChangesAlone c old new told
+EndsAlone (Fault c) old new told = FaultsAlone c old new told
+EndsAlone _ old new told = ⊥
+
+-- the pointer that a word is
+abbrev pub pointer_in : Word → Result Pointer Cause
+pointer_in (Int bits) = Err NotPointer
+pointer_in (Ptr p) = Ok p

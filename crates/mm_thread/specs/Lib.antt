@@ -1,0 +1,5 @@
+pub mod Ends
+pub mod Places
+pub mod Left
+pub mod Told
+pub mod Parts

@@ -1,0 +1,79 @@
+-- Slots by their places in the table of rows.
+use Rattle.std.specs.Prelude.{◌≡◌, ℕ, ◌+◌, ◌*◌, ◌<◌, Bool, false, List, [], ◌∷◌, length, map, slice_set, slice_index_or, slice_index, Option, None, Some}
+use Rattle.mm_word.specs.declared.perm.Perm.TheVariants.{Xu}
+use Rattle.mm_word.specs.Pointer.{Pointer}
+use Rattle.mm_word.specs.Cause.{number_of}
+use Rattle.mm_word.specs.declared.word.Word.{Word}
+use Rattle.mm_word.specs.declared.word.Word.TheVariants.{Int, Ptr}
+use Rattle.mm_model.specs.declared.slot.SlotState.TheVariants.{Running}
+use Rattle.mm_model.specs.declared.event.Event.{Event}
+use Rattle.mm_model.specs.declared.slot.Pending.{Pending}
+use Rattle.mm_model.specs.Slot.{Slot}
+use Rattle.mm_model.specs.State.{Row, Core}
+use Rattle.mm_model.specs.Spelling.{numbers_of}
+use Rattle.mm_model.specs.Fits.{slots_of, IsCore}
+
+-- what stands for a row where there is none
+abbrev pub no_slot : Slot
+no_slot = record {
+  number = 0;
+  group = 0;
+  handler = None;
+  regs = [];
+  ip = record { perm = Xu; log = 0; addr = 0 };
+  past = false;
+  turns = 0;
+  state = Running;
+  empty = [];
+  pending = [];
+}
+
+abbrev pub no_row : Row
+no_row = record { slot = no_slot; queue = [] }
+
+-- a slot without events
+abbrev pub row_alone : Slot → Row
+row_alone s = record { slot = s; queue = [] }
+
+-- the row at a place
+abbrev pub row_at : Core → ℕ → Row
+row_at core place = slice_index_or core.rows place no_row
+
+abbrev pub slot_in : Core → ℕ → Slot
+slot_in core place = (row_at core place).slot
+
+abbrev pub queue_in : Core → ℕ → List Event
+queue_in core place = (row_at core place).queue
+
+-- the core with this row at a place
+abbrev pub with_row : Core → ℕ → Row → Core
+with_row core place row = record core { rows = slice_set core.rows place row }
+
+abbrev pub with_slot : Core → ℕ → Slot → Core
+with_slot core place s = with_row core place (record (row_at core place) { slot = s })
+
+abbrev pub with_queue_in : Core → ℕ → List Event → Core
+with_queue_in core place q = with_row core place (record (row_at core place) { queue = q })
+
+-- the numbers of the slots, in order
+abbrev pub numbers_in : Core → List ℕ
+numbers_in core = numbers_of (slots_of core)
+
+-- the table of places: each number that a slot has leads to its place, and each other number to no place
+pub record IsIndex (numbers places : List ℕ) : Type 0 where
+  pub there : (n : ℕ) → n < 64 → slice_index places n < length numbers → slice_index numbers (slice_index places n) ≡ n
+  pub back : (k : ℕ) → k < length numbers → slice_index places (slice_index numbers k) ≡ k
+
+-- the register of the oldest pending load
+abbrev pub first_register : List Pending → Option ℕ
+first_register [] = None
+first_register (p ∷ ps) = Some p.reg
+
+-- the words of an event in four registers from rd on
+abbrev pub event_writes : ℕ → Event → List (ℕ × Word)
+event_writes rd e = (rd, Int (number_of e.cause + 256 * e.slot)) ∷ (rd + 1, Ptr e.ip) ∷ (rd + 2, e.addr_op) ∷ (rd + 3, e.value_op) ∷ []
+
+-- a core whose table of places is right
+pub record IsSound (core : Core) (places : List ℕ) : Type 0 where
+  pub whole : IsCore core
+  pub index : IsIndex (numbers_in core) places

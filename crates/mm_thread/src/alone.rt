@@ -1,0 +1,357 @@
+//! The rows of the table that concern their slot alone.
+#![tactic(auto, unfolding(mm_model::specs::Effect::effect, mm_model::specs::Effect::plain))]
+
+ghost use Rattle.std.specs.Prelude.{◌≡◌, ◌<◌, ◌^◌, Bool, true, IfOk, IfSome};
+ghost use Rattle.mm_word.specs.Perm.{can_fetch};
+ghost use Rattle.mm_word.specs.Pointer.{enter_result, next_result};
+ghost use Rattle.mm_model.specs.Slot.{register};
+ghost use Rattle.mm_model.specs.Ask.{is_privileged};
+ghost use Rattle.mm_model.specs.Effect.{effect, sets_pointer, branches, at_distance, high_and_low, same_word, test, entry_of, jumps, links, plain};
+ghost use Rattle.mm_model.specs.Effect.Effect.{Does};
+ghost use Rattle.mm_model.specs.Effect.Reply.{Fine};
+ghost use Rattle.mm_thread.specs.Ends.{EndsAlone, pointer_in};
+
+use crate::slot::{advance, go_to, link, sets, stand, word_of};
+use mm_isa::{AluOp, Instr, Reg, alu};
+use mm_model::{Slot, SlotState};
+use mm_word::{Cause, GuardedPtr, Perm, Word, enter, lea, leab, next, restrict, setptr, subseg};
+
+/// The enter pointer that was entered, or why the instruction faults.
+pub(crate) type Entered = Result<Option<GuardedPtr>, Cause>;
+
+#[tactic(auto, unfolding(mm_model::specs::Effect::effect, mm_model::specs::Effect::plain, mm_model::specs::Turn::slot_after))]
+pub(crate) fn halt(slot: &mut Slot) -> Entered
+    requires { slot.old.turns < 2 ^ 62 }
+    ensures { (split : Bool) → EndsAlone (effect split Instr.Halt slot.old Fine) slot.old slot.new result }
+{
+    stand(slot, SlotState::Halted(None));
+    Ok(None)
+}
+
+pub(crate) fn nop(slot: &mut Slot) -> Entered
+    requires { slot.old.turns < 2 ^ 62 }
+    ensures ends { (split : Bool) → EndsAlone (effect split Instr.Nop slot.old Fine) slot.old slot.new result }
+    ensures as_step { EndsAlone (Does (plain slot.old)) slot.old slot.new result }
+{
+    advance(slot);
+    Ok(None)
+}
+
+pub(crate) fn ldi(slot: &mut Slot, rd: Reg, imm: i32) -> Entered
+    requires { slot.old.turns < 2 ^ 62 }
+    ensures { (split : Bool) → EndsAlone (effect split (Instr.Ldi rd imm) slot.old Fine) slot.old slot.new result }
+{
+    sets(slot, rd, Word::Int(i64::from(imm).cast_unsigned()));
+    Ok(None)
+}
+
+pub(crate) fn ldhi(slot: &mut Slot, rd: Reg, imm: i32) -> Entered
+    requires { slot.old.turns < 2 ^ 62 }
+    ensures { (split : Bool) → EndsAlone (effect split (Instr.Ldhi rd imm) slot.old Fine) slot.old slot.new result }
+{
+    let high = word_of(slot, rd).bits();
+    sets(slot, rd, Word::Int(high_and_low(high, imm)));
+    Ok(None)
+}
+
+// The low half of a word moves up, and the number's 32 bits come below.
+fn high_and_low(bits: u64, imm: i32) -> u64
+    ensures { result ≡ high_and_low bits imm }
+{
+    bits << 32 | u64::from(imm.cast_unsigned())
+}
+
+pub(crate) fn mov(slot: &mut Slot, rd: Reg, ra: Reg) -> Entered
+    requires { slot.old.turns < 2 ^ 62 }
+    ensures { (split : Bool) → EndsAlone (effect split (Instr.Mov rd ra) slot.old Fine) slot.old slot.new result }
+{
+    let word = word_of(slot, ra);
+    sets(slot, rd, word);
+    Ok(None)
+}
+
+pub(crate) fn isptr(slot: &mut Slot, rd: Reg, ra: Reg) -> Entered
+    requires { slot.old.turns < 2 ^ 62 }
+    ensures { (split : Bool) → EndsAlone (effect split (Instr.Isptr rd ra) slot.old Fine) slot.old slot.new result }
+{
+    let tagged = word_of(slot, ra).is_pointer();
+    sets(slot, rd, Word::Int(flag(tagged)));
+    Ok(None)
+}
+
+pub(crate) fn eqw(slot: &mut Slot, rd: Reg, ra: Reg, rb: Reg) -> Entered
+    requires { slot.old.turns < 2 ^ 62 }
+    ensures { (split : Bool) → EndsAlone (effect split (Instr.Eqw rd ra rb) slot.old Fine) slot.old slot.new result }
+{
+    let same = same_word(word_of(slot, ra), word_of(slot, rb));
+    sets(slot, rd, Word::Int(flag(same)));
+    Ok(None)
+}
+
+fn same_word(a: Word, b: Word) -> bool
+    ensures { result ≡ same_word a b }
+{
+    a == b
+}
+
+/// 1 for true and 0 for false.
+pub(crate) fn flag(b: bool) -> u64
+    ensures { result ≡ test b }
+{
+    b as u64
+}
+
+pub(crate) fn self_slot(slot: &mut Slot, rd: Reg) -> Entered
+    requires { slot.old.turns < 2 ^ 62 }
+    ensures { (split : Bool) → EndsAlone (effect split (Instr.SelfSlot rd) slot.old Fine) slot.old slot.new result }
+{
+    let number = u64::from(slot.number);
+    sets(slot, rd, Word::Int(number));
+    Ok(None)
+}
+
+pub(crate) fn operate(slot: &mut Slot, op: AluOp, rd: Reg, ra: Reg, rb: Reg) -> Entered
+    requires { slot.old.turns < 2 ^ 62 }
+    ensures { (split : Bool) → EndsAlone (effect split (Instr.Alu op rd ra rb) slot.old Fine) slot.old slot.new result }
+{
+    let (a, b) = (word_of(slot, ra).bits(), word_of(slot, rb).bits());
+    match alu(op, a, b) {
+        Ok(number) => {
+            sets(slot, rd, Word::Int(number));
+            Ok(None)
+        }
+        Err(_) => Err(Cause::DivZero),
+    }
+}
+
+pub(crate) fn addi(slot: &mut Slot, rd: Reg, ra: Reg, imm: i32) -> Entered
+    requires { slot.old.turns < 2 ^ 62 }
+    ensures { (split : Bool) → EndsAlone (effect split (Instr.Addi rd ra imm) slot.old Fine) slot.old slot.new result }
+{
+    let sum = word_of(slot, ra).bits().wrapping_add(i64::from(imm).cast_unsigned());
+    sets(slot, rd, Word::Int(sum));
+    Ok(None)
+}
+
+// The register that holds a pointer, or its fault.
+fn pointer_of(slot: &Slot, ra: Reg) -> Result<GuardedPtr, Cause>
+    ensures { result ≡ pointer_in (register slot.now ra) }
+{
+    let word = word_of(slot, ra);
+    match word {
+        Word::Int(_) => Err(Cause::NotPointer),
+        Word::Ptr(p) => Ok(p),
+    }
+}
+
+// A register gets a pointer, where there is one.
+fn sets_pointer(slot: &mut Slot, rd: Reg, made: Result<GuardedPtr, Cause>) -> Entered
+    requires { slot.old.turns < 2 ^ 62 }
+    ensures { EndsAlone (sets_pointer slot.old rd made) slot.old slot.new result }
+{
+    match made {
+        Ok(p) => {
+            sets(slot, rd, Word::Ptr(p));
+            Ok(None)
+        }
+        Err(cause) => Err(cause),
+    }
+}
+
+pub(crate) fn lea_by(slot: &mut Slot, rd: Reg, ra: Reg, rb: Reg) -> Entered
+    requires { slot.old.turns < 2 ^ 62 }
+    ensures { (split : Bool) → EndsAlone (effect split (Instr.Lea rd ra rb) slot.old Fine) slot.old slot.new result }
+{
+    let by = word_of(slot, rb).bits().cast_signed();
+    match pointer_of(slot, ra) {
+        Ok(p) => sets_pointer(slot, rd, lea(p, by)),
+        Err(cause) => Err(cause),
+    }
+}
+
+pub(crate) fn leai(slot: &mut Slot, rd: Reg, ra: Reg, imm: i32) -> Entered
+    requires { slot.old.turns < 2 ^ 62 }
+    ensures { (split : Bool) → EndsAlone (effect split (Instr.Leai rd ra imm) slot.old Fine) slot.old slot.new result }
+{
+    match pointer_of(slot, ra) {
+        Ok(p) => sets_pointer(slot, rd, lea(p, i64::from(imm))),
+        Err(cause) => Err(cause),
+    }
+}
+
+pub(crate) fn leab_by(slot: &mut Slot, rd: Reg, ra: Reg, rb: Reg) -> Entered
+    requires { slot.old.turns < 2 ^ 62 }
+    ensures { (split : Bool) → EndsAlone (effect split (Instr.Leab rd ra rb) slot.old Fine) slot.old slot.new result }
+{
+    let by = word_of(slot, rb).bits().cast_signed();
+    match pointer_of(slot, ra) {
+        Ok(p) => sets_pointer(slot, rd, leab(p, by)),
+        Err(cause) => Err(cause),
+    }
+}
+
+pub(crate) fn restrict_to(slot: &mut Slot, rd: Reg, ra: Reg, rb: Reg) -> Entered
+    requires { slot.old.turns < 2 ^ 62 }
+    ensures { (split : Bool) → EndsAlone (effect split (Instr.Restrict rd ra rb) slot.old Fine) slot.old slot.new result }
+{
+    let code = word_of(slot, rb).bits();
+    match pointer_of(slot, ra) {
+        Ok(p) => sets_pointer(slot, rd, restrict(p, code)),
+        Err(cause) => Err(cause),
+    }
+}
+
+pub(crate) fn subseg_to(slot: &mut Slot, rd: Reg, ra: Reg, rb: Reg) -> Entered
+    requires { slot.old.turns < 2 ^ 62 }
+    ensures { (split : Bool) → EndsAlone (effect split (Instr.Subseg rd ra rb) slot.old Fine) slot.old slot.new result }
+{
+    let log = word_of(slot, rb).bits();
+    match pointer_of(slot, ra) {
+        Ok(p) => sets_pointer(slot, rd, subseg(p, log)),
+        Err(cause) => Err(cause),
+    }
+}
+
+/// Whether the slot's code is privileged.
+pub(crate) fn is_privileged(slot: &Slot) -> bool
+    ensures { result ≡ is_privileged slot.now.ip.perm }
+{
+    slot.ip.perm() == Perm::Xp
+}
+
+pub(crate) fn set_pointer(slot: &mut Slot, rd: Reg, ra: Reg) -> Entered
+    requires { slot.old.turns < 2 ^ 62 }
+    ensures { (split : Bool) → EndsAlone (effect split (Instr.Setptr rd ra) slot.old Fine) slot.old slot.new result }
+{
+    if !is_privileged(slot) {
+        return Err(Cause::Priv);
+    }
+    let bits = word_of(slot, ra).bits();
+    sets_pointer(slot, rd, setptr(bits))
+}
+
+// The instruction pointer at so many words from its own address.
+fn at_distance(slot: &Slot, imm: i32) -> Result<GuardedPtr, Cause>
+    ensures place { result ≡ at_distance slot.now imm }
+    ensures executable { IfOk result (λ p. can_fetch p.perm ≡ true) }
+{
+    lea(slot.ip, 8 * i64::from(imm))
+}
+
+pub(crate) fn br(slot: &mut Slot, imm: i32) -> Entered
+    requires { slot.old.turns < 2 ^ 62 }
+    ensures ends { (split : Bool) → EndsAlone (effect split (Instr.Br imm) slot.old Fine) slot.old slot.new result }
+    ensures as_branch { EndsAlone (branches slot.old (at_distance slot.old imm)) slot.old slot.new result }
+{
+    match at_distance(slot, imm) {
+        Ok(p) => {
+            go_to(slot, p);
+            Ok(None)
+        }
+        Err(cause) => Err(cause),
+    }
+}
+
+pub(crate) fn bz(slot: &mut Slot, ra: Reg, imm: i32) -> Entered
+    requires { slot.old.turns < 2 ^ 62 }
+    ensures { (split : Bool) → EndsAlone (effect split (Instr.Bz ra imm) slot.old Fine) slot.old slot.new result }
+{
+    if word_of(slot, ra).bits() == 0 {
+        br(slot, imm)
+    } else {
+        nop(slot)
+    }
+}
+
+pub(crate) fn bnz(slot: &mut Slot, ra: Reg, imm: i32) -> Entered
+    requires { slot.old.turns < 2 ^ 62 }
+    ensures { (split : Bool) → EndsAlone (effect split (Instr.Bnz ra imm) slot.old Fine) slot.old slot.new result }
+{
+    if word_of(slot, ra).bits() == 0 {
+        nop(slot)
+    } else {
+        br(slot, imm)
+    }
+}
+
+// The pointer that a jump through p enters by, where p is an enter pointer.
+fn entry_of(p: GuardedPtr) -> Option<GuardedPtr>
+    ensures { result ≡ entry_of p }
+{
+    match p.perm() {
+        Perm::Eu | Perm::Ep => Some(p),
+        _ => None,
+    }
+}
+
+// The instruction pointer after a jump through a pointer.
+fn entered(p: GuardedPtr) -> Option<GuardedPtr>
+    ensures place { result ≡ enter_result p }
+    ensures executable { IfSome result (λ q. can_fetch q.perm ≡ true) }
+{
+    enter(p)
+}
+
+pub(crate) fn jmp(slot: &mut Slot, ra: Reg) -> Entered
+    requires { slot.old.turns < 2 ^ 62 }
+    ensures { (split : Bool) → EndsAlone (effect split (Instr.Jmp ra) slot.old Fine) slot.old slot.new result }
+{
+    match pointer_of(slot, ra) {
+        Ok(p) => jump(slot, p),
+        Err(cause) => Err(cause),
+    }
+}
+
+fn jump(slot: &mut Slot, p: GuardedPtr) -> Entered
+    requires { slot.old.turns < 2 ^ 62 }
+    ensures { EndsAlone (jumps slot.old p (enter_result p)) slot.old slot.new result }
+{
+    match entered(p) {
+        Some(to) => {
+            go_to(slot, to);
+            Ok(entry_of(p))
+        }
+        None => Err(Cause::Perm),
+    }
+}
+
+pub(crate) fn jal(slot: &mut Slot, rd: Reg, ra: Reg) -> Entered
+    requires { slot.old.turns < 2 ^ 62 }
+    ensures { (split : Bool) → EndsAlone (effect split (Instr.Jal rd ra) slot.old Fine) slot.old slot.new result }
+{
+    match pointer_of(slot, ra) {
+        Ok(p) => jump_and_link(slot, rd, p),
+        Err(cause) => Err(cause),
+    }
+}
+
+// The jump, and the pointer behind the instruction goes to a register.
+fn jump_and_link(slot: &mut Slot, rd: Reg, p: GuardedPtr) -> Entered
+    requires { slot.old.turns < 2 ^ 62 }
+    ensures { EndsAlone (links slot.old rd p (enter_result p) (next_result slot.old.ip)) slot.old slot.new result }
+{
+    let Some(to) = entered(p) else {
+        return Err(Cause::Perm);
+    };
+    match next(slot.ip) {
+        Some(back) => {
+            link(slot, rd, back, to);
+            Ok(entry_of(p))
+        }
+        None => Err(Cause::Bounds),
+    }
+}
+
+pub(crate) fn lip(slot: &mut Slot, rd: Reg, imm: i32) -> Entered
+    requires { slot.old.turns < 2 ^ 62 }
+    ensures { (split : Bool) → EndsAlone (effect split (Instr.Lip rd imm) slot.old Fine) slot.old slot.new result }
+{
+    let made = at_distance(slot, imm);
+    sets_pointer(slot, rd, made)
+}
+
+pub(crate) fn trap(slot: &mut Slot, imm: i32) -> Entered
+    ensures { (split : Bool) → EndsAlone (effect split (Instr.Trap imm) slot.old Fine) slot.old slot.new result }
+{
+    Err(Cause::Trap)
+}

@@ -1,0 +1,67 @@
+ghost use Rattle.std.specs.Prelude.{◌≡◌, ◌<◌, ◌≤◌, ◌++◌, [], ◌∷◌, length, IfOk};
+
+use mm_word::NoMemory;
+use std::alloc::Global;
+use std::marker::Model;
+
+/// How many bytes a group may put out in either version.
+const ROOM: usize = 65536;
+
+/// What a group has put out. Its room is taken whole when it is made.
+#[derive(Drop)]
+pub(crate) struct GroupOutput {
+    bytes: Vec<u8>,
+}
+
+impl Model for GroupOutput {
+    ghost use Rattle.std.specs.Prelude.{ℕ, List, ◌≤◌, vec_capacity};
+
+    ghost Value = { List ℕ };
+
+    ghost view = { λ o. o.bytes.items };
+
+    ghost invariant = { λ o. 65536 ≤ vec_capacity o.bytes };
+}
+
+impl GroupOutput {
+    /// Nothing put out.
+    pub(crate) fn new(alloc: Global) -> Result<GroupOutput, NoMemory>
+        ensures { IfOk result (λ output. output ≡ []) }
+    {
+        match Vec::with_capacity(alloc, ROOM) {
+            Ok(bytes) => Ok(GroupOutput { bytes }),
+            Err(_) => Err(NoMemory),
+        }
+    }
+
+    /// The bytes, oldest first.
+    pub(crate) fn bytes(&self) -> &[u8]
+        ensures { result.now ≡ self.now }
+    {
+        &self.bytes
+    }
+
+    /// How many bytes.
+    pub(crate) fn len(&self) -> usize
+        ensures { result ≡ length self.now }
+    {
+        self.bytes.len()
+    }
+
+    /// Puts out one more byte.
+    pub(crate) fn push(&mut self, byte: u8)
+        requires { length self.old < 65536 }
+        ensures { self.new ≡ self.old ++ byte ∷ [] }
+    {
+        self.bytes.push(byte).unwrap();
+    }
+
+    /// Makes these bytes the whole output.
+    pub(crate) fn assign(&mut self, bytes: &[u8])
+        requires { length bytes.now ≤ 65536 }
+        ensures { self.new ≡ bytes.now }
+    {
+        self.bytes.clear();
+        self.bytes.extend_from_slice(bytes).unwrap();
+    }
+}

@@ -1,0 +1,75 @@
+//! The turn of an item: a running slot takes one, a port delivers, and any other item is idle.
+
+ghost use Rattle.std.specs.Prelude.{◌≡◌, ◌<◌, ◌^◌, None, Some, IfSome, IfNone, length};
+ghost use Rattle.std.specs.List.{AllByRecursion};
+ghost use Rattle.mm_model.specs.Slot.{Slot as SlotValue};
+ghost use Rattle.mm_model.specs.Fits.{IsCore, slots_of};
+ghost use Rattle.mm_model.specs.Turn.{turn, taken_by_port, port_of, is_running};
+ghost use Rattle.mm_model.specs.Memory.{Memory as MemoryValue};
+ghost use Rattle.mm_thread.specs.Places.{slot_in, numbers_in, IsIndex};
+ghost use Rattle.mm_thread.specs.Left.{Gives, AsksNothing};
+
+use crate::fault::{Places, place_of};
+use crate::tables::Tables;
+use crate::running::{start, step};
+use mm_mem::Memory;
+use mm_model::{Slot, SlotState, Step, Tick};
+
+/// The turn of an item.
+pub(crate) fn take_item<M: Memory>(tables: &mut Tables, places: &Places, mem: &mut M, item: u8) -> Step
+    requires whole { IsCore tables.old }
+    requires index { IsIndex (numbers_in tables.old) places.now }
+    requires turns { AllByRecursion (λ (s : SlotValue). s.turns < 2 ^ 61) (slots_of tables.old) }
+    requires room { M.uses mem.old < 2 ^ 61 }
+    ensures { Gives M.meaning M.uses M.stands (turn tables.old (M.meaning mem.old) item) mem.old mem.new tables.new result }
+{
+    match place_of(places, tables, u64::from(item)) {
+        None => take_port(tables, places, item),
+        Some(place) => {
+            if is_running(tables.slot(place)) {
+                start(tables, places, place, mem)
+            } else {
+                step(Tick::Idle, item, None, None)
+            }
+        }
+    }
+}
+
+/// Whether a slot takes turns.
+pub(crate) fn is_running(slot: &Slot) -> bool
+    ensures { result ≡ is_running slot.now.state }
+{
+    matches!(slot.state, SlotState::Running)
+}
+
+// The turn of an item that is no slot's number.
+fn take_port(tables: &mut Tables, places: &Places, item: u8) -> Step
+    requires whole { IsCore tables.old }
+    requires index { IsIndex (numbers_in tables.old) places.now }
+    ensures { (m : MemoryValue) → AsksNothing (taken_by_port tables.old m item (port_of tables.old item)) m tables.new result }
+{
+    let Some(place) = port_of(tables, places, item) else {
+        return step(Tick::Idle, item, None, None);
+    };
+    let number = tables.slot(place).number;
+    let tick = match tables.deliver(place) {
+        Some(register) => Tick::Delivered(register),
+        None => Tick::Idle,
+    };
+    step(tick, number, None, None)
+}
+
+// The place of the slot whose port the item is: in a split machine the items from 128 on are ports.
+fn port_of(tables: &Tables, places: &Places, item: u8) -> Option<usize>
+    requires whole { IsCore tables.now }
+    requires index { IsIndex (numbers_in tables.now) places.now }
+    ensures within { IfSome result (λ p. p < length tables.now.rows) }
+    ensures port { IfSome result (λ p. port_of tables.now item ≡ Some (slot_in tables.now p)) }
+    ensures none { IfNone result (port_of tables.now item ≡ None) }
+{
+    if tables.split() && item >= 128 {
+        place_of(places, tables, u64::from(item - 128))
+    } else {
+        None
+    }
+}

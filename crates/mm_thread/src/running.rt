@@ -1,0 +1,141 @@
+//! The turn of a slot, from its fetch to its end.
+
+ghost use Rattle.std.specs.Prelude.{◌≡◌, ◌+◌, ◌<◌, ◌^◌, ◌&&◌, length, None, Some, [], ◌∷◌};
+ghost use Rattle.mm_model.specs.Memory.{cell_at};
+ghost use Rattle.mm_model.specs.Uses.{Use, accesses, TakesUses};
+ghost use Rattle.mm_model.specs.Operands.{lacks};
+ghost use Rattle.mm_model.specs.Turn.{issued, fetched, started, instr_in};
+ghost use Rattle.mm_thread.specs.Places.{slot_in};
+ghost use Rattle.mm_thread.specs.Left.{CanTurn, CanEnd, Gives, core_ended, step_ended};
+
+use crate::execute::execute;
+use crate::fault::{Places, fault};
+use crate::operands::{addr_operand, lacks, value_operand};
+use crate::outcome::{Outcome, Told};
+use crate::tables::Tables;
+use mm_isa::{Instr, decode};
+use mm_mem::Memory;
+use mm_model::{SlotState, Step, Tick};
+use mm_word::{Access, Cause, Kind, Word, check};
+
+/// The turn of the running slot at a place.
+pub(crate) fn start<M: Memory>(tables: &mut Tables, places: &Places, place: usize, mem: &mut M) -> Step
+    requires can { CanTurn tables.old places.now place }
+    requires room { M.uses mem.old < 2 ^ 61 }
+    ensures { Gives M.meaning M.uses M.stands (started tables.old (M.meaning mem.old) (slot_in tables.old place)) mem.old mem.new tables.new result }
+{
+    let slot = tables.slot(place);
+    let number = slot.number;
+    let past = slot.past;
+    let ip = slot.ip;
+    if past {
+        let tick = fault(tables, places, place, Cause::Bounds, Word::Int(0), Word::Int(0));
+        return step(tick, number, None, None);
+    }
+    match check(Word::Ptr(ip), 0, Kind::Fetch) {
+        Err(cause) => {
+            let tick = fault(tables, places, place, cause, Word::Int(0), Word::Int(0));
+            step(tick, number, None, None)
+        }
+        Ok(access) => fetch(tables, places, place, mem, access),
+    }
+}
+
+// From the fetch on.
+fn fetch<M: Memory>(tables: &mut Tables, places: &Places, place: usize, mem: &mut M, access: Access) -> Step
+    requires can { CanTurn tables.old places.now place }
+    requires room { M.uses mem.old < 2 ^ 61 }
+    requires kind { access.kind ≡ Kind.Fetch }
+    ensures { Gives M.meaning M.uses M.stands (fetched tables.old (M.meaning mem.old) (slot_in tables.old place) access (cell_at (M.meaning mem.old) access.addr)) mem.old mem.new tables.new result }
+{
+    let number = tables.slot(place).number;
+    let Some(word) = mem.fetch(&access) else {
+        let tick = fault(tables, places, place, Cause::NoPage, Word::Int(0), Word::Int(0));
+        return step(tick, number, Some(access), None);
+    };
+    match instr_in(word) {
+        None => {
+            let tick = fault(tables, places, place, Cause::Illegal, Word::Int(0), Word::Int(0));
+            step(tick, number, Some(access), None)
+        }
+        Some(instr) => issue(tables, places, place, mem, access, instr),
+    }
+}
+
+// The instruction that a word spells.
+fn instr_in(word: Word) -> Option<Instr>
+    ensures { result ≡ instr_in word }
+{
+    match word {
+        Word::Int(bits) => decode(bits),
+        Word::Ptr(_) => None,
+    }
+}
+
+// From the instruction on.
+fn issue<M: Memory>(tables: &mut Tables, places: &Places, place: usize, mem: &mut M, access: Access, instr: Instr) -> Step
+    requires can { CanTurn tables.old places.now place }
+    requires room { M.uses mem.old < 2 ^ 62 }
+    ensures { (before : M) (u : Use) → TakesUses M.stands before mem.old (u ∷ []) → M.meaning mem.old ≡ M.meaning before → M.uses mem.old ≡ M.uses before + accesses (u ∷ []) →
+        Gives M.meaning M.uses M.stands (issued tables.old (M.meaning before) (slot_in tables.old place) access u instr) before mem.new tables.new result }
+{
+    let number = tables.slot(place).number;
+    if must_wait(tables, place, &instr) {
+        let _register = tables.deliver(place);
+        tables.stand(place, SlotState::Running);
+        return step(Tick::Blocked, number, Some(access), None);
+    }
+    let told = execute(tables, places, place, mem, &instr);
+    end(tables, places, place, number, &instr, access, told)
+}
+
+// Whether a register that the instruction names waits for a load, in a split machine.
+fn must_wait(tables: &Tables, place: usize, instr: &Instr) -> bool
+    requires { place < length tables.now.rows }
+    ensures { result ≡ (tables.now.split && lacks instr.now (slot_in tables.now place)) }
+{
+    tables.split() && lacks(instr, tables.slot(place))
+}
+
+// The end of a turn: a slot that waits stands where it is, and one that faults goes to its handler.
+fn end(tables: &mut Tables, places: &Places, place: usize, number: u8, instr: &Instr, access: Access, told: Told) -> Step
+    requires { CanEnd told.outcome tables.old places.now place }
+    ensures core { tables.new ≡ core_ended instr.now tables.old (slot_in tables.old place) place told.outcome }
+    ensures step { result ≡ step_ended number (slot_in tables.old place) access told.touched told.outcome }
+{
+    let Told { outcome, touched } = told;
+    let tick = match outcome {
+        Outcome::Goes(entered) => {
+            return Step {
+                tick: Tick::Did,
+                slot: number,
+                fetched: Some(access),
+                touched,
+                entered,
+            };
+        }
+        Outcome::Waits => {
+            tables.stand(place, SlotState::Running);
+            Tick::Blocked
+        }
+        Outcome::Fails(cause) => {
+            let slot = tables.slot(place);
+            let (addr_op, value_op) = (addr_operand(instr, slot), value_operand(instr, slot));
+            fault(tables, places, place, cause, addr_op, value_op)
+        }
+    };
+    step(tick, number, Some(access), touched)
+}
+
+/// The step of a turn that enters nothing.
+pub(crate) fn step(tick: Tick, slot: u8, fetched: Option<Access>, touched: Option<Access>) -> Step
+    ensures { result ≡ record { tick = tick; slot = slot; fetched = fetched; touched = touched; entered = None } }
+{
+    Step {
+        tick,
+        slot,
+        fetched,
+        touched,
+        entered: None,
+    }
+}

@@ -1,0 +1,184 @@
+ghost use Rattle.std.specs.Prelude.{◌≡◌, ℕ, ◌+◌, ◌<◌, ◌≤◌, ◌^◌, ◌⊎◌, false, [], length, map, replicate, IfOk, IsSomeAnd, slice_get, ◌↔◌};
+ghost use Rattle.std.specs.Int.{IsBitSet};
+ghost use Rattle.std.specs.Option.{option_copied};
+ghost use Rattle.mm_model.specs.declared.slot.SlotState.TheVariants.{Running};
+ghost use Rattle.std.specs.List.{AllByRecursion};
+ghost use Rattle.std.specs.List.Sorted.{IsStrictlyIncreasing};
+ghost use Rattle.mm_model.specs.Spelling.{numbers_of, IsFresh};
+ghost use Rattle.mm_model.specs.Slot.{Slot as SlotValue};
+ghost use Rattle.mm_model.specs.State.{slot_at, queue_at, output_of};
+ghost use Rattle.mm_model.specs.Image.{slot_limit};
+ghost use Rattle.mm_model.specs.Fits.{slots_of};
+ghost use Rattle.mm_model.specs.Uses.{accesses, TakesUses};
+ghost use Rattle.mm_model.specs.Turn.{turn as turn_of};
+ghost use Rattle.mm_thread.specs.Places.{row_alone};
+ghost use Rattle.mm_thread.specs.Told.{accesses_in, accesses_told};
+
+use crate::assigning::{put_events, put_outputs, put_slots};
+use crate::fault::place_of;
+use crate::item::take_item;
+use crate::making::{no_outputs, places_of, rows_of};
+use crate::output::Output;
+use crate::runners::runners_of;
+use crate::tables::Tables;
+use mm_mem::Memory;
+use mm_model::{Event, Slot, Step};
+use mm_word::NoMemory;
+use std::alloc::Global;
+use std::marker::Model;
+
+/// The slots of a machine with their events, and what its groups have put out.
+#[derive(Drop)]
+pub struct Core {
+    tables: Tables,
+    places: [u8; 64],
+}
+
+impl Model for Core {
+    ghost use Rattle.mm_model.specs.State.{Core as CoreValue};
+    ghost use Rattle.mm_thread.specs.Places.{IsSound};
+
+    ghost Value = { CoreValue };
+
+    ghost view = { λ c. c.tables };
+
+    ghost invariant = { λ c. IsSound c.tables c.places };
+}
+
+/// Takes the turn of an item: a running slot's turn, the delivery of a port of a split machine, or nothing.
+pub fn turn<M: Memory>(core: &mut Core, mem: &mut M, item: u8) -> Step
+    requires turns { AllByRecursion (λ (s : SlotValue). s.turns < 2 ^ 61) (slots_of core.old) }
+    requires room { M.uses mem.old < 2 ^ 61 }
+
+    // What the turn of the model leaves and tells.
+    ensures core { core.new ≡ (turn_of core.old (M.meaning mem.old) item).core }
+    ensures memory { M.meaning mem.new ≡ (turn_of core.old (M.meaning mem.old) item).memory }
+    ensures step { result ≡ (turn_of core.old (M.meaning mem.old) item).step }
+
+    // What was asked of the memory, in order.
+    ensures takes { TakesUses M.stands mem.old mem.new (turn_of core.old (M.meaning mem.old) item).uses }
+    ensures count { M.uses mem.new ≡ M.uses mem.old + accesses (turn_of core.old (M.meaning mem.old) item).uses }
+    ensures few { accesses (turn_of core.old (M.meaning mem.old) item).uses ≤ 2 }
+
+    // The step tells exactly the accesses that were made.
+    ensures exactly { accesses_in (turn_of core.old (M.meaning mem.old) item).uses ≡ accesses_told result }
+{
+    take_item(&mut core.tables, &core.places, mem, item)
+}
+
+impl Core {
+    ghost use Rattle.mm_thread.specs.Parts.{AreParts, core_of};
+
+    /// The core of an image's slots, before its first turn: each queue is empty and nothing was put out. It is of version 2 and
+    /// not split. No later call takes memory.
+    pub fn new(alloc: Global, slots: &[Slot]) -> Result<Core, NoMemory>
+        requires rising { IsStrictlyIncreasing (numbers_of slots.now) }
+        requires fresh { AllByRecursion (IsFresh 64 slots.now) slots.now }
+        ensures rows { IfOk result (λ core. core.rows ≡ map row_alone slots.now) }
+        ensures outputs { IfOk result (λ core. core.outputs ≡ replicate 64 []) }
+        ensures version { IfOk result (λ core. core.version ≡ 2) }
+        ensures plain { IfOk result (λ core. core.split ≡ false) }
+    {
+        let rows = rows_of(alloc, slots)?;
+        let outputs = no_outputs(alloc)?;
+        let tables = Tables::new(rows, outputs);
+        let places = places_of(&tables);
+        Ok(Core { tables, places })
+    }
+
+    /// Puts the core back to these parts: the slots, their events in order, each with the number of the slot that is to handle
+    /// it, and what groups have put out. Version and mode stay. Takes no memory.
+    pub fn assign(&mut self, slots: &[Slot], events: &[(u8, Event)], outputs: &[Output])
+        requires { AreParts self.old slots.now events.now outputs.now }
+        ensures { self.new ≡ core_of self.old.version self.old.split slots.now events.now outputs.now }
+    {
+        put_slots(&mut self.tables, slots);
+        put_events(&mut self.tables, &self.places, events);
+        put_outputs(&mut self.tables, outputs);
+    }
+
+    /// Makes it a machine that is split or one that is not.
+    pub fn set_split(&mut self, on: bool)
+        requires { AllByRecursion (λ (s : SlotValue). s.pending ≡ []) (slots_of self.old) }
+        ensures { self.new ≡ record self.old { split = on } }
+    {
+        self.tables.set_split(on);
+    }
+
+    /// Makes it a machine of this version.
+    pub fn set_version(&mut self, version: u16)
+        requires known { (version ≡ 1) ⊎ (version ≡ 2) }
+        requires slots { AllByRecursion (λ (s : SlotValue). (s.number < slot_limit version) × (s.group < slot_limit version)) (slots_of self.old) }
+        requires silent { AllByRecursion (λ bytes. bytes ≡ []) self.old.outputs }
+        ensures { self.new ≡ record self.old { version = version } }
+    {
+        self.tables.set_version(version);
+    }
+
+    /// The slot of a number, if there is one.
+    pub fn slot(&self, n: u8) -> Option<&Slot>
+        ensures { option_copied result ≡ slot_at self.now n }
+    {
+        match place_of(&self.places, &self.tables, u64::from(n)) {
+            Some(place) => Some(self.tables.slot(place)),
+            None => None,
+        }
+    }
+
+    /// The running slots: bit n is set exactly where slot n runs.
+    pub fn running(&self) -> u64
+        ensures { (n : ℕ) → n < 64 → (IsBitSet result n ↔ IsSomeAnd (slot_at self.now n) (λ s. s.state ≡ Running)) }
+    {
+        runners_of(&self.tables, &self.places)
+    }
+
+    /// The events that the slot of a number has still to handle, oldest first.
+    pub fn queue(&self, n: u8) -> &[Event]
+        ensures { result.now ≡ queue_at self.now n }
+    {
+        match place_of(&self.places, &self.tables, u64::from(n)) {
+            Some(place) => self.tables.queue(place),
+            None => &[],
+        }
+    }
+
+    /// The bytes that a group has put out, oldest first.
+    pub fn output(&self, group: u8) -> &[u8]
+        ensures { result.now ≡ output_of self.now group }
+    {
+        if group < 64 {
+            self.tables.output(group)
+        } else {
+            &[]
+        }
+    }
+
+    /// How many slots there are.
+    pub fn count(&self) -> usize
+        ensures { result ≡ length (slots_of self.now) }
+    {
+        self.tables.len()
+    }
+
+    /// The i-th slot by ascending number.
+    pub fn nth(&self, i: usize) -> &Slot
+        requires { i < length (slots_of self.now) }
+        ensures { slice_get (slots_of self.now) i ≡ Some result.now }
+    {
+        self.tables.slot(i)
+    }
+
+    /// The version of the image's format, 1 or 2.
+    pub fn version(&self) -> u16
+        ensures { result ≡ self.now.version }
+    {
+        self.tables.version()
+    }
+
+    /// Whether loads are issued and their values arrive later.
+    pub fn split(&self) -> bool
+        ensures { result ≡ self.now.split }
+    {
+        self.tables.split()
+    }
+}

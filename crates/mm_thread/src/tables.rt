@@ -1,0 +1,302 @@
+ghost use Rattle.std.specs.Prelude.{◌≡◌, ◌<◌, ◌≤◌, ◌^◌, ◌++◌, ◌&&◌, [], ◌∷◌, nat_lt, None, Some, Bool, true, false, length, drop, slice_set};
+ghost use Rattle.std.specs.List.{AllByRecursion};
+ghost use Rattle.mm_word.specs.declared.word.Word.TheVariants.{Int};
+ghost use Rattle.mm_model.specs.declared.slot.Pending.{Pending};
+ghost use Rattle.mm_model.specs.declared.slot.SlotState.TheVariants.{Taken};
+ghost use Rattle.mm_model.specs.Slot.{is_empty};
+ghost use Rattle.mm_model.specs.State.{output_of, put_output};
+ghost use Rattle.mm_model.specs.Image.{output_limit};
+ghost use Rattle.mm_model.specs.Effect.{effect, plain, delivered, resumed_by};
+ghost use Rattle.mm_model.specs.Effect.Reply.{Fine};
+ghost use Rattle.mm_model.specs.Turn.{slot_after, stood};
+ghost use Rattle.mm_thread.specs.Ends.{EndsAlone, is_alone};
+ghost use Rattle.mm_thread.specs.Places.{row_alone, slot_in, queue_in, with_row, with_slot, with_queue_in, first_register, event_writes};
+
+use crate::alone::Entered;
+use crate::carry_out::carry_out;
+use crate::group_output::GroupOutput;
+use crate::making::copy_of;
+use crate::row::Row;
+use crate::slot::{advance, deliver, issue, resume, set_register, sets, stand, take_event};
+use mm_isa::{EvtReg, How, Instr, Reg};
+use mm_model::{Event, Slot, SlotState};
+use mm_word::Word;
+use std::marker::Model;
+
+/// The slots by ascending number, each beside its queue, and what each group has put out.
+#[derive(Drop)]
+pub(crate) struct Tables {
+    rows: Vec<Row>,
+    outputs: Vec<GroupOutput>,
+    version: u16,
+    split: bool,
+}
+
+impl Model for Tables {
+    ghost use Rattle.mm_model.specs.State.{Core};
+
+    ghost Value = { Core };
+
+    ghost view = { λ t. record { rows = t.rows.items; outputs = t.outputs.items; version = t.version; split = t.split } };
+}
+
+impl Tables {
+    /// Tables of these rows, of version 2 and not split.
+    pub(crate) fn new(rows: Vec<Row>, outputs: Vec<GroupOutput>) -> Tables
+        ensures { result ≡ record { rows = rows.items; outputs = outputs.items; version = 2; split = false } }
+    {
+        Tables {
+            rows,
+            outputs,
+            version: 2,
+            split: false,
+        }
+    }
+
+    pub(crate) fn set_split(&mut self, on: bool)
+        ensures { self.new ≡ record self.old { split = on } }
+    {
+        self.split = on;
+    }
+
+    pub(crate) fn set_version(&mut self, version: u16)
+        ensures { self.new ≡ record self.old { version = version } }
+    {
+        self.version = version;
+    }
+}
+
+// What is read.
+impl Tables {
+    /// How many slots there are.
+    pub(crate) fn len(&self) -> usize
+        ensures { result ≡ length self.now.rows }
+    {
+        self.rows.len()
+    }
+
+    /// The slot at a place.
+    pub(crate) fn slot(&self, place: usize) -> &Slot
+        requires { place < length self.now.rows }
+        ensures { result.now ≡ slot_in self.now place }
+    {
+        let row = &self.rows[place];
+        &row.slot
+    }
+
+    /// The events that the slot at a place has still to handle.
+    pub(crate) fn queue(&self, place: usize) -> &[Event]
+        requires { place < length self.now.rows }
+        ensures { result.now ≡ queue_in self.now place }
+    {
+        let row = &self.rows[place];
+        row.queue.events()
+    }
+
+    /// What a group has put out.
+    #[tactic(auto, unfolding(mm_model::specs::State::output_of))]
+    pub(crate) fn output(&self, group: u8) -> &[u8]
+        requires { group < length self.now.outputs }
+        ensures { result.now ≡ output_of self.now group }
+    {
+        self.outputs[group as usize].bytes()
+    }
+
+    /// Whether a group may put out one more byte.
+    #[tactic(auto, unfolding(mm_model::specs::State::output_of))]
+    pub(crate) fn has_room(&self, group: u8) -> bool
+        requires { group < length self.now.outputs }
+        ensures { result ≡ nat_lt (length (output_of self.now group)) (output_limit self.now.version) }
+    {
+        let limit = if self.version == 1 { 4096 } else { 65536 };
+        self.outputs[group as usize].len() < limit
+    }
+
+    /// Whether a register of the slot at a place waits for a load, in a split machine.
+    pub(crate) fn lacks(&self, place: usize, reg: Reg) -> bool
+        requires { place < length self.now.rows }
+        ensures { result ≡ (self.now.split && is_empty (slot_in self.now place) reg) }
+    {
+        self.split && self.slot(place).is_empty(reg.number())
+    }
+
+    pub(crate) fn version(&self) -> u16
+        ensures { result ≡ self.now.version }
+    {
+        self.version
+    }
+
+    pub(crate) fn split(&self) -> bool
+        ensures { result ≡ self.now.split }
+    {
+        self.split
+    }
+}
+
+// What is done to the slot at a place.
+impl Tables {
+    /// The slot has taken a turn and stands so.
+    pub(crate) fn stand(&mut self, place: usize, state: SlotState)
+        requires place { place < length self.old.rows }
+        requires turns { (slot_in self.old place).turns < 2 ^ 62 }
+        ensures { self.new ≡ with_slot self.old place (stood (slot_in self.old place) state) }
+    {
+        let row = &mut self.rows[place];
+        let slot = &mut row.slot;
+        stand(slot, state);
+    }
+
+    /// The slot goes on to its next instruction.
+    pub(crate) fn advance(&mut self, place: usize)
+        requires place { place < length self.old.rows }
+        requires turns { (slot_in self.old place).turns < 2 ^ 62 }
+        ensures { self.new ≡ with_slot self.old place (slot_after (slot_in self.old place) (plain (slot_in self.old place))) }
+    {
+        let row = &mut self.rows[place];
+        let slot = &mut row.slot;
+        advance(slot);
+    }
+
+    /// The same, and a register gets a word.
+    pub(crate) fn sets(&mut self, place: usize, rd: Reg, word: Word)
+        requires place { place < length self.old.rows }
+        requires turns { (slot_in self.old place).turns < 2 ^ 62 }
+        ensures { self.new ≡ with_slot self.old place (slot_after (slot_in self.old place) (record (plain (slot_in self.old place)) { writes = (rd, word) ∷ [] })) }
+    {
+        let row = &mut self.rows[place];
+        let slot = &mut row.slot;
+        sets(slot, rd, word);
+    }
+
+    /// The same, where the word arrives later.
+    pub(crate) fn issue(&mut self, place: usize, rd: Reg, word: Word)
+        requires place { place < length self.old.rows }
+        requires turns { (slot_in self.old place).turns < 2 ^ 62 }
+        requires room { length (slot_in self.old place).pending < 16 }
+        ensures { self.new ≡ with_slot self.old place (slot_after (slot_in self.old place) (record (plain (slot_in self.old place)) { writes = (rd, Int 0) ∷ []; issue = Some (record { reg = rd; word = word }) })) }
+    {
+        let row = &mut self.rows[place];
+        let slot = &mut row.slot;
+        issue(slot, rd, word);
+    }
+
+    /// The slot carries out an instruction that concerns it alone.
+    pub(crate) fn carry_out(&mut self, place: usize, instr: Instr) -> Entered
+        requires place { place < length self.old.rows }
+        requires turns { (slot_in self.old place).turns < 2 ^ 62 }
+        requires alone { is_alone instr ≡ true }
+        ensures ends { (split : Bool) → EndsAlone (effect split instr (slot_in self.old place) Fine) (slot_in self.old place) (slot_in self.new place) result }
+        ensures others { self.new ≡ with_slot self.old place (slot_in self.new place) }
+    {
+        let row = &mut self.rows[place];
+        let slot = &mut row.slot;
+        carry_out(slot, instr)
+    }
+
+    /// The words of an event go to four registers, and the slot goes on.
+    pub(crate) fn take_event(&mut self, place: usize, rd: EvtReg, event: &Event)
+        requires place { place < length self.old.rows }
+        requires turns { (slot_in self.old place).turns < 2 ^ 62 }
+        ensures { self.new ≡ with_slot self.old place (slot_after (slot_in self.old place) (record (plain (slot_in self.old place)) { writes = event_writes rd event.now })) }
+    {
+        let row = &mut self.rows[place];
+        let slot = &mut row.slot;
+        take_event(slot, rd, event);
+    }
+
+    /// The slot's oldest pending load is delivered. Tells its register.
+    pub(crate) fn deliver(&mut self, place: usize) -> Option<u8>
+        requires place { place < length self.old.rows }
+        requires registers { AllByRecursion (λ (p : Pending). p.reg < 16) (slot_in self.old place).pending }
+        ensures slot { self.new ≡ with_slot self.old place (delivered (slot_in self.old place)) }
+        ensures register { result ≡ first_register (slot_in self.old place).pending }
+    {
+        let row = &mut self.rows[place];
+        let slot = &mut row.slot;
+        deliver(slot)
+    }
+
+    /// The slot's handler resumes it.
+    pub(crate) fn resume(&mut self, place: usize, how: How)
+        requires { place < length self.old.rows }
+        ensures { self.new ≡ with_slot self.old place (resumed_by how (slot_in self.old place)) }
+    {
+        let row = &mut self.rows[place];
+        let slot = &mut row.slot;
+        resume(slot, how);
+    }
+
+    /// The slot's handler has read its event.
+    pub(crate) fn set_taken(&mut self, place: usize)
+        requires { place < length self.old.rows }
+        ensures { self.new ≡ with_slot self.old place (record (slot_in self.old place) { state = Taken }) }
+    {
+        let row = &mut self.rows[place];
+        let slot = &mut row.slot;
+        slot.state = SlotState::Taken;
+    }
+
+    /// The slot's handler writes one of its registers.
+    pub(crate) fn set_register(&mut self, place: usize, reg: Reg, word: Word)
+        requires { place < length self.old.rows }
+        ensures { self.new ≡ with_slot self.old place (record (slot_in self.old place) { regs = slice_set (slot_in self.old place).regs reg word }) }
+    {
+        let row = &mut self.rows[place];
+        let slot = &mut row.slot;
+        set_register(slot, reg, word);
+    }
+}
+
+// What is done to queues and outputs.
+impl Tables {
+    /// Adds the newest event to the queue at a place.
+    pub(crate) fn push_event(&mut self, place: usize, event: Event)
+        requires place { place < length self.old.rows }
+        requires room { length (queue_in self.old place) < 64 }
+        ensures { self.new ≡ with_queue_in self.old place (queue_in self.old place ++ event ∷ []) }
+    {
+        let row = &mut self.rows[place];
+        row.queue.push(event);
+    }
+
+    /// Takes the oldest event away from the queue at a place.
+    pub(crate) fn remove_event(&mut self, place: usize)
+        requires place { place < length self.old.rows }
+        requires some { 0 < length (queue_in self.old place) }
+        ensures { self.new ≡ with_queue_in self.old place (drop 1 (queue_in self.old place)) }
+    {
+        let row = &mut self.rows[place];
+        row.queue.remove_first();
+    }
+
+    /// A group puts out one more byte.
+    #[tactic(auto, unfolding(mm_model::specs::State::output_of, mm_model::specs::State::put_output))]
+    pub(crate) fn put_byte(&mut self, group: u8, byte: u8)
+        requires group { group < length self.old.outputs }
+        requires room { length (output_of self.old group) < 65536 }
+        ensures { self.new ≡ put_output self.old group (output_of self.old group ++ byte ∷ []) }
+    {
+        let output = &mut self.outputs[group as usize];
+        output.push(byte);
+    }
+
+    /// Puts a slot without events at a place.
+    pub(crate) fn set_row(&mut self, place: usize, slot: &Slot)
+        requires { place < length self.old.rows }
+        ensures { self.new ≡ with_row self.old place (row_alone slot.now) }
+    {
+        let row = &mut self.rows[place];
+        row.slot = copy_of(slot);
+        row.queue.clear();
+    }
+
+    /// Makes these bytes the output of a group.
+    pub(crate) fn set_output(&mut self, group: u8, bytes: &[u8])
+        requires group { group < length self.old.outputs }
+        requires short { length bytes.now ≤ 65536 }
+        ensures { self.new ≡ record self.old { outputs = slice_set self.old.outputs group bytes.now } }
+    {
+        let output = &mut self.outputs[group as usize];
+        output.assign(bytes);
+    }
+}
