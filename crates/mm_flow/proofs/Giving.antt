@@ -1,0 +1,241 @@
+-- The steps of giving.
+use Rattle.std.proofs.lemmas.Nat.{le_or_l}
+use Rattle.std.proofs.lemmas.Nat.Bits.{bit_at_or, bit_at_and, bit_at-lt, bit_at-zero, shr_and_one}
+use Rattle.std.proofs.Common.{◌≡◌, ℕ, zero, suc, ◌+◌, ◌/◌, ◌^◌, ◌<◌, ◌≤◌, ◌⊎◌, ◌↔◌, inl, inr, Bool, true, false, List, [], ◌∷◌, ◌++◌, length, slice_index, slice_index_or, slice_set, max, min, bit_and, bit_or, refl, sym, ap, ◌∙◌, subst, arith, length-append}
+use Rattle.std.specs.Int.{bit_at}
+use Rattle.mm_flow.specs.Flow.{Has, Within, room}
+use Rattle.mm_flow.proofs.Masks.{set_cases, or_cases, below_cases, length_set, room_set, Within-refl, Within-trans, Within-or_left}
+use Rattle.mm_flow.proofs.Masks.Set.{here as set_here, there as set_there}
+use Rattle.mm_flow.specs.Gifts.{Up, Lifted, IsLifted, IsGift, GivenBy, IsSpread, Spreading, kept_mark}
+use Rattle.mm_flow.specs.Gifts.Up.{here, over}
+
+pub or_left : (a b g : ℕ) → bit_at a g ≡ 1 → bit_at (bit_or a b) g ≡ 1
+or_left a b g h = raise _ _ _ (bit_at_or a b g) h (bit_at-lt b g)
+  where
+    raise : (x y z : ℕ) → z ≡ max x y → x ≡ 1 → y < 2 → z ≡ 1
+    raise x y z e h lt = grind arith
+
+pub or_right : (a b g : ℕ) → bit_at b g ≡ 1 → bit_at (bit_or a b) g ≡ 1
+or_right a b g h = raise _ _ _ (bit_at_or a b g) h (bit_at-lt a g)
+  where
+    raise : (x y z : ℕ) → z ≡ max x y → y ≡ 1 → x < 2 → z ≡ 1
+    raise x y z e h lt = grind arith
+
+pub and_both : (a b g : ℕ) → bit_at a g ≡ 1 → bit_at b g ≡ 1 → bit_at (bit_and a b) g ≡ 1
+and_both a b g h k = low _ _ _ (bit_at_and a b g) h k
+  where
+    low : (x y z : ℕ) → z ≡ min x y → x ≡ 1 → y ≡ 1 → z ≡ 1
+    low x y z e h k = grind arith
+
+-- the groups of one more
+module _ (old a : List ℕ) (from to h : ℕ) (k : IsGift h old from to a) where
+  pub gift_more : h < length a → bit_at from h ≡ 1 → IsGift (h + 1) old from to (slice_set a h (bit_or (slice_index a h) to))
+  gift_more lt bit = record {
+    len = length_set a h _ ∙ k.len;
+    only = λ n g x. elim (set_cases a h (bit_or (slice_index a h) to) n lt) [
+      | set_there ne f ↦ k.only n g (ap (λ v. bit_at v g) (sym f) ∙ x)
+      | set_here e f ↦ elim (or_cases (slice_index a h) to g (ap (λ v. bit_at v g) (sym f) ∙ x)) [
+        | inl y ↦ k.only n g (ap (λ v. bit_at (slice_index a v) g) e ∙ y)
+        | inr y ↦ inr (ap (bit_at from) e ∙ bit, y)
+      ]
+    ];
+    keeps = λ n g x. kept n g (k.keeps n g x);
+    each = λ n g small f t. elim (below_cases n h small) [
+      | inl lt2 ↦ kept n g (k.each n g lt2 f t)
+      | inr e ↦ elim (set_cases a h (bit_or (slice_index a h) to) n lt) [
+        | set_there ne is ↦ absurd (ne e)
+        | set_here e2 is ↦ ap (λ v. bit_at v g) is ∙ or_right (slice_index a h) to g t
+      ]
+    ];
+  }
+    where
+      kept : (n g : ℕ) → Has a n g → Has (slice_set a h (bit_or (slice_index a h) to)) n g
+      kept n g x = elim (set_cases a h (bit_or (slice_index a h) to) n lt) [
+        | set_there ne f ↦ ap (λ v. bit_at v g) f ∙ x
+        | set_here e f ↦ ap (λ v. bit_at v g) f ∙ or_left (slice_index a h) to g (ap (λ v. bit_at (slice_index a v) g) (sym e) ∙ x)
+      ]
+
+  pub gift_skip : (bit_at from h ≡ 1 → ⊥) → IsGift (h + 1) old from to a
+  gift_skip no_bit = record {
+    len = k.len;
+    only = k.only;
+    keeps = k.keeps;
+    each = λ n g small f t. elim (below_cases n h small) [
+      | inl lt ↦ k.each n g lt f t
+      | inr e ↦ absurd (no_bit (ap (bit_at from) (sym e) ∙ f))
+    ];
+  }
+
+given_wider : (mask h g : ℕ) (gives : List ℕ) → GivenBy h mask gives g → GivenBy (h + 1) mask gives g
+given_wider mask h g gives x = record { by = x.by; small = (let lt = x.small in omega arith); has = x.has; gift = x.gift }
+
+-- what one more group gives
+pub given_more : (mask h all g : ℕ) (gives : List ℕ) → bit_at mask h ≡ 1 → ((bit_at all g ≡ 1) ↔ GivenBy h mask gives g) → (bit_at (bit_or all (slice_index gives h)) g ≡ 1) ↔ GivenBy (h + 1) mask gives g
+given_more mask h all g gives bit k = (
+  λ x. elim (or_cases all (slice_index gives h) g x) [
+    | inl y ↦ given_wider mask h g gives (k.0 y)
+    | inr y ↦ record { by = h; small = omega arith; has = bit; gift = y }
+  ],
+  λ x. elim (below_cases x.by h x.small) [
+    | inl lt ↦ or_left all (slice_index gives h) g (k.1 (record { by = x.by; small = lt; has = x.has; gift = x.gift }))
+    | inr e ↦ or_right all (slice_index gives h) g (ap (λ v. bit_at (slice_index gives v) g) (sym e) ∙ x.gift)
+  ],
+)
+
+pub given_skip : (mask h all g : ℕ) (gives : List ℕ) → (bit_at mask h ≡ 1 → ⊥) → ((bit_at all g ≡ 1) ↔ GivenBy h mask gives g) → (bit_at all g ≡ 1) ↔ GivenBy (h + 1) mask gives g
+given_skip mask h all g gives no_bit k = (
+  λ y. given_wider mask h g gives (k.0 y),
+  λ x. elim (below_cases x.by h x.small) [
+    | inl lt ↦ k.1 (record { by = x.by; small = lt; has = x.has; gift = x.gift })
+    | inr e ↦ absurd (no_bit (ap (bit_at mask) (sym e) ∙ x.has))
+  ],
+)
+
+-- what stands at a place after a push
+pub data Pushed (xs : List ℕ) (v k : ℕ) : Type 0 where
+  last : k ≡ length xs → slice_index (xs ++ v ∷ []) k ≡ v → Pushed xs v k
+  before : k < length xs → slice_index (xs ++ v ∷ []) k ≡ slice_index xs k → Pushed xs v k
+
+pub push_cases : (xs : List ℕ) (v k : ℕ) → k < length xs + 1 → Pushed xs v k
+push_cases [] v zero lt = last refl refl
+push_cases [] v (suc k) lt = absurd (omega arith)
+push_cases (x ∷ xs) v zero lt = before (omega arith) refl
+push_cases (x ∷ xs) v (suc k) lt = elim (push_cases xs v k (omega arith)) [ last e f ↦ last (omega arith) f | before small f ↦ before (omega arith) f ]
+
+pub zero_bit : (g : ℕ) → bit_at 0 g ≡ 1 → ⊥
+zero_bit g h = let e = bit_at-zero g in omega arith
+
+pub kept_then : (b : Bool) (m g : ℕ) → bit_at (kept_mark b m) g ≡ 1 → (bit_at m g ≡ 1) × (b ≡ true)
+kept_then true m g h = (h, refl)
+kept_then false m g h = absurd (zero_bit g h)
+
+pub then_kept : (b : Bool) (m g : ℕ) → bit_at m g ≡ 1 → b ≡ true → bit_at (kept_mark b m) g ≡ 1
+then_kept b m g h e = rw e h
+
+-- what is lifted to one node more
+module _ (par marks : List ℕ) (keep : ℕ → Bool) (out : List ℕ) (k v w : ℕ) (h : IsLifted par marks keep out) (len : length out ≡ k) (is : v ≡ bit_or (kept_mark (keep k) (slice_index marks k)) w)
+    (from : ((slice_index par k < k) × (w ≡ slice_index out (slice_index par k))) ⊎ ((k ≤ slice_index par k) × (w ≡ 0))) where
+  grown : length (out ++ v ∷ []) ≡ k + 1
+  grown = let e = length-append out (v ∷ []) in omega arith
+
+  only_last : (g : ℕ) → bit_at v g ≡ 1 → Lifted par marks keep k g
+  only_last g x = elim (or_cases (kept_mark (keep k) (slice_index marks k)) w g (ap (λ z. bit_at z g) (sym is) ∙ x)) [
+    | inl y ↦ let two = kept_then (keep k) (slice_index marks k) g y in record { node = k; up = here refl; marked = two.0; kept = two.1 }
+    | inr y ↦ elim from [
+      | inr z ↦ absurd (zero_bit g (ap (λ u. bit_at u g) (sym z.1) ∙ y))
+      | inl z ↦ let more = h.only (slice_index par k) g (let lt = z.0 in omega arith) (ap (λ u. bit_at u g) (sym z.1) ∙ y) in
+          record { node = more.node; up = over z.0 more.up; marked = more.marked; kept = more.kept }
+    ]
+  ]
+
+  each_up : (g j : ℕ) → Up par j k → Has marks j g → keep j ≡ true → bit_at v g ≡ 1
+  each_up g j (here e) m p = ap (λ z. bit_at z g) is ∙ or_left (kept_mark (keep k) (slice_index marks k)) w g
+      (then_kept (keep k) (slice_index marks k) g (ap (λ z. bit_at (slice_index marks z) g) (sym e) ∙ m) (ap keep (sym e) ∙ p))
+  each_up g j (over lt u) m p = elim from [
+    | inr z ↦ absurd (let le = z.0 in omega arith)
+    | inl z ↦ ap (λ y. bit_at y g) is ∙ or_right (kept_mark (keep k) (slice_index marks k)) w g
+        (ap (λ y. bit_at y g) z.1 ∙ h.each (slice_index par k) g (omega arith) (record { node = j; up = u; marked = m; kept = p }))
+  ]
+
+  pub lifted_more : IsLifted par marks keep (out ++ v ∷ [])
+  lifted_more = record {
+    only = λ n g small x. elim (push_cases out v n (let e = grown in omega arith)) [
+      | last e f ↦ subst (λ z. Lifted par marks keep z g) (sym (e ∙ len)) (only_last g (ap (λ z. bit_at z g) (sym f) ∙ x))
+      | before lt f ↦ h.only n g lt (ap (λ z. bit_at z g) (sym f) ∙ x)
+    ];
+    each = λ n g small x. elim (push_cases out v n (let e = grown in omega arith)) [
+      | last e f ↦ ap (λ z. bit_at z g) f ∙ each_up g x.node (subst (Up par x.node) (e ∙ len) x.up) x.marked x.kept
+      | before lt f ↦ ap (λ z. bit_at z g) f ∙ h.each n g lt x
+    ];
+  }
+
+pub spread_start : (gives old : List ℕ) → Spreading 0 gives old old false
+spread_start gives old = record {
+  len = refl;
+  only = λ n g x. inl x;
+  still = λ e n g small x. absurd (omega arith);
+  rest = λ n small. refl;
+  same = λ e. refl;
+  grows = λ n. Within-refl (slice_index old n);
+  no_rise = omega arith;
+  falls = λ e. cc;
+}
+
+module _ (gives old a : List ℕ) (ch : Bool) (k r : ℕ) (s : Spreading k gives old a ch) (small : k < length a) (is : (g : ℕ) → (bit_at r g ≡ 1) ↔ GivenBy 64 (slice_index a k) gives g) where
+  at_node : slice_index a k ≡ slice_index old k
+  at_node = s.rest k (omega arith)
+
+  pub spread_keep : bit_or (slice_index a k) r ≡ slice_index a k → Spreading (k + 1) gives old a ch
+  spread_keep e = record {
+    len = s.len;
+    only = s.only;
+    still = λ f n g lt x. elim (below_cases n k lt) [
+      | inl lt2 ↦ s.still f n g lt2 x
+      | inr same ↦
+          let y = subst (λ v. GivenBy 64 (slice_index old v) gives g) same x in
+          let bit = (is g).1 (subst (λ v. GivenBy 64 v gives g) (sym at_node) y) in
+          ap (λ v. bit_at (slice_index old v) g) same ∙ ap (λ v. bit_at v g) (sym at_node) ∙ ap (λ v. bit_at v g) (sym e) ∙ or_right (slice_index a k) r g bit
+    ];
+    rest = λ n le. s.rest n (omega arith);
+    same = s.same;
+    grows = s.grows;
+    no_rise = s.no_rise;
+    falls = s.falls;
+  }
+
+  pub spread_write : (bit_or (slice_index a k) r ≡ slice_index a k → ⊥) → slice_index a k < 2 ^ 64 → Spreading (k + 1) gives old (slice_set a k (bit_or (slice_index a k) r)) true
+  spread_write ne below = record {
+    len = length_set a k _ ∙ s.len;
+    only = λ n g x. elim (set_cases a k (bit_or (slice_index a k) r) n small) [
+      | set_there other f ↦ s.only n g (ap (λ v. bit_at v g) (sym f) ∙ x)
+      | set_here e f ↦ elim (or_cases (slice_index a k) r g (ap (λ v. bit_at v g) (sym f) ∙ x)) [
+        | inl y ↦ s.only n g (ap (λ v. bit_at (slice_index a v) g) e ∙ y)
+        | inr y ↦ inr (subst (λ v. GivenBy 64 (slice_index old v) gives g) (sym e) (subst (λ v. GivenBy 64 v gives g) at_node ((is g).0 y)))
+      ]
+    ];
+    still = λ f. cc;
+    rest = λ n le. elim (set_cases a k (bit_or (slice_index a k) r) n small) [
+      | set_there other f ↦ f ∙ s.rest n (omega arith)
+      | set_here e f ↦ absurd (omega arith)
+    ];
+    same = λ f. cc;
+    grows = λ n. Within-trans (slice_index old n) (slice_index a n) _ (s.grows n) (grew n);
+    no_rise = let x = fell in let y = s.no_rise in omega arith;
+    falls = λ f. let x = fell in let y = s.no_rise in omega arith;
+  }
+    where
+      grew : (n : ℕ) → Within (slice_index a n) (slice_index (slice_set a k (bit_or (slice_index a k) r)) n)
+      grew n = elim (set_cases a k (bit_or (slice_index a k) r) n small) [
+        | set_there other f ↦ subst (Within (slice_index a n)) (sym f) (Within-refl (slice_index a n))
+        | set_here e f ↦ subst (Within (slice_index a n)) (sym f) (subst (λ v. Within (slice_index a v) (bit_or (slice_index a k) r)) (sym e) (Within-or_left (slice_index a k) r))
+      ]
+
+      fell : room (2 ^ 64) (slice_set a k (bit_or (slice_index a k) r)) + 1 ≤ room (2 ^ 64) a
+      fell = let up = le_or_l (slice_index a k) r in room_set (2 ^ 64) a k (bit_or (slice_index a k) r) small (omega arith) below
+
+pub spread_end : (gives old a : List ℕ) (ch : Bool) (k : ℕ) → length a ≤ k → Spreading k gives old a ch → IsSpread gives old a ch
+spread_end gives old a ch k le s = record {
+  len = s.len;
+  only = s.only;
+  still = λ f n g lt x. let e = s.same f in subst (λ v. Has v n g) (sym e) (s.still f n g (omega arith) (subst (λ v. GivenBy 64 (slice_index v n) gives g) e x));
+  same = s.same;
+  grows = s.grows;
+  no_rise = s.no_rise;
+  falls = s.falls;
+}
+
+-- the test of one bit
+pub bit_set : (m h : ℕ) → bit_and (m / 2 ^ h) 1 ≡ 1 → bit_at m h ≡ 1
+bit_set m h e = sym (shr_and_one m h) ∙ e
+
+pub bit_clear : (m h : ℕ) → (bit_and (m / 2 ^ h) 1 ≡ 1 → ⊥) → bit_at m h ≡ 1 → ⊥
+bit_clear m h e x = e (shr_and_one m h ∙ x)
+
+-- within the list the default does not count
+pub same_default : (xs : List ℕ) (i d : ℕ) → i < length xs → slice_index_or xs i d ≡ slice_index xs i
+same_default [] i d lt = absurd (omega arith)
+same_default (x ∷ xs) zero d lt = refl
+same_default (x ∷ xs) (suc i) d lt = same_default xs i d (omega arith)
+
+pub push_length : (xs : List ℕ) (v k : ℕ) → length xs ≡ k → length (xs ++ v ∷ []) ≡ k + 1
+push_length xs v k e = omega (arith, length-append xs (v ∷ []))

@@ -1,0 +1,34 @@
+use Rattle.std.proofs.Common.{◌≡◌, ℕ, ◌<◌, ◌++◌, ◌∷◌, [], List, length, arith, refl, sym, subst}
+use Rattle.mm_flow.specs.Flow.{IsIn, Flowing, Stepped}
+use Rattle.mm_flow.specs.Net.{Edges}
+use Rattle.mm_flow.proofs.Masks.{in_push_last}
+use Rattle.mm_flow.proofs.Steps.{flowing_start, flowing_step, flowing_end}
+use Rattle.mm_flow.proofs.flow.flow.Goals as goal
+
+pub loop-k-init : goal.loop-k-init
+loop-k-init c = flowing_start _ c.args.marks.now c.in_ok-pending.pending.items c.requires (λ k h. (c.in_ok-pending.ensures k).1 h) (λ k h. (c.in_ok-pending.ensures k).0 h)
+
+node_below : (e : Edges) (old marks all p : List ℕ) (k : ℕ) → Flowing e old marks all → all ≡ p ++ k ∷ [] → k < length old
+node_below e old marks all p k h is = h.listed k (subst (IsIn k) (sym is) (in_push_last p k))
+
+pub step-requires-clause-node : goal.step-requires-clause-node
+step-requires-clause-node c =
+    let lt = node_below _ _ _ _ c.pop.new.self.items c.in-Some.k c.loop-k.invariant c.in-Some.ensures.items in
+    let e = c.loop-k.invariant.len in
+    omega arith
+
+stepped : (e : Edges) (old marks all p b r : List ℕ) (k : ℕ) → Flowing e old marks all → all ≡ p ++ k ∷ [] → Stepped e k marks p b r → Flowing e old b r
+stepped e old marks all p b r k h is s =
+    flowing_step e old marks p s.marks s.pending b r k (subst (Flowing e old marks) is h) (node_below e old marks all p k h is) s.cells s.entry
+
+pub loop-k-preserved : goal.loop-k-preserved
+loop-k-preserved c = stepped _ _ _ _ c.pop.new.self.items _ _ c.in-Some.k c.loop-k.invariant c.in-Some.ensures.items c.in_ok-step.ensures
+
+none : (xs : List ℕ) → length xs ≡ 0 → xs ≡ []
+none [] h = refl
+none (x ∷ xs) h = absurd (omega arith)
+
+pub returns : goal.returns
+returns c =
+    let zero_left : length c.loop-k.pending.items ≡ 0 = omega (arith, c.in_default.ensures.cases) in
+    flowing_end _ _ _ (subst (Flowing _ c.args.marks.now c.loop-k.marks) (none _ zero_left) c.loop-k.invariant)

@@ -1,0 +1,14 @@
+use Rattle.std.proofs.Common.{◌<◌, length, arith}
+use Rattle.mm_flow.proofs.Giving.{gift_more, gift_skip, bit_set, bit_clear}
+use Rattle.mm_flow.proofs.gifts.give.Goals as goal
+use Rattle.mm_flow.proofs.gifts.give.Goals.{then-from-h-eq1, else-from-h-eq1}
+
+pub loop-h-preserved : goal.loop-h-preserved
+loop-h-preserved c =
+    let e = c.loop-h.invariant.len in
+    let r = c.requires in
+    let small : c.loop-h.h < length c.loop-h.gives = omega arith in
+    elim c.if-from-h-eq1.branch [
+      | then-from-h-eq1 w ↦ rw w.gives-is (gift_more c.args.gives.now c.loop-h.gives c.args.from c.args.to c.loop-h.h c.loop-h.invariant small (bit_set _ _ w.if-from-h-eq1.true))
+      | else-from-h-eq1 w ↦ rw w.gives-is (gift_skip c.args.gives.now c.loop-h.gives c.args.from c.args.to c.loop-h.h c.loop-h.invariant (bit_clear _ _ w.if-from-h-eq1.false))
+    ]

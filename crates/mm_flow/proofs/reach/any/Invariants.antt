@@ -1,0 +1,8 @@
+use Rattle.std.proofs.Common.{◌≡◌, ℕ, ◌↔◌}
+use Rattle.std.specs.Int.{bit_at}
+use Rattle.mm_flow.specs.Net.{right_at}
+use Rattle.mm_flow.proofs.Kept.{SomeBefore}
+use Rattle.mm_flow.proofs.reach.any.Given as goal
+
+abbrev pub invariant-loop-k : goal.invariant-loop-k
+invariant-loop-k l = (g : ℕ) → (bit_at l.all g ≡ 1) ↔ SomeBefore l.k l.marks (right_at l.nodes l.right) g

@@ -1,0 +1,82 @@
+-- Marks that flow along edges: a node's mark is a mask of groups.
+use Rattle.std.specs.Prelude.{◌≡◌, ℕ, ◌+◌, ◌-◌, ◌*◌, ◌^◌, ◌<◌, ◌≤◌, ◌⊎◌, List, [], ◌∷◌, length, slice_index, bit_and}
+use Rattle.std.specs.Int.{bit_at}
+use Rattle.mm_flow.specs.Net.{Edges, low_at, high_at, entry_at, enters_at}
+
+-- the groups of the first mask are of the second
+abbrev pub Within : ℕ → ℕ → Type 0
+Within m n = (g : ℕ) → bit_at m g ≤ bit_at n g
+
+-- the nodes and targets of a net of n nodes
+pub record Fits (e : Edges) (n : ℕ) : Type 0 where
+  pub nodes : length e.nodes ≡ n
+  pub order : (k : ℕ) → k < n → low_at e k ≤ high_at e k
+  pub ends : (k : ℕ) → k < n → high_at e k ≤ length e.targets
+  pub targets : (j : ℕ) → j < length e.targets → slice_index e.targets j < n
+  pub entries : (k : ℕ) → k < n → entry_at e k < n
+
+abbrev pub Has : List ℕ → ℕ → ℕ → Type 0
+Has marks k g = bit_at (slice_index marks k) g ≡ 1
+
+-- the group reaches the node from a node that it marks
+pub data Flows (e : Edges) (start : List ℕ) (g : ℕ) : ℕ → Type 0 where
+  from : {k : ℕ} → Has start k g → Flows e start g k
+  along : {k : ℕ} (a j : ℕ) → Flows e start g a → a < length start → low_at e a ≤ j → j < high_at e a → slice_index e.targets j ≡ k → Flows e start g k
+  through : {k : ℕ} (a : ℕ) → Flows e start g a → a < length start → (bit_at (enters_at e a) g ≡ 1) → entry_at e a ≡ k → Flows e start g k
+
+-- the node's mark has flowed to all that it leads to
+pub record Settled (e : Edges) (marks : List ℕ) (a : ℕ) : Type 0 where
+  pub cells : (j : ℕ) → low_at e a ≤ j → j < high_at e a → Within (slice_index marks a) (slice_index marks (slice_index e.targets j))
+  pub entry : Within (bit_and (slice_index marks a) (enters_at e a)) (slice_index marks (entry_at e a))
+
+-- how far the marks are from the top
+abbrev pub room : ℕ → List ℕ → ℕ
+room top [] = 0
+room top (m ∷ ms) = (top - m) + room top ms
+
+pub record IsFlow (e : Edges) (old new : List ℕ) : Type 0 where
+  pub len : length new ≡ length old
+  pub grows : (k : ℕ) → Within (slice_index old k) (slice_index new k)
+  pub settled : (k : ℕ) → k < length new → Settled e new k
+  pub sound : (k g : ℕ) → Has new k g → Flows e old g k
+  pub no_rise : room (2 ^ 64) new ≤ room (2 ^ 64) old
+
+abbrev pub IsIn : ℕ → List ℕ → Type 0
+IsIn x [] = ⊥
+IsIn x (y ∷ ys) = (x ≡ y) ⊎ IsIn x ys
+
+-- the mask was carried to each target, what it changed is pending, and the measure did not rise
+pub record Carried (T : ℕ → Type 0) (old p : List ℕ) (mask : ℕ) (new q : List ℕ) : Type 0 where
+  pub len : length new ≡ length old
+  pub grows : (k : ℕ) → Within (slice_index old k) (slice_index new k)
+  pub each : (t : ℕ) → T t → Within mask (slice_index new t)
+  pub changed : (k : ℕ) → (slice_index new k ≡ slice_index old k) ⊎ IsIn k q
+  pub keeps : (k : ℕ) → IsIn k p → IsIn k q
+  pub only : (k g : ℕ) → Has new k g → Has old k g ⊎ (T k × (bit_at mask g ≡ 1))
+  pub bounded : (k : ℕ) → IsIn k q → IsIn k p ⊎ (k < length old)
+  pub no_rise : room (2 ^ 64) new ≤ room (2 ^ 64) old
+  pub room : 2 * room (2 ^ 64) new + length q ≤ 2 * room (2 ^ 64) old + length p
+
+-- the node is a target at a place from lo up to hi
+pub record IsAmong (targets : List ℕ) (lo hi t : ℕ) : Type 0 where
+  pub at : ℕ
+  pub low : lo ≤ at
+  pub high : at < hi
+  pub is : slice_index targets at ≡ t
+
+-- what stands while the pending nodes are worked off
+pub record Flowing (e : Edges) (old marks pending : List ℕ) : Type 0 where
+  pub fits : Fits e (length old)
+  pub len : length marks ≡ length old
+  pub grows : (k : ℕ) → Within (slice_index old k) (slice_index marks k)
+  pub listed : (k : ℕ) → IsIn k pending → k < length old
+  pub settled : (k : ℕ) → k < length old → IsIn k pending ⊎ Settled e marks k
+  pub sound : (k g : ℕ) → Has marks k g → Flows e old g k
+  pub no_rise : room (2 ^ 64) marks ≤ room (2 ^ 64) old
+
+-- one node was worked off
+pub record Stepped (e : Edges) (k : ℕ) (old p new q : List ℕ) : Type 0 where
+  pub marks : List ℕ
+  pub pending : List ℕ
+  pub cells : Carried (IsAmong e.targets (low_at e k) (high_at e k)) old p (slice_index old k) marks pending
+  pub entry : Carried (λ t. t ≡ entry_at e k) marks pending (bit_and (slice_index old k) (enters_at e k)) new q

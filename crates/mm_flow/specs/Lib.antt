@@ -1,0 +1,5 @@
+pub mod Net
+pub mod Flow
+pub mod Gifts
+pub mod Reached
+pub mod Forest

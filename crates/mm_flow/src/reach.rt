@@ -1,0 +1,81 @@
+// What groups reach in a net of nodes.
+ghost use Rattle.std.specs.Prelude.{◌≡◌, ℕ, ◌^◌, ◌<◌, ◌≤◌, ◌↔◌, IfOk, length, slice_index};
+ghost use Rattle.std.specs.Int.{bit_at};
+ghost use Rattle.mm_flow.specs.Net.{right_at};
+ghost use Rattle.mm_flow.specs.Flow.{Fits};
+ghost use Rattle.mm_flow.specs.Reached.{TiesFit, HasSome, IsGifts, Gifting, IsReach};
+
+use crate::flow::flow;
+use crate::gifts::{give, kept, lift, spread};
+use crate::node::{Node, Right};
+use std::alloc::{AllocError, Global};
+
+/// The groups that mark a node with the right.
+pub fn any(nodes: &[Node], marks: &[u64], right: Right) -> u64
+    requires { length nodes.now ≡ length marks.now }
+    ensures { (g : ℕ) → (bit_at result g ≡ 1) ↔ HasSome marks.now (right_at nodes.now right) g }
+{
+    let mut all = 0;
+    for k in 0..marks.len() {
+        let node = nodes[k];
+        all |= kept(node, right, marks[k]);
+    }
+    all
+}
+
+/// For each node the groups of the one mask give to those of the other.
+fn fill(gives: &mut [u64], writes: &[u64], touches: &[u64])
+    requires len { length gives.old ≡ 64 }
+    requires same { length touches.now ≡ length writes.now }
+    ensures { Gifting gives.old writes.now touches.now (length writes.now) gives.new }
+{
+    for m in 0..writes.len() {
+        give(gives, writes[m], touches[m]);
+    }
+}
+
+/// Adds to the links which groups give to which, by what they have marked.
+fn gifts(
+    alloc: Global,
+    marks: &[u64],
+    nodes: &[Node],
+    parents: &[usize],
+    gives: &mut [u64],
+) -> Result<(), AllocError>
+    requires { TiesFit (record { nodes = nodes.now; parents = parents.now; links = gives.old }) (length marks.now) }
+    ensures { IfOk result (λ _. IsGifts (record { nodes = nodes.now; parents = parents.now; links = gives.old }) marks.now gives.new) }
+{
+    let touches = lift(alloc, parents, nodes, marks, Right::Load)?;
+    let writes = lift(alloc, parents, nodes, marks, Right::Store)?;
+    fill(gives, &writes, &touches);
+    let makers = any(nodes, marks, Right::Make);
+    let readers = any(nodes, marks, Right::Load);
+    give(gives, makers, readers);
+    Ok(())
+}
+
+/// Marks all that each group reaches.
+pub fn saturate(
+    alloc: Global,
+    marks: &mut [u64],
+    nodes: &[Node],
+    targets: &[usize],
+    parents: &[usize],
+    links: [u64; 64],
+) -> Result<(), AllocError>
+    requires edges { Fits (record { nodes = nodes.now; targets = targets.now }) (length marks.old) }
+    requires ties { TiesFit (record { nodes = nodes.now; parents = parents.now; links = links }) (length marks.old) }
+    ensures reach { IfOk
+        result
+        (λ _. IsReach (record { nodes = nodes.now; targets = targets.now }) (record { nodes = nodes.now; parents = parents.now; links = links }) marks.old marks.new) }
+    ensures fits { IfOk result (λ _. (k : ℕ) → slice_index marks.new k < 2 ^ 64) }
+{
+    loop {
+        flow(alloc, marks, nodes, targets)?;
+        let mut gives = links;
+        gifts(alloc, marks, nodes, parents, &mut gives)?;
+        if !spread(marks, &gives) {
+            return Ok(());
+        }
+    }
+}

@@ -1,0 +1,16 @@
+pub mod Rising
+pub mod Lists
+pub mod OneBits
+pub mod GroupLinks
+pub mod Marking
+pub mod Standing
+pub mod KeyLists
+pub mod EntryKeys
+pub mod Nesting
+pub mod EntryMasks
+pub mod Cells
+pub mod CellWords
+pub mod Slots
+pub mod Bounds
+pub mod Assembly
+pub mod Conclusion

@@ -1,0 +1,3 @@
+pub mod Segments
+pub mod Heart
+pub mod Nets
