@@ -6,27 +6,22 @@ use mm_word::{Cell, GuardedPtr, Perm, Word};
 use std::alloc::Global;
 use std::test::Fail;
 
-/// A pointer.
-fn pointer(perm: Perm, log: u8, addr: u64) -> Result<GuardedPtr, &'static str> {
-    GuardedPtr::new(perm, log, addr).ok_or("a pointer")
-}
-
-/// A running slot of the group of its number, with a word in its first register.
-fn slot(number: u8, ip: GuardedPtr, word: Word) -> Slot {
+/// A running slot of the group of its number, at the start of a page, with a word in register 1.
+fn slot(number: u8, address: u64, word: Word) -> Option<Slot> {
     let mut regs = [Word::Int(0); 16];
     regs[1] = word;
-    Slot {
+    Some(Slot {
         number,
         group: number,
         handler: None,
         regs,
-        ip,
+        ip: GuardedPtr::new(Perm::Xu, 12, address)?,
         past: false,
         turns: 0,
         state: SlotState::Running,
         empty: 0,
         pending: ArrayVec::new(),
-    }
+    })
 }
 
 /// A page of integer zeros.
@@ -43,10 +38,10 @@ fn page(alloc: Global, number: u64) -> Result<Page, &'static str> {
 #[test]
 fn one_pointer_too_many(rt: HostRuntime) -> Result<(), Fail> {
     let alloc = rt.alloc();
-    let shared = Word::Ptr(pointer(Perm::Rw, 3, 0x100018)?);
+    let shared = GuardedPtr::new(Perm::Rw, 3, 0x100018).ok_or("a pointer")?;
     let slots = vec![in alloc;
-        slot(0, pointer(Perm::Xu, 12, 0x100000)?, Word::Int(0)),
-        slot(1, pointer(Perm::Xu, 12, 0x101000)?, shared),
+        slot(0, 0x100000, Word::Int(0)).ok_or("a slot")?,
+        slot(1, 0x101000, Word::Ptr(shared)).ok_or("a slot")?,
     ]
     .map_err(|_| "memory")?;
     let pages = vec![in alloc; page(alloc, 0x100)?, page(alloc, 0x101)?].map_err(|_| "memory")?;
