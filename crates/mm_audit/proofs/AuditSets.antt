@@ -1,8 +1,8 @@
 -- The sets of an image's marks are its audit.
-use Rattle.std.proofs.Common.{◌≡◌, ◌==◌, ℕ, ◌%◌, ◌^◌, ◌<◌, ◌≤◌, ◌⊎◌, ◌↔◌, inl, inr, Bool, true, ◌&&◌, nat_le, IsTrue, List, length, slice_index, refl, sym, subst, arith, eqb-true, eq-eqb}
+use Rattle.std.proofs.Common.{◌≡◌, ◌==◌, ℕ, ◌%◌, ◌^◌, ◌<◌, ◌≤◌, ◌↔◌, inl, inr, Bool, true, ◌&&◌, nat_le, IsTrue, List, length, slice_index, refl, sym, subst, arith, eqb-true, eq-eqb}
 use Rattle.std.specs.Int.{bit_at}
 use Rattle.std.proofs.lemmas.Bool.{cases_lt}
-use Rattle.std.proofs.lemmas.Nat.Bits.{bit_at_above, bit_at-lt}
+use Rattle.std.proofs.lemmas.Nat.Bits.{bit_at_above}
 use Rattle.mm_word.specs.declared.perm.Perm.{Perm}
 use Rattle.mm_word.specs.declared.perm.Perm.TheVariants.{Ro, Rw, Key as KeyPerm}
 use Rattle.mm_word.specs.Perm.{can_load, can_store}
@@ -20,22 +20,20 @@ use Rattle.mm_flow.specs.Reached.{HasSome}
 use Rattle.mm_summary.specs.Summary.{IsExact, Holds}
 use Rattle.mm_summary.specs.NetOf.{Marked}
 use Rattle.mm_summary.proofs.Segments.{below-can_load, below-can_store, idle_loads, stores-loads}
-use Rattle.mm_seg.specs.Segments.{Covered}
+use Rattle.mm_seg.specs.Segments.{Covered, segment_at}
 use Rattle.mm_net.specs.declared.key.Key.{Key}
 use Rattle.mm_net.specs.Key.{IsKey, key_at, no_key}
 use Rattle.mm_net.specs.Marked.{IsMarked, node_pointer}
 use Rattle.mm_audit.specs.Audits.{Audits, set_of}
+use Rattle.mm_audit.specs.Sets.{Shares, KeptSegment, IsKeptSet}
 use Rattle.mm_audit.specs.GroupSets.{AreGroupSets}
-use Rattle.mm_audit.proofs.Exactly.{CanUse, plain_maximal, plain_covers, top_maximal, top_covers}
+use Rattle.mm_audit.proofs.Sharing.{shares_one, one_shares}
+use Rattle.mm_audit.proofs.Exactly.{CanUse, MarkedSegment, HoldsMarked, plain_maximal, plain_covers, top_maximal, top_covers}
+use Rattle.mm_audit.specs.declared.served.Served.{Served}
+use Rattle.mm_audit.specs.Serving.{served_of}
 use Rattle.mm_audit.proofs.Reading.{past}
 
-bit_cases : (m g : ℕ) → (bit_at m g ≡ 1) ⊎ (bit_at m g ≡ 1 → ⊥)
-bit_cases m g = at (bit_at m g) (bit_at-lt m g)
-  where
-    at : (b : ℕ) → b < 2 → (b ≡ 1) ⊎ (b ≡ 1 → ⊥)
-    at b lt = elim (cases_lt b 1) [ inl zero_bit ↦ inr (λ e. absurd (omega arith)) | inr one ↦ inl (omega arith) ]
-
-no_load_key : can_load KeyPerm ≡ true → ⊥
+pub no_load_key : can_load KeyPerm ≡ true → ⊥
 no_load_key h = cc
 
 no_store_key : can_store KeyPerm ≡ true → ⊥
@@ -52,21 +50,31 @@ module _ (i : Image) (e : Entries) (image : IsImage i) (keys : List Key) (nodes 
   all : (k : ℕ) → k < length keys → IsKey (key_at keys k)
   all k lt = m.all k no_key lt
 
-  plain_test : (g : ℕ) → (bit_at privileged g ≡ 1 → ⊥) → IsTrue (test g) → ⊥
-  plain_test g out h = out (eqb-true _ _ h)
+  top_test : (g : ℕ) → Shares privileged (2 ^ g) → IsTrue (test g)
+  top_test g s = eq-eqb _ _ (one_shares privileged g s)
+
+  plain_test : (g : ℕ) → ¬ Shares privileged (2 ^ g) → IsTrue (test g) → ⊥
+  plain_test g out h = out (shares_one privileged g (eqb-true _ _ h))
 
   module _ (right : Right) (can : Perm → Bool) (whole : Perm) (can_whole : can whole ≡ true) (no_key_right : can KeyPerm ≡ true → ⊥)
       (below-can : (p q : Pointer) → IsBelow q p → can q.perm ≡ true → can p.perm ≡ true)
       (tests : (k : ℕ) → k < length keys → right_at nodes right k ≡ (can (node_pointer keys k).perm && nat_le 3 (node_pointer keys k).log))
       (sets : List (List (ℕ × ℕ))) (s : AreGroupSets keys nodes marks right privileged sets) where
+    marked_segment : (g : ℕ) (v : ℕ × ℕ) → KeptSegment keys nodes marks right (2 ^ g) (length keys) v → MarkedSegment keys nodes marks right g v
+    marked_segment g v k = record { node = k.node; small = k.small; marked = one_shares (slice_index marks k.node) g k.is_kept.1; kept = k.is_kept.0; is = k.is }
+
+    holds_marked : (g : ℕ) (set : List (ℕ × ℕ)) → IsKeptSet keys nodes marks right (2 ^ g) (length keys) set → HoldsMarked keys nodes marks right g set
+    holds_marked g set h k lt has right_is = h.holds k lt (right_is, shares_one (slice_index marks k) g has)
+
     maximal : (g : ℕ) → g < 64 → MaximalSegments i e g can (set_of sets g)
     maximal g lt =
         let one = s.each g lt in
-        elim (bit_cases privileged g) [
-          | inl bit ↦ subst (MaximalSegments i e g can) (sym (one.all bit))
-              (top_maximal i e image keys nodes marks test all m.marks_len x right can whole can_whole no_key_right below-can tests g (eq-eqb _ _ bit))
-          | inr out ↦
-              plain_maximal i e image keys nodes marks test all m.marks_len x right can whole can_whole no_key_right below-can tests g (plain_test g out) (set_of sets g) one.is_set (one.kept out)
+        elim one.is [
+          | inl t ↦ subst (MaximalSegments i e g can) (sym t.1)
+              (top_maximal i e image keys nodes marks test all m.marks_len x right can whole can_whole no_key_right below-can tests g (top_test g t.0))
+          | inr t ↦
+              plain_maximal i e image keys nodes marks test all m.marks_len x right can whole can_whole no_key_right below-can tests g (plain_test g t.0) (set_of sets g) one.is_set
+              (λ n less. marked_segment g (segment_at (set_of sets g) n) (t.1.from n less)) (holds_marked g (set_of sets g) t.1)
         ]
 
     covers : ((g w : ℕ) → CanUse i e g can w → 64 ≤ g → ⊥) → (g w : ℕ) → w % 8 ≡ 0 → w < 2 ^ 54 → Covered (set_of sets g) w ↔ CanUse i e g can w
@@ -74,11 +82,12 @@ module _ (i : Image) (e : Entries) (image : IsImage i) (keys : List Key) (nodes 
       | inr le ↦ (λ c. absurd (past sets g w s.len le c), λ u. absurd (none g w u le))
       | inl lt ↦
           let one = s.each g lt in
-          elim (bit_cases privileged g) [
-            | inl bit ↦ subst (λ v. Covered v w ↔ CanUse i e g can w) (sym (one.all bit))
-                (top_covers i e image keys nodes marks test all m.marks_len x right can whole can_whole no_key_right below-can tests g (eq-eqb _ _ bit) w aligned small)
-            | inr out ↦
-                plain_covers i e image keys nodes marks test all m.marks_len x right can whole can_whole no_key_right below-can tests g (plain_test g out) (set_of sets g) one.is_set (one.kept out) w aligned
+          elim one.is [
+            | inl t ↦ subst (λ v. Covered v w ↔ CanUse i e g can w) (sym t.1)
+                (top_covers i e image keys nodes marks test all m.marks_len x right can whole can_whole no_key_right below-can tests g (top_test g t.0) w aligned small)
+            | inr t ↦
+                plain_covers i e image keys nodes marks test all m.marks_len x right can whole can_whole no_key_right below-can tests g (plain_test g t.0) (set_of sets g) one.is_set
+                (λ n less. marked_segment g (segment_at (set_of sets g) n) (t.1.from n less)) (holds_marked g (set_of sets g) t.1) w aligned
           ]
     ]
 
@@ -109,8 +118,14 @@ module _ (i : Image) (e : Entries) (image : IsImage i) (keys : List Key) (nodes 
   no_store : (g w : ℕ) → CanUse i e g can_store w → 64 ≤ g → ⊥
   no_store g w u le = let c = (store_use g w).1 u in no_load g w (record { by = c.by; granted = c.granted; loads = stores-loads c.by w c.stores }) le
 
-  pub audits : (touch write : List (List (ℕ × ℕ))) → AreGroupSets keys nodes marks Load privileged touch → AreGroupSets keys nodes marks Store privileged write → Audits i e (record { privileged = privileged; touch = touch; write = write })
-  audits touch write t w = record {
+  pub audits : (touch write : List (List (ℕ × ℕ))) (served : List Served) → served ≡ served_of i.slots → AreGroupSets keys nodes marks Load privileged touch → AreGroupSets keys nodes marks Store privileged write → Audits i e (record { privileged = privileged; touch = touch; write = write; served = served })
+  audits touch write served is t w = record {
+    image = image;
+    served = is;
+    touch_sets = λ g lt. (t.each g lt).is_set;
+    write_sets = λ g lt. (w.each g lt).is_set;
+    touch_len = t.len;
+    write_len = w.len;
     privileged = λ g. (λ bit. (x.rights g).0 (eq-eqb _ _ bit), λ p. eqb-true _ _ ((x.rights g).1 p));
     touch_covers = λ g a aligned small.
         let c = covers Load can_load Ro refl no_load_key below-can_load m.loads touch t (λ h b u le. no_load h b ((load_use h b).1 u) le) g a aligned small in

@@ -32,7 +32,8 @@ use Rattle.mm_net.specs.Marked.{node_pointer}
 use Rattle.mm_net.proofs.Standing.{base-block, base_below}
 use Rattle.mm_net.proofs.Nesting.{log_is}
 use Rattle.mm_net.proofs.Bounds.{covers_in, in_covers, three_then}
-use Rattle.mm_audit.specs.Sets.{IsKeptSet, key_segment}
+use Rattle.mm_flow.specs.Flow.{Has}
+use Rattle.mm_audit.specs.Sets.{key_segment}
 use Rattle.mm_audit.proofs.Granted.{granted-well_formed}
 
 both : (a b : Bool) → a && b ≡ true → (a ≡ true) × (b ≡ true)
@@ -90,6 +91,18 @@ pub record CanUse (i : Image) (e : Entries) (g : ℕ) (can : Perm → Bool) (w :
   pub right : can by.perm ≡ true
   pub covers : Covers by w
 
+-- the segment of a node that is marked for the group, and has the right
+pub record MarkedSegment (keys : List Key) (nodes : List Node) (marks : List ℕ) (right : Right) (g : ℕ) (s : ℕ × ℕ) : Type 0 where
+  pub node : ℕ
+  pub small : node < length keys
+  pub marked : Has marks node g
+  pub kept : right_at nodes right node ≡ true
+  pub is : s ≡ key_segment (key_at keys node)
+
+-- the set holds the segment of each such node
+abbrev pub HoldsMarked : List Key → List Node → List ℕ → Right → ℕ → List (ℕ × ℕ) → Type 0
+HoldsMarked keys nodes marks right g set = (k : ℕ) → k < length keys → Has marks k g → right_at nodes right k ≡ true → SomeHolds set (key_segment (key_at keys k))
+
 rises : (xs : List (ℕ × ℕ)) → ((k : ℕ) → k + 1 < length xs → (segment_at xs k).0 < (segment_at xs (k + 1)).0) → AllByRecursion (λ (pair : (ℕ × ℕ) × (ℕ × ℕ)). pair.0.0 < pair.1.0) (zip xs (drop 1 xs))
 rises [] h = tt
 rises (x ∷ []) h = tt
@@ -108,8 +121,35 @@ module _ (i : Image) (e : Entries) (image : IsImage i) (keys : List Key) (nodes 
   not_idle q c long (inl e2) = no_key_right (ap can (sym e2) ∙ c)
   not_idle q c long (inr s) = let lt = s.0 in omega arith
 
+  -- such a segment is granted
+  pub granted_by : (s : ℕ × ℕ) → MarkedSegment keys nodes marks right g s → GrantedSegment i e g can s
+  granted_by s k =
+      let r = both (can (node_pointer keys k.node).perm) (nat_le 3 (node_pointer keys k.node).log) (sym (tests k.node k.small) ∙ k.kept) in
+      record {
+        by = node_pointer keys k.node;
+        granted = x.known_granted g (node_pointer keys k.node) (record { at = k.node; small = (let l = marks_len in let s = k.small in omega arith); marked = k.marked; is = refl });
+        has_right = r.0;
+        is = k.is ∙ key_segment_is k.node k.small;
+        whole_word = three (node_pointer keys k.node).log r.1;
+      }
+
+  -- its words are those that a granted pointer covers
+  pub used_by : (s : ℕ × ℕ) (w : ℕ) → MarkedSegment keys nodes marks right g s → w % 8 ≡ 0 → s.0 ≤ w → w < end_of s → CanUse i e g can w
+  used_by s w k aligned lo hi =
+      let gs = granted_by s k in
+      record {
+        by = gs.by;
+        granted = gs.granted;
+        word = aligned;
+        right = gs.has_right;
+        covers = in_covers gs.by w gs.whole_word aligned (subst (λ v. v.0 ≤ w) gs.is lo) (subst (λ v. w < end_of v) gs.is hi);
+      }
+
+  long_of : (p : Pointer) (w : ℕ) → Covers p w → 3 ≤ p.log
+  long_of p w c = elim (cases_lt p.log 3) [ inl short ↦ absurd (Covers-short p short w c) | inr le ↦ le ]
+
   -- 1. A group that is not privileged.
-  module _ (plain : IsTrue (privileged g) → ⊥) (set : List (ℕ × ℕ)) (is_set : IsSet set) (kept : IsKeptSet keys nodes marks right g (length keys) set) where
+  module _ (plain : IsTrue (privileged g) → ⊥) (set : List (ℕ × ℕ)) (holds : HoldsMarked keys nodes marks right g set) where
     -- each granted segment lies in one of the set
     above : (q : Pointer) → Grants i e g q → can q.perm ≡ true → 3 ≤ q.log → SomeHolds set (segment_of q)
     above q h c long = from (x.granted_held g q h)
@@ -123,23 +163,20 @@ module _ (i : Image) (e : Entries) (image : IsImage i) (keys : List Key) (nodes 
             let b : IsBelow q (node_pointer keys m.at) = subst (IsBelow q) (sym m.is) t.below in
             let log = log_below (node_pointer keys m.at) q b in
             let r : right_at nodes right m.at ≡ true = tests m.at lt ∙ join (can (node_pointer keys m.at).perm) (nat_le 3 (node_pointer keys m.at).log) (below-can (node_pointer keys m.at) q b c) (three_then (node_pointer keys m.at).log (omega arith)) in
-            let h2 = kept.holds m.at lt (record { marked = m.marked; kept = r }) in
+            let h2 = holds m.at lt m.marked r in
             let inside = lies_below (node_pointer keys m.at) q b in
             let w = subst (λ v. LiesIn v (segment_at set h2.at)) (key_segment_is m.at lt) h2.within in
             record { at = h2.at; small = h2.small; within = (let p = inside.0 in let r2 = w.0 in omega arith, let p = inside.1 in let r2 = w.1 in omega arith) }
 
-    -- each segment of the set is granted
+    pub use_covered : (w : ℕ) → CanUse i e g can w → Covered set w
+    use_covered w u =
+        let a = above u.by u.granted u.right (long_of u.by w u.covers) in
+        let b = covers_in u.by w u.covers in
+        record { by = a.at; at = (a.small, let p = a.within.0 in let q = b.0 in omega arith, let p = a.within.1 in let q = b.1 in omega arith) }
+
+  module _ (plain : IsTrue (privileged g) → ⊥) (set : List (ℕ × ℕ)) (is_set : IsSet set) (from : (n : ℕ) → n < length set → MarkedSegment keys nodes marks right g (segment_at set n)) (holds : HoldsMarked keys nodes marks right g set) where
     granted : (n : ℕ) → n < length set → GrantedSegment i e g can (segment_at set n)
-    granted n lt =
-        let k = kept.from n lt in
-        let r = both (can (node_pointer keys k.node).perm) (nat_le 3 (node_pointer keys k.node).log) (sym (tests k.node k.small) ∙ k.is_kept.kept) in
-        record {
-          by = node_pointer keys k.node;
-          granted = x.known_granted g (node_pointer keys k.node) (record { at = k.node; small = (let l = marks_len in let s = k.small in omega arith); marked = k.is_kept.marked; is = refl });
-          has_right = r.0;
-          is = k.is ∙ key_segment_is k.node k.small;
-          whole_word = three (node_pointer keys k.node).log r.1;
-        }
+    granted n lt = granted_by (segment_at set n) (from n lt)
 
     -- two segments of the set that share an address are one
     same_index : (m n a : ℕ) → At set m a → At set n a → m ≡ n
@@ -158,7 +195,7 @@ module _ (i : Image) (e : Entries) (image : IsImage i) (keys : List Key) (nodes 
     maximal n lt p h c inside = elim (cases_lt p.log 3) [
       | inl short ↦ let low = (is_set.segments n lt).low in omega arith
       | inr long ↦
-          let a = above p h c long in
+          let a = above plain set holds p h c long in
           let b = between p (segment_at set n).0 inside in
           let w = a.within in
           let here : At set a.at (segment_at set n).0 = (a.small, let u = b.0 in let v = w.0 in omega arith, let u = b.1 in let v = w.1 in omega arith) in
@@ -178,7 +215,7 @@ module _ (i : Image) (e : Entries) (image : IsImage i) (keys : List Key) (nodes 
     from_maximal : (s : ℕ × ℕ) → MaximalSegment i e g can s → Contains set s
     from_maximal s m =
         let gs = m.granted in
-        let a = above gs.by gs.granted gs.has_right gs.whole_word in
+        let a = above plain set holds gs.by gs.granted gs.has_right gs.whole_word in
         let top = granted a.at a.small in
         let w : LiesIn (segment_of gs.by) (segment_at set a.at) = a.within in
         let segment = is_set.segments a.at a.small in
@@ -207,25 +244,8 @@ module _ (i : Image) (e : Entries) (image : IsImage i) (keys : List Key) (nodes 
       each = λ s. (to_maximal s, from_maximal s);
     }
 
-    long_of : (p : Pointer) (w : ℕ) → Covers p w → 3 ≤ p.log
-    long_of p w c = elim (cases_lt p.log 3) [ inl short ↦ absurd (Covers-short p short w c) | inr le ↦ le ]
-
     pub plain_covers : (w : ℕ) → w % 8 ≡ 0 → Covered set w ↔ CanUse i e g can w
-    plain_covers w aligned = (
-      λ c.
-          let gs = granted c.by c.at.0 in
-          record {
-            by = gs.by;
-            granted = gs.granted;
-            word = aligned;
-            right = gs.has_right;
-            covers = in_covers gs.by w gs.whole_word aligned (subst (λ v. v.0 ≤ w) gs.is c.at.1) (subst (λ v. w < end_of v) gs.is c.at.2);
-          },
-      λ u.
-          let a = above u.by u.granted u.right (long_of u.by w u.covers) in
-          let b = covers_in u.by w u.covers in
-          record { by = a.at; at = (a.small, let p = a.within.0 in let q = b.0 in omega arith, let p = a.within.1 in let q = b.1 in omega arith) },
-    )
+    plain_covers w aligned = (λ c. used_by (segment_at set c.by) w (from c.by c.at.0) aligned c.at.1 c.at.2, use_covered plain set holds w)
 
   -- 2. A privileged group.
   module _ (top : IsTrue (privileged g)) where

@@ -1,9 +1,7 @@
 -- The set of kept nodes, with one node more.
-use Rattle.std.proofs.Common.{◌≡◌, ℕ, ◌+◌, ◌-◌, ◌*◌, ◌/◌, ◌^◌, ◌≤◌, inl, inr, Bool, true, false, ◌&&◌, ◌==◌, bit_and, List, [], ◌∷◌, slice_index, refl, sym, ap, ◌∙◌, subst, arith, eqb-true, eq-eqb}
-use Rattle.std.proofs.lemmas.Nat.Bits.{shr_and_one}
+use Rattle.std.proofs.Common.{◌≡◌, ℕ, ◌+◌, ◌-◌, ◌*◌, ◌^◌, ◌≤◌, inl, inr, List, [], ◌∷◌, sym, ap, subst, arith}
 use Rattle.mm_flow.specs.declared.node.Node.{Node}
 use Rattle.mm_flow.specs.declared.node.Right.{Right}
-use Rattle.mm_flow.specs.Net.{has_right, node_at}
 use Rattle.mm_seg.specs.Segments.{IsSegment, IsMaximal, SomeHolds, segment_at}
 use Rattle.mm_seg.proofs.Searches.{same_or_below}
 use Rattle.mm_seg.proofs.Inserts.{at_in, in_at, in_first, in_rest, in_cases}
@@ -11,7 +9,7 @@ use Rattle.mm_net.specs.declared.key.Key.{Key}
 use Rattle.mm_net.specs.Key.{IsKey, key_at, pointer_at}
 use Rattle.mm_net.proofs.Standing.{base-block, base_below}
 use Rattle.mm_net.proofs.Nesting.{log_is}
-use Rattle.mm_audit.specs.Sets.{IsKept, KeptSegment, IsKeptSet, key_segment, is_kept}
+use Rattle.mm_audit.specs.Sets.{IsKept, KeptSegment, IsKeptSet, key_segment}
 
 pub key_is_segment : (k : Key) → IsKey k → 3 ≤ (pointer_at k).log → IsSegment (key_segment k)
 key_is_segment k h long =
@@ -28,45 +26,27 @@ key_is_segment k h long =
       below = omega arith;
     }
 
-both : (a b : Bool) → a && b ≡ true → (a ≡ true) × (b ≡ true)
-both true true h = (refl, refl)
-both true false h = cc
-both false b h = cc
+pub kept_none : (keys : List Key) (nodes : List Node) (marks : List ℕ) (right : Right) (groups : ℕ) → IsKeptSet keys nodes marks right groups 0 []
+kept_none keys nodes marks right groups = record { from = λ n lt. absurd (omega arith); holds = λ k lt x. absurd (omega arith) }
 
-join : (a b : Bool) → a ≡ true → b ≡ true → a && b ≡ true
-join true true x y = refl
-join true false x y = cc
-join false b x y = cc
-
-pub kept_then : (nodes : List Node) (marks : List ℕ) (right : Right) (g k : ℕ) → is_kept (node_at nodes k) (slice_index marks k) right g ≡ true → IsKept nodes marks right g k
-kept_then nodes marks right g k h =
-    let x = both (has_right right (node_at nodes k)) (bit_and (slice_index marks k / 2 ^ g) 1 == 1) h in
-    record { marked = sym (shr_and_one (slice_index marks k) g) ∙ eqb-true _ _ x.1; kept = x.0 }
-
-pub then_kept : (nodes : List Node) (marks : List ℕ) (right : Right) (g k : ℕ) → IsKept nodes marks right g k → is_kept (node_at nodes k) (slice_index marks k) right g ≡ true
-then_kept nodes marks right g k x = join (has_right right (node_at nodes k)) (bit_and (slice_index marks k / 2 ^ g) 1 == 1) x.kept (eq-eqb _ _ (shr_and_one (slice_index marks k) g ∙ x.marked))
-
-pub kept_none : (keys : List Key) (nodes : List Node) (marks : List ℕ) (right : Right) (g : ℕ) → IsKeptSet keys nodes marks right g 0 []
-kept_none keys nodes marks right g = record { from = λ n lt. absurd (omega arith); holds = λ k lt x. absurd (omega arith) }
-
-module _ (keys : List Key) (nodes : List Node) (marks : List ℕ) (right : Right) (g k : ℕ) (old : List (ℕ × ℕ)) (h : IsKeptSet keys nodes marks right g k old) where
-  wider : (s : ℕ × ℕ) → KeptSegment keys nodes marks right g k s → KeptSegment keys nodes marks right g (k + 1) s
+module _ (keys : List Key) (nodes : List Node) (marks : List ℕ) (right : Right) (groups k : ℕ) (old : List (ℕ × ℕ)) (h : IsKeptSet keys nodes marks right groups k old) where
+  wider : (s : ℕ × ℕ) → KeptSegment keys nodes marks right groups k s → KeptSegment keys nodes marks right groups (k + 1) s
   wider s x = record { node = x.node; small = (let lt = x.small in omega arith); is_kept = x.is_kept; is = x.is }
 
-  pub kept_skip : is_kept (node_at nodes k) (slice_index marks k) right g ≡ false → IsKeptSet keys nodes marks right g (k + 1) old
+  pub kept_skip : ¬ (IsKept nodes marks right groups k) → IsKeptSet keys nodes marks right groups (k + 1) old
   kept_skip out = record {
     from = λ n lt. wider (segment_at old n) (h.from n lt);
     holds = λ n lt x. elim (same_or_below n k lt) [
       | inl less ↦ h.holds n less x
-      | inr e ↦ absurd (let yes_kept = then_kept nodes marks right g k (subst (IsKept nodes marks right g) e x) in let no_way : ◌≡◌ {A = Bool} true false = sym yes_kept ∙ out in cc)
+      | inr e ↦ absurd (out (subst (IsKept nodes marks right groups) e x))
     ];
   }
 
-  pub kept_more : (new : List (ℕ × ℕ)) → is_kept (node_at nodes k) (slice_index marks k) right g ≡ true → IsMaximal (key_segment (key_at keys k) ∷ old) new → IsKeptSet keys nodes marks right g (k + 1) new
+  pub kept_more : (new : List (ℕ × ℕ)) → IsKept nodes marks right groups k → IsMaximal (key_segment (key_at keys k) ∷ old) new → IsKeptSet keys nodes marks right groups (k + 1) new
   kept_more new kept m = record {
     from = λ n lt. elim (in_cases (key_segment (key_at keys k)) (segment_at new n) old (m.from n lt)) [
-      | inl e ↦ record { node = k; small = omega arith; is_kept = kept_then nodes marks right g k kept; is = e }
-      | inr in_old ↦ let f = in_at old (segment_at new n) in_old in wider (segment_at new n) (subst (KeptSegment keys nodes marks right g k) (sym f.is) (h.from f.at f.small))
+      | inl e ↦ record { node = k; small = omega arith; is_kept = kept; is = e }
+      | inr in_old ↦ let f = in_at old (segment_at new n) in_old in wider (segment_at new n) (subst (KeptSegment keys nodes marks right groups k) (sym f.is) (h.from f.at f.small))
     ];
     holds = λ n lt x. elim (same_or_below n k lt) [
       | inr e ↦ subst (λ v. SomeHolds new (key_segment (key_at keys v))) (sym e) (m.holds (key_segment (key_at keys k)) (in_first _ old))

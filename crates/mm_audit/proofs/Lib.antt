@@ -1,6 +1,16 @@
+pub mod Sharing
 pub mod Kept
 pub mod Reading
 pub mod OneSet
+pub mod SharedSets
 pub mod Granted
 pub mod Exactly
 pub mod AuditSets
+pub mod Bests
+pub mod Crossings
+pub mod Words
+pub mod Judgements
+pub mod OwnSlots
+pub mod Leaving
+pub mod OwnPages
+pub mod Touches

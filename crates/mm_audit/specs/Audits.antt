@@ -1,23 +1,33 @@
 -- What an audit is.
-use Rattle.std.specs.Prelude.{◌≡◌, ℕ, ◌%◌, ◌^◌, ◌<◌, ◌↔◌, List, [], slice_index_or}
+use Rattle.std.specs.Prelude.{◌≡◌, ℕ, ◌%◌, ◌^◌, ◌<◌, ◌↔◌, List, [], slice_index_or, length}
 use Rattle.std.specs.Int.{bit_at}
 use Rattle.mm_word.specs.Perm.{can_load, can_store}
 use Rattle.mm_model.specs.Image.{Image}
+use Rattle.mm_model.specs.Spelling.{IsImage}
 use Rattle.mm_model.specs.Reach.{Entries, CanTouch, CanWrite, Privileged}
 use Rattle.mm_model.specs.Audit.{MaximalSegments}
-use Rattle.mm_seg.specs.Segments.{Covered}
+use Rattle.mm_seg.specs.Segments.{IsSet, Covered}
+use Rattle.mm_audit.specs.declared.served.Served.{Served}
+use Rattle.mm_audit.specs.Serving.{served_of}
 
--- an audit as contracts see it: the mask of the privileged groups, and each group's segments
+-- an audit as contracts see it: the mask of the privileged groups, each group's segments, and who serves whom
 pub record ReachValue : Type 0 where
   pub privileged : ℕ
   pub touch : List (List (ℕ × ℕ))
   pub write : List (List (ℕ × ℕ))
+  pub served : List Served
 
 abbrev pub set_of : List (List (ℕ × ℕ)) → ℕ → List (ℕ × ℕ)
 set_of sets g = slice_index_or sets g []
 
 -- it is the audit of an image, where these entries may be made
 pub record Audits (i : Image) (e : Entries) (r : ReachValue) : Type 0 where
+  pub image : IsImage i
+  pub served : r.served ≡ served_of i.slots
+  pub touch_len : length r.touch ≡ 64
+  pub write_len : length r.write ≡ 64
+  pub touch_sets : (g : ℕ) → g < 64 → IsSet (set_of r.touch g)
+  pub write_sets : (g : ℕ) → g < 64 → IsSet (set_of r.write g)
   pub privileged : (g : ℕ) → (bit_at r.privileged g ≡ 1) ↔ Privileged i e g
   pub touch_covers : (g w : ℕ) → w % 8 ≡ 0 → w < 2 ^ 54 → Covered (set_of r.touch g) w ↔ CanTouch i e g w
   pub write_covers : (g w : ℕ) → w % 8 ≡ 0 → w < 2 ^ 54 → Covered (set_of r.write g) w ↔ CanWrite i e g w

@@ -1,3 +1,10 @@
 pub mod Sets
 pub mod Audits
 pub mod GroupSets
+pub mod Judging
+pub mod Serving
+pub mod Writers
+pub mod Crossing
+pub mod Refusals
+pub mod Inside
+pub mod Own

@@ -4,6 +4,7 @@ ghost use Rattle.mm_net.specs.Masks.{meaning};
 ghost use Rattle.mm_audit.specs.Audits.{Audits};
 
 use crate::reach::Reach;
+use crate::served::served_in;
 use crate::sets::group_sets;
 use mm_flow::{Right, any};
 use mm_image::Image;
@@ -22,9 +23,11 @@ pub fn audit(alloc: Global, img: &Image, entries: &Entries) -> Result<Reach, NoM
     let privileged = any(&m.nodes, &m.marks, Right::Make);
     let touch = group_sets(alloc, &m.keys, &m.nodes, &m.marks, Right::Load, privileged)?;
     let write = group_sets(alloc, &m.keys, &m.nodes, &m.marks, Right::Store, privileged)?;
+    let served = served_in(alloc, img.slots())?;
     Ok(Reach {
         privileged,
         touch,
         write,
+        served,
     })
 }

@@ -1,9 +1,15 @@
-ghost use Rattle.std.specs.Prelude.{◌≡◌, ◌<◌, ◌%◌, ◌^◌, ◌↔◌, ℕ, IsTrue};
+ghost use Rattle.std.specs.Prelude.{◌≡◌, ◌==◌, ◌<◌, ◌%◌, ◌^◌, ◌↔◌, ℕ, IsTrue};
+ghost use Rattle.std.specs.List.{list_any};
 ghost use Rattle.mm_word.specs.Perm.{can_load, can_store};
 ghost use Rattle.mm_model.specs.Image.{Image as ImageValue};
 ghost use Rattle.mm_model.specs.Reach.{Entries as EntriesValue, CanTouch, CanWrite, Privileged};
-ghost use Rattle.mm_model.specs.Audit.{MaximalSegments};
+ghost use Rattle.mm_model.specs.Audit.{MaximalSegments, Judged};
+ghost use Rattle.mm_model.specs.Reach.Entries.{All as AnyEntry};
 
+use crate::group_sets::GroupSets;
+use crate::judge::{Apart, crossing, mask_of};
+use crate::served::Served;
+use crate::writers::writer;
 use mm_seg::SegSet;
 use std::marker::Model;
 
@@ -11,8 +17,9 @@ use std::marker::Model;
 #[derive(Drop)]
 pub struct Reach {
     pub(crate) privileged: u64,
-    pub(crate) touch: Vec<SegSet>,
-    pub(crate) write: Vec<SegSet>,
+    pub(crate) touch: GroupSets,
+    pub(crate) write: GroupSets,
+    pub(crate) served: Vec<Served>,
 }
 
 impl Model for Reach {
@@ -21,13 +28,15 @@ impl Model for Reach {
 
     ghost Value = { ReachValue };
 
-    ghost view = { λ r. record { privileged = r.privileged; touch = r.touch.items; write = r.write.items } };
+    ghost view = { λ r. record { privileged = r.privileged; touch = r.touch; write = r.write; served = r.served.items } };
 
-    ghost invariant = { λ r. (length r.touch.items ≡ 64) × (length r.write.items ≡ 64) };
+    ghost invariant = { λ r. (length r.touch ≡ 64) × (length r.write ≡ 64) };
 }
 
 impl Reach {
     ghost use Rattle.mm_audit.specs.Audits.{Audits};
+    ghost use Rattle.mm_audit.specs.Judging.{JudgedUnder};
+    ghost use Rattle.mm_audit.specs.Crossing.{verdict_of};
 
     /// Whether a group can touch a word.
     pub fn can_touch(&self, group: u8, word: u64) -> bool
@@ -35,7 +44,7 @@ impl Reach {
         requires small { word < 2 ^ 54 }
         ensures { (i : ImageValue) (e : EntriesValue) → Audits i e self.now → IsTrue result ↔ CanTouch i e group word }
     {
-        group < 64 && self.touch[group as usize].covers(word)
+        group < 64 && self.touch.of(group as usize).covers(word)
     }
 
     /// Whether a group can write a word.
@@ -44,7 +53,7 @@ impl Reach {
         requires small { word < 2 ^ 54 }
         ensures { (i : ImageValue) (e : EntriesValue) → Audits i e self.now → IsTrue result ↔ CanWrite i e group word }
     {
-        group < 64 && self.write[group as usize].covers(word)
+        group < 64 && self.write.of(group as usize).covers(word)
     }
 
     /// Whether a group is privileged.
@@ -60,7 +69,7 @@ impl Reach {
         requires { group < 64 }
         ensures { (i : ImageValue) (e : EntriesValue) → Audits i e self.now → MaximalSegments i e group can_load result.now }
     {
-        &self.touch[group as usize]
+        self.touch.of(group as usize)
     }
 
     /// The maximal segments of at least a word that a group can write.
@@ -68,6 +77,24 @@ impl Reach {
         requires { group < 64 }
         ensures { (i : ImageValue) (e : EntriesValue) → Audits i e self.now → MaximalSegments i e group can_store result.now }
     {
-        &self.write[group as usize]
+        self.write.of(group as usize)
+    }
+
+    /// Whether groups stand apart from all others: the least slot whose handler is on the other side, else the least
+    /// group outside that can write a word that one inside can touch, with the least such word.
+    pub fn apart(&self, groups: &[u8]) -> Apart
+        ensures under { (i : ImageValue) (e : EntriesValue) → Audits i e self.now → JudgedUnder i e (λ g. list_any (λ h. g == h) groups.now) (verdict_of result) }
+        ensures all { (i : ImageValue) → Audits i AnyEntry self.now → Judged i (λ g. list_any (λ h. g == h) groups.now) (verdict_of result) }
+    {
+        if let Some(slot) = crossing(&self.served, groups) {
+            return Apart::Handler { slot };
+        }
+        match writer(&self.write, &self.touch, mask_of(groups)) {
+            Some((g, word)) => Apart::Writer {
+                group: g as u8,
+                word,
+            },
+            None => Apart::Yes,
+        }
     }
 }

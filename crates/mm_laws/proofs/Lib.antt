@@ -1,7 +1,7 @@
 mod RunStates
 mod GrantLaws
 mod CountSums
-mod Restricting
+pub mod Restricting
 mod Robins
 mod Texts
 mod Spellings
@@ -22,3 +22,4 @@ pub mod ChangedCells
 pub mod SameViews
 pub mod OwnImages
 pub mod OwnItems
+pub mod WholeRuns

@@ -87,7 +87,14 @@ filter_ascends p (s ∷ slots) h = elim (bool_cases (p s)) [
 abbrev own : Image → (ℕ → Bool) → List Slot
 own i c = filter (λ (s : Slot). c s.group) i.slots
 
-module _ (i : Image) (c : ℕ → Bool) (img : IsImage i) (has : HasSlot i c) (apart : Apart i c) where
+-- each slot of the groups has its handler, if any, among them
+abbrev pub StaysInside : Image → (ℕ → Bool) → Type 0
+StaysInside i c = (s h : Slot) → Contains i.slots s → Contains i.slots h → s.handler ≡ Some h.number → c s.group ≡ true → c h.group ≡ true
+
+apart_inside : (i : Image) (c : ℕ → Bool) → Apart i c → StaysInside i c
+apart_inside i c apart s h s_is h_is handled inside = sym (apart.handlers s h s_is h_is handled) ∙ inside
+
+module _ (i : Image) (c : ℕ → Bool) (img : IsImage i) (has : HasSlot i c) (stays : StaysInside i c) where
   in_own : (s : Slot) → Contains i.slots s → c s.group ≡ true → Contains (own i c) s
   in_own s is cs = contained_filter (λ (x : Slot). c x.group) i.slots s is cs
 
@@ -100,8 +107,8 @@ module _ (i : Image) (c : ℕ → Bool) (img : IsImage i) (has : HasSlot i c) (a
       by : (o : Option ℕ) → s.handler ≡ o → IfSome o (IsOther i.slots s.number) → IfSome o (IsOther (own i c) s.number)
       by None e k = tt
       by (Some n) e k =
-          let side = apart.handlers s k.1.0 is k.1.1 (e ∙ ap (λ (x : ℕ). Some x) (sym k.1.2)) in
-          (k.0, (k.1.0, in_own k.1.0 k.1.1 (sym side ∙ cs), k.1.2))
+          let side = stays s k.1.0 is k.1.1 (e ∙ ap (λ (x : ℕ). Some x) (sym k.1.2)) cs in
+          (k.0, (k.1.0, in_own k.1.0 k.1.1 side, k.1.2))
 
   own_fresh_slot : (s : Slot) → Contains i.slots s → c s.group ≡ true → IsFresh (slot_limit i.version) i.slots s → IsFresh (slot_limit i.version) (own i c) s
   own_fresh_slot s is cs f = record {
@@ -166,11 +173,15 @@ module _ (j : Image) (c : ℕ → Bool) (all : (s : Slot) → Contains j.slots s
 
 -- 4. The groups' slots alone.
 
+pub alone_image : (i : Image) (c : ℕ → Bool) → IsImage i → HasSlot i c → StaysInside i c → IsImage (alone i c)
+unfolding alone
+alone_image i c img has stays = own_image i c img has stays i.memory refl img.paged img.words
+
 pub alone_agrees : (i : Image) (c : ℕ → Bool) → IsImage i → HasSlot i c → Apart i c → AgreeApart i (alone i c) c
 unfolding alone
 alone_agrees i c img has apart = record {
   one = img;
-  other = own_image i c img has apart i.memory refl img.paged img.words;
+  other = own_image i c img has (apart_inside i c apart) i.memory refl img.paged img.words;
   agree = record {
     version = refl;
     mode = refl;
@@ -232,7 +243,7 @@ module _ (i : Image) (c : ℕ → Bool) (j : Image) (img : IsImage i) (has : Has
 
   extracted_image : IsImage j
   extracted_image =
-      let whole = own_image i c img has apart j.memory e.frames e.paged extracted_words in
+      let whole = own_image i c img has (apart_inside i c apart) j.memory e.frames e.paged extracted_words in
       let one : ◌≡◌ {A = Image} (record { version = i.version; split = i.split; slots = own i c; memory = j.memory }) (record { version = j.version; split = i.split; slots = own i c; memory = j.memory }) =
       ap (λ (v : ℕ). record { version = v; split = i.split; slots = own i c; memory = j.memory }) (sym e.version) in
       let two : ◌≡◌ {A = Image} (record { version = j.version; split = i.split; slots = own i c; memory = j.memory }) (record { version = j.version; split = j.split; slots = own i c; memory = j.memory }) =

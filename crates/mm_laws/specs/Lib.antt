@@ -6,3 +6,4 @@ pub mod Grants
 pub mod Counts
 pub mod Granted
 pub mod Isolated
+pub mod Runs

@@ -10,5 +10,6 @@ pub mod grants;
 pub mod images;
 pub mod isolated;
 pub mod restrictions;
+pub mod runs;
 pub mod schedules;
 pub mod states;

@@ -1,2 +1,4 @@
 pub mod Kept
 pub mod Machine
+pub mod Snapshot
+pub mod Taking

@@ -2,8 +2,13 @@
 #![tactic(auto)]
 
 mod machine;
+mod snapshot;
+mod standing;
+mod taking;
 #[cfg(test)]
 mod tests;
+mod typed;
 
 pub use machine::Machine;
-pub use mm_thread::{Event, Pending, Slot, SlotState, Step, Tick};
+pub use mm_thread::{Event, Output, Pending, Slot, SlotState, Step, Tick};
+pub use snapshot::Snapshot;

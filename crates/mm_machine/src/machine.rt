@@ -1,11 +1,13 @@
 ghost use Rattle.std.specs.Prelude.{◌≡◌, ◌+◌, ◌*◌, ◌≤◌, ◌^◌};
 ghost use Rattle.mm_machine.specs.Kept.{Kept};
 
+use crate::Snapshot;
+use crate::taking::{events_of, outputs_of, pages_of, slots_of};
 use mm_image::Image;
-use mm_mem::{Loaded, Memory, Stored};
+use mm_mem::{Inspect, Loaded, Memory, Reset, Stored};
 use mm_thread::{Core, Slot, Step, turn};
 use mm_word::{Access, NoMemory, Post, Pre, Word};
-use std::alloc::Global;
+use std::alloc::{AllocError, Global};
 
 /// Slots over a memory, and a count of cycles.
 #[derive(Drop)]
@@ -88,7 +90,7 @@ impl<M: Memory> Machine<M> {
 
     /// The running slots: bit n is set exactly where slot n runs.
     pub fn running(&self) -> u64
-        ensures { (n : ℕ) → n < 64 → (IsBitSet result n ↔ IsSomeAnd (slot_at (state_of self.now).core n) (λ s. s.state ≡ Running)) }
+        ensures { (n : ℕ) → IsBitSet result n ↔ IsSomeAnd (slot_at (state_of self.now).core n) (λ s. s.state ≡ Running) }
     {
         self.core.running()
     }
@@ -172,5 +174,65 @@ impl<M: Memory> Machine<M> {
         ensures { result ≡ ports_used self.now }
     {
         self.ports
+    }
+}
+
+/// States that are kept apart.
+impl<M: Inspect> Machine<M> {
+    ghost use Rattle.std.specs.Prelude.{IfOk};
+    ghost use Rattle.mm_machine.specs.Machine.{state_of};
+    ghost use Rattle.mm_machine.specs.Snapshot.{IsSnapshotOf, CanRestore};
+
+    /// The state as it is now, but for the frames of the memory.
+    pub fn snapshot(&self, alloc: Global) -> Result<Snapshot, NoMemory>
+        ensures state { IfOk result (λ s. IsSnapshotOf (state_of self.now) s) }
+
+        // The machine can be put back to it.
+        ensures fits { IfOk result (λ s. CanRestore (state_of self.now) s) }
+    {
+        match self.copied(alloc) {
+            Ok(snapshot) => Ok(snapshot),
+            Err(_) => Err(NoMemory),
+        }
+    }
+
+    fn copied(&self, alloc: Global) -> Result<Snapshot, AllocError>
+        ensures { IfOk result (λ s. IsSnapshotOf (state_of self.now) s) }
+    {
+        let slots = slots_of(alloc, &self.core)?;
+        let events = events_of(alloc, &self.core)?;
+        let outputs = outputs_of(alloc, &self.core, &slots)?;
+        let pages = pages_of(alloc, &self.mem)?;
+        Ok(Snapshot::of(slots, events, outputs, pages, self.cycles))
+    }
+}
+
+/// States that are put back.
+impl<M: Reset> Machine<M> {
+    ghost use Rattle.std.specs.Prelude.{◌≡◌, []};
+    ghost use Rattle.mm_model.specs.State.{State};
+    ghost use Rattle.mm_machine.specs.Machine.{state_of, ports_used, StandsTo};
+    ghost use Rattle.mm_machine.specs.Snapshot.{Parts, IsSnapshotOf, CanRestore, IsAlike, restored};
+
+    /// Makes the state of a snapshot the machine's own. Version, mode, frames and the count of port uses stay, and no use of the
+    /// memory is counted any more. Takes no memory.
+    pub fn restore(&mut self, s: &Snapshot)
+        requires { CanRestore (state_of self.old) s.now }
+        ensures state { state_of self.new ≡ restored (state_of self.old) s.now }
+        ensures stands { StandsTo self.new [] }
+        ensures ports { ports_used self.new ≡ ports_used self.old }
+
+        // It is the snapshot of the state as it is now.
+        ensures shown { IsSnapshotOf (state_of self.new) s.now }
+
+        // The snapshot of a state of such a machine brings that state back.
+        ensures back { (t : State) → IsAlike (state_of self.old) t → IsSnapshotOf t s.now → state_of self.new ≡ t }
+
+        // What it could be put back to before, it still can.
+        ensures fits { (p : Parts) → CanRestore (state_of self.old) p → CanRestore (state_of self.new) p }
+    {
+        self.core.assign(s.slots(), s.events(), s.outputs());
+        self.mem.reset(s.pages());
+        self.cycles = s.cycles();
     }
 }

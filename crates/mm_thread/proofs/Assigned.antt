@@ -2,6 +2,7 @@
 use Rattle.std.proofs.Common.{◌≡◌, ◌≢◌, ℕ, ◌+◌, ◌<◌, ◌≤◌, ◌⊎◌, inl, inr, Bool, true, false, cond, eqb, List, [], ◌∷◌, ◌++◌, length, map, take, drop, get_or, set, replicate, Option, Some, refl, sym, ap, subst, ◌∙◌, arith}
 use Rattle.std.specs.Prelude.{IfSome}
 use Rattle.std.specs.List.{AllByRecursion}
+use Rattle.std.proofs.Math.Seq.{get_or-append_seam}
 use Rattle.std.proofs.lemmas.Bool.{cases_eq}
 use Rattle.std.proofs.lemmas.Bool.Decides.{nat_tests}
 use Rattle.std.proofs.lemmas.List.{set_at, drop_more, take_more, length-append, length-map, length-take-le, map_push, append_assoc, take-append-drop, set_past, replicate_more, length-replicate}
@@ -138,6 +139,13 @@ front_more f xs ys i d b within inside =
     ap (λ rest. set (map f (take i xs) ++ rest) i (f (get_or xs i d))) (drop_more ys i b inside)
     ∙ set_at (map f (take i xs)) (get_or ys i b) (drop (i + 1) ys) (f (get_or xs i d)) i long
     ∙ sym (ap (λ front. map f front ++ drop (i + 1) ys) (take_more xs i d within) ∙ ap (λ front. front ++ drop (i + 1) ys) (map_push f (take i xs) (get_or xs i d)) ∙ append_assoc (map f (take i xs)) (f (get_or xs i d) ∷ []) (drop (i + 1) ys))
+
+-- what stands next behind the front
+pub front_next : {B : Type 0} (front ys : List B) (i : ℕ) (d : B) → length front ≡ i → i < length ys → get_or (front ++ drop i ys) i d ≡ get_or ys i d
+front_next front ys i d long inside =
+    ap (λ rest. get_or (front ++ rest) i d) (drop_more ys i d inside)
+    ∙ ap (λ (k : ℕ). get_or (front ++ get_or ys i d ∷ drop (i + 1) ys) k d) (sym long)
+    ∙ get_or-append_seam front (get_or ys i d) (drop (i + 1) ys) d
 
 pub nothing_more : (outputs : List (List ℕ)) (i : ℕ) → i < length outputs → set (replicate i [] ++ drop i outputs) i [] ≡ replicate (i + 1) [] ++ drop (i + 1) outputs
 nothing_more outputs i inside =

@@ -8,6 +8,7 @@ use Rattle.mm_model.specs.Slot.{Slot}
 use Rattle.mm_model.specs.State.{Row, Core}
 use Rattle.mm_model.specs.Fits.{slots_of}
 use Rattle.mm_model.proofs.CoreRows.{each_get}
+use Rattle.mm_thread.specs.Runners.{AreNumbered}
 use Rattle.mm_thread.specs.Places.{no_row, slot_in, numbers_in, IsIndex}
 use Rattle.mm_thread.proofs.Index.{length-numbers, number-get}
 
@@ -92,3 +93,13 @@ few_rows core rising small = elim (Rattle.std.proofs.lemmas.Bool.cases_lt 64 (le
       absurd (omega (arith, below, number-get core 64 many, number_at-small core small 64 many))
   | inr few ↦ few
 ]
+
+-- the rows of slots whose numbers rise have numbers of their own
+pub core_numbered : (core : Core) → IsStrictlyIncreasing (numbers_in core) → AllByRecursion (λ (s : Slot). s.number < 64) (slots_of core) → AreNumbered core.rows
+core_numbered core rising small = record {
+  small = number_at-small core small;
+  own = λ j k first second e. elim (cases_eq j k) [
+    | inl same ↦ same
+    | inr other ↦ absurd (differs_between (numbers_in core) rising j k other (omega (arith, length-numbers core)) (omega (arith, length-numbers core)) (number-get core j first ∙ e ∙ sym (number-get core k second)))
+  ];
+}

@@ -1,67 +1,115 @@
--- The set of running slots as bits.
-use Rattle.std.proofs.Common.{◌≡◌, ℕ, ◌+◌, ◌*◌, ◌%◌, ◌^◌, ◌<◌, ◌↔◌, Bool, true, false, List, length, slice_index, bit_or, Option, Some, None, refl, sym, ap, ◌∙◌, arith, inl, inr}
+-- The running slots as bits.
+use Rattle.std.proofs.Common.{◌≡◌, ◌≢◌, ℕ, zero, suc, ◌+◌, ◌*◌, ◌%◌, ◌^◌, ◌<◌, ◌↔◌, ◌⊎◌, Bool, true, false, List, [], ◌∷◌, length, get_or, set, bit_or, bit_and, Option, Some, None, Result, refl, sym, ap, ◌∙◌, arith, inl, inr}
 use Rattle.std.specs.Prelude.{IsSomeAnd}
-use Rattle.std.specs.Int.{IsBitSet, bit_at, w64}
+use Rattle.std.specs.Int.{IsBitSet, bit_at, bit_not, w64}
 use Rattle.std.proofs.lemmas.Bool.{cases_eq, cases_lt}
+use Rattle.std.proofs.lemmas.List.{get_or-set_same, get_or-set_other, get_or_default, length-set}
 use Rattle.std.proofs.lemmas.Nat.{pow_pos}
-use Rattle.std.proofs.lemmas.Nat.Bits.{and_pow, bit_at-zero, bit_at_set_same, bit_at_set_other}
+use Rattle.std.proofs.lemmas.Nat.Bits.{and_pow, bit_at-zero, bit_at_above, bit_at_set_same, bit_at_set_other, bit_at_clear_same, bit_at_clear_other}
+use Rattle.mm_word.specs.declared.cause.Cause.{Cause}
+use Rattle.mm_word.specs.Pointer.{Pointer}
+use Rattle.mm_isa.specs.declared.instr.How.{How}
+use Rattle.mm_isa.specs.declared.instr.How.TheVariants.{Retry, Skip, Kill}
 use Rattle.mm_model.specs.declared.slot.SlotState.{SlotState}
 use Rattle.mm_model.specs.declared.slot.SlotState.TheVariants.{Running, Waiting, Taken, Halted}
 use Rattle.mm_model.specs.Slot.{Slot}
-use Rattle.mm_model.specs.State.{Core, slot_of, slot_at}
-use Rattle.mm_model.specs.Turn.{is_running}
-use Rattle.mm_thread.specs.Places.{slot_in, IsSound}
-use Rattle.mm_thread.proofs.Index.{slot_found, number_there, row_missing}
+use Rattle.mm_model.specs.State.{Row, Core, slot_of, slot_at}
+use Rattle.mm_model.specs.Effect.{Change, Effect, resumed_by}
+use Rattle.mm_model.specs.Effect.Effect.{Fault, Block, Deliver, Does}
+use Rattle.mm_model.specs.Turn.{is_running, slot_after}
+use Rattle.mm_model.specs.Fits.{one_if}
+use Rattle.mm_model.proofs.TurnKeeps.{changed_from}
+use Rattle.mm_thread.specs.Ends.{EndsAlone}
+use Rattle.mm_thread.specs.Places.{no_row}
+use Rattle.mm_thread.specs.Runners.{slot_of_row, AreNumbered, AreRunners, HasRunners, IsNoted}
+use Rattle.mm_thread.proofs.Index.{row_in-none, row_in-alone}
 
--- one of the first slots has this number and runs
-pub record RunsBelow (core : Core) (i n : ℕ) : Type 0 where
-  pub place : ℕ
-  pub below : place < i
-  pub number : (slot_in core place).number ≡ n
-  pub runs : is_running (slot_in core place).state ≡ true
+-- 1. One bit.
 
--- each bit tells whether one of the first slots has its number and runs
-pub record AreRunners (core : Core) (i runners : ℕ) : Type 0 where
-  pub set : (n : ℕ) → n < 64 → RunsBelow core i n → bit_at runners n ≡ 1
-  pub clear : (n : ℕ) → n < 64 → (RunsBelow core i n → ⊥) → bit_at runners n ≡ 0
-
-pub runners_none : (core : Core) → AreRunners core 0 0
-runners_none core = record {
-  set = λ n small h. absurd (let below = h.below in omega arith);
-  clear = λ n small h. bit_at-zero n;
+pub set_noted : (runners n : ℕ) (s : Slot) → n ≡ s.number → s.number < 64 → is_running s.state ≡ true → IsNoted runners (bit_or runners (1 * 2 ^ n % 2 ^ 64)) s
+set_noted runners n s same small runs = record {
+  here = ap (λ k. bit_at (bit_or runners (1 * 2 ^ k % 2 ^ 64)) s.number) same ∙ bit_at_set_same w64 runners s.number small ∙ sym (ap one_if runs);
+  others = λ k low other. ap (λ j. bit_at (bit_or runners (1 * 2 ^ j % 2 ^ 64)) k) same ∙ bit_at_set_other w64 runners s.number small k other;
 }
 
-module _ (core : Core) (i runners : ℕ) (before : AreRunners core i runners) where
-  later : (n : ℕ) → RunsBelow core i n → RunsBelow core (i + 1) n
-  later n h = record { place = h.place; below = let below = h.below in omega arith; number = h.number; runs = h.runs }
+pub clear_noted : (runners n : ℕ) (s : Slot) → n ≡ s.number → s.number < 64 → is_running s.state ≡ false → IsNoted runners (bit_and runners (bit_not w64 (1 * 2 ^ n % 2 ^ 64))) s
+clear_noted runners n s same small rests = record {
+  here = ap (λ k. bit_at (bit_and runners (bit_not w64 (1 * 2 ^ k % 2 ^ 64))) s.number) same ∙ bit_at_clear_same w64 runners s.number small ∙ sym (ap one_if rests);
+  others = λ k low other. ap (λ j. bit_at (bit_and runners (bit_not w64 (1 * 2 ^ j % 2 ^ 64))) k) same ∙ bit_at_clear_other w64 runners s.number small k low other;
+}
 
-  pub runners_rest : is_running (slot_in core i).state ≡ false → AreRunners core (i + 1) runners
-  runners_rest rests =
-      let earlier : (n : ℕ) → RunsBelow core (i + 1) n → RunsBelow core i n = λ n h. elim (cases_eq h.place i) [
-        | inl same ↦ absurd (cc (ap (λ (k : ℕ). is_running (slot_in core k).state) same, h.runs, rests))
-        | inr other ↦ record { place = h.place; below = let below = h.below in omega arith; number = h.number; runs = h.runs }
-      ] in
-      record {
-        set = λ n small h. before.set n small (earlier n h);
-        clear = λ n small h. before.clear n small (λ k. h (later n k));
-      }
+-- 2. The bits of the first rows.
 
-  pub runners_more : is_running (slot_in core i).state ≡ true → (slot_in core i).number < 64 → AreRunners core (i + 1) (bit_or runners (1 * 2 ^ (slot_in core i).number % 2 ^ 64))
-  runners_more runs small_number =
-      let k : ℕ = (slot_in core i).number in
-      record {
-        set = λ n small h. elim (cases_eq n k) [
-          | inl same ↦ rw same (bit_at_set_same w64 runners k small_number)
-          | inr other ↦ bit_at_set_other w64 runners k small_number n other ∙ before.set n small (elim (cases_eq h.place i) [
-            | inl at ↦ absurd (other (sym h.number ∙ ap (λ (j : ℕ). (slot_in core j).number) at))
-            | inr elsewhere ↦ record { place = h.place; below = let below = h.below in omega arith; number = h.number; runs = h.runs }
-          ])
-        ];
-        clear = λ n small h. elim (cases_eq n k) [
-          | inl same ↦ absurd (h (record { place = i; below = omega arith; number = sym same; runs = runs }))
-          | inr other ↦ bit_at_set_other w64 runners k small_number n other ∙ before.clear n small (λ j. h (later n j))
-        ];
-      }
+pub runners_none : (rows : List Row) → AreRunners rows 0 0
+runners_none rows = record {
+  each = λ k below. absurd (omega arith);
+  none = λ n small h. bit_at-zero n;
+}
+
+pub runners_more : (rows : List Row) (i before after : ℕ) → AreNumbered rows → i < length rows → AreRunners rows i before → IsNoted before after (slot_of_row rows i) → AreRunners rows (i + 1) after
+runners_more rows i before after numbered within h noted = record {
+  each = λ k below. elim (cases_eq k i) [
+    | inl same ↦ rw same noted.here
+    | inr other ↦
+        let earlier : k < i = omega (arith, below) in
+        noted.others (slot_of_row rows k).number (numbered.small k (omega arith)) (λ e. other (numbered.own k i (omega arith) within e)) ∙ h.each k earlier
+  ];
+  none = λ n small none. noted.others n small (λ e. none i (omega arith) (sym e)) ∙ h.none n small (λ k below. none k (omega arith));
+}
+
+-- 3. A row changes, but for its number.
+
+module _ (rows : List Row) (p : ℕ) (within : p < length rows) (row : Row) (same : row.slot.number ≡ (slot_of_row rows p).number) where
+  slot-same : slot_of_row (set rows p row) p ≡ row.slot
+  slot-same = ap (λ (r : Row). r.slot) (get_or-set_same rows p row no_row within)
+
+  slot-other : (k : ℕ) → k ≢ p → slot_of_row (set rows p row) k ≡ slot_of_row rows k
+  slot-other k other = ap (λ (r : Row). r.slot) (get_or-set_other rows p k row no_row other)
+
+  number-set : (k : ℕ) → (slot_of_row (set rows p row) k).number ≡ (slot_of_row rows k).number
+  number-set k = elim (cases_eq k p) [
+    | inl is ↦ rw is (ap (λ (s : Slot). s.number) slot-same ∙ same)
+    | inr other ↦ ap (λ (s : Slot). s.number) (slot-other k other)
+  ]
+
+  numbered_set : AreNumbered rows → AreNumbered (set rows p row)
+  numbered_set h = record {
+    small = λ k inside. omega (arith, number-set k, h.small k (omega (arith, length-set rows p row)));
+    own = λ j k first second e. h.own j k (omega (arith, length-set rows p row)) (omega (arith, length-set rows p row)) (sym (number-set j) ∙ e ∙ number-set k);
+  }
+
+  -- its bit is noted
+  pub runners_set : (before after : ℕ) → HasRunners rows before → IsNoted before after row.slot → HasRunners (set rows p row) after
+  runners_set before after h noted = record {
+    numbered = numbered_set h.numbered;
+    bits = record {
+      each = λ k inside. elim (cases_eq k p) [
+        | inl is ↦ rw is (ap (λ (s : Slot). bit_at after s.number) slot-same ∙ noted.here ∙ sym (ap (λ (s : Slot). one_if (is_running s.state)) slot-same))
+        | inr other ↦
+            let old : k < length rows = omega (arith, inside, length-set rows p row) in
+            ap (λ (s : Slot). bit_at after s.number) (slot-other k other)
+            ∙ noted.others (slot_of_row rows k).number (h.numbered.small k old) (λ e. other (h.numbered.own k p old within (e ∙ same)))
+            ∙ h.bits.each k old
+            ∙ sym (ap (λ (s : Slot). one_if (is_running s.state)) (slot-other k other))
+      ];
+      none = λ n small none.
+          let inside : p < length (set rows p row) = omega (arith, length-set rows p row) in
+          noted.others n small (λ e. none p inside (number-set p ∙ sym same ∙ sym e)) ∙ h.bits.none n small (λ k old e. none k (omega (arith, length-set rows p row)) (number-set k ∙ e));
+    };
+  }
+
+  -- it runs where it ran
+  pub runners_kept : (runners : ℕ) → HasRunners rows runners → row.slot.state ≡ (slot_of_row rows p).state → HasRunners (set rows p row) runners
+  runners_kept runners h state = runners_set runners runners h (record {
+    here = ap (bit_at runners) same ∙ h.bits.each p within ∙ sym (ap (λ (st : SlotState). one_if (is_running st)) state);
+    others = λ n low other. refl;
+  })
+
+-- the slot that is taken from a place
+pub slot_there : (rows : List Row) (p : ℕ) → p < length rows → (row d : Row) → row ≡ get_or rows p d → row.slot ≡ slot_of_row rows p
+slot_there rows p within row d is = ap (λ (r : Row). r.slot) (is ∙ get_or_default rows p d no_row within)
+
+-- 4. What the bits tell.
 
 runs_where : (state : SlotState) → is_running state ≡ true → state ≡ Running
 runs_where Running e = refl
@@ -75,43 +123,60 @@ bit_set runners n is none = omega (arith, and_pow runners n, pow_pos n, ap (λ (
 bit_clear : (runners n : ℕ) → bit_at runners n ≡ 0 → IsBitSet runners n → ⊥
 bit_clear runners n is set = set (and_pow runners n ∙ ap (λ (b : ℕ). b * 2 ^ n) is ∙ omega arith)
 
-module _ (core : Core) (places : List ℕ) (sound : IsSound core places) where
-  -- a slot of a number stands at a place
-  placed : (n : ℕ) → n < 64 → (s : Slot) → slot_at core n ≡ Some s → (p : ℕ) × (p < length core.rows) × (slot_in core p ≡ s) × ((slot_in core p).number ≡ n)
-  unfolding slot_at
-  placed n small s is = elim (cases_lt (slice_index places n) (length core.rows)) [
-    | inl within ↦
-        let number = number_there core places sound.index n small within in
-        let found : ◌≡◌ {A = Option Slot} (Some (slot_in core (slice_index places n))) (Some s) = sym (slot_found core places sound.index (slice_index places n) within) ∙ ap (slot_at core) number ∙ is in
-        let same : slot_in core (slice_index places n) ≡ s = cc in
-        (slice_index places n, within, same, number)
-    | inr past ↦
-        let none : slot_at core n ≡ None = ap slot_of (row_missing core places sound.index n past) in
-        absurd (cc (none, is))
+abbrev HasNumber : List Row → ℕ → Type 0
+HasNumber rows n = (k : ℕ) × (k < length rows) × ((slot_of_row rows k).number ≡ n)
+
+abbrev HasNoNumber : List Row → ℕ → Type 0
+HasNoNumber rows n = (k : ℕ) → k < length rows → (slot_of_row rows k).number ≢ n
+
+has_number : (rows : List Row) (n : ℕ) → HasNumber rows n ⊎ HasNoNumber rows n
+has_number [] n = inr (λ k none. absurd (omega arith))
+has_number (row ∷ rows) n = elim (cases_eq row.slot.number n) as (λ _. HasNumber (row ∷ rows) n ⊎ HasNoNumber (row ∷ rows) n) [
+  | inl same ↦ inl (0, omega arith, same)
+  | inr other ↦ elim (has_number rows n) as (λ _. HasNumber (row ∷ rows) n ⊎ HasNoNumber (row ∷ rows) n) [
+    | inl at ↦ inl (suc at.0, let below = at.1 in omega arith, at.2)
+    | inr none ↦ inr (later other none)
   ]
+]
+  where
+    later : row.slot.number ≢ n → HasNoNumber rows n → HasNoNumber (row ∷ rows) n
+    later other none zero within = other
+    later other none (suc k) within = none k (omega arith)
 
-  pub runners_all : (i runners : ℕ) → length core.rows ≡ i → AreRunners core i runners → (n : ℕ) → n < 64 → IsBitSet runners n ↔ IsSomeAnd (slot_at core n) (λ s. s.state ≡ Running)
-  runners_all i runners all h n small = by (slot_at core n) refl
-    where
-      at_rest : (s : Slot) → slot_at core n ≡ Some s → is_running s.state ≡ false → RunsBelow core i n → ⊥
-      at_rest s is rests r =
-          let found = slot_found core places sound.index r.place (let below = r.below in omega arith) in
-          let same : ◌≡◌ {A = Option Slot} (Some (slot_in core r.place)) (Some s) = sym found ∙ ap (slot_at core) r.number ∙ is in
-          cc (r.runs, rests)
+pub runners_say : (core : Core) (runners : ℕ) → runners < 2 ^ 64 → HasRunners core.rows runners → (n : ℕ) → IsBitSet runners n ↔ IsSomeAnd (slot_at core n) (λ s. s.state ≡ Running)
+unfolding slot_at
+runners_say core runners fits h n = elim (has_number core.rows n) as (λ _. IsBitSet runners n ↔ IsSomeAnd (slot_at core n) (λ s. s.state ≡ Running)) [
+  | inl at ↦
+      let k = at.0 in
+      let s = slot_of_row core.rows k in
+      let found : slot_at core n ≡ Some s = ap slot_of (row_in-alone core.rows k n at.1 at.2 (λ j within e. h.numbered.own j k within at.1 (e ∙ sym at.2))) in
+      let bit : bit_at runners n ≡ one_if (is_running s.state) = ap (bit_at runners) (sym at.2) ∙ h.bits.each k at.1 in
+      rw found (runs (is_running s.state) s refl bit)
+  | inr none ↦
+      let missing : slot_at core n ≡ None = ap slot_of (row_in-none core.rows n none) in
+      let bit : bit_at runners n ≡ 0 = elim (cases_lt n 64) as (λ _. bit_at runners n ≡ 0) [
+        | inl low ↦ h.bits.none n low none
+        | inr high ↦ bit_at_above runners 64 n fits high
+      ] in
+      rw missing (λ set. absurd (bit_clear runners n bit set), λ some. absurd some)
+]
+  where
+    runs : (b : Bool) (s : Slot) → is_running s.state ≡ b → bit_at runners n ≡ one_if (is_running s.state) → IsBitSet runners n ↔ (s.state ≡ Running)
+    runs true s is bit = (λ _. runs_where s.state is, λ _. bit_set runners n (bit ∙ ap one_if is))
+    runs false s is bit = (λ set. absurd (bit_clear runners n (bit ∙ ap one_if is) set), λ same. absurd (cc (ap is_running same, is)))
 
-      running : (s : Slot) → slot_at core n ≡ Some s → (b : Bool) → is_running s.state ≡ b → IsBitSet runners n ↔ (s.state ≡ Running)
-      running s is true runs =
-          let at = placed n small s is in
-          let below : RunsBelow core i n = record { place = at.0; below = omega (arith, at.1); number = at.3; runs = ap (λ (x : Slot). is_running x.state) at.2 ∙ runs } in
-          (λ _. runs_where s.state runs, λ _. bit_set runners n (h.set n small below))
-      running s is false rests = (
-        λ set. absurd (bit_clear runners n (h.clear n small (at_rest s is rests)) set),
-        λ same. absurd (cc (ap is_running same, rests)),
-      )
+-- 5. No turn changes a slot's number.
 
-      by : (o : Option Slot) → slot_at core n ≡ o → IsBitSet runners n ↔ IsSomeAnd o (λ s. s.state ≡ Running)
-      by None none = (
-        λ set. absurd (bit_clear runners n (h.clear n small (λ r. cc (sym (slot_found core places sound.index r.place (let below = r.below in omega arith)) ∙ ap (slot_at core) r.number ∙ none))) set),
-        λ h. absurd h,
-      )
-      by (Some s) is = running s is (is_running s.state) refl
+pub after_number : (s : Slot) (c : Change) → (slot_after s c).number ≡ s.number
+after_number s c = let from = changed_from s c in from.number
+
+pub alone_number : (e : Effect) (old new : Slot) (told : Result (Option Pointer) Cause) → EndsAlone e old new told → new.number ≡ old.number
+alone_number (Does c) old new told h = ap (λ (s : Slot). s.number) h.slot ∙ after_number old c
+alone_number (Fault c) old new told h = ap (λ (s : Slot). s.number) h.slot
+alone_number Block old new told h = absurd h
+alone_number (Deliver other) old new told h = absurd h
+
+pub resumed_number : (how : How) (s : Slot) → (resumed_by how s).number ≡ s.number
+resumed_number Retry s = refl
+resumed_number Skip s = refl
+resumed_number Kill s = refl

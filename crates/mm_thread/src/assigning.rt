@@ -4,6 +4,7 @@ ghost use Rattle.std.specs.Prelude.{◌≡◌, ◌<◌, ◌≤◌, ◌++◌, [],
 ghost use Rattle.std.specs.List.{AllByRecursion};
 ghost use Rattle.mm_model.specs.Slot.{Slot as SlotValue};
 ghost use Rattle.mm_model.specs.State.{row_in, queue_at, put_queue};
+ghost use Rattle.mm_model.specs.Spelling.{numbers_of};
 ghost use Rattle.mm_model.specs.Fits.{slots_of};
 ghost use Rattle.mm_thread.specs.declared.output.Output.{Output as OutputValue};
 ghost use Rattle.mm_thread.specs.Places.{row_alone, numbers_in, IsIndex};
@@ -14,9 +15,10 @@ use crate::output::Output;
 use crate::tables::Tables;
 use mm_model::{Event, Slot};
 
-/// Puts these slots, without events, in the place of those that are there.
+/// Puts these slots, without events, in the place of those of their numbers.
 pub(crate) fn put_slots(tables: &mut Tables, slots: &[Slot])
-    requires { length slots.now ≡ length tables.old.rows }
+    requires length { length slots.now ≡ length tables.old.rows }
+    requires numbers { numbers_of slots.now ≡ numbers_in tables.old }
     ensures { tables.new ≡ record tables.old { rows = map row_alone slots.now } }
 {
     for i in 0..slots.len() {

@@ -1,26 +1,33 @@
-//! Which slots run.
+//! The running slots as bits, one for each slot's number.
 
-ghost use Rattle.std.specs.Prelude.{◌≡◌, ℕ, ◌<◌, ◌↔◌, IsSomeAnd};
-ghost use Rattle.std.specs.Int.{IsBitSet};
-ghost use Rattle.mm_model.specs.declared.slot.SlotState.TheVariants.{Running};
-ghost use Rattle.mm_model.specs.State.{slot_at};
-ghost use Rattle.mm_thread.specs.Places.{IsSound};
+ghost use Rattle.std.specs.Prelude.{◌≡◌, ◌<◌, length};
+ghost use Rattle.mm_thread.specs.Runners.{AreNumbered, HasRunners, IsNoted};
 
-use crate::fault::Places;
 use crate::item::is_running;
-use crate::tables::Tables;
+use crate::row::Row;
+use mm_model::Slot;
 
-/// The running slots: bit n is set exactly where slot n runs.
-pub(crate) fn runners_of(tables: &Tables, places: &Places) -> u64
-    requires { IsSound tables.now places.now }
-    ensures { (n : ℕ) → n < 64 → (IsBitSet result n ↔ IsSomeAnd (slot_at tables.now n) (λ s. s.state ≡ Running)) }
+/// The bits with that of the slot as the slot stands: set where it runs, and clear elsewhere.
+pub(crate) fn noted(runners: u64, slot: &Slot) -> u64
+    requires { slot.now.number < 64 }
+    ensures { IsNoted runners result slot.now }
 {
-    let mut runners: u64 = 0;
-    for i in 0..tables.len() {
-        let slot = tables.slot(i);
-        if is_running(slot) {
-            runners |= 1 << slot.number;
-        }
+    let bit = 1 << slot.number;
+    if is_running(slot) {
+        runners | bit
+    } else {
+        runners & !bit
+    }
+}
+
+/// The bits of rows.
+pub(crate) fn runners_of(rows: &[Row]) -> u64
+    requires { AreNumbered rows.now }
+    ensures { HasRunners rows.now result }
+{
+    let mut runners = 0;
+    for row in rows {
+        runners = noted(runners, &row.slot);
     }
     runners
 }

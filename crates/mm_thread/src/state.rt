@@ -19,7 +19,6 @@ use crate::fault::place_of;
 use crate::item::take_item;
 use crate::making::{no_outputs, places_of, rows_of};
 use crate::output::Output;
-use crate::runners::runners_of;
 use crate::tables::Tables;
 use mm_mem::Memory;
 use mm_model::{Event, Slot, Step};
@@ -127,9 +126,9 @@ impl Core {
 
     /// The running slots: bit n is set exactly where slot n runs.
     pub fn running(&self) -> u64
-        ensures { (n : ℕ) → n < 64 → (IsBitSet result n ↔ IsSomeAnd (slot_at self.now n) (λ s. s.state ≡ Running)) }
+        ensures { (n : ℕ) → IsBitSet result n ↔ IsSomeAnd (slot_at self.now n) (λ s. s.state ≡ Running) }
     {
-        runners_of(&self.tables, &self.places)
+        self.tables.running()
     }
 
     /// The events that the slot of a number has still to handle, oldest first.

@@ -1,15 +1,17 @@
-ghost use Rattle.std.specs.Prelude.{◌≡◌, ◌<◌, ◌≤◌, ◌^◌, ◌++◌, ◌&&◌, [], ◌∷◌, nat_lt, None, Some, Bool, true, false, length, drop, slice_set};
+ghost use Rattle.std.specs.Prelude.{◌≡◌, ◌↔◌, ℕ, IsSomeAnd, ◌<◌, ◌≤◌, ◌^◌, ◌++◌, ◌&&◌, [], ◌∷◌, nat_lt, None, Some, Bool, true, false, length, drop, slice_set};
 ghost use Rattle.std.specs.List.{AllByRecursion};
+ghost use Rattle.std.specs.Int.{IsBitSet};
 ghost use Rattle.mm_word.specs.declared.word.Word.TheVariants.{Int};
 ghost use Rattle.mm_model.specs.declared.slot.Pending.{Pending};
-ghost use Rattle.mm_model.specs.declared.slot.SlotState.TheVariants.{Taken};
+ghost use Rattle.mm_model.specs.declared.slot.SlotState.TheVariants.{Running, Taken};
 ghost use Rattle.mm_model.specs.Slot.{is_empty};
-ghost use Rattle.mm_model.specs.State.{output_of, put_output};
+ghost use Rattle.mm_model.specs.State.{slot_at, output_of, put_output};
 ghost use Rattle.mm_model.specs.Image.{output_limit};
 ghost use Rattle.mm_model.specs.Effect.{effect, plain, delivered, resumed_by};
 ghost use Rattle.mm_model.specs.Effect.Reply.{Fine};
 ghost use Rattle.mm_model.specs.Turn.{slot_after, stood};
 ghost use Rattle.mm_thread.specs.Ends.{EndsAlone, is_alone};
+ghost use Rattle.mm_thread.specs.Runners.{AreNumbered};
 ghost use Rattle.mm_thread.specs.Places.{row_alone, slot_in, queue_in, with_row, with_slot, with_queue_in, first_register, event_writes};
 
 use crate::alone::Entered;
@@ -17,6 +19,7 @@ use crate::carry_out::carry_out;
 use crate::group_output::GroupOutput;
 use crate::making::copy_of;
 use crate::row::Row;
+use crate::runners::{noted, runners_of};
 use crate::slot::{advance, deliver, issue, resume, set_register, sets, stand, take_event};
 use mm_isa::{EvtReg, How, Instr, Reg};
 use mm_model::{Event, Slot, SlotState};
@@ -27,6 +30,8 @@ use std::marker::Model;
 #[derive(Drop)]
 pub(crate) struct Tables {
     rows: Vec<Row>,
+    /// The running slots: bit n is set exactly where slot n runs.
+    runners: u64,
     outputs: Vec<GroupOutput>,
     version: u16,
     split: bool,
@@ -34,19 +39,25 @@ pub(crate) struct Tables {
 
 impl Model for Tables {
     ghost use Rattle.mm_model.specs.State.{Core};
+    ghost use Rattle.mm_thread.specs.Runners.{HasRunners};
 
     ghost Value = { Core };
 
     ghost view = { λ t. record { rows = t.rows.items; outputs = t.outputs.items; version = t.version; split = t.split } };
+
+    ghost invariant = { λ t. HasRunners t.rows.items t.runners };
 }
 
 impl Tables {
     /// Tables of these rows, of version 2 and not split.
     pub(crate) fn new(rows: Vec<Row>, outputs: Vec<GroupOutput>) -> Tables
+        requires { AreNumbered rows.items }
         ensures { result ≡ record { rows = rows.items; outputs = outputs.items; version = 2; split = false } }
     {
+        let runners = runners_of(&rows);
         Tables {
             rows,
+            runners,
             outputs,
             version: 2,
             split: false,
@@ -82,6 +93,13 @@ impl Tables {
     {
         let row = &self.rows[place];
         &row.slot
+    }
+
+    /// The running slots: bit n is set exactly where slot n runs.
+    pub(crate) fn running(&self) -> u64
+        ensures { (n : ℕ) → IsBitSet result n ↔ IsSomeAnd (slot_at self.now n) (λ s. s.state ≡ Running) }
+    {
+        self.runners
     }
 
     /// The events that the slot at a place has still to handle.
@@ -144,6 +162,7 @@ impl Tables {
         let row = &mut self.rows[place];
         let slot = &mut row.slot;
         stand(slot, state);
+        self.runners = noted(self.runners, slot);
     }
 
     /// The slot goes on to its next instruction.
@@ -155,6 +174,7 @@ impl Tables {
         let row = &mut self.rows[place];
         let slot = &mut row.slot;
         advance(slot);
+        self.runners = noted(self.runners, slot);
     }
 
     /// The same, and a register gets a word.
@@ -166,6 +186,7 @@ impl Tables {
         let row = &mut self.rows[place];
         let slot = &mut row.slot;
         sets(slot, rd, word);
+        self.runners = noted(self.runners, slot);
     }
 
     /// The same, where the word arrives later.
@@ -178,6 +199,7 @@ impl Tables {
         let row = &mut self.rows[place];
         let slot = &mut row.slot;
         issue(slot, rd, word);
+        self.runners = noted(self.runners, slot);
     }
 
     /// The slot carries out an instruction that concerns it alone.
@@ -190,7 +212,9 @@ impl Tables {
     {
         let row = &mut self.rows[place];
         let slot = &mut row.slot;
-        carry_out(slot, instr)
+        let entered = carry_out(slot, instr);
+        self.runners = noted(self.runners, slot);
+        entered
     }
 
     /// The words of an event go to four registers, and the slot goes on.
@@ -202,6 +226,7 @@ impl Tables {
         let row = &mut self.rows[place];
         let slot = &mut row.slot;
         take_event(slot, rd, event);
+        self.runners = noted(self.runners, slot);
     }
 
     /// The slot's oldest pending load is delivered. Tells its register.
@@ -224,6 +249,7 @@ impl Tables {
         let row = &mut self.rows[place];
         let slot = &mut row.slot;
         resume(slot, how);
+        self.runners = noted(self.runners, slot);
     }
 
     /// The slot's handler has read its event.
@@ -234,6 +260,7 @@ impl Tables {
         let row = &mut self.rows[place];
         let slot = &mut row.slot;
         slot.state = SlotState::Taken;
+        self.runners = noted(self.runners, slot);
     }
 
     /// The slot's handler writes one of its registers.
@@ -282,12 +309,14 @@ impl Tables {
 
     /// Puts a slot without events at a place.
     pub(crate) fn set_row(&mut self, place: usize, slot: &Slot)
-        requires { place < length self.old.rows }
+        requires place { place < length self.old.rows }
+        requires number { slot.now.number ≡ (slot_in self.old place).number }
         ensures { self.new ≡ with_row self.old place (row_alone slot.now) }
     {
         let row = &mut self.rows[place];
         row.slot = copy_of(slot);
         row.queue.clear();
+        self.runners = noted(self.runners, &row.slot);
     }
 
     /// Makes these bytes the output of a group.

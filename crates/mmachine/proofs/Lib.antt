@@ -4,3 +4,9 @@ pub mod Refusals
 pub mod Rounds
 pub mod Running
 pub mod Reported
+pub mod Headlines
+pub mod TracedRuns
+pub mod GroupWords
+pub mod OwnItems
+pub mod WordsBehind
+pub mod Extracting

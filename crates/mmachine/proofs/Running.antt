@@ -1,10 +1,9 @@
 -- The running slots of a machine, as bits of a mask.
-use Rattle.std.proofs.Common.{◌≡◌, ◌≢◌, ◌↔◌, ℕ, zero, suc, ◌*◌, ◌<◌, ◌≤◌, ◌^◌, inl, inr, true, false, Option, None, Some, bit_and, refl, ap, ◌∙◌, arith}
+use Rattle.std.proofs.Common.{◌≡◌, ◌≢◌, ◌↔◌, ℕ, zero, suc, ◌*◌, ◌<◌, ◌^◌, true, false, Option, None, Some, bit_and, refl, ap, ◌∙◌, arith}
 use Rattle.std.proofs.Props.{props}
 use Rattle.std.proofs.Math.Logic.{∥∥₁_elim}
-use Rattle.std.proofs.lemmas.Bool.{cases_lt}
 use Rattle.std.proofs.lemmas.Nat.{pow_pos}
-use Rattle.std.proofs.lemmas.Nat.Bits.{and_pow, bit_at-lt, bit_at_above}
+use Rattle.std.proofs.lemmas.Nat.Bits.{and_pow, bit_at-lt}
 use Rattle.std.specs.Option.{IsSomeAnd}
 use Rattle.std.specs.Int.{bit_at, IsBitSet}
 use Rattle.mm_model.specs.declared.slot.SlotState.{SlotState}
@@ -12,10 +11,8 @@ use Rattle.mm_model.specs.declared.slot.SlotState.TheVariants.{Running, Waiting,
 use Rattle.mm_model.specs.Slot.{Slot}
 use Rattle.mm_model.specs.State.{State, slot_at}
 use Rattle.mm_model.specs.Turn.{is_running}
-use Rattle.mm_model.specs.Fits.{IsSlot}
 use Rattle.mm_model.specs.Run.{next_running}
 use Rattle.mm_machine.specs.Kept.{Kept}
-use Rattle.mm_model.proofs.CoreRows.{slot_at-number, slot_has, slot_limit-few}
 use Rattle.mm_sched.specs.Shown.{runs, Shows}
 use Rattle.mm_sched.specs.Following.{IsNext}
 use Rattle.mm_sched.proofs.Rounds.{next_shown, none_shown}
@@ -46,44 +43,28 @@ set_means masked (suc bit) place lt some is =
 bit_means : (mask n : ℕ) → IsBitSet mask n ↔ (bit_at mask n ≡ 1)
 bit_means mask n = set_means (bit_and mask (2 ^ n)) (bit_at mask n) (2 ^ n) (bit_at-lt mask n) (pow_pos n) (and_pow mask n)
 
--- 3. The mask of a machine shows its running slots, for no slot has a number of 64 or more.
-
-few_numbers : (s : State) (n : ℕ) (slot : Slot) → Kept s → slot_at s.core n ≡ Some slot → n < 64
-few_numbers s n slot kept found =
-    let one : IsSlot s.core.version s.core.split slot = slot_has (IsSlot s.core.version s.core.split) s.core n slot kept.fits.core.slots found in
-    omega (arith, one.number, slot_limit-few s.core.version, slot_at-number s.core n slot found)
+-- 3. The mask of a machine shows its running slots.
 
 abbrev pub Masks : State → ℕ → Type 0
-Masks s mask = (n : ℕ) → n < 64 → IsBitSet mask n ↔ IsSomeAnd (slot_at s.core n) (λ (slot : Slot). slot.state ≡ Running)
+Masks s mask = (n : ℕ) → IsBitSet mask n ↔ IsSomeAnd (slot_at s.core n) (λ (slot : Slot). slot.state ≡ Running)
 
-runs_nowhere : (s : State) (n : ℕ) → Kept s → 64 ≤ n → (found : Option Slot) → slot_at s.core n ≡ found → runs found ≡ true → ⊥
-runs_nowhere s n kept high None is holds = cc
-runs_nowhere s n kept high (Some slot) is holds = let low : n < 64 = few_numbers s n slot kept is in omega arith
-
-shows : (s : State) (mask : ℕ) → Kept s → mask < 2 ^ 64 → Masks s mask → Shows s.core mask
-shows s mask kept fits masks = record {
-  each = λ n. elim (cases_lt n 64) [
-    | inl low ↦
-        let bit = bit_means mask n in
-        let slot = runs_means (slot_at s.core n) in
-        (λ one. slot.0 ((masks n low).0 (bit.1 one)), λ holds. bit.0 ((masks n low).1 (slot.1 holds)))
-    | inr high ↦ (
-      λ one. let none : bit_at mask n ≡ 0 = bit_at_above mask 64 n fits high in absurd (omega arith),
-      λ holds. absurd (runs_nowhere s n kept high (slot_at s.core n) refl holds),
-    )
-  ];
+shows : (s : State) (mask : ℕ) → Masks s mask → Shows s.core mask
+shows s mask masks = record {
+  each = λ n.
+      let bit = bit_means mask n in
+      let slot = runs_means (slot_at s.core n) in
+      (λ one. slot.0 ((masks n).0 (bit.1 one)), λ holds. bit.0 ((masks n).1 (slot.1 holds)));
 }
 
 -- 4. What comes next in the mask is the next running slot, and where no bit is set none runs.
 
-pub next_is : (s : State) (mask : ℕ) (last : Option ℕ) (n : ℕ) → ∥ Kept s ∥₁ → mask < 2 ^ 64 → Masks s mask → IsNext mask last n
-    → next_running s.core.rows last ≡ Some n
-next_is s mask last n kept fits masks next =
-    ∥∥₁_elim kept (hlevel props) (λ k. next_shown s.core mask last n k.fits.core.rising (shows s mask k fits masks) next)
+pub next_is : (s : State) (mask : ℕ) (last : Option ℕ) (n : ℕ) → ∥ Kept s ∥₁ → Masks s mask → IsNext mask last n → next_running s.core.rows last ≡ Some n
+next_is s mask last n kept masks next =
+    ∥∥₁_elim kept (hlevel props) (λ k. next_shown s.core mask last n k.fits.core.rising (shows s mask masks) next)
 
-pub none_is : (s : State) (mask : ℕ) (last : Option ℕ) → ∥ Kept s ∥₁ → mask < 2 ^ 64 → Masks s mask → mask ≡ 0 → next_running s.core.rows last ≡ None
-none_is s mask last kept fits masks none =
-    ∥∥₁_elim kept (hlevel props) (λ k. none_shown s.core mask last k.fits.core.rising (shows s mask k fits masks) none)
+pub none_is : (s : State) (mask : ℕ) (last : Option ℕ) → ∥ Kept s ∥₁ → Masks s mask → mask ≡ 0 → next_running s.core.rows last ≡ None
+none_is s mask last kept masks none =
+    ∥∥₁_elim kept (hlevel props) (λ k. none_shown s.core mask last k.fits.core.rising (shows s mask masks) none)
 
 pub zero_of : (n : ℕ) → (n ≢ 0 → false ≡ true) → n ≡ 0
 zero_of zero none = refl

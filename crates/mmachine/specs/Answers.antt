@@ -1,25 +1,33 @@
 -- What a call answers, and why.
-use Rattle.std.specs.Prelude.{◌≡◌, ◌⊎◌, ℕ, List, [], ◌++◌, Option, None, Some, Result, Ok, Err, codes, decimal, ⊤}
+use Rattle.std.specs.Prelude.{◌≡◌, ◌⊎◌, ℕ, Bool, List, [], ◌++◌, Option, None, Some, Result, Ok, Err, codes, decimal, ⊤}
 use Rattle.std.specs.Io.KnownBytes.{append_known}
 use Rattle.mm_io.specs.declared.read.ReadError.{ReadError}
 use Rattle.mm_io.specs.declared.read.ReadError.TheVariants as error
 use Rattle.mm_io.specs.Files.{Rose}
 use Rattle.mm_io.specs.Sinks.{TookPart}
 use Rattle.mm_image.specs.Faults.{number_of}
+use Rattle.mm_audit.specs.declared.extracting.ExtractError.{ExtractError}
+use Rattle.mm_audit.specs.declared.extracting.ExtractError.TheVariants as extracting
 use Rattle.mm_model.specs.declared.counts.Counts.{Counts}
 use Rattle.mm_model.specs.Uses.{Use}
 use Rattle.mm_model.specs.Image as model
 use Rattle.mm_model.specs.Run as machine
-use Rattle.mm_model.specs.Schedule.{first_items}
+use Rattle.mm_model.specs.Trace as lines
+use Rattle.mm_model.specs.Schedule.{first_items, only}
+use Rattle.mm_model.specs.Worlds.{Extracts, alone}
+use Rattle.mm_model.specs.Spelling.{Spells}
+use Rattle.mm_model.specs.Audit.{IsAudit}
 use Rattle.mm_model.specs.Report.{report}
 use Rattle.mmachine.specs.declared.status.Refusal.{Refusal}
-use Rattle.mmachine.specs.declared.status.Refusal.TheVariants.{TooLong, Image, Schedule}
+use Rattle.mmachine.specs.declared.status.Refusal.TheVariants.{TooLong, Image, Schedule, NoGroup, Crosses}
 use Rattle.mmachine.specs.declared.status.Status.{Status}
 use Rattle.mmachine.specs.declared.status.Status.TheVariants.{Done, Usage, Refused, ReadFault, WriteFault, NoMemory}
 use Rattle.mmachine.specs.declared.status.Stop.{Stop}
 use Rattle.mmachine.specs.declared.status.Stop.TheVariants as stop
-use Rattle.mmachine.specs.Table.{Row, run, Asks, InNoRow}
-use Rattle.mmachine.specs.Files.{ImageAccepted, ScheduleAccepted, FilesRefused, FilesTold, FilesFailed}
+use Rattle.mmachine.specs.Table.{Row, run, trace, solo, grants, extract, Asks, InNoRow}
+use Rattle.mm_audit.specs.Refusals.{StandAlone}
+use Rattle.mmachine.specs.Groups.{among, GroupsRefused}
+use Rattle.mmachine.specs.Files.{ImageAccepted, ScheduleAccepted, IsScheduleAccepted, FilesRefused, FilesTold, FilesFailed}
 
 -- 1. What words come to.
 
@@ -37,11 +45,51 @@ Issues held i cycles (Some schedule) items = (list : List ℕ) × ScheduleAccept
 abbrev pub report_after : (List Use → Option Counts) → model.Image → List ℕ → List ℕ
 report_after tells i items = report (machine.run (model.start i) items) i (tells (machine.uses (model.start i) items))
 
+-- The groups' own part of what is issued to an image under a list: the image without the slots of other groups, and the items of
+-- the list's first so many that are theirs. They have a slot, and none of theirs has its handler outside.
+pub record IsOwn (held : List ℕ → Option (List ℕ)) (image : List ℕ) (c : ℕ → Bool) (cycles : ℕ) (schedule : List ℕ) (own : model.Image) (items : List ℕ) : Type 0 where
+  pub whole : model.Image
+  pub list : List ℕ
+  pub accepted : ImageAccepted (held image) whole
+  pub schedule_accepted : ScheduleAccepted (held schedule) list
+  pub stand : StandAlone whole c
+  pub own_is : own ≡ alone whole c
+  pub items_are : items ≡ only whole (first_items list cycles) c
+
+-- one of the files is refused or, where both are accepted, the groups are
+abbrev pub OwnRefused : (List ℕ → Option (List ℕ)) → (image : List ℕ) → (ℕ → Bool) → (schedule : List ℕ) → Refusal → Type 0
+OwnRefused held image c schedule r =
+    FilesRefused held image (Some schedule) r
+    ⊎ ((i : model.Image) × ImageAccepted (held image) i × IsScheduleAccepted (held schedule) × GroupsRefused i c r)
+
+-- the text is the one spelling of the groups' own image: their slots, and what they can touch
+pub record IsExtract (held : List ℕ → Option (List ℕ)) (image : List ℕ) (c : ℕ → Bool) (text : List ℕ) : Type 0 where
+  pub whole : model.Image
+  pub own : model.Image
+  pub accepted : ImageAccepted (held image) whole
+  pub stand : StandAlone whole c
+  pub extracts : Extracts whole c own
+  pub spelled : Spells text own
+
+-- the image is refused or, where it is accepted, the groups are
+abbrev pub ExtractRefused : (List ℕ → Option (List ℕ)) → (image : List ℕ) → (ℕ → Bool) → Refusal → Type 0
+ExtractRefused held image c r = FilesRefused held image None r ⊎ ((i : model.Image) × ImageAccepted (held image) i × GroupsRefused i c r)
+
 -- what a row comes to, by what the files hold as far as that is told, and by what the memory tells of uses
 abbrev pub Gives : (List Use → Option Counts) → (List ℕ → Option (List ℕ)) → Row → Outcome → Type 0
 Gives tells held (run image cycles schedule) (refuse r) = FilesRefused held image schedule r
 Gives tells held (run image cycles schedule) (write text) = (i : model.Image) × (items : List ℕ) × ImageAccepted (held image) i
     × Issues held i cycles schedule items × (text ≡ report_after tells i items)
+Gives tells held (trace image cycles schedule) (refuse r) = FilesRefused held image schedule r
+Gives tells held (trace image cycles schedule) (write text) = (i : model.Image) × (items : List ℕ) × ImageAccepted (held image) i
+    × Issues held i cycles schedule items × (text ≡ lines.trace (model.start i) items ++ report_after tells i items)
+Gives tells held (solo image groups cycles schedule) (refuse r) = OwnRefused held image (among groups) schedule r
+Gives tells held (solo image groups cycles schedule) (write text) = (own : model.Image) × (items : List ℕ)
+    × IsOwn held image (among groups) cycles schedule own items × (text ≡ report_after tells own items)
+Gives tells held (grants image groups) (refuse r) = FilesRefused held image None r
+Gives tells held (grants image groups) (write text) = (i : model.Image) × ImageAccepted (held image) i × IsAudit i groups text
+Gives tells held (extract image groups) (refuse r) = ExtractRefused held image (among groups) r
+Gives tells held (extract image groups) (write text) = IsExtract held image (among groups) text
 
 -- what words come to
 abbrev pub ComesTo : (List Use → Option Counts) → (List ℕ → Option (List ℕ)) → List (List ℕ) → Outcome → Type 0
@@ -52,6 +100,10 @@ ComesTo tells held words outcome = (row : Row) × Asks words row × Gives tells 
 -- The count of one of the row's file names rose, or stands at its last value, and each file before it was accepted.
 abbrev pub FileFailed : (List ℕ → Option (List ℕ)) → (before now : List ℕ → ℕ) → Row → Type 0
 FileFailed held before now (run image cycles schedule) = FilesFailed held before now image schedule
+FileFailed held before now (trace image cycles schedule) = FilesFailed held before now image schedule
+FileFailed held before now (solo image groups cycles schedule) = FilesFailed held before now image (Some schedule)
+FileFailed held before now (grants image groups) = FilesFailed held before now image None
+FileFailed held before now (extract image groups) = FilesFailed held before now image None
 
 -- the same of the words
 abbrev pub ReadFailed : (List ℕ → Option (List ℕ)) → (before now : List ℕ → ℕ) → List (List ℕ) → Type 0
@@ -71,6 +123,8 @@ line_of (Refused (TooLong file)) = codes "mmachine: file " ++ decimal file ++ co
 line_of (Refused (Image file fault offset)) =
     codes "mmachine: file " ++ decimal file ++ codes " image fault " ++ decimal (number_of fault) ++ codes " at " ++ decimal offset ++ codes "\n"
 line_of (Refused (Schedule file offset)) = codes "mmachine: file " ++ decimal file ++ codes " schedule fault at " ++ decimal offset ++ codes "\n"
+line_of (Refused NoGroup) = codes "mmachine: no group\n"
+line_of (Refused (Crosses slot)) = codes "mmachine: crosses slot " ++ decimal slot ++ codes "\n"
 line_of ReadFault = codes "mmachine: read fault\n"
 line_of WriteFault = codes "mmachine: write fault\n"
 line_of NoMemory = codes "mmachine: out of memory\n"
@@ -83,6 +137,10 @@ pub record TookLine (old new : Option (List ℕ)) (before now : ℕ) (line : Lis
 -- the files of a row are told
 abbrev pub AllTold : (List ℕ → Option (List ℕ)) → Row → Type 0
 AllTold held (run image cycles schedule) = FilesTold held image schedule
+AllTold held (trace image cycles schedule) = FilesTold held image schedule
+AllTold held (solo image groups cycles schedule) = FilesTold held image (Some schedule)
+AllTold held (grants image groups) = FilesTold held image None
+AllTold held (extract image groups) = FilesTold held image None
 
 -- What completeness asks: the words are in a row, its files are told and come to a text, and no count that the row
 -- depends on rose or stands at its last value.
@@ -150,3 +208,9 @@ abbrev pub stop_of_error : ReadError → ℕ → Stop
 stop_of_error error.ReadFault file = stop.ReadFault
 stop_of_error error.TooLong file = stop.Refused (TooLong file)
 stop_of_error error.NoMemory file = stop.NoMemory
+
+-- and where groups cannot be extracted
+abbrev pub stop_of_extract : ExtractError → Stop
+stop_of_extract extracting.NoGroup = stop.Refused NoGroup
+stop_of_extract (extracting.Crosses slot) = stop.Refused (Crosses slot)
+stop_of_extract extracting.NoMemory = stop.NoMemory

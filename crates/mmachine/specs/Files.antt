@@ -25,6 +25,8 @@ ImageRefused told (refusal.TooLong file) = (file ≡ 1) × IsLonger told image_l
 ImageRefused told (refusal.Image file fault offset) =
     (file ≡ 1) × ((bytes : List ℕ) × Holds told bytes × (length bytes ≤ image_limit) × (image_fault bytes ≡ Some (number_of fault, offset)))
 ImageRefused told (refusal.Schedule file offset) = ⊥
+ImageRefused told refusal.NoGroup = ⊥
+ImageRefused told (refusal.Crosses slot) = ⊥
 
 -- It is accepted, and this is the image that it spells.
 abbrev pub ImageAccepted : Option (List ℕ) → Image → Type 0
@@ -41,10 +43,15 @@ ScheduleRefused told (refusal.TooLong file) = (file ≡ 2) × IsLonger told sche
 ScheduleRefused told (refusal.Image file fault offset) = ⊥
 ScheduleRefused told (refusal.Schedule file offset) =
     (file ≡ 2) × ((bytes : List ℕ) × Holds told bytes × (length bytes ≤ schedule_limit) × FaultsAt bytes offset)
+ScheduleRefused told refusal.NoGroup = ⊥
+ScheduleRefused told (refusal.Crosses slot) = ⊥
 
 -- It is accepted, and this is the list that it means.
 abbrev pub ScheduleAccepted : Option (List ℕ) → List ℕ → Type 0
 ScheduleAccepted told list = (bytes : List ℕ) × Holds told bytes × (length bytes ≤ schedule_limit) × Means bytes list
+
+abbrev pub IsScheduleAccepted : Option (List ℕ) → Type 0
+IsScheduleAccepted told = (list : List ℕ) × ScheduleAccepted told list
 
 -- 3. An image file and perhaps a schedule file. Each is read and parsed before the next.
 

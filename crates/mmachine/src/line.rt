@@ -49,6 +49,15 @@ fn write_refusal<D: Sink>(refusal: Refusal, diag: &mut D) -> Result<(), WriteFau
                 Piece::Text("\n"),
             ],
         ),
+        Refusal::NoGroup => write_all(diag, b"mmachine: no group\n"),
+        Refusal::Crosses { slot } => write_pieces(
+            diag,
+            &[
+                Piece::Text("mmachine: crosses slot "),
+                Piece::Decimal(slot as u64),
+                Piece::Text("\n"),
+            ],
+        ),
         Refusal::Schedule { file, offset } => write_pieces(
             diag,
             &[

@@ -4,14 +4,15 @@ ghost use Rattle.std.specs.Option.{option_map};
 ghost use Rattle.mm_io.specs.Files.{Rose, NoneFell};
 ghost use Rattle.mm_machine.specs.Machine.{StandsFor};
 ghost use Rattle.mmachine.specs.Answers.{Stops, stop_of_error};
-ghost use Rattle.mmachine.specs.Files.{ImageAccepted, ImageRefused, ScheduleAccepted, ScheduleRefused};
+ghost use Rattle.mmachine.specs.Files.{ImageAccepted, ImageRefused, ScheduleAccepted, ScheduleRefused, FilesRefused, FilesFailed};
+ghost use Rattle.mmachine.specs.Orders.{IsOrder};
 
 use crate::status::{Refusal, Stop};
 use mm_image::{Image, ImageError};
 use mm_io::{Files, ReadError, read_all};
 use mm_machine::Machine;
 use mm_mem::Boot;
-use mm_sched::{SchedError, Schedule};
+use mm_sched::{Order, SchedError, Schedule};
 use mm_word::NoMemory;
 use std::alloc::Global;
 
@@ -71,6 +72,26 @@ fn stop_of(error: ReadError, file: u8) -> Stop
         ReadError::TooLong => Stop::Refused(Refusal::TooLong { file }),
         ReadError::NoMemory => Stop::NoMemory,
     }
+}
+
+/// Reads and parses the image file and then, where there is one, the schedule file.
+pub fn load_files<F: Files>(
+    alloc: Global,
+    files: &mut F,
+    image: &str,
+    schedule: Option<&str>,
+) -> Result<(Image, Order), Stop>
+    ensures image { IfOk result (λ both. ImageAccepted (F.held files.old image.now) both.0) }
+    ensures order { IfOk result (λ both. IsOrder (F.held files.old) (option_map (λ name. name.now) schedule.entry) both.1) }
+    ensures stop { IfErr result (Stops (FilesRefused (F.held files.old) image.now (option_map (λ name. name.now) schedule.entry))
+        (FilesFailed (F.held files.old) (F.faults files.old) (F.faults files.new) image.now (option_map (λ name. name.now) schedule.entry))) }
+{
+    let image = load_image(alloc, files, image)?;
+    let order = match schedule {
+        None => Order::Robin,
+        Some(name) => Order::List(load_schedule(alloc, files, name)?),
+    };
+    Ok((image, order))
 }
 
 /// The machine of an image at its start.

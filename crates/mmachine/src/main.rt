@@ -8,13 +8,20 @@ ghost use Rattle.std.specs.Prelude.{◌≡◌};
 ghost use Rattle.mmachine.specs.Exit.{exit_code};
 
 mod cycles;
+mod extract;
+mod grants;
+mod group_list;
 mod line;
 mod load;
+mod members;
 mod run;
+mod solo;
 mod status;
 #[cfg(test)]
 mod tests;
 mod top;
+mod trace;
+mod traced;
 mod words;
 
 use crate::status::Status;

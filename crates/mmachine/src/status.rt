@@ -1,7 +1,9 @@
 // What a call answers.
 ghost use Rattle.std.specs.Prelude.{◌≡◌};
 ghost use Rattle.mmachine.specs.declared.status.Stop.TheVariants as stop;
+ghost use Rattle.mmachine.specs.Answers.{stop_of_extract};
 
+use mm_audit::ExtractError;
 use mm_image::ImageFault;
 use mm_io::WriteFault;
 use mm_word::NoMemory;
@@ -23,6 +25,12 @@ pub enum Refusal {
     Schedule {
         file: u8,
         offset: u64,
+    },
+    /// No slot of the image is of one of the groups.
+    NoGroup,
+    /// A slot of one of the groups, the least such, has its handler in another group.
+    Crosses {
+        slot: u8,
     },
 }
 
@@ -56,6 +64,18 @@ impl From<WriteFault> for Stop {
 
     fn from(_: WriteFault) -> Self {
         Stop::WriteFault
+    }
+}
+
+impl From<ExtractError> for Stop {
+    ghost from_gives = { λ error e. e ≡ stop_of_extract error };
+
+    fn from(error: ExtractError) -> Self {
+        match error {
+            ExtractError::NoGroup => Stop::Refused(Refusal::NoGroup),
+            ExtractError::Crosses { slot } => Stop::Refused(Refusal::Crosses { slot }),
+            ExtractError::NoMemory => Stop::NoMemory,
+        }
     }
 }
 

@@ -14,6 +14,25 @@ const HELLO: &[u8] =
 const UNDER_A_SCHEDULE: &[u8] =
     b"cycles 3\ngroup 0 output 1\no 41\nslot 0 turns 2 running ip p3300000000100010\nr 1 i0000000000000041\n";
 
+// Two cycles of round robin, each with its line.
+const TWO_CYCLES: &[u8] =
+    b"t 0 1 did fetch 00000000100000\nt 0 2 did fetch 00000000100008\ncycles 2\ngroup 0 output 1\no 41\nslot 0 turns 2 running ip p3300000000100010\nr 1 i0000000000000041\n";
+
+// The turns of the two slots of `pair`.
+const TURNS: &str = "0*3 1 0 1*2";
+
+const TRACE_OF_TWO: &[u8] =
+    b"t 0 1 did fetch 00000000100000\nt 0 2 did fetch 00000000100008\nt 0 3 did fetch 00000000100000\nt 1 1 did fetch 00000000100000\nt 0 4 did fetch 00000000100008\nt 1 2 did fetch 00000000100008\nt 1 3 did fetch 00000000100000\ncycles 7\ngroup 0 output 2\no 4141\nslot 0 turns 4 running ip p3300000000100000\nr 1 i0000000000000041\ngroup 1 output 2\no 4242\nslot 1 turns 3 running ip p3300000000100008\nr 1 i0000000000000042\n";
+
+const ALONE_0: &[u8] =
+    b"cycles 4\ngroup 0 output 2\no 4141\nslot 0 turns 4 running ip p3300000000100000\nr 1 i0000000000000041\n";
+
+const ALONE_1: &[u8] =
+    b"cycles 3\ngroup 1 output 2\no 4242\nslot 1 turns 3 running ip p3300000000100008\nr 1 i0000000000000042\n";
+
+const BOTH: &[u8] =
+    b"cycles 7\ngroup 0 output 2\no 4141\nslot 0 turns 4 running ip p3300000000100000\nr 1 i0000000000000041\ngroup 1 output 2\no 4242\nslot 1 turns 3 running ip p3300000000100008\nr 1 i0000000000000042\n";
+
 /// The image of `examples/hello.img`.
 fn hello(rt: &HostRuntime) -> Result<Vec<u8>, Fail> {
     let mut bytes = Vec::from_slice(
@@ -30,6 +49,28 @@ fn hello(rt: &HostRuntime) -> Result<Vec<u8>, Fail> {
     bytes.extend_from_slice(&[0xff; 64])?;
     bytes.extend_from_slice(&0x0210_0000_0000_0041_u64.to_be_bytes())?;
     bytes.extend_from_slice(&0x0701_0000_0000_0000_u64.to_be_bytes())?;
+    bytes.extend_from_slice(&[0; 4080])?;
+    Ok(bytes)
+}
+
+/// Two slots of two groups, which put out a byte of their own again and again. The first has this handler.
+fn pair(rt: &HostRuntime, handler: u8) -> Result<Vec<u8>, Fail> {
+    let mut bytes = Vec::from_slice(
+        rt.alloc(),
+        b"MMI1\x00\x01\x00\x02\x00\x01\x00\x01\x00\x00\x00\x00",
+    )?;
+    for (number, handler, byte) in [(0, handler, 0x41), (1, 0xff, 0x42)] {
+        bytes.extend_from_slice(&[number, number, handler, 0])?;
+        bytes.extend_from_slice(&0x3300_0000_0010_0000_u64.to_be_bytes())?;
+        bytes.extend_from_slice(&[0; 17])?;
+        bytes.push(byte)?;
+        bytes.extend_from_slice(&[0; 112])?;
+    }
+    bytes.extend_from_slice(&0x100_u64.to_be_bytes())?;
+    bytes.extend_from_slice(&[0; 64])?;
+    bytes.extend_from_slice(&[0xff; 64])?;
+    bytes.extend_from_slice(&0x0701_0000_0000_0000_u64.to_be_bytes())?;
+    bytes.extend_from_slice(&0x4000_0000_ffff_ffff_u64.to_be_bytes())?;
     bytes.extend_from_slice(&[0; 4080])?;
     Ok(bytes)
 }
@@ -88,11 +129,117 @@ fn runs(rt: HostRuntime) -> Result<(), Fail> {
     Ok(())
 }
 
+// The lines of two slots that take turns, and then the report.
+#[test]
+fn traces(rt: HostRuntime) -> Result<(), Fail> {
+    let held = files(&rt, pair(&rt, 0xff)?, TURNS, 4096)?;
+    let (status, out, diag) = answer(&rt, &["trace", "IMAGE", "100", "SCHEDULE"], held)?;
+    assert_eq!(rt; status, Status::Done);
+    assert_eq!(rt; out.taken(), TRACE_OF_TWO);
+    assert_eq!(rt; diag.taken().len(), 0);
+    let held = files(&rt, hello(&rt)?, "", 4096)?;
+    let (status, out, _) = answer(&rt, &["trace", "IMAGE", "2"], held)?;
+    assert_eq!(rt; status, Status::Done);
+    assert_eq!(rt; out.taken(), TWO_CYCLES);
+    Ok(())
+}
+
+// Each of two slots alone, under its own items.
+#[test]
+fn solos(rt: HostRuntime) -> Result<(), Fail> {
+    for (groups, alone) in [("0", ALONE_0), ("1", ALONE_1), ("0,1", BOTH)] {
+        let held = files(&rt, pair(&rt, 0xff)?, TURNS, 4096)?;
+        let (status, out, diag) = answer(&rt, &["solo", "IMAGE", groups, "100", "SCHEDULE"], held)?;
+        assert_eq!(rt; status, Status::Done);
+        assert_eq!(rt; out.taken(), alone);
+        assert_eq!(rt; diag.taken().len(), 0);
+    }
+    // The first four items, and then those of the groups.
+    let held = files(&rt, pair(&rt, 0xff)?, TURNS, 4096)?;
+    let (_, out, _) = answer(&rt, &["solo", "IMAGE", "1", "4", "SCHEDULE"], held)?;
+    assert_eq!(rt; out.taken().starts_with(b"cycles 1\n"), true);
+    Ok(())
+}
+
+// Groups that have no slot, and a slot whose handler is of another group.
+#[test]
+fn refused_groups(rt: HostRuntime) -> Result<(), Fail> {
+    let rows: [(&str, Status, &str); 3] = [
+        (
+            "2,63",
+            Status::Refused(Refusal::NoGroup),
+            "mmachine: no group\n",
+        ),
+        (
+            "0",
+            Status::Refused(Refusal::Crosses { slot: 0 }),
+            "mmachine: crosses slot 0\n",
+        ),
+        ("1", Status::Done, ""),
+    ];
+    for (groups, status, line) in rows {
+        let held = files(&rt, pair(&rt, 1)?, TURNS, 4096)?;
+        let (answered, _, diag) = answer(&rt, &["solo", "IMAGE", groups, "5", "SCHEDULE"], held)?;
+        assert_eq!(rt; answered, status);
+        assert_eq!(rt; diag.taken(), line.as_bytes());
+    }
+    Ok(())
+}
+
+const REACH_0: &str = "group 0 user\ntouch 00000000100000 12\n";
+
+const REACH_1: &str = "group 1 user\ntouch 00000000100000 12\n";
+
+// What each of two groups can reach, with its own answer, or with that of both together.
+#[test]
+fn audits(rt: HostRuntime) -> Result<(), Fail> {
+    let rows: [(&[&str], [&str; 4]); 2] = [
+        (
+            &["grants", "IMAGE"],
+            [REACH_0, "apart 0 yes\n", REACH_1, "apart 1 yes\n"],
+        ),
+        (
+            &["grants", "IMAGE", "0,1"],
+            [REACH_0, REACH_1, "apart 0,1 yes\n", ""],
+        ),
+    ];
+    for (words, parts) in rows {
+        let mut text = Vec::new(rt.alloc());
+        for part in parts {
+            text.extend_from_slice(part.as_bytes())?;
+        }
+        let held = files(&rt, pair(&rt, 0xff)?, TURNS, 4096)?;
+        let (status, out, diag) = answer(&rt, words, held)?;
+        assert_eq!(rt; status, Status::Done);
+        assert_eq!(rt; out.taken(), text.as_slice());
+        assert_eq!(rt; diag.taken().len(), 0);
+    }
+    Ok(())
+}
+
+// The image of one of two groups, and a slot that is handled outside.
+#[test]
+fn extracts(rt: HostRuntime) -> Result<(), Fail> {
+    let held = files(&rt, pair(&rt, 0xff)?, TURNS, 4096)?;
+    let (status, out, _) = answer(&rt, &["extract", "IMAGE", "0"], held)?;
+    assert_eq!(rt; status, Status::Done);
+    assert_eq!(rt; out.taken().len(), 4390);
+    assert_eq!(rt; out.taken().starts_with(b"MMI1\x00\x01\x00\x01"), true);
+    let held = files(&rt, pair(&rt, 1)?, TURNS, 4096)?;
+    let (status, out, _) = answer(&rt, &["extract", "IMAGE", "0"], held)?;
+    assert_eq!(rt; status, Status::Refused(Refusal::Crosses { slot: 0 }));
+    assert_eq!(rt; out.taken().len(), 0);
+    Ok(())
+}
+
 // Words that are in no row, or a number that is not as it is written.
 #[test]
 fn usage(rt: HostRuntime) -> Result<(), Fail> {
-    let rows: [&[&str]; 9] = [
+    let rows: [&[&str]; 19] = [
         &[],
+        &["grants", "IMAGE", "1,0"],
+        &["extract", "IMAGE"],
+        &["extract", "IMAGE", "64"],
         &["run"],
         &["run", "IMAGE"],
         &["run", "IMAGE", "1", "2", "3"],
@@ -101,6 +248,13 @@ fn usage(rt: HostRuntime) -> Result<(), Fail> {
         &["run", "IMAGE", "01", "SCHEDULE"],
         &["run", "IMAGE", "+1"],
         &["run", "IMAGE", ""],
+        &["trace", "IMAGE"],
+        &["trace", "IMAGE", "1000001"],
+        &["solo", "IMAGE", "0", "5"],
+        &["solo", "IMAGE", "1,0", "5", "SCHEDULE"],
+        &["solo", "IMAGE", "64", "5", "SCHEDULE"],
+        &["solo", "IMAGE", "0,,1", "5", "SCHEDULE"],
+        &["solo", "IMAGE", "", "5", "SCHEDULE"],
     ];
     for words in rows {
         let (status, out, diag) = answer(&rt, words, files(&rt, hello(&rt)?, "0", 4096)?)?;

@@ -1,16 +1,21 @@
 // The top call: all that the program does.
-ghost use Rattle.std.specs.Prelude.{◌≡◌, ◌↔◌, ◌⊎◌, List, ℕ};
+ghost use Rattle.std.specs.Prelude.{◌≡◌, ◌↔◌, ◌⊎◌, List, ℕ, Option};
 ghost use Rattle.std.specs.Io.KnownBytes.{append_known};
 ghost use Rattle.mm_io.specs.Files.{Rose};
 ghost use Rattle.mm_io.specs.Sinks.{TookPart};
 ghost use Rattle.mmachine.specs.declared.status.Refusal.{Refusal};
-ghost use Rattle.mmachine.specs.Table.{InNoRow, texts};
+ghost use Rattle.mmachine.specs.Table.{InNoRow, Asks, run, trace, texts};
 ghost use Rattle.mmachine.specs.Answers.{ComesTo, ReadFailed, WritesNothing, TookLine, NothingFails, HasToRefuse, RefusedUnless, Answers, status_of, line_of, refuse, write};
+ghost use Rattle.mmachine.specs.Headline.{RunIsProved, TraceIsProved};
 
+use crate::extract::extract;
+use crate::grants::grants;
 use crate::line::write_line;
 use crate::run::run;
+use crate::solo::solo;
 use crate::status::{Refusal, Status, Stop};
-use crate::words::{Command, read_words};
+use crate::trace::trace;
+use crate::words::{Command, ExtractWords, GrantsWords, read_words};
 use mm_io::{Files, Sink, Source};
 use mm_mem::Boot;
 use std::alloc::Global;
@@ -19,7 +24,7 @@ use std::alloc::Global;
 ///
 /// `words` are the command line without the program's name. `M` is the type of the memory that every command which runs an image
 /// makes and runs on.
-#[tactic(auto, using(crate::proofs::Verdicts::usage, crate::proofs::Verdicts::refused, crate::proofs::Verdicts::read_fault, crate::proofs::Verdicts::write_fault, crate::proofs::Verdicts::done, crate::proofs::Verdicts::part, crate::proofs::Verdicts::silent))]
+#[tactic(auto, using(crate::proofs::Verdicts::usage, crate::proofs::Verdicts::refused, crate::proofs::Verdicts::read_fault, crate::proofs::Verdicts::write_fault, crate::proofs::Verdicts::silent))]
 pub fn mmachine<M: Boot, F: Files, I: Source, O: Sink, D: Sink>(
     alloc: Global,
     words: &[String],
@@ -42,6 +47,14 @@ pub fn mmachine<M: Boot, F: Files, I: Source, O: Sink, D: Sink>(
     ensures nothing { WritesNothing result → O.taken out.new ≡ O.taken out.old }
     ensures line { TookLine (D.taken diag.old) (D.taken diag.new) (D.faults diag.old) (D.faults diag.new) (line_of result) }
     ensures silent { result ≡ Status.Done → D.taken diag.new ≡ D.taken diag.old }
+
+    // The headline, of each run that is done.
+    ensures headline { result ≡ Status.Done → (image : List ℕ) (cycles : ℕ) (schedule : Option (List ℕ)) → Asks (texts words.now) (run image cycles schedule)
+        → (written : List ℕ) × RunIsProved M.tells (F.held files.old) image cycles schedule written × (O.taken out.new ≡ append_known (O.taken out.old) written) }
+
+    // Its second part, of each trace that is done.
+    ensures reach { result ≡ Status.Done → (image : List ℕ) (cycles : ℕ) (schedule : Option (List ℕ)) → Asks (texts words.now) (trace image cycles schedule)
+        → (written : List ℕ) × TraceIsProved M.tells (F.held files.old) image cycles schedule written × (O.taken out.new ≡ append_known (O.taken out.old) written) }
 
     // Where a refusal has to come, it comes; and where nothing fails, it is done or there is no memory.
     ensures refuses { (r : Refusal) → HasToRefuse M.tells (F.held files.old) (texts words.now) r → RefusedUnless r result }
@@ -81,13 +94,37 @@ fn by_row<M: Boot, F: Files, O: Sink>(
 {
     match read_words(words) {
         None => Status::Usage,
-        Some(
-            Command::Run {
-                image,
-                cycles,
-                schedule,
-            },
-        ) => status(run::<M, F, O>(alloc, image, cycles, schedule, files, out)),
+        Some(Command::Run(asked)) => status(run::<M, F, O>(
+            alloc,
+            asked.image,
+            asked.cycles,
+            asked.schedule,
+            files,
+            out,
+        )),
+        Some(Command::Trace(asked)) => status(trace::<M, F, O>(
+            alloc,
+            asked.image,
+            asked.cycles,
+            asked.schedule,
+            files,
+            out,
+        )),
+        Some(Command::Solo(asked)) => status(solo::<M, F, O>(
+            alloc,
+            asked.image,
+            asked.groups.as_slice(),
+            asked.cycles,
+            asked.schedule,
+            files,
+            out,
+        )),
+        Some(Command::Grants(GrantsWords { image, groups })) => {
+            status(grants(alloc, image, groups, files, out))
+        }
+        Some(Command::Extract(ExtractWords { image, groups })) => {
+            status(extract(alloc, image, groups.as_slice(), files, out))
+        }
     }
 }
 

@@ -1,17 +1,52 @@
 // The words of the command line, by the table of commands.
-ghost use Rattle.std.specs.Prelude.{◌∷◌, codes, MatchOption};
-ghost use Rattle.mmachine.specs.Table.{InNoRow, Asks, texts, row_of};
+ghost use Rattle.std.specs.Prelude.{MatchOption};
+ghost use Rattle.mmachine.specs.Table.{InNoRow, Asks, NoRunWords, AreRunWords, NoSoloWords, AreSoloWords, NoGrantsWords, AreGrantsWords, NoExtractWords, AreExtractWords, texts, row_of};
 
+use crate::group_list::read_groups;
+use arrayvec::ArrayVec;
 use mm_sched::number;
 
 /// A command that the words ask for.
 pub enum Command<'a> {
     /// `run IMAGE CYCLES [SCHEDULE]`
-    Run {
-        image: &'a str,
-        cycles: u64,
-        schedule: Option<&'a str>,
-    },
+    Run(RunWords<'a>),
+    /// `trace IMAGE CYCLES [SCHEDULE]`
+    Trace(RunWords<'a>),
+    /// `solo IMAGE GROUPS CYCLES SCHEDULE`
+    Solo(SoloWords<'a>),
+    /// `grants IMAGE [GROUPS]`
+    Grants(GrantsWords<'a>),
+    /// `extract IMAGE GROUPS`
+    Extract(ExtractWords<'a>),
+}
+
+/// `IMAGE CYCLES [SCHEDULE]`
+#[derive(Clone, Copy)]
+pub struct RunWords<'a> {
+    pub image: &'a str,
+    pub cycles: u64,
+    pub schedule: Option<&'a str>,
+}
+
+/// `IMAGE GROUPS CYCLES SCHEDULE`
+#[derive(Drop)]
+pub struct SoloWords<'a> {
+    pub image: &'a str,
+    pub groups: ArrayVec<u8, 64>,
+    pub cycles: u64,
+    pub schedule: &'a str,
+}
+
+/// `IMAGE [GROUPS]`
+pub struct GrantsWords<'a> {
+    pub image: &'a str,
+    pub groups: Option<ArrayVec<u8, 64>>,
+}
+
+/// `IMAGE GROUPS`
+pub struct ExtractWords<'a> {
+    pub image: &'a str,
+    pub groups: ArrayVec<u8, 64>,
 }
 
 /// The most cycles of a command.
@@ -25,26 +60,70 @@ pub fn read_words(words: &[String]) -> Option<Command<'_>>
         return None;
     };
     match word.as_str() {
-        "run" => read_run(rest),
+        "run" => Some(Command::Run(read_run_words(rest)?)),
+        "trace" => Some(Command::Trace(read_run_words(rest)?)),
+        "solo" => Some(Command::Solo(read_solo_words(rest)?)),
+        "grants" => Some(Command::Grants(read_grants_words(rest)?)),
+        "extract" => Some(Command::Extract(read_extract_words(rest)?)),
         _ => None,
     }
 }
 
-/// The words behind `run`.
-fn read_run(rest: &[String]) -> Option<Command<'_>>
-    ensures { MatchOption result (InNoRow (codes "run" ∷ texts rest.now))
-        (λ command. Asks (codes "run" ∷ texts rest.now) (row_of command)) }
+fn read_run_words(rest: &[String]) -> Option<RunWords<'_>>
+    ensures { MatchOption result (NoRunWords (texts rest.now)) (λ words. AreRunWords (texts rest.now) words) }
 {
     match rest {
-        [image, cycles] => Some(Command::Run {
+        [image, cycles] => Some(RunWords {
             image: image.as_str(),
             cycles: number(cycles.as_bytes(), MAX_CYCLES)?,
             schedule: None,
         }),
-        [image, cycles, schedule] => Some(Command::Run {
+        [image, cycles, schedule] => Some(RunWords {
             image: image.as_str(),
             cycles: number(cycles.as_bytes(), MAX_CYCLES)?,
             schedule: Some(schedule.as_str()),
+        }),
+        _ => None,
+    }
+}
+
+fn read_solo_words(rest: &[String]) -> Option<SoloWords<'_>>
+    ensures { MatchOption result (NoSoloWords (texts rest.now)) (λ words. AreSoloWords (texts rest.now) words) }
+{
+    match rest {
+        [image, groups, cycles, schedule] => Some(SoloWords {
+            image: image.as_str(),
+            groups: read_groups(groups.as_bytes())?,
+            cycles: number(cycles.as_bytes(), MAX_CYCLES)?,
+            schedule: schedule.as_str(),
+        }),
+        _ => None,
+    }
+}
+
+fn read_grants_words(rest: &[String]) -> Option<GrantsWords<'_>>
+    ensures { MatchOption result (NoGrantsWords (texts rest.now)) (λ words. AreGrantsWords (texts rest.now) words) }
+{
+    match rest {
+        [image] => Some(GrantsWords {
+            image: image.as_str(),
+            groups: None,
+        }),
+        [image, groups] => Some(GrantsWords {
+            image: image.as_str(),
+            groups: Some(read_groups(groups.as_bytes())?),
+        }),
+        _ => None,
+    }
+}
+
+fn read_extract_words(rest: &[String]) -> Option<ExtractWords<'_>>
+    ensures { MatchOption result (NoExtractWords (texts rest.now)) (λ words. AreExtractWords (texts rest.now) words) }
+{
+    match rest {
+        [image, groups] => Some(ExtractWords {
+            image: image.as_str(),
+            groups: read_groups(groups.as_bytes())?,
         }),
         _ => None,
     }

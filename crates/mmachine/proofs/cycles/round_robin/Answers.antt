@@ -11,7 +11,7 @@ loop-preserved g c =
     let (front, goes, so_far) = c.loop.invariant.goes in
     let item = c.in-Some.item in
     let next : next_running c.loop.machine.core.rows c.loop.robin ≡ Some item =
-    next_is (state_of c.loop.machine) c.running.result c.loop.robin item c.loop.machine.kept (omega arith) c.running.ensures c.in-Some.ensures.next.0 in
+    next_is (state_of c.loop.machine) c.running.result c.loop.robin item c.loop.machine.kept c.running.ensures c.in-Some.ensures.next.0 in
     record {
       cycles = omega (arith, ap (λ (s : State). s.cycles) c.cycle.ensures.state ∙ after_cycles (state_of c.loop.machine) item);
       goes = (
@@ -38,6 +38,6 @@ returns-in_default g c i before h =
     let (front, goes, so_far) = c.loop.invariant.goes in
     let P : List ℕ → Type 0 = λ items. StandsFor i items c.loop.machine in
     let next : next_running c.loop.machine.core.rows c.loop.robin ≡ None =
-    none_is (state_of c.loop.machine) c.running.result c.loop.robin c.loop.machine.kept (omega arith) c.running.ensures (zero_of _ c.in_default.ensures.some.1) in
+    none_is (state_of c.loop.machine) c.running.result c.loop.robin c.loop.machine.kept c.running.ensures (zero_of _ c.in_default.ensures.some.1) in
     let none = robin_ends (state_of c.loop.machine) c.loop.robin (c.args.count - c.loop.counter) next in
     subst P (ap (λ (items : List ℕ). before ++ items) (robin_over (state_of c.loop.machine) c.loop.robin (c.args.count - c.loop.counter) front _ none so_far)) (goes i before h)

@@ -8,4 +8,4 @@ pub returns-else-group-lt64 : goal.returns-else-group-lt64
 returns-else-group-lt64 c i e a =
     let b = subst (Audits i e) (sym c.self.view_is) a in
     no_group c.args.group (CanTouch i e c.args.group c.args.word) c.if-group-lt64.false
-    (λ t. past c.self.inside.touch.items c.args.group c.args.word c.self.invariant.0 c.if-group-lt64.false ((b.touch_covers c.args.group c.args.word c.requires.aligned c.requires.small).1 t))
+    (λ t. past c.self.inside.touch c.args.group c.args.word c.self.invariant.0 c.if-group-lt64.false ((b.touch_covers c.args.group c.args.word c.requires.aligned c.requires.small).1 t))

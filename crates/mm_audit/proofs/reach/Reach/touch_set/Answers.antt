@@ -1,5 +1,4 @@
-use Rattle.std.proofs.Common.{◌∙◌, sym, subst, [], arith, length, ◌<◌}
-use Rattle.std.proofs.lemmas.List.{get_or_default}
+use Rattle.std.proofs.Common.{sym, subst}
 use Rattle.mm_word.specs.Perm.{can_load}
 use Rattle.mm_model.specs.Audit.{MaximalSegments}
 use Rattle.mm_audit.specs.Audits.{Audits}
@@ -8,5 +7,4 @@ use Rattle.mm_audit.proofs.reach.Reach.touch_set.Goals as goal
 pub returns : goal.returns
 returns c i e a =
     let b = subst (Audits i e) (sym c.self.view_is) a in
-    let small : c.args.group < length c.self.inside.touch.items = (let l = c.self.invariant.0 in let r = c.requires in omega arith) in
-    subst (MaximalSegments i e c.args.group can_load) (sym (c.index.ensures ∙ get_or_default c.self.inside.touch.items c.args.group c.index.result.now [] small)) (b.touch_maximal c.args.group c.requires)
+    subst (MaximalSegments i e c.args.group can_load) (sym c.of.ensures) (b.touch_maximal c.args.group c.requires)

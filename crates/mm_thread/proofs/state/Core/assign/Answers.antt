@@ -10,6 +10,12 @@ use Rattle.mm_thread.proofs.Sound.{numbers-same}
 use Rattle.mm_thread.proofs.Assigned.{slots-alone, parts_small, parts_room, parts_short, parts_sound}
 use Rattle.mm_thread.proofs.state.Core.assign.Goals as goal
 
+pub put_slots-requires-clause-numbers : goal.put_slots-requires-clause-numbers
+put_slots-requires-clause-numbers c =
+    let t = c.self.inside.tables in
+    let parts : AreParts t c.args.slots.now c.args.events.now c.args.outputs.now = rw (← c.self.view_is) at c.requires in
+    numbers-same c.args.slots.now (slots_of t) parts.same
+
 pub put_events-requires-clause-index : goal.put_events-requires-clause-index
 put_events-requires-clause-index c =
     let t = c.self.inside.tables in

@@ -1,8 +1,15 @@
-use Rattle.std.proofs.Common.{ap}
+use Rattle.std.proofs.Common.{false, refl, ap}
 use Rattle.mm_model.specs.State.{Core}
 use Rattle.mm_model.specs.Fits.{IsCore}
 use Rattle.mm_thread.proofs.Fresh.{fresh_core, small_numbers}
+use Rattle.mm_thread.proofs.Placing.{core_numbered}
 use Rattle.mm_thread.proofs.state.Core.new.Goals as goal
+
+pub new-tables-requires : goal.new-tables-requires
+new-tables-requires c =
+    let t : Core = record { rows = c.in_ok-rows.rows.items; outputs = c.in_ok-outputs.outputs.items; version = 2; split = false } in
+    let whole : IsCore t = fresh_core c.args.slots.now c.requires.rising c.requires.fresh _ _ t refl c.in_ok-rows.ensures c.in_ok-outputs.ensures in
+    core_numbered t whole.rising (small_numbers t refl whole)
 
 pub places_of-places-requires-clause-rising : goal.places_of-places-requires-clause-rising
 places_of-places-requires-clause-rising c =

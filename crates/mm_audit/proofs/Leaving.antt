@@ -1,0 +1,234 @@
+-- The first slot of some groups whose handler is outside.
+use Rattle.std.proofs.Common.{◌≡◌, ◌≢◌, ℕ, zero, suc, ◌+◌, ◌*◌, ◌/◌, ◌%◌, ◌^◌, ◌<◌, ◌≤◌, ◌⊎◌, ◌↔◌, inl, inr, bit_and, bit_or, Bool, true, false, ◌&&◌, ◌||◌, ◌==◌, if◌then◌else◌, List, [], ◌∷◌, ◌++◌, length, get_or, drop, drop-cons, Option, Some, None, refl, sym, ap, ◌∙◌, subst, arith, eqb-true, eq-eqb}
+use Rattle.std.specs.Prelude.{Contains, IfSome}
+use Rattle.std.specs.List.{list_any}
+use Rattle.std.specs.Int.{bit_at, w64}
+use Rattle.std.proofs.lemmas.Bool.{cases_lt}
+use Rattle.std.proofs.lemmas.Nat.Bits.{bit_at-lt, bit_at-zero, shr_and_one, bit_at_set_same, bit_at_set_other}
+use Rattle.std.proofs.lemmas.List.Elements.{All-from_recursion, All-contains, Contains-append_left, Contains-push, Contains-push_cases}
+use Rattle.mm_model.specs.Slot.{Slot}
+use Rattle.mm_model.specs.Image.{Image, slot_limit}
+use Rattle.mm_model.specs.Spelling.{IsImage, IsFresh, IsOther}
+use Rattle.mm_net.proofs.KeyLists.{contains_here, contains_rest, contains_cases}
+use Rattle.mm_audit.specs.Inside.{InsideAt, is_out, leaves, first_leaving}
+use Rattle.mm_audit.specs.Refusals.{HasNoGroup, HasGroup, CrossesOut, FirstCrossing}
+use Rattle.mm_audit.proofs.Granted.{limit_small}
+use Rattle.mm_audit.proofs.OwnSlots.{no_both, bool_cases, Ascends, ascends, above, same_slot}
+
+-- 1. The mask of the numbers of slots, with one slot more.
+
+abbrev pub IsNumbers : ℕ → List Slot → (ℕ → Bool) → Type 0
+IsNumbers inside slots c = (n : ℕ) → (bit_at inside n ≡ 1) ↔ InsideAt slots c n
+
+pub no_numbers : (c : ℕ → Bool) → IsNumbers 0 [] c
+no_numbers c n = (λ bit. absurd (let z = bit_at-zero n in omega arith), λ x. absurd (let lt = x.stands.1 in omega arith))
+
+same_or_not : (n g : ℕ) → (n ≡ g) ⊎ (n ≢ g)
+same_or_not n g = elim (cases_lt n g) [
+  | inl lt ↦ inr (λ e. absurd (omega arith))
+  | inr le ↦ elim (cases_lt g n) [ inl lt ↦ inr (λ e. absurd (omega arith)) | inr ge ↦ inl (omega arith) ]
+]
+
+module _ (inside : ℕ) (slots : List Slot) (c : ℕ → Bool) (s : Slot) (h : IsNumbers inside slots c) where
+  pub numbers_more : s.number < 64 → c s.group ≡ true → IsNumbers (bit_or inside (1 * 2 ^ s.number % 2 ^ 64)) (slots ++ s ∷ []) c
+  numbers_more lt member n = elim (same_or_not n s.number) [
+    | inl e ↦ (
+      λ bit. record { slot = s; stands = Contains-push slots s; number = sym e; member = member },
+      λ x. ap (bit_at (bit_or inside (1 * 2 ^ s.number % 2 ^ 64))) e ∙ bit_at_set_same w64 inside s.number lt,
+    )
+    | inr ne ↦
+        let same : bit_at (bit_or inside (1 * 2 ^ s.number % 2 ^ 64)) n ≡ bit_at inside n = bit_at_set_other w64 inside s.number lt n ne in (
+          λ bit. let x = (h n).0 (sym same ∙ bit) in record { slot = x.slot; stands = Contains-append_left slots (s ∷ []) x.slot x.stands; number = x.number; member = x.member },
+          λ x. same ∙ (h n).1 (elim (Contains-push_cases slots s x.slot x.stands) [
+            | inl old ↦ record { slot = x.slot; stands = old; number = x.number; member = x.member }
+            | inr e ↦ absurd (ne (sym x.number ∙ ap (λ (v : Slot). v.number) (sym e)))
+          ]),
+        )
+  ]
+
+  pub numbers_skip : c s.group ≡ false → IsNumbers inside (slots ++ s ∷ []) c
+  numbers_skip out n = (
+    λ bit. let x = (h n).0 bit in record { slot = x.slot; stands = Contains-append_left slots (s ∷ []) x.slot x.stands; number = x.number; member = x.member },
+    λ x. (h n).1 (elim (Contains-push_cases slots s x.slot x.stands) [
+      | inl old ↦ record { slot = x.slot; stands = old; number = x.number; member = x.member }
+      | inr e ↦ absurd (no_both (c x.slot.group) x.member (sym (ap (λ (v : Slot). c v.group) e) ∙ out))
+    ]),
+  )
+
+-- 2. The first of a list.
+
+pub none_leaves : (inside : ℕ) (slots : List Slot) → first_leaving inside slots ≡ None → (s : Slot) → Contains slots s → leaves inside s ≡ false
+none_leaves inside [] e s m = absurd (omega (arith, m.1))
+none_leaves inside (x ∷ slots) e s m = by (leaves inside x) refl e (λ none later. none_leaves inside slots none s later)
+  where
+    by : (b : Bool) → leaves inside x ≡ b → (if b then Some x.number else first_leaving inside slots) ≡ None → (first_leaving inside slots ≡ None → Contains slots s → leaves inside s ≡ false) → leaves inside s ≡ false
+    by true t none rest = cc
+    by false f none rest = elim (contains_cases x s slots m) [ inl here ↦ sym (ap (leaves inside) here) ∙ f | inr later ↦ rest none later ]
+
+pub record First (inside : ℕ) (slots : List Slot) (n : ℕ) : Type 0 where
+  pub slot : Slot
+  pub stands : Contains slots slot
+  pub out : leaves inside slot ≡ true
+  pub number : slot.number ≡ n
+  pub least : (t : Slot) → Contains slots t → leaves inside t ≡ true → n ≤ t.number
+
+pub first_leaves : (inside : ℕ) (slots : List Slot) (n : ℕ) → Ascends slots → first_leaving inside slots ≡ Some n → First inside slots n
+first_leaves inside [] n up e = cc
+first_leaves inside (x ∷ slots) n up e = by (leaves inside x) refl e (λ is. first_leaves inside slots n up.1 is)
+  where
+    by : (b : Bool) → leaves inside x ≡ b → (if b then Some x.number else first_leaving inside slots) ≡ Some n → (first_leaving inside slots ≡ Some n → First inside slots n) → First inside (x ∷ slots) n
+    by true t is rest =
+        let number : x.number ≡ n = cc in
+        record {
+          slot = x;
+          stands = contains_here x slots;
+          out = t;
+          number = number;
+          least = λ s m out. elim (contains_cases x s slots m) [
+            | inl here ↦ let same = ap (λ (v : Slot). v.number) here in omega arith
+            | inr later ↦ let lt = above x s slots up later in omega arith
+          ];
+        }
+    by false f is rest =
+        let r = rest is in
+        record {
+          slot = r.slot;
+          stands = contains_rest x r.slot slots r.stands;
+          out = r.out;
+          number = r.number;
+          least = λ s m out. elim (contains_cases x s slots m) [
+            | inl here ↦ absurd (no_both (leaves inside s) out (sym (ap (leaves inside) here) ∙ f))
+            | inr later ↦ r.least s later out
+          ];
+        }
+
+-- from a place on
+
+pub leaving_here : (inside : ℕ) (slots : List Slot) (k : ℕ) (s : Slot) → k < length slots → s ≡ get_or slots k s → leaves inside s ≡ true → first_leaving inside (drop k slots) ≡ Some s.number
+leaving_here inside slots k s lt is t =
+    ap (first_leaving inside) (drop-cons slots k s lt ∙ ap (λ v. v ∷ drop (suc k) slots) (sym is)) ∙ ap (λ b. if b then Some s.number else first_leaving inside (drop (suc k) slots)) t
+
+pub leaving_later : (inside : ℕ) (slots : List Slot) (k : ℕ) (s : Slot) → k < length slots → s ≡ get_or slots k s → leaves inside s ≡ false → first_leaving inside (drop k slots) ≡ first_leaving inside (drop (k + 1) slots)
+leaving_later inside slots k s lt is f =
+    ap (first_leaving inside) (drop-cons slots k s lt ∙ ap (λ v. v ∷ drop (suc k) slots) (sym is)) ∙ ap (λ b. if b then Some s.number else first_leaving inside (drop (suc k) slots)) f
+    ∙ ap (λ n. first_leaving inside (drop n slots)) (let e : suc k ≡ k + 1 = omega arith in e)
+
+pub leaving_end : (inside : ℕ) (slots : List Slot) (k : ℕ) → length slots ≤ k → first_leaving inside (drop k slots) ≡ None
+leaving_end inside [] zero le = refl
+leaving_end inside [] (suc k) le = refl
+leaving_end inside (s ∷ slots) zero le = absurd (omega arith)
+leaving_end inside (s ∷ slots) (suc k) le = leaving_end inside slots k (omega arith)
+
+-- 3. A slot leaves just where it crosses.
+
+both : (a b : Bool) → a && b ≡ true → (a ≡ true) × (b ≡ true)
+both true true h = (refl, refl)
+both true false h = cc
+both false b h = cc
+
+join : (a b : Bool) → a ≡ true → b ≡ true → a && b ≡ true
+join true true x y = refl
+join true false x y = cc
+join false b x y = cc
+
+module _ (i : Image) (img : IsImage i) where
+  pub fresh : (s : Slot) → Contains i.slots s → IsFresh (slot_limit i.version) i.slots s
+  fresh s m = All-contains (IsFresh (slot_limit i.version) i.slots) i.slots s (All-from_recursion _ i.slots img.fresh) m
+
+  pub number_small : (s : Slot) → Contains i.slots s → s.number < 64
+  number_small s m = let a = (fresh s m).number in let b = limit_small i img in omega arith
+
+  other_small : (n : ℕ) (o : Option ℕ) → IfSome o (IsOther i.slots n) → IfSome o (λ h. h < 64)
+  other_small n None h = tt
+  other_small n (Some v) h = let lt = number_small h.1.0 h.1.1 in let e = h.1.2 in omega arith
+
+  pub handler_small : (s : Slot) → Contains i.slots s → IfSome s.handler (λ h. h < 64)
+  handler_small s m = other_small s.number s.handler (fresh s m).handler
+
+  module _ (c : ℕ → Bool) (inside : ℕ) (numbers : IsNumbers inside i.slots c) where
+    member_from : (s : Slot) → Contains i.slots s → bit_at inside s.number ≡ 1 → c s.group ≡ true
+    member_from s m bit =
+        let x = (numbers s.number).0 bit in
+        ap (λ (v : Slot). c v.group) (same_slot i.slots (ascends i.slots img.rising) s x.slot m x.stands (sym x.number)) ∙ x.member
+
+    bit_from : (s : Slot) → Contains i.slots s → c s.group ≡ true → bit_at inside s.number ≡ 1
+    bit_from s m member = (numbers s.number).1 (record { slot = s; stands = m; number = refl; member = member })
+
+    clear_from : (s : Slot) → Contains i.slots s → c s.group ≡ false → bit_at inside s.number ≡ 0
+    clear_from s m out = only (bit_at inside s.number) (bit_at-lt inside s.number) (λ bit. no_both (c s.group) (member_from s m bit) out)
+      where
+        only : (b : ℕ) → b < 2 → (b ≡ 1 → ⊥) → b ≡ 0
+        only zero lt ne = refl
+        only (suc zero) lt ne = absurd (ne refl)
+        only (suc (suc n)) lt ne = absurd (omega arith)
+
+    crosses_from : (s : Slot) → Contains i.slots s → leaves inside s ≡ true → CrossesOut i c s.number
+    crosses_from s m out =
+        let t = both (bit_and (inside / 2 ^ s.number) 1 == 1) (is_out inside s.handler) out in
+        by (member_from s m (sym (shr_and_one inside s.number) ∙ eqb-true _ _ t.0)) s.handler refl (fresh s m).handler t.1
+      where
+        by : c s.group ≡ true → (o : Option ℕ) → s.handler ≡ o → IfSome o (IsOther i.slots s.number) → is_out inside o ≡ true → CrossesOut i c s.number
+        by member None e h x = cc
+        by member (Some v) e h x =
+            let t = h.1.0 in
+            let clear : bit_at inside v ≡ 0 = sym (shr_and_one inside v) ∙ eqb-true _ _ x in
+            record {
+              served = s;
+              server = t;
+              one = m;
+              other = h.1.1;
+              number = refl;
+              handled = e ∙ ap (λ (y : ℕ). Some y) (sym h.1.2);
+              inside = member;
+              outside = elim (bool_cases (c t.group)) [
+                | inl yes_in ↦ absurd (let bit = bit_from t h.1.1 yes_in in let same = ap (bit_at inside) h.1.2 in omega arith)
+                | inr f ↦ f
+              ];
+            }
+
+    leaves_from : (n : ℕ) (x : CrossesOut i c n) → leaves inside x.served ≡ true
+    leaves_from n x = join (bit_and (inside / 2 ^ x.served.number) 1 == 1) (is_out inside x.served.handler) (eq-eqb _ _ (shr_and_one inside x.served.number ∙ bit_from x.served x.one x.inside))
+        (ap (is_out inside) x.handled ∙ eq-eqb _ _ (shr_and_one inside x.server.number ∙ clear_from x.server x.other x.outside))
+
+    pub none_crosses : first_leaving inside i.slots ≡ None → (n : ℕ) → ¬ CrossesOut i c n
+    none_crosses e n x = no_both (leaves inside x.served) (leaves_from n x) (none_leaves inside i.slots e x.served x.one)
+
+    pub first_crosses : (n : ℕ) → first_leaving inside i.slots ≡ Some n → FirstCrossing i c n
+    first_crosses n e =
+        let f = first_leaves inside i.slots n (ascends i.slots img.rising) e in
+        record {
+          crosses = subst (CrossesOut i c) f.number (crosses_from f.slot f.stands f.out);
+          least = λ m x. let le = f.least x.served x.one (leaves_from m x) in let number = x.number in omega arith;
+        }
+
+-- 4. Whether a slot is of one of the groups.
+
+any_then : {A : Type 0} (p : A → Bool) (xs : List A) (x : A) → Contains xs x → p x ≡ true → list_any p xs ≡ true
+any_then p [] x m e = absurd (omega (arith, m.1))
+any_then p (y ∷ xs) x m e = elim (contains_cases y x xs m) [ inl here ↦ first (p y) (ap p here ∙ e) | inr later ↦ rest (p y) (any_then p xs x later e) ]
+  where
+    first : (b : Bool) → b ≡ true → (b || list_any p xs) ≡ true
+    first true t = refl
+    first false t = cc
+
+    rest : (b : Bool) → list_any p xs ≡ true → (b || list_any p xs) ≡ true
+    rest true t = refl
+    rest false t = t
+
+pub no_group : (i : Image) (c : ℕ → Bool) → list_any (λ (s : Slot). c s.group) i.slots ≡ false → HasNoGroup i c
+no_group i c none s m = elim (bool_cases (c s.group)) [
+  | inl t ↦ absurd (no_both (list_any (λ (v : Slot). c v.group) i.slots) (any_then (λ (v : Slot). c v.group) i.slots s m t) none)
+  | inr f ↦ f
+]
+
+pub some_group : (i : Image) (c : ℕ → Bool) → list_any (λ (s : Slot). c s.group) i.slots ≡ true → HasGroup i c
+some_group i c some = let f = found i.slots some in record { slot = f.0; stands = f.1; member = f.2 }
+  where
+    found : (slots : List Slot) → list_any (λ (s : Slot). c s.group) slots ≡ true → (s : Slot) × Contains slots s × (c s.group ≡ true)
+    found [] e = cc
+    found (x ∷ slots) e = by (c x.group) refl e (found slots)
+      where
+        by : (b : Bool) → c x.group ≡ b → (b || list_any (λ (s : Slot). c s.group) slots) ≡ true → (list_any (λ (s : Slot). c s.group) slots ≡ true → (s : Slot) × Contains slots s × (c s.group ≡ true))
+            → (s : Slot) × Contains (x ∷ slots) s × (c s.group ≡ true)
+        by true t y later = (x, contains_here x slots, t)
+        by false f y later = let r = later y in (r.0, contains_rest x r.0 slots r.1, r.2)

@@ -1,0 +1,31 @@
+-- Slots whose handlers are on the other side.
+use Rattle.std.specs.Prelude.{◌≡◌, ◌≢◌, ℕ, ◌<◌, ◌≤◌, Bool, List, slice_index_or}
+use Rattle.mm_model.specs.Audit.{Verdict}
+use Rattle.mm_model.specs.Audit.Verdict.{Yes, Handler, Writer}
+use Rattle.mm_audit.specs.declared.served.Served.{Served}
+use Rattle.mm_audit.specs.declared.judge.Apart.{Apart}
+use Rattle.mm_audit.specs.declared.judge.Apart.TheVariants as answers
+
+abbrev pub served_at : List Served → ℕ → Served
+served_at served k = slice_index_or served k (record { slot = 0; group = 0; by = 0 })
+
+-- the slot at a place and its handler are on two sides
+abbrev pub IsCrossing : List Served → (ℕ → Bool) → ℕ → Type 0
+IsCrossing served c k = c (served_at served k).group ≢ c (served_at served k).by
+
+-- the least slot of those before a place
+pub record LeastCrossing (served : List Served) (c : ℕ → Bool) (top n : ℕ) : Type 0 where
+  pub at : ℕ
+  pub small : at < top
+  pub crosses : IsCrossing served c at
+  pub is : (served_at served at).slot ≡ n
+  pub least : (k : ℕ) → k < top → IsCrossing served c k → n ≤ (served_at served k).slot
+
+abbrev pub NoCrossing : List Served → (ℕ → Bool) → ℕ → Type 0
+NoCrossing served c top = (k : ℕ) → k < top → ¬ IsCrossing served c k
+
+-- what an answer means
+abbrev pub verdict_of : Apart → Verdict
+verdict_of answers.Yes = Yes
+verdict_of (answers.Writer g w) = Writer g w
+verdict_of (answers.Handler n) = Handler n

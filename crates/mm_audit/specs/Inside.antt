@@ -1,0 +1,24 @@
+-- Slots inside, by the mask of their numbers.
+use Rattle.std.specs.Prelude.{◌≡◌, ℕ, ◌/◌, ◌^◌, Bool, true, false, ◌==◌, ◌&&◌, if◌then◌else◌, bit_and, List, [], ◌∷◌, Contains, Option, Some, None}
+use Rattle.mm_model.specs.Slot.{Slot}
+
+-- a slot of this number is of one of the groups
+pub record InsideAt (slots : List Slot) (c : ℕ → Bool) (n : ℕ) : Type 0 where
+  pub slot : Slot
+  pub stands : Contains slots slot
+  pub number : slot.number ≡ n
+  pub member : c slot.group ≡ true
+
+-- a handler is none of these numbers
+abbrev pub is_out : ℕ → Option ℕ → Bool
+is_out inside None = false
+is_out inside (Some h) = bit_and (inside / 2 ^ h) 1 == 0
+
+-- a slot is one of these numbers, and its handler is none
+abbrev pub leaves : ℕ → Slot → Bool
+leaves inside s = (bit_and (inside / 2 ^ s.number) 1 == 1) && is_out inside s.handler
+
+-- the number of the first slot that does
+abbrev pub first_leaving : ℕ → List Slot → Option ℕ
+first_leaving inside [] = None
+first_leaving inside (s ∷ slots) = if leaves inside s then Some s.number else first_leaving inside slots

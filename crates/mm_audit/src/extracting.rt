@@ -1,0 +1,58 @@
+// The image of some groups alone.
+ghost use Rattle.std.specs.Prelude.{◌==◌, IfErr, IfOk};
+ghost use Rattle.std.specs.List.{list_any};
+ghost use Rattle.mm_model.specs.Worlds.{Extracts};
+ghost use Rattle.mm_audit.specs.Refusals.{StandAlone, IsExtractError};
+
+use crate::judge::mask_of;
+use crate::own::{pages_of, slots_of};
+use crate::refusing::{Refused, refusal};
+use crate::touched::touched_by;
+use mm_image::Image;
+use mm_word::NoMemory;
+use std::alloc::Global;
+
+/// Why there is no image of some groups alone.
+#[derive(Clone, Copy, Debug, PartialEq, Eq)]
+pub enum ExtractError {
+    /// No slot is of one of them.
+    NoGroup,
+    /// The least slot of one of them whose handler is of another group.
+    Crosses { slot: u8 },
+    NoMemory,
+}
+
+/// The image of groups that can stand alone.
+fn own_image(alloc: Global, img: &Image, groups: &[u8]) -> Result<Image, NoMemory>
+    requires { StandAlone img.now (λ g. list_any (λ h. g == h) groups.now) }
+    ensures { IfOk result (λ own. Extracts img.now (λ g. list_any (λ h. g == h) groups.now) own) }
+{
+    let touched = touched_by(alloc, img, mask_of(groups))?;
+    let Ok(slots) = slots_of(alloc, img.slots(), groups) else {
+        return Err(NoMemory);
+    };
+    let Ok(pages) = pages_of(alloc, &touched, img.pages()) else {
+        return Err(NoMemory);
+    };
+    match Image::new(img.version(), img.split(), slots, pages, img.frames()) {
+        Some(own) => Ok(own),
+        None => unreachable!(),
+    }
+}
+
+/// The image of these groups alone: their slots, the version, the mode and the frames, and each page with a word that one
+/// of them can touch, whatever is entered. Cells that none of them can touch are integer 0, full.
+pub fn extract(alloc: Global, img: &Image, groups: &[u8]) -> Result<Image, ExtractError>
+    ensures alone { IfOk result (λ own. StandAlone img.now (λ g. list_any (λ h. g == h) groups.now)) }
+    ensures extracted { IfOk result (λ own. Extracts img.now (λ g. list_any (λ h. g == h) groups.now) own) }
+    ensures refused { IfErr result (λ e. IsExtractError img.now (λ g. list_any (λ h. g == h) groups.now) e) }
+{
+    match refusal(img, groups) {
+        Some(Refused::NoGroup) => Err(ExtractError::NoGroup),
+        Some(Refused::Crosses { slot }) => Err(ExtractError::Crosses { slot }),
+        None => match own_image(alloc, img, groups) {
+            Ok(own) => Ok(own),
+            Err(_) => Err(ExtractError::NoMemory),
+        },
+    }
+}

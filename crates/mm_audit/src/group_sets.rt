@@ -1,0 +1,77 @@
+// The sets of the groups, where groups that follow one another with the same set share one.
+ghost use Rattle.std.specs.Prelude.{◌≡◌, ◌<◌, [], ◌∷◌, ◌++◌, OnOk, length};
+
+use mm_seg::SegSet;
+use mm_word::NoMemory;
+use std::alloc::Global;
+use std::marker::Model;
+
+/// A set of segments for each group from 0 on. Contracts see the set of each group.
+#[derive(Drop)]
+pub struct GroupSets {
+    pub(crate) sets: Vec<SegSet>,
+    places: Vec<usize>,
+}
+
+impl Model for GroupSets {
+    ghost use Rattle.std.specs.Prelude.{ℕ, ◌<◌, List, map, length, slice_index_or};
+    ghost use Rattle.mm_audit.specs.Audits.{set_of};
+
+    ghost Value = { List (List (ℕ × ℕ)) };
+
+    ghost view = { λ s. map (set_of s.sets.items) s.places.items };
+
+    ghost invariant = { λ s. (g : ℕ) → g < length s.places.items → slice_index_or s.places.items g 0 < length s.sets.items };
+}
+
+impl GroupSets {
+    ghost use Rattle.mm_audit.specs.Audits.{set_of};
+
+    /// The sets of no group.
+    pub fn new(alloc: Global) -> GroupSets
+        ensures { result ≡ [] }
+    {
+        GroupSets {
+            sets: Vec::new(alloc),
+            places: Vec::new(alloc),
+        }
+    }
+
+    /// How many groups have a set.
+    pub fn len(&self) -> usize
+        ensures { result ≡ length self.now }
+    {
+        self.places.len()
+    }
+
+    /// The set of a group.
+    pub fn of(&self, group: usize) -> &SegSet
+        requires { group < length self.now }
+        ensures { result.now ≡ set_of self.now group }
+    {
+        &self.sets[self.places[group]]
+    }
+
+    /// Gives the next group a set of its own.
+    pub fn push(&mut self, set: SegSet) -> Result<(), NoMemory>
+        ensures { OnOk result (self.new ≡ self.old ++ set ∷ []) }
+    {
+        let place = self.sets.len();
+        if self.sets.push(set).is_err() || self.places.push(place).is_err() {
+            return Err(NoMemory);
+        }
+        Ok(())
+    }
+
+    /// Gives the next group the set of another.
+    pub fn push_same(&mut self, group: usize) -> Result<(), NoMemory>
+        requires { group < length self.old }
+        ensures { OnOk result (self.new ≡ self.old ++ set_of self.old group ∷ []) }
+    {
+        let place = self.places[group];
+        if self.places.push(place).is_err() {
+            return Err(NoMemory);
+        }
+        Ok(())
+    }
+}

@@ -1,0 +1,68 @@
+// Whether groups stand apart.
+ghost use Rattle.std.specs.Prelude.{◌≡◌, ◌≢◌, ◌<◌, ◌↔◌, ◌==◌, ℕ, min, true, MatchOption, length};
+ghost use Rattle.std.specs.List.{list_any};
+ghost use Rattle.std.specs.Int.{bit_at};
+ghost use Rattle.mm_audit.specs.Crossing.{NoCrossing, LeastCrossing};
+
+use crate::served::Served;
+
+/// Whether groups stand apart from all others.
+#[derive(Clone, Copy, Debug, PartialEq, Eq)]
+pub enum Apart {
+    Yes,
+    /// The least group outside that can write a word that one inside can touch, and the least such word.
+    Writer { group: u8, word: u64 },
+    /// The least slot whose handler is on the other side.
+    Handler { slot: u8 },
+}
+
+/// Whether the group is one of these.
+pub fn is_inside(groups: &[u8], g: u8) -> bool
+    ensures { result ≡ list_any (λ h. g == h) groups.now }
+{
+    groups.iter().any(|h| g == *h)
+}
+
+/// The mask of these groups.
+pub fn mask_of(groups: &[u8]) -> u64
+    ensures { (g : ℕ) → (bit_at result g ≡ 1) ↔ ((g < 64) × (list_any (λ h. g == h) groups.now ≡ true)) }
+{
+    let mut mask = 0u64;
+    for g in 0..64u8 {
+        if is_inside(groups, g) {
+            mask |= 1u64 << g;
+        }
+    }
+    mask
+}
+
+/// The lesser number, or the one that is there.
+fn lesser(best: Option<u8>, n: u8) -> u8
+    ensures { MatchOption best (result ≡ n) (λ v. result ≡ min v n) }
+{
+    match best {
+        Some(v) => if v < n { v } else { n },
+        None => n,
+    }
+}
+
+/// Whether a slot and its handler are on two sides.
+fn crosses(one: Served, groups: &[u8]) -> bool
+    ensures { (result ≡ true) ↔ (list_any (λ h. one.group == h) groups.now ≢ list_any (λ h. one.by == h) groups.now) }
+{
+    is_inside(groups, one.group) != is_inside(groups, one.by)
+}
+
+/// The least slot whose handler is on the other side.
+pub fn crossing(served: &[Served], groups: &[u8]) -> Option<u8>
+    ensures { MatchOption result (NoCrossing served.now (λ g. list_any (λ h. g == h) groups.now) (length served.now)) (LeastCrossing served.now (λ g. list_any (λ h. g == h) groups.now) (length served.now)) }
+{
+    let mut best = None;
+    for k in 0..served.len() {
+        let one = served[k];
+        if crosses(one, groups) {
+            best = Some(lesser(best, one.slot));
+        }
+    }
+    best
+}

@@ -1,0 +1,46 @@
+// An image without the slots of other groups.
+ghost use Rattle.std.specs.Prelude.{◌≡◌, ◌==◌, IfErr, IfOk};
+ghost use Rattle.std.specs.List.{list_any};
+ghost use Rattle.mm_model.specs.Worlds.{alone};
+ghost use Rattle.mm_audit.specs.Refusals.{StandAlone, IsExtractError};
+
+use crate::extracting::ExtractError;
+use crate::own::{copies_of, slots_of};
+use crate::refusing::{Refused, refusal};
+use mm_image::Image;
+use mm_word::NoMemory;
+use std::alloc::Global;
+
+/// The image with the slots of groups that can stand alone.
+fn with_slots(alloc: Global, img: &Image, groups: &[u8]) -> Result<Image, NoMemory>
+    requires { StandAlone img.now (λ g. list_any (λ h. g == h) groups.now) }
+    ensures { IfOk result (λ own. own ≡ alone img.now (λ g. list_any (λ h. g == h) groups.now)) }
+{
+    let Ok(slots) = slots_of(alloc, img.slots(), groups) else {
+        return Err(NoMemory);
+    };
+    let Ok(pages) = copies_of(alloc, img.pages()) else {
+        return Err(NoMemory);
+    };
+    match Image::new(img.version(), img.split(), slots, pages, img.frames()) {
+        Some(own) => Ok(own),
+        None => unreachable!(),
+    }
+}
+
+/// The image without the slots of other groups: the slots of these groups, and the version, the mode, the frames and all pages as they
+/// were.
+pub fn alone(alloc: Global, img: &Image, groups: &[u8]) -> Result<Image, ExtractError>
+    ensures stand { IfOk result (λ own. StandAlone img.now (λ g. list_any (λ h. g == h) groups.now)) }
+    ensures own { IfOk result (λ own. own ≡ alone img.now (λ g. list_any (λ h. g == h) groups.now)) }
+    ensures refused { IfErr result (λ e. IsExtractError img.now (λ g. list_any (λ h. g == h) groups.now) e) }
+{
+    match refusal(img, groups) {
+        Some(Refused::NoGroup) => Err(ExtractError::NoGroup),
+        Some(Refused::Crosses { slot }) => Err(ExtractError::Crosses { slot }),
+        None => match with_slots(alloc, img, groups) {
+            Ok(own) => Ok(own),
+            Err(_) => Err(ExtractError::NoMemory),
+        },
+    }
+}

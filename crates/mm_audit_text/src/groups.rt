@@ -1,0 +1,68 @@
+// What is written of each group.
+ghost use Rattle.std.specs.Prelude.{◌≡◌, ◌<◌, ◌==◌, List, ℕ};
+ghost use Rattle.std.specs.List.{list_any};
+ghost use Rattle.mm_model.specs.Image.{Image as ImageValue};
+ghost use Rattle.mm_model.specs.Audit.{AuditOf};
+ghost use Rattle.mm_model.specs.Reach.Entries.{All};
+ghost use Rattle.mm_text.specs.Gathers.{Gathers};
+ghost use Rattle.mm_audit.specs.Audits.{Audits};
+ghost use Rattle.mm_audit_text.specs.Parts.{IsPart, has_slot as has_slot_in, if_present, present};
+
+use crate::lines::{put_apart, put_kind, put_segments};
+use mm_audit::Reach;
+use mm_image::Image;
+use mm_io::Sink;
+use mm_model::Slot;
+use mm_text::Gather;
+
+/// How many groups there can be.
+const GROUPS: u8 = 64;
+
+/// Whether a group has a slot.
+fn has_slot(slots: &[Slot], group: u8) -> bool
+    ensures { result ≡ list_any (λ s. s.group == group) slots.now }
+{
+    slots.iter().any(|s| s.group == group)
+}
+
+/// Appends whether a group is privileged, and the segments that it can touch and write.
+fn put_group<O: Sink>(text: &mut Gather, out: &mut O, reach: &Reach, group: u8)
+    requires { group < 64 }
+    ensures { (own : List ℕ) × Gathers O.taken O.faults out.old out.new text.old text.new own
+        × ((i : ImageValue) → Audits i All reach.now → AuditOf i group own) }
+{
+    put_kind(text, out, group, reach.privileged(group));
+    put_segments(text, out, "touch", reach.touch_set(group).items());
+    put_segments(text, out, "write", reach.write_set(group).items());
+}
+
+/// Appends what is written of a group where it has a slot, and maybe whether it stands apart.
+fn put_present<O: Sink>(
+    text: &mut Gather,
+    out: &mut O,
+    reach: &Reach,
+    img: &Image,
+    group: u8,
+    apart: bool,
+)
+    requires { group < 64 }
+    ensures { (part : List ℕ) × Gathers O.taken O.faults out.old out.new text.old text.new part
+        × (Audits img.now All reach.now → IsPart img.now apart (if_present (has_slot_in img.now group) group) part) }
+{
+    if has_slot(img.slots(), group) {
+        put_group(text, out, reach, group);
+        if apart {
+            put_apart(text, out, reach, &[group]);
+        }
+    }
+}
+
+/// Appends what is written of each group that has a slot, ascending, each maybe with whether it stands apart.
+pub fn put_groups<O: Sink>(text: &mut Gather, out: &mut O, reach: &Reach, img: &Image, apart: bool)
+    ensures { (whole : List ℕ) × Gathers O.taken O.faults out.old out.new text.old text.new whole
+        × (Audits img.now All reach.now → IsPart img.now apart (present img.now) whole) }
+{
+    for group in 0..GROUPS {
+        put_present(text, out, reach, img, group, apart);
+    }
+}

@@ -1,0 +1,10 @@
+//! The text of an audit: what each group can touch and write, and which groups stand apart.
+#![tactic(auto)]
+
+mod audit;
+mod groups;
+mod lines;
+#[cfg(test)]
+mod tests;
+
+pub use audit::{write_audit, write_audit_of};

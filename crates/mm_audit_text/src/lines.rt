@@ -1,0 +1,113 @@
+// The lines of an audit.
+ghost use Rattle.std.specs.Prelude.{◌≡◌, List, ℕ};
+ghost use Rattle.std.specs.List.{flat_map};
+ghost use Rattle.mm_model.specs.Audit.{ApartLine, apart_line, groups_text, kind_line, segment_line, verdict_text};
+ghost use Rattle.mm_model.specs.Image.{Image as ImageValue};
+ghost use Rattle.mm_model.specs.Reach.Entries.{All};
+ghost use Rattle.mm_text.specs.Gathers.{Gathers};
+ghost use Rattle.mm_audit.specs.Audits.{Audits};
+ghost use Rattle.mm_audit.specs.Crossing.{verdict_of};
+
+use mm_audit::{Apart, Reach};
+use mm_io::Sink;
+use mm_text::{Gather, Piece};
+
+/// Appends whether a group is privileged.
+pub fn put_kind<O: Sink>(text: &mut Gather, out: &mut O, group: u8, privileged: bool)
+    ensures { Gathers O.taken O.faults out.old out.new text.old text.new (kind_line group privileged) }
+{
+    let kind = if privileged {
+        " privileged\n"
+    } else {
+        " user\n"
+    };
+    text.put(
+        out,
+        &[
+            Piece::Text("group "),
+            Piece::Decimal(group as u64),
+            Piece::Text(kind),
+        ],
+    );
+}
+
+/// Appends the line of a segment.
+fn put_segment<O: Sink>(text: &mut Gather, out: &mut O, name: &str, base: u64, log: u8)
+    ensures { Gathers O.taken O.faults out.old out.new text.old text.new (segment_line name.now (base, log)) }
+{
+    text.put(
+        out,
+        &[
+            Piece::Text(name),
+            Piece::Text(" "),
+            Piece::HexAddress(base),
+            Piece::Text(" "),
+            Piece::Decimal(log as u64),
+            Piece::Text("\n"),
+        ],
+    );
+}
+
+/// Appends the lines of segments.
+pub fn put_segments<O: Sink>(text: &mut Gather, out: &mut O, name: &str, segments: &[(u64, u8)])
+    ensures { Gathers O.taken O.faults out.old out.new text.old text.new (flat_map (segment_line name.now) segments.now) }
+{
+    for segment in segments {
+        put_segment(text, out, name, segment.0, segment.1);
+    }
+}
+
+/// Appends the numbers of groups, with commas between.
+fn put_numbers<O: Sink>(text: &mut Gather, out: &mut O, groups: &[u8])
+    ensures { Gathers O.taken O.faults out.old out.new text.old text.new (groups_text groups.now) }
+{
+    let [first, rest @ ..] = groups else {
+        return;
+    };
+    text.put_piece(out, &Piece::Decimal(*first as u64));
+    for group in rest {
+        text.put(out, &[Piece::Text(","), Piece::Decimal(*group as u64)]);
+    }
+}
+
+/// Appends an answer.
+fn put_verdict<O: Sink>(text: &mut Gather, out: &mut O, apart: Apart)
+    ensures { Gathers O.taken O.faults out.old out.new text.old text.new (verdict_text (verdict_of apart)) }
+{
+    match apart {
+        Apart::Yes => text.put(out, &[Piece::Text("yes")]),
+        Apart::Handler { slot } => {
+            text.put(out, &[Piece::Text("handler "), Piece::Decimal(slot as u64)]);
+        }
+        Apart::Writer { group, word } => {
+            text.put(
+                out,
+                &[
+                    Piece::Text("writer "),
+                    Piece::Decimal(group as u64),
+                    Piece::Text(" word "),
+                    Piece::HexAddress(word),
+                ],
+            );
+        }
+    }
+}
+
+/// Appends the line that says whether groups stand apart.
+fn put_answer<O: Sink>(text: &mut Gather, out: &mut O, groups: &[u8], apart: Apart)
+    ensures { Gathers O.taken O.faults out.old out.new text.old text.new (apart_line groups.now (verdict_of apart)) }
+{
+    text.put(out, &[Piece::Text("apart ")]);
+    put_numbers(text, out, groups);
+    text.put(out, &[Piece::Text(" ")]);
+    put_verdict(text, out, apart);
+    text.put(out, &[Piece::Text("\n")]);
+}
+
+/// Appends whether groups stand apart from all others.
+pub fn put_apart<O: Sink>(text: &mut Gather, out: &mut O, reach: &Reach, groups: &[u8])
+    ensures { (line : List ℕ) × Gathers O.taken O.faults out.old out.new text.old text.new line
+        × ((i : ImageValue) → Audits i All reach.now → ApartLine i groups.now line) }
+{
+    put_answer(text, out, groups, reach.apart(groups));
+}

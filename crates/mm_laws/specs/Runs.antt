@@ -1,0 +1,62 @@
+-- What is promised of a whole run: what it touches is granted, and groups that stand apart see what they see alone.
+use Rattle.std.specs.Prelude.{◌≡◌, ◌⊎◌, ℕ, Bool, List, [], ◌∷◌, ◌++◌, Option, IfSome}
+use Rattle.std.specs.List.{AllByRecursion}
+use Rattle.mm_model.specs.declared.counts.Counts.{Counts}
+use Rattle.mm_model.specs.Lines.{newline}
+use Rattle.mm_model.specs.Image.{Image, start}
+use Rattle.mm_model.specs.Spelling.{IsImage}
+use Rattle.mm_model.specs.Turn.{Turned}
+use Rattle.mm_model.specs.Run.{turn_of, run}
+use Rattle.mm_model.specs.Schedule.{only}
+use Rattle.mm_model.specs.Report.{report}
+use Rattle.mm_model.specs.Trace.{touches, entries}
+use Rattle.mm_model.specs.Reach.{Entries}
+use Rattle.mm_model.specs.Reach.Entries.{These}
+use Rattle.mm_model.specs.Worlds.{Apart, SameView, CellLinesOf, alone, sections_of}
+use Rattle.mm_laws.specs.Granted.{TouchGranted, EntryGranted, group_in}
+use Rattle.mm_laws.specs.Isolated.{HasSlot}
+
+-- 1. Reach.
+
+-- Each access of a turn lies in the segment of a pointer that is granted to the slot's group, with the rights of the access's kind.
+-- A done entry leaves the slot at the execute form of its enter pointer, with its address, and that pointer was granted before.
+pub record TurnReaches (i : Image) (e : Entries) (t : Turned) : Type 0 where
+  pub touched : AllByRecursion (TouchGranted i e (group_in t)) (touches t.step)
+  pub entered : IfSome t.step.entered (EntryGranted i e t)
+
+-- so it is for every cycle of a run, under the entries that were done before that cycle
+abbrev pub Reaches : Image → List ℕ → Type 0
+Reaches i items =
+    (before behind : List ℕ) (n : ℕ) → items ≡ before ++ n ∷ behind → TurnReaches i (These (entries (start i) before)) (turn_of (run (start i) before) n)
+
+-- 2. Lines.
+
+-- the text is made of whole lines: it is empty or ends with a newline
+abbrev pub EndsALine : List ℕ → Type 0
+EndsALine text = (text ≡ []) ⊎ ((rest : List ℕ) × (text ≡ rest ++ newline))
+
+-- The lines of one text are lines of another, in their order: these are the other's lines with some of them left out.
+pub data AreLinesOf : List ℕ → List ℕ → Type 0 where
+  no_line : AreLinesOf [] []
+  kept : {text lines whole : List ℕ} → EndsALine text → AreLinesOf lines whole → AreLinesOf (text ++ lines) (text ++ whole)
+  left_out : {text lines whole : List ℕ} → EndsALine text → AreLinesOf lines whole → AreLinesOf lines (text ++ whole)
+
+-- 3. Isolation.
+
+-- The groups see of a run what they see of a run without the others, under their own items; and their sections of the report,
+-- and the lines of the cells that they can touch, are lines of what was written.
+pub record Isolates (i : Image) (items : List ℕ) (written : List ℕ) (c : ℕ → Bool) : Type 0 where
+  pub view : SameView i items (alone i c) (only i items c) c
+  pub sections : AreLinesOf (sections_of c (run (start i) items).core) written
+  pub cells : (lines : List ℕ) → CellLinesOf i c (run (start i) items) lines → AreLinesOf lines written
+
+-- 4. The laws.
+
+abbrev pub RunsReach : Type 0
+RunsReach = (i : Image) (items : List ℕ) → IsImage i → Reaches i items
+
+-- whatever the memory counted
+abbrev pub RunsIsolate : Type 0
+RunsIsolate =
+    (i : Image) (items : List ℕ) (counts : Option Counts) (c : ℕ → Bool) → IsImage i → HasSlot i c → Apart i c
+    → Isolates i items (report (run (start i) items) i counts) c

@@ -1,0 +1,158 @@
+-- Outputs as they are collected group by group, and the cells of a page.
+use Rattle.std.proofs.Common.{◌≡◌, ℕ, zero, suc, ◌+◌, ◌*◌, ◌%◌, ◌<◌, ◌^◌, inl, inr, true, false, eqb, ◌||◌, List, [], ◌∷◌, ◌++◌, length, map, take, get_or, Option, Some, None, slice_get, slice_index_or, refl, sym, ap, subst, ◌∙◌, arith}
+use Rattle.std.specs.Prelude.{slice_index}
+use Rattle.std.specs.Option.{is_some}
+use Rattle.std.specs.List.{AllByRecursion, flat_map}
+use Rattle.std.specs.List.Sorted.{IsStrictlyIncreasing}
+use Rattle.std.proofs.lemmas.Bool.{cases_eq}
+use Rattle.std.proofs.lemmas.List.{map-append, take_more, flat_map_more}
+use Rattle.std.proofs.lemmas.List.Folds.{list_any-append}
+use Rattle.mm_word.specs.declared.word.Cell.{Cell}
+use Rattle.mm_model.specs.Memory.{Memory, page_of, place_of, page_at, is_mapped, cell_in, cell_at, zero_cell, IsPage, IsPaged}
+use Rattle.mm_model.specs.declared.event.Event.{Event}
+use Rattle.mm_model.specs.Slot.{Slot}
+use Rattle.mm_model.specs.State.{Core, queue_at, output_of}
+use Rattle.mm_model.specs.Fits.{slots_of}
+use Rattle.mm_model.proofs.CoreRows.{each_map, each_push, rest_rises, above_first}
+use Rattle.mm_model.proofs.Memories.{page_whole, cell_at-aligned}
+use Rattle.mm_mem.specs.Places.{IsAt}
+use Rattle.mm_mem.proofs.Flats.{mapped_here, page_here}
+use Rattle.mm_thread.specs.declared.output.Output.{Output}
+use Rattle.mm_machine.specs.Snapshot.{groups_of, has_group, has_output, IsOutputOf, queued_at}
+use Rattle.mm_machine.specs.Taking.{cells_of, OutputsBelow}
+use Rattle.mm_machine.proofs.Steps.{same_test, or_true}
+
+-- 1. Outputs.
+
+rising_then : (x : ℕ) (xs : List ℕ) → IsStrictlyIncreasing xs → AllByRecursion (λ y. x < y) xs → IsStrictlyIncreasing (x ∷ xs)
+rising_then x [] h low zero lt = absurd (omega arith)
+rising_then x (y ∷ ys) h low zero lt = low.0
+rising_then x xs h low (suc k) lt =
+    let next : suc k + 1 ≡ suc (k + 1) = omega arith in
+    let rest : slice_index xs k < slice_index xs (k + 1) = h k (omega arith) in
+    rw next rest
+
+rising_push : (xs : List ℕ) (y : ℕ) → IsStrictlyIncreasing xs → AllByRecursion (λ x. x < y) xs → IsStrictlyIncreasing (xs ++ y ∷ [])
+rising_push [] y h low = λ k lt. absurd (omega arith)
+rising_push (x ∷ xs) y h low = rising_then x (xs ++ y ∷ []) (rising_push xs y (rest_rises x xs h) low.1) (each_push (λ z. x < z) xs y (above_first x xs h) low.0)
+
+low_groups : (n : ℕ) (os : List Output) → AllByRecursion (λ (o : Output). o.group < n) os → AllByRecursion (λ x. x < n) (groups_of os)
+low_groups n [] h = tt
+low_groups n (o ∷ os) h = (h.0, low_groups n os h.1)
+
+pub no_outputs : (core : Core) (slots : List Slot) → OutputsBelow core slots 0 []
+no_outputs core slots = record { rising = λ k lt. absurd (omega arith); low = tt; used = tt; shown = λ g lt has. absurd (omega arith); said = tt }
+
+module _ (core : Core) (slots : List Slot) (n : ℕ) (os : List Output) (so_far : OutputsBelow core slots n os) where
+  higher : AllByRecursion (λ (o : Output). o.group < n + 1) os
+  higher = each_map (λ (o : Output). o.group < n) (λ (o : Output). o.group < n + 1) (λ o lt. omega arith) os so_far.low
+
+  pub output_more : (o : Output) → o.group ≡ n → o.bytes.items ≡ output_of core n → has_group slots n ≡ true → OutputsBelow core slots (n + 1) (os ++ o ∷ [])
+  output_more o is said has = record {
+    rising = subst IsStrictlyIncreasing (sym (map-append (λ (x : Output). x.group) os (o ∷ [])))
+        (rising_push (groups_of os) o.group so_far.rising (subst (λ (k : ℕ). AllByRecursion (λ x. x < k) (groups_of os)) (sym is) (low_groups n os so_far.low)));
+    low = each_push (λ (x : Output). x.group < n + 1) os o higher (omega (arith, is));
+    used = each_push (λ (x : Output). has_group slots x.group ≡ true) os o so_far.used (ap (has_group slots) is ∙ has);
+    shown = λ g lt here. list_any-append (λ (x : Output). eqb x.group g) os (o ∷ []) ∙ by g lt here;
+    said = each_push (IsOutputOf core) os o so_far.said (said ∙ ap (output_of core) (sym is));
+  }
+    where
+      by : (g : ℕ) → g < n + 1 → has_group slots g ≡ true → (has_output os g || (eqb o.group g || false)) ≡ true
+      by g lt here = elim (cases_eq g n) as (λ _. (has_output os g || (eqb o.group g || false)) ≡ true) [
+        | inl same ↦ ap (λ b. has_output os g || (b || false)) (same_test o.group g (is ∙ sym same)) ∙ or_true (has_output os g)
+        | inr other ↦ ap (λ b. b || (eqb o.group g || false)) (so_far.shown g (omega arith) here)
+      ]
+
+  pub output_not : has_group slots n ≡ false → OutputsBelow core slots (n + 1) os
+  output_not none = record {
+    rising = so_far.rising;
+    low = higher;
+    used = so_far.used;
+    shown = λ g lt here. elim (cases_eq g n) as (λ _. has_output os g ≡ true) [
+      | inl same ↦ let no : has_group slots g ≡ false = ap (has_group slots) same ∙ none in absurd cc
+      | inr other ↦ so_far.shown g (omega arith) here
+    ];
+    said = so_far.said;
+  }
+
+-- 2. The cells of a mapped page.
+
+page_there : (m : Memory) (p : ℕ) → is_mapped m p ≡ true → page_at m p ≡ Some (cells_of m p)
+page_there m p mapped = go (page_at m p) refl mapped
+  where
+    go : (o : Option (List Cell)) → page_at m p ≡ o → is_some o ≡ true → page_at m p ≡ Some (cells_of m p)
+    go None e h = cc
+    go (Some cells) e h = rw e refl
+
+pub page_is : (m : Memory) (p : ℕ) → IsPaged m → is_mapped m p ≡ true → IsPage (p, cells_of m p)
+page_is m p paged mapped = page_whole m paged p (cells_of m p) (page_there m p mapped)
+
+got : {X : Type 0} (xs : List X) (i : ℕ) (d : X) → i < length xs → slice_get xs i ≡ Some (slice_index_or xs i d)
+got [] i d h = absurd (omega arith)
+got (x ∷ xs) zero d h = refl
+got (x ∷ xs) (suc i) d h = got xs i d (omega arith)
+
+pub cell_there : (m : Memory) (p i : ℕ) → IsPaged m → is_mapped m p ≡ true → i < 512 → cell_at m (p * 4096 + 8 * i) ≡ Some (slice_index_or (cells_of m p) i zero_cell)
+cell_there m p i paged mapped h =
+    let w : ℕ = p * 4096 + 8 * i in
+    let aligned : w % 8 ≡ 0 = omega arith in
+    let page : page_of w ≡ p = omega arith in
+    let place : place_of w ≡ i = omega arith in
+    cell_at-aligned m w aligned
+    ∙ ap (λ (q : ℕ). cell_in (page_at m q) (place_of w)) page
+    ∙ ap (λ (k : ℕ). cell_in (page_at m p) k) place
+    ∙ ap (λ (o : Option (List Cell)). cell_in o i) (page_there m p mapped)
+    ∙ got (cells_of m p) i zero_cell (let size = (page_is m p paged mapped).cells in omega arith)
+
+-- 3. Pages by their places.
+
+some_same : {A : Type 0} {x y : A} → Some x ≡ Some y → x ≡ y
+some_same e = cc
+
+at_place : (es : List (ℕ × List Cell)) (i n : ℕ) → slice_get (map (λ e. e.0) es) i ≡ Some n → IsAt n es i
+at_place [] i n e = cc
+at_place (x ∷ es) zero n e = record { in_range = omega arith; has_number = λ d. some_same e }
+at_place (x ∷ es) (suc i) n e = let later = at_place es i n e in record { in_range = omega (arith, later.in_range); has_number = later.has_number }
+
+module _ (m : Memory) (i n : ℕ) (paged : IsPaged m) (is : slice_get (map (λ (e : ℕ × List Cell). e.0) m.pages) i ≡ Some n) where
+  pub place_mapped : is_mapped m n ≡ true
+  place_mapped = mapped_here m n i paged (at_place m.pages i n is)
+
+  pub place_number : n < 2 ^ 42
+  place_number = (page_is m n paged place_mapped).number
+
+  -- the page of a number, at its place
+  pub place_page : get_or m.pages i (n, cells_of m n) ≡ (n, cells_of m n)
+  place_page =
+      let here = at_place m.pages i n is in
+      let e : ℕ × List Cell = get_or m.pages i (n, cells_of m n) in
+      let number : e.0 ≡ n = here.has_number (n, cells_of m n) in
+      let same : e ≡ get_or m.pages i e = any_default m.pages i (n, cells_of m n) e here.in_range in
+      let cells : ◌≡◌ {A = Option (List Cell)} (Some e.1) (Some (cells_of m n)) = sym (page_here m n i e paged here same) ∙ page_there m n place_mapped in
+      ap (λ (k : ℕ). let pair : ℕ × List Cell = (k, e.1) in pair) number ∙ ap (λ (cs : List Cell). let pair : ℕ × List Cell = (n, cs) in pair) (some_same cells)
+    where
+      any_default : {X : Type 0} (xs : List X) (j : ℕ) (d e : X) → j < length xs → get_or xs j d ≡ get_or xs j e
+      any_default xs j d e h = let a = got xs j d h in let b = got xs j e h in cc
+
+-- 4. Slots and events by their places.
+
+got_within : {A : Type 0} (xs : List A) (i : ℕ) (x : A) → slice_get xs i ≡ Some x → i < length xs
+got_within [] i x is = cc
+got_within (y ∷ ys) zero x is = omega arith
+got_within (y ∷ ys) (suc i) x is = omega (arith, got_within ys i x is)
+
+pub take_got : {A : Type 0} (xs : List A) (i : ℕ) (x : A) → slice_get xs i ≡ Some x → take (i + 1) xs ≡ take i xs ++ x ∷ []
+take_got xs i x is =
+    let within = got_within xs i x is in
+    let same : get_or xs i x ≡ x = some_same (sym (got xs i x within) ∙ is) in
+    take_more xs i x within ∙ ap (λ y. take i xs ++ y ∷ []) same
+
+pub events_more : (core : Core) (i : ℕ) (s : Slot) (number : ℕ) (so_far : List (ℕ × Event)) (queue : List Event) → slice_get (slots_of core) i ≡ Some s → number ≡ s.number
+    → so_far ≡ flat_map (queued_at core) (take i (slots_of core)) → queue ≡ queue_at core number
+    → so_far ++ map (λ (e : Event). (number, e)) queue ≡ flat_map (queued_at core) (take (i + 1) (slots_of core))
+events_more core i s number so_far queue is named before own =
+    ap (λ (xs : List (ℕ × Event)). xs ++ map (λ (e : Event). (number, e)) queue) before
+    ∙ ap (λ (es : List Event). flat_map (queued_at core) (take i (slots_of core)) ++ map (λ (e : Event). (number, e)) es) own
+    ∙ ap (λ (n : ℕ). flat_map (queued_at core) (take i (slots_of core)) ++ map (λ (e : Event). (n, e)) (queue_at core n)) named
+    ∙ flat_map_more (queued_at core) [] (take i (slots_of core)) s
+    ∙ ap (flat_map (queued_at core)) (sym (take_got (slots_of core) i s is))

@@ -1,0 +1,287 @@
+-- What a core, and a state, is that is put back to the parts of a snapshot.
+use Rattle.std.proofs.Common.{◌≡◌, ◌≢◌, ℕ, zero, suc, ◌+◌, ◌<◌, ◌≤◌, Bool, true, false, cond, eqb, List, [], ◌∷◌, length, map, replicate, Option, Some, None, refl, sym, ap, subst, ◌∙◌, arith}
+use Rattle.std.specs.Prelude.{IfSome, IsSomeAnd, IsTrue, slice_index_or}
+use Rattle.std.specs.List.{AllByRecursion}
+use Rattle.std.specs.List.Sorted.{IsStrictlyIncreasing}
+use Rattle.std.specs.Ordering.{nat_cmp}
+use Rattle.std.specs.FinMap.{is_sorted}
+use Rattle.std.specs.Option.{is_some}
+use Rattle.std.proofs.Props.{props}
+use Rattle.std.proofs.Math.Logic.{∥∥₁_elim, ∥∥₁_map}
+use Rattle.mm_word.specs.declared.word.Cell.{Cell}
+use Rattle.mm_model.specs.declared.slot.SlotState.{SlotState}
+use Rattle.mm_model.specs.declared.slot.SlotState.TheVariants.{Running, Waiting, Taken, Halted}
+use Rattle.mm_model.specs.declared.event.Event.{Event}
+use Rattle.mm_model.specs.Memory.{Memory, IsPage}
+use Rattle.mm_model.specs.Slot.{Slot}
+use Rattle.mm_model.specs.State.{Core, State, slot_at, queue_at, output_of}
+use Rattle.mm_model.specs.Image.{slot_limit, output_limit}
+use Rattle.mm_model.specs.Spelling.{numbers_of, IsOther, HoldsWords}
+use Rattle.mm_model.specs.Fits.{one_if, is_handled, is_waiting, waits_for, events_of, identity_of, slots_of, has_slot, IsAtSlot, IsSlot, IsCore, EventHoldsWords, RowHoldsWords}
+use Rattle.mm_model.proofs.CoreRows.{each_map, slot_limit-few, rest_rises, above_first, Rises, each_slot, slot_has, other_at, other_in, identities_of, stays_by}
+use Rattle.mm_model.proofs.CoreSteps.{waits_for-says}
+use Rattle.mm_image.proofs.Rising.{AreRisingFrom, sorted_from}
+use Rattle.mm_thread.specs.declared.output.Output.{Output}
+use Rattle.mm_thread.specs.Parts.{events_for, row_with, core_of, AreParts}
+use Rattle.mm_thread.proofs.Assigned.{queue-with, slots-with}
+use Rattle.mm_thread.proofs.Sound.{queue-none}
+use Rattle.mm_machine.specs.Kept.{Kept}
+use Rattle.mm_machine.specs.Snapshot.{Parts, numbered, has_group, page_numbers, IsEventOf, IsAwaited, IsPending, IsSnapshot, IsTypedSlot, IsTypedEvent, IsTypedPage, IsTyped, CanRestore, restored}
+use Rattle.mm_machine.proofs.Pendings.{loads_counted}
+use Rattle.mm_machine.proofs.Queues.{slot_numbered, numbered_has, matched, waits_handled}
+use Rattle.mm_machine.proofs.Outputs.{outputs_count, outputs_within, nothing_within, output_untouched, outputs_given, group_has}
+use Rattle.mm_machine.proofs.Steps.{from_zero}
+
+-- 1. Lists.
+
+into_map : {A B : Type 0} (P : B → Type 0) (f : A → B) (xs : List A) → AllByRecursion (λ x. P (f x)) xs → AllByRecursion P (map f xs)
+into_map P f [] h = tt
+into_map P f (x ∷ xs) h = (h.0, into_map P f xs h.1)
+
+out_of_map : {A B : Type 0} (P : B → Type 0) (f : A → B) (xs : List A) → AllByRecursion P (map f xs) → AllByRecursion (λ x. P (f x)) xs
+out_of_map P f [] h = tt
+out_of_map P f (x ∷ xs) h = (h.0, out_of_map P f xs h.1)
+
+abbrev Identity : Type 0
+Identity = ℕ × ℕ × Option ℕ
+
+-- what holds of the identities of slots holds of those of others that are the same
+by_identities : (P : Identity → Type 0) (xs ys : List Slot) → map identity_of xs ≡ map identity_of ys → AllByRecursion (λ (s : Slot). P (identity_of s)) ys → AllByRecursion (λ (s : Slot). P (identity_of s)) xs
+by_identities P xs ys same h = out_of_map P identity_of xs (subst (AllByRecursion P) (sym same) (into_map P identity_of ys h))
+
+each_for : (P : Event → Type 0) (n : ℕ) (xs : List (ℕ × Event)) → AllByRecursion (λ (x : ℕ × Event). P x.1) xs → AllByRecursion P (events_for n xs)
+each_for P n [] h = tt
+each_for P n (x ∷ xs) h = by (eqb x.0 n) (each_for P n xs h.1)
+  where
+    by : (b : Bool) → AllByRecursion P (events_for n xs) → AllByRecursion P (cond b (x.1 ∷ events_for n xs) (events_for n xs))
+    by true rest = (h.0, rest)
+    by false rest = rest
+
+pub nothing_at : (n g : ℕ) → slice_index_or {A = List ℕ} (replicate n []) g [] ≡ []
+nothing_at zero g = refl
+nothing_at (suc n) zero = refl
+nothing_at (suc n) (suc g) = nothing_at n g
+
+rising_from : (least : ℕ) (pages : List (ℕ × List Cell)) → IsStrictlyIncreasing (page_numbers pages) → AllByRecursion (λ y. least ≤ y) (page_numbers pages) → AreRisingFrom least pages
+rising_from least [] rising low = tt
+rising_from least (page ∷ pages) rising low = (
+  low.0,
+  rising_from (page.0 + 1) pages (rest_rises page.0 (page_numbers pages) rising)
+      (each_map (λ y. page.0 < y) (λ y. page.0 + 1 ≤ y) (λ y up. omega arith) (page_numbers pages) (above_first page.0 (page_numbers pages) rising)),
+)
+
+pub pages_sorted : (pages : List (ℕ × List Cell)) → IsStrictlyIncreasing (page_numbers pages) → IsTrue (is_sorted nat_cmp pages)
+pages_sorted pages rising = sorted_from 0 pages (rising_from 0 pages rising (from_zero (page_numbers pages)))
+
+-- 2. The core.
+
+-- what is kept of the core that is put back
+pub record IsHost (core : Core) : Type 0 where
+  pub rising : Rises core
+  pub low : AllByRecursion (λ (s : Slot). (s.number < slot_limit core.version) × (s.group < slot_limit core.version)) (slots_of core)
+  pub handlers : AllByRecursion (λ (s : Slot). IfSome s.handler (λ h. (h ≢ s.number) × (is_some (slot_at core h) ≡ true))) (slots_of core)
+  pub outputs : length core.outputs ≡ 64
+  pub silent : (g : ℕ) → has_slot core g ≡ false → output_of core g ≡ []
+
+host_of : (core : Core) → IsCore core → IsHost core
+host_of core whole = record {
+  rising = whole.rising;
+  low = each_map (IsSlot core.version core.split) (λ (s : Slot). (s.number < slot_limit core.version) × (s.group < slot_limit core.version)) (λ s is. (is.number, is.group)) (slots_of core) whole.slots;
+  handlers = each_map (λ (s : Slot). IfSome s.handler (IsOther (slots_of core) s.number)) (λ (s : Slot). IfSome s.handler (λ h. (h ≢ s.number) × (is_some (slot_at core h) ≡ true)))
+      (λ s other. by s.number s.handler other) (slots_of core) whole.handlers;
+  outputs = whole.outputs;
+  silent = whole.silent;
+}
+  where
+    by : (n : ℕ) (o : Option ℕ) → IfSome o (IsOther (slots_of core) n) → IfSome o (λ h. (h ≢ n) × (is_some (slot_at core h) ≡ true))
+    by n None k = tt
+    by n (Some h) k = let other = other_at core whole.rising n h k in (other.0, ap is_some other.1.1)
+
+pub hosts : (core : Core) → ∥ IsCore core ∥₁ → IsHost core
+hosts core whole = ∥∥₁_elim whole (hlevel props) (λ k. host_of core k)
+
+pub kept_hosts : (s : State) → ∥ Kept s ∥₁ → IsHost s.core
+kept_hosts s kept = ∥∥₁_elim kept (hlevel props) (λ k. host_of s.core k.fits.core)
+
+some_of : {A : Type 0} (o : Option A) → is_some o ≡ true → (x : A) × (o ≡ Some x)
+some_of None h = absurd cc
+some_of (Some x) h = (x, refl)
+
+module _ (old : Core) (p : Parts) (was : IsHost old) (rules : IsSnapshot p) (typed : IsTyped p) (same : map identity_of p.slots ≡ map identity_of (slots_of old)) where
+  abbrev core : Core
+  core = core_of old.version old.split p.slots p.events p.outputs
+
+  pub slots_are : slots_of core ≡ p.slots
+  slots_are = slots-with p.events p.slots
+
+  pub identities : identities_of core ≡ identities_of old
+  identities = ap (map identity_of) slots_are ∙ same
+
+  pub rising : Rises core
+  rising = subst (λ (slots : List Slot). IsStrictlyIncreasing (numbers_of slots)) (sym slots_are) rules.slots
+
+  pub at : (n : ℕ) → numbered p.slots n ≡ slot_at core n
+  at n = sym (ap (λ (slots : List Slot). numbered slots n) slots_are) ∙ slot_numbered core n
+
+  abbrev Low : Slot → Type 0
+  Low s = (s.number < slot_limit old.version) × (s.group < slot_limit old.version)
+
+  low : AllByRecursion Low p.slots
+  low = by_identities (λ (i : Identity). (i.0 < slot_limit old.version) × (i.1 < slot_limit old.version)) p.slots (slots_of old) same was.low
+
+  groups_small : AllByRecursion (λ (o : Output). o.group < 64) p.outputs
+  groups_small =
+      each_map (λ (o : Output). has_group p.slots o.group ≡ true) (λ (o : Output). o.group < 64)
+      (λ o has. group_has (λ g. g < 64) p.slots o.group (each_map Low (λ (s : Slot). s.group < 64) (λ s is. let least = is.1 in omega (arith, least, slot_limit-few old.version)) p.slots low) has) p.outputs rules.used
+
+  handlers : AllByRecursion (λ (s : Slot). IfSome s.handler (IsOther (slots_of core) s.number)) (slots_of core)
+  handlers =
+      each_slot (λ (s : Slot). IfSome s.handler (IsOther (slots_of core) s.number)) core rising
+      (λ n s is.
+      let before = stays_by core old n s (sym identities) is in
+      subst (λ (i : Identity). IfSome i.2 (IsOther (slots_of core) i.0)) before.same
+      (by before.now.handler before.now.number (slot_has (λ (t : Slot). IfSome t.handler (λ h. (h ≢ t.number) × (is_some (slot_at old h) ≡ true))) old n before.now was.handlers before.is)))
+    where
+      by : (o : Option ℕ) (n : ℕ) → IfSome o (λ h. (h ≢ n) × (is_some (slot_at old h) ≡ true)) → IfSome o (IsOther (slots_of core) n)
+      by None n k = tt
+      by (Some g) n k =
+          let some = some_of (slot_at old g) k.1 in
+          let there = stays_by old core g some.0 identities some.1 in
+          other_in core n g there.now k.0 there.is
+
+  -- no slot waits for a number that no slot has
+  pub unwaited : (n h : ℕ) → slot_at core h ≡ None → waits_for h (slot_at core n) ≡ false
+  unwaited n h none = by (slot_at core n) refl (waits_for h (slot_at core n)) refl
+    where
+      by : (o : Option Slot) → slot_at core n ≡ o → (b : Bool) → waits_for h (slot_at core n) ≡ b → b ≡ false
+      by o is false waits = refl
+      by None is true waits = let no = ap (waits_for h) is in cc
+      by (Some s) is true waits =
+          let says = waits_for-says h s (sym (ap (waits_for h) is) ∙ waits) in
+          let other : IfSome s.handler (IsOther (slots_of core) s.number) = slot_has (λ (t : Slot). IfSome t.handler (IsOther (slots_of core) t.number)) core n s handlers is in
+          let there = other_at core rising s.number h (subst (λ (o : Option ℕ). IfSome o (IsOther (slots_of core) s.number)) says.1 other) in
+          let found = there.1.1 in
+          cc
+
+  pub core_matched : (n h : ℕ) → events_of n (queue_at core h) ≡ one_if (waits_for h (slot_at core n))
+  unfolding queue_at slot_at
+  core_matched n h = by (slot_at core h) refl
+    where
+      by : (o : Option Slot) → slot_at core h ≡ o → events_of n (queue_at core h) ≡ one_if (waits_for h (slot_at core n))
+      by None none = ap (events_of n) (queue-none core h none) ∙ sym (ap one_if (unwaited n h none))
+      by (Some s) is =
+          ap (events_of n) (queue-with p.events h p.slots s is)
+          ∙ matched p.slots p.events rules.awaited rules.one_event n h
+          ∙ ap (λ (o : Option Slot). one_if (waits_for h o)) (at n)
+
+  events_placed : AllByRecursion (λ (x : ℕ × Event). IsAtSlot core x.1) p.events
+  events_placed =
+      each_map (IsAwaited p.slots) (λ (x : ℕ × Event). IsAtSlot core x.1)
+      (λ x h. subst (λ (o : Option Slot). IfSome o (λ (s : Slot). x.1.ip ≡ s.ip)) (at x.1.slot) (by x (numbered p.slots x.1.slot) h)) p.events rules.awaited
+    where
+      by : (x : ℕ × Event) (o : Option Slot) → IsSomeAnd o (IsEventOf x.0 x.1) → IfSome o (λ (s : Slot). x.1.ip ≡ s.ip)
+      by x None h = tt
+      by x (Some s) h = h.ip
+
+  core_in_place : (h : ℕ) → AllByRecursion (IsAtSlot core) (queue_at core h)
+  unfolding queue_at slot_at
+  core_in_place h = by (slot_at core h) refl
+    where
+      by : (o : Option Slot) → slot_at core h ≡ o → AllByRecursion (IsAtSlot core) (queue_at core h)
+      by None none = subst (AllByRecursion (IsAtSlot core)) (sym (queue-none core h none)) tt
+      by (Some s) is = subst (AllByRecursion (IsAtSlot core)) (sym (queue-with p.events h p.slots s is)) (each_for (IsAtSlot core) h p.events events_placed)
+
+  core_silent : (g : ℕ) → has_slot core g ≡ false → output_of core g ≡ []
+  unfolding output_of
+  core_silent g none =
+      let no : has_group p.slots g ≡ false = sym (ap (λ (slots : List Slot). has_group slots g) slots_are) ∙ none in
+      output_untouched p.outputs (replicate 64 []) g
+      (each_map (λ (o : Output). has_group p.slots o.group ≡ true) (λ (o : Output). o.group ≢ g) (λ o yes is. let both = ap (has_group p.slots) is in cc) p.outputs rules.used)
+      ∙ nothing_at 64 g
+
+  pub core_given : AllByRecursion (λ (o : Output). output_of core o.group ≡ o.bytes.items) p.outputs
+  unfolding output_of
+  core_given = outputs_given p.outputs (replicate 64 []) rules.groups groups_small
+
+  module _ (mode : old.split ≡ false → AllByRecursion (λ (s : Slot). s.pending ≡ []) p.slots) (short : AllByRecursion (λ (o : Output). length o.bytes.items ≤ output_limit old.version) p.outputs) where
+    core_slot : (n : ℕ) (s : Slot) → slot_at core n ≡ Some s → IsSlot old.version old.split s
+    core_slot n s is =
+        let found : numbered p.slots n ≡ Some s = at n ∙ is in
+        let least = (numbered_has Low p.slots n s low found).0 in
+        let kept = (numbered_has IsTypedSlot p.slots n s typed.slots found).0 in
+        let pending = (numbered_has IsPending p.slots n s rules.pending found).0 in
+        record {
+          number = least.0;
+          group = least.1;
+          executable = kept.executable;
+          registers = kept.registers;
+          flags = kept.flags;
+          pending = λ r. loads_counted r s.pending ∙ (pending r).loads;
+          zero = λ r empty. (pending r).zero empty;
+          mode = λ off. (numbered_has (λ (t : Slot). t.pending ≡ []) p.slots n s (mode off) found).0;
+          handled = by s.state refl;
+        }
+      where
+        by : (state : SlotState) → s.state ≡ state → is_handled state ≡ true → s.handler ≢ None
+        by Running e h = cc
+        by Waiting e h = waits_handled p.slots p.events rules.awaited rules.one_event n s (at n ∙ is) (ap is_waiting e)
+        by Taken e h = (numbered_has (λ (t : Slot). t.state ≡ Taken → t.handler ≢ None) p.slots n s rules.taken (at n ∙ is)).0 e
+        by (Halted cause) e h = cc
+
+    pub core_whole : IsCore core
+    core_whole = record {
+      rising = rising;
+      slots = each_slot (IsSlot old.version old.split) core rising core_slot;
+      handlers = handlers;
+      matched = core_matched;
+      in_place = core_in_place;
+      outputs = outputs_count p.outputs (replicate 64 []);
+      within = outputs_within (output_limit old.version) p.outputs (replicate 64 []) short (nothing_within (output_limit old.version) 64);
+      silent = core_silent;
+    }
+
+    pub are_parts : AreParts old p.slots p.events p.outputs
+    are_parts = record { whole = core_whole; same = same; given = core_given }
+
+-- 3. The state.
+
+rows_words : (events : List (ℕ × Event)) → AllByRecursion IsTypedEvent events → (slots : List Slot) → AllByRecursion IsTypedSlot slots → AllByRecursion RowHoldsWords (map (row_with events) slots)
+rows_words events good [] h = tt
+rows_words events good (s ∷ slots) h = (record { slot = h.0.words; events = each_for EventHoldsWords s.number events good }, rows_words events good slots h.1)
+
+module _ (s : State) (p : Parts) (rules : IsSnapshot p) (typed : IsTyped p) (can : CanRestore s p) where
+  restored_keeps : Kept s → Kept (restored s p)
+  restored_keeps k =
+      let host = host_of s.core k.fits.core in
+      record {
+        image = k.image;
+        fits = record {
+          same_slots = identities s.core p host rules typed can.slots ∙ k.fits.same_slots;
+          version = k.fits.version;
+          split = k.fits.split;
+          frames = k.fits.frames;
+          core = core_whole s.core p host rules typed can.slots can.mode can.outputs;
+          paged = record { rising = pages_sorted p.pages rules.pages; whole = each_map IsTypedPage IsPage (λ page h. h.whole) p.pages typed.pages; fitting = can.pages };
+          rows = rows_words p.events typed.events p.slots typed.slots;
+          cells = each_map IsTypedPage HoldsWords (λ page h. h.words) p.pages typed.pages;
+        };
+        turns = subst (AllByRecursion (λ (x : Slot). x.turns ≤ p.cycles)) (sym (slots_are s.core p host rules typed can.slots)) rules.turns;
+      }
+
+  pub restored_kept : (t : State) → t ≡ restored s p → ∥ Kept s ∥₁ → ∥ Kept t ∥₁
+  restored_kept t is kept = ∥∥₁_map kept (λ k. subst Kept (sym is) (restored_keeps k))
+
+-- 4. From the parts as they were read.
+
+module _ (s : State) (p : Parts) (slots : List Slot) (events : List (ℕ × Event)) (outputs : List Output) (is_slots : slots ≡ p.slots) (is_events : events ≡ p.events) (is_outputs : outputs ≡ p.outputs) where
+  pub parts_read : IsSnapshot p → IsTyped p → CanRestore s p → ∥ Kept s ∥₁ → AreParts s.core slots events outputs
+  parts_read rules typed can kept =
+      subst (λ (xs : List Slot). AreParts s.core xs events outputs) (sym is_slots)
+      (subst (λ (xs : List (ℕ × Event)). AreParts s.core p.slots xs outputs) (sym is_events)
+      (subst (λ (xs : List Output). AreParts s.core p.slots p.events xs) (sym is_outputs)
+      (are_parts s.core p (kept_hosts s kept) rules typed can.slots can.mode can.outputs)))
+
+  pub state_read : (core : Core) (memory : Memory) (pages : List (ℕ × List Cell)) (cycles : ℕ)
+      → core ≡ core_of s.core.version s.core.split slots events outputs → memory ≡ record { pages = pages; frames = s.memory.frames } → pages ≡ p.pages → cycles ≡ p.cycles
+      → record { core = core; memory = memory; cycles = cycles } ≡ restored s p
+  state_read core memory pages cycles is_core is_memory is_pages is_cycles = cc

@@ -1,0 +1,23 @@
+-- What is copied of a state, part by part.
+use Rattle.std.specs.Prelude.{◌≡◌, ℕ, ◌<◌, true, List}
+use Rattle.std.specs.List.{AllByRecursion}
+use Rattle.std.specs.List.Sorted.{IsStrictlyIncreasing}
+use Rattle.mm_word.specs.declared.word.Cell.{Cell}
+use Rattle.mm_model.specs.Memory.{Memory, page_at}
+use Rattle.mm_model.specs.Slot.{Slot}
+use Rattle.mm_model.specs.State.{Core}
+use Rattle.mm_model.specs.Report.{cells_or_zero}
+use Rattle.mm_thread.specs.declared.output.Output.{Output}
+use Rattle.mm_machine.specs.Snapshot.{groups_of, has_group, has_output, IsOutputOf}
+
+-- the cells of a page; zeros where it is not mapped
+abbrev pub cells_of : Memory → ℕ → List Cell
+cells_of m number = cells_or_zero (page_at m number)
+
+-- the outputs of the groups below a number that have a slot
+pub record OutputsBelow (core : Core) (slots : List Slot) (n : ℕ) (outputs : List Output) : Type 0 where
+  pub rising : IsStrictlyIncreasing (groups_of outputs)
+  pub low : AllByRecursion (λ (o : Output). o.group < n) outputs
+  pub used : AllByRecursion (λ (o : Output). has_group slots o.group ≡ true) outputs
+  pub shown : (g : ℕ) → g < n → has_group slots g ≡ true → has_output outputs g ≡ true
+  pub said : AllByRecursion (IsOutputOf core) outputs

@@ -1,0 +1,125 @@
+//! Snapshots: states of a machine that are kept apart from it.
+
+ghost use Rattle.std.specs.Prelude.{◌≡◌};
+ghost use Rattle.std.specs.Option.{SomeIff};
+
+use crate::standing::is_snapshot;
+use crate::typed::{events_are_typed, pages_are_typed, slots_are_typed};
+use mm_model::{Event, Page, Slot};
+use mm_thread::Output;
+use std::marker::Model;
+
+/// The state of a machine, but for the frames of its memory: the slots, their events, what the groups have put out, the pages
+/// and the count of cycles.
+#[derive(Drop)]
+pub struct Snapshot {
+    slots: Vec<Slot>,
+    events: Vec<(u8, Event)>,
+    outputs: Vec<Output>,
+    pages: Vec<Page>,
+    cycles: u64,
+}
+
+impl Model for Snapshot {
+    ghost use Rattle.mm_machine.specs.Snapshot.{Parts, IsSnapshot, IsTyped, parts_of};
+
+    ghost Value = { Parts };
+
+    ghost view = { λ s. parts_of s.slots.items s.events.items s.outputs.items s.pages.items s.cycles };
+
+    ghost invariant = { λ s. IsSnapshot (parts_of s.slots.items s.events.items s.outputs.items s.pages.items s.cycles) × IsTyped (parts_of s.slots.items s.events.items s.outputs.items s.pages.items s.cycles) };
+}
+
+impl Snapshot {
+    ghost use Rattle.mm_machine.specs.Snapshot.{IsSnapshot, IsTyped, parts_of};
+
+    /// The snapshot of these parts. An event stands beside the number of the slot in whose queue it is, in the order of its queue.
+    /// None exactly where they are not the parts of a state: slots, groups or pages that do not ascend, groups that are not those
+    /// of the slots, an event beside a lesser slot than the event before it, events and waiting slots that do not match one to
+    /// one by slot and handler, an event whose instruction pointer is not its slot's, a taken slot without a handler, an output
+    /// above 65,536 bytes, pending loads that do not match the empty registers one to one, an empty register that does not hold
+    /// integer 0, a count of turns above the count of cycles.
+    pub fn new(
+        slots: Vec<Slot>,
+        events: Vec<(u8, Event)>,
+        outputs: Vec<Output>,
+        pages: Vec<Page>,
+        cycles: u64,
+    ) -> Option<Snapshot>
+        ensures { SomeIff result (IsSnapshot (parts_of slots.items events.items outputs.items pages.items cycles)) (parts_of slots.items events.items outputs.items pages.items cycles) }
+    {
+        if !is_snapshot(&slots, &events, &outputs, &pages, cycles) {
+            return None;
+        }
+        slots_are_typed(&slots);
+        events_are_typed(&events);
+        pages_are_typed(&pages);
+        Some(Snapshot::of(slots, events, outputs, pages, cycles))
+    }
+
+    /// The snapshot of parts that are those of a state.
+    pub(crate) fn of(
+        slots: Vec<Slot>,
+        events: Vec<(u8, Event)>,
+        outputs: Vec<Output>,
+        pages: Vec<Page>,
+        cycles: u64,
+    ) -> Snapshot
+        requires rules { IsSnapshot (parts_of slots.items events.items outputs.items pages.items cycles) }
+        requires typed { IsTyped (parts_of slots.items events.items outputs.items pages.items cycles) }
+        ensures { result ≡ parts_of slots.items events.items outputs.items pages.items cycles }
+    {
+        Snapshot {
+            slots,
+            events,
+            outputs,
+            pages,
+            cycles,
+        }
+    }
+
+    /// Its slots, by ascending number.
+    pub fn slots(&self) -> &[Slot]
+        ensures slots { result.now ≡ self.now.slots }
+        ensures snapshot { IsSnapshot self.now }
+        ensures typed { IsTyped self.now }
+    {
+        self.slots.as_slice()
+    }
+
+    /// The events in its queues, each beside the number of the slot in whose queue it is.
+    pub fn events(&self) -> &[(u8, Event)]
+        ensures events { result.now ≡ self.now.events }
+        ensures snapshot { IsSnapshot self.now }
+        ensures typed { IsTyped self.now }
+    {
+        self.events.as_slice()
+    }
+
+    /// What each group has put out, by ascending group.
+    pub fn outputs(&self) -> &[Output]
+        ensures outputs { result.now ≡ self.now.outputs }
+        ensures snapshot { IsSnapshot self.now }
+        ensures typed { IsTyped self.now }
+    {
+        self.outputs.as_slice()
+    }
+
+    /// Its pages, by ascending number.
+    pub fn pages(&self) -> &[Page]
+        ensures pages { result.now ≡ self.now.pages }
+        ensures snapshot { IsSnapshot self.now }
+        ensures typed { IsTyped self.now }
+    {
+        self.pages.as_slice()
+    }
+
+    /// How many cycles there were.
+    pub fn cycles(&self) -> u64
+        ensures cycles { result ≡ self.now.cycles }
+        ensures snapshot { IsSnapshot self.now }
+        ensures typed { IsTyped self.now }
+    {
+        self.cycles
+    }
+}

@@ -1,0 +1,37 @@
+-- The headline: what is proved of every run that is done.
+use Rattle.std.specs.Prelude.{◌≡◌, ◌++◌, ℕ, Bool, List, Option}
+use Rattle.mm_model.specs.declared.counts.Counts.{Counts}
+use Rattle.mm_model.specs.Uses.{Use}
+use Rattle.mm_model.specs.Image.{Image, start}
+use Rattle.mm_model.specs.Trace.{trace}
+use Rattle.mm_model.specs.Worlds.{Apart}
+use Rattle.mm_laws.specs.Isolated.{HasSlot}
+use Rattle.mm_laws.specs.Runs.{Reaches, Isolates}
+use Rattle.mmachine.specs.Files.{ImageAccepted}
+use Rattle.mmachine.specs.Answers.{Issues, report_after}
+
+-- What `run` did, where it is done.
+pub record RunIsProved (tells : List Use → Option Counts) (held : List ℕ → Option (List ℕ)) (image : List ℕ) (cycles : ℕ) (schedule : Option (List ℕ)) (written : List ℕ) : Type 0 where
+  -- the image that the first file spells, and the items that were issued
+  pub i : Image
+  pub items : List ℕ
+  pub reads : ImageAccepted (held image) i
+  pub issues : Issues held i cycles schedule items
+  -- It writes the flat machine's report.
+  pub writes : written ≡ report_after tells i items
+  -- Every word that a thread touches lies in a segment that is granted to its group, what lies behind an enter pointer only once it
+  -- was entered at its own address.
+  pub reaches : Reaches i items
+  -- The sections of groups that stand apart are those of a run without the others, under the items restricted to them.
+  pub isolates : (c : ℕ → Bool) → HasSlot i c → Apart i c → Isolates i items written c
+
+-- What `trace` did, where it is done.
+pub record TraceIsProved (tells : List Use → Option Counts) (held : List ℕ → Option (List ℕ)) (image : List ℕ) (cycles : ℕ) (schedule : Option (List ℕ)) (written : List ℕ) : Type 0 where
+  pub i : Image
+  pub items : List ℕ
+  pub reads : ImageAccepted (held image) i
+  pub issues : Issues held i cycles schedule items
+  -- It writes the line of each turn, with what the turn touched and entered, and then the report.
+  pub writes : written ≡ trace (start i) items ++ report_after tells i items
+  -- Every word that a thread touches lies in a segment that is granted to its group, as above.
+  pub reaches : Reaches i items

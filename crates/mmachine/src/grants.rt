@@ -1,0 +1,53 @@
+// `grants`: what each group of an image can reach.
+ghost use Rattle.std.specs.Prelude.{List, Option, ℕ};
+ghost use Rattle.std.specs.Option.{option_map};
+ghost use Rattle.mm_io.specs.Sinks.{Writes};
+ghost use Rattle.mm_model.specs.Audit.{IsAudit};
+ghost use Rattle.mm_model.specs.Reach.Entries.{All};
+ghost use Rattle.mm_audit.specs.Audits.{Audits};
+ghost use Rattle.mm_model.specs.Uses.{Use};
+ghost use Rattle.mm_model.specs.declared.counts.Counts.{Counts};
+ghost use Rattle.mmachine.specs.Table as table;
+ghost use Rattle.mmachine.specs.Answers.{RowAnswers, status_of};
+
+use crate::load::load_image;
+use crate::status::Stop;
+use arrayvec::ArrayVec;
+use mm_audit::{Entries, Reach, audit};
+use mm_audit_text::{write_audit, write_audit_of};
+use mm_image::Image;
+use mm_io::{Files, Sink, WriteFault};
+use std::alloc::Global;
+
+/// `grants IMAGE [GROUPS]`
+pub fn grants<F: Files, O: Sink>(
+    alloc: Global,
+    image: &str,
+    groups: Option<ArrayVec<u8, 64>>,
+    files: &mut F,
+    out: &mut O,
+) -> Result<(), Stop>
+    ensures { (tells : List Use → Option Counts) → RowAnswers tells (F.held files.old) (F.faults files.old) (F.faults files.new) O.taken O.faults out.old out.new
+        (table.grants image.now (option_map (λ list. list.items) groups)) (status_of result) }
+{
+    let image = load_image(alloc, files, image)?;
+    let reach = audit(alloc, &image, &Entries::All)?;
+    write_text(&reach, &image, groups, out)?;
+    Ok(())
+}
+
+/// Writes the audit of an image, with the answer of the groups where there are such.
+fn write_text<O: Sink>(
+    reach: &Reach,
+    image: &Image,
+    groups: Option<ArrayVec<u8, 64>>,
+    out: &mut O,
+) -> Result<(), WriteFault>
+    ensures { (text : List ℕ) × Writes O.taken O.faults out.old out.new text result
+        × (Audits image.now All reach.now → IsAudit image.now (option_map (λ list. list.items) groups) text) }
+{
+    match groups {
+        None => write_audit(reach, image, out),
+        Some(groups) => write_audit_of(reach, image, groups.as_slice(), out),
+    }
+}
