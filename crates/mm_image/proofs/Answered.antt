@@ -8,11 +8,11 @@ use Rattle.mm_image.specs.declared.fault.ImageFault.{ImageFault}
 use Rattle.mm_image.specs.declared.fault.ImageError.{ImageError}
 use Rattle.mm_image.specs.declared.fault.ImageError.TheVariants.{Fault, NoMemory}
 use Rattle.mm_image.specs.Faults.{Gives, Fails, IsUnlessNoMemory, FailsUnlessNoMemory, number_of}
-use Rattle.mm_image.specs.Reading.{image_of, read_fault}
-use Rattle.mm_image.proofs.Parts.{IsBytes}
-use Rattle.mm_image.proofs.CleanImage.{clean_spells}
-use Rattle.mm_image.proofs.SpelledImage.{spelled_clean, image_same}
-use Rattle.mm_image.proofs.Whole.{image_fault-read}
+use Rattle.mm_model.specs.ImageReading.{image_of, read_fault}
+use Rattle.mm_model.proofs.ImageBytes.Parts.{IsBytes}
+use Rattle.mm_model.proofs.ImageBytes.CleanImage.{clean_spells}
+use Rattle.mm_model.proofs.ImageBytes.SpelledImage.{spelled_clean, image_same}
+use Rattle.mm_model.proofs.ImageBytes.Whole.{image_fault-read}
 
 abbrev Answer : Type 0
 Answer = Result Image ImageError

@@ -1,8 +1,8 @@
 -- Bits of bytes.
 use Rattle.std.proofs.Common.{◌≡◌, ℕ, ◌+◌, ◌/◌, ◌%◌, ◌^◌, ◌<◌, List, length, get_or, None, sym, ap, arith}
 use Rattle.std.specs.Prelude.{◌==◌}
-use Rattle.mm_image.specs.Fields.{short, bit}
-use Rattle.mm_image.proofs.Numbers.{whole, field_1}
+use Rattle.mm_model.specs.ImageFields.{short, bit}
+use Rattle.mm_model.proofs.ImageBytes.Numbers.{whole, field_1}
 
 -- the byte of a bit is there
 pub in_bytes : (bytes : List ℕ) (at k : ℕ) → k < 512 → short bytes (at + 64) ≡ None → at + k / 8 < length bytes

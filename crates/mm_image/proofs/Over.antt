@@ -5,7 +5,7 @@ use Rattle.std.proofs.lemmas.List.FromFn.{map-range_with_len_more}
 use Rattle.mm_image.specs.declared.fault.ImageError.{ImageError}
 use Rattle.mm_image.specs.declared.fault.ImageError.TheVariants.{Fault, NoMemory}
 use Rattle.mm_image.specs.Faults.{Fails}
-use Rattle.mm_image.specs.Fields.{earlier, first_over}
+use Rattle.mm_model.specs.ImageFields.{earlier, first_over}
 
 -- the fault of an earlier part is that of the whole
 pub fails : (e : ImageError) (first later : Option (ℕ × ℕ)) → Fails first e → Fails (earlier first later) e

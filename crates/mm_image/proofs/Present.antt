@@ -6,7 +6,8 @@ use Rattle.std.proofs.lemmas.List.{get_or-replicate, get_or-set_same, get_or-set
 use Rattle.std.proofs.lemmas.List.FromFn.{get_or-map-range_with_len}
 use Rattle.std.proofs.lemmas.List.Folds.{list_any_more}
 use Rattle.mm_model.specs.Slot.{Slot}
-use Rattle.mm_image.specs.Reading.{has_number, HoldsNumbers, slot_at, slots_at}
+use Rattle.mm_image.specs.Reading.{HoldsNumbers}
+use Rattle.mm_model.specs.ImageReading.{has_number, slot_at, slots_at}
 
 pub none_yet : HoldsNumbers (replicate 256 false) []
 none_yet n below = get_or-replicate 256 n false false below

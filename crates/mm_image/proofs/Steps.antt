@@ -7,9 +7,10 @@ use Rattle.mm_image.specs.declared.header.Header.{Header}
 use Rattle.mm_image.specs.Images.{image_from}
 use Rattle.mm_image.specs.declared.fault.ImageError.{ImageError}
 use Rattle.mm_image.specs.Faults.{Fails}
-use Rattle.mm_image.specs.Fields.{earlier, field}
-use Rattle.mm_image.specs.Reading.{header_of, image_of, header_fault, slot_at, slots_at, slots_fault, handlers_fault, pages_at, pages_fault, page_offset, end_fault, read_fault}
-use Rattle.mm_image.proofs.Chain.{clean_both}
+use Rattle.mm_model.specs.ImageFields.{earlier, field}
+use Rattle.mm_image.specs.Reading.{header_of}
+use Rattle.mm_model.specs.ImageReading.{image_of, header_fault, slot_at, slots_at, slots_fault, handlers_fault, pages_at, pages_fault, page_offset, end_fault, read_fault}
+use Rattle.mm_model.proofs.ImageBytes.Chain.{clean_both}
 use Rattle.mm_image.proofs.Over.{fails}
 
 abbrev Found : Type 0

@@ -2,7 +2,7 @@
 
 ghost use Rattle.std.specs.Prelude.{◌≡◌, ◌+◌, ◌^◌, ◌<◌, ◌≤◌, true, false, OnOk, length};
 ghost use Rattle.mm_image.specs.Faults.{Gives, number_of};
-ghost use Rattle.mm_image.specs.Fields.{short, bad, field};
+ghost use Rattle.mm_model.specs.ImageFields.{short, bad, field};
 
 use crate::fault::{ImageError, ImageFault};
 
@@ -23,7 +23,7 @@ pub(crate) fn fault(fault: ImageFault, offset: usize) -> ImageError
 }
 
 /// Refuses where the test holds.
-#[tactic(auto, unfolding(crate::specs::Fields::bad))]
+#[tactic(auto, unfolding(mm_model::specs::ImageFields::bad))]
 pub(crate) fn refuse_if(wrong: bool, kind: ImageFault, offset: usize) -> Result<(), ImageError>
     ensures fault { Gives (λ _. true) (bad wrong (number_of kind) offset) true result }
     ensures right { OnOk result (wrong ≡ false) }
@@ -37,7 +37,7 @@ pub(crate) fn refuse_if(wrong: bool, kind: ImageFault, offset: usize) -> Result<
 // Fields at their places.
 impl Reader<'_> {
     /// Whether the field that ends here is whole.
-    #[tactic(auto, unfolding(crate::specs::Fields::short))]
+    #[tactic(auto, unfolding(mm_model::specs::ImageFields::short))]
     pub fn whole(&self, end: usize) -> Result<(), ImageError>
         ensures fault { Gives (λ _. true) (short self.now.bytes.now end) true result }
         ensures within { OnOk result (end ≤ length self.now.bytes.now) }
@@ -49,7 +49,7 @@ impl Reader<'_> {
     }
 
     /// The number of one byte.
-    #[tactic(auto, using(crate::proofs::Numbers::byte_is))]
+    #[tactic(auto, using(mm_model::proofs::ImageBytes::Numbers::byte_is))]
     pub fn u8_at(&self, at: usize) -> Result<u8, ImageError>
         requires { at < 2 ^ 40 }
         ensures { Gives (λ n. n) (short self.now.bytes.now (at + 1)) (field self.now.bytes.now at 1) result }
@@ -59,7 +59,7 @@ impl Reader<'_> {
     }
 
     /// The number of two bytes.
-    #[tactic(auto, using(crate::proofs::Numbers::field_2))]
+    #[tactic(auto, using(mm_model::proofs::ImageBytes::Numbers::field_2))]
     pub fn u16_at(&self, at: usize) -> Result<u16, ImageError>
         requires { at < 2 ^ 40 }
         ensures { Gives (λ n. n) (short self.now.bytes.now (at + 2)) (field self.now.bytes.now at 2) result }
@@ -69,7 +69,7 @@ impl Reader<'_> {
     }
 
     /// The number of four bytes.
-    #[tactic(auto, using(crate::proofs::Numbers::field_4))]
+    #[tactic(auto, using(mm_model::proofs::ImageBytes::Numbers::field_4))]
     pub fn u32_at(&self, at: usize) -> Result<u32, ImageError>
         requires { at < 2 ^ 40 }
         ensures { Gives (λ n. n) (short self.now.bytes.now (at + 4)) (field self.now.bytes.now at 4) result }
@@ -80,7 +80,7 @@ impl Reader<'_> {
     }
 
     /// The number of eight bytes.
-    #[tactic(auto, using(crate::proofs::Numbers::field_8))]
+    #[tactic(auto, using(mm_model::proofs::ImageBytes::Numbers::field_8))]
     pub fn u64_at(&self, at: usize) -> Result<u64, ImageError>
         requires { at < 2 ^ 40 }
         ensures { Gives (λ n. n) (short self.now.bytes.now (at + 8)) (field self.now.bytes.now at 8) result }

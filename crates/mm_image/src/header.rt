@@ -3,7 +3,8 @@
 ghost use Rattle.std.specs.Prelude.{◌≡◌};
 ghost use Rattle.mm_model.specs.Image.{slot_limit, frame_limit};
 ghost use Rattle.mm_image.specs.Faults.{Gives};
-ghost use Rattle.mm_image.specs.Reading.{header_of, header_fault};
+ghost use Rattle.mm_image.specs.Reading.{header_of};
+ghost use Rattle.mm_model.specs.ImageReading.{header_fault};
 
 use crate::fault::{ImageError, ImageFault};
 use crate::fields::{Reader, refuse_if};

@@ -2,8 +2,8 @@
 
 ghost use Rattle.std.specs.Prelude.{◌≡◌, ◌+◌, ◌*◌, ◌^◌, ◌<◌, IfOk, None, vec_len};
 ghost use Rattle.mm_image.specs.Faults.{Gives};
-ghost use Rattle.mm_image.specs.Fields.{short};
-ghost use Rattle.mm_image.specs.Reading.{cells_at, cells_fault, page_record_at, page_record_fault, pages_at, pages_fault, page_offset};
+ghost use Rattle.mm_model.specs.ImageFields.{short};
+ghost use Rattle.mm_model.specs.ImageReading.{cells_at, cells_fault, page_record_at, page_record_fault, pages_at, pages_fault, page_offset};
 
 use crate::fault::{ImageError, ImageFault};
 use crate::fields::{Reader, refuse_if};
@@ -24,7 +24,7 @@ const WORDS: usize = FULL + 64;
 
 impl Reader<'_> {
     /// The cells of the page whose record begins here.
-    #[tactic(auto, unfolding(crate::specs::Reading::cells_at, crate::specs::Reading::cells_fault))]
+    #[tactic(auto, unfolding(mm_model::specs::ImageReading::cells_at, mm_model::specs::ImageReading::cells_fault))]
     pub fn cells(&self, alloc: Global, at: usize) -> Result<Vec<Cell>, ImageError>
         requires small { at < 2 ^ 39 }
         requires tags { short self.now.bytes.now (at + 72) ≡ None }

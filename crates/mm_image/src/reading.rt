@@ -5,7 +5,7 @@ ghost use Rattle.mm_model.specs.Image.{Image as ImageValue};
 ghost use Rattle.mm_model.specs.ImageFaults.{image_fault};
 ghost use Rattle.mm_model.specs.Spelling.{Spells};
 ghost use Rattle.mm_image.specs.Faults.{Gives, IsUnlessNoMemory, FailsUnlessNoMemory, number_of};
-ghost use Rattle.mm_image.specs.Reading.{image_of, read_fault};
+ghost use Rattle.mm_model.specs.ImageReading.{image_of, read_fault};
 ghost use Rattle.mm_image.specs.declared.fault.ImageFault.{ImageFault};
 
 use crate::fault::{ImageError, ImageFault};
@@ -28,7 +28,7 @@ pub fn read(alloc: Global, bytes: &[u8]) -> Result<Image, ImageError>
 }
 
 // `read`, part by part.
-#[tactic(auto, unfolding(crate::specs::Reading::read_fault))]
+#[tactic(auto, unfolding(mm_model::specs::ImageReading::read_fault))]
 fn read_parts(alloc: Global, bytes: &[u8]) -> Result<Image, ImageError>
     ensures { Gives (λ i. i) (read_fault bytes.now) (image_of bytes.now) result }
 {

@@ -3,7 +3,8 @@
 ghost use Rattle.std.specs.Prelude.{◌≡◌, ℕ, ◌+◌, ◌^◌, ◌<◌, true, false, IfOk, List, length, slice_index_or};
 ghost use Rattle.mm_model.specs.Slot.{Slot};
 ghost use Rattle.mm_image.specs.Faults.{Gives};
-ghost use Rattle.mm_image.specs.Reading.{slot_record_at, slot_record_fault, slots_at, slots_fault, handlers_fault, is_bad_handler, HoldsNumbers};
+ghost use Rattle.mm_image.specs.Reading.{HoldsNumbers};
+ghost use Rattle.mm_model.specs.ImageReading.{slot_record_at, slot_record_fault, slots_at, slots_fault, handlers_fault, is_bad_handler};
 
 use crate::fault::{ImageError, ImageFault};
 use crate::fields::{Reader, refuse_if};
@@ -95,7 +96,7 @@ impl Reader<'_> {
     }
 
     /// Tests the handlers of the slots.
-    #[tactic(auto, unfolding(crate::specs::Reading::handlers_fault))]
+    #[tactic(auto, unfolding(mm_model::specs::ImageReading::handlers_fault))]
     pub fn handlers(&self, slots: &[Slot]) -> Result<(), ImageError>
         requires count { length slots.now < 2 ^ 16 }
         requires slots { slots.now ≡ slots_at self.now.bytes.now (length slots.now) }

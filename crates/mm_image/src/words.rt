@@ -4,8 +4,8 @@ ghost use Rattle.std.specs.Prelude.{◌≡◌, ◌==◌, ◌+◌, ◌/◌, ◌%�
 ghost use Rattle.mm_word.specs.Perm.{can_fetch};
 ghost use Rattle.mm_word.specs.Pointer.{pointer_of};
 ghost use Rattle.mm_image.specs.Faults.{Gives};
-ghost use Rattle.mm_image.specs.Fields.{short, field, bit};
-ghost use Rattle.mm_image.specs.Reading.{word_at, word_fault, ip_fault, registers_at, registers_fault};
+ghost use Rattle.mm_model.specs.ImageFields.{short, field, bit};
+ghost use Rattle.mm_model.specs.ImageReading.{word_at, word_fault, ip_fault, registers_at, registers_fault};
 
 use crate::fault::{ImageError, ImageFault};
 use crate::fields::{Reader, fault};
@@ -31,7 +31,7 @@ impl Reader<'_> {
     }
 
     /// A word: a pointer where it is tagged.
-    #[tactic(auto, unfolding(crate::specs::Reading::word_fault, crate::specs::Fields::bad))]
+    #[tactic(auto, unfolding(mm_model::specs::ImageReading::word_fault, mm_model::specs::ImageFields::bad))]
     pub fn word(&self, tagged: bool, at: usize) -> Result<Word, ImageError>
         requires { at < 2 ^ 40 }
         ensures { Gives (λ w. w) (word_fault self.now.bytes.now tagged at) (word_at self.now.bytes.now tagged at) result }
@@ -47,7 +47,7 @@ impl Reader<'_> {
     }
 
     /// An instruction pointer.
-    #[tactic(auto, unfolding(crate::specs::Reading::ip_fault, crate::specs::Fields::bad))]
+    #[tactic(auto, unfolding(mm_model::specs::ImageReading::ip_fault, mm_model::specs::ImageFields::bad))]
     pub fn ip(&self, at: usize) -> Result<GuardedPtr, ImageError>
         requires { at < 2 ^ 40 }
         ensures ip { Gives (λ p. p) (ip_fault self.now.bytes.now at) (pointer_of (field self.now.bytes.now at 8)) result }
@@ -61,7 +61,7 @@ impl Reader<'_> {
     }
 
     /// The registers of the slot whose record begins here, with these tags.
-    #[tactic(auto, unfolding(crate::specs::Reading::registers_at, crate::specs::Reading::registers_fault))]
+    #[tactic(auto, unfolding(mm_model::specs::ImageReading::registers_at, mm_model::specs::ImageReading::registers_fault))]
     pub fn registers(&self, at: usize, tags: u16) -> Result<[Word; 16], ImageError>
         requires small { at < 2 ^ 39 }
         requires tags { tags ≡ field self.now.bytes.now (at + 12) 2 }

@@ -4,7 +4,7 @@ use Rattle.std.specs.List.{AllByRecursion}
 use Rattle.mm_model.specs.Image.{Image}
 use Rattle.mm_model.specs.Spelling.{Spells}
 use Rattle.mm_model.specs.ImageFaults.{image_fault}
-use Rattle.mm_model.proofs.ImageBytes.Reading.{image_of}
+use Rattle.mm_model.specs.ImageReading.{image_of}
 use Rattle.mm_model.proofs.ImageBytes.Whole.{image_fault-read}
 use Rattle.mm_model.proofs.ImageBytes.CleanImage.{clean_spells}
 use Rattle.mm_model.proofs.ImageBytes.SpelledImage.{spelled_clean, image_same}

@@ -20,7 +20,7 @@ use Rattle.mm_model.specs.Spelling.{numbers_of, IsOther, HoldsWords}
 use Rattle.mm_model.specs.Fits.{one_if, is_handled, is_waiting, waits_for, events_of, identity_of, slots_of, has_slot, IsAtSlot, IsSlot, IsCore, EventHoldsWords, RowHoldsWords}
 use Rattle.mm_model.proofs.CoreRows.{each_map, slot_limit-few, rest_rises, above_first, Rises, each_slot, slot_has, other_at, other_in, identities_of, stays_by}
 use Rattle.mm_model.proofs.CoreSteps.{waits_for-says}
-use Rattle.mm_image.proofs.Rising.{AreRisingFrom, sorted_from}
+use Rattle.mm_model.proofs.ImageBytes.Rising.{AreRisingFrom, sorted_from}
 use Rattle.mm_thread.specs.declared.output.Output.{Output}
 use Rattle.mm_thread.specs.Parts.{events_for, row_with, core_of, AreParts}
 use Rattle.mm_thread.proofs.Assigned.{queue-with, slots-with}

@@ -1,5 +1,3 @@
-pub mod Fields
-pub mod Reading
 pub mod Numbers
 pub mod Chain
 pub mod Parts

@@ -4,7 +4,7 @@ use Rattle.std.specs.Prelude.{nat_lt}
 use Rattle.std.specs.List.{flat_map, range_with_len}
 use Rattle.std.proofs.lemmas.Bool.{cases_eq}
 use Rattle.mm_model.specs.ImageFaults.{Place, first_bad}
-use Rattle.mm_model.proofs.ImageBytes.Fields.{earlier, first_over, bad, short}
+use Rattle.mm_model.specs.ImageFields.{earlier, first_over, bad, short}
 
 abbrev Found : Type 0
 Found = Option (ℕ × ℕ)

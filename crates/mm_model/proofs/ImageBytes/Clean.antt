@@ -3,8 +3,8 @@ use Rattle.std.proofs.Common.{◌≡◌, ℕ, ◌+◌, ◌-◌, ◌^◌, ◌<◌
 use Rattle.std.specs.Prelude.{◌||◌, ◌==◌, nat_le}
 use Rattle.std.proofs.lemmas.Bool.Decides.{nat_tests}
 use Rattle.mm_model.specs.Image.{slot_limit, frame_limit}
-use Rattle.mm_model.proofs.ImageBytes.Fields.{short, field}
-use Rattle.mm_model.proofs.ImageBytes.Reading.{is_magic, header_fault, ip_fault, registers_fault, slot_record_fault, cells_fault, page_record_fault}
+use Rattle.mm_model.specs.ImageFields.{short, field}
+use Rattle.mm_model.specs.ImageReading.{is_magic, header_fault, ip_fault, registers_fault, slot_record_fault, cells_fault, page_record_fault}
 use Rattle.mm_model.proofs.ImageBytes.Chain.{both_clean, is_right}
 use Rattle.mm_model.proofs.ImageBytes.Numbers.{whole}
 

@@ -15,8 +15,8 @@ use Rattle.mm_model.specs.Memory.{IsPage}
 use Rattle.mm_model.specs.Slot.{Slot}
 use Rattle.mm_model.specs.Image.{slot_limit}
 use Rattle.mm_model.specs.Spelling.{numbers_of, IsFresh, IsImage, HoldsWords, mode_of, slot_record, page_record, header, spelling, Spells}
-use Rattle.mm_model.proofs.ImageBytes.Fields.{field}
-use Rattle.mm_model.proofs.ImageBytes.Reading.{header_fault, slot_at, slot_fault, slots_at, slots_fault, least_slot, slot_offset, handler_fault, handlers_fault, is_bad_handler, page_at, page_fault, pages_at, pages_fault, least_page, page_offset, end_fault, read_fault, image_of}
+use Rattle.mm_model.specs.ImageFields.{field}
+use Rattle.mm_model.specs.ImageReading.{header_fault, slot_at, slot_fault, slots_at, slots_fault, least_slot, slot_offset, handler_fault, handlers_fault, is_bad_handler, page_at, page_fault, pages_at, pages_fault, least_page, page_offset, end_fault, read_fault, image_of}
 use Rattle.mm_model.proofs.ImageBytes.Chain.{both_clean, is_right, each_clean}
 use Rattle.mm_model.proofs.ImageBytes.Clean.{IsCleanHeader, clean_header, is_above, is_not}
 use Rattle.mm_model.proofs.ImageBytes.Parts.{IsBytes, part, join_at, join_records, two_bytes, four_bytes}

@@ -10,8 +10,8 @@ use Rattle.mm_model.specs.Flags.{number_of_flags}
 use Rattle.mm_model.specs.Memory.{IsPage}
 use Rattle.mm_model.specs.Slot.{Slot}
 use Rattle.mm_model.specs.Spelling.{Begins, IsOther, IsFresh, HoldsWords, handler_byte, state_byte, words_spelling, bitmap, slot_record, page_record}
-use Rattle.mm_model.proofs.ImageBytes.Fields.{field}
-use Rattle.mm_model.proofs.ImageBytes.Reading.{has_number, is_bad_handler, slot_record_at, slot_record_fault, cells_at, page_record_at, page_record_fault}
+use Rattle.mm_model.specs.ImageFields.{field}
+use Rattle.mm_model.specs.ImageReading.{has_number, is_bad_handler, slot_record_at, slot_record_fault, cells_at, page_record_at, page_record_fault}
 use Rattle.mm_model.proofs.ImageBytes.Clean.{IsCleanSlot, clean_slot, clean_page, neither, not_not, is_not}
 use Rattle.mm_model.proofs.ImageBytes.Parts.{IsBytes, part, join_at, one_byte, two_bytes, eight_bytes}
 use Rattle.mm_model.proofs.ImageBytes.CleanWords.{IsSpelledIp, ip_clean, AreSpelledRegisters, registers_clean, AreSpelledCells, cells_clean}

@@ -15,8 +15,8 @@ use Rattle.mm_word.specs.PointerBits.{bits_of-pointer_of}
 use Rattle.mm_word.specs.Word.{IsWord, is_pointer, word_bits}
 use Rattle.mm_model.specs.Flags.{number_of_flags}
 use Rattle.mm_model.specs.Spelling.{words_spelling, bitmap}
-use Rattle.mm_model.proofs.ImageBytes.Fields.{field, bit}
-use Rattle.mm_model.proofs.ImageBytes.Reading.{word_at, word_fault, ip_fault, register_at, register_fault, registers_at, registers_fault, page_cell_at, cell_fault, cells_at, cells_fault}
+use Rattle.mm_model.specs.ImageFields.{field, bit}
+use Rattle.mm_model.specs.ImageReading.{word_at, word_fault, ip_fault, register_at, register_fault, registers_at, registers_fault, page_cell_at, cell_fault, cells_at, cells_fault}
 use Rattle.mm_model.proofs.ImageBytes.Numbers.{whole}
 use Rattle.mm_model.proofs.ImageBytes.Chain.{both_clean, is_right, each_clean}
 use Rattle.mm_model.proofs.ImageBytes.Clean.{neither, not_not}

@@ -4,7 +4,7 @@ use Rattle.std.specs.List.{fold}
 use Rattle.std.specs.Int.{w16, w32, w64, from_be_bytes}
 use Rattle.std.proofs.lemmas.Bool.{ltb-false, le-ltb, lt-ltb}
 use Rattle.std.proofs.lemmas.List.{drop_more, length-take, length-drop, get_or-take, get_or-drop}
-use Rattle.mm_model.proofs.ImageBytes.Fields.{short, field}
+use Rattle.mm_model.specs.ImageFields.{short, field}
 
 -- 1. Whether a field is whole.
 

@@ -6,12 +6,10 @@ use Rattle.std.proofs.Math.Seq.{take-add}
 use Rattle.std.proofs.lemmas.Bool.{cases_lt}
 use Rattle.std.proofs.lemmas.List.{drop-drop, drop_more, length-take, length-drop, get_or-take, get_or-drop, get_or_past, take-take, drop-take}
 use Rattle.std.proofs.lemmas.Nat.{be_bytes_2, be_bytes_4, be_bytes_8}
-use Rattle.mm_model.proofs.ImageBytes.Fields.{field}
+use Rattle.mm_model.specs.ImageFields.{field}
 use Rattle.mm_model.proofs.ImageBytes.Numbers.{number_is_2, number_is_4, number_is_8, field_1}
 
--- each is below 256
-abbrev pub IsBytes : List ℕ → Type 0
-IsBytes bytes = (i : ℕ) → get_or bytes i 0 < 256
+pub use Rattle.mm_model.specs.ImageFields.{IsBytes}
 
 abbrev pub part : List ℕ → ℕ → ℕ → List ℕ
 part bytes at size = take size (drop at bytes)

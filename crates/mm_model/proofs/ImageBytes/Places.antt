@@ -5,8 +5,8 @@ use Rattle.std.specs.List.{range_with_len}
 use Rattle.std.proofs.lemmas.Bool.Decides.{nat_tests}
 use Rattle.mm_model.specs.Image.{slot_limit}
 use Rattle.mm_model.specs.ImageFaults.{number_at, version_of, slots_of, slot_place, page_place, does_not_rise, register_place, header_places, slot_places, cell_place, page_places}
-use Rattle.mm_model.proofs.ImageBytes.Fields.{earlier, bad, short, field}
-use Rattle.mm_model.proofs.ImageBytes.Reading.{header_fault, word_fault, registers_fault, slot_fault, least_slot, slot_offset, cells_fault, page_fault, least_page, page_offset, ip_fault}
+use Rattle.mm_model.specs.ImageFields.{earlier, bad, short, field}
+use Rattle.mm_model.specs.ImageReading.{header_fault, word_fault, registers_fault, slot_fault, least_slot, slot_offset, cells_fault, page_fault, least_page, page_offset, ip_fault}
 use Rattle.mm_model.proofs.ImageBytes.Chain.{places_fault, places-map, HasFault, chain, chain_last, chain_untested, chain_whole}
 
 abbrev Found : Type 0

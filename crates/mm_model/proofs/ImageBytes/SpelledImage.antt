@@ -16,8 +16,8 @@ use Rattle.mm_model.specs.Memory.{IsPage}
 use Rattle.mm_model.specs.Slot.{Slot}
 use Rattle.mm_model.specs.Image.{Image, slot_limit, frame_limit}
 use Rattle.mm_model.specs.Spelling.{numbers_of, IsFresh, IsImage, HoldsWords, mode_of, handler_byte, state_byte, words_spelling, bitmap, slot_record, page_record, header, spelling}
-use Rattle.mm_model.proofs.ImageBytes.Fields.{field}
-use Rattle.mm_model.proofs.ImageBytes.Reading.{header_fault, slot_at, slot_fault, slots_at, slots_fault, least_slot, slot_offset, handler_fault, handlers_fault, is_bad_handler, page_at, page_fault, pages_at, pages_fault, least_page, page_offset, read_fault, image_of, is_magic}
+use Rattle.mm_model.specs.ImageFields.{field}
+use Rattle.mm_model.specs.ImageReading.{header_fault, slot_at, slot_fault, slots_at, slots_fault, least_slot, slot_offset, handler_fault, handlers_fault, is_bad_handler, page_at, page_fault, pages_at, pages_fault, least_page, page_offset, read_fault, image_of, is_magic}
 use Rattle.mm_model.proofs.ImageBytes.Numbers.{is_whole}
 use Rattle.mm_model.proofs.ImageBytes.Chain.{clean_both, right, clean_each}
 use Rattle.mm_model.proofs.ImageBytes.Parts.{part}

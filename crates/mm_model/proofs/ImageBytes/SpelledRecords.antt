@@ -16,8 +16,8 @@ use Rattle.mm_word.proofs.Packing.{code_of-in_range, pointer_of-bits_of, SpellsP
 use Rattle.mm_model.specs.Flags.{number_of_flags}
 use Rattle.mm_model.specs.Memory.{IsPage}
 use Rattle.mm_model.specs.Spelling.{HoldsWords, words_spelling, bitmap, page_record}
-use Rattle.mm_model.proofs.ImageBytes.Fields.{bad, short, field, bit}
-use Rattle.mm_model.proofs.ImageBytes.Reading.{word_at, word_fault, ip_fault, register_at, register_fault, registers_at, registers_fault, page_cell_at, cell_fault, cells_at, cells_fault, page_record_at, page_record_fault}
+use Rattle.mm_model.specs.ImageFields.{bad, short, field, bit}
+use Rattle.mm_model.specs.ImageReading.{word_at, word_fault, ip_fault, register_at, register_fault, registers_at, registers_fault, page_cell_at, cell_fault, cells_at, cells_fault, page_record_at, page_record_fault}
 use Rattle.mm_model.proofs.ImageBytes.Numbers.{is_whole}
 use Rattle.mm_model.proofs.ImageBytes.Chain.{clean_both, right, clean_each}
 use Rattle.mm_model.proofs.ImageBytes.Parts.{part}

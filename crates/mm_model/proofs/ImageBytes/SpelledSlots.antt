@@ -14,8 +14,8 @@ use Rattle.mm_model.specs.declared.slot.Pending.{Pending}
 use Rattle.mm_model.specs.Flags.{number_of_flags}
 use Rattle.mm_model.specs.Slot.{Slot}
 use Rattle.mm_model.specs.Spelling.{Begins, IsOther, IsFresh, handler_byte, state_byte, words_spelling, slot_record}
-use Rattle.mm_model.proofs.ImageBytes.Fields.{field}
-use Rattle.mm_model.proofs.ImageBytes.Reading.{has_number, slot_record_at, slot_record_fault}
+use Rattle.mm_model.specs.ImageFields.{field}
+use Rattle.mm_model.specs.ImageReading.{has_number, slot_record_at, slot_record_fault}
 use Rattle.mm_model.proofs.ImageBytes.Numbers.{is_whole}
 use Rattle.mm_model.proofs.ImageBytes.Chain.{clean_both, right}
 use Rattle.mm_model.proofs.ImageBytes.Parts.{part, field-within}

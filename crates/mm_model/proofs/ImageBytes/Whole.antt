@@ -5,8 +5,8 @@ use Rattle.std.specs.List.{flat_map, range_with_len, list_any}
 use Rattle.mm_model.specs.Slot.{Slot}
 use Rattle.mm_model.specs.Image.{slot_limit}
 use Rattle.mm_model.specs.ImageFaults.{Place, number_at, version_of, slots_of, slot_place, page_place, header_places, slot_places, handler_place, page_places, end_place, image_fault, is_bad_handler as is_bad_byte}
-use Rattle.mm_model.proofs.ImageBytes.Fields.{earlier, bad, field}
-use Rattle.mm_model.proofs.ImageBytes.Reading.{header_fault, slot_fault, slots_fault, least_slot, slot_offset, slots_at, slot_at, is_bad_handler, has_number, handler_fault, handlers_fault, page_fault, pages_fault, page_offset, end_fault, read_fault, registers_fault, register_fault, word_fault, cells_fault, cell_fault}
+use Rattle.mm_model.specs.ImageFields.{earlier, bad, field}
+use Rattle.mm_model.specs.ImageReading.{header_fault, slot_fault, slots_fault, least_slot, slot_offset, slots_at, slot_at, is_bad_handler, has_number, handler_fault, handlers_fault, page_fault, pages_fault, page_offset, end_fault, read_fault, registers_fault, register_fault, word_fault, cells_fault, cell_fault}
 use Rattle.mm_model.proofs.ImageBytes.Numbers.{whole, is_whole}
 use Rattle.mm_model.proofs.ImageBytes.Chain.{earlier-none, earlier-assoc, earlier-same, both_clean, each_clean, first_over-same, place_fault, places_fault, places-cons, places-append, places-map, places-flat_map}
 use Rattle.mm_model.proofs.ImageBytes.Clean.{clean_header, clean_slot, clean_page}

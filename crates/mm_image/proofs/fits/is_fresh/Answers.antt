@@ -6,8 +6,8 @@ use Rattle.mm_word.specs.Pointer.{Pointer, IsWellFormed}
 use Rattle.mm_word.specs.Word.{IsWord}
 use Rattle.mm_model.specs.Slot.{Slot}
 use Rattle.mm_model.specs.Spelling.{Begins}
-use Rattle.mm_image.proofs.CleanRecords.{handler_is_other}
-use Rattle.mm_image.proofs.SpelledSlots.{handler_good}
+use Rattle.mm_model.proofs.ImageBytes.CleanRecords.{handler_is_other}
+use Rattle.mm_model.proofs.ImageBytes.SpelledSlots.{handler_good}
 use Rattle.mm_image.proofs.fits.is_fresh.Goals as goal
 use Rattle.mm_image.proofs.fits.is_fresh.Goals.{then-slot-limit-via-then-slot-limit, then-slot-limit-via-else-slot-limit+then-slot-limit-2, then-slot-limit-via-else-slot-limit+else-slot-limit-2+then-is_bad_handler}
 

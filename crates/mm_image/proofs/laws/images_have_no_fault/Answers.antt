@@ -1,8 +1,8 @@
 use Rattle.std.proofs.Common.{sym, ◌∙◌}
-use Rattle.mm_image.specs.Reading.{image_of}
-use Rattle.mm_image.proofs.Whole.{image_fault-read}
-use Rattle.mm_image.proofs.CleanImage.{clean_spells}
-use Rattle.mm_image.proofs.SpelledImage.{spelled_clean}
+use Rattle.mm_model.specs.ImageReading.{image_of}
+use Rattle.mm_model.proofs.ImageBytes.Whole.{image_fault-read}
+use Rattle.mm_model.proofs.ImageBytes.CleanImage.{clean_spells}
+use Rattle.mm_model.proofs.ImageBytes.SpelledImage.{spelled_clean}
 use Rattle.mm_image.proofs.laws.images_have_no_fault.Goals as goal
 
 pub returns : goal.returns

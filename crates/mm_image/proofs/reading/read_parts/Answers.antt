@@ -4,12 +4,12 @@ use Rattle.mm_model.specs.Slot.{Slot}
 use Rattle.mm_model.specs.Spelling.{IsImage}
 use Rattle.mm_image.specs.declared.header.Header.{Header}
 use Rattle.mm_image.specs.Faults.{Fails}
-use Rattle.mm_image.specs.Fields.{field}
-use Rattle.mm_image.specs.Reading.{slots_at, slots_fault, handlers_fault, pages_fault, page_offset, end_fault}
+use Rattle.mm_model.specs.ImageFields.{field}
+use Rattle.mm_model.specs.ImageReading.{slots_at, slots_fault, handlers_fault, pages_fault, page_offset, end_fault}
 use Rattle.mm_image.proofs.Steps.{at_header, at_slots, at_handlers, at_pages, at_end, at_none, length-slots_at, same_image}
-use Rattle.mm_image.proofs.Clean.{clean_header}
-use Rattle.mm_image.proofs.Parts.{below_16}
-use Rattle.mm_image.proofs.CleanImage.{clean_spells}
+use Rattle.mm_model.proofs.ImageBytes.Clean.{clean_header}
+use Rattle.mm_model.proofs.ImageBytes.Parts.{below_16}
+use Rattle.mm_model.proofs.ImageBytes.CleanImage.{clean_spells}
 use Rattle.mm_image.proofs.reading.read_parts.Goals as goal
 
 pub returns-in_err-header : goal.returns-in_err-header

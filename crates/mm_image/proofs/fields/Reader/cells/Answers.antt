@@ -3,7 +3,7 @@ use Rattle.std.proofs.lemmas.Result.{err_from_is_err_and}
 use Rattle.mm_word.specs.declared.word.Word.{Word}
 use Rattle.mm_word.specs.declared.word.Cell.{Cell}
 use Rattle.mm_image.specs.Faults.{Fails}
-use Rattle.mm_image.specs.Reading.{word_at, word_fault, page_cell_at, cell_fault, cells_at, cells_fault}
+use Rattle.mm_model.specs.ImageReading.{word_at, word_fault, page_cell_at, cell_fault, cells_at, cells_fault}
 use Rattle.mm_image.proofs.Over.{goes_on, ends, is_done, one_more, all_read}
 use Rattle.mm_image.proofs.fields.Reader.cells.Goals as goal
 

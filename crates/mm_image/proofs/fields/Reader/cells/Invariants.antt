@@ -1,7 +1,7 @@
 use Rattle.std.proofs.Common.{◌≡◌, ◌-◌, map, vec_len}
 use Rattle.std.specs.List.{range_with_len}
-use Rattle.mm_image.specs.Fields.{first_over}
-use Rattle.mm_image.specs.Reading.{page_cell_at, cell_fault}
+use Rattle.mm_model.specs.ImageFields.{first_over}
+use Rattle.mm_model.specs.ImageReading.{page_cell_at, cell_fault}
 use Rattle.mm_image.proofs.fields.Reader.cells.Given as goal
 
 abbrev pub invariant-loop-place : goal.invariant-loop-place

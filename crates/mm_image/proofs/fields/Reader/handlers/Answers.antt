@@ -2,8 +2,8 @@ use Rattle.std.proofs.Common.{◌≡◌, ◌+◌, Bool, List, None, length, refl
 use Rattle.std.proofs.lemmas.Result.{err_from_is_err_and}
 use Rattle.mm_model.specs.Slot.{Slot}
 use Rattle.mm_image.specs.Faults.{Fails}
-use Rattle.mm_image.specs.Fields.{bad, first_over}
-use Rattle.mm_image.specs.Reading.{slot_offset, is_bad_handler, handler_fault, handlers_fault}
+use Rattle.mm_model.specs.ImageFields.{bad, first_over}
+use Rattle.mm_model.specs.ImageReading.{slot_offset, is_bad_handler, handler_fault, handlers_fault}
 use Rattle.mm_image.proofs.Over.{goes_on, ends, is_done}
 use Rattle.mm_image.proofs.Present.{slot_is}
 use Rattle.mm_image.proofs.fields.Reader.handlers.Goals as goal

@@ -1,6 +1,6 @@
 use Rattle.std.proofs.Common.{◌≡◌, ◌-◌, length}
-use Rattle.mm_image.specs.Fields.{first_over}
-use Rattle.mm_image.specs.Reading.{handler_fault}
+use Rattle.mm_model.specs.ImageFields.{first_over}
+use Rattle.mm_model.specs.ImageReading.{handler_fault}
 use Rattle.mm_image.proofs.fields.Reader.handlers.Given as goal
 
 abbrev pub invariant-loop-k : goal.invariant-loop-k

@@ -2,8 +2,8 @@ use Rattle.std.proofs.Common.{◌≡◌, ℕ, suc, ◌+◌, List, None, sym, ap,
 use Rattle.std.proofs.lemmas.Result.{err_from_is_err_and}
 use Rattle.mm_word.specs.declared.word.Cell.{Cell}
 use Rattle.mm_image.specs.Faults.{Fails}
-use Rattle.mm_image.specs.Fields.{field}
-use Rattle.mm_image.specs.Reading.{page_offset, page_record_at, page_record_fault, page_at, page_fault, pages_at, pages_fault, least_page}
+use Rattle.mm_model.specs.ImageFields.{field}
+use Rattle.mm_model.specs.ImageReading.{page_offset, page_record_at, page_record_fault, page_at, page_fault, pages_at, pages_fault, least_page}
 use Rattle.mm_image.proofs.Over.{goes_on, ends, is_done, one_more, all_read}
 use Rattle.mm_image.proofs.fields.Reader.pages.Goals as goal
 

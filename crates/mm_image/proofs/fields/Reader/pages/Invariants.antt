@@ -1,7 +1,7 @@
 use Rattle.std.proofs.Common.{◌≡◌, ◌-◌, map}
 use Rattle.std.specs.List.{range_with_len}
-use Rattle.mm_image.specs.Fields.{first_over}
-use Rattle.mm_image.specs.Reading.{page_at, page_fault, least_page}
+use Rattle.mm_model.specs.ImageFields.{first_over}
+use Rattle.mm_model.specs.ImageReading.{page_at, page_fault, least_page}
 use Rattle.mm_image.proofs.fields.Reader.pages.Given as goal
 
 abbrev pub invariant-loop-k : goal.invariant-loop-k

@@ -3,7 +3,7 @@ use Rattle.std.specs.Prelude.{◌==◌}
 use Rattle.std.proofs.lemmas.Result.{err_from_is_err_and}
 use Rattle.std.proofs.lemmas.List.{take_more_set, take_all}
 use Rattle.mm_image.specs.Faults.{Fails}
-use Rattle.mm_image.specs.Reading.{word_at, word_fault, register_at, register_fault, registers_at, registers_fault}
+use Rattle.mm_model.specs.ImageReading.{word_at, word_fault, register_at, register_fault, registers_at, registers_fault}
 use Rattle.mm_image.proofs.Over.{goes_on, ends, is_done, one_more, all_read}
 use Rattle.mm_image.proofs.fields.Reader.registers.Goals as goal
 

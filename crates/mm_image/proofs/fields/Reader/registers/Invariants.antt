@@ -1,7 +1,7 @@
 use Rattle.std.proofs.Common.{◌≡◌, ◌-◌, length, take, map}
 use Rattle.std.specs.List.{range_with_len}
-use Rattle.mm_image.specs.Fields.{first_over}
-use Rattle.mm_image.specs.Reading.{register_at, register_fault}
+use Rattle.mm_model.specs.ImageFields.{first_over}
+use Rattle.mm_model.specs.ImageReading.{register_at, register_fault}
 use Rattle.mm_image.proofs.fields.Reader.registers.Given as goal
 
 abbrev pub invariant-loop-r : goal.invariant-loop-r

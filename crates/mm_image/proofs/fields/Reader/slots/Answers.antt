@@ -3,8 +3,8 @@ use Rattle.std.proofs.lemmas.Result.{err_from_is_err_and}
 use Rattle.mm_model.specs.Slot.{Slot}
 use Rattle.mm_model.specs.Image.{slot_limit}
 use Rattle.mm_image.specs.Faults.{Fails}
-use Rattle.mm_image.specs.Fields.{field}
-use Rattle.mm_image.specs.Reading.{slot_offset, slot_record_fault, slot_at, slot_fault, slots_at, slots_fault, least_slot}
+use Rattle.mm_model.specs.ImageFields.{field}
+use Rattle.mm_model.specs.ImageReading.{slot_offset, slot_record_fault, slot_at, slot_fault, slots_at, slots_fault, least_slot}
 use Rattle.mm_image.proofs.Over.{goes_on, ends, is_done, one_more, all_read}
 use Rattle.mm_image.proofs.fields.Reader.slots.Goals as goal
 

@@ -10,7 +10,7 @@ use Rattle.mm_word.specs.Pointer.{pointer_of, spells_pointer}
 use Rattle.mm_model.specs.declared.slot.SlotState.TheVariants.{Running, Halted}
 use Rattle.mm_model.specs.Slot.{Slot}
 use Rattle.mm_model.specs.Image.{Image, slot_limit, frame_limit, none_empty}
-use Rattle.mm_model.proofs.ImageBytes.Fields.{earlier, first_over, bad, short, field, bit}
+use Rattle.mm_model.specs.ImageFields.{earlier, first_over, bad, short, field, bit}
 
 -- a slot of the list has this number
 abbrev pub has_number : List Slot → ℕ → Bool
