@@ -149,18 +149,6 @@ module _ (par marks : List ℕ) (keep : ℕ → Bool) (out : List ℕ) (k v w : 
     ];
   }
 
-pub spread_start : (gives old : List ℕ) → Spreading 0 gives old old false
-spread_start gives old = record {
-  len = refl;
-  only = λ n g x. inl x;
-  still = λ e n g small x. absurd (omega arith);
-  rest = λ n small. refl;
-  same = λ e. refl;
-  grows = λ n. Within-refl (slice_index old n);
-  no_rise = omega arith;
-  falls = λ e. cc;
-}
-
 module _ (gives old a : List ℕ) (ch : Bool) (k r : ℕ) (s : Spreading k gives old a ch) (small : k < length a) (is : (g : ℕ) → (bit_at r g ≡ 1) ↔ GivenBy 64 (slice_index a k) gives g) where
   at_node : slice_index a k ≡ slice_index old k
   at_node = s.rest k (omega arith)
@@ -212,17 +200,6 @@ module _ (gives old a : List ℕ) (ch : Bool) (k r : ℕ) (s : Spreading k gives
 
       fell : room (2 ^ 64) (slice_set a k (bit_or (slice_index a k) r)) + 1 ≤ room (2 ^ 64) a
       fell = let up = le_or_l (slice_index a k) r in room_set (2 ^ 64) a k (bit_or (slice_index a k) r) small (omega arith) below
-
-pub spread_end : (gives old a : List ℕ) (ch : Bool) (k : ℕ) → length a ≤ k → Spreading k gives old a ch → IsSpread gives old a ch
-spread_end gives old a ch k le s = record {
-  len = s.len;
-  only = s.only;
-  still = λ f n g lt x. let e = s.same f in subst (λ v. Has v n g) (sym e) (s.still f n g (omega arith) (subst (λ v. GivenBy 64 (slice_index v n) gives g) e x));
-  same = s.same;
-  grows = s.grows;
-  no_rise = s.no_rise;
-  falls = s.falls;
-}
 
 -- the test of one bit
 pub bit_set : (m h : ℕ) → bit_and (m / 2 ^ h) 1 ≡ 1 → bit_at m h ≡ 1

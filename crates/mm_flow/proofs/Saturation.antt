@@ -18,23 +18,6 @@ Up-le : (par : List ℕ) (j k : ℕ) → Up par j k → j ≤ k
 Up-le par j k (here e) = omega arith
 Up-le par j k (over lt u) = let le = Up-le par j (slice_index par k) u in omega arith
 
-pub gifting_start : (links writes touches : List ℕ) → length links ≡ 64 → Gifting links writes touches 0 links
-gifting_start links writes touches e = record { len = e; only = λ h g x. inl x; keeps = λ h g x. x; each = λ h g m small lt. absurd (omega arith) }
-
-pub gifting_more : (links writes touches a b : List ℕ) (k : ℕ) → Gifting links writes touches k a → IsGift 64 a (slice_index writes k) (slice_index touches k) b → Gifting links writes touches (k + 1) b
-gifting_more links writes touches a b k x y = record {
-  len = y.len ∙ x.len;
-  only = λ h g z. elim (y.only h g z) [
-    | inr two ↦ inr (k, omega arith, two.0, two.1)
-    | inl old ↦ elim (x.only h g old) [ inl l ↦ inl l | inr m ↦ inr (m.0, (let lt = m.1 in omega arith), m.2, m.3) ]
-  ];
-  keeps = λ h g z. y.keeps h g (x.keeps h g z);
-  each = λ h g m small lt w t. elim (below_cases m k lt) [
-    | inl lt2 ↦ y.keeps h g (x.each h g m small lt2 w t)
-    | inr e ↦ y.each h g small (ap (λ v. bit_at (slice_index writes v) h) (sym e) ∙ w) (ap (λ v. bit_at (slice_index touches v) g) (sym e) ∙ t)
-  ];
-}
-
 pub gifts_end : (n : Ties) (marks writes touches a b : List ℕ) (r l : ℕ) → length writes ≡ length marks → length touches ≡ length marks
     → IsLifted n.parents marks (right_at n.nodes Store) writes → IsLifted n.parents marks (right_at n.nodes Load) touches → Gifting n.links writes touches (length writes) a
     → ((g : ℕ) → (bit_at r g ≡ 1) ↔ HasSome marks (right_at n.nodes Make) g) → ((g : ℕ) → (bit_at l g ≡ 1) ↔ HasSome marks (right_at n.nodes Load) g) → IsGift 64 a r l b → IsGifts n marks b

@@ -7,6 +7,3 @@ rose_or_last : (before now : ℕ) → Rose before now → (before < now) ⊎ (2 
 rose_or_last before now rose =
     elim (cases_lt before now) as (λ _. (before < now) ⊎ (2 ^ 64 - 1 ≤ now)) [ inl higher ↦ inl higher | inr same ↦ inr (omega arith) ]
 
--- a count that rose is higher than before, or stands at the last value of a counter of 64 bits
-pub Rose-means : (before now : ℕ) → Rose before now ↔ ((before < now) ⊎ (2 ^ 64 - 1 ≤ now))
-Rose-means before now = (rose_or_last before now, λ means. elim means [ inl higher ↦ omega arith | inr last ↦ omega arith ])

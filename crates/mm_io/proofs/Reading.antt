@@ -11,23 +11,12 @@ abbrev pub Begins : Option (List ℕ) → List ℕ → Type 0
 Begins None bytes = ⊤
 Begins (Some told) bytes = bytes ≡ take (length bytes) told
 
-pub Begins-[] : (told : Option (List ℕ)) → Begins told []
-Begins-[] None = tt
-Begins-[] (Some told) = refl
-
 pub Begins-++ : (told : Option (List ℕ)) (bytes : List ℕ) (n : ℕ) (buf : List ℕ) → Begins told bytes → n ≤ length buf
     → ReadsAt told (length bytes) n buf → Begins told (bytes ++ take n buf)
 Begins-++ None bytes n buf begins fits reads = tt
 Begins-++ (Some told) bytes n buf begins fits reads =
     let len : length (bytes ++ take n buf) ≡ length bytes + n = omega (arith, length-append bytes (take n buf), length-take-le n buf fits) in
     rw (len, take-add (length bytes) n told, ← begins, reads.0) refl
-
-pub Begins-end : (told : Option (List ℕ)) (bytes : List ℕ) (buf : List ℕ) → Begins told bytes → 0 < length buf
-    → ReadsAt told (length bytes) 0 buf → Holds told bytes
-Begins-end None bytes buf begins room reads = tt
-Begins-end (Some told) bytes buf begins room reads =
-    let all : take (length bytes) told ≡ told = take_all (length bytes) told (reads.1 refl room) in
-    begins ∙ all
 
 pub Begins-longer : (told : Option (List ℕ)) (bytes : List ℕ) (n : ℕ) (buf : List ℕ) (limit : ℕ) → Begins told bytes → n ≤ length buf
     → ReadsAt told (length bytes) n buf → limit < length bytes + n → IsLonger told limit
@@ -43,10 +32,6 @@ reads_same name n buf same at reads = rw (← same, ← at) reads
 pub prepend-++ : (a b : List ℕ) (known : Option (List ℕ)) → prepend_known a (prepend_known b known) ≡ prepend_known (a ++ b) known
 prepend-++ a b None = refl
 prepend-++ a b (Some xs) = ap Some (sym (append_assoc a b xs))
-
-pub prepend-[] : (known : Option (List ℕ)) → known ≡ prepend_known [] known
-prepend-[] None = refl
-prepend-[] (Some xs) = refl
 
 -- the bytes that were read, and those of one read more, went from the front
 pub drawn_more : {left middle : Option (List ℕ)} (bytes piece : List ℕ) (now : Option (List ℕ)) → left ≡ prepend_known bytes middle → middle ≡ prepend_known piece now

@@ -188,11 +188,6 @@ module _ (first core : Core) (k : Sames first core) where
       let ids : identities_of (put_slot core s) ≡ identities_of core = identities_of-put_slot core s now.now k.rises now.is (now.same ∙ same) in
       record { same = ids ∙ k.same; rises = rises_by core (put_slot core s) ids k.rises }
 
-  pub put_queue-sames : (n : ℕ) (q : List Event) → Sames first (put_queue core n q)
-  put_queue-sames n q =
-      let ids : identities_of (put_queue core n q) ≡ identities_of core = ap (map identity_of) (slots_of-put_queue core n q) in
-      record { same = ids ∙ k.same; rises = rises_by core (put_queue core n q) ids k.rises }
-
   -- the rows at a number are of the slot that stood there at first
   pub group_at : (n : ℕ) (was : Slot) → slot_at first n ≡ Some was → AllByRecursion (λ (row : Row). row.slot.number ≡ n → row.slot.group ≡ was.group) core.rows
   group_at n was at =

@@ -173,10 +173,6 @@ module _ (j : Image) (c : ℕ → Bool) (all : (s : Slot) → Contains j.slots s
 
 -- 4. The groups' slots alone.
 
-pub alone_image : (i : Image) (c : ℕ → Bool) → IsImage i → HasSlot i c → StaysInside i c → IsImage (alone i c)
-unfolding alone
-alone_image i c img has stays = own_image i c img has stays i.memory refl img.paged img.words
-
 pub alone_agrees : (i : Image) (c : ℕ → Bool) → IsImage i → HasSlot i c → Apart i c → AgreeApart i (alone i c) c
 unfolding alone
 alone_agrees i c img has apart = record {

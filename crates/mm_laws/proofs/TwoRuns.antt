@@ -101,9 +101,6 @@ module _ (i : Image) (c : ℕ → Bool) (s : State) (fits : Fits i s) where
 
 -- 2. One step.
 
-words_after : (i : Image) (s : State) (n : ℕ) → StepGranted i All s n → WordsGranted i All (after s n)
-words_after i s n h = h.words
-
 module _ (i j : Image) (c : ℕ → Bool) (g : AgreeApart i j c) (s t : State) (w : Worlds i j c s t) where
   stands_s : Stands i All s.core s.memory
   stands_s = stands_of i All s w.one w.one_words
@@ -151,11 +148,6 @@ module _ (i j : Image) (c : ℕ → Bool) (g : AgreeApart i j c) (s t : State) (
       by true on e =
           let on_t : (t.core.split && nat_le 128 n) ≡ true = ap (λ b. b && nat_le 128 n) (sym both_worlds.split) ∙ on in
           ap (λ b. if b then slot_at t.core (n - 128) else None) on_t ∙ over (n - 128) x e cx
-
-  -- a slot of the groups that stands at an item's number is not another's
-  none_over : (n : ℕ) → (o : Option Slot) → slot_at t.core n ≡ o → slot_at s.core n ≡ None → 128 ≤ n → o ≡ None
-  none_over n None is none high = refl
-  none_over n (Some y) is none high = cc (is, no_slot_at j c t w.other n high)
 
   same_turn_of : (n : ℕ) → Item c s.core n → SameOf (turn s.core s.memory n) (turn t.core t.memory n)
   unfolding turn

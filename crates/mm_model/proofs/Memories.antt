@@ -314,14 +314,6 @@ get_within [] n lt = absurd (omega arith)
 get_within (z ∷ zs) zero lt = (z, refl)
 get_within (z ∷ zs) (suc n) lt = get_within zs n (omega arith)
 
--- each word of a mapped page has a cell
-pub cell_at-mapped : (m : Memory) → IsPaged m → (w : ℕ) (cells : List Cell) → w % 8 ≡ 0 → page_at m (page_of w) ≡ Some cells → (c : Cell) × (cell_at m w ≡ Some c)
-cell_at-mapped m h w cells a is =
-    let long = (page_whole m h (page_of w) cells is).cells in
-    let within = place_within w in
-    let found = get_within cells (place_of w) (subst (λ n. place_of w < n) (sym long) within) in
-    (found.0, cell_at-aligned m w a ∙ ap (λ o. cell_in o (place_of w)) is ∙ found.1)
-
 put_rising : (k : ℕ) (v : List Cell) (es : List (ℕ × List Cell)) → IsTrue (is_sorted nat_cmp es) → IsTrue (is_sorted nat_cmp (put nat_cmp k v es))
 put_rising k v es h = truth (is_sorted nat_cmp (put nat_cmp k v es)) (is_sorted-put nat_cmp nat_cmp_total k v es (subst T (sym h) tt))
 

@@ -130,13 +130,6 @@ module _ (version : ℕ) (split : Bool) (s : Slot) (h : IsSlot version split s) 
       let few = below-few (λ (p : Pending). p.reg) 16 s.pending at_most_once in
       omega arith
 
-  -- and fewer, where one waits for none
-  pub pending_shorter : (r : ℕ) → r < 16 → is_empty s r ≡ false → length s.pending < 16
-  pending_shorter r lt free =
-      let all = length-below (λ (p : Pending). p.reg) 16 s.pending loads_small in
-      let few = below-fewer (λ (p : Pending). p.reg) 16 r s.pending at_most_once lt (loads_once r ∙ ap one_if free) in
-      omega arith
-
 -- 3. Queues.
 
 events_count : (n : ℕ) (q : List Event) → count (λ (e : Event). e.slot) n q ≡ events_of n q
@@ -179,9 +172,3 @@ module _ (core : Core) (h : IsCore core) (g : ℕ) where
       let few = below-few (λ (e : Event). e.slot) 64 (queue_at core g) events_at_most_once in
       omega arith
 
-  -- and fewer, where a slot's event is not in it
-  pub queue_shorter : (n : ℕ) → n < 64 → waits_for g (slot_at core n) ≡ false → length (queue_at core g) < 64
-  queue_shorter n lt none =
-      let all = length-below (λ (e : Event). e.slot) 64 (queue_at core g) events_small in
-      let few = below-fewer (λ (e : Event). e.slot) 64 n (queue_at core g) events_at_most_once lt (events_once n ∙ ap one_if none) in
-      omega arith

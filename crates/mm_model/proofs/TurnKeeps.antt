@@ -364,5 +364,3 @@ module _ (core : Core) (m : Memory) (h : IsCore core) where
       by None is = port_keeps n (core.split && nat_le 128 n)
       by (Some s) is = runs s is (is_running s.state) refl
 
-pub turn_keeps_core : (core : Core) (m : Memory) (n : ℕ) → IsCore core → IsCore (turn core m n).core
-turn_keeps_core core m n h = (turn_keeps core m h n).whole

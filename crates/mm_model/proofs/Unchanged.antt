@@ -37,10 +37,6 @@ no_changes : (m : Memory) (pages : List (ℕ × List Cell)) → flat_map (λ pag
 no_changes m [] = refl
 no_changes m (page ∷ pages) = rw (page_change-self page.0 (is_mapped m page.0)) (no_changes m pages)
 
--- no page is new or gone
-pub page_lines-self : (m : Memory) → page_lines m m ≡ []
-page_lines-self m = no_changes m (pages_of m m)
-
 -- one page's cells, beside those that the image has
 same_page : (m : Memory) (page : ℕ × List Cell) → page_at m page.0 ≡ Some page.1 → changed_cells (page.0 * 4096) page.1 (cells_or_zero (page_at m page.0)) ≡ []
 same_page m page found = rw found (changed_cells-self (page.0 * 4096) page.1)
@@ -77,6 +73,3 @@ found_in : (es : List (ℕ × List Cell)) → T (is_sorted nat_cmp es) → AllBy
 found_in [] sorted = tt
 found_in (e ∷ es) sorted = (found_here e es, found_behind e es es (below_rest e es sorted) (found_in es (sorted_rest e es sorted)))
 
--- no cell differs
-pub cell_lines-self : (m : Memory) → IsTrue (is_sorted nat_cmp m.pages) → cell_lines m m ≡ []
-cell_lines-self m rising = same_pages m m.pages (found_in m.pages (subst T (sym rising) tt))

@@ -25,26 +25,6 @@ both_ways old a b len la lb =
       there = λ p q. (with_bit-keeps (with_bit old a b) b a small_b la a b (with_bit-there old a b small_a lb), with_bit-there (with_bit old a b) b a small_b la);
     }
 
-pub no_link : (old : List ℕ) (a b : ℕ) → (a < 64 → b < 64 → ⊥) → IsLink a b old old
-no_link old a b out = record { len = refl; only = λ h g x. inl x; keeps = λ h g x. x; there = λ p q. absurd (out p q) }
-
-pub links_to : (served server : Slot) (old new : List ℕ) → served.handler ≡ Some server.number → IsLink served.group server.group old new → LinksTo served server old new
-links_to served server old new e l = record {
-  len = l.len;
-  only = λ h g x. elim (l.only h g x) [ inl y ↦ inl y | inr y ↦ inr (record { handled = e; groups = y }) ];
-  keeps = l.keeps;
-  each = λ h g lh lg x. elim x.groups [
-    | inl y ↦ let t = l.there (let q = y.0 in omega arith) (let q = y.1 in omega arith) in subst (λ v. Has new v g) y.0 (subst (λ v. Has new served.group v) y.1 t.0)
-    | inr y ↦ let t = l.there (let q = y.1 in omega arith) (let q = y.0 in omega arith) in subst (λ v. Has new v g) y.0 (subst (λ v. Has new server.group v) y.1 t.1)
-  ];
-}
-
-pub links_none : (served server : Slot) (old : List ℕ) → (served.handler ≡ Some server.number → ⊥) → LinksTo served server old old
-links_none served server old ne = record { len = refl; only = λ h g x. inl x; keeps = λ h g x. x; each = λ h g lh lg x. absurd (ne x.handled) }
-
-pub one_start : (slots : List Slot) (served : Slot) (old : List ℕ) → LinksOne slots served 0 old old
-one_start slots served old = record { len = refl; only = λ h g x. inl x; keeps = λ h g x. x; each = λ h g lh lg x. absurd (let lt = x.small in omega arith) }
-
 wider : (slots : List Slot) (served : Slot) (k h g : ℕ) → ServedBy slots served k h g → ServedBy slots served (k + 1) h g
 wider slots served k h g x = record { at = x.at; small = (let lt = x.small in omega arith); server = x.server; is = x.is; handles = x.handles }
 
@@ -80,22 +60,3 @@ linked slots served h g m x = record {
   groups = elim x.handles.groups [ inl y ↦ inr (y.0, y.1) | inr y ↦ inl (y.1, y.0) ];
 }
 
-pub before_more : (slots : List Slot) (served : Slot) (k : ℕ) (a b : List ℕ) → k < length slots → served ≡ get_or slots k served → LinksBefore slots k a → LinksOne slots served (length slots) a b → LinksBefore slots (k + 1) b
-before_more slots served k a b lt is x y = record {
-  len = y.len ∙ x.len;
-  only = λ h g z. elim (y.only h g z) [ inl w ↦ x.only h g w | inr w ↦ linked slots served h g (k, lt, sym is) w ];
-  each = λ h g n s lh lg small m z. elim (below_cases n k small) [
-    | inl less ↦ y.keeps h g (x.each h g n s lh lg less m z)
-    | inr e ↦
-        let same : served ≡ s = get_or_read slots k served lt is s ∙ ap (λ v. get_or slots v s) (sym e) ∙ m in
-        y.each h g lh lg (subst (λ v. ServedBy slots v (length slots) h g) (sym same) z)
-  ];
-}
-
-pub before_all : (slots : List Slot) (k : ℕ) (links : List ℕ) → k ≡ length slots → LinksBefore slots k links → IsLinks slots links
-before_all slots k links e x = record {
-  len = x.len;
-  only = λ g h z. x.only h g z;
-  each = λ g h lg lh z. x.each h g z.one.0 z.served lh lg (let lt = z.one.1 in omega arith) z.one.2
-      (record { at = z.other.0; small = z.other.1; server = z.server; is = z.other.2; handles = record { handled = z.handled; groups = elim z.groups [ inl y ↦ inr (y.1, y.0) | inr y ↦ inl (y.0, y.1) ] } });
-}

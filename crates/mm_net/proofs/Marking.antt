@@ -38,15 +38,6 @@ one_mark keys s old k rising len lt is small =
       each = λ n ln sg e. subst (λ v. Has (with_bit old k s.group) v s.group) (same_place keys k n rising lt ln (is ∙ sym e)) (with_bit-there old k s.group fit small);
     }
 
-pub mark_nowhere : (keys : List Key) (s : Seed) (old : List ℕ) → (Contains keys s.key → ⊥) → IsMark keys s old old
-mark_nowhere keys s old none = record { len = refl; only = λ k g h. inl h; keeps = λ k g h. h; each = λ k lt small e. absurd (none (k, lt, at k lt e)) }
-  where
-    at : (k : ℕ) → k < length keys → key_at keys k ≡ s.key → get_or keys k s.key ≡ s.key
-    at k lt e = get_or_default keys k s.key _ lt ∙ e
-
-pub mark_none : (keys : List Key) (s : Seed) (old : List ℕ) → 64 ≤ s.group → IsMark keys s old old
-mark_none keys s old le = record { len = refl; only = λ k g h. inl h; keeps = λ k g h. h; each = λ k lt small e. absurd (omega arith) }
-
 pub marks_start : (keys : List Key) (n : ℕ) → n ≡ length keys → IsMarks keys [] (replicate n 0)
 marks_start keys n e = record {
   len = length-replicate n 0 ∙ e;
@@ -70,5 +61,3 @@ marks_more keys seeds k d a b lt x y = rw (take_more seeds k d lt) (record {
   ];
 })
 
-pub marks_end : (keys : List Key) (seeds : List Seed) (k : ℕ) (a : List ℕ) → length seeds ≤ k → IsMarks keys (take k seeds) a → IsMarks keys seeds a
-marks_end keys seeds k a le x = subst (λ v. IsMarks keys v a) (take_all k seeds le) x

@@ -101,9 +101,6 @@ stands_again p k w s =
     let idle : is_idle (standing_for p) ≡ false = ap (λ v. is_idle_at v (standing_for p).log) (same_perm p) ∙ ap (is_idle_at p.perm) (same_log p) ∙ s.idle in
     ap standing_key is ∙ ap (λ b. if b then None else Some (key_of (standing_for (standing_for p)))) idle ∙ ap (λ q. Some (key_of q)) (standing_again p) ∙ ap Some (sym s.is)
 
-executes : Perm → Perm → Type 0
-executes p q = execute_form p ≡ Some q
-
 form_again : (p q : Perm) → execute_form p ≡ Some q → execute_form q ≡ Some q
 form_again Xu q h = let e : Xu ≡ q = cc in subst (λ v. execute_form v ≡ Some v) e refl
 form_again Xp q h = let e : Xp ≡ q = cc in subst (λ v. execute_form v ≡ Some v) e refl

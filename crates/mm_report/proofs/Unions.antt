@@ -251,9 +251,6 @@ pub length_numbers : (es : List (ℕ × List Cell)) → length (numbers es) ≡ 
 length_numbers [] = refl
 length_numbers (e ∷ es) = ap suc (length_numbers es)
 
-pub some_is : {A : Type 0} (o : Option A) (x : A) → o ≡ Some x → is_some o ≡ true
-some_is o x e = ap is_some e
-
 -- a test that an option is some number
 pub equal_says : (o : Option ℕ) (n : ℕ) → true ≡ option_eq nat_eq o (Some n) → o ≡ Some n
 equal_says None n e = cc

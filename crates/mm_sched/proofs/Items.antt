@@ -70,10 +70,6 @@ around_front n k at word h s e = rw (star_place n k at word e h s, e) (take-appe
 pub around_back : (n k at : ℕ) (word : List ℕ) → n < 2 ^ 64 → FirstStar word at → word ≡ decimal n ++ 42 ∷ decimal k → drop (at + 1) word ≡ decimal k
 around_back n k at word h s e = rw (star_place n k at word e h s, e) (drop-append-add (decimal n) (42 ∷ decimal k) 1)
 
--- a word is what stands before its star, the star, and what stands behind it
-pub around : (word : List ℕ) (at : ℕ) → at < length word → slice_index_or word at 0 ≡ 42 → word ≡ take at word ++ 42 ∷ drop (at + 1) word
-around word at h e = sym (take-append-drop at word) ∙ ap (λ rest. take at word ++ rest) (drop_more word at 0 h ∙ ap (λ (b : ℕ). b ∷ drop (at + 1) word) e)
-
 -- what a word says with a star, and without one
 
 pub says_number : (word : List ℕ) (n k : ℕ) → NoStar word (length word) → IsItem word n k → word ≡ decimal n

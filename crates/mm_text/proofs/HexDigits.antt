@@ -30,6 +30,3 @@ shown : hex 2 65 ≡ codes "41"
 unfolding hex
 shown = refl
 
-shown_last : hex 4 0xfedcba ≡ codes "dcba"
-unfolding hex
-shown_last = refl

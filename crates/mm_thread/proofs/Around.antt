@@ -171,19 +171,6 @@ served-unhandled core n k of is handles = rw (is, handles) refl
 pub served-untaken : (core : Core) (n k : ℕ) (of : Slot) → slot_at core k ≡ Some of → is_taken of.state ≡ false → served n (slot_at core k) ≡ Refused NoSlot
 served-untaken core n k of is taken = rw (is, taken) (elim (is_handler n of.handler) as (λ b. cond (b && false) (Served of) (Refused NoSlot) ≡ Refused NoSlot) [ true ↦ refl | false ↦ refl ])
 
-pub served-none : (core : Core) (n k : ℕ) → slot_at core k ≡ None → served n (slot_at core k) ≡ Refused NoSlot
-served-none core n k is = rw is refl
-
--- a taken slot does not run
-pub taken_differs : (core : Core) (p q : ℕ) → is_running (slot_in core p).state ≡ true → is_taken (slot_in core q).state ≡ true → q ≢ p
-taken_differs core p q runs taken same = by (slot_in core p).state runs (ap (λ (k : ℕ). is_taken (slot_in core k).state) (sym same) ∙ taken)
-  where
-    by : (state : SlotState) → is_running state ≡ true → is_taken state ≡ true → ⊥
-    by Running e f = cc
-    by Waiting e f = cc
-    by Taken e f = cc
-    by (Halted c) e f = cc
-
 module _ (core : Core) (m : Memory) (s : Slot) where
   pub resume_refused : (ra : ℕ) (how : How) → served s.number (slot_at core (word_bits (register s ra))) ≡ Refused NoSlot → Leaves core m s (effect_in core m s (Resume ra how)) core m (Fails NoSlot)
   unfolding ask reply effect

@@ -26,14 +26,6 @@ step_of tick n = record { tick = tick; slot = n; fetched = None; touched = None;
 
 -- 1. Ports.
 
-pub port-plain : (core : Core) (n : ℕ) → core.split ≡ false → port_of core n ≡ None
-port-plain core n plain = rw plain refl
-
-pub port-low : (core : Core) (n : ℕ) → n < 128 → port_of core n ≡ None
-port-low core n low =
-    let small : leb 128 n ≡ false = grind (arith, nat_tests) in
-    rw small (elim core.split as (λ b. cond (b && false) (slot_at core (n - 128)) None ≡ None) [ true ↦ refl | false ↦ refl ])
-
 pub port-slot : (core : Core) (n : ℕ) → core.split ≡ true → 128 ≤ n → port_of core n ≡ slot_at core (n - 128)
 port-slot core n split high =
     let large : leb 128 n ≡ true = grind (arith, nat_tests) in

@@ -40,23 +40,6 @@ clear_noted runners n s same small rests = record {
 
 -- 2. The bits of the first rows.
 
-pub runners_none : (rows : List Row) → AreRunners rows 0 0
-runners_none rows = record {
-  each = λ k below. absurd (omega arith);
-  none = λ n small h. bit_at-zero n;
-}
-
-pub runners_more : (rows : List Row) (i before after : ℕ) → AreNumbered rows → i < length rows → AreRunners rows i before → IsNoted before after (slot_of_row rows i) → AreRunners rows (i + 1) after
-runners_more rows i before after numbered within h noted = record {
-  each = λ k below. elim (cases_eq k i) [
-    | inl same ↦ rw same noted.here
-    | inr other ↦
-        let earlier : k < i = omega (arith, below) in
-        noted.others (slot_of_row rows k).number (numbered.small k (omega arith)) (λ e. other (numbered.own k i (omega arith) within e)) ∙ h.each k earlier
-  ];
-  none = λ n small none. noted.others n small (λ e. none i (omega arith) (sym e)) ∙ h.none n small (λ k below. none k (omega arith));
-}
-
 -- 3. A row changes, but for its number.
 
 module _ (rows : List Row) (p : ℕ) (within : p < length rows) (row : Row) (same : row.slot.number ≡ (slot_of_row rows p).number) where

@@ -107,11 +107,6 @@ module _ (bytes : List ℕ) where
   places-flat_map places from (suc n) =
       places-append (places from) (flat_map places (range_with_len (from + 1) n)) ∙ ap (λ (x : Found). earlier (places_fault (places from)) x) (places-flat_map places (from + 1) n)
 
-  -- a place where nothing is tested
-  pub place-untested : (at size number : ℕ) → place_fault (record { at = at; size = size; number = number; bad = false }) ≡ short bytes (at + size)
-  unfolding bad
-  place-untested at size number = earlier-none (short bytes (at + size))
-
   -- the first fault of these places
   pub record HasFault (places : List Place) (fault : Found) : Type 0 where
     pub is : places_fault places ≡ fault

@@ -20,10 +20,6 @@ pub is_whole : (bytes : List ℕ) (end : ℕ) → end ≤ length bytes → short
 unfolding short
 is_whole bytes end le = rw (le-ltb (length bytes) end le) refl
 
-pub is_short : (bytes : List ℕ) (end : ℕ) → length bytes < end → short bytes end ≡ Some (1, length bytes)
-unfolding short
-is_short bytes end lt = rw (lt-ltb (length bytes) end lt) refl
-
 -- 2. Lists of known length.
 
 pub two : (xs : List ℕ) → length xs ≡ 2 → xs ≡ get_or xs 0 0 ∷ get_or xs 1 0 ∷ []
