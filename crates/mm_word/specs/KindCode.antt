@@ -1,0 +1,12 @@
+use Rattle.std.specs.Prelude.{◌≡◌, ℕ, ◌<◌, ◌==◌, if◌then◌else◌}
+use Rattle.std.proofs.Common.{arith, ap}
+use Rattle.std.proofs.lemmas.Bool.Decides.{nat_tests}
+use Rattle.mm_word.specs.declared.access.Access.TheInside.{Inside}
+use Rattle.mm_word.specs.Access.{Touch, IsGranted, kind_code, kind_of}
+
+pub kind_again : (n : ℕ) → n < 4 → kind_code (kind_of n) ≡ n
+kind_again n small = grind (arith, nat_tests)
+
+pub inside_again : (a : Inside) → IsGranted (record { ptr = a.ptr; addr = a.addr; kind = kind_of a.code }) × (a.code < 4)
+    → record { ptr = a.ptr; addr = a.addr; code = kind_code (kind_of a.code) } ≡ a
+inside_again a h = let make : ℕ → Inside = λ n. record { ptr = a.ptr; addr = a.addr; code = n } in ap make (kind_again a.code h.1)
