@@ -1,6 +1,10 @@
 pub mod Verdicts
-pub mod Complete
-pub mod Refusals
+pub mod OneRow
+pub mod Once
+pub mod KindsOnce
+pub mod Told
+pub mod Reading
+pub mod Rows
 pub mod Rounds
 pub mod Running
 pub mod Reported
@@ -9,4 +13,4 @@ pub mod TracedRuns
 pub mod GroupWords
 pub mod OwnItems
 pub mod WordsBehind
-pub mod Extracting
+pub mod Migrated

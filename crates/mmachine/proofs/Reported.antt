@@ -1,6 +1,7 @@
--- The answer of a command that runs an image.
-use Rattle.std.proofs.Common.{◌≡◌, ℕ, List, [], Option, None, Some, Result, Ok, Err, refl, ap, ◌∙◌}
+-- How a command that writes a text ends.
+use Rattle.std.proofs.Common.{◌≡◌, ℕ, List, [], Option, Result, Ok, Err, refl, sym, ap, subst}
 use Rattle.std.specs.Result.{IsErrAnd}
+use Rattle.mm_io.specs.declared.write.WriteFault.{WriteFault}
 use Rattle.mm_io.specs.Sinks.{Writes}
 use Rattle.mm_io.proofs.Known.{writes_same}
 use Rattle.mm_mem.specs.declared.memory.Memory.{Ghosts}
@@ -8,18 +9,18 @@ use Rattle.mm_model.specs.declared.counts.Counts.{Counts}
 use Rattle.mm_model.specs.Uses.{Use}
 use Rattle.mm_model.specs.State.{State}
 use Rattle.mm_model.specs.Image.{Image, start}
-use Rattle.mm_model.specs.Run.{run, uses, robin_from}
+use Rattle.mm_model.specs.Run.{run, uses}
 use Rattle.mm_model.specs.Report.{report}
 use Rattle.mm_machine.specs.declared.machine.Machine.{Machine}
 use Rattle.mm_machine.specs.Machine.{state_of, StandsTo, StandsFor}
 use Rattle.mm_sched.specs.declared.schedule.Order.{Order}
 use Rattle.mm_sched.specs.declared.schedule.Order.TheVariants as order
-use Rattle.mmachine.specs.declared.status.Status.TheVariants.{Done, WriteFault}
+use Rattle.mmachine.specs.declared.status.Refusal.{Refusal}
 use Rattle.mmachine.specs.declared.status.Stop.{Stop}
 use Rattle.mmachine.specs.declared.status.Stop.TheVariants as stop
-use Rattle.mmachine.specs.Table.{Row}
-use Rattle.mmachine.specs.Orders.{IsOrder, items_of}
-use Rattle.mmachine.specs.Answers.{Issues, report_after, Gives, RowAnswers, status_of, write}
+use Rattle.mmachine.specs.Orders.{Issues, items_of, values_of}
+use Rattle.mmachine.specs.Commands.{report_after}
+use Rattle.mmachine.specs.Answers.{Ends, end_of, writing}
 
 module _ {M : Type 0} {memory : Ghosts M} where
   -- no cycle so far
@@ -39,26 +40,27 @@ module _ {M : Type 0} {memory : Ghosts M} where
   reported tells i items m h writes =
       writes_same (writes (uses (start i) items) h.uses_made) (ap (λ (s : State). report s i (tells (uses (start i) items))) h.state)
 
--- the items of the order are those that are to be issued
-pub issued : (held : List ℕ → Option (List ℕ)) (schedule : Option (List ℕ)) (o : Order) (i : Image) (s : State) (cycles : ℕ) → IsOrder held schedule o
-    → s ≡ start i → Issues held i cycles schedule (items_of o s cycles)
-issued held None o i s cycles is begun = ap (λ (x : Order). items_of x s cycles) is ∙ ap (λ (x : State). robin_from x None cycles) begun
-issued held (Some schedule) order.Robin i s cycles is begun = absurd is
-issued held (Some schedule) (order.List list) i s cycles is begun = (list, is, refl)
+-- the items of an order are those that are to be issued
+pub issued : (o : Order) (i : Image) (cycles : ℕ) → Issues i cycles (values_of o) (items_of o (start i) cycles)
+issued order.Robin i cycles = refl
+issued (order.List list) i cycles = refl
 
-module _ {S T E : Type 0} (tells : List Use → Option Counts) (held : List ℕ → Option (List ℕ)) (before now : List ℕ → ℕ)
-    {taken : S → Option (List ℕ)} {faults : S → ℕ} {old new : S} where
-  -- a row's text was written
-  pub row_done : (row : Row) (text : List ℕ) (t : T) → Gives tells held row (write text) → Writes {T = T} {E = E} taken faults old new text (Ok t)
-      → RowAnswers tells held before now taken faults old new row Done
-  row_done row text t gives wrote = (text, gives, wrote.whole)
+module _ {S : Type 0} {taken : S → Option (List ℕ)} {faults : S → ℕ} {old new : S} (Refuses : Refusal → Type 0) (Fails : Type 0) (IsText : List ℕ → Type 0) (text : List ℕ) (is : IsText text) where
+  -- a command that writes a text ends so
+  pub ends_written : (wrote : Result (Unit {0}) WriteFault) (result : Result (Unit {0}) Stop) → result ≡ end_of wrote → Writes taken faults old new text wrote
+      → Ends (writing taken faults old new) Refuses Fails IsText result
+  ends_written (Ok done) result same wrote =
+      let P : Result (Unit {0}) Stop → Type 0 = λ x. Ends (writing taken faults old new) Refuses Fails IsText x in
+      subst P (sym same) (text, is, wrote.whole)
+  ends_written (Err e) result same wrote =
+      let P : Result (Unit {0}) Stop → Type 0 = λ x. Ends (writing taken faults old new) Refuses Fails IsText x in
+      subst P (sym same) (text, is, wrote.part, wrote.failed)
 
-  -- a front part of it was
-  pub row_cut : (row : Row) (text : List ℕ) (e : E) → Gives tells held row (write text) → Writes {T = T} {E = E} taken faults old new text (Err e)
-      → RowAnswers tells held before now taken faults old new row WriteFault
-  row_cut row text e gives wrote = ((text, gives, wrote.part), wrote.failed)
-
--- a command that stops since the sink failed answers so
-pub cut_status : (outcome : Result (Unit {0}) Stop) → IsErrAnd outcome (λ e. e ≡ stop.WriteFault) → status_of outcome ≡ WriteFault
-cut_status (Ok t) is = absurd is
-cut_status (Err e) is = ap (λ (x : Stop). status_of (Err x)) is
+-- and so does one that stops since the sink failed
+pub ends_cut : {S T E : Type 0} {taken : S → Option (List ℕ)} {faults : S → ℕ} {old new : S} {e : E} (Refuses : Refusal → Type 0) (Fails : Type 0) (IsText : List ℕ → Type 0) (text : List ℕ)
+    (result : Result (Unit {0}) Stop) → IsText text → Writes {T = T} {E = E} taken faults old new text (Err e) → IsErrAnd result (λ s. s ≡ stop.WriteFault)
+    → Ends (writing taken faults old new) Refuses Fails IsText result
+ends_cut Refuses Fails IsText text (Ok t) is wrote fails = absurd fails
+ends_cut {taken = taken} {faults = faults} {old = old} {new = new} Refuses Fails IsText text (Err s) is wrote fails =
+    let P : Stop → Type 0 = λ x. Ends (writing taken faults old new) Refuses Fails IsText (Err x) in
+    subst P (sym fails) (text, is, wrote.part, wrote.failed)

@@ -1,61 +1,82 @@
 -- What the clauses of the top call say, from what the answer to the words says.
-use Rattle.std.proofs.Common.{◌≡◌, ◌↔◌, ℕ, List, Option, Result, inl, inr, sym, ◌∙◌}
+use Rattle.std.proofs.Common.{◌≡◌, ◌↔◌, ℕ, List, Option, Result, Ok, Err, inl, inr, refl, sym, ap, ◌∙◌, subst}
 use Rattle.std.specs.Io.KnownBytes.{append_known}
 use Rattle.mm_io.specs.Files.{Rose}
 use Rattle.mm_io.specs.Sinks.{TookPart, Writes}
 use Rattle.mm_io.proofs.Known.{writes_none}
-use Rattle.mm_model.specs.Uses.{Use}
-use Rattle.mm_model.specs.declared.counts.Counts.{Counts}
 use Rattle.mmachine.specs.declared.status.Refusal.{Refusal}
 use Rattle.mmachine.specs.declared.status.Status.{Status}
-use Rattle.mmachine.specs.declared.status.Status.TheVariants.{Done, Usage, Refused, ReadFault, WriteFault}
-use Rattle.mmachine.specs.Table.{InNoRow}
-use Rattle.mmachine.specs.Answers.{Answers, ComesTo, ReadFailed, line_of, refuse, write}
+use Rattle.mmachine.specs.declared.status.Status.TheVariants.{Done, Usage, Refused, ReadFault, WriteFault, NoMemory}
+use Rattle.mmachine.specs.declared.status.Stop.{Stop}
+use Rattle.mmachine.specs.declared.status.Stop.TheVariants as stop
+use Rattle.mmachine.specs.Table.{Row, Asks, InNoRow}
+use Rattle.mmachine.specs.Answers.{Answers, Call, ComesTo, ReadFailed, RowAnswers, line_of, refuse, write, status_of}
 
-usage_only : {status other : Status} → status ≡ Usage → status ≡ other → other ≡ Usage
-usage_only is same = sym same ∙ is
+-- 1. A status other than that of usage, and the end of the command that it comes from.
 
-pub usage : {S : Type 0} {tells : List Use → Option Counts} {held : List ℕ → Option (List ℕ)} {before now : List ℕ → ℕ} {taken : S → Option (List ℕ)} {faults : S → ℕ} {old new : S}
-    {words : List (List ℕ)} {status : Status} → Answers tells held before now taken faults old new words status → (status ≡ Usage) ↔ InNoRow words
+-- the command that the words ask for ended so
+pub record EndsSo (c : Call) (words : List (List ℕ)) (result : Result (Unit {0}) Stop) : Type 0 where
+  pub row : Row
+  pub asks : Asks words row
+  pub says : RowAnswers c row result
+
+result_at : Status → Result (Unit {0}) Stop
+result_at (Refused r) = Err (stop.Refused r)
+result_at ReadFault = Err stop.ReadFault
+result_at WriteFault = Err stop.WriteFault
+result_at NoMemory = Err stop.NoMemory
+result_at _ = Ok tt
+
+at_status : (result : Result (Unit {0}) Stop) → result_at (status_of result) ≡ result
+unfolding result_at
+at_status (Ok done) = refl
+at_status (Err (stop.Refused r)) = refl
+at_status (Err stop.ReadFault) = refl
+at_status (Err stop.WriteFault) = refl
+at_status (Err stop.NoMemory) = refl
+
+result_of : (result other : Result (Unit {0}) Stop) → status_of result ≡ status_of other → result ≡ other
+result_of result other same = sym (at_status result) ∙ ap result_at same ∙ at_status other
+
+not_usage : (result : Result (Unit {0}) Stop) → status_of result ≡ Usage → ⊥
+not_usage (Ok done) same = cc
+not_usage (Err (stop.Refused r)) same = cc
+not_usage (Err stop.ReadFault) same = cc
+not_usage (Err stop.WriteFault) same = cc
+not_usage (Err stop.NoMemory) same = cc
+
+ended : {c : Call} {words : List (List ℕ)} {status : Status} → Answers c words status → (result : Result (Unit {0}) Stop) → status ≡ status_of result → EndsSo c words result
+ended {c = c} answers result same = elim answers.cases [
+  | inl none ↦ absurd (not_usage result (sym same ∙ none.1))
+  | inr (row, other, asks, says, is) ↦
+      let one : other ≡ result = result_of other result (sym is ∙ same) in
+      record { row = row; asks = asks; says = subst (λ (x : Result (Unit {0}) Stop). RowAnswers c row x) one says }
+]
+
+-- 2. The clauses.
+
+pub usage : {c : Call} {words : List (List ℕ)} {status : Status} → Answers c words status → (status ≡ Usage) ↔ InNoRow words
 usage answers = elim answers.cases [
   | inl none ↦ (λ _. none.0, λ _. none.1)
-  | inr some ↦ (λ same. absurd (rw same at some.2), λ none. absurd (none some.0 some.1))
+  | inr (row, result, asks, says, is) ↦ (λ same. absurd (not_usage result (sym is ∙ same)), λ none. absurd (none row asks))
 ]
 
-pub refused : {S : Type 0} {tells : List Use → Option Counts} {held : List ℕ → Option (List ℕ)} {before now : List ℕ → ℕ} {taken : S → Option (List ℕ)} {faults : S → ℕ} {old new : S}
-    {words : List (List ℕ)} {status : Status} → Answers tells held before now taken faults old new words status → (r : Refusal) → status ≡ Refused r → ComesTo tells held words (refuse r)
-refused answers r same = elim answers.cases [
-  | inl none ↦ (let clash : Refused r ≡ Usage = usage_only none.1 same in absurd (cc))
-  | inr some ↦ (some.0, some.1, (let says = rw same at some.2 in says.0))
-]
+pub refused : {c : Call} {words : List (List ℕ)} {status : Status} → Answers c words status → (r : Refusal) → status ≡ Refused r → ComesTo c.tells c.files.held words (refuse r)
+refused answers r same = let e = ended answers (Err (stop.Refused r)) same in (e.row, e.asks, e.says.ends.0)
 
-pub read_fault : {S : Type 0} {tells : List Use → Option Counts} {held : List ℕ → Option (List ℕ)} {before now : List ℕ → ℕ} {taken : S → Option (List ℕ)} {faults : S → ℕ} {old new : S}
-    {words : List (List ℕ)} {status : Status} → Answers tells held before now taken faults old new words status → status ≡ ReadFault → ReadFailed held before now words
-read_fault answers same = elim answers.cases [
-  | inl none ↦ (let clash : ReadFault ≡ Usage = usage_only none.1 same in absurd (cc))
-  | inr some ↦ (some.0, some.1, (let says = rw same at some.2 in says.0))
-]
+pub read_fault : {c : Call} {words : List (List ℕ)} {status : Status} → Answers c words status → status ≡ ReadFault → ReadFailed c.files words
+read_fault answers same = let e = ended answers (Err stop.ReadFault) same in (e.row, e.asks, e.says.ends.0)
 
-pub write_fault : {S : Type 0} {tells : List Use → Option Counts} {held : List ℕ → Option (List ℕ)} {before now : List ℕ → ℕ} {taken : S → Option (List ℕ)} {faults : S → ℕ} {old new : S}
-    {words : List (List ℕ)} {status : Status} → Answers tells held before now taken faults old new words status → status ≡ WriteFault → Rose (faults old) (faults new)
-write_fault answers same = elim answers.cases [
-  | inl none ↦ (let clash : WriteFault ≡ Usage = usage_only none.1 same in absurd (cc))
-  | inr some ↦ (rw same at some.2).1
-]
+pub write_fault : {c : Call} {words : List (List ℕ)} {status : Status} → Answers c words status → status ≡ WriteFault → Rose c.out.before c.out.now
+write_fault answers same = let e = ended answers (Err stop.WriteFault) same in e.says.ends.3
 
-pub done : {S : Type 0} {tells : List Use → Option Counts} {held : List ℕ → Option (List ℕ)} {before now : List ℕ → ℕ} {taken : S → Option (List ℕ)} {faults : S → ℕ} {old new : S}
-    {words : List (List ℕ)} {status : Status} → Answers tells held before now taken faults old new words status → status ≡ Done → (text : List ℕ) × ComesTo tells held words (write text) × (taken new ≡ append_known (taken old) text)
-done answers same = elim answers.cases [
-  | inl none ↦ (let clash : Done ≡ Usage = usage_only none.1 same in absurd (cc))
-  | inr some ↦ (let says = rw same at some.2 in (says.0, (some.0, some.1, says.1), says.2))
-]
+pub done : {c : Call} {words : List (List ℕ)} {status : Status} → Answers c words status → status ≡ Done
+    → (text : List ℕ) × ComesTo c.tells c.files.held words (write text) × (c.out.taken ≡ append_known c.out.taken_before text)
+done answers same = let e = ended answers (Ok tt) same in (e.says.ends.0, (e.row, e.asks, e.says.ends.1), e.says.ends.2)
 
-pub part : {S : Type 0} {tells : List Use → Option Counts} {held : List ℕ → Option (List ℕ)} {before now : List ℕ → ℕ} {taken : S → Option (List ℕ)} {faults : S → ℕ} {old new : S}
-    {words : List (List ℕ)} {status : Status} → Answers tells held before now taken faults old new words status → status ≡ WriteFault → (text : List ℕ) × ComesTo tells held words (write text) × TookPart (taken old) (taken new) text
-part answers same = elim answers.cases [
-  | inl none ↦ (let clash : WriteFault ≡ Usage = usage_only none.1 same in absurd (cc))
-  | inr some ↦ (let says = rw same at some.2 in (says.0.0, (some.0, some.1, says.0.1), says.0.2))
-]
+pub part : {c : Call} {words : List (List ℕ)} {status : Status} → Answers c words status → status ≡ WriteFault
+    → (text : List ℕ) × ComesTo c.tells c.files.held words (write text) × TookPart c.out.taken_before c.out.taken text
+part answers same = let e = ended answers (Err stop.WriteFault) same in (e.says.ends.0, (e.row, e.asks, e.says.ends.1), e.says.ends.2)
 
 pub silent : {S T E : Type 0} {taken : S → Option (List ℕ)} {faults : S → ℕ} {old new : S} {result : Result T E} {status : Status}
     → status ≡ Done → Writes taken faults old new (line_of status) result → taken new ≡ taken old

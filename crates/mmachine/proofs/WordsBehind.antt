@@ -1,41 +1,52 @@
 -- The words behind a command's own word.
-use Rattle.std.proofs.Common.{◌≡◌, ℕ, ◌≤◌, ◌-◌, List, [], ◌∷◌, length, take, drop, get_or, codes, String, string_bytes, sym, ap, ◌∙◌, arith}
-use Rattle.std.proofs.Math.ListN.{get_or-map}
+use Rattle.std.proofs.Common.{◌≡◌, ℕ, ◌≤◌, ◌-◌, Bool, List, [], ◌∷◌, length, take, drop, map, get_or, codes, Option, String, string_bytes, sym, ap, ◌∙◌, subst, arith}
 use Rattle.std.proofs.lemmas.List.{take_all}
 use Rattle.std.specs.declared.alloc.Global.{Global}
-use Rattle.mmachine.specs.Table.{run, trace, solo, grants, extract, InNoRow, NoSoloWords, NoGrantsWords, NoExtractWords, texts, solo_words, grants_words, extract_words}
-
--- the word at a place is the text there
-pub word_at : (words : List (String Global)) (k : ℕ) (word : String Global) (said : List (List ℕ)) → word ≡ get_or words k word → texts words ≡ said
-    → string_bytes word ≡ get_or said k (string_bytes word)
-word_at words k word said is same =
-    ap string_bytes is ∙ sym (get_or-map string_bytes words k word) ∙ ap (λ (xs : List (List ℕ)). get_or xs k (string_bytes word)) same
+use Rattle.mmachine.proofs.OneRow.{place_of, place}
+use Rattle.mmachine.specs.Table.{Row, Asks, name_of, run, trace, solo, grants, extract, migrate, InNoRow, AreTexts, behind, text_of, texts}
 
 -- the first word and the rest
-pub first_and_rest : (words : List (String Global)) (word : String Global) → 1 ≤ length words → word ≡ get_or words 0 word
+first_and_rest : (words : List (String Global)) (word : String Global) → 1 ≤ length words → word ≡ get_or words 0 word
     → texts words ≡ string_bytes word ∷ texts (take (length words - 1) (drop 1 words))
 first_and_rest [] word some is = absurd (omega arith)
 first_and_rest (w ∷ words) word some is =
     ap (λ (x : String Global). string_bytes x ∷ texts words) (sym is)
     ∙ ap (λ (xs : List (String Global)). string_bytes word ∷ texts xs) (sym (take_all (length (w ∷ words) - 1) words (omega arith)))
 
-pub no_solo : (words : List (List ℕ)) → NoSoloWords words → InNoRow (codes "solo" ∷ words)
-no_solo words none (solo i gs n s) (is, (are, few)) = let rest : words ≡ solo_words i gs n s = cc in none i gs n s rest are few
-no_solo words none (run i n s) (is, few) = absurd (cc)
-no_solo words none (grants i gs) (is, are) = absurd (cc)
-no_solo words none (extract i gs) (is, are) = absurd (cc)
-no_solo words none (trace i n s) (is, few) = absurd (cc)
+-- words that begin with a name are in no row where the name and the rest are in none
+pub in_no_row : (words : List (String Global)) (word : String Global) (name : List ℕ) → 1 ≤ length words → word ≡ get_or words 0 word → string_bytes word ≡ name
+    → InNoRow (name ∷ texts (take (length words - 1) (drop 1 words))) → InNoRow (texts words)
+in_no_row words word name some is said none =
+    let rest = texts (take (length words - 1) (drop 1 words)) in
+    subst InNoRow (sym (first_and_rest words word some is ∙ ap (λ (w : List ℕ). w ∷ rest) said)) none
 
-pub no_grants : (words : List (List ℕ)) → NoGrantsWords words → InNoRow (codes "grants" ∷ words)
-no_grants words none (grants i gs) (is, are) = let rest : words ≡ grants_words i gs = cc in none i gs rest are
-no_grants words none (run i n s) (is, few) = absurd (cc)
-no_grants words none (trace i n s) (is, few) = absurd (cc)
-no_grants words none (solo i gs n s) (is, few) = absurd (cc)
-no_grants words none (extract i gs) (is, are) = absurd (cc)
+-- the place of a row is that of the name that the words begin with
+placed_as : (name : List ℕ) (words : List (List ℕ)) (row : Row) → Asks (name ∷ words) row → place row ≡ place_of name
+placed_as name words row (is, ranges) = let names : name_of row ≡ name = cc in ap place_of names
 
-pub no_extract : (words : List (List ℕ)) → NoExtractWords words → InNoRow (codes "extract" ∷ words)
-no_extract words none (extract i gs) (is, are) = let rest : words ≡ extract_words i gs = cc in none i gs rest are
-no_extract words none (run i n s) (is, few) = absurd (cc)
-no_extract words none (trace i n s) (is, few) = absurd (cc)
-no_extract words none (solo i gs n s) (is, few) = absurd (cc)
-no_extract words none (grants i gs) (is, are) = absurd (cc)
+pub no_run : (words : List (List ℕ)) → ((image : List ℕ) (cycles : ℕ) (schedule : Option (List ℕ)) → ¬ AreTexts words (behind (run image cycles schedule)))
+    → InNoRow (codes "run" ∷ words)
+no_run words none (run i n s) (is, ranges) = let rest : words ≡ map text_of (behind (run i n s)) = cc in none i n s (rest, ranges)
+no_run words none row asks = let places : place row ≡ 0 = placed_as (codes "run") words row asks in absurd (cc)
+
+pub no_trace : (words : List (List ℕ)) → ((image : List ℕ) (cycles : ℕ) (schedule : Option (List ℕ)) → ¬ AreTexts words (behind (trace image cycles schedule)))
+    → InNoRow (codes "trace" ∷ words)
+no_trace words none (trace i n s) (is, ranges) = let rest : words ≡ map text_of (behind (trace i n s)) = cc in none i n s (rest, ranges)
+no_trace words none row asks = let places : place row ≡ 1 = placed_as (codes "trace") words row asks in absurd (cc)
+
+pub no_solo : (words : List (List ℕ)) → ((image groups : List ℕ) (cycles : ℕ) (schedule : List ℕ) → ¬ AreTexts words (behind (solo image groups cycles schedule)))
+    → InNoRow (codes "solo" ∷ words)
+no_solo words none (solo i gs n s) (is, ranges) = let rest : words ≡ map text_of (behind (solo i gs n s)) = cc in none i gs n s (rest, ranges)
+no_solo words none row asks = let places : place row ≡ 2 = placed_as (codes "solo") words row asks in absurd (cc)
+
+pub no_grants : (words : List (List ℕ)) → ((image : List ℕ) (groups : Option (List ℕ)) → ¬ AreTexts words (behind (grants image groups))) → InNoRow (codes "grants" ∷ words)
+no_grants words none (grants i gs) (is, ranges) = let rest : words ≡ map text_of (behind (grants i gs)) = cc in none i gs (rest, ranges)
+no_grants words none row asks = let places : place row ≡ 3 = placed_as (codes "grants") words row asks in absurd (cc)
+
+pub no_extract : (words : List (List ℕ)) → ((image groups : List ℕ) → ¬ AreTexts words (behind (extract image groups))) → InNoRow (codes "extract" ∷ words)
+no_extract words none (extract i gs) (is, ranges) = let rest : words ≡ map text_of (behind (extract i gs)) = cc in none i gs (rest, ranges)
+no_extract words none row asks = let places : place row ≡ 4 = placed_as (codes "extract") words row asks in absurd (cc)
+
+pub no_migrate : (words : List (List ℕ)) → ((image : List ℕ) (split : Bool) → ¬ AreTexts words (behind (migrate image split))) → InNoRow (codes "migrate" ∷ words)
+no_migrate words none (migrate i m) (is, ranges) = let rest : words ≡ map text_of (behind (migrate i m)) = cc in none i m (rest, ranges)
+no_migrate words none row asks = let places : place row ≡ 5 = placed_as (codes "migrate") words row asks in absurd (cc)

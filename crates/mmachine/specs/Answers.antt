@@ -1,8 +1,9 @@
 -- What a call answers, and why.
-use Rattle.std.specs.Prelude.{◌≡◌, ◌⊎◌, ℕ, Bool, List, [], ◌++◌, Option, None, Some, Result, Ok, Err, codes, decimal, ⊤}
+use Rattle.std.specs.Prelude.{◌≡◌, ◌⊎◌, ℕ, List, [], ◌++◌, Option, Result, Ok, Err, codes, decimal, ⊤}
 use Rattle.std.specs.Io.KnownBytes.{append_known}
 use Rattle.mm_io.specs.declared.read.ReadError.{ReadError}
 use Rattle.mm_io.specs.declared.read.ReadError.TheVariants as error
+use Rattle.mm_io.specs.declared.write.WriteFault.{WriteFault as WriteFailed}
 use Rattle.mm_io.specs.Files.{Rose}
 use Rattle.mm_io.specs.Sinks.{TookPart}
 use Rattle.mm_image.specs.Faults.{number_of}
@@ -10,24 +11,16 @@ use Rattle.mm_audit.specs.declared.extracting.ExtractError.{ExtractError}
 use Rattle.mm_audit.specs.declared.extracting.ExtractError.TheVariants as extracting
 use Rattle.mm_model.specs.declared.counts.Counts.{Counts}
 use Rattle.mm_model.specs.Uses.{Use}
-use Rattle.mm_model.specs.Image as model
-use Rattle.mm_model.specs.Run as machine
-use Rattle.mm_model.specs.Trace as lines
-use Rattle.mm_model.specs.Schedule.{first_items, only}
-use Rattle.mm_model.specs.Worlds.{Extracts, alone}
-use Rattle.mm_model.specs.Spelling.{Spells}
-use Rattle.mm_model.specs.Audit.{IsAudit}
-use Rattle.mm_model.specs.Report.{report}
 use Rattle.mmachine.specs.declared.status.Refusal.{Refusal}
 use Rattle.mmachine.specs.declared.status.Refusal.TheVariants.{TooLong, Image, Schedule, NoGroup, Crosses}
 use Rattle.mmachine.specs.declared.status.Status.{Status}
 use Rattle.mmachine.specs.declared.status.Status.TheVariants.{Done, Usage, Refused, ReadFault, WriteFault, NoMemory}
 use Rattle.mmachine.specs.declared.status.Stop.{Stop}
 use Rattle.mmachine.specs.declared.status.Stop.TheVariants as stop
-use Rattle.mmachine.specs.Table.{Row, run, trace, solo, grants, extract, Asks, InNoRow}
-use Rattle.mm_audit.specs.Refusals.{StandAlone}
-use Rattle.mmachine.specs.Groups.{among, GroupsRefused}
-use Rattle.mmachine.specs.Files.{ImageAccepted, ScheduleAccepted, IsScheduleAccepted, FilesRefused, FilesTold, FilesFailed}
+use Rattle.mmachine.specs.Kinds.{Value}
+use Rattle.mmachine.specs.Files.{Reading, FilesAccepted, FilesRefused, FilesFailed, FilesTold}
+use Rattle.mmachine.specs.Table.{Row, files_of, Asks, InNoRow}
+use Rattle.mmachine.specs.Commands.{Declines, Writes}
 
 -- 1. What words come to.
 
@@ -36,78 +29,42 @@ pub data Outcome : Type 0 where
   refuse : Refusal → Outcome
   write : List ℕ → Outcome
 
--- The items that are issued, which a list's file may say: without one so many cycles of round robin, else the list's first so many.
-abbrev pub Issues : (List ℕ → Option (List ℕ)) → model.Image → ℕ → Option (List ℕ) → List ℕ → Type 0
-Issues held i cycles None items = items ≡ machine.robin_from (model.start i) None cycles
-Issues held i cycles (Some schedule) items = (list : List ℕ) × ScheduleAccepted (held schedule) list × (items ≡ first_items list cycles)
-
--- the report of an image's run under these items, with what the memory tells of the run's uses
-abbrev pub report_after : (List Use → Option Counts) → model.Image → List ℕ → List ℕ
-report_after tells i items = report (machine.run (model.start i) items) i (tells (machine.uses (model.start i) items))
-
--- The groups' own part of what is issued to an image under a list: the image without the slots of other groups, and the items of
--- the list's first so many that are theirs. They have a slot, and none of theirs has its handler outside.
-pub record IsOwn (held : List ℕ → Option (List ℕ)) (image : List ℕ) (c : ℕ → Bool) (cycles : ℕ) (schedule : List ℕ) (own : model.Image) (items : List ℕ) : Type 0 where
-  pub whole : model.Image
-  pub list : List ℕ
-  pub accepted : ImageAccepted (held image) whole
-  pub schedule_accepted : ScheduleAccepted (held schedule) list
-  pub stand : StandAlone whole c
-  pub own_is : own ≡ alone whole c
-  pub items_are : items ≡ only whole (first_items list cycles) c
-
--- one of the files is refused or, where both are accepted, the groups are
-abbrev pub OwnRefused : (List ℕ → Option (List ℕ)) → (image : List ℕ) → (ℕ → Bool) → (schedule : List ℕ) → Refusal → Type 0
-OwnRefused held image c schedule r =
-    FilesRefused held image (Some schedule) r
-    ⊎ ((i : model.Image) × ImageAccepted (held image) i × IsScheduleAccepted (held schedule) × GroupsRefused i c r)
-
--- the text is the one spelling of the groups' own image: their slots, and what they can touch
-pub record IsExtract (held : List ℕ → Option (List ℕ)) (image : List ℕ) (c : ℕ → Bool) (text : List ℕ) : Type 0 where
-  pub whole : model.Image
-  pub own : model.Image
-  pub accepted : ImageAccepted (held image) whole
-  pub stand : StandAlone whole c
-  pub extracts : Extracts whole c own
-  pub spelled : Spells text own
-
--- the image is refused or, where it is accepted, the groups are
-abbrev pub ExtractRefused : (List ℕ → Option (List ℕ)) → (image : List ℕ) → (ℕ → Bool) → Refusal → Type 0
-ExtractRefused held image c r = FilesRefused held image None r ⊎ ((i : model.Image) × ImageAccepted (held image) i × GroupsRefused i c r)
-
 -- what a row comes to, by what the files hold as far as that is told, and by what the memory tells of uses
 abbrev pub Gives : (List Use → Option Counts) → (List ℕ → Option (List ℕ)) → Row → Outcome → Type 0
-Gives tells held (run image cycles schedule) (refuse r) = FilesRefused held image schedule r
-Gives tells held (run image cycles schedule) (write text) = (i : model.Image) × (items : List ℕ) × ImageAccepted (held image) i
-    × Issues held i cycles schedule items × (text ≡ report_after tells i items)
-Gives tells held (trace image cycles schedule) (refuse r) = FilesRefused held image schedule r
-Gives tells held (trace image cycles schedule) (write text) = (i : model.Image) × (items : List ℕ) × ImageAccepted (held image) i
-    × Issues held i cycles schedule items × (text ≡ lines.trace (model.start i) items ++ report_after tells i items)
-Gives tells held (solo image groups cycles schedule) (refuse r) = OwnRefused held image (among groups) schedule r
-Gives tells held (solo image groups cycles schedule) (write text) = (own : model.Image) × (items : List ℕ)
-    × IsOwn held image (among groups) cycles schedule own items × (text ≡ report_after tells own items)
-Gives tells held (grants image groups) (refuse r) = FilesRefused held image None r
-Gives tells held (grants image groups) (write text) = (i : model.Image) × ImageAccepted (held image) i × IsAudit i groups text
-Gives tells held (extract image groups) (refuse r) = ExtractRefused held image (among groups) r
-Gives tells held (extract image groups) (write text) = IsExtract held image (among groups) text
+Gives tells held row (refuse r) =
+    FilesRefused held [] (files_of row) r ⊎ ((values : List Value) × FilesAccepted held [] (files_of row) values × Declines row values r)
+Gives tells held row (write text) = (values : List Value) × FilesAccepted held [] (files_of row) values × Writes tells row values text
 
 -- what words come to
 abbrev pub ComesTo : (List Use → Option Counts) → (List ℕ → Option (List ℕ)) → List (List ℕ) → Outcome → Type 0
 ComesTo tells held words outcome = (row : Row) × Asks words row × Gives tells held row outcome
 
--- 2. Why an answer comes.
+-- 2. What a call starts and ends with.
 
--- The count of one of the row's file names rose, or stands at its last value, and each file before it was accepted.
-abbrev pub FileFailed : (List ℕ → Option (List ℕ)) → (before now : List ℕ → ℕ) → Row → Type 0
-FileFailed held before now (run image cycles schedule) = FilesFailed held before now image schedule
-FileFailed held before now (trace image cycles schedule) = FilesFailed held before now image schedule
-FileFailed held before now (solo image groups cycles schedule) = FilesFailed held before now image (Some schedule)
-FileFailed held before now (grants image groups) = FilesFailed held before now image None
-FileFailed held before now (extract image groups) = FilesFailed held before now image None
+-- What a sink had taken when its writing starts and has taken now, and how often writes of it had failed then and have now.
+pub record Writing : Type 0 where
+  pub taken_before : Option (List ℕ)
+  pub taken : Option (List ℕ)
+  pub before : ℕ
+  pub now : ℕ
 
--- the same of the words
-abbrev pub ReadFailed : (List ℕ → Option (List ℕ)) → (before now : List ℕ → ℕ) → List (List ℕ) → Type 0
-ReadFailed held before now words = (row : Row) × Asks words row × FileFailed held before now row
+abbrev pub writing : {S : Type 0} → (taken : S → Option (List ℕ)) → (faults : S → ℕ) → (old new : S) → Writing
+writing taken faults old new = record { taken_before = taken old; taken = taken new; before = faults old; now = faults new }
+
+-- What the memory tells of uses, the reading of files, and the writing of the text.
+pub record Call : Type 0 where
+  pub tells : List Use → Option Counts
+  pub files : Reading
+  pub out : Writing
+
+abbrev pub call : (List Use → Option Counts) → Reading → Writing → Call
+call tells files out = record { tells = tells; files = files; out = out }
+
+-- 3. Why an answer comes.
+
+-- the count of one of the row's file names rose, or stands at its last value, and each file before it was accepted
+abbrev pub ReadFailed : Reading → List (List ℕ) → Type 0
+ReadFailed files words = (row : Row) × Asks words row × FilesFailed files [] (files_of row)
 
 -- nothing is written at these answers
 abbrev pub WritesNothing : Status → Type 0
@@ -134,31 +91,22 @@ pub record TookLine (old new : Option (List ℕ)) (before now : ℕ) (line : Lis
   pub part : TookPart old new line
   pub whole : ¬ Rose before now → new ≡ append_known old line
 
--- the files of a row are told
-abbrev pub AllTold : (List ℕ → Option (List ℕ)) → Row → Type 0
-AllTold held (run image cycles schedule) = FilesTold held image schedule
-AllTold held (trace image cycles schedule) = FilesTold held image schedule
-AllTold held (solo image groups cycles schedule) = FilesTold held image (Some schedule)
-AllTold held (grants image groups) = FilesTold held image None
-AllTold held (extract image groups) = FilesTold held image None
-
 -- What completeness asks: the words are in a row, its files are told and come to a text, and no count that the row
 -- depends on rose or stands at its last value.
-pub record NothingFails (tells : List Use → Option Counts) (held : List ℕ → Option (List ℕ)) (words : List (List ℕ)) (before now : List ℕ → ℕ)
-    (out_before out_now : ℕ) : Type 0 where
+pub record NothingFails (c : Call) (words : List (List ℕ)) : Type 0 where
   pub row : Row
   pub asks : Asks words row
-  pub told : AllTold held row
+  pub told : FilesTold c.files.held (files_of row)
   pub text : List ℕ
-  pub gives : Gives tells held row (write text)
-  pub read : ¬ FileFailed held before now row
-  pub written : ¬ Rose out_before out_now
+  pub gives : Gives c.tells c.files.held row (write text)
+  pub read : ¬ FilesFailed c.files [] (files_of row)
+  pub written : ¬ Rose c.out.before c.out.now
 
 -- A refusal that has to come: the words are in a row, its files are told and come to it.
 pub record HasToRefuse (tells : List Use → Option Counts) (held : List ℕ → Option (List ℕ)) (words : List (List ℕ)) (r : Refusal) : Type 0 where
   pub row : Row
   pub asks : Asks words row
-  pub told : AllTold held row
+  pub told : FilesTold held (files_of row)
   pub gives : Gives tells held row (refuse r)
 
 -- the answer is this refusal, unless a read failed or memory ran out
@@ -168,40 +116,43 @@ RefusedUnless r ReadFault = ⊤
 RefusedUnless r NoMemory = ⊤
 RefusedUnless r _ = ⊥
 
--- 3. What the parts of the program answer.
+-- 4. What the parts of the program answer.
 
--- What an answer to a row says, of its outcome, its files and the sink.
-abbrev pub RowAnswers : {S : Type 0} → (List Use → Option Counts) → (List ℕ → Option (List ℕ)) → (before now : List ℕ → ℕ)
-    → (taken : S → Option (List ℕ)) → (faults : S → ℕ) → (old new : S) → Row → Status → Type 0
-RowAnswers tells held before now taken faults old new row Done =
-    (text : List ℕ) × Gives tells held row (write text) × (taken new ≡ append_known (taken old) text)
-RowAnswers tells held before now taken faults old new row Usage = ⊥
-RowAnswers tells held before now taken faults old new row (Refused r) = Gives tells held row (refuse r) × (taken new ≡ taken old)
-RowAnswers tells held before now taken faults old new row ReadFault = FileFailed held before now row × (taken new ≡ taken old)
-RowAnswers tells held before now taken faults old new row WriteFault =
-    ((text : List ℕ) × Gives tells held row (write text) × TookPart (taken old) (taken new) text) × Rose (faults old) (faults new)
-RowAnswers tells held before now taken faults old new row NoMemory = taken new ≡ taken old
+-- How a command ends: with a whole text that it is to write, or because it is refused, reading or writing fails, or memory runs out.
+abbrev pub Ends : Writing → (Refuses : Refusal → Type 0) → (Fails : Type 0) → (IsText : List ℕ → Type 0) → Result (Unit {0}) Stop → Type 0
+Ends out Refuses Fails IsText (Ok done) = (text : List ℕ) × IsText text × (out.taken ≡ append_known out.taken_before text)
+Ends out Refuses Fails IsText (Err (stop.Refused r)) = Refuses r × (out.taken ≡ out.taken_before)
+Ends out Refuses Fails IsText (Err stop.ReadFault) = Fails × (out.taken ≡ out.taken_before)
+Ends out Refuses Fails IsText (Err stop.WriteFault) =
+    (text : List ℕ) × IsText text × TookPart out.taken_before out.taken text × Rose out.before out.now
+Ends out Refuses Fails IsText (Err stop.NoMemory) = out.taken ≡ out.taken_before
 
--- What an answer to words says.
-pub record Answers {S : Type 0} (tells : List Use → Option Counts) (held : List ℕ → Option (List ℕ)) (before now : List ℕ → ℕ)
-    (taken : S → Option (List ℕ)) (faults : S → ℕ) (old new : S) (words : List (List ℕ)) (status : Status) : Type 0 where
-  pub cases : (InNoRow words × (status ≡ Usage) × (taken new ≡ taken old))
-      ⊎ ((row : Row) × Asks words row × RowAnswers tells held before now taken faults old new row status)
+-- how a command ends once its files are read, where it refuses nothing
+abbrev pub EndsWith : Writing → (IsText : List ℕ → Type 0) → Result (Unit {0}) Stop → Type 0
+EndsWith out IsText result = Ends out (λ r. ⊥) ⊥ IsText result
 
--- Why the reading of files stops: by a refusal, by a fault of the files, or by want of memory.
-abbrev pub Stops : (Refusal → Type 0) → Type 0 → Stop → Type 0
-Stops Refuses Fails (stop.Refused r) = Refuses r
-Stops Refuses Fails stop.ReadFault = Fails
-Stops Refuses Fails stop.WriteFault = ⊥
-Stops Refuses Fails stop.NoMemory = ⊤
+-- what the answer to a row says
+pub record RowAnswers (c : Call) (row : Row) (result : Result (Unit {0}) Stop) : Type 0 where
+  pub ends : Ends c.out (λ r. Gives c.tells c.files.held row (refuse r)) (FilesFailed c.files [] (files_of row))
+      (λ text. Gives c.tells c.files.held row (write text)) result
 
--- the answer of a command
+-- the status at the end of a command
 abbrev pub status_of : Result (Unit {0}) Stop → Status
 status_of (Ok done) = Done
 status_of (Err (stop.Refused r)) = Refused r
 status_of (Err stop.ReadFault) = ReadFault
 status_of (Err stop.WriteFault) = WriteFault
 status_of (Err stop.NoMemory) = NoMemory
+
+-- What an answer to words says.
+pub record Answers (c : Call) (words : List (List ℕ)) (status : Status) : Type 0 where
+  pub cases : (InNoRow words × (status ≡ Usage) × (c.out.taken ≡ c.out.taken_before))
+      ⊎ ((row : Row) × (result : Result (Unit {0}) Stop) × Asks words row × RowAnswers c row result × (status ≡ status_of result))
+
+-- how a command ends whose text was written so
+abbrev pub end_of : Result (Unit {0}) WriteFailed → Result (Unit {0}) Stop
+end_of (Ok done) = Ok done
+end_of (Err fault) = Err stop.WriteFault
 
 -- why a command stops where a file cannot be read
 abbrev pub stop_of_error : ReadError → ℕ → Stop

@@ -1,73 +1,84 @@
--- What the files of a command hold, and why they are refused.
-use Rattle.std.specs.Prelude.{◌≡◌, ◌⊎◌, ℕ, ◌≤◌, List, length, Option, None, Some, IsSome}
+-- The files of a command, each read and parsed before the next.
+use Rattle.std.specs.Prelude.{◌≡◌, ◌⊎◌, ℕ, ◌+◌, ◌≤◌, List, [], ◌∷◌, ◌++◌, length, Option, IsSome, Result, IfOk, IfErr, ⊤}
+use Rattle.std.specs.List.{AllByRecursion}
 use Rattle.mm_io.specs.Files.{Rose, Holds, IsLonger}
-use Rattle.mm_model.specs.Image.{Image}
-use Rattle.mm_model.specs.Spelling.{Spells}
-use Rattle.mm_model.specs.ImageFaults.{image_fault}
-use Rattle.mm_model.specs.Schedule.{Means, FaultsAt}
-use Rattle.mm_image.specs.Faults.{number_of}
 use Rattle.mmachine.specs.declared.status.Refusal.{Refusal}
-use Rattle.mmachine.specs.declared.status.Refusal.TheVariants as refusal
+use Rattle.mmachine.specs.declared.status.Refusal.TheVariants.{TooLong}
+use Rattle.mmachine.specs.declared.status.Stop.{Stop}
+use Rattle.mmachine.specs.declared.status.Stop.TheVariants as stop
+use Rattle.mmachine.specs.Kinds.{Kind, Value, limit_of, Accepts, Faults}
 
--- the most bytes that an image file has
-abbrev pub image_limit : ℕ
-image_limit = 33554432
+-- 1. One file. `told` is what it holds, as far as that is told.
 
--- and a schedule file
-abbrev pub schedule_limit : ℕ
-schedule_limit = 8388608
+-- It is accepted, and this is its value.
+pub record Accepted (kind : Kind) (before : List Value) (told : Option (List ℕ)) (value : Value) : Type 0 where
+  pub bytes : List ℕ
+  pub holds : Holds told bytes
+  pub short : length bytes ≤ limit_of kind
+  pub means : Accepts kind before bytes value
 
--- 1. The image file, which is the first. `told` is what it holds, as far as that is told.
+-- It is longer than its limit.
+abbrev pub IsTooLong : ℕ → (number : ℕ) → Option (List ℕ) → Refusal → Type 0
+IsTooLong limit number told r = (r ≡ TooLong number) × IsLonger told limit
 
--- It is refused: it is longer than its limit, or spells no image, with its first fault.
-abbrev pub ImageRefused : Option (List ℕ) → Refusal → Type 0
-ImageRefused told (refusal.TooLong file) = (file ≡ 1) × IsLonger told image_limit
-ImageRefused told (refusal.Image file fault offset) =
-    (file ≡ 1) × ((bytes : List ℕ) × Holds told bytes × (length bytes ≤ image_limit) × (image_fault bytes ≡ Some (number_of fault, offset)))
-ImageRefused told (refusal.Schedule file offset) = ⊥
-ImageRefused told refusal.NoGroup = ⊥
-ImageRefused told (refusal.Crosses slot) = ⊥
+-- Its bytes mean nothing.
+pub record IsFaulty (kind : Kind) (before : List Value) (number : ℕ) (told : Option (List ℕ)) (r : Refusal) : Type 0 where
+  pub bytes : List ℕ
+  pub holds : Holds told bytes
+  pub short : length bytes ≤ limit_of kind
+  pub fault : Faults kind before number bytes r
 
--- It is accepted, and this is the image that it spells.
-abbrev pub ImageAccepted : Option (List ℕ) → Image → Type 0
-ImageAccepted told i = (bytes : List ℕ) × Holds told bytes × (length bytes ≤ image_limit) × Spells bytes i
+-- The file behind those of the values before is refused. Files are counted from 1.
+abbrev pub FileRefused : Kind → (before : List Value) → Option (List ℕ) → Refusal → Type 0
+FileRefused kind before told r =
+    let number = length before + 1 in IsTooLong (limit_of kind) number told r ⊎ IsFaulty kind before number told r
 
-abbrev pub IsImageAccepted : Option (List ℕ) → Type 0
-IsImageAccepted told = (i : Image) × ImageAccepted told i
+-- 2. Files by their names, behind files of the values before.
 
--- 2. The schedule file, which is the second.
+-- each of them is accepted, and these are their values
+abbrev pub FilesAccepted : (List ℕ → Option (List ℕ)) → (before : List Value) → List (List ℕ × Kind) → List Value → Type 0
+FilesAccepted held before [] [] = ⊤
+FilesAccepted held before (file ∷ files) (v ∷ values) = Accepted file.1 before (held file.0) v × FilesAccepted held (before ++ v ∷ []) files values
+FilesAccepted held before _ _ = ⊥
 
--- It is refused: it is longer than its limit, or means no list, with the place of its fault.
-abbrev pub ScheduleRefused : Option (List ℕ) → Refusal → Type 0
-ScheduleRefused told (refusal.TooLong file) = (file ≡ 2) × IsLonger told schedule_limit
-ScheduleRefused told (refusal.Image file fault offset) = ⊥
-ScheduleRefused told (refusal.Schedule file offset) =
-    (file ≡ 2) × ((bytes : List ℕ) × Holds told bytes × (length bytes ≤ schedule_limit) × FaultsAt bytes offset)
-ScheduleRefused told refusal.NoGroup = ⊥
-ScheduleRefused told (refusal.Crosses slot) = ⊥
+-- one of them is refused, and those before it are accepted
+abbrev pub FilesRefused : (List ℕ → Option (List ℕ)) → (before : List Value) → List (List ℕ × Kind) → Refusal → Type 0
+FilesRefused held before [] r = ⊥
+FilesRefused held before (file ∷ files) r =
+    FileRefused file.1 before (held file.0) r
+    ⊎ ((v : Value) × Accepted file.1 before (held file.0) v × FilesRefused held (before ++ v ∷ []) files r)
 
--- It is accepted, and this is the list that it means.
-abbrev pub ScheduleAccepted : Option (List ℕ) → List ℕ → Type 0
-ScheduleAccepted told list = (bytes : List ℕ) × Holds told bytes × (length bytes ≤ schedule_limit) × Means bytes list
+-- What the files hold when their reading starts, as far as it is told, and how often reads of each name had failed then and have now.
+pub record Reading : Type 0 where
+  pub held : List ℕ → Option (List ℕ)
+  pub before : List ℕ → ℕ
+  pub now : List ℕ → ℕ
 
-abbrev pub IsScheduleAccepted : Option (List ℕ) → Type 0
-IsScheduleAccepted told = (list : List ℕ) × ScheduleAccepted told list
+abbrev pub reading : {F : Type 0} → (held : F → List ℕ → Option (List ℕ)) → (faults : F → List ℕ → ℕ) → (old new : F) → Reading
+reading held faults old new = record { held = held old; before = faults old; now = faults new }
 
--- 3. An image file and perhaps a schedule file. Each is read and parsed before the next.
+-- the count of one of their names rose, or stands at its last value, and the files before it are accepted
+abbrev pub FilesFailed : Reading → (before : List Value) → List (List ℕ × Kind) → Type 0
+FilesFailed r before [] = ⊥
+FilesFailed r before (file ∷ files) =
+    Rose (r.before file.0) (r.now file.0)
+    ⊎ ((v : Value) × Accepted file.1 before (r.held file.0) v × FilesFailed r (before ++ v ∷ []) files)
 
-module _ (held : List ℕ → Option (List ℕ)) where
-  -- one of them is refused, and the other, where it is the first, was accepted
-  abbrev pub FilesRefused : (image : List ℕ) → (schedule : Option (List ℕ)) → Refusal → Type 0
-  FilesRefused image None r = ImageRefused (held image) r
-  FilesRefused image (Some schedule) r = ImageRefused (held image) r ⊎ (IsImageAccepted (held image) × ScheduleRefused (held schedule) r)
+-- it is told what each of them holds
+abbrev pub FilesTold : (List ℕ → Option (List ℕ)) → List (List ℕ × Kind) → Type 0
+FilesTold held files = AllByRecursion (λ (file : List ℕ × Kind). IsSome (held file.0)) files
 
-  -- both are told
-  abbrev pub FilesTold : (image : List ℕ) → (schedule : Option (List ℕ)) → Type 0
-  FilesTold image None = IsSome (held image)
-  FilesTold image (Some schedule) = IsSome (held image) × IsSome (held schedule)
+-- 3. What their reading answers.
 
-  -- The count of one of the names rose, or stands at its last value, and the file before it was accepted.
-  abbrev pub FilesFailed : (before now : List ℕ → ℕ) → (image : List ℕ) → (schedule : Option (List ℕ)) → Type 0
-  FilesFailed before now image None = Rose (before image) (now image)
-  FilesFailed before now image (Some schedule) =
-      Rose (before image) (now image) ⊎ (IsImageAccepted (held image) × Rose (before schedule) (now schedule))
+-- Why it stops: by a refusal, by a fault of the files, or by want of memory.
+abbrev pub Stops : (Refusal → Type 0) → Type 0 → Stop → Type 0
+Stops Refuses Fails (stop.Refused r) = Refuses r
+Stops Refuses Fails stop.ReadFault = Fails
+Stops Refuses Fails stop.WriteFault = ⊥
+Stops Refuses Fails stop.NoMemory = ⊤
+
+-- It answers the values of the files, or why it stops.
+pub record FilesRead {T : Type 0} (r : Reading) (before : List Value) (files : List (List ℕ × Kind)) (values : T → List Value)
+    (result : Result T Stop) : Type 0 where
+  pub accepted : IfOk result (λ t. FilesAccepted r.held before files (values t))
+  pub stopped : IfErr result (Stops (FilesRefused r.held before files) (FilesFailed r before files))

@@ -1,22 +1,26 @@
 -- The headline: what is proved of every run that is done.
-use Rattle.std.specs.Prelude.{◌≡◌, ◌++◌, ℕ, Bool, List, Option}
+use Rattle.std.specs.Prelude.{◌≡◌, ◌++◌, ◌∷◌, [], ℕ, Bool, List, Option}
 use Rattle.mm_model.specs.declared.counts.Counts.{Counts}
 use Rattle.mm_model.specs.Uses.{Use}
 use Rattle.mm_model.specs.Image.{Image, start}
-use Rattle.mm_model.specs.Trace.{trace}
+use Rattle.mm_model.specs.Trace.{trace as trace_of}
 use Rattle.mm_model.specs.Worlds.{Apart}
 use Rattle.mm_laws.specs.Isolated.{HasSlot}
 use Rattle.mm_laws.specs.Runs.{Reaches, Isolates}
-use Rattle.mmachine.specs.Files.{ImageAccepted}
-use Rattle.mmachine.specs.Answers.{Issues, report_after}
+use Rattle.mmachine.specs.Kinds.{Value, an_image}
+use Rattle.mmachine.specs.Files.{FilesAccepted}
+use Rattle.mmachine.specs.Table.{run, trace, files_of}
+use Rattle.mmachine.specs.Orders.{Issues}
+use Rattle.mmachine.specs.Commands.{report_after}
 
 -- What `run` did, where it is done.
 pub record RunIsProved (tells : List Use → Option Counts) (held : List ℕ → Option (List ℕ)) (image : List ℕ) (cycles : ℕ) (schedule : Option (List ℕ)) (written : List ℕ) : Type 0 where
-  -- the image that the first file spells, and the items that were issued
+  -- the image that the first file spells, the list of the second, if there is one, and the items that were issued
   pub i : Image
+  pub lists : List Value
   pub items : List ℕ
-  pub reads : ImageAccepted (held image) i
-  pub issues : Issues held i cycles schedule items
+  pub reads : FilesAccepted held [] (files_of (run image cycles schedule)) (an_image i ∷ lists)
+  pub issues : Issues i cycles lists items
   -- It writes the flat machine's report.
   pub writes : written ≡ report_after tells i items
   -- Every word that a thread touches lies in a segment that is granted to its group, what lies behind an enter pointer only once it
@@ -28,10 +32,11 @@ pub record RunIsProved (tells : List Use → Option Counts) (held : List ℕ →
 -- What `trace` did, where it is done.
 pub record TraceIsProved (tells : List Use → Option Counts) (held : List ℕ → Option (List ℕ)) (image : List ℕ) (cycles : ℕ) (schedule : Option (List ℕ)) (written : List ℕ) : Type 0 where
   pub i : Image
+  pub lists : List Value
   pub items : List ℕ
-  pub reads : ImageAccepted (held image) i
-  pub issues : Issues held i cycles schedule items
+  pub reads : FilesAccepted held [] (files_of (trace image cycles schedule)) (an_image i ∷ lists)
+  pub issues : Issues i cycles lists items
   -- It writes the line of each turn, with what the turn touched and entered, and then the report.
-  pub writes : written ≡ trace (start i) items ++ report_after tells i items
+  pub writes : written ≡ trace_of (start i) items ++ report_after tells i items
   -- Every word that a thread touches lies in a segment that is granted to its group, as above.
   pub reaches : Reaches i items

@@ -1,8 +1,10 @@
 pub mod GroupList
 pub mod Groups
-pub mod Table
+pub mod Kinds
 pub mod Files
 pub mod Orders
+pub mod Table
+pub mod Commands
 pub mod Answers
 pub mod Exit
 pub mod Headline

@@ -2,27 +2,45 @@
 ghost use Rattle.std.specs.Prelude.{List, Option};
 ghost use Rattle.mm_model.specs.Uses.{Use};
 ghost use Rattle.mm_model.specs.declared.counts.Counts.{Counts};
-ghost use Rattle.mmachine.specs.Table as table;
-ghost use Rattle.mmachine.specs.Answers.{RowAnswers, status_of};
+ghost use Rattle.mm_audit.specs.Refusals.{StandAlone};
+ghost use Rattle.mmachine.specs.Files.{reading};
+ghost use Rattle.mmachine.specs.Groups.{among, GroupsRefused};
+ghost use Rattle.mmachine.specs.Table.{row_of};
+ghost use Rattle.mmachine.specs.Commands.{IsExtract};
+ghost use Rattle.mmachine.specs.Answers.{RowAnswers, Ends, call, writing};
 
 use crate::load::load_image;
 use crate::status::Stop;
+use crate::words::{Command, ExtractWords};
+use mm_image::Image;
 use mm_io::{Files, Sink, write_all};
 use std::alloc::Global;
 
 /// `extract IMAGE GROUPS`
 pub fn extract<F: Files, O: Sink>(
     alloc: Global,
-    image: &str,
-    groups: &[u8],
+    asked: ExtractWords<'_>,
     files: &mut F,
     out: &mut O,
 ) -> Result<(), Stop>
-    ensures { (tells : List Use → Option Counts) → RowAnswers tells (F.held files.old) (F.faults files.old) (F.faults files.new) O.taken O.faults out.old out.new
-        (table.extract image.now groups.now) (status_of result) }
+    ensures { (tells : List Use → Option Counts)
+        → RowAnswers (call tells (reading F.held F.faults files.old files.new) (writing O.taken O.faults out.old out.new)) (row_of (Command.Extract asked.entry)) result }
 {
-    let image = load_image(alloc, files, image)?;
-    let own = mm_audit::extract(alloc, &image, groups)?;
+    let image = load_image(alloc, files, asked.image, 1)?;
+    write_extract(alloc, &image, asked.groups.as_slice(), out)
+}
+
+/// Writes the one spelling of the groups' own image.
+fn write_extract<O: Sink>(
+    alloc: Global,
+    image: &Image,
+    groups: &[u8],
+    out: &mut O,
+) -> Result<(), Stop>
+    ensures { Ends (writing O.taken O.faults out.old out.new) (GroupsRefused image.now (among groups.now)) ⊥
+        (λ text. StandAlone image.now (among groups.now) × IsExtract image.now (among groups.now) text) result }
+{
+    let own = mm_audit::extract(alloc, image, groups)?;
     let bytes = mm_image::write(alloc, &own)?;
     write_all(out, bytes.as_slice())?;
     Ok(())

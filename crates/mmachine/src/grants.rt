@@ -7,11 +7,13 @@ ghost use Rattle.mm_model.specs.Reach.Entries.{All};
 ghost use Rattle.mm_audit.specs.Audits.{Audits};
 ghost use Rattle.mm_model.specs.Uses.{Use};
 ghost use Rattle.mm_model.specs.declared.counts.Counts.{Counts};
-ghost use Rattle.mmachine.specs.Table as table;
-ghost use Rattle.mmachine.specs.Answers.{RowAnswers, status_of};
+ghost use Rattle.mmachine.specs.Files.{reading};
+ghost use Rattle.mmachine.specs.Table.{row_of};
+ghost use Rattle.mmachine.specs.Answers.{RowAnswers, EndsWith, call, writing};
 
 use crate::load::load_image;
 use crate::status::Stop;
+use crate::words::{Command, GrantsWords};
 use arrayvec::ArrayVec;
 use mm_audit::{Entries, Reach, audit};
 use mm_audit_text::{write_audit, write_audit_of};
@@ -22,21 +24,32 @@ use std::alloc::Global;
 /// `grants IMAGE [GROUPS]`
 pub fn grants<F: Files, O: Sink>(
     alloc: Global,
-    image: &str,
-    groups: Option<ArrayVec<u8, 64>>,
+    asked: GrantsWords<'_>,
     files: &mut F,
     out: &mut O,
 ) -> Result<(), Stop>
-    ensures { (tells : List Use → Option Counts) → RowAnswers tells (F.held files.old) (F.faults files.old) (F.faults files.new) O.taken O.faults out.old out.new
-        (table.grants image.now (option_map (λ list. list.items) groups)) (status_of result) }
+    ensures { (tells : List Use → Option Counts)
+        → RowAnswers (call tells (reading F.held F.faults files.old files.new) (writing O.taken O.faults out.old out.new)) (row_of (Command.Grants asked.entry)) result }
 {
-    let image = load_image(alloc, files, image)?;
-    let reach = audit(alloc, &image, &Entries::All)?;
-    write_text(&reach, &image, groups, out)?;
-    Ok(())
+    let image = load_image(alloc, files, asked.image, 1)?;
+    write_grants(alloc, &image, asked.groups, out)
 }
 
 /// Writes the audit of an image, with the answer of the groups where there are such.
+fn write_grants<O: Sink>(
+    alloc: Global,
+    image: &Image,
+    groups: Option<ArrayVec<u8, 64>>,
+    out: &mut O,
+) -> Result<(), Stop>
+    ensures { EndsWith (writing O.taken O.faults out.old out.new) (IsAudit image.now (option_map (λ list. list.items) groups)) result }
+{
+    let reach = audit(alloc, image, &Entries::All)?;
+    write_text(&reach, image, groups, out)?;
+    Ok(())
+}
+
+/// The same, of what each group can reach.
 fn write_text<O: Sink>(
     reach: &Reach,
     image: &Image,

@@ -1,11 +1,13 @@
 // The files of a command, read and parsed one after the other, and the machine of an image.
-ghost use Rattle.std.specs.Prelude.{◌≡◌, [], IfOk, IfErr, Option};
+ghost use Rattle.std.specs.Prelude.{◌≡◌, ◌+◌, ◌<◌, ◌≤◌, ◌^◌, ◌∷◌, [], List, length, IfOk, IfErr};
 ghost use Rattle.std.specs.Option.{option_map};
-ghost use Rattle.mm_io.specs.Files.{Rose, NoneFell};
+ghost use Rattle.mm_io.specs.Files.{Rose, NoneFell, Holds};
 ghost use Rattle.mm_machine.specs.Machine.{StandsFor};
-ghost use Rattle.mmachine.specs.Answers.{Stops, stop_of_error};
-ghost use Rattle.mmachine.specs.Files.{ImageAccepted, ImageRefused, ScheduleAccepted, ScheduleRefused, FilesRefused, FilesFailed};
-ghost use Rattle.mmachine.specs.Orders.{IsOrder};
+ghost use Rattle.mmachine.specs.Kinds.{Value, image_file, schedule_file, an_image, a_list};
+ghost use Rattle.mmachine.specs.Files.{Stops, IsTooLong, FilesRead, reading};
+ghost use Rattle.mmachine.specs.Table.{files_in, file_word, perhaps};
+ghost use Rattle.mmachine.specs.Orders.{values_of};
+ghost use Rattle.mmachine.specs.Answers.{stop_of_error};
 
 use crate::status::{Refusal, Stop};
 use mm_image::{Image, ImageError};
@@ -22,45 +24,24 @@ const IMAGE_LIMIT: u64 = 33_554_432;
 /// The most bytes of a schedule file.
 const SCHEDULE_LIMIT: u64 = 8_388_608;
 
-/// Reads and parses the image file, which is the first.
-pub fn load_image<F: Files>(alloc: Global, files: &mut F, name: &str) -> Result<Image, Stop>
-    ensures image { IfOk result (ImageAccepted (F.held files.old name.now)) }
-    ensures stop { IfErr result (Stops (ImageRefused (F.held files.old name.now)) (Rose (F.faults files.old name.now) (F.faults files.new name.now))) }
+/// All bytes of the file of a number.
+fn read_file<F: Files>(
+    alloc: Global,
+    files: &mut F,
+    name: &str,
+    limit: u64,
+    number: u8,
+) -> Result<Vec<u8>, Stop>
+    requires { limit < 2 ^ 31 }
+    ensures bytes { IfOk result (λ bytes. Holds (F.held files.old name.now) bytes.items) }
+    ensures short { IfOk result (λ bytes. length bytes.items ≤ limit) }
+    ensures stop { IfErr result (Stops (IsTooLong limit number (F.held files.old name.now)) (Rose (F.faults files.old name.now) (F.faults files.new name.now))) }
     ensures kept { F.held files.new ≡ F.held files.old }
     ensures later { NoneFell (F.faults files.old) (F.faults files.new) }
 {
-    let bytes = match read_all(alloc, files, name, IMAGE_LIMIT) {
-        Ok(bytes) => bytes,
-        Err(error) => return Err(stop_of(error, 1)),
-    };
-    match mm_image::read(alloc, &bytes) {
-        Ok(image) => Ok(image),
-        Err(ImageError::Fault { fault, offset }) => Err(Stop::Refused(Refusal::Image {
-            file: 1,
-            fault,
-            offset,
-        })),
-        Err(ImageError::NoMemory) => Err(Stop::NoMemory),
-    }
-}
-
-/// Reads and parses the schedule file, which is the second.
-pub fn load_schedule<F: Files>(alloc: Global, files: &mut F, name: &str) -> Result<Schedule, Stop>
-    ensures list { IfOk result (ScheduleAccepted (F.held files.old name.now)) }
-    ensures stop { IfErr result (Stops (ScheduleRefused (F.held files.old name.now)) (Rose (F.faults files.old name.now) (F.faults files.new name.now))) }
-    ensures kept { F.held files.new ≡ F.held files.old }
-    ensures later { NoneFell (F.faults files.old) (F.faults files.new) }
-{
-    let bytes = match read_all(alloc, files, name, SCHEDULE_LIMIT) {
-        Ok(bytes) => bytes,
-        Err(error) => return Err(stop_of(error, 2)),
-    };
-    match mm_sched::parse(alloc, &bytes) {
-        Ok(list) => Ok(list),
-        Err(SchedError::Fault { offset }) => {
-            Err(Stop::Refused(Refusal::Schedule { file: 2, offset }))
-        }
-        Err(SchedError::NoMemory) => Err(Stop::NoMemory),
+    match read_all(alloc, files, name, limit) {
+        Ok(bytes) => Ok(bytes),
+        Err(error) => Err(stop_of(error, number)),
     }
 }
 
@@ -74,24 +55,71 @@ fn stop_of(error: ReadError, file: u8) -> Stop
     }
 }
 
-/// Reads and parses the image file and then, where there is one, the schedule file.
-pub fn load_files<F: Files>(
+/// Reads and parses an image file, the file of a number.
+pub fn load_image<F: Files>(
     alloc: Global,
     files: &mut F,
-    image: &str,
-    schedule: Option<&str>,
-) -> Result<(Image, Order), Stop>
-    ensures image { IfOk result (λ both. ImageAccepted (F.held files.old image.now) both.0) }
-    ensures order { IfOk result (λ both. IsOrder (F.held files.old) (option_map (λ name. name.now) schedule.entry) both.1) }
-    ensures stop { IfErr result (Stops (FilesRefused (F.held files.old) image.now (option_map (λ name. name.now) schedule.entry))
-        (FilesFailed (F.held files.old) (F.faults files.old) (F.faults files.new) image.now (option_map (λ name. name.now) schedule.entry))) }
+    name: &str,
+    number: u8,
+) -> Result<Image, Stop>
+    ensures read { (before : List Value) → number ≡ length before + 1
+        → FilesRead (reading F.held F.faults files.old files.new) before ((name.now, image_file) ∷ []) (λ i. an_image i ∷ []) result }
+    ensures kept { F.held files.new ≡ F.held files.old }
+    ensures later { NoneFell (F.faults files.old) (F.faults files.new) }
 {
-    let image = load_image(alloc, files, image)?;
-    let order = match schedule {
-        None => Order::Robin,
-        Some(name) => Order::List(load_schedule(alloc, files, name)?),
-    };
-    Ok((image, order))
+    let bytes = read_file(alloc, files, name, IMAGE_LIMIT, number)?;
+    match mm_image::read(alloc, &bytes) {
+        Ok(image) => Ok(image),
+        Err(ImageError::Fault { fault, offset }) => Err(Stop::Refused(Refusal::Image {
+            file: number,
+            fault,
+            offset,
+        })),
+        Err(ImageError::NoMemory) => Err(Stop::NoMemory),
+    }
+}
+
+/// Reads and parses a schedule file, the file of a number.
+pub fn load_schedule<F: Files>(
+    alloc: Global,
+    files: &mut F,
+    name: &str,
+    number: u8,
+) -> Result<Schedule, Stop>
+    ensures read { (before : List Value) → number ≡ length before + 1
+        → FilesRead (reading F.held F.faults files.old files.new) before ((name.now, schedule_file) ∷ []) (λ list. a_list list ∷ []) result }
+    ensures kept { F.held files.new ≡ F.held files.old }
+    ensures later { NoneFell (F.faults files.old) (F.faults files.new) }
+{
+    let bytes = read_file(alloc, files, name, SCHEDULE_LIMIT, number)?;
+    match mm_sched::parse(alloc, &bytes) {
+        Ok(list) => Ok(list),
+        Err(SchedError::Fault { offset }) => Err(Stop::Refused(Refusal::Schedule {
+            file: number,
+            offset,
+        })),
+        Err(SchedError::NoMemory) => Err(Stop::NoMemory),
+    }
+}
+
+/// The order of a schedule file, the file of a number, or round robin where there is none.
+pub fn load_order<F: Files>(
+    alloc: Global,
+    files: &mut F,
+    name: Option<&str>,
+    number: u8,
+) -> Result<Order, Stop>
+    ensures { (before : List Value) → number ≡ length before + 1
+        → FilesRead (reading F.held F.faults files.old files.new) before
+        (files_in (perhaps (file_word schedule_file) (option_map (λ name. name.now) name.entry))) values_of result }
+{
+    match name {
+        None => Ok(Order::Robin),
+        Some(name) => match load_schedule(alloc, files, name, number) {
+            Ok(list) => Ok(Order::List(list)),
+            Err(stop) => Err(stop),
+        },
+    }
 }
 
 /// The machine of an image at its start.

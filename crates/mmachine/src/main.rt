@@ -7,6 +7,7 @@
 ghost use Rattle.std.specs.Prelude.{◌≡◌};
 ghost use Rattle.mmachine.specs.Exit.{exit_code};
 
+mod copies;
 mod cycles;
 mod extract;
 mod grants;
@@ -14,6 +15,7 @@ mod group_list;
 mod line;
 mod load;
 mod members;
+mod migrate;
 mod run;
 mod solo;
 mod status;

@@ -1,34 +1,51 @@
 // `run`: the report of an image after so many cycles.
-ghost use Rattle.std.specs.Prelude.{◌≤◌};
-ghost use Rattle.std.specs.Option.{option_map};
-ghost use Rattle.mmachine.specs.Table as table;
-ghost use Rattle.mmachine.specs.Answers.{RowAnswers, status_of};
+ghost use Rattle.std.specs.Prelude.{◌≡◌, ◌≤◌};
+ghost use Rattle.mm_model.specs.Image.{start};
+ghost use Rattle.mmachine.specs.Files.{reading};
+ghost use Rattle.mmachine.specs.Table.{row_of};
+ghost use Rattle.mmachine.specs.Orders.{items_of};
+ghost use Rattle.mmachine.specs.Commands.{report_after};
+ghost use Rattle.mmachine.specs.Answers.{RowAnswers, EndsWith, call, writing};
 
 use crate::cycles::issue;
-use crate::load::{boot, load_files};
-use crate::status::Stop;
+use crate::load::{boot, load_image, load_order};
+use crate::status::{Stop, ended};
+use crate::words::{Command, RunWords};
+use mm_image::Image;
 use mm_io::{Files, Sink};
 use mm_machine::Machine;
 use mm_mem::Boot;
 use mm_report::report;
+use mm_sched::Order;
 use std::alloc::Global;
 
 /// `run IMAGE CYCLES [SCHEDULE]`
 pub fn run<M: Boot, F: Files, O: Sink>(
     alloc: Global,
-    image: &str,
-    cycles: u64,
-    schedule: Option<&str>,
+    asked: RunWords<'_>,
     files: &mut F,
     out: &mut O,
 ) -> Result<(), Stop>
-    requires { cycles ≤ 1000000 }
-    ensures { RowAnswers M.tells (F.held files.old) (F.faults files.old) (F.faults files.new) O.taken O.faults out.old out.new
-        (table.run image.now cycles (option_map (λ name. name.now) schedule.entry)) (status_of result) }
+    requires { asked.cycles ≤ 1000000 }
+    ensures { RowAnswers (call M.tells (reading F.held F.faults files.old files.new) (writing O.taken O.faults out.old out.new)) (row_of (Command.Run asked.entry)) result }
 {
-    let (image, order) = load_files(alloc, files, image, schedule)?;
-    let mut machine: Machine<M> = boot(alloc, &image)?;
-    issue(&mut machine, &order, cycles);
-    report(&machine, &image, out)?;
-    Ok(())
+    let image = load_image(alloc, files, asked.image, 1)?;
+    let order = load_order(alloc, files, asked.schedule, 2)?;
+    write_run::<M, O>(alloc, &image, &order, asked.cycles, out)
+}
+
+/// Writes the report of an image after so many cycles in an order.
+fn write_run<M: Boot, O: Sink>(
+    alloc: Global,
+    image: &Image,
+    order: &Order,
+    cycles: u64,
+    out: &mut O,
+) -> Result<(), Stop>
+    requires { cycles ≤ 1000000 }
+    ensures { EndsWith (writing O.taken O.faults out.old out.new) (λ text. text ≡ report_after M.tells image.now (items_of order.now (start image.now) cycles)) result }
+{
+    let mut machine: Machine<M> = boot(alloc, image)?;
+    issue(&mut machine, order, cycles);
+    ended(report(&machine, image, out))
 }

@@ -1,14 +1,18 @@
 // `solo`: the report of some groups of an image, alone.
-ghost use Rattle.std.specs.Prelude.{IfOk, IfErr, Some};
-ghost use Rattle.mmachine.specs.Table as table;
-ghost use Rattle.mmachine.specs.Groups.{among};
-ghost use Rattle.mmachine.specs.Answers.{RowAnswers, status_of, Stops, IsOwn, OwnRefused};
-ghost use Rattle.mmachine.specs.Files.{FilesFailed};
+ghost use Rattle.std.specs.Prelude.{◌≡◌};
+ghost use Rattle.mm_model.specs.Spelling.{IsImage};
+ghost use Rattle.mm_audit.specs.Refusals.{StandAlone};
+ghost use Rattle.mmachine.specs.Files.{reading};
+ghost use Rattle.mmachine.specs.Groups.{among, GroupsRefused};
+ghost use Rattle.mmachine.specs.Table.{row_of};
+ghost use Rattle.mmachine.specs.Commands.{own_report};
+ghost use Rattle.mmachine.specs.Answers.{RowAnswers, Ends, call, writing};
 
 use crate::cycles::follow;
 use crate::load::{boot, load_image, load_schedule};
 use crate::members::members;
-use crate::status::Stop;
+use crate::status::{Stop, ended};
+use crate::words::{Command, SoloWords};
 use mm_audit::alone;
 use mm_image::Image;
 use mm_io::{Files, Sink};
@@ -21,39 +25,40 @@ use std::alloc::Global;
 /// `solo IMAGE GROUPS CYCLES SCHEDULE`
 pub fn solo<M: Boot, F: Files, O: Sink>(
     alloc: Global,
-    image: &str,
-    groups: &[u8],
-    cycles: u64,
-    schedule: &str,
+    asked: SoloWords<'_>,
     files: &mut F,
     out: &mut O,
 ) -> Result<(), Stop>
-    ensures { RowAnswers M.tells (F.held files.old) (F.faults files.old) (F.faults files.new) O.taken O.faults out.old out.new
-        (table.solo image.now groups.now cycles schedule.now) (status_of result) }
+    ensures { RowAnswers (call M.tells (reading F.held F.faults files.old files.new) (writing O.taken O.faults out.old out.new)) (row_of (Command.Solo asked.entry)) result }
 {
-    let (own, items) = load_own(alloc, image, groups, cycles, schedule, files)?;
-    let mut machine: Machine<M> = boot(alloc, &own)?;
-    follow(&mut machine, items.items());
-    report(&machine, &own, out)?;
-    Ok(())
+    let image = load_image(alloc, files, asked.image, 1)?;
+    let list = load_schedule(alloc, files, asked.schedule, 2)?;
+    write_solo::<M, O>(
+        alloc,
+        &image,
+        asked.groups.as_slice(),
+        asked.cycles,
+        &list,
+        out,
+    )
 }
 
-/// Reads and parses the image file and then the schedule file, and cuts the groups' slots and their items out of them.
-fn load_own<F: Files>(
+/// Writes the report of some groups of an image, alone, under their items of a list's first so many.
+fn write_solo<M: Boot, O: Sink>(
     alloc: Global,
-    image: &str,
+    image: &Image,
     groups: &[u8],
     cycles: u64,
-    schedule: &str,
-    files: &mut F,
-) -> Result<(Image, Schedule), Stop>
-    ensures own { IfOk result (λ both. IsOwn (F.held files.old) image.now (among groups.now) cycles schedule.now both.0 both.1) }
-    ensures stop { IfErr result (Stops (OwnRefused (F.held files.old) image.now (among groups.now) schedule.now)
-        (FilesFailed (F.held files.old) (F.faults files.old) (F.faults files.new) image.now (Some schedule.now))) }
+    list: &Schedule,
+    out: &mut O,
+) -> Result<(), Stop>
+    requires { IsImage image.now }
+    ensures { Ends (writing O.taken O.faults out.old out.new) (GroupsRefused image.now (among groups.now)) ⊥
+        (λ text. StandAlone image.now (among groups.now) × (text ≡ own_report M.tells image.now list.now cycles (among groups.now))) result }
 {
-    let image = load_image(alloc, files, image)?;
-    let list = load_schedule(alloc, files, schedule)?;
-    let own = alone(alloc, &image, groups)?;
-    let items = only(alloc, &list, cycles, members(&own).as_slice())?;
-    Ok((own, items))
+    let own = alone(alloc, image, groups)?;
+    let items = only(alloc, list, cycles, members(&own).as_slice())?;
+    let mut machine: Machine<M> = boot(alloc, &own)?;
+    follow(&mut machine, items.items());
+    ended(report(&machine, &own, out))
 }

@@ -1,7 +1,7 @@
 // What a call answers.
 ghost use Rattle.std.specs.Prelude.{◌≡◌};
 ghost use Rattle.mmachine.specs.declared.status.Stop.TheVariants as stop;
-ghost use Rattle.mmachine.specs.Answers.{stop_of_extract};
+ghost use Rattle.mmachine.specs.Answers.{end_of, stop_of_extract};
 
 use mm_audit::ExtractError;
 use mm_image::ImageFault;
@@ -57,6 +57,16 @@ pub enum Stop {
     ReadFault,
     WriteFault,
     NoMemory,
+}
+
+/// How a command ends whose text was written so.
+pub fn ended(wrote: Result<(), WriteFault>) -> Result<(), Stop>
+    ensures { result ≡ end_of wrote }
+{
+    match wrote {
+        Ok(()) => Ok(()),
+        Err(WriteFault) => Err(Stop::WriteFault),
+    }
 }
 
 impl From<WriteFault> for Stop {

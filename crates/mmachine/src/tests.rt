@@ -232,11 +232,29 @@ fn extracts(rt: HostRuntime) -> Result<(), Fail> {
     Ok(())
 }
 
+// An image as version 2: another version and another mode, and the same slots and pages.
+#[test]
+fn migrates(rt: HostRuntime) -> Result<(), Fail> {
+    for (mode, number) in [("plain", 0), ("split", 1)] {
+        let mut new = hello(&rt)?;
+        new[5] = 2;
+        new[15] = number;
+        let held = files(&rt, hello(&rt)?, "", 4096)?;
+        let (status, out, diag) = answer(&rt, &["migrate", "IMAGE", mode], held)?;
+        assert_eq!(rt; status, Status::Done);
+        assert_eq!(rt; out.taken(), new.as_slice());
+        assert_eq!(rt; diag.taken().len(), 0);
+    }
+    Ok(())
+}
+
 // Words that are in no row, or a number that is not as it is written.
 #[test]
 fn usage(rt: HostRuntime) -> Result<(), Fail> {
-    let rows: [&[&str]; 19] = [
+    let rows: [&[&str]; 21] = [
         &[],
+        &["migrate", "IMAGE"],
+        &["migrate", "IMAGE", "Split"],
         &["grants", "IMAGE", "1,0"],
         &["extract", "IMAGE"],
         &["extract", "IMAGE", "64"],

@@ -4,18 +4,20 @@ ghost use Rattle.std.specs.Io.KnownBytes.{append_known};
 ghost use Rattle.mm_io.specs.Files.{Rose};
 ghost use Rattle.mm_io.specs.Sinks.{TookPart};
 ghost use Rattle.mmachine.specs.declared.status.Refusal.{Refusal};
-ghost use Rattle.mmachine.specs.Table.{InNoRow, Asks, run, trace, texts};
-ghost use Rattle.mmachine.specs.Answers.{ComesTo, ReadFailed, WritesNothing, TookLine, NothingFails, HasToRefuse, RefusedUnless, Answers, status_of, line_of, refuse, write};
+ghost use Rattle.mmachine.specs.Files.{reading};
+ghost use Rattle.mmachine.specs.Table.{InNoRow, IsInTable, Asks, row_of, run, trace, texts};
+ghost use Rattle.mmachine.specs.Answers.{ComesTo, ReadFailed, WritesNothing, TookLine, NothingFails, HasToRefuse, RefusedUnless, RowAnswers, Answers, call, writing, status_of, line_of, refuse, write};
 ghost use Rattle.mmachine.specs.Headline.{RunIsProved, TraceIsProved};
 
 use crate::extract::extract;
 use crate::grants::grants;
 use crate::line::write_line;
+use crate::migrate::migrate;
 use crate::run::run;
 use crate::solo::solo;
 use crate::status::{Refusal, Status, Stop};
 use crate::trace::trace;
-use crate::words::{Command, ExtractWords, GrantsWords, read_words};
+use crate::words::{Command, read_words};
 use mm_io::{Files, Sink, Source};
 use mm_mem::Boot;
 use std::alloc::Global;
@@ -36,7 +38,7 @@ pub fn mmachine<M: Boot, F: Files, I: Source, O: Sink, D: Sink>(
     // Each answer has its cause.
     ensures usage { (result ≡ Status.Usage) ↔ InNoRow (texts words.now) }
     ensures refused { (r : Refusal) → result ≡ Status.Refused r → ComesTo M.tells (F.held files.old) (texts words.now) (refuse r) }
-    ensures read_fault { result ≡ Status.ReadFault → ReadFailed (F.held files.old) (F.faults files.old) (F.faults files.new) (texts words.now) }
+    ensures read_fault { result ≡ Status.ReadFault → ReadFailed (reading F.held F.faults files.old files.new) (texts words.now) }
     ensures write_fault { result ≡ Status.WriteFault → Rose (O.faults out.old) (O.faults out.new) }
 
     // What is written.
@@ -58,8 +60,7 @@ pub fn mmachine<M: Boot, F: Files, I: Source, O: Sink, D: Sink>(
 
     // Where a refusal has to come, it comes; and where nothing fails, it is done or there is no memory.
     ensures refuses { (r : Refusal) → HasToRefuse M.tells (F.held files.old) (texts words.now) r → RefusedUnless r result }
-    ensures complete { NothingFails M.tells (F.held files.old) (texts words.now) (F.faults files.old) (F.faults files.new)
-        (O.faults out.old) (O.faults out.new)
+    ensures complete { NothingFails (call M.tells (reading F.held F.faults files.old files.new) (writing O.taken O.faults out.old out.new)) (texts words.now)
         → (result ≡ Status.Done) ⊎ (result ≡ Status.NoMemory) }
 {
     let status = answer::<M, F, O>(alloc, words, files, out);
@@ -74,11 +75,9 @@ fn answer<M: Boot, F: Files, O: Sink>(
     files: &mut F,
     out: &mut O,
 ) -> Status
-    ensures answers { Answers M.tells (F.held files.old) (F.faults files.old) (F.faults files.new) O.taken O.faults out.old out.new (texts words.now) result }
+    ensures answers { Answers (call M.tells (reading F.held F.faults files.old files.new) (writing O.taken O.faults out.old out.new)) (texts words.now) result }
     ensures refuses { (r : Refusal) → HasToRefuse M.tells (F.held files.old) (texts words.now) r → RefusedUnless r result }
-    ensures complete { NothingFails M.tells (F.held files.old) (texts words.now) (F.faults files.old) (F.faults files.new)
-        (O.faults out.old) (O.faults out.new)
-        → (result ≡ Status.Done) ⊎ (result ≡ Status.NoMemory) }
+    ensures complete { NothingFails (call M.tells (reading F.held F.faults files.old files.new) (writing O.taken O.faults out.old out.new)) (texts words.now) → (result ≡ Status.Done) ⊎ (result ≡ Status.NoMemory) }
 {
     by_row::<M, F, O>(alloc, words, files, out)
 }
@@ -90,41 +89,31 @@ fn by_row<M: Boot, F: Files, O: Sink>(
     files: &mut F,
     out: &mut O,
 ) -> Status
-    ensures { Answers M.tells (F.held files.old) (F.faults files.old) (F.faults files.new) O.taken O.faults out.old out.new (texts words.now) result }
+    ensures { Answers (call M.tells (reading F.held F.faults files.old files.new) (writing O.taken O.faults out.old out.new)) (texts words.now) result }
 {
     match read_words(words) {
         None => Status::Usage,
-        Some(Command::Run(asked)) => status(run::<M, F, O>(
-            alloc,
-            asked.image,
-            asked.cycles,
-            asked.schedule,
-            files,
-            out,
-        )),
-        Some(Command::Trace(asked)) => status(trace::<M, F, O>(
-            alloc,
-            asked.image,
-            asked.cycles,
-            asked.schedule,
-            files,
-            out,
-        )),
-        Some(Command::Solo(asked)) => status(solo::<M, F, O>(
-            alloc,
-            asked.image,
-            asked.groups.as_slice(),
-            asked.cycles,
-            asked.schedule,
-            files,
-            out,
-        )),
-        Some(Command::Grants(GrantsWords { image, groups })) => {
-            status(grants(alloc, image, groups, files, out))
-        }
-        Some(Command::Extract(ExtractWords { image, groups })) => {
-            status(extract(alloc, image, groups.as_slice(), files, out))
-        }
+        Some(command) => status(by_command::<M, F, O>(alloc, command, files, out)),
+    }
+}
+
+/// Does what a command asks.
+fn by_command<M: Boot, F: Files, O: Sink>(
+    alloc: Global,
+    command: Command<'_>,
+    files: &mut F,
+    out: &mut O,
+) -> Result<(), Stop>
+    requires { IsInTable (row_of command) }
+    ensures { RowAnswers (call M.tells (reading F.held F.faults files.old files.new) (writing O.taken O.faults out.old out.new)) (row_of command.entry) result }
+{
+    match command {
+        Command::Run(asked) => run::<M, F, O>(alloc, asked, files, out),
+        Command::Trace(asked) => trace::<M, F, O>(alloc, asked, files, out),
+        Command::Solo(asked) => solo::<M, F, O>(alloc, asked, files, out),
+        Command::Grants(asked) => grants(alloc, asked, files, out),
+        Command::Extract(asked) => extract(alloc, asked, files, out),
+        Command::Migrate(asked) => migrate(alloc, asked, files, out),
     }
 }
 

@@ -1,17 +1,20 @@
 // `trace`: the line of each cycle of an image, and then the report.
-ghost use Rattle.std.specs.Prelude.{◌≤◌, ◌++◌, ◌^◌, ◌+◌, List, ℕ};
-ghost use Rattle.std.specs.Option.{option_map};
+ghost use Rattle.std.specs.Prelude.{◌≡◌, ◌≤◌, ◌++◌, ◌^◌, ◌+◌, List, ℕ};
 ghost use Rattle.mm_io.specs.Sinks.{Writes};
-ghost use Rattle.mm_model.specs.Image.{Image as ImageValue};
+ghost use Rattle.mm_model.specs.Image.{Image as ImageValue, start};
 ghost use Rattle.mm_model.specs.Trace.{trace as trace_of};
 ghost use Rattle.mm_machine.specs.Machine.{state_of, StandsFor};
-ghost use Rattle.mmachine.specs.Table as table;
+ghost use Rattle.mmachine.specs.Files.{reading};
+ghost use Rattle.mmachine.specs.Table.{row_of};
 ghost use Rattle.mmachine.specs.Orders.{items_of};
-ghost use Rattle.mmachine.specs.Answers.{RowAnswers, status_of};
+ghost use Rattle.mmachine.specs.Commands.{report_after};
+ghost use Rattle.mmachine.specs.Answers.{RowAnswers, EndsWith, call, writing};
 
-use crate::load::{boot, load_files};
-use crate::status::Stop;
+use crate::load::{boot, load_image, load_order};
+use crate::status::{Stop, ended};
 use crate::traced::issue_traced;
+use crate::words::{Command, RunWords};
+use mm_image::Image;
 use mm_io::{Files, Sink, WriteFault};
 use mm_machine::Machine;
 use mm_mem::{Boot, Memory};
@@ -23,21 +26,33 @@ use std::alloc::Global;
 /// `trace IMAGE CYCLES [SCHEDULE]`
 pub fn trace<M: Boot, F: Files, O: Sink>(
     alloc: Global,
-    image: &str,
-    cycles: u64,
-    schedule: Option<&str>,
+    asked: RunWords<'_>,
     files: &mut F,
     out: &mut O,
 ) -> Result<(), Stop>
-    requires { cycles ≤ 1000000 }
-    ensures { RowAnswers M.tells (F.held files.old) (F.faults files.old) (F.faults files.new) O.taken O.faults out.old out.new
-        (table.trace image.now cycles (option_map (λ name. name.now) schedule.entry)) (status_of result) }
+    requires { asked.cycles ≤ 1000000 }
+    ensures { RowAnswers (call M.tells (reading F.held F.faults files.old files.new) (writing O.taken O.faults out.old out.new)) (row_of (Command.Trace asked.entry)) result }
 {
-    let (image, order) = load_files(alloc, files, image, schedule)?;
-    let mut machine: Machine<M> = boot(alloc, &image)?;
-    write_lines(&mut machine, &order, cycles, out)?;
-    report(&machine, &image, out)?;
-    Ok(())
+    let image = load_image(alloc, files, asked.image, 1)?;
+    let order = load_order(alloc, files, asked.schedule, 2)?;
+    write_trace::<M, O>(alloc, &image, &order, asked.cycles, out)
+}
+
+/// Writes the line of each of so many cycles in an order, and then the report.
+fn write_trace<M: Boot, O: Sink>(
+    alloc: Global,
+    image: &Image,
+    order: &Order,
+    cycles: u64,
+    out: &mut O,
+) -> Result<(), Stop>
+    requires { cycles ≤ 1000000 }
+    ensures { let items = items_of order.now (start image.now) cycles in
+        EndsWith (writing O.taken O.faults out.old out.new) (λ text. text ≡ trace_of (start image.now) items ++ report_after M.tells image.now items) result }
+{
+    let mut machine: Machine<M> = boot(alloc, image)?;
+    write_lines(&mut machine, order, cycles, out)?;
+    ended(report(&machine, image, out))
 }
 
 /// Issues so many cycles in an order, and writes the line of each.

@@ -1,6 +1,6 @@
 // The words of the command line, by the table of commands.
-ghost use Rattle.std.specs.Prelude.{MatchOption};
-ghost use Rattle.mmachine.specs.Table.{InNoRow, Asks, NoRunWords, AreRunWords, NoSoloWords, AreSoloWords, NoGrantsWords, AreGrantsWords, NoExtractWords, AreExtractWords, texts, row_of};
+ghost use Rattle.std.specs.Prelude.{◌≡◌, ◌≢◌, MatchOption, ℕ, Bool, List, Option};
+ghost use Rattle.mmachine.specs.Table.{InNoRow, Asks, AreTexts, behind, run, solo, grants, extract, migrate, mode_text, texts, row_of};
 
 use crate::group_list::read_groups;
 use arrayvec::ArrayVec;
@@ -18,6 +18,8 @@ pub enum Command<'a> {
     Grants(GrantsWords<'a>),
     /// `extract IMAGE GROUPS`
     Extract(ExtractWords<'a>),
+    /// `migrate IMAGE MODE`
+    Migrate(MigrateWords<'a>),
 }
 
 /// `IMAGE CYCLES [SCHEDULE]`
@@ -38,15 +40,24 @@ pub struct SoloWords<'a> {
 }
 
 /// `IMAGE [GROUPS]`
+#[derive(Drop)]
 pub struct GrantsWords<'a> {
     pub image: &'a str,
     pub groups: Option<ArrayVec<u8, 64>>,
 }
 
 /// `IMAGE GROUPS`
+#[derive(Drop)]
 pub struct ExtractWords<'a> {
     pub image: &'a str,
     pub groups: ArrayVec<u8, 64>,
+}
+
+/// `IMAGE MODE`
+#[derive(Clone, Copy)]
+pub struct MigrateWords<'a> {
+    pub image: &'a str,
+    pub split: bool,
 }
 
 /// The most cycles of a command.
@@ -65,12 +76,14 @@ pub fn read_words(words: &[String]) -> Option<Command<'_>>
         "solo" => Some(Command::Solo(read_solo_words(rest)?)),
         "grants" => Some(Command::Grants(read_grants_words(rest)?)),
         "extract" => Some(Command::Extract(read_extract_words(rest)?)),
+        "migrate" => Some(Command::Migrate(read_migrate_words(rest)?)),
         _ => None,
     }
 }
 
 fn read_run_words(rest: &[String]) -> Option<RunWords<'_>>
-    ensures { MatchOption result (NoRunWords (texts rest.now)) (λ words. AreRunWords (texts rest.now) words) }
+    ensures { MatchOption result ((image : List ℕ) (cycles : ℕ) (schedule : Option (List ℕ)) → ¬ AreTexts (texts rest.now) (behind (run image cycles schedule)))
+        (λ words. AreTexts (texts rest.now) (behind (row_of (Command.Run words)))) }
 {
     match rest {
         [image, cycles] => Some(RunWords {
@@ -88,7 +101,8 @@ fn read_run_words(rest: &[String]) -> Option<RunWords<'_>>
 }
 
 fn read_solo_words(rest: &[String]) -> Option<SoloWords<'_>>
-    ensures { MatchOption result (NoSoloWords (texts rest.now)) (λ words. AreSoloWords (texts rest.now) words) }
+    ensures { MatchOption result ((image groups : List ℕ) (cycles : ℕ) (schedule : List ℕ) → ¬ AreTexts (texts rest.now) (behind (solo image groups cycles schedule)))
+        (λ words. AreTexts (texts rest.now) (behind (row_of (Command.Solo words)))) }
 {
     match rest {
         [image, groups, cycles, schedule] => Some(SoloWords {
@@ -102,7 +116,8 @@ fn read_solo_words(rest: &[String]) -> Option<SoloWords<'_>>
 }
 
 fn read_grants_words(rest: &[String]) -> Option<GrantsWords<'_>>
-    ensures { MatchOption result (NoGrantsWords (texts rest.now)) (λ words. AreGrantsWords (texts rest.now) words) }
+    ensures { MatchOption result ((image : List ℕ) (groups : Option (List ℕ)) → ¬ AreTexts (texts rest.now) (behind (grants image groups)))
+        (λ words. AreTexts (texts rest.now) (behind (row_of (Command.Grants words)))) }
 {
     match rest {
         [image] => Some(GrantsWords {
@@ -118,13 +133,38 @@ fn read_grants_words(rest: &[String]) -> Option<GrantsWords<'_>>
 }
 
 fn read_extract_words(rest: &[String]) -> Option<ExtractWords<'_>>
-    ensures { MatchOption result (NoExtractWords (texts rest.now)) (λ words. AreExtractWords (texts rest.now) words) }
+    ensures { MatchOption result ((image groups : List ℕ) → ¬ AreTexts (texts rest.now) (behind (extract image groups)))
+        (λ words. AreTexts (texts rest.now) (behind (row_of (Command.Extract words)))) }
 {
     match rest {
         [image, groups] => Some(ExtractWords {
             image: image.as_str(),
             groups: read_groups(groups.as_bytes())?,
         }),
+        _ => None,
+    }
+}
+
+fn read_migrate_words(rest: &[String]) -> Option<MigrateWords<'_>>
+    ensures { MatchOption result ((image : List ℕ) (split : Bool) → ¬ AreTexts (texts rest.now) (behind (migrate image split)))
+        (λ words. AreTexts (texts rest.now) (behind (row_of (Command.Migrate words)))) }
+{
+    match rest {
+        [image, mode] => Some(MigrateWords {
+            image: image.as_str(),
+            split: read_mode(mode.as_str())?,
+        }),
+        _ => None,
+    }
+}
+
+/// Whether a mode's word says that loads are split.
+fn read_mode(word: &str) -> Option<bool>
+    ensures { MatchOption result ((split : Bool) → word.now ≢ mode_text split) (λ split. word.now ≡ mode_text split) }
+{
+    match word {
+        "plain" => Some(false),
+        "split" => Some(true),
         _ => None,
     }
 }

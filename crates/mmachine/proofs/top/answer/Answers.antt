@@ -1,5 +1,4 @@
-use Rattle.mmachine.proofs.Complete.{complete}
-use Rattle.mmachine.proofs.Refusals.{refuses}
+use Rattle.mmachine.proofs.Once.{complete, refuses}
 use Rattle.mmachine.proofs.top.answer.Goals as goal
 
 pub returns-clause-refuses : goal.returns-clause-refuses

@@ -1,20 +1,39 @@
-use Rattle.std.proofs.Common.{◌≡◌, ℕ, List, ◌∷◌, ◌-◌, length, take, drop, codes, string_bytes, sym, ap, ◌∙◌, subst, arith}
-use Rattle.mmachine.specs.Table.{InNoRow, texts}
-use Rattle.mmachine.proofs.WordsBehind.{first_and_rest, no_solo, no_extract}
+use Rattle.std.proofs.Common.{codes, sym, ◌∙◌, arith}
+use Rattle.mmachine.proofs.WordsBehind.{in_no_row, no_run, no_trace, no_solo, no_grants, no_extract, no_migrate}
 use Rattle.mmachine.proofs.words.read_words.Goals as goal
+
+pub returns-in_err-read_run_words-in-run : goal.returns-in_err-read_run_words-in-run
+returns-in_err-read_run_words-in-run c =
+    rw c.from_residual.ensures
+    (in_no_row c.args.words.now c.word-item.result (codes "run") (omega arith) c.word-item.is (sym c.as_str.ensures.value ∙ c.in-run.is)
+    (no_run _ c.in_err-read_run_words-in-run.ensures))
+
+pub returns-in_err-read_run_words-in-trace : goal.returns-in_err-read_run_words-in-trace
+returns-in_err-read_run_words-in-trace c =
+    rw c.from_residual-in_err-read_run_words-in-trace.ensures
+    (in_no_row c.args.words.now c.word-item.result (codes "trace") (omega arith) c.word-item.is (sym c.as_str.ensures.value ∙ c.in-trace.is)
+    (no_trace _ c.in_err-read_run_words-in-trace.ensures))
 
 pub returns-in_err-read_solo_words-in-solo : goal.returns-in_err-read_solo_words-in-solo
 returns-in_err-read_solo_words-in-solo c =
-    let words = c.args.words.now in
-    let rest = texts (take (length words - 1) (drop 1 words)) in
-    let said : string_bytes c.word-item.result ≡ codes "solo" = sym c.as_str.ensures.value ∙ c.in-solo.is in
-    let split : texts words ≡ codes "solo" ∷ rest = first_and_rest words c.word-item.result (omega arith) c.word-item.is ∙ ap (λ (w : List ℕ). w ∷ rest) said in
-    rw c.from_residual-in_err-read_solo_words-in-solo.ensures (subst InNoRow (sym split) (no_solo rest c.in_err-read_solo_words-in-solo.ensures))
+    rw c.from_residual-in_err-read_solo_words-in-solo.ensures
+    (in_no_row c.args.words.now c.word-item.result (codes "solo") (omega arith) c.word-item.is (sym c.as_str.ensures.value ∙ c.in-solo.is)
+    (no_solo _ c.in_err-read_solo_words-in-solo.ensures))
+
+pub returns-in_err-read_grants_words-in-grants : goal.returns-in_err-read_grants_words-in-grants
+returns-in_err-read_grants_words-in-grants c =
+    rw c.from_residual-in_err-read_grants_words-in-grants.ensures
+    (in_no_row c.args.words.now c.word-item.result (codes "grants") (omega arith) c.word-item.is (sym c.as_str.ensures.value ∙ c.in-grants.is)
+    (no_grants _ c.in_err-read_grants_words-in-grants.ensures))
 
 pub returns-in_err-read_extract_words-in-extract : goal.returns-in_err-read_extract_words-in-extract
 returns-in_err-read_extract_words-in-extract c =
-    let words = c.args.words.now in
-    let rest = texts (take (length words - 1) (drop 1 words)) in
-    let said : string_bytes c.word-item.result ≡ codes "extract" = sym c.as_str.ensures.value ∙ c.in-extract.is in
-    let split : texts words ≡ codes "extract" ∷ rest = first_and_rest words c.word-item.result (omega arith) c.word-item.is ∙ ap (λ (w : List ℕ). w ∷ rest) said in
-    rw c.from_residual-in_err-read_extract_words-in-extract.ensures (subst InNoRow (sym split) (no_extract rest c.in_err-read_extract_words-in-extract.ensures))
+    rw c.from_residual-in_err-read_extract_words-in-extract.ensures
+    (in_no_row c.args.words.now c.word-item.result (codes "extract") (omega arith) c.word-item.is (sym c.as_str.ensures.value ∙ c.in-extract.is)
+    (no_extract _ c.in_err-read_extract_words-in-extract.ensures))
+
+pub returns-in_err-read_migrate_words-in-migrate : goal.returns-in_err-read_migrate_words-in-migrate
+returns-in_err-read_migrate_words-in-migrate c =
+    rw c.from_residual-in_err-read_migrate_words-in-migrate.ensures
+    (in_no_row c.args.words.now c.word-item.result (codes "migrate") (omega arith) c.word-item.is (sym c.as_str.ensures.value ∙ c.in-migrate.is)
+    (no_migrate _ c.in_err-read_migrate_words-in-migrate.ensures))

@@ -1,0 +1,109 @@
+-- Words are in one row at most.
+use Rattle.std.proofs.Common.{◌≡◌, ℕ, ◌<◌, ◌^◌, Bool, true, false, List, [], ◌∷◌, map, codes, Option, None, Some, refl, ap, arith}
+use Rattle.std.specs.Prelude.{⊤}
+use Rattle.std.specs.List.{AllByRecursion, position_or_len}
+use Rattle.std.specs.Str.{bytes_eq}
+use Rattle.std.proofs.lemmas.Fmt.{decimal_injective}
+use Rattle.mmachine.specs.Kinds.{schedule_file}
+use Rattle.mmachine.specs.Table.{Word, file_word, number_word, groups_word, mode_word, mode_text, text_of, IsInRange, perhaps, Row, run, trace, solo, grants, extract, migrate, name_of, behind, Asks}
+use Rattle.mmachine.proofs.GroupWords.{one_list}
+
+-- 1. Words of the same places.
+
+-- two words may stand in the same place of a row
+abbrev IsAlike : Word → Word → Type 0
+IsAlike (file_word k a) (file_word l b) = k ≡ l
+IsAlike (number_word k a) (number_word l b) = (k ≡ l) × (k < 2 ^ 64)
+IsAlike (groups_word a) (groups_word b) = ⊤
+IsAlike (mode_word a) (mode_word b) = ⊤
+IsAlike _ _ = ⊥
+
+one_mode : (a b : Bool) → mode_text a ≡ mode_text b → a ≡ b
+one_mode true true same = refl
+one_mode true false same = let clash : true ≡ false = ap (bytes_eq (codes "split")) same in absurd (cc)
+one_mode false true same = let clash : true ≡ false = ap (bytes_eq (codes "plain")) same in absurd (cc)
+one_mode false false same = refl
+
+one_word : (x y : Word) → IsAlike x y → IsInRange x → IsInRange y → text_of x ≡ text_of y → x ≡ y
+one_word (file_word k a) (file_word l b) alike one two same = cc
+one_word (number_word k n) (number_word l m) (most, small) one two same =
+    let number : n ≡ m = decimal_injective n m (omega arith) (omega (arith, most)) same in
+    cc
+one_word (groups_word a) (groups_word b) alike one two same = ap (λ (gs : List ℕ). groups_word gs) (one_list a b one two same)
+one_word (mode_word a) (mode_word b) alike one two same = ap (λ (split : Bool). mode_word split) (one_mode a b same)
+one_word x y alike one two same = absurd alike
+
+abbrev AreAlike : List Word → List Word → Type 0
+AreAlike (x ∷ xs) (y ∷ ys) = IsAlike x y × AreAlike xs ys
+AreAlike _ _ = ⊤
+
+one_text : (xs ys : List Word) → AreAlike xs ys → AllByRecursion IsInRange xs → AllByRecursion IsInRange ys → map text_of xs ≡ map text_of ys → xs ≡ ys
+one_text [] [] alike one two same = refl
+one_text [] (y ∷ ys) alike one two same = absurd (cc)
+one_text (x ∷ xs) [] alike one two same = absurd (cc)
+one_text (x ∷ xs) (y ∷ ys) alike one two same =
+    let text : text_of x ≡ text_of y = cc in
+    let texts : map text_of xs ≡ map text_of ys = cc in
+    let first : x ≡ y = one_word x y alike.0 one.0 two.0 text in
+    let rest : xs ≡ ys = one_text xs ys alike.1 one.1 two.1 texts in
+    cc
+
+perhaps_alike : {A : Type 0} (word : A → Word) → ((a b : A) → IsAlike (word a) (word b)) → (s t : Option A) → AreAlike (perhaps word s) (perhaps word t)
+perhaps_alike word alike None t = tt
+perhaps_alike word alike (Some a) None = tt
+perhaps_alike word alike (Some a) (Some b) = (alike a b, tt)
+
+one_perhaps : {A : Type 0} (word : A → Word) → ((a b : A) → word a ≡ word b → a ≡ b) → (s t : Option A) → perhaps word s ≡ perhaps word t → s ≡ t
+one_perhaps word once None None same = refl
+one_perhaps word once None (Some b) same = absurd (cc)
+one_perhaps word once (Some a) None same = absurd (cc)
+one_perhaps word once (Some a) (Some b) same = let words : word a ≡ word b = cc in ap (λ x. Some x) (once a b words)
+
+-- 2. Rows.
+
+-- the place of a name among the names of commands
+abbrev pub place_of : List ℕ → ℕ
+place_of name =
+    position_or_len (bytes_eq name) (codes "run" ∷ codes "trace" ∷ codes "solo" ∷ codes "grants" ∷ codes "extract" ∷ codes "migrate" ∷ [])
+
+-- and of a row's name
+abbrev pub place : Row → ℕ
+place row = place_of (name_of row)
+
+same_name : (words : List (List ℕ)) (a b : Row) → Asks words a → Asks words b → name_of a ≡ name_of b
+same_name words a b (is, one) (also, two) = cc
+
+same_behind : (words : List (List ℕ)) (a b : Row) → Asks words a → Asks words b → AreAlike (behind a) (behind b) → behind a ≡ behind b
+same_behind words a b (is, one) (also, two) alike =
+    let texts : map text_of (behind a) ≡ map text_of (behind b) = cc in
+    one_text (behind a) (behind b) alike one two texts
+
+one_schedule : (s t : Option (List ℕ)) → perhaps (file_word schedule_file) s ≡ perhaps (file_word schedule_file) t → s ≡ t
+one_schedule s t same = one_perhaps (file_word schedule_file) (λ a b is. cc) s t same
+
+pub one_row : (words : List (List ℕ)) (a b : Row) → Asks words a → Asks words b → a ≡ b
+one_row words (run i n s) (run j m t) one two =
+    let same = same_behind words (run i n s) (run j m t) one two (refl, ((refl, omega arith), perhaps_alike (file_word schedule_file) (λ a b. refl) s t)) in
+    let rest : perhaps (file_word schedule_file) s ≡ perhaps (file_word schedule_file) t = cc in
+    let schedule : s ≡ t = one_schedule s t rest in
+    cc
+one_row words (trace i n s) (trace j m t) one two =
+    let same = same_behind words (trace i n s) (trace j m t) one two (refl, ((refl, omega arith), perhaps_alike (file_word schedule_file) (λ a b. refl) s t)) in
+    let rest : perhaps (file_word schedule_file) s ≡ perhaps (file_word schedule_file) t = cc in
+    let schedule : s ≡ t = one_schedule s t rest in
+    cc
+one_row words (solo i gs n s) (solo j hs m t) one two =
+    let same = same_behind words (solo i gs n s) (solo j hs m t) one two (refl, (tt, ((refl, omega arith), (refl, tt)))) in
+    cc
+one_row words (grants i gs) (grants j hs) one two =
+    let same = same_behind words (grants i gs) (grants j hs) one two (refl, perhaps_alike (λ x. groups_word x) (λ a b. tt) gs hs) in
+    let rest : perhaps groups_word gs ≡ perhaps groups_word hs = cc in
+    let groups : gs ≡ hs = one_perhaps (λ x. groups_word x) (λ a b is. cc) gs hs rest in
+    cc
+one_row words (extract i gs) (extract j hs) one two =
+    let same = same_behind words (extract i gs) (extract j hs) one two (refl, (tt, tt)) in
+    cc
+one_row words (migrate i a) (migrate j b) one two =
+    let same = same_behind words (migrate i a) (migrate j b) one two (refl, (tt, tt)) in
+    cc
+one_row words a b one two = let places : place a ≡ place b = ap place_of (same_name words a b one two) in absurd (cc)

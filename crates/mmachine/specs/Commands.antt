@@ -1,0 +1,50 @@
+-- What each command comes to, by the values of its files.
+use Rattle.std.specs.Prelude.{◌≡◌, ℕ, Bool, List, [], ◌∷◌, ◌++◌, Option}
+use Rattle.mm_model.specs.declared.counts.Counts.{Counts}
+use Rattle.mm_model.specs.Uses.{Use}
+use Rattle.mm_model.specs.Image as model
+use Rattle.mm_model.specs.Run as machine
+use Rattle.mm_model.specs.Trace as lines
+use Rattle.mm_model.specs.Schedule.{first_items, only}
+use Rattle.mm_model.specs.Worlds.{Extracts, alone, migrated}
+use Rattle.mm_model.specs.Spelling.{Spells}
+use Rattle.mm_model.specs.Audit.{IsAudit}
+use Rattle.mm_model.specs.Report.{report}
+use Rattle.mm_audit.specs.Refusals.{StandAlone}
+use Rattle.mmachine.specs.declared.status.Refusal.{Refusal}
+use Rattle.mmachine.specs.Kinds.{Value, an_image, a_list}
+use Rattle.mmachine.specs.Orders.{Issues}
+use Rattle.mmachine.specs.Groups.{among, GroupsRefused}
+use Rattle.mmachine.specs.Table.{Row, run, trace, solo, grants, extract, migrate}
+
+-- the report of an image's run under these items, with what the memory tells of the run's uses
+abbrev pub report_after : (List Use → Option Counts) → model.Image → List ℕ → List ℕ
+report_after tells i items = report (machine.run (model.start i) items) i (tells (machine.uses (model.start i) items))
+
+-- the report of the groups' own part of a run under a list: the image without the slots of other groups, and the items of the
+-- list's first so many that are theirs
+abbrev pub own_report : (List Use → Option Counts) → model.Image → List ℕ → ℕ → (ℕ → Bool) → List ℕ
+own_report tells i list cycles c = report_after tells (alone i c) (only i (first_items list cycles) c)
+
+-- the text is the one spelling of the groups' own image: their slots, and what they can touch
+abbrev pub IsExtract : model.Image → (ℕ → Bool) → List ℕ → Type 0
+IsExtract i c text = (own : model.Image) × Extracts i c own × Spells text own
+
+-- a row whose files have these values is refused
+abbrev pub Declines : Row → List Value → Refusal → Type 0
+Declines (solo image groups cycles schedule) (an_image i ∷ lists) r = GroupsRefused i (among groups) r
+Declines (extract image groups) (an_image i ∷ []) r = GroupsRefused i (among groups) r
+Declines _ _ r = ⊥
+
+-- a row whose files have these values writes a text, where the memory tells so much of uses
+abbrev pub Writes : (List Use → Option Counts) → Row → List Value → List ℕ → Type 0
+Writes tells (run image cycles schedule) (an_image i ∷ lists) text =
+    (items : List ℕ) × Issues i cycles lists items × (text ≡ report_after tells i items)
+Writes tells (trace image cycles schedule) (an_image i ∷ lists) text =
+    (items : List ℕ) × Issues i cycles lists items × (text ≡ lines.trace (model.start i) items ++ report_after tells i items)
+Writes tells (solo image groups cycles schedule) (an_image i ∷ a_list list ∷ []) text =
+    StandAlone i (among groups) × (text ≡ own_report tells i list cycles (among groups))
+Writes tells (grants image groups) (an_image i ∷ []) text = IsAudit i groups text
+Writes tells (extract image groups) (an_image i ∷ []) text = StandAlone i (among groups) × IsExtract i (among groups) text
+Writes tells (migrate image split) (an_image i ∷ []) text = Spells text (migrated i split)
+Writes tells _ _ text = ⊥

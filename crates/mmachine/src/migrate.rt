@@ -1,0 +1,63 @@
+// `migrate`: an image as version 2.
+ghost use Rattle.std.specs.Prelude.{◌≡◌, IfOk, List, Option};
+ghost use Rattle.mm_model.specs.Spelling.{Spells};
+ghost use Rattle.mm_model.specs.Uses.{Use};
+ghost use Rattle.mm_model.specs.Worlds.{migrated};
+ghost use Rattle.mm_model.specs.declared.counts.Counts.{Counts};
+ghost use Rattle.mmachine.specs.Files.{reading};
+ghost use Rattle.mmachine.specs.Table.{row_of};
+ghost use Rattle.mmachine.specs.Answers.{RowAnswers, EndsWith, call, writing};
+
+use crate::copies::{copies_of_pages, copies_of_slots};
+use crate::load::load_image;
+use crate::status::Stop;
+use crate::words::{Command, MigrateWords};
+use mm_image::Image;
+use mm_io::{Files, Sink, write_all};
+use mm_word::NoMemory;
+use std::alloc::Global;
+
+/// `migrate IMAGE MODE`
+pub fn migrate<F: Files, O: Sink>(
+    alloc: Global,
+    asked: MigrateWords<'_>,
+    files: &mut F,
+    out: &mut O,
+) -> Result<(), Stop>
+    ensures { (tells : List Use → Option Counts)
+        → RowAnswers (call tells (reading F.held F.faults files.old files.new) (writing O.taken O.faults out.old out.new)) (row_of (Command.Migrate asked.entry)) result }
+{
+    let image = load_image(alloc, files, asked.image, 1)?;
+    write_migrated(alloc, &image, asked.split, out)
+}
+
+/// Writes the one spelling of an image as version 2 in a mode.
+fn write_migrated<O: Sink>(
+    alloc: Global,
+    image: &Image,
+    split: bool,
+    out: &mut O,
+) -> Result<(), Stop>
+    ensures { EndsWith (writing O.taken O.faults out.old out.new) (λ text. Spells text (migrated image.now split)) result }
+{
+    let image = as_version_2(alloc, image, split)?;
+    let bytes = mm_image::write(alloc, &image)?;
+    write_all(out, bytes.as_slice())?;
+    Ok(())
+}
+
+/// The image as version 2 in a mode.
+fn as_version_2(alloc: Global, image: &Image, split: bool) -> Result<Image, NoMemory>
+    ensures { IfOk result (λ new. new ≡ migrated image.now split) }
+{
+    let Ok(slots) = copies_of_slots(alloc, image.slots()) else {
+        return Err(NoMemory);
+    };
+    let Ok(pages) = copies_of_pages(alloc, image.pages()) else {
+        return Err(NoMemory);
+    };
+    match Image::new(2, split, slots, pages, image.frames()) {
+        Some(image) => Ok(image),
+        None => unreachable!(),
+    }
+}
