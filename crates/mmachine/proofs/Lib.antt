@@ -14,3 +14,4 @@ pub mod GroupWords
 pub mod OwnItems
 pub mod WordsBehind
 pub mod Migrated
+pub mod Images

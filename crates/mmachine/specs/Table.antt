@@ -114,3 +114,7 @@ row_of (Solo w) = solo w.image.now w.groups.items w.cycles w.schedule.now
 row_of (Grants w) = grants w.image.now (option_map (λ groups. groups.items) w.groups)
 row_of (Extract w) = extract w.image.now w.groups.items
 row_of (Migrate w) = migrate w.image.now w.split
+
+-- image files of these names
+abbrev pub images_named : List (String Global) → List (List ℕ × Kind)
+images_named names = map (λ (name : String Global). (string_bytes name, image_file)) names

@@ -1,11 +1,11 @@
 // The files of a command, read and parsed one after the other, and the machine of an image.
-ghost use Rattle.std.specs.Prelude.{◌≡◌, ◌+◌, ◌<◌, ◌≤◌, ◌^◌, ◌∷◌, [], List, length, IfOk, IfErr};
+ghost use Rattle.std.specs.Prelude.{◌≡◌, ◌+◌, ◌<◌, ◌≤◌, ◌^◌, ◌∷◌, [], List, length, map, IfOk, IfErr};
 ghost use Rattle.std.specs.Option.{option_map};
 ghost use Rattle.mm_io.specs.Files.{Rose, NoneFell, Holds};
 ghost use Rattle.mm_machine.specs.Machine.{StandsFor};
 ghost use Rattle.mmachine.specs.Kinds.{Value, image_file, schedule_file, an_image, a_list};
 ghost use Rattle.mmachine.specs.Files.{Stops, IsTooLong, FilesRead, reading};
-ghost use Rattle.mmachine.specs.Table.{files_in, file_word, perhaps};
+ghost use Rattle.mmachine.specs.Table.{images_named, files_in, file_word, perhaps};
 ghost use Rattle.mmachine.specs.Orders.{values_of};
 ghost use Rattle.mmachine.specs.Answers.{stop_of_error};
 
@@ -128,4 +128,26 @@ pub fn boot<M: Boot>(alloc: Global, image: &Image) -> Result<Machine<M>, NoMemor
 {
     let memory = M::new(alloc, image.pages(), image.frames())?;
     Machine::new(alloc, image, memory)
+}
+
+/// Reads and parses image files one after the other, the first of them the file of a number.
+pub fn load_images<F: Files>(
+    alloc: Global,
+    files: &mut F,
+    names: &[String],
+    first: u8,
+) -> Result<Vec<Image>, Stop>
+    requires few { length names.now ≤ 16 }
+    requires early { first ≤ 16 }
+    ensures { (before : List Value) → first ≡ length before + 1
+        → FilesRead (reading F.held F.faults files.old files.new) before (images_named names.now) (λ images. map an_image images.items) result }
+{
+    let mut images = Vec::new(alloc);
+    for at in 0..names.len() {
+        let image = load_image(alloc, files, names[at].as_str(), first + at as u8)?;
+        let Ok(()) = images.push(image) else {
+            return Err(Stop::NoMemory);
+        };
+    }
+    Ok(images)
 }
