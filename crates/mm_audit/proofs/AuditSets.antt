@@ -21,9 +21,9 @@ use Rattle.mm_summary.specs.Summary.{IsExact, Holds}
 use Rattle.mm_summary.specs.NetOf.{Marked}
 use Rattle.mm_summary.proofs.Segments.{below-can_load, below-can_store, idle_loads, stores-loads}
 use Rattle.mm_seg.specs.Segments.{Covered, segment_at}
-use Rattle.mm_net.specs.declared.key.Key.{Key}
-use Rattle.mm_net.specs.Key.{IsKey, key_at, no_key}
-use Rattle.mm_net.specs.Marked.{IsMarked, node_pointer}
+use Rattle.mm_graph.specs.declared.key.Key.{Key}
+use Rattle.mm_graph.specs.Key.{IsKey, key_at, no_key}
+use Rattle.mm_graph.specs.Marked.{IsMarked, node_pointer}
 use Rattle.mm_audit.specs.Audits.{Audits, set_of}
 use Rattle.mm_audit.specs.Sets.{Shares, KeptSegment, IsKeptSet}
 use Rattle.mm_audit.specs.GroupSets.{AreGroupSets}

@@ -26,12 +26,12 @@ use Rattle.mm_summary.specs.NetOf.{Marked}
 use Rattle.mm_summary.proofs.Segments.{inside-log}
 use Rattle.mm_seg.specs.Segments.{IsSet, SomeHolds, Covered, At, LiesIn, segment_at, end_of}
 use Rattle.mm_seg.proofs.Searches.{compare}
-use Rattle.mm_net.specs.declared.key.Key.{Key}
-use Rattle.mm_net.specs.Key.{IsKey, key_at}
-use Rattle.mm_net.specs.Marked.{node_pointer}
-use Rattle.mm_net.proofs.Standing.{base-block, base_below}
-use Rattle.mm_net.proofs.Nesting.{log_is}
-use Rattle.mm_net.proofs.Bounds.{covers_in, in_covers, three_then}
+use Rattle.mm_graph.specs.declared.key.Key.{Key}
+use Rattle.mm_graph.specs.Key.{IsKey, key_at}
+use Rattle.mm_graph.specs.Marked.{node_pointer}
+use Rattle.mm_graph.proofs.Standing.{base-block, base_below}
+use Rattle.mm_graph.proofs.Nesting.{log_is}
+use Rattle.mm_graph.proofs.Bounds.{covers_in, in_covers, three_then}
 use Rattle.mm_flow.specs.Flow.{Has}
 use Rattle.mm_audit.specs.Sets.{key_segment}
 use Rattle.mm_audit.proofs.Granted.{granted-well_formed}

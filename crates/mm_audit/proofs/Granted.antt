@@ -11,8 +11,8 @@ use Rattle.mm_model.specs.Image.{Image, slot_limit}
 use Rattle.mm_model.specs.Spelling.{IsImage, IsFresh}
 use Rattle.mm_model.specs.Reach.{Entries, Grants, Serves}
 use Rattle.mm_model.specs.Reach.Grants.{in_register, runs_by, in_cell, below, passed, entered, served, made}
-use Rattle.mm_net.proofs.CellWords.{well_formed}
-use Rattle.mm_net.proofs.Standing.{enters-well_formed}
+use Rattle.mm_graph.proofs.CellWords.{well_formed}
+use Rattle.mm_graph.proofs.Standing.{enters-well_formed}
 
 pub limit_small : (i : Image) → IsImage i → slot_limit i.version ≤ 64
 limit_small i image = elim image.version [ inl e ↦ subst (λ v. slot_limit v ≤ 64) (sym e) (omega arith) | inr e ↦ subst (λ v. slot_limit v ≤ 64) (sym e) (omega arith) ]

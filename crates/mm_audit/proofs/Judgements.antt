@@ -13,8 +13,8 @@ use Rattle.mm_model.specs.Reach.Entries.{All}
 use Rattle.mm_model.specs.Audit.{Verdict, Crosses, Writes, Judged}
 use Rattle.mm_model.specs.Audit.Verdict.{Yes, Handler, Writer}
 use Rattle.mm_seg.specs.Segments.{IsSet, Covered, segment_at}
-use Rattle.mm_net.proofs.KeyLists.{contains_here, contains_cases}
-use Rattle.mm_net.proofs.Cells.{in_flat_map, from_flat_map}
+use Rattle.mm_graph.proofs.KeyLists.{contains_here, contains_cases}
+use Rattle.mm_graph.proofs.Cells.{in_flat_map, from_flat_map}
 use Rattle.mm_audit.specs.declared.served.Served.{Served}
 use Rattle.mm_audit.specs.Audits.{ReachValue, Audits, set_of}
 use Rattle.mm_audit.specs.Serving.{is_handler, served_by, served_of}

@@ -5,10 +5,10 @@ use Rattle.mm_flow.specs.declared.node.Right.{Right}
 use Rattle.mm_seg.specs.Segments.{IsSegment, IsMaximal, SomeHolds, segment_at}
 use Rattle.mm_seg.proofs.Searches.{same_or_below}
 use Rattle.mm_seg.proofs.Inserts.{at_in, in_at, in_first, in_rest, in_cases}
-use Rattle.mm_net.specs.declared.key.Key.{Key}
-use Rattle.mm_net.specs.Key.{IsKey, key_at, pointer_at}
-use Rattle.mm_net.proofs.Standing.{base-block, base_below}
-use Rattle.mm_net.proofs.Nesting.{log_is}
+use Rattle.mm_graph.specs.declared.key.Key.{Key}
+use Rattle.mm_graph.specs.Key.{IsKey, key_at, pointer_at}
+use Rattle.mm_graph.proofs.Standing.{base-block, base_below}
+use Rattle.mm_graph.proofs.Nesting.{log_is}
 use Rattle.mm_audit.specs.Sets.{IsKept, KeptSegment, IsKeptSet, key_segment}
 
 pub key_is_segment : (k : Key) → IsKey k → 3 ≤ (pointer_at k).log → IsSegment (key_segment k)

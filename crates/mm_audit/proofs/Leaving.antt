@@ -9,7 +9,7 @@ use Rattle.std.proofs.lemmas.List.Elements.{All-from_recursion, All-contains, Co
 use Rattle.mm_model.specs.Slot.{Slot}
 use Rattle.mm_model.specs.Image.{Image, slot_limit}
 use Rattle.mm_model.specs.Spelling.{IsImage, IsFresh, IsOther}
-use Rattle.mm_net.proofs.KeyLists.{contains_here, contains_rest, contains_cases}
+use Rattle.mm_graph.proofs.KeyLists.{contains_here, contains_rest, contains_cases}
 use Rattle.mm_audit.specs.Inside.{InsideAt, is_out, leaves, first_leaving}
 use Rattle.mm_audit.specs.Refusals.{HasNoGroup, HasGroup, CrossesOut, FirstCrossing}
 use Rattle.mm_audit.proofs.Granted.{limit_small}

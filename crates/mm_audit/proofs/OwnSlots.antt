@@ -9,7 +9,7 @@ use Rattle.mm_model.specs.Slot.{Slot}
 use Rattle.mm_model.specs.Image.{Image, slot_limit}
 use Rattle.mm_model.specs.Spelling.{numbers_of, IsOther, IsFresh, HoldsWords, IsImage}
 use Rattle.mm_model.proofs.CoreRows.{each_map, each_both, above_first, rest_rises}
-use Rattle.mm_net.proofs.KeyLists.{contains_cases}
+use Rattle.mm_graph.proofs.KeyLists.{contains_cases}
 use Rattle.mm_audit.specs.Refusals.{StandAlone}
 
 pub no_both : (b : Bool) → b ≡ true → b ≡ false → ⊥

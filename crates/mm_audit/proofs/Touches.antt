@@ -18,9 +18,9 @@ use Rattle.mm_summary.specs.Summary.{IsExact}
 use Rattle.mm_summary.specs.NetOf.{Marked}
 use Rattle.mm_summary.proofs.Segments.{below-can_load}
 use Rattle.mm_seg.specs.Segments.{Covered, At, segment_at, end_of}
-use Rattle.mm_net.specs.declared.key.Key.{Key}
-use Rattle.mm_net.specs.Key.{IsKey, key_at, no_key}
-use Rattle.mm_net.specs.Marked.{IsMarked, node_pointer}
+use Rattle.mm_graph.specs.declared.key.Key.{Key}
+use Rattle.mm_graph.specs.Key.{IsKey, key_at, no_key}
+use Rattle.mm_graph.specs.Marked.{IsMarked, node_pointer}
 use Rattle.mm_audit.specs.Sets.{Shares, IsKeptSet}
 use Rattle.mm_audit.specs.GroupSets.{IsGroupSet}
 use Rattle.mm_audit.specs.Own.{CoversTouched, is_covered}

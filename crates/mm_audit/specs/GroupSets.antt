@@ -5,7 +5,7 @@ use Rattle.mm_flow.specs.declared.node.Node.{Node}
 use Rattle.mm_flow.specs.declared.node.Right.{Right}
 use Rattle.mm_flow.specs.Net.{right_at}
 use Rattle.mm_seg.specs.Segments.{IsSet}
-use Rattle.mm_net.specs.declared.key.Key.{Key}
+use Rattle.mm_graph.specs.declared.key.Key.{Key}
 use Rattle.mm_audit.specs.Sets.{Shares, IsKeptSet}
 use Rattle.mm_audit.specs.Audits.{set_of}
 

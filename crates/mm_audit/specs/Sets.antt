@@ -5,8 +5,8 @@ use Rattle.mm_flow.specs.declared.node.Node.{Node}
 use Rattle.mm_flow.specs.declared.node.Right.{Right}
 use Rattle.mm_flow.specs.Net.{has_right, node_at}
 use Rattle.mm_seg.specs.Segments.{SomeHolds, segment_at}
-use Rattle.mm_net.specs.declared.key.Key.{Key}
-use Rattle.mm_net.specs.Key.{key_at}
+use Rattle.mm_graph.specs.declared.key.Key.{Key}
+use Rattle.mm_graph.specs.Key.{key_at}
 
 -- a group is of both masks
 pub record Shares (a b : ℕ) : Type 0 where

@@ -1,6 +1,6 @@
 // The audit.
 ghost use Rattle.std.specs.Prelude.{IfOk};
-ghost use Rattle.mm_net.specs.Masks.{meaning};
+ghost use Rattle.mm_graph.specs.Masks.{meaning};
 ghost use Rattle.mm_audit.specs.Audits.{Audits};
 
 use crate::reach::Reach;
@@ -8,7 +8,7 @@ use crate::served::served_in;
 use crate::sets::group_sets;
 use mm_flow::{Right, any};
 use mm_image::Image;
-use mm_net::{Entries, marked};
+use mm_graph::{Entries, marked};
 use mm_word::NoMemory;
 use std::alloc::Global;
 

@@ -1,11 +1,11 @@
 // The segments that groups reach.
 ghost use Rattle.std.specs.Prelude.{◌≡◌, ◌<◌, ◌≤◌, ◌↔◌, [], ◌∷◌, ℕ, All, IfOk, IsTrue, length, true};
 ghost use Rattle.mm_flow.specs.Net.{right_at};
-ghost use Rattle.mm_net.specs.Key.{IsKey, key_at, pointer_at};
+ghost use Rattle.mm_graph.specs.Key.{IsKey, key_at, pointer_at};
 ghost use Rattle.mm_audit.specs.Sets.{Shares, IsKeptNode, IsKeptSet};
 
 use mm_flow::{Node, Right};
-use mm_net::Key;
+use mm_graph::Key;
 use mm_seg::SegSet;
 use mm_word::NoMemory;
 use std::alloc::Global;

@@ -20,7 +20,7 @@ mod writers;
 pub use auditing::audit;
 pub use extracting::{ExtractError, extract};
 pub use judge::Apart;
-pub use mm_net::Entries;
+pub use mm_graph::Entries;
 pub use reach::Reach;
 pub use refusing::{Refused, refusal};
 pub use solo::alone;

@@ -2,13 +2,13 @@
 ghost use Rattle.std.specs.Prelude.{◌≡◌, ◌<◌, ◌≤◌, ℕ, All, IfOk, IsTrue, length, true};
 ghost use Rattle.std.specs.Int.{bit_at};
 ghost use Rattle.mm_flow.specs.Net.{right_at};
-ghost use Rattle.mm_net.specs.Key.{IsKey, key_at, pointer_at};
+ghost use Rattle.mm_graph.specs.Key.{IsKey, key_at, pointer_at};
 ghost use Rattle.mm_audit.specs.GroupSets.{IsGroupSet, AreGroupSets, SameMarks};
 
 use crate::collect::{collect, shares};
 use crate::group_sets::GroupSets;
 use mm_flow::{Node, Right};
-use mm_net::Key;
+use mm_graph::Key;
 use mm_seg::SegSet;
 use mm_word::NoMemory;
 use std::alloc::Global;

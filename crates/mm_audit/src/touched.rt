@@ -5,7 +5,7 @@ ghost use Rattle.mm_audit.specs.Own.{CoversTouched};
 use crate::sets::group_set;
 use mm_flow::{Right, any};
 use mm_image::Image;
-use mm_net::{Entries, marked};
+use mm_graph::{Entries, marked};
 use mm_seg::SegSet;
 use mm_word::NoMemory;
 use std::alloc::Global;

@@ -1,6 +1,6 @@
 use Rattle.std.proofs.Common.{◌∙◌, ap}
 use Rattle.mm_audit.specs.Serving.{served_of}
-use Rattle.mm_net.specs.Masks.{meaning}
+use Rattle.mm_graph.specs.Masks.{meaning}
 use Rattle.mm_audit.proofs.AuditSets.{audits}
 use Rattle.mm_audit.proofs.auditing.audit.Goals as goal
 

@@ -1,4 +1,4 @@
-use Rattle.mm_net.specs.Key.{no_key, key_at}
+use Rattle.mm_graph.specs.Key.{no_key, key_at}
 use Rattle.mm_audit.proofs.Kept.{key_is_segment, kept_skip, kept_more}
 use Rattle.mm_audit.proofs.collect.collect.Goals as goal
 use Rattle.mm_audit.proofs.collect.collect.Goals.{then-is_kept+in_ok-insert, else-is_kept}

@@ -1,0 +1,52 @@
+// The segments above others.
+ghost use Rattle.std.specs.Prelude.{◌≡◌, ◌+◌, ◌-◌, ◌^◌, All, IfOk};
+ghost use Rattle.mm_graph.specs.Key.{IsKey, IsRising};
+ghost use Rattle.mm_graph.specs.Forest.{IsBases, IsEnds, HasForest};
+
+use crate::key::Key;
+use mm_flow::parents;
+use std::alloc::{AllocError, Global};
+
+/// The bases of the keys' segments.
+fn bases_of(alloc: Global, keys: &[Key]) -> Result<Vec<u64>, AllocError>
+    ensures { IfOk result (λ bases. IsBases keys.now bases.items) }
+{
+    let mut bases = Vec::new(alloc);
+    for k in 0..keys.len() {
+        bases.push(keys[k].base)?;
+    }
+    Ok(bases)
+}
+
+/// Where a key's segment ends.
+fn end(key: Key) -> u64
+    requires { IsKey key }
+    ensures { result ≡ key.base + 2 ^ (54 - key.narrow) }
+{
+    let p = key.pointer();
+    p.base() + (1u64 << p.log())
+}
+
+/// The ends of the keys' segments.
+fn ends_of(alloc: Global, keys: &[Key]) -> Result<Vec<u64>, AllocError>
+    requires { All IsKey keys.now }
+    ensures { IfOk result (λ ends. IsEnds keys.now ends.items) }
+{
+    let mut ends = Vec::new(alloc);
+    for k in 0..keys.len() {
+        ends.push(end(keys[k]))?;
+    }
+    Ok(ends)
+}
+
+/// For each key the nearest whose segment holds its own.
+pub fn parents_of(alloc: Global, keys: &[Key]) -> Result<Vec<usize>, AllocError>
+    requires rising { IsRising keys.now }
+    requires keys { All IsKey keys.now }
+    ensures { IfOk result (λ parents. HasForest keys.now parents.items) }
+{
+    let bases = bases_of(alloc, keys)?;
+    let ends = ends_of(alloc, keys)?;
+    let above = parents(alloc, &bases, &ends)?;
+    Ok(above)
+}

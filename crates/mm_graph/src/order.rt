@@ -1,0 +1,39 @@
+// Keys in their order, each once.
+ghost use Rattle.std.specs.Prelude.{◌≡◌, ◌<◌, ◌↔◌, length, Contains, MatchOption};
+ghost use Rattle.mm_graph.specs.declared.key.Key.{Key as KeyType};
+ghost use Rattle.mm_graph.specs.Key.{IsRising, key_at};
+
+use crate::key::Key;
+
+/// Puts the keys into their order, each once.
+pub fn put_in_order(keys: &mut Vec<Key>)
+    ensures rising { IsRising keys.new.items }
+    ensures same { (x : KeyType) → Contains keys.new.items x ↔ Contains keys.old.items x }
+{
+    keys.sort_unstable();
+    keys.dedup();
+}
+
+/// Where the key stands, if it is there.
+pub fn find(keys: &[Key], key: Key) -> Option<usize>
+    requires { IsRising keys.now }
+    ensures { MatchOption result (¬ Contains keys.now key) (λ k. (k < length keys.now) × (key_at keys.now k ≡ key)) }
+{
+    match keys.binary_search(&key) {
+        Ok(k) => Some(k),
+        Err(_) => None,
+    }
+}
+
+/// Where a key stands that is there.
+pub fn place(keys: &[Key], key: Key) -> usize
+    requires rising { IsRising keys.now }
+    requires there { Contains keys.now key }
+    ensures small { result < length keys.now }
+    ensures at { key_at keys.now result ≡ key }
+{
+    match find(keys, key) {
+        Some(k) => k,
+        None => unreachable!(),
+    }
+}

@@ -1,8 +1,0 @@
-use Rattle.std.proofs.Common.{◌≡◌, ◌*◌, ◌++◌, take}
-use Rattle.std.specs.List.{All}
-use Rattle.mm_net.specs.Key.{IsKey}
-use Rattle.mm_net.specs.Found.{cell_keys}
-use Rattle.mm_net.proofs.found.add_page.Given as goal
-
-abbrev pub invariant-loop-k : goal.invariant-loop-k
-invariant-loop-k l = (l.found.items ≡ l.fn.found.items ++ cell_keys (l.fn.page.0 * 4096) (take l.k l.cells)) × All (λ f. IsKey f.key) l.found.items

@@ -1,8 +1,0 @@
-use Rattle.std.proofs.Common.{◌≡◌, take}
-use Rattle.std.specs.List.{All}
-use Rattle.mm_net.specs.Key.{IsKey}
-use Rattle.mm_net.specs.Found.{page_keys}
-use Rattle.mm_net.proofs.found.found_in.Given as goal
-
-abbrev pub invariant-loop-page : goal.invariant-loop-page
-invariant-loop-page l = (l.found.items ≡ page_keys (take l.page-index l.pages)) × All (λ f. IsKey f.key) l.found.items

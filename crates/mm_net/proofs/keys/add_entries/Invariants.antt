@@ -1,7 +1,0 @@
-use Rattle.std.proofs.Common.{◌≡◌, ◌++◌, take, length}
-use Rattle.std.specs.List.{filter_map}
-use Rattle.mm_net.specs.Key.{entry_key}
-use Rattle.mm_net.proofs.keys.add_entries.Given as goal
-
-abbrev pub invariant-loop-k : goal.invariant-loop-k
-invariant-loop-k l = (l.keys.items ≡ l.fn.keys.items ++ filter_map entry_key (take l.k l.fn.keys.items)) × (l.count ≡ length l.fn.keys.items)

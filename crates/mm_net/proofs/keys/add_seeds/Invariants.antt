@@ -1,6 +1,0 @@
-use Rattle.std.proofs.Common.{◌≡◌, ◌++◌, take, map}
-use Rattle.mm_net.specs.declared.seed.Seed.{Seed}
-use Rattle.mm_net.proofs.keys.add_seeds.Given as goal
-
-abbrev pub invariant-loop-s : goal.invariant-loop-s
-invariant-loop-s l = l.keys.items ≡ l.fn.keys.items ++ map (λ (s : Seed). s.key) (take l.s-index l.seeds)

@@ -1,6 +1,0 @@
-use Rattle.std.proofs.Common.{take}
-use Rattle.mm_net.specs.Nodes.{IsMarks}
-use Rattle.mm_net.proofs.mark.mark_all.Given as goal
-
-abbrev pub invariant-loop-k : goal.invariant-loop-k
-invariant-loop-k l = IsMarks l.keys (take l.k l.seeds) l.marks

@@ -1,8 +1,0 @@
-use Rattle.std.proofs.Common.{◌≡◌, ◌++◌, take}
-use Rattle.std.specs.List.{All}
-use Rattle.mm_net.specs.Key.{IsKey}
-use Rattle.mm_net.specs.Found.{word_seeds}
-use Rattle.mm_net.proofs.seed.add_words.Given as goal
-
-abbrev pub invariant-loop-k : goal.invariant-loop-k
-invariant-loop-k l = (l.seeds.items ≡ l.fn.seeds.items ++ word_seeds l.group (take l.k l.words)) × All (λ s. IsKey s.key) l.seeds.items

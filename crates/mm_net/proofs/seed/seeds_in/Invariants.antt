@@ -1,8 +1,0 @@
-use Rattle.std.proofs.Common.{◌≡◌, take}
-use Rattle.std.specs.List.{All}
-use Rattle.mm_net.specs.Key.{IsKey}
-use Rattle.mm_net.specs.Found.{seeds_of}
-use Rattle.mm_net.proofs.seed.seeds_in.Given as goal
-
-abbrev pub invariant-loop-slot : goal.invariant-loop-slot
-invariant-loop-slot l = (l.seeds.items ≡ seeds_of (take l.slot-index l.slots)) × All (λ s. IsKey s.key) l.seeds.items
