@@ -7,8 +7,8 @@ use crate::reach::Reach;
 use crate::served::served_in;
 use crate::sets::group_sets;
 use mm_flow::{Right, any};
-use mm_image::Image;
 use mm_graph::{Entries, marked};
+use mm_image::Image;
 use mm_word::NoMemory;
 use std::alloc::Global;
 

@@ -4,8 +4,8 @@ ghost use Rattle.mm_audit.specs.Own.{CoversTouched};
 
 use crate::sets::group_set;
 use mm_flow::{Right, any};
-use mm_image::Image;
 use mm_graph::{Entries, marked};
+use mm_image::Image;
 use mm_seg::SegSet;
 use mm_word::NoMemory;
 use std::alloc::Global;

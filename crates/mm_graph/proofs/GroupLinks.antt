@@ -59,4 +59,3 @@ linked slots served h g m x = record {
   handled = x.handles.handled;
   groups = elim x.handles.groups [ inl y ↦ inr (y.0, y.1) | inr y ↦ inl (y.1, y.0) ];
 }
-

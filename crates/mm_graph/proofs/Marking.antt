@@ -60,4 +60,3 @@ marks_more keys seeds k d a b lt x y = rw (take_more seeds k d lt) (record {
         subst (λ v. Has b n v) group (y.each n ln (omega arith) (sym key))
   ];
 })
-

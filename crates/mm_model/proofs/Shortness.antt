@@ -171,4 +171,3 @@ module _ (core : Core) (h : IsCore core) (g : ℕ) where
       let all = length-below (λ (e : Event). e.slot) 64 (queue_at core g) events_small in
       let few = below-few (λ (e : Event). e.slot) 64 (queue_at core g) events_at_most_once in
       omega arith
-

@@ -363,4 +363,3 @@ module _ (core : Core) (m : Memory) (h : IsCore core) where
       by : (o : Option Slot) → slot_at core n ≡ o → Keeps core (taken_by core m n o).core
       by None is = port_keeps n (core.split && nat_le 128 n)
       by (Some s) is = runs s is (is_running s.state) refl
-

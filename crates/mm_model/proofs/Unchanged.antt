@@ -72,4 +72,3 @@ sorted_rest e es sorted = grind arith
 found_in : (es : List (ℕ × List Cell)) → T (is_sorted nat_cmp es) → AllByRecursion (λ e. find nat_cmp e.0 es ≡ Some e.1) es
 found_in [] sorted = tt
 found_in (e ∷ es) sorted = (found_here e es, found_behind e es es (below_rest e es sorted) (found_in es (sorted_rest e es sorted)))
-

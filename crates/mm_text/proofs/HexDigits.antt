@@ -29,4 +29,3 @@ hex_done (suc k) n none same = absurd (omega arith)
 shown : hex 2 65 ≡ codes "41"
 unfolding hex
 shown = refl
-

@@ -31,4 +31,3 @@ flags_set16 n r below = flags-one 16 _ n r true below (ap (λ c. eqb c 1) (bit_a
 
 pub flags_clear16 : (n r : ℕ) → r < 16 → flags 16 (bit_and n (bit_not w16 (1 * 2 ^ r % 2 ^ 16))) ≡ set (flags 16 n) r false
 flags_clear16 n r below = flags-one 16 _ n r false below (ap (λ c. eqb c 1) (bit_at_clear_same w16 n r below)) (λ i small other. bit_at_clear_other w16 n r below i small other)
-

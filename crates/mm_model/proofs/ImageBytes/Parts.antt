@@ -8,7 +8,6 @@ use Rattle.std.proofs.lemmas.List.{drop-drop, drop_more, length-take, length-dro
 use Rattle.std.proofs.lemmas.Nat.{be_bytes_2, be_bytes_4, be_bytes_8}
 use Rattle.mm_model.specs.ImageFields.{field}
 use Rattle.mm_model.proofs.ImageBytes.Numbers.{number_is_2, number_is_4, number_is_8, field_1}
-
 pub use Rattle.mm_model.specs.ImageFields.{IsBytes}
 
 abbrev pub part : List ℕ → ℕ → ℕ → List ℕ
