@@ -4,7 +4,5 @@
 mod audit;
 mod groups;
 mod lines;
-#[cfg(test)]
-mod tests;
 
 pub use audit::{write_audit, write_audit_of};

@@ -6,3 +6,4 @@ pub mod Spelled
 pub mod Items
 pub mod Listed
 pub mod Reach
+pub mod OfWords

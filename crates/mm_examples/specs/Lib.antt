@@ -2,3 +2,4 @@ pub mod Images
 pub mod Worked
 pub mod WorkedSchedules
 pub mod WorkedReach
+pub mod WorkedWords

@@ -6,6 +6,26 @@
 ghost use Rattle.mm_examples.specs.Worked.{SaysA, FetchesNoPage, RunsPastTheEnd, Enters, GatesStandStill, ReadingIsNoSignal, NoForgery, MapsFrames, MapIsPrivileged, Exchanges, CountsBehindTheGate, TakesEvents, ResumesTakenAlone, TwoGroups, AbsentSlotsIdle, TracesTheGate, WaitsInTheTrace, Issues, Delivers, LoadsAtOnce, WaitsToWrite, CountsDoneStores, SpelledInBytes, FirstFaults, CountsHello, CountsGated, CountsSweeper};
 ghost use Rattle.mm_examples.specs.WorkedSchedules.{MeansItems, MeansNothing, MeansAbsentSlots, SkipsComments, CountsTooMany, ListsTooMany, CountsNone, LeadsWithZero, KeepsOneGroup, KeepsIdleItems, KeepsPorts, RobinBeginsLate};
 ghost use Rattle.mm_examples.specs.WorkedReach.{TouchesItsCode, NoGroupWrites, WritesNoCode, TwoGroupsStandApart, BothCanWrite, NeitherStandsApart};
+ghost use Rattle.mm_examples.specs.WorkedWords.{MakesPointers, MakesNone, Moves, MovesFromTheBase, Restricts, Shortens, Advances, JumpsTo, Accesses, IntegersAreNoPointers, ReadsWords, ReadsArithmetic, ReadsNone, Calculates};
+
+/// Pointers, accesses, instruction words and arithmetic.
+#[tactic(auto, using(crate::proofs::OfWords::makes_pointers, crate::proofs::OfWords::makes_none, crate::proofs::OfWords::moves, crate::proofs::OfWords::moves_from_the_base, crate::proofs::OfWords::restricts, crate::proofs::OfWords::shortens, crate::proofs::OfWords::advances, crate::proofs::OfWords::jumps_to, crate::proofs::OfWords::accesses, crate::proofs::OfWords::integers_are_no_pointers, crate::proofs::OfWords::reads_words, crate::proofs::OfWords::reads_arithmetic, crate::proofs::OfWords::reads_none, crate::proofs::OfWords::calculates))]
+pub fn words()
+    ensures makes_pointers { MakesPointers }
+    ensures makes_none { MakesNone }
+    ensures moves { Moves }
+    ensures moves_from_the_base { MovesFromTheBase }
+    ensures restricts { Restricts }
+    ensures shortens { Shortens }
+    ensures advances { Advances }
+    ensures jumps_to { JumpsTo }
+    ensures accesses { Accesses }
+    ensures integers_are_no_pointers { IntegersAreNoPointers }
+    ensures reads_words { ReadsWords }
+    ensures reads_arithmetic { ReadsArithmetic }
+    ensures reads_none { ReadsNone }
+    ensures calculates { Calculates }
+{}
 
 /// Runs of one slot.
 #[tactic(auto, using(crate::proofs::OneSlot::says_a, crate::proofs::OneSlot::fetches_no_page, crate::proofs::OneSlot::runs_past_the_end, crate::proofs::OneSlot::enters, crate::proofs::OneSlot::gates_stand_still, crate::proofs::OneSlot::reading_is_no_signal, crate::proofs::OneSlot::no_forgery, crate::proofs::OneSlot::maps_frames, crate::proofs::OneSlot::map_is_privileged))]

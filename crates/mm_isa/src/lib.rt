@@ -10,8 +10,6 @@ mod fields;
 mod instr;
 pub mod laws;
 mod reg;
-#[cfg(test)]
-mod tests;
 
 pub use arithmetic::alu;
 pub use decoding::decode;

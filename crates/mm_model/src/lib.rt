@@ -9,8 +9,6 @@ mod event;
 mod page;
 mod slot;
 mod step;
-#[cfg(test)]
-mod tests;
 
 pub use counts::Counts;
 pub use event::Event;

@@ -8,8 +8,6 @@ mod page_changes;
 mod sections;
 mod slots;
 mod summary;
-#[cfg(test)]
-mod tests;
 mod trace;
 mod words;
 

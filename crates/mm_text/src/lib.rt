@@ -8,8 +8,6 @@
 mod digits;
 mod gather;
 mod piece;
-#[cfg(test)]
-mod tests;
 
 pub use gather::{Gather, write_pieces};
 pub use piece::Piece;

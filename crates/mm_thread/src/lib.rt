@@ -25,6 +25,3 @@ mod tables;
 pub use mm_model::{Event, Pending, Slot, SlotState, Step, Tick};
 pub use output::Output;
 pub use state::{Core, turn};
-
-#[cfg(test)]
-mod tests;
