@@ -8,7 +8,7 @@ use Rattle.mm_model.specs.declared.event.Event.{Event}
 use Rattle.mm_model.specs.Slot.{Slot}
 use Rattle.mm_model.specs.State.{Row, Core, row_in, slot_of, queue_of, slot_at, queue_at, at_number, put_slot, put_queue}
 use Rattle.mm_model.specs.Fits.{identity_of}
-use Rattle.mm_model.proofs.CoreRows.{each_map, above_first, rest_rises, slots_of-put_queue, Rises, identities_of, rises_by, stays_by, identities_of-put_slot}
+use Rattle.mm_model.proofs.CoreRows.{each_map, above_first, rest_rises, Rises, identities_of, rises_by, stays_by, identities_of-put_slot}
 use Rattle.mm_laws.specs.Isolated.{is_row_of}
 use Rattle.mm_laws.proofs.GrantedWords.{row_has, row_of}
 use Rattle.mm_laws.proofs.GrantedTurns.{same_slot}
@@ -29,6 +29,13 @@ module _ {A : Type 0} (p : A → Bool) where
 
   pub filter_drops : (x : A) (xs : List A) → p x ≡ false → filter p (x ∷ xs) ≡ filter p xs
   filter_drops x xs e = ap (λ b. cond b (x ∷ filter p xs) (filter p xs)) e
+
+  pub each_filter : (P : A → Type 0) (xs : List A) → AllByRecursion P xs → AllByRecursion (λ (x : A). P x × (p x ≡ true)) (filter p xs)
+  each_filter P [] h = tt
+  each_filter P (x ∷ xs) h = elim (bool_cases (p x)) [
+    | inl t ↦ subst (AllByRecursion (λ (y : A). P y × (p y ≡ true))) (sym (filter_takes x xs t)) ((h.0, t), each_filter P xs h.1)
+    | inr f ↦ subst (AllByRecursion (λ (y : A). P y × (p y ≡ true))) (sym (filter_drops x xs f)) (each_filter P xs h.1)
+  ]
 
   pub contained_filter : (xs : List A) (x : A) → Contains xs x → p x ≡ true → Contains (filter p xs) x
   contained_filter [] x h e = absurd (omega (arith, h.1))

@@ -9,8 +9,7 @@ use Rattle.std.proofs.lemmas.Bool.{ne_eqb}
 use Rattle.std.proofs.lemmas.Bool.Decides.{nat_tests}
 use Rattle.mm_word.specs.declared.word.Cell.{Cell}
 use Rattle.mm_model.specs.Memory.{Memory, page_of, place_of, page_at, cell_in, cell_at, zero_cell, IsPage, IsPaged}
-use Rattle.mm_model.specs.Report.{same_cell, cells_or_zero}
-use Rattle.mm_model.specs.Worlds.{changes_from, changes}
+use Rattle.mm_model.specs.Report.{same_cell, cells_or_zero, changes_from, changes}
 use Rattle.mm_model.proofs.CoreRows.{each_map}
 use Rattle.mm_model.proofs.Memories.{cell_at-aligned, aligned, page_whole}
 use Rattle.mm_laws.proofs.CellViews.{IsIn, Rising}

@@ -40,7 +40,7 @@ use Rattle.mm_model.specs.Effect.Pages.{Keep, Add, Remove}
 use Rattle.mm_model.specs.Effect.Effect.{Fault, Block, Deliver, Does}
 use Rattle.mm_model.specs.Turn.{Turned, reply, put_all, state_after, with_issue, slot_after, with_other, with_queue, with_out, with_cell, with_pages, core_after, memory_after, stood, is_sync, event_of, core_faulted, faulted, touch_of, asked_use, blocked, ended, executed, idle, arrives, turn}
 use Rattle.mm_model.specs.Run.{after}
-use Rattle.mm_model.specs.Trace.{touches, group_of, done_entry}
+use Rattle.mm_model.specs.Trace.{touches, group_of, group_in, done_entry}
 use Rattle.mm_model.specs.Reach.{Entries, Grants, CanWrite, Privileged}
 use Rattle.mm_model.proofs.CoreRows.{each_set, each_map, each_push, slot_at-number, slot_at-put_same, slot_at-put_queue, slots_of-put_queue, slots_found, slot_has, other_at, Rises, identities_of, rises_by, stays_by, identities_of-put_slot}
 use Rattle.mm_model.proofs.SlotSteps.{delivered_from}
@@ -49,7 +49,7 @@ use Rattle.mm_model.proofs.Memories.{put_cases, map_cases, unmap_cases, cell_at-
 use Rattle.mm_model.proofs.TurnKeeps.{changed_from}
 use Rattle.mm_model.proofs.TurnShapes.{Fetches, TurnShape, turn_shape}
 use Rattle.mm_model.proofs.StateKeeps.{after_fits}
-use Rattle.mm_laws.specs.Granted.{WordGranted, SlotGranted, EventGranted, RowGranted, CellGranted, CellsGranted, WordsGranted, TouchGranted, EntryGranted, StepGranted, with_entries, group_in}
+use Rattle.mm_laws.specs.Granted.{WordGranted, SlotGranted, EventGranted, RowGranted, CellGranted, CellsGranted, WordsGranted, TouchGranted, EntryGranted, StepGranted, with_entries}
 use Rattle.mm_laws.specs.Grants.{Grow}
 use Rattle.mm_laws.proofs.GrantLaws.{grants_grow}
 use Rattle.mm_laws.proofs.GrantedWords.{slot_granted, queue_granted, delivered_granted, serving, word_served, with_entries-grow, with_entry-last, word_grows, slot_grows, event_grows, rows_grow, cells_grow, stored_granted}

@@ -22,4 +22,5 @@ pub mod ChangedCells
 pub mod SameViews
 pub mod OwnImages
 pub mod OwnItems
+pub mod CellTexts
 pub mod WholeRuns

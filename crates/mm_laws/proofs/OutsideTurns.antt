@@ -25,13 +25,12 @@ use Rattle.mm_model.specs.Ask.{ask}
 use Rattle.mm_model.specs.Effect.{Change, Effect, effect, delivered}
 use Rattle.mm_model.specs.Effect.Effect.{Fault, Block, Deliver, Does}
 use Rattle.mm_model.specs.Turn.{Turned, reply, slot_after, with_other, with_queue, with_out, core_after, stood, is_sync, event_of, core_faulted, faulted, touch_of, asked_use, blocked, ended, executed, issued, decoded, instr_in, fetched, aimed, started, idle, arrives, taken_by_port, taken_by, port_of, is_running, turn}
-use Rattle.mm_model.specs.Trace.{group_of, trace_line, step_line}
+use Rattle.mm_model.specs.Trace.{group_of, group_in, trace_line, step_line}
 use Rattle.mm_model.specs.Reach.Entries.{All}
 use Rattle.mm_model.specs.Worlds.{Touchable, Apart, is_turn_of}
 use Rattle.mm_model.proofs.CoreRows.{slot_at-number, slot_has, other_at, identities_of, stays_by}
 use Rattle.mm_model.proofs.SlotSteps.{delivered_from}
 use Rattle.mm_model.proofs.TurnKeeps.{changed_from, turn_keeps}
-use Rattle.mm_laws.specs.Granted.{group_in}
 use Rattle.mm_laws.proofs.GrantedRows.{Stands, OtherGranted, OtherSlot, ChangeGranted, EffectGranted, effect_granted}
 use Rattle.mm_laws.proofs.GrantedTurns.{turn_granted}
 use Rattle.mm_laws.proofs.AlikeRows.{no_both, mine, Sames, sames_self, put_slot-sames, beside-put_slot, beside-put_queue}

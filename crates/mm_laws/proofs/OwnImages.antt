@@ -22,20 +22,13 @@ use Rattle.mm_model.proofs.EffectWords.{cell_words}
 use Rattle.mm_model.proofs.Memories.{page_whole}
 use Rattle.mm_laws.specs.Isolated.{HasSlot, AgreeApart}
 use Rattle.mm_laws.proofs.GrantedRuns.{each_in}
-use Rattle.mm_laws.proofs.AlikeRows.{no_both, bool_cases, filter_takes, filter_drops, contained_filter, filter_contained}
+use Rattle.mm_laws.proofs.AlikeRows.{no_both, bool_cases, filter_takes, filter_drops, each_filter, contained_filter, filter_contained}
 use Rattle.mm_laws.proofs.CellViews.{IsIn}
 use Rattle.mm_laws.proofs.ChangedCells.{found_page, cell_of, get_short}
 
 -- 1. Lists.
 
 module _ {A : Type 0} (p : A → Bool) where
-  each_filter : (P : A → Type 0) (xs : List A) → AllByRecursion P xs → AllByRecursion (λ (x : A). P x × (p x ≡ true)) (filter p xs)
-  each_filter P [] h = tt
-  each_filter P (x ∷ xs) h = elim (bool_cases (p x)) [
-    | inl t ↦ subst (AllByRecursion (λ (y : A). P y × (p y ≡ true))) (sym (filter_takes p x xs t)) ((h.0, t), each_filter P xs h.1)
-    | inr f ↦ subst (AllByRecursion (λ (y : A). P y × (p y ≡ true))) (sym (filter_drops p x xs f)) (each_filter P xs h.1)
-  ]
-
   filter_short : (xs : List A) → length (filter p xs) ≤ length xs
   filter_short [] = omega arith
   filter_short (x ∷ xs) = by (p x) (filter_short xs)
@@ -208,7 +201,7 @@ each_got : {A : Type 0} (P : A → Type 0) (xs : List A) → ((k : ℕ) (x : A) 
 each_got P [] f = tt
 each_got P (x ∷ xs) f = (f 0 x refl, each_got P xs (λ k y e. f (suc k) y e))
 
-each_among : {A : Type 0} (P : A → Type 0) (xs : List A) → ((x : A) → IsIn x xs → P x) → AllByRecursion P xs
+pub each_among : {A : Type 0} (P : A → Type 0) (xs : List A) → ((x : A) → IsIn x xs → P x) → AllByRecursion P xs
 each_among P [] f = tt
 each_among P (x ∷ xs) f = (f x (inl refl), each_among P xs (λ y h. f y (inr h)))
 

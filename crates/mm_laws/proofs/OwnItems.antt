@@ -1,22 +1,18 @@
--- Groups that stand apart see of a run what their own image shows of their own items; and the lines of cells are texts.
-use Rattle.std.proofs.Common.{◌≡◌, ◌≢◌, ℕ, ◌+◌, ◌*◌, ◌-◌, ◌<◌, inl, inr, Bool, true, false, ◌||◌, ◌&&◌, nat_eq, nat_le, if◌then◌else◌, List, [], ◌∷◌, ◌++◌, Some, None, refl, sym, ap, ◌∙◌, subst, arith, eqb-true, append_assoc}
-use Rattle.std.specs.List.{AllByRecursion, filter, flat_map}
+-- Groups that stand apart see of a run what their own image shows of their own items.
+use Rattle.std.proofs.Common.{◌≡◌, ◌≢◌, ℕ, ◌-◌, ◌<◌, inl, inr, Bool, true, false, ◌||◌, ◌&&◌, nat_eq, nat_le, if◌then◌else◌, List, [], ◌∷◌, Some, None, refl, sym, ap, ◌∙◌, subst, arith, eqb-true}
+use Rattle.std.specs.List.{AllByRecursion, filter}
 use Rattle.std.proofs.lemmas.Bool.{ne_eqb}
-use Rattle.mm_word.specs.declared.word.Cell.{Cell}
-use Rattle.mm_model.specs.Memory.{Memory, page_at}
 use Rattle.mm_model.specs.Slot.{Slot}
 use Rattle.mm_model.specs.Image.{Image, slot_in}
 use Rattle.mm_model.specs.Spelling.{IsImage}
-use Rattle.mm_model.specs.Lines.{cell_line}
-use Rattle.mm_model.specs.Report.{same_cell, changed_cells, cells_or_zero, cell_lines}
 use Rattle.mm_model.specs.Schedule.{in_groups, is_kept, only}
-use Rattle.mm_model.specs.Worlds.{Apart, Extracts, alone, LinesOf, changes_from, changes}
+use Rattle.mm_model.specs.Worlds.{Apart, Extracts, alone}
 use Rattle.mm_laws.specs.Isolated.{HasSlot, SameWorlds}
 use Rattle.mm_laws.proofs.AlikeRows.{bool_cases, filter_takes, filter_drops}
 use Rattle.mm_laws.proofs.SameViews.{same_worlds}
 use Rattle.mm_laws.proofs.OwnImages.{Ascends, ascends, alone_agrees, extracts_agree}
 
--- 1. The items of the groups are theirs in their own image too.
+-- The items of the groups are theirs in their own image too.
 
 none_above : (n : ℕ) (slots : List Slot) → AllByRecursion (λ (s : Slot). n < s.number) slots → slot_in slots n ≡ None
 none_above n [] h = refl
@@ -75,63 +71,3 @@ alone_sees i c s img has apart = same_worlds i (alone i c) c s (only i s c) (alo
 
 pub extracts_see : (i : Image) (c : ℕ → Bool) (j : Image) (s : List ℕ) → IsImage i → HasSlot i c → Apart i c → Extracts i c j → SameWorlds i j c s (only i s c)
 extracts_see i c j s img has apart e = same_worlds i j c s (only i s c) (extracts_agree i c j img has apart e) (own_items i j c s img e.mode e.slots)
-
--- 2. Lines of cells.
-
-one_text : (P : ℕ → Type 0) (l m : List (ℕ × Cell)) (one other : List ℕ) → l ≡ m → LinesOf P l one → LinesOf P m other → one ≡ other
-one_text P l m one other e LinesOf.no_cell LinesOf.no_cell = refl
-one_text P l m one other e LinesOf.no_cell (LinesOf.line p rest) = cc
-one_text P l m one other e LinesOf.no_cell (LinesOf.no_line out rest) = cc
-one_text P l m one other e (LinesOf.line p rest) LinesOf.no_cell = cc
-one_text P l m one other e (LinesOf.line {w = w} {c = c} {cells = xs} {text = t} p rest) (LinesOf.line {w = v} {c = d} {cells = ys} {text = u} q more) =
-    let first : ◌≡◌ {A = ℕ × Cell} (w, c) (v, d) = cc in
-    let others : xs ≡ ys = cc in
-    ap (λ (x : ℕ × Cell). cell_line x.0 x.1 ++ t) first ∙ ap (λ r. cell_line v d ++ r) (one_text P xs ys t u others rest more)
-one_text P l m one other e (LinesOf.line {w = w} {c = c} p rest) (LinesOf.no_line {w = v} {c = d} out more) =
-    let first : ◌≡◌ {A = ℕ × Cell} (w, c) (v, d) = cc in
-    absurd (out (subst P (ap (λ (x : ℕ × Cell). x.0) first) p))
-one_text P l m one other e (LinesOf.no_line out rest) LinesOf.no_cell = cc
-one_text P l m one other e (LinesOf.no_line {w = w} {c = c} out rest) (LinesOf.line {w = v} {c = d} q more) =
-    let first : ◌≡◌ {A = ℕ × Cell} (w, c) (v, d) = cc in
-    absurd (out (subst P (sym (ap (λ (x : ℕ × Cell). x.0) first)) q))
-one_text P l m one other e (LinesOf.no_line {cells = xs} out rest) (LinesOf.no_line {cells = ys} also more) =
-    let others : xs ≡ ys = cc in
-    one_text P xs ys one other others rest more
-
-pub lines_are_one : (P : ℕ → Type 0) (l : List (ℕ × Cell)) (one other : List ℕ) → LinesOf P l one → LinesOf P l other → one ≡ other
-lines_are_one P l one other a b = one_text P l l one other refl a b
-
-pub lines_are_some : (P : ℕ → Type 0) (l : List (ℕ × Cell)) → ¬ (¬ ((text : List ℕ) × LinesOf P l text))
-lines_are_some P [] none = none ([], LinesOf.no_cell)
-lines_are_some P (x ∷ l) none =
-    lines_are_some P l
-    (λ found. none (found.0, LinesOf.no_line (λ p. none (cell_line x.0 x.1 ++ found.0, LinesOf.line p found.1)) found.1))
-
-flat_append : {A : Type 0} (f : A → List ℕ) (xs ys : List A) → flat_map f (xs ++ ys) ≡ flat_map f xs ++ flat_map f ys
-flat_append f [] ys = refl
-flat_append f (x ∷ xs) ys = ap (λ l. f x ++ l) (flat_append f xs ys) ∙ sym (append_assoc (f x) (flat_map f xs) (flat_map f ys))
-
-abbrev line : ℕ × Cell → List ℕ
-line change = cell_line change.0 change.1
-
-page_lines : (w : ℕ) (cells was : List Cell) → changed_cells w cells was ≡ flat_map line (changes_from w cells was)
-page_lines w [] was = refl
-page_lines w (c ∷ cells) [] = refl
-page_lines w (c ∷ cells) (d ∷ was) = by (same_cell c d) (page_lines (w + 8) cells was)
-  where
-    by : (b : Bool) → changed_cells (w + 8) cells was ≡ flat_map line (changes_from (w + 8) cells was)
-        → (if b then [] else cell_line w c) ++ changed_cells (w + 8) cells was ≡ flat_map line ((if b then [] else (w, c) ∷ []) ++ changes_from (w + 8) cells was)
-    by true e = e
-    by false e = ap (λ l. cell_line w c ++ l) e
-
-all_lines : (image : Memory) (pages : List (ℕ × List Cell))
-    → flat_map (λ (page : ℕ × List Cell). changed_cells (page.0 * 4096) page.1 (cells_or_zero (page_at image page.0))) pages
-    ≡ flat_map line (flat_map (λ (page : ℕ × List Cell). changes_from (page.0 * 4096) page.1 (cells_or_zero (page_at image page.0))) pages)
-all_lines image [] = refl
-all_lines image (page ∷ pages) =
-    ap (λ l. l ++ flat_map (λ (p : ℕ × List Cell). changed_cells (p.0 * 4096) p.1 (cells_or_zero (page_at image p.0))) pages) (page_lines (page.0 * 4096) page.1 (cells_or_zero (page_at image page.0)))
-    ∙ ap (λ l. flat_map line (changes_from (page.0 * 4096) page.1 (cells_or_zero (page_at image page.0))) ++ l) (all_lines image pages)
-    ∙ sym (flat_append line (changes_from (page.0 * 4096) page.1 (cells_or_zero (page_at image page.0))) (flat_map (λ (p : ℕ × List Cell). changes_from (p.0 * 4096) p.1 (cells_or_zero (page_at image p.0))) pages))
-
-pub lines_are_written : (now image : Memory) → cell_lines now image ≡ flat_map (λ (change : ℕ × Cell). cell_line change.0 change.1) (changes now image)
-lines_are_written now image = all_lines image now.pages

@@ -9,11 +9,11 @@ use Rattle.mm_model.specs.State.{Row, Core, State, slot_at}
 use Rattle.mm_model.specs.Image.{Image}
 use Rattle.mm_model.specs.Spelling.{numbers_of}
 use Rattle.mm_model.specs.Turn.{is_running}
-use Rattle.mm_model.specs.Run.{after, run, first_running, or_else, any_number, next_running, then_issued, robin_from}
+use Rattle.mm_model.specs.Run.{after, run, first_running, or_else, any_number, next_running, then_issued, robin_from, last_item}
 use Rattle.mm_model.specs.Fits.{slots_of, Fits}
 use Rattle.mm_model.proofs.CoreRows.{each_map, each_contained, above_first, rest_rises, slot_at-number, slots_found, slot_has, Rises}
 use Rattle.mm_model.proofs.StateKeeps.{after_fits}
-use Rattle.mm_laws.specs.Schedules.{NoneRuns, AnyNumber, IsLeast, IsNext, last_item}
+use Rattle.mm_laws.specs.Schedules.{NoneRuns, AnyNumber, IsLeast, IsNext}
 
 abbrev slots_in : List Row → List Slot
 slots_in rows = map (λ (row : Row). row.slot) rows

@@ -1,5 +1,6 @@
 -- The lines of groups' sections and cells are lines of the report.
-use Rattle.std.proofs.Common.{◌≡◌, ℕ, zero, suc, ◌+◌, ◌/◌, inl, inr, Bool, true, false, if◌then◌else◌, List, [], ◌∷◌, ◌++◌, length, take, drop, codes, decimal, Option, None, Some, refl, sym, ap, ◌∙◌, subst, append_assoc, append-nil}
+use Rattle.std.proofs.Common.{◌≡◌, ℕ, zero, suc, ◌+◌, ◌/◌, inl, inr, Bool, true, false, if◌then◌else◌, List, [], ◌∷◌, ◌++◌, length, take, drop, codes, decimal, Option, None, Some, refl, sym, ap, ◌∙◌, subst, append_assoc, append-nil, arith}
+use Rattle.std.specs.Prelude.{Contains}
 use Rattle.std.specs.List.{flat_map, filter, range_with_len}
 use Rattle.mm_word.specs.declared.word.Cell.{Cell}
 use Rattle.mm_word.specs.declared.word.Word.{Word}
@@ -14,13 +15,14 @@ use Rattle.mm_model.specs.Image.{Image, start}
 use Rattle.mm_model.specs.Spelling.{IsImage}
 use Rattle.mm_model.specs.Run.{run}
 use Rattle.mm_model.specs.Lines.{newline, word_text, state_text, past_text, numbers_text, slot_line, is_zero, word_line, register_line, pending_line, register_lines, slot_lines, bytes_text, output_row, output_rows, output_lines, full_text, cell_line}
-use Rattle.mm_model.specs.Report.{is_of, cycles_line, group_line, section, groups_of, sections, page_change, page_lines, pages_of, cell_lines, count_line, report}
-use Rattle.mm_model.specs.Worlds.{LinesOf, CellLinesOf, changes, sections_of, Touchable, Apart}
+use Rattle.mm_model.specs.Report.{is_of, cycles_line, group_line, section, groups_of, sections, page_change, page_lines, pages_of, changes, cell_lines, count_line, report}
+use Rattle.mm_model.specs.Worlds.{sections_of, Touchable, Apart}
 use Rattle.mm_laws.specs.Isolated.{HasSlot}
-use Rattle.mm_laws.specs.Runs.{EndsALine, AreLinesOf, Reaches, Isolates}
+use Rattle.mm_laws.specs.Runs.{EndsALine, AreLinesOf, IsLineOf, Reaches, Isolates}
+use Rattle.mm_laws.specs.CellLines.{LinesOf, CellLinesOf}
 use Rattle.mm_laws.proofs.AlikeRows.{bool_cases, filter_takes, filter_drops}
 use Rattle.mm_laws.proofs.GrantedRuns.{runs_granted}
-use Rattle.mm_laws.proofs.OwnItems.{alone_sees, lines_are_written}
+use Rattle.mm_laws.proofs.OwnItems.{alone_sees}
 
 -- 1. Texts that are made of whole lines.
 
@@ -129,8 +131,7 @@ cell_ends w c = inr (codes "cell " ++ hex 14 w ++ codes " " ++ word_text c.word 
 
 cells_end : (now image : Memory) → EndsALine (cell_lines now image)
 cells_end now image =
-    subst EndsALine (sym (lines_are_written now image))
-    (each (λ (change : ℕ × Cell). cell_line change.0 change.1) (λ change. cell_ends change.0 change.1) (changes now image))
+    each (λ (change : ℕ × Cell). cell_line change.0 change.1) (λ change. cell_ends change.0 change.1) (changes now image)
 
 counts_end : (counts : Option Counts) → EndsALine (count_line counts)
 counts_end None = inl refl
@@ -159,17 +160,50 @@ passing Passes cells text LinesOf.no_cell = AreLinesOf.no_line
 passing Passes cells text (LinesOf.line {w = w} {c = d} {cells = others} {text = t} passes rest) = AreLinesOf.kept (cell_ends w d) (passing Passes others t rest)
 passing Passes cells text (LinesOf.no_line {w = w} {c = d} {cells = others} out rest) = AreLinesOf.left_out (cell_ends w d) (passing Passes others text rest)
 
-cells_written : (i : Image) (c : ℕ → Bool) (s : State) (counts : Option Counts) (text : List ℕ) → CellLinesOf i c s text → AreLinesOf text (report s i counts)
-unfolding report
-cells_written i c s counts text lines =
-    let before = cycles_line s.cycles ++ sections s.core ++ page_lines s.memory i.memory in
-    let ends : EndsALine before =
+-- what the report has before the lines of cells
+abbrev front : State → Image → List ℕ
+front s i = cycles_line s.cycles ++ sections s.core ++ page_lines s.memory i.memory
+
+front_ends : (s : State) (i : Image) → EndsALine (front s i)
+front_ends s i =
     both (cycles_line s.cycles ++ sections s.core) (page_lines s.memory i.memory)
     (both (cycles_line s.cycles) (sections s.core) (cycles_end s.cycles) (each (section s.core) (section_ends s.core) (groups_of s.core)))
-    (pages_end s.memory i.memory) in
-    let part : AreLinesOf text (cell_lines s.memory i.memory) =
-    subst (AreLinesOf text) (sym (lines_are_written s.memory i.memory)) (passing (Touchable i c) (changes s.memory i.memory) text lines) in
-    followed text (before ++ cell_lines s.memory i.memory) (count_line counts) (counts_end counts) (AreLinesOf.left_out ends part)
+    (pages_end s.memory i.memory)
+
+pub cells_written : (i : Image) (c : ℕ → Bool) (s : State) (counts : Option Counts) (text : List ℕ) → CellLinesOf i c s text → AreLinesOf text (report s i counts)
+unfolding report
+cells_written i c s counts text lines =
+    followed text (front s i ++ cell_lines s.memory i.memory) (count_line counts) (counts_end counts)
+    (AreLinesOf.left_out (front_ends s i) (passing (Touchable i c) (changes s.memory i.memory) text lines))
+
+-- a line of a text is one of the text behind whole lines, and of the text with more behind it
+line_later : (line text first : List ℕ) → EndsALine first → IsLineOf line text → IsLineOf line (first ++ text)
+line_later line text first ends is = record {
+  before = first ++ is.before;
+  behind = is.behind;
+  stands = ap (λ (t : List ℕ). first ++ t) is.stands ∙ sym (append_assoc first (is.before ++ line) is.behind) ∙ ap (λ (t : List ℕ). t ++ is.behind) (sym (append_assoc first is.before line));
+  begins = both first is.before ends is.begins;
+}
+
+line_with_more : (line text more : List ℕ) → IsLineOf line text → IsLineOf line (text ++ more)
+line_with_more line text more is = record {
+  before = is.before;
+  behind = is.behind ++ more;
+  stands = ap (λ (t : List ℕ). t ++ more) is.stands ∙ append_assoc (is.before ++ line) is.behind more;
+  begins = is.begins;
+}
+
+one_of : {A : Type 0} (f : A → List ℕ) → ((x : A) → EndsALine (f x)) → (xs : List A) (x : A) → Contains xs x → IsLineOf (f x) (flat_map f xs)
+one_of f ends [] x h = absurd (omega (arith, h.1))
+one_of f ends (y ∷ xs) x (zero, lt, is) = record { before = []; behind = flat_map f xs; stands = ap (λ z. f z ++ flat_map f xs) is; begins = inl refl }
+one_of f ends (y ∷ xs) x (suc k, lt, is) = line_later (f x) (flat_map f xs) (f y) (ends y) (one_of f ends xs x (k, omega arith, is))
+
+cell_written : (i : Image) (s : State) (counts : Option Counts) (w : ℕ) (cell : Cell) → Contains (changes s.memory i.memory) (w, cell) → IsLineOf (cell_line w cell) (report s i counts)
+unfolding report
+cell_written i s counts w cell is =
+    line_with_more (cell_line w cell) (front s i ++ cell_lines s.memory i.memory) (count_line counts)
+    (line_later (cell_line w cell) (cell_lines s.memory i.memory) (front s i) (front_ends s i)
+    (one_of (λ (change : ℕ × Cell). cell_line change.0 change.1) (λ change. cell_ends change.0 change.1) (changes s.memory i.memory) (w, cell) is))
 
 -- 5. So much is promised of a run.
 
@@ -184,5 +218,5 @@ pub runs_isolate : (i : Image) (items : List ℕ) (counts : Option Counts) (c : 
 runs_isolate i items counts c img has apart = record {
   view = (alone_sees i c items img has apart).view;
   sections = sections_written c (run (start i) items) i counts;
-  cells = cells_written i c (run (start i) items) counts;
+  cells = λ w cell touched. cell_written i (run (start i) items) counts w cell;
 }

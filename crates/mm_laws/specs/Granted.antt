@@ -18,7 +18,7 @@ use Rattle.mm_model.specs.Spelling.{IsImage}
 use Rattle.mm_model.specs.Fits.{Fits}
 use Rattle.mm_model.specs.Turn.{Turned}
 use Rattle.mm_model.specs.Run.{turn_of, after, run}
-use Rattle.mm_model.specs.Trace.{touches, group_of, done_entry, entries}
+use Rattle.mm_model.specs.Trace.{touches, group_in, done_entry, entries}
 use Rattle.mm_model.specs.Reach.{Entries, Grants, CanWrite}
 use Rattle.mm_model.specs.Reach.Entries.{All, These}
 
@@ -72,10 +72,6 @@ pub record WordsGranted (i : Image) (e : Entries) (s : State) : Type 0 where
   pub cells : CellsGranted i e s.memory
 
 -- 2. What a turn touches, enters and changes.
-
--- the group of the slot that a turn is about
-abbrev pub group_in : Turned → ℕ
-group_in t = group_of (slot_at t.core t.step.slot)
 
 -- a pointer that is granted to the group covers the word of an access, with the rights of its kind
 pub record TouchGranted (i : Image) (e : Entries) (g : ℕ) (t : Touch) : Type 0 where

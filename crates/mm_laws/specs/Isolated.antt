@@ -1,19 +1,16 @@
 -- Groups that stand apart see nothing of the others.
 use Rattle.std.specs.Prelude.{◌≡◌, ℕ, Bool, true, false, List, Contains}
-use Rattle.std.specs.List.{filter, flat_map}
-use Rattle.mm_word.specs.declared.word.Cell.{Cell}
-use Rattle.mm_model.specs.Memory.{Memory, cell_at}
+use Rattle.std.specs.List.{filter}
+use Rattle.mm_model.specs.Memory.{cell_at}
 use Rattle.mm_model.specs.Slot.{Slot}
 use Rattle.mm_model.specs.State.{Row, State, output_of}
 use Rattle.mm_model.specs.Image.{Image, start}
 use Rattle.mm_model.specs.Spelling.{IsImage}
 use Rattle.mm_model.specs.Fits.{Fits}
-use Rattle.mm_model.specs.Lines.{cell_line}
-use Rattle.mm_model.specs.Report.{cell_lines}
 use Rattle.mm_model.specs.Schedule.{is_kept, only}
 use Rattle.mm_model.specs.Run.{turn_of, after, run}
 use Rattle.mm_model.specs.Reach.Entries.{All}
-use Rattle.mm_model.specs.Worlds.{Touchable, Apart, Agree, SameView, Extracts, alone, changes, CellLinesOf}
+use Rattle.mm_model.specs.Worlds.{Touchable, Apart, Agree, SameView, Extracts, alone}
 use Rattle.mm_laws.specs.Granted.{WordsGranted}
 
 -- 1. Two states that are alike to the groups.
@@ -85,17 +82,3 @@ AloneSeesTheSame = (i : Image) (c : ℕ → Bool) (s : List ℕ) → IsImage i �
 
 abbrev pub ExtractsSeeTheSame : Type 0
 ExtractsSeeTheSame = (i : Image) (c : ℕ → Bool) (j : Image) (s : List ℕ) → IsImage i → HasSlot i c → Apart i c → Extracts i c j → SameWorlds i j c s (only i s c)
-
--- 3. The lines of the cells that groups can touch.
-
--- they are one text
-abbrev pub CellLinesAreOne : Type 0
-CellLinesAreOne = (i : Image) (c : ℕ → Bool) (s : State) (one other : List ℕ) → CellLinesOf i c s one → CellLinesOf i c s other → one ≡ other
-
--- there is one
-abbrev pub CellLinesAreSome : Type 0
-CellLinesAreSome = (i : Image) (c : ℕ → Bool) (s : State) → ¬ (¬ ((text : List ℕ) × CellLinesOf i c s text))
-
--- those of all cells are the report's
-abbrev pub CellLinesAreWritten : Type 0
-CellLinesAreWritten = (now image : Memory) → cell_lines now image ≡ flat_map (λ (change : ℕ × Cell). cell_line change.0 change.1) (changes now image)

@@ -1,19 +1,20 @@
 -- What is promised of a whole run: what it touches is granted, and groups that stand apart see what they see alone.
-use Rattle.std.specs.Prelude.{◌≡◌, ◌⊎◌, ℕ, Bool, List, [], ◌∷◌, ◌++◌, Option, IfSome}
+use Rattle.std.specs.Prelude.{◌≡◌, ◌⊎◌, ℕ, Bool, List, [], ◌∷◌, ◌++◌, Contains, Option, IfSome}
 use Rattle.std.specs.List.{AllByRecursion}
+use Rattle.mm_word.specs.declared.word.Cell.{Cell}
 use Rattle.mm_model.specs.declared.counts.Counts.{Counts}
-use Rattle.mm_model.specs.Lines.{newline}
+use Rattle.mm_model.specs.Lines.{newline, cell_line}
 use Rattle.mm_model.specs.Image.{Image, start}
 use Rattle.mm_model.specs.Spelling.{IsImage}
 use Rattle.mm_model.specs.Turn.{Turned}
 use Rattle.mm_model.specs.Run.{turn_of, run}
 use Rattle.mm_model.specs.Schedule.{only}
-use Rattle.mm_model.specs.Report.{report}
-use Rattle.mm_model.specs.Trace.{touches, entries}
+use Rattle.mm_model.specs.Report.{changes, report}
+use Rattle.mm_model.specs.Trace.{touches, group_in, entries}
 use Rattle.mm_model.specs.Reach.{Entries}
 use Rattle.mm_model.specs.Reach.Entries.{These}
-use Rattle.mm_model.specs.Worlds.{Apart, SameView, CellLinesOf, alone, sections_of}
-use Rattle.mm_laws.specs.Granted.{TouchGranted, EntryGranted, group_in}
+use Rattle.mm_model.specs.Worlds.{Touchable, Apart, SameView, alone, sections_of}
+use Rattle.mm_laws.specs.Granted.{TouchGranted, EntryGranted}
 use Rattle.mm_laws.specs.Isolated.{HasSlot}
 
 -- 1. Reach.
@@ -41,14 +42,21 @@ pub data AreLinesOf : List ℕ → List ℕ → Type 0 where
   kept : {text lines whole : List ℕ} → EndsALine text → AreLinesOf lines whole → AreLinesOf (text ++ lines) (text ++ whole)
   left_out : {text lines whole : List ℕ} → EndsALine text → AreLinesOf lines whole → AreLinesOf lines (text ++ whole)
 
+-- The line, which has its newline, is one of the text's: it begins where the text does, or behind a newline.
+pub record IsLineOf (line text : List ℕ) : Type 0 where
+  pub before : List ℕ
+  pub behind : List ℕ
+  pub stands : text ≡ before ++ line ++ behind
+  pub begins : EndsALine before
+
 -- 3. Isolation.
 
 -- The groups see of a run what they see of a run without the others, under their own items; and their sections of the report,
--- and the lines of the cells that they can touch, are lines of what was written.
+-- and the line of each changed cell that they can touch, are lines of what was written.
 pub record Isolates (i : Image) (items : List ℕ) (written : List ℕ) (c : ℕ → Bool) : Type 0 where
   pub view : SameView i items (alone i c) (only i items c) c
   pub sections : AreLinesOf (sections_of c (run (start i) items).core) written
-  pub cells : (lines : List ℕ) → CellLinesOf i c (run (start i) items) lines → AreLinesOf lines written
+  pub cells : (w : ℕ) (cell : Cell) → Touchable i c w → Contains (changes (run (start i) items).memory i.memory) (w, cell) → IsLineOf (cell_line w cell) written
 
 -- 4. The laws.
 

@@ -1,10 +1,10 @@
 -- What schedules mean, and what round robin issues.
-use Rattle.std.specs.Prelude.{◌≡◌, ℕ, ◌<◌, ◌≤◌, ◌⊎◌, true, List, [], ◌∷◌, ◌++◌, length, Option, Some, None}
+use Rattle.std.specs.Prelude.{◌≡◌, ℕ, ◌<◌, ◌≤◌, ◌⊎◌, true, List, ◌∷◌, ◌++◌, length, Option, Some, None}
 use Rattle.mm_model.specs.Slot.{Slot}
 use Rattle.mm_model.specs.State.{Core, State, slot_at}
 use Rattle.mm_model.specs.Image.{Image}
 use Rattle.mm_model.specs.Turn.{is_running}
-use Rattle.mm_model.specs.Run.{run, robin_from}
+use Rattle.mm_model.specs.Run.{run, robin_from, last_item}
 use Rattle.mm_model.specs.Schedule.{Means, FaultsAt}
 use Rattle.mm_model.specs.Fits.{Fits}
 
@@ -51,11 +51,6 @@ pub record IsLeast (core : Core) (Passes : ℕ → Type 0) (n : ℕ) : Type 0 wh
 abbrev pub IsNext : Core → Option ℕ → ℕ → Type 0
 IsNext core None n = IsLeast core AnyNumber n
 IsNext core (Some last) n = IsLeast core (λ m. last < m) n ⊎ (NoneRuns core (λ m. last < m) × IsLeast core AnyNumber n)
-
--- the last item of a list, or the one before it where the list is empty
-abbrev pub last_item : Option ℕ → List ℕ → Option ℕ
-last_item before [] = before
-last_item before (n ∷ items) = last_item (Some n) items
 
 -- round robin issues no more items than it is asked for
 abbrev pub RobinIsShort : Type 0

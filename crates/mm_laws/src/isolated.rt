@@ -1,5 +1,5 @@
 //! Groups that stand apart see nothing of the others.
-ghost use Rattle.mm_laws.specs.Isolated.{WorldsStep, TwoWorlds, AloneAgrees, ExtractsAgree, AloneSeesTheSame, ExtractsSeeTheSame, CellLinesAreOne, CellLinesAreSome, CellLinesAreWritten};
+ghost use Rattle.mm_laws.specs.Isolated.{WorldsStep, TwoWorlds, AloneAgrees, ExtractsAgree, AloneSeesTheSame, ExtractsSeeTheSame};
 
 /// In two states that are alike to groups that stand apart, the same turn of the groups goes on in both and tells the same, and
 /// a turn outside them goes on in one of them alone.
@@ -8,7 +8,7 @@ pub fn worlds_step()
 {}
 
 /// Two runs whose items of the groups are the same show them the same: slots, queues, outputs and cells, and so the sections of
-/// the report, the lines of the trace and the lines of cells.
+/// the report, the lines of the trace and the cells that changed.
 pub fn two_worlds()
     ensures { TwoWorlds }
 {}
@@ -28,11 +28,4 @@ pub fn extracts_agree()
 pub fn own_images_show_the_same()
     ensures alone { AloneSeesTheSame }
     ensures extracted { ExtractsSeeTheSame }
-{}
-
-/// The lines of the cells that groups can touch are one text, and there is one; the report has the lines of all cells.
-pub fn cell_lines_are_texts()
-    ensures one { CellLinesAreOne }
-    ensures some { CellLinesAreSome }
-    ensures written { CellLinesAreWritten }
 {}

@@ -4,6 +4,7 @@
 //! definition that is wrong breaks one of them.
 #![tactic(auto)]
 
+pub mod cell_lines;
 pub mod counts;
 pub mod granted;
 pub mod grants;

@@ -3,10 +3,10 @@ use Rattle.std.proofs.Common.{◌≡◌, ℕ, ◌+◌, Bool, true, false, List, 
 use Rattle.mm_word.specs.declared.word.Cell.{Cell}
 use Rattle.mm_word.specs.declared.word.Pre.{Pre}
 use Rattle.mm_word.specs.Access.{Touch}
-use Rattle.mm_model.specs.Uses.{Use, accesses, accesses-append}
-use Rattle.mm_model.specs.Turn.{access_use, removal_use}
+use Rattle.mm_model.specs.Uses.{Use, use_at, accesses, accesses-append}
+use Rattle.mm_model.specs.Turn.{removal_use}
 
-one : (t : Touch) (pre : Pre) (o : Option Cell) → accesses (access_use t pre o ∷ []) ≡ 1
+one : (t : Touch) (pre : Pre) (o : Option Cell) → accesses (use_at t.kind t.addr pre o ∷ []) ≡ 1
 one t pre None = refl
 one t pre (Some c) = refl
 
@@ -14,8 +14,8 @@ none : (page : ℕ) (mapped : Bool) → accesses (removal_use page mapped) ≡ 0
 none page true = refl
 none page false = refl
 
-pub one_access : (before : List Use) (t : Touch) (pre : Pre) (o : Option Cell) → accesses (before ++ (access_use t pre o ∷ [])) ≡ accesses before + 1
-one_access before t pre o = omega (arith, accesses-append before (access_use t pre o ∷ []), one t pre o)
+pub one_access : (before : List Use) (t : Touch) (pre : Pre) (o : Option Cell) → accesses (before ++ (use_at t.kind t.addr pre o ∷ [])) ≡ accesses before + 1
+one_access before t pre o = omega (arith, accesses-append before (use_at t.kind t.addr pre o ∷ []), one t pre o)
 
 pub no_access : (before : List Use) (page : ℕ) (mapped : Bool) → accesses (before ++ removal_use page mapped) ≡ accesses before
 no_access before page mapped = omega (arith, accesses-append before (removal_use page mapped), none page mapped)

@@ -11,9 +11,9 @@ use Rattle.mm_mem.specs.declared.answer.Loaded.TheVariants as loads
 use Rattle.mm_mem.specs.declared.answer.Stored.{Stored}
 use Rattle.mm_mem.specs.declared.answer.Stored.TheVariants as stores
 use Rattle.mm_model.specs.Memory.{Memory, cell_at, put_cell, is_mapped, can_map, map_page, unmap_page, passes, full_after}
-use Rattle.mm_model.specs.Uses.{Use}
+use Rattle.mm_model.specs.Uses.{Use, use_at}
 use Rattle.mm_model.specs.Effect.{set_by}
-use Rattle.mm_model.specs.Turn.{access_use, removal_use, with_cell}
+use Rattle.mm_model.specs.Turn.{removal_use, with_cell}
 
 -- 1. Answers, from the cell that an access finds.
 
@@ -58,7 +58,7 @@ after_unmap m p = if is_mapped m p then unmap_page m p else m
 -- 3. The uses that they add.
 
 abbrev pub access_uses : Memory → Touch → Pre → List Use
-access_uses m a pre = access_use a pre (cell_at m a.addr) ∷ []
+access_uses m a pre = use_at a.kind a.addr pre (cell_at m a.addr) ∷ []
 
 abbrev pub fetch_uses : Memory → Touch → List Use
 fetch_uses m a = access_uses m a Any

@@ -1,5 +1,4 @@
 pub mod FlagLists
-pub mod Unchanged
 pub mod CountsSay
 pub mod Memories
 pub mod CoreRows

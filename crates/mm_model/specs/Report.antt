@@ -59,19 +59,23 @@ same_bit false b = not b
 abbrev pub same_cell : Cell → Cell → Bool
 same_cell a b = same_word a.word b.word && same_bit a.full b.full
 
--- the cells from a word on, each beside the one that it is compared with
-abbrev pub changed_cells : ℕ → List Cell → List Cell → List ℕ
-changed_cells w [] was = []
-changed_cells w (c ∷ cells) [] = []
-changed_cells w (c ∷ cells) (d ∷ was) = (if same_cell c d then [] else cell_line w c) ++ changed_cells (w + 8) cells was
+-- the cells from a word on, each with its word, that differ from those that they are compared with
+abbrev pub changes_from : ℕ → List Cell → List Cell → List (ℕ × Cell)
+changes_from w [] was = []
+changes_from w (c ∷ cells) [] = []
+changes_from w (c ∷ cells) (d ∷ was) = (if same_cell c d then [] else (w, c) ∷ []) ++ changes_from (w + 8) cells was
 
 abbrev pub cells_or_zero : Option (List Cell) → List Cell
 cells_or_zero None = zero_page
 cells_or_zero (Some cells) = cells
 
 -- each mapped cell that is not the image's, or not integer 0, full, where the image has no such page
+abbrev pub changes : Memory → Memory → List (ℕ × Cell)
+changes now image = flat_map (λ page. changes_from (page.0 * 4096) page.1 (cells_or_zero (page_at image page.0))) now.pages
+
+-- their lines
 abbrev pub cell_lines : Memory → Memory → List ℕ
-cell_lines now image = flat_map (λ page. changed_cells (page.0 * 4096) page.1 (cells_or_zero (page_at image page.0))) now.pages
+cell_lines now image = flat_map (λ change. cell_line change.0 change.1) (changes now image)
 
 -- 6. What the memory counted, where it counts.
 abbrev pub count_line : Option Counts → List ℕ

@@ -58,3 +58,8 @@ then_issued (Some n) rest = n ∷ rest n
 unfoldable pub robin_from : State → Option ℕ → ℕ → List ℕ
 robin_from s last zero = []
 robin_from s last (suc count) = then_issued (next_running s.core.rows last) (λ n. robin_from (after s n) (Some n) count)
+
+-- the last item of a list, or the one before it where the list is empty
+abbrev pub last_item : Option ℕ → List ℕ → Option ℕ
+last_item before [] = before
+last_item before (n ∷ items) = last_item (Some n) items

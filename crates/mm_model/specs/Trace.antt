@@ -73,10 +73,14 @@ abbrev pub group_of : Option Slot → ℕ
 group_of None = 0
 group_of (Some s) = s.group
 
+-- the group of the slot that a turn is about
+abbrev pub group_in : Turned → ℕ
+group_in t = group_of (slot_at t.core t.step.slot)
+
 -- the group and the enter pointer of an entry that a turn did
 abbrev pub done_entry : Turned → Option Pointer → List (ℕ × Pointer)
 done_entry t None = []
-done_entry t (Some e) = (group_of (slot_at t.core t.step.slot), e) ∷ []
+done_entry t (Some e) = (group_in t, e) ∷ []
 
 -- the entries that a run did, in order
 unfoldable pub entries : State → List ℕ → List (ℕ × Pointer)

@@ -18,7 +18,7 @@ use Rattle.mm_model.specs.declared.step.Step.{Step}
 use Rattle.mm_model.specs.declared.step.Tick.{Tick}
 use Rattle.mm_model.specs.declared.step.Tick.TheVariants.{Idle, Blocked, Did, Faulted, Delivered}
 use Rattle.mm_model.specs.Memory.{Memory, cell_at, put_cell, is_mapped, can_map, map_page, unmap_page, passes}
-use Rattle.mm_model.specs.Uses.{Use, Accessed, Removed}
+use Rattle.mm_model.specs.Uses.{Use, Accessed, Removed, use_at}
 use Rattle.mm_model.specs.Slot.{Slot}
 use Rattle.mm_model.specs.State.{Core, slot_at, put_slot, queue_at, put_queue, output_of, put_output}
 use Rattle.mm_model.specs.Image.{output_limit}
@@ -154,18 +154,13 @@ faulted core m s c a v fetched touched uses = record {
 
 -- 4. The turn.
 
--- an access is done where its page is there and the bit passes
-abbrev pub access_use : Touch → Pre → Option Cell → Use
-access_use a pre None = Accessed a.kind a.addr false false
-access_use a pre (Some c) = Accessed a.kind a.addr true (passes pre c.full)
-
 abbrev pub removal_use : ℕ → Bool → List Use
 removal_use page true = Removed page ∷ []
 removal_use page false = []
 
 -- what the instruction asks of memory
 abbrev pub asked_use : Memory → Ask → List Use
-asked_use m (Reach a pre) = access_use a pre (cell_at m a.addr) ∷ []
+asked_use m (Reach a pre) = use_at a.kind a.addr pre (cell_at m a.addr) ∷ []
 asked_use m (UnmapPage page) = removal_use page (is_mapped m page)
 asked_use m _ = []
 

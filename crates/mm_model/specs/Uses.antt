@@ -1,13 +1,21 @@
 -- What a machine asks of its memory.
-use Rattle.std.specs.Prelude.{◌≡◌, ℕ, ◌+◌, Bool, List, [], ◌∷◌, ◌++◌}
+use Rattle.std.specs.Prelude.{◌≡◌, ℕ, ◌+◌, Bool, true, false, List, [], ◌∷◌, ◌++◌, Option, Some, None}
 use Rattle.std.proofs.Common.{subst, append_assoc, sym, append-nil, arith}
 use Rattle.mm_word.specs.declared.perm.Kind.{Kind}
+use Rattle.mm_word.specs.declared.word.Pre.{Pre}
+use Rattle.mm_word.specs.declared.word.Cell.{Cell}
+use Rattle.mm_model.specs.Memory.{passes}
 
 pub data Use : Type 0 where
   -- an access: its kind, its word, whether a page was found and whether it was done
   Accessed : (kind : Kind) (word : ℕ) (found done : Bool) → Use
   -- a page that was removed
   Removed : (page : ℕ) → Use
+
+-- the use of a word that has a cell or none: the access is done where the cell's bit passes
+abbrev pub use_at : Kind → ℕ → Pre → Option Cell → Use
+use_at kind word pre None = Accessed kind word false false
+use_at kind word pre (Some c) = Accessed kind word true (passes pre c.full)
 
 -- how many of the uses are accesses
 abbrev pub accesses : List Use → ℕ

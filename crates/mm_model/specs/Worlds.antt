@@ -1,16 +1,15 @@
 -- Groups that stand apart, and what they see of a run.
-use Rattle.std.specs.Prelude.{◌≡◌, ◌↔◌, ℕ, ◌+◌, ◌*◌, Bool, true, false, if◌then◌else◌, List, [], ◌∷◌, ◌++◌, Contains, Some}
+use Rattle.std.specs.Prelude.{◌≡◌, ℕ, Bool, true, false, List, Contains, Some}
 use Rattle.std.specs.List.{flat_map, filter}
 use Rattle.mm_word.specs.declared.word.Cell.{Cell}
-use Rattle.mm_model.specs.Memory.{Memory, page_of, page_at, cell_at, is_mapped, zero_cell, IsPaged}
+use Rattle.mm_model.specs.Memory.{Memory, page_of, cell_at, is_mapped, zero_cell, IsPaged}
 use Rattle.mm_model.specs.Slot.{Slot}
-use Rattle.mm_model.specs.State.{Core, State, slot_at}
+use Rattle.mm_model.specs.State.{Core, State}
 use Rattle.mm_model.specs.Image.{Image, start}
-use Rattle.mm_model.specs.Lines.{cell_line}
-use Rattle.mm_model.specs.Report.{section, groups_of, same_cell, cells_or_zero}
+use Rattle.mm_model.specs.Report.{section, groups_of, changes}
 use Rattle.mm_model.specs.Turn.{Turned}
 use Rattle.mm_model.specs.Run.{run}
-use Rattle.mm_model.specs.Trace.{group_of, traced}
+use Rattle.mm_model.specs.Trace.{group_in, traced}
 use Rattle.mm_model.specs.Reach.{CanTouch, CanWrite, Privileged}
 use Rattle.mm_model.specs.Reach.Entries.{All}
 
@@ -49,35 +48,21 @@ sections_of c core = flat_map (section core) (filter c (groups_of core))
 
 -- the trace lines of their slots:
 abbrev pub is_turn_of : (ℕ → Bool) → Turned → Bool
-is_turn_of c t = c (group_of (slot_at t.core t.step.slot))
+is_turn_of c t = c (group_in t)
 
 unfoldable pub trace_of : (ℕ → Bool) → State → List ℕ → List ℕ
 trace_of c s items = traced (is_turn_of c) s items
 
--- and the lines of the cells that they can touch. The cells from a word on that differ from those that they are compared with:
-abbrev pub changes_from : ℕ → List Cell → List Cell → List (ℕ × Cell)
-changes_from w [] was = []
-changes_from w (c ∷ cells) [] = []
-changes_from w (c ∷ cells) (d ∷ was) = (if same_cell c d then [] else (w, c) ∷ []) ++ changes_from (w + 8) cells was
+-- and the changed cells at words that they can touch. The changed cells at words that pass a test:
+abbrev pub changes_at : (ℕ → Bool) → Memory → Memory → List (ℕ × Cell)
+changes_at passes now image = filter (λ change. passes change.0) (changes now image)
 
--- each mapped cell that is not the image's, or not integer 0, full, where the image has no such page
-abbrev pub changes : Memory → Memory → List (ℕ × Cell)
-changes now image = flat_map (λ page. changes_from (page.0 * 4096) page.1 (cells_or_zero (page_at image page.0))) now.pages
-
--- the text has the lines of the cells that pass
-pub data LinesOf (Passes : ℕ → Type 0) : List (ℕ × Cell) → List ℕ → Type 0 where
-  no_cell : LinesOf Passes [] []
-  line : {w : ℕ} {c : Cell} {cells : List (ℕ × Cell)} {text : List ℕ} → Passes w → LinesOf Passes cells text → LinesOf Passes ((w, c) ∷ cells) (cell_line w c ++ text)
-  no_line : {w : ℕ} {c : Cell} {cells : List (ℕ × Cell)} {text : List ℕ} → ¬ Passes w → LinesOf Passes cells text → LinesOf Passes ((w, c) ∷ cells) text
-
-abbrev pub CellLinesOf : Image → (ℕ → Bool) → State → List ℕ → Type 0
-CellLinesOf i c s text = LinesOf (Touchable i c) (changes s.memory i.memory) text
-
--- the groups see the same of two runs
+-- The groups see the same of two runs: their sections, their turns, and the changed cells at any words that they can touch.
 pub record SameView (i : Image) (s : List ℕ) (j : Image) (t : List ℕ) (c : ℕ → Bool) : Type 0 where
   pub sections : sections_of c (run (start i) s).core ≡ sections_of c (run (start j) t).core
   pub turns : trace_of c (start i) s ≡ trace_of c (start j) t
-  pub cells : (text : List ℕ) → CellLinesOf i c (run (start i) s) text ↔ CellLinesOf j c (run (start j) t) text
+  pub cells : (passes : ℕ → Bool) → ((w : ℕ) → passes w ≡ true → Touchable i c w)
+      → changes_at passes (run (start i) s).memory i.memory ≡ changes_at passes (run (start j) t).memory j.memory
 
 -- J is the groups' own image: their slots, and each page with a word that they can touch, where cells that they cannot touch are integer 0, full
 pub record Extracts (i : Image) (c : ℕ → Bool) (j : Image) : Type 0 where

@@ -1,18 +1,20 @@
 -- Where the cells of a page are, and their lines place by place.
-use Rattle.std.proofs.Common.{◌≡◌, ℕ, zero, suc, ◌+◌, ◌*◌, ◌%◌, ◌<◌, ◌^◌, Bool, true, false, cond, is_eq, List, [], ◌∷◌, ◌++◌, length, map, Option, Some, None, slice_get, slice_index_or, refl, sym, ap, ◌∙◌, arith}
+use Rattle.std.proofs.Common.{◌≡◌, ℕ, zero, suc, ◌+◌, ◌*◌, ◌%◌, ◌<◌, ◌^◌, Bool, true, false, cond, if◌then◌else◌, is_eq, List, [], ◌∷◌, ◌++◌, length, map, Option, Some, None, slice_get, slice_index_or, refl, sym, ap, ◌∙◌, arith}
 use Rattle.std.specs.List.{flat_map, range_with_len, AllByRecursion}
 use Rattle.std.specs.Prelude.{IsTrue}
 use Rattle.std.specs.Ordering.{nat_cmp}
 use Rattle.std.specs.FinMap.{is_sorted, find}
+use Rattle.std.proofs.lemmas.Grind.{flat_map-append}
 use Rattle.std.proofs.lemmas.List.{get_or-replicate, length-replicate}
 use Rattle.mm_word.specs.declared.word.Cell.{Cell}
 use Rattle.mm_model.specs.Memory.{Memory, page_of, place_of, page_at, is_mapped, cell_in, cell_at, zero_cell, zero_page, IsPage, IsPaged}
-use Rattle.mm_model.specs.Report.{changed_cells, cells_or_zero}
+use Rattle.mm_model.specs.Lines.{cell_line}
+use Rattle.mm_model.specs.Report.{same_cell, changes_from, cells_or_zero}
 use Rattle.mm_model.proofs.Memories.{page_whole, cell_at-aligned}
 use Rattle.mm_mem.specs.Places.{IsAt}
 use Rattle.mm_mem.proofs.Places.{held, found_at}
 use Rattle.mm_mem.proofs.Flats.{mapped_here, page_here}
-use Rattle.mm_report.specs.Changes.{change_line, line_at, contents, cells_of, changes_of}
+use Rattle.mm_report.specs.Changes.{change_line, line_at, contents, cells_of, lines_of, changes_of}
 
 pub page_there : (m : Memory) (p : ℕ) → is_mapped m p ≡ true → page_at m p ≡ Some (cells_of m p)
 page_there m p mapped = go (page_at m p) refl mapped
@@ -41,21 +43,25 @@ word_there m p i paged mapped h =
     ∙ ap (λ (o : Option (List Cell)). cell_in o i) (page_there m p mapped)
     ∙ got (cells_of m p) i zero_cell (let size : length (cells_of m p) ≡ 512 = whole_page m p paged mapped in omega arith)
 
+first_line : (same : Bool) (w : ℕ) (c : Cell) (rest : List (ℕ × Cell)) → lines_of ((if same then [] else (w, c) ∷ []) ++ rest) ≡ (if same then [] else cell_line w c) ++ lines_of rest
+first_line true w c rest = refl
+first_line false w c rest = refl
+
 -- the lines of changed cells, place by place from the k-th on
 lines_from : (f : ℕ → List ℕ) (k w : ℕ) (cells was : List Cell) → length cells ≡ length was
     → ((j : ℕ) → j < length cells → f (k + j) ≡ change_line (w + 8 * j) (slice_index_or cells j zero_cell) (slice_index_or was j zero_cell))
-    → changed_cells w cells was ≡ flat_map f (range_with_len k (length cells))
+    → lines_of (changes_from w cells was) ≡ flat_map f (range_with_len k (length cells))
 lines_from f k w [] was e h = refl
 lines_from f k w (c ∷ cells) [] e h = absurd (omega arith)
 lines_from f k w (c ∷ cells) (d ∷ was) e h =
     let head : f k ≡ change_line w c d = ap f (let z : k ≡ k + 0 = omega arith in z) ∙ h 0 (omega arith) ∙ ap (λ (v : ℕ). change_line v c d) (let z : w + 8 * 0 ≡ w = omega arith in z) in
-    let tail : changed_cells (w + 8) cells was ≡ flat_map f (range_with_len (k + 1) (length cells)) =
+    let tail : lines_of (changes_from (w + 8) cells was) ≡ flat_map f (range_with_len (k + 1) (length cells)) =
     lines_from f (k + 1) (w + 8) cells was (omega arith) (λ j lt.
     ap f (let z : k + 1 + j ≡ k + suc j = omega arith in z) ∙ h (suc j) (omega arith)
     ∙ ap (λ (v : ℕ). change_line v (slice_index_or cells j zero_cell) (slice_index_or was j zero_cell)) (let z : w + 8 * suc j ≡ w + 8 + 8 * j = omega arith in z)) in
-    ap (λ (text : List ℕ). text ++ changed_cells (w + 8) cells was) (sym head) ∙ ap (λ (text : List ℕ). f k ++ text) tail
+    first_line (same_cell c d) w c (changes_from (w + 8) cells was) ∙ ap (λ (text : List ℕ). text ++ lines_of (changes_from (w + 8) cells was)) (sym head) ∙ ap (λ (text : List ℕ). f k ++ text) tail
 
-pub lines_by_place : (w n : ℕ) (cells was : List Cell) → length cells ≡ n → length was ≡ n → changed_cells w cells was ≡ flat_map (line_at w cells was) (range_with_len 0 n)
+pub lines_by_place : (w n : ℕ) (cells was : List Cell) → length cells ≡ n → length was ≡ n → lines_of (changes_from w cells was) ≡ flat_map (line_at w cells was) (range_with_len 0 n)
 lines_by_place w n cells was e d =
     lines_from (line_at w cells was) 0 w cells was (e ∙ sym d) (λ j lt. ap (line_at w cells was) (let z : 0 + j ≡ j = omega arith in z))
     ∙ ap (λ (k : ℕ). flat_map (line_at w cells was) (range_with_len 0 k)) e
@@ -109,11 +115,21 @@ place_number m i n paged e =
 pub place_mapped : (m : Memory) (i n : ℕ) → IsPaged m → slice_get (map (λ e. e.0) m.pages) i ≡ Some n → is_mapped m n ≡ true
 place_mapped m i n paged e = mapped_here m n i paged (at_place m.pages i n e)
 
-pub changes_here : (m was : Memory) (i n : ℕ) (d : ℕ × List Cell) → IsPaged m → slice_get (map (λ e. e.0) m.pages) i ≡ Some n
-    → changes_of m was n ≡ changed_cells ((slice_index_or m.pages i d).0 * 4096) (slice_index_or m.pages i d).1 (cells_or_zero (page_at was (slice_index_or m.pages i d).0))
+-- what changed of a page
+abbrev pub page_changes : Memory → ℕ × List Cell → List (ℕ × Cell)
+page_changes was page = changes_from (page.0 * 4096) page.1 (cells_or_zero (page_at was page.0))
+
+pub changes_here : (m was : Memory) (i n : ℕ) (d : ℕ × List Cell) → IsPaged m → slice_get (map (λ e. e.0) m.pages) i ≡ Some n → changes_of m was n ≡ lines_of (page_changes was (slice_index_or m.pages i d))
 changes_here m was i n d paged e =
     let here = at_place m.pages i n e in
     let page : ℕ × List Cell = slice_index_or m.pages i d in
     let number : n ≡ page.0 = sym (here.has_number d) in
     let cells : cells_of m n ≡ page.1 = ap cells_or_zero (page_here m n i page paged here (any_default m.pages i d page here.in_range)) in
-    ap (λ (xs : List Cell). changed_cells (n * 4096) xs (cells_of was n)) cells ∙ ap (λ (k : ℕ). changed_cells (k * 4096) page.1 (cells_or_zero (page_at was k))) number
+    ap (λ (xs : List Cell). lines_of (changes_from (n * 4096) xs (cells_of was n))) cells ∙ ap (λ (k : ℕ). lines_of (page_changes was (k, page.1))) number
+
+-- the lines of what changed of each page are those of all that changed
+pub lines_of_pages : (was : Memory) (pages : List (ℕ × List Cell)) → flat_map (λ page. lines_of (page_changes was page)) pages ≡ lines_of (flat_map (page_changes was) pages)
+lines_of_pages was [] = refl
+lines_of_pages was (page ∷ pages) =
+    ap (λ (text : List ℕ). lines_of (page_changes was page) ++ text) (lines_of_pages was pages)
+    ∙ sym (flat_map-append (λ (cell : ℕ × Cell). cell_line cell.0 cell.1) (page_changes was page) (flat_map (page_changes was) pages))

@@ -1,9 +1,10 @@
 -- The lines of what changed in memory, place by place.
 use Rattle.std.specs.Prelude.{ℕ, ◌+◌, ◌*◌, if◌then◌else◌, List, [], slice_index_or}
+use Rattle.std.specs.List.{flat_map}
 use Rattle.mm_word.specs.declared.word.Cell.{Cell}
 use Rattle.mm_model.specs.Memory.{Memory, zero_cell, page_at}
 use Rattle.mm_model.specs.Lines.{cell_line}
-use Rattle.mm_model.specs.Report.{same_cell, changed_cells, cells_or_zero}
+use Rattle.mm_model.specs.Report.{same_cell, changes_from, cells_or_zero}
 
 -- the line of a cell that is not as it was
 abbrev pub change_line : ℕ → Cell → Cell → List ℕ
@@ -21,6 +22,10 @@ contents pages = record { pages = pages; frames = 0 }
 abbrev pub cells_of : Memory → ℕ → List Cell
 cells_of m p = cells_or_zero (page_at m p)
 
+-- the lines of cells, each with its word
+abbrev pub lines_of : List (ℕ × Cell) → List ℕ
+lines_of cells = flat_map (λ cell. cell_line cell.0 cell.1) cells
+
 -- the lines of a mapped page's cells that are not as they were
 abbrev pub changes_of : Memory → Memory → ℕ → List ℕ
-changes_of now was p = changed_cells (p * 4096) (cells_of now p) (cells_of was p)
+changes_of now was p = lines_of (changes_from (p * 4096) (cells_of now p) (cells_of was p))

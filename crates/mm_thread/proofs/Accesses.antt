@@ -16,12 +16,12 @@ use Rattle.mm_model.specs.Memory.{Memory, passes, can_map, is_mapped}
 use Rattle.mm_model.specs.Slot.{Slot, register, is_empty}
 use Rattle.mm_model.specs.Operands.{lacks}
 use Rattle.mm_model.specs.State.{Core, slot_at}
-use Rattle.mm_model.specs.Uses.{Use, accesses, TakesUses, takes_none}
+use Rattle.mm_model.specs.Uses.{Use, use_at, accesses, TakesUses, takes_none}
 use Rattle.mm_model.specs.Ask.{Ask, ask, is_privileged, page_asked}
 use Rattle.mm_model.specs.Ask.Ask.{Refuse}
 use Rattle.mm_model.specs.Effect.{Change, Effect, effect, plain, loads, loaded, stored, maps, unmaps, set_by, test}
 use Rattle.mm_model.specs.Effect.Reply.{Refused, Paged}
-use Rattle.mm_model.specs.Turn.{reply, reached, access_use, removal_use, touch_of, asked_use, slot_after, core_after, memory_after}
+use Rattle.mm_model.specs.Turn.{reply, reached, removal_use, touch_of, asked_use, slot_after, core_after, memory_after}
 use Rattle.mm_mem.specs.Answers.{loaded as loaded_answer, stored as stored_answer, set_where, put_where}
 use Rattle.mm_thread.specs.declared.outcome.Outcome.{Outcome}
 use Rattle.mm_thread.specs.declared.outcome.Outcome.TheVariants.{Goes}
@@ -158,7 +158,7 @@ leaves_all core m s e k n o k' n' o' h same_core same_memory same_outcome = reco
 }
 
 -- an access is one use
-pub one_access : (a : Touch) (pre : Pre) (o : Option Cell) → accesses (access_use a pre o ∷ []) ≡ 1
+pub one_access : (a : Touch) (pre : Pre) (o : Option Cell) → accesses (use_at a.kind a.addr pre o ∷ []) ≡ 1
 one_access a pre None = omega arith
 one_access a pre (Some c) = omega arith
 

@@ -15,13 +15,13 @@ use Rattle.mm_model.specs.declared.slot.Pending.{Pending}
 use Rattle.mm_model.specs.Memory.{Memory, cell_at, is_mapped}
 use Rattle.mm_model.specs.Slot.{Slot}
 use Rattle.mm_model.specs.State.{Core, slot_at}
-use Rattle.mm_model.specs.Uses.{Use, Accessed, accesses}
+use Rattle.mm_model.specs.Uses.{Use, Accessed, use_at, accesses}
 use Rattle.mm_model.specs.Operands.{lacks}
 use Rattle.mm_model.specs.Ask.{Ask, ask}
 use Rattle.mm_model.specs.Ask.Ask.{Reach, UnmapPage}
 use Rattle.mm_model.specs.Effect.{Effect, delivered}
 use Rattle.mm_model.specs.Effect.Effect.{Fault, Block, Deliver, Does}
-use Rattle.mm_model.specs.Turn.{Turned, access_use, removal_use, asked_use, touch_of, faulted, blocked, ended, executed, issued, decoded, instr_in, fetched, aimed, started, idle, arrives, port_of, taken_by, taken_by_port, is_running, turn}
+use Rattle.mm_model.specs.Turn.{Turned, removal_use, asked_use, touch_of, faulted, blocked, ended, executed, issued, decoded, instr_in, fetched, aimed, started, idle, arrives, port_of, taken_by, taken_by_port, is_running, turn}
 use Rattle.mm_thread.specs.Told.{accesses_in, access_told, accesses_told}
 
 pub record IsTold (t : Turned) : Type 0 where
@@ -46,11 +46,11 @@ told_ended core m s i f touched us told few Block = told_blocked core m s f touc
 told_ended core m s i f touched us told few (Deliver other) = told_blocked _ m s f touched us told few
 told_ended core m s i f touched us told few (Does c) = record { told = told; few = few }
 
-access_is : (a : Touch) (pre : Pre) (o : Option Cell) → accesses_in (access_use a pre o ∷ []) ≡ (a.kind, a.addr) ∷ []
+access_is : (a : Touch) (pre : Pre) (o : Option Cell) → accesses_in (use_at a.kind a.addr pre o ∷ []) ≡ (a.kind, a.addr) ∷ []
 access_is a pre None = refl
 access_is a pre (Some c) = refl
 
-access_one : (a : Touch) (pre : Pre) (o : Option Cell) → accesses (access_use a pre o ∷ []) ≤ 1
+access_one : (a : Touch) (pre : Pre) (o : Option Cell) → accesses (use_at a.kind a.addr pre o ∷ []) ≤ 1
 access_one a pre None = omega arith
 access_one a pre (Some c) = omega arith
 

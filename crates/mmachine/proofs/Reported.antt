@@ -15,10 +15,11 @@ use Rattle.mm_machine.specs.declared.machine.Machine.{Machine}
 use Rattle.mm_machine.specs.Machine.{state_of, StandsTo, StandsFor}
 use Rattle.mm_sched.specs.declared.schedule.Order.{Order}
 use Rattle.mm_sched.specs.declared.schedule.Order.TheVariants as order
+use Rattle.mm_sched.specs.Orders.{items_of}
 use Rattle.mmachine.specs.declared.status.Refusal.{Refusal}
 use Rattle.mmachine.specs.declared.status.Stop.{Stop}
 use Rattle.mmachine.specs.declared.status.Stop.TheVariants as stop
-use Rattle.mmachine.specs.Orders.{Issues, items_of, values_of}
+use Rattle.mmachine.specs.Orders.{Issues, values_of}
 use Rattle.mmachine.specs.Commands.{report_after}
 use Rattle.mmachine.specs.Answers.{Ends, end_of, writing}
 

@@ -3,7 +3,7 @@ ghost use Rattle.std.specs.Prelude.{◌≡◌, ◌+◌, ◌≤◌, ◌^◌, ◌+
 ghost use Rattle.mm_model.specs.Image.{Image};
 ghost use Rattle.mm_model.specs.Run.{robin_from};
 ghost use Rattle.mm_machine.specs.Machine.{state_of, StandsFor};
-ghost use Rattle.mmachine.specs.Orders.{items_of};
+ghost use Rattle.mm_sched.specs.Orders.{items_of};
 
 use mm_machine::Machine;
 use mm_mem::Memory;

@@ -1,9 +1,9 @@
 // `run`: the report of an image after so many cycles.
 ghost use Rattle.std.specs.Prelude.{◌≡◌, ◌≤◌};
 ghost use Rattle.mm_model.specs.Image.{start};
+ghost use Rattle.mm_sched.specs.Orders.{items_of};
 ghost use Rattle.mmachine.specs.Files.{reading};
 ghost use Rattle.mmachine.specs.Table.{row_of};
-ghost use Rattle.mmachine.specs.Orders.{items_of};
 ghost use Rattle.mmachine.specs.Commands.{report_after};
 ghost use Rattle.mmachine.specs.Answers.{RowAnswers, EndsWith, call, writing};
 

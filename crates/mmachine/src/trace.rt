@@ -4,9 +4,9 @@ ghost use Rattle.mm_io.specs.Sinks.{Writes};
 ghost use Rattle.mm_model.specs.Image.{Image as ImageValue, start};
 ghost use Rattle.mm_model.specs.Trace.{trace as trace_of};
 ghost use Rattle.mm_machine.specs.Machine.{state_of, StandsFor};
+ghost use Rattle.mm_sched.specs.Orders.{items_of};
 ghost use Rattle.mmachine.specs.Files.{reading};
 ghost use Rattle.mmachine.specs.Table.{row_of};
-ghost use Rattle.mmachine.specs.Orders.{items_of};
 ghost use Rattle.mmachine.specs.Commands.{report_after};
 ghost use Rattle.mmachine.specs.Answers.{RowAnswers, EndsWith, call, writing};
 

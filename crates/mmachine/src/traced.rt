@@ -6,7 +6,7 @@ ghost use Rattle.mm_model.specs.Run.{after, robin_from, turn_of};
 ghost use Rattle.mm_model.specs.State.{slot_at};
 ghost use Rattle.mm_model.specs.Trace.{trace, trace_line, turns_of as turns_of_slot};
 ghost use Rattle.mm_machine.specs.Machine.{state_of, StandsFor};
-ghost use Rattle.mmachine.specs.Orders.{items_of};
+ghost use Rattle.mm_sched.specs.Orders.{items_of};
 
 use mm_io::Sink;
 use mm_machine::Machine;

@@ -2,7 +2,7 @@ use Rattle.std.proofs.Common.{[], refl, subst, arith}
 use Rattle.mm_model.specs.Image.{start}
 use Rattle.mm_model.specs.State.{State}
 use Rattle.mm_machine.specs.Machine.{StandsFor}
-use Rattle.mmachine.specs.Orders.{items_of}
+use Rattle.mm_sched.specs.Orders.{items_of}
 use Rattle.mmachine.proofs.Reported.{start_cycles, start_state, reported, ends_written}
 use Rattle.mmachine.proofs.run.write_run.Goals as goal
 

@@ -4,8 +4,8 @@ use Rattle.mm_model.specs.Image.{start}
 use Rattle.mm_model.specs.State.{State}
 use Rattle.mm_model.specs.Trace as lines
 use Rattle.mm_machine.specs.Machine.{StandsFor}
+use Rattle.mm_sched.specs.Orders.{items_of}
 use Rattle.mmachine.specs.Commands.{report_after}
-use Rattle.mmachine.specs.Orders.{items_of}
 use Rattle.mmachine.proofs.Reported.{start_cycles, start_state, reported, ends_written, ends_cut}
 use Rattle.mmachine.proofs.trace.write_trace.Goals as goal
 
