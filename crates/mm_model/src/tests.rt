@@ -1,6 +1,6 @@
-use crate::{Pending, Slot, SlotState};
+use crate::{CELLS, Page, Pending, Slot, SlotState};
 use arrayvec::ArrayVec;
-use mm_word::{Word, setptr};
+use mm_word::{Cell, Word, setptr};
 use std::test::Fail;
 
 #[test]
@@ -29,5 +29,18 @@ fn registers_that_wait(rt: HostRuntime) -> Result<(), Fail> {
         word: Word::Int(0),
     };
     assert_eq!(rt; Pending::default(), unused);
+    let copies = Slot::copies(rt.alloc(), &[slot])?;
+    assert_eq!(rt; copies[0].number, 3);
+    assert_eq!(rt; copies[0].register(2), Word::Int(7));
+    assert!(rt; copies[0].is_empty(15));
+    let cell = Cell {
+        word: Word::Int(9),
+        full: true,
+    };
+    let cells = Vec::from_elem(rt.alloc(), cell, CELLS)?;
+    let page = Page::new(5, cells).ok_or("a page")?;
+    let copies = Page::copies(rt.alloc(), &[page])?;
+    assert_eq!(rt; copies[0].number(), 5);
+    assert_eq!(rt; copies[0].cells()[511], cell);
     Ok(())
 }
