@@ -5,9 +5,8 @@ ghost use Rattle.std.specs.List.{AllByRecursion};
 ghost use Rattle.std.specs.List.Sorted.{IsStrictlyIncreasing};
 ghost use Rattle.std.specs.Ordering.{nat_cmp};
 ghost use Rattle.std.specs.FinMap.{is_sorted};
-ghost use Rattle.mm_model.specs.Memory.{IsPage};
 ghost use Rattle.mm_model.specs.Slot.{Slot};
-ghost use Rattle.mm_model.specs.Spelling.{Begins, IsFresh, IsImage, HoldsWords, numbers_of};
+ghost use Rattle.mm_model.specs.Spelling.{Begins, IsFresh, IsImage, numbers_of};
 ghost use Rattle.mm_image.specs.Images.{image_from, SlotsFit, MemoryFits};
 ghost use Rattle.mm_image.specs.Reading.{HasNotRun, HoldsNumbers};
 
@@ -41,6 +40,7 @@ fn slots_fit(version: u16, slots: &[Slot]) -> bool
 fn memory_fits(version: u16, pages: &[Page], frames: u32) -> bool
     ensures { IsTrue result ↔ MemoryFits version pages.now frames }
 {
+    Page::typed(pages);
     frames != 0
         && frames <= u32::from(frame_limit(version))
         && pages.len() <= frames as usize
@@ -104,11 +104,7 @@ fn has_not_run(slot: &Slot) -> bool
 
 // Whether the numbers of the pages ascend.
 fn pages_ascend(pages: &[Page]) -> bool
-    ensures ascend { IsTrue result ↔ IsTrue (is_sorted nat_cmp pages.now) }
-
-    // What the type of each page says.
-    ensures whole { IsTrue result → AllByRecursion IsPage pages.now }
-    ensures words { IsTrue result → AllByRecursion HoldsWords pages.now }
+    ensures { IsTrue result ↔ IsTrue (is_sorted nat_cmp pages.now) }
 {
     let mut least = 0;
     for page in pages {

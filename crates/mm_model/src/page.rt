@@ -27,7 +27,9 @@ impl Model for Page {
 }
 
 impl Page {
+    ghost use Rattle.std.specs.List.{AllByRecursion};
     ghost use Rattle.mm_model.specs.Memory.{IsPage};
+    ghost use Rattle.mm_model.specs.Spelling.{HoldsWords};
     ghost use Rattle.mm_model.specs.Typed.{IsTypedPage};
 
     /// The page of these cells: none exactly where the number is 2^42 or more or there are not 512 cells.
@@ -56,9 +58,18 @@ impl Page {
     pub fn cells(&self) -> &[Cell]
         ensures cells { result.now ≡ self.now.1 }
         ensures whole { length result.now ≡ 512 }
-        ensures page { IsTypedPage self.now }
     {
         self.cells.as_slice()
+    }
+
+    /// What the type of each page keeps. Nothing is done.
+    pub fn typed(pages: &[Page])
+        ensures whole { AllByRecursion IsPage pages.now }
+        ensures words { AllByRecursion HoldsWords pages.now }
+    {
+        for page in pages {
+            page.number();
+        }
     }
 
     /// A page that is the same.

@@ -87,7 +87,9 @@ impl Model for Slot {
 
 impl Slot {
     ghost use Rattle.std.specs.Prelude.{◌≡◌, ◌<◌, IfOk, slice_set};
+    ghost use Rattle.std.specs.List.{AllByRecursion};
     ghost use Rattle.mm_model.specs.Slot.{register, is_empty};
+    ghost use Rattle.mm_model.specs.Typed.{IsTypedSlot};
 
     /// The word of a register.
     #[tactic(auto, unfolding(crate::specs::Slot::register))]
@@ -113,6 +115,15 @@ impl Slot {
         ensures { self.new ≡ record self.old { regs = slice_set self.old.regs number word } }
     {
         self.regs[usize::from(number)] = word;
+    }
+
+    /// What the type of each slot keeps. Nothing is done.
+    pub fn typed(slots: &[Slot])
+        ensures { AllByRecursion IsTypedSlot slots.now }
+    {
+        for slot in slots {
+            let _number = slot.number;
+        }
     }
 
     /// A slot that is the same.
