@@ -5,18 +5,14 @@ ghost use Rattle.std.specs.List.{AllByRecursion};
 ghost use Rattle.std.specs.List.Sorted.{IsStrictlyIncreasing};
 ghost use Rattle.std.specs.Ordering.{nat_cmp};
 ghost use Rattle.std.specs.FinMap.{is_sorted};
-ghost use Rattle.mm_word.specs.declared.word.Cell.{Cell};
-ghost use Rattle.mm_word.specs.Word.{IsWord};
-ghost use Rattle.mm_model.specs.Memory.{IsPage};
 ghost use Rattle.mm_model.specs.Slot.{Slot};
-ghost use Rattle.mm_model.specs.Spelling.{Begins, IsFresh, IsImage, HoldsWords, numbers_of};
+ghost use Rattle.mm_model.specs.Spelling.{Begins, IsFresh, IsImage, numbers_of};
 ghost use Rattle.mm_image.specs.Images.{image_from, SlotsFit, MemoryFits};
 ghost use Rattle.mm_image.specs.Reading.{HasNotRun, HoldsNumbers};
 
 use crate::header::{frame_limit, slot_limit};
 use crate::slots::{is_bad_handler, numbers};
 use mm_model::{Page, Slot, SlotState};
-use mm_word::{Cell, Word};
 
 /// Whether parts make an image.
 pub(crate) fn is_image(
@@ -44,8 +40,7 @@ fn slots_fit(version: u16, slots: &[Slot]) -> bool
 fn memory_fits(version: u16, pages: &[Page], frames: u32) -> bool
     ensures { IsTrue result ↔ MemoryFits version pages.now frames }
 {
-    // What the types of its pages and words say.
-    are_pages(pages);
+    Page::typed(pages);
     frames != 0
         && frames <= u32::from(frame_limit(version))
         && pages.len() <= frames as usize
@@ -89,9 +84,6 @@ fn are_fresh(limit: u8, slots: &[Slot]) -> bool
 fn is_fresh(limit: u8, present: &[bool; 256], slot: &Slot) -> bool
     ensures { (slots : List Slot) → HoldsNumbers present.now slots → IsTrue result ↔ IsFresh limit slots slot.now }
 {
-    // What the types of its words say.
-    are_words(&slot.regs);
-    slot.ip.perm();
     if slot.number >= limit || slot.group >= limit || is_bad_handler(present, slot) {
         return false;
     }
@@ -110,16 +102,6 @@ fn has_not_run(slot: &Slot) -> bool
     !slot.past && slot.turns == 0 && slot.empty == 0 && slot.pending.is_empty()
 }
 
-// Each word is one that 64 bits and a tag can hold.
-fn are_words(words: &[Word; 16])
-    ensures words { AllByRecursion IsWord words.now }
-    ensures count { length words.now ≡ 16 }
-{
-    for word in words {
-        word.bits();
-    }
-}
-
 // Whether the numbers of the pages ascend.
 fn pages_ascend(pages: &[Page]) -> bool
     ensures { IsTrue result ↔ IsTrue (is_sorted nat_cmp pages.now) }
@@ -132,23 +114,4 @@ fn pages_ascend(pages: &[Page]) -> bool
         least = page.number() + 1;
     }
     true
-}
-
-// Each page is whole, and each of its cells holds a word.
-fn are_pages(pages: &[Page])
-    ensures whole { AllByRecursion IsPage pages.now }
-    ensures words { AllByRecursion HoldsWords pages.now }
-{
-    for page in pages {
-        page.number();
-        hold_words(page.cells());
-    }
-}
-
-fn hold_words(cells: &[Cell])
-    ensures { AllByRecursion (λ (c : Cell). IsWord c.word) cells.now }
-{
-    for cell in cells {
-        cell.word.bits();
-    }
 }

@@ -1,8 +1,10 @@
 //! Words of an image file.
 
-ghost use Rattle.std.specs.Prelude.{◌≡◌, ◌==◌, ◌+◌, ◌/◌, ◌%◌, ◌^◌, ◌<◌, true, IfOk, None};
+ghost use Rattle.std.specs.Prelude.{◌≡◌, ◌==◌, ◌+◌, ◌/◌, ◌%◌, ◌^◌, ◌<◌, true, IfOk, None, length};
+ghost use Rattle.std.specs.List.{AllByRecursion};
 ghost use Rattle.mm_word.specs.Perm.{can_fetch};
-ghost use Rattle.mm_word.specs.Pointer.{pointer_of};
+ghost use Rattle.mm_word.specs.Pointer.{IsWellFormed, pointer_of};
+ghost use Rattle.mm_word.specs.Word.{IsWord};
 ghost use Rattle.mm_image.specs.Faults.{Gives};
 ghost use Rattle.mm_model.specs.ImageFields.{short, field, bit};
 ghost use Rattle.mm_model.specs.ImageReading.{word_at, word_fault, ip_fault, registers_at, registers_fault};
@@ -34,7 +36,8 @@ impl Reader<'_> {
     #[tactic(auto, unfolding(mm_model::specs::ImageReading::word_fault, mm_model::specs::ImageFields::bad))]
     pub fn word(&self, tagged: bool, at: usize) -> Result<Word, ImageError>
         requires { at < 2 ^ 40 }
-        ensures { Gives (λ w. w) (word_fault self.now.bytes.now tagged at) (word_at self.now.bytes.now tagged at) result }
+        ensures word { Gives (λ w. w) (word_fault self.now.bytes.now tagged at) (word_at self.now.bytes.now tagged at) result }
+        ensures holds { IfOk result IsWord }
     {
         let bits = self.u64_at(at)?;
         if !tagged {
@@ -52,6 +55,7 @@ impl Reader<'_> {
         requires { at < 2 ^ 40 }
         ensures ip { Gives (λ p. p) (ip_fault self.now.bytes.now at) (pointer_of (field self.now.bytes.now at 8)) result }
         ensures executable { IfOk result (λ p. can_fetch p.perm ≡ true) }
+        ensures well_formed { IfOk result IsWellFormed }
     {
         let bits = self.u64_at(at)?;
         match mm_word::setptr(bits) {
@@ -65,7 +69,9 @@ impl Reader<'_> {
     pub fn registers(&self, at: usize, tags: u16) -> Result<[Word; 16], ImageError>
         requires small { at < 2 ^ 39 }
         requires tags { tags ≡ field self.now.bytes.now (at + 12) 2 }
-        ensures { Gives (λ regs. regs) (registers_fault self.now.bytes.now at) (registers_at self.now.bytes.now at) result }
+        ensures regs { Gives (λ regs. regs) (registers_fault self.now.bytes.now at) (registers_at self.now.bytes.now at) result }
+        ensures count { IfOk result (λ regs. length regs ≡ 16) }
+        ensures words { IfOk result (λ regs. AllByRecursion IsWord regs) }
     {
         let mut regs = [Word::Int(0); 16];
         for r in 0..16 {

@@ -28,8 +28,9 @@ use Rattle.mm_thread.specs.declared.output.Output.{Output}
 use Rattle.mm_thread.specs.Parts.{events_for}
 use Rattle.mm_thread.proofs.Cores.{output_short}
 use Rattle.mm_thread.proofs.Sound.{queue-none}
+use Rattle.mm_model.specs.Typed.{IsTypedSlot}
 use Rattle.mm_machine.specs.Kept.{Kept}
-use Rattle.mm_machine.specs.Snapshot.{parts_of, numbered, has_group, has_output, page_numbers, queues_of, IsEventOf, IsAwaited, HasOneEvent, IsPending, DoesNotFall, IsSnapshot, IsOutputOf, IsTypedSlot, IsTypedEvent, IsTypedPage, IsTyped, queued, queued_at}
+use Rattle.mm_machine.specs.Snapshot.{parts_of, numbered, has_group, has_output, page_numbers, queues_of, IsEventOf, IsAwaited, HasOneEvent, IsPending, DoesNotFall, IsSnapshot, IsOutputOf, IsTypedEvent, IsTyped, queued, queued_at}
 use Rattle.mm_machine.specs.Taking.{OutputsBelow}
 use Rattle.mm_machine.proofs.Pendings.{loads_counted}
 use Rattle.mm_machine.proofs.Queues.{slot_numbered, tally, tallied, beside_one, of_none, awaited_by}
@@ -256,9 +257,10 @@ snapshot_taken s outputs out k =
 pub typed_taken : (s : State) (outputs : List Output) → Kept s → IsTyped (record { slots = slots_of s.core; events = queued s.core; outputs = outputs; pages = s.memory.pages; cycles = s.cycles })
 typed_taken s outputs k = record {
   slots = each_both (IsSlot s.core.version s.core.split) SlotHoldsWords IsTypedSlot
-      (λ x is words. record { executable = is.executable; registers = is.registers; flags = is.flags; words = words }) (slots_of s.core) k.fits.core.slots (slots_words s.core.rows k.fits.rows);
+      (λ x is words. record { executable = is.executable; well_formed = words.ip; registers = is.registers; words = words.registers; flags = is.flags; loads = words.pending }) (slots_of s.core) k.fits.core.slots (slots_words s.core.rows k.fits.rows);
   events = each_queued s.core IsTypedEvent (queues_words s.core k.fits.rows) (slots_of s.core);
-  pages = each_both IsPage HoldsWords IsTypedPage (λ page whole words. record { whole = whole; words = words }) s.memory.pages k.fits.paged.whole k.fits.cells;
+  whole = k.fits.paged.whole;
+  words = k.fits.cells;
 }
 
 -- 5. From the parts as they were copied.

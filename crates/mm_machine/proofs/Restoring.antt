@@ -25,8 +25,9 @@ use Rattle.mm_thread.specs.declared.output.Output.{Output}
 use Rattle.mm_thread.specs.Parts.{events_for, row_with, core_of, AreParts}
 use Rattle.mm_thread.proofs.Assigned.{queue-with, slots-with}
 use Rattle.mm_thread.proofs.Sound.{queue-none}
+use Rattle.mm_model.specs.Typed.{IsTypedSlot}
 use Rattle.mm_machine.specs.Kept.{Kept}
-use Rattle.mm_machine.specs.Snapshot.{Parts, numbered, has_group, page_numbers, IsEventOf, IsAwaited, IsPending, IsSnapshot, IsTypedSlot, IsTypedEvent, IsTypedPage, IsTyped, CanRestore, restored}
+use Rattle.mm_machine.specs.Snapshot.{Parts, numbered, has_group, page_numbers, IsEventOf, IsAwaited, IsPending, IsSnapshot, IsTypedEvent, IsTyped, CanRestore, restored}
 use Rattle.mm_machine.proofs.Pendings.{loads_counted}
 use Rattle.mm_machine.proofs.Queues.{slot_numbered, numbered_has, matched, waits_handled}
 use Rattle.mm_machine.proofs.Outputs.{outputs_count, outputs_within, nothing_within, output_untouched, outputs_given, group_has}
@@ -247,7 +248,7 @@ module _ (old : Core) (p : Parts) (was : IsHost old) (rules : IsSnapshot p) (typ
 
 rows_words : (events : List (ℕ × Event)) → AllByRecursion IsTypedEvent events → (slots : List Slot) → AllByRecursion IsTypedSlot slots → AllByRecursion RowHoldsWords (map (row_with events) slots)
 rows_words events good [] h = tt
-rows_words events good (s ∷ slots) h = (record { slot = h.0.words; events = each_for EventHoldsWords s.number events good }, rows_words events good slots h.1)
+rows_words events good (s ∷ slots) h = (record { slot = record { registers = h.0.words; ip = h.0.well_formed; pending = h.0.loads }; events = each_for EventHoldsWords s.number events good }, rows_words events good slots h.1)
 
 module _ (s : State) (p : Parts) (rules : IsSnapshot p) (typed : IsTyped p) (can : CanRestore s p) where
   restored_keeps : Kept s → Kept (restored s p)
@@ -261,9 +262,9 @@ module _ (s : State) (p : Parts) (rules : IsSnapshot p) (typed : IsTyped p) (can
           split = k.fits.split;
           frames = k.fits.frames;
           core = core_whole s.core p host rules typed can.slots can.mode can.outputs;
-          paged = record { rising = pages_sorted p.pages rules.pages; whole = each_map IsTypedPage IsPage (λ page h. h.whole) p.pages typed.pages; fitting = can.pages };
+          paged = record { rising = pages_sorted p.pages rules.pages; whole = typed.whole; fitting = can.pages };
           rows = rows_words p.events typed.events p.slots typed.slots;
-          cells = each_map IsTypedPage HoldsWords (λ page h. h.words) p.pages typed.pages;
+          cells = typed.words;
         };
         turns = subst (AllByRecursion (λ (x : Slot). x.turns ≤ p.cycles)) (sym (slots_are s.core p host rules typed can.slots)) rules.turns;
       }

@@ -4,7 +4,6 @@ use Rattle.std.specs.List.{AllByRecursion, list_any, find, count_by, flat_map}
 use Rattle.std.specs.List.Sorted.{IsStrictlyIncreasing}
 use Rattle.mm_word.specs.declared.word.Word.TheVariants.{Int}
 use Rattle.mm_word.specs.declared.word.Cell.{Cell}
-use Rattle.mm_word.specs.Perm.{can_fetch}
 use Rattle.mm_model.specs.declared.slot.SlotState.TheVariants.{Taken}
 use Rattle.mm_model.specs.declared.event.Event.{Event}
 use Rattle.mm_model.specs.Memory.{IsPage}
@@ -12,7 +11,8 @@ use Rattle.mm_model.specs.Slot.{Slot, register, is_empty}
 use Rattle.mm_model.specs.State.{Core, State, queue_at, output_of}
 use Rattle.mm_model.specs.Image.{output_limit}
 use Rattle.mm_model.specs.Spelling.{numbers_of, HoldsWords}
-use Rattle.mm_model.specs.Fits.{one_if, is_waiting, waits_for, identity_of, slots_of, IsCore, SlotHoldsWords, EventHoldsWords}
+use Rattle.mm_model.specs.Fits.{one_if, is_waiting, waits_for, identity_of, slots_of, IsCore, EventHoldsWords}
+use Rattle.mm_model.specs.Typed.{IsTypedSlot}
 use Rattle.mm_thread.specs.declared.output.Output.{Output}
 use Rattle.mm_thread.specs.Parts.{core_of}
 
@@ -94,23 +94,14 @@ pub record IsSnapshot (p : Parts) : Type 0 where
 
 -- What the types of slots, events and pages keep of each one.
 
-pub record IsTypedSlot (s : Slot) : Type 0 where
-  pub executable : can_fetch s.ip.perm ≡ true
-  pub registers : length s.regs ≡ 16
-  pub flags : length s.empty ≡ 16
-  pub words : SlotHoldsWords s
-
 abbrev pub IsTypedEvent : ℕ × Event → Type 0
 IsTypedEvent x = EventHoldsWords x.1
-
-pub record IsTypedPage (page : ℕ × List Cell) : Type 0 where
-  pub whole : IsPage page
-  pub words : HoldsWords page
 
 pub record IsTyped (p : Parts) : Type 0 where
   pub slots : AllByRecursion IsTypedSlot p.slots
   pub events : AllByRecursion IsTypedEvent p.events
-  pub pages : AllByRecursion IsTypedPage p.pages
+  pub whole : AllByRecursion IsPage p.pages
+  pub words : AllByRecursion HoldsWords p.pages
 
 -- Snapshots and states.
 

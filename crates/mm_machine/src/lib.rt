@@ -7,7 +7,6 @@ mod standing;
 mod taking;
 #[cfg(test)]
 mod tests;
-mod typed;
 
 pub use machine::Machine;
 pub use mm_thread::{Event, Output, Pending, Slot, SlotState, Step, Tick};

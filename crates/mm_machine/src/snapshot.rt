@@ -4,7 +4,6 @@ ghost use Rattle.std.specs.Prelude.{◌≡◌};
 ghost use Rattle.std.specs.Option.{SomeIff};
 
 use crate::standing::is_snapshot;
-use crate::typed::{events_are_typed, pages_are_typed, slots_are_typed};
 use mm_model::{Event, Page, Slot};
 use mm_thread::Output;
 use std::marker::Model;
@@ -51,9 +50,8 @@ impl Snapshot {
         if !is_snapshot(&slots, &events, &outputs, &pages, cycles) {
             return None;
         }
-        slots_are_typed(&slots);
-        events_are_typed(&events);
-        pages_are_typed(&pages);
+        Slot::typed(&slots);
+        Page::typed(&pages);
         Some(Snapshot::of(slots, events, outputs, pages, cycles))
     }
 

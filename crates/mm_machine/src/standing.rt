@@ -8,9 +8,9 @@ ghost use Rattle.mm_model.specs.declared.slot.SlotState.TheVariants.{Taken};
 ghost use Rattle.mm_model.specs.declared.slot.Pending.{Pending as PendingValue};
 ghost use Rattle.mm_model.specs.Slot.{Slot as SlotValue};
 ghost use Rattle.mm_model.specs.Spelling.{numbers_of};
-ghost use Rattle.mm_model.specs.Fits.{one_if, is_waiting, waits_for};
+ghost use Rattle.mm_model.specs.Fits.{one_if, is_waiting, waits_for, EventHoldsWords};
 ghost use Rattle.mm_thread.specs.declared.output.Output.{Output as OutputValue};
-ghost use Rattle.mm_machine.specs.Snapshot.{IsSnapshot, IsAwaited, IsEventOf, HasOneEvent, IsPending, RegisterStands, DoesNotFall, parts_of, numbered, queues_of, groups_of, page_numbers, has_group, has_output};
+ghost use Rattle.mm_machine.specs.Snapshot.{IsSnapshot, IsTypedEvent, IsAwaited, IsEventOf, HasOneEvent, IsPending, RegisterStands, DoesNotFall, parts_of, numbered, queues_of, groups_of, page_numbers, has_group, has_output};
 
 use mm_model::{Event, Page, Pending, Slot, SlotState};
 use mm_thread::Output;
@@ -27,7 +27,8 @@ pub(crate) fn is_snapshot(
     pages: &[Page],
     cycles: u64,
 ) -> bool
-    ensures { IsTrue result ↔ IsSnapshot (parts_of slots.now events.now outputs.now pages.now cycles) }
+    ensures rules { IsTrue result ↔ IsSnapshot (parts_of slots.now events.now outputs.now pages.now cycles) }
+    ensures words { IsTrue result → AllByRecursion IsTypedEvent events.now }
 {
     slots_ascend(slots)
         && groups_ascend(outputs)
@@ -124,21 +125,25 @@ fn has_output_of(outputs: &[Output], group: u8) -> bool
 
 // Whether each event is that of a slot that waits for the handler beside which it stands.
 fn are_awaited(events: &[(u8, Event)], slots: &[Slot]) -> bool
-    ensures { IsTrue result ↔ AllByRecursion (IsAwaited slots.now) events.now }
+    ensures awaited { IsTrue result ↔ AllByRecursion (IsAwaited slots.now) events.now }
+    ensures words { IsTrue result → AllByRecursion IsTypedEvent events.now }
 {
     for (queue, event) in events {
-        if !is_awaited(slots, *queue, event) {
+        if !is_awaited(slots, *queue, *event) {
             return false;
         }
     }
     true
 }
 
-fn is_awaited(slots: &[Slot], queue: u8, event: &Event) -> bool
-    ensures { IsTrue result ↔ IsAwaited slots.now (queue, event.now) }
+fn is_awaited(slots: &[Slot], queue: u8, event: Event) -> bool
+    ensures awaited { IsTrue result ↔ IsAwaited slots.now (queue, event) }
+
+    // What the type of an event says.
+    ensures words { EventHoldsWords event }
 {
     match slot_of(slots, event.slot) {
-        Some(slot) => is_event_of(queue, event, slot),
+        Some(slot) => is_event_of(queue, &event, slot),
         None => false,
     }
 }

@@ -8,7 +8,6 @@ ghost use Rattle.mm_machine.specs.Snapshot.{queued, queued_at};
 ghost use Rattle.mm_machine.specs.Taking.{OutputsBelow, cells_of};
 
 use crate::standing::is_group_of;
-use arrayvec::ArrayVec;
 use mm_mem::Inspect;
 use mm_model::{CELLS, Event, Page, Slot};
 use mm_thread::{Core, Output};
@@ -27,32 +26,9 @@ pub(crate) fn slots_of(alloc: Global, core: &Core) -> Result<Vec<Slot>, AllocErr
 {
     let mut slots = Vec::with_capacity(alloc, core.count())?;
     for i in 0..core.count() {
-        slots.push(copy_of(core.nth(i)))?;
+        slots.push(core.nth(i).copy())?;
     }
     Ok(slots)
-}
-
-fn copy_of(slot: &Slot) -> Slot
-    ensures { result ≡ slot.now }
-{
-    let mut regs = [Word::Int(0); 16];
-    regs.copy_from_slice(&slot.regs);
-    let mut pending = ArrayVec::new();
-    pending
-        .try_extend_from_slice(slot.pending.as_slice())
-        .unwrap();
-    Slot {
-        number: slot.number,
-        group: slot.group,
-        handler: slot.handler,
-        regs,
-        ip: slot.ip,
-        past: slot.past,
-        turns: slot.turns,
-        state: slot.state,
-        empty: slot.empty,
-        pending,
-    }
 }
 
 /// The events of the queues of a core, each beside the number of the slot in whose queue it is.

@@ -14,6 +14,7 @@ pub mod Lines
 pub mod Report
 pub mod Spelling
 pub mod Fits
+pub mod Typed
 pub mod Schedule
 pub mod Trace
 pub mod Reach

@@ -1,6 +1,7 @@
-ghost use Rattle.std.specs.Prelude.{◌≡◌, ◌<◌, ◌^◌, ◌↔◌, IsSome, IfSome, length};
+ghost use Rattle.std.specs.Prelude.{◌≡◌, ◌<◌, ◌^◌, ◌↔◌, IsSome, IfSome, IfOk, length};
 
 use mm_word::Cell;
+use std::alloc::{AllocError, Global};
 use std::marker::Model;
 
 /// The cells in a page, 4,096 bytes.
@@ -16,17 +17,20 @@ pub struct Page {
 impl Model for Page {
     ghost use Rattle.std.specs.Prelude.{ℕ, List};
     ghost use Rattle.mm_word.specs.declared.word.Cell.{Cell};
-    ghost use Rattle.mm_model.specs.Memory.{IsPage};
+    ghost use Rattle.mm_model.specs.Typed.{IsTypedPage};
 
     ghost Value = { ℕ × List Cell };
 
     ghost view = { λ p. (p.number, p.cells.items) };
 
-    ghost invariant = { λ p. IsPage (p.number, p.cells.items) };
+    ghost invariant = { λ p. IsTypedPage (p.number, p.cells.items) };
 }
 
 impl Page {
+    ghost use Rattle.std.specs.List.{AllByRecursion};
     ghost use Rattle.mm_model.specs.Memory.{IsPage};
+    ghost use Rattle.mm_model.specs.Spelling.{HoldsWords};
+    ghost use Rattle.mm_model.specs.Typed.{IsTypedPage};
 
     /// The page of these cells: none exactly where the number is 2^42 or more or there are not 512 cells.
     pub fn new(number: u64, cells: Vec<Cell>) -> Option<Page>
@@ -34,6 +38,7 @@ impl Page {
         ensures value { IfSome result (λ p. p ≡ (number, cells.items)) }
     {
         if number < (1 << 42) && cells.len() == CELLS {
+            hold_words(&cells);
             Some(Page { number, cells })
         } else {
             None
@@ -44,6 +49,7 @@ impl Page {
     pub fn number(&self) -> u64
         ensures number { result ≡ self.now.0 }
         ensures limit { result < 2 ^ 42 }
+        ensures page { IsTypedPage self.now }
     {
         self.number
     }
@@ -54,5 +60,49 @@ impl Page {
         ensures whole { length result.now ≡ 512 }
     {
         self.cells.as_slice()
+    }
+
+    /// What the type of each page keeps. Nothing is done.
+    pub fn typed(pages: &[Page])
+        ensures whole { AllByRecursion IsPage pages.now }
+        ensures words { AllByRecursion HoldsWords pages.now }
+    {
+        for page in pages {
+            page.number();
+        }
+    }
+
+    /// A page that is the same.
+    pub fn copy(&self, alloc: Global) -> Result<Page, AllocError>
+        ensures { IfOk result (λ copy. copy ≡ self.now) }
+    {
+        Ok(Page {
+            number: self.number,
+            cells: Vec::from_slice(alloc, &self.cells)?,
+        })
+    }
+
+    /// Pages that are the same.
+    pub fn copies(alloc: Global, pages: &[Page]) -> Result<Vec<Page>, AllocError>
+        ensures { IfOk result (λ copies. copies.items ≡ pages.now) }
+    {
+        let mut copies = Vec::with_capacity(alloc, pages.len())?;
+        for page in pages {
+            copies.push(page.copy(alloc)?)?;
+        }
+        Ok(copies)
+    }
+}
+
+ghost use Rattle.std.specs.List.{AllByRecursion};
+ghost use Rattle.mm_word.specs.declared.word.Cell.{Cell as CellValue};
+ghost use Rattle.mm_word.specs.Word.{IsWord};
+
+// What the type of each word says.
+fn hold_words(cells: &[Cell])
+    ensures { AllByRecursion (λ (c : CellValue). IsWord c.word) cells.now }
+{
+    for cell in cells {
+        cell.word.bits();
     }
 }

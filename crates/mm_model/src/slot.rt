@@ -1,5 +1,6 @@
 use arrayvec::ArrayVec;
 use mm_word::{Cause, GuardedPtr, Word};
+use std::alloc::{AllocError, Global};
 use std::marker::Model;
 
 /// Whether a slot takes turns.
@@ -62,10 +63,9 @@ pub struct Slot {
 }
 
 impl Model for Slot {
-    ghost use Rattle.std.specs.Prelude.{◌≡◌, true};
-    ghost use Rattle.mm_word.specs.Perm.{can_fetch};
     ghost use Rattle.mm_model.specs.Flags.{flags};
     ghost use Rattle.mm_model.specs.Slot.{Slot as SlotValue};
+    ghost use Rattle.mm_model.specs.Typed.{AreSlotParts};
 
     ghost Value = { SlotValue };
 
@@ -82,12 +82,14 @@ impl Model for Slot {
       pending = s.pending.items;
     } };
 
-    ghost invariant = { λ s. can_fetch s.ip.perm ≡ true };
+    ghost invariant = { λ s. AreSlotParts s.ip s.regs (flags 16 s.empty) s.pending.items };
 }
 
 impl Slot {
-    ghost use Rattle.std.specs.Prelude.{◌≡◌, ◌<◌};
+    ghost use Rattle.std.specs.Prelude.{◌≡◌, ◌<◌, IfOk, slice_set};
+    ghost use Rattle.std.specs.List.{AllByRecursion};
     ghost use Rattle.mm_model.specs.Slot.{register, is_empty};
+    ghost use Rattle.mm_model.specs.Typed.{IsTypedSlot};
 
     /// The word of a register.
     #[tactic(auto, unfolding(crate::specs::Slot::register))]
@@ -105,5 +107,57 @@ impl Slot {
         ensures { result ≡ is_empty self.now number }
     {
         self.empty >> number & 1 == 1
+    }
+
+    /// Writes a register.
+    pub fn set_register(&mut self, number: u8, word: Word)
+        requires { number < 16 }
+        ensures { self.new ≡ record self.old { regs = slice_set self.old.regs number word } }
+    {
+        self.regs[usize::from(number)] = word;
+    }
+
+    /// What the type of each slot keeps. Nothing is done.
+    pub fn typed(slots: &[Slot])
+        ensures { AllByRecursion IsTypedSlot slots.now }
+    {
+        for slot in slots {
+            let _number = slot.number;
+        }
+    }
+
+    /// A slot that is the same.
+    pub fn copy(&self) -> Slot
+        ensures { result ≡ self.now }
+    {
+        let mut regs = [Word::Int(0); 16];
+        regs.copy_from_slice(&self.regs);
+        let mut pending = ArrayVec::new();
+        pending
+            .try_extend_from_slice(self.pending.as_slice())
+            .unwrap();
+        Slot {
+            number: self.number,
+            group: self.group,
+            handler: self.handler,
+            regs,
+            ip: self.ip,
+            past: self.past,
+            turns: self.turns,
+            state: self.state,
+            empty: self.empty,
+            pending,
+        }
+    }
+
+    /// Slots that are the same.
+    pub fn copies(alloc: Global, slots: &[Slot]) -> Result<Vec<Slot>, AllocError>
+        ensures { IfOk result (λ copies. copies.items ≡ slots.now) }
+    {
+        let mut copies = Vec::with_capacity(alloc, slots.len())?;
+        for slot in slots {
+            copies.push(slot.copy())?;
+        }
+        Ok(copies)
     }
 }

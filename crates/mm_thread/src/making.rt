@@ -12,34 +12,9 @@ use crate::group_output::GroupOutput;
 use crate::queue::Queue;
 use crate::row::Row;
 use crate::tables::Tables;
-use arrayvec::ArrayVec;
 use mm_model::Slot;
-use mm_word::{NoMemory, Word};
+use mm_word::NoMemory;
 use std::alloc::Global;
-
-/// A slot that is the same.
-pub(crate) fn copy_of(slot: &Slot) -> Slot
-    ensures { result ≡ slot.now }
-{
-    let mut regs = [Word::Int(0); 16];
-    regs.copy_from_slice(&slot.regs);
-    let mut pending = ArrayVec::new();
-    pending
-        .try_extend_from_slice(slot.pending.as_slice())
-        .unwrap();
-    Slot {
-        number: slot.number,
-        group: slot.group,
-        handler: slot.handler,
-        regs,
-        ip: slot.ip,
-        past: slot.past,
-        turns: slot.turns,
-        state: slot.state,
-        empty: slot.empty,
-        pending,
-    }
-}
 
 /// The rows of slots without events.
 pub(crate) fn rows_of(alloc: Global, slots: &[Slot]) -> Result<Vec<Row>, NoMemory>
@@ -50,7 +25,7 @@ pub(crate) fn rows_of(alloc: Global, slots: &[Slot]) -> Result<Vec<Row>, NoMemor
     };
     for slot in slots {
         let row = Row {
-            slot: copy_of(slot),
+            slot: slot.copy(),
             queue: Queue::new(alloc)?,
         };
         let Ok(()) = rows.push(row) else {

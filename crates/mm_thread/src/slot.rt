@@ -26,7 +26,7 @@ pub(crate) fn word_of(slot: &Slot, r: Reg) -> Word
 pub(crate) fn set_register(slot: &mut Slot, rd: Reg, word: Word)
     ensures { slot.new ≡ record slot.old { regs = slice_set slot.old.regs rd word } }
 {
-    slot.regs[rd.number() as usize] = word;
+    slot.set_register(rd.number(), word);
 }
 
 /// The slot has taken a turn and stands so.
@@ -113,8 +113,8 @@ pub(crate) fn deliver(slot: &mut Slot) -> Option<u8>
         return None;
     }
     let arrived = slot.pending.remove(0);
-    slot.regs[arrived.reg as usize] = arrived.word;
     slot.empty &= !(1 << arrived.reg);
+    slot.set_register(arrived.reg, arrived.word);
     Some(arrived.reg)
 }
 
@@ -124,12 +124,12 @@ pub(crate) fn take_event(slot: &mut Slot, rd: EvtReg, event: &Event)
     requires { slot.old.turns < 2 ^ 62 }
     ensures { slot.new ≡ slot_after slot.old (record (plain slot.old) { writes = event_writes rd event.now }) }
 {
-    let first = rd.number() as usize;
+    let first = rd.number();
     let code = u64::from(event.cause.number()) + 256 * u64::from(event.slot);
-    slot.regs[first] = Word::Int(code);
-    slot.regs[first + 1] = Word::Ptr(event.ip);
-    slot.regs[first + 2] = event.addr_op;
-    slot.regs[first + 3] = event.value_op;
+    slot.set_register(first, Word::Int(code));
+    slot.set_register(first + 1, Word::Ptr(event.ip));
+    slot.set_register(first + 2, event.addr_op);
+    slot.set_register(first + 3, event.value_op);
     advance(slot);
 }
 

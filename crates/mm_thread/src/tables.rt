@@ -17,7 +17,6 @@ ghost use Rattle.mm_thread.specs.Places.{row_alone, slot_in, queue_in, with_row,
 use crate::alone::Entered;
 use crate::carry_out::carry_out;
 use crate::group_output::GroupOutput;
-use crate::making::copy_of;
 use crate::row::Row;
 use crate::runners::{noted, runners_of};
 use crate::slot::{advance, deliver, issue, resume, set_register, sets, stand, take_event};
@@ -314,7 +313,7 @@ impl Tables {
         ensures { self.new ≡ with_row self.old place (row_alone slot.now) }
     {
         let row = &mut self.rows[place];
-        row.slot = copy_of(slot);
+        row.slot = slot.copy();
         row.queue.clear();
         self.runners = noted(self.runners, &row.slot);
     }

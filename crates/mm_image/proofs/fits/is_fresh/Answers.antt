@@ -1,11 +1,7 @@
-use Rattle.std.proofs.Common.{◌≡◌, true, List, length, sym, ap, subst, ◌∙◌, arith}
-use Rattle.std.specs.List.{AllByRecursion}
-use Rattle.mm_word.specs.declared.word.Word.{Word}
-use Rattle.mm_word.specs.Perm.{can_fetch}
-use Rattle.mm_word.specs.Pointer.{Pointer, IsWellFormed}
-use Rattle.mm_word.specs.Word.{IsWord}
+use Rattle.std.proofs.Common.{sym, ap, subst, ◌∙◌, arith}
 use Rattle.mm_model.specs.Slot.{Slot}
 use Rattle.mm_model.specs.Spelling.{Begins}
+use Rattle.mm_model.specs.Typed.{IsTypedSlot}
 use Rattle.mm_model.proofs.ImageBytes.CleanRecords.{handler_is_other}
 use Rattle.mm_model.proofs.ImageBytes.SpelledSlots.{handler_good}
 use Rattle.mm_image.proofs.fits.is_fresh.Goals as goal
@@ -33,8 +29,7 @@ returns-then-begins c = λ slots holds.
     let number = ap (λ (s : Slot). s.number) c.slot.view_is in
     let group = ap (λ (s : Slot). s.group) c.slot.view_is in
     let state = ap (λ (s : Slot). s.state) c.slot.view_is in
-    let ip = ap (λ (s : Slot). s.ip) c.slot.view_is in
-    let regs = ap (λ (s : Slot). s.regs) c.slot.view_is in
+    let kept = subst IsTypedSlot c.slot.view_is c.slot.invariant in
     let good = sym (c.is_bad_handler.ensures slots holds) ∙ c.if-is_bad_handler.false in
     let starts = c.begins.ensures.0 c.if-begins.true in (
       λ t.
@@ -44,10 +39,10 @@ returns-then-begins c = λ slots holds.
             group = omega (arith, group, c.if-slot-limit-2.false);
             handler = handler_is_other slots s.number s.handler good;
             begins = subst Begins state starts;
-            executable = subst (λ (p : Pointer). can_fetch p.perm ≡ true) ip c.slot.invariant;
-            ip = subst IsWellFormed ip c.perm.ensures.well_formed;
-            registers = ap (λ (xs : List Word). length xs) (sym regs) ∙ c.are_words.ensures.count;
-            words = subst (λ (xs : List Word). AllByRecursion IsWord xs) regs c.are_words.ensures.words;
+            executable = kept.executable;
+            ip = kept.well_formed;
+            registers = kept.registers;
+            words = kept.words;
             past = rest.past;
             turns = rest.turns;
             empty = rest.empty;

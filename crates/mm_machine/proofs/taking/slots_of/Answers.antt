@@ -6,6 +6,6 @@ pub loop-i-preserved : goal.loop-i-preserved
 loop-i-preserved c =
     let more = take_got (slots_of c.args.core.now) c.loop-i.i c.nth.result.now c.nth.ensures in
     let pushed = c.in_ok-push.ensures.items in
-    let copied = c.copy_of.ensures in
+    let copied = c.copy.ensures in
     let before = c.loop-i.invariant in
     cc

@@ -14,4 +14,4 @@ returns-clause-place c =
     let wide : FitsSigned w64 c.from.result = search rules in
     let far : FitsSigned w64 (pos 8 *ℤ c.from.result) = omega (arith, ints) in
     let moved = rw (to_z-of_z w64 c.from.result wide, to_z-of_z w64 (pos 8 *ℤ c.from.result) far, same) at c.lea.ensures.value in
-    moved ∙ lea_result-code c.slot.inside.ip (pos 8 *ℤ c.args.imm) c.slot.invariant ∙ ap (λ (s : Slot). at_distance s c.args.imm) c.slot.view_is
+    moved ∙ lea_result-code c.slot.inside.ip (pos 8 *ℤ c.args.imm) c.slot.invariant.executable ∙ ap (λ (s : Slot). at_distance s c.args.imm) c.slot.view_is

@@ -14,7 +14,7 @@ returns-in_err-word-clause-cells c =
     let l = c.loop-place in
     let bytes = c.args.self.now.bytes.now in
     let e = c.in_err-word.field-0.0 in
-    let fault : Fails (cell_fault bytes c.args.at l.place) e = subst (λ (b : Bool). Fails (word_fault bytes b (c.args.at + 136 + 8 * l.place)) e) c.bit-tagged.ensures c.in_err-word.ensures in
+    let fault : Fails (cell_fault bytes c.args.at l.place) e = subst (λ (b : Bool). Fails (word_fault bytes b (c.args.at + 136 + 8 * l.place)) e) c.bit-tagged.ensures c.in_err-word.ensures.word in
     rw (p.1, p.2) (ends (cell_fault bytes c.args.at) 512 l.place (cells_fault bytes c.args.at) l.invariant.faults e c.loop-place-test.true fault)
 
 pub loop-place-preserved : goal.loop-place-preserved
@@ -22,8 +22,8 @@ loop-place-preserved c =
     let l = c.loop-place in
     let bytes = c.args.self.now.bytes.now in
     let at = c.args.at + 136 + 8 * l.place in
-    let none : cell_fault bytes c.args.at l.place ≡ None = subst (λ (b : Bool). word_fault bytes b at ≡ None) c.bit-tagged.ensures c.in_ok-word.ensures.0 in
-    let word : c.in_ok-word.word ≡ (page_cell_at bytes c.args.at l.place).word = c.in_ok-word.ensures.1 ∙ ap (λ (b : Bool). word_at bytes b at) c.bit-tagged.ensures in
+    let none : cell_fault bytes c.args.at l.place ≡ None = subst (λ (b : Bool). word_fault bytes b at ≡ None) c.bit-tagged.ensures c.in_ok-word.ensures.word.0 in
+    let word : c.in_ok-word.word ≡ (page_cell_at bytes c.args.at l.place).word = c.in_ok-word.ensures.word.1 ∙ ap (λ (b : Bool). word_at bytes b at) c.bit-tagged.ensures in
     let make : Word → Bool → Cell = λ w b. record { word = w; full = b } in
     let cell : make c.in_ok-word.word c.bit-full.result ≡ page_cell_at bytes c.args.at l.place = ap (λ (w : Word). make w c.bit-full.result) word ∙ ap (make (page_cell_at bytes c.args.at l.place).word) c.bit-full.ensures in
     record {

@@ -9,5 +9,5 @@ pub invariant_of-self : goal.invariant_of-self
 invariant_of-self c =
     let rows = c.self.inside.rows.items in
     let within : c.args.place < length rows = omega (arith, ap (λ (k : Core). length k.rows) c.self.view_is) in
-    let number = ap (λ (s : Slot). s.number) c.copy_of-row-inside.ensures ∙ c.requires.number ∙ ap (λ (k : Core). (slot_in k c.args.place).number) (sym c.self.view_is) in
+    let number = ap (λ (s : Slot). s.number) c.copy-row-inside.ensures ∙ c.requires.number ∙ ap (λ (k : Core). (slot_in k c.args.place).number) (sym c.self.view_is) in
     runners_set rows c.args.place within _ number _ _ c.self.invariant c.noted-self-inside.ensures

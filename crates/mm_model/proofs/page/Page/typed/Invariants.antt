@@ -2,8 +2,9 @@ use Rattle.std.proofs.Common.{take}
 use Rattle.std.specs.List.{AllByRecursion}
 use Rattle.mm_model.specs.Memory.{IsPage}
 use Rattle.mm_model.specs.Spelling.{HoldsWords}
-use Rattle.mm_image.proofs.fits.are_pages.Given as goal
+use Rattle.mm_model.proofs.page.Page.typed.Given as goal
 
+-- of the pages so far
 abbrev pub invariant-loop-page : goal.invariant-loop-page
 invariant-loop-page l = record {
   whole : AllByRecursion IsPage (take l.page-index l.pages);
