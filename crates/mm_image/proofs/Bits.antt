@@ -3,7 +3,7 @@ use Rattle.std.proofs.Common.{◌≡◌, ℕ, ◌+◌, ◌/◌, ◌%◌, ◌^◌
 use Rattle.std.specs.Prelude.{◌==◌}
 use Rattle.mm_model.specs.Places.{place_fault, bit_at}
 use Rattle.mm_model.specs.Places.Place.{Field}
-use Rattle.mm_model.proofs.ImageBytes.Chain.{whole}
+use Rattle.mm_model.proofs.Places.{whole}
 use Rattle.mm_model.proofs.ImageBytes.Numbers.{field_1}
 
 -- the byte of a bit is there

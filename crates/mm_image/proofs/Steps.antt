@@ -3,20 +3,17 @@ use Rattle.std.proofs.Common.{◌≡◌, ℕ, List, length, None, refl, sym, ap,
 use Rattle.std.specs.Option.{option_or}
 use Rattle.mm_word.specs.declared.word.Cell.{Cell}
 use Rattle.mm_model.specs.Slot.{Slot}
-use Rattle.mm_model.specs.Places.{first_bad}
+use Rattle.mm_model.specs.Places.{first_bad, end_places}
 use Rattle.mm_model.specs.ImageReading.{page_offset, slots_at, pages_at, image_of}
-use Rattle.mm_model.specs.ImageFaults.{slots_places, handlers_places, pages_places, end_places, image_fault}
-use Rattle.mm_model.proofs.ImageBytes.Chain.{Found, clean_both}
+use Rattle.mm_model.specs.ImageFaults.{slots_places, handlers_places, pages_places, image_fault}
+use Rattle.mm_model.proofs.Places.{Found, clean_both}
 use Rattle.mm_model.proofs.ImageBytes.Clean.{H, in_parts}
 use Rattle.mm_image.specs.declared.header.Header.{Header}
 use Rattle.mm_image.specs.declared.fault.ImageError.{ImageError}
 use Rattle.mm_image.specs.Faults.{Fails}
 use Rattle.mm_image.specs.Images.{image_from}
 use Rattle.mm_image.specs.Reading.{header_of}
-use Rattle.mm_image.proofs.Over.{fails}
-
-behind : (e : ImageError) (f g : Found) → f ≡ None → Fails g e → Fails (option_or f g) e
-behind e f g none h = subst (λ (x : Found). Fails (option_or x g) e) (sym none) h
+use Rattle.mm_image.proofs.Over.{fails, behind}
 
 module _ (bytes : List ℕ) where
   -- the parts, as the header and the slots that were read name them
@@ -30,7 +27,7 @@ module _ (bytes : List ℕ) where
   P h = first_bad (length bytes) (pages_places bytes h.slots h.pages)
 
   abbrev pub E : Header → Found
-  E h = first_bad (length bytes) (end_places bytes (page_offset h.slots h.pages))
+  E h = first_bad (length bytes) (end_places bytes 13 (page_offset h.slots h.pages))
 
   abbrev pub IsHeader : Header → Type 0
   IsHeader h = (H bytes ≡ None) × (h ≡ header_of bytes)

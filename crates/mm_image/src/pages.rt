@@ -2,10 +2,10 @@
 
 ghost use Rattle.std.specs.Prelude.{◌≡◌, ◌+◌, ◌*◌, ◌^◌, ◌<◌, true, IfOk, None, length, vec_len};
 ghost use Rattle.mm_image.specs.Faults.{Gives};
-ghost use Rattle.mm_model.specs.Places.{place_fault, first_bad, cells_at, cells_places, page_record_at, page_record_places};
+ghost use Rattle.mm_model.specs.Places.{place_fault, first_bad, cells_at, cells_places, page_record_at, page_record_places, end_places};
 ghost use Rattle.mm_model.specs.Places.Place.{Field};
 ghost use Rattle.mm_model.specs.ImageReading.{pages_at, page_offset};
-ghost use Rattle.mm_model.specs.ImageFaults.{pages_places, end_places};
+ghost use Rattle.mm_model.specs.ImageFaults.{pages_places};
 
 use crate::fault::{ImageError, ImageFault};
 use crate::fields::Reader;
@@ -84,7 +84,7 @@ impl Reader<'_> {
 
     /// Whether the file ends behind the last of so many slots and pages.
     pub fn nothing_follows(&self, slots: u16, pages: u16) -> Result<(), ImageError>
-        ensures { let bytes = self.now.bytes.now in Gives (λ _. true) (first_bad (length bytes) (end_places bytes (page_offset slots pages))) true result }
+        ensures { let bytes = self.now.bytes.now in Gives (λ _. true) (first_bad (length bytes) (end_places bytes 13 (page_offset slots pages))) true result }
     {
         let end = HEADER_BYTES + SLOT_BYTES * usize::from(slots) + PAGE_BYTES * usize::from(pages);
         self.refuse_if(self.bytes.len() > end, ImageFault::Trailing, end)

@@ -1,4 +1,3 @@
-pub mod Chain
 pub mod Numbers
 pub mod Parts
 pub mod Ranges

@@ -1,20 +1,27 @@
 -- The places of an image file, and its first fault.
 --
--- 1 short: the field is not whole, at the end of the file
--- 2 magic, 3 version
--- 4 count: of slots, or the mode
--- 5 slot order, 6 group, 7 handler, 8 state, 9 pointer, 10 instruction pointer
--- 11 page order
+-- The faults, each at its field:
+--  1 short, at the end of the file: a field is not whole
+--  2 magic
+--  3 version
+--  4 count: of slots, or the mode
+--  5 order of slots
+--  6 group
+--  7 handler
+--  8 state
+--  9 pointer
+-- 10 instruction pointer
+-- 11 order of pages
 -- 12 frames: of frames, or of pages
--- 13 trailing
-use Rattle.std.specs.Prelude.{ℕ, zero, suc, ◌+◌, ◌*◌, ◌-◌, Bool, false, not, ◌||◌, ◌==◌, nat_lt, nat_le, List, [], ◌∷◌, ◌++◌, length, take, codes, Option, Some, None}
+-- 13 trailing, at the first byte too many
+use Rattle.std.specs.Prelude.{ℕ, ◌+◌, ◌*◌, ◌-◌, Bool, false, not, ◌||◌, ◌==◌, nat_lt, nat_le, List, [], ◌∷◌, ◌++◌, length, take, codes, Option, Some, None}
 use Rattle.std.specs.List.{list_any}
 use Rattle.std.specs.Str.{bytes_eq}
 use Rattle.mm_model.specs.Slot.{Slot}
 use Rattle.mm_model.specs.Image.{slot_limit, frame_limit}
-use Rattle.mm_model.specs.Places.{Place, first_bad, in_turn, number_at, word_places, ip_places, page_record_places}
+use Rattle.mm_model.specs.Places.{Place, first_bad, in_turn, number_at, mask_bit_at, least_number, end_places, word_places, ip_places, page_record_places}
 use Rattle.mm_model.specs.Places.Place.{Field, Test}
-use Rattle.mm_model.specs.ImageReading.{slot_offset, page_offset, version_of, slots_of, frames_of, pages_of, mode_number, is_tagged, slot_at, slots_at}
+use Rattle.mm_model.specs.ImageReading.{slot_offset, page_offset, version_of, slots_of, frames_of, pages_of, mode_number, slot_at, slots_at}
 
 -- a slot of the list has this number
 abbrev pub has_number : List Slot → ℕ → Bool
@@ -25,9 +32,11 @@ abbrev pub is_bad_handler : List Slot → Slot → Bool
 is_bad_handler slots s = elim s.handler [ None ↦ false | Some h ↦ h == s.number || not (has_number slots h) ]
 
 module _ (bytes : List ℕ) where
+  -- the first four bytes
   abbrev pub is_magic : Bool
   is_magic = bytes_eq (take 4 bytes) (codes "MMI1")
 
+  -- the header
   abbrev pub header_places : List Place
   header_places =
       Field 0 4 ∷ Test 2 0 (not is_magic)
@@ -37,14 +46,16 @@ module _ (bytes : List ℕ) where
       ∷ Field 10 2 ∷ Test 12 10 (nat_lt (frames_of bytes) (pages_of bytes))
       ∷ Field 12 4 ∷ Test 4 12 (nat_lt (version_of bytes - 1) (mode_number bytes)) ∷ []
 
-  abbrev pub register_places : ℕ → ℕ → List Place
-  register_places at r = word_places bytes (is_tagged bytes at r) (at + 14 + 8 * r)
+  -- register r of a record
+  abbrev pub register_places : (at r : ℕ) → List Place
+  register_places at r = word_places bytes (mask_bit_at bytes (at + 12) r) (at + 14 + 8 * r)
 
-  abbrev pub registers_places : ℕ → List Place
+  -- all registers
+  abbrev pub registers_places : (at : ℕ) → List Place
   registers_places at = in_turn (register_places at) 0 16
 
-  -- with numbers below the limit, and its own no less than the least that may follow; the handler and the tags are read
-  abbrev pub slot_record_places : ℕ → ℕ → ℕ → List Place
+  -- the record of a slot whose numbers are below a limit, its own no less than the least that it may be
+  abbrev pub slot_record_places : (limit least at : ℕ) → List Place
   slot_record_places limit least at =
       Field at 1 ∷ Test 5 at (nat_le limit (number_at bytes at 1) || nat_lt (number_at bytes at 1) least)
       ∷ Field (at + 1) 1 ∷ Test 6 (at + 1) (nat_le limit (number_at bytes (at + 1) 1))
@@ -52,42 +63,35 @@ module _ (bytes : List ℕ) where
       ∷ Field (at + 3) 1 ∷ Test 8 (at + 3) (nat_lt 1 (number_at bytes (at + 3) 1))
       ∷ ip_places bytes (at + 4) ++ Field (at + 12) 2 ∷ registers_places at
 
-  -- the least number that slot k may have
-  abbrev pub least_slot : ℕ → ℕ
-  least_slot zero = 0
-  least_slot (suc k) = number_at bytes (slot_offset k) 1 + 1
+  -- slot k
+  abbrev pub slot_places : (version k : ℕ) → List Place
+  slot_places version k = slot_record_places (slot_limit version) (least_number bytes slot_offset 1 k) (slot_offset k)
 
-  abbrev pub slot_places : ℕ → ℕ → List Place
-  slot_places version k = slot_record_places (slot_limit version) (least_slot k) (slot_offset k)
-
-  abbrev pub slots_places : ℕ → ℕ → List Place
+  -- so many slots
+  abbrev pub slots_places : (version count : ℕ) → List Place
   slots_places version count = in_turn (slot_places version) 0 count
 
-  abbrev pub handler_places : List Slot → ℕ → List Place
+  -- the handler of slot k
+  abbrev pub handler_places : (slots : List Slot) (k : ℕ) → List Place
   handler_places slots k = Test 7 (slot_offset k + 2) (is_bad_handler slots (slot_at bytes k)) ∷ []
 
-  abbrev pub handlers_places : List Slot → List Place
+  -- the handlers of all slots
+  abbrev pub handlers_places : (slots : List Slot) → List Place
   handlers_places slots = in_turn (handler_places slots) 0 (length slots)
 
-  -- the least number that page k may have, behind so many slots
-  abbrev pub least_page : ℕ → ℕ → ℕ
-  least_page slots zero = 0
-  least_page slots (suc k) = number_at bytes (page_offset slots k) 8 + 1
+  -- page k, behind so many slots
+  abbrev pub page_places : (slots k : ℕ) → List Place
+  page_places slots k = page_record_places bytes (least_number bytes (page_offset slots) 8 k) (page_offset slots k)
 
-  abbrev pub page_places : ℕ → ℕ → List Place
-  page_places slots k = page_record_places bytes (least_page slots k) (page_offset slots k)
-
-  abbrev pub pages_places : ℕ → ℕ → List Place
+  -- so many pages
+  abbrev pub pages_places : (slots count : ℕ) → List Place
   pages_places slots count = in_turn (page_places slots) 0 count
-
-  abbrev pub end_places : ℕ → List Place
-  end_places at = Test 13 at (nat_lt at (length bytes)) ∷ []
 
   -- all places in the order in which they are read: the handlers behind the last slot, since they name slots that may follow
   abbrev pub places : List Place
   places =
       header_places ++ (slots_places (version_of bytes) (slots_of bytes) ++ (handlers_places (slots_at bytes (slots_of bytes))
-      ++ (pages_places (slots_of bytes) (pages_of bytes) ++ end_places (page_offset (slots_of bytes) (pages_of bytes)))))
+      ++ (pages_places (slots_of bytes) (pages_of bytes) ++ end_places bytes 13 (page_offset (slots_of bytes) (pages_of bytes)))))
 
   -- the number and the place of the first fault, if there is one
   unfoldable pub image_fault : Option (ℕ × ℕ)

@@ -1,5 +1,5 @@
 -- What the bytes of an image say, field by field.
-use Rattle.std.specs.Prelude.{ℕ, zero, suc, ◌+◌, ◌*◌, ◌/◌, ◌%◌, ◌^◌, Bool, false, ◌==◌, if◌then◌else◌, List, [], map, Some, None}
+use Rattle.std.specs.Prelude.{ℕ, ◌+◌, ◌*◌, false, ◌==◌, if◌then◌else◌, List, [], map, Some, None}
 use Rattle.std.specs.List.{range_with_len}
 use Rattle.mm_word.specs.declared.word.Word.{Word}
 use Rattle.mm_word.specs.declared.word.Cell.{Cell}
@@ -7,47 +7,51 @@ use Rattle.mm_word.specs.Pointer.{pointer_of}
 use Rattle.mm_model.specs.declared.slot.SlotState.TheVariants.{Running, Halted}
 use Rattle.mm_model.specs.Slot.{Slot}
 use Rattle.mm_model.specs.Image.{Image, none_empty}
-use Rattle.mm_model.specs.Places.{number_at, word_at, page_record_at}
+use Rattle.mm_model.specs.Places.{number_at, mask_bit_at, word_at, page_record_at}
 
 -- where the record of slot k begins
-abbrev pub slot_offset : ℕ → ℕ
+abbrev pub slot_offset : (k : ℕ) → ℕ
 slot_offset k = 16 + 142 * k
 
 -- where the record of page k begins, behind so many slots
-abbrev pub page_offset : ℕ → ℕ → ℕ
+abbrev pub page_offset : (slots k : ℕ) → ℕ
 page_offset slots k = 16 + 142 * slots + 4232 * k
 
 module _ (bytes : List ℕ) where
-  -- 1. The header: the version, how many slots, frames and pages, and the mode.
+  -- 1. The header.
 
+  -- the version
   abbrev pub version_of : ℕ
   version_of = number_at bytes 4 2
 
+  -- how many slots
   abbrev pub slots_of : ℕ
   slots_of = number_at bytes 6 2
 
+  -- how many frames
   abbrev pub frames_of : ℕ
   frames_of = number_at bytes 8 2
 
+  -- how many pages
   abbrev pub pages_of : ℕ
   pages_of = number_at bytes 10 2
 
+  -- the mode: 0, or 1 for a split image
   abbrev pub mode_number : ℕ
   mode_number = number_at bytes 12 4
 
   -- 2. The record of a slot, at a place.
 
-  -- the tag of a register
-  abbrev pub is_tagged : ℕ → ℕ → Bool
-  is_tagged at r = number_at bytes (at + 12) 2 / 2 ^ r % 2 == 1
+  -- register r
+  abbrev pub register_at : (at r : ℕ) → Word
+  register_at at r = word_at bytes (mask_bit_at bytes (at + 12) r) (at + 14 + 8 * r)
 
-  abbrev pub register_at : ℕ → ℕ → Word
-  register_at at r = word_at bytes (is_tagged at r) (at + 14 + 8 * r)
-
-  unfoldable pub registers_at : ℕ → List Word
+  -- all registers
+  unfoldable pub registers_at : (at : ℕ) → List Word
   registers_at at = map (register_at at) (range_with_len 0 16)
 
-  abbrev pub slot_record_at : ℕ → Slot
+  -- a slot that has not run
+  abbrev pub slot_record_at : (at : ℕ) → Slot
   slot_record_at at = record {
     number = number_at bytes at 1;
     group = number_at bytes (at + 1) 1;
@@ -61,23 +65,27 @@ module _ (bytes : List ℕ) where
     pending = [];
   }
 
-  -- 3. The slots and pages, each by its number.
+  -- 3. The slots and pages.
 
-  abbrev pub slot_at : ℕ → Slot
+  -- the slot of record k
+  abbrev pub slot_at : (k : ℕ) → Slot
   slot_at k = slot_record_at (slot_offset k)
 
-  unfoldable pub slots_at : ℕ → List Slot
+  -- so many slots
+  unfoldable pub slots_at : (count : ℕ) → List Slot
   slots_at count = map slot_at (range_with_len 0 count)
 
-  -- behind so many slots
-  abbrev pub page_at : ℕ → ℕ → ℕ × List Cell
+  -- the page of record k, behind so many slots
+  abbrev pub page_at : (slots k : ℕ) → ℕ × List Cell
   page_at slots k = page_record_at bytes (page_offset slots k)
 
-  unfoldable pub pages_at : ℕ → ℕ → List (ℕ × List Cell)
+  -- so many pages
+  unfoldable pub pages_at : (slots count : ℕ) → List (ℕ × List Cell)
   pages_at slots count = map (page_at slots) (range_with_len 0 count)
 
   -- 4. The whole.
 
+  -- the image that is read
   unfoldable pub image_of : Image
   image_of = record {
     version = version_of;

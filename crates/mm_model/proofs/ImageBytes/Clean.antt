@@ -4,10 +4,10 @@ use Rattle.std.specs.Prelude.{◌||◌, ◌==◌, nat_le}
 use Rattle.std.specs.Option.{option_or}
 use Rattle.std.proofs.lemmas.Bool.Decides.{nat_tests}
 use Rattle.mm_model.specs.Image.{slot_limit, frame_limit}
-use Rattle.mm_model.specs.Places.{Place, first_bad, number_at, ip_places, cells_places, page_record_places}
+use Rattle.mm_model.specs.Places.{Place, first_bad, number_at, ip_places, cells_places, page_record_places, end_places}
 use Rattle.mm_model.specs.ImageReading.{page_offset, version_of, slots_of, frames_of, pages_of, mode_number, slots_at}
-use Rattle.mm_model.specs.ImageFaults.{is_magic, header_places, registers_places, slot_record_places, slots_places, handlers_places, pages_places, end_places, image_fault}
-use Rattle.mm_model.proofs.ImageBytes.Chain.{Found, first_bad-append, clean_both, clean_at, clean_from, whole, is_right}
+use Rattle.mm_model.specs.ImageFaults.{is_magic, header_places, registers_places, slot_record_places, slots_places, handlers_places, pages_places, image_fault}
+use Rattle.mm_model.proofs.Places.{Found, first_bad-append, clean_both, clean_at, clean_from, whole, is_right}
 
 pub neither : (a b : Bool) → (a || b) ≡ false → (a ≡ false) × (b ≡ false)
 neither true b e = absurd cc
@@ -114,12 +114,12 @@ module _ (bytes : List ℕ) where
   P = first_bad end (pages_places bytes (slots_of bytes) (pages_of bytes))
 
   abbrev pub E : Found
-  E = first_bad end (end_places bytes (page_offset (slots_of bytes) (pages_of bytes)))
+  E = first_bad end (end_places bytes 13 (page_offset (slots_of bytes) (pages_of bytes)))
 
   pub in_parts : image_fault bytes ≡ option_or H (option_or S (option_or T (option_or P E)))
   unfolding image_fault
   in_parts =
-      in_order (header_places bytes) (slots_places bytes (version_of bytes) (slots_of bytes)) (handlers_places bytes (slots_at bytes (slots_of bytes))) (pages_places bytes (slots_of bytes) (pages_of bytes)) (end_places bytes (page_offset (slots_of bytes) (pages_of bytes)))
+      in_order (header_places bytes) (slots_places bytes (version_of bytes) (slots_of bytes)) (handlers_places bytes (slots_at bytes (slots_of bytes))) (pages_places bytes (slots_of bytes) (pages_of bytes)) (end_places bytes 13 (page_offset (slots_of bytes) (pages_of bytes)))
     where
       in_order : (h s t p e : List Place) → first_bad end (h ++ (s ++ (t ++ (p ++ e)))) ≡ option_or (first_bad end h) (option_or (first_bad end s) (option_or (first_bad end t) (option_or (first_bad end p) (first_bad end e))))
       in_order h s t p e = simp (first_bad-append end)

@@ -15,10 +15,10 @@ use Rattle.mm_model.specs.Memory.{IsPage}
 use Rattle.mm_model.specs.Slot.{Slot}
 use Rattle.mm_model.specs.Image.{slot_limit}
 use Rattle.mm_model.specs.Spelling.{numbers_of, IsFresh, IsImage, HoldsWords, mode_of, slot_record, page_record, header, spelling, Spells}
-use Rattle.mm_model.specs.Places.{first_bad, number_at}
+use Rattle.mm_model.specs.Places.{first_bad, number_at, end_places, least_number}
 use Rattle.mm_model.specs.ImageReading.{slot_offset, page_offset, version_of, slots_of, frames_of, pages_of, mode_number, slot_at, slots_at, page_at, pages_at, image_of}
-use Rattle.mm_model.specs.ImageFaults.{least_slot, slot_places, slots_places, is_bad_handler, handler_places, handlers_places, least_page, page_places, pages_places, end_places, image_fault}
-use Rattle.mm_model.proofs.ImageBytes.Chain.{both_clean, clean_at, is_right, each_clean}
+use Rattle.mm_model.specs.ImageFaults.{slot_places, slots_places, is_bad_handler, handler_places, handlers_places, page_places, pages_places, image_fault}
+use Rattle.mm_model.proofs.Places.{both_clean, clean_at, is_right, each_clean}
 use Rattle.mm_model.proofs.ImageBytes.Clean.{IsCleanHeader, clean_header, H, S, T, P, E, in_parts, is_above, is_not}
 use Rattle.mm_model.proofs.ImageBytes.Parts.{IsBytes, part, join_at, join_records, two_bytes, four_bytes}
 use Rattle.mm_model.proofs.ImageBytes.Ranges.{all_range, map-map}
@@ -31,8 +31,8 @@ module _ (bytes : List ℕ) (fits : IsBytes bytes) where
 
   -- 1. The slots.
 
-  each_slot : (version count : ℕ) → first_bad end (slots_places bytes version count) ≡ None → (k : ℕ) → k < count → IsSpelledSlot bytes fits (slot_limit version) (least_slot bytes k) (slot_offset k)
-  each_slot version count clean k lt = slot_clean bytes fits (slot_limit version) (least_slot bytes k) (slot_offset k) (each_clean end (slot_places bytes version) 0 count clean k (omega arith) (omega arith))
+  each_slot : (version count : ℕ) → first_bad end (slots_places bytes version count) ≡ None → (k : ℕ) → k < count → IsSpelledSlot bytes fits (slot_limit version) (least_number bytes slot_offset 1 k) (slot_offset k)
+  each_slot version count clean k lt = slot_clean bytes fits (slot_limit version) (least_number bytes slot_offset 1 k) (slot_offset k) (each_clean end (slot_places bytes version) 0 count clean k (omega arith) (omega arith))
 
   slots_text : (version count : ℕ) → first_bad end (slots_places bytes version count) ≡ None → flat_map slot_record (slots_at bytes count) ≡ part bytes 16 (142 * count)
   unfolding slots_at
@@ -52,7 +52,7 @@ module _ (bytes : List ℕ) (fits : IsBytes bytes) where
       let small : k + 1 < count = omega (arith, ap length same, length-map-range_with_len number 0 count) in
       let this : slice_index (numbers_of (map (slot_at bytes) (range_with_len 0 count))) k ≡ number k = ap (λ xs. get_or xs k 0) same ∙ get_or-map-range_with_len number 0 count k k 0 (omega arith) (omega arith) in
       let next : slice_index (numbers_of (map (slot_at bytes) (range_with_len 0 count))) (k + 1) ≡ number (k + 1) = ap (λ xs. get_or xs (k + 1) 0) same ∙ get_or-map-range_with_len number 0 count (k + 1) (k + 1) 0 small (omega arith) in
-      let least : least_slot bytes (k + 1) ≡ number k + 1 = let one : k + 1 ≡ suc k = omega arith in ap (least_slot bytes) one in
+      let least : least_number bytes slot_offset 1 (k + 1) ≡ number k + 1 = let one : k + 1 ≡ suc k = omega arith in ap (least_number bytes slot_offset 1) one in
       let order = (each_slot version count clean (k + 1) small).order in
       omega (arith, this, next, least, order)
 
@@ -65,8 +65,8 @@ module _ (bytes : List ℕ) (fits : IsBytes bytes) where
 
   -- 2. The pages.
 
-  each_page : (slots count : ℕ) → first_bad end (pages_places bytes slots count) ≡ None → (k : ℕ) → k < count → IsSpelledPage bytes fits (least_page bytes slots k) (page_offset slots k)
-  each_page slots count clean k lt = page_clean bytes fits (least_page bytes slots k) (page_offset slots k) (each_clean end (page_places bytes slots) 0 count clean k (omega arith) (omega arith))
+  each_page : (slots count : ℕ) → first_bad end (pages_places bytes slots count) ≡ None → (k : ℕ) → k < count → IsSpelledPage bytes fits (least_number bytes (page_offset slots) 8 k) (page_offset slots k)
+  each_page slots count clean k lt = page_clean bytes fits (least_number bytes (page_offset slots) 8 k) (page_offset slots k) (each_clean end (page_places bytes slots) 0 count clean k (omega arith) (omega arith))
 
   pages_text : (slots count : ℕ) → first_bad end (pages_places bytes slots count) ≡ None → flat_map page_record (pages_at bytes slots count) ≡ part bytes (16 + 142 * slots) (4232 * count)
   unfolding pages_at
@@ -80,11 +80,11 @@ module _ (bytes : List ℕ) (fits : IsBytes bytes) where
   unfolding pages_at
   length-pages slots count = length-map-range_with_len (page_at bytes slots) 0 count
 
-  rise_from : (slots from n : ℕ) → ((k : ℕ) → k < from + n → least_page bytes slots k ≤ (page_at bytes slots k).0) → AreRisingFrom (least_page bytes slots from) (map (page_at bytes slots) (range_with_len from n))
+  rise_from : (slots from n : ℕ) → ((k : ℕ) → k < from + n → least_number bytes (page_offset slots) 8 k ≤ (page_at bytes slots k).0) → AreRisingFrom (least_number bytes (page_offset slots) 8 from) (map (page_at bytes slots) (range_with_len from n))
   rise_from slots from zero h = tt
   rise_from slots from (suc n) h =
       let next : from + 1 ≡ suc from = omega arith in
-      (h from (omega arith), subst (λ m. AreRisingFrom m (map (page_at bytes slots) (range_with_len (from + 1) n))) (ap (least_page bytes slots) next) (rise_from slots (from + 1) n (λ k lt. h k (omega arith))))
+      (h from (omega arith), subst (λ m. AreRisingFrom m (map (page_at bytes slots) (range_with_len (from + 1) n))) (ap (least_number bytes (page_offset slots) 8) next) (rise_from slots (from + 1) n (λ k lt. h k (omega arith))))
 
   pages_rise : (slots count : ℕ) → first_bad end (pages_places bytes slots count) ≡ None → IsTrue (is_sorted nat_cmp (pages_at bytes slots count))
   unfolding pages_at
@@ -190,7 +190,7 @@ module _ (bytes : List ℕ) (fits : IsBytes bytes) where
   end_is : IsCleanImage → end ≡ page_offset (slots_of bytes) (pages_of bytes)
   end_is clean =
       let low = end_of_pages (slots_of bytes) (pages_of bytes) (end_of_slots _ (slots_of bytes) (clean_header bytes clean.head).whole clean.slots) clean.pages in
-      let high = is_above _ _ (is_right end _ _ _ (clean_at end (end_places bytes (page_offset (slots_of bytes) (pages_of bytes))) clean.trailing 0)) in
+      let high = is_above _ _ (is_right end _ _ _ (clean_at end (end_places bytes 13 (page_offset (slots_of bytes) (pages_of bytes))) clean.trailing 0)) in
       omega (arith, low, high)
 
   spelled : IsCleanImage → bytes ≡ spelling (image_of bytes)

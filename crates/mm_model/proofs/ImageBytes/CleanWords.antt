@@ -15,10 +15,10 @@ use Rattle.mm_word.specs.PointerBits.{bits_of-pointer_of}
 use Rattle.mm_word.specs.Word.{IsWord, is_pointer, word_bits}
 use Rattle.mm_model.specs.Flags.{number_of_flags}
 use Rattle.mm_model.specs.Spelling.{words_spelling, bitmap}
-use Rattle.mm_model.specs.Places.{first_bad, number_at, bit_at, word_at, word_places, ip_places, page_cell_at, cells_at, cell_places, cells_places}
-use Rattle.mm_model.specs.ImageReading.{is_tagged, register_at, registers_at}
+use Rattle.mm_model.specs.Places.{first_bad, number_at, bit_at, word_at, word_places, ip_places, page_cell_at, cells_at, cell_places, cells_places, mask_bit_at}
+use Rattle.mm_model.specs.ImageReading.{register_at, registers_at}
 use Rattle.mm_model.specs.ImageFaults.{register_places, registers_places}
-use Rattle.mm_model.proofs.ImageBytes.Chain.{clean_at, whole, is_right, each_clean}
+use Rattle.mm_model.proofs.Places.{clean_at, whole, is_right, each_clean}
 use Rattle.mm_model.proofs.ImageBytes.Clean.{neither, not_not}
 use Rattle.mm_model.proofs.ImageBytes.Parts.{IsBytes, part, join_records, eight_bytes, below_16, below_64}
 use Rattle.mm_model.proofs.ImageBytes.Ranges.{all_range, map-map, map-same}
@@ -91,7 +91,7 @@ module _ (bytes : List ℕ) (fits : IsBytes bytes) where
   pub registers_clean : (at : ℕ) → first_bad end (registers_places bytes at) ≡ None → AreSpelledRegisters at
   unfolding registers_at
   registers_clean at clean =
-      let tag : ℕ → Bool = is_tagged bytes at in
+      let tag : ℕ → Bool = mask_bit_at bytes (at + 12) in
       let each : (r : ℕ) → r < 16 → IsSpelledWord (tag r) (at + 14 + 8 * r) = λ r lt. word_clean (tag r) (at + 14 + 8 * r) (each_clean end (register_places bytes at) 0 16 clean r (omega arith) (omega arith)) in
       let start : at + 14 + 8 * 0 ≡ at + 14 = omega arith in
       let last = (each 15 (omega arith)).within in

@@ -5,7 +5,7 @@ use Rattle.std.specs.Int.{w16, w32, w64, from_be_bytes}
 use Rattle.std.proofs.lemmas.List.{drop_more, length-take, length-drop, get_or-take, get_or-drop}
 use Rattle.mm_model.specs.Places.{place_fault, number_at}
 use Rattle.mm_model.specs.Places.Place.{Field}
-use Rattle.mm_model.proofs.ImageBytes.Chain.{whole}
+use Rattle.mm_model.proofs.Places.{whole}
 
 -- 1. Lists of known length.
 

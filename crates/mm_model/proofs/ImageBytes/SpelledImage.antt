@@ -16,10 +16,10 @@ use Rattle.mm_model.specs.Memory.{IsPage}
 use Rattle.mm_model.specs.Slot.{Slot}
 use Rattle.mm_model.specs.Image.{Image, slot_limit, frame_limit}
 use Rattle.mm_model.specs.Spelling.{numbers_of, IsFresh, IsImage, HoldsWords, mode_of, handler_byte, state_byte, words_spelling, bitmap, slot_record, page_record, header, spelling}
-use Rattle.mm_model.specs.Places.{first_bad, number_at}
+use Rattle.mm_model.specs.Places.{first_bad, number_at, least_number}
 use Rattle.mm_model.specs.ImageReading.{slot_offset, page_offset, version_of, slots_of, frames_of, pages_of, mode_number, slot_at, slots_at, page_at, pages_at, image_of}
-use Rattle.mm_model.specs.ImageFaults.{is_magic, is_bad_handler, least_slot, slot_places, slots_places, handler_places, handlers_places, least_page, page_places, pages_places, image_fault}
-use Rattle.mm_model.proofs.ImageBytes.Chain.{clean_both, is_whole, right, clean_each}
+use Rattle.mm_model.specs.ImageFaults.{is_magic, is_bad_handler, slot_places, slots_places, handler_places, handlers_places, page_places, pages_places, image_fault}
+use Rattle.mm_model.proofs.Places.{clean_both, is_whole, right, clean_each}
 use Rattle.mm_model.proofs.ImageBytes.Clean.{H, S, T, P, in_parts}
 use Rattle.mm_model.proofs.ImageBytes.Parts.{part}
 use Rattle.mm_model.proofs.ImageBytes.Apart.{split, apart, number_in_2, number_in_4}
@@ -172,7 +172,7 @@ module _ (bytes : List ℕ) (i : Image) (image : IsImage i) (spelled : bytes ≡
   number_of_slot : (k : ℕ) (d : Slot) → k < count → slice_index (numbers_of i.slots) k ≡ (get_or i.slots k d).number
   number_of_slot k d lt = get_or-map (λ (s : Slot). s.number) i.slots k d 0 lt
 
-  slot_order : (k : ℕ) (d : Slot) → k < count → least_slot bytes k ≤ (get_or i.slots k d).number
+  slot_order : (k : ℕ) (d : Slot) → k < count → least_number bytes slot_offset 1 k ≤ (get_or i.slots k d).number
   slot_order zero d lt = omega arith
   slot_order (suc k) d lt =
       let this = (slot_text_again bytes (slot_offset k) (get_or i.slots k d) (fresh_at k d (omega arith)).registers (slot_text k d (omega arith))).number in
@@ -181,12 +181,12 @@ module _ (bytes : List ℕ) (i : Image) (image : IsImage i) (spelled : bytes ≡
       let above : slice_index (numbers_of i.slots) (k + 1) ≡ (get_or i.slots (suc k) d).number = ap (slice_index (numbers_of i.slots)) next ∙ number_of_slot (suc k) d lt in
       omega (arith, this, rise, above, number_of_slot k d (omega arith))
 
-  each_slot : (k : ℕ) (d : Slot) → k < count → IsReadSlot bytes (slot_limit i.version) (least_slot bytes k) (slot_offset k) (get_or i.slots k d)
+  each_slot : (k : ℕ) (d : Slot) → k < count → IsReadSlot bytes (slot_limit i.version) (least_number bytes slot_offset 1 k) (slot_offset k) (get_or i.slots k d)
   each_slot k d lt =
       let s = get_or i.slots k d in
       let fresh = fresh_at k d lt in
       let small = handler_small (slot_limit i.version) i.slots s.number s.handler (limit_small i.version) image.fresh fresh.handler in
-      slot_again bytes (slot_limit i.version) (least_slot bytes k) (slot_offset k) i.slots s fresh small (slot_order k d lt) (slot_text k d lt) (omega (arith, long))
+      slot_again bytes (slot_limit i.version) (least_number bytes slot_offset 1 k) (slot_offset k) i.slots s fresh small (slot_order k d lt) (slot_text k d lt) (omega (arith, long))
 
   slots_same : slots_at bytes count ≡ i.slots
   unfolding slots_at
@@ -216,15 +216,15 @@ module _ (bytes : List ℕ) (i : Image) (image : IsImage i) (spelled : bytes ≡
   rises_at least (p ∷ q ∷ pages) rising zero d lt = rising.1.0
   rises_at least (p ∷ q ∷ pages) rising (suc k) d lt = rises_at (p.0 + 1) (q ∷ pages) rising.1 k d (omega arith)
 
-  page_order : (k : ℕ) (d : ℕ × List Cell) → k < many → least_page bytes count k ≤ (get_or i.memory.pages k d).0
+  page_order : (k : ℕ) (d : ℕ × List Cell) → k < many → least_number bytes (page_offset count) 8 k ≤ (get_or i.memory.pages k d).0
   page_order zero d lt = omega arith
   page_order (suc k) d lt =
       let this = (page_text_again bytes (page_offset count k) (get_or i.memory.pages k d) (page_at_is k d (omega arith)) (page_text k d (omega arith))).number in
       omega (arith, this, rises_at 0 i.memory.pages (rising_from_sorted i.memory.pages image.paged.rising) k d lt)
 
-  each_page : (k : ℕ) (d : ℕ × List Cell) → k < many → IsReadPage bytes (least_page bytes count k) (page_offset count k) (get_or i.memory.pages k d)
+  each_page : (k : ℕ) (d : ℕ × List Cell) → k < many → IsReadPage bytes (least_number bytes (page_offset count) 8 k) (page_offset count k) (get_or i.memory.pages k d)
   each_page k d lt =
-      page_again bytes (least_page bytes count k) (page_offset count k) (get_or i.memory.pages k d) (page_at_is k d lt) (all_at HoldsWords i.memory.pages image.words k d lt) (page_order k d lt) (page_text k d lt) (omega (arith, long))
+      page_again bytes (least_number bytes (page_offset count) 8 k) (page_offset count k) (get_or i.memory.pages k d) (page_at_is k d lt) (all_at HoldsWords i.memory.pages image.words k d lt) (page_order k d lt) (page_text k d lt) (omega (arith, long))
 
   pages_same : pages_at bytes count many ≡ i.memory.pages
   unfolding pages_at

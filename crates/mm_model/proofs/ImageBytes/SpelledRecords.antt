@@ -16,10 +16,10 @@ use Rattle.mm_word.proofs.Packing.{code_of-in_range, pointer_of-bits_of, SpellsP
 use Rattle.mm_model.specs.Flags.{number_of_flags}
 use Rattle.mm_model.specs.Memory.{IsPage}
 use Rattle.mm_model.specs.Spelling.{HoldsWords, words_spelling, bitmap, page_record}
-use Rattle.mm_model.specs.Places.{first_bad, number_at, bit_at, word_at, word_places, ip_places, page_cell_at, cells_at, page_record_at, cell_places, cells_places, page_record_places}
-use Rattle.mm_model.specs.ImageReading.{is_tagged, register_at, registers_at}
+use Rattle.mm_model.specs.Places.{first_bad, number_at, bit_at, word_at, word_places, ip_places, page_cell_at, cells_at, page_record_at, cell_places, cells_places, page_record_places, mask_bit_at}
+use Rattle.mm_model.specs.ImageReading.{register_at, registers_at}
 use Rattle.mm_model.specs.ImageFaults.{register_places, registers_places}
-use Rattle.mm_model.proofs.ImageBytes.Chain.{clean_both, is_whole, right, clean_each}
+use Rattle.mm_model.proofs.Places.{clean_both, is_whole, right, clean_each}
 use Rattle.mm_model.proofs.ImageBytes.Parts.{part}
 use Rattle.mm_model.proofs.ImageBytes.Apart.{split, apart, number_in_8, flag-get, bit_at-bitmap}
 use Rattle.mm_model.proofs.ImageBytes.Ranges.{range-list}
@@ -118,7 +118,7 @@ module _ (bytes : List ℕ) where
       → AreReadRegisters at regs
   unfolding registers_at
   registers_again at regs long fits tags text le =
-      let tag : ℕ → Bool = is_tagged bytes at in
+      let tag : ℕ → Bool = mask_bit_at bytes (at + 12) in
       let flags : (r : ℕ) (d : Word) → r < length regs → tag r ≡ is_pointer (get_or regs r d) = λ r d lt.
       ap (λ n. n / 2 ^ r % 2 == 1) tags ∙ flag-get (map is_pointer regs) r (omega (arith, length-map regs is_pointer)) ∙ flags_of regs r d lt in
       let all : part bytes (at + 14) (8 * length regs) ≡ words_spelling regs = ap (λ n. part bytes (at + 14) (8 * n)) long ∙ text in

@@ -18,7 +18,7 @@ use Rattle.mm_model.specs.Places.{first_bad, number_at, ip_places}
 use Rattle.mm_model.specs.Places.Place.{Field}
 use Rattle.mm_model.specs.ImageReading.{slot_record_at}
 use Rattle.mm_model.specs.ImageFaults.{has_number, registers_places, slot_record_places}
-use Rattle.mm_model.proofs.ImageBytes.Chain.{first_bad-append, clean_both, is_whole, right}
+use Rattle.mm_model.proofs.Places.{first_bad-append, clean_both, is_whole, right}
 use Rattle.mm_model.proofs.ImageBytes.Parts.{part, number_at-within}
 use Rattle.mm_model.proofs.ImageBytes.Apart.{split, number_in_2, number_of_flags-below}
 use Rattle.mm_model.proofs.ImageBytes.SpelledRecords.{IsReadIp, ip_again, AreReadRegisters, registers_again, not_le, not_lt}

@@ -4,7 +4,9 @@ use Rattle.mm_word.specs.declared.word.Word.{Word}
 use Rattle.mm_word.specs.declared.word.Cell.{Cell}
 use Rattle.mm_image.specs.Faults.{Fails}
 use Rattle.mm_model.specs.Places.{first_bad, word_at, word_places, page_cell_at, cell_places, cells_at}
-use Rattle.mm_image.proofs.Over.{goes_on, ends, is_done, one_more, all_read}
+use Rattle.mm_model.proofs.Places.{goes_on, is_done}
+use Rattle.mm_model.proofs.ImageBytes.Ranges.{one_more, all_read}
+use Rattle.mm_image.proofs.Over.{ends}
 use Rattle.mm_image.proofs.fields.Reader.cells.Goals as goal
 
 pub returns-in_err-word-clause-cells : goal.returns-in_err-word-clause-cells
@@ -27,7 +29,7 @@ loop-place-preserved c =
     let cell : make c.in_ok-word.word c.bit-full.result ≡ page_cell_at bytes c.args.at l.place = ap (λ (w : Word). make w c.bit-full.result) word ∙ ap (make (page_cell_at bytes c.args.at l.place).word) c.bit-full.ensures in
     record {
       read = c.in_ok-push.ensures.items ∙ one_more (page_cell_at bytes c.args.at) l.place l.cells.items (make c.in_ok-word.word c.bit-full.result) l.invariant.read cell;
-      faults = goes_on bytes (cell_places bytes c.args.at) 512 l.place l.invariant.faults c.loop-place-test.true none;
+      faults = goes_on (length bytes) (cell_places bytes c.args.at) 512 l.place l.invariant.faults c.loop-place-test.true none;
       count = c.in_ok-push.ensures.len ∙ ap (λ (n : ℕ). n + 1) l.invariant.count;
     }
 
@@ -36,4 +38,4 @@ unfolding cells_at
 returns-clause-cells c =
     let l = c.loop-place in
     let bytes = c.args.self.now.bytes.now in
-    (is_done bytes (cell_places bytes c.args.at) 512 l.place l.invariant.faults c.loop-place-test.false, all_read (page_cell_at bytes c.args.at) 512 l.place l.cells.items l.invariant.read l.auto.place-end c.loop-place-test.false)
+    (is_done (length bytes) (cell_places bytes c.args.at) 512 l.place l.invariant.faults c.loop-place-test.false, all_read (page_cell_at bytes c.args.at) 512 l.place l.cells.items l.invariant.read l.auto.place-end c.loop-place-test.false)

@@ -5,8 +5,8 @@ use Rattle.mm_model.specs.Places.{place_fault}
 use Rattle.mm_model.specs.Places.Place.{Test}
 use Rattle.mm_model.specs.ImageReading.{slot_offset}
 use Rattle.mm_model.specs.ImageFaults.{is_bad_handler, handler_places}
-use Rattle.mm_model.proofs.ImageBytes.Chain.{clean_both}
-use Rattle.mm_image.proofs.Over.{fails, goes_on, ends, is_done}
+use Rattle.mm_model.proofs.Places.{clean_both, goes_on, is_done}
+use Rattle.mm_image.proofs.Over.{fails, ends}
 use Rattle.mm_image.proofs.Present.{slot_is}
 use Rattle.mm_image.proofs.fields.Reader.handlers.Goals as goal
 
@@ -30,9 +30,9 @@ loop-k-preserved c =
     let slot = slot_is bytes slots l.k c.index-slots-k.result c.requires.slots c.loop-k-test.true c.index-slots-k.is in
     let wrong = c.is_bad_handler-wrong.ensures slots c.numbers-present.ensures ∙ ap (is_bad_handler slots) slot in
     let none = subst (λ (b : Bool). place_fault (length bytes) (Test 7 (slot_offset l.k + 2) b) ≡ None) wrong c.in_ok-refuse_if.ensures.fault.0 in
-    goes_on bytes (handler_places bytes slots) (length slots) l.k l.invariant c.loop-k-test.true (clean_both _ None none refl)
+    goes_on (length bytes) (handler_places bytes slots) (length slots) l.k l.invariant c.loop-k-test.true (clean_both _ None none refl)
 
 pub returns : goal.returns
 returns c =
     let l = c.loop-k in
-    (is_done c.args.self.now.bytes.now (handler_places c.args.self.now.bytes.now c.args.slots.now) (length c.args.slots.now) l.k l.invariant c.loop-k-test.false, refl)
+    (is_done (length c.args.self.now.bytes.now) (handler_places c.args.self.now.bytes.now c.args.slots.now) (length c.args.slots.now) l.k l.invariant c.loop-k-test.false, refl)

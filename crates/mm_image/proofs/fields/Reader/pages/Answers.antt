@@ -2,10 +2,12 @@ use Rattle.std.proofs.Common.{◌≡◌, ℕ, suc, ◌+◌, List, length, None, 
 use Rattle.std.proofs.lemmas.Result.{err_from_is_err_and}
 use Rattle.mm_word.specs.declared.word.Cell.{Cell}
 use Rattle.mm_image.specs.Faults.{Fails}
-use Rattle.mm_model.specs.Places.{first_bad, number_at, page_record_at, page_record_places}
+use Rattle.mm_model.specs.Places.{first_bad, number_at, page_record_at, page_record_places, least_number}
 use Rattle.mm_model.specs.ImageReading.{page_offset, page_at, pages_at}
-use Rattle.mm_model.specs.ImageFaults.{page_places, least_page}
-use Rattle.mm_image.proofs.Over.{goes_on, ends, is_done, one_more, all_read}
+use Rattle.mm_model.specs.ImageFaults.{page_places}
+use Rattle.mm_model.proofs.Places.{goes_on, is_done}
+use Rattle.mm_model.proofs.ImageBytes.Ranges.{one_more, all_read}
+use Rattle.mm_image.proofs.Over.{ends}
 use Rattle.mm_image.proofs.fields.Reader.pages.Goals as goal
 
 pub returns-in_err-page : goal.returns-in_err-page
@@ -32,8 +34,8 @@ loop-k-preserved c =
     let next : l.k + 1 ≡ suc l.k = omega arith in
     record {
       read = c.in_ok-push.ensures.items ∙ one_more (page_at bytes slots) l.k l.pages.items page l.invariant.read read;
-      faults = goes_on bytes (page_places bytes slots) c.args.count l.k l.invariant.faults (omega arith) none;
-      least = ap (λ (n : ℕ). n + 1) number ∙ sym (ap (least_page bytes slots) next);
+      faults = goes_on (length bytes) (page_places bytes slots) c.args.count l.k l.invariant.faults (omega arith) none;
+      least = ap (λ (n : ℕ). n + 1) number ∙ sym (ap (least_number bytes (page_offset slots) 8) next);
     }
 
 pub returns : goal.returns
@@ -41,6 +43,6 @@ unfolding pages_at
 returns c =
     let l = c.loop-k in
     let bytes = c.args.self.now.bytes.now in (
-      is_done bytes (page_places bytes c.args.slots) c.args.count l.k l.invariant.faults (omega arith),
+      is_done (length bytes) (page_places bytes c.args.slots) c.args.count l.k l.invariant.faults (omega arith),
       all_read (page_at bytes c.args.slots) c.args.count l.k l.pages.items l.invariant.read (omega arith) (omega arith),
     )

@@ -6,7 +6,9 @@ use Rattle.mm_image.specs.Faults.{Fails}
 use Rattle.mm_model.specs.Places.{first_bad, word_at, word_places}
 use Rattle.mm_model.specs.ImageReading.{register_at, registers_at}
 use Rattle.mm_model.specs.ImageFaults.{register_places}
-use Rattle.mm_image.proofs.Over.{goes_on, ends, is_done, one_more, all_read}
+use Rattle.mm_model.proofs.Places.{goes_on, is_done}
+use Rattle.mm_model.proofs.ImageBytes.Ranges.{one_more, all_read}
+use Rattle.mm_image.proofs.Over.{ends}
 use Rattle.mm_image.proofs.fields.Reader.registers.Goals as goal
 
 pub returns-in_err-word : goal.returns-in_err-word
@@ -30,7 +32,7 @@ loop-r-preserved c =
     let room : l.r < length l.regs = omega (arith, l.invariant.count, c.loop-r-test.true) in
     record {
       read = take_more_set l.regs l.r c.in_ok-word.word room ∙ one_more (register_at bytes c.args.at) l.r (take l.r l.regs) c.in_ok-word.word l.invariant.read word;
-      faults = goes_on bytes (register_places bytes c.args.at) 16 l.r l.invariant.faults c.loop-r-test.true none;
+      faults = goes_on (length bytes) (register_places bytes c.args.at) 16 l.r l.invariant.faults c.loop-r-test.true none;
       count = length-set l.regs l.r c.in_ok-word.word ∙ l.invariant.count;
     }
 
@@ -39,6 +41,6 @@ unfolding registers_at
 returns c =
     let l = c.loop-r in
     let bytes = c.args.self.now.bytes.now in (
-      is_done bytes (register_places bytes c.args.at) 16 l.r l.invariant.faults c.loop-r-test.false,
+      is_done (length bytes) (register_places bytes c.args.at) 16 l.r l.invariant.faults c.loop-r-test.false,
       sym (take_all l.r l.regs (omega (arith, l.invariant.count, c.loop-r-test.false))) ∙ all_read (register_at bytes c.args.at) 16 l.r (take l.r l.regs) l.invariant.read l.auto.r-end c.loop-r-test.false,
     )

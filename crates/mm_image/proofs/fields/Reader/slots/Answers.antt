@@ -3,10 +3,12 @@ use Rattle.std.proofs.lemmas.Result.{err_from_is_err_and}
 use Rattle.mm_model.specs.Slot.{Slot}
 use Rattle.mm_model.specs.Image.{slot_limit}
 use Rattle.mm_image.specs.Faults.{Fails}
-use Rattle.mm_model.specs.Places.{first_bad, number_at}
+use Rattle.mm_model.specs.Places.{first_bad, number_at, least_number}
 use Rattle.mm_model.specs.ImageReading.{slot_offset, slot_at, slots_at}
-use Rattle.mm_model.specs.ImageFaults.{slot_record_places, slot_places, least_slot}
-use Rattle.mm_image.proofs.Over.{goes_on, ends, is_done, one_more, all_read}
+use Rattle.mm_model.specs.ImageFaults.{slot_record_places, slot_places}
+use Rattle.mm_model.proofs.Places.{goes_on, is_done}
+use Rattle.mm_model.proofs.ImageBytes.Ranges.{one_more, all_read}
+use Rattle.mm_image.proofs.Over.{ends}
 use Rattle.mm_image.proofs.fields.Reader.slots.Goals as goal
 
 pub returns-in_err-slot-clause-slots : goal.returns-in_err-slot-clause-slots
@@ -31,8 +33,8 @@ loop-k-preserved c =
     let next : l.k + 1 ≡ suc l.k = omega arith in
     record {
       read = c.in_ok-push.ensures.items ∙ one_more (slot_at bytes) l.k l.slots.items slot l.invariant.read c.in_ok-slot.ensures.slot.1;
-      faults = goes_on bytes (slot_places bytes c.args.version) c.args.count l.k l.invariant.faults (omega arith) none;
-      least = ap (λ (n : ℕ). n + 1) number ∙ sym (ap (least_slot bytes) next);
+      faults = goes_on (length bytes) (slot_places bytes c.args.version) c.args.count l.k l.invariant.faults (omega arith) none;
+      least = ap (λ (n : ℕ). n + 1) number ∙ sym (ap (least_number bytes slot_offset 1) next);
       count = c.in_ok-push.ensures.len ∙ ap (λ (n : ℕ). n + 1) l.invariant.count;
     }
 
@@ -41,6 +43,6 @@ unfolding slots_at
 returns-clause-slots c =
     let l = c.loop-k in
     let bytes = c.args.self.now.bytes.now in (
-      is_done bytes (slot_places bytes c.args.version) c.args.count l.k l.invariant.faults (omega arith),
+      is_done (length bytes) (slot_places bytes c.args.version) c.args.count l.k l.invariant.faults (omega arith),
       all_read (slot_at bytes) c.args.count l.k l.slots.items l.invariant.read (omega arith) (omega arith),
     )

@@ -1,5 +1,5 @@
 -- First faults of places, one behind the other.
-use Rattle.std.proofs.Common.{◌≡◌, ℕ, zero, suc, ◌+◌, ◌<◌, ◌≤◌, Bool, true, false, cond, ltb, List, [], ◌∷◌, ◌++◌, get_or, drop, Option, Some, None, refl, sym, ap, ◌∙◌, arith, inl, inr}
+use Rattle.std.proofs.Common.{◌≡◌, ℕ, zero, suc, ◌+◌, ◌-◌, ◌<◌, ◌≤◌, Bool, true, false, cond, ltb, List, [], ◌∷◌, ◌++◌, get_or, drop, Option, Some, None, refl, sym, ap, ◌∙◌, arith, inl, inr}
 use Rattle.std.specs.Option.{option_or}
 use Rattle.std.proofs.lemmas.Bool.{cases_eq, ltb-false, le-ltb}
 use Rattle.mm_model.specs.Places.{Place, place_fault, first_bad, in_turn}
@@ -88,3 +88,26 @@ module _ (end : ℕ) where
     pub clean_each : (from n : ℕ) → ((i : ℕ) → from ≤ i → i < from + n → first_bad end (part i) ≡ None) → first_bad end (in_turn part from n) ≡ None
     clean_each from zero h = none_left from
     clean_each from (suc n) h = part_first from n ∙ clean_both _ _ (h from (omega arith) (omega arith)) (clean_each (from + 1) n (λ i low high. h i (omega arith) (omega arith)))
+
+    -- 5. Parts that a loop reads.
+
+    -- no part before part i has a fault: the first of the rest is the first of all
+    abbrev pub NoneBefore : (count i : ℕ) → Type 0
+    NoneBefore count i = first_bad end (in_turn part i (count - i)) ≡ first_bad end (in_turn part 0 count)
+
+    module _ (count i : ℕ) (so_far : NoneBefore count i) where
+      rest_from : i < count → first_bad end (in_turn part 0 count) ≡ option_or (first_bad end (part i)) (first_bad end (in_turn part (i + 1) (count - (i + 1))))
+      rest_from lt =
+          let k : count - i ≡ suc (count - (i + 1)) = omega arith in
+          sym so_far ∙ ap (λ n. first_bad end (in_turn part i n)) k ∙ part_first i (count - (i + 1))
+
+      pub goes_on : i < count → first_bad end (part i) ≡ None → NoneBefore count (i + 1)
+      goes_on lt none = sym (rest_from lt ∙ ap (λ (f : Found). option_or f (first_bad end (in_turn part (i + 1) (count - (i + 1))))) none)
+
+      pub stops : i < count → (f : ℕ × ℕ) → first_bad end (part i) ≡ Some f → first_bad end (in_turn part 0 count) ≡ Some f
+      stops lt f some = rest_from lt ∙ ap (λ (g : Found). option_or g (first_bad end (in_turn part (i + 1) (count - (i + 1))))) some
+
+      pub is_done : count ≤ i → first_bad end (in_turn part 0 count) ≡ None
+      is_done le =
+          let k : count - i ≡ 0 = omega arith in
+          sym so_far ∙ ap (λ n. first_bad end (in_turn part i n)) k ∙ none_left i
