@@ -8,24 +8,23 @@ use Rattle.mm_image.specs.declared.fault.ImageFault.{ImageFault}
 use Rattle.mm_image.specs.declared.fault.ImageError.{ImageError}
 use Rattle.mm_image.specs.declared.fault.ImageError.TheVariants.{Fault, NoMemory}
 use Rattle.mm_image.specs.Faults.{Gives, Fails, IsUnlessNoMemory, FailsUnlessNoMemory, number_of}
-use Rattle.mm_model.specs.ImageReading.{image_of, read_fault}
+use Rattle.mm_model.specs.ImageReading.{image_of}
 use Rattle.mm_model.proofs.ImageBytes.Parts.{IsBytes}
 use Rattle.mm_model.proofs.ImageBytes.CleanImage.{clean_spells}
 use Rattle.mm_model.proofs.ImageBytes.SpelledImage.{spelled_clean, image_same}
-use Rattle.mm_model.proofs.ImageBytes.Whole.{image_fault-read}
 
 abbrev Answer : Type 0
 Answer = Result Image ImageError
 
 module _ (bytes : List ℕ) where
   abbrev Given : Answer → Type 0
-  Given r = Gives (λ (i : Image). i) (read_fault bytes) (image_of bytes) r
+  Given r = Gives (λ (i : Image). i) (image_fault bytes) (image_of bytes) r
 
   pub is_spelled : IsBytes bytes → (r : Answer) → Given r → IfOk r (λ i. Spells bytes i)
   is_spelled fits (Ok i) h = subst (Spells bytes) (sym h.1) (clean_spells bytes fits h.0)
   is_spelled fits (Err e) h = tt
 
-  again_fails : (e : ImageError) → read_fault bytes ≡ None → Fails (read_fault bytes) e → e ≡ NoMemory
+  again_fails : (e : ImageError) → image_fault bytes ≡ None → Fails (image_fault bytes) e → e ≡ NoMemory
   again_fails (Fault kind offset) none h = cc
   again_fails NoMemory none h = refl
 
@@ -33,17 +32,17 @@ module _ (bytes : List ℕ) where
   is_again (Ok j) h i s = h.1 ∙ image_same bytes i s.image s.spelled
   is_again (Err e) h i s = again_fails e (spelled_clean bytes i s.image s.spelled) h
 
-  fault_of : (e : ImageError) (kind : ImageFault) (offset : ℕ) → e ≡ Fault kind offset → Fails (read_fault bytes) e → read_fault bytes ≡ Some (number_of kind, offset)
-  fault_of e kind offset same h = subst (Fails (read_fault bytes)) same h
+  fault_of : (e : ImageError) (kind : ImageFault) (offset : ℕ) → e ≡ Fault kind offset → Fails (image_fault bytes) e → image_fault bytes ≡ Some (number_of kind, offset)
+  fault_of e kind offset same h = subst (Fails (image_fault bytes)) same h
 
   pub is_fault : (r : Answer) → Given r → (kind : ImageFault) (offset : ℕ) → r ≡ Err (Fault kind offset) → image_fault bytes ≡ Some (number_of kind, offset)
   is_fault (Ok i) h kind offset e = cc
-  is_fault (Err error) h kind offset e = let same : error ≡ Fault kind offset = cc in image_fault-read bytes ∙ fault_of error kind offset same h
+  is_fault (Err error) h kind offset e = let same : error ≡ Fault kind offset = cc in fault_of error kind offset same h
 
-  first_fails : (e : ImageError) (f : ℕ × ℕ) → read_fault bytes ≡ Some f → Fails (read_fault bytes) e → Fails (Some f) e
+  first_fails : (e : ImageError) (f : ℕ × ℕ) → image_fault bytes ≡ Some f → Fails (image_fault bytes) e → Fails (Some f) e
   first_fails (Fault kind offset) f some h = sym some ∙ h
   first_fails NoMemory f some h = tt
 
   pub is_first : (r : Answer) → Given r → (number offset : ℕ) → image_fault bytes ≡ Some (number, offset) → FailsUnlessNoMemory (number, offset) r
-  is_first (Ok i) h number offset e = let some = sym (image_fault-read bytes) ∙ e in cc (h.0)
-  is_first (Err error) h number offset e = first_fails error (number, offset) (sym (image_fault-read bytes) ∙ e) h
+  is_first (Ok i) h number offset e = cc (h.0)
+  is_first (Err error) h number offset e = first_fails error (number, offset) e h

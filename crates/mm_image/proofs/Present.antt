@@ -7,7 +7,8 @@ use Rattle.std.proofs.lemmas.List.FromFn.{get_or-map-range_with_len}
 use Rattle.std.proofs.lemmas.List.Folds.{list_any_more}
 use Rattle.mm_model.specs.Slot.{Slot}
 use Rattle.mm_image.specs.Reading.{HoldsNumbers}
-use Rattle.mm_model.specs.ImageReading.{has_number, slot_at, slots_at}
+use Rattle.mm_model.specs.ImageReading.{slot_at, slots_at}
+use Rattle.mm_model.specs.ImageFaults.{has_number}
 
 pub none_yet : HoldsNumbers (replicate 256 false) []
 none_yet n below = get_or-replicate 256 n false false below

@@ -1,67 +1,64 @@
 -- The reader's steps: the first fault of the whole is that of the part where it stops.
-use Rattle.std.proofs.Common.{◌≡◌, ℕ, List, length, Option, None, sym, ap, subst, ◌∙◌}
-use Rattle.std.proofs.lemmas.List.FromFn.{length-map-range_with_len}
+use Rattle.std.proofs.Common.{◌≡◌, ℕ, List, length, None, refl, sym, ap, subst, ◌∙◌}
+use Rattle.std.specs.Option.{option_or}
 use Rattle.mm_word.specs.declared.word.Cell.{Cell}
 use Rattle.mm_model.specs.Slot.{Slot}
+use Rattle.mm_model.specs.Places.{first_bad, end_places}
+use Rattle.mm_model.specs.ImageReading.{page_offset, slots_at, pages_at, image_of}
+use Rattle.mm_model.specs.ImageFaults.{slots_places, handlers_places, pages_places, image_fault}
+use Rattle.mm_model.proofs.Places.{Found, clean_both}
+use Rattle.mm_model.proofs.ImageBytes.Clean.{H, in_parts}
 use Rattle.mm_image.specs.declared.header.Header.{Header}
-use Rattle.mm_image.specs.Images.{image_from}
 use Rattle.mm_image.specs.declared.fault.ImageError.{ImageError}
 use Rattle.mm_image.specs.Faults.{Fails}
-use Rattle.mm_model.specs.ImageFields.{earlier, field}
+use Rattle.mm_image.specs.Images.{image_from}
 use Rattle.mm_image.specs.Reading.{header_of}
-use Rattle.mm_model.specs.ImageReading.{image_of, header_fault, slot_at, slots_at, slots_fault, handlers_fault, pages_at, pages_fault, page_offset, end_fault, read_fault}
-use Rattle.mm_model.proofs.ImageBytes.Chain.{clean_both}
-use Rattle.mm_image.proofs.Over.{fails}
-
-abbrev Found : Type 0
-Found = Option (ℕ × ℕ)
-
-behind : (e : ImageError) (f g : Found) → f ≡ None → Fails g e → Fails (earlier f g) e
-behind e f g none h = subst (λ (x : Found). Fails (earlier x g) e) (sym none) h
+use Rattle.mm_image.proofs.Over.{fails, behind}
 
 module _ (bytes : List ℕ) where
-  abbrev H : Found
-  H = header_fault bytes
+  -- the parts, as the header and the slots that were read name them
+  abbrev pub S : Header → Found
+  S h = first_bad (length bytes) (slots_places bytes h.version h.slots)
 
-  abbrev S : Found
-  S = slots_fault bytes (field bytes 4 2) (field bytes 6 2)
+  abbrev pub T : List Slot → Found
+  T slots = first_bad (length bytes) (handlers_places bytes slots)
 
-  abbrev T : Found
-  T = handlers_fault bytes (field bytes 6 2)
+  abbrev pub P : Header → Found
+  P h = first_bad (length bytes) (pages_places bytes h.slots h.pages)
 
-  abbrev P : Found
-  P = pages_fault bytes (field bytes 6 2) (field bytes 10 2)
+  abbrev pub E : Header → Found
+  E h = first_bad (length bytes) (end_places bytes 13 (page_offset h.slots h.pages))
 
-  abbrev E : Found
-  E = end_fault bytes (page_offset (field bytes 6 2) (field bytes 10 2))
+  abbrev pub IsHeader : Header → Type 0
+  IsHeader h = (H bytes ≡ None) × (h ≡ header_of bytes)
 
-  pub at_header : (e : ImageError) → Fails H e → Fails (read_fault bytes) e
-  unfolding read_fault
-  at_header e h = fails e H (earlier S (earlier T (earlier P E))) h
+  abbrev pub AreSlots : Header → List Slot → Type 0
+  AreSlots h slots = (S h ≡ None) × (slots ≡ slots_at bytes h.slots)
 
-  pub at_slots : (e : ImageError) → H ≡ None → Fails S e → Fails (read_fault bytes) e
-  unfolding read_fault
-  at_slots e a h = behind e H (earlier S (earlier T (earlier P E))) a (fails e S (earlier T (earlier P E)) h)
+  whole : (h : Header) (slots : List Slot) → h ≡ header_of bytes → slots ≡ slots_at bytes h.slots → option_or (H bytes) (option_or (S h) (option_or (T slots) (option_or (P h) (E h)))) ≡ image_fault bytes
+  whole h slots head read =
+      ap (λ (x : List Slot). option_or (H bytes) (option_or (S h) (option_or (T x) (option_or (P h) (E h))))) read
+      ∙ ap (λ (x : Header). option_or (H bytes) (option_or (S x) (option_or (T (slots_at bytes x.slots)) (option_or (P x) (E x))))) head ∙ sym (in_parts bytes)
 
-  pub at_handlers : (e : ImageError) → H ≡ None → S ≡ None → Fails T e → Fails (read_fault bytes) e
-  unfolding read_fault
-  at_handlers e a b h = behind e H (earlier S (earlier T (earlier P E))) a (behind e S (earlier T (earlier P E)) b (fails e T (earlier P E) h))
+  pub at_header : (e : ImageError) → Fails (H bytes) e → Fails (image_fault bytes) e
+  at_header e f = subst (λ (x : Found). Fails x e) (sym (in_parts bytes)) (fails e (H bytes) _ f)
 
-  pub at_pages : (e : ImageError) → H ≡ None → S ≡ None → T ≡ None → Fails P e → Fails (read_fault bytes) e
-  unfolding read_fault
-  at_pages e a b c h = behind e H (earlier S (earlier T (earlier P E))) a (behind e S (earlier T (earlier P E)) b (behind e T (earlier P E) c (fails e P E h)))
+  module _ (h : Header) (head : IsHeader h) (e : ImageError) where
+    pub at_slots : Fails (S h) e → Fails (image_fault bytes) e
+    at_slots f = subst (λ (x : Found). Fails x e) (whole h (slots_at bytes h.slots) head.1 refl) (behind e _ _ head.0 (fails e (S h) _ f))
 
-  pub at_end : (e : ImageError) → H ≡ None → S ≡ None → T ≡ None → P ≡ None → Fails E e → Fails (read_fault bytes) e
-  unfolding read_fault
-  at_end e a b c d h = behind e H (earlier S (earlier T (earlier P E))) a (behind e S (earlier T (earlier P E)) b (behind e T (earlier P E) c (behind e P E d h)))
+    module _ (slots : List Slot) (read : AreSlots h slots) where
+      pub at_handlers : Fails (T slots) e → Fails (image_fault bytes) e
+      at_handlers f = subst (λ (x : Found). Fails x e) (whole h slots head.1 read.1) (behind e _ _ head.0 (behind e _ _ read.0 (fails e (T slots) _ f)))
 
-  pub at_none : H ≡ None → S ≡ None → T ≡ None → P ≡ None → E ≡ None → read_fault bytes ≡ None
-  unfolding read_fault
-  at_none a b c d e = clean_both H _ a (clean_both S _ b (clean_both T _ c (clean_both P E d e)))
+      pub at_pages : T slots ≡ None → Fails (P h) e → Fails (image_fault bytes) e
+      at_pages t f = subst (λ (x : Found). Fails x e) (whole h slots head.1 read.1) (behind e _ _ head.0 (behind e _ _ read.0 (behind e _ _ t (fails e (P h) _ f))))
 
-  pub length-slots_at : (count : ℕ) → length (slots_at bytes count) ≡ count
-  unfolding slots_at
-  length-slots_at count = length-map-range_with_len (slot_at bytes) 0 count
+      pub at_end : T slots ≡ None → P h ≡ None → Fails (E h) e → Fails (image_fault bytes) e
+      at_end t p f = subst (λ (x : Found). Fails x e) (whole h slots head.1 read.1) (behind e _ _ head.0 (behind e _ _ read.0 (behind e _ _ t (behind e _ _ p f))))
+
+  pub at_none : (h : Header) → IsHeader h → (slots : List Slot) → AreSlots h slots → T slots ≡ None → P h ≡ None → E h ≡ None → image_fault bytes ≡ None
+  at_none h head slots read t p e = sym (whole h slots head.1 read.1) ∙ clean_both _ _ head.0 (clean_both _ _ read.0 (clean_both _ _ t (clean_both _ _ p e)))
 
   -- what was read is the image
   pub same_image : (h : Header) (slots : List Slot) (pages : List (ℕ × List Cell)) (frames : ℕ) → h ≡ header_of bytes → slots ≡ slots_at bytes h.slots → pages ≡ pages_at bytes h.slots h.pages → frames ≡ h.frames

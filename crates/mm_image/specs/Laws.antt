@@ -3,7 +3,7 @@ use Rattle.std.specs.Prelude.{◌≡◌, ◌↔◌, ℕ, List, None}
 use Rattle.mm_model.specs.Image.{Image}
 use Rattle.mm_model.specs.ImageFaults.{image_fault}
 use Rattle.mm_model.specs.Spelling.{IsImage, spelling, Spells}
-use Rattle.mm_model.specs.ImageFields.{IsBytes}
+use Rattle.mm_model.specs.Places.{IsBytes}
 
 -- bytes either spell an image or have a first fault
 abbrev pub ImagesHaveNoFault : Type 0

@@ -2,7 +2,8 @@
 
 ghost use Rattle.std.specs.Prelude.{◌≡◌, ◌+◌, ◌^◌, ◌<◌, ◌≤◌, true, false, OnOk, length};
 ghost use Rattle.mm_image.specs.Faults.{Gives, number_of};
-ghost use Rattle.mm_model.specs.ImageFields.{short, bad, field};
+ghost use Rattle.mm_model.specs.Places.{place_fault, number_at};
+ghost use Rattle.mm_model.specs.Places.Place.{Field, Test};
 
 use crate::fault::{ImageError, ImageFault};
 
@@ -22,26 +23,28 @@ pub(crate) fn fault(fault: ImageFault, offset: usize) -> ImageError
     }
 }
 
-/// Refuses where the test holds.
-#[tactic(auto, unfolding(mm_model::specs::ImageFields::bad))]
-pub(crate) fn refuse_if(wrong: bool, kind: ImageFault, offset: usize) -> Result<(), ImageError>
-    ensures fault { Gives (λ _. true) (bad wrong (number_of kind) offset) true result }
-    ensures right { OnOk result (wrong ≡ false) }
-{
-    if wrong {
-        return Err(fault(kind, offset));
-    }
-    Ok(())
-}
-
-// Fields at their places.
+// Fields at their places, and tests of what they say.
 impl Reader<'_> {
-    /// Whether the field that ends here is whole.
-    #[tactic(auto, unfolding(mm_model::specs::ImageFields::short))]
-    pub fn whole(&self, end: usize) -> Result<(), ImageError>
-        ensures fault { Gives (λ _. true) (short self.now.bytes.now end) true result }
-        ensures within { OnOk result (end ≤ length self.now.bytes.now) }
+    /// Refuses where the test holds.
+    #[tactic(auto, unfolding(mm_model::specs::Places::place_fault))]
+    pub fn refuse_if(&self, wrong: bool, kind: ImageFault, at: usize) -> Result<(), ImageError>
+        ensures fault { Gives (λ _. true) (place_fault (length self.now.bytes.now) (Test (number_of kind) at wrong)) true result }
+        ensures right { OnOk result (wrong ≡ false) }
     {
+        if wrong {
+            return Err(fault(kind, at));
+        }
+        Ok(())
+    }
+
+    /// Whether the field of so many bytes is whole.
+    #[tactic(auto, unfolding(mm_model::specs::Places::place_fault))]
+    pub fn whole(&self, at: usize, size: usize) -> Result<(), ImageError>
+        requires { at + size < 2 ^ 64 }
+        ensures fault { Gives (λ _. true) (place_fault (length self.now.bytes.now) (Field at size)) true result }
+        ensures within { OnOk result (at + size ≤ length self.now.bytes.now) }
+    {
+        let end = at + size;
         if self.bytes.len() < end {
             return Err(fault(ImageFault::Short, self.bytes.len()));
         }
@@ -52,9 +55,9 @@ impl Reader<'_> {
     #[tactic(auto, using(mm_model::proofs::ImageBytes::Numbers::byte_is))]
     pub fn u8_at(&self, at: usize) -> Result<u8, ImageError>
         requires { at < 2 ^ 40 }
-        ensures { Gives (λ n. n) (short self.now.bytes.now (at + 1)) (field self.now.bytes.now at 1) result }
+        ensures { let bytes = self.now.bytes.now in Gives (λ n. n) (place_fault (length bytes) (Field at 1)) (number_at bytes at 1) result }
     {
-        self.whole(at + 1)?;
+        self.whole(at, 1)?;
         Ok(self.bytes[at])
     }
 
@@ -62,9 +65,9 @@ impl Reader<'_> {
     #[tactic(auto, using(mm_model::proofs::ImageBytes::Numbers::field_2))]
     pub fn u16_at(&self, at: usize) -> Result<u16, ImageError>
         requires { at < 2 ^ 40 }
-        ensures { Gives (λ n. n) (short self.now.bytes.now (at + 2)) (field self.now.bytes.now at 2) result }
+        ensures { let bytes = self.now.bytes.now in Gives (λ n. n) (place_fault (length bytes) (Field at 2)) (number_at bytes at 2) result }
     {
-        self.whole(at + 2)?;
+        self.whole(at, 2)?;
         Ok(u16::from_be_bytes([self.bytes[at], self.bytes[at + 1]]))
     }
 
@@ -72,9 +75,9 @@ impl Reader<'_> {
     #[tactic(auto, using(mm_model::proofs::ImageBytes::Numbers::field_4))]
     pub fn u32_at(&self, at: usize) -> Result<u32, ImageError>
         requires { at < 2 ^ 40 }
-        ensures { Gives (λ n. n) (short self.now.bytes.now (at + 4)) (field self.now.bytes.now at 4) result }
+        ensures { let bytes = self.now.bytes.now in Gives (λ n. n) (place_fault (length bytes) (Field at 4)) (number_at bytes at 4) result }
     {
-        self.whole(at + 4)?;
+        self.whole(at, 4)?;
         let field = &self.bytes[at..at + 4];
         Ok(u32::from_be_bytes([field[0], field[1], field[2], field[3]]))
     }
@@ -83,9 +86,9 @@ impl Reader<'_> {
     #[tactic(auto, using(mm_model::proofs::ImageBytes::Numbers::field_8))]
     pub fn u64_at(&self, at: usize) -> Result<u64, ImageError>
         requires { at < 2 ^ 40 }
-        ensures { Gives (λ n. n) (short self.now.bytes.now (at + 8)) (field self.now.bytes.now at 8) result }
+        ensures { let bytes = self.now.bytes.now in Gives (λ n. n) (place_fault (length bytes) (Field at 8)) (number_at bytes at 8) result }
     {
-        self.whole(at + 8)?;
+        self.whole(at, 8)?;
         let field = &self.bytes[at..at + 8];
         Ok(u64::from_be_bytes([
             field[0], field[1], field[2], field[3], field[4], field[5], field[6], field[7],

@@ -1,12 +1,14 @@
 //! The records of pages of an image file.
 
-ghost use Rattle.std.specs.Prelude.{◌≡◌, ◌+◌, ◌*◌, ◌^◌, ◌<◌, IfOk, None, vec_len};
+ghost use Rattle.std.specs.Prelude.{◌≡◌, ◌+◌, ◌*◌, ◌^◌, ◌<◌, true, IfOk, None, length, vec_len};
 ghost use Rattle.mm_image.specs.Faults.{Gives};
-ghost use Rattle.mm_model.specs.ImageFields.{short};
-ghost use Rattle.mm_model.specs.ImageReading.{cells_at, cells_fault, page_record_at, page_record_fault, pages_at, pages_fault, page_offset};
+ghost use Rattle.mm_model.specs.Places.{place_fault, first_bad, cells_at, cells_places, page_record_at, page_record_places, end_places};
+ghost use Rattle.mm_model.specs.Places.Place.{Field};
+ghost use Rattle.mm_model.specs.ImageReading.{pages_at, page_offset};
+ghost use Rattle.mm_model.specs.ImageFaults.{pages_places};
 
 use crate::fault::{ImageError, ImageFault};
-use crate::fields::{Reader, refuse_if};
+use crate::fields::Reader;
 use crate::layout::{HEADER_BYTES, PAGE_BYTES, SLOT_BYTES};
 use mm_model::{CELLS, Page};
 use mm_word::Cell;
@@ -18,18 +20,21 @@ const PAGE_LIMIT: u64 = 1 << 42;
 /// The offsets of a page's tags, full bits and words in its record.
 const TAGS: usize = 8;
 
-const FULL: usize = TAGS + 64;
+const FULL: usize = TAGS + BITMAP_BYTES;
 
-const WORDS: usize = FULL + 64;
+const WORDS: usize = FULL + BITMAP_BYTES;
+
+/// How long the tags and the full bits of a page are each.
+const BITMAP_BYTES: usize = CELLS / 8;
 
 impl Reader<'_> {
     /// The cells of the page whose record begins here.
-    #[tactic(auto, unfolding(mm_model::specs::ImageReading::cells_at, mm_model::specs::ImageReading::cells_fault))]
+    #[tactic(auto, unfolding(mm_model::specs::Places::cells_at))]
     pub fn cells(&self, alloc: Global, at: usize) -> Result<Vec<Cell>, ImageError>
         requires small { at < 2 ^ 39 }
-        requires tags { short self.now.bytes.now (at + 72) ≡ None }
-        requires full { short self.now.bytes.now (at + 136) ≡ None }
-        ensures cells { Gives (λ cells. cells.items) (cells_fault self.now.bytes.now at) (cells_at self.now.bytes.now at) result }
+        requires tags { place_fault (length self.now.bytes.now) (Field (at + 8) 64) ≡ None }
+        requires full { place_fault (length self.now.bytes.now) (Field (at + 72) 64) ≡ None }
+        ensures cells { let bytes = self.now.bytes.now in Gives (λ cells. cells.items) (first_bad (length bytes) (cells_places bytes at)) (cells_at bytes at) result }
         ensures count { IfOk result (λ cells. vec_len cells ≡ 512) }
     {
         let mut cells = Vec::with_capacity(alloc, CELLS)?;
@@ -45,16 +50,16 @@ impl Reader<'_> {
     /// The page whose record begins here. Its number is no less than the least.
     pub fn page(&self, alloc: Global, least: u64, at: usize) -> Result<Page, ImageError>
         requires { at < 2 ^ 39 }
-        ensures { Gives (λ p. p) (page_record_fault self.now.bytes.now least at) (page_record_at self.now.bytes.now at) result }
+        ensures { let bytes = self.now.bytes.now in Gives (λ p. p) (first_bad (length bytes) (page_record_places bytes least at)) (page_record_at bytes at) result }
     {
         let number = self.u64_at(at)?;
-        refuse_if(
+        self.refuse_if(
             number >= PAGE_LIMIT || number < least,
             ImageFault::PageOrder,
             at,
         )?;
-        self.whole(at + FULL)?;
-        self.whole(at + WORDS)?;
+        self.whole(at + TAGS, BITMAP_BYTES)?;
+        self.whole(at + FULL, BITMAP_BYTES)?;
         let cells = self.cells(alloc, at)?;
         match Page::new(number, cells) {
             Some(page) => Ok(page),
@@ -64,7 +69,7 @@ impl Reader<'_> {
 
     /// So many pages, with ascending numbers, from a place on.
     pub fn pages(&self, alloc: Global, slots: u16, count: u16) -> Result<Vec<Page>, ImageError>
-        ensures { Gives (λ pages. pages.items) (pages_fault self.now.bytes.now slots count) (pages_at self.now.bytes.now slots count) result }
+        ensures { let bytes = self.now.bytes.now in Gives (λ pages. pages.items) (first_bad (length bytes) (pages_places bytes slots count)) (pages_at bytes slots count) result }
     {
         let start = HEADER_BYTES + SLOT_BYTES * usize::from(slots);
         let mut pages = Vec::with_capacity(alloc, usize::from(count))?;
@@ -75,5 +80,13 @@ impl Reader<'_> {
             pages.push(page)?;
         }
         Ok(pages)
+    }
+
+    /// Whether the file ends behind the last of so many slots and pages.
+    pub fn nothing_follows(&self, slots: u16, pages: u16) -> Result<(), ImageError>
+        ensures { let bytes = self.now.bytes.now in Gives (λ _. true) (first_bad (length bytes) (end_places bytes 13 (page_offset slots pages))) true result }
+    {
+        let end = HEADER_BYTES + SLOT_BYTES * usize::from(slots) + PAGE_BYTES * usize::from(pages);
+        self.refuse_if(self.bytes.len() > end, ImageFault::Trailing, end)
     }
 }

@@ -5,13 +5,12 @@ ghost use Rattle.mm_model.specs.Image.{Image as ImageValue};
 ghost use Rattle.mm_model.specs.ImageFaults.{image_fault};
 ghost use Rattle.mm_model.specs.Spelling.{Spells};
 ghost use Rattle.mm_image.specs.Faults.{Gives, IsUnlessNoMemory, FailsUnlessNoMemory, number_of};
-ghost use Rattle.mm_model.specs.ImageReading.{image_of, read_fault};
+ghost use Rattle.mm_model.specs.ImageReading.{image_of};
 ghost use Rattle.mm_image.specs.declared.fault.ImageFault.{ImageFault};
 
-use crate::fault::{ImageError, ImageFault};
-use crate::fields::{Reader, refuse_if};
+use crate::fault::ImageError;
+use crate::fields::Reader;
 use crate::image::Image;
-use crate::layout::{HEADER_BYTES, PAGE_BYTES, SLOT_BYTES};
 use std::alloc::Global;
 
 /// The image that the bytes of a file spell, or the first fault that is met when its fields are read from the front.
@@ -28,19 +27,15 @@ pub fn read(alloc: Global, bytes: &[u8]) -> Result<Image, ImageError>
 }
 
 // `read`, part by part.
-#[tactic(auto, unfolding(mm_model::specs::ImageReading::read_fault))]
 fn read_parts(alloc: Global, bytes: &[u8]) -> Result<Image, ImageError>
-    ensures { Gives (λ i. i) (read_fault bytes.now) (image_of bytes.now) result }
+    ensures { Gives (λ i. i) (image_fault bytes.now) (image_of bytes.now) result }
 {
     let reader = Reader { bytes };
     let header = reader.header()?;
     let slots = reader.slots(alloc, header.version, header.slots)?;
     reader.handlers(&slots)?;
     let pages = reader.pages(alloc, header.slots, header.pages)?;
-    let end = HEADER_BYTES
-        + SLOT_BYTES * usize::from(header.slots)
-        + PAGE_BYTES * usize::from(header.pages);
-    refuse_if(bytes.len() > end, ImageFault::Trailing, end)?;
+    reader.nothing_follows(header.slots, header.pages)?;
     Ok(Image {
         version: header.version,
         split: header.split,

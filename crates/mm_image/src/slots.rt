@@ -1,13 +1,15 @@
 //! The records of slots of an image file.
 
-ghost use Rattle.std.specs.Prelude.{◌≡◌, ℕ, ◌+◌, ◌^◌, ◌<◌, true, false, IfOk, List, length, slice_index_or};
+ghost use Rattle.std.specs.Prelude.{◌≡◌, ℕ, ◌+◌, ◌^◌, ◌<◌, true, false, IfOk, List, length, vec_len, slice_index_or};
 ghost use Rattle.mm_model.specs.Slot.{Slot};
 ghost use Rattle.mm_image.specs.Faults.{Gives};
 ghost use Rattle.mm_image.specs.Reading.{HoldsNumbers};
-ghost use Rattle.mm_model.specs.ImageReading.{slot_record_at, slot_record_fault, slots_at, slots_fault, handlers_fault, is_bad_handler};
+ghost use Rattle.mm_model.specs.Places.{first_bad};
+ghost use Rattle.mm_model.specs.ImageReading.{slot_record_at, slots_at};
+ghost use Rattle.mm_model.specs.ImageFaults.{slot_record_places, slots_places, is_bad_handler, handlers_places};
 
 use crate::fault::{ImageError, ImageFault};
-use crate::fields::{Reader, refuse_if};
+use crate::fields::Reader;
 use crate::header::slot_limit;
 use crate::layout::{HEADER_BYTES, SLOT_BYTES};
 use arrayvec::ArrayVec;
@@ -45,16 +47,16 @@ impl Reader<'_> {
     /// The slot whose record begins here. Its number and group are below the limit, and its number is no less than the least.
     pub fn slot(&self, limit: u8, least: u8, at: usize) -> Result<Slot, ImageError>
         requires { at < 2 ^ 39 }
-        ensures slot { Gives (λ s. s) (slot_record_fault self.now.bytes.now limit least at) (slot_record_at self.now.bytes.now at) result }
+        ensures slot { let bytes = self.now.bytes.now in Gives (λ s. s) (first_bad (length bytes) (slot_record_places bytes limit least at)) (slot_record_at bytes at) result }
         ensures number { IfOk result (λ s. s.number < limit) }
     {
         let number = self.u8_at(at)?;
-        refuse_if(number >= limit || number < least, ImageFault::SlotOrder, at)?;
+        self.refuse_if(number >= limit || number < least, ImageFault::SlotOrder, at)?;
         let group = self.u8_at(at + 1)?;
-        refuse_if(group >= limit, ImageFault::Group, at + 1)?;
+        self.refuse_if(group >= limit, ImageFault::Group, at + 1)?;
         let handler = self.u8_at(at + HANDLER)?;
         let state = self.u8_at(at + 3)?;
-        refuse_if(state > 1, ImageFault::State, at + 3)?;
+        self.refuse_if(state > 1, ImageFault::State, at + 3)?;
         let ip = self.ip(at + 4)?;
         let tags = self.u16_at(at + 12)?;
         let regs = self.registers(at, tags)?;
@@ -82,7 +84,8 @@ impl Reader<'_> {
 
     /// So many slots, with ascending numbers.
     pub fn slots(&self, alloc: Global, version: u16, count: u16) -> Result<Vec<Slot>, ImageError>
-        ensures { Gives (λ slots. slots.items) (slots_fault self.now.bytes.now version count) (slots_at self.now.bytes.now count) result }
+        ensures slots { let bytes = self.now.bytes.now in Gives (λ slots. slots.items) (first_bad (length bytes) (slots_places bytes version count)) (slots_at bytes count) result }
+        ensures count { IfOk result (λ slots. vec_len slots ≡ count) }
     {
         let limit = slot_limit(version);
         let mut slots = Vec::with_capacity(alloc, usize::from(count))?;
@@ -96,16 +99,15 @@ impl Reader<'_> {
     }
 
     /// Tests the handlers of the slots.
-    #[tactic(auto, unfolding(mm_model::specs::ImageReading::handlers_fault))]
     pub fn handlers(&self, slots: &[Slot]) -> Result<(), ImageError>
         requires count { length slots.now < 2 ^ 16 }
         requires slots { slots.now ≡ slots_at self.now.bytes.now (length slots.now) }
-        ensures { Gives (λ _. true) (handlers_fault self.now.bytes.now (length slots.now)) true result }
+        ensures { let bytes = self.now.bytes.now in Gives (λ _. true) (first_bad (length bytes) (handlers_places bytes slots.now)) true result }
     {
         let present = numbers(slots);
         for (k, slot) in slots.iter().enumerate() {
             let wrong = is_bad_handler(&present, slot);
-            refuse_if(
+            self.refuse_if(
                 wrong,
                 ImageFault::Handler,
                 HEADER_BYTES + SLOT_BYTES * k + HANDLER,

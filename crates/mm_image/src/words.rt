@@ -6,8 +6,10 @@ ghost use Rattle.mm_word.specs.Perm.{can_fetch};
 ghost use Rattle.mm_word.specs.Pointer.{IsWellFormed, pointer_of};
 ghost use Rattle.mm_word.specs.Word.{IsWord};
 ghost use Rattle.mm_image.specs.Faults.{Gives};
-ghost use Rattle.mm_model.specs.ImageFields.{short, field, bit};
-ghost use Rattle.mm_model.specs.ImageReading.{word_at, word_fault, ip_fault, registers_at, registers_fault};
+ghost use Rattle.mm_model.specs.Places.{place_fault, first_bad, number_at, bit_at, word_at, word_places, ip_places};
+ghost use Rattle.mm_model.specs.Places.Place.{Field};
+ghost use Rattle.mm_model.specs.ImageReading.{registers_at};
+ghost use Rattle.mm_model.specs.ImageFaults.{registers_places};
 
 use crate::fault::{ImageError, ImageFault};
 use crate::fields::{Reader, fault};
@@ -26,17 +28,17 @@ impl Reader<'_> {
     pub fn bit(&self, at: usize, place: usize) -> bool
         requires small { at < 2 ^ 40 }
         requires place { place < 512 }
-        requires whole { short self.now.bytes.now (at + 64) ≡ None }
-        ensures { result ≡ bit self.now.bytes.now at place }
+        requires whole { place_fault (length self.now.bytes.now) (Field at 64) ≡ None }
+        ensures { result ≡ bit_at self.now.bytes.now at place }
     {
         is_set(u16::from(self.bytes[at + place / 8]), place % 8)
     }
 
     /// A word: a pointer where it is tagged.
-    #[tactic(auto, unfolding(mm_model::specs::ImageReading::word_fault, mm_model::specs::ImageFields::bad))]
+    #[tactic(auto, unfolding(mm_model::specs::Places::place_fault))]
     pub fn word(&self, tagged: bool, at: usize) -> Result<Word, ImageError>
         requires { at < 2 ^ 40 }
-        ensures word { Gives (λ w. w) (word_fault self.now.bytes.now tagged at) (word_at self.now.bytes.now tagged at) result }
+        ensures word { let bytes = self.now.bytes.now in Gives (λ w. w) (first_bad (length bytes) (word_places bytes tagged at)) (word_at bytes tagged at) result }
         ensures holds { IfOk result IsWord }
     {
         let bits = self.u64_at(at)?;
@@ -50,10 +52,10 @@ impl Reader<'_> {
     }
 
     /// An instruction pointer.
-    #[tactic(auto, unfolding(mm_model::specs::ImageReading::ip_fault, mm_model::specs::ImageFields::bad))]
+    #[tactic(auto, unfolding(mm_model::specs::Places::place_fault))]
     pub fn ip(&self, at: usize) -> Result<GuardedPtr, ImageError>
         requires { at < 2 ^ 40 }
-        ensures ip { Gives (λ p. p) (ip_fault self.now.bytes.now at) (pointer_of (field self.now.bytes.now at 8)) result }
+        ensures ip { let bytes = self.now.bytes.now in Gives (λ p. p) (first_bad (length bytes) (ip_places bytes at)) (pointer_of (number_at bytes at 8)) result }
         ensures executable { IfOk result (λ p. can_fetch p.perm ≡ true) }
         ensures well_formed { IfOk result IsWellFormed }
     {
@@ -65,11 +67,11 @@ impl Reader<'_> {
     }
 
     /// The registers of the slot whose record begins here, with these tags.
-    #[tactic(auto, unfolding(mm_model::specs::ImageReading::registers_at, mm_model::specs::ImageReading::registers_fault))]
+    #[tactic(auto, unfolding(mm_model::specs::ImageReading::registers_at))]
     pub fn registers(&self, at: usize, tags: u16) -> Result<[Word; 16], ImageError>
         requires small { at < 2 ^ 39 }
-        requires tags { tags ≡ field self.now.bytes.now (at + 12) 2 }
-        ensures regs { Gives (λ regs. regs) (registers_fault self.now.bytes.now at) (registers_at self.now.bytes.now at) result }
+        requires tags { tags ≡ number_at self.now.bytes.now (at + 12) 2 }
+        ensures regs { let bytes = self.now.bytes.now in Gives (λ regs. regs) (first_bad (length bytes) (registers_places bytes at)) (registers_at bytes at) result }
         ensures count { IfOk result (λ regs. length regs ≡ 16) }
         ensures words { IfOk result (λ regs. AllByRecursion IsWord regs) }
     {

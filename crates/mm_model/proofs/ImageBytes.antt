@@ -1,12 +1,9 @@
 pub mod Numbers
-pub mod Chain
 pub mod Parts
 pub mod Ranges
 pub mod Rising
 pub mod Bitmaps
 pub mod Clean
-pub mod Places
-pub mod Whole
 pub mod CleanWords
 pub mod CleanRecords
 pub mod CleanImage

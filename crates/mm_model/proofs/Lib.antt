@@ -12,4 +12,5 @@ pub mod StateKeeps
 pub mod TurnBounds
 pub mod Starts
 pub mod Shortness
+pub mod Places
 pub mod ImageBytes

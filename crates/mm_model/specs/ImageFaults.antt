@@ -1,117 +1,97 @@
--- The first fault of an image file.
-use Rattle.std.specs.Prelude.{map, ℕ, zero, suc, ◌+◌, ◌*◌, ◌-◌, ◌/◌, ◌%◌, ◌^◌, Bool, false, not, ◌&&◌, ◌||◌, ◌==◌, nat_lt, nat_le, if◌then◌else◌, List, [], ◌∷◌, ◌++◌, length, take, drop, codes, Option, Some, None}
-use Rattle.std.specs.List.{flat_map, fold, list_any, range_with_len}
+-- The places of an image file, and its first fault.
+--
+-- The faults, each at its field:
+--  1 short, at the end of the file: a field is not whole
+--  2 magic
+--  3 version
+--  4 count: of slots, or the mode
+--  5 order of slots
+--  6 group
+--  7 handler
+--  8 state
+--  9 pointer
+-- 10 instruction pointer
+-- 11 order of pages
+-- 12 frames: of frames, or of pages
+-- 13 trailing, at the first byte too many
+use Rattle.std.specs.Prelude.{ℕ, ◌+◌, ◌*◌, ◌-◌, Bool, false, not, ◌||◌, ◌==◌, nat_lt, nat_le, List, [], ◌∷◌, ◌++◌, length, take, codes, Option, Some, None}
+use Rattle.std.specs.List.{list_any}
 use Rattle.std.specs.Str.{bytes_eq}
-use Rattle.mm_word.specs.Perm.{can_fetch}
-use Rattle.mm_word.specs.Pointer.{pointer_of, spells_pointer}
+use Rattle.mm_model.specs.Slot.{Slot}
 use Rattle.mm_model.specs.Image.{slot_limit, frame_limit}
+use Rattle.mm_model.specs.Places.{Place, first_bad, in_turn, number_at, mask_bit_at, least_number, end_places, word_places, ip_places, page_record_places}
+use Rattle.mm_model.specs.Places.Place.{Field, Test}
+use Rattle.mm_model.specs.ImageReading.{slot_offset, page_offset, version_of, slots_of, frames_of, pages_of, mode_number, slot_at, slots_at}
 
--- A place of the file: a field of so many bytes, and whether the fault of this number stands there.
-pub record Place : Type 0 where
-  pub at : ℕ
-  pub size : ℕ
-  pub number : ℕ
-  pub bad : Bool
+-- a slot of the list has this number
+abbrev pub has_number : List Slot → ℕ → Bool
+has_number slots n = list_any (λ s. s.number == n) slots
 
--- the first place that is not whole, which is fault 1 at the end of the file, or that is bad
-abbrev pub first_bad : ℕ → List Place → Option (ℕ × ℕ)
-first_bad end [] = None
-first_bad end (p ∷ places) = if nat_lt end (p.at + p.size) then Some (1, end) else if p.bad then Some (p.number, p.at) else first_bad end places
+-- the handler is the slot itself or no slot of the list
+abbrev pub is_bad_handler : List Slot → Slot → Bool
+is_bad_handler slots s = elim s.handler [ None ↦ false | Some h ↦ h == s.number || not (has_number slots h) ]
 
 module _ (bytes : List ℕ) where
-  -- the number that so many bytes from a place on spell, the greatest part first
-  abbrev pub number_at : ℕ → ℕ → ℕ
-  number_at at size = fold (λ n b. n * 256 + b) 0 (take size (drop at bytes))
+  -- the first four bytes
+  abbrev pub is_magic : Bool
+  is_magic = bytes_eq (take 4 bytes) (codes "MMI1")
 
-  -- bit k of the bits from a place on, the lowest bit of each byte first
-  abbrev pub bit_at : ℕ → ℕ → Bool
-  bit_at at k = number_at (at + k / 8) 1 / 2 ^ (k % 8) % 2 == 1
-
-  abbrev pub version_of : ℕ
-  version_of = number_at 4 2
-
-  abbrev pub slots_of : ℕ
-  slots_of = number_at 6 2
-
-  -- the place of the record of slot k, and of page k
-  abbrev pub slot_place : ℕ → ℕ
-  slot_place k = 16 + 142 * k
-
-  abbrev pub page_place : ℕ → ℕ
-  page_place k = 16 + 142 * slots_of + 4232 * k
-
-  -- the field at an offset of a record does not rise from one record to the next
-  abbrev pub does_not_rise : (ℕ → ℕ) → ℕ → ℕ → Bool
-  does_not_rise place size zero = false
-  does_not_rise place size (suc k) = nat_le (number_at (place (suc k)) size) (number_at (place k) size)
-
-  -- a tagged word is malformed
-  abbrev pub is_malformed : Bool → ℕ → Bool
-  is_malformed tagged at = tagged && not (spells_pointer (number_at at 8))
-
-  abbrev pub is_bad_ip : ℕ → Bool
-  is_bad_ip at = not (spells_pointer (number_at at 8)) || not (can_fetch (pointer_of (number_at at 8)).perm)
-
-  -- a handler byte is neither 255 nor the number of another slot
-  abbrev pub is_bad_handler : ℕ → Bool
-  is_bad_handler k =
-      let handler = number_at (slot_place k + 2) 1 in
-      not (handler == 255)
-      && (handler == number_at (slot_place k) 1 || not (list_any (λ other. number_at (slot_place other) 1 == handler) (range_with_len 0 slots_of)))
-
-  -- 2 magic, 3 version, 4 count, 12 frames
+  -- the header
   abbrev pub header_places : List Place
   header_places =
-      record { at = 0; size = 4; number = 2; bad = not (bytes_eq (take 4 bytes) (codes "MMI1")) }
-      ∷ record { at = 4; size = 2; number = 3; bad = not (version_of == 1 || version_of == 2) }
-      ∷ record { at = 6; size = 2; number = 4; bad = slots_of == 0 || nat_lt (slot_limit version_of) slots_of }
-      ∷ record { at = 8; size = 2; number = 12; bad = number_at 8 2 == 0 || nat_lt (frame_limit version_of) (number_at 8 2) }
-      ∷ record { at = 10; size = 2; number = 12; bad = nat_lt (number_at 8 2) (number_at 10 2) }
-      ∷ record { at = 12; size = 4; number = 4; bad = nat_lt (version_of - 1) (number_at 12 4) }
-      ∷ []
+      Field 0 4 ∷ Test 2 0 (not is_magic)
+      ∷ Field 4 2 ∷ Test 3 4 (not (version_of bytes == 1 || version_of bytes == 2))
+      ∷ Field 6 2 ∷ Test 4 6 (slots_of bytes == 0 || nat_lt (slot_limit (version_of bytes)) (slots_of bytes))
+      ∷ Field 8 2 ∷ Test 12 8 (frames_of bytes == 0 || nat_lt (frame_limit (version_of bytes)) (frames_of bytes))
+      ∷ Field 10 2 ∷ Test 12 10 (nat_lt (frames_of bytes) (pages_of bytes))
+      ∷ Field 12 4 ∷ Test 4 12 (nat_lt (version_of bytes - 1) (mode_number bytes)) ∷ []
 
-  -- 9 pointer
-  abbrev pub register_place : ℕ → ℕ → Place
-  register_place at r = record { at = at + 14 + 8 * r; size = 8; number = 9; bad = is_malformed (number_at (at + 12) 2 / 2 ^ r % 2 == 1) (at + 14 + 8 * r) }
+  -- register r of a record
+  abbrev pub register_places : (at r : ℕ) → List Place
+  register_places at r = word_places bytes (mask_bit_at bytes (at + 12) r) (at + 14 + 8 * r)
 
-  -- 5 order of slots, 6 group, 8 state, 10 instruction pointer; the handler and the tags are read
-  abbrev pub slot_places : ℕ → List Place
-  slot_places k =
-      let at = slot_place k in
-      record { at = at; size = 1; number = 5; bad = nat_le (slot_limit version_of) (number_at at 1) || does_not_rise slot_place 1 k }
-      ∷ record { at = at + 1; size = 1; number = 6; bad = nat_le (slot_limit version_of) (number_at (at + 1) 1) }
-      ∷ record { at = at + 2; size = 1; number = 7; bad = false }
-      ∷ record { at = at + 3; size = 1; number = 8; bad = nat_lt 1 (number_at (at + 3) 1) }
-      ∷ record { at = at + 4; size = 8; number = 10; bad = is_bad_ip (at + 4) }
-      ∷ record { at = at + 12; size = 2; number = 9; bad = false }
-      ∷ map (register_place at) (range_with_len 0 16)
+  -- all registers
+  abbrev pub registers_places : (at : ℕ) → List Place
+  registers_places at = in_turn (register_places at) 0 16
 
-  -- 7 handler
-  abbrev pub handler_place : ℕ → Place
-  handler_place k = record { at = slot_place k + 2; size = 1; number = 7; bad = is_bad_handler k }
+  -- the record of a slot whose numbers are below a limit, its own no less than the least that it may be
+  abbrev pub slot_record_places : (limit least at : ℕ) → List Place
+  slot_record_places limit least at =
+      Field at 1 ∷ Test 5 at (nat_le limit (number_at bytes at 1) || nat_lt (number_at bytes at 1) least)
+      ∷ Field (at + 1) 1 ∷ Test 6 (at + 1) (nat_le limit (number_at bytes (at + 1) 1))
+      ∷ Field (at + 2) 1
+      ∷ Field (at + 3) 1 ∷ Test 8 (at + 3) (nat_lt 1 (number_at bytes (at + 3) 1))
+      ∷ ip_places bytes (at + 4) ++ Field (at + 12) 2 ∷ registers_places at
 
-  -- 9 pointer
-  abbrev pub cell_place : ℕ → ℕ → Place
-  cell_place at k = record { at = at + 136 + 8 * k; size = 8; number = 9; bad = is_malformed (bit_at (at + 8) k) (at + 136 + 8 * k) }
+  -- slot k
+  abbrev pub slot_places : (version k : ℕ) → List Place
+  slot_places version k = slot_record_places (slot_limit version) (least_number bytes slot_offset 1 k) (slot_offset k)
 
-  -- 11 order of pages; the tags and the full bits are read
-  abbrev pub page_places : ℕ → List Place
-  page_places k =
-      let at = page_place k in
-      record { at = at; size = 8; number = 11; bad = nat_le (2 ^ 42) (number_at at 8) || does_not_rise page_place 8 k }
-      ∷ record { at = at + 8; size = 64; number = 9; bad = false }
-      ∷ record { at = at + 72; size = 64; number = 9; bad = false }
-      ∷ map (cell_place at) (range_with_len 0 512)
+  -- so many slots
+  abbrev pub slots_places : (version count : ℕ) → List Place
+  slots_places version count = in_turn (slot_places version) 0 count
 
-  -- 13 trailing
-  abbrev pub end_place : Place
-  end_place = let at = page_place (number_at 10 2) in record { at = at; size = 0; number = 13; bad = nat_lt at (length bytes) }
+  -- the handler of slot k
+  abbrev pub handler_places : (slots : List Slot) (k : ℕ) → List Place
+  handler_places slots k = Test 7 (slot_offset k + 2) (is_bad_handler slots (slot_at bytes k)) ∷ []
 
-  -- all places, in the order in which they are read
+  -- the handlers of all slots
+  abbrev pub handlers_places : (slots : List Slot) → List Place
+  handlers_places slots = in_turn (handler_places slots) 0 (length slots)
+
+  -- page k, behind so many slots
+  abbrev pub page_places : (slots k : ℕ) → List Place
+  page_places slots k = page_record_places bytes (least_number bytes (page_offset slots) 8 k) (page_offset slots k)
+
+  -- so many pages
+  abbrev pub pages_places : (slots count : ℕ) → List Place
+  pages_places slots count = in_turn (page_places slots) 0 count
+
+  -- all places in the order in which they are read: the handlers behind the last slot, since they name slots that may follow
   abbrev pub places : List Place
   places =
-      header_places ++ flat_map slot_places (range_with_len 0 slots_of) ++ map handler_place (range_with_len 0 slots_of)
-      ++ flat_map page_places (range_with_len 0 (number_at 10 2)) ++ end_place ∷ []
+      header_places ++ (slots_places (version_of bytes) (slots_of bytes) ++ (handlers_places (slots_at bytes (slots_of bytes))
+      ++ (pages_places (slots_of bytes) (pages_of bytes) ++ end_places bytes 13 (page_offset (slots_of bytes) (pages_of bytes)))))
 
   -- the number and the place of the first fault, if there is one
   unfoldable pub image_fault : Option (ℕ × ℕ)

@@ -23,5 +23,5 @@ pub mod Audit
 pub mod ImageFaults
 pub mod Counted
 pub mod CountFacts
-pub mod ImageFields
+pub mod Places
 pub mod ImageReading

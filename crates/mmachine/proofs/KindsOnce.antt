@@ -6,7 +6,6 @@ use Rattle.mm_model.specs.ImageFaults.{image_fault}
 use Rattle.mm_image.specs.declared.fault.ImageFault.{ImageFault}
 use Rattle.mm_image.specs.declared.fault.ImageFault.TheVariants as faults
 use Rattle.mm_image.specs.Faults.{number_of}
-use Rattle.mm_model.proofs.ImageBytes.Whole.{image_fault-read}
 use Rattle.mm_model.proofs.ImageBytes.SpelledImage.{spelled_clean, image_same}
 use Rattle.mm_sched.proofs.Texts.{never_both, fault_unique, means_unique}
 use Rattle.mmachine.specs.declared.status.Refusal.{Refusal}
@@ -54,7 +53,7 @@ one_image_fault bytes number kind other offset place one two =
     cc
 
 no_fault : (bytes : List ℕ) (i : Image) → Spells bytes i → image_fault bytes ≡ None
-no_fault bytes i s = image_fault-read bytes ∙ spelled_clean bytes i s.image s.spelled
+no_fault bytes i s = spelled_clean bytes i s.image s.spelled
 
 one_spelled : (bytes : List ℕ) (i j : Image) → Spells bytes i → Spells bytes j → i ≡ j
 one_spelled bytes i j one other = sym (image_same bytes i one.image one.spelled) ∙ image_same bytes j other.image other.spelled

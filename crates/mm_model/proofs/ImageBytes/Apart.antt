@@ -8,7 +8,7 @@ use Rattle.std.proofs.lemmas.List.{take_at, drop_at, take-take, drop-take, drop-
 use Rattle.std.proofs.lemmas.Nat.{from_be_bytes-to_be_bytes_2, from_be_bytes-to_be_bytes_4, from_be_bytes-to_be_bytes_8, shr-shr}
 use Rattle.mm_model.specs.Flags.{number_of_flags}
 use Rattle.mm_model.specs.Spelling.{bitmap}
-use Rattle.mm_model.specs.ImageFields.{field, bit}
+use Rattle.mm_model.specs.Places.{number_at, bit_at}
 use Rattle.mm_model.proofs.ImageBytes.Parts.{part}
 use Rattle.mm_model.proofs.ImageBytes.Numbers.{number_is_2, number_is_4, number_is_8}
 
@@ -42,20 +42,20 @@ module _ (bytes : List ℕ) where
 
   -- 2. Numbers.
 
-  pub number_in_8 : (at n : ℕ) → n < 2 ^ 64 → part bytes at 8 ≡ to_be_bytes w64 n → field bytes at 8 ≡ n
-  unfolding field
+  pub number_in_8 : (at n : ℕ) → n < 2 ^ 64 → part bytes at 8 ≡ to_be_bytes w64 n → number_at bytes at 8 ≡ n
+  unfolding number_at
   number_in_8 at n lt e = number_is_8 (part bytes at 8) (ap length e) ∙ ap (from_be_bytes w64) (sym (Rattle.mm_model.proofs.ImageBytes.Numbers.eight (part bytes at 8) (ap length e)) ∙ e) ∙ from_be_bytes-to_be_bytes_8 n lt
 
-  pub number_in_4 : (at n : ℕ) → n < 2 ^ 32 → part bytes at 4 ≡ to_be_bytes w32 n → field bytes at 4 ≡ n
-  unfolding field
+  pub number_in_4 : (at n : ℕ) → n < 2 ^ 32 → part bytes at 4 ≡ to_be_bytes w32 n → number_at bytes at 4 ≡ n
+  unfolding number_at
   number_in_4 at n lt e = number_is_4 (part bytes at 4) (ap length e) ∙ ap (from_be_bytes w32) (sym (Rattle.mm_model.proofs.ImageBytes.Numbers.four (part bytes at 4) (ap length e)) ∙ e) ∙ from_be_bytes-to_be_bytes_4 n lt
 
-  pub number_in_2 : (at n : ℕ) → n < 2 ^ 16 → part bytes at 2 ≡ to_be_bytes w16 n → field bytes at 2 ≡ n
-  unfolding field
+  pub number_in_2 : (at n : ℕ) → n < 2 ^ 16 → part bytes at 2 ≡ to_be_bytes w16 n → number_at bytes at 2 ≡ n
+  unfolding number_at
   number_in_2 at n lt e = number_is_2 (part bytes at 2) (ap length e) ∙ ap (from_be_bytes w16) (sym (Rattle.mm_model.proofs.ImageBytes.Numbers.two (part bytes at 2) (ap length e)) ∙ e) ∙ from_be_bytes-to_be_bytes_2 n lt
 
-  pub number_in_1 : (at n : ℕ) → part bytes at 1 ≡ n ∷ [] → field bytes at 1 ≡ n
-  unfolding field
+  pub number_in_1 : (at n : ℕ) → part bytes at 1 ≡ n ∷ [] → number_at bytes at 1 ≡ n
+  unfolding number_at
   number_in_1 at n e = let zero_more : 0 + n ≡ n = omega arith in ap (λ (xs : List ℕ). Rattle.std.specs.List.fold (λ m b. m * 256 + b) 0 xs) e ∙ zero_more
 
 -- 3. Flags.
@@ -85,22 +85,22 @@ flag-get (b ∷ fs) (suc r) lt =
     ∙ ap (λ n. n % 2 == 1) (sym (shr-shr (number_of_flags (b ∷ fs)) 1 r) ∙ ap (λ n. n / 2 ^ r) (half_flag b (number_of_flags fs))) ∙ flag-get fs r (omega arith)
 
 module _ (bytes : List ℕ) where
-  bytes_of_flags : (at count : ℕ) (fs : List Bool) → part bytes at count ≡ bitmap count fs → (i : ℕ) → i < count → field bytes (at + i) 1 ≡ number_of_flags (take 8 (drop (8 * i) fs))
+  bytes_of_flags : (at count : ℕ) (fs : List Bool) → part bytes at count ≡ bitmap count fs → (i : ℕ) → i < count → number_at bytes (at + i) 1 ≡ number_of_flags (take 8 (drop (8 * i) fs))
   bytes_of_flags at zero fs e i lt = absurd (omega arith)
   bytes_of_flags at (suc count) fs e zero lt =
       let two = split bytes at 1 count (number_of_flags (take 8 fs) ∷ []) (bitmap count (drop 8 fs)) (let all : 1 + count ≡ suc count = omega arith in ap (part bytes at) all ∙ e) refl in
       let here : at + 0 ≡ at = omega arith in
-      ap (λ n. field bytes n 1) here ∙ number_in_1 bytes at (number_of_flags (take 8 fs)) two.front
+      ap (λ n. number_at bytes n 1) here ∙ number_in_1 bytes at (number_of_flags (take 8 fs)) two.front
   bytes_of_flags at (suc count) fs e (suc i) lt =
       let two = split bytes at 1 count (number_of_flags (take 8 fs) ∷ []) (bitmap count (drop 8 fs)) (let all : 1 + count ≡ suc count = omega arith in ap (part bytes at) all ∙ e) refl in
       let there : at + suc i ≡ at + 1 + i = omega arith in
       let past : 8 + 8 * i ≡ 8 * suc i = omega arith in
-      ap (λ n. field bytes n 1) there ∙ bytes_of_flags (at + 1) count (drop 8 fs) two.back i (omega arith)
+      ap (λ n. number_at bytes n 1) there ∙ bytes_of_flags (at + 1) count (drop 8 fs) two.back i (omega arith)
       ∙ ap (λ xs. number_of_flags (take 8 xs)) (drop-drop (8 * i) 8 fs ∙ ap (λ n. drop n fs) past)
 
   -- a bit of a bitmap
-  pub bit-bitmap : (at : ℕ) (fs : List Bool) → length fs ≡ 512 → part bytes at 64 ≡ bitmap 64 fs → (k : ℕ) → k < 512 → bit bytes at k ≡ get_or fs k false
-  bit-bitmap at fs len e k lt =
+  pub bit_at-bitmap : (at : ℕ) (fs : List Bool) → length fs ≡ 512 → part bytes at 64 ≡ bitmap 64 fs → (k : ℕ) → k < 512 → bit_at bytes at k ≡ get_or fs k false
+  bit_at-bitmap at fs len e k lt =
       let i = k / 8 in
       let j = k % 8 in
       let group = take 8 (drop (8 * i) fs) in

@@ -15,24 +15,26 @@ use Rattle.mm_model.specs.Memory.{IsPage}
 use Rattle.mm_model.specs.Slot.{Slot}
 use Rattle.mm_model.specs.Image.{slot_limit}
 use Rattle.mm_model.specs.Spelling.{numbers_of, IsFresh, IsImage, HoldsWords, mode_of, slot_record, page_record, header, spelling, Spells}
-use Rattle.mm_model.specs.ImageFields.{field}
-use Rattle.mm_model.specs.ImageReading.{header_fault, slot_at, slot_fault, slots_at, slots_fault, least_slot, slot_offset, handler_fault, handlers_fault, is_bad_handler, page_at, page_fault, pages_at, pages_fault, least_page, page_offset, end_fault, read_fault, image_of}
-use Rattle.mm_model.proofs.ImageBytes.Chain.{both_clean, is_right, each_clean}
-use Rattle.mm_model.proofs.ImageBytes.Clean.{IsCleanHeader, clean_header, is_above, is_not}
+use Rattle.mm_model.specs.Places.{first_bad, number_at, end_places, least_number}
+use Rattle.mm_model.specs.ImageReading.{slot_offset, page_offset, version_of, slots_of, frames_of, pages_of, mode_number, slot_at, slots_at, page_at, pages_at, image_of}
+use Rattle.mm_model.specs.ImageFaults.{slot_places, slots_places, is_bad_handler, handler_places, handlers_places, page_places, pages_places, image_fault}
+use Rattle.mm_model.proofs.Places.{both_clean, clean_at, is_right, each_clean}
+use Rattle.mm_model.proofs.ImageBytes.Clean.{IsCleanHeader, clean_header, H, S, T, P, E, in_parts, is_above, is_not}
 use Rattle.mm_model.proofs.ImageBytes.Parts.{IsBytes, part, join_at, join_records, two_bytes, four_bytes}
 use Rattle.mm_model.proofs.ImageBytes.Ranges.{all_range, map-map}
 use Rattle.mm_model.proofs.ImageBytes.Rising.{AreRisingFrom, sorted_from}
 use Rattle.mm_model.proofs.ImageBytes.CleanRecords.{IsSpelledSlot, slot_clean, IsSpelledPage, page_clean}
-use Rattle.mm_model.proofs.ImageBytes.Whole.{all_ends}
 
 module _ (bytes : List ℕ) (fits : IsBytes bytes) where
+  abbrev end : ℕ
+  end = length bytes
+
   -- 1. The slots.
 
-  each_slot : (version count : ℕ) → slots_fault bytes version count ≡ None → (k : ℕ) → k < count → IsSpelledSlot bytes fits (slot_limit version) (least_slot bytes k) (slot_offset k)
-  unfolding slot_fault
-  each_slot version count clean k lt = slot_clean bytes fits (slot_limit version) (least_slot bytes k) (slot_offset k) (each_clean (slot_fault bytes version) 0 count clean k (omega arith) (omega arith))
+  each_slot : (version count : ℕ) → first_bad end (slots_places bytes version count) ≡ None → (k : ℕ) → k < count → IsSpelledSlot bytes fits (slot_limit version) (least_number bytes slot_offset 1 k) (slot_offset k)
+  each_slot version count clean k lt = slot_clean bytes fits (slot_limit version) (least_number bytes slot_offset 1 k) (slot_offset k) (each_clean end (slot_places bytes version) 0 count clean k (omega arith) (omega arith))
 
-  slots_text : (version count : ℕ) → slots_fault bytes version count ≡ None → flat_map slot_record (slots_at bytes count) ≡ part bytes 16 (142 * count)
+  slots_text : (version count : ℕ) → first_bad end (slots_places bytes version count) ≡ None → flat_map slot_record (slots_at bytes count) ≡ part bytes 16 (142 * count)
   unfolding slots_at
   slots_text version count clean =
       flat_map-map slot_record (slot_at bytes) (range_with_len 0 count)
@@ -42,7 +44,7 @@ module _ (bytes : List ℕ) (fits : IsBytes bytes) where
   unfolding slots_at
   length-slots count = length-map-range_with_len (slot_at bytes) 0 count
 
-  slots_rise : (version count : ℕ) → slots_fault bytes version count ≡ None → IsStrictlyIncreasing (numbers_of (slots_at bytes count))
+  slots_rise : (version count : ℕ) → first_bad end (slots_places bytes version count) ≡ None → IsStrictlyIncreasing (numbers_of (slots_at bytes count))
   unfolding slots_at
   slots_rise version count clean = λ k lt.
       let number : ℕ → ℕ = λ j. (slot_at bytes j).number in
@@ -50,24 +52,23 @@ module _ (bytes : List ℕ) (fits : IsBytes bytes) where
       let small : k + 1 < count = omega (arith, ap length same, length-map-range_with_len number 0 count) in
       let this : slice_index (numbers_of (map (slot_at bytes) (range_with_len 0 count))) k ≡ number k = ap (λ xs. get_or xs k 0) same ∙ get_or-map-range_with_len number 0 count k k 0 (omega arith) (omega arith) in
       let next : slice_index (numbers_of (map (slot_at bytes) (range_with_len 0 count))) (k + 1) ≡ number (k + 1) = ap (λ xs. get_or xs (k + 1) 0) same ∙ get_or-map-range_with_len number 0 count (k + 1) (k + 1) 0 small (omega arith) in
-      let least : least_slot bytes (k + 1) ≡ number k + 1 = let one : k + 1 ≡ suc k = omega arith in ap (least_slot bytes) one in
+      let least : least_number bytes slot_offset 1 (k + 1) ≡ number k + 1 = let one : k + 1 ≡ suc k = omega arith in ap (least_number bytes slot_offset 1) one in
       let order = (each_slot version count clean (k + 1) small).order in
       omega (arith, this, next, least, order)
 
-  slots_fresh : (version count : ℕ) → slots_fault bytes version count ≡ None → handlers_fault bytes count ≡ None → AllByRecursion (IsFresh (slot_limit version) (slots_at bytes count)) (slots_at bytes count)
-  unfolding slots_at handlers_fault
+  slots_fresh : (version count : ℕ) → first_bad end (slots_places bytes version count) ≡ None → first_bad end (handlers_places bytes (slots_at bytes count)) ≡ None → AllByRecursion (IsFresh (slot_limit version) (slots_at bytes count)) (slots_at bytes count)
+  unfolding slots_at
   slots_fresh version count clean handlers =
       let slots : List Slot = map (slot_at bytes) (range_with_len 0 count) in
       all_range (IsFresh (slot_limit version) slots) (slot_at bytes) 0 count (λ k low high.
-      (each_slot version count clean k (omega arith)).fresh slots (is_right (is_bad_handler slots (slot_at bytes k)) 7 (slot_offset k + 2) (each_clean (handler_fault bytes slots) 0 count handlers k low high)))
+      (each_slot version count clean k (omega arith)).fresh slots (is_right end _ _ _ (clean_at end (handler_places bytes slots k) (each_clean end (handler_places bytes slots) 0 (length slots) handlers k low (omega (arith, length-map-range_with_len (slot_at bytes) 0 count))) 0)))
 
   -- 2. The pages.
 
-  each_page : (slots count : ℕ) → pages_fault bytes slots count ≡ None → (k : ℕ) → k < count → IsSpelledPage bytes fits (least_page bytes slots k) (page_offset slots k)
-  unfolding page_fault
-  each_page slots count clean k lt = page_clean bytes fits (least_page bytes slots k) (page_offset slots k) (each_clean (page_fault bytes slots) 0 count clean k (omega arith) (omega arith))
+  each_page : (slots count : ℕ) → first_bad end (pages_places bytes slots count) ≡ None → (k : ℕ) → k < count → IsSpelledPage bytes fits (least_number bytes (page_offset slots) 8 k) (page_offset slots k)
+  each_page slots count clean k lt = page_clean bytes fits (least_number bytes (page_offset slots) 8 k) (page_offset slots k) (each_clean end (page_places bytes slots) 0 count clean k (omega arith) (omega arith))
 
-  pages_text : (slots count : ℕ) → pages_fault bytes slots count ≡ None → flat_map page_record (pages_at bytes slots count) ≡ part bytes (16 + 142 * slots) (4232 * count)
+  pages_text : (slots count : ℕ) → first_bad end (pages_places bytes slots count) ≡ None → flat_map page_record (pages_at bytes slots count) ≡ part bytes (16 + 142 * slots) (4232 * count)
   unfolding pages_at
   pages_text slots count clean =
       let start : 16 + 142 * slots + 4232 * 0 ≡ 16 + 142 * slots = omega arith in
@@ -79,21 +80,21 @@ module _ (bytes : List ℕ) (fits : IsBytes bytes) where
   unfolding pages_at
   length-pages slots count = length-map-range_with_len (page_at bytes slots) 0 count
 
-  rise_from : (slots from n : ℕ) → ((k : ℕ) → k < from + n → least_page bytes slots k ≤ (page_at bytes slots k).0) → AreRisingFrom (least_page bytes slots from) (map (page_at bytes slots) (range_with_len from n))
+  rise_from : (slots from n : ℕ) → ((k : ℕ) → k < from + n → least_number bytes (page_offset slots) 8 k ≤ (page_at bytes slots k).0) → AreRisingFrom (least_number bytes (page_offset slots) 8 from) (map (page_at bytes slots) (range_with_len from n))
   rise_from slots from zero h = tt
   rise_from slots from (suc n) h =
       let next : from + 1 ≡ suc from = omega arith in
-      (h from (omega arith), subst (λ m. AreRisingFrom m (map (page_at bytes slots) (range_with_len (from + 1) n))) (ap (least_page bytes slots) next) (rise_from slots (from + 1) n (λ k lt. h k (omega arith))))
+      (h from (omega arith), subst (λ m. AreRisingFrom m (map (page_at bytes slots) (range_with_len (from + 1) n))) (ap (least_number bytes (page_offset slots) 8) next) (rise_from slots (from + 1) n (λ k lt. h k (omega arith))))
 
-  pages_rise : (slots count : ℕ) → pages_fault bytes slots count ≡ None → IsTrue (is_sorted nat_cmp (pages_at bytes slots count))
+  pages_rise : (slots count : ℕ) → first_bad end (pages_places bytes slots count) ≡ None → IsTrue (is_sorted nat_cmp (pages_at bytes slots count))
   unfolding pages_at
   pages_rise slots count clean = sorted_from 0 (map (page_at bytes slots) (range_with_len 0 count)) (rise_from slots 0 count (λ k lt. (each_page slots count clean k (omega arith)).order))
 
-  pages_whole : (slots count : ℕ) → pages_fault bytes slots count ≡ None → AllByRecursion IsPage (pages_at bytes slots count)
+  pages_whole : (slots count : ℕ) → first_bad end (pages_places bytes slots count) ≡ None → AllByRecursion IsPage (pages_at bytes slots count)
   unfolding pages_at
   pages_whole slots count clean = all_range IsPage (page_at bytes slots) 0 count (λ k low high. (each_page slots count clean k (omega arith)).page)
 
-  pages_words : (slots count : ℕ) → pages_fault bytes slots count ≡ None → AllByRecursion HoldsWords (pages_at bytes slots count)
+  pages_words : (slots count : ℕ) → first_bad end (pages_places bytes slots count) ≡ None → AllByRecursion HoldsWords (pages_at bytes slots count)
   unfolding pages_at
   pages_words slots count clean = all_range HoldsWords (page_at bytes slots) 0 count (λ k low high. (each_page slots count clean k (omega arith)).words)
 
@@ -115,94 +116,100 @@ module _ (bytes : List ℕ) (fits : IsBytes bytes) where
 
   abbrev spelled_header : List ℕ
   spelled_header =
-      codes "MMI1" ++ to_be_bytes w16 (field bytes 4 2) ++ to_be_bytes w16 (field bytes 6 2) ++ to_be_bytes w16 (field bytes 8 2) ++ to_be_bytes w16 (field bytes 10 2)
-      ++ to_be_bytes w32 (mode_of (field bytes 12 4 == 1))
+      codes "MMI1" ++ to_be_bytes w16 (version_of bytes) ++ to_be_bytes w16 (slots_of bytes) ++ to_be_bytes w16 (frames_of bytes) ++ to_be_bytes w16 (pages_of bytes)
+      ++ to_be_bytes w32 (mode_of (mode_number bytes == 1))
 
-  version_small : IsCleanHeader bytes → field bytes 4 2 ≤ 2
-  version_small h = elim (one_or_two (field bytes 4 2) h.version) [ inl one ↦ omega (arith, one) | inr two ↦ omega (arith, two) ]
+  version_small : IsCleanHeader bytes → version_of bytes ≤ 2
+  version_small h = elim (one_or_two (version_of bytes) h.version) [ inl one ↦ omega (arith, one) | inr two ↦ omega (arith, two) ]
 
   header_text : IsCleanHeader bytes → spelled_header ≡ part bytes 0 16
   header_text h =
       let long = h.whole in
       let magic : codes "MMI1" ≡ part bytes 0 4 = sym ((bytes_eq-Decides (take 4 bytes) (codes "MMI1")).0 h.magic) in
-      let mode : to_be_bytes w32 (mode_of (field bytes 12 4 == 1)) ≡ part bytes 12 4 =
-      ap (to_be_bytes w32) (mode_again (field bytes 12 4 == 1) (field bytes 12 4) (omega (arith, h.mode, version_small h)) refl) ∙ four_bytes bytes 12 fits (omega (arith, long)) in
+      let mode : to_be_bytes w32 (mode_of (mode_number bytes == 1)) ≡ part bytes 12 4 =
+      ap (to_be_bytes w32) (mode_again (mode_number bytes == 1) (mode_number bytes) (omega (arith, h.mode, version_small h)) refl) ∙ four_bytes bytes 12 fits (omega (arith, long)) in
       let a = codes "MMI1" in
-      let b = to_be_bytes w16 (field bytes 4 2) in
-      let c = to_be_bytes w16 (field bytes 6 2) in
-      let d = to_be_bytes w16 (field bytes 8 2) in
-      let e = to_be_bytes w16 (field bytes 10 2) in
+      let b = to_be_bytes w16 (version_of bytes) in
+      let c = to_be_bytes w16 (slots_of bytes) in
+      let d = to_be_bytes w16 (frames_of bytes) in
+      let e = to_be_bytes w16 (pages_of bytes) in
       let t0 = join_at bytes 0 4 4 2 6 a b magic (two_bytes bytes 4 fits (omega (arith, long))) refl refl in
       let t1 = join_at bytes 0 6 6 2 8 (a ++ b) c t0 (two_bytes bytes 6 fits (omega (arith, long))) refl refl in
       let t2 = join_at bytes 0 8 8 2 10 (a ++ b ++ c) d t1 (two_bytes bytes 8 fits (omega (arith, long))) refl refl in
       let t3 = join_at bytes 0 10 10 2 12 (a ++ b ++ c ++ d) e t2 (two_bytes bytes 10 fits (omega (arith, long))) refl refl in
-      join_at bytes 0 12 12 4 16 (a ++ b ++ c ++ d ++ e) (to_be_bytes w32 (mode_of (field bytes 12 4 == 1))) t3 mode refl refl
+      join_at bytes 0 12 12 4 16 (a ++ b ++ c ++ d ++ e) (to_be_bytes w32 (mode_of (mode_number bytes == 1))) t3 mode refl refl
 
   -- 4. The image.
 
   pub record IsCleanImage : Type 0 where
-    pub head : header_fault bytes ≡ None
-    pub slots : slots_fault bytes (field bytes 4 2) (field bytes 6 2) ≡ None
-    pub handlers : handlers_fault bytes (field bytes 6 2) ≡ None
-    pub pages : pages_fault bytes (field bytes 6 2) (field bytes 10 2) ≡ None
-    pub end : end_fault bytes (page_offset (field bytes 6 2) (field bytes 10 2)) ≡ None
+    pub head : H bytes ≡ None
+    pub slots : S bytes ≡ None
+    pub handlers : T bytes ≡ None
+    pub pages : P bytes ≡ None
+    pub trailing : E bytes ≡ None
 
-  parts_clean : read_fault bytes ≡ None → IsCleanImage
-  unfolding read_fault
+  parts_clean : image_fault bytes ≡ None → IsCleanImage
   parts_clean e =
-      let p0 = both_clean _ _ e in
+      let p0 = both_clean _ _ (sym (in_parts bytes) ∙ e) in
       let p1 = both_clean _ _ p0.1 in
       let p2 = both_clean _ _ p1.1 in
       let p3 = both_clean _ _ p2.1 in
-      record { head = p0.0; slots = p1.0; handlers = p2.0; pages = p3.0; end = p3.1 }
+      record { head = p0.0; slots = p1.0; handlers = p2.0; pages = p3.0; trailing = p3.1 }
 
   is_image : IsCleanImage → IsImage (image_of bytes)
   unfolding image_of
   is_image clean =
       let h = clean_header bytes clean.head in
-      let version = field bytes 4 2 in
-      let count = field bytes 6 2 in
-      let many = field bytes 10 2 in
+      let version = version_of bytes in
+      let count = slots_of bytes in
+      let many = pages_of bytes in
       let slots_length = length-slots count in
       let pages_length = length-pages count many in
       record {
         version = one_or_two version h.version;
-        mode = λ one. not_split (field bytes 12 4) (omega (arith, h.mode, one));
+        mode = λ one. not_split (mode_number bytes) (omega (arith, h.mode, one));
         some_slots = omega (arith, slots_length, h.some_slots);
         few_slots = subst (λ n. n ≤ slot_limit version) (sym slots_length) h.few_slots;
         rising = slots_rise version count clean.slots;
         fresh = slots_fresh version count clean.slots clean.handlers;
         some_frames = h.some_frames;
         few_frames = h.few_frames;
-        paged = record { rising = pages_rise count many clean.pages; whole = pages_whole count many clean.pages; fitting = subst (λ n. n ≤ field bytes 8 2) (sym pages_length) h.few_pages };
+        paged = record { rising = pages_rise count many clean.pages; whole = pages_whole count many clean.pages; fitting = subst (λ n. n ≤ frames_of bytes) (sym pages_length) h.few_pages };
         words = pages_words count many clean.pages;
       }
 
-  end_is : IsCleanImage → length bytes ≡ page_offset (field bytes 6 2) (field bytes 10 2)
-  unfolding field
+  -- where everything is whole the records end within the file
+  end_of_slots : (version count : ℕ) → 16 ≤ end → first_bad end (slots_places bytes version count) ≡ None → 16 + 142 * count ≤ end
+  end_of_slots version zero header clean = omega arith
+  end_of_slots version (suc k) header clean = omega (arith, (each_slot version (suc k) clean k (omega arith)).within)
+
+  end_of_pages : (slots count : ℕ) → 16 + 142 * slots ≤ end → first_bad end (pages_places bytes slots count) ≡ None → page_offset slots count ≤ end
+  end_of_pages slots zero before clean = omega arith
+  end_of_pages slots (suc k) before clean = omega (arith, (each_page slots (suc k) clean k (omega arith)).within)
+
+  end_is : IsCleanImage → end ≡ page_offset (slots_of bytes) (pages_of bytes)
   end_is clean =
-      let at = page_offset (field bytes 6 2) (field bytes 10 2) in
-      let low : at ≤ length bytes = all_ends bytes clean.head clean.slots (field bytes 10 2) clean.pages in
-      let high = is_above at (length bytes) (is_right _ 13 at clean.end) in
+      let low = end_of_pages (slots_of bytes) (pages_of bytes) (end_of_slots _ (slots_of bytes) (clean_header bytes clean.head).whole clean.slots) clean.pages in
+      let high = is_above _ _ (is_right end _ _ _ (clean_at end (end_places bytes 13 (page_offset (slots_of bytes) (pages_of bytes))) clean.trailing 0)) in
       omega (arith, low, high)
 
   spelled : IsCleanImage → bytes ≡ spelling (image_of bytes)
   unfolding spelling image_of
   spelled clean =
       let h = clean_header bytes clean.head in
-      let count = field bytes 6 2 in
-      let many = field bytes 10 2 in
+      let count = slots_of bytes in
+      let many = pages_of bytes in
       let slots = flat_map slot_record (slots_at bytes count) in
       let pages = flat_map page_record (pages_at bytes count many) in
       let head : header (image_of bytes) ≡ spelled_header =
-      ap (λ n. codes "MMI1" ++ to_be_bytes w16 (field bytes 4 2) ++ to_be_bytes w16 n ++ to_be_bytes w16 (field bytes 8 2) ++ to_be_bytes w16 (length (pages_at bytes count many)) ++ to_be_bytes w32 (mode_of (field bytes 12 4 == 1))) (length-slots count)
-      ∙ ap (λ n. codes "MMI1" ++ to_be_bytes w16 (field bytes 4 2) ++ to_be_bytes w16 count ++ to_be_bytes w16 (field bytes 8 2) ++ to_be_bytes w16 n ++ to_be_bytes w32 (mode_of (field bytes 12 4 == 1))) (length-pages count many) in
-      let t0 = join_at bytes 0 16 16 (142 * count) (16 + 142 * count) (header (image_of bytes)) slots (head ∙ header_text h) (slots_text (field bytes 4 2) count clean.slots) refl refl in
+      ap (λ n. codes "MMI1" ++ to_be_bytes w16 (version_of bytes) ++ to_be_bytes w16 n ++ to_be_bytes w16 (frames_of bytes) ++ to_be_bytes w16 (length (pages_at bytes count many)) ++ to_be_bytes w32 (mode_of (mode_number bytes == 1))) (length-slots count)
+      ∙ ap (λ n. codes "MMI1" ++ to_be_bytes w16 (version_of bytes) ++ to_be_bytes w16 count ++ to_be_bytes w16 (frames_of bytes) ++ to_be_bytes w16 n ++ to_be_bytes w32 (mode_of (mode_number bytes == 1))) (length-pages count many) in
+      let t0 = join_at bytes 0 16 16 (142 * count) (16 + 142 * count) (header (image_of bytes)) slots (head ∙ header_text h) (slots_text (version_of bytes) count clean.slots) refl refl in
       let t1 = join_at bytes 0 (16 + 142 * count) (16 + 142 * count) (4232 * many) (16 + 142 * count + 4232 * many) (header (image_of bytes) ++ slots) pages t0 (pages_text count many clean.pages) (omega arith) refl in
       let whole : part bytes 0 (16 + 142 * count + 4232 * many) ≡ bytes = take_all (16 + 142 * count + 4232 * many) bytes (omega (arith, end_is clean)) in
       sym (t1 ∙ whole)
 
-  pub clean_spells : read_fault bytes ≡ None → Spells bytes (image_of bytes)
+  pub clean_spells : image_fault bytes ≡ None → Spells bytes (image_of bytes)
   clean_spells e =
       let clean = parts_clean e in
       record { image = is_image clean; spelled = spelled clean }

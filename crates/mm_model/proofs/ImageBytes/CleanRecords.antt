@@ -10,8 +10,9 @@ use Rattle.mm_model.specs.Flags.{number_of_flags}
 use Rattle.mm_model.specs.Memory.{IsPage}
 use Rattle.mm_model.specs.Slot.{Slot}
 use Rattle.mm_model.specs.Spelling.{Begins, IsOther, IsFresh, HoldsWords, handler_byte, state_byte, words_spelling, bitmap, slot_record, page_record}
-use Rattle.mm_model.specs.ImageFields.{field}
-use Rattle.mm_model.specs.ImageReading.{has_number, is_bad_handler, slot_record_at, slot_record_fault, cells_at, page_record_at, page_record_fault}
+use Rattle.mm_model.specs.Places.{first_bad, number_at, cells_at, page_record_at, page_record_places}
+use Rattle.mm_model.specs.ImageReading.{slot_record_at}
+use Rattle.mm_model.specs.ImageFaults.{has_number, is_bad_handler, slot_record_places}
 use Rattle.mm_model.proofs.ImageBytes.Clean.{IsCleanSlot, clean_slot, clean_page, neither, not_not, is_not}
 use Rattle.mm_model.proofs.ImageBytes.Parts.{IsBytes, part, join_at, one_byte, two_bytes, eight_bytes}
 use Rattle.mm_model.proofs.ImageBytes.CleanWords.{IsSpelledIp, ip_clean, AreSpelledRegisters, registers_clean, AreSpelledCells, cells_clean}
@@ -58,8 +59,8 @@ module _ (bytes : List ℕ) (fits : IsBytes bytes) where
   pub record IsSpelledSlot (limit least at : ℕ) : Type 0 where
     pub within : at + 142 ≤ length bytes
     pub text : slot_record (slot_record_at bytes at) ≡ part bytes at 142
-    pub number : field bytes at 1 < limit
-    pub order : least ≤ field bytes at 1
+    pub number : number_at bytes at 1 < limit
+    pub order : least ≤ number_at bytes at 1
     pub fresh : (slots : List Slot) → is_bad_handler slots (slot_record_at bytes at) ≡ false → IsFresh limit slots (slot_record_at bytes at)
 
   slot_text : (limit least at : ℕ) → IsCleanSlot bytes limit least at → IsSpelledIp bytes fits (at + 4) → AreSpelledRegisters bytes fits at → slot_record (slot_record_at bytes at) ≡ part bytes at 142
@@ -67,8 +68,8 @@ module _ (bytes : List ℕ) (fits : IsBytes bytes) where
   slot_text limit least at clean ip regs =
       let s = slot_record_at bytes at in
       let long = regs.within in
-      let handler : handler_byte s.handler ∷ [] ≡ part bytes (at + 2) 1 = ap (λ n. n ∷ []) (handler_again (field bytes (at + 2) 1 == 255) (field bytes (at + 2) 1) refl) ∙ one_byte bytes (at + 2) (omega (arith, long)) in
-      let state : state_byte s.state ∷ [] ≡ part bytes (at + 3) 1 = ap (λ n. n ∷ []) (state_again (field bytes (at + 3) 1 == 0) (field bytes (at + 3) 1) clean.state refl) ∙ one_byte bytes (at + 3) (omega (arith, long)) in
+      let handler : handler_byte s.handler ∷ [] ≡ part bytes (at + 2) 1 = ap (λ n. n ∷ []) (handler_again (number_at bytes (at + 2) 1 == 255) (number_at bytes (at + 2) 1) refl) ∙ one_byte bytes (at + 2) (omega (arith, long)) in
+      let state : state_byte s.state ∷ [] ≡ part bytes (at + 3) 1 = ap (λ n. n ∷ []) (state_again (number_at bytes (at + 3) 1 == 0) (number_at bytes (at + 3) 1) clean.state refl) ∙ one_byte bytes (at + 3) (omega (arith, long)) in
       let t2 = join_at bytes (at + 2) (at + 3) 1 1 2 (handler_byte s.handler ∷ []) (state_byte s.state ∷ []) handler state (omega arith) (omega arith) in
       let t1 = join_at bytes (at + 1) (at + 2) 1 2 3 (s.group ∷ []) (handler_byte s.handler ∷ state_byte s.state ∷ []) (one_byte bytes (at + 1) (omega (arith, long))) t2 (omega arith) (omega arith) in
       let t0 = join_at bytes at (at + 1) 1 3 4 (s.number ∷ []) (s.group ∷ handler_byte s.handler ∷ state_byte s.state ∷ []) (one_byte bytes at (omega (arith, long))) t1 (omega arith) (omega arith) in
@@ -78,7 +79,7 @@ module _ (bytes : List ℕ) (fits : IsBytes bytes) where
       let u1 = join_at bytes at (at + 12) 12 2 14 (head ++ to_be_bytes w64 (bits_of s.ip)) (to_be_bytes w16 (number_of_flags (map is_pointer s.regs))) u0 tags (omega arith) (omega arith) in
       join_at bytes at (at + 14) 14 128 142 (head ++ to_be_bytes w64 (bits_of s.ip) ++ to_be_bytes w16 (number_of_flags (map is_pointer s.regs))) (words_spelling s.regs) u1 regs.text (omega arith) (omega arith)
 
-  pub slot_clean : (limit least at : ℕ) → slot_record_fault bytes limit least at ≡ None → IsSpelledSlot limit least at
+  pub slot_clean : (limit least at : ℕ) → first_bad (length bytes) (slot_record_places bytes limit least at) ≡ None → IsSpelledSlot limit least at
   slot_clean limit least at e =
       let clean = clean_slot bytes limit least at e in
       let ip = ip_clean bytes fits (at + 4) clean.ip in
@@ -91,8 +92,8 @@ module _ (bytes : List ℕ) (fits : IsBytes bytes) where
         fresh = λ slots right. record {
           number = clean.number;
           group = clean.group;
-          handler = handler_is_other slots (field bytes at 1) (slot_record_at bytes at).handler right;
-          begins = state_begins (field bytes (at + 3) 1 == 0);
+          handler = handler_is_other slots (number_at bytes at 1) (slot_record_at bytes at).handler right;
+          begins = state_begins (number_at bytes (at + 3) 1 == 0);
           executable = ip.executable;
           ip = ip.pointer;
           registers = regs.count;
@@ -109,14 +110,14 @@ module _ (bytes : List ℕ) (fits : IsBytes bytes) where
   pub record IsSpelledPage (least at : ℕ) : Type 0 where
     pub within : at + 4232 ≤ length bytes
     pub text : page_record (page_record_at bytes at) ≡ part bytes at 4232
-    pub order : least ≤ field bytes at 8
+    pub order : least ≤ number_at bytes at 8
     pub page : IsPage (page_record_at bytes at)
     pub words : HoldsWords (page_record_at bytes at)
 
   page_text : (at : ℕ) → AreSpelledCells bytes fits at → page_record (page_record_at bytes at) ≡ part bytes at 4232
   unfolding page_record
   page_text at cells =
-      let number = to_be_bytes w64 (field bytes at 8) in
+      let number = to_be_bytes w64 (number_at bytes at 8) in
       let tags = bitmap 64 (map (λ (c : Cell). is_pointer c.word) (cells_at bytes at)) in
       let full = bitmap 64 (map (λ (c : Cell). c.full) (cells_at bytes at)) in
       let words = words_spelling (map (λ (c : Cell). c.word) (cells_at bytes at)) in
@@ -125,7 +126,7 @@ module _ (bytes : List ℕ) (fits : IsBytes bytes) where
       let t1 = join_at bytes at (at + 72) 72 64 136 (number ++ tags) full t0 cells.full (omega arith) (omega arith) in
       join_at bytes at (at + 136) 136 4096 4232 (number ++ tags ++ full) words t1 cells.text (omega arith) (omega arith)
 
-  pub page_clean : (least at : ℕ) → page_record_fault bytes least at ≡ None → IsSpelledPage least at
+  pub page_clean : (least at : ℕ) → first_bad (length bytes) (page_record_places bytes least at) ≡ None → IsSpelledPage least at
   page_clean least at e =
       let clean = clean_page bytes least at e in
       let cells = cells_clean bytes fits at clean.cells in

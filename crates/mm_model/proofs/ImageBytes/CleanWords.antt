@@ -15,10 +15,10 @@ use Rattle.mm_word.specs.PointerBits.{bits_of-pointer_of}
 use Rattle.mm_word.specs.Word.{IsWord, is_pointer, word_bits}
 use Rattle.mm_model.specs.Flags.{number_of_flags}
 use Rattle.mm_model.specs.Spelling.{words_spelling, bitmap}
-use Rattle.mm_model.specs.ImageFields.{field, bit}
-use Rattle.mm_model.specs.ImageReading.{word_at, word_fault, ip_fault, register_at, register_fault, registers_at, registers_fault, page_cell_at, cell_fault, cells_at, cells_fault}
-use Rattle.mm_model.proofs.ImageBytes.Numbers.{whole}
-use Rattle.mm_model.proofs.ImageBytes.Chain.{both_clean, is_right, each_clean}
+use Rattle.mm_model.specs.Places.{first_bad, number_at, bit_at, word_at, word_places, ip_places, page_cell_at, cells_at, cell_places, cells_places, mask_bit_at}
+use Rattle.mm_model.specs.ImageReading.{register_at, registers_at}
+use Rattle.mm_model.specs.ImageFaults.{register_places, registers_places}
+use Rattle.mm_model.proofs.Places.{clean_at, whole, is_right, each_clean}
 use Rattle.mm_model.proofs.ImageBytes.Clean.{neither, not_not}
 use Rattle.mm_model.proofs.ImageBytes.Parts.{IsBytes, part, join_records, eight_bytes, below_16, below_64}
 use Rattle.mm_model.proofs.ImageBytes.Ranges.{all_range, map-map, map-same}
@@ -45,54 +45,54 @@ bits_again bits h = bits_of-pointer_of bits (spells bits h)
 -- 2. Words.
 
 module _ (bytes : List ℕ) (fits : IsBytes bytes) where
+  abbrev end : ℕ
+  end = length bytes
+
   pub record IsSpelledWord (tagged : Bool) (at : ℕ) : Type 0 where
     pub within : at + 8 ≤ length bytes
     pub text : to_be_bytes w64 (word_bits (word_at bytes tagged at)) ≡ part bytes at 8
     pub tag : is_pointer (word_at bytes tagged at) ≡ tagged
     pub word : IsWord (word_at bytes tagged at)
 
-  pub word_clean : (tagged : Bool) (at : ℕ) → word_fault bytes tagged at ≡ None → IsSpelledWord tagged at
-  unfolding word_fault
+  pub word_clean : (tagged : Bool) (at : ℕ) → first_bad end (word_places bytes tagged at) ≡ None → IsSpelledWord tagged at
   word_clean true at clean =
-      let parts = both_clean _ _ clean in
-      let le = whole bytes (at + 8) parts.0 in
-      let spelled = not_not _ (is_right _ 9 at parts.1) in
-      record { within = le; text = ap (to_be_bytes w64) (bits_again (field bytes at 8) spelled) ∙ eight_bytes bytes at fits le; tag = refl; word = well_formed (field bytes at 8) spelled }
+      let p = clean_at end (word_places bytes true at) clean in
+      let le = whole end at 8 (p 0) in
+      let spelled = not_not _ (is_right end _ _ _ (p 1)) in
+      record { within = le; text = ap (to_be_bytes w64) (bits_again (number_at bytes at 8) spelled) ∙ eight_bytes bytes at fits le; tag = refl; word = well_formed (number_at bytes at 8) spelled }
   word_clean false at clean =
-      let parts = both_clean _ _ clean in
-      let le = whole bytes (at + 8) parts.0 in
+      let le = whole end at 8 (clean_at end (word_places bytes false at) clean 0) in
       record { within = le; text = eight_bytes bytes at fits le; tag = refl; word = below_64 bytes at fits le }
 
   -- the instruction pointer
   pub record IsSpelledIp (at : ℕ) : Type 0 where
     pub within : at + 8 ≤ length bytes
-    pub text : to_be_bytes w64 (bits_of (pointer_of (field bytes at 8))) ≡ part bytes at 8
-    pub executable : can_fetch (pointer_of (field bytes at 8)).perm ≡ true
-    pub pointer : IsWellFormed (pointer_of (field bytes at 8))
+    pub text : to_be_bytes w64 (bits_of (pointer_of (number_at bytes at 8))) ≡ part bytes at 8
+    pub executable : can_fetch (pointer_of (number_at bytes at 8)).perm ≡ true
+    pub pointer : IsWellFormed (pointer_of (number_at bytes at 8))
 
-  pub ip_clean : (at : ℕ) → ip_fault bytes at ≡ None → IsSpelledIp at
-  unfolding ip_fault
+  pub ip_clean : (at : ℕ) → first_bad end (ip_places bytes at) ≡ None → IsSpelledIp at
   ip_clean at clean =
-      let parts = both_clean _ _ clean in
-      let le = whole bytes (at + 8) parts.0 in
-      let tests = neither _ _ (is_right _ 10 at parts.1) in
+      let p = clean_at end (ip_places bytes at) clean in
+      let le = whole end at 8 (p 0) in
+      let tests = neither _ _ (is_right end _ _ _ (p 1)) in
       let spelled = not_not _ tests.0 in
-      record { within = le; text = ap (to_be_bytes w64) (bits_again (field bytes at 8) spelled) ∙ eight_bytes bytes at fits le; executable = not_not _ tests.1; pointer = well_formed (field bytes at 8) spelled }
+      record { within = le; text = ap (to_be_bytes w64) (bits_again (number_at bytes at 8) spelled) ∙ eight_bytes bytes at fits le; executable = not_not _ tests.1; pointer = well_formed (number_at bytes at 8) spelled }
 
   -- 3. Registers.
 
   pub record AreSpelledRegisters (at : ℕ) : Type 0 where
     pub within : at + 142 ≤ length bytes
     pub text : words_spelling (registers_at bytes at) ≡ part bytes (at + 14) 128
-    pub tags : number_of_flags (map is_pointer (registers_at bytes at)) ≡ field bytes (at + 12) 2
+    pub tags : number_of_flags (map is_pointer (registers_at bytes at)) ≡ number_at bytes (at + 12) 2
     pub words : AllByRecursion IsWord (registers_at bytes at)
     pub count : length (registers_at bytes at) ≡ 16
 
-  pub registers_clean : (at : ℕ) → registers_fault bytes at ≡ None → AreSpelledRegisters at
-  unfolding registers_at registers_fault
+  pub registers_clean : (at : ℕ) → first_bad end (registers_places bytes at) ≡ None → AreSpelledRegisters at
+  unfolding registers_at
   registers_clean at clean =
-      let tag : ℕ → Bool = λ r. field bytes (at + 12) 2 / 2 ^ r % 2 == 1 in
-      let each : (r : ℕ) → r < 16 → IsSpelledWord (tag r) (at + 14 + 8 * r) = λ r lt. word_clean (tag r) (at + 14 + 8 * r) (each_clean (register_fault bytes at) 0 16 clean r (omega arith) (omega arith)) in
+      let tag : ℕ → Bool = mask_bit_at bytes (at + 12) in
+      let each : (r : ℕ) → r < 16 → IsSpelledWord (tag r) (at + 14 + 8 * r) = λ r lt. word_clean (tag r) (at + 14 + 8 * r) (each_clean end (register_places bytes at) 0 16 clean r (omega arith) (omega arith)) in
       let start : at + 14 + 8 * 0 ≡ at + 14 = omega arith in
       let last = (each 15 (omega arith)).within in
       let small = below_16 bytes (at + 12) fits (omega (arith, last)) in
@@ -103,7 +103,7 @@ module _ (bytes : List ℕ) (fits : IsBytes bytes) where
             ∙ join_records bytes (λ r. to_be_bytes w64 (word_bits (register_at bytes at r))) (at + 14) 8 0 16 (λ r low high. (each r (omega arith)).text) ∙ ap (λ n. part bytes n 128) start;
         tags =
             ap number_of_flags (map-map is_pointer (register_at bytes at) (range_with_len 0 16) ∙ map-same (λ r. is_pointer (register_at bytes at r)) tag 0 16 (λ r low high. (each r (omega arith)).tag))
-            ∙ number_of_bits 16 (field bytes (at + 12) 2) small;
+            ∙ number_of_bits 16 (number_at bytes (at + 12) 2) small;
         words = all_range IsWord (register_at bytes at) 0 16 (λ r low high. (each r (omega arith)).word);
         count = length-map-range_with_len (register_at bytes at) 0 16;
       }
@@ -118,16 +118,16 @@ module _ (bytes : List ℕ) (fits : IsBytes bytes) where
     pub words : AllByRecursion (λ (c : Cell). IsWord c.word) (cells_at bytes at)
     pub count : length (cells_at bytes at) ≡ 512
 
-  cells_bitmap : (at : ℕ) → at + 64 ≤ length bytes → bitmap 64 (map (bit bytes at) (range_with_len 0 512)) ≡ part bytes at 64
+  cells_bitmap : (at : ℕ) → at + 64 ≤ length bytes → bitmap 64 (map (bit_at bytes at) (range_with_len 0 512)) ≡ part bytes at 64
   cells_bitmap at le =
       let start : at + 0 ≡ at = omega arith in
       bitmap-part bytes fits at 0 64 (omega arith) ∙ ap (λ n. part bytes n 64) start
 
-  pub cells_clean : (at : ℕ) → cells_fault bytes at ≡ None → AreSpelledCells at
-  unfolding cells_at cells_fault
+  pub cells_clean : (at : ℕ) → first_bad end (cells_places bytes at) ≡ None → AreSpelledCells at
+  unfolding cells_at
   cells_clean at clean =
-      let tag : ℕ → Bool = bit bytes (at + 8) in
-      let each : (k : ℕ) → k < 512 → IsSpelledWord (tag k) (at + 136 + 8 * k) = λ k lt. word_clean (tag k) (at + 136 + 8 * k) (each_clean (cell_fault bytes at) 0 512 clean k (omega arith) (omega arith)) in
+      let tag : ℕ → Bool = bit_at bytes (at + 8) in
+      let each : (k : ℕ) → k < 512 → IsSpelledWord (tag k) (at + 136 + 8 * k) = λ k lt. word_clean (tag k) (at + 136 + 8 * k) (each_clean end (cell_places bytes at) 0 512 clean k (omega arith) (omega arith)) in
       let start : at + 136 + 8 * 0 ≡ at + 136 = omega arith in
       let last = (each 511 (omega arith)).within in
       let f = page_cell_at bytes at in

@@ -6,9 +6,9 @@ use Rattle.std.proofs.Math.Seq.{take-add}
 use Rattle.std.proofs.lemmas.Bool.{cases_lt}
 use Rattle.std.proofs.lemmas.List.{drop-drop, drop_more, length-take, length-drop, get_or-take, get_or-drop, get_or_past, take-take, drop-take}
 use Rattle.std.proofs.lemmas.Nat.{be_bytes_2, be_bytes_4, be_bytes_8}
-use Rattle.mm_model.specs.ImageFields.{field}
+use Rattle.mm_model.specs.Places.{number_at}
 use Rattle.mm_model.proofs.ImageBytes.Numbers.{number_is_2, number_is_4, number_is_8, field_1}
-pub use Rattle.mm_model.specs.ImageFields.{IsBytes}
+pub use Rattle.mm_model.specs.Places.{IsBytes}
 
 abbrev pub part : List ℕ → ℕ → ℕ → List ℕ
 part bytes at size = take size (drop at bytes)
@@ -43,47 +43,47 @@ join_records bytes spell at size i (suc n) h =
 
 -- 2. What fields say of their parts.
 
-pub one_byte : (bytes : List ℕ) (at : ℕ) → at + 1 ≤ length bytes → field bytes at 1 ∷ [] ≡ part bytes at 1
+pub one_byte : (bytes : List ℕ) (at : ℕ) → at + 1 ≤ length bytes → number_at bytes at 1 ∷ [] ≡ part bytes at 1
 one_byte bytes at le = ap (λ (n : ℕ). n ∷ []) (field_1 bytes at (omega arith)) ∙ sym (ap (take 1) (drop_more bytes at 0 (omega arith)))
 
-pub two_bytes : (bytes : List ℕ) (at : ℕ) → IsBytes bytes → at + 2 ≤ length bytes → to_be_bytes w16 (field bytes at 2) ≡ part bytes at 2
-unfolding field
+pub two_bytes : (bytes : List ℕ) (at : ℕ) → IsBytes bytes → at + 2 ≤ length bytes → to_be_bytes w16 (number_at bytes at 2) ≡ part bytes at 2
+unfolding number_at
 two_bytes bytes at fits le =
     let long = length-part bytes at 2 le in
-    be_bytes_2 (part bytes at 2) (field bytes at 2) long (IsBytes-part bytes at 2 fits) (number_is_2 (part bytes at 2) long)
+    be_bytes_2 (part bytes at 2) (number_at bytes at 2) long (IsBytes-part bytes at 2 fits) (number_is_2 (part bytes at 2) long)
 
-pub four_bytes : (bytes : List ℕ) (at : ℕ) → IsBytes bytes → at + 4 ≤ length bytes → to_be_bytes w32 (field bytes at 4) ≡ part bytes at 4
-unfolding field
+pub four_bytes : (bytes : List ℕ) (at : ℕ) → IsBytes bytes → at + 4 ≤ length bytes → to_be_bytes w32 (number_at bytes at 4) ≡ part bytes at 4
+unfolding number_at
 four_bytes bytes at fits le =
     let long = length-part bytes at 4 le in
-    be_bytes_4 (part bytes at 4) (field bytes at 4) long (IsBytes-part bytes at 4 fits) (number_is_4 (part bytes at 4) long)
+    be_bytes_4 (part bytes at 4) (number_at bytes at 4) long (IsBytes-part bytes at 4 fits) (number_is_4 (part bytes at 4) long)
 
-pub eight_bytes : (bytes : List ℕ) (at : ℕ) → IsBytes bytes → at + 8 ≤ length bytes → to_be_bytes w64 (field bytes at 8) ≡ part bytes at 8
-unfolding field
+pub eight_bytes : (bytes : List ℕ) (at : ℕ) → IsBytes bytes → at + 8 ≤ length bytes → to_be_bytes w64 (number_at bytes at 8) ≡ part bytes at 8
+unfolding number_at
 eight_bytes bytes at fits le =
     let long = length-part bytes at 8 le in
-    be_bytes_8 (part bytes at 8) (field bytes at 8) long (IsBytes-part bytes at 8 fits) (number_is_8 (part bytes at 8) long)
+    be_bytes_8 (part bytes at 8) (number_at bytes at 8) long (IsBytes-part bytes at 8 fits) (number_is_8 (part bytes at 8) long)
 
-pub below_8 : (bytes : List ℕ) (at : ℕ) → IsBytes bytes → at + 1 ≤ length bytes → field bytes at 1 < 256
+pub below_8 : (bytes : List ℕ) (at : ℕ) → IsBytes bytes → at + 1 ≤ length bytes → number_at bytes at 1 < 256
 below_8 bytes at fits le = rw (field_1 bytes at (omega arith)) (fits at)
 
-pub below_16 : (bytes : List ℕ) (at : ℕ) → IsBytes bytes → at + 2 ≤ length bytes → field bytes at 2 < 2 ^ 16
-unfolding field
+pub below_16 : (bytes : List ℕ) (at : ℕ) → IsBytes bytes → at + 2 ≤ length bytes → number_at bytes at 2 < 2 ^ 16
+unfolding number_at
 below_16 bytes at fits le =
     let f = IsBytes-part bytes at 2 fits in
     rw (number_is_2 (part bytes at 2) (length-part bytes at 2 le)) (omega (arith, f 0, f 1))
 
-pub below_64 : (bytes : List ℕ) (at : ℕ) → IsBytes bytes → at + 8 ≤ length bytes → field bytes at 8 < 2 ^ 64
-unfolding field
+pub below_64 : (bytes : List ℕ) (at : ℕ) → IsBytes bytes → at + 8 ≤ length bytes → number_at bytes at 8 < 2 ^ 64
+unfolding number_at
 below_64 bytes at fits le =
     let f = IsBytes-part bytes at 8 fits in
     rw (number_is_8 (part bytes at 8) (length-part bytes at 8 le)) (omega (arith, f 0, f 1, f 2, f 3, f 4, f 5, f 6, f 7))
 
 -- 3. A field within a part that is known.
 
-pub field-within : (bytes text : List ℕ) (at o size : ℕ) → part bytes at (length text) ≡ text → o + size ≤ length text → field bytes (at + o) size ≡ field text o size
-unfolding field
-field-within bytes text at o size is le =
+pub number_at-within : (bytes text : List ℕ) (at o size : ℕ) → part bytes at (length text) ≡ text → o + size ≤ length text → number_at bytes (at + o) size ≡ number_at text o size
+unfolding number_at
+number_at-within bytes text at o size is le =
     let rest : ℕ = length text - o in
     let split : length text ≡ o + rest = omega arith in
     let inner : drop o text ≡ take rest (drop (at + o) bytes) =

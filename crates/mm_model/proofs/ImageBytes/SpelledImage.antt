@@ -16,10 +16,11 @@ use Rattle.mm_model.specs.Memory.{IsPage}
 use Rattle.mm_model.specs.Slot.{Slot}
 use Rattle.mm_model.specs.Image.{Image, slot_limit, frame_limit}
 use Rattle.mm_model.specs.Spelling.{numbers_of, IsFresh, IsImage, HoldsWords, mode_of, handler_byte, state_byte, words_spelling, bitmap, slot_record, page_record, header, spelling}
-use Rattle.mm_model.specs.ImageFields.{field}
-use Rattle.mm_model.specs.ImageReading.{header_fault, slot_at, slot_fault, slots_at, slots_fault, least_slot, slot_offset, handler_fault, handlers_fault, is_bad_handler, page_at, page_fault, pages_at, pages_fault, least_page, page_offset, read_fault, image_of, is_magic}
-use Rattle.mm_model.proofs.ImageBytes.Numbers.{is_whole}
-use Rattle.mm_model.proofs.ImageBytes.Chain.{clean_both, right, clean_each}
+use Rattle.mm_model.specs.Places.{first_bad, number_at, least_number}
+use Rattle.mm_model.specs.ImageReading.{slot_offset, page_offset, version_of, slots_of, frames_of, pages_of, mode_number, slot_at, slots_at, page_at, pages_at, image_of}
+use Rattle.mm_model.specs.ImageFaults.{is_magic, is_bad_handler, slot_places, slots_places, handler_places, handlers_places, page_places, pages_places, image_fault}
+use Rattle.mm_model.proofs.Places.{clean_both, is_whole, right, clean_each}
+use Rattle.mm_model.proofs.ImageBytes.Clean.{H, S, T, P, in_parts}
 use Rattle.mm_model.proofs.ImageBytes.Parts.{part}
 use Rattle.mm_model.proofs.ImageBytes.Apart.{split, apart, number_in_2, number_in_4}
 use Rattle.mm_model.proofs.ImageBytes.Ranges.{range-list}
@@ -82,6 +83,9 @@ frames_small version = go (version == 1)
 -- 2. The parts of the bytes.
 
 module _ (bytes : List ℕ) (i : Image) (image : IsImage i) (spelled : bytes ≡ spelling i) where
+  abbrev end : ℕ
+  end = length bytes
+
   abbrev count : ℕ
   count = length i.slots
 
@@ -120,11 +124,11 @@ module _ (bytes : List ℕ) (i : Image) (image : IsImage i) (spelled : bytes ≡
 
   pub record IsReadHeader : Type 0 where
     pub magic : is_magic bytes ≡ true
-    pub version : field bytes 4 2 ≡ i.version
-    pub slots : field bytes 6 2 ≡ count
-    pub frames : field bytes 8 2 ≡ i.memory.frames
-    pub pages : field bytes 10 2 ≡ many
-    pub mode : field bytes 12 4 ≡ mode_of i.split
+    pub version : version_of bytes ≡ i.version
+    pub slots : slots_of bytes ≡ count
+    pub frames : frames_of bytes ≡ i.memory.frames
+    pub pages : pages_of bytes ≡ many
+    pub mode : mode_number bytes ≡ mode_of i.split
 
   version_small : i.version ≤ 2
   version_small = elim image.version [ inl one ↦ omega (arith, one) | inr two ↦ omega (arith, two) ]
@@ -168,7 +172,7 @@ module _ (bytes : List ℕ) (i : Image) (image : IsImage i) (spelled : bytes ≡
   number_of_slot : (k : ℕ) (d : Slot) → k < count → slice_index (numbers_of i.slots) k ≡ (get_or i.slots k d).number
   number_of_slot k d lt = get_or-map (λ (s : Slot). s.number) i.slots k d 0 lt
 
-  slot_order : (k : ℕ) (d : Slot) → k < count → least_slot bytes k ≤ (get_or i.slots k d).number
+  slot_order : (k : ℕ) (d : Slot) → k < count → least_number bytes slot_offset 1 k ≤ (get_or i.slots k d).number
   slot_order zero d lt = omega arith
   slot_order (suc k) d lt =
       let this = (slot_text_again bytes (slot_offset k) (get_or i.slots k d) (fresh_at k d (omega arith)).registers (slot_text k d (omega arith))).number in
@@ -177,29 +181,26 @@ module _ (bytes : List ℕ) (i : Image) (image : IsImage i) (spelled : bytes ≡
       let above : slice_index (numbers_of i.slots) (k + 1) ≡ (get_or i.slots (suc k) d).number = ap (slice_index (numbers_of i.slots)) next ∙ number_of_slot (suc k) d lt in
       omega (arith, this, rise, above, number_of_slot k d (omega arith))
 
-  each_slot : (k : ℕ) (d : Slot) → k < count → IsReadSlot bytes (slot_limit i.version) (least_slot bytes k) (slot_offset k) (get_or i.slots k d)
+  each_slot : (k : ℕ) (d : Slot) → k < count → IsReadSlot bytes (slot_limit i.version) (least_number bytes slot_offset 1 k) (slot_offset k) (get_or i.slots k d)
   each_slot k d lt =
       let s = get_or i.slots k d in
       let fresh = fresh_at k d lt in
       let small = handler_small (slot_limit i.version) i.slots s.number s.handler (limit_small i.version) image.fresh fresh.handler in
-      slot_again bytes (slot_limit i.version) (least_slot bytes k) (slot_offset k) i.slots s fresh small (slot_order k d lt) (slot_text k d lt) (omega (arith, long))
+      slot_again bytes (slot_limit i.version) (least_number bytes slot_offset 1 k) (slot_offset k) i.slots s fresh small (slot_order k d lt) (slot_text k d lt) (omega (arith, long))
 
   slots_same : slots_at bytes count ≡ i.slots
   unfolding slots_at
   slots_same = range-list (slot_at bytes) 0 i.slots (λ k d lt. let here : 0 + k ≡ k = omega arith in ap (slot_at bytes) here ∙ (each_slot k d lt).same)
 
-  slots_clean : slots_fault bytes i.version count ≡ None
-  unfolding slot_fault
-  slots_clean = clean_each (slot_fault bytes i.version) 0 count (λ k low high. let lt : k < count = omega arith in (each_slot k (element i.slots k lt) lt).clean)
+  slots_clean : first_bad end (slots_places bytes i.version count) ≡ None
+  slots_clean = clean_each end (slot_places bytes i.version) 0 count (λ k low high. let lt : k < count = omega arith in (each_slot k (element i.slots k lt) lt).clean)
 
-  handlers_clean : handlers_fault bytes count ≡ None
-  unfolding handlers_fault
-  handlers_clean = clean_each (handler_fault bytes (slots_at bytes count)) 0 count (λ k low high.
+  handlers_clean : first_bad end (handlers_places bytes i.slots) ≡ None
+  handlers_clean = clean_each end (handler_places bytes i.slots) 0 count (λ k low high.
       let lt : k < count = omega arith in
       let d = element i.slots k lt in
       let s = get_or i.slots k d in
-      let same : is_bad_handler (slots_at bytes count) (slot_at bytes k) ≡ is_bad_handler i.slots s = ap (λ (slots : List Slot). is_bad_handler slots (slot_at bytes k)) slots_same ∙ ap (is_bad_handler i.slots) (each_slot k d lt).same in
-      right (is_bad_handler (slots_at bytes count) (slot_at bytes k)) 7 (slot_offset k + 2) (same ∙ handler_good i.slots s.number s.handler (fresh_at k d lt).handler))
+      clean_both _ None (right end 7 (slot_offset k + 2) _ (ap (is_bad_handler i.slots) (each_slot k d lt).same ∙ handler_good i.slots s.number s.handler (fresh_at k d lt).handler)) refl)
 
   -- 5. The pages.
 
@@ -215,23 +216,22 @@ module _ (bytes : List ℕ) (i : Image) (image : IsImage i) (spelled : bytes ≡
   rises_at least (p ∷ q ∷ pages) rising zero d lt = rising.1.0
   rises_at least (p ∷ q ∷ pages) rising (suc k) d lt = rises_at (p.0 + 1) (q ∷ pages) rising.1 k d (omega arith)
 
-  page_order : (k : ℕ) (d : ℕ × List Cell) → k < many → least_page bytes count k ≤ (get_or i.memory.pages k d).0
+  page_order : (k : ℕ) (d : ℕ × List Cell) → k < many → least_number bytes (page_offset count) 8 k ≤ (get_or i.memory.pages k d).0
   page_order zero d lt = omega arith
   page_order (suc k) d lt =
       let this = (page_text_again bytes (page_offset count k) (get_or i.memory.pages k d) (page_at_is k d (omega arith)) (page_text k d (omega arith))).number in
       omega (arith, this, rises_at 0 i.memory.pages (rising_from_sorted i.memory.pages image.paged.rising) k d lt)
 
-  each_page : (k : ℕ) (d : ℕ × List Cell) → k < many → IsReadPage bytes (least_page bytes count k) (page_offset count k) (get_or i.memory.pages k d)
+  each_page : (k : ℕ) (d : ℕ × List Cell) → k < many → IsReadPage bytes (least_number bytes (page_offset count) 8 k) (page_offset count k) (get_or i.memory.pages k d)
   each_page k d lt =
-      page_again bytes (least_page bytes count k) (page_offset count k) (get_or i.memory.pages k d) (page_at_is k d lt) (all_at HoldsWords i.memory.pages image.words k d lt) (page_order k d lt) (page_text k d lt) (omega (arith, long))
+      page_again bytes (least_number bytes (page_offset count) 8 k) (page_offset count k) (get_or i.memory.pages k d) (page_at_is k d lt) (all_at HoldsWords i.memory.pages image.words k d lt) (page_order k d lt) (page_text k d lt) (omega (arith, long))
 
   pages_same : pages_at bytes count many ≡ i.memory.pages
   unfolding pages_at
   pages_same = range-list (page_at bytes count) 0 i.memory.pages (λ k d lt. let here : 0 + k ≡ k = omega arith in ap (page_at bytes count) here ∙ (each_page k d lt).same)
 
-  pages_clean : pages_fault bytes count many ≡ None
-  unfolding page_fault
-  pages_clean = clean_each (page_fault bytes count) 0 many (λ k low high. let lt : k < many = omega arith in (each_page k (element i.memory.pages k lt) lt).clean)
+  pages_clean : first_bad end (pages_places bytes count many) ≡ None
+  pages_clean = clean_each end (page_places bytes count) 0 many (λ k low high. let lt : k < many = omega arith in (each_page k (element i.memory.pages k lt) lt).clean)
 
   -- 6. The whole.
 
@@ -251,46 +251,45 @@ module _ (bytes : List ℕ) (i : Image) (image : IsImage i) (spelled : bytes ≡
   split_again true = refl
   split_again false = refl
 
-  header_clean : header_fault bytes ≡ None
+  header_clean : H bytes ≡ None
   header_clean =
       let h = header_again in
-      let version : not (field bytes 4 2 == 1 || field bytes 4 2 == 2) ≡ false = ap (λ v. not (v == 1 || v == 2)) h.version ∙ ap not (version_good i.version image.version) in
-      let slots : (field bytes 6 2 == 0 || nat_lt (slot_limit (field bytes 4 2)) (field bytes 6 2)) ≡ false =
-      ap (λ n. n == 0 || nat_lt (slot_limit (field bytes 4 2)) n) h.slots ∙ ap (λ v. count == 0 || nat_lt (slot_limit v) count) h.version
+      let version : not (version_of bytes == 1 || version_of bytes == 2) ≡ false = ap (λ v. not (v == 1 || v == 2)) h.version ∙ ap not (version_good i.version image.version) in
+      let slots : (slots_of bytes == 0 || nat_lt (slot_limit (version_of bytes)) (slots_of bytes)) ≡ false =
+      ap (λ n. n == 0 || nat_lt (slot_limit (version_of bytes)) n) h.slots ∙ ap (λ v. count == 0 || nat_lt (slot_limit v) count) h.version
       ∙ ap (λ b. b || nat_lt (slot_limit i.version) count) (not_zero count (omega (arith, image.some_slots))) ∙ not_lt (slot_limit i.version) count image.few_slots in
-      let frames : (field bytes 8 2 == 0 || nat_lt (frame_limit (field bytes 4 2)) (field bytes 8 2)) ≡ false =
-      ap (λ n. n == 0 || nat_lt (frame_limit (field bytes 4 2)) n) h.frames ∙ ap (λ v. i.memory.frames == 0 || nat_lt (frame_limit v) i.memory.frames) h.version
+      let frames : (frames_of bytes == 0 || nat_lt (frame_limit (version_of bytes)) (frames_of bytes)) ≡ false =
+      ap (λ n. n == 0 || nat_lt (frame_limit (version_of bytes)) n) h.frames ∙ ap (λ v. i.memory.frames == 0 || nat_lt (frame_limit v) i.memory.frames) h.version
       ∙ ap (λ b. b || nat_lt (frame_limit i.version) i.memory.frames) (not_zero i.memory.frames (omega (arith, image.some_frames))) ∙ not_lt (frame_limit i.version) i.memory.frames image.few_frames in
-      let pages : nat_lt (field bytes 8 2) (field bytes 10 2) ≡ false = ap (λ n. nat_lt n (field bytes 10 2)) h.frames ∙ ap (nat_lt i.memory.frames) h.pages ∙ not_lt i.memory.frames many image.paged.fitting in
-      let mode : nat_lt (field bytes 4 2 - 1) (field bytes 12 4) ≡ false =
-      ap (λ v. nat_lt (v - 1) (field bytes 12 4)) h.version ∙ ap (nat_lt (i.version - 1)) h.mode ∙ not_lt (i.version - 1) (mode_of i.split) (mode_good i.version i.split image.version image.mode) in
-      clean_both _ _ (is_whole bytes 4 (omega (arith, long))) (clean_both _ _ (right _ 2 0 (ap not h.magic))
-      (clean_both _ _ (is_whole bytes 6 (omega (arith, long))) (clean_both _ _ (right _ 3 4 version)
-      (clean_both _ _ (is_whole bytes 8 (omega (arith, long))) (clean_both _ _ (right _ 4 6 slots)
-      (clean_both _ _ (is_whole bytes 10 (omega (arith, long))) (clean_both _ _ (right _ 12 8 frames)
-      (clean_both _ _ (is_whole bytes 12 (omega (arith, long))) (clean_both _ _ (right _ 12 10 pages)
-      (clean_both _ _ (is_whole bytes 16 (omega (arith, long))) (right _ 4 12 mode)))))))))))
+      let pages : nat_lt (frames_of bytes) (pages_of bytes) ≡ false = ap (λ n. nat_lt n (pages_of bytes)) h.frames ∙ ap (nat_lt i.memory.frames) h.pages ∙ not_lt i.memory.frames many image.paged.fitting in
+      let mode : nat_lt (version_of bytes - 1) (mode_number bytes) ≡ false =
+      ap (λ v. nat_lt (v - 1) (mode_number bytes)) h.version ∙ ap (nat_lt (i.version - 1)) h.mode ∙ not_lt (i.version - 1) (mode_of i.split) (mode_good i.version i.split image.version image.mode) in
+      clean_both _ _ (is_whole end 0 4 (omega (arith, long))) (clean_both _ _ (right end 2 0 _ (ap not h.magic))
+      (clean_both _ _ (is_whole end 4 2 (omega (arith, long))) (clean_both _ _ (right end 3 4 _ version)
+      (clean_both _ _ (is_whole end 6 2 (omega (arith, long))) (clean_both _ _ (right end 4 6 _ slots)
+      (clean_both _ _ (is_whole end 8 2 (omega (arith, long))) (clean_both _ _ (right end 12 8 _ frames)
+      (clean_both _ _ (is_whole end 10 2 (omega (arith, long))) (clean_both _ _ (right end 12 10 _ pages)
+      (clean_both _ _ (is_whole end 12 4 (omega (arith, long))) (clean_both _ None (right end 4 12 _ mode) refl)))))))))))
 
-  pub spelled_clean : read_fault bytes ≡ None
-  unfolding read_fault
+  pub spelled_clean : image_fault bytes ≡ None
   spelled_clean =
       let h = header_again in
-      let slots : slots_fault bytes (field bytes 4 2) (field bytes 6 2) ≡ None = ap (λ v. slots_fault bytes v (field bytes 6 2)) h.version ∙ ap (slots_fault bytes i.version) h.slots ∙ slots_clean in
-      let handlers : handlers_fault bytes (field bytes 6 2) ≡ None = ap (handlers_fault bytes) h.slots ∙ handlers_clean in
-      let pages : pages_fault bytes (field bytes 6 2) (field bytes 10 2) ≡ None = ap (λ n. pages_fault bytes n (field bytes 10 2)) h.slots ∙ ap (pages_fault bytes count) h.pages ∙ pages_clean in
-      let end : nat_lt (page_offset (field bytes 6 2) (field bytes 10 2)) (length bytes) ≡ false = not_lt _ _ (omega (arith, long, h.slots, h.pages)) in
-      clean_both _ _ header_clean (clean_both _ _ slots (clean_both _ _ handlers (clean_both _ _ pages (right _ 13 _ end))))
+      let slots : S bytes ≡ None = ap (λ v. first_bad end (slots_places bytes v (slots_of bytes))) h.version ∙ ap (λ n. first_bad end (slots_places bytes i.version n)) h.slots ∙ slots_clean in
+      let handlers : T bytes ≡ None = ap (λ (xs : List Slot). first_bad end (handlers_places bytes xs)) (ap (slots_at bytes) h.slots ∙ slots_same) ∙ handlers_clean in
+      let pages : P bytes ≡ None = ap (λ n. first_bad end (pages_places bytes n (pages_of bytes))) h.slots ∙ ap (λ n. first_bad end (pages_places bytes count n)) h.pages ∙ pages_clean in
+      let trailing : nat_lt (page_offset (slots_of bytes) (pages_of bytes)) end ≡ false = not_lt _ _ (omega (arith, long, h.slots, h.pages)) in
+      in_parts bytes ∙ clean_both _ _ header_clean (clean_both _ _ slots (clean_both _ _ handlers (clean_both _ _ pages (clean_both _ None (right end 13 _ _ trailing) refl))))
 
   pub image_same : image_of bytes ≡ i
   unfolding image_of
   image_same =
       let h = header_again in
       let make : ℕ → Bool → List Slot → List (ℕ × List Cell) → ℕ → Image = λ version split slots pages frames. record { version = version; split = split; slots = slots; memory = record { pages = pages; frames = frames } } in
-      let slots : slots_at bytes (field bytes 6 2) ≡ i.slots = ap (slots_at bytes) h.slots ∙ slots_same in
-      let pages : pages_at bytes (field bytes 6 2) (field bytes 10 2) ≡ i.memory.pages = ap (λ n. pages_at bytes n (field bytes 10 2)) h.slots ∙ ap (pages_at bytes count) h.pages ∙ pages_same in
-      let mode : (field bytes 12 4 == 1) ≡ i.split = ap (λ n. n == 1) h.mode ∙ split_again i.split in
-      ap (λ v. make v (field bytes 12 4 == 1) (slots_at bytes (field bytes 6 2)) (pages_at bytes (field bytes 6 2) (field bytes 10 2)) (field bytes 8 2)) h.version
-      ∙ ap (λ b. make i.version b (slots_at bytes (field bytes 6 2)) (pages_at bytes (field bytes 6 2) (field bytes 10 2)) (field bytes 8 2)) mode
-      ∙ ap (λ s. make i.version i.split s (pages_at bytes (field bytes 6 2) (field bytes 10 2)) (field bytes 8 2)) slots
-      ∙ ap (λ p. make i.version i.split i.slots p (field bytes 8 2)) pages
+      let slots : slots_at bytes (slots_of bytes) ≡ i.slots = ap (slots_at bytes) h.slots ∙ slots_same in
+      let pages : pages_at bytes (slots_of bytes) (pages_of bytes) ≡ i.memory.pages = ap (λ n. pages_at bytes n (pages_of bytes)) h.slots ∙ ap (pages_at bytes count) h.pages ∙ pages_same in
+      let mode : (mode_number bytes == 1) ≡ i.split = ap (λ n. n == 1) h.mode ∙ split_again i.split in
+      ap (λ v. make v (mode_number bytes == 1) (slots_at bytes (slots_of bytes)) (pages_at bytes (slots_of bytes) (pages_of bytes)) (frames_of bytes)) h.version
+      ∙ ap (λ b. make i.version b (slots_at bytes (slots_of bytes)) (pages_at bytes (slots_of bytes) (pages_of bytes)) (frames_of bytes)) mode
+      ∙ ap (λ s. make i.version i.split s (pages_at bytes (slots_of bytes) (pages_of bytes)) (frames_of bytes)) slots
+      ∙ ap (λ p. make i.version i.split i.slots p (frames_of bytes)) pages
       ∙ ap (make i.version i.split i.slots i.memory.pages) h.frames

@@ -1,6 +1,6 @@
 -- Records that are spelled so have no fault and are read again.
 use Rattle.std.proofs.Common.{◌≡◌, ℕ, zero, suc, ◌+◌, ◌*◌, ◌/◌, ◌%◌, ◌^◌, ◌<◌, ◌≤◌, Bool, true, false, not, nat_lt, List, [], ◌∷◌, ◌++◌, length, get_or, map, None, refl, sym, ap, subst, ◌∙◌, arith}
-use Rattle.std.specs.Prelude.{◌==◌, ◌||◌, nat_le, is_some}
+use Rattle.std.specs.Prelude.{◌==◌, ◌&&◌, ◌||◌, nat_le, is_some}
 use Rattle.std.specs.List.{range_with_len, AllByRecursion}
 use Rattle.std.specs.Int.{w64, to_be_bytes}
 use Rattle.std.proofs.lemmas.Bool.{le-leb}
@@ -16,12 +16,12 @@ use Rattle.mm_word.proofs.Packing.{code_of-in_range, pointer_of-bits_of, SpellsP
 use Rattle.mm_model.specs.Flags.{number_of_flags}
 use Rattle.mm_model.specs.Memory.{IsPage}
 use Rattle.mm_model.specs.Spelling.{HoldsWords, words_spelling, bitmap, page_record}
-use Rattle.mm_model.specs.ImageFields.{bad, short, field, bit}
-use Rattle.mm_model.specs.ImageReading.{word_at, word_fault, ip_fault, register_at, register_fault, registers_at, registers_fault, page_cell_at, cell_fault, cells_at, cells_fault, page_record_at, page_record_fault}
-use Rattle.mm_model.proofs.ImageBytes.Numbers.{is_whole}
-use Rattle.mm_model.proofs.ImageBytes.Chain.{clean_both, right, clean_each}
+use Rattle.mm_model.specs.Places.{first_bad, number_at, bit_at, word_at, word_places, ip_places, page_cell_at, cells_at, page_record_at, cell_places, cells_places, page_record_places, mask_bit_at}
+use Rattle.mm_model.specs.ImageReading.{register_at, registers_at}
+use Rattle.mm_model.specs.ImageFaults.{register_places, registers_places}
+use Rattle.mm_model.proofs.Places.{clean_both, is_whole, right, clean_each}
 use Rattle.mm_model.proofs.ImageBytes.Parts.{part}
-use Rattle.mm_model.proofs.ImageBytes.Apart.{split, apart, number_in_8, flag-get, bit-bitmap}
+use Rattle.mm_model.proofs.ImageBytes.Apart.{split, apart, number_in_8, flag-get, bit_at-bitmap}
 use Rattle.mm_model.proofs.ImageBytes.Ranges.{range-list}
 use Rattle.mm_model.proofs.ImageBytes.Rising.{and_true}
 
@@ -49,22 +49,27 @@ word_bits-small (Int n) h = h
 word_bits-small (Ptr p) h = bits_of-small p h
 
 module _ (bytes : List ℕ) where
+  abbrev end : ℕ
+  end = length bytes
+
   -- a word that is spelled at a place with its tag
   pub record IsReadWord (tagged : Bool) (at : ℕ) (w : Word) : Type 0 where
-    pub clean : word_fault bytes tagged at ≡ None
+    pub clean : first_bad end (word_places bytes tagged at) ≡ None
     pub same : word_at bytes tagged at ≡ w
 
-  read_word : (at n : ℕ) (w : Word) → IsWord w → word_bits w ≡ n → field bytes at 8 ≡ n → at + 8 ≤ length bytes → IsReadWord (is_pointer w) at w
-  unfolding word_fault
+  word_clean : (at : ℕ) (tagged : Bool) → at + 8 ≤ end → (tagged && not (spells_pointer (number_at bytes at 8))) ≡ false → first_bad end (word_places bytes tagged at) ≡ None
+  word_clean at tagged le good = clean_both _ _ (is_whole end at 8 le) (clean_both _ None (right end 9 at _ good) refl)
+
+  read_word : (at n : ℕ) (w : Word) → IsWord w → word_bits w ≡ n → number_at bytes at 8 ≡ n → at + 8 ≤ length bytes → IsReadWord (is_pointer w) at w
   read_word at n (Int bits) fits is spelled le = record {
-    clean = clean_both (short bytes (at + 8)) (bad false 9 at) (is_whole bytes (at + 8) le) (right false 9 at refl);
+    clean = word_clean at false le refl;
     same = ap Int (spelled ∙ sym is);
   }
   read_word at n (Ptr p) fits is spelled le =
-      let number : field bytes at 8 ≡ bits_of p = spelled ∙ sym is in
-      let good : not (spells_pointer (field bytes at 8)) ≡ false = ap (λ m. not (spells_pointer m)) number ∙ ap not (is_spelled p fits) in
+      let number : number_at bytes at 8 ≡ bits_of p = spelled ∙ sym is in
+      let good : not (spells_pointer (number_at bytes at 8)) ≡ false = ap (λ m. not (spells_pointer m)) number ∙ ap not (is_spelled p fits) in
       record {
-        clean = clean_both (short bytes (at + 8)) (bad (not (spells_pointer (field bytes at 8))) 9 at) (is_whole bytes (at + 8) le) (right (not (spells_pointer (field bytes at 8))) 9 at good);
+        clean = word_clean at true le good;
         same = ap (λ m. Ptr (pointer_of m)) number ∙ ap Ptr (pointer_of-bits_of p fits);
       }
 
@@ -74,17 +79,16 @@ module _ (bytes : List ℕ) where
       subst (λ b. IsReadWord b at w) (sym tag) (read_word at (word_bits w) w fits refl number le)
 
   pub record IsReadIp (at : ℕ) (p : Pointer) : Type 0 where
-    pub clean : ip_fault bytes at ≡ None
-    pub same : pointer_of (field bytes at 8) ≡ p
+    pub clean : first_bad end (ip_places bytes at) ≡ None
+    pub same : pointer_of (number_at bytes at 8) ≡ p
 
   pub ip_again : (at : ℕ) (p : Pointer) → IsWellFormed p → can_fetch p.perm ≡ true → part bytes at 8 ≡ to_be_bytes w64 (bits_of p) → at + 8 ≤ length bytes → IsReadIp at p
-  unfolding ip_fault
   ip_again at p fits fetch text le =
       let number = number_in_8 bytes at (bits_of p) (bits_of-small p fits) text in
       let pointer = ap pointer_of number ∙ pointer_of-bits_of p fits in
       let test : ℕ → Bool = λ m. not (spells_pointer m) || not (can_fetch (pointer_of m).perm) in
-      let good : test (field bytes at 8) ≡ false = ap test number ∙ ap (λ b. not b || not (can_fetch (pointer_of (bits_of p)).perm)) (is_spelled p fits) ∙ ap (λ (q : Pointer). not (can_fetch q.perm)) (pointer_of-bits_of p fits) ∙ ap not fetch in
-      record { clean = clean_both (short bytes (at + 8)) (bad (test (field bytes at 8)) 10 at) (is_whole bytes (at + 8) le) (right (test (field bytes at 8)) 10 at good); same = pointer }
+      let good : test (number_at bytes at 8) ≡ false = ap test number ∙ ap (λ b. not b || not (can_fetch (pointer_of (bits_of p)).perm)) (is_spelled p fits) ∙ ap (λ (q : Pointer). not (can_fetch q.perm)) (pointer_of-bits_of p fits) ∙ ap not fetch in
+      record { clean = clean_both _ _ (is_whole end at 8 le) (clean_both _ None (right end 10 at _ good) refl); same = pointer }
 
   -- 2. Registers.
 
@@ -107,20 +111,20 @@ module _ (bytes : List ℕ) where
   flags_of words r d lt = get_or-map is_pointer words r d false lt
 
   pub record AreReadRegisters (at : ℕ) (regs : List Word) : Type 0 where
-    pub clean : registers_fault bytes at ≡ None
+    pub clean : first_bad end (registers_places bytes at) ≡ None
     pub same : registers_at bytes at ≡ regs
 
-  pub registers_again : (at : ℕ) (regs : List Word) → length regs ≡ 16 → AllByRecursion IsWord regs → field bytes (at + 12) 2 ≡ number_of_flags (map is_pointer regs) → part bytes (at + 14) 128 ≡ words_spelling regs → at + 142 ≤ length bytes
+  pub registers_again : (at : ℕ) (regs : List Word) → length regs ≡ 16 → AllByRecursion IsWord regs → number_at bytes (at + 12) 2 ≡ number_of_flags (map is_pointer regs) → part bytes (at + 14) 128 ≡ words_spelling regs → at + 142 ≤ length bytes
       → AreReadRegisters at regs
-  unfolding registers_at registers_fault
+  unfolding registers_at
   registers_again at regs long fits tags text le =
-      let tag : ℕ → Bool = λ r. field bytes (at + 12) 2 / 2 ^ r % 2 == 1 in
+      let tag : ℕ → Bool = mask_bit_at bytes (at + 12) in
       let flags : (r : ℕ) (d : Word) → r < length regs → tag r ≡ is_pointer (get_or regs r d) = λ r d lt.
       ap (λ n. n / 2 ^ r % 2 == 1) tags ∙ flag-get (map is_pointer regs) r (omega (arith, length-map regs is_pointer)) ∙ flags_of regs r d lt in
       let all : part bytes (at + 14) (8 * length regs) ≡ words_spelling regs = ap (λ n. part bytes (at + 14) (8 * n)) long ∙ text in
       let each : (r : ℕ) (d : Word) → r < length regs → IsReadWord (tag r) (at + 14 + 8 * r) (get_or regs r d) = λ r d lt. each_word regs fits (at + 14) tag flags all (omega (arith, long, le)) r d lt in
       record {
-        clean = clean_each (register_fault bytes at) 0 16 (λ r low high. (each r (Int 0) (omega (arith, long, high))).clean);
+        clean = clean_each end (register_places bytes at) 0 16 (λ r low high. (each r (Int 0) (omega (arith, long, high))).clean);
         same = ap (λ n. map (register_at bytes at) (range_with_len 0 n)) (sym long) ∙ range-list (register_at bytes at) 0 regs (λ r d lt. let here : 0 + r ≡ r = omega arith in ap (register_at bytes at) here ∙ (each r d lt).same);
       }
 
@@ -134,44 +138,44 @@ module _ (bytes : List ℕ) where
   words_in (c ∷ cells) h = (h.0, words_in cells h.1)
 
   pub record AreReadCells (at : ℕ) (cells : List Cell) : Type 0 where
-    pub clean : cells_fault bytes at ≡ None
+    pub clean : first_bad end (cells_places bytes at) ≡ None
     pub same : cells_at bytes at ≡ cells
 
   pub cells_again : (at : ℕ) (cells : List Cell) → length cells ≡ 512 → AllByRecursion (λ (c : Cell). IsWord c.word) cells → part bytes (at + 8) 64 ≡ bitmap 64 (map (λ (c : Cell). is_pointer c.word) cells)
       → part bytes (at + 72) 64 ≡ bitmap 64 (map (λ (c : Cell). c.full) cells) → part bytes (at + 136) 4096 ≡ words_spelling (map word_in cells) → at + 4232 ≤ length bytes → AreReadCells at cells
-  unfolding cells_at cells_fault
+  unfolding cells_at
   cells_again at cells long fits tags full text le =
       let words = map word_in cells in
       let words_length : length words ≡ length cells = length-map cells word_in in
-      let tag : ℕ → Bool = bit bytes (at + 8) in
+      let tag : ℕ → Bool = bit_at bytes (at + 8) in
       let tag_flags = map (λ (c : Cell). is_pointer c.word) cells in
       let full_flags = map (λ (c : Cell). c.full) cells in
       let at_cell : (k : ℕ) (c : Cell) → k < length cells → get_or words k c.word ≡ (get_or cells k c).word = λ k c lt. get_or-map word_in cells k c c.word lt in
       let none : Cell = record { word = Int 0; full = false } in
       let flags : (k : ℕ) (d : Word) → k < length words → tag k ≡ is_pointer (get_or words k d) = λ k d lt.
-      bit-bitmap bytes (at + 8) tag_flags (length-map cells (λ (c : Cell). is_pointer c.word) ∙ long) tags k (omega (arith, words_length, long, lt))
+      bit_at-bitmap bytes (at + 8) tag_flags (length-map cells (λ (c : Cell). is_pointer c.word) ∙ long) tags k (omega (arith, words_length, long, lt))
       ∙ get_or-map (λ (c : Cell). is_pointer c.word) cells k none false (omega (arith, words_length, lt)) ∙ ap is_pointer (sym (get_or-map word_in cells k none d (omega (arith, words_length, lt)))) in
       let all : part bytes (at + 136) (8 * length words) ≡ words_spelling words = ap (λ n. part bytes (at + 136) (8 * n)) (words_length ∙ long) ∙ text in
       let each : (k : ℕ) (c : Cell) → k < length cells → IsReadWord (tag k) (at + 136 + 8 * k) (get_or cells k c).word = λ k c lt.
       subst (IsReadWord (tag k) (at + 136 + 8 * k)) (at_cell k c lt) (each_word words (words_in cells fits) (at + 136) tag flags all (omega (arith, words_length, long, le)) k c.word (omega (arith, words_length, lt))) in
       let make : Word → Bool → Cell = λ w b. record { word = w; full = b } in
       record {
-        clean = clean_each (cell_fault bytes at) 0 512 (λ k low high. (each k none (omega (arith, long, high))).clean);
+        clean = clean_each end (cell_places bytes at) 0 512 (λ k low high. (each k none (omega (arith, long, high))).clean);
         same =
             ap (λ n. map (page_cell_at bytes at) (range_with_len 0 n)) (sym long)
             ∙ range-list (page_cell_at bytes at) 0 cells (λ k c lt.
             let here : 0 + k ≡ k = omega arith in
             let word = (each k c lt).same in
-            let full_bit = bit-bitmap bytes (at + 72) full_flags (length-map cells (λ (c : Cell). c.full) ∙ long) full k (omega (arith, long, lt)) ∙ get_or-map (λ (c : Cell). c.full) cells k c false lt in
-            ap (page_cell_at bytes at) here ∙ ap (λ w. make w (bit bytes (at + 72) k)) word ∙ ap (make (get_or cells k c).word) full_bit);
+            let full_bit = bit_at-bitmap bytes (at + 72) full_flags (length-map cells (λ (c : Cell). c.full) ∙ long) full k (omega (arith, long, lt)) ∙ get_or-map (λ (c : Cell). c.full) cells k c false lt in
+            ap (page_cell_at bytes at) here ∙ ap (λ w. make w (bit_at bytes (at + 72) k)) word ∙ ap (make (get_or cells k c).word) full_bit);
       }
 
   pub record IsReadPage (least at : ℕ) (page : ℕ × List Cell) : Type 0 where
-    pub clean : page_record_fault bytes least at ≡ None
+    pub clean : first_bad end (page_record_places bytes least at) ≡ None
     pub same : page_record_at bytes at ≡ page
 
   pub record IsPageText (at : ℕ) (page : ℕ × List Cell) : Type 0 where
-    pub number : field bytes at 8 ≡ page.0
+    pub number : number_at bytes at 8 ≡ page.0
     pub tags : part bytes (at + 8) 64 ≡ bitmap 64 (map (λ (c : Cell). is_pointer c.word) page.1)
     pub full : part bytes (at + 72) 64 ≡ bitmap 64 (map (λ (c : Cell). c.full) page.1)
     pub words : part bytes (at + 136) 4096 ≡ words_spelling (map word_in page.1)
@@ -193,12 +197,12 @@ module _ (bytes : List ℕ) where
       let t = page_text_again at page whole text in
       let cells = cells_again at page.1 whole.cells fits t.tags t.full t.words le in
       let number = t.number in
-      let high : nat_le (2 ^ 42) (field bytes at 8) ≡ false = ap (nat_le (2 ^ 42)) number ∙ not_le page.0 (2 ^ 42) whole.number in
-      let low : nat_lt (field bytes at 8) least ≡ false = ap (λ n. nat_lt n least) number ∙ not_lt page.0 least order in
-      let tests : (nat_le (2 ^ 42) (field bytes at 8) || nat_lt (field bytes at 8) least) ≡ false = ap (λ b. b || nat_lt (field bytes at 8) least) high ∙ low in
+      let high : nat_le (2 ^ 42) (number_at bytes at 8) ≡ false = ap (nat_le (2 ^ 42)) number ∙ not_le page.0 (2 ^ 42) whole.number in
+      let low : nat_lt (number_at bytes at 8) least ≡ false = ap (λ n. nat_lt n least) number ∙ not_lt page.0 least order in
+      let tests : (nat_le (2 ^ 42) (number_at bytes at 8) || nat_lt (number_at bytes at 8) least) ≡ false = ap (λ b. b || nat_lt (number_at bytes at 8) least) high ∙ low in
       record {
         clean =
-            clean_both _ _ (is_whole bytes (at + 8) (omega (arith, le))) (clean_both _ _ (right _ 11 at tests)
-            (clean_both _ _ (is_whole bytes (at + 72) (omega (arith, le))) (clean_both _ _ (is_whole bytes (at + 136) (omega (arith, le))) cells.clean)));
+            clean_both _ _ (is_whole end at 8 (omega (arith, le))) (clean_both _ _ (right end 11 at _ tests)
+            (clean_both _ _ (is_whole end (at + 8) 64 (omega (arith, le))) (clean_both _ _ (is_whole end (at + 72) 64 (omega (arith, le))) cells.clean)));
         same = ap (λ n. (n, cells_at bytes at)) number ∙ ap (λ (cs : List Cell). (page.0, cs)) cells.same;
       }

@@ -14,11 +14,12 @@ use Rattle.mm_model.specs.declared.slot.Pending.{Pending}
 use Rattle.mm_model.specs.Flags.{number_of_flags}
 use Rattle.mm_model.specs.Slot.{Slot}
 use Rattle.mm_model.specs.Spelling.{Begins, IsOther, IsFresh, handler_byte, state_byte, words_spelling, slot_record}
-use Rattle.mm_model.specs.ImageFields.{field}
-use Rattle.mm_model.specs.ImageReading.{has_number, slot_record_at, slot_record_fault}
-use Rattle.mm_model.proofs.ImageBytes.Numbers.{is_whole}
-use Rattle.mm_model.proofs.ImageBytes.Chain.{clean_both, right}
-use Rattle.mm_model.proofs.ImageBytes.Parts.{part, field-within}
+use Rattle.mm_model.specs.Places.{first_bad, number_at, ip_places}
+use Rattle.mm_model.specs.Places.Place.{Field}
+use Rattle.mm_model.specs.ImageReading.{slot_record_at}
+use Rattle.mm_model.specs.ImageFaults.{has_number, registers_places, slot_record_places}
+use Rattle.mm_model.proofs.Places.{first_bad-append, clean_both, is_whole, right}
+use Rattle.mm_model.proofs.ImageBytes.Parts.{part, number_at-within}
 use Rattle.mm_model.proofs.ImageBytes.Apart.{split, number_in_2, number_of_flags-below}
 use Rattle.mm_model.proofs.ImageBytes.SpelledRecords.{IsReadIp, ip_again, AreReadRegisters, registers_again, not_le, not_lt}
 use Rattle.std.proofs.lemmas.List.{length-map}
@@ -66,30 +67,30 @@ state_of_byte (Halted (Some c)) h = absurd h
 state_of_byte Waiting h = absurd h
 state_of_byte Taken h = absurd h
 
-head_0 : (a b c d : ℕ) → field (a ∷ b ∷ c ∷ d ∷ []) 0 1 ≡ a
-unfolding field
+head_0 : (a b c d : ℕ) → number_at (a ∷ b ∷ c ∷ d ∷ []) 0 1 ≡ a
+unfolding number_at
 head_0 a b c d = omega arith
 
-head_1 : (a b c d : ℕ) → field (a ∷ b ∷ c ∷ d ∷ []) 1 1 ≡ b
-unfolding field
+head_1 : (a b c d : ℕ) → number_at (a ∷ b ∷ c ∷ d ∷ []) 1 1 ≡ b
+unfolding number_at
 head_1 a b c d = omega arith
 
-head_2 : (a b c d : ℕ) → field (a ∷ b ∷ c ∷ d ∷ []) 2 1 ≡ c
-unfolding field
+head_2 : (a b c d : ℕ) → number_at (a ∷ b ∷ c ∷ d ∷ []) 2 1 ≡ c
+unfolding number_at
 head_2 a b c d = omega arith
 
-head_3 : (a b c d : ℕ) → field (a ∷ b ∷ c ∷ d ∷ []) 3 1 ≡ d
-unfolding field
+head_3 : (a b c d : ℕ) → number_at (a ∷ b ∷ c ∷ d ∷ []) 3 1 ≡ d
+unfolding number_at
 head_3 a b c d = omega arith
 
 module _ (bytes : List ℕ) where
   pub record IsSlotText (at : ℕ) (s : Slot) : Type 0 where
-    pub number : field bytes at 1 ≡ s.number
-    pub group : field bytes (at + 1) 1 ≡ s.group
-    pub handler : field bytes (at + 2) 1 ≡ handler_byte s.handler
-    pub state : field bytes (at + 3) 1 ≡ state_byte s.state
+    pub number : number_at bytes at 1 ≡ s.number
+    pub group : number_at bytes (at + 1) 1 ≡ s.group
+    pub handler : number_at bytes (at + 2) 1 ≡ handler_byte s.handler
+    pub state : number_at bytes (at + 3) 1 ≡ state_byte s.state
     pub ip : part bytes (at + 4) 8 ≡ to_be_bytes w64 (bits_of s.ip)
-    pub tags : field bytes (at + 12) 2 ≡ number_of_flags (map is_pointer s.regs)
+    pub tags : number_at bytes (at + 12) 2 ≡ number_of_flags (map is_pointer s.regs)
     pub words : part bytes (at + 14) 128 ≡ words_spelling s.regs
 
   pub slot_text_again : (at : ℕ) (s : Slot) → length s.regs ≡ 16 → part bytes at 142 ≡ slot_record s → IsSlotText at s
@@ -107,18 +108,18 @@ module _ (bytes : List ℕ) where
       let sixteen : length (map is_pointer s.regs) ≡ 16 = length-map s.regs is_pointer ∙ long in
       let small : flags < 2 ^ 16 = subst (λ n. flags < 2 ^ n) sixteen (number_of_flags-below (map is_pointer s.regs)) in
       record {
-        number = ap (λ n. field bytes n 1) (sym here) ∙ field-within bytes head at 0 1 s2.front (omega arith) ∙ head_0 s.number s.group (handler_byte s.handler) (state_byte s.state);
-        group = field-within bytes head at 1 1 s2.front (omega arith) ∙ head_1 s.number s.group (handler_byte s.handler) (state_byte s.state);
-        handler = field-within bytes head at 2 1 s2.front (omega arith) ∙ head_2 s.number s.group (handler_byte s.handler) (state_byte s.state);
-        state = field-within bytes head at 3 1 s2.front (omega arith) ∙ head_3 s.number s.group (handler_byte s.handler) (state_byte s.state);
+        number = ap (λ n. number_at bytes n 1) (sym here) ∙ number_at-within bytes head at 0 1 s2.front (omega arith) ∙ head_0 s.number s.group (handler_byte s.handler) (state_byte s.state);
+        group = number_at-within bytes head at 1 1 s2.front (omega arith) ∙ head_1 s.number s.group (handler_byte s.handler) (state_byte s.state);
+        handler = number_at-within bytes head at 2 1 s2.front (omega arith) ∙ head_2 s.number s.group (handler_byte s.handler) (state_byte s.state);
+        state = number_at-within bytes head at 3 1 s2.front (omega arith) ∙ head_3 s.number s.group (handler_byte s.handler) (state_byte s.state);
         ip = s2.back;
         tags = number_in_2 bytes (at + 12) flags small s1.back;
         words = s0.back;
       }
 
   pub record IsReadSlot (limit least at : ℕ) (s : Slot) : Type 0 where
-    pub number : field bytes at 1 ≡ s.number
-    pub clean : slot_record_fault bytes limit least at ≡ None
+    pub number : number_at bytes at 1 ≡ s.number
+    pub clean : first_bad (length bytes) (slot_record_places bytes limit least at) ≡ None
     pub same : slot_record_at bytes at ≡ s
 
   same_slot : (limit at : ℕ) (slots : List Slot) (s : Slot) → IsFresh limit slots s → IfSome s.handler (λ h. h < 64) → IsSlotText at s → IsReadIp bytes (at + 4) s.ip → AreReadRegisters bytes at s.regs → slot_record_at bytes at ≡ s
@@ -141,23 +142,24 @@ module _ (bytes : List ℕ) where
 
   pub slot_again : (limit least at : ℕ) (slots : List Slot) (s : Slot) → IsFresh limit slots s → IfSome s.handler (λ h. h < 64) → least ≤ s.number → part bytes at 142 ≡ slot_record s → at + 142 ≤ length bytes → IsReadSlot limit least at s
   slot_again limit least at slots s fresh small order text le =
+      let end = length bytes in
       let t = slot_text_again at s fresh.registers text in
       let ip = ip_again bytes (at + 4) s.ip fresh.ip fresh.executable t.ip (omega (arith, le)) in
       let regs = registers_again bytes at s.regs fresh.registers fresh.words t.tags t.words le in
-      let high : nat_le limit (field bytes at 1) ≡ false = ap (nat_le limit) t.number ∙ not_le s.number limit fresh.number in
-      let low : nat_lt (field bytes at 1) least ≡ false = ap (λ n. nat_lt n least) t.number ∙ not_lt s.number least order in
-      let ordered : (nat_le limit (field bytes at 1) || nat_lt (field bytes at 1) least) ≡ false = ap (λ b. b || nat_lt (field bytes at 1) least) high ∙ low in
-      let group : nat_le limit (field bytes (at + 1) 1) ≡ false = ap (nat_le limit) t.group ∙ not_le s.group limit fresh.group in
-      let state : nat_lt 1 (field bytes (at + 3) 1) ≡ false = ap (nat_lt 1) t.state ∙ not_lt 1 (state_byte s.state) (state_of_byte s.state fresh.begins).0 in
+      let high : nat_le limit (number_at bytes at 1) ≡ false = ap (nat_le limit) t.number ∙ not_le s.number limit fresh.number in
+      let low : nat_lt (number_at bytes at 1) least ≡ false = ap (λ n. nat_lt n least) t.number ∙ not_lt s.number least order in
+      let ordered : (nat_le limit (number_at bytes at 1) || nat_lt (number_at bytes at 1) least) ≡ false = ap (λ b. b || nat_lt (number_at bytes at 1) least) high ∙ low in
+      let group : nat_le limit (number_at bytes (at + 1) 1) ≡ false = ap (nat_le limit) t.group ∙ not_le s.group limit fresh.group in
+      let state : nat_lt 1 (number_at bytes (at + 3) 1) ≡ false = ap (nat_lt 1) t.state ∙ not_lt 1 (state_byte s.state) (state_of_byte s.state fresh.begins).0 in
       record {
         number = t.number;
         clean =
-            clean_both _ _ (is_whole bytes (at + 1) (omega (arith, le))) (clean_both _ _ (right _ 5 at ordered)
-            (clean_both _ _ (is_whole bytes (at + 1 + 1) (omega (arith, le))) (clean_both _ _ (right _ 6 (at + 1) group)
-            (clean_both _ _ (is_whole bytes (at + 2 + 1) (omega (arith, le)))
-            (clean_both _ _ (is_whole bytes (at + 3 + 1) (omega (arith, le))) (clean_both _ _ (right _ 8 (at + 3) state)
-            (clean_both _ _ ip.clean
-            (clean_both _ _ (is_whole bytes (at + 12 + 2) (omega (arith, le)))
+            clean_both _ _ (is_whole end at 1 (omega (arith, le))) (clean_both _ _ (right end 5 at _ ordered)
+            (clean_both _ _ (is_whole end (at + 1) 1 (omega (arith, le))) (clean_both _ _ (right end 6 (at + 1) _ group)
+            (clean_both _ _ (is_whole end (at + 2) 1 (omega (arith, le)))
+            (clean_both _ _ (is_whole end (at + 3) 1 (omega (arith, le))) (clean_both _ _ (right end 8 (at + 3) _ state)
+            (first_bad-append end (ip_places bytes (at + 4)) (Field (at + 12) 2 ∷ registers_places bytes at) ∙ clean_both _ _ ip.clean
+            (clean_both _ _ (is_whole end (at + 12) 2 (omega (arith, le)))
             regs.clean))))))));
         same = same_slot limit at slots s fresh small t ip regs;
       }

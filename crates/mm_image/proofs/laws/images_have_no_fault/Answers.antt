@@ -1,9 +1,7 @@
-use Rattle.std.proofs.Common.{sym, ◌∙◌}
 use Rattle.mm_model.specs.ImageReading.{image_of}
-use Rattle.mm_model.proofs.ImageBytes.Whole.{image_fault-read}
 use Rattle.mm_model.proofs.ImageBytes.CleanImage.{clean_spells}
 use Rattle.mm_model.proofs.ImageBytes.SpelledImage.{spelled_clean}
 use Rattle.mm_image.proofs.laws.images_have_no_fault.Goals as goal
 
 pub returns : goal.returns
-returns c = λ bytes fits. (λ none. (image_of bytes, clean_spells bytes fits (sym (image_fault-read bytes) ∙ none)), λ s. image_fault-read bytes ∙ spelled_clean bytes s.0 s.1.image s.1.spelled)
+returns c = λ bytes fits. (λ none. (image_of bytes, clean_spells bytes fits none), λ s. spelled_clean bytes s.0 s.1.image s.1.spelled)

@@ -1,40 +1,41 @@
-use Rattle.std.proofs.Common.{◌≡◌, ℕ, suc, ◌+◌, List, None, sym, ap, subst, ◌∙◌, arith}
+use Rattle.std.proofs.Common.{◌≡◌, ℕ, suc, ◌+◌, List, length, None, sym, ap, subst, ◌∙◌, arith}
 use Rattle.std.proofs.lemmas.Result.{err_from_is_err_and}
 use Rattle.mm_word.specs.declared.word.Cell.{Cell}
 use Rattle.mm_image.specs.Faults.{Fails}
-use Rattle.mm_model.specs.ImageFields.{field}
-use Rattle.mm_model.specs.ImageReading.{page_offset, page_record_at, page_record_fault, page_at, page_fault, pages_at, pages_fault, least_page}
-use Rattle.mm_image.proofs.Over.{goes_on, ends, is_done, one_more, all_read}
+use Rattle.mm_model.specs.Places.{first_bad, number_at, page_record_at, page_record_places, least_number}
+use Rattle.mm_model.specs.ImageReading.{page_offset, page_at, pages_at}
+use Rattle.mm_model.specs.ImageFaults.{page_places}
+use Rattle.mm_model.proofs.Places.{goes_on, is_done}
+use Rattle.mm_model.proofs.ImageBytes.Ranges.{one_more, all_read}
+use Rattle.mm_image.proofs.Over.{ends}
 use Rattle.mm_image.proofs.fields.Reader.pages.Goals as goal
 
 pub returns-in_err-page : goal.returns-in_err-page
-unfolding page_fault
 returns-in_err-page c =
     let p = err_from_is_err_and c.from_residual-in_err-page.result c.from_residual-in_err-page.ensures.1 in
     let l = c.loop-k in
     let bytes = c.args.self.now.bytes.now in
     let slots = c.args.slots in
     let e = c.in_err-page.field-0.0 in
-    let there : Fails (page_record_fault bytes l.least (page_offset slots l.k)) e = subst (λ (n : ℕ). Fails (page_record_fault bytes l.least (page_offset n l.k)) e) c.from.ensures c.in_err-page.ensures in
-    let fault : Fails (page_fault bytes slots l.k) e = subst (λ (n : ℕ). Fails (page_record_fault bytes n (page_offset slots l.k)) e) l.invariant.least there in
-    rw (p.1, p.2) (ends (page_fault bytes slots) c.args.count l.k (pages_fault bytes slots c.args.count) l.invariant.faults e (omega arith) fault)
+    let there = subst (λ (n : ℕ). Fails (first_bad (length bytes) (page_record_places bytes l.least (page_offset n l.k))) e) c.from.ensures c.in_err-page.ensures in
+    let fault = subst (λ (n : ℕ). Fails (first_bad (length bytes) (page_record_places bytes n (page_offset slots l.k))) e) l.invariant.least there in
+    rw (p.1, p.2) (ends bytes (page_places bytes slots) c.args.count l.k l.invariant.faults e (omega arith) fault)
 
 pub loop-k-preserved : goal.loop-k-preserved
-unfolding page_fault
 loop-k-preserved c =
     let l = c.loop-k in
     let bytes = c.args.self.now.bytes.now in
     let slots = c.args.slots in
     let page = c.in_ok-page.page in
-    let there : page_record_fault bytes l.least (page_offset slots l.k) ≡ None = subst (λ (n : ℕ). page_record_fault bytes l.least (page_offset n l.k) ≡ None) c.from.ensures c.in_ok-page.ensures.0 in
-    let none : page_fault bytes slots l.k ≡ None = subst (λ (n : ℕ). page_record_fault bytes n (page_offset slots l.k) ≡ None) l.invariant.least there in
+    let there = subst (λ (n : ℕ). first_bad (length bytes) (page_record_places bytes l.least (page_offset n l.k)) ≡ None) c.from.ensures c.in_ok-page.ensures.0 in
+    let none = subst (λ (n : ℕ). first_bad (length bytes) (page_record_places bytes n (page_offset slots l.k)) ≡ None) l.invariant.least there in
     let read : page ≡ page_at bytes slots l.k = c.in_ok-page.ensures.1 ∙ ap (λ (n : ℕ). page_record_at bytes (page_offset n l.k)) c.from.ensures in
-    let number : c.number-least.result ≡ field bytes (page_offset slots l.k) 8 = c.number-least.ensures.number ∙ ap (λ (p : ℕ × List Cell). p.0) read in
+    let number : c.number-least.result ≡ number_at bytes (page_offset slots l.k) 8 = c.number-least.ensures.number ∙ ap (λ (p : ℕ × List Cell). p.0) read in
     let next : l.k + 1 ≡ suc l.k = omega arith in
     record {
       read = c.in_ok-push.ensures.items ∙ one_more (page_at bytes slots) l.k l.pages.items page l.invariant.read read;
-      faults = goes_on (page_fault bytes slots) c.args.count l.k _ l.invariant.faults (omega arith) none;
-      least = ap (λ (n : ℕ). n + 1) number ∙ sym (ap (least_page bytes slots) next);
+      faults = goes_on (length bytes) (page_places bytes slots) c.args.count l.k l.invariant.faults (omega arith) none;
+      least = ap (λ (n : ℕ). n + 1) number ∙ sym (ap (least_number bytes (page_offset slots) 8) next);
     }
 
 pub returns : goal.returns
@@ -42,6 +43,6 @@ unfolding pages_at
 returns c =
     let l = c.loop-k in
     let bytes = c.args.self.now.bytes.now in (
-      is_done (page_fault bytes c.args.slots) c.args.count l.k _ l.invariant.faults (omega arith),
+      is_done (length bytes) (page_places bytes c.args.slots) c.args.count l.k l.invariant.faults (omega arith),
       all_read (page_at bytes c.args.slots) c.args.count l.k l.pages.items l.invariant.read (omega arith) (omega arith),
     )

@@ -4,21 +4,24 @@ use Rattle.std.proofs.lemmas.Result.{err_from_is_err_and}
 use Rattle.std.proofs.lemmas.List.{take_more_set, take_all}
 use Rattle.mm_word.specs.Word.{IsWord}
 use Rattle.mm_image.specs.Faults.{Fails}
-use Rattle.mm_model.specs.ImageReading.{word_at, word_fault, register_at, register_fault, registers_at, registers_fault}
+use Rattle.mm_model.specs.Places.{first_bad, word_at, word_places}
+use Rattle.mm_model.specs.ImageReading.{register_at, registers_at}
+use Rattle.mm_model.specs.ImageFaults.{register_places}
+use Rattle.mm_model.proofs.Places.{goes_on, is_done}
 use Rattle.mm_model.proofs.CoreRows.{each_set}
-use Rattle.mm_image.proofs.Over.{goes_on, ends, is_done, one_more, all_read}
+use Rattle.mm_model.proofs.ImageBytes.Ranges.{one_more, all_read}
+use Rattle.mm_image.proofs.Over.{ends}
 use Rattle.mm_image.proofs.fields.Reader.registers.Goals as goal
 
 pub returns-in_err-word-clause-regs : goal.returns-in_err-word-clause-regs
-unfolding registers_fault
 returns-in_err-word-clause-regs c =
     let p = err_from_is_err_and c.from_residual.result c.from_residual.ensures.1 in
     let l = c.loop-r in
     let bytes = c.args.self.now.bytes.now in
     let e = c.in_err-word.field-0.0 in
     let tagged = c.is_set.ensures ∙ ap (λ (n : ℕ). n / 2 ^ l.r % 2 == 1) c.requires.tags in
-    let fault : Fails (register_fault bytes c.args.at l.r) e = subst (λ (b : Bool). Fails (word_fault bytes b (c.args.at + 14 + 8 * l.r)) e) tagged c.in_err-word.ensures.word in
-    rw (p.1, p.2) (ends (register_fault bytes c.args.at) 16 l.r (registers_fault bytes c.args.at) l.invariant.faults e c.loop-r-test.true fault)
+    let fault = subst (λ (b : Bool). Fails (first_bad (length bytes) (word_places bytes b (c.args.at + 14 + 8 * l.r))) e) tagged c.in_err-word.ensures.word in
+    rw (p.1, p.2) (ends bytes (register_places bytes c.args.at) 16 l.r l.invariant.faults e c.loop-r-test.true fault)
 
 pub loop-r-preserved : goal.loop-r-preserved
 loop-r-preserved c =
@@ -26,21 +29,21 @@ loop-r-preserved c =
     let bytes = c.args.self.now.bytes.now in
     let at = c.args.at + 14 + 8 * l.r in
     let tagged = c.is_set.ensures ∙ ap (λ (n : ℕ). n / 2 ^ l.r % 2 == 1) c.requires.tags in
-    let none : register_fault bytes c.args.at l.r ≡ None = subst (λ (b : Bool). word_fault bytes b at ≡ None) tagged c.in_ok-word.ensures.word.0 in
+    let none = subst (λ (b : Bool). first_bad (length bytes) (word_places bytes b at) ≡ None) tagged c.in_ok-word.ensures.word.0 in
     let word : c.in_ok-word.word ≡ register_at bytes c.args.at l.r = c.in_ok-word.ensures.word.1 ∙ ap (λ (b : Bool). word_at bytes b at) tagged in
     let room : l.r < length l.regs = omega (arith, l.invariant.count, c.loop-r-test.true) in
     record {
       read = take_more_set l.regs l.r c.in_ok-word.word room ∙ one_more (register_at bytes c.args.at) l.r (take l.r l.regs) c.in_ok-word.word l.invariant.read word;
-      faults = goes_on (register_fault bytes c.args.at) 16 l.r _ l.invariant.faults c.loop-r-test.true none;
+      faults = goes_on (length bytes) (register_places bytes c.args.at) 16 l.r l.invariant.faults c.loop-r-test.true none;
       words = each_set IsWord l.regs l.r c.in_ok-word.word l.invariant.words c.in_ok-word.ensures.holds;
       count = length-set l.regs l.r c.in_ok-word.word ∙ l.invariant.count;
     }
 
 pub returns-clause-regs : goal.returns-clause-regs
-unfolding registers_fault registers_at
+unfolding registers_at
 returns-clause-regs c =
     let l = c.loop-r in
     let bytes = c.args.self.now.bytes.now in (
-      is_done (register_fault bytes c.args.at) 16 l.r _ l.invariant.faults c.loop-r-test.false,
+      is_done (length bytes) (register_places bytes c.args.at) 16 l.r l.invariant.faults c.loop-r-test.false,
       sym (take_all l.r l.regs (omega (arith, l.invariant.count, c.loop-r-test.false))) ∙ all_read (register_at bytes c.args.at) 16 l.r (take l.r l.regs) l.invariant.read l.auto.r-end c.loop-r-test.false,
     )
