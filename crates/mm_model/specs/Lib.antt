@@ -14,6 +14,8 @@ pub mod Lines
 pub mod Report
 pub mod Spelling
 pub mod Fits
+pub mod Tests
+pub mod Outcomes
 pub mod Schedule
 pub mod Trace
 pub mod Reach
