@@ -7,3 +7,4 @@ pub mod Counts
 pub mod Granted
 pub mod Isolated
 pub mod Runs
+pub mod Causes

@@ -4,6 +4,7 @@
 //! definition that is wrong breaks one of them.
 #![tactic(auto)]
 
+pub mod causes;
 pub mod counts;
 pub mod granted;
 pub mod grants;
