@@ -224,7 +224,7 @@ module _ (core : Core) (m : Memory) (n : ℕ) where
       from f (Ending.idles none no_ports tick) = absurd (none f.0 f.1.runs)
 
   module _ (h : IsOrderly core) where
-    pub idle_exactly : (outcome ≡ Idle) ↔ IsIdle core n
+    idle_exactly : (outcome ≡ Idle) ↔ IsIdle core n
     idle_exactly = (λ is. to is ending, λ i. from i ending)
       where
         ran : (s : Slot) → outcome ≡ Idle → RunTick core m s outcome → IsIdle core n
@@ -243,7 +243,7 @@ module _ (core : Core) (m : Memory) (n : ℕ) where
         from i (Ending.delivers s p free port tick) = absurd (i.no_port s p port)
         from i (Ending.idles none no_ports tick) = tick
 
-    pub delivered_exactly : (reg : ℕ) → (outcome ≡ Delivered reg) ↔ Delivers core n reg
+    delivered_exactly : (reg : ℕ) → (outcome ≡ Delivered reg) ↔ Delivers core n reg
     delivered_exactly reg = (λ is. to is ending, λ d. from d ending)
       where
         ran : (s : Slot) → outcome ≡ Delivered reg → RunTick core m s outcome → Delivers core n reg
@@ -268,7 +268,7 @@ module _ (core : Core) (m : Memory) (n : ℕ) where
             cc
         from d (Ending.idles none no_ports tick) = absurd (no_ports h d.0 d.1 d.2)
 
-    pub blocked_exactly : (outcome ≡ Blocked) ↔ Blocks core m n
+    blocked_exactly : (outcome ≡ Blocked) ↔ Blocks core m n
     blocked_exactly = (λ is. to is ending, λ b. from b ending)
       where
         ran : (s : Slot) → Runs core n s → outcome ≡ Blocked → RunTick core m s outcome → Blocks core m n
@@ -293,7 +293,7 @@ module _ (core : Core) (m : Memory) (n : ℕ) where
         from b (Ending.delivers s p free port tick) = absurd (absent_runs_not core m n free b.0 b.1)
         from b (Ending.idles none no_ports tick) = absurd (none b.0 b.1)
 
-    pub did_exactly : (outcome ≡ Did) ↔ Completes core m n
+    did_exactly : (outcome ≡ Did) ↔ Completes core m n
     did_exactly = (λ is. to is ending, λ d. from d ending)
       where
         ran : (s : Slot) → Runs core n s → outcome ≡ Did → RunTick core m s outcome → Completes core m n
@@ -317,6 +317,25 @@ module _ (core : Core) (m : Memory) (n : ℕ) where
         from d (Ending.runs s r k) = back s (ap (first_stop core m) (sym (same_runner core n d.0 s d.1 r)) ∙ d.2) k
         from d (Ending.delivers s p free port tick) = absurd (absent_runs_not core m n free d.0 d.1)
         from d (Ending.idles none no_ports tick) = absurd (none d.0 d.1)
+
+-- all five at once, of a tick
+pub record EndsExactly (core : Core) (m : Memory) (n : ℕ) (tick : Tick) : Type 0 where
+  pub idle : (tick ≡ Idle) ↔ IsIdle core n
+  pub delivered : (reg : ℕ) → (tick ≡ Delivered reg) ↔ Delivers core n reg
+  pub blocked : (tick ≡ Blocked) ↔ Blocks core m n
+  pub faulted : (c : Cause) → (tick ≡ Faulted c) ↔ Faults core m n c
+  pub did : (tick ≡ Did) ↔ Completes core m n
+
+pub ends_exactly : (core : Core) (m : Memory) (n : ℕ) → IsCore core → EndsExactly core m n (turn core m n).step.tick
+ends_exactly core m n whole =
+    let h = core_orderly core whole in
+    record {
+      idle = idle_exactly core m n h;
+      delivered = delivered_exactly core m n h;
+      blocked = blocked_exactly core m n h;
+      faulted = faulted_exactly core m n;
+      did = did_exactly core m n h;
+    }
 
 -- 4. What a fault changes.
 

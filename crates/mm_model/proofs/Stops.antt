@@ -36,7 +36,7 @@ use Rattle.mm_model.specs.Effect.{Reply, Effect, effect, plain, sets, sets_point
 use Rattle.mm_model.specs.Effect.Reply.{Fine, Refused, Got, Paged, Served}
 use Rattle.mm_model.specs.Effect.Effect.{Fault, Block, Deliver, Does}
 use Rattle.mm_model.specs.Turn.{Turned, reply, reached, first_event, event_reply, served, is_taken, is_handler, faulted, blocked, ended, executed, issued, decoded, instr_in, fetched, aimed, started, asked_use, touch_of}
-use Rattle.mm_model.specs.Tests.{Stop, fails, cell_at_sum, cell_tests, reach_tests, bits_in, signed_in, through, in_segment_at, moving, restricting, at_words, can_jump, has_room, has_event, serves, serving, tests, instr_at, instr_tests, first_stop}
+use Rattle.mm_model.specs.Tests.{Stop, fault_test, cell_at_sum, cell_tests, reach_tests, bits_in, signed_in, pointer_tests, in_segment_at, move_tests, restrict_tests, distance_tests, can_jump, has_room, has_event, serves, serve_tests, tests, instr_at, instr_tests, first_stop}
 use Rattle.mm_model.specs.Tests.Stop.{Fails, Lacks, Awaits}
 
 -- 1. What an effect is where the first test that fails is this one.
@@ -70,31 +70,31 @@ module _ (core : Core) (m : Memory) (s : Slot) where
   reach_stops (Int b) by kind pre = refl
   reach_stops (Ptr p) by kind pre = right (allows p.perm kind)
     where
-      bit : (t : Touch) (c : Cell) (b : Bool) → Reaches (first_failing (map fails ((true, cause.NoPage) ∷ (b, cause.Sync) ∷ []))) (if b then Got t c else Refused cause.Sync)
+      bit : (t : Touch) (c : Cell) (b : Bool) → Reaches (first_failing (map fault_test ((true, cause.NoPage) ∷ (b, cause.Sync) ∷ []))) (if b then Got t c else Refused cause.Sync)
       bit t c true = (t, c, refl)
       bit t c false = refl
 
-      page : (t : Touch) (o : Option Cell) → Reaches (first_failing (map fails (cell_tests o pre))) (reached t pre o)
+      page : (t : Touch) (o : Option Cell) → Reaches (first_failing (map fault_test (cell_tests o pre))) (reached t pre o)
       page t None = refl
       page t (Some c) = bit t c (passes pre c.full)
 
       align : (a : ℕ) (b : Bool)
-          → Reaches (first_failing (map fails ((b, cause.Align) ∷ [] ++ cell_tests (cell_at m a) pre))) (reply core m s.number (reaching (if b then Ok (record { ptr = p; addr = a; kind = kind }) else Err cause.Align) pre))
+          → Reaches (first_failing (map fault_test ((b, cause.Align) ∷ [] ++ cell_tests (cell_at m a) pre))) (reply core m s.number (reaching (if b then Ok (record { ptr = p; addr = a; kind = kind }) else Err cause.Align) pre))
       align a true = page (record { ptr = p; addr = a; kind = kind }) (cell_at m a)
       align a false = refl
 
       whole : (a : ℕ) (b : Bool)
-          → Reaches (first_failing (map fails ((b, cause.Bounds) ∷ (a % 8 == 0, cause.Align) ∷ [] ++ cell_tests (cell_at m a) pre)))
+          → Reaches (first_failing (map fault_test ((b, cause.Bounds) ∷ (a % 8 == 0, cause.Align) ∷ [] ++ cell_tests (cell_at m a) pre)))
           (reply core m s.number (reaching (if b then (if a % 8 == 0 then Ok (record { ptr = p; addr = a; kind = kind }) else Err cause.Align) else Err cause.Bounds) pre))
       whole a true = align a (a % 8 == 0)
       whole a false = refl
 
-      sum : (z : ℤ) → Reaches (first_failing (map fails ((holds_word_at p z, cause.Bounds) ∷ (is_aligned z, cause.Align) ∷ [] ++ cell_tests (cell_at_sum m z) pre))) (reply core m s.number (reaching (touch_at p z kind) pre))
+      sum : (z : ℤ) → Reaches (first_failing (map fault_test ((holds_word_at p z, cause.Bounds) ∷ (is_aligned z, cause.Align) ∷ [] ++ cell_tests (cell_at_sum m z) pre))) (reply core m s.number (reaching (touch_at p z kind) pre))
       sum (pos a) = whole a (holds_word p a)
       sum (negsuc a) = refl
 
       right : (b : Bool)
-          → Reaches (first_failing (map fails ((true, cause.NotPointer) ∷ (b, cause.Perm) ∷ (holds_word_at p (pos p.addr +ℤ by), cause.Bounds) ∷ (is_aligned (pos p.addr +ℤ by), cause.Align) ∷ [] ++ cell_tests (cell_at_sum m (pos p.addr +ℤ by)) pre)))
+          → Reaches (first_failing (map fault_test ((true, cause.NotPointer) ∷ (b, cause.Perm) ∷ (holds_word_at p (pos p.addr +ℤ by), cause.Bounds) ∷ (is_aligned (pos p.addr +ℤ by), cause.Align) ∷ [] ++ cell_tests (cell_at_sum m (pos p.addr +ℤ by)) pre)))
           (reply core m s.number (reaching (if b then touch_at p (pos p.addr +ℤ by) kind else Err cause.Perm) pre))
       right true = sum (pos p.addr +ℤ by)
       right false = refl
@@ -111,7 +111,7 @@ module _ (core : Core) (m : Memory) (s : Slot) where
   stores w post (Some (Lacks of)) r none = absurd none
   stores w post (Some Awaits) r none = absurd none
 
-  through_stops : (w : Word) (f : Pointer → List (Bool × Stop)) (g : Pointer → Effect) → ((p : Pointer) → Comes core s.number (first_failing (f p)) (g p)) → Comes core s.number (first_failing (through w f)) (if_pointer w g)
+  through_stops : (w : Word) (f : Pointer → List (Bool × Stop)) (g : Pointer → Effect) → ((p : Pointer) → Comes core s.number (first_failing (f p)) (g p)) → Comes core s.number (first_failing (pointer_tests w f)) (if_pointer w g)
   through_stops (Int b) f g k = refl
   through_stops (Ptr p) f g k = k p
 
@@ -125,14 +125,14 @@ module _ (core : Core) (m : Memory) (s : Slot) where
       by true = ok (record p { addr = a })
       by false = err cause.Bounds
 
-  moves : (rd : ℕ) (p : Pointer) (z : ℤ) → Comes core s.number (first_failing (moving p z)) (sets_pointer s rd (if can_move p.perm then moved_to p z else Err cause.Perm))
+  moves : (rd : ℕ) (p : Pointer) (z : ℤ) → Comes core s.number (first_failing (move_tests p z)) (sets_pointer s rd (if can_move p.perm then moved_to p z else Err cause.Perm))
   moves rd p z = by (can_move p.perm)
     where
       by : (b : Bool) → Comes core s.number (first_failing ((b, Fails cause.Perm) ∷ (in_segment_at p z, Fails cause.Bounds) ∷ [])) (sets_pointer s rd (if b then moved_to p z else Err cause.Perm))
       by true = inside p z (sets_pointer s rd) (λ q. tt) (λ c. refl)
       by false = refl
 
-  restricts : (rd : ℕ) (p : Pointer) (o : Option Perm) → Comes core s.number (first_failing (restricting p o)) (sets_pointer s rd (elim o [ Some to ↦ restricted_to p to | None ↦ Err cause.Malformed ]))
+  restricts : (rd : ℕ) (p : Pointer) (o : Option Perm) → Comes core s.number (first_failing (restrict_tests p o)) (sets_pointer s rd (elim o [ Some to ↦ restricted_to p to | None ↦ Err cause.Malformed ]))
   restricts rd p None = refl
   restricts rd p (Some to) = by (can_become p.perm to)
     where
@@ -161,15 +161,15 @@ module _ (core : Core) (m : Memory) (s : Slot) where
   operates rd a b Remu = divisor rd a b (b == 0) (a % b)
   operates rd a b _ = tt
 
-  branches_stop : (imm : ℤ) → Comes core s.number (first_failing (at_words s imm)) (branches s (at_distance s imm))
+  branches_stop : (imm : ℤ) → Comes core s.number (first_failing (distance_tests s imm)) (branches s (at_distance s imm))
   branches_stop imm = inside s.ip (pos s.ip.addr +ℤ (pos 8 *ℤ imm)) (branches s) (λ q. tt) (λ c. refl)
 
   -- a branch that is taken, and one that is not
-  taken : (imm : ℤ) (b : Bool) → Comes core s.number (first_failing (if b then at_words s imm else [])) (if b then branches s (at_distance s imm) else Does (plain s))
+  taken : (imm : ℤ) (b : Bool) → Comes core s.number (first_failing (if b then distance_tests s imm else [])) (if b then branches s (at_distance s imm) else Does (plain s))
   taken imm true = branches_stop imm
   taken imm false = tt
 
-  taken_not : (imm : ℤ) (b : Bool) → Comes core s.number (first_failing (if b then [] else at_words s imm)) (if b then Does (plain s) else branches s (at_distance s imm))
+  taken_not : (imm : ℤ) (b : Bool) → Comes core s.number (first_failing (if b then [] else distance_tests s imm)) (if b then Does (plain s) else branches s (at_distance s imm))
   taken_not imm true = tt
   taken_not imm false = branches_stop imm
 
@@ -208,7 +208,7 @@ module _ (core : Core) (m : Memory) (s : Slot) where
       by true = tt
       by false = refl
 
-  reads : (rd reg : ℕ) (o : Option Slot) → Comes core s.number (first_failing (serving core.split s.number o reg)) (reads_of core.split s rd reg (served s.number o))
+  reads : (rd reg : ℕ) (o : Option Slot) → Comes core s.number (first_failing (serve_tests core.split s.number o reg)) (reads_of core.split s rd reg (served s.number o))
   reads rd reg None = refl
   reads rd reg (Some of) = by (is_handler s.number of.handler && is_taken of.state) (core.split && is_empty of reg)
     where
@@ -220,7 +220,7 @@ module _ (core : Core) (m : Memory) (s : Slot) where
       by true b = empty (core.split && is_empty of reg)
       by false b = refl
 
-  writes : (reg : ℕ) (w : Word) (o : Option Slot) → Comes core s.number (first_failing (serving core.split s.number o reg)) (writes_of core.split s reg w (served s.number o))
+  writes : (reg : ℕ) (w : Word) (o : Option Slot) → Comes core s.number (first_failing (serve_tests core.split s.number o reg)) (writes_of core.split s reg w (served s.number o))
   writes reg w None = refl
   writes reg w (Some of) = by (is_handler s.number of.handler && is_taken of.state)
     where
@@ -259,10 +259,10 @@ module _ (core : Core) (m : Memory) (s : Slot) where
   unfolding tests effect ask reply
   effect_stops moved (Out ra) = outs (bits_in s ra % 256) (has_room core s.group)
   effect_stops moved (Alu op rd ra rb) = operates rd (bits_in s ra) (bits_in s rb) op
-  effect_stops moved (Lea rd ra rb) = through_stops (register s ra) (λ p. moving p (pos p.addr +ℤ signed_in s rb)) (λ p. sets_pointer s rd (lea_result p (signed_in s rb))) (λ p. moves rd p (pos p.addr +ℤ signed_in s rb))
-  effect_stops moved (Leai rd ra imm) = through_stops (register s ra) (λ p. moving p (pos p.addr +ℤ imm)) (λ p. sets_pointer s rd (lea_result p imm)) (λ p. moves rd p (pos p.addr +ℤ imm))
-  effect_stops moved (Leab rd ra rb) = through_stops (register s ra) (λ p. moving p (pos (base_of p) +ℤ signed_in s rb)) (λ p. sets_pointer s rd (leab_result p (signed_in s rb))) (λ p. moves rd p (pos (base_of p) +ℤ signed_in s rb))
-  effect_stops moved (Restrict rd ra rb) = through_stops (register s ra) (λ p. restricting p (perm_of (bits_in s rb))) (λ p. sets_pointer s rd (restrict_result p (bits_in s rb))) (λ p. restricts rd p (perm_of (bits_in s rb)))
+  effect_stops moved (Lea rd ra rb) = through_stops (register s ra) (λ p. move_tests p (pos p.addr +ℤ signed_in s rb)) (λ p. sets_pointer s rd (lea_result p (signed_in s rb))) (λ p. moves rd p (pos p.addr +ℤ signed_in s rb))
+  effect_stops moved (Leai rd ra imm) = through_stops (register s ra) (λ p. move_tests p (pos p.addr +ℤ imm)) (λ p. sets_pointer s rd (lea_result p imm)) (λ p. moves rd p (pos p.addr +ℤ imm))
+  effect_stops moved (Leab rd ra rb) = through_stops (register s ra) (λ p. move_tests p (pos (base_of p) +ℤ signed_in s rb)) (λ p. sets_pointer s rd (leab_result p (signed_in s rb))) (λ p. moves rd p (pos (base_of p) +ℤ signed_in s rb))
+  effect_stops moved (Restrict rd ra rb) = through_stops (register s ra) (λ p. restrict_tests p (perm_of (bits_in s rb))) (λ p. sets_pointer s rd (restrict_result p (bits_in s rb))) (λ p. restricts rd p (perm_of (bits_in s rb)))
   effect_stops moved (Subseg rd ra rb) =
       through_stops (register s ra) (λ p. (can_move p.perm, Fails cause.Perm) ∷ (nat_lt (bits_in s rb) p.log, Fails cause.Bounds) ∷ []) (λ p. sets_pointer s rd (subseg_result p (bits_in s rb)))
       (λ p. shortens rd p (bits_in s rb) (can_move p.perm) (nat_lt (bits_in s rb) p.log))
@@ -335,7 +335,7 @@ module _ (core : Core) (m : Memory) (s : Slot) where
     decoded_stands f u None = record { address = Int 0; value = Int 0; fetched = Some f; touched = None; uses = u ∷ []; is = refl }
     decoded_stands f u (Some i) = issued_stands f u i
 
-    fetched_stands : (f : Touch) (o : Option Cell) → Stands core m s (first_failing (map fails (cell_tests o Any) ++ instr_tests core m s (option_and_then (λ c. instr_in c.word) o))) (fetched core m s f o)
+    fetched_stands : (f : Touch) (o : Option Cell) → Stands core m s (first_failing (map fault_test (cell_tests o Any) ++ instr_tests core m s (option_and_then (λ c. instr_in c.word) o))) (fetched core m s f o)
     fetched_stands f None = record { address = Int 0; value = Int 0; fetched = Some f; touched = None; uses = Accessed f.kind f.addr false false ∷ []; is = refl }
     fetched_stands f (Some c) = decoded_stands f (Accessed f.kind f.addr true true) (instr_in c.word)
 
@@ -343,7 +343,7 @@ module _ (core : Core) (m : Memory) (s : Slot) where
   early c = record { address = Int 0; value = Int 0; fetched = None; touched = None; uses = []; is = refl }
 
   abbrev behind : Option Cell → List (Bool × Stop)
-  behind o = map fails (cell_tests o Any) ++ instr_tests core m s (option_and_then (λ c. instr_in c.word) o)
+  behind o = map fault_test (cell_tests o Any) ++ instr_tests core m s (option_and_then (λ c. instr_in c.word) o)
 
   aimed_stands : Stands core m s (first_failing (reach_tests m (Ptr s.ip) (pos 0) Fetch Any ++ instr_tests core m s (instr_at m s))) (aimed core m s (check_result (Ptr s.ip) (pos 0) Fetch))
   aimed_stands = right (can_fetch s.ip.perm) refl

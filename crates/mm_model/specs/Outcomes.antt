@@ -72,8 +72,8 @@ state_faulted c (Some h) = Waiting
 state_faulted c None = if is_sync c then Running else Halted (Some c)
 
 -- what the queue of a number gains of a slot's event: the event where it is the queue of the slot's handler
-abbrev pub told : ℕ → Slot → Event → List Event
-told k s e = if is_handler k s.handler then e ∷ [] else []
+abbrev pub events_for : ℕ → Slot → Event → List Event
+events_for k s e = if is_handler k s.handler then e ∷ [] else []
 
 -- of the slot its count of turns and its state, of the queues its handler's, and nothing else but the number of cycles
 pub record FaultChanges (s : Slot) (c : Cause) (old new : State) : Type 0 where
@@ -83,4 +83,4 @@ pub record FaultChanges (s : Slot) (c : Cause) (old new : State) : Type 0 where
   pub others : (k : ℕ) → k ≢ s.number → slot_at new.core k ≡ slot_at old.core k
   pub event : Event
   pub names : (event.slot ≡ s.number) × (event.cause ≡ c) × (event.ip ≡ s.ip)
-  pub queues : (k : ℕ) → queue_at new.core k ≡ queue_at old.core k ++ told k s event
+  pub queues : (k : ℕ) → queue_at new.core k ≡ queue_at old.core k ++ events_for k s event

@@ -28,7 +28,7 @@ use Rattle.mm_model.specs.Operands.{lacks}
 use Rattle.mm_model.specs.Ask.{is_privileged, load_kind}
 use Rattle.mm_model.specs.Turn.{is_taken, is_handler, instr_in}
 
--- what stands where a test fails
+-- what a test leads to where it fails
 pub data Stop : Type 0 where
   -- the turn faults
   Fails : (cause : Cause) → Stop
@@ -39,8 +39,9 @@ pub data Stop : Type 0 where
 
 -- 1. The tests of an access.
 
-abbrev pub fails : Bool × Cause → Bool × Stop
-fails t = (t.0, Fails t.1)
+-- a test that leads to a fault where it fails
+abbrev pub fault_test : Bool × Cause → Bool × Stop
+fault_test t = (t.0, Fails t.1)
 
 -- the cell at an exact sum
 abbrev pub cell_at_sum : Memory → ℤ → Option Cell
@@ -59,7 +60,7 @@ cell_tests (Some c) pre = (true, cause.NoPage) ∷ (passes pre c.full, cause.Syn
 
 -- the six tests of an access through a word
 abbrev pub reach_tests : Memory → Word → ℤ → Kind → Pre → List (Bool × Stop)
-reach_tests m w by kind pre = map fails (access_tests w by kind ++ cell_tests (cell_through m w by) pre)
+reach_tests m w by kind pre = map fault_test (access_tests w by kind ++ cell_tests (cell_through m w by) pre)
 
 -- 2. The tests of an instruction.
 
@@ -72,9 +73,9 @@ abbrev pub signed_in : Slot → ℕ → ℤ
 signed_in s r = cast_signed w64 (bits_in s r)
 
 -- tests through a pointer: an integer fails the first
-abbrev pub through : Word → (Pointer → List (Bool × Stop)) → List (Bool × Stop)
-through (Int _) rest = (false, Fails cause.NotPointer) ∷ []
-through (Ptr p) rest = (true, Fails cause.NotPointer) ∷ rest p
+abbrev pub pointer_tests : Word → (Pointer → List (Bool × Stop)) → List (Bool × Stop)
+pointer_tests (Int _) rest = (false, Fails cause.NotPointer) ∷ []
+pointer_tests (Ptr p) rest = (true, Fails cause.NotPointer) ∷ rest p
 
 -- an exact sum is an address of the pointer's segment
 abbrev pub in_segment_at : Pointer → ℤ → Bool
@@ -82,19 +83,19 @@ in_segment_at p (pos a) = in_segment p a
 in_segment_at p (negsuc _) = false
 
 -- the tests of moving a pointer to an exact sum
-abbrev pub moving : Pointer → ℤ → List (Bool × Stop)
-moving p z = (can_move p.perm, Fails cause.Perm) ∷ (in_segment_at p z, Fails cause.Bounds) ∷ []
+abbrev pub move_tests : Pointer → ℤ → List (Bool × Stop)
+move_tests p z = (can_move p.perm, Fails cause.Perm) ∷ (in_segment_at p z, Fails cause.Bounds) ∷ []
 
 -- the tests of restricting a pointer to the permission of a code, where it is one
-abbrev pub restricting : Pointer → Option Perm → List (Bool × Stop)
-restricting p None = (false, Fails cause.Malformed) ∷ []
-restricting p (Some to) = (true, Fails cause.Malformed) ∷ (can_become p.perm to, Fails cause.Perm) ∷ []
+abbrev pub restrict_tests : Pointer → Option Perm → List (Bool × Stop)
+restrict_tests p None = (false, Fails cause.Malformed) ∷ []
+restrict_tests p (Some to) = (true, Fails cause.Malformed) ∷ (can_become p.perm to, Fails cause.Perm) ∷ []
 
 -- the test of an address at so many words from the instruction's own
-abbrev pub at_words : Slot → ℤ → List (Bool × Stop)
-at_words s imm = (in_segment_at s.ip (pos s.ip.addr +ℤ (pos 8 *ℤ imm)), Fails cause.Bounds) ∷ []
+abbrev pub distance_tests : Slot → ℤ → List (Bool × Stop)
+distance_tests s imm = (in_segment_at s.ip (pos s.ip.addr +ℤ (pos 8 *ℤ imm)), Fails cause.Bounds) ∷ []
 
--- the permission can be jumped through
+-- there is a jump through the pointer
 abbrev pub can_jump : Pointer → Bool
 can_jump p = is_some (execute_form p.perm)
 
@@ -102,6 +103,7 @@ can_jump p = is_some (execute_form p.perm)
 abbrev pub has_room : Core → ℕ → Bool
 has_room core g = nat_lt (length (output_of core g)) (output_limit core.version)
 
+-- an event is there
 abbrev pub has_event : List Event → Bool
 has_event [] = false
 has_event (e ∷ rest) = true
@@ -112,39 +114,39 @@ serves n None = false
 serves n (Some of) = is_handler n of.handler && is_taken of.state
 
 -- the tests of reading or writing a register of a served slot
-abbrev pub serving : Bool → ℕ → Option Slot → ℕ → List (Bool × Stop)
-serving split n None reg = (false, Fails cause.NoSlot) ∷ []
-serving split n (Some of) reg = (serves n (Some of), Fails cause.NoSlot) ∷ (not (split && is_empty of reg), Lacks of) ∷ []
+abbrev pub serve_tests : Bool → ℕ → Option Slot → ℕ → List (Bool × Stop)
+serve_tests split n None reg = (false, Fails cause.NoSlot) ∷ []
+serve_tests split n (Some of) reg = (serves n (Some of), Fails cause.NoSlot) ∷ (not (split && is_empty of reg), Lacks of) ∷ []
 
 -- the tests of mapping or unmapping a page
-abbrev pub paging : Slot → ℕ → List (Bool × Stop)
-paging s page = (is_privileged s.ip.perm, Fails cause.Priv) ∷ (nat_lt page (2 ^ 42), Fails cause.Bounds) ∷ []
+abbrev pub page_tests : Slot → ℕ → List (Bool × Stop)
+page_tests s page = (is_privileged s.ip.perm, Fails cause.Priv) ∷ (nat_lt page (2 ^ 42), Fails cause.Bounds) ∷ []
 
 -- the instruction's own tests, in the order of the table of instructions
 unfoldable pub tests : Core → Memory → Slot → Instr → List (Bool × Stop)
 tests core m s (Out ra) = (has_room core s.group, Fails cause.OutFull) ∷ []
 tests core m s (Alu op rd ra rb) = if divides op then (not (bits_in s rb == 0), Fails cause.DivZero) ∷ [] else []
-tests core m s (Lea rd ra rb) = through (register s ra) (λ p. moving p (pos p.addr +ℤ signed_in s rb))
-tests core m s (Leai rd ra imm) = through (register s ra) (λ p. moving p (pos p.addr +ℤ imm))
-tests core m s (Leab rd ra rb) = through (register s ra) (λ p. moving p (pos (base_of p) +ℤ signed_in s rb))
-tests core m s (Restrict rd ra rb) = through (register s ra) (λ p. restricting p (perm_of (bits_in s rb)))
-tests core m s (Subseg rd ra rb) = through (register s ra) (λ p. (can_move p.perm, Fails cause.Perm) ∷ (nat_lt (bits_in s rb) p.log, Fails cause.Bounds) ∷ [])
+tests core m s (Lea rd ra rb) = pointer_tests (register s ra) (λ p. move_tests p (pos p.addr +ℤ signed_in s rb))
+tests core m s (Leai rd ra imm) = pointer_tests (register s ra) (λ p. move_tests p (pos p.addr +ℤ imm))
+tests core m s (Leab rd ra rb) = pointer_tests (register s ra) (λ p. move_tests p (pos (base_of p) +ℤ signed_in s rb))
+tests core m s (Restrict rd ra rb) = pointer_tests (register s ra) (λ p. restrict_tests p (perm_of (bits_in s rb)))
+tests core m s (Subseg rd ra rb) = pointer_tests (register s ra) (λ p. (can_move p.perm, Fails cause.Perm) ∷ (nat_lt (bits_in s rb) p.log, Fails cause.Bounds) ∷ [])
 tests core m s (Setptr rd ra) = (is_privileged s.ip.perm, Fails cause.Priv) ∷ (spells_pointer (bits_in s ra), Fails cause.Malformed) ∷ []
 tests core m s (Ld rd ra pre post imm) = reach_tests m (register s ra) imm (load_kind post) pre
 tests core m s (St ra rb pre post imm) = reach_tests m (register s ra) imm Store pre
-tests core m s (Br imm) = at_words s imm
-tests core m s (Bz ra imm) = if bits_in s ra == 0 then at_words s imm else []
-tests core m s (Bnz ra imm) = if bits_in s ra == 0 then [] else at_words s imm
-tests core m s (Jmp ra) = through (register s ra) (λ p. (can_jump p, Fails cause.Perm) ∷ [])
-tests core m s (Jal rd ra) = through (register s ra) (λ p. (can_jump p, Fails cause.Perm) ∷ (in_segment s.ip (s.ip.addr + 8), Fails cause.Bounds) ∷ [])
-tests core m s (Lip rd imm) = at_words s imm
+tests core m s (Br imm) = distance_tests s imm
+tests core m s (Bz ra imm) = if bits_in s ra == 0 then distance_tests s imm else []
+tests core m s (Bnz ra imm) = if bits_in s ra == 0 then [] else distance_tests s imm
+tests core m s (Jmp ra) = pointer_tests (register s ra) (λ p. (can_jump p, Fails cause.Perm) ∷ [])
+tests core m s (Jal rd ra) = pointer_tests (register s ra) (λ p. (can_jump p, Fails cause.Perm) ∷ (in_segment s.ip (s.ip.addr + 8), Fails cause.Bounds) ∷ [])
+tests core m s (Lip rd imm) = distance_tests s imm
 tests core m s (Trap imm) = (false, Fails cause.Trap) ∷ []
 tests core m s (Evt rd) = (has_event (queue_at core s.number), Awaits) ∷ []
 tests core m s (Resume ra how) = (serves s.number (slot_at core (bits_in s ra)), Fails cause.NoSlot) ∷ []
-tests core m s (Rreg rd ra reg) = serving core.split s.number (slot_at core (bits_in s ra)) reg
-tests core m s (Wreg ra rb reg) = serving core.split s.number (slot_at core (bits_in s ra)) reg
-tests core m s (Map rd ra) = paging s (bits_in s ra)
-tests core m s (Unmap rd ra) = paging s (bits_in s ra)
+tests core m s (Rreg rd ra reg) = serve_tests core.split s.number (slot_at core (bits_in s ra)) reg
+tests core m s (Wreg ra rb reg) = serve_tests core.split s.number (slot_at core (bits_in s ra)) reg
+tests core m s (Map rd ra) = page_tests s (bits_in s ra)
+tests core m s (Unmap rd ra) = page_tests s (bits_in s ra)
 tests core m s _ = []
 
 -- 3. The tests of a turn.
@@ -153,15 +155,15 @@ tests core m s _ = []
 abbrev pub instr_at : Memory → Slot → Option Instr
 instr_at m s = option_and_then (λ c. instr_in c.word) (cell_through m (Ptr s.ip) (pos 0))
 
--- there is an instruction, the slot lacks no register that it needs, and then its own tests
+-- the tests once the cell is fetched: it spells an instruction, none of the registers that it names is empty, and its own tests hold
 abbrev pub instr_tests : Core → Memory → Slot → Option Instr → List (Bool × Stop)
 instr_tests core m s None = (false, Fails cause.Illegal) ∷ []
 instr_tests core m s (Some i) = (true, Fails cause.Illegal) ∷ (not (core.split && lacks i s), Lacks s) ∷ tests core m s i
 
--- the tests of a slot's turn, in their order: it is not past the segment's end, the fetch passes its tests, and those of its instruction
+-- the tests of a slot's turn: that it is not past its segment's end, those of the fetch, and those of the instruction there
 abbrev pub turn_tests : Core → Memory → Slot → List (Bool × Stop)
 turn_tests core m s = (not s.past, Fails cause.Bounds) ∷ reach_tests m (Ptr s.ip) (pos 0) Fetch Any ++ instr_tests core m s (instr_at m s)
 
--- where the first of them stands that fails
+-- what the first of them leads to that fails; none where all hold
 unfoldable pub first_stop : Core → Memory → Slot → Option Stop
 first_stop core m s = first_failing (turn_tests core m s)
