@@ -8,3 +8,4 @@ pub mod Granted
 pub mod Isolated
 pub mod Runs
 pub mod CellLines
+pub mod Causes

@@ -5,6 +5,7 @@
 #![tactic(auto)]
 
 pub mod cell_lines;
+pub mod causes;
 pub mod counts;
 pub mod granted;
 pub mod grants;

@@ -11,6 +11,9 @@ use Rattle.mm_model.specs.Spelling.{IsImage}
 use Rattle.mm_model.specs.Uses.{Use}
 use Rattle.mm_model.specs.Run.{turn_of, after, run, uses}
 use Rattle.mm_model.specs.Fits.{slots_of}
+use Rattle.mm_word.specs.declared.cause.Cause.{Cause}
+use Rattle.mm_model.specs.Outcomes.{StopsAt, FaultChanges}
+use Rattle.mm_model.proofs.Causes.{IsOrderly, core_orderly, fault_changes}
 use Rattle.mm_model.proofs.Starts.{start_fits, start_within}
 use Rattle.mm_model.proofs.StateKeeps.{after_fits}
 use Rattle.mm_model.proofs.TurnBounds.{after_within}
@@ -58,3 +61,10 @@ unfolding after
 state_made s n core memory c m =
     ap (λ (x : Core). let t : State = record { core = x; memory = memory; cycles = s.cycles + 1 } in t) c
     ∙ ap (λ (x : Memory). let t : State = record { core = (turn_of s n).core; memory = x; cycles = s.cycles + 1 } in t) m
+
+-- what a fault changes, of a state that is kept
+pub kept_orderly : (s : State) → ∥ Kept s ∥₁ → IsOrderly s.core
+kept_orderly s h = ∥∥₁_elim h (hlevel props) (λ k. core_orderly s.core k.fits.core)
+
+pub fault_changed : (s t : State) (n : ℕ) → t ≡ after s n → ∥ Kept s ∥₁ → (x : Slot) (c : Cause) → StopsAt s.core s.memory n x c → FaultChanges x c s t
+fault_changed s t n is kept x c stops = subst (FaultChanges x c s) (sym is) (fault_changes s n x c (kept_orderly s kept) stops)

@@ -35,6 +35,10 @@ impl<M: Memory> Machine<M> {
     ghost use Rattle.mm_model.specs.Image.{Image as ImageValue, start};
     ghost use Rattle.mm_model.specs.State.{slot_at, output_of};
     ghost use Rattle.mm_model.specs.Run.{turn_of, after};
+    ghost use Rattle.mm_word.specs.declared.cause.Cause.{Cause};
+    ghost use Rattle.mm_model.specs.declared.step.Tick.{Tick};
+    ghost use Rattle.mm_model.specs.Slot.{Slot as SlotValue};
+    ghost use Rattle.mm_model.specs.Outcomes.{IsIdle, Delivers, StopsAt, Blocks, Faults, Completes, FaultChanges};
     ghost use Rattle.mm_mem.specs.Answers.{loaded, stored, after_load, after_store, access_uses};
     ghost use Rattle.mm_machine.specs.Machine.{state_of, ports_used, StandsTo, Takes, StandsFor};
 
@@ -65,6 +69,16 @@ impl<M: Memory> Machine<M> {
         ensures state { state_of self.new ≡ after (state_of self.old) item }
         ensures step { result ≡ (turn_of (state_of self.old) item).step }
         ensures takes { Takes self.old self.new (turn_of (state_of self.old) item).uses }
+
+        // What comes of the item, exactly, by the first test of the turn that fails.
+        ensures idle { (result.tick ≡ Tick.Idle) ↔ IsIdle (state_of self.old).core item }
+        ensures delivered { (reg : ℕ) → (result.tick ≡ Tick.Delivered reg) ↔ Delivers (state_of self.old).core item reg }
+        ensures blocked { let s = state_of self.old in (result.tick ≡ Tick.Blocked) ↔ Blocks s.core s.memory item }
+        ensures faulted { let s = state_of self.old in (c : Cause) → (result.tick ≡ Tick.Faulted c) ↔ Faults s.core s.memory item c }
+        ensures did { let s = state_of self.old in (result.tick ≡ Tick.Did) ↔ Completes s.core s.memory item }
+
+        // A turn that stops at a fault changes what a fault changes, and nothing else.
+        ensures unchanged { let s = state_of self.old in (x : SlotValue) (c : Cause) → StopsAt s.core s.memory item x c → FaultChanges x c s (state_of self.new) }
 
         // After any items of an image, one item more.
         ensures runs { (i : ImageValue) (items : List ℕ) → StandsFor i items self.old → StandsFor i (items ++ item ∷ []) self.new }

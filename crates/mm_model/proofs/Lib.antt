@@ -13,4 +13,6 @@ pub mod TurnBounds
 pub mod Starts
 pub mod Shortness
 pub mod Places
+pub mod Stops
+pub mod Causes
 pub mod ImageBytes

@@ -21,7 +21,8 @@ use Rattle.mm_model.proofs.SlotSteps.{delivered_from}
 use Rattle.mm_model.proofs.CoreSteps.{Replaces}
 use Rattle.mm_model.proofs.EffectSteps.{Moves, ChangeKeeps, EffectKeeps, waiting_runs_not}
 use Rattle.mm_model.proofs.TurnKeeps.{turn_keeps, row_keeps, still_there, changed_from}
-use Rattle.mm_model.proofs.TurnShapes.{decoded_instr, Runs, TurnShape, turn_shape}
+use Rattle.mm_model.specs.Outcomes.{Runs}
+use Rattle.mm_model.proofs.TurnShapes.{decoded_instr, TurnShape, turn_shape}
 
 -- the turns of a slot stay, or rise by one where it is the running slot of this number
 pub record TurnsFrom (core : Core) (n k : ℕ) (now : Slot) : Type 0 where

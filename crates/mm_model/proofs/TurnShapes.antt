@@ -18,11 +18,7 @@ use Rattle.mm_model.specs.State.{Core, slot_at}
 use Rattle.mm_model.specs.Operands.{lacks}
 use Rattle.mm_model.specs.Effect.{delivered}
 use Rattle.mm_model.specs.Turn.{Turned, faulted, blocked, executed, issued, decoded, instr_in, fetched, aimed, started, idle, arrives, taken_by_port, taken_by, is_running, turn}
-
--- the slot of the item, which runs
-pub record Runs (core : Core) (n : ℕ) (s : Slot) : Type 0 where
-  pub at : slot_at core n ≡ Some s
-  pub running : is_running s.state ≡ true
+use Rattle.mm_model.specs.Outcomes.{Runs}
 
 -- the access that fetches the slot's instruction
 abbrev pub Fetches : Slot → Touch → Type 0

@@ -15,6 +15,8 @@ pub mod Report
 pub mod Spelling
 pub mod Fits
 pub mod Typed
+pub mod Tests
+pub mod Outcomes
 pub mod Schedule
 pub mod Trace
 pub mod Reach

@@ -11,6 +11,9 @@ ghost use Rattle.mm_model.specs.Image.{slot_limit};
 ghost use Rattle.mm_model.specs.Fits.{slots_of};
 ghost use Rattle.mm_model.specs.Uses.{accesses, TakesUses};
 ghost use Rattle.mm_model.specs.Turn.{turn as turn_of};
+ghost use Rattle.mm_model.specs.Outcomes.{IsIdle, Delivers, Blocks, Faults, Completes};
+ghost use Rattle.mm_word.specs.declared.cause.Cause.{Cause};
+ghost use Rattle.mm_model.specs.declared.step.Tick.{Tick};
 ghost use Rattle.mm_thread.specs.Places.{row_alone};
 ghost use Rattle.mm_thread.specs.Told.{accesses_in, accesses_told};
 
@@ -53,6 +56,13 @@ pub fn turn<M: Memory>(core: &mut Core, mem: &mut M, item: u8) -> Step
     ensures core { core.new ≡ (turn_of core.old (M.meaning mem.old) item).core }
     ensures memory { M.meaning mem.new ≡ (turn_of core.old (M.meaning mem.old) item).memory }
     ensures step { result ≡ (turn_of core.old (M.meaning mem.old) item).step }
+
+    // What comes of the item, exactly, by the first test of the turn that fails.
+    ensures idle { (result.tick ≡ Tick.Idle) ↔ IsIdle core.old item }
+    ensures delivered { (reg : ℕ) → (result.tick ≡ Tick.Delivered reg) ↔ Delivers core.old item reg }
+    ensures blocked { (result.tick ≡ Tick.Blocked) ↔ Blocks core.old (M.meaning mem.old) item }
+    ensures faulted { (c : Cause) → (result.tick ≡ Tick.Faulted c) ↔ Faults core.old (M.meaning mem.old) item c }
+    ensures did { (result.tick ≡ Tick.Did) ↔ Completes core.old (M.meaning mem.old) item }
 
     // What was asked of the memory, in order.
     ensures takes { TakesUses M.stands mem.old mem.new (turn_of core.old (M.meaning mem.old) item).uses }

@@ -4,7 +4,7 @@ use Rattle.mm_model.specs.Uses.{Use}
 use Rattle.mm_model.specs.Image.{start}
 use Rattle.mm_model.specs.Run.{turn_of, after, uses}
 use Rattle.mm_machine.specs.Machine.{state_of}
-use Rattle.mm_machine.proofs.Keeping.{few_turns, goes_on, state_made, run_more, uses_more}
+use Rattle.mm_machine.proofs.Keeping.{few_turns, fault_changed, goes_on, state_made, run_more, uses_more}
 use Rattle.mm_machine.proofs.machine.Machine.cycle.Goals as goal
 
 pub turn-requires-clause-turns : goal.turn-requires-clause-turns
@@ -22,6 +22,9 @@ invariant_of-self g c =
 
 pub returns-clause-state : goal.returns-clause-state
 returns-clause-state g c = state_made (state_of c.args.self.now) c.args.item c.turn.new.core (g.M.Memory.meaning c.turn.new.mem) c.turn.ensures.core c.turn.ensures.memory
+
+pub returns-clause-unchanged : goal.returns-clause-unchanged
+returns-clause-unchanged g c = fault_changed (state_of c.args.self.now) _ c.args.item (returns-clause-state g c) c.args.self.now.kept
 
 pub returns-clause-runs : goal.returns-clause-runs
 returns-clause-runs g c i items h =
