@@ -5,6 +5,7 @@ use Rattle.mm_model.specs.Image.{Image, start}
 use Rattle.mm_model.specs.Report.{same_cell}
 use Rattle.mm_model.specs.Schedule.{only}
 use Rattle.mm_model.specs.Run.{run}
+use Rattle.mm_model.specs.Reach.Entries.{All}
 use Rattle.mm_model.specs.Worlds.{Touchable, LinesOf, changes}
 use Rattle.mm_laws.specs.Isolated.{AgreeApart, SameWorlds}
 use Rattle.mm_laws.proofs.AlikeWorlds.{touchable_other, touchable_back}
@@ -31,16 +32,16 @@ pub same_worlds : (i j : Image) (c : ℕ → Bool) (s t : List ℕ) → AgreeApa
 same_worlds i j c s t g e =
     let ends = two_runs i j c g s t e in
     let w = ends.worlds in
-    let over : (v : ℕ) → Touchable i c v → Touchable j c v = touchable_other i j c g.agree g.one_apart in
-    let back : (v : ℕ) → Touchable j c v → Touchable i c v = touchable_back i j c g.agree g.other_apart in
+    let over : (v : ℕ) → Touchable i All c v → Touchable j All c v = touchable_other i j c g.agree g.one_apart in
+    let back : (v : ℕ) → Touchable j All c v → Touchable i All c v = touchable_back i j c g.agree g.other_apart in
     record {
       alike = w.alike;
       view = record {
         sections = same_sections c (run (start i) s).core (run (start j) t).core w.alike.rows w.alike.outputs;
         turns = ends.lines;
         cells = λ text. (
-          lines_there (Touchable i c) (Touchable j c) (run (start i) s).memory i.memory (run (start j) t).memory j.memory w.one.paged g.one.paged w.other.paged g.other.paged w.alike.cells g.agree.cells over back text,
-          lines_there (Touchable j c) (Touchable i c) (run (start j) t).memory j.memory (run (start i) s).memory i.memory w.other.paged g.other.paged w.one.paged g.one.paged
+          lines_there (Touchable i All c) (Touchable j All c) (run (start i) s).memory i.memory (run (start j) t).memory j.memory w.one.paged g.one.paged w.other.paged g.other.paged w.alike.cells g.agree.cells over back text,
+          lines_there (Touchable j All c) (Touchable i All c) (run (start j) t).memory j.memory (run (start i) s).memory i.memory w.other.paged g.other.paged w.one.paged g.one.paged
               (λ v p. sym (w.alike.cells v (back v p))) (λ v p. sym (g.agree.cells v (back v p))) back over text,
         );
       };

@@ -4,6 +4,7 @@ use Rattle.std.specs.List.{AllByRecursion}
 use Rattle.mm_model.specs.declared.counts.Counts.{Counts}
 use Rattle.mm_model.specs.Lines.{newline}
 use Rattle.mm_model.specs.Image.{Image, start}
+use Rattle.mm_model.specs.Groups.{HasSlot}
 use Rattle.mm_model.specs.Spelling.{IsImage}
 use Rattle.mm_model.specs.Turn.{Turned}
 use Rattle.mm_model.specs.Run.{turn_of, run}
@@ -12,9 +13,9 @@ use Rattle.mm_model.specs.Report.{report}
 use Rattle.mm_model.specs.Trace.{touches, entries}
 use Rattle.mm_model.specs.Reach.{Entries}
 use Rattle.mm_model.specs.Reach.Entries.{These}
+use Rattle.mm_model.specs.Reach.Entries.{All}
 use Rattle.mm_model.specs.Worlds.{Apart, SameView, CellLinesOf, alone, sections_of}
 use Rattle.mm_laws.specs.Granted.{TouchGranted, EntryGranted, group_in}
-use Rattle.mm_laws.specs.Isolated.{HasSlot}
 
 -- 1. Reach.
 
@@ -58,5 +59,5 @@ RunsReach = (i : Image) (items : List ℕ) → IsImage i → Reaches i items
 -- whatever the memory counted
 abbrev pub RunsIsolate : Type 0
 RunsIsolate =
-    (i : Image) (items : List ℕ) (counts : Option Counts) (c : ℕ → Bool) → IsImage i → HasSlot i c → Apart i c
+    (i : Image) (items : List ℕ) (counts : Option Counts) (c : ℕ → Bool) → IsImage i → HasSlot i c → Apart i All c
     → Isolates i items (report (run (start i) items) i counts) c

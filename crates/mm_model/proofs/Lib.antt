@@ -14,3 +14,5 @@ pub mod TurnBounds
 pub mod Starts
 pub mod Shortness
 pub mod ImageBytes
+pub mod Filters
+pub mod OwnSlots
