@@ -8,6 +8,7 @@ use Rattle.mm_word.specs.declared.perm.Perm.TheVariants.{Ro, Rw, Key as KeyPerm}
 use Rattle.mm_word.specs.Perm.{can_load, can_store}
 use Rattle.mm_word.specs.Pointer.{Pointer, IsBelow}
 use Rattle.mm_model.specs.Image.{Image}
+use Rattle.mm_model.specs.Groups.{in_mask}
 use Rattle.mm_model.specs.Spelling.{IsImage}
 use Rattle.mm_model.specs.Reach.{Entries, CanTouch, CanWrite}
 use Rattle.mm_model.specs.Audit.{MaximalSegments}
@@ -42,7 +43,7 @@ no_store_key h = cc
 module _ (i : Image) (e : Entries) (image : IsImage i) (keys : List Key) (nodes : List Node) (marks : List ℕ) (m : IsMarked i e keys nodes marks)
     (privileged : ℕ) (rights : (g : ℕ) → (bit_at privileged g ≡ 1) ↔ HasSome marks (right_at nodes Make) g) where
   abbrev test : ℕ → Bool
-  test g = bit_at privileged g == 1
+  test = in_mask privileged
 
   x : IsExact i e test (Marked (node_pointer keys) marks)
   x = m.exact privileged rights

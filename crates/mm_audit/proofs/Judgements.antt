@@ -8,18 +8,19 @@ use Rattle.std.proofs.lemmas.List.Elements.{Contains-get_or}
 use Rattle.mm_word.proofs.Segments.{segment_below}
 use Rattle.mm_model.specs.Slot.{Slot}
 use Rattle.mm_model.specs.Image.{Image}
+use Rattle.mm_model.specs.Turn.{is_handler}
 use Rattle.mm_model.specs.Reach.{Entries, CanTouch, CanWrite}
-use Rattle.mm_model.specs.Reach.Entries.{All}
-use Rattle.mm_model.specs.Audit.{Verdict, Crosses, Writes, Judged}
+use Rattle.mm_model.specs.Worlds.{Touchable}
+use Rattle.mm_model.specs.Audit.{Crosses, Writes, Judged}
 use Rattle.mm_model.specs.Audit.Verdict.{Yes, Handler, Writer}
+use Rattle.mm_model.proofs.EffectSteps.{handler_is}
 use Rattle.mm_seg.specs.Segments.{IsSet, Covered, segment_at}
 use Rattle.mm_graph.proofs.KeyLists.{contains_here, contains_cases}
 use Rattle.mm_graph.proofs.Cells.{in_flat_map, from_flat_map}
 use Rattle.mm_audit.specs.declared.served.Served.{Served}
 use Rattle.mm_audit.specs.Audits.{ReachValue, Audits, set_of}
-use Rattle.mm_audit.specs.Serving.{is_handler, served_by, served_of}
+use Rattle.mm_audit.specs.Serving.{served_by, served_of}
 use Rattle.mm_audit.specs.Crossing.{IsCrossing, LeastCrossing, NoCrossing, served_at}
-use Rattle.mm_audit.specs.Judging.{TouchableUnder, WritesUnder, JudgedUnder}
 use Rattle.mm_audit.specs.Writers.{Touched, NoneWith, IsOutside, IsWriter, NoWriter}
 use Rattle.mm_audit.proofs.Words.{word_start, first_byte}
 use Rattle.mm_audit.proofs.Reading.{past}
@@ -27,12 +28,8 @@ use Rattle.mm_audit.proofs.Granted.{granted-well_formed}
 
 -- 1. Slots and their handlers.
 
-handler_is : (o : Option ℕ) (n : ℕ) → is_handler o n ≡ true → o ≡ Some n
-handler_is None n h = cc
-handler_is (Some m) n h = ap Some (eqb-true m n h)
-
-is_then : (o : Option ℕ) (n : ℕ) → o ≡ Some n → is_handler o n ≡ true
-is_then o n e = ap (λ v. is_handler v n) e ∙ eq-eqb n n refl
+is_then : (n : ℕ) (o : Option ℕ) → o ≡ Some n → is_handler n o ≡ true
+is_then n o e = ap (is_handler n) e ∙ eq-eqb n n refl
 
 abbrev one_served : Slot → Slot → Served
 one_served s t = record { slot = s.number; group = s.group; by = t.group }
@@ -40,7 +37,7 @@ one_served s t = record { slot = s.number; group = s.group; by = t.group }
 pub served_in : (slots : List Slot) (s t : Slot) → Contains slots s → Contains slots t → s.handler ≡ Some t.number → Contains (served_of slots) (one_served s t)
 served_in slots s t ms mt e =
     in_flat_map (λ u. flat_map (served_by u) slots) slots s (one_served s t) ms
-    (in_flat_map (served_by s) slots t (one_served s t) mt (subst (λ b. Contains (if b then one_served s t ∷ [] else []) (one_served s t)) (sym (is_then s.handler t.number e)) (contains_here (one_served s t) [])))
+    (in_flat_map (served_by s) slots t (one_served s t) mt (subst (λ b. Contains (if b then one_served s t ∷ [] else []) (one_served s t)) (sym (is_then t.number s.handler e)) (contains_here (one_served s t) [])))
 
 record ServedFrom (slots : List Slot) (x : Served) : Type 0 where
   served : Slot
@@ -54,11 +51,11 @@ from_served : (slots : List Slot) (x : Served) → Contains (served_of slots) x 
 from_served slots x m =
     let f = from_flat_map (λ u. flat_map (served_by u) slots) slots x m in
     let g = from_flat_map (served_by f.from) slots x f.part in
-    at f.from g.from f.is_in g.is_in (is_handler f.from.handler g.from.number) refl g.part
+    at f.from g.from f.is_in g.is_in (is_handler g.from.number f.from.handler) refl g.part
   where
-    at : (s t : Slot) → Contains slots s → Contains slots t → (b : Bool) → is_handler s.handler t.number ≡ b → Contains (if b then one_served s t ∷ [] else []) x → ServedFrom slots x
+    at : (s t : Slot) → Contains slots s → Contains slots t → (b : Bool) → is_handler t.number s.handler ≡ b → Contains (if b then one_served s t ∷ [] else []) x → ServedFrom slots x
     at s t ms mt false e c = absurd (let lt = c.1 in omega arith)
-    at s t ms mt true e c = record { served = s; server = t; one = ms; other = mt; handled = handler_is s.handler t.number e; is = only c }
+    at s t ms mt true e c = record { served = s; server = t; one = ms; other = mt; handled = handler_is t.number s.handler e; is = only c }
       where
         only : Contains (one_served s t ∷ []) x → x ≡ one_served s t
         only c2 = elim (contains_cases (one_served s t) x [] c2) [ inl same ↦ sym same | inr no_one ↦ absurd (let lt = no_one.1 in omega arith) ]
@@ -85,7 +82,7 @@ module _ (i : Image) (e : Entries) (r : ReachValue) (a : Audits i e r) (c : ℕ 
         sides = λ same. x (ap (λ (v : Served). c v.group) f.is ∙ same ∙ ap (λ (v : Served). c v.by) (sym f.is));
       }
 
-  pub handler_judged : (n : ℕ) → LeastCrossing r.served c (length r.served) n → JudgedUnder i e c (Handler n)
+  pub handler_judged : (n : ℕ) → LeastCrossing r.served c (length r.served) n → Judged i e c (Handler n)
   handler_judged n l =
       (subst (Crosses i c) l.is (from_place l.at l.small l.crosses), λ m x. let p = to_place m x in let le = l.least p.0 p.1 p.2 in let same = p.3 in omega arith)
 
@@ -118,13 +115,13 @@ module _ (i : Image) (e : Entries) (r : ReachValue) (a : Audits i e r) (c : ℕ 
 
   module _ (mask : ℕ) (is_mask : (g : ℕ) → (bit_at mask g ≡ 1) ↔ ((g < 64) × (c g ≡ true))) where
     -- what the answer says of sets is so of words
-    touched_to : (w : ℕ) → w % 8 ≡ 0 → TouchableUnder i e c w → Touched r.touch mask (length r.touch) w
+    touched_to : (w : ℕ) → w % 8 ≡ 0 → Touchable i e c w → Touched r.touch mask (length r.touch) w
     touched_to w aligned t =
         let cov = (a.touch_covers t.group w aligned (can_touch_small t.group w t.touches)).1 t.touches in
         let lt = set_small r.touch t.group w a.touch_len cov in
         record { group = t.group; small = (let l = a.touch_len in omega arith); is_in = (is_mask t.group).1 (lt, t.member); covers = cov }
 
-    touched_from : (w : ℕ) → w % 8 ≡ 0 → w < 2 ^ 54 → Touched r.touch mask (length r.touch) w → TouchableUnder i e c w
+    touched_from : (w : ℕ) → w % 8 ≡ 0 → w < 2 ^ 54 → Touched r.touch mask (length r.touch) w → Touchable i e c w
     touched_from w aligned small t = record { group = t.group; member = ((is_mask t.group).0 t.is_in).1; touches = (a.touch_covers t.group w aligned small).0 t.covers }
 
     outside_from : (g : ℕ) → g < 64 → IsOutside mask g → c g ≡ false
@@ -137,16 +134,16 @@ module _ (i : Image) (e : Entries) (r : ReachValue) (a : Audits i e r) (c : ℕ 
     outside_to : (g : ℕ) → c g ≡ false → IsOutside mask g
     outside_to g h bit = let two = (is_mask g).0 bit in let no_way : ◌≡◌ {A = Bool} true false = sym two.1 ∙ h in cc
 
-    writes_to : (g w : ℕ) → WritesUnder i e c g w → (w % 8 ≡ 0) × (g < 64) × IsOutside mask g × Covered (set_of r.write g) w × Touched r.touch mask (length r.touch) w
+    writes_to : (g w : ℕ) → Writes i e c g w → (w % 8 ≡ 0) × (g < 64) × IsOutside mask g × Covered (set_of r.write g) w × Touched r.touch mask (length r.touch) w
     writes_to g w x =
         let aligned = x.writes.stores.word in
         let cov = (a.write_covers g w aligned (can_write_small g w x.writes)).1 x.writes in
         (aligned, set_small r.write g w a.write_len cov, outside_to g x.outside, cov, touched_to w aligned x.touched)
 
-    none_writes : (g : ℕ) → (g < length r.write → IsOutside mask g → NoneWith (set_of r.write g) r.touch mask (length r.touch)) → (w : ℕ) → ¬ (WritesUnder i e c g w)
+    none_writes : (g : ℕ) → (g < length r.write → IsOutside mask g → NoneWith (set_of r.write g) r.touch mask (length r.touch)) → (w : ℕ) → ¬ (Writes i e c g w)
     none_writes g none w x = let y = writes_to g w x in none (let l = a.write_len in let lt = y.1 in omega arith) y.2 w y.3 y.4
 
-    pub yes_judged : NoCrossing r.served c (length r.served) → NoWriter r.write r.touch mask → JudgedUnder i e c Yes
+    pub yes_judged : NoCrossing r.served c (length r.served) → NoWriter r.write r.touch mask → Judged i e c Yes
     yes_judged none no_writer = record {
       writes = λ g w out wr t. none_writes g (no_writer g) w (record { outside = out; writes = wr; touched = t });
       handlers = λ s h ms mh e2. same s h ms mh e2 (c s.group) refl (c h.group) refl;
@@ -158,7 +155,7 @@ module _ (i : Image) (e : Entries) (r : ReachValue) (a : Audits i e r) (c : ℕ 
         same s h ms mh e2 true p false q = absurd (no_cross none s.number (record { served = s; server = h; one = ms; other = mh; number = refl; handled = e2; sides = λ z. let no_way : ◌≡◌ {A = Bool} true false = sym p ∙ z ∙ q in cc }))
         same s h ms mh e2 false p true q = absurd (no_cross none s.number (record { served = s; server = h; one = ms; other = mh; number = refl; handled = e2; sides = λ z. let no_way : ◌≡◌ {A = Bool} false true = sym p ∙ z ∙ q in cc }))
 
-    pub writer_judged : (g w : ℕ) → NoCrossing r.served c (length r.served) → IsWriter r.write r.touch mask g w → JudgedUnder i e c (Writer g w)
+    pub writer_judged : (g w : ℕ) → NoCrossing r.served c (length r.served) → IsWriter r.write r.touch mask g w → Judged i e c (Writer g w)
     writer_judged g w none x =
         let lt : g < 64 = (let l = a.write_len in let s = x.small in omega arith) in
         let left = word_of (set_of r.write g) w (a.write_sets g lt) x.word.left in
@@ -174,20 +171,3 @@ module _ (i : Image) (e : Entries) (r : ReachValue) (a : Audits i e r) (c : ℕ 
       where
         lowest : (v : ℕ) → (v / 8 * 8 < v → ⊥) → v % 8 ≡ 0
         lowest v not_less = elim (cases_lt (v / 8 * 8) v) [ inl less ↦ absurd (not_less less) | inr le ↦ omega arith ]
-
--- under all entries the verdict is the model's
-pub under_all : (i : Image) (c : ℕ → Bool) (v : Verdict) → JudgedUnder i All c v → Judged i c v
-under_all i c Yes j = record {
-  writes = λ g w out wr t. j.writes g w out wr (record { group = t.group; member = t.member; touches = t.touches });
-  handlers = j.handlers;
-}
-under_all i c (Handler n) j = j
-under_all i c (Writer g w) j = (
-  j.0,
-  record { outside = j.1.outside; writes = j.1.writes; touched = record { group = j.1.touched.group; member = j.1.touched.member; touches = j.1.touched.touches } },
-  λ h v y. j.2 h v (from h v y),
-  λ v y. j.3 v (from g v y),
-)
-  where
-    from : (h v : ℕ) → Writes i c h v → WritesUnder i All c h v
-    from h v y = record { outside = y.outside; writes = y.writes; touched = record { group = y.touched.group; member = y.touched.member; touches = y.touched.touches } }

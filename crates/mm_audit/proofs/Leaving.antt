@@ -3,22 +3,43 @@ use Rattle.std.proofs.Common.{◌≡◌, ◌≢◌, ℕ, zero, suc, ◌+◌, ◌
 use Rattle.std.specs.Prelude.{Contains, IfSome}
 use Rattle.std.specs.List.{list_any}
 use Rattle.std.specs.Int.{bit_at, w64}
-use Rattle.std.proofs.lemmas.Bool.{cases_lt}
+use Rattle.std.proofs.lemmas.Bool.{both_ways, false_from_ne_true, true_from_ne_false, and_parts, and_from, cases_lt}
 use Rattle.std.proofs.lemmas.Nat.Bits.{bit_at-lt, bit_at-zero, shr_and_one, bit_at_set_same, bit_at_set_other}
+use Rattle.std.proofs.lemmas.List.Folds.{Any-from_list_any, list_any_at}
 use Rattle.std.proofs.lemmas.List.Elements.{All-from_recursion, All-contains, Contains-append_left, Contains-push, Contains-push_cases}
 use Rattle.mm_model.specs.Slot.{Slot}
 use Rattle.mm_model.specs.Image.{Image, slot_limit}
+use Rattle.mm_model.specs.Groups.{HasSlot, HasNoGroup, HandlersStayInside, HasSlotAt}
 use Rattle.mm_model.specs.Spelling.{IsImage, IsFresh, IsOther}
+use Rattle.mm_model.proofs.OwnSlots.{Ascends, ascends}
 use Rattle.mm_graph.proofs.KeyLists.{contains_here, contains_rest, contains_cases}
-use Rattle.mm_audit.specs.Inside.{InsideAt, is_out, leaves, first_leaving}
-use Rattle.mm_audit.specs.Refusals.{HasNoGroup, HasGroup, CrossesOut, FirstCrossing}
+use Rattle.mm_audit.specs.Inside.{is_out, leaves, first_leaving}
+use Rattle.mm_audit.specs.Refusals.{CrossesOut, FirstCrossing}
 use Rattle.mm_audit.proofs.Granted.{limit_small}
-use Rattle.mm_audit.proofs.OwnSlots.{no_both, bool_cases, Ascends, ascends, above, same_slot}
 
--- 1. The mask of the numbers of slots, with one slot more.
+-- 1. Slots by their numbers.
+
+above : (s t : Slot) (slots : List Slot) → Ascends (s ∷ slots) → Contains slots t → s.number < t.number
+above s t slots h m = All-contains (λ (x : Slot). s.number < x.number) slots t (All-from_recursion _ slots h.0) m
+
+-- one slot has a number
+same_slot : (slots : List Slot) → Ascends slots → (s t : Slot) → Contains slots s → Contains slots t → s.number ≡ t.number → s ≡ t
+same_slot [] h s t ms mt e = absurd (omega (arith, ms.1))
+same_slot (x ∷ slots) h s t ms mt e = elim (contains_cases x s slots ms) [
+  | inl here ↦ elim (contains_cases x t slots mt) [
+    | inl there ↦ sym here ∙ there
+    | inr later ↦ absurd (let lt = above x t slots h later in let number = ap (λ (v : Slot). v.number) here in omega arith)
+  ]
+  | inr old ↦ elim (contains_cases x t slots mt) [
+    | inl there ↦ absurd (let lt = above x s slots h old in let number = ap (λ (v : Slot). v.number) there in omega arith)
+    | inr later ↦ same_slot slots h.1 s t old later e
+  ]
+]
+
+-- 2. The mask of the numbers of slots, with one slot more.
 
 abbrev pub IsNumbers : ℕ → List Slot → (ℕ → Bool) → Type 0
-IsNumbers inside slots c = (n : ℕ) → (bit_at inside n ≡ 1) ↔ InsideAt slots c n
+IsNumbers inside slots c = (n : ℕ) → (bit_at inside n ≡ 1) ↔ HasSlotAt slots c n
 
 pub no_numbers : (c : ℕ → Bool) → IsNumbers 0 [] c
 no_numbers c n = (λ bit. absurd (let z = bit_at-zero n in omega arith), λ x. absurd (let lt = x.stands.1 in omega arith))
@@ -51,11 +72,11 @@ module _ (inside : ℕ) (slots : List Slot) (c : ℕ → Bool) (s : Slot) (h : I
     λ bit. let x = (h n).0 bit in record { slot = x.slot; stands = Contains-append_left slots (s ∷ []) x.slot x.stands; number = x.number; member = x.member },
     λ x. (h n).1 (elim (Contains-push_cases slots s x.slot x.stands) [
       | inl old ↦ record { slot = x.slot; stands = old; number = x.number; member = x.member }
-      | inr e ↦ absurd (no_both (c x.slot.group) x.member (sym (ap (λ (v : Slot). c v.group) e) ∙ out))
+      | inr e ↦ absurd (both_ways (c x.slot.group) (sym (ap (λ (v : Slot). c v.group) e) ∙ out) x.member)
     ]),
   )
 
--- 2. The first of a list.
+-- 3. The first of a list.
 
 pub none_leaves : (inside : ℕ) (slots : List Slot) → first_leaving inside slots ≡ None → (s : Slot) → Contains slots s → leaves inside s ≡ false
 none_leaves inside [] e s m = absurd (omega (arith, m.1))
@@ -97,7 +118,7 @@ first_leaves inside (x ∷ slots) n up e = by (leaves inside x) refl e (λ is. f
           out = r.out;
           number = r.number;
           least = λ s m out. elim (contains_cases x s slots m) [
-            | inl here ↦ absurd (no_both (leaves inside s) out (sym (ap (leaves inside) here) ∙ f))
+            | inl here ↦ absurd (both_ways (leaves inside s) (sym (ap (leaves inside) here) ∙ f) out)
             | inr later ↦ r.least s later out
           ];
         }
@@ -119,17 +140,7 @@ leaving_end inside [] (suc k) le = refl
 leaving_end inside (s ∷ slots) zero le = absurd (omega arith)
 leaving_end inside (s ∷ slots) (suc k) le = leaving_end inside slots k (omega arith)
 
--- 3. A slot leaves just where it crosses.
-
-both : (a b : Bool) → a && b ≡ true → (a ≡ true) × (b ≡ true)
-both true true h = (refl, refl)
-both true false h = cc
-both false b h = cc
-
-join : (a b : Bool) → a ≡ true → b ≡ true → a && b ≡ true
-join true true x y = refl
-join true false x y = cc
-join false b x y = cc
+-- 4. A slot leaves just where it crosses.
 
 module _ (i : Image) (img : IsImage i) where
   pub fresh : (s : Slot) → Contains i.slots s → IsFresh (slot_limit i.version) i.slots s
@@ -155,7 +166,7 @@ module _ (i : Image) (img : IsImage i) where
     bit_from s m member = (numbers s.number).1 (record { slot = s; stands = m; number = refl; member = member })
 
     clear_from : (s : Slot) → Contains i.slots s → c s.group ≡ false → bit_at inside s.number ≡ 0
-    clear_from s m out = only (bit_at inside s.number) (bit_at-lt inside s.number) (λ bit. no_both (c s.group) (member_from s m bit) out)
+    clear_from s m out = only (bit_at inside s.number) (bit_at-lt inside s.number) (λ bit. both_ways (c s.group) out (member_from s m bit))
       where
         only : (b : ℕ) → b < 2 → (b ≡ 1 → ⊥) → b ≡ 0
         only zero lt ne = refl
@@ -164,7 +175,7 @@ module _ (i : Image) (img : IsImage i) where
 
     crosses_from : (s : Slot) → Contains i.slots s → leaves inside s ≡ true → CrossesOut i c s.number
     crosses_from s m out =
-        let t = both (bit_and (inside / 2 ^ s.number) 1 == 1) (is_out inside s.handler) out in
+        let t = and_parts (bit_and (inside / 2 ^ s.number) 1 == 1) (is_out inside s.handler) out in
         by (member_from s m (sym (shr_and_one inside s.number) ∙ eqb-true _ _ t.0)) s.handler refl (fresh s m).handler t.1
       where
         by : c s.group ≡ true → (o : Option ℕ) → s.handler ≡ o → IfSome o (IsOther i.slots s.number) → is_out inside o ≡ true → CrossesOut i c s.number
@@ -172,63 +183,47 @@ module _ (i : Image) (img : IsImage i) where
         by member (Some v) e h x =
             let t = h.1.0 in
             let clear : bit_at inside v ≡ 0 = sym (shr_and_one inside v) ∙ eqb-true _ _ x in
+            let out : c t.group ≡ false = false_from_ne_true (c t.group) (λ member_too. let bit = bit_from t h.1.1 member_too in let same = ap (bit_at inside) h.1.2 in omega arith) in
             record {
-              served = s;
-              server = t;
-              one = m;
-              other = h.1.1;
-              number = refl;
-              handled = e ∙ ap (λ (y : ℕ). Some y) (sym h.1.2);
+              crosses = record {
+                served = s;
+                server = t;
+                one = m;
+                other = h.1.1;
+                number = refl;
+                handled = e ∙ ap (λ (y : ℕ). Some y) (sym h.1.2);
+                sides = λ same. both_ways (c t.group) out (sym same ∙ member);
+              };
               inside = member;
-              outside = elim (bool_cases (c t.group)) [
-                | inl yes_in ↦ absurd (let bit = bit_from t h.1.1 yes_in in let same = ap (bit_at inside) h.1.2 in omega arith)
-                | inr f ↦ f
-              ];
             }
 
-    leaves_from : (n : ℕ) (x : CrossesOut i c n) → leaves inside x.served ≡ true
-    leaves_from n x = join (bit_and (inside / 2 ^ x.served.number) 1 == 1) (is_out inside x.served.handler) (eq-eqb _ _ (shr_and_one inside x.served.number ∙ bit_from x.served x.one x.inside))
-        (ap (is_out inside) x.handled ∙ eq-eqb _ _ (shr_and_one inside x.server.number ∙ clear_from x.server x.other x.outside))
+    leaves_from : (s h : Slot) → Contains i.slots s → Contains i.slots h → s.handler ≡ Some h.number → c s.group ≡ true → c h.group ≡ false → leaves inside s ≡ true
+    leaves_from s h ms mh handled member out =
+        and_from (bit_and (inside / 2 ^ s.number) 1 == 1) (is_out inside s.handler) (eq-eqb _ _ (shr_and_one inside s.number ∙ bit_from s ms member))
+        (ap (is_out inside) handled ∙ eq-eqb _ _ (shr_and_one inside h.number ∙ clear_from h mh out))
 
-    pub none_crosses : first_leaving inside i.slots ≡ None → (n : ℕ) → ¬ CrossesOut i c n
-    none_crosses e n x = no_both (leaves inside x.served) (leaves_from n x) (none_leaves inside i.slots e x.served x.one)
+    crossing_leaves : (n : ℕ) (x : CrossesOut i c n) → leaves inside x.crosses.served ≡ true
+    crossing_leaves n x =
+        let y = x.crosses in
+        leaves_from y.served y.server y.one y.other y.handled x.inside (false_from_ne_true (c y.server.group) (λ t. y.sides (x.inside ∙ sym t)))
+
+    pub all_stay : first_leaving inside i.slots ≡ None → HandlersStayInside i c
+    all_stay e s h ms mh handled member =
+        true_from_ne_false (c h.group) (λ out. both_ways (leaves inside s) (none_leaves inside i.slots e s ms) (leaves_from s h ms mh handled member out))
 
     pub first_crosses : (n : ℕ) → first_leaving inside i.slots ≡ Some n → FirstCrossing i c n
     first_crosses n e =
         let f = first_leaves inside i.slots n (ascends i.slots img.rising) e in
         record {
           crosses = subst (CrossesOut i c) f.number (crosses_from f.slot f.stands f.out);
-          least = λ m x. let le = f.least x.served x.one (leaves_from m x) in let number = x.number in omega arith;
+          least = λ m x. let le = f.least x.crosses.served x.crosses.one (crossing_leaves m x) in let number = x.crosses.number in omega arith;
         }
 
--- 4. Whether a slot is of one of the groups.
-
-any_then : {A : Type 0} (p : A → Bool) (xs : List A) (x : A) → Contains xs x → p x ≡ true → list_any p xs ≡ true
-any_then p [] x m e = absurd (omega (arith, m.1))
-any_then p (y ∷ xs) x m e = elim (contains_cases y x xs m) [ inl here ↦ first (p y) (ap p here ∙ e) | inr later ↦ rest (p y) (any_then p xs x later e) ]
-  where
-    first : (b : Bool) → b ≡ true → (b || list_any p xs) ≡ true
-    first true t = refl
-    first false t = cc
-
-    rest : (b : Bool) → list_any p xs ≡ true → (b || list_any p xs) ≡ true
-    rest true t = refl
-    rest false t = t
+-- 5. Whether a slot is of one of the groups.
 
 pub no_group : (i : Image) (c : ℕ → Bool) → list_any (λ (s : Slot). c s.group) i.slots ≡ false → HasNoGroup i c
-no_group i c none s m = elim (bool_cases (c s.group)) [
-  | inl t ↦ absurd (no_both (list_any (λ (v : Slot). c v.group) i.slots) (any_then (λ (v : Slot). c v.group) i.slots s m t) none)
-  | inr f ↦ f
-]
+no_group i c none s m = false_from_ne_true (c s.group)
+    (λ t. both_ways (list_any (λ (v : Slot). c v.group) i.slots) none (list_any_at (λ (v : Slot). c v.group) i.slots m.0 s m.1 (ap (λ (v : Slot). c v.group) m.2 ∙ t)))
 
-pub some_group : (i : Image) (c : ℕ → Bool) → list_any (λ (s : Slot). c s.group) i.slots ≡ true → HasGroup i c
-some_group i c some = let f = found i.slots some in record { slot = f.0; stands = f.1; member = f.2 }
-  where
-    found : (slots : List Slot) → list_any (λ (s : Slot). c s.group) slots ≡ true → (s : Slot) × Contains slots s × (c s.group ≡ true)
-    found [] e = cc
-    found (x ∷ slots) e = by (c x.group) refl e (found slots)
-      where
-        by : (b : Bool) → c x.group ≡ b → (b || list_any (λ (s : Slot). c s.group) slots) ≡ true → (list_any (λ (s : Slot). c s.group) slots ≡ true → (s : Slot) × Contains slots s × (c s.group ≡ true))
-            → (s : Slot) × Contains (x ∷ slots) s × (c s.group ≡ true)
-        by true t y later = (x, contains_here x slots, t)
-        by false f y later = let r = later y in (r.0, contains_rest x r.0 slots r.1, r.2)
+pub some_group : (i : Image) (c : ℕ → Bool) → list_any (λ (s : Slot). c s.group) i.slots ≡ true → HasSlot i c
+some_group i c some = let a = Any-from_list_any (λ (s : Slot). c s.group) i.slots some in record { slot = a.1; stands = (a.0, a.2, a.3); member = a.4 }

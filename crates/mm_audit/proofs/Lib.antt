@@ -10,7 +10,6 @@ pub mod Bests
 pub mod Crossings
 pub mod Words
 pub mod Judgements
-pub mod OwnSlots
 pub mod Leaving
 pub mod OwnPages
 pub mod Touches

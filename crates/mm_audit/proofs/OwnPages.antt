@@ -1,6 +1,7 @@
 -- The pages of some groups.
 use Rattle.std.proofs.Common.{◌≡◌, ℕ, zero, suc, ◌+◌, ◌*◌, ◌%◌, ◌^◌, ◌<◌, ◌≤◌, ◌↔◌, inl, inr, Bool, true, false, cond, ◌&&◌, ◌||◌, List, [], ◌∷◌, ◌++◌, map, length, slice_get, get_or, take, length-take, Option, Some, None, is_some, refl, sym, ap, ◌∙◌, subst, arith, T, eqb-true}
 use Rattle.std.specs.Prelude.{IsTrue}
+use Rattle.std.proofs.lemmas.Bool.{both_ways, cases_Bool, false_from_ne_true}
 use Rattle.std.proofs.lemmas.List.{take_more, map-append}
 use Rattle.std.specs.List.{AllByRecursion, filter}
 use Rattle.std.specs.Option.{option_map}
@@ -13,12 +14,14 @@ use Rattle.mm_word.specs.Word.{IsWord}
 use Rattle.mm_model.specs.Memory.{Memory, cell_at, cell_in, page_at, page_of, place_of, is_mapped, zero_cell, IsPage, IsPaged}
 use Rattle.mm_model.specs.Slot.{Slot}
 use Rattle.mm_model.specs.Image.{Image}
+use Rattle.mm_model.specs.Groups.{own_slots}
 use Rattle.mm_model.specs.Spelling.{HoldsWords, IsImage}
+use Rattle.mm_model.specs.Reach.Entries.{All}
 use Rattle.mm_model.specs.Worlds.{Touchable, Extracts}
+use Rattle.mm_model.proofs.Filters.{filter_last_in, filter_last_out}
 use Rattle.mm_model.proofs.Memories.{cell_at-aligned, cell_at-unaligned, word_or_none, page_whole}
 use Rattle.mm_image.specs.Images.{image_from}
 use Rattle.mm_audit.specs.Own.{kept_cell, kept_cells, some_word, has_word, kept_pages}
-use Rattle.mm_audit.proofs.OwnSlots.{bool_cases, no_both, filter_last_in, filter_last_out, own}
 
 -- 1. Whether a word of a page passes.
 
@@ -52,10 +55,7 @@ module _ (passes : ℕ → Bool) where
           record { at = suc r.at; small = (let lt = r.small in omega arith); passing = ap passes (let same : w + 8 * suc r.at ≡ w + 8 + 8 * r.at = omega arith in same) ∙ r.passing }
 
   pub some_none : (count w : ℕ) → ((k : ℕ) → k < count → passes (w + 8 * k) ≡ false) → some_word passes count w ≡ false
-  some_none count w f = elim (bool_cases (some_word passes count w)) [
-    | inl t ↦ absurd (let x = then_some count w t in no_both (passes (w + 8 * x.at)) x.passing (f x.at x.small))
-    | inr e ↦ e
-  ]
+  some_none count w f = false_from_ne_true (some_word passes count w) (λ t. let x = then_some count w t in both_ways (passes (w + 8 * x.at)) (f x.at x.small) x.passing)
 
   pub has_then : (page k : ℕ) → k < 512 → passes (page * 4096 + 8 * k) ≡ true → has_word passes page ≡ true
   unfolding has_word
@@ -181,18 +181,18 @@ place_small w = omega arith
 of_page : (q k : ℕ) → k < 512 → (page_of (q * 4096 + 8 * k) ≡ q) × ((q * 4096 + 8 * k) % 8 ≡ 0)
 of_page q k lt = (omega arith, omega arith)
 
-module _ (i : Image) (img : IsImage i) (c : ℕ → Bool) (passes : ℕ → Bool) (small : (w : ℕ) → Touchable i c w → w < 2 ^ 54)
-    (says : (w : ℕ) → w % 8 ≡ 0 → w < 2 ^ 54 → (passes w ≡ true) ↔ Touchable i c w) where
+module _ (i : Image) (img : IsImage i) (c : ℕ → Bool) (passes : ℕ → Bool) (small : (w : ℕ) → Touchable i All c w → w < 2 ^ 54)
+    (says : (w : ℕ) → w % 8 ≡ 0 → w < 2 ^ 54 → (passes w ≡ true) ↔ Touchable i All c w) where
   abbrev pub cut_image : Image
-  cut_image = image_from i.version i.split (own i c) (kept_pages passes i.memory.pages) i.memory.frames
+  cut_image = image_from i.version i.split (own_slots c i.slots) (kept_pages passes i.memory.pages) i.memory.frames
 
   abbrev now : Memory
   now = record { pages = kept_pages passes i.memory.pages; frames = i.memory.frames }
 
-  touch_passes : (w : ℕ) → Touchable i c w → passes w ≡ true
+  touch_passes : (w : ℕ) → Touchable i All c w → passes w ≡ true
   touch_passes w t = (says w t.touches.loads.word (small w t)).1 t
 
-  touch_held : (w : ℕ) → Touchable i c w → has_word passes (page_of w) ≡ true
+  touch_held : (w : ℕ) → Touchable i All c w → has_word passes (page_of w) ≡ true
   touch_held w t = has_then passes (page_of w) (place_of w) (place_small w) (ap passes (word_is w t.touches.loads.word) ∙ touch_passes w t)
 
   number_small : (q : ℕ) → is_mapped i.memory q ≡ true → q < 2 ^ 42
@@ -202,7 +202,7 @@ module _ (i : Image) (img : IsImage i) (c : ℕ → Bool) (passes : ℕ → Bool
       by None e x = cc
       by (Some cells) e x = (page_whole i.memory img.paged q cells e).number
 
-  kept : (w : ℕ) → Touchable i c w → is_mapped i.memory (page_of w) ≡ true → is_mapped now (page_of w) ≡ true
+  kept : (w : ℕ) → Touchable i All c w → is_mapped i.memory (page_of w) ≡ true → is_mapped now (page_of w) ≡ true
   kept w t m = ap is_some (find_kept passes i.memory.pages (page_of w) ∙ ap (λ b. option_map (kept_cells passes (page_of w * 4096)) (cond b (find nat_cmp (page_of w) i.memory.pages) None)) (touch_held w t))
       ∙ same (find nat_cmp (page_of w) i.memory.pages) m
     where
@@ -217,10 +217,10 @@ module _ (i : Image) (img : IsImage i) (c : ℕ → Bool) (passes : ℕ → Bool
       by : (b : Bool) → has_word passes q ≡ b → (o : Option (List Cell)) → find nat_cmp q i.memory.pages ≡ o → is_some (option_map (kept_cells passes (q * 4096)) (cond b (find nat_cmp q i.memory.pages) None)) ≡ true
           → (is_mapped i.memory q ≡ true) × (has_word passes q ≡ true)
       by false e o p x = cc
-      by true e None p x = absurd (no_both _ x (ap (λ v. is_some (option_map (kept_cells passes (q * 4096)) v)) p))
+      by true e None p x = absurd (both_ways _ (ap (λ v. is_some (option_map (kept_cells passes (q * 4096)) v)) p) x)
       by true e (Some cells) p x = (ap is_some p, e)
 
-  only : (q : ℕ) → is_mapped now q ≡ true → (is_mapped i.memory q ≡ true) × ((w : ℕ) × Touchable i c w × (page_of w ≡ q))
+  only : (q : ℕ) → is_mapped now q ≡ true → (is_mapped i.memory q ≡ true) × ((w : ℕ) × Touchable i All c w × (page_of w ≡ q))
   only q h =
       let x = was q h in
       let at = then_has passes q x.1 in
@@ -243,7 +243,7 @@ module _ (i : Image) (img : IsImage i) (c : ℕ → Bool) (passes : ℕ → Bool
   all_kept None = refl
   all_kept (Some cell) = refl
 
-  cells : (w : ℕ) → Touchable i c w → cell_at now w ≡ cell_at i.memory w
+  cells : (w : ℕ) → Touchable i All c w → cell_at now w ≡ cell_at i.memory w
   cells w t =
       let a = t.touches.loads.word in
       got_is w a ∙ ap (λ b. got b (passes w) (page_at i.memory (page_of w)) (place_of w)) (touch_held w t) ∙ ap (λ b. got true b (page_at i.memory (page_of w)) (place_of w)) (touch_passes w t)
@@ -256,13 +256,13 @@ module _ (i : Image) (img : IsImage i) (c : ℕ → Bool) (passes : ℕ → Bool
       by None p x = cc
       by (Some cells) p x = ap is_some p
 
-  others : (w : ℕ) (cell : Cell) → ¬ Touchable i c w → cell_at now w ≡ Some cell → cell ≡ zero_cell
+  others : (w : ℕ) (cell : Cell) → ¬ Touchable i All c w → cell_at now w ≡ Some cell → cell ≡ zero_cell
   others w cell out e = elim (word_or_none w) [
     | inr ne ↦ absurd (let none = cell_at-unaligned now w ne in let no_way : ◌≡◌ {A = Option Cell} (Some cell) None = sym e ∙ none in cc)
     | inl a ↦
         let low = number_small (page_of w) (was (page_of w) (page_there w cell a e)).0 in
         let lt : w < 2 ^ 54 = omega arith in
-        elim (bool_cases (passes w)) [
+        elim (cases_Bool (passes w)) [
           | inl t ↦ absurd (out ((says w a lt).0 t))
           | inr f ↦ zeroed (cell_in (cond (has_word passes (page_of w)) (page_at i.memory (page_of w)) None) (place_of w))
               (sym (got_is w a ∙ ap (λ b. got (has_word passes (page_of w)) b (page_at i.memory (page_of w)) (place_of w)) f) ∙ e)

@@ -1,11 +1,13 @@
 -- The set of some groups covers what they can touch.
 use Rattle.std.proofs.Common.{◌≡◌, ◌==◌, ℕ, zero, suc, ◌%◌, ◌^◌, ◌<◌, ◌≤◌, ◌↔◌, inl, inr, Bool, true, false, ◌&&◌, ◌||◌, nat_le, nat_lt, IsTrue, List, [], ◌∷◌, length, refl, sym, subst, arith, eqb-true, eq-eqb}
 use Rattle.std.specs.Int.{bit_at}
+use Rattle.std.proofs.lemmas.Bool.{and_parts, and_from}
 use Rattle.std.proofs.lemmas.Bool.Decides.{nat_tests}
 use Rattle.mm_word.specs.declared.perm.Perm.TheVariants.{Ro}
 use Rattle.mm_word.specs.Perm.{can_load}
 use Rattle.mm_word.proofs.Segments.{segment_below}
 use Rattle.mm_model.specs.Image.{Image}
+use Rattle.mm_model.specs.Groups.{in_mask}
 use Rattle.mm_model.specs.Spelling.{IsImage}
 use Rattle.mm_model.specs.Reach.{Entries, CanTouch}
 use Rattle.mm_model.specs.Reach.Entries.{All}
@@ -38,7 +40,7 @@ module _ (i : Image) (image : IsImage i) (keys : List Key) (nodes : List Node) (
     (privileged : ℕ) (rights : (g : ℕ) → (bit_at privileged g ≡ 1) ↔ HasSome marks (right_at nodes Make) g)
     (groups : ℕ) (set : List (ℕ × ℕ)) (s : IsGroupSet keys nodes marks Load privileged groups set) where
   abbrev test : ℕ → Bool
-  test g = bit_at privileged g == 1
+  test = in_mask privileged
 
   x : IsExact i All test (Marked (node_pointer keys) marks)
   x = m.exact privileged rights
@@ -57,7 +59,7 @@ module _ (i : Image) (image : IsImage i) (keys : List Key) (nodes : List Node) (
   every t e w aligned small = (
     λ c. record {
       group = t.group;
-      member = t.other;
+      member = eq-eqb _ _ t.other;
       touches = use_touch t.group w
           ((top_covers i All image keys nodes marks test all m.marks_len x Load can_load Ro refl no_load_key below-can_load m.loads t.group (eq-eqb _ _ t.one) w aligned small).0 (subst (λ v. Covered v w) e c));
     },
@@ -72,14 +74,14 @@ module _ (i : Image) (image : IsImage i) (keys : List Key) (nodes : List Node) (
         let t = k.is_kept.1 in
         record {
           group = t.group;
-          member = t.other;
+          member = eq-eqb _ _ t.other;
           touches = use_touch t.group w
               (used_by i All image keys nodes marks test all m.marks_len x Load can_load Ro refl no_load_key below-can_load m.loads t.group (segment_at set c.by) w
               (record { node = k.node; small = k.small; marked = t.one; kept = k.is_kept.0; is = k.is }) aligned c.at.1 c.at.2);
         },
     λ y.
         use_covered i All image keys nodes marks test all m.marks_len x Load can_load Ro refl no_load_key below-can_load m.loads y.group
-        (λ top. none (record { group = y.group; one = eqb-true _ _ top; other = y.member })) set (holds y.group y.member) w (touch_use y.group w y.touches),
+        (λ top. none (record { group = y.group; one = eqb-true _ _ top; other = eqb-true _ _ y.member })) set (holds y.group (eqb-true _ _ y.member)) w (touch_use y.group w y.touches),
   )
     where
       holds : (g : ℕ) → bit_at groups g ≡ 1 → HoldsMarked keys nodes marks Load g set
@@ -90,13 +92,8 @@ module _ (i : Image) (image : IsImage i) (keys : List Key) (nodes : List Node) (
 
 -- the test of a set
 
-both : (a b : Bool) → a && b ≡ true → (a ≡ true) × (b ≡ true)
-both true true h = (refl, refl)
-both true false h = cc
-both false b h = cc
-
 within : (s : ℕ × ℕ) (w : ℕ) → (nat_le s.0 w && nat_lt w (end_of s)) ≡ true → (s.0 ≤ w) × (w < end_of s)
-within s w h = let t = both (nat_le s.0 w) (nat_lt w (end_of s)) h in (le_of s.0 w t.0, lt_of w (end_of s) t.1)
+within s w h = let t = and_parts (nat_le s.0 w) (nat_lt w (end_of s)) h in (le_of s.0 w t.0, lt_of w (end_of s) t.1)
   where
     le_of : (a b : ℕ) → nat_le a b ≡ true → a ≤ b
     le_of a b t = grind (arith, nat_tests)
@@ -105,13 +102,8 @@ within s w h = let t = both (nat_le s.0 w) (nat_lt w (end_of s)) h in (le_of s.0
     lt_of a b t = grind (arith, nat_tests)
 
 inside : (s : ℕ × ℕ) (w : ℕ) → s.0 ≤ w → w < end_of s → (nat_le s.0 w && nat_lt w (end_of s)) ≡ true
-inside s w lo hi = join (nat_le s.0 w) (nat_lt w (end_of s)) (of_le s.0 w lo) (of_lt w (end_of s) hi)
+inside s w lo hi = and_from (nat_le s.0 w) (nat_lt w (end_of s)) (of_le s.0 w lo) (of_lt w (end_of s) hi)
   where
-    join : (a b : Bool) → a ≡ true → b ≡ true → a && b ≡ true
-    join true true p q = refl
-    join true false p q = cc
-    join false b p q = cc
-
     of_le : (a b : ℕ) → a ≤ b → nat_le a b ≡ true
     of_le a b t = grind (arith, nat_tests)
 
@@ -149,11 +141,11 @@ covers_is set w false h = none (is_covered set w) (λ t. let no_way : ◌≡◌ 
 
 -- the groups of a list
 pub test_touches : (i : Image) → IsImage i → (c : ℕ → Bool) (mask : ℕ) → ((g : ℕ) → (bit_at mask g ≡ 1) ↔ ((g < 64) × (c g ≡ true))) → (set : List (ℕ × ℕ)) → CoversTouched i mask set
-    → (w : ℕ) → w % 8 ≡ 0 → w < 2 ^ 54 → (is_covered set w ≡ true) ↔ Touchable i c w
+    → (w : ℕ) → w % 8 ≡ 0 → w < 2 ^ 54 → (is_covered set w ≡ true) ↔ Touchable i All c w
 test_touches i image c mask is_mask set covers w aligned small = (
-  λ t. let y = (covers w aligned small).0 (test_covers set w t) in record { group = y.group; member = ((is_mask y.group).0 y.member).1; touches = y.touches },
+  λ t. let y = (covers w aligned small).0 (test_covers set w t) in record { group = y.group; member = ((is_mask y.group).0 (eqb-true _ _ y.member)).1; touches = y.touches },
   λ t.
       let lt = granted-small i All image t.group t.touches.by t.touches.granted in
-      let y = (covers w aligned small).1 (record { group = t.group; member = (is_mask t.group).1 (lt, t.member); touches = t.touches }) in
+      let y = (covers w aligned small).1 (record { group = t.group; member = eq-eqb _ _ ((is_mask t.group).1 (lt, t.member)); touches = t.touches }) in
       covers_test set w y.by y.at,
 )

@@ -1,13 +1,6 @@
--- Slots inside, by the mask of their numbers.
-use Rattle.std.specs.Prelude.{◌≡◌, ℕ, ◌/◌, ◌^◌, Bool, true, false, ◌==◌, ◌&&◌, if◌then◌else◌, bit_and, List, [], ◌∷◌, Contains, Option, Some, None}
+-- Slots by the mask of the numbers of those inside.
+use Rattle.std.specs.Prelude.{ℕ, ◌/◌, ◌^◌, Bool, false, ◌==◌, ◌&&◌, if◌then◌else◌, bit_and, List, [], ◌∷◌, Option, Some, None}
 use Rattle.mm_model.specs.Slot.{Slot}
-
--- a slot of this number is of one of the groups
-pub record InsideAt (slots : List Slot) (c : ℕ → Bool) (n : ℕ) : Type 0 where
-  pub slot : Slot
-  pub stands : Contains slots slot
-  pub number : slot.number ≡ n
-  pub member : c slot.group ≡ true
 
 -- a handler is none of these numbers
 abbrev pub is_out : ℕ → Option ℕ → Bool

@@ -1,7 +1,6 @@
 pub mod Sets
 pub mod Audits
 pub mod GroupSets
-pub mod Judging
 pub mod Serving
 pub mod Writers
 pub mod Crossing

@@ -1,23 +1,17 @@
 -- The cells and pages that groups keep.
 use Rattle.std.specs.Prelude.{◌≡◌, ℕ, zero, suc, ◌+◌, ◌*◌, ◌%◌, ◌^◌, ◌<◌, ◌↔◌, Bool, false, ◌&&◌, ◌||◌, nat_le, nat_lt, if◌then◌else◌, List, [], ◌∷◌, map}
 use Rattle.std.specs.List.{list_any, filter}
-use Rattle.std.specs.Int.{bit_at}
 use Rattle.mm_word.specs.declared.word.Cell.{Cell}
 use Rattle.mm_model.specs.Memory.{zero_cell}
 use Rattle.mm_model.specs.Image.{Image}
-use Rattle.mm_model.specs.Reach.{CanTouch}
+use Rattle.mm_model.specs.Groups.{in_mask}
 use Rattle.mm_model.specs.Reach.Entries.{All}
+use Rattle.mm_model.specs.Worlds.{Touchable}
 use Rattle.mm_seg.specs.Segments.{Covered, end_of}
 
--- a group of the mask can touch the word
-pub record TouchedBy (i : Image) (groups w : ℕ) : Type 0 where
-  pub group : ℕ
-  pub member : bit_at groups group ≡ 1
-  pub touches : CanTouch i All group w
-
--- the set covers just the words that they can touch
+-- the set covers just the words that a group of the mask can touch
 abbrev pub CoversTouched : Image → ℕ → List (ℕ × ℕ) → Type 0
-CoversTouched i groups set = (w : ℕ) → w % 8 ≡ 0 → w < 2 ^ 54 → Covered set w ↔ TouchedBy i groups w
+CoversTouched i groups set = (w : ℕ) → w % 8 ≡ 0 → w < 2 ^ 54 → Covered set w ↔ Touchable i All (in_mask groups) w
 
 -- whether a set covers an address
 abbrev pub is_covered : List (ℕ × ℕ) → ℕ → Bool

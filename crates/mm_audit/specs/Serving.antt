@@ -1,16 +1,14 @@
 -- Slots and the groups of their handlers.
-use Rattle.std.specs.Prelude.{ℕ, Bool, false, ◌==◌, if◌then◌else◌, List, [], ◌∷◌, Option, Some, None}
+use Rattle.std.specs.Prelude.{if◌then◌else◌, List, [], ◌∷◌}
 use Rattle.std.specs.List.{flat_map}
 use Rattle.mm_model.specs.Slot.{Slot}
+use Rattle.mm_model.specs.Turn.{is_handler}
 use Rattle.mm_audit.specs.declared.served.Served.{Served}
 
--- the handler is the slot of this number
-abbrev pub is_handler : Option ℕ → ℕ → Bool
-is_handler None n = false
-is_handler (Some h) n = h == n
-
+-- a slot with its group and the other's, where the other is its handler
 abbrev pub served_by : Slot → Slot → List Served
-served_by s t = if is_handler s.handler t.number then record { slot = s.number; group = s.group; by = t.group } ∷ [] else []
+served_by s t = if is_handler t.number s.handler then record { slot = s.number; group = s.group; by = t.group } ∷ [] else []
 
+-- the slots with their groups and those of their handlers
 abbrev pub served_of : List Slot → List Served
 served_of slots = flat_map (λ s. flat_map (served_by s) slots) slots

@@ -1,6 +1,6 @@
 // The image of some groups alone.
-ghost use Rattle.std.specs.Prelude.{◌==◌, IfErr, IfOk};
-ghost use Rattle.std.specs.List.{list_any};
+ghost use Rattle.std.specs.Prelude.{IfErr, IfOk};
+ghost use Rattle.mm_model.specs.Groups.{among};
 ghost use Rattle.mm_model.specs.Worlds.{Extracts};
 ghost use Rattle.mm_audit.specs.Refusals.{StandAlone, IsExtractError};
 
@@ -24,8 +24,8 @@ pub enum ExtractError {
 
 /// The image of groups that can stand alone.
 fn own_image(alloc: Global, img: &Image, groups: &[u8]) -> Result<Image, NoMemory>
-    requires { StandAlone img.now (λ g. list_any (λ h. g == h) groups.now) }
-    ensures { IfOk result (λ own. Extracts img.now (λ g. list_any (λ h. g == h) groups.now) own) }
+    requires { StandAlone img.now (among groups.now) }
+    ensures { IfOk result (λ own. Extracts img.now (among groups.now) own) }
 {
     let touched = touched_by(alloc, img, mask_of(groups))?;
     let Ok(slots) = slots_of(alloc, img.slots(), groups) else {
@@ -43,9 +43,9 @@ fn own_image(alloc: Global, img: &Image, groups: &[u8]) -> Result<Image, NoMemor
 /// The image of these groups alone: their slots, the version, the mode and the frames, and each page with a word that one
 /// of them can touch, whatever is entered. Cells that none of them can touch are integer 0, full.
 pub fn extract(alloc: Global, img: &Image, groups: &[u8]) -> Result<Image, ExtractError>
-    ensures alone { IfOk result (λ own. StandAlone img.now (λ g. list_any (λ h. g == h) groups.now)) }
-    ensures extracted { IfOk result (λ own. Extracts img.now (λ g. list_any (λ h. g == h) groups.now) own) }
-    ensures refused { IfErr result (λ e. IsExtractError img.now (λ g. list_any (λ h. g == h) groups.now) e) }
+    ensures alone { IfOk result (λ own. StandAlone img.now (among groups.now)) }
+    ensures extracted { IfOk result (λ own. Extracts img.now (among groups.now) own) }
+    ensures refused { IfErr result (λ e. IsExtractError img.now (among groups.now) e) }
 {
     match refusal(img, groups) {
         Some(Refused::NoGroup) => Err(ExtractError::NoGroup),

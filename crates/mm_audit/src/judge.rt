@@ -1,7 +1,7 @@
 // Whether groups stand apart.
-ghost use Rattle.std.specs.Prelude.{◌≡◌, ◌≢◌, ◌<◌, ◌↔◌, ◌==◌, ℕ, min, true, MatchOption, length};
-ghost use Rattle.std.specs.List.{list_any};
+ghost use Rattle.std.specs.Prelude.{◌≡◌, ◌≢◌, ◌<◌, ◌↔◌, ℕ, min, true, MatchOption, length};
 ghost use Rattle.std.specs.Int.{bit_at};
+ghost use Rattle.mm_model.specs.Groups.{among};
 ghost use Rattle.mm_audit.specs.Crossing.{NoCrossing, LeastCrossing};
 
 use crate::served::Served;
@@ -18,14 +18,14 @@ pub enum Apart {
 
 /// Whether the group is one of these.
 pub fn is_inside(groups: &[u8], g: u8) -> bool
-    ensures { result ≡ list_any (λ h. g == h) groups.now }
+    ensures { result ≡ among groups.now g }
 {
     groups.iter().any(|h| g == *h)
 }
 
 /// The mask of these groups.
 pub fn mask_of(groups: &[u8]) -> u64
-    ensures { (g : ℕ) → (bit_at result g ≡ 1) ↔ ((g < 64) × (list_any (λ h. g == h) groups.now ≡ true)) }
+    ensures { (g : ℕ) → (bit_at result g ≡ 1) ↔ ((g < 64) × (among groups.now g ≡ true)) }
 {
     let mut mask = 0u64;
     for g in 0..64u8 {
@@ -48,14 +48,14 @@ fn lesser(best: Option<u8>, n: u8) -> u8
 
 /// Whether a slot and its handler are on two sides.
 fn crosses(one: Served, groups: &[u8]) -> bool
-    ensures { (result ≡ true) ↔ (list_any (λ h. one.group == h) groups.now ≢ list_any (λ h. one.by == h) groups.now) }
+    ensures { (result ≡ true) ↔ (among groups.now one.group ≢ among groups.now one.by) }
 {
     is_inside(groups, one.group) != is_inside(groups, one.by)
 }
 
 /// The least slot whose handler is on the other side.
 pub fn crossing(served: &[Served], groups: &[u8]) -> Option<u8>
-    ensures { MatchOption result (NoCrossing served.now (λ g. list_any (λ h. g == h) groups.now) (length served.now)) (LeastCrossing served.now (λ g. list_any (λ h. g == h) groups.now) (length served.now)) }
+    ensures { MatchOption result (NoCrossing served.now (among groups.now) (length served.now)) (LeastCrossing served.now (among groups.now) (length served.now)) }
 {
     let mut best = None;
     for k in 0..served.len() {

@@ -1,7 +1,6 @@
 // The slots and pages that groups keep.
-ghost use Rattle.std.specs.Prelude.{◌≡◌, ◌*◌, ◌<◌, ◌^◌, ◌==◌, IfOk, length};
-ghost use Rattle.std.specs.List.{list_any, filter};
-ghost use Rattle.mm_model.specs.Slot.{Slot as SlotValue};
+ghost use Rattle.std.specs.Prelude.{◌≡◌, ◌*◌, ◌<◌, ◌^◌, IfOk, length};
+ghost use Rattle.mm_model.specs.Groups.{among, own_slots};
 ghost use Rattle.mm_audit.specs.Own.{is_covered, kept_cell, kept_cells, has_word, kept_pages};
 
 use crate::judge::is_inside;
@@ -37,7 +36,7 @@ fn copy_of(slot: &Slot) -> Slot
 
 /// The slots of these groups.
 pub fn slots_of(alloc: Global, slots: &[Slot], groups: &[u8]) -> Result<Vec<Slot>, AllocError>
-    ensures { IfOk result (λ kept. kept.items ≡ filter (λ (s : SlotValue). list_any (λ h. s.group == h) groups.now) slots.now) }
+    ensures { IfOk result (λ kept. kept.items ≡ own_slots (among groups.now) slots.now) }
 {
     let mut kept = Vec::new(alloc);
     for slot in slots {

@@ -1,10 +1,9 @@
-ghost use Rattle.std.specs.Prelude.{◌≡◌, ◌==◌, ◌<◌, ◌%◌, ◌^◌, ◌↔◌, ℕ, IsTrue};
-ghost use Rattle.std.specs.List.{list_any};
+ghost use Rattle.std.specs.Prelude.{◌≡◌, ◌<◌, ◌%◌, ◌^◌, ◌↔◌, ℕ, IsTrue};
 ghost use Rattle.mm_word.specs.Perm.{can_load, can_store};
 ghost use Rattle.mm_model.specs.Image.{Image as ImageValue};
+ghost use Rattle.mm_model.specs.Groups.{among};
 ghost use Rattle.mm_model.specs.Reach.{Entries as EntriesValue, CanTouch, CanWrite, Privileged};
 ghost use Rattle.mm_model.specs.Audit.{MaximalSegments, Judged};
-ghost use Rattle.mm_model.specs.Reach.Entries.{All as AnyEntry};
 
 use crate::group_sets::GroupSets;
 use crate::judge::{Apart, crossing, mask_of};
@@ -35,7 +34,6 @@ impl Model for Reach {
 
 impl Reach {
     ghost use Rattle.mm_audit.specs.Audits.{Audits};
-    ghost use Rattle.mm_audit.specs.Judging.{JudgedUnder};
     ghost use Rattle.mm_audit.specs.Crossing.{verdict_of};
 
     /// Whether a group can touch a word.
@@ -83,8 +81,7 @@ impl Reach {
     /// Whether groups stand apart from all others: the least slot whose handler is on the other side, else the least
     /// group outside that can write a word that one inside can touch, with the least such word.
     pub fn apart(&self, groups: &[u8]) -> Apart
-        ensures under { (i : ImageValue) (e : EntriesValue) → Audits i e self.now → JudgedUnder i e (λ g. list_any (λ h. g == h) groups.now) (verdict_of result) }
-        ensures all { (i : ImageValue) → Audits i AnyEntry self.now → Judged i (λ g. list_any (λ h. g == h) groups.now) (verdict_of result) }
+        ensures { (i : ImageValue) (e : EntriesValue) → Audits i e self.now → Judged i e (among groups.now) (verdict_of result) }
     {
         if let Some(slot) = crossing(&self.served, groups) {
             return Apart::Handler { slot };

@@ -1,10 +1,11 @@
 // Whether the slots of some groups can stand alone.
-ghost use Rattle.std.specs.Prelude.{◌≡◌, ◌<◌, ◌==◌, ◌↔◌, ℕ, true, false, All, IfSome, MatchOption};
+ghost use Rattle.std.specs.Prelude.{◌≡◌, ◌<◌, ◌↔◌, ℕ, true, false, All, IfSome, MatchOption};
 ghost use Rattle.std.specs.List.{list_any};
 ghost use Rattle.std.specs.Int.{bit_at};
 ghost use Rattle.mm_model.specs.Slot.{Slot as SlotValue};
-ghost use Rattle.mm_audit.specs.Inside.{InsideAt, is_out, leaves, first_leaving};
-ghost use Rattle.mm_audit.specs.Refusals.{HasNoGroup, StandAlone, IsRefused};
+ghost use Rattle.mm_model.specs.Groups.{among, HasSlotAt, HasNoGroup};
+ghost use Rattle.mm_audit.specs.Inside.{is_out, leaves, first_leaving};
+ghost use Rattle.mm_audit.specs.Refusals.{StandAlone, IsRefused};
 
 use crate::judge::is_inside;
 use mm_image::Image;
@@ -21,7 +22,7 @@ pub enum Refused {
 
 /// Whether a slot is of one of the groups.
 fn has_group(slots: &[Slot], groups: &[u8]) -> bool
-    ensures { result ≡ list_any (λ (s : SlotValue). list_any (λ h. s.group == h) groups.now) slots.now }
+    ensures { result ≡ list_any (λ (s : SlotValue). among groups.now s.group) slots.now }
 {
     slots.iter().any(|s| is_inside(groups, s.group))
 }
@@ -29,7 +30,7 @@ fn has_group(slots: &[Slot], groups: &[u8]) -> bool
 /// The mask of the numbers of the slots of these groups.
 fn numbers_inside(slots: &[Slot], groups: &[u8]) -> u64
     requires { All (λ (s : SlotValue). s.number < 64) slots.now }
-    ensures { (n : ℕ) → (bit_at result n ≡ 1) ↔ InsideAt slots.now (λ g. list_any (λ h. g == h) groups.now) n }
+    ensures { (n : ℕ) → (bit_at result n ≡ 1) ↔ HasSlotAt slots.now (among groups.now) n }
 {
     let mut inside = 0u64;
     for slot in slots {
@@ -76,7 +77,7 @@ fn first_leaving(inside: u64, slots: &[Slot]) -> Option<u8>
 
 /// Why the slots of these groups cannot stand alone; none where they can. That there is none of them comes first.
 pub fn refusal(img: &Image, groups: &[u8]) -> Option<Refused>
-    ensures { MatchOption result (StandAlone img.now (λ g. list_any (λ h. g == h) groups.now)) (λ r. IsRefused img.now (λ g. list_any (λ h. g == h) groups.now) r) }
+    ensures { MatchOption result (StandAlone img.now (among groups.now)) (λ r. IsRefused img.now (among groups.now) r) }
 {
     let slots = img.slots();
     if !has_group(slots, groups) {

@@ -1,7 +1,8 @@
 // Who serves whom.
 ghost use Rattle.std.specs.Prelude.{◌≡◌, ◌++◌, IfOk, OnOk};
 ghost use Rattle.std.specs.List.{flat_map};
-ghost use Rattle.mm_audit.specs.Serving.{is_handler, served_by, served_of};
+ghost use Rattle.mm_model.specs.Turn.{is_handler};
+ghost use Rattle.mm_audit.specs.Serving.{served_by, served_of};
 
 use mm_model::Slot;
 use mm_word::NoMemory;
@@ -20,7 +21,7 @@ pub struct Served {
 
 /// Whether the handler is the slot of this number.
 fn is_handler(handler: Option<u8>, number: u8) -> bool
-    ensures { result ≡ is_handler handler number }
+    ensures { result ≡ is_handler number handler }
 {
     match handler {
         Some(h) => h == number,

@@ -1,6 +1,6 @@
 // An image without the slots of other groups.
-ghost use Rattle.std.specs.Prelude.{◌≡◌, ◌==◌, IfErr, IfOk};
-ghost use Rattle.std.specs.List.{list_any};
+ghost use Rattle.std.specs.Prelude.{◌≡◌, IfErr, IfOk};
+ghost use Rattle.mm_model.specs.Groups.{among};
 ghost use Rattle.mm_model.specs.Worlds.{alone};
 ghost use Rattle.mm_audit.specs.Refusals.{StandAlone, IsExtractError};
 
@@ -13,8 +13,8 @@ use std::alloc::Global;
 
 /// The image with the slots of groups that can stand alone.
 fn with_slots(alloc: Global, img: &Image, groups: &[u8]) -> Result<Image, NoMemory>
-    requires { StandAlone img.now (λ g. list_any (λ h. g == h) groups.now) }
-    ensures { IfOk result (λ own. own ≡ alone img.now (λ g. list_any (λ h. g == h) groups.now)) }
+    requires { StandAlone img.now (among groups.now) }
+    ensures { IfOk result (λ own. own ≡ alone img.now (among groups.now)) }
 {
     let Ok(slots) = slots_of(alloc, img.slots(), groups) else {
         return Err(NoMemory);
@@ -31,9 +31,9 @@ fn with_slots(alloc: Global, img: &Image, groups: &[u8]) -> Result<Image, NoMemo
 /// The image without the slots of other groups: the slots of these groups, and the version, the mode, the frames and all pages as they
 /// were.
 pub fn alone(alloc: Global, img: &Image, groups: &[u8]) -> Result<Image, ExtractError>
-    ensures stand { IfOk result (λ own. StandAlone img.now (λ g. list_any (λ h. g == h) groups.now)) }
-    ensures own { IfOk result (λ own. own ≡ alone img.now (λ g. list_any (λ h. g == h) groups.now)) }
-    ensures refused { IfErr result (λ e. IsExtractError img.now (λ g. list_any (λ h. g == h) groups.now) e) }
+    ensures stand { IfOk result (λ own. StandAlone img.now (among groups.now)) }
+    ensures own { IfOk result (λ own. own ≡ alone img.now (among groups.now)) }
+    ensures refused { IfErr result (λ e. IsExtractError img.now (among groups.now) e) }
 {
     match refusal(img, groups) {
         Some(Refused::NoGroup) => Err(ExtractError::NoGroup),

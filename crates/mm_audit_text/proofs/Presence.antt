@@ -2,12 +2,14 @@
 use Rattle.std.proofs.Common.{◌≡◌, ℕ, ◌+◌, ◌-◌, ◌<◌, ◌≤◌, ◌==◌, Bool, true, false, ◌||◌, if◌then◌else◌, List, [], ◌∷◌, ◌++◌, length, map, take, drop, get_or, codes, decimal, refl, sym, ap, ◌∙◌, subst, append_assoc, append-nil, arith}
 use Rattle.std.specs.List.{list_any, filter, flat_map, range_with_len}
 use Rattle.std.proofs.lemmas.List.{take_more, take_all}
+use Rattle.std.proofs.lemmas.List.Elements.{filter-append, filter_agree}
 use Rattle.std.proofs.lemmas.List.FromFn.{get_or-range_with_len}
 use Rattle.mm_model.specs.Slot.{Slot}
 use Rattle.mm_model.specs.Image.{Image, start}
+use Rattle.mm_model.specs.Groups.{has_group}
 use Rattle.mm_model.specs.Report.{is_of, groups_of}
 use Rattle.mm_model.specs.Audit.{AuditOf, AuditEach, AuditGroups, ApartLine, groups_text}
-use Rattle.mm_audit_text.specs.Parts.{IsPart, has_slot, if_present, further, present}
+use Rattle.mm_audit_text.specs.Parts.{IsPart, if_present, further}
 
 -- 1. Numbers with commas between.
 
@@ -35,18 +37,9 @@ same_rows : (g : ℕ) (slots : List Slot) → list_any (is_of g) (map (λ (s : S
 same_rows g [] = refl
 same_rows g (s ∷ slots) = ap (λ (b : Bool). (s.group == g) || b) (same_rows g slots)
 
-same_present : (g : ℕ) (i : Image) → list_any (is_of g) (start i).core.rows ≡ has_slot i g
+groups_are : (i : Image) → filter (has_group i.slots) (range_with_len 0 64) ≡ groups_of (start i).core
 unfolding start
-same_present g i = same_rows g i.slots
-
-same_filter : (p q : ℕ → Bool) → ((n : ℕ) → p n ≡ q n) → (xs : List ℕ) → filter p xs ≡ filter q xs
-same_filter p q same [] = refl
-same_filter p q same (x ∷ xs) =
-    ap (λ (b : Bool). if b then x ∷ filter p xs else filter p xs) (same x) ∙ ap (λ (l : List ℕ). if q x then x ∷ l else l) (same_filter p q same xs)
-
-pub present_is : (i : Image) → present i ≡ groups_of (start i).core
-unfolding present
-present_is i = same_filter (has_slot i) (λ g. list_any (is_of g) (start i).core.rows) (λ n. sym (same_present n i)) (range_with_len 0 64)
+groups_are i = filter_agree (has_group i.slots) (λ g. list_any (is_of g) (start i).core.rows) (λ g. sym (same_rows g i.slots)) (range_with_len 0 64)
 
 -- 3. Parts of the text.
 
@@ -87,22 +80,12 @@ no_part i apart has g absent = subst (λ b. IsPart i apart (if_present b g) []) 
 
 -- 4. One group more.
 
-filter_join : {A : Type 0} (p : A → Bool) (xs ys : List A) → filter p (xs ++ ys) ≡ filter p xs ++ filter p ys
-filter_join p [] ys = refl
-filter_join {A = A} p (x ∷ xs) ys = by (p x) (filter_join p xs ys)
-  where
-    by : (b : Bool) → filter p (xs ++ ys) ≡ filter p xs ++ filter p ys
-        → (if b then x ∷ filter p (xs ++ ys) else filter p (xs ++ ys)) ≡ (if b then x ∷ filter p xs else filter p xs) ++ filter p ys
-    by true e = ap (λ (l : List A). x ∷ l) e
-    by false e = e
-
 pub one_more : (p : ℕ → Bool) (n : ℕ) → n < 64 → filter p (take (n + 1) (range_with_len 0 64)) ≡ filter p (take n (range_with_len 0 64)) ++ if_present (p n) n
 one_more p n few =
     let at : get_or (range_with_len 0 64) n 0 ≡ n = get_or-range_with_len 0 64 n 0 few ∙ omega arith in
     ap (filter p) (take_more (range_with_len 0 64) n 0 few)
-    ∙ filter_join p (take n (range_with_len 0 64)) (get_or (range_with_len 0 64) n 0 ∷ [])
+    ∙ filter-append p (take n (range_with_len 0 64)) (get_or (range_with_len 0 64) n 0 ∷ [])
     ∙ ap (λ (k : ℕ). filter p (take n (range_with_len 0 64)) ++ if_present (p k) k) at
 
-pub all_present : (i : Image) (n : ℕ) → 64 ≤ n → filter (has_slot i) (take n (range_with_len 0 64)) ≡ present i
-unfolding present
-all_present i n all = ap (filter (has_slot i)) (take_all n (range_with_len 0 64) all)
+pub all_present : (i : Image) (n : ℕ) → 64 ≤ n → filter (has_group i.slots) (take n (range_with_len 0 64)) ≡ groups_of (start i).core
+all_present i n all = ap (filter (has_group i.slots)) (take_all n (range_with_len 0 64) all) ∙ groups_are i

@@ -1,17 +1,11 @@
 -- What is written of groups, each maybe with whether it stands apart.
-use Rattle.std.specs.Prelude.{ℕ, Bool, true, false, ◌==◌, if◌then◌else◌, List, [], ◌∷◌, ◌++◌, codes, decimal}
-use Rattle.std.specs.List.{list_any, filter, range_with_len}
-use Rattle.mm_model.specs.Slot.{Slot}
+use Rattle.std.specs.Prelude.{ℕ, Bool, true, false, if◌then◌else◌, List, [], ◌∷◌, ◌++◌, codes, decimal}
 use Rattle.mm_model.specs.Image.{Image}
 use Rattle.mm_model.specs.Audit.{AuditEach, AuditGroups}
 
 abbrev pub IsPart : Image → Bool → List ℕ → List ℕ → Type 0
 IsPart i true groups text = AuditEach i groups text
 IsPart i false groups text = AuditGroups i groups text
-
--- the group has a slot
-abbrev pub has_slot : Image → ℕ → Bool
-has_slot i g = list_any (λ (s : Slot). s.group == g) i.slots
 
 -- the group, where it is present
 abbrev pub if_present : Bool → ℕ → List ℕ
@@ -20,7 +14,3 @@ if_present present g = if present then g ∷ [] else []
 -- a further number behind a comma
 abbrev pub further : ℕ → List ℕ
 further g = codes "," ++ decimal g
-
--- the groups that have a slot, ascending
-unfoldable pub present : Image → List ℕ
-present i = filter (has_slot i) (range_with_len 0 64)

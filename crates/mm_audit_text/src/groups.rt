@@ -1,12 +1,13 @@
 // What is written of each group.
-ghost use Rattle.std.specs.Prelude.{◌≡◌, ◌<◌, ◌==◌, List, ℕ};
-ghost use Rattle.std.specs.List.{list_any};
-ghost use Rattle.mm_model.specs.Image.{Image as ImageValue};
+ghost use Rattle.std.specs.Prelude.{◌≡◌, ◌<◌, List, ℕ};
+ghost use Rattle.mm_model.specs.Image.{Image as ImageValue, start};
+ghost use Rattle.mm_model.specs.Groups.{has_group};
+ghost use Rattle.mm_model.specs.Report.{groups_of};
 ghost use Rattle.mm_model.specs.Audit.{AuditOf};
 ghost use Rattle.mm_model.specs.Reach.Entries.{All};
 ghost use Rattle.mm_text.specs.Gathers.{Gathers};
 ghost use Rattle.mm_audit.specs.Audits.{Audits};
-ghost use Rattle.mm_audit_text.specs.Parts.{IsPart, has_slot as has_slot_in, if_present, present};
+ghost use Rattle.mm_audit_text.specs.Parts.{IsPart, if_present};
 
 use crate::lines::{put_apart, put_kind, put_segments};
 use mm_audit::Reach;
@@ -20,7 +21,7 @@ const GROUPS: u8 = 64;
 
 /// Whether a group has a slot.
 fn has_slot(slots: &[Slot], group: u8) -> bool
-    ensures { result ≡ list_any (λ s. s.group == group) slots.now }
+    ensures { result ≡ has_group slots.now group }
 {
     slots.iter().any(|s| s.group == group)
 }
@@ -47,7 +48,7 @@ fn put_present<O: Sink>(
 )
     requires { group < 64 }
     ensures { (part : List ℕ) × Gathers O.taken O.faults out.old out.new text.old text.new part
-        × (Audits img.now All reach.now → IsPart img.now apart (if_present (has_slot_in img.now group) group) part) }
+        × (Audits img.now All reach.now → IsPart img.now apart (if_present (has_group img.now.slots group) group) part) }
 {
     if has_slot(img.slots(), group) {
         put_group(text, out, reach, group);
@@ -60,7 +61,7 @@ fn put_present<O: Sink>(
 /// Appends what is written of each group that has a slot, ascending, each maybe with whether it stands apart.
 pub fn put_groups<O: Sink>(text: &mut Gather, out: &mut O, reach: &Reach, img: &Image, apart: bool)
     ensures { (whole : List ℕ) × Gathers O.taken O.faults out.old out.new text.old text.new whole
-        × (Audits img.now All reach.now → IsPart img.now apart (present img.now) whole) }
+        × (Audits img.now All reach.now → IsPart img.now apart (groups_of (start img.now).core) whole) }
 {
     for group in 0..GROUPS {
         put_present(text, out, reach, img, group, apart);

@@ -21,7 +21,7 @@ WritesNoCode = ¬ CanWrite two_groups All 0 0x100000
 
 -- the first group stands apart from the second
 abbrev pub TwoGroupsStandApart : Type 0
-TwoGroupsStandApart = Apart two_groups (λ g. g == 0)
+TwoGroupsStandApart = Apart two_groups All (λ g. g == 0)
 
 -- 2. The second group may store where the first one can load.
 
@@ -31,4 +31,4 @@ BothCanWrite = CanWrite one_pointer_too_many All 0 0x100018 × CanWrite one_poin
 
 -- so neither group stands apart from the other
 abbrev pub NeitherStandsApart : Type 0
-NeitherStandsApart = (¬ Apart one_pointer_too_many (λ g. g == 0)) × (¬ Apart one_pointer_too_many (λ g. g == 1))
+NeitherStandsApart = (¬ Apart one_pointer_too_many All (λ g. g == 0)) × (¬ Apart one_pointer_too_many All (λ g. g == 1))

@@ -1,8 +1,9 @@
 -- The marks of an image's net.
-use Rattle.std.specs.Prelude.{◌≡◌, ◌==◌, ℕ, ◌^◌, ◌<◌, ◌↔◌, List, length, slice_index, All}
+use Rattle.std.specs.Prelude.{◌≡◌, ℕ, ◌^◌, ◌<◌, ◌↔◌, List, length, slice_index, All}
 use Rattle.std.specs.Int.{bit_at}
 use Rattle.mm_word.specs.Pointer.{Pointer}
 use Rattle.mm_model.specs.Image.{Image}
+use Rattle.mm_model.specs.Groups.{in_mask}
 use Rattle.mm_model.specs.Reach.{Entries}
 use Rattle.mm_flow.specs.declared.node.Node.{Node}
 use Rattle.mm_flow.specs.declared.node.Right.TheVariants.{Load, Store, Make}
@@ -26,4 +27,4 @@ pub record IsMarked (i : Image) (e : Entries) (keys : List Key) (nodes : List No
   pub fits : (k : ℕ) → slice_index marks k < 2 ^ 64
   pub loads : (k : ℕ) → k < length keys → right_at nodes Load k ≡ loads_words (node_pointer keys k)
   pub stores : (k : ℕ) → k < length keys → right_at nodes Store k ≡ stores_words (node_pointer keys k)
-  pub exact : (rights : ℕ) → ((g : ℕ) → (bit_at rights g ≡ 1) ↔ HasSome marks (right_at nodes Make) g) → IsExact i e (λ g. bit_at rights g == 1) (Marked (node_pointer keys) marks)
+  pub exact : (rights : ℕ) → ((g : ℕ) → (bit_at rights g ≡ 1) ↔ HasSome marks (right_at nodes Make) g) → IsExact i e (in_mask rights) (Marked (node_pointer keys) marks)

@@ -1,65 +1,19 @@
 -- Rows of some groups: where they are found, and after a slot or a queue was put.
-use Rattle.std.proofs.Common.{◌≡◌, ◌≢◌, ℕ, zero, suc, ◌<◌, ◌⊎◌, inl, inr, Bool, true, false, cond, nat_eq, if◌then◌else◌, List, [], ◌∷◌, map, Option, Some, refl, sym, ap, ◌∙◌, subst, arith, eqb-true, eq-eqb}
-use Rattle.std.specs.Prelude.{Contains}
+use Rattle.std.proofs.Common.{◌≡◌, ◌≢◌, ℕ, ◌<◌, inl, inr, Bool, true, false, cond, nat_eq, if◌then◌else◌, List, [], ◌∷◌, map, Option, Some, refl, sym, ap, ◌∙◌, subst, arith, eqb-true, eq-eqb}
 use Rattle.std.specs.List.{AllByRecursion, filter}
 use Rattle.std.specs.List.Sorted.{IsStrictlyIncreasing}
-use Rattle.std.proofs.lemmas.Bool.{cases_eq, ne_eqb}
+use Rattle.std.proofs.lemmas.Bool.{both_ways, cases_Bool, cases_eq, ne_eqb}
 use Rattle.mm_model.specs.declared.event.Event.{Event}
 use Rattle.mm_model.specs.Slot.{Slot}
 use Rattle.mm_model.specs.State.{Row, Core, row_in, slot_of, queue_of, slot_at, queue_at, at_number, put_slot, put_queue}
 use Rattle.mm_model.specs.Fits.{identity_of}
 use Rattle.mm_model.proofs.CoreRows.{each_map, above_first, rest_rises, Rises, identities_of, rises_by, stays_by, identities_of-put_slot}
+use Rattle.mm_model.proofs.Filters.{filter_takes, filter_drops}
 use Rattle.mm_laws.specs.Isolated.{is_row_of}
 use Rattle.mm_laws.proofs.GrantedWords.{row_has, row_of}
 use Rattle.mm_laws.proofs.GrantedTurns.{same_slot}
 
-pub no_both : (b : Bool) → b ≡ true → b ≡ false → ⊥
-no_both true p q = cc
-no_both false p q = cc
-
-pub bool_cases : (b : Bool) → (b ≡ true) ⊎ (b ≡ false)
-bool_cases true = inl refl
-bool_cases false = inr refl
-
--- 1. Filters.
-
-module _ {A : Type 0} (p : A → Bool) where
-  pub filter_takes : (x : A) (xs : List A) → p x ≡ true → filter p (x ∷ xs) ≡ x ∷ filter p xs
-  filter_takes x xs e = ap (λ b. cond b (x ∷ filter p xs) (filter p xs)) e
-
-  pub filter_drops : (x : A) (xs : List A) → p x ≡ false → filter p (x ∷ xs) ≡ filter p xs
-  filter_drops x xs e = ap (λ b. cond b (x ∷ filter p xs) (filter p xs)) e
-
-  pub each_filter : (P : A → Type 0) (xs : List A) → AllByRecursion P xs → AllByRecursion (λ (x : A). P x × (p x ≡ true)) (filter p xs)
-  each_filter P [] h = tt
-  each_filter P (x ∷ xs) h = elim (bool_cases (p x)) [
-    | inl t ↦ subst (AllByRecursion (λ (y : A). P y × (p y ≡ true))) (sym (filter_takes x xs t)) ((h.0, t), each_filter P xs h.1)
-    | inr f ↦ subst (AllByRecursion (λ (y : A). P y × (p y ≡ true))) (sym (filter_drops x xs f)) (each_filter P xs h.1)
-  ]
-
-  pub contained_filter : (xs : List A) (x : A) → Contains xs x → p x ≡ true → Contains (filter p xs) x
-  contained_filter [] x h e = absurd (omega (arith, h.1))
-  contained_filter (y ∷ xs) x (zero, lt, is) e = subst (λ l. Contains l x) (sym (filter_takes y xs (ap p is ∙ e))) (0, omega arith, is)
-  contained_filter (y ∷ xs) x (suc k, lt, is) e =
-      let rest = contained_filter xs x (k, omega arith, is) e in
-      elim (bool_cases (p y)) [
-        | inl t ↦ subst (λ l. Contains l x) (sym (filter_takes y xs t)) (suc rest.0, omega (arith, rest.1), rest.2)
-        | inr f ↦ subst (λ l. Contains l x) (sym (filter_drops y xs f)) rest
-      ]
-
-  pub filter_contained : (xs : List A) (x : A) → Contains (filter p xs) x → Contains xs x × (p x ≡ true)
-  filter_contained [] x h = absurd (omega (arith, h.1))
-  filter_contained (y ∷ xs) x h =
-      elim (bool_cases (p y)) [
-        | inl t ↦ taken t (subst (λ l. Contains l x) (filter_takes y xs t) h) (λ k. filter_contained xs x k)
-        | inr f ↦ let rest = filter_contained xs x (subst (λ l. Contains l x) (filter_drops y xs f) h) in ((suc rest.0.0, omega (arith, rest.0.1), rest.0.2), rest.1)
-      ]
-    where
-      taken : p y ≡ true → Contains (y ∷ filter p xs) x → (Contains (filter p xs) x → Contains xs x × (p x ≡ true)) → Contains (y ∷ xs) x × (p x ≡ true)
-      taken t (zero, lt, is) later = ((0, omega arith, is), sym (ap p is) ∙ t)
-      taken t (suc k, lt, is) later = let rest = later (k, omega arith, is) in ((suc rest.0.0, omega (arith, rest.0.1), rest.0.2), rest.1)
-
--- 2. Rows of the groups, by number.
+-- 1. Rows of the groups, by number.
 
 abbrev pub mine : (ℕ → Bool) → Core → List Row
 mine c core = filter (is_row_of c) core.rows
@@ -95,27 +49,27 @@ row_number (r ∷ rows) n row is = elim (cases_eq r.slot.number n) [
 module _ (c : ℕ → Bool) where
   row_kept : (rows : List Row) (n : ℕ) (row : Row) → row_in rows n ≡ Some row → is_row_of c row ≡ true → row_in (filter (is_row_of c) rows) n ≡ Some row
   row_kept [] n row is e = cc
-  row_kept (r ∷ rows) n row is e = elim (bool_cases (is_row_of c r)) [
+  row_kept (r ∷ rows) n row is e = elim (cases_Bool (is_row_of c r)) [
     | inl t ↦ ap (λ l. row_in l n) (filter_takes (is_row_of c) r rows t) ∙ elim (cases_eq r.slot.number n) [
       | inl here ↦ row_here r (filter (is_row_of c) rows) n here ∙ sym (row_here r rows n here) ∙ is
       | inr ne ↦ row_later r (filter (is_row_of c) rows) n ne ∙ row_kept rows n row (sym (row_later r rows n ne) ∙ is) e
     ]
     | inr f ↦ ap (λ l. row_in l n) (filter_drops (is_row_of c) r rows f) ∙ elim (cases_eq r.slot.number n) [
-      | inl here ↦ absurd (let two : ◌≡◌ {A = Option Row} (Some r) (Some row) = sym (row_here r rows n here) ∙ is in let same : r ≡ row = cc in no_both (is_row_of c row) e (sym (ap (is_row_of c) same) ∙ f))
+      | inl here ↦ absurd (let two : ◌≡◌ {A = Option Row} (Some r) (Some row) = sym (row_here r rows n here) ∙ is in let same : r ≡ row = cc in both_ways (is_row_of c row) (sym (ap (is_row_of c) same) ∙ f) e)
       | inr ne ↦ row_kept rows n row (sym (row_later r rows n ne) ∙ is) e
     ]
   ]
 
   each_filtered : (P : Row → Type 0) (rows : List Row) → AllByRecursion P rows → AllByRecursion P (filter (is_row_of c) rows)
   each_filtered P [] h = tt
-  each_filtered P (row ∷ rows) h = elim (bool_cases (is_row_of c row)) [
+  each_filtered P (row ∷ rows) h = elim (cases_Bool (is_row_of c row)) [
     | inl t ↦ subst (AllByRecursion P) (sym (filter_takes (is_row_of c) row rows t)) (h.0, each_filtered P rows h.1)
     | inr f ↦ subst (AllByRecursion P) (sym (filter_drops (is_row_of c) row rows f)) (each_filtered P rows h.1)
   ]
 
   row_back : (rows : List Row) → Ascends rows → (n : ℕ) (row : Row) → row_in (filter (is_row_of c) rows) n ≡ Some row → row_in rows n ≡ Some row
   row_back [] up n row is = cc
-  row_back (r ∷ rows) up n row is = elim (bool_cases (is_row_of c r)) [
+  row_back (r ∷ rows) up n row is = elim (cases_Bool (is_row_of c r)) [
     | inl t ↦
         let at = sym (ap (λ l. row_in l n) (filter_takes (is_row_of c) r rows t)) ∙ is in
         elim (cases_eq r.slot.number n) [
@@ -142,7 +96,7 @@ module _ (c : ℕ → Bool) where
       let there : row_in b.rows n ≡ Some r.row = row_back b.rows (ascends b.rows up) n r.row (ap (λ l. row_in l n) (sym same) ∙ here) in
       record { slot = ap slot_of there ∙ ap (λ (s : Slot). Some s) r.slot; queue = ap queue_of r.is ∙ sym (ap queue_of there) }
 
--- 3. Rows of the groups after something was put.
+-- 2. Rows of the groups after something was put.
 
 module _ (c : ℕ → Bool) (n : ℕ) (f : Row → Row) where
   -- a change that leaves each row of the number in its group, or outside the groups
@@ -152,7 +106,7 @@ module _ (c : ℕ → Bool) (n : ℕ) (f : Row → Row) where
   filter_at (row ∷ rows) h =
       let rest = filter_at rows h.1 in
       let same : is_row_of c (at_number n f row) ≡ is_row_of c row = by (nat_eq row.slot.number n) refl in
-      elim (bool_cases (is_row_of c row)) [
+      elim (cases_Bool (is_row_of c row)) [
         | inl t ↦
             filter_takes (is_row_of c) (at_number n f row) (map (at_number n f) rows) (same ∙ t)
             ∙ ap (λ l. at_number n f row ∷ l) rest

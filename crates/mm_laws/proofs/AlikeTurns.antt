@@ -2,7 +2,7 @@
 use Rattle.std.proofs.Common.{◌≡◌, ℕ, zero, suc, ◌^◌, inl, inr, Bool, true, false, ◌&&◌, nat_lt, if◌then◌else◌, pos, List, [], ◌∷◌, ◌++◌, map, length, Option, Some, None, Result, Ok, Err, refl, sym, ap, ◌∙◌, subst, arith, slice_set, slice_index_or}
 use Rattle.std.specs.Prelude.{IfSome}
 use Rattle.std.specs.List.{AllByRecursion}
-use Rattle.std.proofs.lemmas.Bool.{cases_eq}
+use Rattle.std.proofs.lemmas.Bool.{both_ways, cases_Bool, cases_eq}
 use Rattle.mm_word.specs.declared.perm.Kind.TheVariants.{Fetch, Store}
 use Rattle.mm_word.specs.declared.cause.Cause.{Cause}
 use Rattle.mm_word.specs.declared.cause.Cause.TheVariants.{Bounds, NoPage, Illegal, Priv, NoSlot, OutFull}
@@ -46,30 +46,30 @@ use Rattle.mm_laws.specs.Granted.{TouchGranted}
 use Rattle.mm_laws.proofs.GrantedWords.{slot_granted}
 use Rattle.mm_laws.proofs.GrantedRows.{Stands, CellWritten, PagesGranted, OtherSlot, ChangeGranted, EffectGranted, effect_granted, is_xp}
 use Rattle.mm_laws.proofs.GrantedTurns.{fetch_granted, touch_granted}
-use Rattle.mm_laws.proofs.AlikeRows.{no_both, bool_cases, mine, SameSlotAt, same_at, Sames, sames_self, put_slot-sames, mine-put_slot, mine-put_queue}
+use Rattle.mm_laws.proofs.AlikeRows.{mine, SameSlotAt, same_at, Sames, sames_self, put_slot-sames, mine-put_slot, mine-put_queue}
 use Rattle.mm_laws.proofs.AlikeWorlds.{state_side, touch_known, touches_all, whole_memory}
 
 -- what is the same of two turns
 pub record SameTurn (i : Image) (c : ℕ → Bool) (s t : Turned) : Type 0 where
   pub rows : mine c s.core ≡ mine c t.core
   pub outputs : (g : ℕ) → c g ≡ true → output_of s.core g ≡ output_of t.core g
-  pub cells : (w : ℕ) → Touchable i c w → cell_at s.memory w ≡ cell_at t.memory w
+  pub cells : (w : ℕ) → Touchable i All c w → cell_at s.memory w ≡ cell_at t.memory w
   pub step : s.step ≡ t.step
 
 -- a state of each image, alike to the groups
 pub record Both (i j : Image) (c : ℕ → Bool) (a b : Core) (ma mb : Memory) : Type 0 where
   pub one : Stands i All a ma
   pub other : Stands j All b mb
-  pub one_apart : Apart i c
-  pub other_apart : Apart j c
+  pub one_apart : Apart i All c
+  pub other_apart : Apart j All c
   pub one_paged : IsPaged ma
   pub other_paged : IsPaged mb
-  pub frames : IsPrivileged i c → ma.frames ≡ mb.frames
+  pub frames : IsPrivileged i All c → ma.frames ≡ mb.frames
   pub version : a.version ≡ b.version
   pub split : a.split ≡ b.split
   pub rows : mine c a ≡ mine c b
   pub outputs : (g : ℕ) → c g ≡ true → output_of a g ≡ output_of b g
-  pub cells : (w : ℕ) → Touchable i c w → cell_at ma w ≡ cell_at mb w
+  pub cells : (w : ℕ) → Touchable i All c w → cell_at ma w ≡ cell_at mb w
 
 set_alike : {A : Type 0} (a b : List A) (h m : ℕ) (x d : A) → length a ≡ length b → slice_index_or a m d ≡ slice_index_or b m d
     → slice_index_or (slice_set a h x) m d ≡ slice_index_or (slice_set b h x) m d
@@ -83,9 +83,9 @@ set_alike (z ∷ zs) (y ∷ ys) (suc h) (suc m) x d e k = set_alike zs ys h m x 
 
 -- what an instruction asks concerns the groups alone
 abbrev Needs : Image → (ℕ → Bool) → Ask → Type 0
-Needs i c (Reach t pre) = Touchable i c t.addr
-Needs i c (MapPage page) = IsPrivileged i c
-Needs i c (UnmapPage page) = IsPrivileged i c
+Needs i c (Reach t pre) = Touchable i All c t.addr
+Needs i c (MapPage page) = IsPrivileged i All c
+Needs i c (UnmapPage page) = IsPrivileged i All c
 Needs i c (Room g) = c g ≡ true
 Needs i c _ = Unit {0}
 
@@ -103,13 +103,13 @@ refuses n None h = refl
 refuses n (Some y) h = ap (λ b. if b && is_taken y.state then Served y else Refused NoSlot) (h y refl)
 
 not_handled : (n : ℕ) (o : Option ℕ) → (o ≡ Some n → ⊥) → is_handler n o ≡ false
-not_handled n o never = elim (bool_cases (is_handler n o)) [
+not_handled n o never = elim (cases_Bool (is_handler n o)) [
   | inl y ↦ absurd (never (handler_is n o y))
   | inr f ↦ f
 ]
 
 module _ (i j : Image) (c : ℕ → Bool) (a b : Core) (ma mb : Memory) (h : Both i j c a b ma mb) where
-  same_memory : IsPrivileged i c → ma ≡ mb
+  same_memory : IsPrivileged i All c → ma ≡ mb
   same_memory p = whole_memory ma mb h.one_paged h.other_paged (h.frames p) (λ w word near. h.cells w (touches_all i c p w word near))
 
   -- a slot of the groups on one side stands on the other
@@ -127,7 +127,7 @@ module _ (i j : Image) (c : ℕ → Bool) (a b : Core) (ma mb : Memory) (h : Bot
   same_idle k = record { rows = h.rows; outputs = h.outputs; cells = h.cells; step = refl }
 
   module _ (x : Slot) (at_a : slot_at a x.number ≡ Some x) (at_b : slot_at b x.number ≡ Some x) (cx : c x.group ≡ true) where
-    own_privilege : is_privileged x.ip.perm ≡ true → IsPrivileged i c
+    own_privilege : is_privileged x.ip.perm ≡ true → IsPrivileged i All c
     own_privilege y = record { group = x.group; member = cx; privileged = record { by = x.ip; granted = (slot_granted i All a h.one.rows x.number x at_a).ip; perm = is_xp x.ip.perm y } }
 
     -- the slots that this one serves are of the groups
@@ -168,17 +168,17 @@ module _ (i j : Image) (c : ℕ → Bool) (a b : Core) (ma mb : Memory) (h : Bot
             let at : slot_at b k ≡ Some y = is_b ∙ e in
             let there = (back k y at (side_b k y at handled)).slot in
             cc (is, there))))
-        by (Some y) is p is_b = elim (bool_cases (c y.group)) [
+        by (Some y) is p is_b = elim (cases_Bool (c y.group)) [
           | inl cy ↦ ap (served x.number) (sym is ∙ is) ∙ ap (served x.number) (sym (over k y is cy).slot ∙ is_b)
           | inr out ↦
-              refuses x.number (Some y) (λ z e. not_handled x.number z.handler (λ handled. let at : slot_at a k ≡ Some z = is ∙ e in let same : y ≡ z = cc in no_both (c z.group) (side_a k z at handled) (sym (ap (λ (v : Slot). c v.group) same) ∙ out)))
+              refuses x.number (Some y) (λ z e. not_handled x.number z.handler (λ handled. let at : slot_at a k ≡ Some z = is ∙ e in let same : y ≡ z = cc in both_ways (c z.group) (sym (ap (λ (v : Slot). c v.group) same) ∙ out) (side_a k z at handled)))
               ∙ sym (refuses x.number p (λ z e. not_handled x.number z.handler (λ handled.
               let at : slot_at b k ≡ Some z = is_b ∙ e in
               let cz = side_b k z at handled in
               let there : slot_at a k ≡ Some z = (back k z at cz).slot in
               let two : ◌≡◌ {A = Option Slot} (Some y) (Some z) = sym is ∙ there in
               let same : y ≡ z = cc in
-              no_both (c z.group) cz (sym (ap (λ (v : Slot). c v.group) same) ∙ out))))
+              both_ways (c z.group) (sym (ap (λ (v : Slot). c v.group) same) ∙ out) cz)))
         ]
 
     same_reply : (asked : Ask) → Needs i c asked → reply a ma x.number asked ≡ reply b mb x.number asked
@@ -368,7 +368,7 @@ module _ (i j : Image) (c : ℕ → Bool) (a b : Core) (ma mb : Memory) (h : Bot
           byte_outputs (with_queue (put_slot (with_other a d.other) (slot_after x d)) x.number d.queue) (with_queue (put_slot (with_other b d.other) (slot_after x d)) x.number d.queue)
           (outputs_kept a d.other d.queue) (outputs_kept b d.other d.queue) d.out g cg
 
-      cell_both : (o : Option (ℕ × Cell)) → CellWritten i All ma x.group o → CellWritten j All mb x.group o → (w : ℕ) → Touchable i c w → cell_at (with_cell ma o) w ≡ cell_at (with_cell mb o) w
+      cell_both : (o : Option (ℕ × Cell)) → CellWritten i All ma x.group o → CellWritten j All mb x.group o → (w : ℕ) → Touchable i All c w → cell_at (with_cell ma o) w ≡ cell_at (with_cell mb o) w
       cell_both None ka kb w k = h.cells w k
       cell_both (Some p) ka kb w k = elim (cases_eq w p.0) [
         | inl e ↦
@@ -377,15 +377,15 @@ module _ (i j : Image) (c : ℕ → Bool) (a b : Core) (ma mb : Memory) (h : Bot
         | inr ne ↦ cell_at-put_other ma p.0 w p.1 ka.writes.stores.word ne ∙ h.cells w k ∙ sym (cell_at-put_other mb p.0 w p.1 kb.writes.stores.word ne)
       ]
 
-      granted_privilege : Privileged i All x.group → IsPrivileged i c
+      granted_privilege : Privileged i All x.group → IsPrivileged i All c
       granted_privilege p = record { group = x.group; member = cx; privileged = p }
 
-      cells_both : (p : Pages) → PagesGranted i All x.group p → (w : ℕ) → Touchable i c w → cell_at (with_pages (with_cell ma d.cell) p) w ≡ cell_at (with_pages (with_cell mb d.cell) p) w
+      cells_both : (p : Pages) → PagesGranted i All x.group p → (w : ℕ) → Touchable i All c w → cell_at (with_pages (with_cell ma d.cell) p) w ≡ cell_at (with_pages (with_cell mb d.cell) p) w
       cells_both Keep k w t = cell_both d.cell ga.cell gb.cell w t
       cells_both (Add page) k w t = ap (λ m. cell_at (map_page (with_cell m d.cell) page) w) (same_memory (granted_privilege k.privileged))
       cells_both (Remove page) k w t = ap (λ m. cell_at (unmap_page (with_cell m d.cell) page) w) (same_memory (granted_privilege k.privileged))
 
-      memory_both : (w : ℕ) → Touchable i c w → cell_at (memory_after ma d) w ≡ cell_at (memory_after mb d) w
+      memory_both : (w : ℕ) → Touchable i All c w → cell_at (memory_after ma d) w ≡ cell_at (memory_after mb d) w
       unfolding memory_after
       memory_both w t = cells_both d.pages ga.pages w t
 

@@ -7,6 +7,7 @@ use Rattle.std.specs.FinMap.{nat_cmp-IsAntisymmetric}
 use Rattle.std.specs.FinMap.Entries.{same_entries}
 use Rattle.std.proofs.Math.Nat.{div-eq_of_lt}
 use Rattle.std.proofs.lemmas.Cmp.{nat_cmp_total}
+use Rattle.std.proofs.lemmas.Bool.{cases_Bool}
 use Rattle.mm_word.specs.declared.perm.Perm.TheVariants.{Ro}
 use Rattle.mm_word.specs.declared.perm.Kind.{Kind}
 use Rattle.mm_word.specs.declared.perm.Kind.TheVariants.{Fetch, Load, LoadSet, Store}
@@ -28,14 +29,14 @@ use Rattle.mm_model.specs.Worlds.{Touchable, IsPrivileged, Apart, Agree}
 use Rattle.mm_model.proofs.CoreRows.{identities_of}
 use Rattle.mm_model.proofs.EffectSteps.{both_true}
 use Rattle.mm_model.proofs.Memories.{cell_at-aligned, page_whole}
+use Rattle.mm_model.proofs.Filters.{contained_filter, filter_contained}
 use Rattle.mm_laws.specs.Granted.{TouchGranted}
 use Rattle.mm_laws.proofs.GrantedWords.{image_slot}
-use Rattle.mm_laws.proofs.AlikeRows.{bool_cases, contained_filter, filter_contained}
 
 -- 1. Sides.
 
 -- a slot and its handler are on one side, in the image and so in each state
-pub one_side : (i : Image) (c : ℕ → Bool) → Apart i c → (g h : ℕ) → Serves i g h → c g ≡ c h
+pub one_side : (i : Image) (c : ℕ → Bool) → Apart i All c → (g h : ℕ) → Serves i g h → c g ≡ c h
 one_side i c apart g h sv =
     let side = apart.handlers sv.served sv.server sv.one sv.other sv.handled in
     elim sv.groups [
@@ -43,7 +44,7 @@ one_side i c apart g h sv =
       | inr p ↦ sym (ap c p.1) ∙ sym side ∙ ap c p.0
     ]
 
-pub state_side : (i : Image) (c : ℕ → Bool) → Apart i c → (core : Core) → identities_of core ≡ Rattle.std.proofs.Common.map identity_of i.slots
+pub state_side : (i : Image) (c : ℕ → Bool) → Apart i All c → (core : Core) → identities_of core ≡ Rattle.std.proofs.Common.map identity_of i.slots
     → (m n : ℕ) (y x : Slot) → slot_at core m ≡ Some y → slot_at core n ≡ Some x → y.handler ≡ Some x.number → c y.group ≡ c x.group
 state_side i c apart core same m n y x at_y at_x handled =
     let u = image_slot i core same m y at_y in
@@ -62,7 +63,7 @@ pub slots_in : (i j : Image) (c : ℕ → Bool) → filter (λ (s : Slot). c s.g
 slots_in i j c same s is cs =
     (filter_contained (λ (x : Slot). c x.group) j.slots s (subst (λ (l : List Slot). Contains l s) same (contained_filter (λ (x : Slot). c x.group) i.slots s is cs))).0
 
-module _ (i j : Image) (c : ℕ → Bool) (there : SlotsIn c i j) (cells : (w : ℕ) → Touchable i c w → Touchable j c w → cell_at i.memory w ≡ cell_at j.memory w) (apart : Apart i c) where
+module _ (i j : Image) (c : ℕ → Bool) (there : SlotsIn c i j) (cells : (w : ℕ) → Touchable i All c w → Touchable j All c w → cell_at i.memory w ≡ cell_at j.memory w) (apart : Apart i All c) where
   serves_there : (g h : ℕ) → c g ≡ true → Serves i g h → Serves j g h
   serves_there g h cg sv =
       let ch : c h ≡ true = sym (one_side i c apart g h sv) ∙ cg in
@@ -80,7 +81,7 @@ module _ (i j : Image) (c : ℕ → Bool) (there : SlotsIn c i j) (cells : (w : 
   carry (below p gp b) cg = below p (carry gp cg) b
   carry (Grants.passed {g = g} h w p r gq gp st gr l) cg =
       let ch : c h ≡ true =
-      elim (bool_cases (c h)) [
+      elim (cases_Bool (c h)) [
         | inl y ↦ y
         | inr n ↦ absurd (apart.writes h w n (record { by = p; granted = gp; stores = st }) (record { group = g; member = cg; touches = record { by = r; granted = gr; loads = l } }))
       ] in
@@ -89,14 +90,14 @@ module _ (i j : Image) (c : ℕ → Bool) (there : SlotsIn c i j) (cells : (w : 
   carry (Grants.served {g = g} h gq s) cg = Grants.served h (carry gq (sym (one_side i c apart g h s) ∙ cg)) (serves_there g h cg s)
   carry (Grants.made p gp a b) cg = Grants.made p (carry gp cg) a b
 
-  pub touchable_there : (w : ℕ) → Touchable i c w → Touchable j c w
+  pub touchable_there : (w : ℕ) → Touchable i All c w → Touchable j All c w
   touchable_there w h = record { group = h.group; member = h.member; touches = record { by = h.touches.by; granted = carry h.touches.granted h.member; loads = h.touches.loads } }
 
 -- so the words that the groups can touch are the same in both
-pub touchable_other : (i j : Image) (c : ℕ → Bool) → Agree i j c → Apart i c → (w : ℕ) → Touchable i c w → Touchable j c w
+pub touchable_other : (i j : Image) (c : ℕ → Bool) → Agree i j c → Apart i All c → (w : ℕ) → Touchable i All c w → Touchable j All c w
 touchable_other i j c agree apart w h = touchable_there i j c (slots_in i j c agree.slots) (λ v a b. agree.cells v a) apart w h
 
-pub touchable_back : (i j : Image) (c : ℕ → Bool) → Agree i j c → Apart j c → (w : ℕ) → Touchable j c w → Touchable i c w
+pub touchable_back : (i j : Image) (c : ℕ → Bool) → Agree i j c → Apart j All c → (w : ℕ) → Touchable j All c w → Touchable i All c w
 touchable_back i j c agree apart w h = touchable_there j i c (slots_in j i c (sym agree.slots)) (λ v a b. sym (agree.cells v b)) apart w h
 
 -- 3. What the groups touch.
@@ -108,7 +109,7 @@ kind_loads LoadSet p e = (both_true (can_load p) (can_store p) e).0
 kind_loads Store p e = can_store-loads p e
 
 -- a granted touch of one of the groups is at a word that they can touch
-pub touch_known : (i : Image) (c : ℕ → Bool) (g : ℕ) (t : Touch) → c g ≡ true → TouchGranted i All g t → Touchable i c t.addr
+pub touch_known : (i : Image) (c : ℕ → Bool) (g : ℕ) (t : Touch) → c g ≡ true → TouchGranted i All g t → Touchable i All c t.addr
 touch_known i c g t cg h =
     record { group = g; member = cg; touches = record { by = h.by; granted = h.granted; loads = record { word = h.aligned; right = kind_loads t.kind h.by.perm h.right; covers = h.covers } } }
 
@@ -128,7 +129,7 @@ wide_loads : can_load wide.perm ≡ true
 unfolding wide
 wide_loads = refl
 
-pub touches_all : (i : Image) (c : ℕ → Bool) → IsPrivileged i c → (w : ℕ) → w % 8 ≡ 0 → w + 8 ≤ 2 ^ 54 → Touchable i c w
+pub touches_all : (i : Image) (c : ℕ → Bool) → IsPrivileged i All c → (w : ℕ) → w % 8 ≡ 0 → w + 8 ≤ 2 ^ 54 → Touchable i All c w
 touches_all i c h w word near = record {
   group = h.group;
   member = h.member;

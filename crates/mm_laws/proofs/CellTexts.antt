@@ -12,7 +12,7 @@ use Rattle.mm_model.specs.Worlds.{Touchable}
 use Rattle.mm_model.proofs.CoreRows.{each_map}
 use Rattle.mm_laws.specs.CellLines.{LinesOf, CellLinesOf}
 use Rattle.mm_laws.specs.Isolated.{AgreeApart}
-use Rattle.mm_laws.proofs.AlikeRows.{no_both, bool_cases, filter_takes, filter_drops}
+use Rattle.mm_model.proofs.Filters.{filter_takes, filter_drops}
 use Rattle.mm_laws.proofs.AlikeWorlds.{touchable_other, touchable_back}
 use Rattle.mm_laws.proofs.CellViews.{IsIn, Rising, at_word, filter_in, in_filter}
 use Rattle.mm_laws.proofs.ChangedCells.{each_of_in, changes_rising}
@@ -84,7 +84,7 @@ module _ (P : ℕ → Type 0) (w : ℕ) (c : Cell) (xs : List (ℕ × Cell)) (te
     test = or_word w r.test;
     only = λ v. one v (nat_eq v w) refl;
     all = (
-      λ e. absurd (no_both (or_word w r.test w) found e),
+      λ e. absurd (both_ways (or_word w r.test w) e found),
       each_map (λ (y : ℕ × Cell). r.test y.0 ≡ false → ¬ P y.0) (λ (y : ℕ × Cell). or_word w r.test y.0 ≡ false → ¬ P y.0) (λ y out e. out (or_false (nat_eq y.0 w) (r.test y.0) e)) xs r.all,
     );
     lines =
@@ -109,7 +109,7 @@ module _ (P : ℕ → Type 0) (w : ℕ) (c : Cell) (xs : List (ℕ × Cell)) (te
   }
     where
       not_found : r.test w ≡ false
-      not_found = elim (bool_cases (r.test w)) [
+      not_found = elim (cases_Bool (r.test w)) [
         | inl t ↦ absurd (out (r.only w t))
         | inr f ↦ f
       ]
@@ -122,7 +122,7 @@ chosen P xs text (LinesOf.no_line {w = w} {c = c} {cells = ys} out rest) up = ch
 lines_at : (P : ℕ → Type 0) (test : ℕ → Bool) → ((w : ℕ) → test w ≡ true → P w) → (xs : List (ℕ × Cell)) → AllByRecursion (λ (x : ℕ × Cell). test x.0 ≡ false → ¬ P x.0) xs
     → LinesOf P xs (flat_map line (filter (at_word test) xs))
 lines_at P test only [] all = LinesOf.no_cell
-lines_at P test only (x ∷ xs) all = elim (bool_cases (test x.0)) [
+lines_at P test only (x ∷ xs) all = elim (cases_Bool (test x.0)) [
   | inl t ↦ subst (λ l. LinesOf P (x ∷ xs) (flat_map line l)) (sym (filter_takes (at_word test) x xs t)) (LinesOf.line (only x.0 t) (lines_at P test only xs all.1))
   | inr f ↦ subst (λ l. LinesOf P (x ∷ xs) (flat_map line l)) (sym (filter_drops (at_word test) x xs f)) (LinesOf.no_line (all.0 f) (lines_at P test only xs all.1))
 ]
@@ -151,10 +151,10 @@ pub lines_are_same : (i j : Image) (c : ℕ → Bool) (s t : List ℕ) → Agree
 lines_are_same i j c s t g e text =
     let w = (two_runs i j c g s t e).worlds in
     let cells = (same_worlds i j c s t g e).view.cells in
-    let over : (v : ℕ) → Touchable i c v → Touchable j c v = touchable_other i j c g.agree g.one_apart in
-    let back : (v : ℕ) → Touchable j c v → Touchable i c v = touchable_back i j c g.agree g.other_apart in
+    let over : (v : ℕ) → Touchable i All c v → Touchable j All c v = touchable_other i j c g.agree g.one_apart in
+    let back : (v : ℕ) → Touchable j All c v → Touchable i All c v = touchable_back i j c g.agree g.other_apart in
     let one : List (ℕ × Cell) = changes (run (start i) s).memory i.memory in
     let other : List (ℕ × Cell) = changes (run (start j) t).memory j.memory in (
-      same_text (Touchable i c) (Touchable j c) over back one other cells (changes_rising (run (start i) s).memory i.memory w.one.paged) text,
-      same_text (Touchable j c) (Touchable i c) back over other one (λ p touched. sym (cells p (λ v found. back v (touched v found)))) (changes_rising (run (start j) t).memory j.memory w.other.paged) text,
+      same_text (Touchable i All c) (Touchable j All c) over back one other cells (changes_rising (run (start i) s).memory i.memory w.one.paged) text,
+      same_text (Touchable j All c) (Touchable i All c) back over other one (λ p touched. sym (cells p (λ v found. back v (touched v found)))) (changes_rising (run (start j) t).memory j.memory w.other.paged) text,
     )

@@ -3,7 +3,7 @@ use Rattle.std.proofs.Common.{◌≡◌, ℕ, ◌<◌, ◌⊎◌, inl, inr, Bool
 use Rattle.std.specs.List.{AllByRecursion, filter}
 use Rattle.mm_word.specs.declared.word.Cell.{Cell}
 use Rattle.mm_model.proofs.CoreRows.{each_map}
-use Rattle.mm_laws.proofs.AlikeRows.{no_both, each_filter}
+use Rattle.mm_model.proofs.Filters.{each_filter}
 
 abbrev pub IsIn : {A : Type 0} → A → List A → Type 0
 IsIn x [] = ⊥
@@ -72,7 +72,7 @@ module _ (p : ℕ → Bool) where
       by : (b : Bool) → p y.0 ≡ b → IsIn x (y ∷ xs) → (IsIn x xs → IsIn x (filter (at_word p) xs)) → IsIn x (cond b (y ∷ filter (at_word p) xs) (filter (at_word p) xs))
       by true e (inl first) rest = inl first
       by true e (inr later) rest = inr (rest later)
-      by false e (inl first) rest = absurd (no_both (p y.0) (sym (ap (λ (z : ℕ × Cell). p z.0) first) ∙ t) e)
+      by false e (inl first) rest = absurd (both_ways (p y.0) e (sym (ap (λ (z : ℕ × Cell). p z.0) first) ∙ t))
       by false e (inr later) rest = rest later
 
   filter_rising : (xs : List (ℕ × Cell)) → Rising xs → Rising (filter (at_word p) xs)

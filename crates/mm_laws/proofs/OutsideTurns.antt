@@ -1,6 +1,7 @@
 -- A turn outside the groups changes nothing that they see, and tells nothing of them.
 use Rattle.std.proofs.Common.{◌≡◌, ℕ, ◌-◌, inl, inr, Bool, true, false, ◌&&◌, nat_le, if◌then◌else◌, pos, List, [], ◌∷◌, ◌++◌, Option, Some, None, Result, Ok, Err, refl, sym, ap, ◌∙◌, subst, slice_index_or, get_or-set_other}
 use Rattle.std.specs.Prelude.{IfSome}
+use Rattle.std.proofs.lemmas.Bool.{both_ways}
 use Rattle.mm_word.specs.declared.perm.Kind.TheVariants.{Fetch}
 use Rattle.mm_word.specs.declared.cause.Cause.{Cause}
 use Rattle.mm_word.specs.declared.cause.Cause.TheVariants.{Bounds, NoPage, Illegal}
@@ -33,7 +34,7 @@ use Rattle.mm_model.proofs.SlotSteps.{delivered_from}
 use Rattle.mm_model.proofs.TurnKeeps.{changed_from, turn_keeps}
 use Rattle.mm_laws.proofs.GrantedRows.{Stands, OtherGranted, OtherSlot, ChangeGranted, EffectGranted, effect_granted}
 use Rattle.mm_laws.proofs.GrantedTurns.{turn_granted}
-use Rattle.mm_laws.proofs.AlikeRows.{no_both, mine, Sames, sames_self, put_slot-sames, beside-put_slot, beside-put_queue}
+use Rattle.mm_laws.proofs.AlikeRows.{mine, Sames, sames_self, put_slot-sames, beside-put_slot, beside-put_queue}
 use Rattle.mm_laws.proofs.AlikeWorlds.{state_side}
 
 -- what a turn of a slot leaves as it was for the groups
@@ -46,7 +47,7 @@ record QuietOf (c : ℕ → Bool) (core : Core) (s : Slot) (t : Turned) : Type 0
 pub record QuietTurn (i : Image) (c : ℕ → Bool) (core : Core) (m : Memory) (t : Turned) : Type 0 where
   pub rows : mine c t.core ≡ mine c core
   pub outputs : (g : ℕ) → c g ≡ true → output_of t.core g ≡ output_of core g
-  pub cells : (w : ℕ) → Touchable i c w → cell_at t.memory w ≡ cell_at m w
+  pub cells : (w : ℕ) → Touchable i All c w → cell_at t.memory w ≡ cell_at m w
   pub line : (if is_turn_of c t then trace_line t else []) ≡ []
 
 line_outside : (b : Bool) (l : List ℕ) → b ≡ false → (if b then l else []) ≡ []
@@ -57,7 +58,7 @@ line_idle : (b : Bool) (l : List ℕ) → l ≡ [] → (if b then l else []) ≡
 line_idle true l e = e
 line_idle false l e = refl
 
-module _ (i : Image) (c : ℕ → Bool) (apart : Apart i c) (core : Core) (m : Memory) (st : Stands i All core m) where
+module _ (i : Image) (c : ℕ → Bool) (apart : Apart i All c) (core : Core) (m : Memory) (st : Stands i All core m) where
   pub idle_quiet : (k : ℕ) → QuietTurn i c core m (idle core m k)
   unfolding idle step_line
   idle_quiet k = record { rows = refl; outputs = λ g cg. refl; cells = λ w t. refl; line = line_idle (is_turn_of c (idle core m k)) (trace_line (idle core m k)) refl }
@@ -174,7 +175,7 @@ module _ (i : Image) (c : ℕ → Bool) (apart : Apart i c) (core : Core) (m : M
       unfolding output_of put_output
       byte_outputs mid e None k ck = ap (λ (l : List (List ℕ)). slice_index_or l k []) e
       byte_outputs mid e (Some byte) k ck =
-          get_or-set_other mid.outputs s.group k (slice_index_or mid.outputs s.group [] ++ byte ∷ []) [] (λ same. no_both (c k) ck (ap c same ∙ out))
+          get_or-set_other mid.outputs s.group k (slice_index_or mid.outputs s.group [] ++ byte ∷ []) [] (λ same. both_ways (c k) (ap c same ∙ out) ck)
           ∙ ap (λ (l : List (List ℕ)). slice_index_or l k []) e
 
       change_outputs : (k : ℕ) → c k ≡ true → output_of (core_after core s d) k ≡ output_of core k

@@ -1,16 +1,19 @@
 -- Groups that stand apart see of a run what their own image shows of their own items.
 use Rattle.std.proofs.Common.{◌≡◌, ◌≢◌, ℕ, ◌-◌, ◌<◌, inl, inr, Bool, true, false, ◌||◌, ◌&&◌, nat_eq, nat_le, if◌then◌else◌, List, [], ◌∷◌, Some, None, refl, sym, ap, ◌∙◌, subst, arith, eqb-true}
 use Rattle.std.specs.List.{AllByRecursion, filter}
-use Rattle.std.proofs.lemmas.Bool.{ne_eqb}
+use Rattle.std.proofs.lemmas.Bool.{cases_Bool, ne_eqb}
 use Rattle.mm_model.specs.Slot.{Slot}
 use Rattle.mm_model.specs.Image.{Image, slot_in}
+use Rattle.mm_model.specs.Groups.{HasSlot}
 use Rattle.mm_model.specs.Spelling.{IsImage}
 use Rattle.mm_model.specs.Schedule.{in_groups, is_kept, only}
+use Rattle.mm_model.specs.Reach.Entries.{All}
 use Rattle.mm_model.specs.Worlds.{Apart, Extracts, alone}
-use Rattle.mm_laws.specs.Isolated.{HasSlot, SameWorlds}
-use Rattle.mm_laws.proofs.AlikeRows.{bool_cases, filter_takes, filter_drops}
+use Rattle.mm_model.proofs.Filters.{filter_takes, filter_drops}
+use Rattle.mm_model.proofs.OwnSlots.{Ascends, ascends}
+use Rattle.mm_laws.specs.Isolated.{SameWorlds}
 use Rattle.mm_laws.proofs.SameViews.{same_worlds}
-use Rattle.mm_laws.proofs.OwnImages.{Ascends, ascends, alone_agrees, extracts_agree}
+use Rattle.mm_laws.proofs.OwnImages.{alone_agrees, extracts_agree}
 
 -- The items of the groups are theirs in their own image too.
 
@@ -22,7 +25,7 @@ none_above n (s ∷ slots) h =
 
 own_slot : (c : ℕ → Bool) (slots : List Slot) → Ascends slots → (n : ℕ) → in_groups c (slot_in (filter (λ (s : Slot). c s.group) slots) n) ≡ in_groups c (slot_in slots n)
 own_slot c [] up n = refl
-own_slot c (s ∷ slots) up n = elim (bool_cases (c s.group)) [
+own_slot c (s ∷ slots) up n = elim (cases_Bool (c s.group)) [
   | inl t ↦
       ap (λ l. in_groups c (slot_in l n)) (filter_takes (λ (x : Slot). c x.group) s slots t) ∙ taken (nat_eq s.number n) (own_slot c slots up.1 n)
   | inr f ↦
@@ -47,7 +50,7 @@ own_kept i j c img mode slots n =
 
 filter_within : (p q : ℕ → Bool) → ((n : ℕ) → q n ≡ p n) → (items : List ℕ) → filter p items ≡ filter q (filter p items)
 filter_within p q same [] = refl
-filter_within p q same (n ∷ items) = elim (bool_cases (p n)) [
+filter_within p q same (n ∷ items) = elim (cases_Bool (p n)) [
   | inl t ↦
       filter_takes p n items t ∙ ap (λ (l : List ℕ). n ∷ l) (filter_within p q same items)
       ∙ sym (ap (filter q) (filter_takes p n items t) ∙ filter_takes q n (filter p items) (same n ∙ t))
@@ -66,8 +69,8 @@ alone_slots : (i : Image) (c : ℕ → Bool) → (alone i c).slots ≡ filter (�
 unfolding alone
 alone_slots i c = refl
 
-pub alone_sees : (i : Image) (c : ℕ → Bool) (s : List ℕ) → IsImage i → HasSlot i c → Apart i c → SameWorlds i (alone i c) c s (only i s c)
+pub alone_sees : (i : Image) (c : ℕ → Bool) (s : List ℕ) → IsImage i → HasSlot i c → Apart i All c → SameWorlds i (alone i c) c s (only i s c)
 alone_sees i c s img has apart = same_worlds i (alone i c) c s (only i s c) (alone_agrees i c img has apart) (own_items i (alone i c) c s img (alone_mode i c) (alone_slots i c))
 
-pub extracts_see : (i : Image) (c : ℕ → Bool) (j : Image) (s : List ℕ) → IsImage i → HasSlot i c → Apart i c → Extracts i c j → SameWorlds i j c s (only i s c)
+pub extracts_see : (i : Image) (c : ℕ → Bool) (j : Image) (s : List ℕ) → IsImage i → HasSlot i c → Apart i All c → Extracts i c j → SameWorlds i j c s (only i s c)
 extracts_see i c j s img has apart e = same_worlds i j c s (only i s c) (extracts_agree i c j img has apart e) (own_items i j c s img e.mode e.slots)

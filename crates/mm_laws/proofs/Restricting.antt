@@ -3,10 +3,11 @@ use Rattle.std.proofs.Common.{◌≡◌, ℕ, suc, ◌+◌, ◌-◌, ◌<◌, �
 use Rattle.std.specs.Prelude.{Contains, ◌↔◌}
 use Rattle.std.specs.List.{filter, AllByRecursion}
 use Rattle.std.specs.List.Sorted.{IsStrictlyIncreasing}
-use Rattle.std.proofs.lemmas.Bool.{ne_eqb, leb-true, le-leb}
+use Rattle.std.proofs.lemmas.Bool.{or_cases, or_left, or_right, ne_eqb, leb-true, le-leb}
 use Rattle.mm_model.specs.Slot.{Slot}
 use Rattle.mm_model.specs.State.{State, slot_at}
 use Rattle.mm_model.specs.Image.{Image, slot_in, start}
+use Rattle.mm_model.specs.Groups.{HasSlotAt}
 use Rattle.mm_model.specs.Spelling.{numbers_of, IsImage}
 use Rattle.mm_model.specs.Schedule.{in_groups, is_kept, only}
 use Rattle.mm_model.specs.Turn.{turn}
@@ -17,25 +18,24 @@ use Rattle.mm_model.proofs.TurnKeeps.{turn_keeps}
 use Rattle.mm_model.proofs.StateKeeps.{after_fits}
 use Rattle.mm_model.proofs.TurnBounds.{turn_takes}
 use Rattle.mm_model.proofs.Starts.{start_at, start_slots, start_fits, start_within}
-use Rattle.mm_laws.specs.Restrictions.{HasSlot, Belongs}
+use Rattle.mm_model.proofs.OwnSlots.{numbers_above}
+use Rattle.mm_laws.specs.Restrictions.{Belongs}
 
 -- 1. Slots of a list by their numbers.
 
-has_slot_is : (c : ℕ → Bool) (slots : List Slot) (n : ℕ) → in_groups c (slot_in slots n) ≡ true → (s : Slot) × Contains slots s × (s.number ≡ n) × (c s.group ≡ true)
-has_slot_is c [] n e = cc
-has_slot_is c (s ∷ slots) n e = by (nat_eq s.number n) refl e (λ k. has_slot_is c slots n k)
+from_slot : (c : ℕ → Bool) (slots : List Slot) (n : ℕ) → in_groups c (slot_in slots n) ≡ true → HasSlotAt slots c n
+from_slot c [] n e = cc
+from_slot c (s ∷ slots) n e = by (nat_eq s.number n) refl e (λ k. from_slot c slots n k)
   where
-    by : (b : Bool) → nat_eq s.number n ≡ b → in_groups c (if b then Some s else slot_in slots n) ≡ true → (in_groups c (slot_in slots n) ≡ true → (t : Slot) × Contains slots t × (t.number ≡ n) × (c t.group ≡ true))
-        → (t : Slot) × Contains (s ∷ slots) t × (t.number ≡ n) × (c t.group ≡ true)
-    by true at e later = (s, (0, omega arith, refl), eqb-true s.number n at, e)
-    by false at e later = let rest = later e in (rest.0, (suc rest.1.0, omega (arith, rest.1.1), rest.1.2), rest.2, rest.3)
+    by : (b : Bool) → nat_eq s.number n ≡ b → in_groups c (if b then Some s else slot_in slots n) ≡ true → (in_groups c (slot_in slots n) ≡ true → HasSlotAt slots c n) → HasSlotAt (s ∷ slots) c n
+    by true at e later = record { slot = s; stands = (0, omega arith, refl); number = eqb-true s.number n at; member = e }
+    by false at e later =
+        let rest = later e in
+        let k = rest.stands in
+        record { slot = rest.slot; stands = (suc k.0, omega (arith, k.1), k.2); number = rest.number; member = rest.member }
 
 in_behind : (x s : Slot) (slots : List Slot) → x.number < s.number → slot_in slots s.number ≡ Some s → slot_in (x ∷ slots) s.number ≡ Some s
 in_behind x s slots lt is = ap (λ b. if b then Some x else slot_in slots s.number) (ne_eqb x.number s.number (λ e. omega arith)) ∙ is
-
-above : (x : ℕ) (slots : List Slot) → AllByRecursion (λ y. x < y) (numbers_of slots) → AllByRecursion (λ (s : Slot). x < s.number) slots
-above x [] h = tt
-above x (s ∷ slots) h = (h.0, above x slots h.1)
 
 -- where numbers rise, each slot is found at its number
 found_each : (slots : List Slot) → IsStrictlyIncreasing (numbers_of slots) → AllByRecursion (λ (s : Slot). slot_in slots s.number ≡ Some s) slots
@@ -43,7 +43,7 @@ found_each [] h = tt
 found_each (x ∷ slots) h = (
   ap (λ b. if b then Some x else slot_in slots x.number) (eq-eqb x.number x.number refl),
   each_both (λ (s : Slot). x.number < s.number) (λ (s : Slot). slot_in slots s.number ≡ Some s) (λ (s : Slot). slot_in (x ∷ slots) s.number ≡ Some s) (λ s lt is. in_behind x s slots lt is) slots
-      (above x.number slots (above_first x.number (numbers_of slots) h)) (found_each slots (rest_rises x.number (numbers_of slots) h)),
+      (numbers_above x.number slots (above_first x.number (numbers_of slots) h)) (found_each slots (rest_rises x.number (numbers_of slots) h)),
 )
 
 slot_is : (i : Image) → IsImage i → (s : Slot) → Contains i.slots s → slot_in i.slots s.number ≡ Some s
@@ -51,11 +51,8 @@ slot_is i h s k = each_contained (λ (x : Slot). slot_in i.slots x.number ≡ So
 
 -- 2. An item belongs to the groups exactly where it is kept.
 
-from_slot : (i : Image) (c : ℕ → Bool) (n : ℕ) → in_groups c (slot_in i.slots n) ≡ true → HasSlot i c n
-from_slot i c n e = let found = has_slot_is c i.slots n e in record { slot = found.0; one = found.1; number = found.2; member = found.3 }
-
-to_slot : (i : Image) → IsImage i → (c : ℕ → Bool) (n : ℕ) → HasSlot i c n → in_groups c (slot_in i.slots n) ≡ true
-to_slot i h c n has = ap (in_groups c) (ap (slot_in i.slots) (sym has.number) ∙ slot_is i h has.slot has.one) ∙ has.member
+to_slot : (i : Image) → IsImage i → (c : ℕ → Bool) (n : ℕ) → HasSlotAt i.slots c n → in_groups c (slot_in i.slots n) ≡ true
+to_slot i h c n has = ap (in_groups c) (ap (slot_in i.slots) (sym has.number) ∙ slot_is i h has.slot has.stands) ∙ has.member
 
 all_true : (a b d : Bool) → (a && b && d) ≡ true → (a ≡ true) × (b ≡ true) × (d ≡ true)
 all_true true true true e = (refl, refl, refl)
@@ -69,25 +66,13 @@ true_all true true false p q r = r
 true_all true false d p q r = cc
 true_all false b d p q r = cc
 
-either : (a b : Bool) → (a || b) ≡ true → (a ≡ true) ⊎ (b ≡ true)
-either true b e = inl refl
-either false b e = inr e
-
-or_left : (a b : Bool) → a ≡ true → (a || b) ≡ true
-or_left true b e = refl
-or_left false b e = cc
-
-or_right : (a b : Bool) → b ≡ true → (a || b) ≡ true
-or_right true b e = refl
-or_right false b e = e
-
 pub kept_belongs : (i : Image) (c : ℕ → Bool) (n : ℕ) → is_kept i c n ≡ true → Belongs i c n
-kept_belongs i c n e = elim (either (in_groups c (slot_in i.slots n)) (i.split && nat_le 128 n && in_groups c (slot_in i.slots (n - 128))) e) [
-  | inl own ↦ inl (from_slot i c n own)
+kept_belongs i c n e = elim (or_cases (in_groups c (slot_in i.slots n)) (i.split && nat_le 128 n && in_groups c (slot_in i.slots (n - 128))) e) [
+  | inl own ↦ inl (from_slot c i.slots n own)
   | inr port ↦
       let all = all_true i.split (nat_le 128 n) (in_groups c (slot_in i.slots (n - 128))) port in
       let low = leb-true 128 n all.1 in
-      inr (all.0, (n - 128, omega arith, from_slot i c (n - 128) all.2))
+      inr (all.0, (n - 128, omega arith, from_slot c i.slots (n - 128) all.2))
 ]
 
 pub belongs_kept : (i : Image) → IsImage i → (c : ℕ → Bool) (n : ℕ) → Belongs i c n → is_kept i c n ≡ true
@@ -175,7 +160,7 @@ Quiet c s = AllByRecursion (λ (x : Slot). c x.group ≡ false → x.turns ≡ 0
 
 -- a running slot that a kept item names is one of the groups
 named_inside : (i : Image) (s : State) (c : ℕ → Bool) (n : ℕ) (x : Slot) → Fits i s → is_kept i c n ≡ true → slot_at s.core n ≡ Some x → c x.group ≡ true
-named_inside i s c n x fits kept is = elim (either (in_groups c (slot_in i.slots n)) (i.split && nat_le 128 n && in_groups c (slot_in i.slots (n - 128))) kept) [
+named_inside i s c n x fits kept is = elim (or_cases (in_groups c (slot_in i.slots n)) (i.split && nat_le 128 n && in_groups c (slot_in i.slots (n - 128))) kept) [
   | inl own ↦
       let was = stays_by s.core (start i).core n x (ap (map identity_of) (start_slots i) ∙ sym fits.same_slots) is in
       let there : slot_in i.slots n ≡ Some was.now = sym (start_at i n) ∙ was.is in

@@ -1,12 +1,14 @@
 -- Where groups' rows and outputs are the same, so are their sections of a report.
 use Rattle.std.proofs.Common.{◌≡◌, ℕ, Bool, true, false, cond, ◌||◌, List, [], ◌∷◌, ◌++◌, length, refl, sym, ap, ◌∙◌, inl, inr, eqb-true}
 use Rattle.std.specs.List.{flat_map, filter, list_any, range_with_len}
+use Rattle.std.proofs.lemmas.Bool.{both_ways, cases_Bool}
 use Rattle.mm_model.specs.State.{Row, Core, output_of}
 use Rattle.mm_model.specs.Lines.{slot_lines, output_lines}
 use Rattle.mm_model.specs.Report.{is_of, group_line, section}
 use Rattle.mm_model.specs.Worlds.{sections_of}
+use Rattle.mm_model.proofs.Filters.{filter_takes, filter_drops}
 use Rattle.mm_laws.specs.Isolated.{is_row_of}
-use Rattle.mm_laws.proofs.AlikeRows.{no_both, bool_cases, filter_takes, filter_drops, mine}
+use Rattle.mm_laws.proofs.AlikeRows.{mine}
 
 -- a row of one group of the groups is a row of the groups
 of_groups : (c : ℕ → Bool) (g : ℕ) (row : Row) → c g ≡ true → is_of g row ≡ true → is_row_of c row ≡ true
@@ -16,12 +18,12 @@ not_of : (c : ℕ → Bool) (g : ℕ) (row : Row) → c g ≡ true → is_row_of
 not_of c g row cg out = by (is_of g row) refl
   where
     by : (b : Bool) → is_of g row ≡ b → b ≡ false
-    by true e = absurd (no_both (is_row_of c row) (of_groups c g row cg e) out)
+    by true e = absurd (both_ways (is_row_of c row) out (of_groups c g row cg e))
     by false e = refl
 
 rows_of : (c : ℕ → Bool) (g : ℕ) → c g ≡ true → (rows : List Row) → filter (is_of g) (filter (is_row_of c) rows) ≡ filter (is_of g) rows
 rows_of c g cg [] = refl
-rows_of c g cg (row ∷ rows) = elim (bool_cases (is_row_of c row)) [
+rows_of c g cg (row ∷ rows) = elim (cases_Bool (is_row_of c row)) [
   | inl t ↦
       ap (filter (is_of g)) (filter_takes (is_row_of c) row rows t)
       ∙ ap (λ (l : List Row). cond (is_of g row) (row ∷ l) l) (rows_of c g cg rows)
@@ -33,7 +35,7 @@ rows_of c g cg (row ∷ rows) = elim (bool_cases (is_row_of c row)) [
 
 any_of : (c : ℕ → Bool) (g : ℕ) → c g ≡ true → (rows : List Row) → list_any (is_of g) (filter (is_row_of c) rows) ≡ list_any (is_of g) rows
 any_of c g cg [] = refl
-any_of c g cg (row ∷ rows) = elim (bool_cases (is_row_of c row)) [
+any_of c g cg (row ∷ rows) = elim (cases_Bool (is_row_of c row)) [
   | inl t ↦ ap (list_any (is_of g)) (filter_takes (is_row_of c) row rows t) ∙ ap (λ b. is_of g row || b) (any_of c g cg rows)
   | inr f ↦
       ap (list_any (is_of g)) (filter_drops (is_row_of c) row rows f)
@@ -57,13 +59,13 @@ module _ (c : ℕ → Bool) (a b : Core) (rows : mine c a ≡ mine c b) (outputs
   same_groups (g ∷ gs) = by (c g) refl (same_groups gs)
     where
       outside : (k : ℕ → List ℕ) (h : ℕ → Bool) → c g ≡ false → flat_map k (filter c (filter h (g ∷ gs))) ≡ flat_map k (filter c (filter h gs))
-      outside k h out = elim (bool_cases (h g)) [
+      outside k h out = elim (cases_Bool (h g)) [
         | inl t ↦ ap (λ l. flat_map k (filter c l)) (filter_takes h g gs t) ∙ ap (flat_map k) (filter_drops c g (filter h gs) out)
         | inr f ↦ ap (λ l. flat_map k (filter c l)) (filter_drops h g gs f)
       ]
 
       inside : (k : ℕ → List ℕ) (h : ℕ → Bool) → c g ≡ true → flat_map k (filter c (filter h (g ∷ gs))) ≡ cond (h g) (k g) [] ++ flat_map k (filter c (filter h gs))
-      inside k h cg = elim (bool_cases (h g)) [
+      inside k h cg = elim (cases_Bool (h g)) [
         | inl t ↦
             ap (λ l. flat_map k (filter c l)) (filter_takes h g gs t) ∙ ap (flat_map k) (filter_takes c g (filter h gs) cg)
             ∙ sym (ap (λ b. cond b (k g) [] ++ flat_map k (filter c (filter h gs))) t)

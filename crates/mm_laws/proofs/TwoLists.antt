@@ -1,6 +1,7 @@
 -- Two runs whose items of the groups are the same, by induction over both lists.
 use Rattle.std.proofs.Common.{◌≡◌, ℕ, Bool, true, false, cond, ◌&&◌, if◌then◌else◌, pos, List, [], ◌∷◌, ◌++◌, map, Option, Some, None, Result, Ok, Err, refl, sym, ap, ◌∙◌, subst, inl, inr}
 use Rattle.std.specs.List.{filter}
+use Rattle.std.proofs.lemmas.Bool.{cases_Bool}
 use Rattle.mm_word.specs.declared.perm.Kind.TheVariants.{Fetch}
 use Rattle.mm_word.specs.declared.cause.Cause.{Cause}
 use Rattle.mm_word.specs.declared.cause.Cause.TheVariants.{Bounds}
@@ -29,9 +30,10 @@ use Rattle.mm_model.proofs.CoreRows.{slot_at-number, stays_by}
 use Rattle.mm_model.proofs.SlotSteps.{delivered_from}
 use Rattle.mm_model.proofs.Starts.{start_fits}
 use Rattle.mm_model.proofs.TurnKeeps.{turn_keeps}
+use Rattle.mm_model.proofs.Filters.{filter_takes, filter_drops}
 use Rattle.mm_laws.specs.Isolated.{is_row_of, Alike, AgreeApart, Worlds}
 use Rattle.mm_laws.proofs.GrantedRuns.{start_granted}
-use Rattle.mm_laws.proofs.AlikeRows.{bool_cases, filter_takes, filter_drops, same_at}
+use Rattle.mm_laws.proofs.AlikeRows.{same_at}
 use Rattle.mm_laws.proofs.OutsideTurns.{QuietTurn}
 use Rattle.mm_laws.proofs.TwoRuns.{Item, item, same_turns, quiet_s, quiet_t, both_go_on, one_goes_on, other_goes_on}
 
@@ -167,7 +169,7 @@ module _ (i j : Image) (c : ℕ → Bool) (g : AgreeApart i j c) where
 
   drain : (t : List ℕ) (a b : State) → Worlds i j c a b → only j t c ≡ [] → Drained a b t
   drain [] a b w e = record { worlds = subst (Worlds i j c a) (sym (run_none b)) w; lines = trace_none b }
-  drain (m ∷ t) a b w e = elim (bool_cases (is_kept j c m)) [
+  drain (m ∷ t) a b w e = elim (cases_Bool (is_kept j c m)) [
     | inl kept ↦ let taken = only_takes j m t kept in cc (e, taken)
     | inr kept ↦
         let rest = drain t a (after b m) (other_goes_on i j c g a b w m kept) (sym (only_drops j m t kept) ∙ e) in
@@ -185,7 +187,7 @@ module _ (i j : Image) (c : ℕ → Bool) (g : AgreeApart i j c) where
 
   reach : (t : List ℕ) (a b : State) (n : ℕ) (items : List ℕ) → Worlds i j c a b → only j t c ≡ n ∷ items → Reaches a b t n items
   reach [] a b n items w e = let none = only_none j in cc (e, none)
-  reach (m ∷ t) a b n items w e = elim (bool_cases (is_kept j c m)) [
+  reach (m ∷ t) a b n items w e = elim (cases_Bool (is_kept j c m)) [
     | inl kept ↦
         let taken : m ∷ only j t c ≡ n ∷ items = sym (only_takes j m t kept) ∙ e in
         let number : m ≡ n = cc in
@@ -214,7 +216,7 @@ module _ (i j : Image) (c : ℕ → Bool) (g : AgreeApart i j c) where
   two_lists [] t a b w e =
       let drained = drain t a b w (sym e ∙ only_none i) in
       record { worlds = subst (λ x. Worlds i j c x (run b t)) (sym (run_none a)) drained.worlds; lines = trace_none a ∙ sym drained.lines }
-  two_lists (n ∷ s) t a b w e = elim (bool_cases (is_kept i c n)) [
+  two_lists (n ∷ s) t a b w e = elim (cases_Bool (is_kept i c n)) [
     | inl kept ↦
         let first = reach t a b n (only i s c) w (sym e ∙ only_takes i n s kept) in
         let rest = two_lists s first.rest (after a n) (after first.state n) (both_go_on i j c g a first.state first.worlds n kept) (sym first.only_rest) in

@@ -2,6 +2,7 @@
 use Rattle.std.proofs.Common.{◌≡◌, ℕ, zero, suc, ◌+◌, ◌/◌, inl, inr, Bool, true, false, if◌then◌else◌, List, [], ◌∷◌, ◌++◌, length, take, drop, codes, decimal, Option, None, Some, refl, sym, ap, ◌∙◌, subst, append_assoc, append-nil, arith}
 use Rattle.std.specs.Prelude.{Contains}
 use Rattle.std.specs.List.{flat_map, filter, range_with_len}
+use Rattle.std.proofs.lemmas.Bool.{cases_Bool}
 use Rattle.mm_word.specs.declared.word.Cell.{Cell}
 use Rattle.mm_word.specs.declared.word.Word.{Word}
 use Rattle.mm_word.specs.declared.word.Word.TheVariants.{Ptr}
@@ -12,15 +13,16 @@ use Rattle.mm_model.specs.Memory.{Memory, is_mapped}
 use Rattle.mm_model.specs.Slot.{Slot, register, is_empty}
 use Rattle.mm_model.specs.State.{Row, Core, State, output_of}
 use Rattle.mm_model.specs.Image.{Image, start}
+use Rattle.mm_model.specs.Groups.{HasSlot}
 use Rattle.mm_model.specs.Spelling.{IsImage}
 use Rattle.mm_model.specs.Run.{run}
 use Rattle.mm_model.specs.Lines.{newline, word_text, state_text, past_text, numbers_text, slot_line, is_zero, word_line, register_line, pending_line, register_lines, slot_lines, bytes_text, output_row, output_rows, output_lines, full_text, cell_line}
 use Rattle.mm_model.specs.Report.{is_of, cycles_line, group_line, section, groups_of, sections, page_change, page_lines, pages_of, changes, cell_lines, count_line, report}
+use Rattle.mm_model.specs.Reach.Entries.{All}
 use Rattle.mm_model.specs.Worlds.{sections_of, Touchable, Apart}
-use Rattle.mm_laws.specs.Isolated.{HasSlot}
+use Rattle.mm_model.proofs.Filters.{filter_takes, filter_drops}
 use Rattle.mm_laws.specs.Runs.{EndsALine, AreLinesOf, IsLineOf, Reaches, Isolates}
 use Rattle.mm_laws.specs.CellLines.{LinesOf, CellLinesOf}
-use Rattle.mm_laws.proofs.AlikeRows.{bool_cases, filter_takes, filter_drops}
 use Rattle.mm_laws.proofs.GrantedRuns.{runs_granted}
 use Rattle.mm_laws.proofs.OwnItems.{alone_sees}
 
@@ -67,7 +69,7 @@ followed lines whole more last part =
 
 filtered : {A : Type 0} (f : A → List ℕ) → ((x : A) → EndsALine (f x)) → (c : A → Bool) (xs : List A) → AreLinesOf (flat_map f (filter c xs)) (flat_map f xs)
 filtered f ends c [] = AreLinesOf.no_line
-filtered f ends c (x ∷ xs) = elim (bool_cases (c x)) [
+filtered f ends c (x ∷ xs) = elim (cases_Bool (c x)) [
   | inl t ↦ subst (λ l. AreLinesOf (flat_map f l) (f x ++ flat_map f xs)) (sym (filter_takes c x xs t)) (AreLinesOf.kept (ends x) (filtered f ends c xs))
   | inr out ↦ subst (λ l. AreLinesOf (flat_map f l) (f x ++ flat_map f xs)) (sym (filter_drops c x xs out)) (AreLinesOf.left_out (ends x) (filtered f ends c xs))
 ]
@@ -174,7 +176,7 @@ pub cells_written : (i : Image) (c : ℕ → Bool) (s : State) (counts : Option 
 unfolding report
 cells_written i c s counts text lines =
     followed text (front s i ++ cell_lines s.memory i.memory) (count_line counts) (counts_end counts)
-    (AreLinesOf.left_out (front_ends s i) (passing (Touchable i c) (changes s.memory i.memory) text lines))
+    (AreLinesOf.left_out (front_ends s i) (passing (Touchable i All c) (changes s.memory i.memory) text lines))
 
 -- a line of a text is one of the text behind whole lines, and of the text with more behind it
 line_later : (line text first : List ℕ) → EndsALine first → IsLineOf line text → IsLineOf line (first ++ text)
@@ -213,7 +215,7 @@ runs_reach i items img before behind n split = record {
   entered = ((runs_granted i before img).next n).entered;
 }
 
-pub runs_isolate : (i : Image) (items : List ℕ) (counts : Option Counts) (c : ℕ → Bool) → IsImage i → HasSlot i c → Apart i c
+pub runs_isolate : (i : Image) (items : List ℕ) (counts : Option Counts) (c : ℕ → Bool) → IsImage i → HasSlot i c → Apart i All c
     → Isolates i items (report (run (start i) items) i counts) c
 runs_isolate i items counts c img has apart = record {
   view = (alone_sees i c items img has apart).view;

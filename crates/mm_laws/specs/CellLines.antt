@@ -20,7 +20,7 @@ pub data LinesOf (Passes : ℕ → Type 0) : List (ℕ × Cell) → List ℕ →
 
 -- the text has the lines of the changed cells that the groups can touch
 abbrev pub CellLinesOf : Image → (ℕ → Bool) → State → List ℕ → Type 0
-CellLinesOf i c s text = LinesOf (Touchable i c) (changes s.memory i.memory) text
+CellLinesOf i c s text = LinesOf (Touchable i All c) (changes s.memory i.memory) text
 
 -- there is one such text at most
 abbrev pub CellLinesAreOne : Type 0

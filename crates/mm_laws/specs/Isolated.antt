@@ -1,10 +1,10 @@
 -- Groups that stand apart see nothing of the others.
-use Rattle.std.specs.Prelude.{◌≡◌, ℕ, Bool, true, false, List, Contains}
+use Rattle.std.specs.Prelude.{◌≡◌, ℕ, Bool, true, false, List}
 use Rattle.std.specs.List.{filter}
 use Rattle.mm_model.specs.Memory.{cell_at}
-use Rattle.mm_model.specs.Slot.{Slot}
 use Rattle.mm_model.specs.State.{Row, State, output_of}
 use Rattle.mm_model.specs.Image.{Image, start}
+use Rattle.mm_model.specs.Groups.{HasSlot}
 use Rattle.mm_model.specs.Spelling.{IsImage}
 use Rattle.mm_model.specs.Fits.{Fits}
 use Rattle.mm_model.specs.Schedule.{is_kept, only}
@@ -23,15 +23,15 @@ is_row_of c row = c row.slot.group
 pub record Alike (i : Image) (c : ℕ → Bool) (s t : State) : Type 0 where
   pub rows : filter (is_row_of c) s.core.rows ≡ filter (is_row_of c) t.core.rows
   pub outputs : (g : ℕ) → c g ≡ true → output_of s.core g ≡ output_of t.core g
-  pub cells : (w : ℕ) → Touchable i c w → cell_at s.memory w ≡ cell_at t.memory w
+  pub cells : (w : ℕ) → Touchable i All c w → cell_at s.memory w ≡ cell_at t.memory w
 
 -- two images that agree on the groups, which stand apart in both
 pub record AgreeApart (i j : Image) (c : ℕ → Bool) : Type 0 where
   pub one : IsImage i
   pub other : IsImage j
   pub agree : Agree i j c
-  pub one_apart : Apart i c
-  pub other_apart : Apart j c
+  pub one_apart : Apart i All c
+  pub other_apart : Apart j All c
 
 -- a state of each image, whose words are granted whatever was entered, and which are alike to the groups
 pub record Worlds (i j : Image) (c : ℕ → Bool) (s t : State) : Type 0 where
@@ -62,23 +62,17 @@ pub record SameWorlds (i j : Image) (c : ℕ → Bool) (s t : List ℕ) : Type 0
 abbrev pub TwoWorlds : Type 0
 TwoWorlds = (i j : Image) (c : ℕ → Bool) (s t : List ℕ) → AgreeApart i j c → only i s c ≡ only j t c → SameWorlds i j c s t
 
--- one of the groups has a slot
-pub record HasSlot (i : Image) (c : ℕ → Bool) : Type 0 where
-  pub slot : Slot
-  pub stands : Contains i.slots slot
-  pub member : c slot.group ≡ true
-
 -- where groups with a slot stand apart, their slots alone are an image that agrees with the whole on them, and they stand apart in it
 abbrev pub AloneAgrees : Type 0
-AloneAgrees = (i : Image) (c : ℕ → Bool) → IsImage i → HasSlot i c → Apart i c → AgreeApart i (alone i c) c
+AloneAgrees = (i : Image) (c : ℕ → Bool) → IsImage i → HasSlot i c → Apart i All c → AgreeApart i (alone i c) c
 
 -- and so is each image that extracts them
 abbrev pub ExtractsAgree : Type 0
-ExtractsAgree = (i : Image) (c : ℕ → Bool) (j : Image) → IsImage i → HasSlot i c → Apart i c → Extracts i c j → AgreeApart i j c
+ExtractsAgree = (i : Image) (c : ℕ → Bool) (j : Image) → IsImage i → HasSlot i c → Apart i All c → Extracts i c j → AgreeApart i j c
 
 -- so what the groups see of a run is what they see alone, of their own items
 abbrev pub AloneSeesTheSame : Type 0
-AloneSeesTheSame = (i : Image) (c : ℕ → Bool) (s : List ℕ) → IsImage i → HasSlot i c → Apart i c → SameWorlds i (alone i c) c s (only i s c)
+AloneSeesTheSame = (i : Image) (c : ℕ → Bool) (s : List ℕ) → IsImage i → HasSlot i c → Apart i All c → SameWorlds i (alone i c) c s (only i s c)
 
 abbrev pub ExtractsSeeTheSame : Type 0
-ExtractsSeeTheSame = (i : Image) (c : ℕ → Bool) (j : Image) (s : List ℕ) → IsImage i → HasSlot i c → Apart i c → Extracts i c j → SameWorlds i j c s (only i s c)
+ExtractsSeeTheSame = (i : Image) (c : ℕ → Bool) (j : Image) (s : List ℕ) → IsImage i → HasSlot i c → Apart i All c → Extracts i c j → SameWorlds i j c s (only i s c)

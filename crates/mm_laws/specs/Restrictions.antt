@@ -1,22 +1,16 @@
 -- What stays of a list of items for groups.
-use Rattle.std.specs.Prelude.{◌≡◌, ℕ, ◌+◌, ◌↔◌, ◌⊎◌, Bool, true, false, List, [], ◌∷◌, ◌++◌, Contains, Some}
+use Rattle.std.specs.Prelude.{◌≡◌, ℕ, ◌+◌, ◌↔◌, ◌⊎◌, Bool, true, false, List, [], ◌∷◌, ◌++◌, Some}
 use Rattle.mm_model.specs.Slot.{Slot}
 use Rattle.mm_model.specs.State.{slot_at}
 use Rattle.mm_model.specs.Image.{Image, start}
+use Rattle.mm_model.specs.Groups.{HasSlotAt}
 use Rattle.mm_model.specs.Spelling.{IsImage}
 use Rattle.mm_model.specs.Schedule.{only}
 use Rattle.mm_model.specs.Run.{run}
 
--- the image has a slot of this number in one of the groups
-pub record HasSlot (i : Image) (c : ℕ → Bool) (n : ℕ) : Type 0 where
-  pub slot : Slot
-  pub one : Contains i.slots slot
-  pub number : slot.number ≡ n
-  pub member : c slot.group ≡ true
-
 -- the item names a slot of the groups or, in a split machine, the port of one
 abbrev pub Belongs : Image → (ℕ → Bool) → ℕ → Type 0
-Belongs i c n = HasSlot i c n ⊎ ((i.split ≡ true) × ((k : ℕ) × (n ≡ 128 + k) × HasSlot i c k))
+Belongs i c n = HasSlotAt i.slots c n ⊎ ((i.split ≡ true) × ((k : ℕ) × (n ≡ 128 + k) × HasSlotAt i.slots c k))
 
 -- an item stays exactly where it belongs to the groups
 abbrev pub RestrictionIsExact : Type 0

@@ -5,6 +5,7 @@ use Rattle.mm_word.specs.declared.word.Cell.{Cell}
 use Rattle.mm_model.specs.declared.counts.Counts.{Counts}
 use Rattle.mm_model.specs.Lines.{newline, cell_line}
 use Rattle.mm_model.specs.Image.{Image, start}
+use Rattle.mm_model.specs.Groups.{HasSlot}
 use Rattle.mm_model.specs.Spelling.{IsImage}
 use Rattle.mm_model.specs.Turn.{Turned}
 use Rattle.mm_model.specs.Run.{turn_of, run}
@@ -13,9 +14,9 @@ use Rattle.mm_model.specs.Report.{changes, report}
 use Rattle.mm_model.specs.Trace.{touches, group_in, entries}
 use Rattle.mm_model.specs.Reach.{Entries}
 use Rattle.mm_model.specs.Reach.Entries.{These}
+use Rattle.mm_model.specs.Reach.Entries.{All}
 use Rattle.mm_model.specs.Worlds.{Touchable, Apart, SameView, alone, sections_of}
 use Rattle.mm_laws.specs.Granted.{TouchGranted, EntryGranted}
-use Rattle.mm_laws.specs.Isolated.{HasSlot}
 
 -- 1. Reach.
 
@@ -56,7 +57,7 @@ pub record IsLineOf (line text : List ℕ) : Type 0 where
 pub record Isolates (i : Image) (items : List ℕ) (written : List ℕ) (c : ℕ → Bool) : Type 0 where
   pub view : SameView i items (alone i c) (only i items c) c
   pub sections : AreLinesOf (sections_of c (run (start i) items).core) written
-  pub cells : (w : ℕ) (cell : Cell) → Touchable i c w → Contains (changes (run (start i) items).memory i.memory) (w, cell) → IsLineOf (cell_line w cell) written
+  pub cells : (w : ℕ) (cell : Cell) → Touchable i All c w → Contains (changes (run (start i) items).memory i.memory) (w, cell) → IsLineOf (cell_line w cell) written
 
 -- 4. The laws.
 
@@ -66,5 +67,5 @@ RunsReach = (i : Image) (items : List ℕ) → IsImage i → Reaches i items
 -- whatever the memory counted
 abbrev pub RunsIsolate : Type 0
 RunsIsolate =
-    (i : Image) (items : List ℕ) (counts : Option Counts) (c : ℕ → Bool) → IsImage i → HasSlot i c → Apart i c
+    (i : Image) (items : List ℕ) (counts : Option Counts) (c : ℕ → Bool) → IsImage i → HasSlot i c → Apart i All c
     → Isolates i items (report (run (start i) items) i counts) c

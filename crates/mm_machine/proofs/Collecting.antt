@@ -12,13 +12,14 @@ use Rattle.mm_model.specs.Memory.{Memory, page_of, place_of, page_at, is_mapped,
 use Rattle.mm_model.specs.declared.event.Event.{Event}
 use Rattle.mm_model.specs.Slot.{Slot}
 use Rattle.mm_model.specs.State.{Core, queue_at, output_of}
+use Rattle.mm_model.specs.Groups.{has_group}
 use Rattle.mm_model.specs.Fits.{slots_of}
 use Rattle.mm_model.proofs.CoreRows.{each_map, each_push, rest_rises, above_first}
 use Rattle.mm_model.proofs.Memories.{page_whole, cell_at-aligned}
 use Rattle.mm_mem.specs.Places.{IsAt}
 use Rattle.mm_mem.proofs.Flats.{mapped_here, page_here}
 use Rattle.mm_thread.specs.declared.output.Output.{Output}
-use Rattle.mm_machine.specs.Snapshot.{groups_of, has_group, has_output, IsOutputOf, queued_at}
+use Rattle.mm_machine.specs.Snapshot.{groups_of, has_output, IsOutputOf, queued_at}
 use Rattle.mm_machine.specs.Taking.{cells_of, OutputsBelow}
 use Rattle.mm_machine.proofs.Steps.{same_test, or_true}
 

@@ -19,6 +19,7 @@ use Rattle.mm_model.specs.declared.event.Event.{Event}
 use Rattle.mm_model.specs.Memory.{IsPage}
 use Rattle.mm_model.specs.Slot.{Slot}
 use Rattle.mm_model.specs.State.{Row, Core, State, row_in, queue_of, slot_at, queue_at}
+use Rattle.mm_model.specs.Groups.{has_group}
 use Rattle.mm_model.specs.Spelling.{numbers_of, HoldsWords}
 use Rattle.mm_model.specs.Fits.{one_if, is_handled, is_waiting, waits_for, events_of, slots_of, IsAtSlot, IsSlot, IsCore, SlotHoldsWords, EventHoldsWords, RowHoldsWords}
 use Rattle.mm_model.proofs.CoreRows.{each_map, each_both, slot_limit-few, rest_rises, above_first, Rises, slot_has, slots_found}
@@ -30,7 +31,7 @@ use Rattle.mm_thread.proofs.Cores.{output_short}
 use Rattle.mm_thread.proofs.Sound.{queue-none}
 use Rattle.mm_model.specs.Typed.{IsTypedSlot}
 use Rattle.mm_machine.specs.Kept.{Kept}
-use Rattle.mm_machine.specs.Snapshot.{parts_of, numbered, has_group, has_output, page_numbers, queues_of, IsEventOf, IsAwaited, HasOneEvent, IsPending, DoesNotFall, IsSnapshot, IsOutputOf, IsTypedEvent, IsTyped, queued, queued_at}
+use Rattle.mm_machine.specs.Snapshot.{parts_of, numbered, has_output, page_numbers, queues_of, IsEventOf, IsAwaited, HasOneEvent, IsPending, DoesNotFall, IsSnapshot, IsOutputOf, IsTypedEvent, IsTyped, queued, queued_at}
 use Rattle.mm_machine.specs.Taking.{OutputsBelow}
 use Rattle.mm_machine.proofs.Pendings.{loads_counted}
 use Rattle.mm_machine.proofs.Queues.{slot_numbered, tally, tallied, beside_one, of_none, awaited_by}

@@ -5,10 +5,11 @@ use Rattle.std.specs.List.{AllByRecursion}
 use Rattle.std.specs.List.Sorted.{IsStrictlyIncreasing}
 use Rattle.std.proofs.lemmas.Bool.{cases_eq}
 use Rattle.mm_model.specs.Slot.{Slot}
+use Rattle.mm_model.specs.Groups.{has_group}
 use Rattle.mm_model.proofs.CoreRows.{each_set, rest_rises, above_first}
 use Rattle.mm_thread.specs.declared.output.Output.{Output}
 use Rattle.mm_thread.specs.Parts.{outputs_with}
-use Rattle.mm_machine.specs.Snapshot.{groups_of, has_group, has_output}
+use Rattle.mm_machine.specs.Snapshot.{groups_of, has_output}
 use Rattle.mm_machine.proofs.Steps.{same_test, other_test}
 
 pub outputs_count : (os : List Output) (all : List (List ℕ)) → length (outputs_with os all) ≡ length all

@@ -16,8 +16,9 @@ use Rattle.mm_model.specs.Memory.{Memory, IsPage}
 use Rattle.mm_model.specs.Slot.{Slot}
 use Rattle.mm_model.specs.State.{Core, State, slot_at, queue_at, output_of}
 use Rattle.mm_model.specs.Image.{slot_limit, output_limit}
+use Rattle.mm_model.specs.Groups.{has_group}
 use Rattle.mm_model.specs.Spelling.{numbers_of, IsOther, HoldsWords}
-use Rattle.mm_model.specs.Fits.{one_if, is_handled, is_waiting, waits_for, events_of, identity_of, slots_of, has_slot, IsAtSlot, IsSlot, IsCore, EventHoldsWords, RowHoldsWords}
+use Rattle.mm_model.specs.Fits.{one_if, is_handled, is_waiting, waits_for, events_of, identity_of, slots_of, IsAtSlot, IsSlot, IsCore, EventHoldsWords, RowHoldsWords}
 use Rattle.mm_model.proofs.CoreRows.{each_map, slot_limit-few, rest_rises, above_first, Rises, each_slot, slot_has, other_at, other_in, identities_of, stays_by}
 use Rattle.mm_model.proofs.CoreSteps.{waits_for-says}
 use Rattle.mm_model.proofs.ImageBytes.Rising.{AreRisingFrom, sorted_from}
@@ -27,7 +28,7 @@ use Rattle.mm_thread.proofs.Assigned.{queue-with, slots-with}
 use Rattle.mm_thread.proofs.Sound.{queue-none}
 use Rattle.mm_model.specs.Typed.{IsTypedSlot}
 use Rattle.mm_machine.specs.Kept.{Kept}
-use Rattle.mm_machine.specs.Snapshot.{Parts, numbered, has_group, page_numbers, IsEventOf, IsAwaited, IsPending, IsSnapshot, IsTypedEvent, IsTyped, CanRestore, restored}
+use Rattle.mm_machine.specs.Snapshot.{Parts, numbered, page_numbers, IsEventOf, IsAwaited, IsPending, IsSnapshot, IsTypedEvent, IsTyped, CanRestore, restored}
 use Rattle.mm_machine.proofs.Pendings.{loads_counted}
 use Rattle.mm_machine.proofs.Queues.{slot_numbered, numbered_has, matched, waits_handled}
 use Rattle.mm_machine.proofs.Outputs.{outputs_count, outputs_within, nothing_within, output_untouched, outputs_given, group_has}
@@ -82,7 +83,7 @@ pub record IsHost (core : Core) : Type 0 where
   pub low : AllByRecursion (λ (s : Slot). (s.number < slot_limit core.version) × (s.group < slot_limit core.version)) (slots_of core)
   pub handlers : AllByRecursion (λ (s : Slot). IfSome s.handler (λ h. (h ≢ s.number) × (is_some (slot_at core h) ≡ true))) (slots_of core)
   pub outputs : length core.outputs ≡ 64
-  pub silent : (g : ℕ) → has_slot core g ≡ false → output_of core g ≡ []
+  pub silent : (g : ℕ) → has_group (slots_of core) g ≡ false → output_of core g ≡ []
 
 host_of : (core : Core) → IsCore core → IsHost core
 host_of core whole = record {
@@ -192,7 +193,7 @@ module _ (old : Core) (p : Parts) (was : IsHost old) (rules : IsSnapshot p) (typ
       by None none = subst (AllByRecursion (IsAtSlot core)) (sym (queue-none core h none)) tt
       by (Some s) is = subst (AllByRecursion (IsAtSlot core)) (sym (queue-with p.events h p.slots s is)) (each_for (IsAtSlot core) h p.events events_placed)
 
-  core_silent : (g : ℕ) → has_slot core g ≡ false → output_of core g ≡ []
+  core_silent : (g : ℕ) → has_group (slots_of core) g ≡ false → output_of core g ≡ []
   unfolding output_of
   core_silent g none =
       let no : has_group p.slots g ≡ false = sym (ap (λ (slots : List Slot). has_group slots g) slots_are) ∙ none in

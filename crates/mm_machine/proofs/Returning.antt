@@ -7,12 +7,13 @@ use Rattle.mm_model.specs.declared.event.Event.{Event}
 use Rattle.mm_model.specs.Slot.{Slot}
 use Rattle.mm_model.specs.State.{Row, Core, State, row_in, queue_of, queue_at, output_of}
 use Rattle.mm_model.specs.Image.{slot_limit}
+use Rattle.mm_model.specs.Groups.{has_group}
 use Rattle.mm_model.specs.Spelling.{numbers_of}
-use Rattle.mm_model.specs.Fits.{slots_of, has_slot}
+use Rattle.mm_model.specs.Fits.{slots_of}
 use Rattle.mm_model.proofs.CoreRows.{each_map, each_both, slot_limit-few, rest_rises, above_first}
 use Rattle.mm_thread.specs.declared.output.Output.{Output}
 use Rattle.mm_thread.specs.Parts.{events_for, row_with, outputs_with}
-use Rattle.mm_machine.specs.Snapshot.{Parts, has_group, has_output, IsOutputOf, IsSnapshotOf, IsAlike, queued, restored}
+use Rattle.mm_machine.specs.Snapshot.{Parts, has_output, IsOutputOf, IsSnapshotOf, IsAlike, queued, restored}
 use Rattle.mm_machine.proofs.Outputs.{outputs_count, output_untouched, outputs_given, group_has, output_has, no_output_at}
 use Rattle.mm_machine.proofs.Restoring.{IsHost, hosts, nothing_at}
 use Rattle.mm_machine.proofs.Copied.{queued_for}
@@ -71,9 +72,9 @@ module _ (t : State) (p : Parts) (host : IsHost t.core) (is : IsSnapshotOf t p) 
 
   nowhere : (g : ℕ) → has_output p.outputs g ≡ false → get_or all g [] ≡ get_or t.core.outputs g []
   unfolding output_of
-  nowhere g none = output_untouched p.outputs (replicate 64 []) g (no_output_at p.outputs g none) ∙ nothing_at 64 g ∙ sym (host.silent g (by (has_slot t.core g) refl))
+  nowhere g none = output_untouched p.outputs (replicate 64 []) g (no_output_at p.outputs g none) ∙ nothing_at 64 g ∙ sym (host.silent g (by (has_group (slots_of t.core) g) refl))
     where
-      by : (b : Bool) → has_slot t.core g ≡ b → b ≡ false
+      by : (b : Bool) → has_group (slots_of t.core) g ≡ b → b ≡ false
       by false has = refl
       by true has =
           let yes = group_has (λ n. has_output p.outputs n ≡ true) p.slots g is.rules.shown (ap (λ (slots : List Slot). has_group slots g) is.slots ∙ has) in

@@ -10,6 +10,7 @@ use Rattle.mm_model.specs.Memory.{IsPage}
 use Rattle.mm_model.specs.Slot.{Slot, register, is_empty}
 use Rattle.mm_model.specs.State.{Core, State, queue_at, output_of}
 use Rattle.mm_model.specs.Image.{output_limit}
+use Rattle.mm_model.specs.Groups.{has_group}
 use Rattle.mm_model.specs.Spelling.{numbers_of, HoldsWords}
 use Rattle.mm_model.specs.Fits.{one_if, is_waiting, waits_for, identity_of, slots_of, IsCore, EventHoldsWords}
 use Rattle.mm_model.specs.Typed.{IsTypedSlot}
@@ -36,9 +37,6 @@ groups_of outputs = map (λ o. o.group) outputs
 
 abbrev pub page_numbers : List (ℕ × List Cell) → List ℕ
 page_numbers pages = map (λ p. p.0) pages
-
-abbrev pub has_group : List Slot → ℕ → Bool
-has_group slots g = list_any (λ s. s.group == g) slots
 
 abbrev pub has_output : List Output → ℕ → Bool
 has_output outputs g = list_any (λ o. o.group == g) outputs

@@ -8,8 +8,9 @@ use Rattle.mm_model.specs.declared.event.Event.{Event}
 use Rattle.mm_model.specs.Slot.{Slot}
 use Rattle.mm_model.specs.State.{Row, Core, row_in, slot_of, queue_of, slot_at, queue_at, at_number, put_slot, put_queue}
 use Rattle.mm_model.specs.Image.{slot_limit}
+use Rattle.mm_model.specs.Groups.{has_group}
 use Rattle.mm_model.specs.Spelling.{numbers_of, IsOther}
-use Rattle.mm_model.specs.Fits.{slots_of, has_slot, identity_of}
+use Rattle.mm_model.specs.Fits.{slots_of, identity_of}
 
 -- 1. Lists.
 
@@ -341,8 +342,8 @@ numbers_by xs ys e = sym (of_identities xs) ∙ ap (map (λ (i : ℕ × ℕ × O
 pub rises_by : (core after : Core) → identities_of after ≡ identities_of core → Rises core → Rises after
 rises_by core after e h = subst IsStrictlyIncreasing (sym (numbers_by (slots_of after) (slots_of core) e)) h
 
-pub has_slot_by : (core after : Core) (g : ℕ) → identities_of after ≡ identities_of core → has_slot after g ≡ has_slot core g
-has_slot_by core after g e = sym (of_identities (slots_of after)) ∙ ap (list_any (λ (i : ℕ × ℕ × Option ℕ). nat_eq i.1 g)) e ∙ of_identities (slots_of core)
+pub has_group_by : (core after : Core) (g : ℕ) → identities_of after ≡ identities_of core → has_group (slots_of after) g ≡ has_group (slots_of core) g
+has_group_by core after g e = sym (of_identities (slots_of after)) ∙ ap (list_any (λ (i : ℕ × ℕ × Option ℕ). nat_eq i.1 g)) e ∙ of_identities (slots_of core)
   where
     of_identities : (slots : List Slot) → list_any (λ (i : ℕ × ℕ × Option ℕ). nat_eq i.1 g) (map identity_of slots) ≡ list_any (λ (s : Slot). nat_eq s.group g) slots
     of_identities [] = refl

@@ -8,9 +8,10 @@ use Rattle.mm_model.specs.declared.event.Event.{Event}
 use Rattle.mm_model.specs.Slot.{Slot}
 use Rattle.mm_model.specs.State.{Core, slot_at, queue_at, put_slot, put_queue, output_of, put_output}
 use Rattle.mm_model.specs.Image.{output_limit}
+use Rattle.mm_model.specs.Groups.{has_group}
 use Rattle.mm_model.specs.Spelling.{IsOther}
-use Rattle.mm_model.specs.Fits.{one_if, is_waiting, is_number, waits_for, events_of, slots_of, has_slot, identity_of, IsAtSlot, IsSlot, IsCore}
-use Rattle.mm_model.proofs.CoreRows.{each_map, each_both, each_push, each_set, slot_at-number, slot_at-put_same, slot_at-put_other, queue_at-put_slot, AfterPut, put_slot-cases, slot_at-put_queue, queue_at-put_same, queue_at-put_other, slots_of-put_queue, each_slot, slot_has, other_at, other_in, identities_of, rises_by, has_slot_by, stays_by, identities_of-put_slot}
+use Rattle.mm_model.specs.Fits.{one_if, is_waiting, is_number, waits_for, events_of, slots_of, identity_of, IsAtSlot, IsSlot, IsCore}
+use Rattle.mm_model.proofs.CoreRows.{each_map, each_both, each_push, each_set, slot_at-number, slot_at-put_same, slot_at-put_other, queue_at-put_slot, AfterPut, put_slot-cases, slot_at-put_queue, queue_at-put_same, queue_at-put_other, slots_of-put_queue, each_slot, slot_has, other_at, other_in, identities_of, rises_by, has_group_by, stays_by, identities_of-put_slot}
 
 -- 1. What it is to go on so.
 
@@ -68,7 +69,7 @@ keeps_from core after h e version split outputs slots matched in_place =
         in_place = in_place;
         outputs = ap length outputs ∙ h.outputs;
         within = subst (λ v. AllByRecursion (λ (bytes : List ℕ). length bytes ≤ output_limit v) after.outputs) (sym version) (subst (AllByRecursion (λ (bytes : List ℕ). length bytes ≤ output_limit core.version)) (sym outputs) h.within);
-        silent = λ g none. ap (λ (all : List (List ℕ)). slice_index_or all g []) outputs ∙ h.silent g (sym (has_slot_by core after g e) ∙ none);
+        silent = λ g none. ap (λ (all : List (List ℕ)). slice_index_or all g []) outputs ∙ h.silent g (sym (has_group_by core after g e) ∙ none);
       };
     }
 
@@ -388,7 +389,7 @@ module _ (core : Core) (new : Slot) (n : ℕ) (e : Event) (rest : List Event) (h
 
 -- 6. A byte that is put out.
 
-pub out_keeps : (core : Core) (g : ℕ) (bytes : List ℕ) → IsCore core → has_slot core g ≡ true → length bytes ≤ output_limit core.version → Keeps core (put_output core g bytes)
+pub out_keeps : (core : Core) (g : ℕ) (bytes : List ℕ) → IsCore core → has_group (slots_of core) g ≡ true → length bytes ≤ output_limit core.version → Keeps core (put_output core g bytes)
 unfolding put_output output_of slot_at queue_at
 out_keeps core g bytes h has few = record {
   identities = refl;
@@ -402,6 +403,6 @@ out_keeps core g bytes h has few = record {
     in_place = h.in_place;
     outputs = length-set core.outputs g bytes ∙ h.outputs;
     within = each_set (λ (b : List ℕ). length b ≤ output_limit core.version) core.outputs g bytes h.within few;
-    silent = λ k none. get_or-set_other core.outputs g k bytes [] (λ same. cc (ap (has_slot core) same, has, none)) ∙ h.silent k none;
+    silent = λ k none. get_or-set_other core.outputs g k bytes [] (λ same. cc (ap (has_group (slots_of core)) same, has, none)) ∙ h.silent k none;
   };
 }

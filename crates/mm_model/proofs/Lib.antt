@@ -16,3 +16,5 @@ pub mod Places
 pub mod Stops
 pub mod Causes
 pub mod ImageBytes
+pub mod Filters
+pub mod OwnSlots

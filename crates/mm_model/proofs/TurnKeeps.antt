@@ -23,13 +23,14 @@ use Rattle.mm_model.specs.Uses.{Use, Accessed}
 use Rattle.mm_model.specs.Slot.{Slot, register, is_empty}
 use Rattle.mm_model.specs.State.{Core, slot_at, put_slot, put_queue, output_of, put_output}
 use Rattle.mm_model.specs.Image.{output_limit}
+use Rattle.mm_model.specs.Groups.{has_group}
 use Rattle.mm_model.specs.Operands.{addr_operand, value_operand, field_a, field_b, fields_d, field_empty, or, lacks}
 use Rattle.mm_model.specs.Ask.{ask}
 use Rattle.mm_model.specs.Effect.{Change, Effect, effect, delivered}
 use Rattle.mm_model.specs.Effect.Effect.{Fault, Block, Deliver, Does}
 use Rattle.mm_model.specs.Turn.{reply, put_all, state_after, with_issue, slot_after, with_other, with_queue, with_out, core_after, stood, is_sync, event_of, core_faulted, faulted, touch_of, asked_use, blocked, ended, executed, issued, decoded, instr_in, fetched, aimed, started, idle, arrives, taken_by_port, taken_by, is_running, turn}
-use Rattle.mm_model.specs.Fits.{is_waiting, is_handled, slots_of, has_slot, IsSlot, IsCore}
-use Rattle.mm_model.proofs.CoreRows.{slot_at-number, slot_at-put_other, slot_at-put_queue, put_queue-put_slot, slot_has, slot_contained, each_contained, each_map, has_slot_by}
+use Rattle.mm_model.specs.Fits.{is_waiting, is_handled, slots_of, IsSlot, IsCore}
+use Rattle.mm_model.proofs.CoreRows.{slot_at-number, slot_at-put_other, slot_at-put_queue, put_queue-put_slot, slot_has, slot_contained, each_contained, each_map, has_group_by}
 use Rattle.mm_model.proofs.SlotSteps.{slot_stands, slot_stood, slot_put_all, slot_issued, slot_delivered, delivered_from, none_waits}
 use Rattle.mm_model.proofs.CoreSteps.{Keeps, keeps_self, keeps_then, Replaces, put_keeps, wait_keeps, waited, take_keeps, out_keeps}
 use Rattle.mm_model.proofs.EffectSteps.{Moves, IssueKeeps, OutKeeps, ChangeKeeps, EffectKeeps, running_waits_not, waiting_runs_not, effect_keeps}
@@ -144,9 +145,9 @@ each_any p (x ∷ xs) = (
     later true b e = refl
     later false b e = e
 
-pub has_group : (core : Core) (n : ℕ) (s : Slot) → slot_at core n ≡ Some s → has_slot core s.group ≡ true
-has_group core n s is =
-    each_contained (λ (t : Slot). nat_eq t.group s.group ≡ true → has_slot core s.group ≡ true) (slots_of core) s (each_any (λ (t : Slot). nat_eq t.group s.group) (slots_of core)) (slot_contained core n s is)
+pub has_own_group : (core : Core) (n : ℕ) (s : Slot) → slot_at core n ≡ Some s → has_group (slots_of core) s.group ≡ true
+has_own_group core n s is =
+    each_contained (λ (t : Slot). nat_eq t.group s.group ≡ true → has_group (slots_of core) s.group ≡ true) (slots_of core) s (each_any (λ (t : Slot). nat_eq t.group s.group) (slots_of core)) (slot_contained core n s is)
     (eq-eqb s.group s.group refl)
 
 module _ (core : Core) (h : IsCore core) (s : Slot) (at : slot_at core s.number ≡ Some s) (running : is_running s.state ≡ true) where
@@ -226,7 +227,7 @@ module _ (core : Core) (h : IsCore core) (s : Slot) (at : slot_at core s.number 
       let long : length (output_of mid s.group ++ byte ∷ []) ≡ length (output_of core s.group) + 1 = length-append (output_of mid s.group) (byte ∷ []) ∙ ap (λ (bytes : List ℕ). length bytes + 1) was in
       let few : length (output_of mid s.group ++ byte ∷ []) ≤ output_limit mid.version = subst (λ v. length (output_of mid s.group ++ byte ∷ []) ≤ output_limit v) (sym to.version) (omega arith) in
       keeps_then core mid (put_output mid s.group (output_of mid s.group ++ byte ∷ [])) to
-      (out_keeps mid s.group (output_of mid s.group ++ byte ∷ []) to.whole (has_slot_by core mid s.group to.identities ∙ has_group core s.number s at) few)
+      (out_keeps mid s.group (output_of mid s.group ++ byte ∷ []) to.whole (has_group_by core mid s.group to.identities ∙ has_own_group core s.number s at) few)
 
   change_keeps : (c : Change) → ChangeKeeps core s c → Keeps core (core_after core s c)
   unfolding core_after

@@ -1,6 +1,6 @@
 -- The audit's text.
-use Rattle.std.specs.Prelude.{◌≡◌, ◌↔◌, ℕ, ◌<◌, ◌≤◌, Bool, true, false, ◌==◌, List, [], ◌∷◌, ◌++◌, Contains, zip, drop, codes, decimal, Option, Some, None}
-use Rattle.std.specs.List.{flat_map, list_any, AllByRecursion}
+use Rattle.std.specs.Prelude.{◌≡◌, ◌↔◌, ℕ, ◌<◌, ◌≤◌, Bool, true, false, List, [], ◌∷◌, ◌++◌, Contains, zip, drop, codes, decimal, Option, Some, None}
+use Rattle.std.specs.List.{flat_map, AllByRecursion}
 use Rattle.mm_word.specs.Perm.{can_load, can_store}
 use Rattle.mm_word.specs.Pointer.{Pointer, InSegment, base_of}
 use Rattle.mm_word.specs.declared.perm.Perm.{Perm}
@@ -8,6 +8,7 @@ use Rattle.mm_model.specs.Digits.{hex}
 use Rattle.mm_model.specs.Lines.{newline}
 use Rattle.mm_model.specs.Slot.{Slot}
 use Rattle.mm_model.specs.Image.{Image, start}
+use Rattle.mm_model.specs.Groups.{among}
 use Rattle.mm_model.specs.Report.{groups_of}
 use Rattle.mm_model.specs.Reach.{Entries, Grants, CanWrite, Privileged}
 use Rattle.mm_model.specs.Reach.Entries.{All}
@@ -60,16 +61,17 @@ pub record Crosses (i : Image) (c : ℕ → Bool) (n : ℕ) : Type 0 where
   pub sides : ¬ (c served.group ≡ c server.group)
 
 -- the group is outside and can write the word, which one inside can touch
-pub record Writes (i : Image) (c : ℕ → Bool) (g w : ℕ) : Type 0 where
+pub record Writes (i : Image) (e : Entries) (c : ℕ → Bool) (g w : ℕ) : Type 0 where
   pub outside : c g ≡ false
-  pub writes : CanWrite i All g w
-  pub touched : Touchable i c w
+  pub writes : CanWrite i e g w
+  pub touched : Touchable i e c w
 
-abbrev pub Judged : Image → (ℕ → Bool) → Verdict → Type 0
-Judged i c Yes = Apart i c
-Judged i c (Handler n) = Crosses i c n × ((m : ℕ) → Crosses i c m → n ≤ m)
-Judged i c (Writer g w) =
-    ((n : ℕ) → ¬ Crosses i c n) × Writes i c g w × ((h v : ℕ) → Writes i c h v → g ≤ h) × ((v : ℕ) → Writes i c g v → w ≤ v)
+-- the verdict on the groups, where these entries may be made
+abbrev pub Judged : Image → Entries → (ℕ → Bool) → Verdict → Type 0
+Judged i e c Yes = Apart i e c
+Judged i e c (Handler n) = Crosses i c n × ((m : ℕ) → Crosses i c m → n ≤ m)
+Judged i e c (Writer g w) =
+    ((n : ℕ) → ¬ Crosses i c n) × Writes i e c g w × ((h v : ℕ) → Writes i e c h v → g ≤ h) × ((v : ℕ) → Writes i e c g v → w ≤ v)
 
 -- groups as they are written: their numbers, with commas between
 abbrev pub groups_text : List ℕ → List ℕ
@@ -88,7 +90,7 @@ apart_line groups verdict = codes "apart " ++ groups_text groups ++ codes " " ++
 -- the line says whether these groups stand apart
 pub record ApartLine (i : Image) (groups line : List ℕ) : Type 0 where
   pub verdict : Verdict
-  pub judged : Judged i (λ g. list_any (λ h. g == h) groups) verdict
+  pub judged : Judged i All (among groups) verdict
   pub is : line ≡ apart_line groups verdict
 
 -- 3. The text.

@@ -1,6 +1,6 @@
 -- What a state of a machine always is.
 use Rattle.std.specs.Prelude.{◌≡◌, ◌≢◌, ℕ, ◌+◌, ◌<◌, ◌≤◌, Bool, true, false, ◌==◌, if◌then◌else◌, List, [], ◌∷◌, map, length, Option, Some, None, IfSome}
-use Rattle.std.specs.List.{AllByRecursion, list_any}
+use Rattle.std.specs.List.{AllByRecursion}
 use Rattle.std.specs.List.Sorted.{IsStrictlyIncreasing}
 use Rattle.mm_word.specs.Perm.{can_fetch}
 use Rattle.mm_word.specs.Pointer.{IsWellFormed}
@@ -14,6 +14,7 @@ use Rattle.mm_model.specs.Memory.{IsPaged}
 use Rattle.mm_model.specs.Slot.{Slot, register, is_empty}
 use Rattle.mm_model.specs.State.{Row, Core, State, slot_at, queue_at, output_of}
 use Rattle.mm_model.specs.Image.{Image, slot_limit, output_limit}
+use Rattle.mm_model.specs.Groups.{has_group}
 use Rattle.mm_model.specs.Spelling.{numbers_of, IsOther, HoldsWords}
 
 -- 1. One slot.
@@ -72,10 +73,6 @@ slots_of core = map (λ row. row.slot) core.rows
 abbrev pub IsAtSlot : Core → Event → Type 0
 IsAtSlot core e = IfSome (slot_at core e.slot) (λ s. e.ip ≡ s.ip)
 
--- the group has a slot
-abbrev pub has_slot : Core → ℕ → Bool
-has_slot core g = list_any (λ s. s.group == g) (slots_of core)
-
 pub record IsCore (core : Core) : Type 0 where
   pub rising : IsStrictlyIncreasing (numbers_of (slots_of core))
   pub slots : AllByRecursion (IsSlot core.version core.split) (slots_of core)
@@ -85,7 +82,7 @@ pub record IsCore (core : Core) : Type 0 where
   pub in_place : (h : ℕ) → AllByRecursion (IsAtSlot core) (queue_at core h)
   pub outputs : length core.outputs ≡ 64
   pub within : AllByRecursion (λ bytes. length bytes ≤ output_limit core.version) core.outputs
-  pub silent : (g : ℕ) → has_slot core g ≡ false → output_of core g ≡ []
+  pub silent : (g : ℕ) → has_group (slots_of core) g ≡ false → output_of core g ≡ []
 
 -- 3. Words: no pointer is malformed.
 

@@ -4,6 +4,7 @@ pub mod Uses
 pub mod Slot
 pub mod State
 pub mod Image
+pub mod Groups
 pub mod Operands
 pub mod Ask
 pub mod Effect

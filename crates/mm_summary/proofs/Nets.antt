@@ -9,6 +9,7 @@ use Rattle.mm_word.specs.declared.word.Cell.{Cell}
 use Rattle.mm_word.specs.Pointer.{Pointer, IsBelow, enter_result}
 use Rattle.mm_model.specs.Memory.{cell_at}
 use Rattle.mm_model.specs.Image.{Image}
+use Rattle.mm_model.specs.Groups.{in_mask}
 use Rattle.mm_model.specs.Reach.{Entries, Grants, MayEnter, LoadsAt, StoresAt}
 use Rattle.mm_model.specs.Reach.Grants.{in_cell, below, passed, entered, served, made}
 use Rattle.mm_flow.specs.declared.node.Right.TheVariants.{Make}
@@ -41,7 +42,7 @@ module _ (i : Image) (e : Entries) (node : ℕ → Pointer) (n : Edges) (t : Tie
 
   module _ (marks : List ℕ) (r : IsReach n t start marks) (fits : (k : ℕ) → slice_index marks k < 2 ^ 64) (rights : ℕ) (right : (g : ℕ) → (bit_at rights g ≡ 1) ↔ HasSome marks (right_at t.nodes Make) g) where
     abbrev privileged : ℕ → Bool
-    privileged g = bit_at rights g == 1
+    privileged = in_mask rights
 
     abbrev known : ℕ → Pointer → Type 0
     known = Marked node marks

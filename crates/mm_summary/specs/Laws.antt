@@ -1,5 +1,5 @@
 -- The laws of summaries.
-use Rattle.std.specs.Prelude.{◌≡◌, ◌==◌, ℕ, ◌<◌, ◌^◌, ◌↔◌, Bool, List, slice_index, Contains}
+use Rattle.std.specs.Prelude.{◌≡◌, ℕ, ◌<◌, ◌^◌, ◌↔◌, Bool, List, slice_index, Contains}
 use Rattle.std.specs.Int.{bit_at}
 use Rattle.mm_flow.specs.declared.node.Right.TheVariants.{Make}
 use Rattle.mm_flow.specs.Net.{Edges, Ties, right_at}
@@ -7,6 +7,7 @@ use Rattle.mm_flow.specs.Reached.{HasSome, IsReach}
 use Rattle.mm_summary.specs.NetOf.{IsNetOf, Marked}
 use Rattle.mm_word.specs.Pointer.{Pointer}
 use Rattle.mm_model.specs.Image.{Image}
+use Rattle.mm_model.specs.Groups.{in_mask}
 use Rattle.mm_model.specs.Reach.{Entries}
 use Rattle.mm_summary.specs.Summary.{IsClosed, IsSound, IsExact}
 
@@ -18,4 +19,4 @@ SummariesDecide = (i : Image) (e : Entries) (privileged : ℕ → Bool) (known :
 -- the marks of a net that stands for an image are an exact summary of it
 abbrev pub NetsDecide : Type 0
 NetsDecide = (i : Image) (e : Entries) (node : ℕ → Pointer) (n : Edges) (t : Ties) (start marks : List ℕ) (rights : ℕ) → IsNetOf i e node n t start → IsReach n t start marks
-    → ((k : ℕ) → slice_index marks k < 2 ^ 64) → ((g : ℕ) → (bit_at rights g ≡ 1) ↔ HasSome marks (right_at t.nodes Make) g) → IsExact i e (λ g. bit_at rights g == 1) (Marked node marks)
+    → ((k : ℕ) → slice_index marks k < 2 ^ 64) → ((g : ℕ) → (bit_at rights g ≡ 1) ↔ HasSome marks (right_at t.nodes Make) g) → IsExact i e (in_mask rights) (Marked node marks)

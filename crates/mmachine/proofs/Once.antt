@@ -3,6 +3,7 @@ use Rattle.std.proofs.Common.{◌≡◌, ℕ, ◌⊎◌, inl, inr, Bool, List, [
 use Rattle.mm_model.specs.declared.counts.Counts.{Counts}
 use Rattle.mm_model.specs.Uses.{Use}
 use Rattle.mm_model.specs.Image.{Image}
+use Rattle.mm_model.specs.Groups.{among}
 use Rattle.mm_audit.specs.Refusals.{StandAlone}
 use Rattle.mmachine.specs.declared.status.Refusal.{Refusal}
 use Rattle.mmachine.specs.declared.status.Refusal.TheVariants as refusal
@@ -10,7 +11,7 @@ use Rattle.mmachine.specs.declared.status.Status.{Status}
 use Rattle.mmachine.specs.declared.status.Status.TheVariants.{Done, NoMemory}
 use Rattle.mmachine.specs.declared.status.Stop.{Stop}
 use Rattle.mmachine.specs.declared.status.Stop.TheVariants as stop
-use Rattle.mmachine.specs.Groups.{GroupsRefused, among}
+use Rattle.mmachine.specs.Groups.{GroupsRefused}
 use Rattle.mmachine.specs.Kinds.{Value, an_image, a_list}
 use Rattle.mmachine.specs.Files.{FilesTold}
 use Rattle.mmachine.specs.Table.{Row, solo, extract, files_of}
@@ -26,7 +27,10 @@ false_not_true clash = cc
 
 not_refused : (i : Image) (c : ℕ → Bool) (r : Refusal) → StandAlone i c → GroupsRefused i c r → ⊥
 not_refused i c refusal.NoGroup stand none = false_not_true (sym (none stand.some.slot stand.some.stands) ∙ stand.some.member)
-not_refused i c (refusal.Crosses n) stand first = stand.closed n first.1.crosses
+not_refused i c (refusal.Crosses n) stand first =
+    let x = first.1.crosses in
+    let y = x.crosses in
+    y.sides (x.inside ∙ sym (stand.closed y.served y.server y.one y.other y.handled x.inside))
 not_refused i c r stand refused = refused
 
 groups_refusal : (i : Image) (c : ℕ → Bool) (r q : Refusal) → GroupsRefused i c r → GroupsRefused i c q → r ≡ q

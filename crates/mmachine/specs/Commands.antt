@@ -3,6 +3,7 @@ use Rattle.std.specs.Prelude.{◌≡◌, ℕ, Bool, List, [], ◌∷◌, ◌++�
 use Rattle.mm_model.specs.declared.counts.Counts.{Counts}
 use Rattle.mm_model.specs.Uses.{Use}
 use Rattle.mm_model.specs.Image as model
+use Rattle.mm_model.specs.Groups.{among}
 use Rattle.mm_model.specs.Run as machine
 use Rattle.mm_model.specs.Trace as lines
 use Rattle.mm_model.specs.Schedule.{first_items, only}
@@ -14,7 +15,7 @@ use Rattle.mm_audit.specs.Refusals.{StandAlone}
 use Rattle.mmachine.specs.declared.status.Refusal.{Refusal}
 use Rattle.mmachine.specs.Kinds.{Value, an_image, a_list}
 use Rattle.mmachine.specs.Orders.{Issues}
-use Rattle.mmachine.specs.Groups.{among, GroupsRefused}
+use Rattle.mmachine.specs.Groups.{GroupsRefused}
 use Rattle.mmachine.specs.Table.{Row, run, trace, solo, grants, extract, migrate}
 
 -- the report of an image's run under these items, with what the memory tells of the run's uses

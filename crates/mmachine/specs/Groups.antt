@@ -1,16 +1,11 @@
 -- Groups that are cut out of an image.
-use Rattle.std.specs.Prelude.{ℕ, ◌+◌, Bool, ◌==◌, if◌then◌else◌, List, [], ◌++◌, map}
-use Rattle.std.specs.List.{list_any}
+use Rattle.std.specs.Prelude.{ℕ, ◌+◌, Bool, if◌then◌else◌, List, [], ◌++◌, map}
 use Rattle.mm_model.specs.Slot.{Slot}
 use Rattle.mm_model.specs.Image.{Image}
 use Rattle.mm_audit.specs.declared.refusing.Refused.TheVariants as refused
 use Rattle.mm_audit.specs.Refusals.{IsRefused}
 use Rattle.mmachine.specs.declared.status.Refusal.{Refusal}
 use Rattle.mmachine.specs.declared.status.Refusal.TheVariants.{NoGroup, Crosses}
-
--- the group is one of the list
-abbrev pub among : List ℕ → ℕ → Bool
-among groups g = list_any (λ h. g == h) groups
 
 -- why the groups are refused: they have no slot, or else one of their slots has its handler outside, and this is the least such slot
 abbrev pub GroupsRefused : Image → (ℕ → Bool) → Refusal → Type 0

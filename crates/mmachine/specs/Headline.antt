@@ -3,9 +3,10 @@ use Rattle.std.specs.Prelude.{◌≡◌, ◌++◌, ◌∷◌, [], ℕ, Bool, Lis
 use Rattle.mm_model.specs.declared.counts.Counts.{Counts}
 use Rattle.mm_model.specs.Uses.{Use}
 use Rattle.mm_model.specs.Image.{Image, start}
+use Rattle.mm_model.specs.Groups.{HasSlot}
 use Rattle.mm_model.specs.Trace.{trace as trace_of}
+use Rattle.mm_model.specs.Reach.Entries.{All}
 use Rattle.mm_model.specs.Worlds.{Apart}
-use Rattle.mm_laws.specs.Isolated.{HasSlot}
 use Rattle.mm_laws.specs.Runs.{Reaches, Isolates}
 use Rattle.mmachine.specs.Kinds.{Value, an_image}
 use Rattle.mmachine.specs.Files.{FilesAccepted}
@@ -27,7 +28,7 @@ pub record RunIsProved (tells : List Use → Option Counts) (held : List ℕ →
   -- was entered at its own address.
   pub reaches : Reaches i items
   -- The sections of groups that stand apart are those of a run without the others, under the items restricted to them.
-  pub isolates : (c : ℕ → Bool) → HasSlot i c → Apart i c → Isolates i items written c
+  pub isolates : (c : ℕ → Bool) → HasSlot i c → Apart i All c → Isolates i items written c
 
 -- What `trace` did, where it is done.
 pub record TraceIsProved (tells : List Use → Option Counts) (held : List ℕ → Option (List ℕ)) (image : List ℕ) (cycles : ℕ) (schedule : Option (List ℕ)) (written : List ℕ) : Type 0 where

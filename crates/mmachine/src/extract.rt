@@ -2,9 +2,10 @@
 ghost use Rattle.std.specs.Prelude.{List, Option};
 ghost use Rattle.mm_model.specs.Uses.{Use};
 ghost use Rattle.mm_model.specs.declared.counts.Counts.{Counts};
+ghost use Rattle.mm_model.specs.Groups.{among};
 ghost use Rattle.mm_audit.specs.Refusals.{StandAlone};
 ghost use Rattle.mmachine.specs.Files.{reading};
-ghost use Rattle.mmachine.specs.Groups.{among, GroupsRefused};
+ghost use Rattle.mmachine.specs.Groups.{GroupsRefused};
 ghost use Rattle.mmachine.specs.Table.{row_of};
 ghost use Rattle.mmachine.specs.Commands.{IsExtract};
 ghost use Rattle.mmachine.specs.Answers.{RowAnswers, Ends, call, writing};

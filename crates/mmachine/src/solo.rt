@@ -1,9 +1,10 @@
 // `solo`: the report of some groups of an image, alone.
 ghost use Rattle.std.specs.Prelude.{◌≡◌};
+ghost use Rattle.mm_model.specs.Groups.{among};
 ghost use Rattle.mm_model.specs.Spelling.{IsImage};
 ghost use Rattle.mm_audit.specs.Refusals.{StandAlone};
 ghost use Rattle.mmachine.specs.Files.{reading};
-ghost use Rattle.mmachine.specs.Groups.{among, GroupsRefused};
+ghost use Rattle.mmachine.specs.Groups.{GroupsRefused};
 ghost use Rattle.mmachine.specs.Table.{row_of};
 ghost use Rattle.mmachine.specs.Commands.{own_report};
 ghost use Rattle.mmachine.specs.Answers.{RowAnswers, Ends, call, writing};

@@ -1,14 +1,15 @@
-use Rattle.std.proofs.Common.{◌≡◌, ◌==◌, ◌∙◌, ◌++◌, ◌∷◌, [], take, sym, ap}
-use Rattle.std.specs.List.{list_any, filter}
+use Rattle.std.proofs.Common.{◌≡◌, ◌∙◌, ◌++◌, ◌∷◌, [], take, sym, ap}
+use Rattle.std.specs.List.{filter}
 use Rattle.std.proofs.lemmas.List.{take_more}
 use Rattle.mm_model.specs.Slot.{Slot}
-use Rattle.mm_audit.proofs.OwnSlots.{filter_last_in, filter_last_out}
+use Rattle.mm_model.specs.Groups.{among}
+use Rattle.mm_model.proofs.Filters.{filter_last_in, filter_last_out}
 use Rattle.mm_audit.proofs.own.slots_of.Goals as goal
 use Rattle.mm_audit.proofs.own.slots_of.Goals.{then-is_inside+in_ok-push, else-is_inside}
 
 pub loop-slot-preserved : goal.loop-slot-preserved
 loop-slot-preserved c =
-    let test = λ (s : Slot). list_any (λ h. s.group == h) c.args.groups.now in
+    let test = λ (s : Slot). among c.args.groups.now s.group in
     let s : Slot = c.slot-item.result in
     let before = take c.loop-slot.slot-index c.args.slots.now in
     let more = ap (filter test) (take_more c.args.slots.now c.loop-slot.slot-index s c.loop-slot-test.true ∙ ap (λ (v : Slot). before ++ v ∷ []) (sym c.slot-item.is)) in

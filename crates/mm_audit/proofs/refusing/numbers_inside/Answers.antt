@@ -1,17 +1,17 @@
-use Rattle.std.proofs.Common.{◌≡◌, ℕ, ◌+◌, ◌*◌, ◌%◌, ◌^◌, ◌<◌, ◌==◌, ◌∙◌, ◌++◌, [], ◌∷◌, bit_or, take, sym, ap, subst}
-use Rattle.std.specs.List.{list_any}
+use Rattle.std.proofs.Common.{◌≡◌, ◌+◌, ◌*◌, ◌%◌, ◌^◌, ◌<◌, ◌∙◌, ◌++◌, [], ◌∷◌, bit_or, take, sym, ap, subst}
 use Rattle.std.proofs.lemmas.List.{take_more}
 use Rattle.mm_model.specs.Slot.{Slot}
+use Rattle.mm_model.specs.Groups.{among}
 use Rattle.mm_audit.proofs.Leaving.{IsNumbers, no_numbers, numbers_more, numbers_skip}
 use Rattle.mm_audit.proofs.refusing.numbers_inside.Goals as goal
 use Rattle.mm_audit.proofs.refusing.numbers_inside.Goals.{then-is_inside, else-is_inside}
 
 pub loop-slot-init : goal.loop-slot-init
-loop-slot-init c = no_numbers (λ g. list_any (λ h. g == h) c.args.groups.now)
+loop-slot-init c = no_numbers (among c.args.groups.now)
 
 pub loop-slot-preserved : goal.loop-slot-preserved
 loop-slot-preserved c =
-    let test = λ (g : ℕ). list_any (λ h. g == h) c.args.groups.now in
+    let test = among c.args.groups.now in
     let s : Slot = c.slot-item.result in
     let before = take c.loop-slot.slot-index c.args.slots.now in
     let more = take_more c.args.slots.now c.loop-slot.slot-index s c.loop-slot-test.true ∙ ap (λ (v : Slot). before ++ v ∷ []) (sym c.slot-item.is) in

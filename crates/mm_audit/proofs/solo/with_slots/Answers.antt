@@ -1,24 +1,23 @@
-use Rattle.std.proofs.Common.{◌==◌, ◌∙◌, ℕ, List, refl, sym, ap, subst}
-use Rattle.std.specs.List.{list_any, filter}
-use Rattle.mm_model.specs.Slot.{Slot}
+use Rattle.std.proofs.Common.{◌∙◌, List, refl, sym, ap, subst}
+use Rattle.mm_model.specs.Groups.{among, own_slots}
 use Rattle.mm_model.specs.Spelling.{IsImage}
 use Rattle.mm_model.specs.Worlds.{alone}
-use Rattle.mm_audit.proofs.OwnSlots.{own_image}
+use Rattle.mm_model.proofs.OwnSlots.{own_image}
 use Rattle.mm_audit.proofs.OwnPages.{same_image}
 use Rattle.mm_audit.proofs.solo.with_slots.Goals as goal
 
 pub unreachable-requires : goal.unreachable-requires
 unreachable-requires c =
     let i = c.args.img.now in
-    let test = λ (g : ℕ). list_any (λ h. g == h) c.args.groups.now in
+    let test = among c.args.groups.now in
     let image = c.slots.ensures.image in
-    let same = same_image c.version.ensures.version c.split.ensures.split (c.in-Ok.ensures ∙ ap (filter (λ (s : Slot). test s.group)) c.slots.ensures.slots) (c.in-Ok-copies_of.ensures ∙ c.pages.ensures.pages) c.frames.ensures.frames in
-    c.in-None.ensures (subst IsImage (sym same) (own_image i test image c.requires i.memory refl image.paged image.words))
+    let same = same_image c.version.ensures.version c.split.ensures.split (c.in-Ok.ensures ∙ ap (own_slots test) c.slots.ensures.slots) (c.in-Ok-copies_of.ensures ∙ c.pages.ensures.pages) c.frames.ensures.frames in
+    c.in-None.ensures (subst IsImage (sym same) (own_image i test image c.requires.some c.requires.closed i.memory refl image.paged image.words))
 
 pub returns : goal.returns
 unfolding alone
 returns c =
     let i = c.args.img.now in
-    let test = λ (g : ℕ). list_any (λ h. g == h) c.args.groups.now in
-    let same = same_image c.version.ensures.version c.split.ensures.split (c.in-Ok.ensures ∙ ap (filter (λ (s : Slot). test s.group)) c.slots.ensures.slots) (c.in-Ok-copies_of.ensures ∙ c.pages.ensures.pages) c.frames.ensures.frames in
+    let test = among c.args.groups.now in
+    let same = same_image c.version.ensures.version c.split.ensures.split (c.in-Ok.ensures ∙ ap (own_slots test) c.slots.ensures.slots) (c.in-Ok-copies_of.ensures ∙ c.pages.ensures.pages) c.frames.ensures.frames in
     c.in-Some.ensures.1 ∙ same

@@ -1,10 +1,7 @@
-use Rattle.std.proofs.Common.{subst}
-use Rattle.mm_model.specs.Audit.{AuditEach}
 use Rattle.mm_text.proofs.Gathering.{gathered_writes}
-use Rattle.mm_audit_text.proofs.Presence.{present_is}
 use Rattle.mm_audit_text.proofs.audit.write_audit.Goals as goal
 
 pub returns : goal.returns
 returns g c =
     let (whole, wrote, is) = c.put_groups.ensures in
-    (whole, gathered_writes c.new-text.ensures wrote c.finish.ensures, λ audits. subst (λ gs. AuditEach c.args.img.now gs whole) (present_is c.args.img.now) (is audits))
+    (whole, gathered_writes c.new-text.ensures wrote c.finish.ensures, is)

@@ -1,14 +1,14 @@
 use Rattle.std.proofs.Common.{rules, ◌≡◌, ℕ, ap, ◌∙◌, ◌==◌, ◌++◌, [], Bool, List, sym}
 use Rattle.std.specs.List.{list_any}
 use Rattle.mm_model.specs.Slot.{Slot}
+use Rattle.mm_model.specs.Groups.{has_group}
 use Rattle.mm_text.proofs.Gathering.{gathers_then}
-use Rattle.mm_audit_text.specs.Parts.{has_slot}
 use Rattle.mm_audit_text.proofs.Presence.{one_part, one_alone, no_part}
 use Rattle.mm_audit_text.proofs.groups.put_present.Goals as goal
 
-has : {slots own : List Slot} {found is : Bool} (g : ℕ) → slots ≡ own → found ≡ list_any (λ (s : Slot). s.group == g) slots → found ≡ is
-    → list_any (λ (s : Slot). s.group == g) own ≡ is
-has g same tests found = sym (ap (λ (l : List Slot). list_any (λ (s : Slot). s.group == g) l) same) ∙ sym tests ∙ found
+has : {slots own : List Slot} {found is : Bool} (g : ℕ) → slots ≡ own → found ≡ has_group slots g → found ≡ is
+    → has_group own g ≡ is
+has g same tests found = sym (ap (λ (l : List Slot). has_group l g) same) ∙ sym tests ∙ found
 
 pub returns-then-apart : goal.returns-then-apart
 returns-then-apart g c =
@@ -16,13 +16,13 @@ returns-then-apart g c =
     let (line, then, answers) = c.put_apart.ensures in (
       own ++ line,
       gathers_then wrote then,
-      λ audits. one_part c.args.img.now c.args.apart (has_slot c.args.img.now c.args.group) c.args.group own line (has c.args.group c.slots.ensures.slots c.has_slot.ensures c.if-has_slot.true) c.if-apart.true (is c.args.img.now audits) (answers c.args.img.now audits),
+      λ audits. one_part c.args.img.now c.args.apart (has_group c.args.img.now.slots c.args.group) c.args.group own line (has c.args.group c.slots.ensures.slots c.has_slot.ensures c.if-has_slot.true) c.if-apart.true (is c.args.img.now audits) (answers c.args.img.now audits),
     )
 
 pub returns-else-apart : goal.returns-else-apart
 returns-else-apart g c =
     let (own, wrote, is) = c.put_group.ensures in
-    (own, wrote, λ audits. one_alone c.args.img.now c.args.apart (has_slot c.args.img.now c.args.group) c.args.group own (has c.args.group c.slots.ensures.slots c.has_slot.ensures c.if-has_slot.true) c.if-apart.false (is c.args.img.now audits))
+    (own, wrote, λ audits. one_alone c.args.img.now c.args.apart (has_group c.args.img.now.slots c.args.group) c.args.group own (has c.args.group c.slots.ensures.slots c.has_slot.ensures c.if-has_slot.true) c.if-apart.false (is c.args.img.now audits))
 
 pub returns-else-has_slot : goal.returns-else-has_slot
-returns-else-has_slot g c = ([], search rules, λ audits. no_part c.args.img.now c.args.apart (has_slot c.args.img.now c.args.group) c.args.group (has c.args.group c.slots.ensures.slots c.has_slot.ensures c.if-has_slot.false))
+returns-else-has_slot g c = ([], search rules, λ audits. no_part c.args.img.now c.args.apart (has_group c.args.img.now.slots c.args.group) c.args.group (has c.args.group c.slots.ensures.slots c.has_slot.ensures c.if-has_slot.false))

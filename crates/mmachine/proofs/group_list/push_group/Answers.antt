@@ -1,7 +1,7 @@
 use Rattle.std.proofs.Common.{◌≡◌, ◌<◌, ℕ, decimal, sym, ◌∙◌, subst, arith}
 use Rattle.std.specs.List.{AllByRecursion}
 use Rattle.std.proofs.lemmas.Fmt.{decimal_injective}
-use Rattle.mm_laws.proofs.AlikeRows.{no_both}
+use Rattle.std.proofs.lemmas.Bool.{both_ways}
 use Rattle.mmachine.proofs.GroupWords.{room_for}
 use Rattle.mmachine.proofs.group_list.push_group.Goals as goal
 
@@ -12,7 +12,7 @@ returns-then-not-is_above-clause-none c none g follows said =
     let same : g ≡ group = decimal_injective g group (omega (arith, follows.few)) (omega (arith, c.in_ok-group.ensures.some.1)) (sym digits) in
     let above : AllByRecursion (λ h. h < group) c.as_slice.result.now =
     subst (AllByRecursion (λ h. h < group)) (sym c.as_slice.ensures.value) (subst (λ (n : ℕ). AllByRecursion (λ h. h < n) c.args.groups.now.items) same follows.above) in
-    no_both c.is_above.result (c.is_above.ensures.1 above) c.if-not-is_above.true
+    both_ways c.is_above.result c.if-not-is_above.true (c.is_above.ensures.1 above)
 
 pub push-requires : goal.push-requires
 push-requires c =

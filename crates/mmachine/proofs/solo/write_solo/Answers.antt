@@ -1,10 +1,11 @@
 use Rattle.std.proofs.Common.{◌≡◌, ◌==◌, ℕ, List, [], take, ap, ◌∙◌, subst, arith}
 use Rattle.std.specs.List.{filter, list_any}
 use Rattle.mm_model.specs.Image.{Image}
+use Rattle.mm_model.specs.Groups.{among}
 use Rattle.mm_model.specs.Schedule as schedule
 use Rattle.mm_model.specs.Worlds as worlds
 use Rattle.mm_machine.specs.Machine.{StandsFor}
-use Rattle.mmachine.specs.Groups.{among, members_of}
+use Rattle.mmachine.specs.Groups.{members_of}
 use Rattle.mmachine.specs.Commands.{report_after}
 use Rattle.mmachine.proofs.Reported.{start_cycles, reported, ends_written}
 use Rattle.mmachine.proofs.OwnItems.{members_keep}
