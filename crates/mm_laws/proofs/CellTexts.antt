@@ -1,13 +1,14 @@
 -- The lines of the cells that groups can touch are one text, which is the same in two worlds.
 use Rattle.std.proofs.Common.{◌≡◌, ◌≢◌, ℕ, ◌<◌, inl, inr, Bool, true, false, cond, ◌||◌, ◌↔◌, nat_eq, List, [], ◌∷◌, ◌++◌, refl, sym, ap, ◌∙◌, subst, arith, eq-eqb, eqb-true}
 use Rattle.std.specs.List.{AllByRecursion, filter, flat_map}
-use Rattle.std.proofs.lemmas.Bool.{ne_eqb}
+use Rattle.std.proofs.lemmas.Bool.{both_ways, cases_Bool, ne_eqb}
 use Rattle.mm_word.specs.declared.word.Cell.{Cell}
 use Rattle.mm_model.specs.Image.{Image, start}
 use Rattle.mm_model.specs.Lines.{cell_line}
 use Rattle.mm_model.specs.Report.{changes}
 use Rattle.mm_model.specs.Schedule.{only}
 use Rattle.mm_model.specs.Run.{run}
+use Rattle.mm_model.specs.Reach.Entries.{All}
 use Rattle.mm_model.specs.Worlds.{Touchable}
 use Rattle.mm_model.proofs.CoreRows.{each_map}
 use Rattle.mm_laws.specs.CellLines.{LinesOf, CellLinesOf}

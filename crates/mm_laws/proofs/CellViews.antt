@@ -1,6 +1,7 @@
 -- Two lists of cells that rise by their words and have the same cells at the words of a test are the same there.
 use Rattle.std.proofs.Common.{◌≡◌, ℕ, ◌<◌, ◌⊎◌, inl, inr, Bool, true, false, cond, List, [], ◌∷◌, refl, sym, ap, ◌∙◌, arith}
 use Rattle.std.specs.List.{AllByRecursion, filter}
+use Rattle.std.proofs.lemmas.Bool.{both_ways}
 use Rattle.mm_word.specs.declared.word.Cell.{Cell}
 use Rattle.mm_model.proofs.CoreRows.{each_map}
 use Rattle.mm_model.proofs.Filters.{each_filter}

@@ -8,6 +8,7 @@ use Rattle.mm_model.specs.Lines.{cell_line}
 use Rattle.mm_model.specs.Report.{changes, report}
 use Rattle.mm_model.specs.Schedule.{only}
 use Rattle.mm_model.specs.Run.{run}
+use Rattle.mm_model.specs.Reach.Entries.{All}
 use Rattle.mm_model.specs.Worlds.{Touchable}
 use Rattle.mm_laws.specs.Isolated.{AgreeApart}
 use Rattle.mm_laws.specs.Runs.{AreLinesOf}

@@ -1,4 +1,5 @@
 use Rattle.mm_model.specs.Report.{changes}
+use Rattle.mm_model.specs.Reach.Entries.{All}
 use Rattle.mm_model.specs.Worlds.{Touchable}
 use Rattle.mm_laws.proofs.CellTexts.{lines_are_one, lines_are_some, lines_are_same}
 use Rattle.mm_laws.proofs.WholeRuns.{cells_written}
@@ -6,8 +7,8 @@ use Rattle.mm_laws.proofs.cell_lines.cell_lines_are_texts.Goals as goal
 
 pub returns : goal.returns
 returns c = record {
-  one = λ i d s one other a b. lines_are_one (Touchable i d) (changes s.memory i.memory) one other a b;
-  some = λ i d s. lines_are_some (Touchable i d) (changes s.memory i.memory);
+  one = λ i d s one other a b. lines_are_one (Touchable i All d) (changes s.memory i.memory) one other a b;
+  some = λ i d s. lines_are_some (Touchable i All d) (changes s.memory i.memory);
   same = lines_are_same;
   written = cells_written;
 }
