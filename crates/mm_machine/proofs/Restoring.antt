@@ -19,6 +19,7 @@ use Rattle.mm_model.specs.Image.{slot_limit, output_limit}
 use Rattle.mm_model.specs.Groups.{has_group}
 use Rattle.mm_model.specs.Spelling.{numbers_of, IsOther, HoldsWords}
 use Rattle.mm_model.specs.Fits.{one_if, is_handled, is_waiting, waits_for, events_of, identity_of, slots_of, IsAtSlot, IsSlot, IsCore, EventHoldsWords, RowHoldsWords}
+use Rattle.mm_model.proofs.Causes.{some_of}
 use Rattle.mm_model.proofs.CoreRows.{each_map, slot_limit-few, rest_rises, above_first, Rises, each_slot, slot_has, other_at, other_in, identities_of, stays_by}
 use Rattle.mm_model.proofs.CoreSteps.{waits_for-says}
 use Rattle.mm_model.proofs.ImageBytes.Rising.{AreRisingFrom, sorted_from}
@@ -104,10 +105,6 @@ hosts core whole = ∥∥₁_elim whole (hlevel props) (λ k. host_of core k)
 
 pub kept_hosts : (s : State) → ∥ Kept s ∥₁ → IsHost s.core
 kept_hosts s kept = ∥∥₁_elim kept (hlevel props) (λ k. host_of s.core k.fits.core)
-
-some_of : {A : Type 0} (o : Option A) → is_some o ≡ true → (x : A) × (o ≡ Some x)
-some_of None h = absurd cc
-some_of (Some x) h = (x, refl)
 
 module _ (old : Core) (p : Parts) (was : IsHost old) (rules : IsSnapshot p) (typed : IsTyped p) (same : map identity_of p.slots ≡ map identity_of (slots_of old)) where
   abbrev core : Core

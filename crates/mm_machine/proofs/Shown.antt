@@ -10,6 +10,7 @@ use Rattle.mm_model.specs.Slot.{Slot}
 use Rattle.mm_model.specs.State.{Core, State, slot_at, queue_at}
 use Rattle.mm_model.specs.Spelling.{numbers_of}
 use Rattle.mm_model.specs.Fits.{waits_for, slots_of}
+use Rattle.mm_model.proofs.Causes.{some_of}
 use Rattle.mm_model.proofs.CoreRows.{each_map, rest_rises, above_first, slots_found}
 use Rattle.mm_thread.specs.declared.output.Output.{Output}
 use Rattle.mm_thread.specs.Parts.{events_for, core_of}
@@ -75,10 +76,6 @@ low_first a [] h = tt
 low_first a (y ∷ ys) h =
     let first : a ≤ y = h 0 (omega arith) in
     (first, each_map (λ z. y ≤ z) (λ z. a ≤ z) (λ z more. omega arith) ys (low_first y ys (fall_not a (y ∷ ys) h)))
-
-some_of : (o : Option Slot) → is_some o ≡ true → (s : Slot) × (o ≡ Some s)
-some_of None h = absurd cc
-some_of (Some s) h = (s, refl)
 
 in_blocks : (xs : List (ℕ × Event)) (slots : List Slot) → IsStrictlyIncreasing (numbers_of slots) → DoesNotFall (queues_of xs) → AllByRecursion (λ (x : ℕ × Event). is_some (numbered slots x.0) ≡ true) xs → xs ≡ blocks xs slots
 in_blocks [] slots up h there = sym (no_blocks slots)

@@ -32,7 +32,7 @@ pub record IsOrderly (core : Core) : Type 0 where
   pub queued : (h : ℕ) → AllByRecursion (λ (e : Event). is_some (slot_at core e.slot) ≡ true) (queue_at core h)
   pub handlers : (n h : ℕ) (s : Slot) → slot_at core n ≡ Some s → s.handler ≡ Some h → is_some (slot_at core h) ≡ true
 
-some_of : {A : Type 0} (o : Option A) → is_some o ≡ true → (x : A) × (o ≡ Some x)
+pub some_of : {A : Type 0} (o : Option A) → is_some o ≡ true → (x : A) × (o ≡ Some x)
 some_of None h = absurd cc
 some_of (Some x) h = (x, refl)
 
@@ -76,10 +76,6 @@ pub data CycleShape (core : Core) (m : Memory) (n : ℕ) (t : Turned) : Type 0 w
   runs : (s : Slot) → Runs core n s → Stands core m s (first_stop core m s) t → CycleShape core m n t
   delivers : (s : Slot) (p : Pending) → slot_at core n ≡ None → IsPort core n s p → t.step.tick ≡ Delivered p.reg → CycleShape core m n t
   idles : ((s : Slot) → ¬ (Runs core n s)) → (IsOrderly core → (s : Slot) (p : Pending) → ¬ (IsPort core n s p)) → t.step.tick ≡ Idle → CycleShape core m n t
-
-both : (a b : Bool) → (a && b) ≡ true → (a ≡ true) × (b ≡ true)
-both true b e = (refl, e)
-both false b e = cc
 
 module _ (core : Core) (m : Memory) (n : ℕ) where
   absent_runs_not : slot_at core n ≡ None → (s : Slot) → ¬ (Runs core n s)

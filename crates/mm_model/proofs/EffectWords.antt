@@ -183,7 +183,7 @@ event_number_fits c n h = let few = cause_few c in omega arith
     cause_few : (c : Cause) → number_of c ≤ 13
     cause_few c = grind arith
 
-executable_moves : (p : Perm) → can_fetch p ≡ true → can_move p ≡ true
+pub executable_moves : (p : Perm) → can_fetch p ≡ true → can_move p ≡ true
 executable_moves p e = grind arith
 
 pub advanced_fits : (p : Pointer) → IsWellFormed p → IsWellFormed (advanced p)

@@ -2,7 +2,6 @@
 use Rattle.std.proofs.Common.{◌≡◌, ℕ, ◌+◌, ◌%◌, ◌^◌, Bool, true, false, not, ◌&&◌, ◌==◌, nat_lt, if◌then◌else◌, ℤ, pos, negsuc, ◌+ℤ◌, List, [], ◌∷◌, ◌++◌, map, Option, Some, None, Result, Ok, Err, ◌⊎◌, inl, inr, refl, sym, ap, subst, ◌/◌, ◌*ℤ◌, slice_set}
 use Rattle.std.specs.Prelude.{is_some, option_map, option_and_then}
 use Rattle.mm_word.specs.declared.perm.Perm.{Perm}
-use Rattle.mm_word.specs.declared.perm.Perm.TheVariants.{Xu, Xp}
 use Rattle.mm_word.specs.declared.perm.Kind.{Kind}
 use Rattle.mm_word.specs.declared.perm.Kind.TheVariants.{Fetch, Store}
 use Rattle.mm_word.specs.declared.cause.Cause.{Cause}
@@ -38,6 +37,7 @@ use Rattle.mm_model.specs.Effect.Effect.{Fault, Block, Deliver, Does}
 use Rattle.mm_model.specs.Turn.{Turned, reply, reached, first_event, event_reply, served, is_taken, is_handler, faulted, blocked, ended, executed, issued, decoded, instr_in, fetched, aimed, started, asked_use, touch_of}
 use Rattle.mm_model.specs.Tests.{Stop, fault_test, cell_at_sum, cell_tests, reach_tests, bits_in, signed_in, pointer_tests, in_segment_at, move_tests, restrict_tests, distance_tests, can_jump, has_room, has_event, serves, serve_tests, tests, instr_at, instr_tests, first_stop}
 use Rattle.mm_model.specs.Tests.Stop.{Fails, Lacks, Awaits}
+use Rattle.mm_model.proofs.EffectWords.{executable_moves}
 
 -- 1. What an effect is where the first test that fails is this one.
 
@@ -304,11 +304,6 @@ Stands core m s (Some (Fails c)) t = FaultedTurn core m s c t
 Stands core m s (Some (Lacks of)) t = t.step.tick ≡ Blocked
 Stands core m s (Some Awaits) t = t.step.tick ≡ Blocked
 
-fetching_moves : (p : Perm) → can_fetch p ≡ true → can_move p ≡ true
-fetching_moves Xu h = refl
-fetching_moves Xp h = refl
-fetching_moves _ h = cc
-
 module _ (core : Core) (m : Memory) (s : Slot) where
   ended_stands : (i : Instr) (f : Touch) (t : Option Touch) (us : List Use) (o : Option Stop) (e : Effect) → Comes core s.number o e → Stands core m s o (ended core m s i f t us e)
   unfolding ended blocked
@@ -367,7 +362,7 @@ module _ (core : Core) (m : Memory) (s : Slot) where
       right : (b : Bool) → can_fetch s.ip.perm ≡ b
           → Stands core m s (first_failing ((b, Fails cause.Perm) ∷ (holds_word_at s.ip (pos s.ip.addr +ℤ pos 0), Fails cause.Bounds) ∷ (is_aligned (pos s.ip.addr +ℤ pos 0), Fails cause.Align) ∷ behind (cell_at_sum m (pos s.ip.addr +ℤ pos 0))))
           (aimed core m s (if b then touch_at s.ip (pos s.ip.addr +ℤ pos 0) Fetch else Err cause.Perm))
-      right true is = sum (pos s.ip.addr +ℤ pos 0) (fetching_moves s.ip.perm is)
+      right true is = sum (pos s.ip.addr +ℤ pos 0) (executable_moves s.ip.perm is)
       right false is = early cause.Perm
 
   -- the first of a turn's tests that fails decides what the turn is
