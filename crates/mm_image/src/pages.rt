@@ -17,15 +17,15 @@ use std::alloc::Global;
 /// One more than the greatest number of a page.
 const PAGE_LIMIT: u64 = 1 << 42;
 
+/// How long the tags and the full bits of a page are each.
+const BITMAP_BYTES: usize = CELLS / 8;
+
 /// The offsets of a page's tags, full bits and words in its record.
 const TAGS: usize = 8;
 
 const FULL: usize = TAGS + BITMAP_BYTES;
 
 const WORDS: usize = FULL + BITMAP_BYTES;
-
-/// How long the tags and the full bits of a page are each.
-const BITMAP_BYTES: usize = CELLS / 8;
 
 impl Reader<'_> {
     /// The cells of the page whose record begins here.

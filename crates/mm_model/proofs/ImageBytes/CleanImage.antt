@@ -15,9 +15,9 @@ use Rattle.mm_model.specs.Memory.{IsPage}
 use Rattle.mm_model.specs.Slot.{Slot}
 use Rattle.mm_model.specs.Image.{slot_limit}
 use Rattle.mm_model.specs.Spelling.{numbers_of, IsFresh, IsImage, HoldsWords, mode_of, slot_record, page_record, header, spelling, Spells}
-use Rattle.mm_model.specs.Places.{first_bad, number_at, end_places, least_number}
+use Rattle.mm_model.specs.Places.{first_bad, end_places, least_number}
 use Rattle.mm_model.specs.ImageReading.{slot_offset, page_offset, version_of, slots_of, frames_of, pages_of, mode_number, slot_at, slots_at, page_at, pages_at, image_of}
-use Rattle.mm_model.specs.ImageFaults.{slot_places, slots_places, is_bad_handler, handler_places, handlers_places, page_places, pages_places, image_fault}
+use Rattle.mm_model.specs.ImageFaults.{slot_places, slots_places, handler_places, handlers_places, page_places, pages_places, image_fault}
 use Rattle.mm_model.proofs.Places.{both_clean, clean_at, is_right, each_clean}
 use Rattle.mm_model.proofs.ImageBytes.Clean.{IsCleanHeader, clean_header, H, S, T, P, E, in_parts, is_above, is_not}
 use Rattle.mm_model.proofs.ImageBytes.Parts.{IsBytes, part, join_at, join_records, two_bytes, four_bytes}

@@ -16,7 +16,7 @@ use Rattle.mm_model.specs.Memory.{IsPage}
 use Rattle.mm_model.specs.Slot.{Slot}
 use Rattle.mm_model.specs.Image.{Image, slot_limit, frame_limit}
 use Rattle.mm_model.specs.Spelling.{numbers_of, IsFresh, IsImage, HoldsWords, mode_of, handler_byte, state_byte, words_spelling, bitmap, slot_record, page_record, header, spelling}
-use Rattle.mm_model.specs.Places.{first_bad, number_at, least_number}
+use Rattle.mm_model.specs.Places.{first_bad, least_number}
 use Rattle.mm_model.specs.ImageReading.{slot_offset, page_offset, version_of, slots_of, frames_of, pages_of, mode_number, slot_at, slots_at, page_at, pages_at, image_of}
 use Rattle.mm_model.specs.ImageFaults.{is_magic, is_bad_handler, slot_places, slots_places, handler_places, handlers_places, page_places, pages_places, image_fault}
 use Rattle.mm_model.proofs.Places.{clean_both, is_whole, right, clean_each}
