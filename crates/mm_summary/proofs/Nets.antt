@@ -1,7 +1,7 @@
 -- The marks of a net are a sound and closed summary of its image.
 use Rattle.std.proofs.lemmas.Nat.Bits.{bit_at_above}
 use Rattle.std.proofs.lemmas.Bool.{cases_lt}
-use Rattle.std.proofs.Common.{◌≡◌, ℕ, ◌<◌, ◌^◌, ◌⊎◌, ◌↔◌, inl, inr, Bool, ◌==◌, IsTrue, List, length, slice_index, Some, refl, sym, ap, ◌∙◌, subst, arith, eqb-true, eq-eqb}
+use Rattle.std.proofs.Common.{◌≡◌, ℕ, ◌<◌, ◌^◌, ◌⊎◌, ◌↔◌, inl, inr, Bool, IsTrue, List, length, slice_index, Some, refl, sym, ap, ◌∙◌, subst, arith, eqb-true, eq-eqb}
 use Rattle.std.specs.Int.{bit_at}
 use Rattle.mm_word.specs.declared.perm.Perm.TheVariants.{Rw, Xp, Eu, Ep}
 use Rattle.mm_word.specs.declared.word.Word.TheVariants.{Ptr}

@@ -1,5 +1,4 @@
-use Rattle.std.proofs.Common.{rules, ◌≡◌, ℕ, ap, ◌∙◌, ◌==◌, ◌++◌, [], Bool, List, sym}
-use Rattle.std.specs.List.{list_any}
+use Rattle.std.proofs.Common.{rules, ◌≡◌, ℕ, ap, ◌∙◌, ◌++◌, [], Bool, List, sym}
 use Rattle.mm_model.specs.Slot.{Slot}
 use Rattle.mm_model.specs.Groups.{has_group}
 use Rattle.mm_text.proofs.Gathering.{gathers_then}
