@@ -6,6 +6,7 @@ use Rattle.mm_model.specs.Report.{same_cell}
 use Rattle.mm_model.specs.Schedule.{only}
 use Rattle.mm_model.specs.Run.{run}
 use Rattle.mm_model.specs.Worlds.{Touchable, LinesOf, changes}
+use Rattle.mm_model.proofs.Fitted.{paged_of}
 use Rattle.mm_laws.specs.Isolated.{AgreeApart, SameWorlds}
 use Rattle.mm_laws.proofs.AlikeWorlds.{touchable_other, touchable_back}
 use Rattle.mm_laws.proofs.TwoLists.{two_runs}
@@ -39,8 +40,8 @@ same_worlds i j c s t g e =
         sections = same_sections c (run (start i) s).core (run (start j) t).core w.alike.rows w.alike.outputs;
         turns = ends.lines;
         cells = λ text. (
-          lines_there (Touchable i c) (Touchable j c) (run (start i) s).memory i.memory (run (start j) t).memory j.memory w.one.paged g.one.paged w.other.paged g.other.paged w.alike.cells g.agree.cells over back text,
-          lines_there (Touchable j c) (Touchable i c) (run (start j) t).memory j.memory (run (start i) s).memory i.memory w.other.paged g.other.paged w.one.paged g.one.paged
+          lines_there (Touchable i c) (Touchable j c) (run (start i) s).memory i.memory (run (start j) t).memory j.memory (paged_of i (run (start i) s) w.one_state w.one) g.one.paged (paged_of j (run (start j) t) w.other_state w.other) g.other.paged w.alike.cells g.agree.cells over back text,
+          lines_there (Touchable j c) (Touchable i c) (run (start j) t).memory j.memory (run (start i) s).memory i.memory (paged_of j (run (start j) t) w.other_state w.other) g.other.paged (paged_of i (run (start i) s) w.one_state w.one) g.one.paged
               (λ v p. sym (w.alike.cells v (back v p))) (λ v p. sym (g.agree.cells v (back v p))) back over text,
         );
       };

@@ -7,7 +7,7 @@ use Rattle.mm_model.specs.Slot.{Slot}
 use Rattle.mm_model.specs.State.{Row, State, output_of}
 use Rattle.mm_model.specs.Image.{Image, start}
 use Rattle.mm_model.specs.Spelling.{IsImage}
-use Rattle.mm_model.specs.Fits.{Fits}
+use Rattle.mm_model.specs.Fits.{IsState, Fits}
 use Rattle.mm_model.specs.Lines.{cell_line}
 use Rattle.mm_model.specs.Report.{cell_lines}
 use Rattle.mm_model.specs.Schedule.{is_kept, only}
@@ -36,10 +36,12 @@ pub record AgreeApart (i j : Image) (c : ℕ → Bool) : Type 0 where
   pub one_apart : Apart i c
   pub other_apart : Apart j c
 
--- a state of each image, whose words are granted whatever was entered, and which are alike to the groups
+-- a state that fits each image, whose words are granted whatever was entered, and which are alike to the groups
 pub record Worlds (i j : Image) (c : ℕ → Bool) (s t : State) : Type 0 where
+  pub one_state : IsState s
   pub one : Fits i s
   pub one_words : WordsGranted i All s
+  pub other_state : IsState t
   pub other : Fits j t
   pub other_words : WordsGranted j All t
   pub alike : Alike i c s t
