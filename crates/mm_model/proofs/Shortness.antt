@@ -115,7 +115,8 @@ module _ (s : Slot) (h : IsSlot s) (match : LoadsMatch s) where
   loads_once : (r : ℕ) → count (λ (p : Pending). p.reg) r s.pending ≡ one_if (is_empty s r)
   loads_once r = loads_count r s.pending ∙ match.each r
 
-  loads_small : AllByRecursion (λ (p : Pending). p.reg < 16) s.pending
+  -- the registers of pending loads are registers
+  pub loads_small : AllByRecursion (λ (p : Pending). p.reg < 16) s.pending
   loads_small =
       each_map (λ (p : Pending). 1 ≤ count (λ (x : Pending). x.reg) p.reg s.pending) (λ (p : Pending). p.reg < 16)
       (λ p some. let once = loads_once p.reg in let within = empty_within s p.reg (some_is_true (is_empty s p.reg) (omega arith)) in omega (arith, h.flags))
@@ -129,6 +130,13 @@ module _ (s : Slot) (h : IsSlot s) (match : LoadsMatch s) where
   pending_short =
       let all = length-below (λ (p : Pending). p.reg) 16 s.pending loads_small in
       let few = below-few (λ (p : Pending). p.reg) 16 s.pending at_most_once in
+      omega arith
+
+  -- there is room for a load to a register that waits for none
+  pub pending_room : (r : ℕ) → r < 16 → is_empty s r ≡ false → length s.pending < 16
+  pending_room r small free =
+      let all = length-below (λ (p : Pending). p.reg) 16 s.pending loads_small in
+      let fewer = below-fewer (λ (p : Pending). p.reg) 16 r s.pending at_most_once small (loads_once r ∙ ap one_if free) in
       omega arith
 
 -- 3. Queues.
@@ -159,10 +167,20 @@ module _ (core : Core) (match : Matches core) (g : ℕ) where
       let low = (slot_has IsSlot core n s h.slots is).number in
       omega arith
 
+  events_small : IsFormed core → AllByRecursion (λ (e : Event). e.slot < 64) (queue_at core g)
+  events_small h =
+      each_map (λ (e : Event). waits_for g (slot_at core e.slot) ≡ true) (λ (e : Event). e.slot < 64) (λ e w. slot_small h e.slot (slot_at core e.slot) refl w) (queue_at core g) queued_at
+
   -- a queue holds no more events than there can be slots
   pub queue_short : IsFormed core → length (queue_at core g) ≤ 64
   queue_short h =
-      let small = each_map (λ (e : Event). waits_for g (slot_at core e.slot) ≡ true) (λ (e : Event). e.slot < 64) (λ e w. slot_small h e.slot (slot_at core e.slot) refl w) (queue_at core g) queued_at in
-      let all = length-below (λ (e : Event). e.slot) 64 (queue_at core g) small in
+      let all = length-below (λ (e : Event). e.slot) 64 (queue_at core g) (events_small h) in
       let few = below-few (λ (e : Event). e.slot) 64 (queue_at core g) events_at_most_once in
+      omega arith
+
+  -- there is room for the event of a slot that does not wait for the queue's owner
+  pub queue_room : IsFormed core → (n : ℕ) → n < 64 → waits_for g (slot_at core n) ≡ false → length (queue_at core g) < 64
+  queue_room h n small rests =
+      let all = length-below (λ (e : Event). e.slot) 64 (queue_at core g) (events_small h) in
+      let fewer = below-fewer (λ (e : Event). e.slot) 64 n (queue_at core g) events_at_most_once small (events_once n ∙ ap one_if rests) in
       omega arith
