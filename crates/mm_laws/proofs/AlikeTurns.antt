@@ -37,9 +37,8 @@ use Rattle.mm_model.specs.Reach.{Privileged}
 use Rattle.mm_model.specs.Reach.Entries.{All}
 use Rattle.mm_model.specs.Worlds.{Touchable, IsPrivileged, Apart}
 use Rattle.mm_model.proofs.CoreRows.{slot_at-number, queue_at-put_slot, slot_has, other_at}
-use Rattle.mm_model.proofs.CoreSteps.{queued_waits}
+use Rattle.mm_model.proofs.CoreSteps.{handler_is, queued_waits}
 use Rattle.mm_model.proofs.SlotSteps.{delivered_from}
-use Rattle.mm_model.proofs.EffectSteps.{handler_is}
 use Rattle.mm_model.proofs.Memories.{cell_at-put_same, cell_at-put_other}
 use Rattle.mm_model.proofs.TurnKeeps.{changed_from}
 use Rattle.mm_laws.specs.Granted.{TouchGranted}
@@ -114,10 +113,10 @@ module _ (i j : Image) (c : ℕ → Bool) (a b : Core) (ma mb : Memory) (h : Bot
 
   -- a slot of the groups on one side stands on the other
   over : (k : ℕ) (y : Slot) → slot_at a k ≡ Some y → c y.group ≡ true → SameSlotAt c a b k y
-  over k y at cy = same_at c a b h.other.whole.rising h.rows k y at cy
+  over k y at cy = same_at c a b h.other.formed.rising h.rows k y at cy
 
   back : (k : ℕ) (y : Slot) → slot_at b k ≡ Some y → c y.group ≡ true → SameSlotAt c b a k y
-  back k y at cy = same_at c b a h.one.whole.rising (sym h.rows) k y at cy
+  back k y at cy = same_at c b a h.one.formed.rising (sym h.rows) k y at cy
 
   abbrev Same : Turned → Turned → Type 0
   Same s t = SameTurn i c s t
@@ -144,13 +143,13 @@ module _ (i j : Image) (c : ℕ → Bool) (a b : Core) (ma mb : Memory) (h : Bot
     same_event (event ∷ rest) is = by (slot_at a event.slot) refl
       where
         waits : (y : Slot) → slot_at a event.slot ≡ Some y → y.handler ≡ Some x.number
-        waits y at = ((subst (AllByRecursion (λ (e : Event). e.slot ≡ event.slot → (is_waiting y.state ≡ true) × (y.handler ≡ Some x.number))) is (queued_waits a h.one.whole event.slot y at x.number)).0 refl).1
+        waits y at = ((subst (AllByRecursion (λ (e : Event). e.slot ≡ event.slot → (is_waiting y.state ≡ true) × (y.handler ≡ Some x.number))) is (queued_waits a h.one.fitting.matched event.slot y at x.number)).0 refl).1
 
         none_there : slot_at a event.slot ≡ None → (o : Option Slot) → slot_at b event.slot ≡ o → event_reply event rest None ≡ event_reply event rest o
         none_there none None is_b = refl
         none_there none (Some y) is_b =
             let own_b : queue_at b x.number ≡ event ∷ rest = sym (over x.number x at_a cx).queue ∙ is in
-            let handled = ((subst (AllByRecursion (λ (e : Event). e.slot ≡ event.slot → (is_waiting y.state ≡ true) × (y.handler ≡ Some x.number))) own_b (queued_waits b h.other.whole event.slot y is_b x.number)).0 refl).1 in
+            let handled = ((subst (AllByRecursion (λ (e : Event). e.slot ≡ event.slot → (is_waiting y.state ≡ true) × (y.handler ≡ Some x.number))) own_b (queued_waits b h.other.fitting.matched event.slot y is_b x.number)).0 refl).1 in
             let there = (back event.slot y is_b (side_b event.slot y is_b handled)).slot in
             absurd (cc (none, there))
 
@@ -216,10 +215,10 @@ module _ (i j : Image) (c : ℕ → Bool) (a b : Core) (ma mb : Memory) (h : Bot
         ∙ sym (mine-put_queue b q kq c n v)
 
     sames_a : Sames a a
-    sames_a = sames_self a h.one.whole.rising
+    sames_a = sames_self a h.one.formed.rising
 
     sames_b : Sames b b
-    sames_b = sames_self b h.other.whole.rising
+    sames_b = sames_self b h.other.formed.rising
 
     -- the slot's standing alone changes
     stood_both : (p q : Core) → Sames a p → Sames b q → mine c p ≡ mine c q → (now : Slot) → now.number ≡ x.number → now.group ≡ x.group → (state : SlotState) → mine c (put_slot p (stood now state)) ≡ mine c (put_slot q (stood now state))
@@ -235,8 +234,8 @@ module _ (i j : Image) (c : ℕ → Bool) (a b : Core) (ma mb : Memory) (h : Bot
     -- an event goes to the end of the same queue
     handler_queue : (k : ℕ) → x.handler ≡ Some k → queue_at a k ≡ queue_at b k
     handler_queue k is =
-        let handlers = slot_has (λ (s : Slot). IfSome s.handler (IsOther (slots_of a) s.number)) a x.number x h.one.whole.handlers at_a in
-        let other = other_at a h.one.whole.rising x.number k (subst (λ o. IfSome o (IsOther (slots_of a) x.number)) is handlers) in
+        let handlers = slot_has (λ (s : Slot). IfSome s.handler (IsOther (slots_of a) s.number)) a x.number x h.one.fitting.handlers at_a in
+        let other = other_at a h.one.formed.rising x.number k (subst (λ o. IfSome o (IsOther (slots_of a) x.number)) is handlers) in
         let number = slot_at-number a k other.1.0 other.1.1 in
         let side = state_side i c h.one_apart a h.one.same x.number k x other.1.0 at_a other.1.1 (is ∙ ap (λ (n : ℕ). Some n) (sym number)) in
         (over k other.1.0 other.1.1 (sym side ∙ cx)).queue
@@ -358,7 +357,7 @@ module _ (i j : Image) (c : ℕ → Bool) (a b : Core) (ma mb : Memory) (h : Bot
       byte_outputs p q ep eq (Some byte) g cg =
           let own : slice_index_or p.outputs x.group [] ≡ slice_index_or q.outputs x.group [] = ap (λ (l : List (List ℕ)). slice_index_or l x.group []) ep ∙ h.outputs x.group cx ∙ sym (ap (λ (l : List (List ℕ)). slice_index_or l x.group []) eq) in
           let this : slice_index_or p.outputs g [] ≡ slice_index_or q.outputs g [] = ap (λ (l : List (List ℕ)). slice_index_or l g []) ep ∙ h.outputs g cg ∙ sym (ap (λ (l : List (List ℕ)). slice_index_or l g []) eq) in
-          let long : length p.outputs ≡ length q.outputs = ap length ep ∙ h.one.whole.outputs ∙ sym h.other.whole.outputs ∙ sym (ap length eq) in
+          let long : length p.outputs ≡ length q.outputs = ap length ep ∙ h.one.formed.outputs ∙ sym h.other.formed.outputs ∙ sym (ap length eq) in
           ap (λ (l : List ℕ). slice_index_or (slice_set p.outputs x.group (l ++ byte ∷ [])) g []) own
           ∙ set_alike p.outputs q.outputs x.group g (slice_index_or q.outputs x.group [] ++ byte ∷ []) [] long this
 

@@ -189,7 +189,7 @@ page_bound m n hm hn q (Some a) p eo ep f = f (page_whole m hm q a eo).number
 pub whole_memory : (m n : Memory) → IsPaged m → IsPaged n → m.frames ≡ n.frames → ((w : ℕ) → w % 8 ≡ 0 → w + 8 ≤ 2 ^ 54 → cell_at m w ≡ cell_at n w) → m ≡ n
 whole_memory m n hm hn frames same =
     let pages : m.pages ≡ n.pages =
-    same_entries nat_cmp nat_cmp_total nat_cmp-IsAntisymmetric m.pages n.pages (subst T (sym hm.rising) tt) (subst T (sym hn.rising) tt)
+    same_entries nat_cmp nat_cmp_total nat_cmp-IsAntisymmetric m.pages n.pages (subst T (sym hm.pages.rising) tt) (subst T (sym hn.pages.rising) tt)
     (λ q. page_bound m n hm hn q (page_at m q) (page_at n q) refl refl
     (λ lt. same_page (page_at m q) (page_at n q) (λ cells is. (page_whole m hm q cells is).cells) (λ cells is. (page_whole n hn q cells is).cells)
     (λ k lk. sym (cell_of m q k lk) ∙ same (word_at q k) (word_aligned q k) (word_fits q k lt lk) ∙ cell_of n q k lk))) in

@@ -180,7 +180,7 @@ module _ (image : Memory) where
 
 -- the cells that differ rise by their words
 pub changes_rising : (m image : Memory) → IsPaged m → Rising (changes m image)
-changes_rising m image h = pages_rising image m.pages (subst T (sym h.rising) tt) h.whole
+changes_rising m image h = pages_rising image m.pages (subst T (sym h.pages.rising) tt) h.pages.whole
 
 -- pages and look-ups
 
@@ -257,7 +257,7 @@ module _ (m image : Memory) (h : IsPaged m) (k : IsPaged image) where
   in_changes w c is =
       let from = flat_from (page_changes image) (w, c) m.pages is in
       let one = in_changes_from (from.from.0 * 4096) from.from.1 (cells_or_zero (page_at image from.from.0)) w c from.inside in
-      let found : page_at m from.from.0 ≡ Some from.from.1 = found_page m.pages (subst T (sym h.rising) tt) from.from.0 from.from.1 from.among in
+      let found : page_at m from.from.0 ≡ Some from.from.1 = found_page m.pages (subst T (sym h.pages.rising) tt) from.from.0 from.from.1 from.among in
       let few : one.place < 512 = let long = (page_whole m h from.from.0 from.from.1 found).cells in let short = get_short from.from.1 one.place c one.here in omega arith in
       record {
         here = ap (cell_at m) one.word ∙ cell_of m from.from.0 one.place few ∙ ap (λ o. cell_in o one.place) found ∙ one.here;

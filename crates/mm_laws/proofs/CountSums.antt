@@ -3,10 +3,11 @@ use Rattle.std.proofs.Common.{◌≡◌, ℕ, ◌+◌, ◌≤◌, Bool, true, fa
 use Rattle.std.specs.Prelude.{is_some}
 use mathlib.Core.List.{reverse_aux}
 use Rattle.mm_model.specs.Uses.{Use, Accessed, Removed}
-use Rattle.mm_model.specs.Counted.{block_of, line_of, page_of_block, latest, written, is_block, is_hit, given_back, written_back, page_of_old, looked_up, look_ups, has, distinct, one, buffer_hits, buffer_misses, total, hit_at, miss_at, back_at, found_at, sought_at, counts_of}
+use Rattle.mm_model.specs.Flags.{one_if}
+use Rattle.mm_model.specs.Counted.{block_of, line_of, page_of_block, latest, written, is_block, is_hit, given_back, written_back, page_of_old, looked_up, look_ups, has, distinct, buffer_hits, buffer_misses, total, hit_at, miss_at, back_at, found_at, sought_at, counts_of}
 use Rattle.mm_laws.specs.Counts.{counted}
 
-one_or_other : (b : Bool) → one b + one (not b) ≡ 1
+one_or_other : (b : Bool) → one_if b + one_if (not b) ≡ 1
 one_or_other true = refl
 one_or_other false = refl
 
@@ -17,15 +18,15 @@ hits_misses (Accessed kind addr false done ∷ us) = hits_misses us
 hits_misses (Removed page ∷ us) = hits_misses us
 
 -- the block of a hit is the line's own, which is not given back
-back_for : (o : Option ℕ) (w : Bool) (block : ℕ) → one (is_some (given_back o w block)) ≤ one (not (is_block o block))
+back_for : (o : Option ℕ) (w : Bool) (block : ℕ) → one_if (is_some (given_back o w block)) ≤ one_if (not (is_block o block))
 back_for None w block = omega arith
 back_for (Some old) w block = by (nat_eq old block)
   where
-    dirty : (w : Bool) → one (is_some (if w then Some old else None)) ≤ 1
+    dirty : (w : Bool) → one_if (is_some (if w then Some old else None)) ≤ 1
     dirty true = omega arith
     dirty false = omega arith
 
-    by : (b : Bool) → one (is_some (if b then None else (if w then Some old else None))) ≤ one (not b)
+    by : (b : Bool) → one_if (is_some (if b then None else (if w then Some old else None))) ≤ one_if (not b)
     by true = omega arith
     by false = dirty w
 
@@ -43,17 +44,17 @@ found_or_sought : (ps before : List ℕ) → buffer_hits ps before + buffer_miss
 found_or_sought [] before = refl
 found_or_sought (p ∷ ps) before = let rest = found_or_sought ps before in let this = one_or_other (has p (take 16 (distinct (ps ++ before)))) in omega arith
 
-old_pages : (o : Option ℕ) → length (page_of_old o) ≡ one (is_some o)
+old_pages : (o : Option ℕ) → length (page_of_old o) ≡ one_if (is_some o)
 old_pages None = refl
 old_pages (Some block) = refl
 
 looks : (block : ℕ) (us : List Use) → length (looked_up block us) ≡ miss_at block us + back_at block us
 looks block us = by (is_hit block us) refl
   where
-    by : (b : Bool) → is_hit block us ≡ b → length (if b then [] else page_of_block block ∷ page_of_old (written_back block us)) ≡ one (not b) + one (is_some (written_back block us))
+    by : (b : Bool) → is_hit block us ≡ b → length (if b then [] else page_of_block block ∷ page_of_old (written_back block us)) ≡ one_if (not b) + one_if (is_some (written_back block us))
     by true e =
         let few = back_for (latest (line_of block) us) (written (line_of block) us) block in
-        let none : one (not (is_block (latest (line_of block) us) block)) ≡ 0 = ap (λ b. one (not b)) e in
+        let none : one_if (not (is_block (latest (line_of block) us) block)) ≡ 0 = ap (λ b. one_if (not b)) e in
         omega arith
     by false e = let old = old_pages (written_back block us) in omega arith
 

@@ -33,7 +33,7 @@ use Rattle.mm_model.specs.Memory.{Memory, cell_at, is_mapped, can_map, passes}
 use Rattle.mm_model.specs.Slot.{Slot, register, is_empty}
 use Rattle.mm_model.specs.State.{Core, slot_at, queue_at, output_of}
 use Rattle.mm_model.specs.Image.{Image, output_limit}
-use Rattle.mm_model.specs.Fits.{is_waiting, identity_of, IsSlot, IsCore, RowHoldsWords}
+use Rattle.mm_model.specs.Fits.{is_waiting, identity_of, IsSlot, IsFormed, RowHoldsWords}
 use Rattle.mm_model.specs.Operands.{addr_operand, value_operand, word_a, word_b, field_a, field_b, field_imm}
 use Rattle.mm_model.specs.Ask.{ask, is_privileged, load_kind, reaching}
 use Rattle.mm_model.specs.Ask.Ask.{Refuse, MapPage, UnmapPage}
@@ -46,9 +46,9 @@ use Rattle.mm_model.specs.Reach.{Entries, Grants, CanWrite, Privileged}
 use Rattle.mm_model.specs.Reach.Grants.{below}
 use Rattle.mm_model.proofs.CoreRows.{each_set, slot_at-number, slot_has, identities_of}
 use Rattle.mm_model.proofs.SlotSteps.{delivered_from}
-use Rattle.mm_model.proofs.CoreSteps.{queued_waits}
+use Rattle.mm_model.proofs.CoreSteps.{Fitting, handler_is, queued_waits}
 use Rattle.mm_model.proofs.EffectWords.{slot_words, register_fits}
-use Rattle.mm_model.proofs.EffectSteps.{both_true, handler_is}
+use Rattle.mm_model.proofs.EffectSteps.{both_true}
 use Rattle.mm_laws.specs.Granted.{WordGranted, SlotGranted, EventGranted, RowGranted, CellsGranted}
 use Rattle.mm_laws.proofs.GrantedWords.{slot_granted, queue_granted, register_granted, delivered_granted, BothServe, serving, word_served, load_granted}
 
@@ -180,7 +180,8 @@ checked (Ptr p) by kind t h e =
 
 -- a core and a memory that fit an image and whose words are granted
 pub record Stands (i : Image) (e : Entries) (core : Core) (m : Memory) : Type 0 where
-  pub whole : IsCore core
+  pub formed : IsFormed core
+  pub fitting : Fitting core
   pub same : identities_of core ≡ map identity_of i.slots
   pub words : AllByRecursion RowHoldsWords core.rows
   pub rows : AllByRecursion (RowGranted i e) core.rows
@@ -193,8 +194,8 @@ module _ (i : Image) (e : Entries) (core : Core) (m : Memory) (st : Stands i e c
   own : SlotGranted i e s
   own = slot_granted i e core st.rows s.number s at
 
-  own_slot : IsSlot core.version core.split s
-  own_slot = slot_has (IsSlot core.version core.split) core s.number s st.whole.slots at
+  own_slot : IsSlot s
+  own_slot = slot_has IsSlot core s.number s st.formed.slots at
 
   pub reg : (r : ℕ) → WordGranted i e s.group (register s r)
   reg r = register_granted i e s own r
@@ -380,7 +381,7 @@ module _ (i : Image) (e : Entries) (core : Core) (m : Memory) (st : Stands i e c
       by : (o : Option Slot) → slot_at core event.slot ≡ o → Is (takes s rd (event_reply event rest o))
       by None found = tt
       by (Some of) found =
-          let waits = (subst (AllByRecursion (λ (x : Event). x.slot ≡ event.slot → (is_waiting of.state ≡ true) × (of.handler ≡ Some s.number))) is (queued_waits core st.whole event.slot of found s.number)).0 refl in
+          let waits = (subst (AllByRecursion (λ (x : Event). x.slot ≡ event.slot → (is_waiting of.state ≡ true) × (of.handler ≡ Some s.number))) is (queued_waits core st.fitting.matched event.slot of found s.number)).0 refl in
           took_granted rd event rest of found waits.1 k.0 k.1
 
   serve_row : (k : ℕ) (f : Reply → Effect) → ((c : Cause) → Is (f (Refused c))) → ((of : Slot) → slot_at core k ≡ Some of → of.handler ≡ Some s.number → Is (f (Served of))) → Is (f (served s.number (slot_at core k)))

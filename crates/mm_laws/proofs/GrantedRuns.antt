@@ -13,14 +13,15 @@ use Rattle.mm_model.specs.declared.event.Event.{Event}
 use Rattle.mm_model.specs.State.{State, slot_at, queue_at}
 use Rattle.mm_model.specs.Image.{Image, slot_limit, start}
 use Rattle.mm_model.specs.Spelling.{IsOther, IsFresh, IsImage}
-use Rattle.mm_model.specs.Fits.{is_waiting, slots_of, Fits}
+use Rattle.mm_model.specs.Fits.{is_waiting, slots_of, IsState, Fits}
 use Rattle.mm_model.specs.Run.{turn_of, after, run}
 use Rattle.mm_model.specs.Trace.{done_entry, entries}
 use Rattle.mm_model.specs.Reach.{Entries, Grants}
 use Rattle.mm_model.specs.Reach.Entries.{All, These}
 use Rattle.mm_model.proofs.CoreRows.{each_map, each_both, each_contained, slot_at-number, slot_has, other_at}
 use Rattle.mm_model.proofs.CoreSteps.{queued_waits}
-use Rattle.mm_model.proofs.Starts.{start_fits}
+use Rattle.mm_model.proofs.Fitted.{image_handlers}
+use Rattle.mm_model.proofs.Starts.{start_state, start_fits}
 use Rattle.mm_laws.specs.Granted.{WordGranted, SlotGranted, EventGranted, RowGranted, CellGranted, WordsGranted, RunGranted, with_entries}
 use Rattle.mm_laws.proofs.GrantedWords.{queue_granted, serving, word_served}
 use Rattle.mm_laws.proofs.GrantedTurns.{step_granted}
@@ -61,17 +62,17 @@ module _ (i : Image) (img : IsImage i) (e : Entries) where
   }
 
 -- the state after a list of items, under the entries that were done in them
-pub run_granted : (i : Image) (e : Entries) (s : State) (items : List ℕ) → Fits i s → WordsGranted i e s → Fits i (run s items) × WordsGranted i (with_entries e (entries s items)) (run s items)
+pub run_granted : (i : Image) (e : Entries) (s : State) (items : List ℕ) → IsImage i → IsState s → Fits i s → WordsGranted i e s → IsState (run s items) × Fits i (run s items) × WordsGranted i (with_entries e (entries s items)) (run s items)
 unfolding run entries
-run_granted i e s [] fits words = (fits, with_none i e s words)
+run_granted i e s [] img h fits words = (h, fits, with_none i e s words)
   where
     with_none : (i : Image) (e : Entries) (s : State) → WordsGranted i e s → WordsGranted i (with_entries e []) s
     with_none i All s h = h
     with_none i (These list) s h = subst (λ l. WordsGranted i (These l) s) (sym (append-nil list)) h
-run_granted i e s (n ∷ items) fits words =
-    let step = step_granted i e s n fits words in
-    let rest = run_granted i (with_entries e (done_entry (turn_of s n) (turn_of s n).step.entered)) (after s n) items step.fits step.words in
-    (rest.0, subst (λ f. WordsGranted i f (run (after s n) items)) (with_both e (done_entry (turn_of s n) (turn_of s n).step.entered) (entries (after s n) items)) rest.1)
+run_granted i e s (n ∷ items) img h fits words =
+    let step = step_granted i e s n img h fits words in
+    let rest = run_granted i (with_entries e (done_entry (turn_of s n) (turn_of s n).step.entered)) (after s n) items img step.state step.fits step.words in
+    (rest.0, rest.1, subst (λ f. WordsGranted i f (run (after s n) items)) (with_both e (done_entry (turn_of s n) (turn_of s n).step.entered) (entries (after s n) items)) rest.2)
   where
     with_both : (e : Entries) (xs ys : List (ℕ × Pointer)) → with_entries (with_entries e xs) ys ≡ with_entries e (xs ++ ys)
     with_both All xs ys = refl
@@ -79,23 +80,23 @@ run_granted i e s (n ∷ items) fits words =
 
 pub runs_granted : (i : Image) (items : List ℕ) → IsImage i → RunGranted i (These (entries (start i) items)) (run (start i) items)
 runs_granted i items img =
-    let both = run_granted i (These []) (start i) items (start_fits i img) (start_granted i img (These [])) in
+    let all = run_granted i (These []) (start i) items img (start_state i img) (start_fits i img) (start_granted i img (These [])) in
     record {
-      words = both.1;
-      next = λ n. step_granted i (These (entries (start i) items)) (run (start i) items) n both.0 both.1;
+      words = all.2;
+      next = λ n. step_granted i (These (entries (start i) items)) (run (start i) items) n img all.0 all.1 all.2;
     }
 
 -- a queued event is granted to the group of its own slot too, since its handler's group serves that
-pub events_granted : (i : Image) (e : Entries) (s : State) → Fits i s → WordsGranted i e s → (h : ℕ)
+pub events_granted : (i : Image) (e : Entries) (s : State) → IsImage i → IsState s → Fits i s → WordsGranted i e s → (h : ℕ)
     → AllByRecursion (λ (event : Event). (of : Slot) → slot_at s.core event.slot ≡ Some of → EventGranted i e of.group event) (queue_at s.core h)
-events_granted i e s fits words h =
+events_granted i e s img state fits words h =
     each_map (Contains (queue_at s.core h)) (λ (event : Event). (of : Slot) → slot_at s.core event.slot ≡ Some of → EventGranted i e of.group event) one (queue_at s.core h) (each_in (queue_at s.core h))
   where
     one : (event : Event) → Contains (queue_at s.core h) event → (of : Slot) → slot_at s.core event.slot ≡ Some of → EventGranted i e of.group event
     one event among of at =
-        let waits = each_contained (λ (x : Event). x.slot ≡ event.slot → (is_waiting of.state ≡ true) × (of.handler ≡ Some h)) (queue_at s.core h) event (queued_waits s.core fits.core event.slot of at h) among refl in
-        let handlers = slot_has (λ (x : Slot). IfSome x.handler (IsOther (slots_of s.core) x.number)) s.core event.slot of fits.core.handlers at in
-        let other = other_at s.core fits.core.rising of.number h (subst (λ o. IfSome o (IsOther (slots_of s.core) of.number)) waits.1 handlers) in
+        let waits = each_contained (λ (x : Event). x.slot ≡ event.slot → (is_waiting of.state ≡ true) × (of.handler ≡ Some h)) (queue_at s.core h) event (queued_waits s.core fits.matched event.slot of at h) among refl in
+        let handlers = slot_has (λ (x : Slot). IfSome x.handler (IsOther (slots_of s.core) x.number)) s.core event.slot of (image_handlers i s.core img fits.same_slots) at in
+        let other = other_at s.core state.core.rising of.number h (subst (λ o. IfSome o (IsOther (slots_of s.core) of.number)) waits.1 handlers) in
         let server : Slot = other.1.0 in
         let number : server.number ≡ h = slot_at-number s.core h server other.1.1 in
         let sv = (serving i s.core fits.same_slots event.slot h of server at other.1.1 (waits.1 ∙ ap (λ (k : ℕ). Some k) (sym number))).there in

@@ -30,8 +30,8 @@ use Rattle.mm_model.specs.Uses.{Use}
 use Rattle.mm_model.specs.Slot.{Slot, register}
 use Rattle.mm_model.specs.State.{Row, Core, State, slot_at, queue_at, at_number, put_slot, put_queue, put_output}
 use Rattle.mm_model.specs.Image.{Image}
-use Rattle.mm_model.specs.Spelling.{IsOther}
-use Rattle.mm_model.specs.Fits.{slots_of, identity_of, Fits}
+use Rattle.mm_model.specs.Spelling.{IsImage, IsOther}
+use Rattle.mm_model.specs.Fits.{slots_of, identity_of, IsState, Fits}
 use Rattle.mm_model.specs.Operands.{addr_operand, value_operand}
 use Rattle.mm_model.specs.Ask.{Ask, ask, is_privileged, load_kind, reaching}
 use Rattle.mm_model.specs.Ask.Ask.{Refuse, MapPage, UnmapPage}
@@ -48,7 +48,8 @@ use Rattle.mm_model.proofs.EffectWords.{slot_words}
 use Rattle.mm_model.proofs.Memories.{put_cases, map_cases, unmap_cases, cell_at-put_other, cell_at-map_other, cell_at-unmap_other, cell_at-unaligned, word_or_none}
 use Rattle.mm_model.proofs.TurnKeeps.{changed_from}
 use Rattle.mm_model.proofs.TurnShapes.{Fetches, TurnShape, turn_shape}
-use Rattle.mm_model.proofs.StateKeeps.{after_fits}
+use Rattle.mm_model.proofs.Fitted.{fitting_of}
+use Rattle.mm_model.proofs.StateKeeps.{after_state, after_fits}
 use Rattle.mm_laws.specs.Granted.{WordGranted, SlotGranted, EventGranted, RowGranted, CellGranted, CellsGranted, WordsGranted, TouchGranted, EntryGranted, StepGranted, with_entries}
 use Rattle.mm_laws.specs.Grants.{Grow}
 use Rattle.mm_laws.proofs.GrantLaws.{grants_grow}
@@ -236,7 +237,7 @@ module _ (i : Image) (e : Entries) (core : Core) (m : Memory) (st : Stands i e c
     grow = with_entries-grow e (new_entry s.group c.entered)
 
     begins : Good i later core core
-    begins = record { same = refl; rises = st.whole.rising; rows = rows_grow i e later grow core.rows st.rows }
+    begins = record { same = refl; rises = st.formed.rising; rows = rows_grow i e later grow core.rows st.rows }
 
     own_after : SlotGranted i later (slot_after s c)
     unfolding slot_after
@@ -373,7 +374,7 @@ module _ (i : Image) (e : Entries) (core : Core) (m : Memory) (st : Stands i e c
       }
 
   same_self : Good i e core core
-  same_self = record { same = refl; rises = st.whole.rising; rows = st.rows }
+  same_self = record { same = refl; rises = st.formed.rising; rows = st.rows }
 
   module _ (s : Slot) (at : slot_at core s.number ≡ Some s) where
     own_slot_granted : SlotGranted i e s
@@ -399,8 +400,8 @@ module _ (i : Image) (e : Entries) (core : Core) (m : Memory) (st : Stands i e c
     fault_good c a v (Some g) is ga gv =
         let waits : Core = put_slot core (stood s Waiting) in
         let good : Good i e core waits = stood_good core same_self s Waiting refl own_slot_granted in
-        let handlers = slot_has (λ (x : Slot). IfSome x.handler (IsOther (slots_of core) x.number)) core s.number s st.whole.handlers at in
-        let other = other_at core st.whole.rising s.number g (subst (λ p. IfSome p (IsOther (slots_of core) s.number)) is handlers) in
+        let handlers = slot_has (λ (x : Slot). IfSome x.handler (IsOther (slots_of core) x.number)) core s.number s st.fitting.handlers at in
+        let other = other_at core st.formed.rising s.number g (subst (λ p. IfSome p (IsOther (slots_of core) s.number)) is handlers) in
         let h : Slot = other.1.0 in
         let number : h.number ≡ g = slot_at-number core g h other.1.1 in
         let sv = serving i core st.same s.number g s h at other.1.1 (is ∙ ap (λ (k : ℕ). Some k) (sym number)) in
@@ -517,16 +518,17 @@ module _ (i : Image) (e : Entries) (core : Core) (m : Memory) (st : Stands i e c
 
 -- 6. The laws.
 
-pub stands_of : (i : Image) (e : Entries) (s : State) → Fits i s → WordsGranted i e s → Stands i e s.core s.memory
-stands_of i e s fits words = record { whole = fits.core; same = fits.same_slots; words = fits.rows; rows = words.rows; cells = words.cells }
+pub stands_of : (i : Image) (e : Entries) (s : State) → IsImage i → IsState s → Fits i s → WordsGranted i e s → Stands i e s.core s.memory
+stands_of i e s img h fits words = record { formed = h.core; fitting = fitting_of i s img fits; same = fits.same_slots; words = h.rows; rows = words.rows; cells = words.cells }
 
 -- one turn
-pub step_granted : (i : Image) (e : Entries) (s : State) (n : ℕ) → Fits i s → WordsGranted i e s → StepGranted i e s n
+pub step_granted : (i : Image) (e : Entries) (s : State) (n : ℕ) → IsImage i → IsState s → Fits i s → WordsGranted i e s → StepGranted i e s n
 unfolding after
-step_granted i e s n fits words =
-    let t = turn_granted i e s.core s.memory (stands_of i e s fits words) n in
+step_granted i e s n img h fits words =
+    let t = turn_granted i e s.core s.memory (stands_of i e s img h fits words) n in
     record {
-      fits = after_fits i s n fits;
+      state = after_state s n h;
+      fits = after_fits i s n img h fits;
       words = record { rows = t.rows; cells = t.cells };
       touched = t.touched;
       entered = t.entered;

@@ -64,7 +64,7 @@ module _ (i : Image) (c : ℕ → Bool) (apart : Apart i All c) (core : Core) (m
   idle_quiet k = record { rows = refl; outputs = λ g cg. refl; cells = λ w t. refl; line = line_idle (is_turn_of c (idle core m k)) (trace_line (idle core m k)) refl }
 
   sames : Sames core core
-  sames = sames_self core st.whole.rising
+  sames = sames_self core st.formed.rising
 
   module _ (s : Slot) (at : slot_at core s.number ≡ Some s) (out : c s.group ≡ false) where
     abbrev Quiet : Turned → Type 0
@@ -81,8 +81,8 @@ module _ (i : Image) (c : ℕ → Bool) (apart : Apart i All c) (core : Core) (m
         by true = stood_quiet core sames s refl refl Running
         by false = stood_quiet core sames s refl refl (Halted (Some e.cause))
     fault_quiet e (Some k) is =
-        let handlers = slot_has (λ (x : Slot). IfSome x.handler (IsOther (slots_of core) x.number)) core s.number s st.whole.handlers at in
-        let other = other_at core st.whole.rising s.number k (subst (λ o. IfSome o (IsOther (slots_of core) s.number)) is handlers) in
+        let handlers = slot_has (λ (x : Slot). IfSome x.handler (IsOther (slots_of core) x.number)) core s.number s st.fitting.handlers at in
+        let other = other_at core st.formed.rising s.number k (subst (λ o. IfSome o (IsOther (slots_of core) s.number)) is handlers) in
         let number = slot_at-number core k other.1.0 other.1.1 in
         let side = state_side i c apart core st.same s.number k s other.1.0 at other.1.1 (is ∙ ap (λ (n : ℕ). Some n) (sym number)) in
         beside-put_queue core (put_slot core (stood s Waiting)) (put_slot-sames core core sames (stood s Waiting) s at refl) c k (queue_at (put_slot core (stood s Waiting)) k ++ e ∷ []) other.1.0 other.1.1 (sym side ∙ out)
@@ -233,7 +233,7 @@ module _ (i : Image) (c : ℕ → Bool) (apart : Apart i All c) (core : Core) (m
     -- the turn of a slot outside
     own_turn_quiet : (n : ℕ) (t : Turned) → turn core m n ≡ t → Quiet t → QuietTurn i c core m t
     own_turn_quiet n t is q =
-        let ids : identities_of t.core ≡ identities_of core = subst (λ (x : Turned). identities_of x.core ≡ identities_of core) is (turn_keeps core m st.whole n).identities in
+        let ids : identities_of t.core ≡ identities_of core = subst (λ (x : Turned). identities_of x.core ≡ identities_of core) is (turn_keeps core m st.formed n).identities in
         let now = stays_by core t.core s.number s ids at in
         let group : group_in t ≡ s.group = ap (λ k. group_of (slot_at t.core k)) q.slot ∙ ap group_of now.is ∙ ap (λ (x : ℕ × ℕ × Option ℕ). x.1) now.same in
         let outside : c (group_in t) ≡ false = ap c group ∙ out in

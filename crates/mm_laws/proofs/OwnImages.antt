@@ -109,7 +109,7 @@ module _ (i : Image) (c : ℕ → Bool) (j : Image) (img : IsImage i) (has : Has
 
   page_holds : (page : ℕ × List Cell) → IsIn page j.memory.pages → HoldsWords page
   page_holds page is =
-      let found = found_page j.memory.pages (subst T (sym e.paged.rising) tt) page.0 page.1 is in
+      let found = found_page j.memory.pages (subst T (sym e.paged.pages.rising) tt) page.0 page.1 is in
       each_got (λ (x : Cell). IsWord x.word) page.1
       (λ k x at.
       let long = (page_whole j.memory e.paged page.0 page.1 found).cells in

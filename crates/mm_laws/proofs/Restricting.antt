@@ -12,12 +12,12 @@ use Rattle.mm_model.specs.Spelling.{numbers_of, IsImage}
 use Rattle.mm_model.specs.Schedule.{in_groups, is_kept, only}
 use Rattle.mm_model.specs.Turn.{turn}
 use Rattle.mm_model.specs.Run.{after, run}
-use Rattle.mm_model.specs.Fits.{slots_of, identity_of, IsSlot, Fits}
-use Rattle.mm_model.proofs.CoreRows.{slot_limit-few, each_map, each_both, each_contained, above_first, rest_rises, slot_at-number, each_slot, slot_has, stays_by}
+use Rattle.mm_model.specs.Fits.{slots_of, identity_of, IsSlot, IsState, Fits}
+use Rattle.mm_model.proofs.CoreRows.{each_map, each_both, each_contained, above_first, rest_rises, slot_at-number, each_slot, slot_has, stays_by}
 use Rattle.mm_model.proofs.TurnKeeps.{turn_keeps}
-use Rattle.mm_model.proofs.StateKeeps.{after_fits}
+use Rattle.mm_model.proofs.StateKeeps.{after_state, after_fits}
 use Rattle.mm_model.proofs.TurnBounds.{turn_takes}
-use Rattle.mm_model.proofs.Starts.{start_at, start_slots, start_fits, start_within}
+use Rattle.mm_model.proofs.Starts.{start_at, start_slots, start_state, start_fits, start_within}
 use Rattle.mm_model.proofs.OwnSlots.{numbers_above}
 use Rattle.mm_laws.specs.Restrictions.{Belongs}
 
@@ -159,8 +159,8 @@ abbrev Quiet : (ℕ → Bool) → State → Type 0
 Quiet c s = AllByRecursion (λ (x : Slot). c x.group ≡ false → x.turns ≡ 0) (slots_of s.core)
 
 -- a running slot that a kept item names is one of the groups
-named_inside : (i : Image) (s : State) (c : ℕ → Bool) (n : ℕ) (x : Slot) → Fits i s → is_kept i c n ≡ true → slot_at s.core n ≡ Some x → c x.group ≡ true
-named_inside i s c n x fits kept is = elim (or_cases (in_groups c (slot_in i.slots n)) (i.split && nat_le 128 n && in_groups c (slot_in i.slots (n - 128))) kept) [
+named_inside : (i : Image) (s : State) (c : ℕ → Bool) (n : ℕ) (x : Slot) → IsState s → Fits i s → is_kept i c n ≡ true → slot_at s.core n ≡ Some x → c x.group ≡ true
+named_inside i s c n x h fits kept is = elim (or_cases (in_groups c (slot_in i.slots n)) (i.split && nat_le 128 n && in_groups c (slot_in i.slots (n - 128))) kept) [
   | inl own ↦
       let was = stays_by s.core (start i).core n x (ap (map identity_of) (start_slots i) ∙ sym fits.same_slots) is in
       let there : slot_in i.slots n ≡ Some was.now = sym (start_at i n) ∙ was.is in
@@ -169,19 +169,18 @@ named_inside i s c n x fits kept is = elim (or_cases (in_groups c (slot_in i.slo
   | inr port ↦
       let all = all_true i.split (nat_le 128 n) (in_groups c (slot_in i.slots (n - 128))) port in
       let low = leb-true 128 n all.1 in
-      let own = slot_has (IsSlot s.core.version s.core.split) s.core n x fits.core.slots is in
+      let own = slot_has IsSlot s.core n x h.core.slots is in
       let number = slot_at-number s.core n x is in
-      let few = slot_limit-few s.core.version in
       absurd (omega (arith, own.number))
 ]
 
-quiet_after : (i : Image) (s : State) (c : ℕ → Bool) (n : ℕ) → Fits i s → is_kept i c n ≡ true → Quiet c s → Quiet c (after s n)
+quiet_after : (i : Image) (s : State) (c : ℕ → Bool) (n : ℕ) → IsState s → Fits i s → is_kept i c n ≡ true → Quiet c s → Quiet c (after s n)
 unfolding after
-quiet_after i s c n fits kept quiet =
-    let keeps = turn_keeps s.core s.memory fits.core n in
-    each_slot (λ (x : Slot). c x.group ≡ false → x.turns ≡ 0) (turn s.core s.memory n).core keeps.whole.rising
+quiet_after i s c n h fits kept quiet =
+    let keeps = turn_keeps s.core s.memory h.core n in
+    each_slot (λ (x : Slot). c x.group ≡ false → x.turns ≡ 0) (turn s.core s.memory n).core keeps.formed.rising
     (λ k now is outside.
-    let from = turn_takes s.core s.memory n fits.core k now is in
+    let from = turn_takes s.core s.memory n h.core fits.matched k now is in
     let same = stays_by s.core (turn s.core s.memory n).core k from.was keeps.identities from.stands in
     let two : ◌≡◌ {A = Option Slot} (Some same.now) (Some now) = sym same.is ∙ is in
     let one : same.now ≡ now = cc in
@@ -190,17 +189,18 @@ quiet_after i s c n fits kept quiet =
     elim from.turns [
       | inl stay ↦ stay ∙ slot_has (λ (x : Slot). c x.group ≡ false → x.turns ≡ 0) s.core k from.was quiet from.stands before
       | inr takes ↦
-          let inside = named_inside i s c n from.was fits kept (ap (slot_at s.core) (sym takes.0) ∙ from.stands) in
+          let inside = named_inside i s c n from.was h fits kept (ap (slot_at s.core) (sym takes.0) ∙ from.stands) in
           cc (inside, before)
     ])
 
-quiet_run : (i : Image) (s : State) (c : ℕ → Bool) (items : List ℕ) → Fits i s → Quiet c s → Quiet c (run s (filter (is_kept i c) items))
+quiet_run : (i : Image) (s : State) (c : ℕ → Bool) (items : List ℕ) → IsImage i → IsState s → Fits i s → Quiet c s → Quiet c (run s (filter (is_kept i c) items))
 unfolding run
-quiet_run i s c [] fits quiet = quiet
-quiet_run i s c (n ∷ items) fits quiet = by (is_kept i c n) refl (λ k. quiet_run i (after s n) c items (after_fits i s n fits) k) (quiet_run i s c items fits quiet)
+quiet_run i s c [] img h fits quiet = quiet
+quiet_run i s c (n ∷ items) img h fits quiet =
+    by (is_kept i c n) refl (λ k. quiet_run i (after s n) c items img (after_state s n h) (after_fits i s n img h fits) k) (quiet_run i s c items img h fits quiet)
   where
     by : (b : Bool) → is_kept i c n ≡ b → (Quiet c (after s n) → Quiet c (run (after s n) (filter (is_kept i c) items))) → Quiet c (run s (filter (is_kept i c) items)) → Quiet c (run s (cond b (n ∷ filter (is_kept i c) items) (filter (is_kept i c) items)))
-    by true kept with_it without = with_it (quiet_after i s c n fits kept quiet)
+    by true kept with_it without = with_it (quiet_after i s c n h fits kept quiet)
     by false kept with_it without = without
 
 pub others_rest : (i : Image) (items : List ℕ) (c : ℕ → Bool) → IsImage i → (n : ℕ) (s : Slot) → slot_at (run (start i) (only i items c)).core n ≡ Some s → c s.group ≡ false → s.turns ≡ 0
@@ -208,7 +208,7 @@ unfolding only start
 others_rest i items c h n s is outside =
     let none = start_within i h in
     let quiet : Quiet c (start i) = each_map (λ (x : Slot). x.turns ≤ (start i).cycles) (λ (x : Slot). c x.group ≡ false → x.turns ≡ 0) (λ x few out. let zero : (start i).cycles ≡ 0 = start_cycles i in omega arith) (slots_of (start i).core) none in
-    slot_has (λ (x : Slot). c x.group ≡ false → x.turns ≡ 0) (run (start i) (filter (is_kept i c) items)).core n s (quiet_run i (start i) c items (start_fits i h) quiet) is outside
+    slot_has (λ (x : Slot). c x.group ≡ false → x.turns ≡ 0) (run (start i) (filter (is_kept i c) items)).core n s (quiet_run i (start i) c items h (start_state i h) (start_fits i h) quiet) is outside
   where
     start_cycles : (i : Image) → (start i).cycles ≡ 0
     start_cycles i = refl

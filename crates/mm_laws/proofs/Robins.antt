@@ -6,13 +6,12 @@ use Rattle.std.specs.List.Sorted.{IsStrictlyIncreasing}
 use Rattle.std.proofs.lemmas.Bool.{lt-ltb}
 use Rattle.mm_model.specs.Slot.{Slot}
 use Rattle.mm_model.specs.State.{Row, Core, State, slot_at}
-use Rattle.mm_model.specs.Image.{Image}
 use Rattle.mm_model.specs.Spelling.{numbers_of}
 use Rattle.mm_model.specs.Turn.{is_running}
 use Rattle.mm_model.specs.Run.{after, run, first_running, or_else, any_number, next_running, then_issued, robin_from, last_item}
-use Rattle.mm_model.specs.Fits.{slots_of, Fits}
+use Rattle.mm_model.specs.Fits.{slots_of, IsState}
 use Rattle.mm_model.proofs.CoreRows.{each_map, each_contained, above_first, rest_rises, slot_at-number, slots_found, slot_has, Rises}
-use Rattle.mm_model.proofs.StateKeeps.{after_fits}
+use Rattle.mm_model.proofs.StateKeeps.{after_state}
 use Rattle.mm_laws.specs.Schedules.{NoneRuns, AnyNumber, IsLeast, IsNext}
 
 abbrev slots_in : List Row → List Slot
@@ -146,18 +145,18 @@ ends s last (suc count) lt = by (next_running s.core.rows last) refl lt (λ n k.
 heads : (x y : ℕ) (xs ys : List ℕ) → x ∷ xs ≡ y ∷ ys → (x ≡ y) × (xs ≡ ys)
 heads x y xs ys e = (cc, cc)
 
-pub issues_next : (i : Image) (s : State) (last : Option ℕ) (count : ℕ) → Fits i s → (before : List ℕ) (n : ℕ) (behind : List ℕ) → robin_from s last count ≡ before ++ n ∷ behind → IsNext (run s before).core (last_item last before) n
+pub issues_next : (s : State) (last : Option ℕ) (count : ℕ) → IsState s → (before : List ℕ) (n : ℕ) (behind : List ℕ) → robin_from s last count ≡ before ++ n ∷ behind → IsNext (run s before).core (last_item last before) n
 unfolding robin_from run
-issues_next i s last zero fits [] n behind e = cc
-issues_next i s last zero fits (m ∷ before) n behind e = cc
-issues_next i s last (suc count) fits [] n behind e = by (next_running s.core.rows last) refl e
+issues_next s last zero h [] n behind e = cc
+issues_next s last zero h (m ∷ before) n behind e = cc
+issues_next s last (suc count) h [] n behind e = by (next_running s.core.rows last) refl e
   where
     by : (o : Option ℕ) → next_running s.core.rows last ≡ o → then_issued o (λ k. robin_from (after s k) (Some k) count) ≡ n ∷ behind → IsNext s.core last n
     by None is e = cc
     by (Some k) is e =
         let same = (heads k n (robin_from (after s k) (Some k) count) behind e).0 in
-        next_is s.core last n fits.core.rising (is ∙ ap (λ (j : ℕ). Some j) same)
-issues_next i s last (suc count) fits (m ∷ before) n behind e = by (next_running s.core.rows last) e (λ k. issues_next i (after s m) (Some m) count (after_fits i s m fits) before n behind k)
+        next_is s.core last n h.core.rising (is ∙ ap (λ (j : ℕ). Some j) same)
+issues_next s last (suc count) h (m ∷ before) n behind e = by (next_running s.core.rows last) e (λ k. issues_next (after s m) (Some m) count (after_state s m h) before n behind k)
   where
     by : (o : Option ℕ) → then_issued o (λ k. robin_from (after s k) (Some k) count) ≡ m ∷ (before ++ n ∷ behind) → (robin_from (after s m) (Some m) count ≡ before ++ n ∷ behind → IsNext (run (after s m) before).core (last_item (Some m) before) n)
         → IsNext (run (after s m) before).core (last_item (Some m) before) n

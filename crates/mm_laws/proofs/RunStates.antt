@@ -1,66 +1,97 @@
 -- What each state of a run is.
-use Rattle.std.proofs.Common.{◌≡◌, ℕ, ◌≤◌, true, List, [], ◌∷◌, length, Option, Some, None, refl, ap, ◌∙◌}
+use Rattle.std.proofs.Common.{◌≡◌, ℕ, ◌≤◌, true, List, [], ◌∷◌, length, Option, Some, None, refl, ap, ◌∙◌, subst}
 use Rattle.std.specs.Prelude.{IfSome}
 use Rattle.std.specs.List.{AllByRecursion}
 use Rattle.mm_model.specs.declared.event.Event.{Event}
+use Rattle.mm_model.specs.Flags.{one_if}
 use Rattle.mm_model.specs.Slot.{Slot}
 use Rattle.mm_model.specs.State.{State, slot_at, queue_at}
 use Rattle.mm_model.specs.Image.{Image, start}
 use Rattle.mm_model.specs.Spelling.{IsImage}
 use Rattle.mm_model.specs.Run.{after, run}
-use Rattle.mm_model.specs.Fits.{one_if, is_waiting, waits_for, events_of, IsAtSlot, IsSlot, Fits, TurnsWithin}
-use Rattle.mm_model.proofs.CoreRows.{each_both, slot_has}
+use Rattle.mm_model.specs.Fits.{is_waiting, waits_for, IsState, LoadsMatch, WaitsForSome, Fits, IsAtSlot, EventsAreAtSlots, IsKept, IsSlot, TurnsWithin}
+use Rattle.mm_model.proofs.CoreRows.{each_both, each_map, slot_at-number, slot_has}
 use Rattle.mm_model.proofs.CoreSteps.{waits_for-says, waits_for-at}
-use Rattle.mm_model.proofs.StateKeeps.{after_fits}
+use Rattle.mm_model.proofs.StateKeeps.{after_state, after_fits, after_kept}
 use Rattle.mm_model.proofs.TurnBounds.{turn_takes, after_within}
-use Rattle.mm_model.proofs.Starts.{start_fits, start_within}
+use Rattle.mm_model.proofs.Starts.{start_state, start_fits, start_kept, start_within}
 use Rattle.mm_model.proofs.Shortness.{queue_short, pending_short, queued_at}
-use Rattle.mm_laws.specs.States.{TakesTurn, WaitsFor}
+use Rattle.mm_laws.specs.States.{TakesTurn, WaitsFor, WaitsAt, IsQueued}
 
-pub starts : (i : Image) → IsImage i → Fits i (start i) × TurnsWithin (start i)
-starts i h = (start_fits i h, start_within i h)
+-- 1. The start, a turn and a run.
 
-pub takes_turn : (i : Image) (s : State) (n k : ℕ) (now : Slot) → Fits i s → slot_at (after s n).core k ≡ Some now → TakesTurn s n k now
+pub starts : (i : Image) → IsImage i → IsState (start i) × Fits i (start i) × TurnsWithin (start i)
+starts i h = (start_state i h, start_fits i h, start_within i h)
+
+pub takes_turn : (i : Image) (s : State) (n k : ℕ) (now : Slot) → IsState s → Fits i s → slot_at (after s n).core k ≡ Some now → TakesTurn s n k now
 unfolding after
-takes_turn i s n k now h is =
-    let from = turn_takes s.core s.memory n h.core k now is in
+takes_turn i s n k now h fits is =
+    let from = turn_takes s.core s.memory n h.core fits.matched k now is in
     record { was = from.was; stands = from.stands; turns = from.turns }
 
-run_fits : (i : Image) (s : State) (items : List ℕ) → Fits i s → Fits i (run s items)
-unfolding run
-run_fits i s [] h = h
-run_fits i s (n ∷ items) h = run_fits i (after s n) items (after_fits i s n h)
+-- what holds of the state after each turn: it is a state that fits the image, it keeps what the types keep, and no slot has taken too
+-- many turns
+record Reached (i : Image) (s : State) : Type 0 where
+  state : IsState s
+  fits : Fits i s
+  kept : IsKept s.core
+  few : TurnsWithin s
 
-pub runs_fit : (i : Image) (items : List ℕ) → IsImage i → Fits i (run (start i) items)
-runs_fit i items h = run_fits i (start i) items (start_fits i h)
+reached_after : (i : Image) (s : State) (n : ℕ) → IsImage i → Reached i s → Reached i (after s n)
+reached_after i s n img r = record {
+  state = after_state s n r.state;
+  fits = after_fits i s n img r.state r.fits;
+  kept = after_kept i s n img r.state r.fits r.kept;
+  few = after_within s n r.state.core r.fits.matched r.few;
+}
 
-run_within : (i : Image) (s : State) (items : List ℕ) → Fits i s → TurnsWithin s → TurnsWithin (run s items)
+run_reached : (i : Image) (s : State) (items : List ℕ) → IsImage i → Reached i s → Reached i (run s items)
 unfolding run
-run_within i s [] h few = few
-run_within i s (n ∷ items) h few = run_within i (after s n) items (after_fits i s n h) (after_within s n h.core few)
+run_reached i s [] img r = r
+run_reached i s (n ∷ items) img r = run_reached i (after s n) items img (reached_after i s n img r)
+
+runs_reached : (i : Image) (items : List ℕ) → IsImage i → Reached i (run (start i) items)
+runs_reached i items img = run_reached i (start i) items img (record { state = start_state i img; fits = start_fits i img; kept = start_kept i img.rising img.fresh; few = start_within i img })
+
+pub runs_fit : (i : Image) (items : List ℕ) → IsImage i → IsState (run (start i) items) × Fits i (run (start i) items)
+runs_fit i items img = let r = runs_reached i items img in (r.state, r.fits)
+
+pub runs_kept : (i : Image) (items : List ℕ) → IsImage i → IsKept (run (start i) items).core
+runs_kept i items img = (runs_reached i items img).kept
 
 pub runs_within : (i : Image) (items : List ℕ) → IsImage i → TurnsWithin (run (start i) items)
-runs_within i items h = run_within i (start i) items (start_fits i h) (start_within i h)
+runs_within i items img = (runs_reached i items img).few
 
--- waiting slots and queued events
+-- 2. Waiting slots and queued events.
+
 pub queued : (i : Image) (s : State) → Fits i s → (h : ℕ) → AllByRecursion (WaitsFor s h) (queue_at s.core h)
 queued i s fits h =
-    each_both (λ (e : Event). waits_for h (slot_at s.core e.slot) ≡ true) (IsAtSlot s.core) (WaitsFor s h)
-    (λ e waits at. by e (slot_at s.core e.slot) refl waits at)
-    (queue_at s.core h) (queued_at s.core fits.core h) (fits.core.in_place h)
+    each_map (λ (e : Event). waits_for h (slot_at s.core e.slot) ≡ true) (WaitsFor s h) (λ e waits. by e (slot_at s.core e.slot) refl waits) (queue_at s.core h) (queued_at s.core fits.matched h)
   where
-    by : (e : Event) (o : Option Slot) → slot_at s.core e.slot ≡ o → waits_for h o ≡ true → IfSome o (λ (x : Slot). e.ip ≡ x.ip) → WaitsFor s h e
-    by e None is waits at = cc
-    by e (Some x) is waits at =
-        let says = waits_for-says h x waits in
-        record { of = x; stands = is; waiting = says.0; handler = says.1; ip = at }
+    by : (e : Event) (o : Option Slot) → slot_at s.core e.slot ≡ o → waits_for h o ≡ true → WaitsFor s h e
+    by e None is waits = cc
+    by e (Some x) is waits = let says = waits_for-says h x waits in record { of = x; stands = is; waiting = says.0; handler = says.1 }
 
-pub waiting : (i : Image) (s : State) → Fits i s → (n h : ℕ) (x : Slot) → slot_at s.core n ≡ Some x → is_waiting x.state ≡ true → x.handler ≡ Some h → events_of n (queue_at s.core h) ≡ 1
-waiting i s fits n h x is waits handler = fits.core.matched n h ∙ ap one_if (ap (waits_for h) is ∙ waits_for-at h x waits handler)
+pub stand : (i : Image) (s : State) → Fits i s → EventsAreAtSlots s.core → (h : ℕ) → AllByRecursion (WaitsAt s h) (queue_at s.core h)
+stand i s fits in_place h = each_both (WaitsFor s h) (IsAtSlot s.core) (WaitsAt s h) one (queue_at s.core h) (queued i s fits h) (in_place h)
+  where
+    one : (e : Event) → WaitsFor s h e → IsAtSlot s.core e → WaitsAt s h e
+    one e w at = let P : Option Slot → Type 0 = λ o. IfSome o (λ x. e.ip ≡ x.ip) in record { waits = w; ip = subst P w.stands at }
 
--- short lists
-pub short_queues : (i : Image) (s : State) → Fits i s → (h : ℕ) → length (queue_at s.core h) ≤ 64
-short_queues i s fits h = queue_short s.core fits.core h
+pub waiting : (i : Image) (s : State) → Fits i s → (n : ℕ) (x : Slot) → slot_at s.core n ≡ Some x → is_waiting x.state ≡ true → IsQueued s x
+waiting i s fits n x is waits = by x.handler refl
+  where
+    number : x.number ≡ n
+    number = slot_at-number s.core n x is
 
-pub short_pending : (i : Image) (s : State) → Fits i s → (n : ℕ) (x : Slot) → slot_at s.core n ≡ Some x → length x.pending ≤ 16
-short_pending i s fits n x is = pending_short s.core.version s.core.split x (slot_has (IsSlot s.core.version s.core.split) s.core n x fits.core.slots is)
+    by : (o : Option ℕ) → x.handler ≡ o → IsQueued s x
+    by None none = absurd (slot_has WaitsForSome s.core n x fits.matched.waiting is waits none)
+    by (Some h) has = record { handler = h; has = has; one = fits.matched.events x.number h ∙ ap one_if (ap (waits_for h) (ap (slot_at s.core) number ∙ is) ∙ waits_for-at h x waits has) }
+
+-- 3. Queues and pending loads.
+
+pub short_queues : (i : Image) (s : State) → IsState s → Fits i s → (h : ℕ) → length (queue_at s.core h) ≤ 64
+short_queues i s state fits h = queue_short s.core fits.matched h state.core
+
+pub short_pending : (i : Image) (s : State) → IsState s → Fits i s → (n : ℕ) (x : Slot) → slot_at s.core n ≡ Some x → length x.pending ≤ 16
+short_pending i s state fits n x is = pending_short x (slot_has IsSlot s.core n x state.core.slots is) (slot_has LoadsMatch s.core n x fits.matched.loads is)

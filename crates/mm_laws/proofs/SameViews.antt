@@ -5,6 +5,7 @@ use Rattle.mm_model.specs.Image.{Image, start}
 use Rattle.mm_model.specs.Report.{same_cell, changes}
 use Rattle.mm_model.specs.Schedule.{only}
 use Rattle.mm_model.specs.Run.{run}
+use Rattle.mm_model.proofs.Fitted.{paged_of}
 use Rattle.mm_laws.specs.Isolated.{AgreeApart, SameWorlds}
 use Rattle.mm_laws.proofs.TwoLists.{two_runs}
 use Rattle.mm_laws.proofs.SameSections.{same_sections}
@@ -24,14 +25,16 @@ same_worlds i j c s t g e =
     let w = ends.worlds in
     let m : Memory = (run (start i) s).memory in
     let n : Memory = (run (start j) t).memory in
+    let one : IsPaged m = paged_of i (run (start i) s) w.one_state w.one in
+    let other : IsPaged n = paged_of j (run (start j) t) w.other_state w.other in
     record {
       alike = w.alike;
       view = record {
         sections = same_sections c (run (start i) s).core (run (start j) t).core w.alike.rows w.alike.outputs;
         turns = ends.lines;
         cells = λ p touched.
-            same_there p (changes m i.memory) (changes n j.memory) (changes_rising m i.memory w.one.paged) (changes_rising n j.memory w.other.paged)
-            (passing (λ v. p v ≡ true) m i.memory n j.memory w.one.paged g.one.paged w.other.paged g.other.paged (λ v f. w.alike.cells v (touched v f)) (λ v f. g.agree.cells v (touched v f)))
-            (passing (λ v. p v ≡ true) n j.memory m i.memory w.other.paged g.other.paged w.one.paged g.one.paged (λ v f. sym (w.alike.cells v (touched v f))) (λ v f. sym (g.agree.cells v (touched v f))));
+            same_there p (changes m i.memory) (changes n j.memory) (changes_rising m i.memory one) (changes_rising n j.memory other)
+            (passing (λ v. p v ≡ true) m i.memory n j.memory one g.one.paged other g.other.paged (λ v f. w.alike.cells v (touched v f)) (λ v f. g.agree.cells v (touched v f)))
+            (passing (λ v. p v ≡ true) n j.memory m i.memory other g.other.paged one g.one.paged (λ v f. sym (w.alike.cells v (touched v f))) (λ v f. sym (g.agree.cells v (touched v f))));
       };
     }

@@ -28,7 +28,7 @@ use Rattle.mm_model.specs.Reach.Entries.{All}
 use Rattle.mm_model.specs.Worlds.{is_turn_of, trace_of}
 use Rattle.mm_model.proofs.CoreRows.{slot_at-number, stays_by}
 use Rattle.mm_model.proofs.SlotSteps.{delivered_from}
-use Rattle.mm_model.proofs.Starts.{start_fits}
+use Rattle.mm_model.proofs.Starts.{start_state, start_fits}
 use Rattle.mm_model.proofs.TurnKeeps.{turn_keeps}
 use Rattle.mm_model.proofs.Filters.{filter_takes, filter_drops}
 use Rattle.mm_laws.specs.Isolated.{is_row_of, Alike, AgreeApart, Worlds}
@@ -114,14 +114,14 @@ module _ (i j : Image) (c : ℕ → Bool) (g : AgreeApart i j c) where
   same_line : (a b : State) (n : ℕ) → Worlds i j c a b → is_kept i c n ≡ true → line_of c (turn_of a n) ≡ line_of c (turn_of b n)
   unfolding after
   same_line a b n w kept =
-      let about = about_of c a.core a.memory n (item i c a w.one n kept) in
+      let about = about_of c a.core a.memory n (item i c a w.one_state w.one n kept) in
       let same = same_turns i j c g a b w n kept in
       let later = both_go_on i j c g a b w n kept in
-      let now = stays_by a.core (turn_of a n).core about.slot.number about.slot (turn_keeps a.core a.memory w.one.core n).identities about.stands in
+      let now = stays_by a.core (turn_of a n).core about.slot.number about.slot (turn_keeps a.core a.memory w.one_state.core n).identities about.stands in
       let member : c now.now.group ≡ true = ap (λ (x : ℕ × ℕ × Option ℕ). c x.1) now.same ∙ about.member in
       let here : slot_at (turn_of a n).core (turn_of a n).step.slot ≡ Some now.now = ap (slot_at (turn_of a n).core) about.about ∙ now.is in
       let there : slot_at (turn_of b n).core (turn_of b n).step.slot ≡ Some now.now =
-      ap (λ (x : Step). slot_at (turn_of b n).core x.slot) (sym same.step) ∙ (same_at c (turn_of a n).core (turn_of b n).core later.other.core.rising same.rows (turn_of a n).step.slot now.now here member).slot in
+      ap (λ (x : Step). slot_at (turn_of b n).core x.slot) (sym same.step) ∙ (same_at c (turn_of a n).core (turn_of b n).core later.other_state.core.rising same.rows (turn_of a n).step.slot now.now here member).slot in
       ap (λ o. slot_line_of c o (turn_of a n).step) (here ∙ sym there) ∙ ap (slot_line_of c (slot_at (turn_of b n).core (turn_of b n).step.slot)) same.step
 
   -- 3. Both lists.
@@ -259,8 +259,10 @@ module _ (i j : Image) (c : ℕ → Bool) (g : AgreeApart i j c) where
 
   pub start_worlds : Worlds i j c (start i) (start j)
   start_worlds = record {
+    one_state = start_state i g.one;
     one = start_fits i g.one;
     one_words = start_granted i g.one All;
+    other_state = start_state j g.other;
     other = start_fits j g.other;
     other_words = start_granted j g.other All;
     alike = start_alike;

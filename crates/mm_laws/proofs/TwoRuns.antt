@@ -4,14 +4,15 @@ use Rattle.std.specs.List.{filter}
 use Rattle.mm_model.specs.Slot.{Slot}
 use Rattle.mm_model.specs.State.{Core, State, slot_at}
 use Rattle.mm_model.specs.Image.{Image, slot_in, start}
-use Rattle.mm_model.specs.Fits.{identity_of, IsSlot, Fits}
+use Rattle.mm_model.specs.Fits.{identity_of, IsSlot, IsState, Fits}
 use Rattle.mm_model.specs.Schedule.{in_groups, is_kept}
 use Rattle.mm_model.specs.Turn.{Turned, started, idle, taken_by_port, taken_by, port_of, is_running, turn}
 use Rattle.mm_model.specs.Run.{turn_of, after}
 use Rattle.mm_model.specs.Reach.Entries.{All}
 use Rattle.mm_model.proofs.Starts.{start_at, start_slots}
-use Rattle.mm_model.proofs.CoreRows.{slot_limit-few, slot_at-number, slot_has, identities_of, identity_at}
-use Rattle.mm_laws.specs.Granted.{WordsGranted, StepGranted}
+use Rattle.mm_model.proofs.Fitted.{paged_of}
+use Rattle.mm_model.proofs.CoreRows.{slot_at-number, slot_has, identities_of, identity_at}
+use Rattle.mm_laws.specs.Granted.{StepGranted}
 use Rattle.mm_laws.specs.Isolated.{AgreeApart, Worlds, WorldsGoOn}
 use Rattle.mm_laws.proofs.GrantedRows.{Stands}
 use Rattle.mm_laws.proofs.GrantedTurns.{stands_of, step_granted}
@@ -55,16 +56,15 @@ pub data Item (c : ℕ → Bool) (core : Core) (n : ℕ) : Type 0 where
   names : (x : Slot) → slot_at core n ≡ Some x → c x.group ≡ true → Item c core n
   ports : (x : Slot) → slot_at core n ≡ None → port_of core n ≡ Some x → slot_at core x.number ≡ Some x → c x.group ≡ true → Item c core n
 
-module _ (i : Image) (c : ℕ → Bool) (s : State) (fits : Fits i s) where
+module _ (i : Image) (c : ℕ → Bool) (s : State) (state : IsState s) (fits : Fits i s) where
   no_slot_at : (n : ℕ) → 128 ≤ n → slot_at s.core n ≡ None
   no_slot_at n high = by (slot_at s.core n) refl
     where
       by : (o : Option Slot) → slot_at s.core n ≡ o → slot_at s.core n ≡ None
       by None is = is
       by (Some x) is =
-          let own = slot_has (IsSlot s.core.version s.core.split) s.core n x fits.core.slots is in
+          let own = slot_has IsSlot s.core n x state.core.slots is in
           let number = slot_at-number s.core n x is in
-          let few = slot_limit-few s.core.version in
           let low = own.number in
           absurd (omega arith)
 
@@ -103,10 +103,10 @@ module _ (i : Image) (c : ℕ → Bool) (s : State) (fits : Fits i s) where
 
 module _ (i j : Image) (c : ℕ → Bool) (g : AgreeApart i j c) (s t : State) (w : Worlds i j c s t) where
   stands_s : Stands i All s.core s.memory
-  stands_s = stands_of i All s w.one w.one_words
+  stands_s = stands_of i All s g.one w.one_state w.one w.one_words
 
   stands_t : Stands j All t.core t.memory
-  stands_t = stands_of j All t w.other w.other_words
+  stands_t = stands_of j All t g.other w.other_state w.other w.other_words
 
   both_worlds : Both i j c s.core t.core s.memory t.memory
   both_worlds = record {
@@ -114,8 +114,8 @@ module _ (i j : Image) (c : ℕ → Bool) (g : AgreeApart i j c) (s t : State) (
     other = stands_t;
     one_apart = g.one_apart;
     other_apart = g.other_apart;
-    one_paged = w.one.paged;
-    other_paged = w.other.paged;
+    one_paged = paged_of i s w.one_state w.one;
+    other_paged = paged_of j t w.other_state w.other;
     frames = λ p. w.one.frames ∙ g.agree.frames p ∙ sym w.other.frames;
     version = w.one.version ∙ g.agree.version ∙ sym w.other.version;
     split = w.one.split ∙ g.agree.mode ∙ sym w.other.split;
@@ -125,16 +125,16 @@ module _ (i j : Image) (c : ℕ → Bool) (g : AgreeApart i j c) (s t : State) (
   }
 
   step_s : (n : ℕ) → StepGranted i All s n
-  step_s n = step_granted i All s n w.one w.one_words
+  step_s n = step_granted i All s n g.one w.one_state w.one w.one_words
 
   step_t : (n : ℕ) → StepGranted j All t n
-  step_t n = step_granted j All t n w.other w.other_words
+  step_t n = step_granted j All t n g.other w.other_state w.other w.other_words
 
   abbrev SameOf : Turned → Turned → Type 0
   SameOf a b = SameTurn i c a b
 
   over : (n : ℕ) (x : Slot) → slot_at s.core n ≡ Some x → c x.group ≡ true → slot_at t.core n ≡ Some x
-  over n x at cx = (same_at c s.core t.core w.other.core.rising w.alike.rows n x at cx).slot
+  over n x at cx = (same_at c s.core t.core w.other_state.core.rising w.alike.rows n x at cx).slot
 
   at_its_number : (n : ℕ) (x : Slot) → slot_at s.core n ≡ Some x → slot_at s.core x.number ≡ Some x
   at_its_number n x is = ap (slot_at s.core) (slot_at-number s.core n x is) ∙ is
@@ -160,7 +160,7 @@ module _ (i j : Image) (c : ℕ → Bool) (g : AgreeApart i j c) (s t : State) (
       by false = same_idle i j c s.core t.core s.memory t.memory both_worlds n
   same_turn_of n (ports x none port at cx) =
       subst (λ o. SameOf (taken_by s.core s.memory n o) (taken_by t.core t.memory n (slot_at t.core n))) (sym none)
-      (subst (λ o. SameOf (taken_by s.core s.memory n None) (taken_by t.core t.memory n o)) (sym (no_slot_at j c t w.other n (high (s.core.split && nat_le 128 n) refl port)))
+      (subst (λ o. SameOf (taken_by s.core s.memory n None) (taken_by t.core t.memory n o)) (sym (no_slot_at j c t w.other_state w.other n (high (s.core.split && nat_le 128 n) refl port)))
       (subst (λ o. SameOf (taken_by_port s.core s.memory n o) (taken_by_port t.core t.memory n (port_of t.core n))) (sym port)
       (subst (λ o. SameOf (taken_by_port s.core s.memory n (Some x)) (taken_by_port t.core t.memory n o)) (sym (port_over n x port cx))
       (same_arrives i j c s.core t.core s.memory t.memory both_worlds x at (over x.number x at cx) cx x.pending))))
@@ -170,21 +170,23 @@ module _ (i j : Image) (c : ℕ → Bool) (g : AgreeApart i j c) (s t : State) (
       high false on e = cc
 
   pub same_turns : (n : ℕ) → is_kept i c n ≡ true → SameTurn i c (turn_of s n) (turn_of t n)
-  same_turns n kept = same_turn_of n (item i c s w.one n kept)
+  same_turns n kept = same_turn_of n (item i c s w.one_state w.one n kept)
 
   pub quiet_s : (n : ℕ) → is_kept i c n ≡ false → QuietTurn i c s.core s.memory (turn_of s n)
-  quiet_s n kept = turn_quiet i c g.one_apart s.core s.memory stands_s n (outside i c s w.one n kept) (port_outside i c s w.one n kept)
+  quiet_s n kept = turn_quiet i c g.one_apart s.core s.memory stands_s n (outside i c s w.one_state w.one n kept) (port_outside i c s w.one_state w.one n kept)
 
   pub quiet_t : (n : ℕ) → is_kept j c n ≡ false → QuietTurn j c t.core t.memory (turn_of t n)
-  quiet_t n kept = turn_quiet j c g.other_apart t.core t.memory stands_t n (outside j c t w.other n kept) (port_outside j c t w.other n kept)
+  quiet_t n kept = turn_quiet j c g.other_apart t.core t.memory stands_t n (outside j c t w.other_state w.other n kept) (port_outside j c t w.other_state w.other n kept)
 
   pub both_go_on : (n : ℕ) → is_kept i c n ≡ true → Worlds i j c (after s n) (after t n)
   unfolding after
   both_go_on n kept =
       let same = same_turns n kept in
       record {
+        one_state = (step_s n).state;
         one = (step_s n).fits;
         one_words = (step_s n).words;
+        other_state = (step_t n).state;
         other = (step_t n).fits;
         other_words = (step_t n).words;
         alike = record { rows = same.rows; outputs = same.outputs; cells = same.cells };
@@ -195,8 +197,10 @@ module _ (i j : Image) (c : ℕ → Bool) (g : AgreeApart i j c) (s t : State) (
   one_goes_on n kept =
       let quiet = quiet_s n kept in
       record {
+        one_state = (step_s n).state;
         one = (step_s n).fits;
         one_words = (step_s n).words;
+        other_state = w.other_state;
         other = w.other;
         other_words = w.other_words;
         alike = record { rows = quiet.rows ∙ w.alike.rows; outputs = λ k ck. quiet.outputs k ck ∙ w.alike.outputs k ck; cells = λ v touch. quiet.cells v touch ∙ w.alike.cells v touch };
@@ -207,8 +211,10 @@ module _ (i j : Image) (c : ℕ → Bool) (g : AgreeApart i j c) (s t : State) (
   other_goes_on n kept =
       let quiet = quiet_t n kept in
       record {
+        one_state = w.one_state;
         one = w.one;
         one_words = w.one_words;
+        other_state = (step_t n).state;
         other = (step_t n).fits;
         other_words = (step_t n).words;
         alike = record {

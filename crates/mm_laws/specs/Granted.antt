@@ -15,7 +15,7 @@ use Rattle.mm_model.specs.Slot.{Slot}
 use Rattle.mm_model.specs.State.{Row, State, slot_at, queue_at}
 use Rattle.mm_model.specs.Image.{Image, start}
 use Rattle.mm_model.specs.Spelling.{IsImage}
-use Rattle.mm_model.specs.Fits.{Fits}
+use Rattle.mm_model.specs.Fits.{IsState, Fits}
 use Rattle.mm_model.specs.Turn.{Turned}
 use Rattle.mm_model.specs.Run.{turn_of, after, run}
 use Rattle.mm_model.specs.Trace.{touches, group_in, done_entry, entries}
@@ -95,9 +95,10 @@ abbrev pub with_entries : Entries → List (ℕ × Pointer) → Entries
 with_entries All new = All
 with_entries (These list) new = These (list ++ new)
 
--- what is granted of one turn: all words after it, with its entry; what it touches and enters; and each word at which it
--- changes, adds or removes a cell
+-- what is granted of one turn: all words after it, with its entry, in a state that fits again; what it touches and enters; and each
+-- word at which it changes, adds or removes a cell
 pub record StepGranted (i : Image) (e : Entries) (s : State) (n : ℕ) : Type 0 where
+  pub state : IsState (after s n)
   pub fits : Fits i (after s n)
   pub words : WordsGranted i (with_entries e (done_entry (turn_of s n) (turn_of s n).step.entered)) (after s n)
   pub touched : AllByRecursion (TouchGranted i e (group_in (turn_of s n))) (touches (turn_of s n).step)
@@ -108,7 +109,7 @@ pub record StepGranted (i : Image) (e : Entries) (s : State) (n : ℕ) : Type 0 
 
 -- one turn, of any item, in any state that fits the image and whose words are granted, whatever was entered
 abbrev pub GrantsStep : Type 0
-GrantsStep = (i : Image) (e : Entries) (s : State) (n : ℕ) → IsImage i → Fits i s → WordsGranted i e s → StepGranted i e s n
+GrantsStep = (i : Image) (e : Entries) (s : State) (n : ℕ) → IsImage i → IsState s → Fits i s → WordsGranted i e s → StepGranted i e s n
 
 -- what holds of a run's state after a list of items, under the entries that were done in them, whichever item is next
 pub record RunGranted (i : Image) (e : Entries) (s : State) : Type 0 where
@@ -122,5 +123,5 @@ GrantsHold = (i : Image) (items : List ℕ) → IsImage i → RunGranted i (Thes
 -- in a state that fits its image and whose words are granted, an event is granted to the group of the slot that it is of too
 abbrev pub EventsGranted : Type 0
 EventsGranted =
-    (i : Image) (e : Entries) (s : State) → Fits i s → WordsGranted i e s → (h : ℕ)
+    (i : Image) (e : Entries) (s : State) → IsImage i → IsState s → Fits i s → WordsGranted i e s → (h : ℕ)
     → AllByRecursion (λ (event : Event). (of : Slot) → slot_at s.core event.slot ≡ Some of → EventGranted i e of.group event) (queue_at s.core h)

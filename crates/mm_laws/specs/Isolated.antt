@@ -6,7 +6,7 @@ use Rattle.mm_model.specs.State.{Row, State, output_of}
 use Rattle.mm_model.specs.Image.{Image, start}
 use Rattle.mm_model.specs.Groups.{HasSlot}
 use Rattle.mm_model.specs.Spelling.{IsImage}
-use Rattle.mm_model.specs.Fits.{Fits}
+use Rattle.mm_model.specs.Fits.{IsState, Fits}
 use Rattle.mm_model.specs.Schedule.{is_kept, only}
 use Rattle.mm_model.specs.Run.{turn_of, after, run}
 use Rattle.mm_model.specs.Reach.Entries.{All}
@@ -33,10 +33,12 @@ pub record AgreeApart (i j : Image) (c : ℕ → Bool) : Type 0 where
   pub one_apart : Apart i All c
   pub other_apart : Apart j All c
 
--- a state of each image, whose words are granted whatever was entered, and which are alike to the groups
+-- a state that fits each image, whose words are granted whatever was entered, and which are alike to the groups
 pub record Worlds (i j : Image) (c : ℕ → Bool) (s t : State) : Type 0 where
+  pub one_state : IsState s
   pub one : Fits i s
   pub one_words : WordsGranted i All s
+  pub other_state : IsState t
   pub other : Fits j t
   pub other_words : WordsGranted j All t
   pub alike : Alike i c s t

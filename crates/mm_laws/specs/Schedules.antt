@@ -2,11 +2,10 @@
 use Rattle.std.specs.Prelude.{◌≡◌, ℕ, ◌<◌, ◌≤◌, ◌⊎◌, true, List, ◌∷◌, ◌++◌, length, Option, Some, None}
 use Rattle.mm_model.specs.Slot.{Slot}
 use Rattle.mm_model.specs.State.{Core, State, slot_at}
-use Rattle.mm_model.specs.Image.{Image}
 use Rattle.mm_model.specs.Turn.{is_running}
 use Rattle.mm_model.specs.Run.{run, robin_from, last_item}
 use Rattle.mm_model.specs.Schedule.{Means, FaultsAt}
-use Rattle.mm_model.specs.Fits.{Fits}
+use Rattle.mm_model.specs.Fits.{IsState}
 
 -- 1. Texts.
 
@@ -64,5 +63,5 @@ RobinEndsWhereNoneRuns =
 -- each of its items names the next running slot when its turn comes
 abbrev pub RobinIssuesTheNext : Type 0
 RobinIssuesTheNext =
-    (i : Image) (s : State) (last : Option ℕ) (count : ℕ) → Fits i s → (before : List ℕ) (n : ℕ) (behind : List ℕ) → robin_from s last count ≡ before ++ n ∷ behind
+    (s : State) (last : Option ℕ) (count : ℕ) → IsState s → (before : List ℕ) (n : ℕ) (behind : List ℕ) → robin_from s last count ≡ before ++ n ∷ behind
     → IsNext (run s before).core (last_item last before) n

@@ -8,19 +8,33 @@ use Rattle.mm_model.specs.Image.{Image, start}
 use Rattle.mm_model.specs.Spelling.{IsImage}
 use Rattle.mm_model.specs.Turn.{is_running}
 use Rattle.mm_model.specs.Run.{after, run}
-use Rattle.mm_model.specs.Fits.{is_waiting, events_of, Fits, TurnsWithin}
+use Rattle.mm_model.specs.Fits.{is_waiting, events_of, IsState, Fits, EventsAreAtSlots, IsKept, TurnsWithin}
 
--- the machine's start fits its image, and no slot has taken a turn
+-- 1. The start, a turn and a run.
+
+-- the machine's start is a state and fits its image, and no slot has taken a turn
 abbrev pub StartsFit : Type 0
-StartsFit = (i : Image) → IsImage i → Fits i (start i) × TurnsWithin (start i)
+StartsFit = (i : Image) → IsImage i → IsState (start i) × Fits i (start i) × TurnsWithin (start i)
 
--- one turn, of any item, keeps a state that fits an image
+-- it keeps what the types of a machine keep besides
+abbrev pub StartsAreKept : Type 0
+StartsAreKept = (i : Image) → IsImage i → IsKept (start i).core
+
+-- one turn, of any item, leaves a state, whatever there was to fit
+abbrev pub TurnsKeepStates : Type 0
+TurnsKeepStates = (s : State) (n : ℕ) → IsState s → IsState (after s n)
+
+-- it keeps a state that fits an image
 abbrev pub TurnsKeepFit : Type 0
-TurnsKeepFit = (i : Image) (s : State) (n : ℕ) → Fits i s → Fits i (after s n)
+TurnsKeepFit = (i : Image) (s : State) (n : ℕ) → IsImage i → IsState s → Fits i s → Fits i (after s n)
+
+-- and of such a state what the types keep besides
+abbrev pub TurnsKeepTypes : Type 0
+TurnsKeepTypes = (i : Image) (s : State) (n : ℕ) → IsImage i → IsState s → Fits i s → IsKept s.core → IsKept (after s n).core
 
 -- and no slot takes more turns than there are cycles
 abbrev pub TurnsKeepBound : Type 0
-TurnsKeepBound = (i : Image) (s : State) (n : ℕ) → Fits i s → TurnsWithin s → TurnsWithin (after s n)
+TurnsKeepBound = (i : Image) (s : State) (n : ℕ) → IsState s → Fits i s → TurnsWithin s → TurnsWithin (after s n)
 
 -- what a cycle does to the turns of a slot: they stay, or they rise by one where it is the running slot that the item names
 pub record TakesTurn (s : State) (n k : ℕ) (now : Slot) : Type 0 where
@@ -30,37 +44,58 @@ pub record TakesTurn (s : State) (n k : ℕ) (now : Slot) : Type 0 where
 
 -- only the running slot that an item names takes a turn
 abbrev pub OneSlotTakesTurns : Type 0
-OneSlotTakesTurns = (i : Image) (s : State) (n k : ℕ) (now : Slot) → Fits i s → slot_at (after s n).core k ≡ Some now → TakesTurn s n k now
+OneSlotTakesTurns = (i : Image) (s : State) (n k : ℕ) (now : Slot) → IsState s → Fits i s → slot_at (after s n).core k ≡ Some now → TakesTurn s n k now
 
--- after any list of items, the state fits its image
+-- after any list of items there is a state that fits its image
 abbrev pub RunsFit : Type 0
-RunsFit = (i : Image) (items : List ℕ) → IsImage i → Fits i (run (start i) items)
+RunsFit = (i : Image) (items : List ℕ) → IsImage i → IsState (run (start i) items) × Fits i (run (start i) items)
+
+-- it keeps what the types of a machine keep besides
+abbrev pub RunsAreKept : Type 0
+RunsAreKept = (i : Image) (items : List ℕ) → IsImage i → IsKept (run (start i) items).core
 
 -- and no slot has taken more turns than there were cycles
 abbrev pub RunsKeepBound : Type 0
 RunsKeepBound = (i : Image) (items : List ℕ) → IsImage i → TurnsWithin (run (start i) items)
 
--- the slot of an event is there, waits for the owner of the queue, and stands where the event says
+-- 2. Waiting slots and queued events.
+
+-- the slot of an event is there and waits for the owner of the queue
 pub record WaitsFor (s : State) (h : ℕ) (e : Event) : Type 0 where
   pub of : Slot
   pub stands : slot_at s.core e.slot ≡ Some of
   pub waiting : is_waiting of.state ≡ true
   pub handler : of.handler ≡ Some h
-  pub ip : e.ip ≡ of.ip
 
 -- in a state that fits an image, each queued event is of a slot that waits for the queue's owner
 abbrev pub QueuedSlotsWait : Type 0
 QueuedSlotsWait = (i : Image) (s : State) → Fits i s → (h : ℕ) → AllByRecursion (WaitsFor s h) (queue_at s.core h)
 
--- and each slot that waits has exactly one event, which is in its handler's queue
+-- the slot stands where the event says
+pub record WaitsAt (s : State) (h : ℕ) (e : Event) : Type 0 where
+  pub waits : WaitsFor s h e
+  pub ip : e.ip ≡ waits.of.ip
+
+-- it does so where events have the instruction pointers of their slots
+abbrev pub QueuedSlotsStand : Type 0
+QueuedSlotsStand = (i : Image) (s : State) → Fits i s → EventsAreAtSlots s.core → (h : ℕ) → AllByRecursion (WaitsAt s h) (queue_at s.core h)
+
+-- the slot has a handler, in whose queue it has exactly one event
+pub record IsQueued (s : State) (x : Slot) : Type 0 where
+  pub handler : ℕ
+  pub has : x.handler ≡ Some handler
+  pub one : events_of x.number (queue_at s.core handler) ≡ 1
+
+-- each slot that waits is queued
 abbrev pub WaitingSlotsAreQueued : Type 0
-WaitingSlotsAreQueued =
-    (i : Image) (s : State) → Fits i s → (n h : ℕ) (x : Slot) → slot_at s.core n ≡ Some x → is_waiting x.state ≡ true → x.handler ≡ Some h → events_of n (queue_at s.core h) ≡ 1
+WaitingSlotsAreQueued = (i : Image) (s : State) → Fits i s → (n : ℕ) (x : Slot) → slot_at s.core n ≡ Some x → is_waiting x.state ≡ true → IsQueued s x
+
+-- 3. Short lists.
 
 -- no queue is longer than there can be slots
 abbrev pub QueuesAreShort : Type 0
-QueuesAreShort = (i : Image) (s : State) → Fits i s → (h : ℕ) → length (queue_at s.core h) ≤ 64
+QueuesAreShort = (i : Image) (s : State) → IsState s → Fits i s → (h : ℕ) → length (queue_at s.core h) ≤ 64
 
 -- no more loads are pending than a slot has registers
 abbrev pub PendingIsShort : Type 0
-PendingIsShort = (i : Image) (s : State) → Fits i s → (n : ℕ) (x : Slot) → slot_at s.core n ≡ Some x → length x.pending ≤ 16
+PendingIsShort = (i : Image) (s : State) → IsState s → Fits i s → (n : ℕ) (x : Slot) → slot_at s.core n ≡ Some x → length x.pending ≤ 16

@@ -1,27 +1,34 @@
 //! What each state of a run is.
-ghost use Rattle.mm_laws.specs.States.{StartsFit, TurnsKeepFit, TurnsKeepBound, OneSlotTakesTurns, RunsFit, RunsKeepBound, QueuedSlotsWait, WaitingSlotsAreQueued, QueuesAreShort, PendingIsShort};
+ghost use Rattle.mm_laws.specs.States.{StartsFit, StartsAreKept, TurnsKeepStates, TurnsKeepFit, TurnsKeepTypes, TurnsKeepBound, OneSlotTakesTurns, RunsFit, RunsAreKept, RunsKeepBound, QueuedSlotsWait, QueuedSlotsStand, WaitingSlotsAreQueued, QueuesAreShort, PendingIsShort};
 
-/// The machine's start fits its image.
+/// The machine's start is a state that fits its image, and keeps what the types keep.
 pub fn starts_fit()
-    ensures { StartsFit }
+    ensures fit { StartsFit }
+    ensures kept { StartsAreKept }
 {}
 
-/// One turn keeps a state that fits an image, and the bound of turns by cycles; only the running slot that it names takes it.
+/// One turn leaves a state, keeps one that fits an image, then keeps what the types keep, and the bound of turns by cycles; only
+/// the running slot that it names takes it.
 pub fn turns_keep_fit()
+    ensures states { TurnsKeepStates }
     ensures fit { TurnsKeepFit }
+    ensures kept { TurnsKeepTypes }
     ensures bound { TurnsKeepBound }
     ensures one_slot { OneSlotTakesTurns }
 {}
 
-/// After any list of items the state fits its image, and no slot has taken more turns than there were cycles.
+/// After any list of items there is a state that fits its image and keeps what the types keep, and no slot has taken more turns
+/// than there were cycles.
 pub fn runs_fit()
     ensures fit { RunsFit }
+    ensures kept { RunsAreKept }
     ensures bound { RunsKeepBound }
 {}
 
 /// Where a state fits an image, waiting slots and queued events match one to one.
 pub fn waiting_slots_match_events()
     ensures queued { QueuedSlotsWait }
+    ensures stand { QueuedSlotsStand }
     ensures waiting { WaitingSlotsAreQueued }
 {}
 

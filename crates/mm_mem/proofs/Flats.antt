@@ -19,7 +19,7 @@ flat es n = record { pages = es; frames = n }
 
 -- the cells of a page are those of the entry at its place
 pub page_here : (m : Memory) (k i : ℕ) (e : ℕ × List Cell) → IsPaged m → IsAt k m.pages i → e ≡ get_or m.pages i e → page_at m k ≡ Some e.1
-page_here m k i e paged at is = found_at k m.pages i (held _ paged.rising) at e ∙ ap (λ (x : ℕ × List Cell). Some x.1) (sym is)
+page_here m k i e paged at is = found_at k m.pages i (held _ paged.pages.rising) at e ∙ ap (λ (x : ℕ × List Cell). Some x.1) (sym is)
 
 -- what is read there
 pub cell_here : (m : Memory) (w i : ℕ) (e : ℕ × List Cell) (c : Cell) → IsPaged m → IsAt (page_of w) m.pages i → e ≡ get_or m.pages i e → w % 8 ≡ 0 → slice_get e.1 (place_of w) ≡ Some c → cell_at m w ≡ Some c
@@ -32,11 +32,11 @@ put_here m w i e new c paged at is made =
     let cells = slice_set e.1 (place_of w) c in
     let number : e.0 ≡ page_of w = ap (λ (x : ℕ × List Cell). x.0) is ∙ at.has_number e in
     ap (λ x. flat (set m.pages i x) m.frames) (made ∙ ap (λ (n : ℕ). (n, cells)) number)
-    ∙ ap (λ es. flat es m.frames) (set_at (page_of w) cells m.pages i (held _ paged.rising) at)
+    ∙ ap (λ es. flat es m.frames) (set_at (page_of w) cells m.pages i (held _ paged.pages.rising) at)
     ∙ sym (ap (λ o. put_in m o w c) (page_here m (page_of w) i e paged at is))
 
 pub mapped_here : (m : Memory) (k i : ℕ) → IsPaged m → IsAt k m.pages i → is_mapped m k ≡ true
-mapped_here m k i paged at = ap is_some (found_at k m.pages i (held _ paged.rising) at (0, zero_page))
+mapped_here m k i paged at = ap is_some (found_at k m.pages i (held _ paged.pages.rising) at (0, zero_page))
 
 pub not_mapped : (m : Memory) (k i : ℕ) → IsGap k m.pages i → is_mapped m k ≡ false
 not_mapped m k i gap = ap is_some (absent_in_gap k m.pages i gap)
@@ -101,7 +101,7 @@ map_here m k i new gap is = ap (λ es. flat es m.frames) (is ∙ insert_in_gap k
 -- a page that is taken out
 pub unmap_here : (m : Memory) (k i : ℕ) (new : Pages) → IsPaged m → IsAt k m.pages i → new ≡ remove m.pages i → flat new m.frames ≡ unmap_page m k
 unfolding unmap_page
-unmap_here m k i new paged at is = ap (λ es. flat es m.frames) (is ∙ remove_at k m.pages i (held _ paged.rising) at)
+unmap_here m k i new paged at is = ap (λ es. flat es m.frames) (is ∙ remove_at k m.pages i (held _ paged.pages.rising) at)
 
 -- pages stay whole and in order
 

@@ -10,7 +10,7 @@ use Rattle.mm_model.specs.State.{Row, Core, row_in, slot_of, queue_of, slot_at, 
 use Rattle.mm_model.specs.Image.{slot_limit}
 use Rattle.mm_model.specs.Groups.{has_group}
 use Rattle.mm_model.specs.Spelling.{numbers_of, IsOther}
-use Rattle.mm_model.specs.Fits.{slots_of, identity_of}
+use Rattle.mm_model.specs.Fits.{slots_of, identity_of, IsOfVersion}
 
 -- 1. Lists.
 
@@ -338,6 +338,24 @@ numbers_by xs ys e = sym (of_identities xs) ∙ ap (map (λ (i : ℕ × ℕ × O
     of_identities : (slots : List Slot) → map (λ (i : ℕ × ℕ × Option ℕ). i.0) (map identity_of slots) ≡ numbers_of slots
     of_identities [] = refl
     of_identities (s ∷ slots) = ap (λ (ns : List ℕ). s.number ∷ ns) (of_identities slots)
+
+into_map : {A B : Type 0} (P : B → Type 0) (f : A → B) (xs : List A) → AllByRecursion (λ x. P (f x)) xs → AllByRecursion P (map f xs)
+into_map P f [] h = tt
+into_map P f (x ∷ xs) h = (h.0, into_map P f xs h.1)
+
+out_of_map : {A B : Type 0} (P : B → Type 0) (f : A → B) (xs : List A) → AllByRecursion P (map f xs) → AllByRecursion (λ x. P (f x)) xs
+out_of_map P f [] h = tt
+out_of_map P f (x ∷ xs) h = (h.0, out_of_map P f xs h.1)
+
+-- what holds of the identities of slots holds of those of others that are the same
+pub by_identities : (P : ℕ × ℕ × Option ℕ → Type 0) (xs ys : List Slot) → map identity_of xs ≡ map identity_of ys → AllByRecursion (λ (s : Slot). P (identity_of s)) ys → AllByRecursion (λ (s : Slot). P (identity_of s)) xs
+by_identities P xs ys same h = out_of_map P identity_of xs (subst (AllByRecursion P) (sym same) (into_map P identity_of ys h))
+
+pub of_version_by : (version : ℕ) (xs ys : List Slot) → map identity_of xs ≡ map identity_of ys → AllByRecursion (IsOfVersion version) ys → AllByRecursion (IsOfVersion version) xs
+of_version_by version xs ys same h =
+    let Low : ℕ × ℕ × Option ℕ → Type 0 = λ i. (i.0 < slot_limit version) × (i.1 < slot_limit version) in
+    each_map (λ (s : Slot). Low (identity_of s)) (IsOfVersion version) (λ s low. record { number = low.0; group = low.1 }) xs
+    (by_identities Low xs ys same (each_map (IsOfVersion version) (λ (s : Slot). Low (identity_of s)) (λ s k. (k.number, k.group)) ys h))
 
 pub rises_by : (core after : Core) → identities_of after ≡ identities_of core → Rises core → Rises after
 rises_by core after e h = subst IsStrictlyIncreasing (sym (numbers_by (slots_of after) (slots_of core) e)) h

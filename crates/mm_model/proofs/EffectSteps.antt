@@ -1,5 +1,5 @@
--- Each row of the table of instructions: what it does keeps a core whole.
-use Rattle.std.proofs.Common.{◌≡◌, ℕ, ◌+◌, ◌<◌, ◌^◌, ◌%◌, Bool, true, false, ◌&&◌, ◌||◌, ◌==◌, nat_lt, if◌then◌else◌, List, [], ◌∷◌, length, Option, Some, None, Result, Ok, Err, refl, sym, ap, ◌∙◌, subst, eqb-true, ltb-true, ℤ, pos, negsuc, ◌*ℤ◌, ◌+ℤ◌, slice_set}
+-- Each row of the table of instructions: what it does lets a core go on.
+use Rattle.std.proofs.Common.{◌≡◌, ℕ, ◌+◌, ◌<◌, ◌^◌, ◌%◌, Bool, true, false, ◌&&◌, ◌||◌, ◌==◌, nat_lt, if◌then◌else◌, List, [], ◌∷◌, length, Option, Some, None, Result, Ok, Err, refl, sym, ap, ◌∙◌, ltb-true, ℤ, pos, negsuc, ◌*ℤ◌, ◌+ℤ◌, slice_set}
 use Rattle.std.specs.Prelude.{option_map}
 use Rattle.std.specs.Int.{w64, cast_unsigned, cast_signed}
 use Rattle.std.specs.List.{AllByRecursion}
@@ -38,20 +38,36 @@ use Rattle.mm_model.specs.Effect.{Reply, Change, Effect, effect, advanced, runs_
 use Rattle.mm_model.specs.Effect.Reply.{Fine, Refused, Got, Paged, Took, Served}
 use Rattle.mm_model.specs.Effect.Effect.{Fault, Block, Deliver, Does}
 use Rattle.mm_model.specs.Turn.{reply, reached, event_reply, first_event, served, is_running, is_taken, is_handler}
-use Rattle.mm_model.specs.Fits.{is_waiting, IsSlot, IsCore}
+use Rattle.mm_model.specs.Fits.{is_waiting, identity_of, IsSlot, IsFormed}
 use Rattle.mm_model.proofs.CoreRows.{slot_at-number, slot_has}
-use Rattle.mm_model.proofs.SlotSteps.{slot_stands, slot_written, slot_delivered, delivered_from, none_waits}
-use Rattle.mm_model.proofs.CoreSteps.{Replaces, queued_waits}
+use Rattle.mm_model.proofs.SlotSteps.{GoesOn, slot_stands, slot_written, slot_delivered, delivered_from}
+use Rattle.mm_model.proofs.CoreSteps.{handler_is, Replaces}
 
 -- 1. What an effect has to be.
+
+-- another slot, which this one serves and which neither runs nor waits, goes on so
+pub record OtherKeeps (core : Core) (n : ℕ) (o : Slot) : Type 0 where
+  pub replaces : Replaces core o
+  pub served : replaces.old.handler ≡ Some n
+  pub runs_not : is_running replaces.old.state ≡ false
+  pub waits_not : is_waiting replaces.old.state ≡ false
+  pub nor_later : is_waiting o.state ≡ false
+  pub turns : replaces.old.turns ≡ o.turns
+
+-- the slot of the oldest event is taken
+pub record EventTaken (core : Core) (n : ℕ) (rest : List Event) (o : Slot) : Type 0 where
+  pub replaces : Replaces core o
+  pub event : Event
+  pub queue : queue_at core n ≡ event ∷ rest
+  pub slot : event.slot ≡ o.number
+  pub waits_not : is_waiting o.state ≡ false
+  pub turns : replaces.old.turns ≡ o.turns
 
 -- what becomes of another slot and of the slot's own queue
 pub data Moves (core : Core) (n : ℕ) (c : Change) : Type 0 where
   keeps_all : c.queue ≡ None → c.other ≡ None → Moves core n c
-  -- a slot that does not run and does not wait takes the place of one
-  frees : (o : Slot) (r : Replaces core o) → c.queue ≡ None → c.other ≡ Some o → is_running r.old.state ≡ false → is_waiting r.old.state ≡ false → is_waiting o.state ≡ false → r.old.turns ≡ o.turns → Moves core n c
-  -- the oldest event is taken, and its slot waits no more
-  takes_event : (o : Slot) (r : Replaces core o) (e : Event) (rest : List Event) → c.queue ≡ Some rest → c.other ≡ Some o → queue_at core n ≡ e ∷ rest → e.slot ≡ o.number → is_waiting o.state ≡ false → r.old.turns ≡ o.turns → Moves core n c
+  frees : (o : Slot) → OtherKeeps core n o → c.queue ≡ None → c.other ≡ Some o → Moves core n c
+  takes_event : (o : Slot) (rest : List Event) → EventTaken core n rest o → c.queue ≡ Some rest → c.other ≡ Some o → Moves core n c
 
 -- a load that is issued empties the register that was written last
 abbrev pub IssueKeeps : Bool → List (ℕ × Word) → Option Pending → Type 0
@@ -65,23 +81,16 @@ OutKeeps core g (Some byte) = length (output_of core g) < output_limit core.vers
 
 pub record ChangeKeeps (core : Core) (s : Slot) (c : Change) : Type 0 where
   pub runs : can_fetch c.next.perm ≡ true
-  pub writes : AllByRecursion (λ (w : ℕ × Word). is_empty s w.0 ≡ false) c.writes
+  -- in a split machine no word is written to a register that waits for a load
+  pub writes : AllByRecursion (λ (w : ℕ × Word). core.split ≡ true → is_empty s w.0 ≡ false) c.writes
   pub issue : IssueKeeps core.split c.writes c.issue
   pub moves : Moves core s.number c
   pub room : OutKeeps core s.group c.out
 
--- another slot, neither running nor waiting, whose oldest load is delivered
-pub record DeliverKeeps (core : Core) (o : Slot) : Type 0 where
-  pub replaces : Replaces core o
-  pub runs_not : is_running replaces.old.state ≡ false
-  pub waits_not : is_waiting replaces.old.state ≡ false
-  pub nor_later : is_waiting o.state ≡ false
-  pub turns : replaces.old.turns ≡ o.turns
-
 abbrev pub EffectKeeps : Core → Slot → Effect → Type 0
 EffectKeeps core s (Fault c) = Unit {0}
 EffectKeeps core s Block = Unit {0}
-EffectKeeps core s (Deliver o) = DeliverKeeps core o
+EffectKeeps core s (Deliver o) = OtherKeeps core s.number o
 EffectKeeps core s (Does c) = ChangeKeeps core s c
 
 -- 2. Pointers that go on to be executable.
@@ -141,10 +150,6 @@ pub both_true : (a b : Bool) → (a && b) ≡ true → (a ≡ true) × (b ≡ tr
 both_true true b e = (refl, e)
 both_true false b e = cc
 
-pub handler_is : (n : ℕ) (o : Option ℕ) → is_handler n o ≡ true → o ≡ Some n
-handler_is n None e = cc
-handler_is n (Some h) e = ap (λ (k : ℕ). Some k) (eqb-true h n e)
-
 -- a slot that this one serves and whose event it has read
 pub record IsServed (core : Core) (n k : ℕ) (of : Slot) : Type 0 where
   pub stands : slot_at core k ≡ Some of
@@ -153,9 +158,13 @@ pub record IsServed (core : Core) (n k : ℕ) (of : Slot) : Type 0 where
 
 -- 4. The rows.
 
-module _ (core : Core) (h : IsCore core) (s : Slot) (at : slot_at core s.number ≡ Some s) where
-  abbrev own : IsSlot core.version core.split s
-  own = slot_has (IsSlot core.version core.split) core s.number s h.slots at
+module _ (core : Core) (h : IsFormed core) (s : Slot) (at : slot_at core s.number ≡ Some s) where
+  own : IsSlot s
+  own = slot_has IsSlot core s.number s h.slots at
+
+  -- a register that waits for no load in a split machine
+  abbrev Free : ℕ → Type 0
+  Free r = core.split ≡ true → is_empty s r ≡ false
 
   own_advances : can_fetch (advanced s.ip).perm ≡ true
   own_advances = ap can_fetch (advanced_perm s.ip) ∙ own.executable
@@ -164,15 +173,15 @@ module _ (core : Core) (h : IsCore core) (s : Slot) (at : slot_at core s.number 
   unfolding plain
   plain_keeps = record { runs = own_advances; writes = tt; issue = tt; moves = Moves.keeps_all refl refl; room = tt }
 
-  sets_keeps : (rd : ℕ) (w : Word) → is_empty s rd ≡ false → EffectKeeps core s (sets s rd w)
+  sets_keeps : (rd : ℕ) (w : Word) → Free rd → EffectKeeps core s (sets s rd w)
   unfolding plain
   sets_keeps rd w free = record { runs = own_advances; writes = (free, tt); issue = tt; moves = Moves.keeps_all refl refl; room = tt }
 
-  pointer_keeps : (rd : ℕ) (r : Result Pointer Cause) → is_empty s rd ≡ false → EffectKeeps core s (sets_pointer s rd r)
+  pointer_keeps : (rd : ℕ) (r : Result Pointer Cause) → Free rd → EffectKeeps core s (sets_pointer s rd r)
   pointer_keeps rd (Ok p) free = sets_keeps rd (Ptr p) free
   pointer_keeps rd (Err c) free = tt
 
-  number_keeps : (rd : ℕ) (r : Result ℕ DivZero) → is_empty s rd ≡ false → EffectKeeps core s (sets_number s rd r)
+  number_keeps : (rd : ℕ) (r : Result ℕ DivZero) → Free rd → EffectKeeps core s (sets_number s rd r)
   number_keeps rd (Ok n) free = sets_keeps rd (Int n) free
   number_keeps rd (Err e) free = tt
 
@@ -193,12 +202,12 @@ module _ (core : Core) (h : IsCore core) (s : Slot) (at : slot_at core s.number 
   out_keeps byte true room = record { runs = own_advances; writes = tt; issue = tt; moves = Moves.keeps_all refl refl; room = ltb-true (length (output_of core s.group)) (output_limit core.version) room }
   out_keeps byte false room = tt
 
-  got_keeps : (rd : ℕ) (post : Post) (a : Touch) (c : Cell) (b : Bool) → core.split ≡ b → is_empty s rd ≡ false → rd < 16 → EffectKeeps core s (loaded b s rd post (Got a c))
+  got_keeps : (rd : ℕ) (post : Post) (a : Touch) (c : Cell) (b : Bool) → core.split ≡ b → Free rd → rd < 16 → EffectKeeps core s (loaded b s rd post (Got a c))
   unfolding plain
   got_keeps rd post a c false mode free small = record { runs = own_advances; writes = (free, tt); issue = tt; moves = Moves.keeps_all refl refl; room = tt }
   got_keeps rd post a c true mode free small = record { runs = own_advances; writes = (free, tt); issue = (mode, small, refl); moves = Moves.keeps_all refl refl; room = tt }
 
-  load_keeps : (rd : ℕ) (post : Post) (pre : Pre) (m : Memory) (r : Result Touch Cause) → is_empty s rd ≡ false → rd < 16 → EffectKeeps core s (loaded core.split s rd post (reply core m s.number (reaching r pre)))
+  load_keeps : (rd : ℕ) (post : Post) (pre : Pre) (m : Memory) (r : Result Touch Cause) → Free rd → rd < 16 → EffectKeeps core s (loaded core.split s rd post (reply core m s.number (reaching r pre)))
   unfolding reply
   load_keeps rd post pre m (Err c) free small = tt
   load_keeps rd post pre m (Ok a) free small = by (cell_at m a.addr)
@@ -237,38 +246,37 @@ module _ (core : Core) (h : IsCore core) (s : Slot) (at : slot_at core s.number 
   jump_keeps p None is = tt
   jump_keeps p (Some to) is = record { runs = enters_executable p to is; writes = tt; issue = tt; moves = Moves.keeps_all refl refl; room = tt }
 
-  link_keeps : (rd : ℕ) (p : Pointer) (o behind : Option Pointer) → enter_result p ≡ o → is_empty s rd ≡ false → EffectKeeps core s (links s rd p o behind)
+  link_keeps : (rd : ℕ) (p : Pointer) (o behind : Option Pointer) → enter_result p ≡ o → Free rd → EffectKeeps core s (links s rd p o behind)
   unfolding plain
   link_keeps rd p None behind is free = tt
   link_keeps rd p (Some to) None is free = tt
   link_keeps rd p (Some to) (Some back) is free = record { runs = enters_executable p to is; writes = (free, tt); issue = tt; moves = Moves.keeps_all refl refl; room = tt }
 
   -- an event is taken
-  took_keeps : (rd : ℕ) (e : Event) (rest : List Event) (of : Slot) → queue_at core s.number ≡ e ∷ rest → slot_at core e.slot ≡ Some of → AllByRecursion (λ (r : ℕ). is_empty s r ≡ false) (rd ∷ (rd + 1) ∷ (rd + 2) ∷ (rd + 3) ∷ [])
+  took_keeps : (rd : ℕ) (e : Event) (rest : List Event) (of : Slot) → queue_at core s.number ≡ e ∷ rest → slot_at core e.slot ≡ Some of → AllByRecursion Free (rd ∷ (rd + 1) ∷ (rd + 2) ∷ (rd + 3) ∷ [])
       → EffectKeeps core s (takes s rd (Took e rest of))
   unfolding plain
   took_keeps rd e rest of queue is free =
       let number : of.number ≡ e.slot = slot_at-number core e.slot of is in
-      let waited : (is_waiting of.state ≡ true) × (of.handler ≡ Some s.number) =
-      (subst (AllByRecursion (λ (x : Event). x.slot ≡ e.slot → (is_waiting of.state ≡ true) × (of.handler ≡ Some s.number))) queue (queued_waits core h e.slot of is s.number)).0 refl in
+      let old = slot_has IsSlot core e.slot of h.slots is in
       record {
         runs = own_advances;
         writes = free;
         issue = tt;
-        moves = Moves.takes_event (record of { state = Taken })
+        moves = Moves.takes_event (record of { state = Taken }) rest
             (record {
-              old = of;
-              stands = ap (slot_at core) number ∙ is;
-              group = refl;
-              handler = refl;
-              ip = λ w. refl;
-              slot = let old = slot_has (IsSlot core.version core.split) core e.slot of h.slots is in slot_stands core.version core.split of of.ip of.past of.turns Taken old old.executable (λ y none. cc (waited.1, none));
+              replaces = record { old = of; stands = ap (slot_at core) number ∙ is; group = refl; handler = refl; ip = λ w. refl; goes_on = slot_stands core.split of of.ip of.past of.turns Taken old old.executable };
+              event = e;
+              queue = queue;
+              slot = sym number;
+              waits_not = refl;
+              turns = refl;
             })
-            e rest refl refl queue (sym number) refl refl;
+            refl refl;
         room = tt;
       }
 
-  event_keeps : (rd : ℕ) (q : List Event) → queue_at core s.number ≡ q → AllByRecursion (λ (r : ℕ). is_empty s r ≡ false) (rd ∷ (rd + 1) ∷ (rd + 2) ∷ (rd + 3) ∷ []) → EffectKeeps core s (takes s rd (first_event core q))
+  event_keeps : (rd : ℕ) (q : List Event) → queue_at core s.number ≡ q → AllByRecursion Free (rd ∷ (rd + 1) ∷ (rd + 2) ∷ (rd + 3) ∷ []) → EffectKeeps core s (takes s rd (first_event core q))
   event_keeps rd [] queue free = tt
   event_keeps rd (e ∷ rest) queue free = by (slot_at core e.slot) refl
     where
@@ -290,117 +298,96 @@ module _ (core : Core) (h : IsCore core) (s : Slot) (at : slot_at core s.number 
       by None is = refused cause.NoSlot
       by (Some of) is = passed of (is_handler s.number of.handler && is_taken of.state) is refl
 
-  resumed_replaces : (how : How) (k : ℕ) (of : Slot) → IsServed core s.number k of → EffectKeeps core s (resumes s how (Served of))
-  unfolding plain
-  resumed_replaces how k of served =
-      let stands : slot_at core of.number ≡ Some of = ap (slot_at core) (slot_at-number core k of served.stands) ∙ served.stands in
-      let old : IsSlot core.version core.split of = slot_has (IsSlot core.version core.split) core k of h.slots served.stands in
-      let rests = taken_rests of.state served.taken in
-      record {
-        runs = own_advances;
-        writes = tt;
-        issue = tt;
-        moves = by how of served stands old rests.0 rests.1;
-        room = tt;
-      }
-    where
-      by : (how : How) (of : Slot) → IsServed core s.number k of → slot_at core of.number ≡ Some of → IsSlot core.version core.split of → is_running of.state ≡ false → is_waiting of.state ≡ false
-          → Moves core s.number (record (plain s) { other = Some (resumed_by how of) })
-      by Retry of served stands old runs_not waits_not = Moves.frees (record of { state = Running })
-          (record { old = of; stands = stands; group = refl; handler = refl; ip = λ w. refl; slot = slot_stands core.version core.split of of.ip of.past of.turns Running old old.executable (λ y. cc) })
-          refl refl runs_not waits_not refl refl
-      by Skip of served stands old runs_not waits_not = Moves.frees (record of { state = Running; ip = advanced of.ip; past = of.past || runs_past of.ip })
-          (record {
-            old = of;
-            stands = stands;
-            group = refl;
-            handler = refl;
-            ip = λ w. cc (w, waits_not);
-            slot = slot_stands core.version core.split of (advanced of.ip) (of.past || runs_past of.ip) of.turns Running old (ap can_fetch (advanced_perm of.ip) ∙ old.executable) (λ y. cc);
-          })
-          refl refl runs_not waits_not refl refl
-      by Kill of served stands old runs_not waits_not = Moves.frees (record of { state = Halted None })
-          (record { old = of; stands = stands; group = refl; handler = refl; ip = λ w. refl; slot = slot_stands core.version core.split of of.ip of.past of.turns (Halted None) old old.executable (λ y. cc) })
-          refl refl runs_not waits_not refl refl
-
-  delivered_keeps : (k : ℕ) (of : Slot) → IsServed core s.number k of → DeliverKeeps core (delivered of)
-  delivered_keeps k of served =
-      let old : IsSlot core.version core.split of = slot_has (IsSlot core.version core.split) core k of h.slots served.stands in
-      let from = delivered_from of in
-      let rests = taken_rests of.state served.taken in
+  -- it goes on, and neither runs nor waits before
+  other_keeps : (k : ℕ) (of o : Slot) → IsServed core s.number k of → identity_of of ≡ identity_of o → is_waiting o.state ≡ false → of.turns ≡ o.turns → (is_waiting of.state ≡ true → of.ip ≡ o.ip) → GoesOn core.split of o → OtherKeeps core s.number o
+  other_keeps k of o served same rests turns ip goes =
+      let before = taken_rests of.state served.taken in
       record {
         replaces = record {
           old = of;
-          stands = ap (slot_at core) (from.number ∙ slot_at-number core k of served.stands) ∙ served.stands;
-          group = sym from.group;
-          handler = sym from.handler;
-          ip = λ w. sym from.ip;
-          slot = slot_delivered core.version core.split of old;
+          stands = ap (slot_at core) (sym (ap (λ (i : ℕ × ℕ × Option ℕ). i.0) same) ∙ slot_at-number core k of served.stands) ∙ served.stands;
+          group = ap (λ (i : ℕ × ℕ × Option ℕ). i.1) same;
+          handler = ap (λ (i : ℕ × ℕ × Option ℕ). i.2) same;
+          ip = ip;
+          goes_on = goes;
         };
-        runs_not = rests.0;
-        waits_not = rests.1;
-        nor_later = ap is_waiting from.state ∙ rests.1;
-        turns = sym from.turns;
+        served = served.handled;
+        runs_not = before.0;
+        waits_not = before.1;
+        nor_later = rests;
+        turns = turns;
       }
 
-  read_keeps : (rd reg k : ℕ) (of : Slot) → is_empty s rd ≡ false → IsServed core s.number k of → EffectKeeps core s (reads_of core.split s rd reg (Served of))
-  read_keeps rd reg k of free served = if_keeps (core.split && is_empty of reg) (Deliver (delivered of)) (sets s rd (register of reg)) (delivered_keeps k of served) (sets_keeps rd (register of reg) free)
+  resumed_keeps : (how : How) (k : ℕ) (of : Slot) → IsServed core s.number k of → EffectKeeps core s (resumes s how (Served of))
+  unfolding plain
+  resumed_keeps how k of served = record { runs = own_advances; writes = tt; issue = tt; moves = Moves.frees (resumed_by how of) (by how) refl refl; room = tt }
+    where
+      old : IsSlot of
+      old = slot_has IsSlot core k of h.slots served.stands
 
-  -- a register that waits for no load, in a split machine or in a plain one
-  is_free : (of : Slot) (reg : ℕ) (split : Bool) → IsSlot core.version split of → (split && is_empty of reg) ≡ false → is_empty of reg ≡ false
-  is_free of reg true old e = e
-  is_free of reg false old e = none_waits core.version of old reg
+      by : (how : How) → OtherKeeps core s.number (resumed_by how of)
+      by Retry = other_keeps k of (record of { state = Running }) served refl refl refl (λ w. refl) (slot_stands core.split of of.ip of.past of.turns Running old old.executable)
+      by Skip =
+          let rests = (taken_rests of.state served.taken).1 in
+          other_keeps k of (record of { state = Running; ip = advanced of.ip; past = of.past || runs_past of.ip }) served refl refl refl (λ w. cc (w, rests))
+          (slot_stands core.split of (advanced of.ip) (of.past || runs_past of.ip) of.turns Running old (ap can_fetch (advanced_perm of.ip) ∙ old.executable))
+      by Kill = other_keeps k of (record of { state = Halted None }) served refl refl refl (λ w. refl) (slot_stands core.split of of.ip of.past of.turns (Halted None) old old.executable)
+
+  delivered_keeps : (k : ℕ) (of : Slot) → IsServed core s.number k of → OtherKeeps core s.number (delivered of)
+  delivered_keeps k of served =
+      let from = delivered_from of in
+      let number = from.number in
+      let group = from.group in
+      let handler = from.handler in
+      other_keeps k of (delivered of) served (cc) (ap is_waiting from.state ∙ (taken_rests of.state served.taken).1) (sym from.turns) (λ w. sym from.ip) (slot_delivered core.split of (slot_has IsSlot core k of h.slots served.stands))
+
+  read_keeps : (rd reg k : ℕ) (of : Slot) → Free rd → IsServed core s.number k of → EffectKeeps core s (reads_of core.split s rd reg (Served of))
+  read_keeps rd reg k of free served = if_keeps (core.split && is_empty of reg) (Deliver (delivered of)) (sets s rd (register of reg)) (delivered_keeps k of served) (sets_keeps rd (register of reg) free)
 
   write_keeps : (reg k : ℕ) (w : Word) (of : Slot) → IsServed core s.number k of → EffectKeeps core s (writes_of core.split s reg w (Served of))
   unfolding plain
   write_keeps reg k w of served = by (core.split && is_empty of reg) refl
     where
+      free : (split : Bool) → (split && is_empty of reg) ≡ false → split ≡ true → is_empty of reg ≡ false
+      free true e on = e
+      free false e on = cc
+
       by : (b : Bool) → (core.split && is_empty of reg) ≡ b → EffectKeeps core s (if b then Deliver (delivered of) else Does (record (plain s) { other = Some (record of { regs = slice_set of.regs reg w }) }))
       by true e = delivered_keeps k of served
       by false e =
-          let old : IsSlot core.version core.split of = slot_has (IsSlot core.version core.split) core k of h.slots served.stands in
-          let rests = taken_rests of.state served.taken in
+          let goes = slot_written core.split of reg w (slot_has IsSlot core k of h.slots served.stands) (free core.split e) in
           record {
             runs = own_advances;
             writes = tt;
             issue = tt;
-            moves = Moves.frees (record of { regs = slice_set of.regs reg w })
-                (record {
-                  old = of;
-                  stands = ap (slot_at core) (slot_at-number core k of served.stands) ∙ served.stands;
-                  group = refl;
-                  handler = refl;
-                  ip = λ y. refl;
-                  slot = slot_written core.version core.split of reg w old (is_free of reg core.split old e);
-                })
-                refl refl rests.0 rests.1 rests.1 refl;
+            moves = Moves.frees (record of { regs = slice_set of.regs reg w }) (other_keeps k of (record of { regs = slice_set of.regs reg w }) served refl (taken_rests of.state served.taken).1 refl (λ y. refl) goes) refl refl;
             room = tt;
           }
 
-  paged_keeps : (rd page : ℕ) (b : Bool) → is_empty s rd ≡ false → EffectKeeps core s (maps s rd (Paged page b))
+  paged_keeps : (rd page : ℕ) (b : Bool) → Free rd → EffectKeeps core s (maps s rd (Paged page b))
   unfolding plain
   paged_keeps rd page true free = record { runs = own_advances; writes = (free, tt); issue = tt; moves = Moves.keeps_all refl refl; room = tt }
   paged_keeps rd page false free = sets_keeps rd (Int 0) free
 
-  unpaged_keeps : (rd page : ℕ) (b : Bool) → is_empty s rd ≡ false → EffectKeeps core s (unmaps s rd (Paged page b))
+  unpaged_keeps : (rd page : ℕ) (b : Bool) → Free rd → EffectKeeps core s (unmaps s rd (Paged page b))
   unfolding plain
   unpaged_keeps rd page true free = record { runs = own_advances; writes = (free, tt); issue = tt; moves = Moves.keeps_all refl refl; room = tt }
   unpaged_keeps rd page false free = sets_keeps rd (Int 0) free
 
-  map_keeps : (m : Memory) (rd page : ℕ) (b c : Bool) → is_empty s rd ≡ false → EffectKeeps core s (maps s rd (reply core m s.number (if b then (if c then MapPage page else Refuse cause.Bounds) else Refuse cause.Priv)))
+  map_keeps : (m : Memory) (rd page : ℕ) (b c : Bool) → Free rd → EffectKeeps core s (maps s rd (reply core m s.number (if b then (if c then MapPage page else Refuse cause.Bounds) else Refuse cause.Priv)))
   unfolding reply
   map_keeps m rd page true true free = paged_keeps rd page (can_map m page) free
   map_keeps m rd page true false free = tt
   map_keeps m rd page false c free = tt
 
-  unmap_keeps : (m : Memory) (rd page : ℕ) (b c : Bool) → is_empty s rd ≡ false → EffectKeeps core s (unmaps s rd (reply core m s.number (if b then (if c then UnmapPage page else Refuse cause.Bounds) else Refuse cause.Priv)))
+  unmap_keeps : (m : Memory) (rd page : ℕ) (b c : Bool) → Free rd → EffectKeeps core s (unmaps s rd (reply core m s.number (if b then (if c then UnmapPage page else Refuse cause.Bounds) else Refuse cause.Priv)))
   unfolding reply
   unmap_keeps m rd page true true free = unpaged_keeps rd page (is_mapped m page) free
   unmap_keeps m rd page true false free = tt
   unmap_keeps m rd page false c free = tt
 
-  -- what an instruction does keeps the core whole, where the registers that it names for results wait for no load
-  pub effect_keeps : (m : Memory) (i : Instr) → AllByRecursion (λ (r : ℕ). is_empty s r ≡ false) (fields_d i) → AllByRecursion (λ (r : ℕ). r < 16) (fields_d i) → EffectKeeps core s (effect core.split i s (reply core m s.number (ask i s)))
+  -- what an instruction does lets the core go on, where the registers that it names for results wait for no load in a split machine
+  pub effect_keeps : (m : Memory) (i : Instr) → AllByRecursion Free (fields_d i) → AllByRecursion (λ (r : ℕ). r < 16) (fields_d i) → EffectKeeps core s (effect core.split i s (reply core m s.number (ask i s)))
   unfolding effect ask reply
   effect_keeps m Halt free small = halts_keeps
   effect_keeps m Nop free small = plain_keeps
@@ -429,7 +416,7 @@ module _ (core : Core) (h : IsCore core) (s : Slot) (at : slot_at core s.number 
   effect_keeps m (Lip rd imm) free small = pointer_keeps rd (at_distance s imm) free.0
   effect_keeps m (Trap imm) free small = tt
   effect_keeps m (Evt rd) free small = event_keeps rd (queue_at core s.number) refl free
-  effect_keeps m (Resume ra how) free small = serve_keeps (word_bits (register s ra)) (resumes s how) (λ c. tt) (λ of served. resumed_replaces how (word_bits (register s ra)) of served)
+  effect_keeps m (Resume ra how) free small = serve_keeps (word_bits (register s ra)) (resumes s how) (λ c. tt) (λ of served. resumed_keeps how (word_bits (register s ra)) of served)
   effect_keeps m (Rreg rd ra reg) free small = serve_keeps (word_bits (register s ra)) (reads_of core.split s rd reg) (λ c. tt) (λ of served. read_keeps rd reg (word_bits (register s ra)) of free.0 served)
   effect_keeps m (Wreg ra rb reg) free small = serve_keeps (word_bits (register s ra)) (writes_of core.split s reg (register s rb)) (λ c. tt) (λ of served. write_keeps reg (word_bits (register s ra)) (register s rb) of served)
   effect_keeps m (Map rd ra) free small = map_keeps m rd (word_bits (register s ra)) (is_privileged s.ip.perm) (nat_lt (word_bits (register s ra)) (2 ^ 42)) free.0

@@ -47,8 +47,8 @@ use Rattle.mm_model.specs.Effect.Reply.{Fine, Refused, Got, Paged, Took, Served}
 use Rattle.mm_model.specs.Effect.Pages.{Keep, Add, Remove}
 use Rattle.mm_model.specs.Effect.Effect.{Fault, Block, Deliver, Does}
 use Rattle.mm_model.specs.Turn.{reply, reached, event_reply, first_event, served, is_taken, is_handler}
-use Rattle.mm_model.specs.Fits.{IsSlot, IsCore, SlotHoldsWords, EventHoldsWords, RowHoldsWords}
-use Rattle.mm_model.proofs.CoreRows.{each_set, slot_limit-few, slot_at-number, slot_has}
+use Rattle.mm_model.specs.Fits.{IsSlot, IsFormed, SlotHoldsWords, EventHoldsWords, RowHoldsWords}
+use Rattle.mm_model.proofs.CoreRows.{each_set, slot_at-number, slot_has}
 
 -- 1. What an effect has to be.
 
@@ -235,12 +235,12 @@ value_operand-fits i s instr h = by (field_b i)
     by None = imm_of_fields i instr
     by (Some r) = register_fits s r h
 
-module _ (core : Core) (h : IsCore core) (rows : AllByRecursion RowHoldsWords core.rows) (m : Memory) (cells : AllByRecursion HoldsWords m.pages) (s : Slot) (at : slot_at core s.number ≡ Some s) where
+module _ (core : Core) (h : IsFormed core) (rows : AllByRecursion RowHoldsWords core.rows) (m : Memory) (cells : AllByRecursion HoldsWords m.pages) (s : Slot) (at : slot_at core s.number ≡ Some s) where
   own_words : SlotHoldsWords s
   own_words = slot_words core s.number s rows at
 
-  own_slot : IsSlot core.version core.split s
-  own_slot = slot_has (IsSlot core.version core.split) core s.number s h.slots at
+  own_slot : IsSlot s
+  own_slot = slot_has IsSlot core s.number s h.slots at
 
   reg : (r : ℕ) → IsWord (register s r)
   reg r = register_fits s r own_words.registers
@@ -343,9 +343,8 @@ module _ (core : Core) (h : IsCore core) (rows : AllByRecursion RowHoldsWords co
   unfolding plain
   took_words rd e rest of is first others =
       let old = slot_words core e.slot of rows is in
-      let slot = slot_has (IsSlot core.version core.split) core e.slot of h.slots is in
-      let few : of.number < 64 = let all = slot_limit-few core.version in omega (arith, slot.number) in
-      let number : number_of e.cause + 256 * e.slot < 2 ^ 64 = event_number_fits e.cause e.slot (subst (λ n. n < 64) (slot_at-number core e.slot of is) few) in
+      let slot = slot_has IsSlot core e.slot of h.slots is in
+      let number : number_of e.cause + 256 * e.slot < 2 ^ 64 = event_number_fits e.cause e.slot (subst (λ n. n < 64) (slot_at-number core e.slot of is) slot.number) in
       record {
         next = advances;
         writes = (number, (first.ip, (first.address, (first.value, tt))));
@@ -431,7 +430,7 @@ module _ (core : Core) (h : IsCore core) (rows : AllByRecursion RowHoldsWords co
   effect_words (Isptr rd ra) instr = sets_words rd (Int (test (is_pointer (register s ra)))) (test_fits (is_pointer (register s ra)))
   effect_words (Eqw rd ra rb) instr = sets_words rd (Int (test (same_word (register s ra) (register s rb)))) (test_fits (same_word (register s ra) (register s rb)))
   effect_words (Out ra) instr = out_words (word_bits (register s ra) % 256) (nat_lt (length (output_of core s.group)) (output_limit core.version))
-  effect_words (SelfSlot rd) instr = sets_words rd (Int s.number) (let all = slot_limit-few core.version in omega (arith, own_slot.number))
+  effect_words (SelfSlot rd) instr = sets_words rd (Int s.number) (let few = own_slot.number in omega arith)
   effect_words (Alu op rd ra rb) instr = number_words rd (alu_result op (word_bits (register s ra)) (word_bits (register s rb))) (alu_result-fits op (word_bits (register s ra)) (word_bits (register s rb)) (bits ra) (bits rb))
   effect_words (Addi rd ra imm) instr = sets_words rd (Int ((word_bits (register s ra) + cast_unsigned w64 imm) % 2 ^ 64)) (omega arith)
   effect_words (Lea rd ra rb) instr =

@@ -8,9 +8,10 @@ pub mod EffectSteps
 pub mod TurnKeeps
 pub mod TurnShapes
 pub mod EffectWords
+pub mod Starts
+pub mod Fitted
 pub mod StateKeeps
 pub mod TurnBounds
-pub mod Starts
 pub mod Shortness
 pub mod Places
 pub mod Stops

@@ -10,7 +10,7 @@ use Rattle.std.specs.Cmp.{unsigned_tied}
 use Rattle.std.proofs.lemmas.Cmp.{nat_cmp_total}
 use Rattle.std.proofs.lemmas.Bool.Decides.{nat_tests}
 use Rattle.mm_word.specs.declared.word.Cell.{Cell}
-use Rattle.mm_model.specs.Memory.{Memory, page_at, is_mapped, cell_at, put_cell, put_in, cell_in, can_map, map_page, unmap_page, page_of, place_of, zero_cell, zero_page, IsPage, IsPaged}
+use Rattle.mm_model.specs.Memory.{Memory, page_at, is_mapped, cell_at, put_cell, put_in, cell_in, can_map, map_page, unmap_page, page_of, place_of, zero_cell, zero_page, IsPage, ArePages, IsPaged}
 
 -- one cell of a list of cells
 
@@ -307,7 +307,7 @@ found_whole q cells (e ∷ es) h is =
 
 -- a mapped page has a number below 2^42 and 512 cells
 pub page_whole : (m : Memory) → IsPaged m → (q : ℕ) (cells : List Cell) → page_at m q ≡ Some cells → IsPage (q, cells)
-page_whole m h q cells is = found_whole q cells m.pages h.whole is
+page_whole m h q cells is = found_whole q cells m.pages h.pages.whole is
 
 get_within : {A : Type 0} (xs : List A) (n : ℕ) → n < length xs → (x : A) × (slice_get xs n ≡ Some x)
 get_within [] n lt = absurd (omega arith)
@@ -320,21 +320,31 @@ put_rising k v es h = truth (is_sorted nat_cmp (put nat_cmp k v es)) (is_sorted-
 put_length : (k : ℕ) (v : List Cell) (es : List (ℕ × List Cell)) → IsTrue (is_sorted nat_cmp es) → length (put nat_cmp k v es) ≡ cond (is_some (find nat_cmp k es)) (length es) (length es + 1)
 put_length k v es h = length-put nat_cmp nat_cmp_total k v es (subst T (sym h) tt)
 
-put_in_paged : (m : Memory) (w : ℕ) (c : Cell) (o : Option (List Cell)) → page_at m (page_of w) ≡ o → IsPaged m → IsPaged (put_in m o w c)
-put_in_paged m w c None e h = h
-put_in_paged m w c (Some cells) e h =
-    let old = page_whole m h (page_of w) cells e in
+put_in_pages : (m : Memory) (w : ℕ) (c : Cell) (o : Option (List Cell)) → page_at m (page_of w) ≡ o → ArePages m.pages → ArePages (put_in m o w c).pages
+put_in_pages m w c None e h = h
+put_in_pages m w c (Some cells) e h =
+    let old = found_whole (page_of w) cells m.pages h.whole e in
     let new = slice_set cells (place_of w) c in
-    let long = put_length (page_of w) new m.pages h.rising ∙ ap (λ o. cond (is_some o) (length m.pages) (length m.pages + 1)) e in
     record {
       rising = put_rising (page_of w) new m.pages h.rising;
       whole = put_whole (page_of w) new m.pages (record { number = old.number; cells = length-set cells (place_of w) c ∙ old.cells }) h.whole;
-      fitting = rw long h.fitting;
     }
 
-pub put_paged : (m : Memory) (w : ℕ) (c : Cell) → IsPaged m → IsPaged (put_cell m w c)
+pub put_pages : (m : Memory) (w : ℕ) (c : Cell) → ArePages m.pages → ArePages (put_cell m w c).pages
 unfolding put_cell
-put_paged m w c h = put_in_paged m w c (page_at m (page_of w)) refl h
+put_pages m w c h = put_in_pages m w c (page_at m (page_of w)) refl h
+
+put_in_count : (m : Memory) (w : ℕ) (c : Cell) (o : Option (List Cell)) → page_at m (page_of w) ≡ o → ArePages m.pages → length (put_in m o w c).pages ≡ length m.pages
+put_in_count m w c None e h = refl
+put_in_count m w c (Some cells) e h = put_length (page_of w) (slice_set cells (place_of w) c) m.pages h.rising ∙ ap (λ o. cond (is_some o) (length m.pages) (length m.pages + 1)) e
+
+-- as many pages are mapped as before
+pub put_count : (m : Memory) (w : ℕ) (c : Cell) → ArePages m.pages → length (put_cell m w c).pages ≡ length m.pages
+unfolding put_cell
+put_count m w c h = put_in_count m w c (page_at m (page_of w)) refl h
+
+pub put_paged : (m : Memory) (w : ℕ) (c : Cell) → IsPaged m → IsPaged (put_cell m w c)
+put_paged m w c h = record { pages = put_pages m w c h.pages; fitting = let count = put_count m w c h.pages in let frames = put_frames m w c in let few = h.fitting in omega arith }
 
 can_map_is : (mapped free : Bool) → (not mapped && free) ≡ true → (mapped ≡ false) × (free ≡ true)
 can_map_is true free e = cc
@@ -348,23 +358,32 @@ can_map-facts m p e =
     let free = both.1 in
     (both.0, grind (arith, nat_tests))
 
-pub map_paged : (m : Memory) (p : ℕ) → IsPaged m → can_map m p ≡ true → p < 2 ^ 42 → IsPaged (map_page m p)
+pub map_pages : (m : Memory) (p : ℕ) → ArePages m.pages → p < 2 ^ 42 → ArePages (map_page m p).pages
 unfolding map_page
-map_paged m p h can lt =
+map_pages m p h lt = record { rising = put_rising p zero_page m.pages h.rising; whole = put_whole p zero_page m.pages (record { number = lt; cells = length_zeros 512 }) h.whole }
+
+-- there was a frame for the page
+pub map_fitting : (m : Memory) (p : ℕ) → ArePages m.pages → can_map m p ≡ true → length (map_page m p).pages ≤ (map_page m p).frames
+unfolding map_page
+map_fitting m p h can =
     let free = can_map-facts m p can in
     let long = put_length p zero_page m.pages h.rising ∙ ap (λ b. cond b (length m.pages) (length m.pages + 1)) free.0 in
-    record {
-      rising = put_rising p zero_page m.pages h.rising;
-      whole = put_whole p zero_page m.pages (record { number = lt; cells = length_zeros 512 }) h.whole;
-      fitting = omega arith;
-    }
+    omega arith
+
+pub map_paged : (m : Memory) (p : ℕ) → IsPaged m → can_map m p ≡ true → p < 2 ^ 42 → IsPaged (map_page m p)
+map_paged m p h can lt = record { pages = map_pages m p h.pages lt; fitting = map_fitting m p h.pages can }
+
+pub unmap_pages : (m : Memory) (p : ℕ) → ArePages m.pages → ArePages (unmap_page m p).pages
+unfolding unmap_page
+unmap_pages m p h = record {
+  rising = truth (is_sorted nat_cmp (filter (λ e. not (e.0 == p)) m.pages)) (is_sorted-where_key nat_cmp (λ k. not (k == p)) m.pages (subst T (sym h.rising) tt));
+  whole = filter_whole (λ e. not (e.0 == p)) m.pages h.whole;
+}
+
+-- no more pages are mapped than before
+pub unmap_count : (m : Memory) (p : ℕ) → length (unmap_page m p).pages ≤ length m.pages
+unfolding unmap_page
+unmap_count m p = filter_shorter (λ e. not (e.0 == p)) m.pages
 
 pub unmap_paged : (m : Memory) (p : ℕ) → IsPaged m → IsPaged (unmap_page m p)
-unfolding unmap_page
-unmap_paged m p h =
-    let shorter = filter_shorter (λ e. not (e.0 == p)) m.pages in
-    record {
-      rising = truth (is_sorted nat_cmp (filter (λ e. not (e.0 == p)) m.pages)) (is_sorted-where_key nat_cmp (λ k. not (k == p)) m.pages (subst T (sym h.rising) tt));
-      whole = filter_whole (λ e. not (e.0 == p)) m.pages h.whole;
-      fitting = omega arith;
-    }
+unmap_paged m p h = record { pages = unmap_pages m p h.pages; fitting = let fewer = unmap_count m p in let frames = unmap_frames m p in let few = h.fitting in omega arith }

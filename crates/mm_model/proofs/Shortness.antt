@@ -4,10 +4,11 @@ use Rattle.std.specs.List.{AllByRecursion}
 use Rattle.std.proofs.lemmas.Bool.{cases_eq, ne_eqb}
 use Rattle.mm_model.specs.declared.slot.Pending.{Pending}
 use Rattle.mm_model.specs.declared.event.Event.{Event}
+use Rattle.mm_model.specs.Flags.{one_if}
 use Rattle.mm_model.specs.Slot.{Slot, is_empty}
 use Rattle.mm_model.specs.State.{Core, slot_at, queue_at}
-use Rattle.mm_model.specs.Fits.{one_if, loads_for, events_of, waits_for, IsSlot, IsCore}
-use Rattle.mm_model.proofs.CoreRows.{slot_limit-few, each_map, slot_at-number, slot_has}
+use Rattle.mm_model.specs.Fits.{loads_for, events_of, waits_for, IsSlot, IsFormed, LoadsMatch, Matches}
+use Rattle.mm_model.proofs.CoreRows.{each_map, slot_at-number, slot_has}
 use Rattle.mm_model.proofs.SlotSteps.{at_most_one, empty_within}
 
 -- 1. A list whose keys are below a bound, and each of them at most once.
@@ -110,11 +111,12 @@ unfolding count
 loads_count r [] = refl
 loads_count r (p ∷ ps) = ap (λ n. if nat_eq p.reg r then n + 1 else n) (loads_count r ps)
 
-module _ (version : ℕ) (split : Bool) (s : Slot) (h : IsSlot version split s) where
+module _ (s : Slot) (h : IsSlot s) (match : LoadsMatch s) where
   loads_once : (r : ℕ) → count (λ (p : Pending). p.reg) r s.pending ≡ one_if (is_empty s r)
-  loads_once r = loads_count r s.pending ∙ h.pending r
+  loads_once r = loads_count r s.pending ∙ match.each r
 
-  loads_small : AllByRecursion (λ (p : Pending). p.reg < 16) s.pending
+  -- the registers of pending loads are registers
+  pub loads_small : AllByRecursion (λ (p : Pending). p.reg < 16) s.pending
   loads_small =
       each_map (λ (p : Pending). 1 ≤ count (λ (x : Pending). x.reg) p.reg s.pending) (λ (p : Pending). p.reg < 16)
       (λ p some. let once = loads_once p.reg in let within = empty_within s p.reg (some_is_true (is_empty s p.reg) (omega arith)) in omega (arith, h.flags))
@@ -130,6 +132,13 @@ module _ (version : ℕ) (split : Bool) (s : Slot) (h : IsSlot version split s) 
       let few = below-few (λ (p : Pending). p.reg) 16 s.pending at_most_once in
       omega arith
 
+  -- there is room for a load to a register that waits for none
+  pub pending_room : (r : ℕ) → r < 16 → is_empty s r ≡ false → length s.pending < 16
+  pending_room r small free =
+      let all = length-below (λ (p : Pending). p.reg) 16 s.pending loads_small in
+      let fewer = below-fewer (λ (p : Pending). p.reg) 16 r s.pending at_most_once small (loads_once r ∙ ap one_if free) in
+      omega arith
+
 -- 3. Queues.
 
 events_count : (n : ℕ) (q : List Event) → count (λ (e : Event). e.slot) n q ≡ events_of n q
@@ -137,23 +146,9 @@ unfolding count
 events_count n [] = refl
 events_count n (e ∷ q) = ap (λ k. if nat_eq e.slot n then k + 1 else k) (events_count n q)
 
-module _ (core : Core) (h : IsCore core) (g : ℕ) where
+module _ (core : Core) (match : Matches core) (g : ℕ) where
   events_once : (n : ℕ) → count (λ (e : Event). e.slot) n (queue_at core g) ≡ one_if (waits_for g (slot_at core n))
-  events_once n = events_count n (queue_at core g) ∙ h.matched n g
-
-  slot_small : (n : ℕ) (o : Option Slot) → slot_at core n ≡ o → waits_for g o ≡ true → n < 64
-  slot_small n None is w = cc
-  slot_small n (Some s) is w =
-      let number = slot_at-number core n s is in
-      let low = (slot_has (IsSlot core.version core.split) core n s h.slots is).number in
-      let all = slot_limit-few core.version in
-      omega arith
-
-  events_small : AllByRecursion (λ (e : Event). e.slot < 64) (queue_at core g)
-  events_small =
-      each_map (λ (e : Event). 1 ≤ count (λ (x : Event). x.slot) e.slot (queue_at core g)) (λ (e : Event). e.slot < 64)
-      (λ e some. let once = events_once e.slot in slot_small e.slot (slot_at core e.slot) refl (some_is_true (waits_for g (slot_at core e.slot)) (omega arith)))
-      (queue_at core g) (each_counts (λ (e : Event). e.slot) (queue_at core g))
+  events_once n = events_count n (queue_at core g) ∙ match.events n g
 
   events_at_most_once : (n : ℕ) → count (λ (e : Event). e.slot) n (queue_at core g) ≤ 1
   events_at_most_once n = let once = events_once n in let one = at_most_one (waits_for g (slot_at core n)) in omega arith
@@ -165,9 +160,27 @@ module _ (core : Core) (h : IsCore core) (g : ℕ) where
       (λ e some. let once = events_once e.slot in some_is_true (waits_for g (slot_at core e.slot)) (omega arith))
       (queue_at core g) (each_counts (λ (e : Event). e.slot) (queue_at core g))
 
+  slot_small : IsFormed core → (n : ℕ) (o : Option Slot) → slot_at core n ≡ o → waits_for g o ≡ true → n < 64
+  slot_small h n None is w = cc
+  slot_small h n (Some s) is w =
+      let number = slot_at-number core n s is in
+      let low = (slot_has IsSlot core n s h.slots is).number in
+      omega arith
+
+  events_small : IsFormed core → AllByRecursion (λ (e : Event). e.slot < 64) (queue_at core g)
+  events_small h =
+      each_map (λ (e : Event). waits_for g (slot_at core e.slot) ≡ true) (λ (e : Event). e.slot < 64) (λ e w. slot_small h e.slot (slot_at core e.slot) refl w) (queue_at core g) queued_at
+
   -- a queue holds no more events than there can be slots
-  pub queue_short : length (queue_at core g) ≤ 64
-  queue_short =
-      let all = length-below (λ (e : Event). e.slot) 64 (queue_at core g) events_small in
+  pub queue_short : IsFormed core → length (queue_at core g) ≤ 64
+  queue_short h =
+      let all = length-below (λ (e : Event). e.slot) 64 (queue_at core g) (events_small h) in
       let few = below-few (λ (e : Event). e.slot) 64 (queue_at core g) events_at_most_once in
+      omega arith
+
+  -- there is room for the event of a slot that does not wait for the queue's owner
+  pub queue_room : IsFormed core → (n : ℕ) → n < 64 → waits_for g (slot_at core n) ≡ false → length (queue_at core g) < 64
+  queue_room h n small rests =
+      let all = length-below (λ (e : Event). e.slot) 64 (queue_at core g) (events_small h) in
+      let fewer = below-fewer (λ (e : Event). e.slot) 64 n (queue_at core g) events_at_most_once small (events_once n ∙ ap one_if rests) in
       omega arith

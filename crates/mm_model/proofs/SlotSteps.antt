@@ -1,5 +1,5 @@
 -- What a slot of a machine goes on to be: with another standing, with words written, with a load issued or delivered.
-use Rattle.std.proofs.Common.{◌≡◌, ◌≢◌, ℕ, zero, suc, ◌+◌, ◌<◌, ◌≤◌, inl, inr, Bool, true, false, nat_eq, if◌then◌else◌, List, [], ◌∷◌, ◌++◌, length, Some, None, refl, sym, ap, ◌∙◌, arith, eq-eqb, slice_set, slice_index_or, length-set, get_or-set_same, get_or-set_other}
+use Rattle.std.proofs.Common.{◌≡◌, ◌≢◌, ℕ, zero, suc, ◌+◌, ◌<◌, ◌≤◌, inl, inr, Bool, true, false, nat_eq, if◌then◌else◌, List, [], ◌∷◌, ◌++◌, length, Some, refl, sym, ap, ◌∙◌, arith, eq-eqb, slice_set, slice_index_or, length-set, get_or-set_same, get_or-set_other}
 use Rattle.std.specs.List.{AllByRecursion}
 use Rattle.std.proofs.lemmas.Bool.{cases_eq, ne_eqb}
 use Rattle.mm_word.specs.declared.word.Word.{Word}
@@ -8,10 +8,11 @@ use Rattle.mm_word.specs.Perm.{can_fetch}
 use Rattle.mm_word.specs.Pointer.{Pointer}
 use Rattle.mm_model.specs.declared.slot.SlotState.{SlotState}
 use Rattle.mm_model.specs.declared.slot.Pending.{Pending}
+use Rattle.mm_model.specs.Flags.{one_if}
 use Rattle.mm_model.specs.Slot.{Slot, register, is_empty}
 use Rattle.mm_model.specs.Effect.{delivers, delivered}
 use Rattle.mm_model.specs.Turn.{put_all, stood, with_issue}
-use Rattle.mm_model.specs.Fits.{one_if, loads_for, is_handled, IsSlot}
+use Rattle.mm_model.specs.Fits.{loads_for, IsSlot, LoadsMatch, LoadsAreKept}
 
 -- 1. Flags and pending loads.
 
@@ -51,117 +52,138 @@ is_one : (b : Bool) (n : ℕ) → n + 1 ≡ one_if b → (b ≡ true) × (n ≡ 
 is_one true n e = (refl, omega arith)
 is_one false n e = absurd (omega arith)
 
--- 2. What does not touch registers.
+-- where nothing is pending no register waits
+none_waits : (s : Slot) → LoadsMatch s → s.pending ≡ [] → (r : ℕ) → is_empty s r ≡ false
+none_waits s match none r = no (is_empty s r) (sym (ap (loads_for r) none) ∙ match.each r)
+  where
+    no : (b : Bool) → 0 ≡ one_if b → b ≡ false
+    no true e = absurd (omega arith)
+    no false e = refl
 
-module _ (version : ℕ) (split : Bool) where
-  -- the slot with another instruction pointer, another state and other turns
-  pub slot_stands : (s : Slot) (ip : Pointer) (past : Bool) (turns : ℕ) (state : SlotState) → IsSlot version split s → can_fetch ip.perm ≡ true → (is_handled state ≡ true → s.handler ≢ None)
-      → IsSlot version split (record s { ip = ip; past = past; turns = turns; state = state })
-  unfolding register is_empty
-  slot_stands s ip past turns state h runs handled = record {
-    number = h.number;
-    group = h.group;
-    executable = runs;
-    registers = h.registers;
-    flags = h.flags;
-    pending = h.pending;
-    zero = h.zero;
-    mode = h.mode;
-    handled = handled;
+-- so a register that waits for no load in a split machine waits for none in any
+waits_not : (split : Bool) (s : Slot) (r : ℕ) → (split ≡ true → is_empty s r ≡ false) → LoadsMatch s → LoadsAreKept split s → is_empty s r ≡ false
+waits_not true s r free match kept = free refl
+waits_not false s r free match kept = none_waits s match (kept.mode refl) r
+
+-- 2. What a slot goes on to be: a slot, whose registers and loads match and are kept as before.
+
+pub record GoesOn (split : Bool) (old new : Slot) : Type 0 where
+  pub slot : IsSlot new
+  pub loads : LoadsMatch old → LoadsMatch new
+  pub kept : LoadsMatch old → LoadsAreKept split old → LoadsAreKept split new
+
+module _ (split : Bool) where
+  pub goes_then : (a b c : Slot) → GoesOn split a b → GoesOn split b c → GoesOn split a c
+  goes_then a b c first second = record {
+    slot = second.slot;
+    loads = λ match. second.loads (first.loads match);
+    kept = λ match kept. second.kept (first.loads match) (first.kept match kept);
   }
 
-  pub slot_stood : (s : Slot) (state : SlotState) → IsSlot version split s → (is_handled state ≡ true → s.handler ≢ None) → IsSlot version split (stood s state)
-  slot_stood s state h handled = slot_stands s s.ip s.past (s.turns + 1) state h h.executable handled
+  -- with another instruction pointer, another state and other turns
+  pub slot_stands : (s : Slot) (ip : Pointer) (past : Bool) (turns : ℕ) (state : SlotState) → IsSlot s → can_fetch ip.perm ≡ true → GoesOn split s (record s { ip = ip; past = past; turns = turns; state = state })
+  unfolding register is_empty
+  slot_stands s ip past turns state h runs = record {
+    slot = record { number = h.number; executable = runs; registers = h.registers; flags = h.flags };
+    loads = λ match. record { each = match.each };
+    kept = λ match kept. record { zero = kept.zero; mode = kept.mode };
+  }
+
+  pub slot_stood : (s : Slot) (state : SlotState) → IsSlot s → GoesOn split s (stood s state)
+  slot_stood s state h = slot_stands s s.ip s.past (s.turns + 1) state h h.executable
 
   -- 3. Words written.
 
-  -- a word written to a register that waits for no load
-  pub slot_written : (s : Slot) (r : ℕ) (w : Word) → IsSlot version split s → is_empty s r ≡ false → IsSlot version split (record s { regs = slice_set s.regs r w })
+  -- a word is written to a register, which waits for no load in a split machine
+  pub slot_written : (s : Slot) (r : ℕ) (w : Word) → IsSlot s → (split ≡ true → is_empty s r ≡ false) → GoesOn split s (record s { regs = slice_set s.regs r w })
   unfolding register is_empty
   slot_written s r w h free = record {
-    number = h.number;
-    group = h.group;
-    executable = h.executable;
-    registers = length-set s.regs r w ∙ h.registers;
-    flags = h.flags;
-    pending = h.pending;
-    zero = λ q e.
-        let ne : q ≢ r = λ same. cc (ap (λ k. slice_index_or s.empty k false) same, e, free) in
-        get_or-set_other s.regs r q w (Int 0) ne ∙ h.zero q e;
-    mode = h.mode;
-    handled = h.handled;
+    slot = record { number = h.number; executable = h.executable; registers = length-set s.regs r w ∙ h.registers; flags = h.flags };
+    loads = λ match. record { each = match.each };
+    kept = λ match kept. record {
+      zero = λ q e.
+          let ne : q ≢ r = λ same. cc (ap (λ k. slice_index_or s.empty k false) same, e, waits_not split s r free match kept) in
+          get_or-set_other s.regs r q w (Int 0) ne ∙ kept.zero q e;
+      mode = kept.mode;
+    };
   }
 
-  pub slot_put_all : (s : Slot) (ws : List (ℕ × Word)) → IsSlot version split s → AllByRecursion (λ w. is_empty s w.0 ≡ false) ws → IsSlot version split (record s { regs = put_all s.regs ws })
+  pub slot_put_all : (s : Slot) (ws : List (ℕ × Word)) → IsSlot s → AllByRecursion (λ w. split ≡ true → is_empty s w.0 ≡ false) ws → GoesOn split s (record s { regs = put_all s.regs ws })
   unfolding is_empty
-  slot_put_all s [] h free = h
-  slot_put_all s (w ∷ ws) h free = slot_put_all (record s { regs = slice_set s.regs w.0 w.1 }) ws (slot_written s w.0 w.1 h free.0) free.1
+  slot_put_all s [] h free = record { slot = h; loads = λ match. match; kept = λ match kept. kept }
+  slot_put_all s (w ∷ ws) h free =
+      let first = slot_written s w.0 w.1 h free.0 in
+      let one : Slot = record s { regs = slice_set s.regs w.0 w.1 } in
+      goes_then s one (record one { regs = put_all one.regs ws }) first (slot_put_all one ws first.slot free.1)
 
   -- 4. A load that is issued.
 
-  pub slot_issued : (s : Slot) (p : Pending) → IsSlot version split s → split ≡ true → p.reg < 16 → is_empty s p.reg ≡ false → register s p.reg ≡ Int 0 → IsSlot version split (with_issue s (Some p))
+  pub slot_issued : (s : Slot) (p : Pending) → IsSlot s → split ≡ true → p.reg < 16 → is_empty s p.reg ≡ false → register s p.reg ≡ Int 0 → GoesOn split s (with_issue s (Some p))
   unfolding register is_empty
   slot_issued s p h on lt free nought = record {
-    number = h.number;
-    group = h.group;
-    executable = h.executable;
-    registers = h.registers;
-    flags = length-set s.empty p.reg true ∙ h.flags;
-    pending = λ r. elim (cases_eq p.reg r) [
-      | inl same ↦
-          let was : loads_for r s.pending ≡ 0 = h.pending r ∙ ap one_if (ap (λ k. slice_index_or s.empty k false) (sym same) ∙ free) in
-          loads_for-push_same r s.pending p same
-          ∙ ap (λ n. n + 1) was
-          ∙ sym (ap one_if (ap (λ k. slice_index_or (slice_set s.empty p.reg true) k false) (sym same) ∙ get_or-set_same s.empty p.reg true false (omega (arith, h.flags))))
-      | inr ne ↦
-          loads_for-push_other r s.pending p ne
-          ∙ h.pending r
-          ∙ sym (ap one_if (get_or-set_other s.empty p.reg r true false (λ e. ne (sym e))))
-    ];
-    zero = λ r e. elim (cases_eq r p.reg) [
-      | inl same ↦ ap (λ k. slice_index_or s.regs k (Int 0)) same ∙ nought
-      | inr ne ↦ h.zero r (sym (get_or-set_other s.empty p.reg r true false ne) ∙ e)
-    ];
-    mode = λ off. absurd (cc (on, off));
-    handled = h.handled;
+    slot = record { number = h.number; executable = h.executable; registers = h.registers; flags = length-set s.empty p.reg true ∙ h.flags };
+    loads = λ match. record {
+      each = λ r. elim (cases_eq p.reg r) [
+        | inl same ↦
+            let was : loads_for r s.pending ≡ 0 = match.each r ∙ ap one_if (ap (λ k. slice_index_or s.empty k false) (sym same) ∙ free) in
+            loads_for-push_same r s.pending p same
+            ∙ ap (λ n. n + 1) was
+            ∙ sym (ap one_if (ap (λ k. slice_index_or (slice_set s.empty p.reg true) k false) (sym same) ∙ get_or-set_same s.empty p.reg true false (omega (arith, h.flags))))
+        | inr ne ↦
+            loads_for-push_other r s.pending p ne
+            ∙ match.each r
+            ∙ sym (ap one_if (get_or-set_other s.empty p.reg r true false (λ e. ne (sym e))))
+      ];
+    };
+    kept = λ match kept. record {
+      zero = λ r e. elim (cases_eq r p.reg) [
+        | inl same ↦ ap (λ k. slice_index_or s.regs k (Int 0)) same ∙ nought
+        | inr ne ↦ kept.zero r (sym (get_or-set_other s.empty p.reg r true false ne) ∙ e)
+      ];
+      mode = λ off. absurd (cc (on, off));
+    };
   }
 
   -- 5. A load that is delivered.
 
-  deliver_first : (s : Slot) (p : Pending) (rest : List Pending) → s.pending ≡ p ∷ rest → IsSlot version split s → IsSlot version split (delivers s (p ∷ rest))
-  unfolding register is_empty
-  deliver_first s p rest is h =
-      let counted : (r : ℕ) → (if nat_eq p.reg r then loads_for r rest + 1 else loads_for r rest) ≡ one_if (is_empty s r) = λ r. sym (ap (loads_for r) is) ∙ h.pending r in
-      let first : (is_empty s p.reg ≡ true) × (loads_for p.reg rest ≡ 0) = is_one (is_empty s p.reg) (loads_for p.reg rest) (sym (one_for p.reg p refl (loads_for p.reg rest)) ∙ counted p.reg) in
-      let within : p.reg < length s.empty = empty_within s p.reg first.0 in
-      record {
-        number = h.number;
-        group = h.group;
-        executable = h.executable;
-        registers = length-set s.regs p.reg p.word ∙ h.registers;
-        flags = length-set s.empty p.reg false ∙ h.flags;
-        pending = λ r. elim (cases_eq p.reg r) [
-          | inl same ↦
-              ap (λ k. loads_for k rest) (sym same) ∙ first.1
-              ∙ sym (ap one_if (ap (λ k. slice_index_or (slice_set s.empty p.reg false) k false) (sym same) ∙ get_or-set_same s.empty p.reg false false within))
-          | inr ne ↦
-              sym (none_for r p ne (loads_for r rest)) ∙ counted r
-              ∙ sym (ap one_if (get_or-set_other s.empty p.reg r false false (λ e. ne (sym e))))
-        ];
-        zero = λ r e. elim (cases_eq r p.reg) [
-          | inl same ↦ cc (ap (λ k. slice_index_or (slice_set s.empty p.reg false) k false) same, get_or-set_same s.empty p.reg false false within, e)
-          | inr ne ↦ get_or-set_other s.regs p.reg r p.word (Int 0) ne ∙ h.zero r (sym (get_or-set_other s.empty p.reg r false false ne) ∙ e)
-        ];
-        mode = λ off. cc (h.mode off, is);
-        handled = h.handled;
-      }
+  -- its register waits for this one load
+  first_waits : (s : Slot) (p : Pending) (rest : List Pending) → s.pending ≡ p ∷ rest → LoadsMatch s → (is_empty s p.reg ≡ true) × (loads_for p.reg rest ≡ 0)
+  first_waits s p rest is match =
+      is_one (is_empty s p.reg) (loads_for p.reg rest) (sym (one_for p.reg p refl (loads_for p.reg rest)) ∙ sym (ap (loads_for p.reg) is) ∙ match.each p.reg)
 
-  pub slot_delivered : (s : Slot) → IsSlot version split s → IsSlot version split (delivered s)
+  deliver_first : (s : Slot) (p : Pending) (rest : List Pending) → s.pending ≡ p ∷ rest → IsSlot s → GoesOn split s (delivers s (p ∷ rest))
+  unfolding register is_empty
+  deliver_first s p rest is h = record {
+    slot = record { number = h.number; executable = h.executable; registers = length-set s.regs p.reg p.word ∙ h.registers; flags = length-set s.empty p.reg false ∙ h.flags };
+    loads = λ match.
+        let first = first_waits s p rest is match in
+        record {
+          each = λ r. elim (cases_eq p.reg r) [
+            | inl same ↦
+                ap (λ k. loads_for k rest) (sym same) ∙ first.1
+                ∙ sym (ap one_if (ap (λ k. slice_index_or (slice_set s.empty p.reg false) k false) (sym same) ∙ get_or-set_same s.empty p.reg false false (empty_within s p.reg first.0)))
+            | inr ne ↦
+                sym (none_for r p ne (loads_for r rest)) ∙ sym (ap (loads_for r) is) ∙ match.each r
+                ∙ sym (ap one_if (get_or-set_other s.empty p.reg r false false (λ e. ne (sym e))))
+          ];
+        };
+    kept = λ match kept.
+        let first = first_waits s p rest is match in
+        record {
+          zero = λ r e. elim (cases_eq r p.reg) [
+            | inl same ↦ cc (ap (λ k. slice_index_or (slice_set s.empty p.reg false) k false) same, get_or-set_same s.empty p.reg false false (empty_within s p.reg first.0), e)
+            | inr ne ↦ get_or-set_other s.regs p.reg r p.word (Int 0) ne ∙ kept.zero r (sym (get_or-set_other s.empty p.reg r false false ne) ∙ e)
+          ];
+          mode = λ off. cc (kept.mode off, is);
+        };
+  }
+
+  pub slot_delivered : (s : Slot) → IsSlot s → GoesOn split s (delivered s)
   unfolding delivered
   slot_delivered s h = by s.pending refl
     where
-      by : (ps : List Pending) → s.pending ≡ ps → IsSlot version split (delivers s ps)
-      by [] is = h
+      by : (ps : List Pending) → s.pending ≡ ps → GoesOn split s (delivers s ps)
+      by [] is = record { slot = h; loads = λ match. match; kept = λ match kept. kept }
       by (p ∷ rest) is = deliver_first s p rest is h
 
 -- what a delivery leaves of the slot
@@ -181,11 +203,3 @@ delivered_from s = by s.pending
     by : (ps : List Pending) → DeliveredFrom s (delivers s ps)
     by [] = record { number = refl; group = refl; handler = refl; ip = refl; past = refl; turns = refl; state = refl }
     by (p ∷ rest) = record { number = refl; group = refl; handler = refl; ip = refl; past = refl; turns = refl; state = refl }
-
--- a slot of a plain machine has no register that waits
-pub none_waits : (version : ℕ) (s : Slot) → IsSlot version false s → (r : ℕ) → is_empty s r ≡ false
-none_waits version s h r = no (is_empty s r) (sym (ap (loads_for r) (h.mode refl)) ∙ h.pending r)
-  where
-    no : (b : Bool) → 0 ≡ one_if b → b ≡ false
-    no true e = absurd (omega arith)
-    no false e = refl

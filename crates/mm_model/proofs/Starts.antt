@@ -1,4 +1,4 @@
--- The machine's start fits its image.
+-- The machine's start is a state, fits its image, and keeps what the types keep.
 use Rattle.std.proofs.Common.{◌≡◌, ℕ, zero, suc, ◌≤◌, Bool, true, false, nat_eq, if◌then◌else◌, List, [], ◌∷◌, length, map, replicate, Option, Some, None, refl, sym, ap, ◌∙◌, subst, arith, slice_index_or}
 use Rattle.std.specs.Prelude.{IfSome}
 use Rattle.std.specs.List.{AllByRecursion}
@@ -6,12 +6,15 @@ use Rattle.std.specs.List.Sorted.{IsStrictlyIncreasing}
 use Rattle.mm_model.specs.declared.slot.SlotState.{SlotState}
 use Rattle.mm_model.specs.declared.slot.SlotState.TheVariants.{Running, Waiting, Taken, Halted}
 use Rattle.mm_model.specs.declared.slot.Pending.{Pending}
+use Rattle.mm_model.specs.Flags.{one_if}
 use Rattle.mm_model.specs.Slot.{Slot, is_empty}
 use Rattle.mm_model.specs.State.{Row, row_in, slot_of, queue_of, slot_at, queue_at, output_of}
 use Rattle.mm_model.specs.Image.{Image, slot_in, slot_limit, output_limit, start}
 use Rattle.mm_model.specs.Spelling.{Begins, numbers_of, IsOther, IsFresh, IsImage}
-use Rattle.mm_model.specs.Fits.{one_if, loads_for, is_handled, is_waiting, waits_for, events_of, slots_of, identity_of, IsAtSlot, IsSlot, IsCore, SlotHoldsWords, RowHoldsWords, Fits, TurnsWithin}
-use Rattle.mm_model.proofs.CoreRows.{each_map, slot_has}
+use Rattle.mm_model.specs.Turn.{is_taken}
+use Rattle.mm_model.specs.Fits.{loads_for, is_waiting, waits_for, events_of, slots_of, identity_of, SlotHoldsWords, RowHoldsWords, IsSlot, IsFormed, IsState, LoadsMatch, WaitsForSome, Matches, Fits, IsAtSlot, LoadsAreKept, TakenBySome, IsKept, IsOfVersion, HandlersAreOthers, IsCore, TurnsWithin}
+use Rattle.mm_model.proofs.CoreRows.{each_map, slot_limit-few, slot_has}
+use Rattle.mm_model.proofs.CoreSteps.{waits_for-rests}
 
 -- a slot with no event
 abbrev alone : Slot → Row
@@ -60,28 +63,12 @@ nothing_out zero g = refl
 nothing_out (suc n) zero = refl
 nothing_out (suc n) (suc g) = nothing_out n g
 
-begun : (st : SlotState) → Begins st → (is_handled st ≡ false) × (is_waiting st ≡ false)
+begun : (st : SlotState) → Begins st → (is_taken st ≡ false) × (is_waiting st ≡ false)
 begun Running h = (refl, refl)
 begun Waiting h = absurd h
 begun Taken h = absurd h
 begun (Halted None) h = (refl, refl)
 begun (Halted (Some c)) h = absurd h
-
-fresh_slot : (version : ℕ) (split : Bool) (slots : List Slot) (s : Slot) → IsFresh (slot_limit version) slots s → IsSlot version split s
-unfolding is_empty
-fresh_slot version split slots s h =
-    let free : (r : ℕ) → is_empty s r ≡ false = λ r. ap (λ (flags : List Bool). slice_index_or flags r false) h.empty ∙ none_set 16 r in
-    record {
-      number = h.number;
-      group = h.group;
-      executable = h.executable;
-      registers = h.registers;
-      flags = ap length h.empty;
-      pending = λ r. ap (loads_for r) h.pending ∙ sym (ap one_if (free r));
-      zero = λ r e. cc (e, free r);
-      mode = λ off. h.pending;
-      handled = λ e. cc (e, (begun s.state h.begins).0);
-    }
 
 fresh_words : (limit : ℕ) (slots : List Slot) (s : Slot) → IsFresh limit slots s → SlotHoldsWords s
 fresh_words limit slots s h = record { registers = h.words; ip = h.ip; pending = subst (AllByRecursion (λ (p : Pending). Rattle.mm_word.specs.Word.IsWord p.word)) (sym h.pending) tt }
@@ -90,34 +77,84 @@ rows_alone : (slots : List Slot) → AllByRecursion SlotHoldsWords slots → All
 rows_alone [] h = tt
 rows_alone (s ∷ slots) h = (record { slot = h.0; events = tt }, rows_alone slots h.1)
 
-none_waits : (i : Image) → AllByRecursion (IsFresh (slot_limit i.version) i.slots) i.slots → (n h : ℕ) → waits_for h (slot_at (start i).core n) ≡ false
-none_waits i fresh n h = by (slot_at (start i).core n) refl
-  where
-    by : (o : Option Slot) → slot_at (start i).core n ≡ o → waits_for h o ≡ false
-    by None is = refl
-    by (Some s) is =
-        let one : IsFresh (slot_limit i.version) i.slots s = slot_has (IsFresh (slot_limit i.version) i.slots) (start i).core n s (subst (AllByRecursion (IsFresh (slot_limit i.version) i.slots)) (sym (start_slots i)) fresh) is in
-        ap (λ b. if b then Rattle.mm_model.specs.Fits.is_number h s.handler else false) (begun s.state one.begins).1
+fresh_loads : (limit : ℕ) (slots : List Slot) (s : Slot) → IsFresh limit slots s → LoadsMatch s
+unfolding is_empty
+fresh_loads limit slots s h = record { each = λ r. ap (loads_for r) h.pending ∙ sym (ap one_if (ap (λ (flags : List Bool). slice_index_or flags r false) h.empty ∙ none_set 16 r)) }
 
-start_core : (i : Image) → IsImage i → IsCore (start i).core
-unfolding start output_of
-start_core i h =
-    let same = sym (start_slots i) in
-    record {
-      rising = subst (λ (slots : List Slot). IsStrictlyIncreasing (numbers_of slots)) same h.rising;
-      slots = subst (AllByRecursion (IsSlot i.version i.split)) same (each_map (IsFresh (slot_limit i.version) i.slots) (IsSlot i.version i.split) (λ s k. fresh_slot i.version i.split i.slots s k) i.slots h.fresh);
-      handlers = subst (λ (slots : List Slot). AllByRecursion (λ (s : Slot). IfSome s.handler (IsOther slots s.number)) slots) same
-          (each_map (IsFresh (slot_limit i.version) i.slots) (λ (s : Slot). IfSome s.handler (IsOther i.slots s.number)) (λ s k. k.handler) i.slots h.fresh);
-      matched = λ n g. ap (events_of n) (start_queues i g) ∙ sym (ap one_if (none_waits i h.fresh n g));
-      in_place = λ g. subst (AllByRecursion (IsAtSlot (start i).core)) (sym (start_queues i g)) tt;
-      outputs = refl;
-      within = each_empty 64;
-      silent = λ g none. nothing_out 64 g;
-    }
-  where
-    each_empty : (n : ℕ) → AllByRecursion (λ (bytes : List ℕ). length bytes ≤ output_limit i.version) (replicate n [])
-    each_empty zero = tt
-    each_empty (suc n) = (omega arith, each_empty n)
+fresh_kept : (limit : ℕ) (split : Bool) (slots : List Slot) (s : Slot) → IsFresh limit slots s → LoadsAreKept split s
+unfolding is_empty
+fresh_kept limit split slots s h = record { zero = λ r e. cc (e, ap (λ (flags : List Bool). slice_index_or flags r false) h.empty, none_set 16 r); mode = λ off. h.pending }
+
+-- 1. The core of an image's slots, which are in order and fresh.
+
+module _ (i : Image) (rising : IsStrictlyIncreasing (numbers_of i.slots)) (fresh : AllByRecursion (IsFresh (slot_limit i.version) i.slots) i.slots) where
+  abbrev Fresh : Slot → Type 0
+  Fresh = IsFresh (slot_limit i.version) i.slots
+
+  each_start : (P : Slot → Type 0) → ((s : Slot) → Fresh s → P s) → AllByRecursion P (slots_of (start i).core)
+  each_start P f = subst (AllByRecursion P) (sym (start_slots i)) (each_map Fresh P f i.slots fresh)
+
+  none_waits : (n h : ℕ) → waits_for h (slot_at (start i).core n) ≡ false
+  none_waits n h = by (slot_at (start i).core n) refl
+    where
+      by : (o : Option Slot) → slot_at (start i).core n ≡ o → waits_for h o ≡ false
+      by None is = refl
+      by (Some s) is = let one : Fresh s = slot_has Fresh (start i).core n s (each_start Fresh (λ s k. k)) is in waits_for-rests h s (begun s.state one.begins).1
+
+  pub start_formed : IsFormed (start i).core
+  unfolding start
+  start_formed = record {
+    rising = subst (λ (slots : List Slot). IsStrictlyIncreasing (numbers_of slots)) (sym (start_slots i)) rising;
+    slots = each_start IsSlot (λ s k. record { number = let low = k.number in let few = slot_limit-few i.version in omega arith; executable = k.executable; registers = k.registers; flags = ap length k.empty });
+    outputs = refl;
+  }
+
+  pub start_handlers : HandlersAreOthers (start i).core
+  start_handlers =
+      subst (λ (slots : List Slot). AllByRecursion (λ (s : Slot). IfSome s.handler (IsOther slots s.number)) slots) (sym (start_slots i))
+      (each_map Fresh (λ (s : Slot). IfSome s.handler (IsOther i.slots s.number)) (λ s k. k.handler) i.slots fresh)
+
+  pub start_matches : Matches (start i).core
+  start_matches = record {
+    events = λ n g. ap (events_of n) (start_queues i g) ∙ sym (ap one_if (none_waits n g));
+    waiting = each_start WaitsForSome (λ s k w. cc (w, (begun s.state k.begins).1));
+    loads = each_start LoadsMatch (λ s k. fresh_loads (slot_limit i.version) i.slots s k);
+  }
+
+  pub start_kept : IsKept (start i).core
+  unfolding start output_of
+  start_kept = record {
+    in_place = λ g. subst (AllByRecursion (IsAtSlot (start i).core)) (sym (start_queues i g)) tt;
+    loads = each_start (LoadsAreKept i.split) (λ s k. fresh_kept (slot_limit i.version) i.split i.slots s k);
+    taken = each_start TakenBySome (λ s k t. cc (t, (begun s.state k.begins).0));
+    within = each_empty 64;
+    silent = λ g none. nothing_out 64 g;
+  }
+    where
+      each_empty : (n : ℕ) → AllByRecursion (λ (bytes : List ℕ). length bytes ≤ output_limit i.version) (replicate n [])
+      each_empty zero = tt
+      each_empty (suc n) = (omega arith, each_empty n)
+
+  pub start_core : IsCore (start i).core
+  unfolding start
+  start_core = record {
+    formed = start_formed;
+    numbers = each_start (IsOfVersion i.version) (λ s k. record { number = k.number; group = k.group });
+    handlers = start_handlers;
+    matched = start_matches;
+    kept = start_kept;
+  }
+
+-- 2. The state.
+
+pub start_state : (i : Image) → IsImage i → IsState (start i)
+unfolding start
+start_state i h = record {
+  core = start_formed i h.rising h.fresh;
+  rows = rows_alone i.slots (each_map (IsFresh (slot_limit i.version) i.slots) SlotHoldsWords (λ s k. fresh_words (slot_limit i.version) i.slots s k) i.slots h.fresh);
+  pages = h.paged.pages;
+  cells = h.words;
+}
 
 -- the start fits the image
 pub start_fits : (i : Image) → IsImage i → Fits i (start i)
@@ -127,10 +164,8 @@ start_fits i h = record {
   version = refl;
   split = refl;
   frames = refl;
-  core = start_core i h;
-  paged = h.paged;
-  rows = rows_alone i.slots (each_map (IsFresh (slot_limit i.version) i.slots) SlotHoldsWords (λ s k. fresh_words (slot_limit i.version) i.slots s k) i.slots h.fresh);
-  cells = h.words;
+  mapped = h.paged.fitting;
+  matched = start_matches i h.rising h.fresh;
 }
 
 -- no slot has taken a turn

@@ -1,5 +1,5 @@
--- A turn keeps a state that fits its image, and the bound of turns by cycles.
-use Rattle.std.proofs.Common.{◌≡◌, ℕ, zero, suc, ◌+◌, ◌-◌, Bool, true, false, nat_eq, if◌then◌else◌, List, [], ◌∷◌, ◌++◌, map, Option, Some, None, refl, sym, ap, ◌∙◌, subst, slice_set, cond, replicate, not, lit<}
+-- A turn keeps a state one, keeps it fitting its image, and keeps what the types keep of it.
+use Rattle.std.proofs.Common.{◌≡◌, ℕ, zero, suc, ◌+◌, ◌-◌, ◌≤◌, Bool, true, false, nat_eq, if◌then◌else◌, List, [], ◌∷◌, ◌++◌, length, map, Option, Some, None, refl, sym, ap, ◌∙◌, subst, arith, slice_set, cond, replicate, not, lit<}
 use Rattle.std.specs.List.{AllByRecursion, filter}
 use Rattle.std.specs.Ordering.{nat_cmp}
 use Rattle.std.specs.declared.cmp.Ordering.TheVariants.{Less, Equal, Greater}
@@ -17,12 +17,12 @@ use Rattle.mm_model.specs.declared.slot.SlotState.{SlotState}
 use Rattle.mm_model.specs.declared.slot.SlotState.TheVariants.{Running, Waiting, Halted}
 use Rattle.mm_model.specs.declared.slot.Pending.{Pending}
 use Rattle.mm_model.specs.declared.event.Event.{Event}
-use Rattle.mm_model.specs.Memory.{Memory, page_of, place_of, page_at, put_in, put_cell, map_page, unmap_page, can_map, zero_cell, zero_page, IsPaged}
+use Rattle.mm_model.specs.Memory.{Memory, page_of, place_of, page_at, put_in, put_cell, map_page, unmap_page, can_map, zero_cell, zero_page, ArePages}
 use Rattle.mm_model.specs.Uses.{Use}
 use Rattle.mm_model.specs.Slot.{Slot}
 use Rattle.mm_model.specs.State.{Row, Core, State, slot_at, queue_at, at_number, put_slot, put_queue, put_output}
 use Rattle.mm_model.specs.Image.{Image}
-use Rattle.mm_model.specs.Spelling.{HoldsWords}
+use Rattle.mm_model.specs.Spelling.{HoldsWords, IsImage}
 use Rattle.mm_model.specs.Operands.{addr_operand, value_operand}
 use Rattle.mm_model.specs.Ask.{ask}
 use Rattle.mm_model.specs.Effect.{Change, Pages, Effect, effect, delivered}
@@ -30,10 +30,11 @@ use Rattle.mm_model.specs.Effect.Pages.{Keep, Add, Remove}
 use Rattle.mm_model.specs.Effect.Effect.{Fault, Block, Deliver, Does}
 use Rattle.mm_model.specs.Turn.{Turned, reply, put_all, state_after, with_issue, slot_after, with_other, with_queue, with_out, with_cell, with_pages, core_after, memory_after, stood, is_sync, event_of, core_faulted, faulted, touch_of, asked_use, blocked, ended, executed, idle, turn}
 use Rattle.mm_model.specs.Run.{after}
-use Rattle.mm_model.specs.Fits.{IsCore, SlotHoldsWords, EventHoldsWords, RowHoldsWords, Fits}
-use Rattle.mm_model.proofs.Memories.{put_frames, map_frames, unmap_frames, put_paged, map_paged, unmap_paged}
+use Rattle.mm_model.specs.Fits.{SlotHoldsWords, EventHoldsWords, RowHoldsWords, IsFormed, IsState, Fits, IsKept}
+use Rattle.mm_model.proofs.Memories.{put_frames, map_frames, unmap_frames, put_pages, put_count, map_pages, map_fitting, unmap_pages, unmap_count}
 use Rattle.mm_model.proofs.CoreRows.{each_set, slot_at-number, each_push}
 use Rattle.mm_model.proofs.EffectWords.{page_words, IssueWords, CellWords, PagesFit, QueueWords, OtherWords, ChangeWords, EffectWords, slot_words, queue_words, delivered_words, addr_operand-fits, value_operand-fits, effect_words}
+use Rattle.mm_model.proofs.Fitted.{fitting_of}
 use Rattle.mm_model.proofs.TurnKeeps.{turn_keeps}
 use Rattle.mm_model.proofs.TurnShapes.{decoded_instr, TurnShape, turn_shape}
 
@@ -93,11 +94,12 @@ zeros_are_words (suc n) = (lit< tt, zeros_are_words n)
 -- what a change leaves of the memory
 record MemoryKeeps (m later : Memory) : Type 0 where
   frames : later.frames ≡ m.frames
-  paged : IsPaged later
+  pages : ArePages later.pages
   cells : AllByRecursion HoldsWords later.pages
+  mapped : length m.pages ≤ m.frames → length later.pages ≤ later.frames
 
-memory_self : (m : Memory) → IsPaged m → AllByRecursion HoldsWords m.pages → MemoryKeeps m m
-memory_self m paged cells = record { frames = refl; paged = paged; cells = cells }
+memory_self : (m : Memory) → ArePages m.pages → AllByRecursion HoldsWords m.pages → MemoryKeeps m m
+memory_self m pages cells = record { frames = refl; pages = pages; cells = cells; mapped = λ few. few }
 
 put_cell-words : (m : Memory) (w : ℕ) (c : Cell) → AllByRecursion HoldsWords m.pages → IsWord c.word → AllByRecursion HoldsWords (put_cell m w c).pages
 unfolding put_cell
@@ -107,9 +109,12 @@ put_cell-words m w c h k = by (page_at m (page_of w)) refl
     by None e = h
     by (Some cells) e = put_page-words (page_of w) (slice_set cells (place_of w) c) m.pages (each_set (λ (x : Cell). IsWord x.word) cells (place_of w) c (page_words m.pages (page_of w) cells h e) k) h
 
-cell_keeps : (m : Memory) (o : Option (ℕ × Cell)) → IsPaged m → AllByRecursion HoldsWords m.pages → CellWords o → MemoryKeeps m (with_cell m o)
-cell_keeps m None paged cells k = memory_self m paged cells
-cell_keeps m (Some w) paged cells k = record { frames = put_frames m w.0 w.1; paged = put_paged m w.0 w.1 paged; cells = put_cell-words m w.0 w.1 cells k }
+cell_keeps : (m : Memory) (o : Option (ℕ × Cell)) → ArePages m.pages → AllByRecursion HoldsWords m.pages → CellWords o → MemoryKeeps m (with_cell m o)
+cell_keeps m None pages cells k = memory_self m pages cells
+cell_keeps m (Some w) pages cells k =
+    let frames = put_frames m w.0 w.1 in
+    let count = put_count m w.0 w.1 pages in
+    record { frames = frames; pages = put_pages m w.0 w.1 pages; cells = put_cell-words m w.0 w.1 cells k; mapped = λ few. omega arith }
 
 map_words : (m : Memory) (page : ℕ) → AllByRecursion HoldsWords m.pages → AllByRecursion HoldsWords (map_page m page).pages
 unfolding map_page
@@ -124,12 +129,15 @@ pages_keep m mid cell Keep k is fits = k
 pages_keep m mid cell (Add page) k is fits =
     let same : mid ≡ m = is ∙ ap (with_cell m) fits.0 in
     let can : can_map mid page ≡ true = ap (λ (x : Memory). can_map x page) same ∙ fits.1 in
-    record { frames = map_frames mid page ∙ k.frames; paged = map_paged mid page k.paged can fits.2; cells = map_words mid page k.cells }
-pages_keep m mid cell (Remove page) k is fits = record { frames = unmap_frames mid page ∙ k.frames; paged = unmap_paged mid page k.paged; cells = unmap_words mid page k.cells }
+    record { frames = map_frames mid page ∙ k.frames; pages = map_pages mid page k.pages fits.2; cells = map_words mid page k.cells; mapped = λ few. map_fitting mid page k.pages can }
+pages_keep m mid cell (Remove page) k is fits =
+    let frames = unmap_frames mid page in
+    let fewer = unmap_count mid page in
+    record { frames = frames ∙ k.frames; pages = unmap_pages mid page k.pages; cells = unmap_words mid page k.cells; mapped = λ few. let some = k.mapped few in omega arith }
 
-change_memory : (m : Memory) (c : Change) → IsPaged m → AllByRecursion HoldsWords m.pages → ChangeWords m c → MemoryKeeps m (memory_after m c)
+change_memory : (m : Memory) (c : Change) → ArePages m.pages → AllByRecursion HoldsWords m.pages → ChangeWords m c → MemoryKeeps m (memory_after m c)
 unfolding memory_after
-change_memory m c paged cells k = pages_keep m (with_cell m c.cell) c.cell c.pages (cell_keeps m c.cell paged cells k.cell) refl k.pages
+change_memory m c pages cells k = pages_keep m (with_cell m c.cell) c.cell c.pages (cell_keeps m c.cell pages cells k.cell) refl k.pages
 
 -- 3. Words after a turn.
 
@@ -169,9 +177,9 @@ record TurnWords (m : Memory) (t : Turned) : Type 0 where
   memory : MemoryKeeps m t.memory
   rows : AllByRecursion RowHoldsWords t.core.rows
 
-module _ (core : Core) (m : Memory) (h : IsCore core) (rows : AllByRecursion RowHoldsWords core.rows) (paged : IsPaged m) (cells : AllByRecursion HoldsWords m.pages) where
+module _ (core : Core) (m : Memory) (h : IsFormed core) (rows : AllByRecursion RowHoldsWords core.rows) (pages : ArePages m.pages) (cells : AllByRecursion HoldsWords m.pages) where
   same_memory : MemoryKeeps m m
-  same_memory = memory_self m paged cells
+  same_memory = memory_self m pages cells
 
   fault_words : (s : Slot) (c : Cause) (a v : Word) (f t : Option Touch) (us : List Use) → SlotHoldsWords s → IsWord a → IsWord v → TurnWords m (faulted core m s c a v f t us)
   unfolding faulted event_of
@@ -182,7 +190,7 @@ module _ (core : Core) (m : Memory) (h : IsCore core) (rows : AllByRecursion Row
   ended_words s i f t us (Fault c) own instr k = fault_words s c (addr_operand i s) (value_operand i s) (Some f) t us own (addr_operand-fits i s own.registers) (value_operand-fits i s instr own.registers)
   ended_words s i f t us Block own instr k = record { memory = same_memory; rows = put_slot-words core (stood s Running) rows (stood-words s Running own) }
   ended_words s i f t us (Deliver o) own instr k = record { memory = same_memory; rows = put_slot-words (put_slot core o) (stood s Running) (put_slot-words core o rows k) (stood-words s Running own) }
-  ended_words s i f t us (Does c) own instr k = record { memory = change_memory m c paged cells k; rows = change_rows core m s c rows own k }
+  ended_words s i f t us (Does c) own instr k = record { memory = change_memory m c pages cells k; rows = change_rows core m s c rows own k }
 
   own_at : (n : ℕ) (s : Slot) → slot_at core n ≡ Some s → slot_at core s.number ≡ Some s
   own_at n s is = ap (slot_at core) (slot_at-number core n s is) ∙ is
@@ -202,19 +210,35 @@ module _ (core : Core) (m : Memory) (h : IsCore core) (rows : AllByRecursion Row
       (ended_words s i f (touch_of (ask i s)) (u ∷ asked_use m (ask i s)) (effect core.split i s (reply core m s.number (ask i s))) (slot_words core n s rows r.at) instr
       (effect_words core h rows m cells s (own_at n s r.at) i instr))
 
--- the state after a turn fits the image
-pub after_fits : (i : Image) (s : State) (n : ℕ) → Fits i s → Fits i (after s n)
+-- what a turn leaves of a state's words and pages
+after_words : (s : State) (n : ℕ) → IsState s → TurnWords s.memory (turn s.core s.memory n)
+after_words s n h = shape_words s.core s.memory h.core h.rows h.pages h.cells n (turn s.core s.memory n) (turn_shape s.core s.memory n)
+
+-- 4. The state after a turn.
+
+-- it is a state
+pub after_state : (s : State) (n : ℕ) → IsState s → IsState (after s n)
 unfolding after
-after_fits i s n h =
+after_state s n h =
+    let words = after_words s n h in
+    record { core = (turn_keeps s.core s.memory h.core n).formed; rows = words.rows; pages = words.memory.pages; cells = words.memory.cells }
+
+-- it fits the image
+pub after_fits : (i : Image) (s : State) (n : ℕ) → IsImage i → IsState s → Fits i s → Fits i (after s n)
+unfolding after
+after_fits i s n img h fits =
     let keeps = turn_keeps s.core s.memory h.core n in
-    let words = shape_words s.core s.memory h.core h.rows h.paged h.cells n (turn s.core s.memory n) (turn_shape s.core s.memory n) in
+    let words = after_words s n h in
     record {
-      same_slots = keeps.identities ∙ h.same_slots;
-      version = keeps.version ∙ h.version;
-      split = keeps.split ∙ h.split;
-      frames = words.memory.frames ∙ h.frames;
-      core = keeps.whole;
-      paged = words.memory.paged;
-      rows = words.rows;
-      cells = words.memory.cells;
+      same_slots = keeps.identities ∙ fits.same_slots;
+      version = keeps.version ∙ fits.version;
+      split = keeps.split ∙ fits.split;
+      frames = words.memory.frames ∙ fits.frames;
+      mapped = words.memory.mapped fits.mapped;
+      matched = (keeps.fitting (fitting_of i s img fits)).matched;
     }
+
+-- and what the types keep is kept
+pub after_kept : (i : Image) (s : State) (n : ℕ) → IsImage i → IsState s → Fits i s → IsKept s.core → IsKept (after s n).core
+unfolding after
+after_kept i s n img h fits kept = (turn_keeps s.core s.memory h.core n).kept (fitting_of i s img fits) kept

@@ -15,13 +15,13 @@ use Rattle.mm_model.specs.Effect.{Change, Effect, effect, delivered}
 use Rattle.mm_model.specs.Effect.Effect.{Fault, Block, Deliver, Does}
 use Rattle.mm_model.specs.Turn.{Turned, reply, slot_after, with_other, with_queue, with_out, core_after, stood, is_sync, event_of, core_faulted, faulted, touch_of, asked_use, blocked, ended, executed, idle, is_running, turn}
 use Rattle.mm_model.specs.Run.{after}
-use Rattle.mm_model.specs.Fits.{IsCore, TurnsWithin}
+use Rattle.mm_model.specs.Fits.{IsFormed, Matches, TurnsWithin}
+use Rattle.mm_model.specs.Outcomes.{Runs}
 use Rattle.mm_model.proofs.CoreRows.{slot_at-number, AfterPut, put_slot-cases, slot_at-put_queue, each_slot, slot_has}
 use Rattle.mm_model.proofs.SlotSteps.{delivered_from}
 use Rattle.mm_model.proofs.CoreSteps.{Replaces}
-use Rattle.mm_model.proofs.EffectSteps.{Moves, ChangeKeeps, EffectKeeps, waiting_runs_not}
-use Rattle.mm_model.proofs.TurnKeeps.{turn_keeps, row_keeps, still_there, changed_from}
-use Rattle.mm_model.specs.Outcomes.{Runs}
+use Rattle.mm_model.proofs.EffectSteps.{Moves, ChangeKeeps, EffectKeeps}
+use Rattle.mm_model.proofs.TurnKeeps.{turn_keeps, row_keeps, still_there, event_waited, changed_from}
 use Rattle.mm_model.proofs.TurnShapes.{decoded_instr, TurnShape, turn_shape}
 
 -- the turns of a slot stay, or rise by one where it is the running slot of this number
@@ -63,7 +63,7 @@ module _ (core : Core) (n : ℕ) where
   byte_takes mid g None h = h
   byte_takes mid g (Some byte) h = h
 
-module _ (core : Core) (n : ℕ) (h : IsCore core) (s : Slot) (r : Runs core n s) where
+module _ (core : Core) (n : ℕ) (h : IsFormed core) (match : Matches core) (s : Slot) (r : Runs core n s) where
   number : s.number ≡ n
   number = slot_at-number core n s r.at
 
@@ -82,15 +82,14 @@ module _ (core : Core) (n : ℕ) (h : IsCore core) (s : Slot) (r : Runs core n s
   moved_takes : (c : Change) → Moves core s.number c → (o : Option Slot) → c.other ≡ o → (new : Slot) → new.number ≡ s.number → new.turns ≡ s.turns + 1 → TakesTurns core n (put_slot (with_other core o) new)
   moved_takes c moves None is new at more = stood_takes new at more
   moved_takes c (Moves.keeps_all a b) (Some o) is new at more = cc (b, is)
-  moved_takes c (Moves.frees p q a b runs_not waits_before waits_after turns) (Some o) is new at more =
+  moved_takes c (Moves.frees p f a b) (Some o) is new at more =
       let two : ◌≡◌ {A = Option Slot} (Some p) (Some o) = sym b ∙ is in
       let one : p ≡ o = cc in
-      subst (λ (x : Slot). TakesTurns core n (put_slot (put_slot core x) new)) one (other_takes p q turns runs_not new at more)
-  moved_takes c (Moves.takes_event p q e rest a b queue slot rests turns) (Some o) is new at more =
+      subst (λ (x : Slot). TakesTurns core n (put_slot (put_slot core x) new)) one (other_takes p f.replaces f.turns f.runs_not new at more)
+  moved_takes c (Moves.takes_event p rest t a b) (Some o) is new at more =
       let two : ◌≡◌ {A = Option Slot} (Some p) (Some o) = sym b ∙ is in
       let one : p ≡ o = cc in
-      let was = Rattle.mm_model.proofs.CoreSteps.waited core p s.number e rest h q queue slot rests s own_at in
-      subst (λ (x : Slot). TakesTurns core n (put_slot (put_slot core x) new)) one (other_takes p q turns (waiting_runs_not q.old.state was.0) new at more)
+      subst (λ (x : Slot). TakesTurns core n (put_slot (put_slot core x) new)) one (other_takes p t.replaces t.turns (event_waited core h s own_at r.running p rest t match) new at more)
 
   change_takes : (c : Change) → ChangeKeeps core s c → TakesTurns core n (core_after core s c)
   unfolding core_after
@@ -115,33 +114,33 @@ module _ (core : Core) (n : ℕ) (h : IsCore core) (s : Slot) (r : Runs core n s
   ended_takes m i f t us (Deliver o) keeps = other_takes o keeps.replaces keeps.turns keeps.runs_not (stood s Running) refl refl
   ended_takes m i f t us (Does c) keeps = change_takes c keeps
 
-shape_takes : (core : Core) (m : Memory) (n : ℕ) → IsCore core → (t : Turned) → TurnShape core m n t → TakesTurns core n t.core
+shape_takes : (core : Core) (m : Memory) (n : ℕ) → IsFormed core → Matches core → (t : Turned) → TurnShape core m n t → TakesTurns core n t.core
 unfolding idle blocked executed faulted
-shape_takes core m n h t (TurnShape.idles k is) = subst (λ (x : Turned). TakesTurns core n x.core) (sym is) (none_takes core n)
-shape_takes core m n h t (TurnShape.arrives_at s p rest on at pending is) =
+shape_takes core m n h match t (TurnShape.idles k is) = subst (λ (x : Turned). TakesTurns core n x.core) (sym is) (none_takes core n)
+shape_takes core m n h match t (TurnShape.arrives_at s p rest on at pending is) =
     let from = delivered_from s in
     let own : slot_at core (delivered s).number ≡ Some s = ap (slot_at core) (from.number ∙ slot_at-number core (n - 128) s at) ∙ at in
     subst (λ (x : Turned). TakesTurns core n x.core) (sym is) (same_takes core n core (delivered s) s s (none_takes core n) own own from.turns)
-shape_takes core m n h t (TurnShape.faults_early s c us r is) = subst (λ (x : Turned). TakesTurns core n x.core) (sym is) (faulted_takes core n h s r (event_of s c (Int 0) (Int 0)) s.handler)
-shape_takes core m n h t (TurnShape.faults_fetching s c f us r aim is) = subst (λ (x : Turned). TakesTurns core n x.core) (sym is) (faulted_takes core n h s r (event_of s c (Int 0) (Int 0)) s.handler)
-shape_takes core m n h t (TurnShape.lacks_register s f i us r aim found on lacking is) =
+shape_takes core m n h match t (TurnShape.faults_early s c us r is) = subst (λ (x : Turned). TakesTurns core n x.core) (sym is) (faulted_takes core n h match s r (event_of s c (Int 0) (Int 0)) s.handler)
+shape_takes core m n h match t (TurnShape.faults_fetching s c f us r aim is) = subst (λ (x : Turned). TakesTurns core n x.core) (sym is) (faulted_takes core n h match s r (event_of s c (Int 0) (Int 0)) s.handler)
+shape_takes core m n h match t (TurnShape.lacks_register s f i us r aim found on lacking is) =
     let from = delivered_from s in
-    subst (λ (x : Turned). TakesTurns core n x.core) (sym is) (stood_takes core n h s r (stood (delivered s) Running) from.number (ap (λ k. k + 1) from.turns))
-shape_takes core m n h t (TurnShape.carries_out s f u i r aim found has is) =
+    subst (λ (x : Turned). TakesTurns core n x.core) (sym is) (stood_takes core n h match s r (stood (delivered s) Running) from.number (ap (λ k. k + 1) from.turns))
+shape_takes core m n h match t (TurnShape.carries_out s f u i r aim found has is) =
     subst (λ (x : Turned). TakesTurns core n x.core) (sym is)
-    (ended_takes core n h s r m i f (touch_of (ask i s)) (u ∷ asked_use m (ask i s)) (effect core.split i s (reply core m s.number (ask i s)))
-    (row_keeps core h s (own_at core n h s r) m i (decoded_instr m f i found) has))
+    (ended_takes core n h match s r m i f (touch_of (ask i s)) (u ∷ asked_use m (ask i s)) (effect core.split i s (reply core m s.number (ask i s)))
+    (row_keeps core h s (own_at core n h match s r) m i (decoded_instr m f i found) has))
 
 -- only the running slot that an item names takes a turn
-pub turn_takes : (core : Core) (m : Memory) (n : ℕ) → IsCore core → TakesTurns core n (turn core m n).core
-turn_takes core m n h = shape_takes core m n h (turn core m n) (turn_shape core m n)
+pub turn_takes : (core : Core) (m : Memory) (n : ℕ) → IsFormed core → Matches core → TakesTurns core n (turn core m n).core
+turn_takes core m n h match = shape_takes core m n h match (turn core m n) (turn_shape core m n)
 
 -- no slot has taken more turns than there were cycles, after a turn as before
-pub after_within : (s : State) (n : ℕ) → IsCore s.core → TurnsWithin s → TurnsWithin (after s n)
+pub after_within : (s : State) (n : ℕ) → IsFormed s.core → Matches s.core → TurnsWithin s → TurnsWithin (after s n)
 unfolding after
-after_within s n h few =
-    each_slot (λ (slot : Slot). slot.turns ≤ s.cycles + 1) (turn s.core s.memory n).core (turn_keeps s.core s.memory h n).whole.rising
+after_within s n h match few =
+    each_slot (λ (slot : Slot). slot.turns ≤ s.cycles + 1) (turn s.core s.memory n).core (turn_keeps s.core s.memory h n).formed.rising
     (λ k now is.
-    let from = turn_takes s.core s.memory n h k now is in
+    let from = turn_takes s.core s.memory n h match k now is in
     let before : from.was.turns ≤ s.cycles = slot_has (λ (slot : Slot). slot.turns ≤ s.cycles) s.core k from.was few from.stands in
     elim from.turns [ inl same ↦ omega arith | inr one ↦ let more = one.2 in omega arith ])

@@ -2,6 +2,7 @@
 use Rattle.std.specs.Prelude.{ℕ, ◌+◌, ◌/◌, ◌%◌, ◌==◌, Bool, true, false, not, ◌&&◌, ◌||◌, if◌then◌else◌, List, [], ◌∷◌, ◌++◌, reverse, take, Option, None, Some, is_some}
 use Rattle.mm_word.specs.declared.perm.Kind.{Kind}
 use Rattle.mm_word.specs.declared.perm.Kind.TheVariants.{Fetch, Load, LoadSet, Store}
+use Rattle.mm_model.specs.Flags.{one_if}
 use Rattle.mm_model.specs.Uses.{Use, Accessed, Removed}
 use Rattle.mm_model.specs.declared.counts.Counts.{Counts}
 
@@ -91,17 +92,14 @@ distinct (p ∷ ps) = p ∷ without p (distinct ps)
 abbrev pub recent : List Use → List ℕ
 recent us = distinct (look_ups us)
 
-abbrev pub one : Bool → ℕ
-one b = if b then 1 else 0
-
 -- how many of the look-ups `now` are among the first 16 of the distinct ones before them
 abbrev pub buffer_hits : List ℕ → List ℕ → ℕ
 buffer_hits [] before = 0
-buffer_hits (p ∷ ps) before = buffer_hits ps before + one (has p (take 16 (distinct (ps ++ before))))
+buffer_hits (p ∷ ps) before = buffer_hits ps before + one_if (has p (take 16 (distinct (ps ++ before))))
 
 abbrev pub buffer_misses : List ℕ → List ℕ → ℕ
 buffer_misses [] before = 0
-buffer_misses (p ∷ ps) before = buffer_misses ps before + one (not (has p (take 16 (distinct (ps ++ before)))))
+buffer_misses (p ∷ ps) before = buffer_misses ps before + one_if (not (has p (take 16 (distinct (ps ++ before)))))
 
 -- the sum of f over the counted accesses, each with its block and the uses before it
 abbrev pub total : (ℕ → List Use → ℕ) → List Use → ℕ
@@ -111,13 +109,13 @@ total f (Accessed kind addr false done ∷ us) = total f us
 total f (Removed page ∷ us) = total f us
 
 abbrev pub hit_at : ℕ → List Use → ℕ
-hit_at block us = one (is_hit block us)
+hit_at block us = one_if (is_hit block us)
 
 abbrev pub miss_at : ℕ → List Use → ℕ
-miss_at block us = one (not (is_hit block us))
+miss_at block us = one_if (not (is_hit block us))
 
 abbrev pub back_at : ℕ → List Use → ℕ
-back_at block us = one (is_some (written_back block us))
+back_at block us = one_if (is_some (written_back block us))
 
 abbrev pub found_at : ℕ → List Use → ℕ
 found_at block us = buffer_hits (looked_up block us) (look_ups us)

@@ -1,5 +1,5 @@
--- What a state of a machine always is.
-use Rattle.std.specs.Prelude.{◌≡◌, ◌≢◌, ℕ, ◌+◌, ◌<◌, ◌≤◌, Bool, true, false, ◌==◌, if◌then◌else◌, List, [], ◌∷◌, map, length, Option, Some, None, IfSome}
+-- What a state is, when it fits an image, and what the types of a machine keep besides.
+use Rattle.std.specs.Prelude.{◌≡◌, ◌≢◌, ℕ, ◌+◌, ◌<◌, ◌≤◌, Bool, true, false, ◌==◌, if◌then◌else◌, List, [], ◌∷◌, map, length, Option, None, Some, IfSome}
 use Rattle.std.specs.List.{AllByRecursion}
 use Rattle.std.specs.List.Sorted.{IsStrictlyIncreasing}
 use Rattle.mm_word.specs.Perm.{can_fetch}
@@ -7,84 +7,37 @@ use Rattle.mm_word.specs.Pointer.{IsWellFormed}
 use Rattle.mm_word.specs.Word.{IsWord}
 use Rattle.mm_word.specs.declared.word.Word.TheVariants.{Int}
 use Rattle.mm_model.specs.declared.slot.SlotState.{SlotState}
-use Rattle.mm_model.specs.declared.slot.SlotState.TheVariants.{Waiting, Taken}
+use Rattle.mm_model.specs.declared.slot.SlotState.TheVariants.{Waiting}
 use Rattle.mm_model.specs.declared.slot.Pending.{Pending}
 use Rattle.mm_model.specs.declared.event.Event.{Event}
-use Rattle.mm_model.specs.Memory.{IsPaged}
+use Rattle.mm_model.specs.Flags.{one_if}
+use Rattle.mm_model.specs.Memory.{ArePages}
 use Rattle.mm_model.specs.Slot.{Slot, register, is_empty}
 use Rattle.mm_model.specs.State.{Row, Core, State, slot_at, queue_at, output_of}
 use Rattle.mm_model.specs.Image.{Image, slot_limit, output_limit}
 use Rattle.mm_model.specs.Groups.{has_group}
 use Rattle.mm_model.specs.Spelling.{numbers_of, IsOther, HoldsWords}
+use Rattle.mm_model.specs.Turn.{is_handler, is_taken}
 
--- 1. One slot.
+-- 1. What a state is at all, whatever the image.
 
-abbrev pub one_if : Bool → ℕ
-one_if b = if b then 1 else 0
-
--- how many of the pending loads are for a register
-abbrev pub loads_for : ℕ → List Pending → ℕ
-loads_for r [] = 0
-loads_for r (p ∷ ps) = if p.reg == r then loads_for r ps + 1 else loads_for r ps
-
--- the slot's event is in its handler's queue, or its handler has read it
-abbrev pub is_handled : SlotState → Bool
-is_handled Waiting = true
-is_handled Taken = true
-is_handled _ = false
-
--- a slot of a machine of this version and mode
-pub record IsSlot (version : ℕ) (split : Bool) (s : Slot) : Type 0 where
-  pub number : s.number < slot_limit version
-  pub group : s.group < slot_limit version
+-- one of 64 numbers, an executable instruction pointer, 16 registers and 16 flags
+pub record IsSlot (s : Slot) : Type 0 where
+  pub number : s.number < 64
   pub executable : can_fetch s.ip.perm ≡ true
   pub registers : length s.regs ≡ 16
   pub flags : length s.empty ≡ 16
-  -- each empty register waits for one pending load, and no other register for any
-  pub pending : (r : ℕ) → loads_for r s.pending ≡ one_if (is_empty s r)
-  pub zero : (r : ℕ) → is_empty s r ≡ true → register s r ≡ Int 0
-  pub mode : split ≡ false → s.pending ≡ []
-  pub handled : is_handled s.state ≡ true → s.handler ≢ None
-
--- 2. Slots and their events.
-
--- how many of the events are of a slot
-abbrev pub events_of : ℕ → List Event → ℕ
-events_of n [] = 0
-events_of n (e ∷ es) = if e.slot == n then events_of n es + 1 else events_of n es
-
-abbrev pub is_waiting : SlotState → Bool
-is_waiting Waiting = true
-is_waiting _ = false
-
-abbrev pub is_number : ℕ → Option ℕ → Bool
-is_number h None = false
-is_number h (Some n) = n == h
-
--- the slot waits for this handler
-abbrev pub waits_for : ℕ → Option Slot → Bool
-waits_for h None = false
-waits_for h (Some s) = if is_waiting s.state then is_number h s.handler else false
 
 abbrev pub slots_of : Core → List Slot
 slots_of core = map (λ row. row.slot) core.rows
 
--- an event has the instruction pointer of its slot
-abbrev pub IsAtSlot : Core → Event → Type 0
-IsAtSlot core e = IfSome (slot_at core e.slot) (λ s. e.ip ≡ s.ip)
-
-pub record IsCore (core : Core) : Type 0 where
+-- slots by rising number, and the outputs of 64 groups
+pub record IsFormed (core : Core) : Type 0 where
   pub rising : IsStrictlyIncreasing (numbers_of (slots_of core))
-  pub slots : AllByRecursion (IsSlot core.version core.split) (slots_of core)
-  pub handlers : AllByRecursion (λ (s : Slot). IfSome s.handler (IsOther (slots_of core) s.number)) (slots_of core)
-  -- waiting slots and queued events match one to one, each event in the queue of its slot's handler
-  pub matched : (n h : ℕ) → events_of n (queue_at core h) ≡ one_if (waits_for h (slot_at core n))
-  pub in_place : (h : ℕ) → AllByRecursion (IsAtSlot core) (queue_at core h)
+  pub slots : AllByRecursion IsSlot (slots_of core)
   pub outputs : length core.outputs ≡ 64
-  pub within : AllByRecursion (λ bytes. length bytes ≤ output_limit core.version) core.outputs
-  pub silent : (g : ℕ) → has_group (slots_of core) g ≡ false → output_of core g ≡ []
 
--- 3. Words: no pointer is malformed.
+-- No pointer is malformed.
 
 pub record SlotHoldsWords (s : Slot) : Type 0 where
   pub registers : AllByRecursion IsWord s.regs
@@ -100,21 +53,108 @@ pub record RowHoldsWords (row : Row) : Type 0 where
   pub slot : SlotHoldsWords row.slot
   pub events : AllByRecursion EventHoldsWords row.queue
 
--- 4. A state fits an image where it is one that the machine of the image can be in, as far as these rules tell.
+-- slots, outputs and whole pages, which hold words
+pub record IsState (s : State) : Type 0 where
+  pub core : IsFormed s.core
+  pub rows : AllByRecursion RowHoldsWords s.core.rows
+  pub pages : ArePages s.memory.pages
+  pub cells : AllByRecursion HoldsWords s.memory.pages
+
+-- 2. When it fits an image.
+
+-- how many of the pending loads are for a register
+abbrev pub loads_for : ℕ → List Pending → ℕ
+loads_for r [] = 0
+loads_for r (p ∷ ps) = if p.reg == r then loads_for r ps + 1 else loads_for r ps
+
+-- each empty register waits for one pending load, and no other register for any
+pub record LoadsMatch (s : Slot) : Type 0 where
+  pub each : (r : ℕ) → loads_for r s.pending ≡ one_if (is_empty s r)
+
+-- how many of the events are of a slot
+abbrev pub events_of : ℕ → List Event → ℕ
+events_of n [] = 0
+events_of n (e ∷ es) = if e.slot == n then events_of n es + 1 else events_of n es
+
+abbrev pub is_waiting : SlotState → Bool
+is_waiting Waiting = true
+is_waiting _ = false
+
+-- the slot waits for this handler
+abbrev pub waits_for : ℕ → Option Slot → Bool
+waits_for h None = false
+waits_for h (Some s) = if is_waiting s.state then is_handler h s.handler else false
+
+-- a slot that waits has a handler
+abbrev pub WaitsForSome : Slot → Type 0
+WaitsForSome s = is_waiting s.state ≡ true → s.handler ≢ None
+
+-- waiting slots and queued events match one to one, each event in the queue of its slot's handler; empty registers and pending
+-- loads match one to one
+pub record Matches (core : Core) : Type 0 where
+  pub events : (n h : ℕ) → events_of n (queue_at core h) ≡ one_if (waits_for h (slot_at core n))
+  pub waiting : AllByRecursion WaitsForSome (slots_of core)
+  pub loads : AllByRecursion LoadsMatch (slots_of core)
 
 -- what never changes of a slot
 abbrev pub identity_of : Slot → ℕ × ℕ × Option ℕ
 identity_of s = (s.number, s.group, s.handler)
 
+-- The numbers, groups and handlers of the slots, the number of frames, the version and the mode are the image's, no more pages
+-- are mapped than there are frames, and what has to match matches.
 pub record Fits (i : Image) (s : State) : Type 0 where
   pub same_slots : map identity_of (slots_of s.core) ≡ map identity_of i.slots
   pub version : s.core.version ≡ i.version
   pub split : s.core.split ≡ i.split
   pub frames : s.memory.frames ≡ i.memory.frames
-  pub core : IsCore s.core
-  pub paged : IsPaged s.memory
-  pub rows : AllByRecursion RowHoldsWords s.core.rows
-  pub cells : AllByRecursion HoldsWords s.memory.pages
+  pub mapped : length s.memory.pages ≤ s.memory.frames
+  pub matched : Matches s.core
+
+-- 3. What the types of a machine keep besides.
+
+-- an event has the instruction pointer of its slot
+abbrev pub IsAtSlot : Core → Event → Type 0
+IsAtSlot core e = IfSome (slot_at core e.slot) (λ s. e.ip ≡ s.ip)
+
+abbrev pub EventsAreAtSlots : Core → Type 0
+EventsAreAtSlots core = (h : ℕ) → AllByRecursion (IsAtSlot core) (queue_at core h)
+
+-- an empty register holds integer 0, and no load is pending in a plain machine
+pub record LoadsAreKept (split : Bool) (s : Slot) : Type 0 where
+  pub zero : (r : ℕ) → is_empty s r ≡ true → register s r ≡ Int 0
+  pub mode : split ≡ false → s.pending ≡ []
+
+-- a taken slot has a handler
+abbrev pub TakenBySome : Slot → Type 0
+TakenBySome s = is_taken s.state ≡ true → s.handler ≢ None
+
+pub record IsKept (core : Core) : Type 0 where
+  pub in_place : EventsAreAtSlots core
+  pub loads : AllByRecursion (LoadsAreKept core.split) (slots_of core)
+  pub taken : AllByRecursion TakenBySome (slots_of core)
+  -- no output is above the version's limit, and a group without a slot has put out nothing
+  pub within : AllByRecursion (λ bytes. length bytes ≤ output_limit core.version) core.outputs
+  pub silent : (g : ℕ) → has_group (slots_of core) g ≡ false → output_of core g ≡ []
+
+-- 4. A core by itself, with no image to fit.
+
+-- a number and a group of this version
+pub record IsOfVersion (version : ℕ) (s : Slot) : Type 0 where
+  pub number : s.number < slot_limit version
+  pub group : s.group < slot_limit version
+
+-- each slot's handler is another slot
+abbrev pub HandlersAreOthers : Core → Type 0
+HandlersAreOthers core = AllByRecursion (λ (s : Slot). IfSome s.handler (IsOther (slots_of core) s.number)) (slots_of core)
+
+-- what the slots, queues and outputs of a machine always are
+pub record IsCore (core : Core) : Type 0 where
+  pub formed : IsFormed core
+  -- what an image says of its slots
+  pub numbers : AllByRecursion (IsOfVersion core.version) (slots_of core)
+  pub handlers : HandlersAreOthers core
+  pub matched : Matches core
+  pub kept : IsKept core
 
 -- no slot has taken more turns than there were cycles
 abbrev pub TurnsWithin : State → Type 0

@@ -80,8 +80,12 @@ pub record IsPage (e : ℕ × List Cell) : Type 0 where
   pub number : e.0 < 2 ^ 42
   pub cells : length e.1 ≡ 512
 
--- pages rise, each is whole, and no more are mapped than there are frames
+-- pages rise, and each is whole
+pub record ArePages (pages : List (ℕ × List Cell)) : Type 0 where
+  pub rising : IsTrue (is_sorted nat_cmp pages)
+  pub whole : AllByRecursion IsPage pages
+
+-- and no more are mapped than there are frames
 pub record IsPaged (m : Memory) : Type 0 where
-  pub rising : IsTrue (is_sorted nat_cmp m.pages)
-  pub whole : AllByRecursion IsPage m.pages
+  pub pages : ArePages m.pages
   pub fitting : length m.pages ≤ m.frames

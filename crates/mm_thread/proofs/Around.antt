@@ -302,7 +302,7 @@ pub event_differs : (core : Core) → IsCore core → (places : List ℕ) → Is
     → (e : Event) (rest : List Event) → queue_in core p ≡ e ∷ rest → (q : ℕ) → q < length core.rows → (slot_in core q).number ≡ e.slot → q ≢ p
 event_differs core whole places index p within runs e rest some q inside number same =
     let found : slot_at core e.slot ≡ Some (slot_in core q) = ap (slot_at core) (sym number) ∙ slot_found core places index q inside in
-    let all = queued_waits core whole e.slot (slot_in core q) found (slot_in core p).number in
+    let all = queued_waits core whole.matched e.slot (slot_in core q) found (slot_in core p).number in
     let Waits : List Event → Type 0 = AllByRecursion (λ (d : Event). d.slot ≡ e.slot → (is_waiting (slot_in core q).state ≡ true) × ((slot_in core q).handler ≡ Some (slot_in core p).number)) in
     let first = subst Waits (queue_found core places index p within ∙ some) all in
     by (slot_in core p).state runs (ap (λ (k : ℕ). is_waiting (slot_in core k).state) (sym same) ∙ (first.0 refl).0)

@@ -12,10 +12,11 @@ use Rattle.mm_model.specs.State.{Row, Core, row_in, slot_of, queue_of, slot_at, 
 use Rattle.mm_model.specs.Spelling.{numbers_of}
 use Rattle.mm_model.specs.Fits.{identity_of, slots_of, IsSlot, IsCore}
 use Rattle.mm_model.proofs.CoreRows.{each_map, slots_found}
+use Rattle.mm_model.proofs.Shortness.{queue_short}
 use Rattle.mm_thread.specs.declared.output.Output.{Output}
 use Rattle.mm_thread.specs.Places.{row_alone, slot_in, queue_in, with_queue_in, numbers_in, IsIndex, IsSound}
 use Rattle.mm_thread.specs.Parts.{events_for, row_with, core_of}
-use Rattle.mm_thread.proofs.Cores.{limit_small, queue_few, output_short}
+use Rattle.mm_thread.proofs.Cores.{output_short}
 use Rattle.mm_thread.proofs.Sound.{numbers-same}
 use Rattle.mm_thread.proofs.Index.{HasNone, row_found, queue_found, put_queue-place, map-none}
 
@@ -163,14 +164,14 @@ module _ (version : ℕ) (split : Bool) (slots : List Slot) (events : List (ℕ 
   slots_are = slots-with events slots
 
   pub parts_small : AllByRecursion (λ (s : Slot). s.number < 64) slots
-  parts_small = subst (AllByRecursion (λ (s : Slot). s.number < 64)) slots_are (each_map (IsSlot version split) (λ (s : Slot). s.number < 64) (λ s is. omega (arith, is.number, limit_small version)) (slots_of core) whole.slots)
+  parts_small = subst (AllByRecursion (λ (s : Slot). s.number < 64)) slots_are (each_map IsSlot (λ (s : Slot). s.number < 64) (λ s is. is.number) (slots_of core) whole.formed.slots)
 
   pub parts_room : AllByRecursion (λ (s : Slot). length (events_for s.number events) ≤ 64) slots
   unfolding slot_at queue_at
   parts_room = subst (AllByRecursion (λ (s : Slot). length (events_for s.number events) ≤ 64)) slots_are
       (each_map (λ (s : Slot). slot_at core s.number ≡ Some s) (λ (s : Slot). length (events_for s.number events) ≤ 64)
-      (λ s found. omega (arith, queue_few core whole s.number, ap length (queue-with events s.number slots s found)))
-      (slots_of core) (slots_found core whole.rising))
+      (λ s found. omega (arith, queue_short core whole.matched s.number whole.formed, ap length (queue-with events s.number slots s found)))
+      (slots_of core) (slots_found core whole.formed.rising))
 
   pub parts_short : AllByRecursion (λ (o : Output). output_of core o.group ≡ o.bytes.items) outputs → AllByRecursion (λ (o : Output). length o.bytes.items ≤ 65536) outputs
   parts_short given = each_map (λ (o : Output). output_of core o.group ≡ o.bytes.items) (λ (o : Output). length o.bytes.items ≤ 65536) (λ o is. omega (arith, output_short core whole o.group, ap length is)) outputs given

@@ -1,24 +1,23 @@
 -- What a turn relies on of a core.
-use Rattle.std.proofs.Common.{◌≡◌, ◌≢◌, ℕ, ◌<◌, ◌≤◌, Bool, true, false, cond, eqb, List, [], ◌∷◌, ◌++◌, length, map, get_or, Option, Some, None, refl, sym, ap, subst, ◌∙◌, arith, inl, inr}
+use Rattle.std.proofs.Common.{◌≡◌, ◌≢◌, ℕ, ◌<◌, ◌≤◌, true, false, cond, eqb, List, [], ◌∷◌, ◌++◌, length, get_or, Option, Some, None, refl, sym, ap, subst, ◌∙◌, arith, inl, inr}
 use Rattle.std.specs.Prelude.{IfSome, slice_index}
 use Rattle.std.specs.List.{AllByRecursion}
 use Rattle.std.proofs.lemmas.Bool.{cases_eq, cases_lt}
-use Rattle.std.proofs.lemmas.List.{length-map, length-set, get_or-set_same, get_or-set_other, get_or_past}
-use Rattle.mm_model.specs.declared.slot.SlotState.{SlotState}
-use Rattle.mm_model.specs.declared.slot.SlotState.TheVariants.{Running, Waiting, Taken, Halted}
+use Rattle.std.proofs.lemmas.List.{length-set, get_or-set_same, get_or-set_other, get_or_past}
+use Rattle.mm_model.specs.declared.slot.SlotState.TheVariants.{Running, Waiting, Halted}
 use Rattle.mm_model.specs.declared.slot.Pending.{Pending}
 use Rattle.mm_model.specs.declared.event.Event.{Event}
 use Rattle.mm_model.specs.Slot.{Slot, is_empty}
-use Rattle.mm_model.specs.Image.{slot_limit, output_limit}
+use Rattle.mm_model.specs.Image.{output_limit}
 use Rattle.mm_model.specs.State.{Row, Core, slot_at, queue_at, output_of, put_queue}
 use Rattle.mm_model.specs.Turn.{stood, core_faulted, is_running, is_sync}
-use Rattle.mm_model.specs.Fits.{one_if, waits_for, is_waiting, slots_of, IsSlot, IsCore}
+use Rattle.mm_model.specs.Fits.{waits_for, slots_of, IsSlot, LoadsMatch, IsOfVersion, IsCore}
 use Rattle.mm_model.specs.Spelling.{IsOther}
-use Rattle.mm_model.proofs.CoreRows.{each_get, slot_has, slot_at-number, other_at}
+use Rattle.mm_model.proofs.CoreRows.{each_get, slot_limit-few, slot_has, slot_at-number, other_at}
 use Rattle.mm_model.proofs.CoreSteps.{waits_for-rests}
-use Rattle.mm_model.proofs.SlotSteps.{empty_within}
+use Rattle.mm_model.proofs.EffectSteps.{running_waits_not}
+use Rattle.mm_model.proofs.Shortness as short
 use Rattle.mm_thread.specs.Places.{no_row, row_at, slot_in, queue_in, with_row, with_slot, with_queue_in, numbers_in, IsIndex}
-use Rattle.mm_thread.proofs.Counting.{times, times-events, times-loads, shorter, short, all_below}
 use Rattle.mm_thread.proofs.Index.{slot_found, queue_found, put_slot-place, put_queue-place, numbers-with_row, number-get}
 
 -- 1. A row in the place of one.
@@ -46,15 +45,12 @@ queue_in-slot core p q s within = elim (cases_eq q p) [
 
 -- 2. The bounds of a core.
 
-pub limit_small : (version : ℕ) → slot_limit version ≤ 64
-limit_small version = elim (eqb version 1) as (λ b. cond b 16 64 ≤ 64) [ true ↦ omega arith | false ↦ omega arith ]
-
 byte_limit : (version : ℕ) → output_limit version ≤ 65536
 byte_limit version = elim (eqb version 1) as (λ b. cond b 4096 65536 ≤ 65536) [ true ↦ omega arith | false ↦ omega arith ]
 
 module _ (core : Core) (whole : IsCore core) where
-  pub slot_is : (n : ℕ) (s : Slot) → slot_at core n ≡ Some s → IsSlot core.version core.split s
-  slot_is n s is = slot_has (IsSlot core.version core.split) core n s whole.slots is
+  pub slot_is : (n : ℕ) (s : Slot) → slot_at core n ≡ Some s → IsSlot s
+  slot_is n s is = slot_has IsSlot core n s whole.formed.slots is
 
   -- no slot has a number of 64 or more
   pub slot_at-past : (n : ℕ) → 64 ≤ n → slot_at core n ≡ None
@@ -62,110 +58,59 @@ module _ (core : Core) (whole : IsCore core) where
     where
       by : (o : Option Slot) → slot_at core n ≡ o → o ≡ None
       by None is = refl
-      by (Some s) is = absurd (omega (arith, slot_at-number core n s is, (slot_is n s is).number, limit_small core.version))
-
-  -- no queue is longer than there are numbers
-  pub queue_few : (h : ℕ) → length (queue_at core h) ≤ 64
-  queue_few h =
-      let es = queue_at core h in
-      let xs : List ℕ = map (λ (e : Event). e.slot) es in
-      let count : (n : ℕ) → times n xs ≡ one_if (waits_for h (slot_at core n)) = λ n. sym (times-events n es) ∙ whole.matched n h in
-      let once : (n : ℕ) → times n xs ≤ 1 = λ n. omega (arith, count n, at_most_one (waits_for h (slot_at core n))) in
-      let past : (n : ℕ) → 64 ≤ n → times n xs ≡ 0 = λ n far. count n ∙ ap (λ o. one_if (waits_for h o)) (slot_at-past n far) in
-      omega (arith, length-map es (λ (e : Event). e.slot), short 64 xs once past)
-    where
-      at_most_one : (b : Bool) → one_if b ≤ 1
-      at_most_one true = omega arith
-      at_most_one false = omega arith
+      by (Some s) is = absurd (omega (arith, slot_at-number core n s is, (slot_is n s is).number))
 
   -- no output is longer than version 2 allows
   pub output_short : (g : ℕ) → length (output_of core g) ≤ 65536
   unfolding output_of
   output_short g = elim (cases_lt g 64) as (λ _. length (get_or core.outputs g []) ≤ 65536) [
     | inl inside ↦
-        let one = each_get (λ (bytes : List ℕ). length bytes ≤ output_limit core.version) core.outputs g [] whole.within (omega (arith, whole.outputs)) in
+        let one = each_get (λ (bytes : List ℕ). length bytes ≤ output_limit core.version) core.outputs g [] whole.kept.within (omega (arith, whole.formed.outputs)) in
         omega (arith, one, byte_limit core.version)
-    | inr past ↦ omega (arith, ap length (get_or_past core.outputs g [] (omega (arith, whole.outputs))))
+    | inr past ↦ omega (arith, ap length (get_or_past core.outputs g [] (omega (arith, whole.formed.outputs))))
   ]
 
   module _ (places : List ℕ) (index : IsIndex (numbers_in core) places) (p : ℕ) (within : p < length core.rows) where
-    pub own : IsSlot core.version core.split (slot_in core p)
-    own = slot_is (slot_in core p).number (slot_in core p) (slot_found core places index p within)
+    abbrev there : slot_at core (slot_in core p).number ≡ Some (slot_in core p)
+    there = slot_found core places index p within
+
+    own : IsSlot (slot_in core p)
+    own = slot_is (slot_in core p).number (slot_in core p) there
+
+    own_loads : LoadsMatch (slot_in core p)
+    own_loads = slot_has LoadsMatch core (slot_in core p).number (slot_in core p) whole.matched.loads there
 
     pub group_small : (slot_in core p).group < 64
-    group_small = omega (arith, own.group, limit_small core.version)
+    group_small = omega (arith, (slot_has (IsOfVersion core.version) core (slot_in core p).number (slot_in core p) whole.numbers there).group, slot_limit-few core.version)
 
     pub number_small : (slot_in core p).number < 64
-    number_small = omega (arith, own.number, limit_small core.version)
+    number_small = own.number
+
+    -- the registers of its pending loads are registers
+    pub registers_small : AllByRecursion (λ (x : Pending). x.reg < 16) (slot_in core p).pending
+    registers_small = short.loads_small (slot_in core p) own own_loads
+
+    -- there is room for the load of a register that does not wait for one
+    pub pending_room : (rd : ℕ) → rd < 16 → is_empty (slot_in core p) rd ≡ false → length (slot_in core p).pending < 16
+    pending_room rd small free = short.pending_room (slot_in core p) own own_loads rd small free
 
     -- a slot's handler is there
     pub handler_there : (h : ℕ) → (slot_in core p).handler ≡ Some h → slot_at core h ≡ None → ⊥
     handler_there h is none =
         let s = slot_in core p in
         let other : IfSome s.handler (IsOther (slots_of core) s.number) = slot_has (λ (t : Slot). IfSome t.handler (IsOther (slots_of core) t.number)) core s.number s whole.handlers (slot_found core places index p within) in
-        let at = other_at core whole.rising s.number h (subst (λ o. IfSome o (IsOther (slots_of core) s.number)) is other) in
+        let at = other_at core whole.formed.rising s.number h (subst (λ o. IfSome o (IsOther (slots_of core) s.number)) is other) in
         cc (at.1.1)
 
-    -- 3. A running slot's event is in no queue, so that a queue has room for it.
-
+    -- a running slot's event is in no queue, so that a queue has room for it
     pub queue_room : is_running (slot_in core p).state ≡ true → (q : ℕ) → q < length core.rows → length (queue_in core q) < 64
     queue_room runs q inside =
         let s = slot_in core p in
         let h : ℕ = (slot_in core q).number in
-        let es = queue_at core h in
-        let xs : List ℕ = map (λ (e : Event). e.slot) es in
-        let count : (n : ℕ) → times n xs ≡ one_if (waits_for h (slot_at core n)) = λ n. sym (times-events n es) ∙ whole.matched n h in
-        let once : (n : ℕ) → times n xs ≤ 1 = λ n. omega (arith, count n, one_if_small (waits_for h (slot_at core n))) in
-        let past : (n : ℕ) → 64 ≤ n → times n xs ≡ 0 = λ n far. count n ∙ ap (λ o. one_if (waits_for h o)) (slot_at-past n far) in
-        let missing : times s.number xs ≡ 0 =
-        count s.number ∙ ap (λ o. one_if (waits_for h o)) (slot_found core places index p within) ∙ ap one_if (waits_for-rests h s (runs_waits_not s.state runs))
-        in
-        let room = shorter 64 s.number xs once past number_small missing in
-        omega (arith, length-map es (λ (e : Event). e.slot), room, ap length (queue_found core places index q inside))
-      where
-        one_if_small : (b : Bool) → one_if b ≤ 1
-        one_if_small true = omega arith
-        one_if_small false = omega arith
+        let room = short.queue_room core whole.matched h whole.formed s.number number_small (ap (waits_for h) there ∙ waits_for-rests h s (running_waits_not s.state runs)) in
+        omega (arith, room, ap length (queue_found core places index q inside))
 
-        runs_waits_not : (state : SlotState) → is_running state ≡ true → is_waiting state ≡ false
-        runs_waits_not Running e = refl
-        runs_waits_not Waiting e = cc
-        runs_waits_not Taken e = cc
-        runs_waits_not (Halted cause) e = cc
-
--- 4. Pending loads.
-
-one_if_one : (b : Bool) → one_if b ≤ 1
-one_if_one true = omega arith
-one_if_one false = omega arith
-
-module _ (version : ℕ) (split : Bool) (s : Slot) (is : IsSlot version split s) where
-  abbrev registers : List ℕ
-  registers = map (λ (p : Pending). p.reg) s.pending
-
-  loads_past : (r : ℕ) → 16 ≤ r → times r registers ≡ 0
-  loads_past r far = sym (times-loads r s.pending) ∙ is.pending r ∙ by (is_empty s r) refl
-    where
-      by : (b : Bool) → is_empty s r ≡ b → one_if b ≡ 0
-      by true e = absurd (omega (arith, empty_within s r e, is.flags))
-      by false e = refl
-
-  -- the registers of pending loads are registers
-  pub registers_small : AllByRecursion (λ (p : Pending). p.reg < 16) s.pending
-  registers_small = of_map s.pending (all_below 16 registers loads_past)
-    where
-      of_map : (ps : List Pending) → AllByRecursion (λ x. x < 16) (map (λ (p : Pending). p.reg) ps) → AllByRecursion (λ (p : Pending). p.reg < 16) ps
-      of_map [] h = tt
-      of_map (p ∷ ps) h = (h.0, of_map ps h.1)
-
-  -- there is room for the load of a register that does not wait for one
-  pub pending_room : (rd : ℕ) → rd < 16 → is_empty s rd ≡ false → length s.pending < 16
-  pending_room rd small free =
-      let once : (r : ℕ) → times r registers ≤ 1 = λ r. omega (arith, times-loads r s.pending, is.pending r, one_if_one (is_empty s r)) in
-      let missing : times rd registers ≡ 0 = sym (times-loads rd s.pending) ∙ is.pending rd ∙ ap one_if free in
-      omega (arith, shorter 16 rd registers once loads_past small missing, length-map s.pending (λ (p : Pending). p.reg))
-
--- 5. A slot that waits and its event in its handler's queue.
+-- 3. A slot that waits and its event in its handler's queue.
 
 pub index-with_slot : (core : Core) (places : List ℕ) → IsIndex (numbers_in core) places → (p : ℕ) → p < length core.rows → (s : Slot) → s.number ≡ (slot_in core p).number
     → IsIndex (numbers_in (with_slot core p s)) places

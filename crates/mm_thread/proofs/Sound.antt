@@ -1,16 +1,16 @@
 -- A core stays whole, and its table of places stays right.
-use Rattle.std.proofs.Common.{◌≡◌, ℕ, ◌<◌, ◌≤◌, Bool, List, [], ◌∷◌, length, map, Option, Some, None, refl, sym, ap, subst, ◌∙◌, arith}
+use Rattle.std.proofs.Common.{◌≡◌, ℕ, ◌≤◌, Bool, List, [], ◌∷◌, length, map, Option, Some, None, refl, sym, ap, subst, ◌∙◌, arith}
 use Rattle.std.specs.List.{AllByRecursion}
 use Rattle.std.proofs.lemmas.List.{get_or_past}
 use Rattle.mm_model.specs.Memory.{Memory}
 use Rattle.mm_model.specs.Slot.{Slot}
 use Rattle.mm_model.specs.State.{Row, Core, row_in, slot_of, queue_of, slot_at, queue_at, output_of}
-use Rattle.mm_model.specs.Image.{slot_limit, output_limit}
+use Rattle.mm_model.specs.Image.{output_limit}
 use Rattle.mm_model.specs.Spelling.{numbers_of}
-use Rattle.mm_model.specs.Fits.{identity_of, slots_of, IsSlot, IsCore}
+use Rattle.mm_model.specs.Fits.{identity_of, slots_of, LoadsAreKept, IsOfVersion, IsCore}
 use Rattle.mm_model.specs.Turn.{turn}
 use Rattle.mm_model.proofs.CoreRows.{each_map, each_both}
-use Rattle.mm_model.proofs.TurnKeeps.{turn_keeps}
+use Rattle.mm_model.proofs.TurnKeeps.{turn_keeps, core_keeps}
 use Rattle.mm_thread.specs.Places.{numbers_in, IsIndex, IsSound}
 
 numbers-identities : (slots : List Slot) → map (λ (i : ℕ × ℕ × Option ℕ). i.0) (map identity_of slots) ≡ numbers_of slots
@@ -21,17 +21,14 @@ pub numbers-same : (xs ys : List Slot) → map identity_of xs ≡ map identity_o
 numbers-same xs ys same = sym (numbers-identities xs) ∙ ap (map (λ (i : ℕ × ℕ × Option ℕ). i.0)) same ∙ numbers-identities ys
 
 pub numbers-turn : (core : Core) → IsCore core → (m : Memory) (n : ℕ) → numbers_in (turn core m n).core ≡ numbers_in core
-numbers-turn core whole m n =
-    let keeps = turn_keeps core m whole n in
-    numbers-same (slots_of (turn core m n).core) (slots_of core) keeps.identities
+numbers-turn core whole m n = numbers-same (slots_of (turn core m n).core) (slots_of core) (turn_keeps core m whole.formed n).identities
 
 pub turn_sound : (core core' : Core) (places : List ℕ) (m : Memory) (n : ℕ) → IsSound core places → core' ≡ (turn core m n).core → IsSound core' places
 turn_sound core core' places m n sound is =
     let Whole : Core → Type 0 = IsCore in
     let Index : List ℕ → Type 0 = λ ns. IsIndex ns places in
-    let keeps = turn_keeps core m sound.whole n in
     record {
-      whole = subst Whole (sym is) keeps.whole;
+      whole = subst Whole (sym is) (core_keeps core m n sound.whole);
       index = subst Index (sym (ap numbers_in is ∙ numbers-turn core sound.whole m n)) sound.index;
     }
 
@@ -40,58 +37,42 @@ pub split_sound : (core : Core) (places : List ℕ) (on : Bool) → AllByRecursi
 unfolding slot_at queue_at output_of
 split_sound core places on none sound =
     let old = sound.whole in
-    let one : (s : Slot) → IsSlot core.version core.split s → s.pending ≡ [] → IsSlot core.version on s = λ s is empty. record {
-      number = is.number;
-      group = is.group;
-      executable = is.executable;
-      registers = is.registers;
-      flags = is.flags;
-      pending = is.pending;
-      zero = is.zero;
-      mode = λ _. empty;
-      handled = is.handled;
-    } in
     record {
       whole = record {
-        rising = old.rising;
-        slots = each_both (IsSlot core.version core.split) (λ (s : Slot). s.pending ≡ []) (IsSlot core.version on) one (slots_of core) old.slots none;
+        formed = record { rising = old.formed.rising; slots = old.formed.slots; outputs = old.formed.outputs };
+        numbers = old.numbers;
         handlers = old.handlers;
-        matched = old.matched;
-        in_place = old.in_place;
-        outputs = old.outputs;
-        within = old.within;
-        silent = old.silent;
+        matched = record { events = old.matched.events; waiting = old.matched.waiting; loads = old.matched.loads };
+        kept = record {
+          in_place = old.kept.in_place;
+          loads = each_both (LoadsAreKept core.split) (λ (s : Slot). s.pending ≡ []) (LoadsAreKept on) (λ s is empty. record { zero = is.zero; mode = λ _. empty }) (slots_of core) old.kept.loads none;
+          taken = old.kept.taken;
+          within = old.kept.within;
+          silent = old.kept.silent;
+        };
       };
       index = sound.index;
     }
 
 -- another version, where nothing was put out
-pub version_sound : (core : Core) (places : List ℕ) (version : ℕ) → AllByRecursion (λ (s : Slot). (s.number < slot_limit version) × (s.group < slot_limit version)) (slots_of core)
-    → AllByRecursion (λ (bytes : List ℕ). bytes ≡ []) core.outputs → IsSound core places → IsSound (record core { version = version }) places
+pub version_sound : (core : Core) (places : List ℕ) (version : ℕ) → AllByRecursion (IsOfVersion version) (slots_of core) → AllByRecursion (λ (bytes : List ℕ). bytes ≡ []) core.outputs → IsSound core places
+    → IsSound (record core { version = version }) places
 unfolding slot_at queue_at output_of
 version_sound core places version small silent sound =
     let old = sound.whole in
-    let one : (s : Slot) → IsSlot core.version core.split s → (s.number < slot_limit version) × (s.group < slot_limit version) → IsSlot version core.split s = λ s is low. record {
-      number = low.0;
-      group = low.1;
-      executable = is.executable;
-      registers = is.registers;
-      flags = is.flags;
-      pending = is.pending;
-      zero = is.zero;
-      mode = is.mode;
-      handled = is.handled;
-    } in
     record {
       whole = record {
-        rising = old.rising;
-        slots = each_both (IsSlot core.version core.split) (λ (s : Slot). (s.number < slot_limit version) × (s.group < slot_limit version)) (IsSlot version core.split) one (slots_of core) old.slots small;
+        formed = record { rising = old.formed.rising; slots = old.formed.slots; outputs = old.formed.outputs };
+        numbers = small;
         handlers = old.handlers;
-        matched = old.matched;
-        in_place = old.in_place;
-        outputs = old.outputs;
-        within = each_map (λ (bytes : List ℕ). bytes ≡ []) (λ (bytes : List ℕ). length bytes ≤ output_limit version) (λ bytes none. omega (arith, ap length none)) core.outputs silent;
-        silent = old.silent;
+        matched = record { events = old.matched.events; waiting = old.matched.waiting; loads = old.matched.loads };
+        kept = record {
+          in_place = old.kept.in_place;
+          loads = old.kept.loads;
+          taken = old.kept.taken;
+          within = each_map (λ (bytes : List ℕ). bytes ≡ []) (λ (bytes : List ℕ). length bytes ≤ output_limit version) (λ bytes none. omega (arith, ap length none)) core.outputs silent;
+          silent = old.kept.silent;
+        };
       };
       index = sound.index;
     }

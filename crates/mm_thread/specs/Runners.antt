@@ -4,7 +4,7 @@ use Rattle.std.specs.Int.{bit_at}
 use Rattle.mm_model.specs.Slot.{Slot}
 use Rattle.mm_model.specs.State.{Row}
 use Rattle.mm_model.specs.Turn.{is_running}
-use Rattle.mm_model.specs.Fits.{one_if}
+use Rattle.mm_model.specs.Flags.{one_if}
 use Rattle.mm_thread.specs.Places.{no_row}
 
 abbrev pub slot_of_row : List Row → ℕ → Slot

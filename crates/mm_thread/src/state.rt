@@ -7,8 +7,7 @@ ghost use Rattle.std.specs.List.Sorted.{IsStrictlyIncreasing};
 ghost use Rattle.mm_model.specs.Spelling.{numbers_of, IsFresh};
 ghost use Rattle.mm_model.specs.Slot.{Slot as SlotValue};
 ghost use Rattle.mm_model.specs.State.{slot_at, queue_at, output_of};
-ghost use Rattle.mm_model.specs.Image.{slot_limit};
-ghost use Rattle.mm_model.specs.Fits.{slots_of};
+ghost use Rattle.mm_model.specs.Fits.{slots_of, IsOfVersion};
 ghost use Rattle.mm_model.specs.Uses.{accesses, TakesUses};
 ghost use Rattle.mm_model.specs.Turn.{turn as turn_of};
 ghost use Rattle.mm_model.specs.Outcomes.{IsIdle, Delivers, Blocks, Faults, Completes};
@@ -117,7 +116,7 @@ impl Core {
     /// Makes it a machine of this version.
     pub fn set_version(&mut self, version: u16)
         requires known { (version ≡ 1) ⊎ (version ≡ 2) }
-        requires slots { AllByRecursion (λ (s : SlotValue). (s.number < slot_limit version) × (s.group < slot_limit version)) (slots_of self.old) }
+        requires slots { AllByRecursion (IsOfVersion version) (slots_of self.old) }
         requires silent { AllByRecursion (λ bytes. bytes ≡ []) self.old.outputs }
         ensures { self.new ≡ record self.old { version = version } }
     {

@@ -174,7 +174,7 @@ module _ (bytes : List ℕ) (fits : IsBytes bytes) where
         fresh = slots_fresh version count clean.slots clean.handlers;
         some_frames = h.some_frames;
         few_frames = h.few_frames;
-        paged = record { rising = pages_rise count many clean.pages; whole = pages_whole count many clean.pages; fitting = subst (λ n. n ≤ frames_of bytes) (sym pages_length) h.few_pages };
+        paged = record { pages = record { rising = pages_rise count many clean.pages; whole = pages_whole count many clean.pages }; fitting = subst (λ n. n ≤ frames_of bytes) (sym pages_length) h.few_pages };
         words = pages_words count many clean.pages;
       }
 

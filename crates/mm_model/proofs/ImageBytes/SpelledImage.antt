@@ -96,7 +96,7 @@ module _ (bytes : List ℕ) (i : Image) (image : IsImage i) (spelled : bytes ≡
   slots_text_long = slots_long (slot_limit i.version) i.slots i.slots image.fresh
 
   pages_text_long : AllByRecursion (λ p. length (page_record p) ≡ 4232) i.memory.pages
-  pages_text_long = pages_long i.memory.pages image.paged.whole
+  pages_text_long = pages_long i.memory.pages image.paged.pages.whole
 
   long : length bytes ≡ 16 + 142 * count + 4232 * many
   unfolding spelling
@@ -208,7 +208,7 @@ module _ (bytes : List ℕ) (i : Image) (image : IsImage i) (spelled : bytes ≡
   page_text k d lt = apart bytes page_record 4232 i.memory.pages pages_text_long (16 + 142 * count) parts.pages k d lt
 
   page_at_is : (k : ℕ) (d : ℕ × List Cell) → k < many → IsPage (get_or i.memory.pages k d)
-  page_at_is k d lt = all_at IsPage i.memory.pages image.paged.whole k d lt
+  page_at_is k d lt = all_at IsPage i.memory.pages image.paged.pages.whole k d lt
 
   rises_at : (least : ℕ) (pages : List (ℕ × List Cell)) → AreRisingFrom least pages → (k : ℕ) (d : ℕ × List Cell) → suc k < length pages → (get_or pages k d).0 + 1 ≤ (get_or pages (suc k) d).0
   rises_at least [] rising k d lt = absurd (omega arith)
@@ -220,7 +220,7 @@ module _ (bytes : List ℕ) (i : Image) (image : IsImage i) (spelled : bytes ≡
   page_order zero d lt = omega arith
   page_order (suc k) d lt =
       let this = (page_text_again bytes (page_offset count k) (get_or i.memory.pages k d) (page_at_is k d (omega arith)) (page_text k d (omega arith))).number in
-      omega (arith, this, rises_at 0 i.memory.pages (rising_from_sorted i.memory.pages image.paged.rising) k d lt)
+      omega (arith, this, rises_at 0 i.memory.pages (rising_from_sorted i.memory.pages image.paged.pages.rising) k d lt)
 
   each_page : (k : ℕ) (d : ℕ × List Cell) → k < many → IsReadPage bytes (least_number bytes (page_offset count) 8 k) (page_offset count k) (get_or i.memory.pages k d)
   each_page k d lt =

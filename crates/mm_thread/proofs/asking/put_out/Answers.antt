@@ -18,14 +18,14 @@ has_room-requires c =
     let r = c.requires in
     let t = c.args.tables.now in
     let group = ap (λ (s : Slot). s.group) (c.slot.view_is ∙ c.slot-slot.ensures) in
-    omega (arith, group_small t r.whole c.args.places.now r.index c.args.place r.within, r.whole.outputs)
+    omega (arith, group_small t r.whole c.args.places.now r.index c.args.place r.within, r.whole.formed.outputs)
 
 pub put_byte-requires-clause-group : goal.put_byte-requires-clause-group
 put_byte-requires-clause-group c =
     let r = c.requires in
     let t = c.args.tables.now in
     let group = ap (λ (s : Slot). s.group) (c.slot.view_is ∙ c.slot-slot.ensures) in
-    omega (arith, group_small t r.whole c.args.places.now r.index c.args.place r.within, r.whole.outputs, ap (λ (k : Core). length k.outputs) c.advance.ensures)
+    omega (arith, group_small t r.whole c.args.places.now r.index c.args.place r.within, r.whole.formed.outputs, ap (λ (k : Core). length k.outputs) c.advance.ensures)
 
 pub put_byte-requires-clause-room : goal.put_byte-requires-clause-room
 unfolding output_of

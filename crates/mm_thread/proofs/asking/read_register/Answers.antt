@@ -4,7 +4,7 @@ use Rattle.mm_model.specs.Slot.{Slot, register}
 use Rattle.mm_model.specs.Effect.{plain, delivered}
 use Rattle.mm_model.specs.Turn.{slot_after}
 use Rattle.mm_thread.specs.Places.{slot_in, with_slot}
-use Rattle.mm_thread.proofs.Cores.{own, registers_small}
+use Rattle.mm_thread.proofs.Cores.{registers_small}
 use Rattle.mm_thread.proofs.Around.{read_refused, read_waits, read_reads, leaves_at}
 use Rattle.mm_thread.proofs.asking.read_register.Goals as goal
 
@@ -15,7 +15,7 @@ pub deliver-register-requires-clause-registers : goal.deliver-register-requires-
 deliver-register-requires-clause-registers c =
     let t = c.args.tables.now in
     let r = c.requires in
-    registers_small t.version t.split (slot_in t c.in-Some.of) (own t r.whole c.args.places.now r.index c.in-Some.of c.in-Some.ensures.within)
+    registers_small t r.whole c.args.places.now r.index c.in-Some.of c.in-Some.ensures.within
 
 pub returns-then-lacks : goal.returns-then-lacks
 returns-then-lacks c = λ m.

@@ -1,7 +1,6 @@
 use Rattle.std.proofs.Common.{◌≡◌, ap, sym, ◌∙◌}
 use Rattle.mm_model.specs.Slot.{Slot}
-use Rattle.mm_thread.specs.Places.{slot_in}
-use Rattle.mm_thread.proofs.Cores.{own, registers_small}
+use Rattle.mm_thread.proofs.Cores.{registers_small}
 use Rattle.mm_thread.proofs.Items.{port_idles, port_delivers, arrival, step_of}
 use Rattle.mm_thread.proofs.item.take_port.Goals as goal
 use Rattle.mm_thread.proofs.item.take_port.Goals.{in-Some-deliver, in-None}
@@ -13,7 +12,7 @@ pub deliver-requires-clause-registers : goal.deliver-requires-clause-registers
 deliver-requires-clause-registers c =
     let t = c.args.tables.now in
     let r = c.requires in
-    registers_small t.version t.split (slot_in t c.in-Some.place) (own t r.whole c.args.places.now r.index c.in-Some.place c.in-Some.ensures.within)
+    registers_small t r.whole c.args.places.now r.index c.in-Some.place c.in-Some.ensures.within
 
 pub returns : goal.returns
 returns c = λ m.

@@ -16,7 +16,7 @@ use Rattle.mm_thread.specs.Places.{slot_in}
 use Rattle.mm_thread.specs.Left.{core_loaded, outcome_loaded}
 use Rattle.mm_thread.specs.declared.outcome.Told.{Told}
 use Rattle.mm_mem.specs.Answers.{loaded}
-use Rattle.mm_thread.proofs.Cores.{own, pending_room}
+use Rattle.mm_thread.proofs.Cores.{pending_room}
 use Rattle.mm_thread.proofs.Accesses.{executes_by, load_leaves, free_destination, leaves_all, one_access}
 use Rattle.mm_thread.proofs.reaching.load.Goals as goal
 
@@ -27,7 +27,7 @@ receive-outcome-requires-clause-room g c = λ split.
     let r = c.requires.can in
     let s = slot_in t a.place in
     let free : lacks (Ld a.rd a.ra a.pre a.post a.imm) s ≡ false = ap (λ (b : Bool). b && lacks (Ld a.rd a.ra a.pre a.post a.imm) s) (sym split) ∙ c.requires.free in
-    pending_room t.version t.split s (own t r.whole a.places.now r.index a.place r.within) a.rd (search rules) (free_destination s a.rd a.ra a.pre a.post a.imm free)
+    pending_room t r.whole a.places.now r.index a.place r.within a.rd (search rules) (free_destination s a.rd a.ra a.pre a.post a.imm free)
 
 pub returns-in-Err : goal.returns-in-Err
 unfolding ask effect reply

@@ -2,7 +2,7 @@ use Rattle.std.proofs.Common.{ℕ, sym, ap, ◌∙◌}
 use Rattle.mm_model.specs.Slot.{Slot}
 use Rattle.mm_thread.specs.Places.{slot_in}
 use Rattle.mm_thread.specs.Left.{step_ended}
-use Rattle.mm_thread.proofs.Cores.{own, registers_small}
+use Rattle.mm_thread.proofs.Cores.{registers_small}
 use Rattle.mm_thread.proofs.Turns.{can_end, issued_gives, issued_waits, turns-delivered}
 use Rattle.mm_thread.proofs.running.issue.Goals as goal
 
@@ -10,7 +10,7 @@ pub deliver-register-requires-clause-registers : goal.deliver-register-requires-
 deliver-register-requires-clause-registers g c =
     let t = c.args.tables.now in
     let r = c.requires.can in
-    registers_small t.version t.split (slot_in t c.args.place) (own t r.whole c.args.places.now r.index c.args.place r.within)
+    registers_small t r.whole c.args.places.now r.index c.args.place r.within
 
 pub stand-requires-clause-turns : goal.stand-requires-clause-turns
 stand-requires-clause-turns g c = turns-delivered c.args.tables.now c.args.places.now c.args.place c.requires.can c.deliver-register.new.self c.deliver-register.ensures.slot

@@ -1,4 +1,4 @@
-use Rattle.std.proofs.Common.{false, refl, ap}
+use Rattle.std.proofs.Common.{false, refl}
 use Rattle.mm_model.specs.State.{Core}
 use Rattle.mm_model.specs.Fits.{IsCore}
 use Rattle.mm_thread.proofs.Fresh.{fresh_core, small_numbers}
@@ -9,17 +9,17 @@ pub new-tables-requires : goal.new-tables-requires
 new-tables-requires c =
     let t : Core = record { rows = c.in_ok-rows.rows.items; outputs = c.in_ok-outputs.outputs.items; version = 2; split = false } in
     let whole : IsCore t = fresh_core c.args.slots.now c.requires.rising c.requires.fresh _ _ t refl c.in_ok-rows.ensures c.in_ok-outputs.ensures in
-    core_numbered t whole.rising (small_numbers t refl whole)
+    core_numbered t whole.formed.rising (small_numbers t whole)
 
 pub places_of-places-requires-clause-rising : goal.places_of-places-requires-clause-rising
 places_of-places-requires-clause-rising c =
     let whole : IsCore c.new-tables.result = fresh_core c.args.slots.now c.requires.rising c.requires.fresh _ _ c.new-tables.result c.new-tables.ensures c.in_ok-rows.ensures c.in_ok-outputs.ensures in
-    whole.rising
+    whole.formed.rising
 
 pub places_of-places-requires-clause-small : goal.places_of-places-requires-clause-small
 places_of-places-requires-clause-small c =
     let whole : IsCore c.new-tables.result = fresh_core c.args.slots.now c.requires.rising c.requires.fresh _ _ c.new-tables.result c.new-tables.ensures c.in_ok-rows.ensures c.in_ok-outputs.ensures in
-    small_numbers c.new-tables.result (ap (λ (k : Core). k.version) c.new-tables.ensures) whole
+    small_numbers c.new-tables.result whole
 
 pub invariant_of-result : goal.invariant_of-result
 invariant_of-result c =

@@ -7,4 +7,4 @@ pub returns-else-group-lt64 : goal.returns-else-group-lt64
 returns-else-group-lt64 c =
     let t = c.self.inside.tables in
     let whole = c.self.invariant.whole in
-    sym (output-past t c.args.group whole.outputs (omega arith)) ∙ ap (λ (k : Core). output_of k c.args.group) c.self.view_is
+    sym (output-past t c.args.group whole.formed.outputs (omega arith)) ∙ ap (λ (k : Core). output_of k c.args.group) c.self.view_is

@@ -1,0 +1,37 @@
+-- What a state has that fits an image.
+use Rattle.std.proofs.Common.{◌≡◌, map, sym, ap, ◌∙◌, subst}
+use Rattle.std.specs.List.{AllByRecursion}
+use Rattle.mm_model.specs.Memory.{IsPaged}
+use Rattle.mm_model.specs.State.{Core, State}
+use Rattle.mm_model.specs.Image.{Image, start}
+use Rattle.mm_model.specs.Spelling.{IsImage}
+use Rattle.mm_model.specs.Fits.{slots_of, identity_of, IsState, Fits, IsKept, IsOfVersion, HandlersAreOthers, IsCore}
+use Rattle.mm_model.proofs.CoreRows.{of_version_by, identities_of}
+use Rattle.mm_model.proofs.CoreSteps.{Fitting, handlers_by}
+use Rattle.mm_model.proofs.Starts.{start_slots, start_core}
+
+-- each slot's handler is another slot
+pub image_handlers : (i : Image) (core : Core) → IsImage i → identities_of core ≡ map identity_of i.slots → HandlersAreOthers core
+image_handlers i core img same =
+    let first = start_core i img.rising img.fresh in
+    handlers_by (start i).core core first.formed.rising first.handlers (same ∙ sym (ap (map identity_of) (start_slots i)))
+
+pub fitting_of : (i : Image) (s : State) → IsImage i → Fits i s → Fitting s.core
+fitting_of i s img fits = record { handlers = image_handlers i s.core img fits.same_slots; matched = fits.matched }
+
+-- its memory has whole pages, no more than frames
+pub paged_of : (i : Image) (s : State) → IsState s → Fits i s → IsPaged s.memory
+paged_of i s h fits = record { pages = h.pages; fitting = fits.mapped }
+
+-- the numbers and groups of its slots are those of its version
+image_numbers : (i : Image) (core : Core) → IsImage i → identities_of core ≡ map identity_of i.slots → core.version ≡ i.version → AllByRecursion (IsOfVersion core.version) (slots_of core)
+unfolding start
+image_numbers i core img same version =
+    subst (λ v. AllByRecursion (IsOfVersion v) (slots_of core)) (sym version)
+    (of_version_by i.version (slots_of core) (slots_of (start i).core) (same ∙ sym (ap (map identity_of) (start_slots i))) (start_core i img.rising img.fresh).numbers)
+
+-- its core is one of a machine, where what the types keep is kept
+pub core_of : (i : Image) (s : State) → IsImage i → IsState s → Fits i s → IsKept s.core → IsCore s.core
+core_of i s img h fits kept =
+    let fit = fitting_of i s img fits in
+    record { formed = h.core; numbers = image_numbers i s.core img fits.same_slots fits.version; handlers = fit.handlers; matched = fit.matched; kept = kept }
