@@ -13,6 +13,7 @@ use Rattle.mm_model.specs.Worlds.{Touchable}
 use Rattle.mm_model.proofs.CoreRows.{each_map}
 use Rattle.mm_laws.specs.CellLines.{LinesOf, CellLinesOf}
 use Rattle.mm_laws.specs.Isolated.{AgreeApart}
+use Rattle.mm_model.proofs.Fitted.{paged_of}
 use Rattle.mm_model.proofs.Filters.{filter_takes, filter_drops}
 use Rattle.mm_laws.proofs.AlikeWorlds.{touchable_other, touchable_back}
 use Rattle.mm_laws.proofs.CellViews.{IsIn, Rising, at_word, filter_in, in_filter}
@@ -156,6 +157,6 @@ lines_are_same i j c s t g e text =
     let back : (v : ℕ) → Touchable j All c v → Touchable i All c v = touchable_back i j c g.agree g.other_apart in
     let one : List (ℕ × Cell) = changes (run (start i) s).memory i.memory in
     let other : List (ℕ × Cell) = changes (run (start j) t).memory j.memory in (
-      same_text (Touchable i All c) (Touchable j All c) over back one other cells (changes_rising (run (start i) s).memory i.memory w.one.paged) text,
-      same_text (Touchable j All c) (Touchable i All c) back over other one (λ p touched. sym (cells p (λ v found. back v (touched v found)))) (changes_rising (run (start j) t).memory j.memory w.other.paged) text,
+      same_text (Touchable i All c) (Touchable j All c) over back one other cells (changes_rising (run (start i) s).memory i.memory (paged_of i (run (start i) s) w.one_state w.one)) text,
+      same_text (Touchable j All c) (Touchable i All c) back over other one (λ p touched. sym (cells p (λ v found. back v (touched v found)))) (changes_rising (run (start j) t).memory j.memory (paged_of j (run (start j) t) w.other_state w.other)) text,
     )

@@ -14,14 +14,17 @@ use Rattle.mm_model.specs.declared.step.Tick.TheVariants.{Idle, Blocked, Did, Fa
 use Rattle.mm_model.specs.Memory.{Memory}
 use Rattle.mm_model.specs.Slot.{Slot}
 use Rattle.mm_model.specs.State.{Core, State, slot_at, queue_at, put_slot, put_queue}
-use Rattle.mm_model.specs.Spelling.{IsOther}
-use Rattle.mm_model.specs.Fits.{slots_of, waits_for, IsSlot, IsCore}
+use Rattle.mm_model.specs.Image.{Image}
+use Rattle.mm_model.specs.Spelling.{IsOther, IsImage}
+use Rattle.mm_model.specs.Fits.{slots_of, waits_for, IsSlot, IsFormed, IsState, Fits, IsCore}
 use Rattle.mm_model.specs.Turn.{Turned, is_running, is_sync, is_handler, stood, event_of, core_faulted, tick_faulted, faulted, started, idle, arrives, taken_by_port, taken_by, turn}
 use Rattle.mm_model.specs.Run.{turn_of, state_of, after}
 use Rattle.mm_model.specs.Tests.{Stop, first_stop}
 use Rattle.mm_model.specs.Tests.Stop.{Fails, Lacks, Awaits}
 use Rattle.mm_model.specs.Outcomes.{Runs, IsPort, IsIdle, Delivers, StopsAt, Waits, Blocks, Faults, Completes, state_faulted, FaultChanges}
-use Rattle.mm_model.proofs.CoreRows.{each_map, slot_limit-few, slot_at-number, slot_at-put_same, slot_at-put_other, queue_at-put_slot, slot_at-put_queue, queue_at-put_same, queue_at-put_other, slot_has, other_at}
+use Rattle.mm_model.proofs.CoreRows.{each_map, slot_at-number, slot_at-put_same, slot_at-put_other, queue_at-put_slot, slot_at-put_queue, queue_at-put_same, queue_at-put_other, slot_has, other_at}
+use Rattle.mm_model.proofs.CoreSteps.{Fitting}
+use Rattle.mm_model.proofs.Fitted.{fitting_of}
 use Rattle.mm_model.proofs.Shortness.{queued_at}
 use Rattle.mm_model.proofs.Stops.{Orphan, FaultedTurn, Stands, turn_stops}
 
@@ -36,12 +39,13 @@ pub some_of : {A : Type 0} (o : Option A) → is_some o ≡ true → (x : A) × 
 some_of None h = absurd cc
 some_of (Some x) h = (x, refl)
 
-pub core_orderly : (core : Core) → IsCore core → IsOrderly core
-core_orderly core h = record {
+-- a core whose slots and events match, and whose handlers are slots
+pub orderly : (core : Core) → IsFormed core → Fitting core → IsOrderly core
+orderly core h fit = record {
   low = λ n there. low n (slot_at core n) refl there;
-  queued = λ g. each_map (λ (e : Event). waits_for g (slot_at core e.slot) ≡ true) (λ (e : Event). is_some (slot_at core e.slot) ≡ true) (λ e. waiting_there g (slot_at core e.slot)) (queue_at core g) (queued_at core h g);
+  queued = λ g. each_map (λ (e : Event). waits_for g (slot_at core e.slot) ≡ true) (λ (e : Event). is_some (slot_at core e.slot) ≡ true) (λ e. waiting_there g (slot_at core e.slot)) (queue_at core g) (queued_at core fit.matched g);
   handlers = λ n g s is handler.
-      let other = slot_has (λ (t : Slot). IfSome t.handler (IsOther (slots_of core) t.number)) core n s h.handlers is in
+      let other = slot_has (λ (t : Slot). IfSome t.handler (IsOther (slots_of core) t.number)) core n s fit.handlers is in
       ap is_some (other_at core h.rising s.number g (subst (λ o. IfSome o (IsOther (slots_of core) s.number)) handler other)).1.1;
 }
   where
@@ -49,13 +53,20 @@ core_orderly core h = record {
     low n None is there = cc
     low n (Some s) is there =
         let number = slot_at-number core n s is in
-        let small = (slot_has (IsSlot core.version core.split) core n s h.slots is).number in
-        let few = slot_limit-few core.version in
+        let small = (slot_has IsSlot core n s h.slots is).number in
         omega arith
 
     waiting_there : (g : ℕ) (o : Option Slot) → waits_for g o ≡ true → is_some o ≡ true
     waiting_there g None w = cc
     waiting_there g (Some s) w = refl
+
+-- one of a machine
+pub core_orderly : (core : Core) → IsCore core → IsOrderly core
+core_orderly core h = orderly core h.formed (record { handlers = h.handlers; matched = h.matched })
+
+-- and one of a state that fits an image
+pub state_orderly : (i : Image) (s : State) → IsImage i → IsState s → Fits i s → IsOrderly s.core
+state_orderly i s img h fits = orderly s.core h.core (fitting_of i s img fits)
 
 no_orphan : (core : Core) → IsOrderly core → (n : ℕ) → Orphan core n → ⊥
 no_orphan core h n o =
@@ -322,9 +333,8 @@ pub record EndsExactly (core : Core) (m : Memory) (n : ℕ) (tick : Tick) : Type
   pub faulted : (c : Cause) → (tick ≡ Faulted c) ↔ Faults core m n c
   pub did : (tick ≡ Did) ↔ Completes core m n
 
-pub ends_exactly : (core : Core) (m : Memory) (n : ℕ) → IsCore core → EndsExactly core m n (turn core m n).step.tick
-ends_exactly core m n whole =
-    let h = core_orderly core whole in
+pub ends_exactly : (core : Core) (m : Memory) (n : ℕ) → IsOrderly core → EndsExactly core m n (turn core m n).step.tick
+ends_exactly core m n h =
     record {
       idle = idle_exactly core m n h;
       delivered = delivered_exactly core m n h;
