@@ -1,4 +1,6 @@
 pub mod Arithmetics
+pub mod Forms
+pub mod Operands
 pub mod Packing
 pub mod Rows
 pub mod Spelling

@@ -7,14 +7,23 @@ mod arithmetic;
 mod decoding;
 mod encoding;
 mod fields;
+mod form;
 mod instr;
 pub mod laws;
+mod operand;
+mod operation;
 mod reg;
+mod table;
 #[cfg(test)]
 mod tests;
 
 pub use arithmetic::alu;
 pub use decoding::decode;
 pub use encoding::encode;
+pub use fields::Fields;
+pub use form::{Form, operation_named};
 pub use instr::{AluOp, DivZero, How, Instr};
+pub use operand::{Operand, OperandKind};
+pub use operation::Operation;
 pub use reg::{EvtReg, Reg};
+pub use table::Visitor;
