@@ -1,5 +1,5 @@
 -- Operands in their range fit their places in a word.
-use Rattle.std.proofs.Common.{ℕ, ◌+◌, ◌*◌, ◌/◌, ◌%◌, ◌<◌, pos, FitsSigned, List, [], ◌∷◌, fold, arith, lit<}
+use Rattle.std.proofs.Common.{ℕ, ◌<◌, pos, FitsSigned, List, [], ◌∷◌, fold, arith, lit<}
 use Rattle.std.specs.Int.{w32}
 use Rattle.std.specs.List.{AllByRecursion}
 use Rattle.std.proofs.lemmas.Int.{ints}
@@ -9,7 +9,7 @@ use Rattle.mm_word.specs.declared.word.Post.{Post}
 use Rattle.mm_word.specs.declared.word.Post.TheVariants as post
 use Rattle.mm_isa.specs.declared.fields.Fields.{Fields}
 use Rattle.mm_isa.specs.declared.instr.AluOp.{AluOp}
-use Rattle.mm_isa.specs.declared.instr.AluOp.TheVariants.{Add, Sub, Mul, Divu, Remu, And, Or, Xor, Shl, Shr, Sar, Eq, Ltu, Lts}
+use Rattle.mm_isa.specs.declared.instr.AluOp.TheVariants.{Add}
 use Rattle.mm_isa.specs.declared.instr.How.{How}
 use Rattle.mm_isa.specs.declared.instr.How.TheVariants.{Retry, Skip, Kill}
 use Rattle.mm_isa.specs.declared.instr.Instr.{Instr}
@@ -22,7 +22,7 @@ use Rattle.mm_isa.specs.Table.{integer, operation_of, unused, put, pre_code, pos
 fits : (f : Fields) → f.operation < 256 → f.rd < 16 → f.ra < 16 → f.rb < 16 → f.c < 16 → FitsSigned w32 f.imm → FitInWord f
 fits f operation rd ra rb c imm = record { operation = operation; rd = rd; ra = ra; rb = rb; c = c; imm = imm }
 
-number_fits : (r : ℕ) → r < 16 → FitsSigned w32 (pos r)
+pub number_fits : (r : ℕ) → r < 16 → FitsSigned w32 (pos r)
 number_fits r h = omega (arith, ints)
 
 pre_small : (p : Pre) → pre_code p < 3

@@ -1,9 +1,7 @@
 -- Each row of the table is found by its fields, and each row that is found is an instruction.
-use Rattle.std.proofs.Common.{◌≡◌, ℕ, ◌+◌, ◌*◌, ◌%◌, ◌<◌, min, Bool, true, false, cond, pos, FitsSigned, List, [], ◌∷◌, Option, Some, map, arith, refl, ap, sym, subst}
+use Rattle.std.proofs.Common.{◌≡◌, ℕ, ◌%◌, ◌<◌, min, Bool, true, false, cond, FitsSigned, List, [], ◌∷◌, Option, Some, map, arith, refl, ap, sym, subst}
 use Rattle.std.specs.Int.{w32}
 use Rattle.std.specs.List.{find, AllByRecursion}
-use Rattle.std.proofs.lemmas.Int.{ints}
-use Rattle.std.proofs.lemmas.Bool.Decides.{nat_tests}
 use Rattle.mm_word.specs.declared.word.Pre.TheVariants as pre
 use Rattle.mm_word.specs.declared.word.Post.TheVariants as post
 use Rattle.mm_isa.specs.declared.fields.Fields.{Fields}

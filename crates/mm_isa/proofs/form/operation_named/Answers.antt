@@ -1,7 +1,6 @@
-use Rattle.std.proofs.Common.{rules, ◌≡◌, ℕ, ◌<◌, Option, Some, None, ap, sym, ◌∙◌, subst, arith}
+use Rattle.std.proofs.Common.{rules, ◌≡◌, ℕ, Some, None, ap, sym, ◌∙◌, subst, arith}
 use borrow.Author.Count.{below_more}
-use Rattle.mm_isa.specs.declared.instr.Instr.{Instr}
-use Rattle.mm_isa.specs.Table.{operation_of, unused}
+use Rattle.mm_isa.specs.Table.{unused}
 use Rattle.mm_isa.specs.Decode.{row_of, operation_named}
 use Rattle.mm_isa.proofs.Forms.{NamesOther, name_read, name_not_read, operation_named-name, operation_named-none, no_instr_named}
 use Rattle.mm_isa.proofs.form.operation_named.Goals as goal
