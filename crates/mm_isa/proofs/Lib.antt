@@ -1,4 +1,5 @@
 pub mod Arithmetics
+pub mod Assembled
 pub mod Forms
 pub mod Operands
 pub mod Packing

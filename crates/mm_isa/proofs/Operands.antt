@@ -30,7 +30,7 @@ pre_small pre.Any = lit< tt
 pre_small pre.Full = lit< tt
 pre_small pre.Empty = lit< tt
 
-post_small : (p : Post) → post_code p < 3
+pub post_small : (p : Post) → post_code p < 3
 post_small post.Keep = lit< tt
 post_small post.Full = lit< tt
 post_small post.Empty = lit< tt

@@ -22,40 +22,13 @@ use Rattle.mm_isa.specs.Decode.{rows, row_of, pre_in, post_in, how_in, register_
 row_of-integer : (op : AluOp) (rd ra rb : ℕ) → row_of (fields_of (Alu op rd ra rb)) ≡ Some (Alu op rd ra rb)
 unfolding row_of rows
 row_of-integer Add rd ra rb = refl
-row_of-integer Sub rd ra rb = refl
-row_of-integer Mul rd ra rb = refl
-row_of-integer Divu rd ra rb = refl
-row_of-integer Remu rd ra rb = refl
-row_of-integer And rd ra rb = refl
-row_of-integer Or rd ra rb = refl
-row_of-integer Xor rd ra rb = refl
-row_of-integer Shl rd ra rb = refl
-row_of-integer Shr rd ra rb = refl
-row_of-integer Sar rd ra rb = refl
-row_of-integer Eq rd ra rb = refl
-row_of-integer Ltu rd ra rb = refl
-row_of-integer Lts rd ra rb = refl
+row_of-integer _ rd ra rb = refl
 
 -- a row is found by its fields
 pub row_of-fields_of : (i : Instr) → IsInstr i → row_of (fields_of i) ≡ Some i
 unfolding row_of rows
 row_of-fields_of Halt h = refl
-row_of-fields_of Nop h = refl
-row_of-fields_of (Ldi rd imm) h = refl
-row_of-fields_of (Ldhi rd imm) h = refl
-row_of-fields_of (Mov rd ra) h = refl
-row_of-fields_of (Isptr rd ra) h = refl
-row_of-fields_of (Eqw rd ra rb) h = refl
-row_of-fields_of (Out ra) h = refl
-row_of-fields_of (SelfSlot rd) h = refl
 row_of-fields_of (Alu op rd ra rb) h = row_of-integer op rd ra rb
-row_of-fields_of (Addi rd ra imm) h = refl
-row_of-fields_of (Lea rd ra rb) h = refl
-row_of-fields_of (Leai rd ra imm) h = refl
-row_of-fields_of (Leab rd ra rb) h = refl
-row_of-fields_of (Restrict rd ra rb) h = refl
-row_of-fields_of (Subseg rd ra rb) h = refl
-row_of-fields_of (Setptr rd ra) h = refl
 row_of-fields_of (Ld rd ra pre.Any post.Keep imm) h = refl
 row_of-fields_of (Ld rd ra pre.Any post.Full imm) h = refl
 row_of-fields_of (Ld rd ra pre.Any post.Empty imm) h = refl
@@ -74,13 +47,6 @@ row_of-fields_of (St ra rb pre.Full post.Empty imm) h = refl
 row_of-fields_of (St ra rb pre.Empty post.Keep imm) h = refl
 row_of-fields_of (St ra rb pre.Empty post.Full imm) h = refl
 row_of-fields_of (St ra rb pre.Empty post.Empty imm) h = refl
-row_of-fields_of (Br imm) h = refl
-row_of-fields_of (Bz ra imm) h = refl
-row_of-fields_of (Bnz ra imm) h = refl
-row_of-fields_of (Jmp ra) h = refl
-row_of-fields_of (Jal rd ra) h = refl
-row_of-fields_of (Lip rd imm) h = refl
-row_of-fields_of (Trap imm) h = refl
 row_of-fields_of (Evt rd) h =
     let same : min rd 12 ≡ rd = omega (arith, h.operands.0) in
     ap (λ n. Some (Evt n)) same
@@ -93,8 +59,7 @@ row_of-fields_of (Rreg rd ra reg) h =
 row_of-fields_of (Wreg ra rb reg) h =
     let same : reg % 16 ≡ reg = omega (arith, h.operands.1.1.0) in
     ap (λ n. Some (Wreg ra rb n)) same
-row_of-fields_of (Map rd ra) h = refl
-row_of-fields_of (Unmap rd ra) h = refl
+row_of-fields_of _ h = refl
 
 -- the one that is found is the first, or is found among the rest
 chosen : {X : Type 0} (P : X → Type 0) (b : Bool) (y x : X) (rest : Option X) → P y → (rest ≡ Some x → P x) → cond b (Some y) rest ≡ Some x → P x
@@ -116,7 +81,7 @@ pub record ReadInRange (f : Fields) : Type 0 where
   pub imm : FitsSigned w32 f.imm
 
 -- the operand of a kind that fields hold, read as a value in its range
-abbrev operand_in : Fields → OperandKind → Operand
+abbrev pub operand_in : Fields → OperandKind → Operand
 operand_in f kind.Rd = Rd f.rd
 operand_in f kind.EvtRd = EvtRd (min f.rd 12)
 operand_in f kind.Ra = Ra f.ra

@@ -1,12 +1,14 @@
 //! What holds of the definitions of instruction words and integer operations. Each function's
 //! contract is the law; the functions do nothing.
-ghost use Rattle.std.specs.Prelude.{◌≡◌, ◌≢◌, ◌<◌, ◌^◌, ◌↔◌, ℕ, pos, negsuc, map, AllPairs, Some, None, IfOk};
+ghost use Rattle.std.specs.Prelude.{◌≡◌, ◌≢◌, ◌<◌, ◌^◌, ◌↔◌, ℕ, pos, negsuc, List, map, fold, AllPairs, Some, None, IfOk};
+ghost use Rattle.std.specs.List.{AllByRecursion};
 ghost use Rattle.mm_word.specs.declared.word.Pre.TheVariants as pre;
 ghost use Rattle.mm_word.specs.declared.word.Post.TheVariants as post;
 ghost use Rattle.mm_isa.specs.declared.fields.Fields.{Fields};
 ghost use Rattle.mm_isa.specs.declared.instr.AluOp.{AluOp};
 ghost use Rattle.mm_isa.specs.declared.instr.Instr.{Instr};
-ghost use Rattle.mm_isa.specs.Table.{operation_of, fields_of, spelling, IsInstr};
+ghost use Rattle.mm_isa.specs.declared.operand.Operand.{Operand};
+ghost use Rattle.mm_isa.specs.Table.{operation_of, kind_of, kinds_of, unused, put, fields_of, packed, spelling, IsInRange, IsInstr};
 ghost use Rattle.mm_isa.specs.Decode.{fields_in, instr_of, rows, form_of, forms, operation_named};
 ghost use Rattle.mm_isa.specs.Alu.{alu_result};
 
@@ -75,4 +77,12 @@ pub fn names_are_found()
 pub fn operands_determine_the_instruction()
     ensures { (i j : Instr) → IsInstr i → IsInstr j → (operation_of i).name ≡ (operation_of j).name
         → (operation_of i).operands ≡ (operation_of j).operands → i ≡ j }
+{}
+
+/// Operands in their ranges, of the kinds of a row, are those of an instruction. The word with them in
+/// their places is read as it.
+pub fn operands_make_an_instruction()
+    ensures { (i : Instr) (operands : List Operand) → map kind_of operands ≡ kinds_of i → AllByRecursion IsInRange operands
+        → (j : Instr) × (instr_of (packed (fold put (unused (operation_of i).code) operands)) ≡ Some j)
+        × (operation_of j ≡ record (operation_of i) { operands = operands }) }
 {}

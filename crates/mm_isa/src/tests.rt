@@ -1,4 +1,7 @@
-use crate::{AluOp, DivZero, EvtReg, How, Instr, Reg, alu, decode, encode};
+use crate::{
+    AluOp, DivZero, EvtReg, Fields, How, Instr, Operand, OperandKind, Reg, alu, decode, encode,
+    operation_named,
+};
 use mm_word::{Post, Pre};
 use std::test::Fail;
 
@@ -218,5 +221,103 @@ fn integer_operations(rt: HostRuntime) {
     ];
     for (op, a, b, result) in table {
         assert_eq!(rt; alu(op, a, b), result, "{op:?} {a:x} {b:x}");
+    }
+}
+
+#[test]
+fn text_both_ways(rt: HostRuntime) -> Result<(), Fail> {
+    // ld r2, r1, -8, full, keep
+    let form = operation_named(b"ld").ok_or("ld")?;
+    assert_eq!(rt; form.name, "ld");
+    let kinds = [
+        OperandKind::Rd,
+        OperandKind::Ra,
+        OperandKind::Imm,
+        OperandKind::Pre,
+        OperandKind::Post,
+    ];
+    assert_eq!(rt; form.kinds.as_slice(), kinds.as_slice());
+    let rd = Operand::Rd(Reg::new(2).ok_or("r2")?);
+    let ra = Operand::Ra(Reg::new(1).ok_or("r1")?);
+    let (imm, pre, post) = (
+        Operand::Imm(-8),
+        Operand::Pre(Pre::Full),
+        Operand::Post(Post::Keep),
+    );
+    let fields = Fields::unused(form.code)
+        .put(rd)
+        .put(ra)
+        .put(imm)
+        .put(pre)
+        .put(post);
+    assert_eq!(rt; fields.word(), 0x3021_0400_ffff_fff8);
+    let operation = decode(fields.word()).ok_or("a load")?.operation();
+    assert_eq!(rt; operation.name, "ld");
+    assert_eq!(rt; operation.code, 0x30);
+    assert_eq!(rt;
+        operation.operands.as_slice(),
+        [rd, ra, imm, pre, post].as_slice()
+    );
+    Ok(())
+}
+
+#[test]
+fn operation_names(rt: HostRuntime) {
+    let table = [
+        ("halt", 0x00),
+        ("nop", 0x01),
+        ("ldi", 0x02),
+        ("ldhi", 0x03),
+        ("mov", 0x04),
+        ("isptr", 0x05),
+        ("eqw", 0x06),
+        ("out", 0x07),
+        ("self", 0x08),
+        ("add", 0x10),
+        ("sub", 0x11),
+        ("mul", 0x12),
+        ("divu", 0x13),
+        ("remu", 0x14),
+        ("and", 0x15),
+        ("or", 0x16),
+        ("xor", 0x17),
+        ("shl", 0x18),
+        ("shr", 0x19),
+        ("sar", 0x1a),
+        ("eq", 0x1b),
+        ("ltu", 0x1c),
+        ("lts", 0x1d),
+        ("addi", 0x1e),
+        ("lea", 0x20),
+        ("leai", 0x21),
+        ("leab", 0x22),
+        ("restrict", 0x23),
+        ("subseg", 0x24),
+        ("setptr", 0x25),
+        ("ld", 0x30),
+        ("st", 0x31),
+        ("br", 0x40),
+        ("bz", 0x41),
+        ("bnz", 0x42),
+        ("jmp", 0x43),
+        ("jal", 0x44),
+        ("lip", 0x45),
+        ("trap", 0x50),
+        ("evt", 0x51),
+        ("resume", 0x52),
+        ("rreg", 0x53),
+        ("wreg", 0x54),
+        ("map", 0x60),
+        ("unmap", 0x61),
+    ];
+    for (name, code) in table {
+        assert_eq!(rt;
+            operation_named(name.as_bytes()).map(|form| form.code),
+            Some(code),
+            "{name}"
+        );
+    }
+    for name in ["", "HALT", "l", "ldx", "selfslot"] {
+        assert!(rt; operation_named(name.as_bytes()).is_none(), "{name}");
     }
 }
