@@ -1,4 +1,7 @@
 pub mod Arithmetics
+pub mod Assembled
+pub mod Forms
+pub mod Operands
 pub mod Packing
 pub mod Rows
 pub mod Spelling

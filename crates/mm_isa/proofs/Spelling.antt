@@ -7,17 +7,18 @@ use Rattle.std.proofs.lemmas.Bool.Decides.{nat_tests}
 use Rattle.mm_isa.specs.declared.instr.Instr.{Instr}
 use Rattle.mm_isa.specs.Table.{fields_of, packed, spelling, IsInstr}
 use Rattle.mm_isa.specs.Decode.{fields_in, row_of, instr_of}
+use Rattle.mm_isa.proofs.Operands.{fields_fit}
 use Rattle.mm_isa.proofs.Packing.{cast_below, fields_in-packed}
 use Rattle.mm_isa.proofs.Rows.{ReadInRange, row_of-fields_of, IsInstr-row_of}
 
 pub spelling-fits : (i : Instr) → IsInstr i → spelling i < 2 ^ 64
 unfolding packed
 spelling-fits i h =
-    let f = h.fields in
+    let f = fields_fit i h in
     omega (arith, f.operation, f.rd, f.ra, f.rb, f.c, cast_below (fields_of i).imm f.imm)
 
 pub fields_in-spelling : (i : Instr) → IsInstr i → fields_in (spelling i) ≡ fields_of i
-fields_in-spelling i h = fields_in-packed (fields_of i) h.fields
+fields_in-spelling i h = fields_in-packed (fields_of i) (fields_fit i h)
 
 then_some-same : (n : ℕ) (i : Instr) → then_some (n == n) i ≡ Some i
 then_some-same n i = ap (λ b. then_some b i) (eq-eqb n n refl)

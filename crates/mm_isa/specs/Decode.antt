@@ -1,5 +1,6 @@
 -- The instruction that a word spells.
-use Rattle.std.specs.Prelude.{ℕ, ◌/◌, ◌%◌, ◌^◌, min, ◌==◌, if◌then◌else◌, ℤ, option_and_then, Option, List, [], ◌∷◌, find}
+use Rattle.std.specs.Prelude.{ℕ, ◌/◌, ◌%◌, ◌^◌, min, ◌==◌, if◌then◌else◌, ℤ, option_and_then, Option, List, [], ◌∷◌, map, find}
+use Rattle.std.specs.Str.{bytes_eq}
 use Rattle.std.specs.Bool.{then_some}
 use Rattle.std.specs.Int.{w32, cast_signed, cast_unsigned}
 use Rattle.mm_word.specs.declared.word.Pre.{Pre}
@@ -12,7 +13,8 @@ use Rattle.mm_isa.specs.declared.instr.How.{How}
 use Rattle.mm_isa.specs.declared.instr.How.TheVariants.{Retry, Skip, Kill}
 use Rattle.mm_isa.specs.declared.instr.Instr.{Instr}
 use Rattle.mm_isa.specs.declared.instr.Instr.TheVariants.{Halt, Nop, Ldi, Ldhi, Mov, Isptr, Eqw, Out, SelfSlot, Alu, Addi, Lea, Leai, Leab, Restrict, Subseg, Setptr, Ld, St, Br, Bz, Bnz, Jmp, Jal, Lip, Trap, Evt, Resume, Rreg, Wreg, Map, Unmap}
-use Rattle.mm_isa.specs.Table.{fields_of, spelling}
+use Rattle.mm_isa.specs.declared.operand.OperandKind.{OperandKind}
+use Rattle.mm_isa.specs.Table.{operation_of, kinds_of, unused, spelling}
 
 -- the fields of a word
 unfoldable pub fields_in : ℕ → Fields
@@ -93,8 +95,25 @@ rows f =
 
 -- the row of the operation that these fields name
 unfoldable pub row_of : Fields → Option Instr
-row_of f = find (λ i. (fields_of i).operation == f.operation) (rows f)
+row_of f = find (λ i. (operation_of i).code == f.operation) (rows f)
 
 -- the instruction that a word spells: the row of its operation, where the word is the row's spelling
 unfoldable pub instr_of : ℕ → Option Instr
 instr_of w = option_and_then (λ i. then_some (spelling i == w) i) (row_of (fields_in w))
+
+-- a row of the table without the values of an instruction: what text goes by
+pub record Form : Type 0 where
+  pub name : List ℕ
+  pub code : ℕ
+  pub kinds : List OperandKind
+
+abbrev pub form_of : Instr → Form
+form_of i = record { name = (operation_of i).name; code = (operation_of i).code; kinds = kinds_of i }
+
+-- all operations, in the table's order
+unfoldable pub forms : List Form
+forms = map form_of (rows (unused 0))
+
+-- the operation with this name
+unfoldable pub operation_named : List ℕ → Option Form
+operation_named name = find (λ form. bytes_eq form.name name) forms

@@ -21,7 +21,7 @@ pub fn decode(w: u64) -> Option<Instr>
 
 // The row of the operation, with the used fields read off. Unused fields are not looked at.
 #[tactic(auto, unfolding(crate::specs::Decode::row_of, crate::specs::Decode::rows))]
-fn row(f: Fields) -> Option<Instr>
+pub(crate) fn row(f: Fields) -> Option<Instr>
     ensures { result ≡ row_of f }
 {
     let Fields {

@@ -1,8 +1,10 @@
 ghost use Rattle.std.specs.Prelude.{◌≡◌, ◌<◌};
-ghost use Rattle.mm_isa.specs.Table.{packed, FitInWord, unused};
+ghost use Rattle.mm_isa.specs.Table.{put, packed, FitInWord, unused};
 ghost use Rattle.mm_isa.specs.Decode.{fields_in};
 
+use crate::operand::Operand;
 use crate::reg::Reg;
+use crate::table::Visitor;
 
 /// The fields of an instruction word. One that the operation does not use is zero.
 #[derive(Clone, Copy)]
@@ -50,34 +52,38 @@ impl Fields {
         }
     }
 
-    pub fn rd(self, rd: Reg) -> Fields
-        ensures { result ≡ record self { rd = rd } }
+    /// The fields with an operand in its place.
+    pub fn put(self, operand: Operand) -> Fields
+        ensures value { result ≡ put self operand }
+        ensures narrow { self.c < 16 → result.c < 16 }
     {
-        Fields { rd, ..self }
-    }
-
-    pub fn ra(self, ra: Reg) -> Fields
-        ensures { result ≡ record self { ra = ra } }
-    {
-        Fields { ra, ..self }
-    }
-
-    pub fn rb(self, rb: Reg) -> Fields
-        ensures { result ≡ record self { rb = rb } }
-    {
-        Fields { rb, ..self }
-    }
-
-    pub fn c(self, c: u8) -> Fields
-        ensures { result ≡ record self { c = c } }
-    {
-        Fields { c, ..self }
-    }
-
-    pub fn imm(self, imm: i32) -> Fields
-        ensures { result ≡ record self { imm = imm } }
-    {
-        Fields { imm, ..self }
+        match operand {
+            Operand::Rd(rd) => Fields { rd, ..self },
+            Operand::EvtRd(rd) => Fields {
+                rd: rd.reg(),
+                ..self
+            },
+            Operand::Ra(ra) => Fields { ra, ..self },
+            Operand::Rb(rb) => Fields { rb, ..self },
+            Operand::Imm(imm) => Fields { imm, ..self },
+            Operand::Distance(imm) => Fields { imm, ..self },
+            Operand::RegisterNumber(reg) => Fields {
+                imm: i32::from(reg.number()),
+                ..self
+            },
+            Operand::Pre(pre) => Fields {
+                c: pre as u8 * 4 + self.c % 4,
+                ..self
+            },
+            Operand::Post(post) => Fields {
+                c: self.c / 4 * 4 + post as u8,
+                ..self
+            },
+            Operand::How(how) => Fields {
+                c: how as u8,
+                ..self
+            },
+        }
     }
 
     /// The word with these fields.
@@ -92,5 +98,23 @@ impl Fields {
             | u64::from(self.rb.number()) << 44
             | u64::from(self.c) << 40
             | u64::from(self.imm.cast_unsigned())
+    }
+}
+
+/// The fields of an instruction, made from its row.
+impl Visitor for Fields {
+    ghost told = { λ f name code. record f { operation = code } };
+
+    ghost given = { put };
+
+    fn operation(self, _name: &'static str, code: u8) -> Fields {
+        Fields {
+            operation: code,
+            ..self
+        }
+    }
+
+    fn operand(self, operand: Operand) -> Fields {
+        self.put(operand)
     }
 }

@@ -1,12 +1,15 @@
 //! What holds of the definitions of instruction words and integer operations. Each function's
 //! contract is the law; the functions do nothing.
-ghost use Rattle.std.specs.Prelude.{◌≡◌, ◌≢◌, ◌<◌, ◌^◌, ◌↔◌, ℕ, pos, negsuc, Some, None, IfOk};
+ghost use Rattle.std.specs.Prelude.{◌≡◌, ◌≢◌, ◌<◌, ◌^◌, ◌↔◌, ℕ, pos, negsuc, List, map, fold, AllPairs, Some, None, IfOk};
+ghost use Rattle.std.specs.List.{AllByRecursion};
 ghost use Rattle.mm_word.specs.declared.word.Pre.TheVariants as pre;
 ghost use Rattle.mm_word.specs.declared.word.Post.TheVariants as post;
+ghost use Rattle.mm_isa.specs.declared.fields.Fields.{Fields};
 ghost use Rattle.mm_isa.specs.declared.instr.AluOp.{AluOp};
 ghost use Rattle.mm_isa.specs.declared.instr.Instr.{Instr};
-ghost use Rattle.mm_isa.specs.Table.{fields_of, spelling, IsInstr};
-ghost use Rattle.mm_isa.specs.Decode.{fields_in, instr_of};
+ghost use Rattle.mm_isa.specs.declared.operand.Operand.{Operand};
+ghost use Rattle.mm_isa.specs.Table.{operation_of, kind_of, kinds_of, unused, put, fields_of, packed, spelling, IsInRange, IsInstr};
+ghost use Rattle.mm_isa.specs.Decode.{fields_in, instr_of, rows, form_of, forms, operation_named};
 ghost use Rattle.mm_isa.specs.Alu.{alu_result};
 
 /// Each instruction's word is below 2^64.
@@ -48,4 +51,38 @@ pub fn worked_words()
 /// Results of integer operations are below 2^64.
 pub fn results_fit()
     ensures { (op : AluOp) (a b : ℕ) → a < 2 ^ 64 → b < 2 ^ 64 → IfOk (alu_result op a b) (λ n. n < 2 ^ 64) }
+{}
+
+/// No two operations have the same name.
+pub fn names_differ()
+    ensures { AllPairs (λ x y. x ≢ y) (map (λ form. form.name) forms) }
+{}
+
+/// No two operations have the same number.
+pub fn numbers_differ()
+    ensures { AllPairs (λ x y. x ≢ y) (map (λ form. form.code) forms) }
+{}
+
+/// The rows of the table are these operations, whatever the fields are.
+pub fn rows_are_the_operations()
+    ensures { (f : Fields) → map form_of (rows f) ≡ forms }
+{}
+
+/// An instruction's name finds its number and the kinds of its operands, whatever their values are.
+pub fn names_are_found()
+    ensures { (i : Instr) → operation_named (operation_of i).name ≡ Some (form_of i) }
+{}
+
+/// An instruction is determined by its name and its operands.
+pub fn operands_determine_the_instruction()
+    ensures { (i j : Instr) → IsInstr i → IsInstr j → (operation_of i).name ≡ (operation_of j).name
+        → (operation_of i).operands ≡ (operation_of j).operands → i ≡ j }
+{}
+
+/// Operands in their ranges, of the kinds of a row, are those of an instruction. The word with them in
+/// their places is read as it.
+pub fn operands_make_an_instruction()
+    ensures { (i : Instr) (operands : List Operand) → map kind_of operands ≡ kinds_of i → AllByRecursion IsInRange operands
+        → (j : Instr) × (instr_of (packed (fold put (unused (operation_of i).code) operands)) ≡ Some j)
+        × (operation_of j ≡ record (operation_of i) { operands = operands }) }
 {}

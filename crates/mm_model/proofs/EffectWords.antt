@@ -1,5 +1,5 @@
 -- No row of the table of instructions makes a malformed pointer or a word that does not fit.
-use Rattle.std.proofs.Common.{◌≡◌, ℕ, zero, suc, ◌+◌, ◌*◌, ◌<◌, ◌≤◌, ◌^◌, ◌%◌, Bool, true, false, cond, ◌&&◌, ◌==◌, nat_lt, if◌then◌else◌, List, [], ◌∷◌, length, Option, Some, None, Result, Ok, Err, refl, ap, ◌∙◌, subst, arith, ltb-true, ℤ, pos, negsuc, ◌*ℤ◌, ◌+ℤ◌, slice_set, slice_get, slice_index_or, IfOk, FitsSigned, lit<}
+use Rattle.std.proofs.Common.{◌≡◌, ℕ, zero, suc, ◌+◌, ◌*◌, ◌<◌, ◌≤◌, ◌^◌, ◌%◌, Bool, true, false, cond, ◌&&◌, ◌==◌, nat_lt, if◌then◌else◌, List, [], ◌∷◌, length, Option, Some, None, Result, Ok, Err, refl, ap, ◌∙◌, subst, arith, ltb-true, ℤ, pos, negsuc, ◌*ℤ◌, ◌+ℤ◌, slice_set, slice_get, slice_index_or, IfOk, FitsSigned, lit<, unwrap_or}
 use Rattle.std.specs.Int.{w32, w64, cast_unsigned, cast_signed}
 use Rattle.std.specs.List.{AllByRecursion}
 use Rattle.std.specs.Ordering.{nat_cmp, eq_by_cmp}
@@ -29,7 +29,10 @@ use Rattle.mm_isa.specs.declared.instr.How.TheVariants.{Retry, Skip, Kill}
 use Rattle.mm_isa.specs.declared.instr.Instr.{Instr}
 use Rattle.mm_isa.specs.declared.instr.Instr.TheVariants.{Halt, Nop, Ldi, Ldhi, Mov, Isptr, Eqw, Out, SelfSlot, Alu, Addi, Lea, Leai, Leab, Restrict, Subseg, Setptr, Ld, St, Br, Bz, Bnz, Jmp, Jal, Lip, Trap, Evt, Resume, Rreg, Wreg, Map, Unmap}
 use Rattle.mm_isa.specs.Alu.{alu_result}
-use Rattle.mm_isa.specs.Table.{IsInstr}
+use Rattle.mm_isa.specs.declared.operand.Operand.{Operand}
+use Rattle.mm_isa.specs.declared.operand.Operand.TheVariants.{Imm, Distance, RegisterNumber}
+use Rattle.mm_isa.specs.Table.{operation_of, IsInRange, IsInstr}
+use Rattle.mm_isa.proofs.Operands.{number_fits}
 use Rattle.mm_isa.proofs.Packing.{cast_below}
 use Rattle.mm_isa.proofs.Arithmetics.{alu_result-fits}
 use Rattle.mm_model.specs.declared.slot.Pending.{Pending}
@@ -39,7 +42,7 @@ use Rattle.mm_model.specs.Slot.{Slot, register, is_empty}
 use Rattle.mm_model.specs.State.{Row, Core, row_in, slot_of, queue_of, slot_at, queue_at, output_of}
 use Rattle.mm_model.specs.Image.{output_limit}
 use Rattle.mm_model.specs.Spelling.{HoldsWords}
-use Rattle.mm_model.specs.Operands.{addr_operand, value_operand, word_a, word_b, field_a, field_b, field_imm}
+use Rattle.mm_model.specs.Operands.{addr_operand, value_operand, word_a, word_b, first, field_a, field_b, imm_in, field_imm}
 use Rattle.mm_model.specs.Ask.{ask, is_privileged, load_kind, reaching}
 use Rattle.mm_model.specs.Ask.Ask.{Refuse, MapPage, UnmapPage}
 use Rattle.mm_model.specs.Effect.{Reply, Change, Pages, Effect, effect, advanced, plain, moved_on, sets, sets_pointer, sets_number, if_pointer, test, same_word, high_and_low, puts_out, set_by, loaded, stored, at_distance, branches, jumps, links, takes, resumed_by, resumes, delivers, delivered, reads_of, writes_of, maps, unmaps}
@@ -211,28 +214,19 @@ addr_operand-fits i s h = by (field_a i)
     by None = zero_fits
     by (Some r) = register_fits s r h
 
-imm_of_fields : (i : Instr) → IsInstr i → cast_unsigned w64 (field_imm i) < 2 ^ 64
-imm_of_fields (Ldi rd imm) h = imm_fits imm h.fields.imm
-imm_of_fields (Ldhi rd imm) h = imm_fits imm h.fields.imm
-imm_of_fields (Addi rd ra imm) h = imm_fits imm h.fields.imm
-imm_of_fields (Leai rd ra imm) h = imm_fits imm h.fields.imm
-imm_of_fields (Ld rd ra pre post imm) h = imm_fits imm h.fields.imm
-imm_of_fields (St ra rb pre post imm) h = imm_fits imm h.fields.imm
-imm_of_fields (Br imm) h = imm_fits imm h.fields.imm
-imm_of_fields (Bz ra imm) h = imm_fits imm h.fields.imm
-imm_of_fields (Bnz ra imm) h = imm_fits imm h.fields.imm
-imm_of_fields (Lip rd imm) h = imm_fits imm h.fields.imm
-imm_of_fields (Trap imm) h = imm_fits imm h.fields.imm
-imm_of_fields (Rreg rd ra reg) h = imm_fits (pos reg) h.fields.imm
-imm_of_fields (Wreg ra rb reg) h = imm_fits (pos reg) h.fields.imm
-imm_of_fields _ h = lit< tt
+imm_of_operands : (os : List Operand) → AllByRecursion IsInRange os → cast_unsigned w64 (unwrap_or (first imm_in os) (pos 0)) < 2 ^ 64
+imm_of_operands [] h = lit< tt
+imm_of_operands (Imm n ∷ os) h = imm_fits n h.0
+imm_of_operands (Distance n ∷ os) h = imm_fits n h.0
+imm_of_operands (RegisterNumber r ∷ os) h = imm_fits (pos r) (number_fits r h.0)
+imm_of_operands (_ ∷ os) h = imm_of_operands os h.1
 
 pub value_operand-fits : (i : Instr) (s : Slot) → IsInstr i → AllByRecursion IsWord s.regs → IsWord (value_operand i s)
 unfolding value_operand
 value_operand-fits i s instr h = by (field_b i)
   where
     by : (o : Option ℕ) → IsWord (word_b s o (field_imm i))
-    by None = imm_of_fields i instr
+    by None = imm_of_operands (operation_of i).operands instr.operands
     by (Some r) = register_fits s r h
 
 module _ (core : Core) (h : IsFormed core) (rows : AllByRecursion RowHoldsWords core.rows) (m : Memory) (cells : AllByRecursion HoldsWords m.pages) (s : Slot) (at : slot_at core s.number ≡ Some s) where
@@ -424,8 +418,8 @@ module _ (core : Core) (h : IsFormed core) (rows : AllByRecursion RowHoldsWords 
   unfolding effect ask reply
   effect_words Halt instr = halt_words
   effect_words Nop instr = plain_words
-  effect_words (Ldi rd imm) instr = sets_words rd (Int (cast_unsigned w64 imm)) (imm_fits imm instr.fields.imm)
-  effect_words (Ldhi rd imm) instr = sets_words rd (Int (high_and_low (word_bits (register s rd)) imm)) (high_and_low-fits (word_bits (register s rd)) imm instr.fields.imm)
+  effect_words (Ldi rd imm) instr = sets_words rd (Int (cast_unsigned w64 imm)) (imm_fits imm instr.operands.1.0)
+  effect_words (Ldhi rd imm) instr = sets_words rd (Int (high_and_low (word_bits (register s rd)) imm)) (high_and_low-fits (word_bits (register s rd)) imm instr.operands.1.0)
   effect_words (Mov rd ra) instr = sets_words rd (register s ra) (reg ra)
   effect_words (Isptr rd ra) instr = sets_words rd (Int (test (is_pointer (register s ra)))) (test_fits (is_pointer (register s ra)))
   effect_words (Eqw rd ra rb) instr = sets_words rd (Int (test (same_word (register s ra) (register s rb)))) (test_fits (same_word (register s ra) (register s rb)))

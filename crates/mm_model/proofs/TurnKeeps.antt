@@ -7,8 +7,9 @@ use Rattle.mm_word.specs.declared.word.Word.TheVariants.{Int}
 use Rattle.mm_word.specs.Access.{Touch}
 use Rattle.mm_word.specs.Perm.{can_fetch}
 use Rattle.mm_isa.specs.declared.instr.Instr.{Instr}
-use Rattle.mm_isa.specs.declared.instr.Instr.TheVariants.{Ldi, Ldhi, Mov, Isptr, Eqw, SelfSlot, Alu, Addi, Lea, Leai, Leab, Restrict, Subseg, Setptr, Ld, Jal, Lip, Evt, Rreg, Map, Unmap}
-use Rattle.mm_isa.specs.Table.{IsInstr}
+use Rattle.mm_isa.specs.declared.operand.Operand.{Operand}
+use Rattle.mm_isa.specs.declared.operand.Operand.TheVariants.{Rd, EvtRd}
+use Rattle.mm_isa.specs.Table.{operation_of, IsInRange, IsInstr}
 use Rattle.mm_model.specs.declared.slot.SlotState.{SlotState}
 use Rattle.mm_model.specs.declared.slot.SlotState.TheVariants.{Running, Waiting, Halted}
 use Rattle.mm_model.specs.declared.slot.Pending.{Pending}
@@ -19,7 +20,7 @@ use Rattle.mm_model.specs.Slot.{Slot, register, is_empty}
 use Rattle.mm_model.specs.State.{Core, slot_at, put_slot, put_queue, output_of, put_output}
 use Rattle.mm_model.specs.Image.{output_limit}
 use Rattle.mm_model.specs.Groups.{has_group}
-use Rattle.mm_model.specs.Operands.{addr_operand, value_operand, field_a, field_b, fields_d, field_empty, or, lacks}
+use Rattle.mm_model.specs.Operands.{addr_operand, value_operand, field_a, field_b, rd_in, fields_d, field_empty, lacks}
 use Rattle.mm_model.specs.Ask.{ask}
 use Rattle.mm_model.specs.Effect.{Change, Effect, effect, delivered}
 use Rattle.mm_model.specs.Effect.Effect.{Fault, Block, Deliver, Does}
@@ -33,31 +34,14 @@ use Rattle.mm_model.proofs.TurnShapes.{decoded_instr, TurnShape, turn_shape}
 
 -- 1. The registers that an instruction names for its results.
 
+registers_small : (os : List Operand) → AllByRecursion IsInRange os → AllByRecursion (λ (r : ℕ). r < 16) (flat_map rd_in os)
+registers_small [] h = tt
+registers_small (Rd r ∷ os) h = (h.0, registers_small os h.1)
+registers_small (EvtRd r ∷ os) h = (omega (arith, h.0), (omega (arith, h.0), (omega (arith, h.0), (omega (arith, h.0), registers_small os h.1))))
+registers_small (_ ∷ os) h = registers_small os h.1
+
 fields_small : (i : Instr) → IsInstr i → AllByRecursion (λ (r : ℕ). r < 16) (fields_d i)
-fields_small (Ldi rd imm) h = (h.fields.rd, tt)
-fields_small (Ldhi rd imm) h = (h.fields.rd, tt)
-fields_small (Mov rd ra) h = (h.fields.rd, tt)
-fields_small (Isptr rd ra) h = (h.fields.rd, tt)
-fields_small (Eqw rd ra rb) h = (h.fields.rd, tt)
-fields_small (SelfSlot rd) h = (h.fields.rd, tt)
-fields_small (Alu op rd ra rb) h = (h.fields.rd, tt)
-fields_small (Addi rd ra imm) h = (h.fields.rd, tt)
-fields_small (Lea rd ra rb) h = (h.fields.rd, tt)
-fields_small (Leai rd ra imm) h = (h.fields.rd, tt)
-fields_small (Leab rd ra rb) h = (h.fields.rd, tt)
-fields_small (Restrict rd ra rb) h = (h.fields.rd, tt)
-fields_small (Subseg rd ra rb) h = (h.fields.rd, tt)
-fields_small (Setptr rd ra) h = (h.fields.rd, tt)
-fields_small (Ld rd ra pre post imm) h = (h.fields.rd, tt)
-fields_small (Jal rd ra) h = (h.fields.rd, tt)
-fields_small (Lip rd imm) h = (h.fields.rd, tt)
-fields_small (Evt rd) h =
-    let low : rd ≤ 12 = h.limited in
-    (omega arith, (omega arith, (omega arith, (omega arith, tt))))
-fields_small (Rreg rd ra reg) h = (h.fields.rd, tt)
-fields_small (Map rd ra) h = (h.fields.rd, tt)
-fields_small (Unmap rd ra) h = (h.fields.rd, tt)
-fields_small _ h = tt
+fields_small i h = registers_small (operation_of i).operands h.operands
 
 none_passes : (p : ℕ → Bool) (rs : List ℕ) → list_any p rs ≡ false → AllByRecursion (λ r. p r ≡ false) rs
 none_passes p [] e = tt
@@ -67,7 +51,7 @@ none_passes p (r ∷ rs) e = by (p r) refl e (λ f. none_passes p rs f)
     by true at e rest = cc
     by false at e rest = (at, rest e)
 
-first_false : (a b : Bool) → or a b ≡ false → a ≡ false
+first_false : (a b : Bool) → (a || b) ≡ false → a ≡ false
 first_false true b e = e
 first_false false b e = refl
 
@@ -80,7 +64,7 @@ fields_free : (split : Bool) (s : Slot) (i : Instr) → (split && lacks i s) ≡
 unfolding lacks
 fields_free true s i e =
     each_map (λ (r : ℕ). is_empty s r ≡ false) (λ (r : ℕ). true ≡ true → is_empty s r ≡ false) (λ r free on. free) (fields_d i)
-    (none_passes (is_empty s) (fields_d i) (first_false (list_any (is_empty s) (fields_d i)) (or (field_empty s (field_a i)) (field_empty s (field_b i))) e))
+    (none_passes (is_empty s) (fields_d i) (first_false (list_any (is_empty s) (fields_d i)) (field_empty s (field_a i) || field_empty s (field_b i)) e))
 fields_free false s i e = each_of (λ (r : ℕ). false ≡ true → is_empty s r ≡ false) (λ r on. cc) (fields_d i)
 
 -- what an instruction does lets the core go on

@@ -26,11 +26,6 @@ is_alone (Map rd ra) = false
 is_alone (Unmap rd ra) = false
 is_alone _ = true
 
--- the operation that fills four registers
-abbrev pub is_evt : Instr → Bool
-is_evt (Evt rd) = true
-is_evt _ = false
-
 -- what a change does to its slot and to nothing else
 abbrev pub alone : Change → Change
 alone c = record c { out = None; cell = None; pages = Keep; queue = None; other = None }

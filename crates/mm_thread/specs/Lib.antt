@@ -4,3 +4,4 @@ pub mod Left
 pub mod Told
 pub mod Parts
 pub mod Runners
+pub mod Named

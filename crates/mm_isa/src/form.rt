@@ -1,0 +1,94 @@
+ghost use Rattle.std.specs.Prelude.{◌≡◌, ◌≢◌, IfSome, IfNone};
+ghost use Rattle.mm_isa.specs.declared.instr.Instr.{Instr};
+ghost use Rattle.mm_isa.specs.Table.{operation_of};
+ghost use Rattle.mm_isa.specs.Decode.{form_of, operation_named};
+
+use crate::decoding::row;
+use crate::fields::Fields;
+use crate::instr::Instr;
+use crate::operand::{Operand, OperandKind};
+use crate::table::Visitor;
+use arrayvec::ArrayVec;
+use std::marker::Model;
+
+/// A row of the table of operations without the values of an instruction: what text goes by.
+#[derive(Drop)]
+pub struct Form {
+    pub name: &'static str,
+    /// The operation's number in an instruction word.
+    pub code: u8,
+    /// The kinds of its operands, in the order of text.
+    pub kinds: ArrayVec<OperandKind, 5>,
+}
+
+impl Model for Form {
+    ghost use Rattle.mm_isa.specs.Decode.{Form as FormValue};
+
+    ghost Value = { FormValue };
+
+    ghost view = { λ f. record {
+      name = f.name.now;
+      code = f.code;
+      kinds = f.kinds.items;
+    } };
+}
+
+impl Visitor for Form {
+    ghost use Rattle.std.specs.Prelude.{◌++◌, [], ◌∷◌, length, nat_lt, if◌then◌else◌};
+    ghost use Rattle.mm_isa.specs.Table.{kind_of};
+
+    ghost told = { λ f name code. record f {
+      name = name;
+      code = code;
+    } };
+
+    ghost given = { λ f o. if nat_lt (length f.kinds) 5 then record f { kinds = f.kinds ++ kind_of o ∷ [] } else f };
+
+    fn operation(self, name: &'static str, code: u8) -> Form {
+        Form {
+            name,
+            code,
+            kinds: self.kinds,
+        }
+    }
+
+    fn operand(mut self, operand: Operand) -> Form {
+        if !self.kinds.is_full() {
+            self.kinds.push(operand.kind());
+        }
+        self
+    }
+}
+
+impl Instr {
+    // The form of the instruction's row.
+    fn form(self) -> Form
+        ensures { result ≡ form_of self }
+    {
+        self.visit(Form {
+            name: "",
+            code: 0,
+            kinds: ArrayVec::new(),
+        })
+    }
+}
+
+// Each operation's number is below this.
+const NUMBERS: u8 = 0x62;
+
+/// The operation that text names so.
+pub fn operation_named(name: &[u8]) -> Option<Form>
+    ensures value { result ≡ operation_named name.now }
+    ensures row { IfSome result (λ form. (i : Instr) × (form_of i ≡ form) × (form.name ≡ name.now)) }
+    ensures none { IfNone result ((i : Instr) → (operation_of i).name ≢ name.now) }
+{
+    for code in 0..NUMBERS {
+        if let Some(instr) = row(Fields::unused(code)) {
+            let form = instr.form();
+            if form.name.as_bytes() == name {
+                return Some(form);
+            }
+        }
+    }
+    None
+}
