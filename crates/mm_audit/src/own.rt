@@ -4,35 +4,10 @@ ghost use Rattle.mm_model.specs.Groups.{among, own_slots};
 ghost use Rattle.mm_audit.specs.Own.{is_covered, kept_cell, kept_cells, has_word, kept_pages};
 
 use crate::judge::is_inside;
-use arrayvec::ArrayVec;
 use mm_model::{Page, Slot};
 use mm_seg::SegSet;
 use mm_word::{Cell, Word};
 use std::alloc::{AllocError, Global};
-
-/// A slot that is the same.
-fn copy_of(slot: &Slot) -> Slot
-    ensures { result ≡ slot.now }
-{
-    let mut regs = [Word::Int(0); 16];
-    regs.copy_from_slice(&slot.regs);
-    let mut pending = ArrayVec::new();
-    pending
-        .try_extend_from_slice(slot.pending.as_slice())
-        .unwrap();
-    Slot {
-        number: slot.number,
-        group: slot.group,
-        handler: slot.handler,
-        regs,
-        ip: slot.ip,
-        past: slot.past,
-        turns: slot.turns,
-        state: slot.state,
-        empty: slot.empty,
-        pending,
-    }
-}
 
 /// The slots of these groups.
 pub fn slots_of(alloc: Global, slots: &[Slot], groups: &[u8]) -> Result<Vec<Slot>, AllocError>
@@ -41,7 +16,7 @@ pub fn slots_of(alloc: Global, slots: &[Slot], groups: &[u8]) -> Result<Vec<Slot
     let mut kept = Vec::new(alloc);
     for slot in slots {
         if is_inside(groups, slot.group) {
-            kept.push(copy_of(slot))?;
+            kept.push(slot.copy())?;
         }
     }
     Ok(kept)
@@ -116,27 +91,4 @@ pub fn pages_of(alloc: Global, set: &SegSet, pages: &[Page]) -> Result<Vec<Page>
         }
     }
     Ok(kept)
-}
-
-/// A page that is the same.
-fn page_copy(alloc: Global, page: &Page) -> Result<Page, AllocError>
-    ensures { IfOk result (λ copy. copy ≡ page.now) }
-{
-    let cells = Vec::from_slice(alloc, page.cells())?;
-    match Page::new(page.number(), cells) {
-        Some(copy) => Ok(copy),
-        None => unreachable!(),
-    }
-}
-
-/// Pages that are the same.
-pub fn copies_of(alloc: Global, pages: &[Page]) -> Result<Vec<Page>, AllocError>
-    ensures { IfOk result (λ copies. copies.items ≡ pages.now) }
-{
-    let mut copies = Vec::new(alloc);
-    for page in pages {
-        let copy = page_copy(alloc, page)?;
-        copies.push(copy)?;
-    }
-    Ok(copies)
 }

@@ -5,9 +5,10 @@ ghost use Rattle.mm_model.specs.Worlds.{alone};
 ghost use Rattle.mm_audit.specs.Refusals.{StandAlone, IsExtractError};
 
 use crate::extracting::ExtractError;
-use crate::own::{copies_of, slots_of};
+use crate::own::slots_of;
 use crate::refusing::{Refused, refusal};
 use mm_image::Image;
+use mm_model::Page;
 use mm_word::NoMemory;
 use std::alloc::Global;
 
@@ -19,7 +20,7 @@ fn with_slots(alloc: Global, img: &Image, groups: &[u8]) -> Result<Image, NoMemo
     let Ok(slots) = slots_of(alloc, img.slots(), groups) else {
         return Err(NoMemory);
     };
-    let Ok(pages) = copies_of(alloc, img.pages()) else {
+    let Ok(pages) = Page::copies(alloc, img.pages()) else {
         return Err(NoMemory);
     };
     match Image::new(img.version(), img.split(), slots, pages, img.frames()) {

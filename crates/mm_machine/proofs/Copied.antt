@@ -16,11 +16,10 @@ use Rattle.mm_word.specs.Word.{IsWord}
 use Rattle.mm_model.specs.declared.slot.SlotState.{SlotState}
 use Rattle.mm_model.specs.declared.slot.SlotState.TheVariants.{Running, Waiting, Taken, Halted}
 use Rattle.mm_model.specs.declared.event.Event.{Event}
-use Rattle.mm_model.specs.Memory.{IsPage}
 use Rattle.mm_model.specs.Slot.{Slot}
 use Rattle.mm_model.specs.State.{Row, Core, State, row_in, queue_of, slot_at, queue_at}
 use Rattle.mm_model.specs.Groups.{has_group}
-use Rattle.mm_model.specs.Spelling.{numbers_of, HoldsWords}
+use Rattle.mm_model.specs.Spelling.{numbers_of}
 use Rattle.mm_model.specs.Fits.{one_if, is_handled, is_waiting, waits_for, events_of, slots_of, IsAtSlot, IsSlot, IsCore, SlotHoldsWords, EventHoldsWords, RowHoldsWords}
 use Rattle.mm_model.proofs.CoreRows.{each_map, each_both, slot_limit-few, rest_rises, above_first, Rises, slot_has, slots_found}
 use Rattle.mm_model.proofs.CoreSteps.{events_of-here, waits_for-rests, waits_for-at}

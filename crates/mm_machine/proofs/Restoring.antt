@@ -12,12 +12,12 @@ use Rattle.mm_word.specs.declared.word.Cell.{Cell}
 use Rattle.mm_model.specs.declared.slot.SlotState.{SlotState}
 use Rattle.mm_model.specs.declared.slot.SlotState.TheVariants.{Running, Waiting, Taken, Halted}
 use Rattle.mm_model.specs.declared.event.Event.{Event}
-use Rattle.mm_model.specs.Memory.{Memory, IsPage}
+use Rattle.mm_model.specs.Memory.{Memory}
 use Rattle.mm_model.specs.Slot.{Slot}
 use Rattle.mm_model.specs.State.{Core, State, slot_at, queue_at, output_of}
 use Rattle.mm_model.specs.Image.{slot_limit, output_limit}
 use Rattle.mm_model.specs.Groups.{has_group}
-use Rattle.mm_model.specs.Spelling.{numbers_of, IsOther, HoldsWords}
+use Rattle.mm_model.specs.Spelling.{numbers_of, IsOther}
 use Rattle.mm_model.specs.Fits.{one_if, is_handled, is_waiting, waits_for, events_of, identity_of, slots_of, IsAtSlot, IsSlot, IsCore, EventHoldsWords, RowHoldsWords}
 use Rattle.mm_model.proofs.Causes.{some_of}
 use Rattle.mm_model.proofs.CoreRows.{each_map, slot_limit-few, rest_rises, above_first, Rises, each_slot, slot_has, other_at, other_in, identities_of, stays_by}

@@ -7,7 +7,6 @@
 ghost use Rattle.std.specs.Prelude.{◌≡◌};
 ghost use Rattle.mmachine.specs.Exit.{exit_code};
 
-mod copies;
 mod cycles;
 mod extract;
 mod grants;

@@ -8,12 +8,12 @@ ghost use Rattle.mmachine.specs.Files.{reading};
 ghost use Rattle.mmachine.specs.Table.{row_of};
 ghost use Rattle.mmachine.specs.Answers.{RowAnswers, EndsWith, call, writing};
 
-use crate::copies::{copies_of_pages, copies_of_slots};
 use crate::load::load_image;
 use crate::status::Stop;
 use crate::words::{Command, MigrateWords};
 use mm_image::Image;
 use mm_io::{Files, Sink, write_all};
+use mm_model::{Page, Slot};
 use mm_word::NoMemory;
 use std::alloc::Global;
 
@@ -50,10 +50,10 @@ fn write_migrated<O: Sink>(
 fn as_version_2(alloc: Global, image: &Image, split: bool) -> Result<Image, NoMemory>
     ensures { IfOk result (λ new. new ≡ migrated image.now split) }
 {
-    let Ok(slots) = copies_of_slots(alloc, image.slots()) else {
+    let Ok(slots) = Slot::copies(alloc, image.slots()) else {
         return Err(NoMemory);
     };
-    let Ok(pages) = copies_of_pages(alloc, image.pages()) else {
+    let Ok(pages) = Page::copies(alloc, image.pages()) else {
         return Err(NoMemory);
     };
     match Image::new(2, split, slots, pages, image.frames()) {
