@@ -33,7 +33,7 @@ all_numbers (g ∷ gs) k some all = rest_numbers g gs (length (g ∷ gs) - 1) k 
 
 -- 2. The groups that have a slot.
 
-same_rows : (g : ℕ) (slots : List Slot) → list_any (is_of g) (map (λ (s : Slot). record { slot = s; queue = [] }) slots) ≡ list_any (λ (s : Slot). s.group == g) slots
+same_rows : (g : ℕ) (slots : List Slot) → list_any (is_of g) (map (λ (s : Slot). record { slot = s; queue = [] }) slots) ≡ has_group slots g
 same_rows g [] = refl
 same_rows g (s ∷ slots) = ap (λ (b : Bool). (s.group == g) || b) (same_rows g slots)
 
