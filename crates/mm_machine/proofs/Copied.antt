@@ -20,7 +20,9 @@ use Rattle.mm_model.specs.Slot.{Slot}
 use Rattle.mm_model.specs.State.{Row, Core, State, row_in, queue_of, slot_at, queue_at}
 use Rattle.mm_model.specs.Groups.{has_group}
 use Rattle.mm_model.specs.Spelling.{numbers_of}
-use Rattle.mm_model.specs.Fits.{one_if, is_handled, is_waiting, waits_for, events_of, slots_of, IsAtSlot, IsSlot, IsCore, SlotHoldsWords, EventHoldsWords, RowHoldsWords}
+use Rattle.mm_model.specs.Flags.{one_if}
+use Rattle.mm_model.specs.Turn.{is_taken}
+use Rattle.mm_model.specs.Fits.{is_waiting, waits_for, events_of, slots_of, IsSlot, LoadsMatch, WaitsForSome, IsAtSlot, LoadsAreKept, TakenBySome, IsOfVersion, IsCore, SlotHoldsWords, EventHoldsWords, RowHoldsWords}
 use Rattle.mm_model.proofs.CoreRows.{each_map, each_both, slot_limit-few, rest_rises, above_first, Rises, slot_has, slots_found}
 use Rattle.mm_model.proofs.CoreSteps.{events_of-here, waits_for-rests, waits_for-at}
 use Rattle.mm_image.proofs.SortedEntries.{rises}
@@ -32,6 +34,7 @@ use Rattle.mm_model.specs.Typed.{IsTypedSlot}
 use Rattle.mm_machine.specs.Kept.{Kept}
 use Rattle.mm_machine.specs.Snapshot.{parts_of, numbered, has_output, page_numbers, queues_of, IsEventOf, IsAwaited, HasOneEvent, IsPending, DoesNotFall, IsSnapshot, IsOutputOf, IsTypedEvent, IsTyped, queued, queued_at}
 use Rattle.mm_machine.specs.Taking.{OutputsBelow}
+use Rattle.mm_machine.proofs.Keeping.{kept_core}
 use Rattle.mm_machine.proofs.Pendings.{loads_counted}
 use Rattle.mm_machine.proofs.Queues.{slot_numbered, tally, tallied, beside_one, of_none, awaited_by}
 use Rattle.mm_machine.proofs.Steps.{same_test, other_test, or_true, from_zero}
@@ -154,9 +157,9 @@ module _ (core : Core) (whole : IsCore core) where
   queue_awaited h =
       each_both (λ (e : Event). 1 ≤ events_of e.slot (queue_at core h)) (IsAtSlot core) (λ (e : Event). IsAwaited (slots_of core) (h, e))
       (λ e some at.
-      let waits : waits_for h (slot_at core e.slot) ≡ true = some_true (waits_for h (slot_at core e.slot)) (subst (λ n. 1 ≤ n) (whole.matched e.slot h) some) in
+      let waits : waits_for h (slot_at core e.slot) ≡ true = some_true (waits_for h (slot_at core e.slot)) (subst (λ n. 1 ≤ n) (whole.matched.events e.slot h) some) in
       subst (λ (o : Option Slot). IsSomeAnd o (IsEventOf h e)) (sym (slot_numbered core e.slot)) (by e (slot_at core e.slot) waits at))
-      (queue_at core h) (own_counts (queue_at core h)) (whole.in_place h)
+      (queue_at core h) (own_counts (queue_at core h)) (whole.kept.in_place h)
     where
       by : (e : Event) (o : Option Slot) → waits_for h o ≡ true → IfSome o (λ (s : Slot). e.ip ≡ s.ip) → IsSomeAnd o (IsEventOf h e)
       by e None waits at = absurd cc
@@ -164,12 +167,6 @@ module _ (core : Core) (whole : IsCore core) where
 
   pub queued_awaited : AllByRecursion (IsAwaited (slots_of core)) (queued core)
   queued_awaited = each_queued core (IsAwaited (slots_of core)) queue_awaited (slots_of core)
-
-  handled_if : (state : SlotState) → is_waiting state ≡ true → is_handled state ≡ true
-  handled_if Running e = absurd cc
-  handled_if Waiting e = refl
-  handled_if Taken e = absurd cc
-  handled_if (Halted cause) e = absurd cc
 
   own_event : (n : ℕ) (s : Slot) → slot_at core n ≡ Some s → tally n (queued core) ≡ one_if (is_waiting s.state)
   own_event n s is = by (is_waiting s.state) refl
@@ -181,12 +178,12 @@ module _ (core : Core) (whole : IsCore core) where
       found = slot_numbered core n ∙ is
 
       waiting : is_waiting s.state ≡ true → (o : Option ℕ) → s.handler ≡ o → tally n (queued core) ≡ 1
-      waiting waits None none = absurd ((slot_has (IsSlot core.version core.split) core n s whole.slots is).handled (handled_if s.state waits) none)
+      waiting waits None none = absurd (slot_has WaitsForSome core n s whole.matched.waiting is waits none)
       waiting waits (Some h) some =
           let now : waits_for h (Some s) ≡ true = waits_for-at h s waits some in
           sym (beside_one n h (numbered (slots_of core) n) (queued core) (ap (waits_for h) found ∙ now) awaited)
-          ∙ ap (events_of n) (queued_for core whole.rising h)
-          ∙ whole.matched n h
+          ∙ ap (events_of n) (queued_for core whole.formed.rising h)
+          ∙ whole.matched.events n h
           ∙ ap (λ (o : Option Slot). one_if (waits_for h o)) is
           ∙ ap one_if now
 
@@ -197,7 +194,7 @@ module _ (core : Core) (whole : IsCore core) where
   pub queued_once : AllByRecursion (HasOneEvent (queued core)) (slots_of core)
   queued_once =
       each_map (λ (s : Slot). slot_at core s.number ≡ Some s) (HasOneEvent (queued core))
-      (λ s is. record { count = sym (tallied s.number (queued core)) ∙ own_event s.number s is }) (slots_of core) (slots_found core whole.rising)
+      (λ s is. record { count = sym (tallied s.number (queued core)) ∙ own_event s.number s is }) (slots_of core) (slots_found core whole.formed.rising)
 
 -- 4. The snapshot.
 
@@ -236,31 +233,30 @@ own_group (s ∷ slots) = (
 pub snapshot_taken : (s : State) (outputs : List Output) → OutputsBelow s.core (slots_of s.core) 64 outputs → Kept s
     → IsSnapshot (record { slots = slots_of s.core; events = queued s.core; outputs = outputs; pages = s.memory.pages; cycles = s.cycles })
 snapshot_taken s outputs out k =
-    let whole = k.fits.core in
-    let each = λ (P : Slot → Type 0) (f : (x : Slot) → IsSlot s.core.version s.core.split x → P x). each_map (IsSlot s.core.version s.core.split) P f (slots_of s.core) whole.slots in
+    let whole = kept_core s k in
     record {
-      slots = whole.rising;
+      slots = whole.formed.rising;
       groups = out.rising;
-      pages = pages_rise s.memory.pages k.fits.paged.rising;
+      pages = pages_rise s.memory.pages k.state.pages.rising;
       used = out.used;
       shown = each_both (λ (x : Slot). x.group < 64) (λ (x : Slot). has_group (slots_of s.core) x.group ≡ true) (λ (x : Slot). has_output outputs x.group ≡ true) (λ x small has. out.shown x.group small has)
-          (slots_of s.core) (each (λ (x : Slot). x.group < 64) (λ x is. omega (arith, is.group, slot_limit-few s.core.version))) (own_group (slots_of s.core));
-      events = (queues_rise s.core 0 (slots_of s.core) whole.rising (from_zero (numbers_of (slots_of s.core)))).0;
+          (slots_of s.core) (each_map (IsOfVersion s.core.version) (λ (x : Slot). x.group < 64) (λ x is. omega (arith, is.group, slot_limit-few s.core.version)) (slots_of s.core) whole.numbers) (own_group (slots_of s.core));
+      events = (queues_rise s.core 0 (slots_of s.core) whole.formed.rising (from_zero (numbers_of (slots_of s.core)))).0;
       awaited = queued_awaited s.core whole;
       one_event = queued_once s.core whole;
-      taken = each (λ (x : Slot). x.state ≡ Taken → x.handler ≢ None) (λ x is taken. is.handled (ap is_handled taken));
+      taken = each_map TakenBySome (λ (x : Slot). x.state ≡ Taken → x.handler ≢ None) (λ x is taken. is (ap is_taken taken)) (slots_of s.core) whole.kept.taken;
       outputs = each_map (IsOutputOf s.core) (λ (o : Output). length o.bytes.items ≤ 65536) (λ o is. omega (arith, ap length is, output_short s.core whole o.group)) outputs out.said;
-      pending = each IsPending (λ x is r. record { loads = sym (loads_counted r x.pending) ∙ is.pending r; zero = is.zero r });
+      pending = each_both LoadsMatch (LoadsAreKept s.core.split) IsPending (λ x match kept r. record { loads = sym (loads_counted r x.pending) ∙ match.each r; zero = kept.zero r }) (slots_of s.core) whole.matched.loads whole.kept.loads;
       turns = k.turns;
     }
 
 pub typed_taken : (s : State) (outputs : List Output) → Kept s → IsTyped (record { slots = slots_of s.core; events = queued s.core; outputs = outputs; pages = s.memory.pages; cycles = s.cycles })
 typed_taken s outputs k = record {
-  slots = each_both (IsSlot s.core.version s.core.split) SlotHoldsWords IsTypedSlot
-      (λ x is words. record { executable = is.executable; well_formed = words.ip; registers = is.registers; words = words.registers; flags = is.flags; loads = words.pending }) (slots_of s.core) k.fits.core.slots (slots_words s.core.rows k.fits.rows);
-  events = each_queued s.core IsTypedEvent (queues_words s.core k.fits.rows) (slots_of s.core);
-  whole = k.fits.paged.whole;
-  words = k.fits.cells;
+  slots = each_both IsSlot SlotHoldsWords IsTypedSlot
+      (λ x is words. record { executable = is.executable; well_formed = words.ip; registers = is.registers; words = words.registers; flags = is.flags; loads = words.pending }) (slots_of s.core) k.state.core.slots (slots_words s.core.rows k.state.rows);
+  events = each_queued s.core IsTypedEvent (queues_words s.core k.state.rows) (slots_of s.core);
+  whole = k.state.pages.whole;
+  words = k.state.cells;
 }
 
 -- 5. From the parts as they were copied.

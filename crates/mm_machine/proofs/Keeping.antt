@@ -10,20 +10,35 @@ use Rattle.mm_model.specs.Image.{Image, start}
 use Rattle.mm_model.specs.Spelling.{IsImage}
 use Rattle.mm_model.specs.Uses.{Use}
 use Rattle.mm_model.specs.Run.{turn_of, after, run, uses}
-use Rattle.mm_model.specs.Fits.{slots_of}
+use Rattle.mm_model.specs.Fits.{slots_of, IsCore}
+use Rattle.mm_model.proofs.Starts.{start_state, start_fits, start_kept, start_within}
+use Rattle.mm_model.proofs.Fitted.{paged_of, core_of}
+use Rattle.mm_model.proofs.StateKeeps.{after_state, after_fits, after_kept}
 use Rattle.mm_word.specs.declared.cause.Cause.{Cause}
 use Rattle.mm_model.specs.Outcomes.{StopsAt, FaultChanges}
 use Rattle.mm_model.proofs.Causes.{IsOrderly, core_orderly, fault_changes}
-use Rattle.mm_model.proofs.Starts.{start_fits, start_within}
-use Rattle.mm_model.proofs.StateKeeps.{after_fits}
 use Rattle.mm_model.proofs.TurnBounds.{after_within}
 use Rattle.mm_machine.specs.Kept.{Kept}
 
 pub kept_start : (i : Image) → IsImage i → Kept (start i)
-kept_start i h = record { image = i; fits = start_fits i h; turns = start_within i h }
+kept_start i h = record { image = i; is_image = h; state = start_state i h; fits = start_fits i h; types = start_kept i h.rising h.fresh; turns = start_within i h }
 
 pub kept_after : (s : State) (n : ℕ) → Kept s → Kept (after s n)
-kept_after s n k = record { image = k.image; fits = after_fits k.image s n k.fits; turns = after_within s n k.fits.core k.turns }
+kept_after s n k = record {
+  image = k.image;
+  is_image = k.is_image;
+  state = after_state s n k.state;
+  fits = after_fits k.image s n k.is_image k.state k.fits;
+  types = after_kept k.image s n k.is_image k.state k.fits k.types;
+  turns = after_within s n k.state.core k.fits.matched k.turns;
+}
+
+-- its slots, queues and outputs are those of a machine
+pub kept_core : (s : State) → Kept s → IsCore s.core
+kept_core s k = core_of k.image s k.is_image k.state k.fits k.types
+
+pub kept_paged : (s : State) → Kept s → IsPaged s.memory
+kept_paged s k = paged_of k.image s k.state k.fits
 
 fewer : (slots : List Slot) (n m : ℕ) → n < m → AllByRecursion (λ (s : Slot). s.turns ≤ n) slots → AllByRecursion (λ (s : Slot). s.turns < m) slots
 fewer [] n m lt h = tt
@@ -47,7 +62,7 @@ uses_more s (m ∷ items) n = ap (λ (us : List Use). (turn_of s m).uses ++ us) 
 -- what is kept, from a state to the next
 
 pub memory_paged : (s : State) → ∥ Kept s ∥₁ → IsPaged s.memory
-memory_paged s h = ∥∥₁_elim h (hlevel props) (λ k. k.fits.paged)
+memory_paged s h = ∥∥₁_elim h (hlevel props) (λ k. kept_paged s k)
 
 pub few_turns : (s : State) → s.cycles < 2 ^ 32 → ∥ Kept s ∥₁ → AllByRecursion (λ (slot : Slot). slot.turns < 2 ^ 61) (slots_of s.core)
 few_turns s lt h = ∥∥₁_elim h (hlevel props) (λ k. kept_turns s lt k)
@@ -64,7 +79,7 @@ state_made s n core memory c m =
 
 -- what a fault changes, of a state that is kept
 pub kept_orderly : (s : State) → ∥ Kept s ∥₁ → IsOrderly s.core
-kept_orderly s h = ∥∥₁_elim h (hlevel props) (λ k. core_orderly s.core k.fits.core)
+kept_orderly s h = ∥∥₁_elim h (hlevel props) (λ k. core_orderly s.core (kept_core s k))
 
 pub fault_changed : (s t : State) (n : ℕ) → t ≡ after s n → ∥ Kept s ∥₁ → (x : Slot) (c : Cause) → StopsAt s.core s.memory n x c → FaultChanges x c s t
 fault_changed s t n is kept x c stops = subst (FaultChanges x c s) (sym is) (fault_changes s n x c (kept_orderly s kept) stops)

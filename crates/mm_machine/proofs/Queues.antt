@@ -7,7 +7,9 @@ use Rattle.std.proofs.lemmas.List.Recursion.{is_count_by}
 use Rattle.mm_model.specs.declared.event.Event.{Event}
 use Rattle.mm_model.specs.Slot.{Slot}
 use Rattle.mm_model.specs.State.{Row, Core, row_in, slot_of, slot_at}
-use Rattle.mm_model.specs.Fits.{one_if, is_waiting, waits_for, events_of, slots_of}
+use Rattle.mm_model.specs.Flags.{one_if}
+use Rattle.mm_model.specs.Turn.{is_handler}
+use Rattle.mm_model.specs.Fits.{is_waiting, waits_for, events_of, slots_of}
 use Rattle.mm_model.proofs.CoreRows.{each_map}
 use Rattle.mm_model.proofs.CoreSteps.{waits_for-says}
 use Rattle.mm_thread.specs.Parts.{events_for}
@@ -127,4 +129,4 @@ module _ (slots : List Slot) (events : List (ℕ × Event)) (awaited : AllByRecu
       omega (arith, zero, once)
     where
       by : (h : ℕ) → waits_for h (Some s) ≡ false
-      by h = ap (λ (b : Bool). cond b (Rattle.mm_model.specs.Fits.is_number h s.handler) false) waits ∙ ap (Rattle.mm_model.specs.Fits.is_number h) none
+      by h = ap (λ (b : Bool). cond b (is_handler h s.handler) false) waits ∙ ap (is_handler h) none

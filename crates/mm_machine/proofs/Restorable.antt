@@ -9,12 +9,13 @@ use Rattle.mm_model.specs.Slot.{Slot}
 use Rattle.mm_model.specs.State.{State, output_of}
 use Rattle.mm_model.specs.Image.{output_limit}
 use Rattle.mm_model.specs.Run.{after}
-use Rattle.mm_model.specs.Fits.{identity_of, slots_of, IsSlot, IsCore}
+use Rattle.mm_model.specs.Fits.{identity_of, slots_of, LoadsAreKept, IsCore}
 use Rattle.mm_model.proofs.CoreRows.{each_map, each_get}
 use Rattle.mm_model.proofs.StateKeeps.{after_fits}
 use Rattle.mm_thread.specs.declared.output.Output.{Output}
 use Rattle.mm_thread.proofs.Assigned.{slots-with}
 use Rattle.mm_machine.specs.Kept.{Kept}
+use Rattle.mm_machine.proofs.Keeping.{kept_core}
 use Rattle.mm_machine.specs.Snapshot.{Parts, CanRestore, IsOutputOf, IsSnapshotOf, restored}
 
 -- two states of one machine
@@ -34,7 +35,7 @@ can_too s t p same can = record {
 
 same_after : (s : State) (n : ℕ) → Kept s → IsSameMachine s (after s n)
 same_after s n k =
-    let later = after_fits k.image s n k.fits in
+    let later = after_fits k.image s n k.is_image k.state k.fits in
     record {
       slots = k.fits.same_slots ∙ sym later.same_slots;
       version = k.fits.version ∙ sym later.version;
@@ -62,18 +63,18 @@ own_limit : (s : State) (o : Output) → IsCore s.core → IsOutputOf s.core o �
 unfolding output_of
 own_limit s o whole is = elim (cases_lt o.group 64) as (λ _. length o.bytes.items ≤ output_limit s.core.version) [
   | inl inside ↦
-      let one = each_get (λ (bytes : List ℕ). length bytes ≤ output_limit s.core.version) s.core.outputs o.group [] whole.within (omega (arith, whole.outputs)) in
+      let one = each_get (λ (bytes : List ℕ). length bytes ≤ output_limit s.core.version) s.core.outputs o.group [] whole.kept.within (omega (arith, whole.formed.outputs)) in
       omega (arith, one, ap length is)
-  | inr past ↦ omega (arith, ap length is, ap length (get_or_past s.core.outputs o.group [] (omega (arith, whole.outputs))))
+  | inr past ↦ omega (arith, ap length is, ap length (get_or_past s.core.outputs o.group [] (omega (arith, whole.formed.outputs))))
 ]
 
 own : (s : State) (p : Parts) → IsSnapshotOf s p → Kept s → CanRestore s p
 own s p is k = record {
   slots = ap (map identity_of) is.slots;
   mode = λ off. subst (AllByRecursion (λ (x : Slot). x.pending ≡ [])) (sym is.slots)
-      (each_map (IsSlot s.core.version s.core.split) (λ (x : Slot). x.pending ≡ []) (λ x one. one.mode off) (slots_of s.core) k.fits.core.slots);
-  outputs = each_map (IsOutputOf s.core) (λ (o : Output). length o.bytes.items ≤ output_limit s.core.version) (λ o said. own_limit s o k.fits.core said) p.outputs is.outputs;
-  pages = let few = k.fits.paged.fitting in let same = ap length is.pages in omega arith;
+      (each_map (LoadsAreKept s.core.split) (λ (x : Slot). x.pending ≡ []) (λ x one. one.mode off) (slots_of s.core) k.types.loads);
+  outputs = each_map (IsOutputOf s.core) (λ (o : Output). length o.bytes.items ≤ output_limit s.core.version) (λ o said. own_limit s o (kept_core s k) said) p.outputs is.outputs;
+  pages = let few = k.fits.mapped in let same = ap length is.pages in omega arith;
 }
 
 pub can_own : (s : State) (p : Parts) → ∥ Kept s ∥₁ → IsSnapshotOf s p → CanRestore s p

@@ -15,12 +15,14 @@ use Rattle.mm_model.specs.declared.event.Event.{Event}
 use Rattle.mm_model.specs.Memory.{Memory}
 use Rattle.mm_model.specs.Slot.{Slot}
 use Rattle.mm_model.specs.State.{Core, State, slot_at, queue_at, output_of}
-use Rattle.mm_model.specs.Image.{slot_limit, output_limit}
+use Rattle.mm_model.specs.Image.{output_limit}
+use Rattle.mm_model.specs.Flags.{one_if}
+use Rattle.mm_model.specs.Turn.{is_taken}
 use Rattle.mm_model.specs.Groups.{has_group}
 use Rattle.mm_model.specs.Spelling.{numbers_of, IsOther}
-use Rattle.mm_model.specs.Fits.{one_if, is_handled, is_waiting, waits_for, events_of, identity_of, slots_of, IsAtSlot, IsSlot, IsCore, EventHoldsWords, RowHoldsWords}
+use Rattle.mm_model.specs.Fits.{waits_for, events_of, identity_of, slots_of, IsSlot, IsFormed, LoadsMatch, WaitsForSome, Matches, IsAtSlot, LoadsAreKept, TakenBySome, IsKept, IsOfVersion, HandlersAreOthers, IsCore, EventHoldsWords, RowHoldsWords}
 use Rattle.mm_model.proofs.Causes.{some_of}
-use Rattle.mm_model.proofs.CoreRows.{each_map, slot_limit-few, rest_rises, above_first, Rises, each_slot, slot_has, other_at, other_in, identities_of, stays_by}
+use Rattle.mm_model.proofs.CoreRows.{each_map, each_both, slot_limit-few, of_version_by, rest_rises, above_first, Rises, each_slot, slot_has, other_at, other_in, identities_of, stays_by}
 use Rattle.mm_model.proofs.CoreSteps.{waits_for-says}
 use Rattle.mm_model.proofs.ImageBytes.Rising.{AreRisingFrom, sorted_from}
 use Rattle.mm_thread.specs.declared.output.Output.{Output}
@@ -30,27 +32,13 @@ use Rattle.mm_thread.proofs.Sound.{queue-none}
 use Rattle.mm_model.specs.Typed.{IsTypedSlot}
 use Rattle.mm_machine.specs.Kept.{Kept}
 use Rattle.mm_machine.specs.Snapshot.{Parts, numbered, page_numbers, IsEventOf, IsAwaited, IsPending, IsSnapshot, IsTypedEvent, IsTyped, CanRestore, restored}
+use Rattle.mm_machine.proofs.Keeping.{kept_core}
 use Rattle.mm_machine.proofs.Pendings.{loads_counted}
 use Rattle.mm_machine.proofs.Queues.{slot_numbered, numbered_has, matched, waits_handled}
 use Rattle.mm_machine.proofs.Outputs.{outputs_count, outputs_within, nothing_within, output_untouched, outputs_given, group_has}
 use Rattle.mm_machine.proofs.Steps.{from_zero}
 
 -- 1. Lists.
-
-into_map : {A B : Type 0} (P : B → Type 0) (f : A → B) (xs : List A) → AllByRecursion (λ x. P (f x)) xs → AllByRecursion P (map f xs)
-into_map P f [] h = tt
-into_map P f (x ∷ xs) h = (h.0, into_map P f xs h.1)
-
-out_of_map : {A B : Type 0} (P : B → Type 0) (f : A → B) (xs : List A) → AllByRecursion P (map f xs) → AllByRecursion (λ x. P (f x)) xs
-out_of_map P f [] h = tt
-out_of_map P f (x ∷ xs) h = (h.0, out_of_map P f xs h.1)
-
-abbrev Identity : Type 0
-Identity = ℕ × ℕ × Option ℕ
-
--- what holds of the identities of slots holds of those of others that are the same
-by_identities : (P : Identity → Type 0) (xs ys : List Slot) → map identity_of xs ≡ map identity_of ys → AllByRecursion (λ (s : Slot). P (identity_of s)) ys → AllByRecursion (λ (s : Slot). P (identity_of s)) xs
-by_identities P xs ys same h = out_of_map P identity_of xs (subst (AllByRecursion P) (sym same) (into_map P identity_of ys h))
 
 each_for : (P : Event → Type 0) (n : ℕ) (xs : List (ℕ × Event)) → AllByRecursion (λ (x : ℕ × Event). P x.1) xs → AllByRecursion P (events_for n xs)
 each_for P n [] h = tt
@@ -81,30 +69,30 @@ pages_sorted pages rising = sorted_from 0 pages (rising_from 0 pages rising (fro
 -- what is kept of the core that is put back
 pub record IsHost (core : Core) : Type 0 where
   pub rising : Rises core
-  pub low : AllByRecursion (λ (s : Slot). (s.number < slot_limit core.version) × (s.group < slot_limit core.version)) (slots_of core)
+  pub numbers : AllByRecursion (IsOfVersion core.version) (slots_of core)
   pub handlers : AllByRecursion (λ (s : Slot). IfSome s.handler (λ h. (h ≢ s.number) × (is_some (slot_at core h) ≡ true))) (slots_of core)
   pub outputs : length core.outputs ≡ 64
   pub silent : (g : ℕ) → has_group (slots_of core) g ≡ false → output_of core g ≡ []
 
 host_of : (core : Core) → IsCore core → IsHost core
 host_of core whole = record {
-  rising = whole.rising;
-  low = each_map (IsSlot core.version core.split) (λ (s : Slot). (s.number < slot_limit core.version) × (s.group < slot_limit core.version)) (λ s is. (is.number, is.group)) (slots_of core) whole.slots;
+  rising = whole.formed.rising;
+  numbers = whole.numbers;
   handlers = each_map (λ (s : Slot). IfSome s.handler (IsOther (slots_of core) s.number)) (λ (s : Slot). IfSome s.handler (λ h. (h ≢ s.number) × (is_some (slot_at core h) ≡ true)))
       (λ s other. by s.number s.handler other) (slots_of core) whole.handlers;
-  outputs = whole.outputs;
-  silent = whole.silent;
+  outputs = whole.formed.outputs;
+  silent = whole.kept.silent;
 }
   where
     by : (n : ℕ) (o : Option ℕ) → IfSome o (IsOther (slots_of core) n) → IfSome o (λ h. (h ≢ n) × (is_some (slot_at core h) ≡ true))
     by n None k = tt
-    by n (Some h) k = let other = other_at core whole.rising n h k in (other.0, ap is_some other.1.1)
+    by n (Some h) k = let other = other_at core whole.formed.rising n h k in (other.0, ap is_some other.1.1)
 
 pub hosts : (core : Core) → ∥ IsCore core ∥₁ → IsHost core
 hosts core whole = ∥∥₁_elim whole (hlevel props) (λ k. host_of core k)
 
 pub kept_hosts : (s : State) → ∥ Kept s ∥₁ → IsHost s.core
-kept_hosts s kept = ∥∥₁_elim kept (hlevel props) (λ k. host_of s.core k.fits.core)
+kept_hosts s kept = ∥∥₁_elim kept (hlevel props) (λ k. host_of s.core (kept_core s k))
 
 module _ (old : Core) (p : Parts) (was : IsHost old) (rules : IsSnapshot p) (typed : IsTyped p) (same : map identity_of p.slots ≡ map identity_of (slots_of old)) where
   abbrev core : Core
@@ -122,23 +110,20 @@ module _ (old : Core) (p : Parts) (was : IsHost old) (rules : IsSnapshot p) (typ
   pub at : (n : ℕ) → numbered p.slots n ≡ slot_at core n
   at n = sym (ap (λ (slots : List Slot). numbered slots n) slots_are) ∙ slot_numbered core n
 
-  abbrev Low : Slot → Type 0
-  Low s = (s.number < slot_limit old.version) × (s.group < slot_limit old.version)
-
-  low : AllByRecursion Low p.slots
-  low = by_identities (λ (i : Identity). (i.0 < slot_limit old.version) × (i.1 < slot_limit old.version)) p.slots (slots_of old) same was.low
+  numbers : AllByRecursion (IsOfVersion old.version) p.slots
+  numbers = of_version_by old.version p.slots (slots_of old) same was.numbers
 
   groups_small : AllByRecursion (λ (o : Output). o.group < 64) p.outputs
   groups_small =
       each_map (λ (o : Output). has_group p.slots o.group ≡ true) (λ (o : Output). o.group < 64)
-      (λ o has. group_has (λ g. g < 64) p.slots o.group (each_map Low (λ (s : Slot). s.group < 64) (λ s is. let least = is.1 in omega (arith, least, slot_limit-few old.version)) p.slots low) has) p.outputs rules.used
+      (λ o has. group_has (λ g. g < 64) p.slots o.group (each_map (IsOfVersion old.version) (λ (s : Slot). s.group < 64) (λ s is. let least = is.group in omega (arith, least, slot_limit-few old.version)) p.slots numbers) has) p.outputs rules.used
 
-  handlers : AllByRecursion (λ (s : Slot). IfSome s.handler (IsOther (slots_of core) s.number)) (slots_of core)
+  handlers : HandlersAreOthers core
   handlers =
       each_slot (λ (s : Slot). IfSome s.handler (IsOther (slots_of core) s.number)) core rising
       (λ n s is.
       let before = stays_by core old n s (sym identities) is in
-      subst (λ (i : Identity). IfSome i.2 (IsOther (slots_of core) i.0)) before.same
+      subst (λ (i : ℕ × ℕ × Option ℕ). IfSome i.2 (IsOther (slots_of core) i.0)) before.same
       (by before.now.handler before.now.number (slot_has (λ (t : Slot). IfSome t.handler (λ h. (h ≢ t.number) × (is_some (slot_at old h) ≡ true))) old n before.now was.handlers before.is)))
     where
       by : (o : Option ℕ) (n : ℕ) → IfSome o (λ h. (h ≢ n) × (is_some (slot_at old h) ≡ true)) → IfSome o (IsOther (slots_of core) n)
@@ -203,41 +188,53 @@ module _ (old : Core) (p : Parts) (was : IsHost old) (rules : IsSnapshot p) (typ
   core_given = outputs_given p.outputs (replicate 64 []) rules.groups groups_small
 
   module _ (mode : old.split ≡ false → AllByRecursion (λ (s : Slot). s.pending ≡ []) p.slots) (short : AllByRecursion (λ (o : Output). length o.bytes.items ≤ output_limit old.version) p.outputs) where
-    core_slot : (n : ℕ) (s : Slot) → slot_at core n ≡ Some s → IsSlot old.version old.split s
-    core_slot n s is =
-        let found : numbered p.slots n ≡ Some s = at n ∙ is in
-        let least = (numbered_has Low p.slots n s low found).0 in
-        let kept = (numbered_has IsTypedSlot p.slots n s typed.slots found).0 in
-        let pending = (numbered_has IsPending p.slots n s rules.pending found).0 in
-        record {
-          number = least.0;
-          group = least.1;
-          executable = kept.executable;
-          registers = kept.registers;
-          flags = kept.flags;
-          pending = λ r. loads_counted r s.pending ∙ (pending r).loads;
-          zero = λ r empty. (pending r).zero empty;
-          mode = λ off. (numbered_has (λ (t : Slot). t.pending ≡ []) p.slots n s (mode off) found).0;
-          handled = by s.state refl;
-        }
-      where
-        by : (state : SlotState) → s.state ≡ state → is_handled state ≡ true → s.handler ≢ None
-        by Running e h = cc
-        by Waiting e h = waits_handled p.slots p.events rules.awaited rules.one_event n s (at n ∙ is) (ap is_waiting e)
-        by Taken e h = (numbered_has (λ (t : Slot). t.state ≡ Taken → t.handler ≢ None) p.slots n s rules.taken (at n ∙ is)).0 e
-        by (Halted cause) e h = cc
+    on_slots : (P : Slot → Type 0) → AllByRecursion P p.slots → AllByRecursion P (slots_of core)
+    on_slots P h = subst (AllByRecursion P) (sym slots_are) h
 
-    pub core_whole : IsCore core
-    core_whole = record {
+    core_waiting : (n : ℕ) (s : Slot) → slot_at core n ≡ Some s → WaitsForSome s
+    core_waiting n s is w = waits_handled p.slots p.events rules.awaited rules.one_event n s (at n ∙ is) w
+
+    core_taken : AllByRecursion TakenBySome p.slots
+    core_taken = each_map (λ (t : Slot). t.state ≡ Taken → t.handler ≢ None) TakenBySome (λ s given taken. given (is_taken-says s.state taken)) p.slots rules.taken
+      where
+        is_taken-says : (state : SlotState) → is_taken state ≡ true → state ≡ Taken
+        is_taken-says Running e = cc
+        is_taken-says Waiting e = cc
+        is_taken-says Taken e = refl
+        is_taken-says (Halted cause) e = cc
+
+    modes : (split : Bool) → old.split ≡ split → AllByRecursion (λ (s : Slot). split ≡ false → s.pending ≡ []) p.slots
+    modes true is = each_map IsPending (λ (s : Slot). true ≡ false → s.pending ≡ []) (λ s k off. cc) p.slots rules.pending
+    modes false is = each_map (λ (s : Slot). s.pending ≡ []) (λ (s : Slot). false ≡ false → s.pending ≡ []) (λ s none off. none) p.slots (mode is)
+
+    core_formed : IsFormed core
+    core_formed = record {
       rising = rising;
-      slots = each_slot (IsSlot old.version old.split) core rising core_slot;
-      handlers = handlers;
-      matched = core_matched;
-      in_place = core_in_place;
+      slots = on_slots IsSlot
+          (each_both (IsOfVersion old.version) IsTypedSlot IsSlot
+          (λ s low typed. record { number = let least = low.number in omega (arith, least, slot_limit-few old.version); executable = typed.executable; registers = typed.registers; flags = typed.flags }) p.slots numbers typed.slots);
       outputs = outputs_count p.outputs (replicate 64 []);
+    }
+
+    pub core_matches : Matches core
+    core_matches = record {
+      events = core_matched;
+      waiting = each_slot WaitsForSome core rising core_waiting;
+      loads = on_slots LoadsMatch (each_map IsPending LoadsMatch (λ s pending. record { each = λ r. loads_counted r s.pending ∙ (pending r).loads }) p.slots rules.pending);
+    }
+
+    pub core_kept : IsKept core
+    core_kept = record {
+      in_place = core_in_place;
+      loads = on_slots (LoadsAreKept old.split)
+          (each_both IsPending (λ (s : Slot). old.split ≡ false → s.pending ≡ []) (LoadsAreKept old.split) (λ s pending off. record { zero = λ r empty. (pending r).zero empty; mode = off }) p.slots rules.pending (modes old.split refl));
+      taken = on_slots TakenBySome core_taken;
       within = outputs_within (output_limit old.version) p.outputs (replicate 64 []) short (nothing_within (output_limit old.version) 64);
       silent = core_silent;
     }
+
+    pub core_whole : IsCore core
+    core_whole = record { formed = core_formed; numbers = on_slots (IsOfVersion old.version) numbers; handlers = handlers; matched = core_matches; kept = core_kept }
 
     pub are_parts : AreParts old p.slots p.events p.outputs
     are_parts = record { whole = core_whole; same = same; given = core_given }
@@ -251,19 +248,26 @@ rows_words events good (s ∷ slots) h = (record { slot = record { registers = h
 module _ (s : State) (p : Parts) (rules : IsSnapshot p) (typed : IsTyped p) (can : CanRestore s p) where
   restored_keeps : Kept s → Kept (restored s p)
   restored_keeps k =
-      let host = host_of s.core k.fits.core in
+      let host = host_of s.core (kept_core s k) in
+      let whole = core_whole s.core p host rules typed can.slots can.mode can.outputs in
       record {
         image = k.image;
+        is_image = k.is_image;
+        state = record {
+          core = whole.formed;
+          rows = rows_words p.events typed.events p.slots typed.slots;
+          pages = record { rising = pages_sorted p.pages rules.pages; whole = typed.whole };
+          cells = typed.words;
+        };
         fits = record {
           same_slots = identities s.core p host rules typed can.slots ∙ k.fits.same_slots;
           version = k.fits.version;
           split = k.fits.split;
           frames = k.fits.frames;
-          core = core_whole s.core p host rules typed can.slots can.mode can.outputs;
-          paged = record { rising = pages_sorted p.pages rules.pages; whole = typed.whole; fitting = can.pages };
-          rows = rows_words p.events typed.events p.slots typed.slots;
-          cells = typed.words;
+          mapped = can.pages;
+          matched = whole.matched;
         };
+        types = whole.kept;
         turns = subst (AllByRecursion (λ (x : Slot). x.turns ≤ p.cycles)) (sym (slots_are s.core p host rules typed can.slots)) rules.turns;
       }
 

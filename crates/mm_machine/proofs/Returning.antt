@@ -9,7 +9,7 @@ use Rattle.mm_model.specs.State.{Row, Core, State, row_in, queue_of, queue_at, o
 use Rattle.mm_model.specs.Image.{slot_limit}
 use Rattle.mm_model.specs.Groups.{has_group}
 use Rattle.mm_model.specs.Spelling.{numbers_of}
-use Rattle.mm_model.specs.Fits.{slots_of}
+use Rattle.mm_model.specs.Fits.{slots_of, IsOfVersion}
 use Rattle.mm_model.proofs.CoreRows.{each_map, each_both, slot_limit-few, rest_rises, above_first}
 use Rattle.mm_thread.specs.declared.output.Output.{Output}
 use Rattle.mm_thread.specs.Parts.{events_for, row_with, outputs_with}
@@ -60,7 +60,7 @@ module _ (t : State) (p : Parts) (host : IsHost t.core) (is : IsSnapshotOf t p) 
   small =
       each_map (λ (o : Output). has_group p.slots o.group ≡ true) (λ (o : Output). o.group < 64)
       (λ o has. group_has (λ g. g < 64) (slots_of t.core) o.group
-      (each_map (λ (s : Slot). (s.number < slot_limit t.core.version) × (s.group < slot_limit t.core.version)) (λ (s : Slot). s.group < 64) (λ s low. let least = low.1 in omega (arith, least, slot_limit-few t.core.version)) (slots_of t.core) host.low)
+      (each_map (IsOfVersion t.core.version) (λ (s : Slot). s.group < 64) (λ s low. let least = low.group in omega (arith, least, slot_limit-few t.core.version)) (slots_of t.core) host.numbers)
       (sym (ap (λ (slots : List Slot). has_group slots o.group) is.slots) ∙ has)) p.outputs is.rules.used
 
   there : (g : ℕ) → has_output p.outputs g ≡ true → get_or all g [] ≡ get_or t.core.outputs g []

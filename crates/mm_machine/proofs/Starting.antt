@@ -6,7 +6,7 @@ use Rattle.mm_model.specs.Slot.{Slot}
 use Rattle.mm_model.specs.State.{Row, State, Core}
 use Rattle.mm_model.specs.Image.{Image, slot_limit, start}
 use Rattle.mm_model.specs.Spelling.{IsFresh, IsImage}
-use Rattle.mm_model.specs.Fits.{slots_of}
+use Rattle.mm_model.specs.Fits.{slots_of, IsOfVersion}
 use Rattle.mm_model.proofs.Starts.{start_slots}
 use Rattle.mm_thread.specs.Places.{row_alone}
 
@@ -52,14 +52,11 @@ rows_made i core slots rows is = rows ∙ ap (λ (xs : List Slot). map row_alone
 pub versioned_rows : (made versioned : Core) (version : ℕ) → versioned ≡ record made { version = version } → versioned.rows ≡ made.rows
 versioned_rows made versioned version is = ap (λ (c : Core). c.rows) is
 
-abbrev Within : ℕ → Slot → Type 0
-Within limit s = (s.number < limit) × (s.group < limit)
-
-pub within : (i : Image) (core : Core) (version : ℕ) → IsImage i → core.rows ≡ map row_alone i.slots → version ≡ i.version → AllByRecursion (Within (slot_limit version)) (slots_of core)
+pub within : (i : Image) (core : Core) (version : ℕ) → IsImage i → core.rows ≡ map row_alone i.slots → version ≡ i.version → AllByRecursion (IsOfVersion version) (slots_of core)
 within i core version h rows is =
-    subst (λ (v : ℕ). AllByRecursion (Within (slot_limit v)) (slots_of core)) (sym is)
-    (subst (λ (slots : List Slot). AllByRecursion (Within (slot_limit i.version)) slots) (sym (slots_made i core rows))
-    (each (λ s f. (f.number, f.group)) i.slots h.fresh))
+    subst (λ (v : ℕ). AllByRecursion (IsOfVersion v) (slots_of core)) (sym is)
+    (subst (λ (slots : List Slot). AllByRecursion (IsOfVersion i.version) slots) (sym (slots_made i core rows))
+    (each (λ s f. record { number = f.number; group = f.group }) i.slots h.fresh))
 
 pub none_pending : (i : Image) (core : Core) → IsImage i → core.rows ≡ map row_alone i.slots → AllByRecursion (λ (s : Slot). s.pending ≡ []) (slots_of core)
 none_pending i core h rows =

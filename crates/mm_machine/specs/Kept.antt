@@ -1,10 +1,14 @@
 -- What is true of a machine at every moment.
 use Rattle.mm_model.specs.State.{State}
 use Rattle.mm_model.specs.Image.{Image}
-use Rattle.mm_model.specs.Fits.{Fits, TurnsWithin}
+use Rattle.mm_model.specs.Spelling.{IsImage}
+use Rattle.mm_model.specs.Fits.{IsState, Fits, IsKept, TurnsWithin}
 
--- its state fits an image, and no slot has taken more turns than there were cycles
+-- its state fits an image and keeps what the types keep, and no slot has taken more turns than there were cycles
 pub record Kept (s : State) : Type 0 where
   pub image : Image
+  pub is_image : IsImage image
+  pub state : IsState s
   pub fits : Fits image s
+  pub types : IsKept s.core
   pub turns : TurnsWithin s

@@ -12,7 +12,8 @@ use Rattle.mm_model.specs.State.{Core, State, queue_at, output_of}
 use Rattle.mm_model.specs.Image.{output_limit}
 use Rattle.mm_model.specs.Groups.{has_group}
 use Rattle.mm_model.specs.Spelling.{numbers_of, HoldsWords}
-use Rattle.mm_model.specs.Fits.{one_if, is_waiting, waits_for, identity_of, slots_of, IsCore, EventHoldsWords}
+use Rattle.mm_model.specs.Flags.{one_if}
+use Rattle.mm_model.specs.Fits.{is_waiting, waits_for, identity_of, slots_of, IsCore, EventHoldsWords}
 use Rattle.mm_model.specs.Typed.{IsTypedSlot}
 use Rattle.mm_thread.specs.declared.output.Output.{Output}
 use Rattle.mm_thread.specs.Parts.{core_of}

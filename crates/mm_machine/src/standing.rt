@@ -9,7 +9,8 @@ ghost use Rattle.mm_model.specs.declared.slot.Pending.{Pending as PendingValue};
 ghost use Rattle.mm_model.specs.Slot.{Slot as SlotValue};
 ghost use Rattle.mm_model.specs.Groups.{has_group};
 ghost use Rattle.mm_model.specs.Spelling.{numbers_of};
-ghost use Rattle.mm_model.specs.Fits.{one_if, is_waiting, waits_for, EventHoldsWords};
+ghost use Rattle.mm_model.specs.Flags.{one_if};
+ghost use Rattle.mm_model.specs.Fits.{is_waiting, waits_for, EventHoldsWords};
 ghost use Rattle.mm_thread.specs.declared.output.Output.{Output as OutputValue};
 ghost use Rattle.mm_machine.specs.Snapshot.{IsSnapshot, IsTypedEvent, IsAwaited, IsEventOf, HasOneEvent, IsPending, RegisterStands, DoesNotFall, parts_of, numbered, queues_of, groups_of, page_numbers, has_output};
 

@@ -92,13 +92,13 @@ zeros_are_words zero = tt
 zeros_are_words (suc n) = (lit< tt, zeros_are_words n)
 
 -- what a change leaves of the memory
-record MemoryKeeps (m later : Memory) : Type 0 where
-  frames : later.frames ≡ m.frames
-  pages : ArePages later.pages
-  cells : AllByRecursion HoldsWords later.pages
-  mapped : length m.pages ≤ m.frames → length later.pages ≤ later.frames
+pub record MemoryKeeps (m later : Memory) : Type 0 where
+  pub frames : later.frames ≡ m.frames
+  pub pages : ArePages later.pages
+  pub cells : AllByRecursion HoldsWords later.pages
+  pub mapped : length m.pages ≤ m.frames → length later.pages ≤ later.frames
 
-memory_self : (m : Memory) → ArePages m.pages → AllByRecursion HoldsWords m.pages → MemoryKeeps m m
+pub memory_self : (m : Memory) → ArePages m.pages → AllByRecursion HoldsWords m.pages → MemoryKeeps m m
 memory_self m pages cells = record { frames = refl; pages = pages; cells = cells; mapped = λ few. few }
 
 put_cell-words : (m : Memory) (w : ℕ) (c : Cell) → AllByRecursion HoldsWords m.pages → IsWord c.word → AllByRecursion HoldsWords (put_cell m w c).pages
@@ -109,7 +109,7 @@ put_cell-words m w c h k = by (page_at m (page_of w)) refl
     by None e = h
     by (Some cells) e = put_page-words (page_of w) (slice_set cells (place_of w) c) m.pages (each_set (λ (x : Cell). IsWord x.word) cells (place_of w) c (page_words m.pages (page_of w) cells h e) k) h
 
-cell_keeps : (m : Memory) (o : Option (ℕ × Cell)) → ArePages m.pages → AllByRecursion HoldsWords m.pages → CellWords o → MemoryKeeps m (with_cell m o)
+pub cell_keeps : (m : Memory) (o : Option (ℕ × Cell)) → ArePages m.pages → AllByRecursion HoldsWords m.pages → CellWords o → MemoryKeeps m (with_cell m o)
 cell_keeps m None pages cells k = memory_self m pages cells
 cell_keeps m (Some w) pages cells k =
     let frames = put_frames m w.0 w.1 in

@@ -60,11 +60,11 @@ shows s mask masks = record {
 
 pub next_is : (s : State) (mask : ℕ) (last : Option ℕ) (n : ℕ) → ∥ Kept s ∥₁ → Masks s mask → IsNext mask last n → next_running s.core.rows last ≡ Some n
 next_is s mask last n kept masks next =
-    ∥∥₁_elim kept (hlevel props) (λ k. next_shown s.core mask last n k.fits.core.rising (shows s mask masks) next)
+    ∥∥₁_elim kept (hlevel props) (λ k. next_shown s.core mask last n k.state.core.rising (shows s mask masks) next)
 
 pub none_is : (s : State) (mask : ℕ) (last : Option ℕ) → ∥ Kept s ∥₁ → Masks s mask → mask ≡ 0 → next_running s.core.rows last ≡ None
 none_is s mask last kept masks none =
-    ∥∥₁_elim kept (hlevel props) (λ k. none_shown s.core mask last k.fits.core.rising (shows s mask masks) none)
+    ∥∥₁_elim kept (hlevel props) (λ k. none_shown s.core mask last k.state.core.rising (shows s mask masks) none)
 
 pub zero_of : (n : ℕ) → (n ≢ 0 → false ≡ true) → n ≡ 0
 zero_of zero none = refl
