@@ -5,11 +5,6 @@ use mm_word::{Cell, GuardedPtr, Word};
 use std::alloc::{AllocError, Global};
 use std::test::Fail;
 
-/// Offsets of the fields of an image of one slot.
-const SLOT: usize = 16;
-
-const REGISTERS: usize = SLOT + 14;
-
 /// User code of 4,096 bytes at 0x100000.
 const CODE: u64 = 0x3300_0000_0010_0000;
 
@@ -50,15 +45,6 @@ fn put_slot(bytes: &mut Vec<u8>, number: u8, group: u8, byte: u64) -> Result<(),
     Ok(())
 }
 
-/// Puts one byte in the place of another.
-fn put(bytes: &mut [u8], at: usize, new: u8) {
-    for (i, byte) in bytes.iter_mut().enumerate() {
-        if i == at {
-            *byte = new;
-        }
-    }
-}
-
 /// The fault of the bytes, if they spell no image.
 fn fault_of(alloc: Global, bytes: &[u8]) -> Option<ImageError> {
     read(alloc, bytes).err()
@@ -93,110 +79,6 @@ fn cut_short(rt: HostRuntime) -> Result<(), Fail> {
         let found = fault_of(rt.alloc(), &bytes[..k]);
         assert_eq!(rt; found, fault(ImageFault::Short, k as u64), "{k} bytes");
     }
-    Ok(())
-}
-
-/// Whether the smallest image with 255 in the place of a byte is an image, which is then written as the same bytes.
-fn is_read_with_255(alloc: Global, at: usize) -> Result<bool, Fail> {
-    let mut bytes = smallest(alloc)?;
-    put(&mut bytes, at, 255);
-    match read(alloc, &bytes) {
-        Ok(image) => {
-            let written = write(alloc, &image)?;
-            if written.as_slice() == bytes.as_slice() {
-                Ok(true)
-            } else {
-                Err("other bytes are written".into())
-            }
-        }
-        Err(ImageError::Fault { .. }) => Ok(false),
-        Err(ImageError::NoMemory) => Err("no memory".into()),
-    }
-}
-
-#[test]
-fn a_byte_of_255(rt: HostRuntime) -> Result<(), Fail> {
-    for k in 0..158 {
-        // The low byte of frames, no handler, the length and the address of the instruction pointer, the registers.
-        let still = matches!(k, 9 | 18 | 21..=27 | REGISTERS..=157);
-        assert_eq!(rt; is_read_with_255(rt.alloc(), k)?, still, "byte {k}");
-    }
-    Ok(())
-}
-
-#[test]
-fn first_faults_of_one_slot(rt: HostRuntime) -> Result<(), Fail> {
-    for (at, byte, kind, offset) in [
-        (0, b'N', ImageFault::Magic, 0),
-        (5, 0, ImageFault::Version, 4),
-        (5, 3, ImageFault::Version, 4),
-        (7, 0, ImageFault::Count, 6),
-        (7, 17, ImageFault::Count, 6),
-        (7, 2, ImageFault::Short, 158),
-        (9, 0, ImageFault::Frames, 8),
-        (8, 1, ImageFault::Frames, 8),
-        (11, 2, ImageFault::Frames, 10),
-        (15, 1, ImageFault::Count, 12),
-        (SLOT, 16, ImageFault::SlotOrder, 16),
-        (SLOT + 1, 16, ImageFault::Group, 17),
-        (SLOT + 2, 0, ImageFault::Handler, 18),
-        (SLOT + 2, 1, ImageFault::Handler, 18),
-        (SLOT + 2, 254, ImageFault::Handler, 18),
-        (SLOT + 3, 2, ImageFault::State, 19),
-        (SLOT + 4, 0x83, ImageFault::Ip, 20),
-        (SLOT + 4, 0x3e, ImageFault::Ip, 20),
-        (SLOT + 4, 0x53, ImageFault::Ip, 20),
-        (SLOT + 13, 8, ImageFault::Pointer, 54),
-    ] {
-        let mut bytes = smallest(rt.alloc())?;
-        put(&mut bytes, at, byte);
-        let found = fault_of(rt.alloc(), &bytes);
-        assert_eq!(rt; found, fault(kind, offset), "{byte} at {at}");
-    }
-    Ok(())
-}
-
-#[test]
-fn first_faults_of_two_slots(rt: HostRuntime) -> Result<(), Fail> {
-    let second = SLOT + 142;
-    let page = second + 142;
-    for (at, byte, kind, offset) in [
-        (second, 0, ImageFault::SlotOrder, 158),
-        (second + 2, 1, ImageFault::Handler, 160),
-        (page, 1, ImageFault::PageOrder, 300),
-        (page + 8, 1, ImageFault::Pointer, 436),
-        (page + 8 + 63, 128, ImageFault::Pointer, 4524),
-        (11, 0, ImageFault::Trailing, 300),
-    ] {
-        let mut bytes = two_groups(rt.alloc())?;
-        put(&mut bytes, at, byte);
-        let found = fault_of(rt.alloc(), &bytes);
-        assert_eq!(rt; found, fault(kind, offset), "{byte} at {at}");
-    }
-    Ok(())
-}
-
-#[test]
-fn the_earlier_of_two_faults(rt: HostRuntime) -> Result<(), Fail> {
-    // A handler is tested behind the last slot and before the first page.
-    let mut bytes = two_groups(rt.alloc())?;
-    put(&mut bytes, SLOT + 2, 9);
-    put(&mut bytes, SLOT + 142 + 3, 2);
-    put(&mut bytes, SLOT + 284, 1);
-    let found = fault_of(rt.alloc(), &bytes);
-    assert_eq!(rt; found, fault(ImageFault::State, 161));
-    put(&mut bytes, SLOT + 142 + 3, 1);
-    let found = fault_of(rt.alloc(), &bytes);
-    assert_eq!(rt; found, fault(ImageFault::Handler, 18));
-    put(&mut bytes, SLOT + 2, 1);
-    let found = fault_of(rt.alloc(), &bytes);
-    assert_eq!(rt; found, fault(ImageFault::PageOrder, 300));
-    put(&mut bytes, SLOT + 284, 0);
-    assert!(rt; fault_of(rt.alloc(), &bytes).is_none());
-    bytes.push(0)?;
-    let found = fault_of(rt.alloc(), &bytes);
-    assert_eq!(rt; found, fault(ImageFault::Trailing, 4532));
-    assert_eq!(rt; ImageFault::Trailing.number(), 13);
     Ok(())
 }
 
@@ -263,36 +145,5 @@ fn the_largest_images(rt: HostRuntime) -> Result<(), Fail> {
         let written = write(rt.alloc(), &again)?;
         assert!(rt; written.as_slice() == bytes.as_slice());
     }
-    Ok(())
-}
-
-#[test]
-fn parts_that_make_no_image(rt: HostRuntime) -> Result<(), Fail> {
-    for (version, split, count, frames, makes) in [
-        (1, false, 16, 1, true),
-        (2, true, 17, 4096, true),
-        (0, false, 2, 1, false),
-        (3, false, 2, 1, false),
-        (1, true, 2, 1, false),
-        (1, false, 17, 1, false),
-        (2, false, 65, 1, false),
-        (2, false, 0, 1, false),
-        (2, false, 1, 1, false),
-        (1, false, 2, 0, false),
-        (1, false, 2, 257, false),
-        (2, false, 2, 4097, false),
-    ] {
-        let slots = many_slots(rt.alloc(), count)?;
-        let pages = Vec::new(rt.alloc());
-        let found = Image::new(version, split, slots, pages, frames);
-        assert_eq!(rt;
-            found.is_some(),
-            makes,
-            "{count} slots of version {version}"
-        );
-    }
-    let slots = many_slots(rt.alloc(), 2)?;
-    let pages = many_pages(rt.alloc(), 3)?;
-    assert!(rt; Image::new(1, false, slots, pages, 2).is_none());
     Ok(())
 }

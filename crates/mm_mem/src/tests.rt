@@ -177,27 +177,3 @@ fn a_table_of_calls(rt: HostRuntime) -> Result<(), Fail> {
 }
 
 // All frames that a memory can have, each with a page.
-#[test]
-fn the_largest_memory(rt: HostRuntime) -> Result<(), Fail> {
-    let mut m = PlainMem::new(rt.alloc(), &[], 4096)?;
-    for i in 0..4096 {
-        assert!(rt; m.map(i * 3));
-    }
-    assert!(rt; !m.map(1));
-    assert_eq!(rt; m.pages(), 4096);
-    assert_eq!(rt; m.page_at(4095), 4095 * 3);
-    for i in 0..4096 {
-        assert_eq!(rt;
-            m.peek(i * 3 * 4096),
-            Some(Cell {
-                word: Word::Int(0),
-                full: true
-            })
-        );
-        assert_eq!(rt; m.peek((i * 3 + 1) * 4096), None);
-    }
-    assert!(rt; m.unmap(3 * 2048));
-    assert!(rt; m.map(1));
-    assert!(rt; m.peek(4096).is_some());
-    Ok(())
-}
