@@ -175,5 +175,3 @@ fn a_table_of_calls(rt: HostRuntime) -> Result<(), Fail> {
     assert_eq!(rt; m.counts(), None);
     Ok(())
 }
-
-// All frames that a memory can have, each with a page.
