@@ -35,10 +35,13 @@ const BOTH: &[u8] =
 
 /// The image of `examples/hello.img`.
 fn hello(rt: &HostRuntime) -> Result<Vec<u8>, Fail> {
-    let mut bytes = Vec::from_slice(
-        rt.alloc(),
-        b"MMI1\x00\x01\x00\x01\x00\x01\x00\x01\x00\x00\x00\x00",
-    )?;
+    hello_as(rt, 1, 0)
+}
+
+/// The same of a version and a mode.
+fn hello_as(rt: &HostRuntime, version: u8, mode: u8) -> Result<Vec<u8>, Fail> {
+    let mut bytes = Vec::from_slice(rt.alloc(), b"MMI1\x00")?;
+    bytes.extend_from_slice(&[version, 0, 1, 0, 1, 0, 1, 0, 0, 0, mode])?;
     // Slot 0 of group 0, with no handler, running.
     bytes.extend_from_slice(b"\x00\x00\xff\x00")?;
     bytes.extend_from_slice(&0x3300_0000_0010_0000_u64.to_be_bytes())?;
@@ -236,9 +239,7 @@ fn extracts(rt: HostRuntime) -> Result<(), Fail> {
 #[test]
 fn migrates(rt: HostRuntime) -> Result<(), Fail> {
     for (mode, number) in [("plain", 0), ("split", 1)] {
-        let mut new = hello(&rt)?;
-        new[5] = 2;
-        new[15] = number;
+        let new = hello_as(&rt, 2, number)?;
         let held = files(&rt, hello(&rt)?, "", 4096)?;
         let (status, out, diag) = answer(&rt, &["migrate", "IMAGE", mode], held)?;
         assert_eq!(rt; status, Status::Done);
