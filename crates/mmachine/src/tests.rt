@@ -1,7 +1,5 @@
-use crate::code;
-use crate::status::{Refusal, Status};
+use crate::status::Status;
 use crate::top::mmachine;
-use mm_image::ImageFault;
 use mm_io::{MemFiles, MemSink, StdFiles, StdSink, StdSource, SureSource};
 use mm_mem::PlainMem;
 use std::fs;
@@ -165,30 +163,6 @@ fn solos(rt: HostRuntime) -> Result<(), Fail> {
 }
 
 // Groups that have no slot, and a slot whose handler is of another group.
-#[test]
-fn refused_groups(rt: HostRuntime) -> Result<(), Fail> {
-    let rows: [(&str, Status, &str); 3] = [
-        (
-            "2,63",
-            Status::Refused(Refusal::NoGroup),
-            "mmachine: no group\n",
-        ),
-        (
-            "0",
-            Status::Refused(Refusal::Crosses { slot: 0 }),
-            "mmachine: crosses slot 0\n",
-        ),
-        ("1", Status::Done, ""),
-    ];
-    for (groups, status, line) in rows {
-        let held = files(&rt, pair(&rt, 1)?, TURNS, 4096)?;
-        let (answered, _, diag) = answer(&rt, &["solo", "IMAGE", groups, "5", "SCHEDULE"], held)?;
-        assert_eq!(rt; answered, status);
-        assert_eq!(rt; diag.taken(), line.as_bytes());
-    }
-    Ok(())
-}
-
 const REACH_0: &str = "group 0 user\ntouch 00000000100000 12\n";
 
 const REACH_1: &str = "group 1 user\ntouch 00000000100000 12\n";
@@ -250,101 +224,7 @@ fn migrates(rt: HostRuntime) -> Result<(), Fail> {
 }
 
 // Words that are in no row, or a number that is not as it is written.
-#[test]
-fn usage(rt: HostRuntime) -> Result<(), Fail> {
-    let rows: [&[&str]; 21] = [
-        &[],
-        &["migrate", "IMAGE"],
-        &["migrate", "IMAGE", "Split"],
-        &["grants", "IMAGE", "1,0"],
-        &["extract", "IMAGE"],
-        &["extract", "IMAGE", "64"],
-        &["run"],
-        &["run", "IMAGE"],
-        &["run", "IMAGE", "1", "2", "3"],
-        &["walk", "IMAGE", "1"],
-        &["run", "IMAGE", "1000001"],
-        &["run", "IMAGE", "01", "SCHEDULE"],
-        &["run", "IMAGE", "+1"],
-        &["run", "IMAGE", ""],
-        &["trace", "IMAGE"],
-        &["trace", "IMAGE", "1000001"],
-        &["solo", "IMAGE", "0", "5"],
-        &["solo", "IMAGE", "1,0", "5", "SCHEDULE"],
-        &["solo", "IMAGE", "64", "5", "SCHEDULE"],
-        &["solo", "IMAGE", "0,,1", "5", "SCHEDULE"],
-        &["solo", "IMAGE", "", "5", "SCHEDULE"],
-    ];
-    for words in rows {
-        let (status, out, diag) = answer(&rt, words, files(&rt, hello(&rt)?, "0", 4096)?)?;
-        assert_eq!(rt; status, Status::Usage);
-        assert_eq!(rt; out.taken().len(), 0);
-        assert_eq!(rt; diag.taken(), b"mmachine: usage\n".as_slice());
-    }
-    Ok(())
-}
-
 // Each file is read and parsed before the next, so a wrong image is refused whatever the schedule is.
-#[test]
-fn refused_files(rt: HostRuntime) -> Result<(), Fail> {
-    let mut cut = hello(&rt)?;
-    cut.pop();
-    let short = Refusal::Image {
-        file: 1,
-        fault: ImageFault::Short,
-        offset: 4389,
-    };
-    let long = vec![in rt.alloc(); 0; 33_554_433]?;
-    let rows: [(&str, &str, Vec<u8>, Status, &str); 5] = [
-        (
-            "IMAGE",
-            "SCHEDULE",
-            cut,
-            Status::Refused(short),
-            "mmachine: file 1 image fault 1 at 4389\n",
-        ),
-        (
-            "IMAGE",
-            "SCHEDULE",
-            long,
-            Status::Refused(Refusal::TooLong { file: 1 }),
-            "mmachine: file 1 too long\n",
-        ),
-        (
-            "IMAGE",
-            "SCHEDULE",
-            hello(&rt)?,
-            Status::Refused(Refusal::Schedule { file: 2, offset: 2 }),
-            "mmachine: file 2 schedule fault at 2\n",
-        ),
-        (
-            "absent",
-            "SCHEDULE",
-            hello(&rt)?,
-            Status::ReadFault,
-            "mmachine: read fault\n",
-        ),
-        (
-            "IMAGE",
-            "absent",
-            hello(&rt)?,
-            Status::ReadFault,
-            "mmachine: read fault\n",
-        ),
-    ];
-    for (image, schedule, bytes, status, line) in rows {
-        let held = files(&rt, bytes, "0 x", 65_536)?;
-        let (answered, out, diag) = answer(&rt, &["run", image, "5", schedule], held)?;
-        assert_eq!(rt; answered, status);
-        assert_eq!(rt; out.taken().len(), 0);
-        assert_eq!(rt; diag.taken(), line.as_bytes());
-    }
-    let held = files(&rt, hello(&rt)?, "", 1)?;
-    let (answered, _, _) = answer(&rt, &["run", "absent", "5"], held)?;
-    assert_eq!(rt; answered, Status::ReadFault);
-    Ok(())
-}
-
 // A sink whose third write fails has a front part of the text.
 #[test]
 fn failing_third_write(rt: HostRuntime) -> Result<(), Fail> {
@@ -374,22 +254,6 @@ fn memory_suffices(rt: HostRuntime) -> Result<(), Fail> {
             let (status, _, _) = answer(&rt, &words[..count], held)?;
             assert_eq!(rt; status, Status::Done);
         }
-    }
-    Ok(())
-}
-
-#[test]
-fn exit_statuses(rt: HostRuntime) -> Result<(), Fail> {
-    let statuses = [
-        Status::Done,
-        Status::Usage,
-        Status::Refused(Refusal::TooLong { file: 1 }),
-        Status::ReadFault,
-        Status::WriteFault,
-        Status::NoMemory,
-    ];
-    for (index, status) in statuses.into_iter().enumerate() {
-        assert_eq!(rt; code(status) as usize, index);
     }
     Ok(())
 }
