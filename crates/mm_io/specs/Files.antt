@@ -1,6 +1,7 @@
 -- What a read of a file or a source gives, and when a call may fail.
-use Rattle.std.specs.Prelude.{◌≡◌, ℕ, ◌+◌, ◌-◌, ◌^◌, ◌<◌, ◌≤◌, min, List, length, take, drop, ⊤, None, Some, Option}
+use Rattle.std.specs.Prelude.{◌≡◌, ℕ, ◌+◌, ◌-◌, ◌^◌, ◌<◌, ◌≤◌, min, List, length, take, drop, replicate, ⊤, None, Some, Option}
 use Rattle.std.specs.Io.KnownBytes.{prepend_known}
+use Rattle.mm_word.specs.Adding.{Adds}
 
 -- a count of 64 bits after one fault more: it stays at its last value once that is reached
 abbrev pub raised : ℕ → ℕ
@@ -31,3 +32,8 @@ IsLonger told limit = (bytes : List ℕ) × Holds told bytes × (limit < length 
 -- some bytes went from the front of what a source has left
 abbrev pub DrawnFrom : Option (List ℕ) → Option (List ℕ) → Type 0
 DrawnFrom old new = (front : List ℕ) × (old ≡ prepend_known front new)
+
+-- one name was asked for, so many times, and no other
+pub record AsksOnly {F : Type 0} (asked : F → List (List ℕ) → Type 0) (old new : F) (name : List ℕ) : Type 0 where
+  pub times : ℕ
+  pub asks : Adds asked old new (replicate times name)

@@ -1,5 +1,6 @@
 // Files in memory that fail where they are told to.
-ghost use Rattle.std.specs.Prelude.{◌≡◌, ◌↔◌, ℕ, ◌<◌, ◌≤◌, ◌^◌, length, map, IsErr, IfOk, OnOk, OnErr};
+ghost use Rattle.std.specs.Prelude.{◌≡◌, ◌↔◌, ℕ, ◌-◌, ◌<◌, ◌≤◌, ◌^◌, min, [], ◌∷◌, length, map, IsErr, IfOk, OnOk, OnErr};
+ghost use Rattle.mm_word.specs.Adding.{Adds};
 ghost use Rattle.mm_io.specs.Files.{Rose, ReadsAt, raised};
 ghost use Rattle.mm_io.specs.Memory.{MemoryFiles, RefusesRead, file_in, moved, named};
 
@@ -60,6 +61,9 @@ impl Files for MemFiles {
     ghost held = { λ s name. file_in s.files name };
 
     ghost faults = { λ s _. s.faults };
+
+    // they count the calls
+    ghost asked = { λ s names. s.calls ≡ min (length names) (2 ^ 64 - 1) };
 
     fn read_at(&mut self, name: &str, offset: u64, buf: &mut [u8]) -> Result<usize, Failed>
         requires { offset < 2 ^ 32 }

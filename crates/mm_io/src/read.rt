@@ -2,7 +2,7 @@
 ghost use Rattle.std.specs.Prelude.{◌≡◌, ◌^◌, ◌<◌, ◌≤◌, length, IfOk, OnOk, IsErrOf};
 ghost use Rattle.std.specs.Io.KnownBytes.{IsAtEnd};
 ghost use Rattle.mm_io.specs.declared.read.ReadError.TheVariants.{ReadFault, NoMemory};
-ghost use Rattle.mm_io.specs.Files.{Rose, NoneFell, Holds, IsLonger, DrawnFrom};
+ghost use Rattle.mm_io.specs.Files.{Rose, NoneFell, Holds, IsLonger, DrawnFrom, AsksOnly};
 
 use crate::{Failed, Files, Source};
 use std::alloc::{AllocError, Global};
@@ -45,6 +45,7 @@ const PIECE: usize = 65_536;
 ///
 /// `TooLong` comes where `limit + 1` bytes were read, `ReadFault` where a read failed, and
 /// `NoMemory` where memory ran out.
+#[tactic(auto, using(crate::proofs::Asking::asks_nothing))]
 pub fn read_all<F: Files>(
     alloc: Global,
     files: &mut F,
@@ -58,12 +59,14 @@ pub fn read_all<F: Files>(
     ensures fault { IsErrOf result ReadError.ReadFault → Rose (F.faults files.old name.now) (F.faults files.new name.now) }
     ensures kept { F.held files.new ≡ F.held files.old }
     ensures later { NoneFell (F.faults files.old) (F.faults files.new) }
+    ensures asks { AsksOnly F.asked files.old files.new name.now }
 {
     let mut buffer = vec![in alloc; 0u8; PIECE]?;
     read_pieces(alloc, files, name, limit, &mut buffer)
 }
 
 // `read_all` through a buffer.
+#[tactic(auto, using(crate::proofs::Asking::asks_nothing, crate::proofs::Asking::asks_again))]
 fn read_pieces<F: Files>(
     alloc: Global,
     files: &mut F,
@@ -79,6 +82,7 @@ fn read_pieces<F: Files>(
     ensures fault { IsErrOf result ReadError.ReadFault → Rose (F.faults files.old name.now) (F.faults files.new name.now) }
     ensures kept { F.held files.new ≡ F.held files.old }
     ensures later { NoneFell (F.faults files.old) (F.faults files.new) }
+    ensures asks { AsksOnly F.asked files.old files.new name.now }
 {
     let mut bytes = Vec::new(alloc);
     loop {

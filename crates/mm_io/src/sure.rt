@@ -1,5 +1,5 @@
 // Files and sources in memory that never fail.
-ghost use Rattle.std.specs.Prelude.{◌≡◌, ℕ, ◌≤◌, List, Some, length, drop, map};
+ghost use Rattle.std.specs.Prelude.{◌≡◌, ℕ, ◌≤◌, List, Some, length, drop, map, ⊤};
 ghost use Rattle.mm_io.specs.Memory.{file_of, named};
 
 use crate::named::find;
@@ -32,6 +32,9 @@ impl Files for SureFiles {
     ghost held = { λ s name. Some (file_of s name) };
 
     ghost faults = { λ _ _. 0 };
+
+    // they keep nothing of the names
+    ghost asked = { λ _ _. ⊤ };
 
     fn read_at(&mut self, name: &str, offset: u64, buf: &mut [u8]) -> Result<usize, Failed> {
         let bytes = find(&self.files, name).unwrap_or(&[]);

@@ -1,6 +1,6 @@
 // Real files and streams. What they hold, have left and take is not told, so that of them only the
 // counts of faults are known. They are the trusted edge: what the system does is not proved.
-ghost use Rattle.std.specs.Prelude.{◌≡◌, ℕ, ◌<◌, ◌≤◌, None, length, IfOk, OnOk, OnErr};
+ghost use Rattle.std.specs.Prelude.{◌≡◌, ℕ, ◌<◌, ◌≤◌, None, length, IfOk, OnOk, OnErr, ⊤};
 ghost use Rattle.mm_io.specs.Files.{Rose, raised};
 
 use crate::{Failed, Files, Sink, Source};
@@ -43,6 +43,9 @@ impl<R: rt::Files + Drop> Files for StdFiles<R> {
     ghost held = { λ _ _. None };
 
     ghost faults = { λ s _. s };
+
+    // they keep nothing of the names
+    ghost asked = { λ _ _. ⊤ };
 
     fn read_at(&mut self, name: &str, offset: u64, buf: &mut [u8]) -> Result<usize, Failed>
         ensures bound { IfOk result (λ n. n ≤ length buf.new) }

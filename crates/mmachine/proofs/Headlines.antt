@@ -9,16 +9,16 @@ use Rattle.mm_laws.specs.Runs.{Isolates}
 use Rattle.mm_laws.proofs.WholeRuns.{runs_reach, runs_isolate}
 use Rattle.mmachine.specs.declared.status.Status.{Status}
 use Rattle.mmachine.specs.declared.status.Status.TheVariants.{Done}
-use Rattle.mmachine.specs.Kinds.{an_image, a_list}
+use Rattle.mmachine.specs.Kinds.{an_image}
 use Rattle.mmachine.specs.Table.{Row, run, trace, Asks}
 use Rattle.mmachine.specs.Answers.{Answers, Call, Gives, write}
 use Rattle.mmachine.specs.Headline.{RunIsProved, TraceIsProved}
 use Rattle.mmachine.proofs.Verdicts.{done}
 use Rattle.mmachine.proofs.OneRow.{one_row}
 
-run_proved : (tells : List Use → Option Counts) (held : List ℕ → Option (List ℕ)) (image : List ℕ) (cycles : ℕ) (schedule : Option (List ℕ)) (text : List ℕ)
-    → Gives tells held (run image cycles schedule) (write text) → RunIsProved tells held image cycles schedule text
-run_proved tells held image cycles schedule text (an_image i ∷ lists, accepted, (items, issues, is)) = record {
+run_proved : (tells : List Use → Option Counts) (held : List ℕ → Option (List ℕ)) (left : Option (List ℕ)) (image : List ℕ) (cycles : ℕ) (schedule : Option (List ℕ)) (text : List ℕ)
+    → Gives tells held left (run image cycles schedule) (write text) → RunIsProved tells held image cycles schedule text
+run_proved tells held left image cycles schedule text (an_image i ∷ lists, accepted, (items, issues, is)) = record {
   i = i;
   lists = lists;
   items = items;
@@ -31,12 +31,12 @@ run_proved tells held image cycles schedule text (an_image i ∷ lists, accepted
       let P : List ℕ → Type 0 = λ written. Isolates i items written c in
       subst P (sym is) (runs_isolate i items (tells (machine.uses (model.start i) items)) c accepted.0.means.image has apart);
 }
-run_proved tells held image cycles schedule text ([], accepted, writes) = absurd writes
-run_proved tells held image cycles schedule text (a_list list ∷ lists, accepted, writes) = absurd writes
+run_proved tells held left image cycles schedule text ([], accepted, writes) = absurd writes
+run_proved tells held left image cycles schedule text (v ∷ lists, accepted, writes) = absurd (assumption (accepted, writes))
 
-trace_proved : (tells : List Use → Option Counts) (held : List ℕ → Option (List ℕ)) (image : List ℕ) (cycles : ℕ) (schedule : Option (List ℕ)) (text : List ℕ)
-    → Gives tells held (trace image cycles schedule) (write text) → TraceIsProved tells held image cycles schedule text
-trace_proved tells held image cycles schedule text (an_image i ∷ lists, accepted, (items, issues, is)) = record {
+trace_proved : (tells : List Use → Option Counts) (held : List ℕ → Option (List ℕ)) (left : Option (List ℕ)) (image : List ℕ) (cycles : ℕ) (schedule : Option (List ℕ)) (text : List ℕ)
+    → Gives tells held left (trace image cycles schedule) (write text) → TraceIsProved tells held image cycles schedule text
+trace_proved tells held left image cycles schedule text (an_image i ∷ lists, accepted, (items, issues, is)) = record {
   i = i;
   lists = lists;
   items = items;
@@ -45,26 +45,26 @@ trace_proved tells held image cycles schedule text (an_image i ∷ lists, accept
   writes = is;
   reaches = runs_reach i items accepted.0.means.image;
 }
-trace_proved tells held image cycles schedule text ([], accepted, writes) = absurd writes
-trace_proved tells held image cycles schedule text (a_list list ∷ lists, accepted, writes) = absurd writes
+trace_proved tells held left image cycles schedule text ([], accepted, writes) = absurd writes
+trace_proved tells held left image cycles schedule text (v ∷ lists, accepted, writes) = absurd (assumption (accepted, writes))
 
 -- the text that is written is what the row of the words comes to
 written : {c : Call} {words : List (List ℕ)} {status : Status} → Answers c words status → status ≡ Done → (row : Row) → Asks words row
-    → (text : List ℕ) × Gives c.tells c.files.held row (write text) × (c.out.taken ≡ append_known c.out.taken_before text)
+    → (text : List ℕ) × Gives c.tells c.files.held c.input.left row (write text) × (c.out.taken ≡ append_known c.out.taken_before text)
 written {c = c} {words = words} answers same row asks =
-    let (text, (other, in_row, gives), took) = done answers same in
-    (text, subst (λ (r : Row). Gives c.tells c.files.held r (write text)) (one_row words other row in_row asks) gives, took)
+    let (text, comes, took) = done answers same in
+    (text, subst (λ (r : Row). Gives c.tells c.files.held c.input.left r (write text)) (one_row words comes.row row comes.asks asks) comes.gives, took)
 
 pub run_headline : {c : Call} {words : List (List ℕ)} {status : Status} → Answers c words status → status ≡ Done → (image : List ℕ) (cycles : ℕ) (schedule : Option (List ℕ))
     → Asks words (run image cycles schedule)
     → (text : List ℕ) × RunIsProved c.tells c.files.held image cycles schedule text × (c.out.taken ≡ append_known c.out.taken_before text)
 run_headline {c = c} answers same image cycles schedule asks =
     let (text, gives, took) = written answers same (run image cycles schedule) asks in
-    (text, run_proved c.tells c.files.held image cycles schedule text gives, took)
+    (text, run_proved c.tells c.files.held c.input.left image cycles schedule text gives, took)
 
 pub trace_headline : {c : Call} {words : List (List ℕ)} {status : Status} → Answers c words status → status ≡ Done → (image : List ℕ) (cycles : ℕ) (schedule : Option (List ℕ))
     → Asks words (trace image cycles schedule)
     → (text : List ℕ) × TraceIsProved c.tells c.files.held image cycles schedule text × (c.out.taken ≡ append_known c.out.taken_before text)
 trace_headline {c = c} answers same image cycles schedule asks =
     let (text, gives, took) = written answers same (trace image cycles schedule) asks in
-    (text, trace_proved c.tells c.files.held image cycles schedule text gives, took)
+    (text, trace_proved c.tells c.files.held c.input.left image cycles schedule text gives, took)

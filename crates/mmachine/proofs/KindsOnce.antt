@@ -10,7 +10,7 @@ use Rattle.mm_model.proofs.ImageBytes.SpelledImage.{spelled_clean, image_same}
 use Rattle.mm_sched.proofs.Texts.{never_both, fault_unique, means_unique}
 use Rattle.mmachine.specs.declared.status.Refusal.{Refusal}
 use Rattle.mmachine.specs.declared.status.Refusal.TheVariants as refusal
-use Rattle.mmachine.specs.Kinds.{Kind, image_file, schedule_file, Value, an_image, a_list, Accepts, Faults}
+use Rattle.mmachine.specs.Kinds.{Kind, image_file, schedule_file, text_input, Value, an_image, a_list, a_text, Accepts, Faults}
 
 -- 1. Images.
 
@@ -62,20 +62,18 @@ one_spelled bytes i j one other = sym (image_same bytes i one.image one.spelled)
 
 pub one_value : (kind : Kind) (before : List Value) (bytes : List ℕ) (v w : Value) → Accepts kind before bytes v → Accepts kind before bytes w → v ≡ w
 one_value image_file before bytes (an_image i) (an_image j) one two = ap (λ (x : Image). an_image x) (one_spelled bytes i j one two)
-one_value image_file before bytes (an_image i) (a_list ys) one two = absurd two
-one_value image_file before bytes (a_list xs) w one two = absurd one
 one_value schedule_file before bytes (a_list xs) (a_list ys) one two = ap (λ (x : List ℕ). a_list x) (means_unique bytes xs ys one two)
-one_value schedule_file before bytes (a_list xs) (an_image j) one two = absurd two
-one_value schedule_file before bytes (an_image i) w one two = absurd one
+one_value text_input before bytes (a_text s) (a_text t) one two = ap (λ (x : List ℕ). a_text x) (one ∙ sym two)
+one_value kind before bytes v w one two = absurd (assumption (one, two))
 
 pub one_fault : (kind : Kind) (before : List Value) (number : ℕ) (bytes : List ℕ) (r q : Refusal) → Faults kind before number bytes r → Faults kind before number bytes q → r ≡ q
 one_fault image_file before number bytes r q (kind, offset, is, fault) (other, place, also, second) =
     is ∙ one_image_fault bytes number kind other offset place fault second ∙ sym also
 one_fault schedule_file before number bytes r q (offset, is, fault) (place, also, second) =
     is ∙ ap (λ (n : ℕ). refusal.Schedule number n) (fault_unique bytes offset place fault second) ∙ sym also
+one_fault text_input before number bytes r q one two = absurd one
 
 pub value_or_fault : (kind : Kind) (before : List Value) (number : ℕ) (bytes : List ℕ) (r : Refusal) (v : Value) → Faults kind before number bytes r → Accepts kind before bytes v → ⊥
 value_or_fault image_file before number bytes r (an_image i) (kind, offset, is, fault) means = let none : image_fault bytes ≡ None = no_fault bytes i means in cc
-value_or_fault image_file before number bytes r (a_list xs) fault means = means
 value_or_fault schedule_file before number bytes r (a_list xs) (offset, is, fault) means = never_both bytes xs offset means fault
-value_or_fault schedule_file before number bytes r (an_image i) fault means = means
+value_or_fault kind before number bytes r v fault means = assumption (fault, means)

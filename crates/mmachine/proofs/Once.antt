@@ -1,4 +1,4 @@
--- Words whose files are told come to one thing: a text, or one refusal.
+-- Words whose inputs are told come to one thing: a text, or one refusal.
 use Rattle.std.proofs.Common.{◌≡◌, ℕ, ◌⊎◌, inl, inr, Bool, List, [], ◌∷◌, true, false, Option, Result, Ok, Err, refl, sym, ap, ◌∙◌, subst, arith}
 use Rattle.mm_model.specs.declared.counts.Counts.{Counts}
 use Rattle.mm_model.specs.Uses.{Use}
@@ -13,12 +13,12 @@ use Rattle.mmachine.specs.declared.status.Stop.{Stop}
 use Rattle.mmachine.specs.declared.status.Stop.TheVariants as stop
 use Rattle.mmachine.specs.Groups.{GroupsRefused}
 use Rattle.mmachine.specs.Kinds.{Value, an_image, a_list}
-use Rattle.mmachine.specs.Files.{FilesTold}
-use Rattle.mmachine.specs.Table.{Row, solo, extract, files_of}
-use Rattle.mmachine.specs.Commands.{Declines, Writes}
-use Rattle.mmachine.specs.Answers.{Answers, Call, Gives, HasToRefuse, NothingFails, RefusedUnless, RowAnswers, refuse, write, status_of}
+use Rattle.mmachine.specs.Files.{InputsTold}
+use Rattle.mmachine.specs.Table.{Row, solo, extract, files_of, input_of}
+use Rattle.mmachine.specs.Commands.{Declines, Yields}
+use Rattle.mmachine.specs.Answers.{Answers, Call, Gives, HasToRefuse, NothingFails, RefusedUnless, RowEnds, refuse, write, status_of}
 use Rattle.mmachine.proofs.OneRow.{one_row}
-use Rattle.mmachine.proofs.Told.{files_values, files_refusal, files_once}
+use Rattle.mmachine.proofs.Told.{inputs_values, inputs_refusal, inputs_once}
 
 -- 1. Groups stand alone, or have one refusal.
 
@@ -44,9 +44,9 @@ groups_refusal i c refusal.NoGroup q first second = absurd second
 groups_refusal i c (refusal.Crosses n) q first second = absurd second
 groups_refusal i c r q first second = absurd first
 
--- 2. So does a row whose files have some values.
+-- 2. So does a row whose inputs have some values.
 
-not_both : (tells : List Use → Option Counts) (row : Row) (values : List Value) (r : Refusal) (text : List ℕ) → Declines row values r → Writes tells row values text → ⊥
+not_both : (tells : List Use → Option Counts) (row : Row) (values : List Value) (r : Refusal) (text : List ℕ) → Declines row values r → Yields tells row values text → ⊥
 not_both tells (solo image groups cycles schedule) (an_image i ∷ a_list list ∷ []) r text declines writes = not_refused i (among groups) r writes.0 declines
 not_both tells (extract image groups) (an_image i ∷ []) r text declines writes = not_refused i (among groups) r writes.0 declines
 not_both tells row values r text declines writes = assumption (declines, writes)
@@ -56,52 +56,53 @@ one_refusal (solo image groups cycles schedule) (an_image i ∷ lists) r q one t
 one_refusal (extract image groups) (an_image i ∷ []) r q one two = groups_refusal i (among groups) r q one two
 one_refusal row values r q one two = absurd one
 
-module _ (tells : List Use → Option Counts) (held : List ℕ → Option (List ℕ)) (row : Row) (told : FilesTold held (files_of row)) where
-  row_once : (r : Refusal) (text : List ℕ) → Gives tells held row (refuse r) → Gives tells held row (write text) → ⊥
-  row_once r text (inl refused) (values, accepted, writes) = files_once held [] (files_of row) r values told refused accepted
+module _ (tells : List Use → Option Counts) (held : List ℕ → Option (List ℕ)) (left : Option (List ℕ)) (row : Row) (told : InputsTold held left (files_of row) (input_of row)) where
+  row_once : (r : Refusal) (text : List ℕ) → Gives tells held left row (refuse r) → Gives tells held left row (write text) → ⊥
+  row_once r text (inl refused) (values, accepted, writes) = inputs_once held left (files_of row) (input_of row) r values told refused accepted
   row_once r text (inr (values, accepted, declines)) (others, also, writes) =
-      let same : others ≡ values = files_values held [] (files_of row) others values told also accepted in
-      not_both tells row values r text declines (subst (λ (vs : List Value). Writes tells row vs text) same writes)
+      let same : others ≡ values = inputs_values held left (files_of row) (input_of row) others values told also accepted in
+      not_both tells row values r text declines (subst (λ (vs : List Value). Yields tells row vs text) same writes)
 
-  row_refusal : (r q : Refusal) → Gives tells held row (refuse r) → Gives tells held row (refuse q) → r ≡ q
-  row_refusal r q (inl one) (inl two) = files_refusal held [] (files_of row) r q told one two
-  row_refusal r q (inl one) (inr (values, accepted, declines)) = absurd (files_once held [] (files_of row) r values told one accepted)
-  row_refusal r q (inr (values, accepted, declines)) (inl two) = absurd (files_once held [] (files_of row) q values told two accepted)
+  row_refusal : (r q : Refusal) → Gives tells held left row (refuse r) → Gives tells held left row (refuse q) → r ≡ q
+  row_refusal r q (inl one) (inl two) = inputs_refusal held left (files_of row) (input_of row) r q told one two
+  row_refusal r q (inl one) (inr (values, accepted, declines)) = absurd (inputs_once held left (files_of row) (input_of row) r values told one accepted)
+  row_refusal r q (inr (values, accepted, declines)) (inl two) = absurd (inputs_once held left (files_of row) (input_of row) q values told two accepted)
   row_refusal r q (inr (values, accepted, one)) (inr (others, also, two)) =
-      let same : others ≡ values = files_values held [] (files_of row) others values told also accepted in
+      let same : others ≡ values = inputs_values held left (files_of row) (input_of row) others values told also accepted in
       one_refusal row values r q one (subst (λ (vs : List Value). Declines row vs q) same two)
 
 -- 3. So what it comes to is answered.
 
-fine : (c : Call) (words : List (List ℕ)) (nothing : NothingFails c words) (result : Result (Unit {0}) Stop) → RowAnswers c nothing.row result
+fine : (c : Call) (words : List (List ℕ)) (nothing : NothingFails c words) (result : Result (Unit {0}) Stop) → RowEnds c nothing.row result
     → (status_of result ≡ Done) ⊎ (status_of result ≡ NoMemory)
-fine c words nothing (Ok done) says = inl refl
-fine c words nothing (Err stop.NoMemory) says = inr refl
-fine c words nothing (Err (stop.Refused r)) says = absurd (row_once c.tells c.files.held nothing.row nothing.told r nothing.text says.ends.0 nothing.gives)
-fine c words nothing (Err stop.ReadFault) says = absurd (nothing.read says.ends.0)
-fine c words nothing (Err stop.WriteFault) says = absurd (nothing.written says.ends.3)
+fine c words nothing (Ok done) ends = inl refl
+fine c words nothing (Err stop.NoMemory) ends = inr refl
+fine c words nothing (Err (stop.Refused r)) ends =
+    absurd (row_once c.tells c.files.held c.input.left nothing.row nothing.told r nothing.text ends.0 nothing.gives)
+fine c words nothing (Err stop.ReadFault) ends = absurd (nothing.read ends.0)
+fine c words nothing (Err stop.WriteFault) ends = absurd (nothing.written ends.3)
 
 pub complete : {c : Call} {words : List (List ℕ)} {status : Status} → Answers c words status → NothingFails c words → (status ≡ Done) ⊎ (status ≡ NoMemory)
 complete {c = c} {words = words} answers nothing = elim answers.cases [
   | inl none ↦ absurd (none.0 nothing.row nothing.asks)
-  | inr (row, result, asks, says, is) ↦
-      let same : row ≡ nothing.row = one_row words row nothing.row asks nothing.asks in
+  | inr says ↦
+      let same : says.row ≡ nothing.row = one_row words says.row nothing.row says.asks nothing.asks in
       let P : Status → Type 0 = λ s. (s ≡ Done) ⊎ (s ≡ NoMemory) in
-      subst P (sym is) (fine c words nothing result (subst (λ (x : Row). RowAnswers c x result) same says))
+      subst P (sym says.answers) (fine c words nothing says.result (subst (λ (x : Row). RowEnds c x says.result) same says.ends))
 ]
 
-answered : (c : Call) (row : Row) (r : Refusal) → FilesTold c.files.held (files_of row) → Gives c.tells c.files.held row (refuse r) → (result : Result (Unit {0}) Stop)
-    → RowAnswers c row result → RefusedUnless r (status_of result)
-answered c row r told gives (Ok done) says = absurd (row_once c.tells c.files.held row told r says.ends.0 gives says.ends.1)
-answered c row r told gives (Err (stop.Refused q)) says = row_refusal c.tells c.files.held row told q r says.ends.0 gives
-answered c row r told gives (Err stop.ReadFault) says = tt
-answered c row r told gives (Err stop.WriteFault) says = absurd (row_once c.tells c.files.held row told r says.ends.0 gives says.ends.1)
-answered c row r told gives (Err stop.NoMemory) says = tt
+answered : (c : Call) (row : Row) (r : Refusal) → InputsTold c.files.held c.input.left (files_of row) (input_of row) → Gives c.tells c.files.held c.input.left row (refuse r)
+    → (result : Result (Unit {0}) Stop) → RowEnds c row result → RefusedUnless r (status_of result)
+answered c row r told gives (Ok done) ends = absurd (row_once c.tells c.files.held c.input.left row told r ends.0 gives ends.1)
+answered c row r told gives (Err (stop.Refused q)) ends = row_refusal c.tells c.files.held c.input.left row told q r ends.0 gives
+answered c row r told gives (Err stop.ReadFault) ends = tt
+answered c row r told gives (Err stop.WriteFault) ends = absurd (row_once c.tells c.files.held c.input.left row told r ends.0 gives ends.1)
+answered c row r told gives (Err stop.NoMemory) ends = tt
 
-pub refuses : {c : Call} {words : List (List ℕ)} {status : Status} → Answers c words status → (r : Refusal) → HasToRefuse c.tells c.files.held words r → RefusedUnless r status
+pub refuses : {c : Call} {words : List (List ℕ)} {status : Status} → Answers c words status → (r : Refusal) → HasToRefuse c.tells c.files.held c.input.left words r → RefusedUnless r status
 refuses {c = c} {words = words} answers r has = elim answers.cases [
   | inl none ↦ absurd (none.0 has.row has.asks)
-  | inr (row, result, asks, says, is) ↦
-      let same : row ≡ has.row = one_row words row has.row asks has.asks in
-      subst (RefusedUnless r) (sym is) (answered c has.row r has.told has.gives result (subst (λ (x : Row). RowAnswers c x result) same says))
+  | inr says ↦
+      let same : says.row ≡ has.row = one_row words says.row has.row says.asks has.asks in
+      subst (RefusedUnless r) (sym says.answers) (answered c has.row r has.told has.gives says.result (subst (λ (x : Row). RowEnds c x says.result) same says.ends))
 ]

@@ -1,13 +1,13 @@
--- Files that are told are read in one way: their values, or one refusal.
+-- Inputs that are told are read in one way: their values, or one refusal.
 use Rattle.std.proofs.Common.{◌≡◌, ℕ, ◌+◌, inl, inr, List, [], ◌∷◌, ◌++◌, length, Option, None, Some, true, false, refl, sym, ap, ◌∙◌, subst, arith}
 use Rattle.std.specs.Option.{IsSome}
 use Rattle.mm_io.specs.Files.{Holds}
 use Rattle.mmachine.specs.declared.status.Refusal.{Refusal}
 use Rattle.mmachine.specs.Kinds.{Kind, Value, Accepts, Faults}
-use Rattle.mmachine.specs.Files.{Accepted, FileRefused, FilesAccepted, FilesRefused, FilesTold}
+use Rattle.mmachine.specs.Files.{Accepted, InputRefused, FilesAccepted, FilesRefused, FilesTold, InputsAccepted, InputsRefused, InputsTold}
 use Rattle.mmachine.proofs.KindsOnce.{one_value, one_fault, value_or_fault}
 
--- 1. One file.
+-- 1. One input.
 
 told_bytes : (told : Option (List ℕ)) (a b : List ℕ) → IsSome told → Holds told a → Holds told b → a ≡ b
 told_bytes None a b told one two = let clash : false ≡ true = told in absurd (cc)
@@ -19,30 +19,30 @@ module _ (kind : Kind) (before : List Value) (told : Option (List ℕ)) (is_told
       let same : two.bytes ≡ one.bytes = told_bytes told two.bytes one.bytes is_told two.holds one.holds in
       one_value kind before one.bytes v w one.means (subst (λ (bytes : List ℕ). Accepts kind before bytes w) same two.means)
 
-  file_refusal : (r q : Refusal) → FileRefused kind before told r → FileRefused kind before told q → r ≡ q
-  file_refusal r q (inl (is, long)) (inl (also, longer)) = is ∙ sym also
-  file_refusal r q (inl (is, (long, holds, more))) (inr faulty) =
+  file_refusal : (number : ℕ) (r q : Refusal) → InputRefused kind before number told r → InputRefused kind before number told q → r ≡ q
+  file_refusal number r q (inl (is, long)) (inl (also, longer)) = is ∙ sym also
+  file_refusal number r q (inl (is, (long, holds, more))) (inr faulty) =
       let same : long ≡ faulty.bytes = told_bytes told long faulty.bytes is_told holds faulty.holds in
       absurd (omega (arith, faulty.short, ap length same))
-  file_refusal r q (inr faulty) (inl (is, (long, holds, more))) =
+  file_refusal number r q (inr faulty) (inl (is, (long, holds, more))) =
       let same : long ≡ faulty.bytes = told_bytes told long faulty.bytes is_told holds faulty.holds in
       absurd (omega (arith, faulty.short, ap length same))
-  file_refusal r q (inr one) (inr two) =
+  file_refusal number r q (inr one) (inr two) =
       let same : two.bytes ≡ one.bytes = told_bytes told two.bytes one.bytes is_told two.holds one.holds in
-      one_fault kind before (length before + 1) one.bytes r q one.fault (subst (λ (bytes : List ℕ). Faults kind before (length before + 1) bytes q) same two.fault)
+      one_fault kind before number one.bytes r q one.fault (subst (λ (bytes : List ℕ). Faults kind before number bytes q) same two.fault)
 
-  file_once : (r : Refusal) (v : Value) → FileRefused kind before told r → Accepted kind before told v → ⊥
-  file_once r v (inl (is, (long, holds, more))) accepted =
+  file_once : (number : ℕ) (r : Refusal) (v : Value) → InputRefused kind before number told r → Accepted kind before told v → ⊥
+  file_once number r v (inl (is, (long, holds, more))) accepted =
       let same : long ≡ accepted.bytes = told_bytes told long accepted.bytes is_told holds accepted.holds in
       omega (arith, accepted.short, ap length same)
-  file_once r v (inr faulty) accepted =
+  file_once number r v (inr faulty) accepted =
       let same : faulty.bytes ≡ accepted.bytes = told_bytes told faulty.bytes accepted.bytes is_told faulty.holds accepted.holds in
-      value_or_fault kind before (length before + 1) accepted.bytes r v (subst (λ (bytes : List ℕ). Faults kind before (length before + 1) bytes r) same faulty.fault) accepted.means
+      value_or_fault kind before number accepted.bytes r v (subst (λ (bytes : List ℕ). Faults kind before number bytes r) same faulty.fault) accepted.means
 
 -- 2. Files one after the other.
 
 module _ (held : List ℕ → Option (List ℕ)) where
-  pub files_values : (before : List Value) (files : List (List ℕ × Kind)) (vs ws : List Value) → FilesTold held files
+  files_values : (before : List Value) (files : List (List ℕ × Kind)) (vs ws : List Value) → FilesTold held files
       → FilesAccepted held before files vs → FilesAccepted held before files ws → vs ≡ ws
   files_values before [] [] [] told one two = refl
   files_values before [] [] (w ∷ ws) told one two = absurd two
@@ -55,21 +55,50 @@ module _ (held : List ℕ → Option (List ℕ)) where
       (subst (λ (x : Value). FilesAccepted held (before ++ x ∷ []) files ws) same others) in
       cc
 
-  pub files_refusal : (before : List Value) (files : List (List ℕ × Kind)) (r q : Refusal) → FilesTold held files
+  files_refusal : (before : List Value) (files : List (List ℕ × Kind)) (r q : Refusal) → FilesTold held files
       → FilesRefused held before files r → FilesRefused held before files q → r ≡ q
   files_refusal before [] r q told one two = absurd one
-  files_refusal before (file ∷ files) r q told (inl one) (inl two) = file_refusal file.1 before (held file.0) told.0 r q one two
-  files_refusal before (file ∷ files) r q told (inl one) (inr (v, accepted, two)) = absurd (file_once file.1 before (held file.0) told.0 r v one accepted)
-  files_refusal before (file ∷ files) r q told (inr (v, accepted, one)) (inl two) = absurd (file_once file.1 before (held file.0) told.0 q v two accepted)
+  files_refusal before (file ∷ files) r q told (inl one) (inl two) = file_refusal file.1 before (held file.0) told.0 (length before + 1) r q one two
+  files_refusal before (file ∷ files) r q told (inl one) (inr (v, accepted, two)) = absurd (file_once file.1 before (held file.0) told.0 (length before + 1) r v one accepted)
+  files_refusal before (file ∷ files) r q told (inr (v, accepted, one)) (inl two) = absurd (file_once file.1 before (held file.0) told.0 (length before + 1) q v two accepted)
   files_refusal before (file ∷ files) r q told (inr (v, accepted, one)) (inr (w, also, two)) =
       let same : w ≡ v = file_value file.1 before (held file.0) told.0 w v also accepted in
       files_refusal (before ++ v ∷ []) files r q told.1 one (subst (λ (x : Value). FilesRefused held (before ++ x ∷ []) files q) same two)
 
-  pub files_once : (before : List Value) (files : List (List ℕ × Kind)) (r : Refusal) (vs : List Value) → FilesTold held files
+  files_once : (before : List Value) (files : List (List ℕ × Kind)) (r : Refusal) (vs : List Value) → FilesTold held files
       → FilesRefused held before files r → FilesAccepted held before files vs → ⊥
   files_once before [] r vs told refused accepted = refused
   files_once before (file ∷ files) r [] told refused accepted = accepted
-  files_once before (file ∷ files) r (v ∷ vs) told (inl refused) (here, rest) = file_once file.1 before (held file.0) told.0 r v refused here
+  files_once before (file ∷ files) r (v ∷ vs) told (inl refused) (here, rest) = file_once file.1 before (held file.0) told.0 (length before + 1) r v refused here
   files_once before (file ∷ files) r (v ∷ vs) told (inr (w, also, refused)) (here, rest) =
       let same : w ≡ v = file_value file.1 before (held file.0) told.0 w v also here in
       files_once (before ++ v ∷ []) files r vs told.1 (subst (λ (x : Value). FilesRefused held (before ++ x ∷ []) files r) same refused) rest
+
+-- 3. Standard input behind them.
+
+module _ (held : List ℕ → Option (List ℕ)) (left : Option (List ℕ)) (files : List (List ℕ × Kind)) where
+  pub inputs_values : (kind : Option Kind) (vs ws : List Value) → InputsTold held left files kind → InputsAccepted held left files kind vs
+      → InputsAccepted held left files kind ws → vs ≡ ws
+  inputs_values None vs ws told one two = files_values held [] files vs ws told one two
+  inputs_values (Some kind) vs ws told (before, v, is, front, here) (others, w, also, others_front, there) =
+      let same : others ≡ before = files_values held [] files others before told.0 others_front front in
+      let last : v ≡ w = file_value kind before left told.1 v w here (subst (λ (vs : List Value). Accepted kind vs left w) same there) in
+      is ∙ ap (λ (x : Value). before ++ x ∷ []) last ∙ ap (λ (vs : List Value). vs ++ w ∷ []) (sym same) ∙ sym also
+
+  pub inputs_refusal : (kind : Option Kind) (r q : Refusal) → InputsTold held left files kind → InputsRefused held left files kind r
+      → InputsRefused held left files kind q → r ≡ q
+  inputs_refusal None r q told one two = files_refusal held [] files r q told one two
+  inputs_refusal (Some kind) r q told (inl one) (inl two) = files_refusal held [] files r q told.0 one two
+  inputs_refusal (Some kind) r q told (inl one) (inr (before, front, two)) = absurd (files_once held [] files r before told.0 one front)
+  inputs_refusal (Some kind) r q told (inr (before, front, one)) (inl two) = absurd (files_once held [] files q before told.0 two front)
+  inputs_refusal (Some kind) r q told (inr (before, front, one)) (inr (others, others_front, two)) =
+      let same : others ≡ before = files_values held [] files others before told.0 others_front front in
+      file_refusal kind before left told.1 0 r q one (subst (λ (vs : List Value). InputRefused kind vs 0 left q) same two)
+
+  pub inputs_once : (kind : Option Kind) (r : Refusal) (vs : List Value) → InputsTold held left files kind → InputsRefused held left files kind r
+      → InputsAccepted held left files kind vs → ⊥
+  inputs_once None r vs told refused accepted = files_once held [] files r vs told refused accepted
+  inputs_once (Some kind) r vs told (inl refused) (before, v, is, front, here) = files_once held [] files r before told.0 refused front
+  inputs_once (Some kind) r vs told (inr (others, others_front, refused)) (before, v, is, front, here) =
+      let same : others ≡ before = files_values held [] files others before told.0 others_front front in
+      file_once kind before left told.1 0 r v (subst (λ (vs : List Value). InputRefused kind vs 0 left r) same refused) here

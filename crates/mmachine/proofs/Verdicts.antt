@@ -1,5 +1,5 @@
 -- What the clauses of the top call say, from what the answer to the words says.
-use Rattle.std.proofs.Common.{◌≡◌, ◌↔◌, ℕ, List, Option, Result, Ok, Err, inl, inr, refl, sym, ap, ◌∙◌, subst}
+use Rattle.std.proofs.Common.{◌≡◌, ◌↔◌, ℕ, List, [], Option, Result, Ok, Err, inl, inr, refl, sym, ap, ◌∙◌, subst}
 use Rattle.std.specs.Io.KnownBytes.{append_known}
 use Rattle.mm_io.specs.Files.{Rose}
 use Rattle.mm_io.specs.Sinks.{TookPart, Writes}
@@ -9,8 +9,10 @@ use Rattle.mmachine.specs.declared.status.Status.{Status}
 use Rattle.mmachine.specs.declared.status.Status.TheVariants.{Done, Usage, Refused, ReadFault, WriteFault, NoMemory}
 use Rattle.mmachine.specs.declared.status.Stop.{Stop}
 use Rattle.mmachine.specs.declared.status.Stop.TheVariants as stop
-use Rattle.mmachine.specs.Table.{Row, Asks, InNoRow}
-use Rattle.mmachine.specs.Answers.{Answers, Call, ComesTo, ReadFailed, RowAnswers, line_of, refuse, write, status_of}
+use Rattle.mmachine.specs.Files.{AsksFiles}
+use Rattle.mmachine.specs.Table.{Row, Asks, InNoRow, files_of}
+use Rattle.mmachine.specs.Answers.{Answers, Call, ComesTo, ReadFailed, RowEnds, line_of, refuse, write, status_of}
+use Rattle.mmachine.proofs.OneRow.{one_row}
 
 -- 1. A status other than that of usage, and the end of the command that it comes from.
 
@@ -18,7 +20,7 @@ use Rattle.mmachine.specs.Answers.{Answers, Call, ComesTo, ReadFailed, RowAnswer
 pub record EndsSo (c : Call) (words : List (List ℕ)) (result : Result (Unit {0}) Stop) : Type 0 where
   pub row : Row
   pub asks : Asks words row
-  pub says : RowAnswers c row result
+  pub ends : RowEnds c row result
 
 result_at : Status → Result (Unit {0}) Stop
 result_at (Refused r) = Err (stop.Refused r)
@@ -38,7 +40,7 @@ at_status (Err stop.NoMemory) = refl
 result_of : (result other : Result (Unit {0}) Stop) → status_of result ≡ status_of other → result ≡ other
 result_of result other same = sym (at_status result) ∙ ap result_at same ∙ at_status other
 
-not_usage : (result : Result (Unit {0}) Stop) → status_of result ≡ Usage → ⊥
+pub not_usage : (result : Result (Unit {0}) Stop) → status_of result ≡ Usage → ⊥
 not_usage (Ok done) same = cc
 not_usage (Err (stop.Refused r)) same = cc
 not_usage (Err stop.ReadFault) same = cc
@@ -48,9 +50,9 @@ not_usage (Err stop.NoMemory) same = cc
 ended : {c : Call} {words : List (List ℕ)} {status : Status} → Answers c words status → (result : Result (Unit {0}) Stop) → status ≡ status_of result → EndsSo c words result
 ended {c = c} answers result same = elim answers.cases [
   | inl none ↦ absurd (not_usage result (sym same ∙ none.1))
-  | inr (row, other, asks, says, is) ↦
-      let one : other ≡ result = result_of other result (sym is ∙ same) in
-      record { row = row; asks = asks; says = subst (λ (x : Result (Unit {0}) Stop). RowAnswers c row x) one says }
+  | inr says ↦
+      let one : says.result ≡ result = result_of says.result result (sym says.answers ∙ same) in
+      record { row = says.row; asks = says.asks; ends = subst (λ (x : Result (Unit {0}) Stop). RowEnds c says.row x) one says.ends }
 ]
 
 -- 2. The clauses.
@@ -58,25 +60,32 @@ ended {c = c} answers result same = elim answers.cases [
 pub usage : {c : Call} {words : List (List ℕ)} {status : Status} → Answers c words status → (status ≡ Usage) ↔ InNoRow words
 usage answers = elim answers.cases [
   | inl none ↦ (λ _. none.0, λ _. none.1)
-  | inr (row, result, asks, says, is) ↦ (λ same. absurd (not_usage result (sym is ∙ same)), λ none. absurd (none row asks))
+  | inr says ↦ (λ same. absurd (not_usage says.result (sym says.answers ∙ same)), λ none. absurd (none says.row says.asks))
 ]
 
-pub refused : {c : Call} {words : List (List ℕ)} {status : Status} → Answers c words status → (r : Refusal) → status ≡ Refused r → ComesTo c.tells c.files.held words (refuse r)
-refused answers r same = let e = ended answers (Err (stop.Refused r)) same in (e.row, e.asks, e.says.ends.0)
+pub refused : {c : Call} {words : List (List ℕ)} {status : Status} → Answers c words status → (r : Refusal) → status ≡ Refused r
+    → ComesTo c.tells c.files.held c.input.left words (refuse r)
+refused answers r same = let e = ended answers (Err (stop.Refused r)) same in record { row = e.row; asks = e.asks; gives = e.ends.0 }
 
-pub read_fault : {c : Call} {words : List (List ℕ)} {status : Status} → Answers c words status → status ≡ ReadFault → ReadFailed c.files words
-read_fault answers same = let e = ended answers (Err stop.ReadFault) same in (e.row, e.asks, e.says.ends.0)
+pub read_fault : {c : Call} {words : List (List ℕ)} {status : Status} → Answers c words status → status ≡ ReadFault → ReadFailed c.files c.input words
+read_fault answers same = let e = ended answers (Err stop.ReadFault) same in (e.row, e.asks, e.ends.0)
 
 pub write_fault : {c : Call} {words : List (List ℕ)} {status : Status} → Answers c words status → status ≡ WriteFault → Rose c.out.before c.out.now
-write_fault answers same = let e = ended answers (Err stop.WriteFault) same in e.says.ends.3
+write_fault answers same = let e = ended answers (Err stop.WriteFault) same in e.ends.3
+
+pub asks : {c : Call} {words : List (List ℕ)} {status : Status} → Answers c words status → (row : Row) → Asks words row → AsksFiles c.files [] (files_of row)
+asks {c = c} {words = words} answers row in_row = elim answers.cases [
+  | inl none ↦ absurd (none.0 row in_row)
+  | inr says ↦ subst (λ (x : Row). AsksFiles c.files [] (files_of x)) (one_row words says.row row says.asks in_row) says.asked
+]
 
 pub done : {c : Call} {words : List (List ℕ)} {status : Status} → Answers c words status → status ≡ Done
-    → (text : List ℕ) × ComesTo c.tells c.files.held words (write text) × (c.out.taken ≡ append_known c.out.taken_before text)
-done answers same = let e = ended answers (Ok tt) same in (e.says.ends.0, (e.row, e.asks, e.says.ends.1), e.says.ends.2)
+    → (text : List ℕ) × ComesTo c.tells c.files.held c.input.left words (write text) × (c.out.taken ≡ append_known c.out.taken_before text)
+done answers same = let e = ended answers (Ok tt) same in (e.ends.0, record { row = e.row; asks = e.asks; gives = e.ends.1 }, e.ends.2)
 
 pub part : {c : Call} {words : List (List ℕ)} {status : Status} → Answers c words status → status ≡ WriteFault
-    → (text : List ℕ) × ComesTo c.tells c.files.held words (write text) × TookPart c.out.taken_before c.out.taken text
-part answers same = let e = ended answers (Err stop.WriteFault) same in (e.says.ends.0, (e.row, e.asks, e.says.ends.1), e.says.ends.2)
+    → (text : List ℕ) × ComesTo c.tells c.files.held c.input.left words (write text) × TookPart c.out.taken_before c.out.taken text
+part answers same = let e = ended answers (Err stop.WriteFault) same in (e.ends.0, record { row = e.row; asks = e.asks; gives = e.ends.1 }, e.ends.2)
 
 pub silent : {S T E : Type 0} {taken : S → Option (List ℕ)} {faults : S → ℕ} {old new : S} {result : Result T E} {status : Status}
     → status ≡ Done → Writes taken faults old new (line_of status) result → taken new ≡ taken old

@@ -18,26 +18,29 @@ use Rattle.mmachine.specs.declared.status.Status.TheVariants.{Done, Usage, Refus
 use Rattle.mmachine.specs.declared.status.Stop.{Stop}
 use Rattle.mmachine.specs.declared.status.Stop.TheVariants as stop
 use Rattle.mmachine.specs.Kinds.{Value}
-use Rattle.mmachine.specs.Files.{Reading, FilesAccepted, FilesRefused, FilesFailed, FilesTold}
-use Rattle.mmachine.specs.Table.{Row, files_of, Asks, InNoRow}
-use Rattle.mmachine.specs.Commands.{Declines, Writes}
+use Rattle.mmachine.specs.Files.{Reading, Drawing, FilesAccepted, FilesRefused, FilesFailed, AsksFiles, InputsAccepted, InputsRefused, InputsFailed, InputsTold}
+use Rattle.mmachine.specs.Table.{Row, files_of, input_of, Asks, InNoRow}
+use Rattle.mmachine.specs.Commands.{Declines, Yields}
 
 -- 1. What words come to.
 
--- What a row comes to once its files are read: a refusal, or a text that is to be written.
+-- What a row comes to once its inputs are read: a refusal, or a text that is to be written.
 pub data Outcome : Type 0 where
   refuse : Refusal → Outcome
   write : List ℕ → Outcome
 
--- what a row comes to, by what the files hold as far as that is told, and by what the memory tells of uses
-abbrev pub Gives : (List Use → Option Counts) → (List ℕ → Option (List ℕ)) → Row → Outcome → Type 0
-Gives tells held row (refuse r) =
-    FilesRefused held [] (files_of row) r ⊎ ((values : List Value) × FilesAccepted held [] (files_of row) values × Declines row values r)
-Gives tells held row (write text) = (values : List Value) × FilesAccepted held [] (files_of row) values × Writes tells row values text
+-- what a row comes to, by what the memory tells of uses, and by what the files hold and standard input has left, as far as that is told
+abbrev pub Gives : (List Use → Option Counts) → (List ℕ → Option (List ℕ)) → (left : Option (List ℕ)) → Row → Outcome → Type 0
+Gives tells held left row (refuse r) =
+    InputsRefused held left (files_of row) (input_of row) r
+    ⊎ ((values : List Value) × InputsAccepted held left (files_of row) (input_of row) values × Declines row values r)
+Gives tells held left row (write text) = (values : List Value) × InputsAccepted held left (files_of row) (input_of row) values × Yields tells row values text
 
--- what words come to
-abbrev pub ComesTo : (List Use → Option Counts) → (List ℕ → Option (List ℕ)) → List (List ℕ) → Outcome → Type 0
-ComesTo tells held words outcome = (row : Row) × Asks words row × Gives tells held row outcome
+-- What words come to: they are in a row that comes to it.
+pub record ComesTo (tells : List Use → Option Counts) (held : List ℕ → Option (List ℕ)) (left : Option (List ℕ)) (words : List (List ℕ)) (outcome : Outcome) : Type 0 where
+  pub row : Row
+  pub asks : Asks words row
+  pub gives : Gives tells held left row outcome
 
 -- 2. What a call starts and ends with.
 
@@ -51,20 +54,21 @@ pub record Writing : Type 0 where
 abbrev pub writing : {S : Type 0} → (taken : S → Option (List ℕ)) → (faults : S → ℕ) → (old new : S) → Writing
 writing taken faults old new = record { taken_before = taken old; taken = taken new; before = faults old; now = faults new }
 
--- What the memory tells of uses, the reading of files, and the writing of the text.
-pub record Call : Type 0 where
+-- What the memory tells of uses, the reading of files and of standard input, and the writing of the text.
+pub record Call : Type 1 where
   pub tells : List Use → Option Counts
   pub files : Reading
+  pub input : Drawing
   pub out : Writing
 
-abbrev pub call : (List Use → Option Counts) → Reading → Writing → Call
-call tells files out = record { tells = tells; files = files; out = out }
+abbrev pub call : (List Use → Option Counts) → Reading → Drawing → Writing → Call
+call tells files input out = record { tells = tells; files = files; input = input; out = out }
 
 -- 3. Why an answer comes.
 
--- the count of one of the row's file names rose, or stands at its last value, and each file before it was accepted
-abbrev pub ReadFailed : Reading → List (List ℕ) → Type 0
-ReadFailed files words = (row : Row) × Asks words row × FilesFailed files [] (files_of row)
+-- the count of one of the row's inputs rose, or stands at its last value, and each input before it was accepted
+abbrev pub ReadFailed : Reading → Drawing → List (List ℕ) → Type 0
+ReadFailed files input words = (row : Row) × Asks words row × InputsFailed files input (files_of row) (input_of row)
 
 -- nothing is written at these answers
 abbrev pub WritesNothing : Status → Type 0
@@ -91,23 +95,23 @@ pub record TookLine (old new : Option (List ℕ)) (before now : ℕ) (line : Lis
   pub part : TookPart old new line
   pub whole : ¬ Rose before now → new ≡ append_known old line
 
--- What completeness asks: the words are in a row, its files are told and come to a text, and no count that the row
+-- What completeness asks: the words are in a row, its inputs are told and come to a text, and no count that the row
 -- depends on rose or stands at its last value.
 pub record NothingFails (c : Call) (words : List (List ℕ)) : Type 0 where
   pub row : Row
   pub asks : Asks words row
-  pub told : FilesTold c.files.held (files_of row)
+  pub told : InputsTold c.files.held c.input.left (files_of row) (input_of row)
   pub text : List ℕ
-  pub gives : Gives c.tells c.files.held row (write text)
-  pub read : ¬ FilesFailed c.files [] (files_of row)
+  pub gives : Gives c.tells c.files.held c.input.left row (write text)
+  pub read : ¬ InputsFailed c.files c.input (files_of row) (input_of row)
   pub written : ¬ Rose c.out.before c.out.now
 
--- A refusal that has to come: the words are in a row, its files are told and come to it.
-pub record HasToRefuse (tells : List Use → Option Counts) (held : List ℕ → Option (List ℕ)) (words : List (List ℕ)) (r : Refusal) : Type 0 where
+-- A refusal that has to come: the words are in a row, its inputs are told and come to it.
+pub record HasToRefuse (tells : List Use → Option Counts) (held : List ℕ → Option (List ℕ)) (left : Option (List ℕ)) (words : List (List ℕ)) (r : Refusal) : Type 0 where
   pub row : Row
   pub asks : Asks words row
-  pub told : FilesTold held (files_of row)
-  pub gives : Gives tells held row (refuse r)
+  pub told : InputsTold held left (files_of row) (input_of row)
+  pub gives : Gives tells held left row (refuse r)
 
 -- the answer is this refusal, unless a read failed or memory ran out
 abbrev pub RefusedUnless : Refusal → Status → Type 0
@@ -127,14 +131,21 @@ Ends out Refuses Fails IsText (Err stop.WriteFault) =
     (text : List ℕ) × IsText text × TookPart out.taken_before out.taken text × Rose out.before out.now
 Ends out Refuses Fails IsText (Err stop.NoMemory) = out.taken ≡ out.taken_before
 
--- how a command ends once its files are read, where it refuses nothing
+-- how a command ends once its inputs are read, where it refuses nothing
 abbrev pub EndsWith : Writing → (IsText : List ℕ → Type 0) → Result (Unit {0}) Stop → Type 0
 EndsWith out IsText result = Ends out (λ r. ⊥) ⊥ IsText result
 
--- what the answer to a row says
-pub record RowAnswers (c : Call) (row : Row) (result : Result (Unit {0}) Stop) : Type 0 where
-  pub ends : Ends c.out (λ r. Gives c.tells c.files.held row (refuse r)) (FilesFailed c.files [] (files_of row))
-      (λ text. Gives c.tells c.files.held row (write text)) result
+-- How a row's command ends that reads files alone. `Text` says what it writes, by the values of the files.
+pub record CommandEnds (files : Reading) (out : Writing) (Text : Row → List Value → List ℕ → Type 0) (row : Row) (result : Result (Unit {0}) Stop) : Type 0 where
+  pub ends : Ends out (λ r. FilesRefused files.held [] (files_of row) r ⊎ ((values : List Value) × FilesAccepted files.held [] (files_of row) values × Declines row values r))
+      (FilesFailed files [] (files_of row)) (λ text. (values : List Value) × FilesAccepted files.held [] (files_of row) values × Text row values text) result
+  pub asked : AsksFiles files [] (files_of row)
+
+-- how the command of a row ends
+abbrev pub RowEnds : Call → Row → Result (Unit {0}) Stop → Type 0
+RowEnds c row result =
+    Ends c.out (λ r. Gives c.tells c.files.held c.input.left row (refuse r)) (InputsFailed c.files c.input (files_of row) (input_of row))
+    (λ text. Gives c.tells c.files.held c.input.left row (write text)) result
 
 -- the status at the end of a command
 abbrev pub status_of : Result (Unit {0}) Stop → Status
@@ -144,10 +155,18 @@ status_of (Err stop.ReadFault) = ReadFault
 status_of (Err stop.WriteFault) = WriteFault
 status_of (Err stop.NoMemory) = NoMemory
 
+-- What the answer to a row says.
+pub record RowAnswers (c : Call) (words : List (List ℕ)) (status : Status) : Type 0 where
+  pub row : Row
+  pub result : Result (Unit {0}) Stop
+  pub asks : Asks words row
+  pub ends : RowEnds c row result
+  pub asked : AsksFiles c.files [] (files_of row)
+  pub answers : status ≡ status_of result
+
 -- What an answer to words says.
 pub record Answers (c : Call) (words : List (List ℕ)) (status : Status) : Type 0 where
-  pub cases : (InNoRow words × (status ≡ Usage) × (c.out.taken ≡ c.out.taken_before))
-      ⊎ ((row : Row) × (result : Result (Unit {0}) Stop) × Asks words row × RowAnswers c row result × (status ≡ status_of result))
+  pub cases : (InNoRow words × (status ≡ Usage) × (c.out.taken ≡ c.out.taken_before)) ⊎ RowAnswers c words status
 
 -- how a command ends whose text was written so
 abbrev pub end_of : Result (Unit {0}) WriteFailed → Result (Unit {0}) Stop

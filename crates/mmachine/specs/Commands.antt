@@ -1,4 +1,4 @@
--- What each command comes to, by the values of its files.
+-- What each command comes to, by the values of its inputs.
 use Rattle.std.specs.Prelude.{◌≡◌, ℕ, Bool, List, [], ◌∷◌, ◌++◌, Option}
 use Rattle.mm_model.specs.declared.counts.Counts.{Counts}
 use Rattle.mm_model.specs.Uses.{Use}
@@ -31,21 +31,25 @@ own_report tells i list cycles c = report_after tells (alone i c) (only i (first
 abbrev pub IsExtract : model.Image → (ℕ → Bool) → List ℕ → Type 0
 IsExtract i c text = (own : model.Image) × Extracts i c own × Spells text own
 
--- a row whose files have these values is refused
+-- a row whose inputs have these values is refused
 abbrev pub Declines : Row → List Value → Refusal → Type 0
 Declines (solo image groups cycles schedule) (an_image i ∷ lists) r = GroupsRefused i (among groups) r
 Declines (extract image groups) (an_image i ∷ []) r = GroupsRefused i (among groups) r
 Declines _ _ r = ⊥
 
--- a row whose files have these values writes a text, where the memory tells so much of uses
-abbrev pub Writes : (List Use → Option Counts) → Row → List Value → List ℕ → Type 0
-Writes tells (run image cycles schedule) (an_image i ∷ lists) text =
+-- a row that runs nothing and whose inputs have these values writes a text
+abbrev pub YieldsAlone : Row → List Value → List ℕ → Type 0
+YieldsAlone (grants image groups) (an_image i ∷ []) text = IsAudit i groups text
+YieldsAlone (extract image groups) (an_image i ∷ []) text = StandAlone i (among groups) × IsExtract i (among groups) text
+YieldsAlone (migrate image split) (an_image i ∷ []) text = Spells text (migrated i split)
+YieldsAlone _ _ text = ⊥
+
+-- a row whose inputs have these values writes a text, where the memory tells so much of uses
+abbrev pub Yields : (List Use → Option Counts) → Row → List Value → List ℕ → Type 0
+Yields tells (run image cycles schedule) (an_image i ∷ lists) text =
     (items : List ℕ) × Issues i cycles lists items × (text ≡ report_after tells i items)
-Writes tells (trace image cycles schedule) (an_image i ∷ lists) text =
+Yields tells (trace image cycles schedule) (an_image i ∷ lists) text =
     (items : List ℕ) × Issues i cycles lists items × (text ≡ lines.trace (model.start i) items ++ report_after tells i items)
-Writes tells (solo image groups cycles schedule) (an_image i ∷ a_list list ∷ []) text =
+Yields tells (solo image groups cycles schedule) (an_image i ∷ a_list list ∷ []) text =
     StandAlone i (among groups) × (text ≡ own_report tells i list cycles (among groups))
-Writes tells (grants image groups) (an_image i ∷ []) text = IsAudit i groups text
-Writes tells (extract image groups) (an_image i ∷ []) text = StandAlone i (among groups) × IsExtract i (among groups) text
-Writes tells (migrate image split) (an_image i ∷ []) text = Spells text (migrated i split)
-Writes tells _ _ text = ⊥
+Yields tells row values text = YieldsAlone row values text

@@ -1,4 +1,4 @@
--- The kinds of files: how long they may be, what they mean, and their faults.
+-- The kinds of inputs: how long they may be, what they mean, and their faults.
 use Rattle.std.specs.Prelude.{◌≡◌, ℕ, List, Some}
 use Rattle.mm_model.specs.Image.{Image}
 use Rattle.mm_model.specs.Spelling.{Spells}
@@ -12,25 +12,31 @@ use Rattle.mmachine.specs.declared.status.Refusal.TheVariants as refusal
 pub data Kind : Type 0 where
   image_file : Kind
   schedule_file : Kind
+  -- bytes of standard input, as they are
+  text_input : Kind
 
--- what a file is parsed to
+-- what an input is parsed to
 pub data Value : Type 0 where
   an_image : Image → Value
   a_list : List ℕ → Value
+  a_text : List ℕ → Value
 
--- the most bytes that a file of a kind has
+-- the most bytes that an input of a kind has
 abbrev pub limit_of : Kind → ℕ
 limit_of image_file = 33554432
 limit_of schedule_file = 8388608
+limit_of text_input = 1048576
 
--- the bytes of a file mean a value, behind files of the values before
+-- the bytes of an input mean a value, behind inputs of the values before
 abbrev pub Accepts : Kind → (before : List Value) → List ℕ → Value → Type 0
 Accepts image_file before bytes (an_image i) = Spells bytes i
 Accepts schedule_file before bytes (a_list items) = Means bytes items
+Accepts text_input before bytes (a_text text) = text ≡ bytes
 Accepts _ before bytes _ = ⊥
 
--- they mean none, and this is why the file of a number is refused
+-- they mean none, and this is why the input of a number is refused
 abbrev pub Faults : Kind → (before : List Value) → (number : ℕ) → List ℕ → Refusal → Type 0
 Faults image_file before number bytes r = (fault : ImageFault) × (offset : ℕ) × (r ≡ refusal.Image number fault offset)
     × (image_fault bytes ≡ Some (number_of fault, offset))
 Faults schedule_file before number bytes r = (offset : ℕ) × (r ≡ refusal.Schedule number offset) × FaultsAt bytes offset
+Faults text_input before number bytes r = ⊥

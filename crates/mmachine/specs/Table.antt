@@ -90,6 +90,10 @@ behind (migrate image split) = file_word image_file image ∷ mode_word split �
 abbrev pub files_of : Row → List (List ℕ × Kind)
 files_of row = files_in (behind row)
 
+-- the kind of standard input, where a row reads that behind its files
+abbrev pub input_of : Row → Option Kind
+input_of row = None
+
 -- its words are in their ranges
 abbrev pub IsInTable : Row → Type 0
 IsInTable row = AllByRecursion IsInRange (behind row)
@@ -101,6 +105,10 @@ Asks words row = (words ≡ name_of row ∷ map text_of (behind row)) × IsInTab
 -- the words are in no row, or a number is out of its range
 abbrev pub InNoRow : List (List ℕ) → Type 0
 InNoRow words = (row : Row) → Asks words row → ⊥
+
+-- the words are in no row that reads standard input
+abbrev pub LeaveInput : List (List ℕ) → Type 0
+LeaveInput words = (row : Row) → Asks words row → input_of row ≡ None
 
 -- the texts of the words
 abbrev pub texts : List (String Global) → List (List ℕ)

@@ -1,14 +1,11 @@
 // `extract`: the image of some groups alone.
-ghost use Rattle.std.specs.Prelude.{List, Option};
-ghost use Rattle.mm_model.specs.Uses.{Use};
-ghost use Rattle.mm_model.specs.declared.counts.Counts.{Counts};
 ghost use Rattle.mm_model.specs.Groups.{among};
 ghost use Rattle.mm_audit.specs.Refusals.{StandAlone};
 ghost use Rattle.mmachine.specs.Files.{reading};
 ghost use Rattle.mmachine.specs.Groups.{GroupsRefused};
 ghost use Rattle.mmachine.specs.Table.{row_of};
-ghost use Rattle.mmachine.specs.Commands.{IsExtract};
-ghost use Rattle.mmachine.specs.Answers.{RowAnswers, Ends, call, writing};
+ghost use Rattle.mmachine.specs.Commands.{IsExtract, YieldsAlone};
+ghost use Rattle.mmachine.specs.Answers.{CommandEnds, Ends, writing};
 
 use crate::load::load_image;
 use crate::status::Stop;
@@ -24,8 +21,7 @@ pub fn extract<F: Files, O: Sink>(
     files: &mut F,
     out: &mut O,
 ) -> Result<(), Stop>
-    ensures { (tells : List Use → Option Counts)
-        → RowAnswers (call tells (reading F.held F.faults files.old files.new) (writing O.taken O.faults out.old out.new)) (row_of (Command.Extract asked.entry)) result }
+    ensures { CommandEnds (reading F.held F.faults F.asked files.old files.new) (writing O.taken O.faults out.old out.new) YieldsAlone (row_of (Command.Extract asked.entry)) result }
 {
     let image = load_image(alloc, files, asked.image, 1)?;
     write_extract(alloc, &image, asked.groups.as_slice(), out)

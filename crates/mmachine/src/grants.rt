@@ -5,11 +5,10 @@ ghost use Rattle.mm_io.specs.Sinks.{Writes};
 ghost use Rattle.mm_model.specs.Audit.{IsAudit};
 ghost use Rattle.mm_model.specs.Reach.Entries.{All};
 ghost use Rattle.mm_audit.specs.Audits.{Audits};
-ghost use Rattle.mm_model.specs.Uses.{Use};
-ghost use Rattle.mm_model.specs.declared.counts.Counts.{Counts};
 ghost use Rattle.mmachine.specs.Files.{reading};
 ghost use Rattle.mmachine.specs.Table.{row_of};
-ghost use Rattle.mmachine.specs.Answers.{RowAnswers, EndsWith, call, writing};
+ghost use Rattle.mmachine.specs.Commands.{YieldsAlone};
+ghost use Rattle.mmachine.specs.Answers.{CommandEnds, EndsWith, writing};
 
 use crate::load::load_image;
 use crate::status::Stop;
@@ -28,8 +27,7 @@ pub fn grants<F: Files, O: Sink>(
     files: &mut F,
     out: &mut O,
 ) -> Result<(), Stop>
-    ensures { (tells : List Use → Option Counts)
-        → RowAnswers (call tells (reading F.held F.faults files.old files.new) (writing O.taken O.faults out.old out.new)) (row_of (Command.Grants asked.entry)) result }
+    ensures { CommandEnds (reading F.held F.faults F.asked files.old files.new) (writing O.taken O.faults out.old out.new) YieldsAlone (row_of (Command.Grants asked.entry)) result }
 {
     let image = load_image(alloc, files, asked.image, 1)?;
     write_grants(alloc, &image, asked.groups, out)

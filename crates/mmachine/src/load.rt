@@ -1,17 +1,18 @@
-// The files of a command, read and parsed one after the other, and the machine of an image.
-ghost use Rattle.std.specs.Prelude.{◌≡◌, ◌+◌, ◌<◌, ◌≤◌, ◌^◌, ◌∷◌, [], List, length, map, IfOk, IfErr};
+// The inputs of a command, read and parsed one after the other, and the machine of an image.
+ghost use Rattle.std.specs.Prelude.{◌≡◌, ◌+◌, ◌<◌, ◌≤◌, ◌^◌, ◌∷◌, [], List, length, map, IfOk, IfErr, OnOk};
 ghost use Rattle.std.specs.Option.{option_map};
-ghost use Rattle.mm_io.specs.Files.{Rose, NoneFell, Holds};
+ghost use Rattle.std.specs.Io.KnownBytes.{IsAtEnd};
+ghost use Rattle.mm_io.specs.Files.{Rose, NoneFell, Holds, AsksOnly};
 ghost use Rattle.mm_machine.specs.Machine.{StandsFor};
-ghost use Rattle.mmachine.specs.Kinds.{Value, image_file, schedule_file, an_image, a_list};
-ghost use Rattle.mmachine.specs.Files.{Stops, IsTooLong, FilesRead, reading};
+ghost use Rattle.mmachine.specs.Kinds.{Value, image_file, schedule_file, text_input, an_image, a_list, a_text};
+ghost use Rattle.mmachine.specs.Files.{Stops, IsTooLong, FilesRead, InputRead, reading, drawing};
 ghost use Rattle.mmachine.specs.Table.{images_named, files_in, file_word, perhaps};
 ghost use Rattle.mmachine.specs.Orders.{values_of};
 ghost use Rattle.mmachine.specs.Answers.{stop_of_error};
 
 use crate::status::{Refusal, Stop};
 use mm_image::{Image, ImageError};
-use mm_io::{Files, ReadError, read_all};
+use mm_io::{Files, ReadError, Source, read_all, read_input};
 use mm_machine::Machine;
 use mm_mem::Boot;
 use mm_sched::{Order, SchedError, Schedule};
@@ -23,6 +24,9 @@ const IMAGE_LIMIT: u64 = 33_554_432;
 
 /// The most bytes of a schedule file.
 const SCHEDULE_LIMIT: u64 = 8_388_608;
+
+/// The most bytes of standard input.
+const INPUT_LIMIT: u64 = 1_048_576;
 
 /// All bytes of the file of a number.
 fn read_file<F: Files>(
@@ -38,6 +42,7 @@ fn read_file<F: Files>(
     ensures stop { IfErr result (Stops (IsTooLong limit number (F.held files.old name.now)) (Rose (F.faults files.old name.now) (F.faults files.new name.now))) }
     ensures kept { F.held files.new ≡ F.held files.old }
     ensures later { NoneFell (F.faults files.old) (F.faults files.new) }
+    ensures asks { AsksOnly F.asked files.old files.new name.now }
 {
     match read_all(alloc, files, name, limit) {
         Ok(bytes) => Ok(bytes),
@@ -63,7 +68,7 @@ pub fn load_image<F: Files>(
     number: u8,
 ) -> Result<Image, Stop>
     ensures read { (before : List Value) → number ≡ length before + 1
-        → FilesRead (reading F.held F.faults files.old files.new) before ((name.now, image_file) ∷ []) (λ i. an_image i ∷ []) result }
+        → FilesRead (reading F.held F.faults F.asked files.old files.new) before ((name.now, image_file) ∷ []) (λ i. an_image i ∷ []) result }
     ensures kept { F.held files.new ≡ F.held files.old }
     ensures later { NoneFell (F.faults files.old) (F.faults files.new) }
 {
@@ -87,7 +92,7 @@ pub fn load_schedule<F: Files>(
     number: u8,
 ) -> Result<Schedule, Stop>
     ensures read { (before : List Value) → number ≡ length before + 1
-        → FilesRead (reading F.held F.faults files.old files.new) before ((name.now, schedule_file) ∷ []) (λ list. a_list list ∷ []) result }
+        → FilesRead (reading F.held F.faults F.asked files.old files.new) before ((name.now, schedule_file) ∷ []) (λ list. a_list list ∷ []) result }
     ensures kept { F.held files.new ≡ F.held files.old }
     ensures later { NoneFell (F.faults files.old) (F.faults files.new) }
 {
@@ -110,7 +115,7 @@ pub fn load_order<F: Files>(
     number: u8,
 ) -> Result<Order, Stop>
     ensures { (before : List Value) → number ≡ length before + 1
-        → FilesRead (reading F.held F.faults files.old files.new) before
+        → FilesRead (reading F.held F.faults F.asked files.old files.new) before
         (files_in (perhaps (file_word schedule_file) (option_map (λ name. name.now) name.entry))) values_of result }
 {
     match name {
@@ -119,6 +124,17 @@ pub fn load_order<F: Files>(
             Ok(list) => Ok(Order::List(list)),
             Err(stop) => Err(stop),
         },
+    }
+}
+
+/// Reads standard input to its end, which has number 0.
+pub fn load_input<I: Source>(alloc: Global, input: &mut I) -> Result<Vec<u8>, Stop>
+    ensures read { (before : List Value) → InputRead (drawing I.left I.faults input.old input.new) before text_input (λ text. a_text text.items) result }
+    ensures end { OnOk result (IsAtEnd (I.left input.new)) }
+{
+    match read_input(alloc, input, INPUT_LIMIT) {
+        Ok(bytes) => Ok(bytes),
+        Err(error) => Err(stop_of(error, 0)),
     }
 }
 
@@ -140,7 +156,7 @@ pub fn load_images<F: Files>(
     requires few { length names.now ≤ 16 }
     requires early { first ≤ 16 }
     ensures { (before : List Value) → first ≡ length before + 1
-        → FilesRead (reading F.held F.faults files.old files.new) before (images_named names.now) (λ images. map an_image images.items) result }
+        → FilesRead (reading F.held F.faults F.asked files.old files.new) before (images_named names.now) (λ images. map an_image images.items) result }
 {
     let mut images = Vec::new(alloc);
     for at in 0..names.len() {

@@ -1,12 +1,11 @@
 // `migrate`: an image as version 2.
-ghost use Rattle.std.specs.Prelude.{◌≡◌, IfOk, List, Option};
+ghost use Rattle.std.specs.Prelude.{◌≡◌, IfOk};
 ghost use Rattle.mm_model.specs.Spelling.{Spells};
-ghost use Rattle.mm_model.specs.Uses.{Use};
 ghost use Rattle.mm_model.specs.Worlds.{migrated};
-ghost use Rattle.mm_model.specs.declared.counts.Counts.{Counts};
 ghost use Rattle.mmachine.specs.Files.{reading};
 ghost use Rattle.mmachine.specs.Table.{row_of};
-ghost use Rattle.mmachine.specs.Answers.{RowAnswers, EndsWith, call, writing};
+ghost use Rattle.mmachine.specs.Commands.{YieldsAlone};
+ghost use Rattle.mmachine.specs.Answers.{CommandEnds, EndsWith, writing};
 
 use crate::load::load_image;
 use crate::status::Stop;
@@ -24,8 +23,7 @@ pub fn migrate<F: Files, O: Sink>(
     files: &mut F,
     out: &mut O,
 ) -> Result<(), Stop>
-    ensures { (tells : List Use → Option Counts)
-        → RowAnswers (call tells (reading F.held F.faults files.old files.new) (writing O.taken O.faults out.old out.new)) (row_of (Command.Migrate asked.entry)) result }
+    ensures { CommandEnds (reading F.held F.faults F.asked files.old files.new) (writing O.taken O.faults out.old out.new) YieldsAlone (row_of (Command.Migrate asked.entry)) result }
 {
     let image = load_image(alloc, files, asked.image, 1)?;
     write_migrated(alloc, &image, asked.split, out)

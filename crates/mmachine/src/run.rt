@@ -4,8 +4,8 @@ ghost use Rattle.mm_model.specs.Image.{start};
 ghost use Rattle.mm_sched.specs.Orders.{items_of};
 ghost use Rattle.mmachine.specs.Files.{reading};
 ghost use Rattle.mmachine.specs.Table.{row_of};
-ghost use Rattle.mmachine.specs.Commands.{report_after};
-ghost use Rattle.mmachine.specs.Answers.{RowAnswers, EndsWith, call, writing};
+ghost use Rattle.mmachine.specs.Commands.{report_after, Yields};
+ghost use Rattle.mmachine.specs.Answers.{CommandEnds, EndsWith, writing};
 
 use crate::cycles::issue;
 use crate::load::{boot, load_image, load_order};
@@ -27,7 +27,7 @@ pub fn run<M: Boot, F: Files, O: Sink>(
     out: &mut O,
 ) -> Result<(), Stop>
     requires { asked.cycles ≤ 1000000 }
-    ensures { RowAnswers (call M.tells (reading F.held F.faults files.old files.new) (writing O.taken O.faults out.old out.new)) (row_of (Command.Run asked.entry)) result }
+    ensures { CommandEnds (reading F.held F.faults F.asked files.old files.new) (writing O.taken O.faults out.old out.new) (Yields M.tells) (row_of (Command.Run asked.entry)) result }
 {
     let image = load_image(alloc, files, asked.image, 1)?;
     let order = load_order(alloc, files, asked.schedule, 2)?;

@@ -1,13 +1,12 @@
 // `solo`: the report of some groups of an image, alone.
 ghost use Rattle.std.specs.Prelude.{◌≡◌};
 ghost use Rattle.mm_model.specs.Groups.{among};
-ghost use Rattle.mm_model.specs.Spelling.{IsImage};
 ghost use Rattle.mm_audit.specs.Refusals.{StandAlone};
 ghost use Rattle.mmachine.specs.Files.{reading};
 ghost use Rattle.mmachine.specs.Groups.{GroupsRefused};
 ghost use Rattle.mmachine.specs.Table.{row_of};
-ghost use Rattle.mmachine.specs.Commands.{own_report};
-ghost use Rattle.mmachine.specs.Answers.{RowAnswers, Ends, call, writing};
+ghost use Rattle.mmachine.specs.Commands.{own_report, Yields};
+ghost use Rattle.mmachine.specs.Answers.{CommandEnds, Ends, writing};
 
 use crate::cycles::follow;
 use crate::load::{boot, load_image, load_schedule};
@@ -30,13 +29,13 @@ pub fn solo<M: Boot, F: Files, O: Sink>(
     files: &mut F,
     out: &mut O,
 ) -> Result<(), Stop>
-    ensures { RowAnswers (call M.tells (reading F.held F.faults files.old files.new) (writing O.taken O.faults out.old out.new)) (row_of (Command.Solo asked.entry)) result }
+    ensures { CommandEnds (reading F.held F.faults F.asked files.old files.new) (writing O.taken O.faults out.old out.new) (Yields M.tells) (row_of (Command.Solo asked.entry)) result }
 {
     let image = load_image(alloc, files, asked.image, 1)?;
     let list = load_schedule(alloc, files, asked.schedule, 2)?;
     write_solo::<M, O>(
         alloc,
-        &image,
+        image,
         asked.groups.as_slice(),
         asked.cycles,
         &list,
@@ -47,17 +46,16 @@ pub fn solo<M: Boot, F: Files, O: Sink>(
 /// Writes the report of some groups of an image, alone, under their items of a list's first so many.
 fn write_solo<M: Boot, O: Sink>(
     alloc: Global,
-    image: &Image,
+    image: Image,
     groups: &[u8],
     cycles: u64,
     list: &Schedule,
     out: &mut O,
 ) -> Result<(), Stop>
-    requires { IsImage image.now }
-    ensures { Ends (writing O.taken O.faults out.old out.new) (GroupsRefused image.now (among groups.now)) ⊥
-        (λ text. StandAlone image.now (among groups.now) × (text ≡ own_report M.tells image.now list.now cycles (among groups.now))) result }
+    ensures { Ends (writing O.taken O.faults out.old out.new) (GroupsRefused image (among groups.now)) ⊥
+        (λ text. StandAlone image (among groups.now) × (text ≡ own_report M.tells image list.now cycles (among groups.now))) result }
 {
-    let own = alone(alloc, image, groups)?;
+    let own = alone(alloc, &image, groups)?;
     let items = only(alloc, list, cycles, members(&own).as_slice())?;
     let mut machine: Machine<M> = boot(alloc, &own)?;
     follow(&mut machine, items.items());

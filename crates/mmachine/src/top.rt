@@ -1,12 +1,12 @@
 // The top call: all that the program does.
-ghost use Rattle.std.specs.Prelude.{◌≡◌, ◌↔◌, ◌⊎◌, List, ℕ, Option};
+ghost use Rattle.std.specs.Prelude.{◌≡◌, ◌↔◌, ◌⊎◌, List, ℕ, Option, None, []};
 ghost use Rattle.std.specs.Io.KnownBytes.{append_known};
 ghost use Rattle.mm_io.specs.Files.{Rose};
 ghost use Rattle.mm_io.specs.Sinks.{TookPart};
 ghost use Rattle.mmachine.specs.declared.status.Refusal.{Refusal};
-ghost use Rattle.mmachine.specs.Files.{reading};
-ghost use Rattle.mmachine.specs.Table.{InNoRow, IsInTable, Asks, row_of, run, trace, texts};
-ghost use Rattle.mmachine.specs.Answers.{ComesTo, ReadFailed, WritesNothing, TookLine, NothingFails, HasToRefuse, RefusedUnless, RowAnswers, Answers, call, writing, status_of, line_of, refuse, write};
+ghost use Rattle.mmachine.specs.Files.{AsksFiles, drawing, reading};
+ghost use Rattle.mmachine.specs.Table.{InNoRow, IsInTable, Asks, LeaveInput, Row, files_of, input_of, row_of, run, trace, texts};
+ghost use Rattle.mmachine.specs.Answers.{ComesTo, ReadFailed, WritesNothing, TookLine, NothingFails, HasToRefuse, RefusedUnless, RowEnds, Answers, call, writing, status_of, line_of, refuse, write};
 ghost use Rattle.mmachine.specs.Headline.{RunIsProved, TraceIsProved};
 
 use crate::extract::extract;
@@ -26,25 +26,30 @@ use std::alloc::Global;
 ///
 /// `words` are the command line without the program's name. `M` is the type of the memory that every command which runs an image
 /// makes and runs on.
-#[tactic(auto, using(crate::proofs::Verdicts::usage, crate::proofs::Verdicts::refused, crate::proofs::Verdicts::read_fault, crate::proofs::Verdicts::write_fault, crate::proofs::Verdicts::silent))]
+#[tactic(auto, using(crate::proofs::Verdicts::usage, crate::proofs::Verdicts::read_fault, crate::proofs::Verdicts::write_fault, crate::proofs::Verdicts::silent))]
 pub fn mmachine<M: Boot, F: Files, I: Source, O: Sink, D: Sink>(
     alloc: Global,
     words: &[String],
     files: &mut F,
-    _input: &mut I,
+    input: &mut I,
     out: &mut O,
     diag: &mut D,
 ) -> Status
     // Each answer has its cause.
     ensures usage { (result ≡ Status.Usage) ↔ InNoRow (texts words.now) }
-    ensures refused { (r : Refusal) → result ≡ Status.Refused r → ComesTo M.tells (F.held files.old) (texts words.now) (refuse r) }
-    ensures read_fault { result ≡ Status.ReadFault → ReadFailed (reading F.held F.faults files.old files.new) (texts words.now) }
+    ensures refused { (r : Refusal) → result ≡ Status.Refused r → ComesTo M.tells (F.held files.old) (I.left input.old) (texts words.now) (refuse r) }
+    ensures read_fault { result ≡ Status.ReadFault → ReadFailed (reading F.held F.faults F.asked files.old files.new) (drawing I.left I.faults input.old input.new) (texts words.now) }
     ensures write_fault { result ≡ Status.WriteFault → Rose (O.faults out.old) (O.faults out.new) }
 
+    // What is read: nothing where the words are in no row, and else the row's files alone, each once those before it were accepted.
+    ensures unread { result ≡ Status.Usage → files.new ≡ files.old }
+    ensures asks { (row : Row) → Asks (texts words.now) row → AsksFiles (reading F.held F.faults F.asked files.old files.new) [] (files_of row) }
+    ensures undrawn { LeaveInput (texts words.now) → input.new ≡ input.old }
+
     // What is written.
-    ensures done { result ≡ Status.Done → (text : List ℕ) × ComesTo M.tells (F.held files.old) (texts words.now) (write text)
+    ensures done { result ≡ Status.Done → (text : List ℕ) × ComesTo M.tells (F.held files.old) (I.left input.old) (texts words.now) (write text)
         × (O.taken out.new ≡ append_known (O.taken out.old) text) }
-    ensures part { result ≡ Status.WriteFault → (text : List ℕ) × ComesTo M.tells (F.held files.old) (texts words.now) (write text)
+    ensures part { result ≡ Status.WriteFault → (text : List ℕ) × ComesTo M.tells (F.held files.old) (I.left input.old) (texts words.now) (write text)
         × TookPart (O.taken out.old) (O.taken out.new) text }
     ensures nothing { WritesNothing result → O.taken out.new ≡ O.taken out.old }
     ensures line { TookLine (D.taken diag.old) (D.taken diag.new) (D.faults diag.old) (D.faults diag.new) (line_of result) }
@@ -59,53 +64,64 @@ pub fn mmachine<M: Boot, F: Files, I: Source, O: Sink, D: Sink>(
         → (written : List ℕ) × TraceIsProved M.tells (F.held files.old) image cycles schedule written × (O.taken out.new ≡ append_known (O.taken out.old) written) }
 
     // Where a refusal has to come, it comes; and where nothing fails, it is done or there is no memory.
-    ensures refuses { (r : Refusal) → HasToRefuse M.tells (F.held files.old) (texts words.now) r → RefusedUnless r result }
-    ensures complete { NothingFails (call M.tells (reading F.held F.faults files.old files.new) (writing O.taken O.faults out.old out.new)) (texts words.now)
+    ensures refuses { (r : Refusal) → HasToRefuse M.tells (F.held files.old) (I.left input.old) (texts words.now) r → RefusedUnless r result }
+    ensures complete { NothingFails (call M.tells (reading F.held F.faults F.asked files.old files.new) (drawing I.left I.faults input.old input.new) (writing O.taken O.faults out.old out.new)) (texts words.now)
         → (result ≡ Status.Done) ⊎ (result ≡ Status.NoMemory) }
 {
-    let status = answer::<M, F, O>(alloc, words, files, out);
+    let status = answer::<M, F, I, O>(alloc, words, files, input, out);
     let _ = write_line(status, diag);
     status
 }
 
 /// Does what the words ask.
-fn answer<M: Boot, F: Files, O: Sink>(
+fn answer<M: Boot, F: Files, I: Source, O: Sink>(
     alloc: Global,
     words: &[String],
     files: &mut F,
+    input: &mut I,
     out: &mut O,
 ) -> Status
-    ensures answers { Answers (call M.tells (reading F.held F.faults files.old files.new) (writing O.taken O.faults out.old out.new)) (texts words.now) result }
-    ensures refuses { (r : Refusal) → HasToRefuse M.tells (F.held files.old) (texts words.now) r → RefusedUnless r result }
-    ensures complete { NothingFails (call M.tells (reading F.held F.faults files.old files.new) (writing O.taken O.faults out.old out.new)) (texts words.now) → (result ≡ Status.Done) ⊎ (result ≡ Status.NoMemory) }
+    ensures answers { Answers (call M.tells (reading F.held F.faults F.asked files.old files.new) (drawing I.left I.faults input.old input.new) (writing O.taken O.faults out.old out.new)) (texts words.now) result }
+    ensures refused { (r : Refusal) → result ≡ Status.Refused r → ComesTo M.tells (F.held files.old) (I.left input.old) (texts words.now) (refuse r) }
+    ensures asks { (row : Row) → Asks (texts words.now) row → AsksFiles (reading F.held F.faults F.asked files.old files.new) [] (files_of row) }
+    ensures refuses { (r : Refusal) → HasToRefuse M.tells (F.held files.old) (I.left input.old) (texts words.now) r → RefusedUnless r result }
+    ensures complete { NothingFails (call M.tells (reading F.held F.faults F.asked files.old files.new) (drawing I.left I.faults input.old input.new) (writing O.taken O.faults out.old out.new)) (texts words.now) → (result ≡ Status.Done) ⊎ (result ≡ Status.NoMemory) }
+    ensures unread { result ≡ Status.Usage → files.new ≡ files.old }
+    ensures undrawn { LeaveInput (texts words.now) → input.new ≡ input.old }
 {
-    by_row::<M, F, O>(alloc, words, files, out)
+    by_row::<M, F, I, O>(alloc, words, files, input, out)
 }
 
 /// The same, by the row of the table that the words are in.
-fn by_row<M: Boot, F: Files, O: Sink>(
+fn by_row<M: Boot, F: Files, I: Source, O: Sink>(
     alloc: Global,
     words: &[String],
     files: &mut F,
+    input: &mut I,
     out: &mut O,
 ) -> Status
-    ensures { Answers (call M.tells (reading F.held F.faults files.old files.new) (writing O.taken O.faults out.old out.new)) (texts words.now) result }
+    ensures answers { Answers (call M.tells (reading F.held F.faults F.asked files.old files.new) (drawing I.left I.faults input.old input.new) (writing O.taken O.faults out.old out.new)) (texts words.now) result }
+    ensures unread { result ≡ Status.Usage → files.new ≡ files.old }
+    ensures undrawn { LeaveInput (texts words.now) → input.new ≡ input.old }
 {
     match read_words(words) {
         None => Status::Usage,
-        Some(command) => status(by_command::<M, F, O>(alloc, command, files, out)),
+        Some(command) => status(by_command::<M, F, I, O>(alloc, command, files, input, out)),
     }
 }
 
 /// Does what a command asks.
-fn by_command<M: Boot, F: Files, O: Sink>(
+fn by_command<M: Boot, F: Files, I: Source, O: Sink>(
     alloc: Global,
     command: Command<'_>,
     files: &mut F,
+    input: &mut I,
     out: &mut O,
 ) -> Result<(), Stop>
     requires { IsInTable (row_of command) }
-    ensures { RowAnswers (call M.tells (reading F.held F.faults files.old files.new) (writing O.taken O.faults out.old out.new)) (row_of command.entry) result }
+    ensures ends { RowEnds (call M.tells (reading F.held F.faults F.asked files.old files.new) (drawing I.left I.faults input.old input.new) (writing O.taken O.faults out.old out.new)) (row_of command.entry) result }
+    ensures asked { AsksFiles (reading F.held F.faults F.asked files.old files.new) [] (files_of (row_of command.entry)) }
+    ensures undrawn { input_of (row_of command.entry) ≡ None → input.new ≡ input.old }
 {
     match command {
         Command::Run(asked) => run::<M, F, O>(alloc, asked, files, out),

@@ -7,8 +7,8 @@ ghost use Rattle.mm_machine.specs.Machine.{state_of, StandsFor};
 ghost use Rattle.mm_sched.specs.Orders.{items_of};
 ghost use Rattle.mmachine.specs.Files.{reading};
 ghost use Rattle.mmachine.specs.Table.{row_of};
-ghost use Rattle.mmachine.specs.Commands.{report_after};
-ghost use Rattle.mmachine.specs.Answers.{RowAnswers, EndsWith, call, writing};
+ghost use Rattle.mmachine.specs.Commands.{report_after, Yields};
+ghost use Rattle.mmachine.specs.Answers.{CommandEnds, EndsWith, writing};
 
 use crate::load::{boot, load_image, load_order};
 use crate::status::{Stop, ended};
@@ -31,7 +31,7 @@ pub fn trace<M: Boot, F: Files, O: Sink>(
     out: &mut O,
 ) -> Result<(), Stop>
     requires { asked.cycles ≤ 1000000 }
-    ensures { RowAnswers (call M.tells (reading F.held F.faults files.old files.new) (writing O.taken O.faults out.old out.new)) (row_of (Command.Trace asked.entry)) result }
+    ensures { CommandEnds (reading F.held F.faults F.asked files.old files.new) (writing O.taken O.faults out.old out.new) (Yields M.tells) (row_of (Command.Trace asked.entry)) result }
 {
     let image = load_image(alloc, files, asked.image, 1)?;
     let order = load_order(alloc, files, asked.schedule, 2)?;

@@ -1,6 +1,7 @@
 use Rattle.std.proofs.Common.{rules, ◌≡◌, length, arith, ◌∙◌}
 use Rattle.std.proofs.lemmas.Grind.{common_steps}
 use Rattle.mm_io.specs.Files.{ReadsAt}
+use Rattle.mm_io.proofs.Asking.{asks_again}
 use Rattle.mm_io.proofs.Reading.{Begins-++, Begins-longer, reads_same}
 use Rattle.mm_io.proofs.read.read_pieces.Goals as goal
 
@@ -26,4 +27,5 @@ loop-bytes-preserved g c =
       room = search rules;
       kept = c.in_ok-count.ensures.kept ∙ c.loop-bytes.invariant.kept;
       later = λ name. omega (arith, c.in_ok-count.ensures.later name, c.loop-bytes.invariant.later name);
+      asks = asks_again c.loop-bytes.invariant.asks c.in_ok-count.ensures.asks;
     }

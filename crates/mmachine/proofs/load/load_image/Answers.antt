@@ -3,6 +3,7 @@ use Rattle.mm_model.specs.ImageFaults.{image_fault}
 use Rattle.mm_image.specs.declared.fault.ImageError.{ImageError}
 use Rattle.mm_image.specs.Faults.{number_of}
 use Rattle.mmachine.specs.declared.status.Refusal.TheVariants as refusal
+use Rattle.mmachine.proofs.Reading.{asks_one}
 use Rattle.mmachine.proofs.load.load_image.Goals as goal
 
 pub returns-in-Err-Fault-clause-read : goal.returns-in-Err-Fault-clause-read
@@ -27,4 +28,5 @@ returns-in-Err-Fault-clause-read g c before counted =
           }
           )
           );
+      asked = asks_one c.read_file.ensures.asks.times c.read_file.ensures.asks.asks;
     }

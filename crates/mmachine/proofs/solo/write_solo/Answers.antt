@@ -2,6 +2,7 @@ use Rattle.std.proofs.Common.{◌≡◌, ◌==◌, ℕ, List, [], take, ap, ◌�
 use Rattle.std.specs.List.{filter, list_any}
 use Rattle.mm_model.specs.Image.{Image}
 use Rattle.mm_model.specs.Groups.{among}
+use Rattle.mm_model.specs.Spelling.{IsImage}
 use Rattle.mm_model.specs.Schedule as schedule
 use Rattle.mm_model.specs.Worlds as worlds
 use Rattle.mm_machine.specs.Machine.{StandsFor}
@@ -16,14 +17,14 @@ follow-requires g c = omega (arith, c.items-2.ensures.limit, start_cycles _ _ c.
 
 pub returns : goal.returns
 returns g c =
-    let i = c.args.image.now in
+    let i = c.args.image in
     let inside = among c.args.groups.now in
     let own = c.in_ok-own.own in
     let items : c.in_ok-items.items ≡ schedule.only i (take c.args.cycles c.args.list.now) inside =
     c.in_ok-items.ensures
     ∙ ap (λ (ms : List ℕ). filter (λ n. list_any (λ m. m == n) ms) (take c.args.cycles c.args.list.now))
     (c.as_slice.ensures.value ∙ c.members.ensures ∙ ap members_of c.in_ok-own.ensures.own)
-    ∙ members_keep i inside c.requires (take c.args.cycles c.args.list.now) in
+    ∙ members_keep i inside (subst IsImage c.image.view_is c.image.invariant) (take c.args.cycles c.args.list.now) in
     let stands : StandsFor own c.in_ok-items.items c.follow.new.machine =
     subst (λ (xs : List ℕ). StandsFor own xs c.follow.new.machine) c.items-2.ensures.items (c.follow.ensures own [] c.in_ok-machine.ensures) in
     ends_written _ _ _ _
