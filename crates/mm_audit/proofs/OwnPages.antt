@@ -142,8 +142,10 @@ module _ (passes : ℕ → Bool) where
 
   pub kept_paged : (m : Memory) → IsPaged m → IsPaged (record { pages = kept_pages passes m.pages; frames = m.frames })
   kept_paged m h = record {
-    rising = kept_rises m.pages h.rising;
-    whole = kept_each IsPage IsPage (λ page x. record { number = x.number; cells = kept_length (page.0 * 4096) page.1 ∙ x.cells }) m.pages h.whole;
+    pages = record {
+      rising = kept_rises m.pages h.pages.rising;
+      whole = kept_each IsPage IsPage (λ page x. record { number = x.number; cells = kept_length (page.0 * 4096) page.1 ∙ x.cells }) m.pages h.pages.whole;
+    };
     fitting = let fewer = kept_count m.pages in let fit = h.fitting in omega arith;
   }
 

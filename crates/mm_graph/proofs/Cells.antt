@@ -92,7 +92,7 @@ found_page (p ∷ ps) q cells h = at (eq_by_cmp nat_cmp q p.0) refl h (found_pag
 
 module _ (m : Memory) (paged : IsPaged m) where
   page_whole : (p : ℕ × List Cell) → Contains m.pages p → IsPage p
-  page_whole p h = All-contains IsPage m.pages p (All-from_recursion IsPage m.pages paged.whole) h
+  page_whole p h = All-contains IsPage m.pages p (All-from_recursion IsPage m.pages paged.pages.whole) h
 
   pub there : (w : ℕ) (c : Cell) (key : Key) → cell_at m w ≡ Some c → word_key c.word ≡ Some key → Contains (page_keys m.pages) (record { word = w; key = key })
   there w c key at is = elim (word_or_none w) [
@@ -136,7 +136,7 @@ module _ (m : Memory) (paged : IsPaged m) where
       let place : place_of f.word ≡ r.place = omega arith in
       let q = p.is_in in
       let is : (get_or m.pages q.0 p.from).0 ≡ p.from.0 = ap (λ (v : ℕ × List Cell). v.0) q.2 in
-      let found : find nat_cmp p.from.0 m.pages ≡ Some p.from.1 = find-at m.pages q.0 p.from.0 p.from paged.rising q.1 is ∙ ap (λ (v : ℕ × List Cell). Some v.1) q.2 in
+      let found : find nat_cmp p.from.0 m.pages ≡ Some p.from.1 = find-at m.pages q.0 p.from.0 p.from paged.pages.rising q.1 is ∙ ap (λ (v : ℕ × List Cell). Some v.1) q.2 in
       record {
         cell = r.cell;
         aligned = aligned;
@@ -188,5 +188,5 @@ rises_both lo (x ∷ xs) (suc i) (suc j) h lt small = rises_both (x.word + 1) xs
 pub ascending : (m : Memory) → IsPaged m → IsAscending (page_keys m.pages)
 ascending m paged = record {
   rise = λ i j lt small. rises_both 0 (page_keys m.pages) i j
-      (rises_pages m.pages 0 (λ k d l. omega arith) (λ a b d l s. rises m.pages a b d paged.rising l s) (λ p h. (page_whole m paged p h).cells)) lt small;
+      (rises_pages m.pages 0 (λ k d l. omega arith) (λ a b d l s. rises m.pages a b d paged.pages.rising l s) (λ p h. (page_whole m paged p h).cells)) lt small;
 }

@@ -27,7 +27,7 @@ none_left now was a b o ea eb eo is = ap (λ x. lesser x (first was)) (sym ea) �
 pub is_there-requires-clause-number : goal.is_there-requires-clause-number
 is_there-requires-clause-number g c =
     let now : List (ℕ × List Cell) = (g.M.Memory.meaning c.args.mem.now).pages in
-    small_number now c.args.pages.now c.loop-number.i c.loop-number.j c.in-Some.number c.requires.paged.whole c.requires.whole
+    small_number now c.args.pages.now c.loop-number.i c.loop-number.j c.in-Some.number c.requires.paged.pages.whole c.requires.whole
     (least (drop c.loop-number.i (numbers now)) (drop c.loop-number.j (numbers c.args.pages.now)) c.mapped_at.result c.had_at.result c.lesser.result c.in-Some.number
     c.mapped_at.ensures.number c.had_at.ensures c.lesser.ensures c.in-Some.is)
 

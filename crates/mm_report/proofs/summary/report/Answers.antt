@@ -11,10 +11,10 @@ use Rattle.mm_report.proofs.ReportText.{report_text}
 use Rattle.mm_report.proofs.summary.report.Goals as goal
 
 pub put_pages-requires-clause-rising : goal.put_pages-requires-clause-rising
-put_pages-requires-clause-rising g c = subst (λ (ps : List (ℕ × List Cell)). IsTrue (is_sorted nat_cmp ps)) (sym c.pages-pages.ensures.pages) c.pages-pages.ensures.image.paged.rising
+put_pages-requires-clause-rising g c = subst (λ (ps : List (ℕ × List Cell)). IsTrue (is_sorted nat_cmp ps)) (sym c.pages-pages.ensures.pages) c.pages-pages.ensures.image.paged.pages.rising
 
 pub put_pages-requires-clause-whole : goal.put_pages-requires-clause-whole
-put_pages-requires-clause-whole g c = subst (λ (ps : List (ℕ × List Cell)). AllByRecursion IsPage ps) (sym c.pages-pages.ensures.pages) c.pages-pages.ensures.image.paged.whole
+put_pages-requires-clause-whole g c = subst (λ (ps : List (ℕ × List Cell)). AllByRecursion IsPage ps) (sym c.pages-pages.ensures.pages) c.pages-pages.ensures.image.paged.pages.whole
 
 pub returns : goal.returns
 returns g c us stands =
