@@ -12,7 +12,7 @@ module _ {M : Type 0} {memory : Ghosts M} where
   abbrev pub state_of : Machine M memory → State
   state_of m = record { core = m.core; memory = memory.meaning m.mem; cycles = m.cycles }
 
-  -- how often a port between nodes was used
+  -- how many port calls there were
   abbrev pub ports_used : Machine M memory → ℕ
   ports_used m = m.ports
 

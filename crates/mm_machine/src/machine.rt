@@ -15,7 +15,7 @@ pub struct Machine<M: Memory> {
     core: Core,
     mem: M,
     cycles: u64,
-    /// How often a port between nodes was used.
+    /// How many port calls there were.
     ports: u64,
     ghost kept: { ∥ Kept (record { core = core; memory = M.meaning mem; cycles = cycles }) ∥₁ },
     ghost few_ports: { ports ≤ 2 ^ 32 },
@@ -141,7 +141,7 @@ impl<M: Memory> Machine<M> {
     }
 }
 
-/// Ports between nodes.
+/// Port calls: what a link between nodes takes from a cell of this memory, and puts into one.
 impl<M: Memory> Machine<M> {
     ghost use Rattle.std.specs.Prelude.{◌≡◌, ◌+◌, ◌<◌, ◌^◌};
     ghost use Rattle.mm_word.specs.declared.perm.Kind.TheVariants.{LoadSet, Store};
@@ -149,7 +149,7 @@ impl<M: Memory> Machine<M> {
     ghost use Rattle.mm_mem.specs.Answers.{loaded, stored, after_load, after_store, access_uses};
     ghost use Rattle.mm_machine.specs.Machine.{state_of, ports_used, Takes};
 
-    /// Loads the word of a full cell and leaves the cell empty, for a port. A cell that is not full stays as it is.
+    /// Loads the word of a full cell and leaves the cell empty, as a port call. A cell that is not full stays as it is.
     pub fn port_take(&mut self, a: &Access) -> Loaded
         requires kind { a.now.kind ≡ LoadSet }
         requires few { ports_used self.old < 2 ^ 32 }
@@ -166,7 +166,7 @@ impl<M: Memory> Machine<M> {
         self.mem.load(a, Pre::Full, Post::Empty)
     }
 
-    /// Stores an integer into an empty cell and leaves the cell full, for a port. A cell that is not empty stays as it is.
+    /// Stores an integer into an empty cell and leaves the cell full, as a port call. A cell that is not empty stays as it is.
     pub fn port_put(&mut self, a: &Access, bits: u64) -> Stored
         requires kind { a.now.kind ≡ Store }
         requires few { ports_used self.old < 2 ^ 32 }
@@ -183,7 +183,7 @@ impl<M: Memory> Machine<M> {
         self.mem.store(a, Word::Int(bits), Pre::Empty, Post::Full)
     }
 
-    /// How often a port was used.
+    /// How many port calls there were.
     pub fn port_uses(&self) -> u64
         ensures { result ≡ ports_used self.now }
     {
