@@ -226,7 +226,7 @@ fn integer_operations(rt: HostRuntime) {
 
 #[test]
 fn text_both_ways(rt: HostRuntime) -> Result<(), Fail> {
-    // ld r2, r1, -8, full, keep
+    // ld r2, r1, -16, full, keep
     let form = operation_named(b"ld").ok_or("ld")?;
     assert_eq!(rt; form.name, "ld");
     let kinds = [
@@ -240,7 +240,7 @@ fn text_both_ways(rt: HostRuntime) -> Result<(), Fail> {
     let rd = Operand::Rd(Reg::new(2).ok_or("r2")?);
     let ra = Operand::Ra(Reg::new(1).ok_or("r1")?);
     let (imm, pre, post) = (
-        Operand::Imm(-8),
+        Operand::Imm(-16),
         Operand::Pre(Pre::Full),
         Operand::Post(Post::Keep),
     );
@@ -250,7 +250,7 @@ fn text_both_ways(rt: HostRuntime) -> Result<(), Fail> {
         .put(imm)
         .put(pre)
         .put(post);
-    assert_eq!(rt; fields.word(), 0x3021_0400_ffff_fff8);
+    assert_eq!(rt; fields.word(), 0x3021_0400_ffff_fff0);
     let operation = decode(fields.word()).ok_or("a load")?.operation();
     assert_eq!(rt; operation.name, "ld");
     assert_eq!(rt; operation.code, 0x30);
@@ -317,7 +317,7 @@ fn operation_names(rt: HostRuntime) {
             "{name}"
         );
     }
-    for name in ["", "HALT", "l", "ldx", "selfslot"] {
+    for name in ["", "HALT", "l", "ldx", "selfs"] {
         assert!(rt; operation_named(name.as_bytes()).is_none(), "{name}");
     }
 }
