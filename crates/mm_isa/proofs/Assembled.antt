@@ -8,7 +8,7 @@ use Rattle.mm_word.specs.declared.word.Post.{Post}
 use Rattle.mm_word.specs.declared.word.Post.TheVariants as post
 use Rattle.mm_isa.specs.declared.fields.Fields.{Fields}
 use Rattle.mm_isa.specs.declared.instr.AluOp.{AluOp}
-use Rattle.mm_isa.specs.declared.instr.AluOp.TheVariants.{Add, Sub, Mul, Divu, Remu, And, Or, Xor, Shl, Shr, Sar, Eq, Ltu, Lts}
+use Rattle.mm_isa.specs.declared.instr.AluOp.TheVariants.{Add}
 use Rattle.mm_isa.specs.declared.instr.How.{How}
 use Rattle.mm_isa.specs.declared.instr.How.TheVariants.{Retry, Skip, Kill}
 use Rattle.mm_isa.specs.declared.instr.Instr.{Instr}
@@ -18,8 +18,8 @@ use Rattle.mm_isa.specs.declared.operand.Operand.TheVariants as operand
 use Rattle.mm_isa.specs.declared.operand.Operand.TheVariants.{Rd, EvtRd, Ra, Rb, Imm, Distance, RegisterNumber}
 use Rattle.mm_isa.specs.declared.operand.OperandKind.{OperandKind}
 use Rattle.mm_isa.specs.declared.operand.OperandKind.TheVariants as kind
-use Rattle.mm_isa.specs.Table.{Operation, operation_of, kind_of, kinds_of, unused, put, pre_code, post_code, how_code, fields_of, packed, spelling, IsInRange, IsInstr}
-use Rattle.mm_isa.specs.Decode.{rows, row_of, instr_of, pre_in, post_in, how_in, register_in}
+use Rattle.mm_isa.specs.Table.{Operation, operation_of, kind_of, kinds_of, unused, put, pre_code, post_code, how_code, fields_of, packed, IsInRange, IsInstr}
+use Rattle.mm_isa.specs.Decode.{rows, row_of, instr_of, how_in}
 use Rattle.mm_isa.proofs.Operands.{post_small}
 use Rattle.mm_isa.proofs.Rows.{operand_in}
 use Rattle.mm_isa.proofs.Spelling.{instr_of-spelling}

@@ -6,10 +6,10 @@ use Rattle.mm_word.specs.declared.word.Pre.TheVariants as pre
 use Rattle.mm_word.specs.declared.word.Post.TheVariants as post
 use Rattle.mm_isa.specs.declared.fields.Fields.{Fields}
 use Rattle.mm_isa.specs.declared.instr.AluOp.{AluOp}
-use Rattle.mm_isa.specs.declared.instr.AluOp.TheVariants.{Add, Sub, Mul, Divu, Remu, And, Or, Xor, Shl, Shr, Sar, Eq, Ltu, Lts}
+use Rattle.mm_isa.specs.declared.instr.AluOp.TheVariants.{Add}
 use Rattle.mm_isa.specs.declared.instr.How.TheVariants.{Retry, Skip, Kill}
 use Rattle.mm_isa.specs.declared.instr.Instr.{Instr}
-use Rattle.mm_isa.specs.declared.instr.Instr.TheVariants.{Halt, Nop, Ldi, Ldhi, Mov, Isptr, Eqw, Out, SelfSlot, Alu, Addi, Lea, Leai, Leab, Restrict, Subseg, Setptr, Ld, St, Br, Bz, Bnz, Jmp, Jal, Lip, Trap, Evt, Resume, Rreg, Wreg, Map, Unmap}
+use Rattle.mm_isa.specs.declared.instr.Instr.TheVariants.{Halt, Alu, Ld, St, Evt, Resume, Rreg, Wreg}
 use Rattle.mm_isa.specs.declared.operand.Operand.{Operand}
 use Rattle.mm_isa.specs.declared.operand.Operand.TheVariants as operand
 use Rattle.mm_isa.specs.declared.operand.Operand.TheVariants.{Rd, EvtRd, Ra, Rb, Imm, Distance, RegisterNumber}

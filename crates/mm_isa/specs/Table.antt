@@ -20,7 +20,7 @@ use Rattle.mm_isa.specs.declared.operand.Operand.TheVariants.{Rd, EvtRd, Ra, Rb,
 use Rattle.mm_isa.specs.declared.operand.OperandKind.{OperandKind}
 use Rattle.mm_isa.specs.declared.operand.OperandKind.TheVariants as kind
 
--- an operation with the operands of one instruction, in the order of text
+-- an operation with the operands of one instruction, in the order in which text has them
 pub record Operation : Type 0 where
   pub name : List ℕ
   pub code : ℕ
@@ -47,7 +47,7 @@ integer Eq = (codes "eq", 0x1b)
 integer Ltu = (codes "ltu", 0x1c)
 integer Lts = (codes "lts", 0x1d)
 
--- the table
+-- the table, by rising numbers. Operands stand in the order rd, ra, rb, imm, c, and the c of ld and st is two of them
 abbrev pub operation_of : Instr → Operation
 operation_of Halt = row "halt" 0x00 []
 operation_of Nop = row "nop" 0x01 []

@@ -52,7 +52,7 @@ impl Fields {
         }
     }
 
-    /// The fields with an operand in its place.
+    /// The fields with an operand in its place, whatever stood there.
     pub fn put(self, operand: Operand) -> Fields
         ensures value { result ≡ put self operand }
         ensures narrow { self.c < 16 → result.c < 16 }

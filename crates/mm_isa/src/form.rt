@@ -77,6 +77,10 @@ impl Instr {
 const NUMBERS: u8 = 0x62;
 
 /// The operation that text names so.
+///
+/// Text becomes an instruction by it: each operand that is read, of the kind that stands next in the
+/// form, goes by `put` into `Fields::unused(form.code)`. Then `word` is the instruction's word, and
+/// `decode` gives the instruction.
 pub fn operation_named(name: &[u8]) -> Option<Form>
     ensures value { result ≡ operation_named name.now }
     ensures row { IfSome result (λ form. (i : Instr) × (form_of i ≡ form) × (form.name ≡ name.now)) }

@@ -68,7 +68,8 @@ impl AluOp {
 impl Instr {
     /// Tells the visitor the instruction's row of the table.
     pub fn visit<V: Visitor>(self, v: V) -> V
-        ensures value { result ≡ fold V.given (V.told v (operation_of self).name (operation_of self).code) (operation_of self).operands }
+        ensures value { let told = V.told v (operation_of self).name (operation_of self).code in
+            result ≡ fold V.given told (operation_of self).operands }
         ensures legal { IsInstr self }
     {
         match self {
