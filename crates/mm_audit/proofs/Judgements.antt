@@ -13,7 +13,7 @@ use Rattle.mm_model.specs.Reach.{Entries, CanTouch, CanWrite}
 use Rattle.mm_model.specs.Worlds.{Touchable}
 use Rattle.mm_model.specs.Audit.{Crosses, Writes, Judged}
 use Rattle.mm_model.specs.Audit.Verdict.{Yes, Handler, Writer}
-use Rattle.mm_model.proofs.EffectSteps.{handler_is}
+use Rattle.mm_model.proofs.CoreSteps.{handler_is}
 use Rattle.mm_seg.specs.Segments.{IsSet, Covered, segment_at}
 use Rattle.mm_graph.proofs.KeyLists.{contains_here, contains_cases}
 use Rattle.mm_graph.proofs.Cells.{in_flat_map, from_flat_map}
