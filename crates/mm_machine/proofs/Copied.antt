@@ -24,7 +24,7 @@ use Rattle.mm_model.specs.Flags.{one_if}
 use Rattle.mm_model.specs.Turn.{is_taken}
 use Rattle.mm_model.specs.Fits.{is_waiting, waits_for, events_of, slots_of, IsSlot, LoadsMatch, WaitsForSome, IsAtSlot, LoadsAreKept, TakenBySome, IsOfVersion, IsCore, SlotHoldsWords, EventHoldsWords, RowHoldsWords}
 use Rattle.mm_model.proofs.CoreRows.{each_map, each_both, slot_limit-few, rest_rises, above_first, Rises, slot_has, slots_found}
-use Rattle.mm_model.proofs.CoreSteps.{events_of-here, waits_for-rests, waits_for-at}
+use Rattle.mm_model.proofs.CoreSteps.{some_true, events_of-here, waits_for-rests, waits_for-at}
 use Rattle.mm_image.proofs.SortedEntries.{rises}
 use Rattle.mm_thread.specs.declared.output.Output.{Output}
 use Rattle.mm_thread.specs.Parts.{events_for}
@@ -147,10 +147,6 @@ own_counts es = each_map (λ (e : Event). (n : ℕ) → e.slot ≡ n → 1 ≤ e
       each_map (λ (x : Event). (n : ℕ) → x.slot ≡ n → 1 ≤ events_of n rest) (λ (x : Event). (n : ℕ) → x.slot ≡ n → 1 ≤ events_of n (e ∷ rest))
           (λ x h n is. let some = h n is in omega (arith, more n e rest)) rest (by rest),
     )
-
-some_true : (b : Bool) → 1 ≤ one_if b → b ≡ true
-some_true true h = refl
-some_true false h = absurd (omega arith)
 
 module _ (core : Core) (whole : IsCore core) where
   queue_awaited : (h : ℕ) → AllByRecursion (λ (e : Event). IsAwaited (slots_of core) (h, e)) (queue_at core h)

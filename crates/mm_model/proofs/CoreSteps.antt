@@ -48,7 +48,7 @@ each_counts n (e ∷ es) =
       each_map (λ (x : Event). x.slot ≡ n → 1 ≤ events_of n es) (λ (x : Event). x.slot ≡ n → 1 ≤ events_of n (e ∷ es)) (λ x f is. let some = f is in omega arith) es (each_counts n es),
     )
 
-some_true : (b : Bool) → 1 ≤ one_if b → b ≡ true
+pub some_true : (b : Bool) → 1 ≤ one_if b → b ≡ true
 some_true true h = refl
 some_true false h = absurd (omega arith)
 

@@ -10,6 +10,7 @@ use Rattle.mm_model.specs.State.{Core, slot_at, queue_at}
 use Rattle.mm_model.specs.Fits.{loads_for, events_of, waits_for, IsSlot, IsFormed, LoadsMatch, Matches}
 use Rattle.mm_model.proofs.CoreRows.{each_map, slot_at-number, slot_has}
 use Rattle.mm_model.proofs.SlotSteps.{at_most_one, empty_within}
+use Rattle.mm_model.proofs.CoreSteps.{some_true}
 
 -- 1. A list whose keys are below a bound, and each of them at most once.
 
@@ -100,10 +101,6 @@ module _ {A : Type 0} (key : A → ℕ) where
         | inr ne ↦ let other = count-other (key y) x xs ne in omega arith
       ]
 
-some_is_true : (b : Bool) → 1 ≤ one_if b → b ≡ true
-some_is_true true h = refl
-some_is_true false h = absurd (omega arith)
-
 -- 2. Pending loads.
 
 loads_count : (r : ℕ) (ps : List Pending) → count (λ (p : Pending). p.reg) r ps ≡ loads_for r ps
@@ -119,7 +116,7 @@ module _ (s : Slot) (h : IsSlot s) (match : LoadsMatch s) where
   pub loads_small : AllByRecursion (λ (p : Pending). p.reg < 16) s.pending
   loads_small =
       each_map (λ (p : Pending). 1 ≤ count (λ (x : Pending). x.reg) p.reg s.pending) (λ (p : Pending). p.reg < 16)
-      (λ p some. let once = loads_once p.reg in let within = empty_within s p.reg (some_is_true (is_empty s p.reg) (omega arith)) in omega (arith, h.flags))
+      (λ p some. let once = loads_once p.reg in let within = empty_within s p.reg (some_true (is_empty s p.reg) (omega arith)) in omega (arith, h.flags))
       s.pending (each_counts (λ (p : Pending). p.reg) s.pending)
 
   at_most_once : (r : ℕ) → count (λ (p : Pending). p.reg) r s.pending ≤ 1
@@ -157,7 +154,7 @@ module _ (core : Core) (match : Matches core) (g : ℕ) where
   pub queued_at : AllByRecursion (λ (e : Event). waits_for g (slot_at core e.slot) ≡ true) (queue_at core g)
   queued_at =
       each_map (λ (e : Event). 1 ≤ count (λ (x : Event). x.slot) e.slot (queue_at core g)) (λ (e : Event). waits_for g (slot_at core e.slot) ≡ true)
-      (λ e some. let once = events_once e.slot in some_is_true (waits_for g (slot_at core e.slot)) (omega arith))
+      (λ e some. let once = events_once e.slot in some_true (waits_for g (slot_at core e.slot)) (omega arith))
       (queue_at core g) (each_counts (λ (e : Event). e.slot) (queue_at core g))
 
   slot_small : IsFormed core → (n : ℕ) (o : Option Slot) → slot_at core n ≡ o → waits_for g o ≡ true → n < 64
