@@ -4,8 +4,8 @@
 //! definition that is wrong breaks one of them.
 #![tactic(auto)]
 
-pub mod cell_lines;
 pub mod causes;
+pub mod cell_lines;
 pub mod counts;
 pub mod granted;
 pub mod grants;
