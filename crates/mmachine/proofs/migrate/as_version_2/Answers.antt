@@ -6,10 +6,10 @@ use Rattle.mmachine.proofs.migrate.as_version_2.Goals as goal
 
 pub unreachable-requires : goal.unreachable-requires
 unreachable-requires c =
-    let same = same_image refl refl (c.in-Ok.ensures ∙ c.slots.ensures.slots) (c.in-Ok-copies-2.ensures ∙ c.pages.ensures.pages) c.frames.ensures.frames in
+    let same = same_image refl refl (c.in-Ok.ensures ∙ c.slots.ensures.slots) (c.in-Ok-copies.ensures ∙ c.pages.ensures.pages) c.frames.ensures.frames in
     c.in-None.ensures (subst IsImage (sym same) (migrated_is c.args.image.now c.args.split c.slots.ensures.image))
 
 pub returns : goal.returns
 returns c =
     c.in-Some.ensures.1
-    ∙ same_image refl refl (c.in-Ok.ensures ∙ c.slots.ensures.slots) (c.in-Ok-copies-2.ensures ∙ c.pages.ensures.pages) c.frames.ensures.frames
+    ∙ same_image refl refl (c.in-Ok.ensures ∙ c.slots.ensures.slots) (c.in-Ok-copies.ensures ∙ c.pages.ensures.pages) c.frames.ensures.frames
