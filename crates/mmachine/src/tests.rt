@@ -1,4 +1,4 @@
-use crate::status::Status;
+use crate::status::{Refusal, Status};
 use crate::top::mmachine;
 use mm_io::{MemFiles, MemSink, StdFiles, StdSink, StdSource, SureSource};
 use mm_mem::PlainMem;
