@@ -12,8 +12,6 @@ mod refusing;
 mod served;
 mod sets;
 mod solo;
-#[cfg(test)]
-mod tests;
 mod touched;
 mod writers;
 
