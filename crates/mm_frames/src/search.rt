@@ -1,0 +1,15 @@
+ghost use Rattle.std.specs.Prelude.{IsTrue, IfOk, IfErr};
+ghost use Rattle.std.specs.Ordering.{nat_cmp};
+ghost use Rattle.std.specs.FinMap.{is_sorted};
+ghost use Rattle.mm_mem.specs.Places.{IsAt, IsGap};
+
+use crate::row::Row;
+
+// Where the page with this number stands among the rows, or where it would go.
+pub(crate) fn search(rows: &[Row], page: u64) -> Result<usize, usize>
+    requires { IsTrue (is_sorted nat_cmp rows.now) }
+    ensures found { IfOk result (IsAt page rows.now) }
+    ensures absent { IfErr result (IsGap page rows.now) }
+{
+    rows.binary_search_by_key(&page, |row| row.page)
+}
