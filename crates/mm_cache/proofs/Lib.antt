@@ -1,0 +1,9 @@
+pub mod Placed
+pub mod DropPage
+pub mod Laid
+pub mod Blocks
+pub mod ReadCells
+pub mod WriteCells
+pub mod FillLines
+pub mod WriteBack
+pub mod MapPages
