@@ -9,8 +9,6 @@ pub mod laws;
 mod memory;
 mod plain;
 mod search;
-#[cfg(test)]
-mod tests;
 
 pub use answer::{Loaded, Stored};
 pub use bits::{full_after, passes};

@@ -1,8 +1,9 @@
 ghost use Rattle.std.specs.Prelude.{◌≡◌, ◌+◌, ◌<◌, ◌≤◌, IfOk};
 ghost use Rattle.mm_model.specs.Ask.{load_kind};
 
-use crate::{Boot, Inspect, Loaded, Memory, Page, PlainMem, Post, Pre, Reset, Stored};
-use mm_word::{Access, Cause, Cell, Kind, Word, check, setptr};
+use crate::VMem;
+use mm_mem::{Boot, Counts, Inspect, Loaded, Memory, Page, PlainMem, Reset, Stored};
+use mm_word::{Access, Cause, Cell, Kind, Post, Pre, Word, check, setptr};
 use std::alloc::Global;
 use std::process::Abort;
 use std::test::Fail;
@@ -44,7 +45,7 @@ fn of_page(done: bool) -> Answer {
     if done { Answer::Done } else { Answer::Refused }
 }
 
-#[tactic(auto, using(crate::proofs::Kept::load_frames, crate::proofs::Kept::store_frames, crate::proofs::Kept::map_frames, crate::proofs::Kept::unmap_frames))]
+#[tactic(auto, using(mm_mem::proofs::Kept::load_frames, mm_mem::proofs::Kept::store_frames, mm_mem::proofs::Kept::map_frames, mm_mem::proofs::Kept::unmap_frames))]
 fn ask<M: Memory>(m: &mut M, call: Call) -> Result<Answer, Cause>
     requires { M.uses m.old < 1000 }
     ensures uses { M.uses m.new ≤ M.uses m.old + 1 }
@@ -92,7 +93,7 @@ fn page_of(alloc: Global, number: u32, n: u64, full: bool) -> Result<Page, Fail>
     Ok(Page::new(u64::from(number), cells).ok_or("a page")?)
 }
 
-const TABLE: [(Call, Answer); 27] = [
+const TABLE: [(Call, Answer); 32] = [
     (Call::Fetch(0x5000), Answer::Holds(9)),
     (Call::Fetch(0x6000), Answer::NoPage),
     (Call::Load(0x5000, Pre::Any, Post::Keep), Answer::Holds(9)),
@@ -109,6 +110,12 @@ const TABLE: [(Call, Answer); 27] = [
     (Call::Load(0x7008, Pre::Empty, Post::Keep), Answer::Holds(1)),
     (Call::Load(0x7000, Pre::Empty, Post::Keep), Answer::Holds(4)),
     (Call::Load(0x7010, Pre::Empty, Post::Keep), Answer::Holds(4)),
+    // two pages whose blocks take the same lines
+    (Call::Load(0x5000, Pre::Any, Post::Keep), Answer::Holds(9)),
+    (Call::Load(0x5040, Pre::Any, Post::Empty), Answer::Holds(9)),
+    (Call::Load(0x7040, Pre::Any, Post::Keep), Answer::Holds(4)),
+    (Call::Load(0x5040, Pre::Empty, Post::Keep), Answer::Holds(9)),
+    (Call::Load(0x7008, Pre::Empty, Post::Keep), Answer::Holds(1)),
     (Call::Store(0x6000, 1, Pre::Any, Post::Keep), Answer::NoPage),
     // three frames
     (Call::Map(6), Answer::Done),
@@ -138,10 +145,23 @@ fn follow<M: Memory>(rt: &impl Abort, m: &mut M) -> Result<(), Fail>
     Ok(())
 }
 
-fn drive<M: Boot + Reset>(rt: &impl Abort, alloc: Global) -> Result<M, Fail> {
+// The bits and the synchronisation bit of a cell.
+fn parts_of(cell: Option<Cell>) -> Option<(u64, bool)> {
+    match cell {
+        Some(cell) => Some((cell.word.bits(), cell.full)),
+        None => None,
+    }
+}
+
+fn drive<M: Boot + Reset>(
+    rt: &impl Abort,
+    alloc: Global,
+    counts: Option<Counts>,
+) -> Result<M, Fail> {
     let pages = [page_of(alloc, 5, 9, true)?, page_of(alloc, 7, 4, false)?];
     let mut m = M::new(alloc, &pages, 3)?;
     follow(rt, &mut m)?;
+    assert_eq!(rt; m.counts(), counts);
     assert_eq!(rt; m.pages(), 3);
     for (i, want) in [6, 7, 8].iter().enumerate() {
         assert_eq!(rt; m.page_at(i as u32), *want);
@@ -150,28 +170,44 @@ fn drive<M: Boot + Reset>(rt: &impl Abort, alloc: Global) -> Result<M, Fail> {
     assert_eq!(rt; m.pages(), 2);
     assert_eq!(rt; m.page_at(0), 5);
     assert_eq!(rt; m.page_at(1), 7);
-    assert_eq!(rt;
-        m.peek(0x5000),
-        Some(Cell {
-            word: Word::Int(9),
-            full: true
-        })
-    );
-    assert_eq!(rt;
-        m.peek(0x7008),
-        Some(Cell {
-            word: Word::Int(4),
-            full: false
-        })
-    );
-    assert_eq!(rt; m.peek(0x6ff8), None);
-    assert_eq!(rt; m.peek(0x8000), None);
+    for (word, want) in [
+        (0x5000, Some((9, true))),
+        (0x7008, Some((4, false))),
+        (0x6ff8, None),
+        (0x8000, None),
+    ] {
+        assert_eq!(rt; parts_of(m.peek(word)), want);
+    }
     Ok(m)
 }
 
+const NOTHING: Counts = Counts {
+    hits: 0,
+    misses: 0,
+    writebacks: 0,
+    tlb_hits: 0,
+    tlb_misses: 0,
+    reads: 0,
+    writes: 0,
+};
+
+// Worked out by hand from the list of calls.
+const COUNTED: Counts = Counts {
+    hits: 11,
+    misses: 9,
+    writebacks: 2,
+    tlb_hits: 7,
+    tlb_misses: 4,
+    reads: 9,
+    writes: 2,
+};
+
+// The plain memory and the cached one answer the same, call by call; only the second counts.
 #[test]
-fn a_table_of_calls(rt: HostRuntime) -> Result<(), Fail> {
-    let m: PlainMem = drive(&rt, rt.alloc())?;
-    assert_eq!(rt; m.counts(), None);
+fn both_memories(rt: HostRuntime) -> Result<(), Fail> {
+    let plain: PlainMem = drive(&rt, rt.alloc(), None)?;
+    assert_eq!(rt; plain.counts(), None);
+    let cached: VMem = drive(&rt, rt.alloc(), Some(COUNTED))?;
+    assert_eq!(rt; cached.counts(), Some(NOTHING));
     Ok(())
 }

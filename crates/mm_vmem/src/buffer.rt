@@ -1,0 +1,100 @@
+ghost use Rattle.std.specs.Prelude.{◌≡◌, ◌==◌, [], take, position};
+ghost use Rattle.mm_model.specs.Counted.{has};
+ghost use Rattle.mm_vmem.specs.Entries.{pages_in, entries_without, AreEntries};
+
+use arrayvec::ArrayVec;
+use std::marker::Model;
+
+/// How many entries a translation buffer has room for.
+pub const ENTRIES: usize = 16;
+
+/// A page that was looked up, and its frame.
+#[derive(Clone, Copy, Debug, Default, PartialEq, Eq)]
+pub struct Entry {
+    pub page: u64,
+    pub frame: u32,
+}
+
+/// A translation buffer: up to 16 pages with their frames, each page once, the last used first.
+#[derive(Drop)]
+pub struct Buffer {
+    entries: ArrayVec<Entry, ENTRIES>,
+}
+
+impl Model for Buffer {
+    ghost use Rattle.std.specs.Prelude.{List};
+    ghost use Rattle.mm_vmem.specs.declared.buffer.Entry.{Entry};
+    ghost use Rattle.mm_vmem.specs.Entries.{AreEntries};
+
+    ghost Value = { List Entry };
+
+    ghost view = { λ b. b.entries.items };
+
+    ghost invariant = { λ b. AreEntries b.entries.items };
+}
+
+// Where a page stands.
+fn place(entries: &[Entry], page: u64) -> Option<usize>
+    ensures { result ≡ position (λ entry. entry.page == page) entries.now }
+{
+    entries.iter().position(|entry| entry.page == page)
+}
+
+// Takes out the entry of a page, and tells whether there was one. Where there is none and no room for another, the last entry goes.
+fn make_room(entries: &mut ArrayVec<Entry, ENTRIES>, page: u64) -> bool
+    requires { AreEntries entries.old.items }
+    ensures found { result ≡ has page (pages_in entries.old.items) }
+    ensures after { entries.new.items ≡ take 15 (entries_without page entries.old.items) }
+{
+    match place(entries.as_slice(), page) {
+        Some(i) => {
+            entries.remove(i);
+            true
+        }
+        None => {
+            if entries.is_full() {
+                entries.pop();
+            }
+            false
+        }
+    }
+}
+
+impl Buffer {
+    ghost use Rattle.mm_vmem.specs.Entries.{frame_in, after_look_up};
+
+    /// An empty buffer.
+    pub fn new() -> Buffer
+        ensures { result ≡ [] }
+    {
+        Buffer {
+            entries: ArrayVec::new(),
+        }
+    }
+
+    /// The frame of a page, if it has the page. It stays as it is.
+    pub fn find(&self, page: u64) -> Option<u32>
+        ensures { result ≡ frame_in page self.now }
+    {
+        let entries = self.entries.as_slice();
+        let i = place(entries, page)?;
+        Some(entries[i].frame)
+    }
+
+    /// Looks up a page, whose frame this is, and tells whether it was there. Its entry becomes the first; where there is no room the last one goes.
+    pub fn look_up(&mut self, page: u64, frame: u32) -> bool
+        ensures found { result ≡ has page (pages_in self.old) }
+        ensures after { self.new ≡ after_look_up (record { page = page; frame = frame }) self.old }
+    {
+        let found = make_room(&mut self.entries, page);
+        self.entries.insert(0, Entry { page, frame });
+        found
+    }
+
+    /// Empties it.
+    pub fn clear(&mut self)
+        ensures { self.new ≡ [] }
+    {
+        self.entries.clear();
+    }
+}
