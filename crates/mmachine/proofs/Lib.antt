@@ -15,3 +15,4 @@ pub mod OwnItems
 pub mod WordsBehind
 pub mod Migrated
 pub mod Images
+pub mod CountsBehind

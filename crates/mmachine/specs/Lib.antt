@@ -8,3 +8,4 @@ pub mod Commands
 pub mod Answers
 pub mod Exit
 pub mod Headline
+pub mod Memories

@@ -14,6 +14,7 @@ mod group_list;
 mod line;
 mod load;
 mod members;
+mod memories;
 mod migrate;
 mod run;
 mod solo;
@@ -28,7 +29,7 @@ mod words;
 use crate::status::Status;
 use crate::top::mmachine;
 use mm_io::{StdFiles, StdSink, StdSource};
-use mm_mem::PlainMem;
+use mm_vmem::VMem;
 use std::env;
 use std::process::ExitCode;
 
@@ -62,7 +63,7 @@ fn main(rt: HostRuntime) -> ExitCode {
     let mut input = StdSource::new(rt.stdin());
     let mut out = StdSink::new(rt.stdout());
     let mut diag = StdSink::new(rt.stderr());
-    let status = mmachine::<PlainMem, _, _, _, _>(
+    let status = mmachine::<VMem, _, _, _, _>(
         rt.alloc(),
         &words,
         &mut files,

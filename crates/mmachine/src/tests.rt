@@ -1,35 +1,35 @@
 use crate::status::{Refusal, Status};
 use crate::top::mmachine;
 use mm_io::{MemFiles, MemSink, StdFiles, StdSink, StdSource, SureSource};
-use mm_mem::PlainMem;
+use mm_vmem::VMem;
 use std::fs;
 use std::test::Fail;
 
 const HELLO: &[u8] =
-    b"cycles 3\ngroup 0 output 1\no 41\nslot 0 turns 3 halted ip p3300000000100010\nr 1 i0000000000000041\n";
+    b"cycles 3\ngroup 0 output 1\no 41\nslot 0 turns 3 halted ip p3300000000100010\nr 1 i0000000000000041\ncounts hits 2 misses 1 writebacks 0 tlb_hits 0 tlb_misses 1 reads 1 writes 0\n";
 
 // Two turns of slot 0, and one of a slot that is not there.
 const UNDER_A_SCHEDULE: &[u8] =
-    b"cycles 3\ngroup 0 output 1\no 41\nslot 0 turns 2 running ip p3300000000100010\nr 1 i0000000000000041\n";
+    b"cycles 3\ngroup 0 output 1\no 41\nslot 0 turns 2 running ip p3300000000100010\nr 1 i0000000000000041\ncounts hits 1 misses 1 writebacks 0 tlb_hits 0 tlb_misses 1 reads 1 writes 0\n";
 
 // Two cycles of round robin, each with its line.
 const TWO_CYCLES: &[u8] =
-    b"t 0 1 did fetch 00000000100000\nt 0 2 did fetch 00000000100008\ncycles 2\ngroup 0 output 1\no 41\nslot 0 turns 2 running ip p3300000000100010\nr 1 i0000000000000041\n";
+    b"t 0 1 did fetch 00000000100000\nt 0 2 did fetch 00000000100008\ncycles 2\ngroup 0 output 1\no 41\nslot 0 turns 2 running ip p3300000000100010\nr 1 i0000000000000041\ncounts hits 1 misses 1 writebacks 0 tlb_hits 0 tlb_misses 1 reads 1 writes 0\n";
 
 // The turns of the two slots of `pair`.
 const TURNS: &str = "0*3 1 0 1*2";
 
 const TRACE_OF_TWO: &[u8] =
-    b"t 0 1 did fetch 00000000100000\nt 0 2 did fetch 00000000100008\nt 0 3 did fetch 00000000100000\nt 1 1 did fetch 00000000100000\nt 0 4 did fetch 00000000100008\nt 1 2 did fetch 00000000100008\nt 1 3 did fetch 00000000100000\ncycles 7\ngroup 0 output 2\no 4141\nslot 0 turns 4 running ip p3300000000100000\nr 1 i0000000000000041\ngroup 1 output 2\no 4242\nslot 1 turns 3 running ip p3300000000100008\nr 1 i0000000000000042\n";
+    b"t 0 1 did fetch 00000000100000\nt 0 2 did fetch 00000000100008\nt 0 3 did fetch 00000000100000\nt 1 1 did fetch 00000000100000\nt 0 4 did fetch 00000000100008\nt 1 2 did fetch 00000000100008\nt 1 3 did fetch 00000000100000\ncycles 7\ngroup 0 output 2\no 4141\nslot 0 turns 4 running ip p3300000000100000\nr 1 i0000000000000041\ngroup 1 output 2\no 4242\nslot 1 turns 3 running ip p3300000000100008\nr 1 i0000000000000042\ncounts hits 6 misses 1 writebacks 0 tlb_hits 0 tlb_misses 1 reads 1 writes 0\n";
 
 const ALONE_0: &[u8] =
-    b"cycles 4\ngroup 0 output 2\no 4141\nslot 0 turns 4 running ip p3300000000100000\nr 1 i0000000000000041\n";
+    b"cycles 4\ngroup 0 output 2\no 4141\nslot 0 turns 4 running ip p3300000000100000\nr 1 i0000000000000041\ncounts hits 3 misses 1 writebacks 0 tlb_hits 0 tlb_misses 1 reads 1 writes 0\n";
 
 const ALONE_1: &[u8] =
-    b"cycles 3\ngroup 1 output 2\no 4242\nslot 1 turns 3 running ip p3300000000100008\nr 1 i0000000000000042\n";
+    b"cycles 3\ngroup 1 output 2\no 4242\nslot 1 turns 3 running ip p3300000000100008\nr 1 i0000000000000042\ncounts hits 2 misses 1 writebacks 0 tlb_hits 0 tlb_misses 1 reads 1 writes 0\n";
 
 const BOTH: &[u8] =
-    b"cycles 7\ngroup 0 output 2\no 4141\nslot 0 turns 4 running ip p3300000000100000\nr 1 i0000000000000041\ngroup 1 output 2\no 4242\nslot 1 turns 3 running ip p3300000000100008\nr 1 i0000000000000042\n";
+    b"cycles 7\ngroup 0 output 2\no 4141\nslot 0 turns 4 running ip p3300000000100000\nr 1 i0000000000000041\ngroup 1 output 2\no 4242\nslot 1 turns 3 running ip p3300000000100008\nr 1 i0000000000000042\ncounts hits 6 misses 1 writebacks 0 tlb_hits 0 tlb_misses 1 reads 1 writes 0\n";
 
 /// The image of `examples/hello.img`.
 fn hello(rt: &HostRuntime) -> Result<Vec<u8>, Fail> {
@@ -102,7 +102,7 @@ fn answer(
 ) -> Result<(Status, MemSink, MemSink), Fail> {
     let mut out = MemSink::new(rt.alloc(), 10_000, Vec::new(rt.alloc()), 7)?;
     let mut diag = MemSink::new(rt.alloc(), 100, Vec::new(rt.alloc()), 7)?;
-    let status = mmachine::<PlainMem, _, _, _, _>(
+    let status = mmachine::<VMem, _, _, _, _>(
         rt.alloc(),
         &strings(rt, words)?,
         &mut files,
@@ -162,7 +162,7 @@ fn solos(rt: HostRuntime) -> Result<(), Fail> {
     Ok(())
 }
 
-// Groups that have no slot, and a slot whose handler is of another group.
+// What the audit has of each of two groups.
 const REACH_0: &str = "group 0 user\ntouch 00000000100000 12\n";
 
 const REACH_1: &str = "group 1 user\ntouch 00000000100000 12\n";
@@ -223,14 +223,12 @@ fn migrates(rt: HostRuntime) -> Result<(), Fail> {
     Ok(())
 }
 
-// Words that are in no row, or a number that is not as it is written.
-// Each file is read and parsed before the next, so a wrong image is refused whatever the schedule is.
 // A sink whose third write fails has a front part of the text.
 #[test]
 fn failing_third_write(rt: HostRuntime) -> Result<(), Fail> {
     let mut out = MemSink::new(rt.alloc(), 10_000, vec![in rt.alloc(); 3]?, 10)?;
     let mut diag = MemSink::new(rt.alloc(), 0, Vec::new(rt.alloc()), 7)?;
-    let status = mmachine::<PlainMem, _, _, _, _>(
+    let status = mmachine::<VMem, _, _, _, _>(
         rt.alloc(),
         &strings(&rt, &["run", "IMAGE", "10"])?,
         &mut files(&rt, hello(&rt)?, "", 4096)?,
@@ -270,7 +268,7 @@ fn real_files(rt: HostRuntime) -> Result<(), Fail> {
     let mut said = Vec::new(rt.alloc());
     let mut out = StdSink::new(&mut kept);
     let mut diag = StdSink::new(&mut said);
-    let done = mmachine::<PlainMem, _, _, _, _>(
+    let done = mmachine::<VMem, _, _, _, _>(
         rt.alloc(),
         &words,
         &mut files,
@@ -279,7 +277,7 @@ fn real_files(rt: HostRuntime) -> Result<(), Fail> {
         &mut diag,
     );
     fs::remove_file(&rt, name)?;
-    let absent = mmachine::<PlainMem, _, _, _, _>(
+    let absent = mmachine::<VMem, _, _, _, _>(
         rt.alloc(),
         &words,
         &mut files,
