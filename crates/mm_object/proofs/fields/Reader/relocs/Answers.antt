@@ -1,0 +1,56 @@
+use Rattle.std.proofs.Common.{◌≡◌, ℕ, ◌+◌, ◌*◌, List, length, None, refl, sym, ap, subst, ◌∙◌, arith}
+use Rattle.std.proofs.lemmas.Result.{err_from_is_err_and}
+use Rattle.mm_model.specs.Places.{Place, first_bad}
+use Rattle.mm_model.proofs.Places.{goes_on, is_done}
+use Rattle.mm_object.specs.Answers.{Fails}
+use Rattle.mm_object.specs.Faults.{reloc_places}
+use Rattle.mm_object.specs.Reading.{reloc_place, reloc_record_at, relocs_at}
+use Rattle.mm_object.proofs.Over.{ends, starts}
+use Rattle.mm_object.proofs.Onward.{no_reloc, reloc_more, next_place, reloc_places_are}
+use Rattle.mm_object.proofs.fields.Reader.relocs.Goals as goal
+
+pub loop-k-init : goal.loop-k-init
+loop-k-init c =
+    let bytes = c.args.self.now.bytes.now in
+    record {
+      read = c.in_ok-relocs.ensures.items ∙ sym (no_reloc bytes);
+      faults = starts (length bytes) (reloc_places bytes c.args.segments.now) c.args.count;
+      least = refl;
+      within = omega (arith, c.requires.start);
+      count = c.in_ok-relocs.ensures.len;
+    }
+
+pub returns-in_err-reloc-clause-relocs : goal.returns-in_err-reloc-clause-relocs
+returns-in_err-reloc-clause-relocs c =
+    let p = err_from_is_err_and c.from_residual-in_err-reloc.result c.from_residual-in_err-reloc.ensures.1 in
+    let l = c.loop-k in
+    let bytes = c.args.self.now.bytes.now in
+    let segments = c.args.segments.now in
+    let e = c.in_err-reloc.field-0.0 in
+    let same = reloc_places_are bytes segments l.k c.args.externals l.least c.args.start _ c.requires.externals l.invariant.least c.requires.place refl in
+    let fault = subst (λ (ps : List Place). Fails (first_bad (length bytes) ps) e) same c.in_err-reloc.ensures.reloc in
+    rw (p.1, p.2) (ends bytes (reloc_places bytes segments) c.args.count l.k l.invariant.faults e (omega arith) fault)
+
+pub loop-k-preserved : goal.loop-k-preserved
+loop-k-preserved c =
+    let l = c.loop-k in
+    let bytes = c.args.self.now.bytes.now in
+    let segments = c.args.segments.now in
+    let at : c.args.start + 13 * l.k ≡ reloc_place bytes l.k = omega (arith, c.requires.place) in
+    let same = reloc_places_are bytes segments l.k c.args.externals l.least c.args.start _ c.requires.externals l.invariant.least c.requires.place refl in
+    let clean = subst (λ (ps : List Place). first_bad (length bytes) ps ≡ None) same c.in_ok-reloc.ensures.reloc.0 in
+    let is = c.in_ok-reloc.ensures.reloc.1 ∙ ap (reloc_record_at bytes) at in
+    record {
+      read = c.in_ok-push.ensures.items ∙ reloc_more bytes l.k l.relocs.items c.in_ok-reloc.reloc l.invariant.read is;
+      faults = goes_on (length bytes) (reloc_places bytes segments) c.args.count l.k l.invariant.faults (omega arith) clean;
+      least = ap (λ n. n + 1) c.place_of-least.ensures.place ∙ next_place bytes l.k c.in_ok-reloc.reloc is;
+      within = omega (arith, c.in_ok-reloc.ensures.within);
+      count = c.in_ok-push.ensures.len ∙ ap (λ (n : ℕ). n + 1) l.invariant.count;
+    }
+
+pub returns-clause-relocs : goal.returns-clause-relocs
+returns-clause-relocs c =
+    let l = c.loop-k in
+    let bytes = c.args.self.now.bytes.now in
+    let all : l.k ≡ c.args.count = omega arith in
+    (is_done (length bytes) (reloc_places bytes c.args.segments.now) c.args.count l.k l.invariant.faults (omega arith), l.invariant.read ∙ ap (relocs_at bytes) all)

@@ -1,0 +1,7 @@
+use Rattle.std.proofs.Common.{◌≡◌, true, take}
+use Rattle.std.specs.List.{list_all}
+use Rattle.mm_object.specs.Objects.{is_reloc}
+use Rattle.mm_object.proofs.relocs.are_relocs.Given as goal
+
+abbrev pub invariant-loop-reloc : goal.invariant-loop-reloc
+invariant-loop-reloc l = list_all (is_reloc l.segments l.externals) (take l.reloc-index l.relocs) ≡ true

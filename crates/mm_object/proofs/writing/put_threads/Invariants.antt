@@ -1,0 +1,7 @@
+use Rattle.std.proofs.Common.{◌≡◌, ◌++◌, take}
+use Rattle.std.specs.List.{flat_map}
+use Rattle.mm_object.specs.Spelling.{thread_record}
+use Rattle.mm_object.proofs.writing.put_threads.Given as goal
+
+abbrev pub invariant-loop-thread : goal.invariant-loop-thread
+invariant-loop-thread l = l.out.items ≡ l.initial.out.items ++ flat_map thread_record (take l.thread-index l.threads)

@@ -1,0 +1,37 @@
+-- The numbers of the faults of object files, and what a reader answers.
+use Rattle.std.specs.Prelude.{◌≡◌, ℕ, Option, Some, None, Result, Ok, Err}
+use Rattle.mm_object.specs.declared.fault.ObjectFault.{ObjectFault}
+use Rattle.mm_object.specs.declared.fault.ObjectFault.TheVariants as faults
+use Rattle.mm_object.specs.declared.fault.ObjectError.{ObjectError}
+use Rattle.mm_object.specs.declared.fault.ObjectError.TheVariants as errors
+
+abbrev pub number_of : ObjectFault → ℕ
+number_of faults.Short = 1
+number_of faults.Magic = 2
+number_of faults.Version = 3
+number_of faults.Count = 4
+number_of faults.Name = 5
+number_of faults.Segment = 6
+number_of faults.Reloc = 7
+number_of faults.Thread = 8
+number_of faults.Trailing = 9
+
+-- the error names the fault, unless memory ran out
+abbrev pub Fails : Option (ℕ × ℕ) → ObjectError → Type 0
+Fails fault (errors.Fault kind offset) = fault ≡ Some (number_of kind, offset)
+Fails fault errors.NoMemory = Unit {0}
+
+-- a function found no fault and this value, or it found this fault, unless memory ran out
+abbrev pub Gives : {X Y : Type 0} → (X → Y) → Option (ℕ × ℕ) → Y → Result X ObjectError → Type 0
+Gives view fault value (Ok x) = (fault ≡ None) × (view x ≡ value)
+Gives view fault value (Err e) = Fails fault e
+
+-- the answer is an object, unless memory ran out
+abbrev pub IsUnlessNoMemory : {X : Type 0} → X → Result X ObjectError → Type 0
+IsUnlessNoMemory value (Ok x) = x ≡ value
+IsUnlessNoMemory value (Err e) = e ≡ errors.NoMemory
+
+-- the answer is a fault of this number at this place, unless memory ran out
+abbrev pub FailsUnlessNoMemory : {X : Type 0} → ℕ × ℕ → Result X ObjectError → Type 0
+FailsUnlessNoMemory fault (Ok x) = ⊥
+FailsUnlessNoMemory fault (Err e) = Fails (Some fault) e

@@ -1,0 +1,9 @@
+pub mod Names
+pub mod Objects
+pub mod Spelling
+pub mod Reading
+pub mod Faults
+pub mod Laws
+pub mod Answers
+pub mod Fits
+pub mod Steps

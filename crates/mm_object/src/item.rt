@@ -1,0 +1,6 @@
+/// A word of a segment, and whether its cell is full.
+#[derive(Clone, Copy, Debug, PartialEq, Eq)]
+pub struct Item {
+    pub bits: u64,
+    pub full: bool,
+}

@@ -1,0 +1,22 @@
+//! How much an object may have.
+
+pub(crate) const SEGMENT_LIMIT: usize = 256;
+
+pub(crate) const EXTERNAL_LIMIT: usize = 1024;
+
+pub(crate) const RELOC_LIMIT: usize = 65535;
+
+pub(crate) const THREAD_LIMIT: usize = 16;
+
+pub(crate) const SPARE_LIMIT: u16 = 256;
+
+/// How many words all segments may have together.
+pub(crate) const WORD_LIMIT: usize = 131_072;
+
+/// The least and the greatest logarithm of a segment's length in bytes.
+pub(crate) const LEAST_LOG: u8 = 3;
+
+pub(crate) const GREATEST_LOG: u8 = 20;
+
+/// How many numbers of slots and groups there are.
+pub(crate) const SLOT_LIMIT: u8 = 16;

@@ -1,0 +1,96 @@
+ghost use Rattle.std.specs.Prelude.{◌≡◌, ◌≤◌, true, IsTrue, length};
+ghost use Rattle.std.specs.Option.{SomeIff};
+ghost use Rattle.std.specs.List.{list_all};
+ghost use Rattle.mm_object.specs.Names.{begins_name, goes_on, is_before, is_name};
+ghost use Rattle.mm_object.specs.Objects.{same_name};
+
+use arrayvec::ArrayVec;
+use std::marker::Model;
+
+/// How many bytes a name has at most.
+pub(crate) const NAME_BYTES: usize = 31;
+
+/// A name of 1 to 31 bytes: a letter or `_`, then letters, digits or `_`. Contracts see its bytes.
+#[derive(Drop)]
+pub struct Name {
+    bytes: ArrayVec<u8, 31>,
+}
+
+impl Model for Name {
+    ghost use Rattle.std.specs.Prelude.{ℕ, List, ◌≡◌, true};
+    ghost use Rattle.mm_object.specs.Names.{is_name};
+
+    ghost Value = { List ℕ };
+
+    ghost view = { λ n. n.bytes.items };
+
+    ghost invariant = { λ n. is_name n.bytes.items ≡ true };
+}
+
+impl Name {
+    /// The name of these bytes. None exactly where they are no name.
+    pub fn new(bytes: &[u8]) -> Option<Name>
+        ensures { SomeIff result (is_name bytes.now ≡ true) bytes.now }
+    {
+        if !is_name(bytes) {
+            return None;
+        }
+        let mut name = ArrayVec::new();
+        name.try_extend_from_slice(bytes).ok()?;
+        Some(Name { bytes: name })
+    }
+
+    /// Its bytes.
+    pub fn bytes(&self) -> &[u8]
+        ensures bytes { result.now ≡ self.now }
+        ensures name { is_name self.now ≡ true }
+    {
+        self.bytes.as_slice()
+    }
+}
+
+fn is_name(bytes: &[u8]) -> bool
+    ensures name { result ≡ is_name bytes.now }
+    ensures short { IsTrue result → length bytes.now ≤ 31 }
+{
+    match bytes {
+        [] => false,
+        [first, rest @ ..] => begins_name(*first) && go_on(rest) && bytes.len() <= NAME_BYTES,
+    }
+}
+
+fn go_on(bytes: &[u8]) -> bool
+    ensures { result ≡ list_all goes_on bytes.now }
+{
+    bytes.iter().all(|byte| goes_on(*byte))
+}
+
+fn begins_name(byte: u8) -> bool
+    ensures { result ≡ begins_name byte }
+{
+    byte.is_ascii_alphabetic() || byte == b'_'
+}
+
+fn goes_on(byte: u8) -> bool
+    ensures { result ≡ goes_on byte }
+{
+    begins_name(byte) || byte.is_ascii_digit()
+}
+
+/// Whether two names are the same.
+pub(crate) fn is_same(a: &Name, b: &Name) -> bool
+    ensures { result ≡ same_name a.now b.now }
+{
+    a.bytes() == b.bytes()
+}
+
+/// Whether one name stands before another in the order of bytes.
+pub(crate) fn is_before(a: &[u8], b: &[u8]) -> bool
+    ensures { result ≡ is_before a.now b.now }
+{
+    match (a, b) {
+        (_, []) => false,
+        ([], _) => true,
+        ([x, xs @ ..], [y, ys @ ..]) => { if x == y { is_before(xs, ys) } else { x < y } }
+    }
+}

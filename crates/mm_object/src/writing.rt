@@ -1,0 +1,240 @@
+//! The writer of object files.
+
+ghost use Rattle.std.specs.Prelude.{◌≡◌, ◌+◌, ◌/◌, ◌^◌, ◌<◌, ◌≤◌, [], ◌∷◌, ◌++◌, length, map, OnOk, IfOk};
+ghost use Rattle.std.specs.Int.{w32, w64, to_be_bytes};
+ghost use Rattle.std.specs.List.{flat_map, AllByRecursion};
+ghost use Rattle.mm_word.specs.Perm.{code_of};
+ghost use Rattle.mm_model.specs.Flags.{number_of_flags};
+ghost use Rattle.mm_model.specs.Spelling.{bitmap, handler_byte};
+ghost use Rattle.mm_object.specs.declared.item.Item.{Item as ItemValue};
+ghost use Rattle.mm_object.specs.Objects.{IsSegment};
+ghost use Rattle.mm_object.specs.Spelling.{header, is_tagged, name_record, reloc_record, segment_record, spelling, target_record, thread_record, value_record, Spells};
+
+use crate::item::Item;
+use crate::name::Name;
+use crate::object::Object;
+use crate::segment::Segment;
+use crate::target::{Reloc, Target};
+use crate::thread::{Thread, Value};
+use mm_word::NoMemory;
+use std::alloc::{AllocError, Global};
+
+/// The byte of a thread that has no handler.
+pub(crate) const NO_HANDLER: u8 = 255;
+
+/// The bytes of an object's file. They spell the object, so that it is read from them again.
+pub fn write(alloc: Global, o: &Object) -> Result<Vec<u8>, NoMemory>
+    ensures written { IfOk result (λ bytes. bytes.items ≡ spelling o.now) }
+    ensures spelled { IfOk result (λ bytes. Spells bytes.items o.now) }
+{
+    match spelled(alloc, o) {
+        Ok(bytes) => Ok(bytes),
+        Err(_) => Err(NoMemory),
+    }
+}
+
+fn spelled(alloc: Global, o: &Object) -> Result<Vec<u8>, AllocError>
+    ensures written { IfOk result (λ bytes. bytes.items ≡ spelling o.now) }
+    ensures spelled { IfOk result (λ bytes. Spells bytes.items o.now) }
+{
+    let mut out = Vec::new(alloc);
+    put_header(&mut out, o)?;
+    put_segments(&mut out, o.segments())?;
+    put_names(&mut out, o.externals())?;
+    put_relocs(&mut out, o.relocs())?;
+    put_threads(&mut out, o.threads())?;
+    Ok(out)
+}
+
+fn put_header(out: &mut Vec<u8>, o: &Object) -> Result<(), AllocError>
+    ensures { OnOk result (out.new.items ≡ out.old.items ++ header o.now) }
+{
+    out.extend_from_slice(b"MMO1")?;
+    out.extend_from_slice(&1_u16.to_be_bytes())?;
+    out.extend_from_slice(&(o.segments().len() as u16).to_be_bytes())?;
+    out.extend_from_slice(&(o.externals().len() as u16).to_be_bytes())?;
+    out.extend_from_slice(&(o.relocs().len() as u16).to_be_bytes())?;
+    out.extend_from_slice(&(o.threads().len() as u16).to_be_bytes())?;
+    out.extend_from_slice(&o.spare().to_be_bytes())?;
+    Ok(())
+}
+
+fn put_segments(out: &mut Vec<u8>, segments: &[Segment]) -> Result<(), AllocError>
+    requires { AllByRecursion IsSegment segments.now }
+    ensures { OnOk result (out.new.items ≡ out.old.items ++ flat_map segment_record segments.now) }
+{
+    for segment in segments {
+        put_segment(out, segment)?;
+    }
+    Ok(())
+}
+
+fn put_names(out: &mut Vec<u8>, names: &[Name]) -> Result<(), AllocError>
+    ensures { OnOk result (out.new.items ≡ out.old.items ++ flat_map name_record names.now) }
+{
+    for name in names {
+        put_name(out, name)?;
+    }
+    Ok(())
+}
+
+fn put_relocs(out: &mut Vec<u8>, relocs: &[Reloc]) -> Result<(), AllocError>
+    ensures { OnOk result (out.new.items ≡ out.old.items ++ flat_map reloc_record relocs.now) }
+{
+    for reloc in relocs {
+        put_reloc(out, *reloc)?;
+    }
+    Ok(())
+}
+
+fn put_threads(out: &mut Vec<u8>, threads: &[Thread]) -> Result<(), AllocError>
+    ensures { OnOk result (out.new.items ≡ out.old.items ++ flat_map thread_record threads.now) }
+{
+    for thread in threads {
+        put_thread(out, thread)?;
+    }
+    Ok(())
+}
+
+fn put_name(out: &mut Vec<u8>, name: &Name) -> Result<(), AllocError>
+    ensures { OnOk result (out.new.items ≡ out.old.items ++ name_record name.now) }
+{
+    let bytes = name.bytes();
+    out.push(bytes.len() as u8)?;
+    out.extend_from_slice(bytes)?;
+    Ok(())
+}
+
+#[tactic(auto, unfolding(crate::specs::Spelling::segment_record))]
+fn put_segment(out: &mut Vec<u8>, segment: &Segment) -> Result<(), AllocError>
+    requires { IsSegment segment.now }
+    ensures { OnOk result (out.new.items ≡ out.old.items ++ segment_record segment.now) }
+{
+    put_name(out, &segment.name)?;
+    out.push(segment.log)?;
+    put_count(out, &segment.items)?;
+    put_full_bits(out, &segment.items)?;
+    put_words(out, &segment.items)?;
+    Ok(())
+}
+
+fn put_count(out: &mut Vec<u8>, items: &[Item]) -> Result<(), AllocError>
+    requires { length items.now < 2 ^ 32 }
+    ensures { OnOk result (out.new.items ≡ out.old.items ++ to_be_bytes w32 (length items.now)) }
+{
+    out.extend_from_slice(&(items.len() as u32).to_be_bytes())?;
+    Ok(())
+}
+
+fn put_full_bits(out: &mut Vec<u8>, items: &[Item]) -> Result<(), AllocError>
+    requires { length items.now < 2 ^ 32 }
+    ensures { OnOk result (out.new.items ≡ out.old.items ++ bitmap ((length items.now + 7) / 8) (map (λ (i : ItemValue). i.full) items.now)) }
+{
+    for k in 0..(items.len() + 7) / 8 {
+        let end = (8 * k + 8).min(items.len());
+        out.push(full_bits(&items[8 * k..end]) as u8)?;
+    }
+    Ok(())
+}
+
+fn put_words(out: &mut Vec<u8>, items: &[Item]) -> Result<(), AllocError>
+    ensures { OnOk result (out.new.items ≡ out.old.items ++ flat_map (λ (i : ItemValue). to_be_bytes w64 i.bits) items.now) }
+{
+    for item in items {
+        out.extend_from_slice(&item.bits.to_be_bytes())?;
+    }
+    Ok(())
+}
+
+#[tactic(auto, unfolding(crate::specs::Spelling::reloc_record))]
+fn put_reloc(out: &mut Vec<u8>, reloc: Reloc) -> Result<(), AllocError>
+    ensures { OnOk result (out.new.items ≡ out.old.items ++ reloc_record reloc) }
+{
+    out.extend_from_slice(&reloc.segment.to_be_bytes())?;
+    out.extend_from_slice(&reloc.word.to_be_bytes())?;
+    out.push(reloc.perm.code())?;
+    put_target(out, reloc.target)?;
+    Ok(())
+}
+
+fn put_target(out: &mut Vec<u8>, target: Target) -> Result<(), AllocError>
+    ensures { OnOk result (out.new.items ≡ out.old.items ++ target_record target) }
+{
+    out.extend_from_slice(&target.index.to_be_bytes())?;
+    out.extend_from_slice(&target.addend.to_be_bytes())?;
+    Ok(())
+}
+
+#[tactic(auto, unfolding(crate::specs::Spelling::thread_record))]
+fn put_thread(out: &mut Vec<u8>, thread: &Thread) -> Result<(), AllocError>
+    ensures { OnOk result (out.new.items ≡ out.old.items ++ thread_record thread.now) }
+{
+    out.extend_from_slice(&thread_head(thread))?;
+    put_target(out, thread.target)?;
+    out.extend_from_slice(&tags_of(&thread.regs).to_be_bytes())?;
+    put_values(out, &thread.regs)?;
+    Ok(())
+}
+
+// The bytes of a thread before its target.
+fn thread_head(thread: &Thread) -> [u8; 4]
+    ensures { result ≡ thread.now.slot ∷ thread.now.group ∷ handler_byte thread.now.handler ∷ code_of thread.now.perm ∷ [] }
+{
+    let handler = match thread.handler {
+        Some(handler) => handler,
+        None => NO_HANDLER,
+    };
+    [thread.slot, thread.group, handler, thread.perm.code()]
+}
+
+fn put_values(out: &mut Vec<u8>, values: &[Value]) -> Result<(), AllocError>
+    ensures { OnOk result (out.new.items ≡ out.old.items ++ flat_map value_record values.now) }
+{
+    for value in values {
+        put_value(out, *value)?;
+    }
+    Ok(())
+}
+
+fn put_value(out: &mut Vec<u8>, value: Value) -> Result<(), AllocError>
+    ensures { OnOk result (out.new.items ≡ out.old.items ++ value_record value) }
+{
+    match value {
+        Value::Int(n) => out.extend_from_slice(&n.to_be_bytes())?,
+        Value::Ptr { perm, target } => {
+            out.extend_from_slice(&[perm.code(), 0])?;
+            put_target(out, target)?;
+        }
+    }
+    Ok(())
+}
+
+// Which of the values become pointers, the first in the lowest bit.
+fn tags_of(values: &[Value]) -> u16
+    requires { length values.now ≤ 16 }
+    ensures value { result ≡ number_of_flags (map is_tagged values.now) }
+    ensures below { result < 2 ^ length values.now }
+{
+    match values {
+        [] => 0,
+        [first, rest @ ..] => is_tagged(*first) as u16 + 2 * tags_of(rest),
+    }
+}
+
+fn is_tagged(value: Value) -> bool
+    ensures { result ≡ is_tagged value }
+{
+    matches!(value, Value::Ptr { .. })
+}
+
+// Which of the words are full, the first in the lowest bit.
+fn full_bits(items: &[Item]) -> u16
+    requires { length items.now ≤ 8 }
+    ensures value { result ≡ number_of_flags (map (λ (i : ItemValue). i.full) items.now) }
+    ensures below { result < 2 ^ length items.now }
+{
+    match items {
+        [] => 0,
+        [first, rest @ ..] => first.full as u16 + 2 * full_bits(rest),
+    }
+}
