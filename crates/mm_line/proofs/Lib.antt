@@ -1,0 +1,11 @@
+pub mod Cases
+pub mod Choices
+pub mod Claims
+pub mod Longest
+pub mod Numbers
+pub mod OperandRanges
+pub mod Registers
+pub mod Standing
+pub mod StatementRanges
+pub mod TokenRanges
+pub mod Written

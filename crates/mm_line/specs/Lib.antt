@@ -1,0 +1,11 @@
+pub mod Examples
+pub mod Faults
+pub mod Forms
+pub mod Operands
+pub mod Ranges
+pub mod Reading
+pub mod Seen
+pub mod Standing
+pub mod Statements
+pub mod Tokens
+pub mod Words

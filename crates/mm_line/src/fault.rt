@@ -1,0 +1,41 @@
+ghost use Rattle.std.specs.Prelude.{◌≡◌};
+ghost use Rattle.mm_line.specs.Faults.{number_of};
+
+/// What is wrong with a text at a place.
+#[derive(Clone, Copy, Debug, PartialEq, Eq)]
+pub enum Fault {
+    /// A byte that begins no token.
+    Byte = 1,
+    /// A token of the wrong kind for its place, or a missing one.
+    Token,
+    /// An unknown operation, directive, permission or condition, or a name that is too long.
+    Name,
+    /// A number out of its range.
+    Range,
+    /// A branch to what is no label of its segment.
+    Label,
+    /// What is there already.
+    Twice,
+    /// A statement before the one that it belongs to.
+    Place,
+    /// A word past the size of its segment.
+    Full,
+    /// More than an object holds.
+    Limit,
+}
+
+impl Fault {
+    /// The fault's number, 1 to 9.
+    pub fn number(self) -> u8
+        ensures { result ≡ number_of self }
+    {
+        self as u8
+    }
+}
+
+/// A fault and its place: how many bytes of the line begin there, none where something is missing.
+#[derive(Clone, Copy, Debug, PartialEq, Eq)]
+pub struct Problem {
+    pub fault: Fault,
+    pub left: usize,
+}

@@ -1,0 +1,133 @@
+ghost use Rattle.std.specs.Prelude.{◌≡◌};
+ghost use Rattle.mm_line.specs.Seen.{seen, Gives};
+ghost use Rattle.mm_line.specs.Tokens.{next_token};
+ghost use Rattle.mm_line.specs.Reading.{number_of};
+ghost use Rattle.mm_line.specs.Operands.{event_register_of, operand_of, is_goal, with_operand, operand_at, comma_of, more_at, operands_at, bare, code_at};
+
+use crate::reading::{immediate_of, known, name_of, register_of, small_of};
+use crate::words::{how_named, post_named, pre_named};
+use crate::{Code, Fault, Next, Problem, Token, next_token};
+use mm_isa::{EvtReg, Fields, Form, Operand, OperandKind, Reg};
+
+/// The first of the four registers of an event.
+fn event_register_of(next: Next) -> Result<EvtReg, Problem>
+    ensures { result ≡ event_register_of (seen next.entry) }
+{
+    let register = register_of(next)?;
+    EvtReg::new(register.number()).ok_or(next.fault(Fault::Range))
+}
+
+/// The number of a register.
+pub(crate) fn register_number_of(next: Next) -> Result<Reg, Problem>
+    ensures { result ≡ number_of 0 15 (seen next.entry) }
+{
+    let number = small_of(next)?;
+    Reg::new(number).ok_or(next.fault(Fault::Range))
+}
+
+/// The value of an operand of this kind.
+fn operand_of(kind: OperandKind, next: Next) -> Result<Operand, Problem>
+    ensures { result ≡ operand_of kind (seen next.entry) }
+{
+    match kind {
+        OperandKind::Rd => Ok(Operand::Rd(register_of(next)?)),
+        OperandKind::EvtRd => Ok(Operand::EvtRd(event_register_of(next)?)),
+        OperandKind::Ra => Ok(Operand::Ra(register_of(next)?)),
+        OperandKind::Rb => Ok(Operand::Rb(register_of(next)?)),
+        OperandKind::Imm => Ok(Operand::Imm(immediate_of(next)?)),
+        OperandKind::Distance => Ok(Operand::Distance(immediate_of(next)?)),
+        OperandKind::RegisterNumber => Ok(Operand::RegisterNumber(register_number_of(next)?)),
+        OperandKind::Pre => Ok(Operand::Pre(known(pre_named(next.text), next)?)),
+        OperandKind::Post => Ok(Operand::Post(known(post_named(next.text), next)?)),
+        OperandKind::How => Ok(Operand::How(known(how_named(next.text), next)?)),
+    }
+}
+
+/// The code with an operand of this kind in its place. A name in the place of a distance is a label.
+fn with_operand<'a>(kind: OperandKind, code: Code<'a>, next: Next<'a>) -> Result<Code<'a>, Problem>
+    ensures { result ≡ with_operand kind code.entry (seen next.entry) }
+{
+    match (kind, next.token) {
+        (OperandKind::Distance, Token::Name) => Ok(Code {
+            goal: Some(name_of(next)?),
+            fields: code.fields.put(Operand::Distance(0)),
+        }),
+        _ => Ok(Code {
+            fields: code.fields.put(operand_of(kind, next)?),
+            goal: code.goal,
+        }),
+    }
+}
+
+/// An operand, and the line behind it.
+#[tactic(auto, unfolding(crate::specs::Operands::operand_at))]
+fn operand<'a>(
+    kind: OperandKind,
+    code: Code<'a>,
+    line: &'a [u8],
+) -> Result<(Code<'a>, &'a [u8]), Problem>
+    ensures { Gives (λ x. (x.0, x.1.now)) result (operand_at kind code.entry line.now) }
+{
+    let next = next_token(line);
+    let code = with_operand(kind, code, next)?;
+    Ok((code, next.rest))
+}
+
+fn comma(line: &[u8]) -> Result<&[u8], Problem>
+    ensures { Gives (λ rest. rest.now) result (comma_of (next_token line.now)) }
+{
+    let next = next_token(line);
+    match next.token {
+        Token::Comma => Ok(next.rest),
+        _ => Err(next.wrong()),
+    }
+}
+
+/// Further operands, each behind a comma.
+#[tactic(auto, unfolding(crate::specs::Operands::more_at))]
+fn more<'a>(
+    kinds: &[OperandKind],
+    code: Code<'a>,
+    line: &'a [u8],
+) -> Result<(Code<'a>, &'a [u8]), Problem>
+    ensures { Gives (λ x. (x.0, x.1.now)) result (more_at kinds.now code.entry line.now) }
+{
+    match kinds {
+        [] => Ok((code, line)),
+        [kind, kinds @ ..] => {
+            let rest = comma(line)?;
+            let (code, rest) = operand(*kind, code, rest)?;
+            more(kinds, code, rest)
+        }
+    }
+}
+
+/// Operands of these kinds, with commas between.
+#[tactic(auto, unfolding(crate::specs::Operands::operands_at))]
+fn operands<'a>(
+    kinds: &[OperandKind],
+    code: Code<'a>,
+    line: &'a [u8],
+) -> Result<(Code<'a>, &'a [u8]), Problem>
+    ensures { Gives (λ x. (x.0, x.1.now)) result (operands_at kinds.now code.entry line.now) }
+{
+    match kinds {
+        [] => Ok((code, line)),
+        [kind, kinds @ ..] => {
+            let (code, rest) = operand(*kind, code, line)?;
+            more(kinds, code, rest)
+        }
+    }
+}
+
+/// The operands of an operation.
+#[tactic(auto, unfolding(crate::specs::Operands::code_at))]
+pub(crate) fn read_code<'a>(form: &Form, line: &'a [u8]) -> Result<(Code<'a>, &'a [u8]), Problem>
+    ensures { Gives (λ x. (x.0, x.1.now)) result (code_at form.now line.now) }
+{
+    let bare = Code {
+        fields: Fields::unused(form.code),
+        goal: None,
+    };
+    operands(form.kinds.as_slice(), bare, line)
+}
