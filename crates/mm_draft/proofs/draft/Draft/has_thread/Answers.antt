@@ -1,0 +1,10 @@
+use Rattle.std.proofs.Common.{◌∙◌, ap, sym, not, is_some}
+use Rattle.std.specs.Prelude.{◌==◌}
+use Rattle.mm_draft.specs.Drafts.{Draft, last}
+use Rattle.mm_draft.proofs.Lasts.{has_last}
+use Rattle.mm_draft.proofs.draft.Draft.has_thread.Goals as goal
+
+pub returns : goal.returns
+returns c =
+    let items = c.self.inside.threads in
+    ap not c.is_empty.ensures ∙ ap (λ n. not (n == 0)) items.ok.0 ∙ sym (has_last items.items) ∙ ap (λ (d : Draft). is_some (last d.threads)) c.self.view_is

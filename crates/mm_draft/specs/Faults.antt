@@ -1,0 +1,145 @@
+-- The faults that are seen when lines are read, each against the lines before it, and the draft of a text.
+use Rattle.std.specs.Prelude.{ℕ, ◌+◌, ◌-◌, ◌^◌, ◌==◌, nat_lt, nat_le, Bool, true, false, not, ◌&&◌, ◌||◌, if◌then◌else◌, List, [], ◌∷◌, ◌++◌, length, Option, Some, None, is_some, Result, Ok, Err}
+use Rattle.std.specs.List.{list_any, slice_split}
+use Prim.Native.Char.{code}
+use Rattle.mm_line.specs.declared.fault.Fault.{Fault}
+use Rattle.mm_line.specs.declared.fault.Fault.TheVariants.{Twice, Place, Full, Limit}
+use Rattle.mm_line.specs.declared.fault.Problem.{Problem}
+use Rattle.mm_line.specs.Faults.{number_of}
+use Rattle.mm_line.specs.declared.name.Mark.{Mark}
+use Rattle.mm_line.specs.declared.statement.Content.{Content}
+use Rattle.mm_line.specs.declared.statement.Statement.{Statement}
+use Rattle.mm_line.specs.declared.statement.Statement.TheVariants as statement
+use Rattle.mm_line.specs.declared.line.Claim.{Claim}
+use Rattle.mm_line.specs.declared.line.Claim.TheVariants as claims
+use Rattle.mm_line.specs.declared.line.Body.{Body}
+use Rattle.mm_line.specs.declared.line.Line.{Line}
+use Rattle.mm_line.specs.Statements.{line_of}
+use Rattle.mm_draft.specs.declared.source.Source.{Source}
+use Rattle.mm_draft.specs.declared.fault.Failure.{Failure}
+use Rattle.mm_draft.specs.Drafts.{Segment, Thread, Draft, nothing, place_of, last, words_of, pointers_of, is_pointer, add_maybe_label, add_line}
+
+-- 1. Limits.
+
+abbrev pub segment_limit : ℕ
+segment_limit = 256
+
+abbrev pub word_limit : ℕ
+word_limit = 131072
+
+abbrev pub pointer_limit : ℕ
+pointer_limit = 65535
+
+-- how many words a segment of this size has room for
+abbrev pub room_of : Segment → ℕ
+room_of s = 2 ^ (s.log - 3)
+
+-- 2. The faults of a line behind a draft.
+
+abbrev pub fault_if : Bool → Fault → ℕ → List Problem
+fault_if bad fault left = if bad then record { fault = fault; left = left } ∷ [] else []
+
+abbrev pub is_named : Draft → List ℕ → Bool
+is_named d name = is_some (place_of d name)
+
+abbrev pub has_slot : Draft → ℕ → Bool
+has_slot d slot = list_any (λ t. t.slot == slot) d.threads
+
+abbrev pub has_register : Option Thread → ℕ → Bool
+has_register None number = false
+has_register (Some t) number = list_any (λ r. r.number == number) t.registers
+
+abbrev pub is_none : {A : Type 0} → Option A → Bool
+is_none o = not (is_some o)
+
+-- a label before the first segment, or one that is there already
+abbrev pub label_faults : Draft → Mark → List Problem
+label_faults d mark = fault_if (is_none (last d.segments)) Place mark.left ++ fault_if (is_named d mark.name) Twice mark.left
+
+-- what a statement names is there already
+abbrev pub claim_faults : Draft → Option Claim → List Problem
+claim_faults d None = []
+claim_faults d (Some (claims.Spare left)) = fault_if (is_some d.spare) Twice left
+claim_faults d (Some (claims.Segment mark)) = fault_if (is_named d mark.name) Twice mark.left
+claim_faults d (Some (claims.Slot slot left)) = fault_if (has_slot d slot) Twice left
+claim_faults d (Some (claims.Register number left)) = fault_if (has_register (last d.threads) number) Twice left
+
+-- so many words more, of which so many become pointers: before the first segment, past the segment's size, or past a limit
+abbrev pub words_faults : Draft → ℕ → ℕ → ℕ → Option Segment → List Problem
+words_faults d words pointers left None = fault_if true Place left
+words_faults d words pointers left (Some s) =
+    fault_if (nat_lt (room_of s) (length s.words + words)) Full left
+    ++ fault_if (nat_lt word_limit (words_of d.segments + words) || nat_lt pointer_limit (pointers_of d.segments + pointers)) Limit left
+
+abbrev pub one_if_pointer : Content → ℕ
+one_if_pointer what = if is_pointer what then 1 else 0
+
+-- a statement without a fault of its own, at its first token
+unfoldable pub statement_faults : Draft → ℕ → Statement → List Problem
+statement_faults d left (statement.Spare frames) = []
+statement_faults d left (statement.Begin mark log) = fault_if (nat_le segment_limit (length d.segments)) Limit left
+statement_faults d left (statement.Fill words) = words_faults d words 0 left (last d.segments)
+statement_faults d left (statement.Word full what) = words_faults d 1 (one_if_pointer what) left (last d.segments)
+statement_faults d left (statement.Thread slot group handler perm target) = []
+statement_faults d left (statement.Register number value) = fault_if (is_none (last d.threads)) Place left
+
+abbrev pub reading_faults : Draft → ℕ → Result Statement Problem → List Problem
+reading_faults d left (Ok s) = statement_faults d left s
+reading_faults d left (Err problem) = problem ∷ []
+
+abbrev pub body_faults : Draft → Option Body → List Problem
+body_faults d None = []
+body_faults d (Some body) = claim_faults d body.claim ++ reading_faults d body.left body.reading
+
+abbrev pub maybe_label_faults : Draft → Option (Result Mark Problem) → List Problem
+maybe_label_faults d None = []
+maybe_label_faults d (Some (Ok mark)) = label_faults d mark
+maybe_label_faults d (Some (Err problem)) = problem ∷ []
+
+-- all faults of a line: those of its label, and those of its statement behind the label
+unfoldable pub line_faults : Draft → Line → List Problem
+line_faults d line = maybe_label_faults d line.label ++ body_faults (add_maybe_label line.label d) line.body
+
+-- 3. The first fault.
+
+-- a fault stands before another in its line: at a lesser place or, at the same place, with the lesser number. A place is how many bytes of the line begin
+-- there, so the lesser place is the greater number
+abbrev pub is_before : Problem → Problem → Bool
+is_before p q = nat_lt q.left p.left || p.left == q.left && nat_lt (number_of p.fault) (number_of q.fault)
+
+abbrev pub lesser : Problem → Option Problem → Option Problem
+lesser p None = Some p
+lesser p (Some q) = if is_before q p then Some q else Some p
+
+abbrev pub first_of : List Problem → Option Problem
+first_of [] = None
+first_of (p ∷ problems) = lesser p (first_of problems)
+
+abbrev pub source_of : ℕ → List ℕ → Source
+source_of number bytes = record { line = number; size = length bytes }
+
+abbrev pub step_by : Option Problem → Source → Line → Draft → Result Draft Failure
+step_by None source line d = Ok (add_line source line d)
+step_by (Some problem) source line d = Err (record { source = source; problem = problem })
+
+-- a line behind a draft: the draft with it, or its first fault
+unfoldable pub step : ℕ → List ℕ → Draft → Result Draft Failure
+step number bytes d = step_by (first_of (line_faults d (line_of bytes))) (source_of number bytes) (line_of bytes) d
+
+infixl 10 ◌then◌
+abbrev pub ◌then◌ : Result Draft Failure → (Draft → Result Draft Failure) → Result Draft Failure
+(Ok d) then f = f d
+(Err failure) then f = Err failure
+
+-- the lines from a number on behind a draft, up to the first fault
+unfoldable pub lines_from : ℕ → Draft → List (List ℕ) → Result Draft Failure
+lines_from number d [] = Ok d
+lines_from number d (bytes ∷ more) = step number bytes d then λ e. lines_from (number + 1) e more
+
+-- a line ends at a newline or at the end of the text
+abbrev pub lines_of : List ℕ → List (List ℕ)
+lines_of text = slice_split (λ b. b == code "\n") text
+
+-- the draft of a text, or the first fault that is seen when its lines are read
+unfoldable pub draft_of : List ℕ → Result Draft Failure
+draft_of text = lines_from 0 nothing (lines_of text)
