@@ -1,0 +1,175 @@
+-- Names in a set, and the place of a name among those that rise.
+use Rattle.std.proofs.Common.{◌≡◌, ℕ, zero, suc, ◌+◌, ◌<◌, ◌≤◌, Bool, true, false, not, ◌&&◌, ◌||◌, if◌then◌else◌, List, [], ◌∷◌, ◌++◌, map, length, get_or, take, Option, Some, None, is_some, refl, sym, ap, ◌∙◌, subst, arith, inl, inr}
+use Rattle.std.specs.Prelude.{nat_le}
+use Rattle.std.specs.declared.cmp.Ordering.{Ordering}
+use Rattle.std.specs.declared.cmp.Ordering.TheVariants.{Less, Equal, Greater}
+use Rattle.std.specs.Ordering.{ordering_index, nat_cmp, match_ordering, is_lt, is_eq}
+use Rattle.std.specs.Cmp.Lexicographic.{slice_cmp}
+use Rattle.std.specs.BTreeSet.{insert_key}
+use Rattle.std.specs.List.{list_any}
+use Rattle.std.proofs.lemmas.Bool.Decides.{nat_tests}
+use Rattle.std.proofs.lemmas.Cmp.{same_from_slice_cmp, nat_list_cmp_total, tied_itself}
+use Rattle.std.proofs.lemmas.Bool.{cases_lt}
+use Rattle.std.proofs.lemmas.List.Sorted.{searchable_from_sorted}
+use Rattle.std.specs.List.Sorted.{IsSortedBy, IsNonDecreasingBy, IsPartitionPoint}
+use denote.Ref.{Bor}
+use Rattle.mm_line.specs.declared.fault.Fault.TheVariants.{Limit}
+use Rattle.mm_draft.specs.Faults.{fault_if}
+use Rattle.mm_draft.specs.Drafts.{Draft, place_of}
+use Rattle.mm_draft.specs.declared.fault.Failure.{Failure}
+use Rattle.mm_object.specs.Names.{is_before}
+use Rattle.mm_object.specs.Objects.{same_name, is_among, ascend}
+use Rattle.mm_model.proofs.ImageBytes.Rising.{both}
+use Rattle.mm_object.proofs.Bools.{is_false}
+use Rattle.mm_asm.specs.Names.{Use, insert_name, position_of, externals_with, with_use, is_external, name_of}
+use Rattle.mm_asm.specs.Faults.{limit_failures, in_source, is_too_many}
+use Rattle.mm_asm.specs.Steps.{limit_failure}
+use Rattle.mm_asm.specs.Answers.{bytes_of, Meets}
+use Rattle.mm_asm.proofs.Lists.{each_weaker}
+use Rattle.mm_asm.proofs.Order.{Rising, not_itself, before_all, position_at, is_same}
+use Rattle.mm_asm.proofs.LateFirsts.{met_both}
+
+-- 1. The order of bytes.
+
+abbrev compared : List ℕ → List ℕ → Ordering
+compared a b = slice_cmp nat_cmp a b
+
+is_less : (a b : List ℕ) → is_lt (compared a b) ≡ is_before a b
+is_less a b = same_from_slice_cmp nat_cmp is_lt is_before refl (λ _ _. refl) (λ _ _. refl) (λ x y xs ys o h. grind (arith, nat_tests)) a b (compared a b) refl
+
+is_equal : (a b : List ℕ) → is_eq (compared a b) ≡ same_name a b
+is_equal a b = same_from_slice_cmp nat_cmp is_eq same_name refl (λ _ _. refl) (λ _ _. refl) (λ x y xs ys o h. grind (arith, nat_tests)) a b (compared a b) refl
+
+-- 2. A name more.
+
+chosen : {A : Type 0} (o : Ordering) (less same more : A) → match_ordering o less same more ≡ (if is_eq o then same else if is_lt o then less else more)
+chosen Less less same more = refl
+chosen Equal less same more = refl
+chosen Greater less same more = refl
+
+abbrev order_of : Bor (List ℕ) → Bor (List ℕ) → Ordering
+order_of a b = slice_cmp nat_cmp a.now b.now
+
+pub inserted : (keys : List (Bor (List ℕ))) (k : Bor (List ℕ)) → bytes_of (insert_key order_of keys k) ≡ insert_name k.now (bytes_of keys)
+inserted [] k = refl
+inserted (x ∷ keys) k =
+    ap bytes_of (chosen (order_of k x) (k ∷ x ∷ keys) (x ∷ keys) (x ∷ insert_key order_of keys k))
+    ∙ by (is_eq (order_of k x)) (is_lt (order_of k x)) (is_equal k.now x.now) (is_less k.now x.now) (inserted keys k)
+  where
+    by : (b c : Bool) → b ≡ same_name k.now x.now → c ≡ is_before k.now x.now → bytes_of (insert_key order_of keys k) ≡ insert_name k.now (bytes_of keys)
+        → bytes_of (if b then x ∷ keys else if c then k ∷ x ∷ keys else x ∷ insert_key order_of keys k) ≡ insert_name k.now (x.now ∷ bytes_of keys)
+    by true c e f later = rw (← e) refl
+    by false true e f later = rw (← e, ← f) refl
+    by false false e f later = rw (← e, ← f) (ap (λ names. x.now ∷ names) later)
+
+-- the name of a use that a draft does not have
+pub added : (d : Draft) (u : Use) (old new : List (Bor (List ℕ))) (k : Bor (List ℕ)) → k.now ≡ name_of u → is_external d u ≡ true → new ≡ insert_key order_of old k → bytes_of new ≡ with_use d u (bytes_of old)
+added d u old new k same absent is = ap bytes_of is ∙ inserted old k ∙ ap (λ (n : List ℕ). insert_name n (bytes_of old)) same ∙ ap (λ b. if b then insert_name (name_of u) (bytes_of old) else bytes_of old) (sym absent)
+
+pub as_many : (keys : List (Bor (List ℕ))) → length (bytes_of keys) ≡ length keys
+as_many [] = refl
+as_many (k ∷ keys) = ap suc (as_many keys)
+
+-- one too many at a use of a name that a draft does not have
+pub limit_is : (d : Draft) (u : Use) (old : List (Bor (List ℕ))) (name : List ℕ) (bad : Bool) → name ≡ name_of u → is_external d u ≡ true → bad ≡ is_too_many (bytes_of old) name
+    → in_source u.source (fault_if bad Limit u.target.mark.left) ≡ limit_failure d (bytes_of old) u
+limit_is d u old name bad same absent is =
+    ap (λ b. in_source u.source (fault_if b Limit u.target.mark.left)) (is ∙ ap (is_too_many (bytes_of old)) same ∙ ap (λ b. b && is_too_many (bytes_of old) (name_of u)) (sym absent))
+
+pub absent_is : (d : Draft) (u : Use) (name : List ℕ) → name ≡ name_of u → is_some (place_of d name) ≡ false → is_external d u ≡ true
+absent_is d u name same none = ap (λ n. not (is_some (place_of d n))) (sym same) ∙ ap not none
+
+pub present_is : (d : Draft) (u : Use) (name : List ℕ) → name ≡ name_of u → is_some (place_of d name) ≡ true → is_external d u ≡ false
+present_is d u name same some = ap (λ n. not (is_some (place_of d n))) (sym same) ∙ ap not some
+
+pub contained : (keys : List (Bor (List ℕ))) (name : List ℕ) → list_any (λ (k : Bor (List ℕ)). is_eq (slice_cmp nat_cmp name k.now)) keys ≡ is_among name (bytes_of keys)
+contained [] name = refl
+contained (x ∷ keys) name = ap (λ b. b || list_any (λ (k : Bor (List ℕ)). is_eq (slice_cmp nat_cmp name k.now)) keys) (is_equal name x.now) ∙ ap (λ b. same_name name x.now || b) (contained keys name)
+
+-- 3. One use more.
+
+module _ (d : Draft) where
+  pub with_more : (names : List (List ℕ)) (uses : List Use) (i : ℕ) (u : Use) → i < length uses → u ≡ get_or uses i u → externals_with d names (take (i + 1) uses) ≡ with_use d u (externals_with d names (take i uses))
+  with_more names [] i u lt is = absurd (omega arith)
+  with_more names (v ∷ uses) zero u lt is = ap (λ w. with_use d w names) (sym is)
+  with_more names (v ∷ uses) (suc i) u lt is =
+      let next : suc i + 1 ≡ suc (i + 1) = omega arith in
+      ap (λ n. externals_with d names (take n (v ∷ uses))) next ∙ with_more (with_use d v names) uses i u (omega arith) is
+
+  pub limits_more : (names : List (List ℕ)) (uses : List Use) (i : ℕ) (u : Use) → i < length uses → u ≡ get_or uses i u
+      → limit_failures d names (take (i + 1) uses) ≡ limit_failures d names (take i uses) ++ limit_failure d (externals_with d names (take i uses)) u
+  limits_more names [] i u lt is = absurd (omega arith)
+  limits_more names (v ∷ uses) zero u lt is = Rattle.std.proofs.lemmas.List.append-nil (limit_failure d names v) ∙ ap (limit_failure d names) (sym is)
+  limits_more names (v ∷ uses) (suc i) u lt is =
+      let next : suc i + 1 ≡ suc (i + 1) = omega arith in
+      ap (λ n. limit_failures d names (take n (v ∷ uses))) next
+      ∙ ap (λ fs. limit_failure d names v ++ fs) (limits_more (with_use d v names) uses i u (omega arith) is)
+      ∙ sym (Rattle.std.proofs.Common.append_assoc (limit_failure d names v) (limit_failures d (with_use d v names) (take i uses)) (limit_failure d (externals_with d (with_use d v names) (take i uses)) u))
+
+  pub limits_met : (a b c : Option Failure) (names : List (List ℕ)) (uses : List Use) (i : ℕ) (u : Use) → i < length uses → u ≡ get_or uses i u
+      → names ≡ externals_with d [] (take i uses) → Meets a b (limit_failures d [] (take i uses)) → Meets b c (limit_failure d names u) → Meets a c (limit_failures d [] (take (i + 1) uses))
+  limits_met a b c names uses i u lt is e h k =
+      subst (Meets a c) (sym (limits_more [] uses i u lt is))
+      (met_both a b c (limit_failures d [] (take i uses)) (limit_failure d (externals_with d [] (take i uses)) u) h (subst (λ ns. Meets b c (limit_failure d ns u)) e k))
+
+-- 4. The place of a name.
+
+ascend_rises : (xs : List (List ℕ)) → ascend xs ≡ true → Rising xs
+ascend_rises [] h = tt
+ascend_rises (x ∷ []) h = (tt, tt)
+ascend_rises (x ∷ y ∷ xs) h =
+    let b = both (is_before x y) (ascend (y ∷ xs)) h in
+    let r = ascend_rises (y ∷ xs) b.1 in
+    ((b.0, each_weaker (λ z. is_before y z ≡ true) (λ z. is_before x z ≡ true) xs (λ z k. before_all x y z b.0 k) r.0), r)
+
+same_from_equal : (a b : List ℕ) → compared a b ≡ Equal → a ≡ b
+same_from_equal a b h = is_same a b (sym (is_equal a b) ∙ ap is_eq h)
+
+pub place_is : (names : List (List ℕ)) (name : List ℕ) (i : ℕ) → ascend names ≡ true → i < length names → ((d : List ℕ) → slice_cmp nat_cmp (get_or names i d) name ≡ Equal) → i ≡ position_of name names
+place_is names name i up lt found =
+    let e : get_or names i [] ≡ name = same_from_equal (get_or names i []) name (found []) in
+    sym (position_at names i (ascend_rises names up) lt) ∙ ap (λ (n : List ℕ). position_of n names) e
+
+pub too_many : (keys : List (Bor (List ℕ))) (name : List ℕ) (n : ℕ) (b : Bool) → n ≡ length keys → 1024 ≤ n → b ≡ list_any (λ (k : Bor (List ℕ)). is_eq (slice_cmp nat_cmp name k.now)) keys → not b ≡ is_too_many (bytes_of keys) name
+too_many keys name n b many le is =
+    let full : nat_le 1024 (length (bytes_of keys)) ≡ true = fits (length (bytes_of keys)) (omega (arith, as_many keys)) in
+    ap not (is ∙ contained keys name) ∙ ap (λ c. c && not (is_among name (bytes_of keys))) (sym full)
+  where
+    fits : (m : ℕ) → 1024 ≤ m → nat_le 1024 m ≡ true
+    fits m h = grind (arith, nat_tests)
+
+-- 5. A name that is there is found.
+
+rises_at : (names : List (List ℕ)) (k : ℕ) (d : List ℕ) → ascend names ≡ true → k + 1 < length names → is_before (get_or names k d) (get_or names (k + 1) d) ≡ true
+rises_at [] k d h lt = absurd (omega arith)
+rises_at (x ∷ []) k d h lt = absurd (omega arith)
+rises_at (x ∷ y ∷ names) zero d h lt = (both (is_before x y) (ascend (y ∷ names)) h).0
+rises_at (x ∷ y ∷ names) (suc k) d h lt =
+    let next : suc k + 1 ≡ suc (k + 1) = omega arith in
+    ap (λ n. is_before (get_or (y ∷ names) k d) (get_or (x ∷ y ∷ names) n d)) next ∙ rises_at (y ∷ names) k d (both (is_before x y) (ascend (y ∷ names)) h).1 (omega arith)
+
+no_return : (a b : List ℕ) → is_before a b ≡ true → is_lt (compared b a) ≡ false
+no_return a b h = is_false (is_lt (compared b a)) (λ e. not_itself a (before_all a b a h (sym (is_less b a) ∙ e)))
+
+sorted : (names : List (List ℕ)) → ascend names ≡ true → IsSortedBy (λ a b. is_lt (slice_cmp nat_cmp a b)) names
+sorted names h = λ k d low lt. no_return (get_or names k d) (get_or names (k + 1) d) (rises_at names k d h lt)
+
+among_place : (name : List ℕ) (names : List (List ℕ)) → is_among name names ≡ true → (k : ℕ) × (k < length names) × (get_or names k [] ≡ name)
+among_place name [] h = absurd cc
+among_place name (x ∷ names) h = by (same_name name x) refl h (among_place name names)
+  where
+    by : (b : Bool) → same_name name x ≡ b → (b || is_among name names) ≡ true → (is_among name names ≡ true → (k : ℕ) × (k < length names) × (get_or names k [] ≡ name))
+        → (k : ℕ) × (k < length (x ∷ names)) × (get_or (x ∷ names) k [] ≡ name)
+    by true e k later = (zero, omega arith, sym (is_same name x e))
+    by false e k later = let r = later k in (suc r.0, omega (arith, r.1), r.2)
+
+pub is_found : (names : List (List ℕ)) (name : List ℕ) (i : ℕ) → ascend names ≡ true → is_among name names ≡ true
+    → (IsNonDecreasingBy (λ (y : List ℕ). ordering_index (slice_cmp nat_cmp y name)) names → IsPartitionPoint (λ (y : List ℕ). slice_cmp nat_cmp y name ≡ Less) (λ (y : List ℕ). slice_cmp nat_cmp y name ≡ Greater) names i) → ⊥
+is_found names name i up among h =
+    let point = h (searchable_from_sorted nat_list_cmp_total (λ (y : List ℕ). y) names name (sorted names up)) in
+    let r = among_place name names among in
+    let tied : slice_cmp nat_cmp (get_or names r.0 []) name ≡ Equal = ap (λ (n : List ℕ). slice_cmp nat_cmp n name) r.2 ∙ tied_itself nat_list_cmp_total name in
+    elim (cases_lt r.0 i) [
+      | inl less ↦ let e = point.0 r.0 [] (omega arith) less in cc (tied, e)
+      | inr more ↦ let e = point.1 r.0 [] more r.1 in cc (tied, e)
+    ]

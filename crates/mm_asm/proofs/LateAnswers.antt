@@ -1,0 +1,101 @@
+-- What the assembler answers is what a text means, or its first fault.
+use Rattle.std.proofs.Common.{◌≡◌, ℕ, Bool, true, false, if◌then◌else◌, List, [], ◌∷◌, map, Option, Some, None, Result, Ok, Err, refl, sym, ap, ◌∙◌, subst}
+use Rattle.std.specs.Prelude.{IfOk}
+use Rattle.mm_line.specs.declared.fault.Fault.{Fault}
+use Rattle.mm_line.specs.Faults.{number_of}
+use Rattle.mm_draft.specs.Drafts.{Draft}
+use Rattle.mm_draft.specs.Seen.{Reads}
+use Rattle.mm_draft.specs.declared.fault.DraftError.{DraftError}
+use Rattle.mm_draft.specs.declared.fault.DraftError.TheVariants as early
+use Rattle.mm_draft.specs.declared.fault.Failure.{Failure}
+use Rattle.mm_draft.specs.Faults.{draft_of}
+use Rattle.mm_draft.specs.Laws.{Pair, failure_pair, precedes, sooner, least}
+use Rattle.mm_draft.proofs.Least.{first_is_least}
+use Rattle.mm_object.specs.Objects.{Object}
+use Rattle.mm_asm.specs.declared.fault.AsmError.{AsmError}
+use Rattle.mm_asm.specs.declared.fault.AsmError.TheVariants as errors
+use Rattle.mm_asm.specs.Meaning.{object_of}
+use Rattle.mm_asm.specs.Faults.{late_failures, first_fault, Means}
+use Rattle.mm_asm.specs.Answers.{Fails, Gives, IsNoMemory, IsUnlessNoMemory, FailsUnlessNoMemory, pair_of_error}
+
+sooner_is : (p : Pair) (q : Option Pair) → sooner p q ≡ None → ⊥
+sooner_is p None e = cc
+sooner_is p (Some q) e = chosen (precedes q p) e
+  where
+    chosen : (b : Bool) → (if b then Some q else Some p) ≡ None → ⊥
+    chosen true e = cc
+    chosen false e = cc
+
+-- failures without a least one are none
+pub none_late : (failures : List Failure) → least (map failure_pair failures) ≡ None → failures ≡ []
+none_late [] e = refl
+none_late (f ∷ failures) e = absurd (sooner_is (failure_pair f) (least (map failure_pair failures)) e)
+
+-- 1. The first fault.
+
+module _ (text : List ℕ) where
+  pub first_late : (d : Draft) → draft_of text ≡ Ok d → first_fault text ≡ least (map failure_pair (late_failures d))
+  unfolding first_fault
+  first_late d e = rw (← first_is_least text, e) refl
+
+  pub first_early : (f : Failure) → draft_of text ≡ Err f → first_fault text ≡ Some (failure_pair f)
+  unfolding first_fault
+  first_early f e = rw (← first_is_least text, e) refl
+
+  -- 2. Answers.
+
+  pub fault_is : {X : Type 0} (value : X) (q : Option Pair) (r : Result X AsmError) → first_fault text ≡ q → Gives q value r
+      → (kind : Fault) (line column : ℕ) → r ≡ Err (errors.Fault kind line column) → first_fault text ≡ Some (record { line = line; column = column; number = number_of kind })
+  fault_is value q r e g kind line column is = e ∙ (rw is at g)
+
+  pub first_is : {X : Type 0} (value : X) (q : Option Pair) (r : Result X AsmError) → first_fault text ≡ q → Gives q value r → (p : Pair) → first_fault text ≡ Some p → FailsUnlessNoMemory p r
+  first_is value q (Ok x) e g p f = let none = g.0 in cc
+  first_is value q (Err x) e g p f = subst (λ (o : Option Pair). Fails o x) (sym e ∙ f) g
+
+  pub is_meant : (d : Draft) (r : Result Object AsmError) → draft_of text ≡ Ok d → Gives (least (map failure_pair (late_failures d))) (object_of d) r → IfOk r (λ o. Means text o)
+  is_meant d (Ok o) e g = record { draft = d; early = e; late = none_late (late_failures d) g.0; object = g.1 }
+  is_meant d (Err x) e g = tt
+
+  ok_same : (d e : Draft) → (let r : Result Draft Failure = Ok d in r) ≡ Ok e → d ≡ e
+  ok_same d e h = cc
+
+  pub is_again : (d : Draft) (r : Result Object AsmError) → draft_of text ≡ Ok d → Gives (least (map failure_pair (late_failures d))) (object_of d) r → (o : Object) → Means text o → IsUnlessNoMemory o r
+  is_again d r e g o m = by r g
+    where
+      same : m.draft ≡ d
+      same = ok_same m.draft d (sym m.early ∙ e)
+
+      none : least (map failure_pair (late_failures d)) ≡ None
+      none = ap (λ (failures : List Failure). least (map failure_pair failures)) (ap late_failures (sym same) ∙ m.late)
+
+      by : (s : Result Object AsmError) → Gives (least (map failure_pair (late_failures d))) (object_of d) s → IsUnlessNoMemory o s
+      by (Ok x) h = h.1 ∙ ap object_of (sym same) ∙ sym m.object
+      by (Err (errors.Fault kind line column)) h = absurd (let k = sym none ∙ h in cc)
+      by (Err errors.NoMemory) h = refl
+
+-- an object without a fault, unless memory ran out
+pub gives_object : {X : Type 0} (fault : Option Pair) (value : X) (r : Result X AsmError) → fault ≡ None → IfOk r (λ x. x ≡ value) → IsNoMemory r → Gives fault value r
+gives_object fault value (Ok x) none is memory = (none, is)
+gives_object fault value (Err e) none is memory = subst (Fails fault) (sym memory) tt
+
+-- where reading stopped
+module _ (text : List ℕ) where
+  pub early_is : {X : Type 0} (error : DraftError) (x : AsmError) → Reads (let r : Result Draft DraftError = Err error in r) (draft_of text) → Fails (pair_of_error error) x
+      → (kind : Fault) (line column : ℕ) → (let r : Result X AsmError = Err x in r) ≡ Err (errors.Fault kind line column) → first_fault text ≡ Some (record { line = line; column = column; number = number_of kind })
+  early_is (early.Fault failure) x e g kind line column is =
+      let same : x ≡ errors.Fault kind line column = cc in
+      first_early text failure e ∙ (rw same at g)
+  early_is early.NoMemory x e g kind line column is =
+      let same : x ≡ errors.Fault kind line column = cc in
+      let none = rw same at g in
+      absurd (let k : None ≡ Some (let p : Pair = record { line = line; column = column; number = number_of kind } in p) = none in cc)
+
+  pub early_first : (error : DraftError) (x : AsmError) → Reads (let r : Result Draft DraftError = Err error in r) (draft_of text) → Fails (pair_of_error error) x → (p : Pair) → first_fault text ≡ Some p → Fails (Some p) x
+  early_first (early.Fault failure) x e g p f = subst (λ (o : Option Pair). Fails o x) (sym (first_early text failure e) ∙ f) g
+  early_first early.NoMemory (errors.Fault kind line column) e g p f = absurd cc
+  early_first early.NoMemory errors.NoMemory e g p f = tt
+
+  pub early_again : (error : DraftError) (x : AsmError) → Reads (let r : Result Draft DraftError = Err error in r) (draft_of text) → Fails (pair_of_error error) x → (o : Object) → Means text o → x ≡ errors.NoMemory
+  early_again (early.Fault failure) x e g o m = absurd (let h = m.early in cc (e, h))
+  early_again early.NoMemory (errors.Fault kind line column) e g o m = absurd cc
+  early_again early.NoMemory errors.NoMemory e g o m = refl

@@ -1,0 +1,61 @@
+-- What the assembler answers, and the first of the faults that it meets.
+use Rattle.std.specs.Prelude.{◌≡◌, ℕ, List, map, Option, Some, None, Result, Ok, Err}
+use Rattle.std.specs.Option.{option_map}
+use denote.Ref.{Bor}
+use Rattle.mm_line.specs.Faults.{number_of}
+use Rattle.mm_draft.specs.declared.fault.Failure.{Failure}
+use Rattle.mm_draft.specs.declared.fault.DraftError.{DraftError}
+use Rattle.mm_draft.specs.declared.fault.DraftError.TheVariants as early
+use Rattle.mm_draft.specs.Laws.{Pair, failure_pair, sooner, least}
+use Rattle.mm_asm.specs.declared.fault.AsmError.{AsmError}
+use Rattle.mm_asm.specs.declared.fault.AsmError.TheVariants as errors
+
+-- 1. Answers.
+
+-- the error names the fault, unless memory ran out
+abbrev pub Fails : Option Pair → AsmError → Type 0
+Fails fault (errors.Fault kind line column) = fault ≡ Some (record { line = line; column = column; number = number_of kind })
+Fails fault errors.NoMemory = Unit {0}
+
+-- a function found no fault and this value, or it found this fault, unless memory ran out
+abbrev pub Gives : {X : Type 0} → Option Pair → X → Result X AsmError → Type 0
+Gives fault value (Ok x) = (fault ≡ None) × (x ≡ value)
+Gives fault value (Err e) = Fails fault e
+
+-- the answer is an object, unless memory ran out
+abbrev pub IsUnlessNoMemory : {X : Type 0} → X → Result X AsmError → Type 0
+IsUnlessNoMemory value (Ok x) = x ≡ value
+IsUnlessNoMemory value (Err e) = e ≡ errors.NoMemory
+
+-- the answer is a fault of this number at this place, unless memory ran out
+abbrev pub FailsUnlessNoMemory : {X : Type 0} → Pair → Result X AsmError → Type 0
+FailsUnlessNoMemory fault (Ok x) = ⊥
+FailsUnlessNoMemory fault (Err e) = Fails (Some fault) e
+
+-- nothing but want of memory stopped it
+abbrev pub IsNoMemory : {X : Type 0} → Result X AsmError → Type 0
+IsNoMemory (Ok x) = Unit {0}
+IsNoMemory (Err e) = e ≡ errors.NoMemory
+
+-- the pair of a fault that stopped the reading, unless memory ran out
+abbrev pub pair_of_error : DraftError → Option Pair
+pair_of_error (early.Fault failure) = Some (failure_pair failure)
+pair_of_error early.NoMemory = None
+
+-- 2. The first of the faults that were met.
+
+abbrev pub either : Option Pair → Option Pair → Option Pair
+either None q = q
+either (Some p) q = sooner p q
+
+abbrev pub pair_of_first : Option Failure → Option Pair
+pair_of_first first = option_map failure_pair first
+
+-- these failures were met between two times: the later first one is the least of the earlier one and of them
+pub record Meets (old new : Option Failure) (failures : List Failure) : Type 0 where
+  pub least : pair_of_first new ≡ either (pair_of_first old) (least (map failure_pair failures))
+
+-- 3. Names.
+
+abbrev pub bytes_of : List (Bor (List ℕ)) → List (List ℕ)
+bytes_of names = map (λ (b : Bor (List ℕ)). b.now) names
