@@ -8,9 +8,16 @@ use Rattle.mm_image.specs.declared.fault.ImageFault.TheVariants as faults
 use Rattle.mm_image.specs.Faults.{number_of}
 use Rattle.mm_model.proofs.ImageBytes.SpelledImage.{spelled_clean, image_same}
 use Rattle.mm_sched.proofs.Texts.{never_both, fault_unique, means_unique}
+use Rattle.mm_line.specs.declared.fault.Fault.{Fault}
+use Rattle.mm_line.specs.declared.fault.Fault.TheVariants as text_faults
+use Rattle.mm_line.specs.Faults.{number_of as fault_number}
+use Rattle.mm_draft.specs.Laws.{Pair}
+use Rattle.mm_object.specs.Objects.{Object}
+use Rattle.mm_asm.specs.Faults.{first_fault}
+use Rattle.mm_asm.proofs.Texts.{meanings_are_one, meaning_has_no_fault}
 use Rattle.mmachine.specs.declared.status.Refusal.{Refusal}
 use Rattle.mmachine.specs.declared.status.Refusal.TheVariants as refusal
-use Rattle.mmachine.specs.Kinds.{Kind, image_file, schedule_file, text_input, Value, an_image, a_list, a_text, Accepts, Faults}
+use Rattle.mmachine.specs.Kinds.{Kind, image_file, schedule_file, source_file, text_input, Value, an_image, a_list, an_object, a_text, Accepts, Faults}
 
 -- 1. Images.
 
@@ -58,11 +65,50 @@ no_fault bytes i s = spelled_clean bytes i s.image s.spelled
 one_spelled : (bytes : List ℕ) (i j : Image) → Spells bytes i → Spells bytes j → i ≡ j
 one_spelled bytes i j one other = sym (image_same bytes i one.image one.spelled) ∙ image_same bytes j other.image other.spelled
 
--- 2. Each kind.
+-- 2. Sources.
+
+abbrev text_kinds : List Fault
+text_kinds =
+    text_faults.Byte ∷ text_faults.Byte ∷ text_faults.Token ∷ text_faults.Name ∷ text_faults.Range ∷ text_faults.Label ∷ text_faults.Twice ∷ text_faults.Place
+    ∷ text_faults.Full ∷ text_faults.Limit ∷ []
+
+text_kind_at : (kind : Fault) → slice_index_or text_kinds (fault_number kind) text_faults.Byte ≡ kind
+text_kind_at text_faults.Byte = refl
+text_kind_at text_faults.Token = refl
+text_kind_at text_faults.Name = refl
+text_kind_at text_faults.Range = refl
+text_kind_at text_faults.Label = refl
+text_kind_at text_faults.Twice = refl
+text_kind_at text_faults.Place = refl
+text_kind_at text_faults.Full = refl
+text_kind_at text_faults.Limit = refl
+
+abbrev line_in : Option Pair → ℕ
+line_in None = 0
+line_in (Some p) = p.line
+
+abbrev column_in : Option Pair → ℕ
+column_in None = 0
+column_in (Some p) = p.column
+
+abbrev kind_in : Option Pair → Fault
+kind_in None = text_faults.Byte
+kind_in (Some p) = slice_index_or text_kinds p.number text_faults.Byte
+
+one_text_fault : (bytes : List ℕ) (kind other : Fault) (line column row place : ℕ) → first_fault bytes ≡ Some (record { line = line; column = column; number = fault_number kind })
+    → first_fault bytes ≡ Some (record { line = row; column = place; number = fault_number other }) → refusal.Asm kind line column ≡ refusal.Asm other row place
+one_text_fault bytes kind other line column row place one two =
+    let same : kind ≡ other = sym (text_kind_at kind) ∙ ap kind_in (sym one) ∙ ap kind_in two ∙ text_kind_at other in
+    let lines : line ≡ row = ap line_in (sym one) ∙ ap line_in two in
+    let columns : column ≡ place = ap column_in (sym one) ∙ ap column_in two in
+    cc
+
+-- 3. Each kind.
 
 pub one_value : (kind : Kind) (before : List Value) (bytes : List ℕ) (v w : Value) → Accepts kind before bytes v → Accepts kind before bytes w → v ≡ w
 one_value image_file before bytes (an_image i) (an_image j) one two = ap (λ (x : Image). an_image x) (one_spelled bytes i j one two)
 one_value schedule_file before bytes (a_list xs) (a_list ys) one two = ap (λ (x : List ℕ). a_list x) (means_unique bytes xs ys one two)
+one_value source_file before bytes (an_object a) (an_object b) one two = ap (λ (x : Object). an_object x) (meanings_are_one bytes a b one two)
 one_value text_input before bytes (a_text s) (a_text t) one two = ap (λ (x : List ℕ). a_text x) (one ∙ sym two)
 one_value kind before bytes v w one two = absurd (assumption (one, two))
 
@@ -71,9 +117,13 @@ one_fault image_file before number bytes r q (kind, offset, is, fault) (other, p
     is ∙ one_image_fault bytes number kind other offset place fault second ∙ sym also
 one_fault schedule_file before number bytes r q (offset, is, fault) (place, also, second) =
     is ∙ ap (λ (n : ℕ). refusal.Schedule number n) (fault_unique bytes offset place fault second) ∙ sym also
+one_fault source_file before number bytes r q (kind, line, column, is, fault) (other, row, place, also, second) =
+    is ∙ one_text_fault bytes kind other line column row place fault second ∙ sym also
 one_fault text_input before number bytes r q one two = absurd one
 
 pub value_or_fault : (kind : Kind) (before : List Value) (number : ℕ) (bytes : List ℕ) (r : Refusal) (v : Value) → Faults kind before number bytes r → Accepts kind before bytes v → ⊥
 value_or_fault image_file before number bytes r (an_image i) (kind, offset, is, fault) means = let none : image_fault bytes ≡ None = no_fault bytes i means in cc
 value_or_fault schedule_file before number bytes r (a_list xs) (offset, is, fault) means = never_both bytes xs offset means fault
+value_or_fault source_file before number bytes r (an_object o) (kind, line, column, is, fault) means =
+    let none : first_fault bytes ≡ None = meaning_has_no_fault bytes o means in cc
 value_or_fault kind before number bytes r v fault means = assumption (fault, means)

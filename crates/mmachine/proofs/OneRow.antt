@@ -5,7 +5,7 @@ use Rattle.std.specs.List.{AllByRecursion, position_or_len}
 use Rattle.std.specs.Str.{bytes_eq}
 use Rattle.std.proofs.lemmas.Fmt.{decimal_injective}
 use Rattle.mmachine.specs.Kinds.{schedule_file}
-use Rattle.mmachine.specs.Table.{Word, file_word, number_word, groups_word, mode_word, mode_text, text_of, IsInRange, perhaps, Row, run, trace, solo, grants, extract, migrate, name_of, behind, Asks}
+use Rattle.mmachine.specs.Table.{Word, file_word, number_word, groups_word, mode_word, mode_text, text_of, IsInRange, perhaps, Row, run, trace, solo, grants, extract, asm, migrate, name_of, behind, Asks}
 use Rattle.mmachine.proofs.GroupWords.{one_list}
 
 -- 1. Words of the same places.
@@ -64,7 +64,7 @@ one_perhaps word once (Some a) (Some b) same = let words : word a ≡ word b = c
 -- the place of a name among the names of commands
 abbrev pub place_of : List ℕ → ℕ
 place_of name =
-    position_or_len (bytes_eq name) (codes "run" ∷ codes "trace" ∷ codes "solo" ∷ codes "grants" ∷ codes "extract" ∷ codes "migrate" ∷ [])
+    position_or_len (bytes_eq name) (codes "run" ∷ codes "trace" ∷ codes "solo" ∷ codes "grants" ∷ codes "extract" ∷ codes "asm" ∷ codes "migrate" ∷ [])
 
 -- and of a row's name
 abbrev pub place : Row → ℕ
@@ -102,6 +102,9 @@ one_row words (grants i gs) (grants j hs) one two =
     cc
 one_row words (extract i gs) (extract j hs) one two =
     let same = same_behind words (extract i gs) (extract j hs) one two (refl, (tt, tt)) in
+    cc
+one_row words (asm s) (asm t) one two =
+    let same = same_behind words (asm s) (asm t) one two (refl, tt) in
     cc
 one_row words (migrate i a) (migrate j b) one two =
     let same = same_behind words (migrate i a) (migrate j b) one two (refl, (tt, tt)) in

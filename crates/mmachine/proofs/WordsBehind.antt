@@ -3,7 +3,7 @@ use Rattle.std.proofs.Common.{◌≡◌, ℕ, ◌≤◌, ◌-◌, Bool, List, []
 use Rattle.std.proofs.lemmas.List.{take_all}
 use Rattle.std.specs.declared.alloc.Global.{Global}
 use Rattle.mmachine.proofs.OneRow.{place_of, place}
-use Rattle.mmachine.specs.Table.{Row, Asks, name_of, run, trace, solo, grants, extract, migrate, InNoRow, AreTexts, behind, text_of, texts}
+use Rattle.mmachine.specs.Table.{Row, Asks, name_of, run, trace, solo, grants, extract, asm, migrate, InNoRow, AreTexts, behind, text_of, texts}
 
 -- the first word and the rest
 first_and_rest : (words : List (String Global)) (word : String Global) → 1 ≤ length words → word ≡ get_or words 0 word
@@ -47,6 +47,10 @@ pub no_extract : (words : List (List ℕ)) → ((image groups : List ℕ) → ¬
 no_extract words none (extract i gs) (is, ranges) = let rest : words ≡ map text_of (behind (extract i gs)) = cc in none i gs (rest, ranges)
 no_extract words none row asks = let places : place row ≡ 4 = placed_as (codes "extract") words row asks in absurd (cc)
 
+pub no_asm : (words : List (List ℕ)) → ((source : List ℕ) → ¬ AreTexts words (behind (asm source))) → InNoRow (codes "asm" ∷ words)
+no_asm words none (asm s) (is, ranges) = let rest : words ≡ map text_of (behind (asm s)) = cc in none s (rest, ranges)
+no_asm words none row asks = let places : place row ≡ 5 = placed_as (codes "asm") words row asks in absurd (cc)
+
 pub no_migrate : (words : List (List ℕ)) → ((image : List ℕ) (split : Bool) → ¬ AreTexts words (behind (migrate image split))) → InNoRow (codes "migrate" ∷ words)
 no_migrate words none (migrate i m) (is, ranges) = let rest : words ≡ map text_of (behind (migrate i m)) = cc in none i m (rest, ranges)
-no_migrate words none row asks = let places : place row ≡ 5 = placed_as (codes "migrate") words row asks in absurd (cc)
+no_migrate words none row asks = let places : place row ≡ 6 = placed_as (codes "migrate") words row asks in absurd (cc)

@@ -9,14 +9,15 @@ use Rattle.mm_model.specs.Trace as lines
 use Rattle.mm_model.specs.Schedule.{first_items, only}
 use Rattle.mm_model.specs.Worlds.{Extracts, alone, migrated}
 use Rattle.mm_model.specs.Spelling.{Spells}
+use Rattle.mm_object.specs.Spelling as objects
 use Rattle.mm_model.specs.Audit.{IsAudit}
 use Rattle.mm_model.specs.Report.{report}
 use Rattle.mm_audit.specs.Refusals.{StandAlone}
 use Rattle.mmachine.specs.declared.status.Refusal.{Refusal}
-use Rattle.mmachine.specs.Kinds.{Value, an_image, a_list}
+use Rattle.mmachine.specs.Kinds.{Value, an_image, a_list, an_object}
 use Rattle.mmachine.specs.Orders.{Issues}
 use Rattle.mmachine.specs.Groups.{GroupsRefused}
-use Rattle.mmachine.specs.Table.{Row, run, trace, solo, grants, extract, migrate}
+use Rattle.mmachine.specs.Table.{Row, run, trace, solo, grants, extract, asm, migrate}
 
 -- the report of an image's run under these items, with what the memory tells of the run's uses
 abbrev pub report_after : (List Use → Option Counts) → model.Image → List ℕ → List ℕ
@@ -41,6 +42,7 @@ Declines _ _ r = ⊥
 abbrev pub YieldsAlone : Row → List Value → List ℕ → Type 0
 YieldsAlone (grants image groups) (an_image i ∷ []) text = IsAudit i groups text
 YieldsAlone (extract image groups) (an_image i ∷ []) text = StandAlone i (among groups) × IsExtract i (among groups) text
+YieldsAlone (asm source) (an_object o ∷ []) text = objects.Spells text o
 YieldsAlone (migrate image split) (an_image i ∷ []) text = Spells text (migrated i split)
 YieldsAlone _ _ text = ⊥
 

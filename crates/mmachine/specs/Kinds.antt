@@ -5,6 +5,10 @@ use Rattle.mm_model.specs.Spelling.{Spells}
 use Rattle.mm_model.specs.ImageFaults.{image_fault}
 use Rattle.mm_model.specs.Schedule.{Means, FaultsAt}
 use Rattle.mm_image.specs.declared.fault.ImageFault.{ImageFault}
+use Rattle.mm_line.specs.declared.fault.Fault.{Fault}
+use Rattle.mm_line.specs.Faults.{number_of as fault_number}
+use Rattle.mm_object.specs.Objects.{Object}
+use Rattle.mm_asm.specs.Faults as text
 use Rattle.mm_image.specs.Faults.{number_of}
 use Rattle.mmachine.specs.declared.status.Refusal.{Refusal}
 use Rattle.mmachine.specs.declared.status.Refusal.TheVariants as refusal
@@ -12,6 +16,7 @@ use Rattle.mmachine.specs.declared.status.Refusal.TheVariants as refusal
 pub data Kind : Type 0 where
   image_file : Kind
   schedule_file : Kind
+  source_file : Kind
   -- bytes of standard input, as they are
   text_input : Kind
 
@@ -19,18 +24,21 @@ pub data Kind : Type 0 where
 pub data Value : Type 0 where
   an_image : Image → Value
   a_list : List ℕ → Value
+  an_object : Object → Value
   a_text : List ℕ → Value
 
 -- the most bytes that an input of a kind has
 abbrev pub limit_of : Kind → ℕ
 limit_of image_file = 33554432
 limit_of schedule_file = 8388608
+limit_of source_file = 8388608
 limit_of text_input = 1048576
 
 -- the bytes of an input mean a value, behind inputs of the values before
 abbrev pub Accepts : Kind → (before : List Value) → List ℕ → Value → Type 0
 Accepts image_file before bytes (an_image i) = Spells bytes i
 Accepts schedule_file before bytes (a_list items) = Means bytes items
+Accepts source_file before bytes (an_object o) = text.Means bytes o
 Accepts text_input before bytes (a_text text) = text ≡ bytes
 Accepts _ before bytes _ = ⊥
 
@@ -39,4 +47,6 @@ abbrev pub Faults : Kind → (before : List Value) → (number : ℕ) → List �
 Faults image_file before number bytes r = (fault : ImageFault) × (offset : ℕ) × (r ≡ refusal.Image number fault offset)
     × (image_fault bytes ≡ Some (number_of fault, offset))
 Faults schedule_file before number bytes r = (offset : ℕ) × (r ≡ refusal.Schedule number offset) × FaultsAt bytes offset
+Faults source_file before number bytes r = (fault : Fault) × (line column : ℕ) × (r ≡ refusal.Asm fault line column)
+    × (text.first_fault bytes ≡ Some (record { line = line; column = column; number = fault_number fault }))
 Faults text_input before number bytes r = ⊥

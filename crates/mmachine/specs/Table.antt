@@ -5,9 +5,9 @@ use Rattle.std.specs.Option.{option_map}
 use Rattle.std.specs.declared.alloc.Global.{Global}
 use Rattle.mm_model.specs.Audit.{groups_text}
 use Rattle.mmachine.specs.GroupList.{AreGroups}
-use Rattle.mmachine.specs.Kinds.{Kind, image_file, schedule_file}
+use Rattle.mmachine.specs.Kinds.{Kind, image_file, schedule_file, source_file}
 use Rattle.mmachine.specs.declared.words.Command.{Command}
-use Rattle.mmachine.specs.declared.words.Command.TheVariants.{Run, Trace, Solo, Grants, Extract, Migrate}
+use Rattle.mmachine.specs.declared.words.Command.TheVariants.{Run, Trace, Solo, Grants, Extract, Asm, Migrate}
 
 -- 1. The words behind a command's own word.
 
@@ -66,6 +66,7 @@ pub data Row : Type 0 where
   solo : (image : List ℕ) (groups : List ℕ) (cycles : ℕ) (schedule : List ℕ) → Row
   grants : (image : List ℕ) (groups : Option (List ℕ)) → Row
   extract : (image : List ℕ) (groups : List ℕ) → Row
+  asm : (source : List ℕ) → Row
   migrate : (image : List ℕ) (split : Bool) → Row
 
 -- the command's own word
@@ -75,6 +76,7 @@ name_of (trace image cycles schedule) = codes "trace"
 name_of (solo image groups cycles schedule) = codes "solo"
 name_of (grants image groups) = codes "grants"
 name_of (extract image groups) = codes "extract"
+name_of (asm source) = codes "asm"
 name_of (migrate image split) = codes "migrate"
 
 -- and those behind it
@@ -85,6 +87,7 @@ behind (solo image groups cycles schedule) =
     file_word image_file image ∷ groups_word groups ∷ cycles_word cycles ∷ file_word schedule_file schedule ∷ []
 behind (grants image groups) = file_word image_file image ∷ perhaps groups_word groups
 behind (extract image groups) = file_word image_file image ∷ groups_word groups ∷ []
+behind (asm source) = file_word source_file source ∷ []
 behind (migrate image split) = file_word image_file image ∷ mode_word split ∷ []
 
 abbrev pub files_of : Row → List (List ℕ × Kind)
@@ -121,6 +124,7 @@ row_of (Trace w) = trace w.image.now w.cycles (option_map (λ name. name.now) w.
 row_of (Solo w) = solo w.image.now w.groups.items w.cycles w.schedule.now
 row_of (Grants w) = grants w.image.now (option_map (λ groups. groups.items) w.groups)
 row_of (Extract w) = extract w.image.now w.groups.items
+row_of (Asm w) = asm w.source.now
 row_of (Migrate w) = migrate w.image.now w.split
 
 -- image files of these names

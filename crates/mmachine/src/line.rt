@@ -49,6 +49,22 @@ fn write_refusal<D: Sink>(refusal: Refusal, diag: &mut D) -> Result<(), WriteFau
                 Piece::Text("\n"),
             ],
         ),
+        Refusal::Asm {
+            fault,
+            line,
+            column,
+        } => write_pieces(
+            diag,
+            &[
+                Piece::Text("mmachine: source fault "),
+                Piece::Decimal(fault.number() as u64),
+                Piece::Text(" at "),
+                Piece::Decimal(line as u64),
+                Piece::Text(":"),
+                Piece::Decimal(column as u64),
+                Piece::Text("\n"),
+            ],
+        ),
         Refusal::NoGroup => write_all(diag, b"mmachine: no group\n"),
         Refusal::Crosses { slot } => write_pieces(
             diag,

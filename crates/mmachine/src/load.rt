@@ -4,17 +4,19 @@ ghost use Rattle.std.specs.Option.{option_map};
 ghost use Rattle.std.specs.Io.KnownBytes.{IsAtEnd};
 ghost use Rattle.mm_io.specs.Files.{Rose, NoneFell, Holds, AsksOnly};
 ghost use Rattle.mm_machine.specs.Machine.{StandsFor};
-ghost use Rattle.mmachine.specs.Kinds.{Value, image_file, schedule_file, text_input, an_image, a_list, a_text};
+ghost use Rattle.mmachine.specs.Kinds.{Value, image_file, schedule_file, source_file, text_input, an_image, a_list, an_object, a_text};
 ghost use Rattle.mmachine.specs.Files.{Stops, IsTooLong, FilesRead, InputRead, reading, drawing};
 ghost use Rattle.mmachine.specs.Table.{images_named, files_in, file_word, perhaps};
 ghost use Rattle.mmachine.specs.Orders.{values_of};
 ghost use Rattle.mmachine.specs.Answers.{stop_of_error};
 
 use crate::status::{Refusal, Stop};
+use mm_asm::{AsmError, assemble};
 use mm_image::{Image, ImageError};
 use mm_io::{Files, ReadError, Source, read_all, read_input};
 use mm_machine::Machine;
 use mm_mem::Boot;
+use mm_object::Object;
 use mm_sched::{Order, SchedError, Schedule};
 use mm_word::NoMemory;
 use std::alloc::Global;
@@ -24,6 +26,9 @@ const IMAGE_LIMIT: u64 = 33_554_432;
 
 /// The most bytes of a schedule file.
 const SCHEDULE_LIMIT: u64 = 8_388_608;
+
+/// The most bytes of a source file.
+const SOURCE_LIMIT: u64 = 8_388_608;
 
 /// The most bytes of standard input.
 const INPUT_LIMIT: u64 = 1_048_576;
@@ -104,6 +109,34 @@ pub fn load_schedule<F: Files>(
             offset,
         })),
         Err(SchedError::NoMemory) => Err(Stop::NoMemory),
+    }
+}
+
+/// Reads and assembles a source file, the file of a number.
+pub fn load_source<F: Files>(
+    alloc: Global,
+    files: &mut F,
+    name: &str,
+    number: u8,
+) -> Result<Object, Stop>
+    ensures { (before : List Value) → number ≡ length before + 1
+        → FilesRead (reading F.held F.faults F.asked files.old files.new) before ((name.now, source_file) ∷ []) (λ o. an_object o ∷ []) result }
+{
+    let bytes = read_file(alloc, files, name, SOURCE_LIMIT, number)?;
+    match assemble(alloc, &bytes) {
+        Ok(object) => Ok(object),
+        Err(
+            AsmError::Fault {
+                fault,
+                line,
+                column,
+            },
+        ) => Err(Stop::Refused(Refusal::Asm {
+            fault,
+            line,
+            column,
+        })),
+        Err(AsmError::NoMemory) => Err(Stop::NoMemory),
     }
 }
 

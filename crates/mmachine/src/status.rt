@@ -6,6 +6,7 @@ ghost use Rattle.mmachine.specs.Answers.{end_of, stop_of_extract};
 use mm_audit::ExtractError;
 use mm_image::ImageFault;
 use mm_io::WriteFault;
+use mm_line::Fault;
 use mm_word::NoMemory;
 
 /// Why a command is refused. A file is counted from 1 among the command's file words.
@@ -25,6 +26,12 @@ pub enum Refusal {
     Schedule {
         file: u8,
         offset: u64,
+    },
+    /// The source means no object: its first fault, and where that stands, counted from 1 in lines and bytes.
+    Asm {
+        fault: Fault,
+        line: u32,
+        column: u32,
     },
     /// No slot of the image is of one of the groups.
     NoGroup,

@@ -1,6 +1,7 @@
 use crate::status::{Refusal, Status};
 use crate::top::mmachine;
 use mm_io::{MemFiles, MemSink, StdFiles, StdSink, StdSource, SureSource};
+use mm_line::Fault;
 use mm_vmem::VMem;
 use std::fs;
 use std::test::Fail;
@@ -219,6 +220,62 @@ fn migrates(rt: HostRuntime) -> Result<(), Fail> {
         assert_eq!(rt; status, Status::Done);
         assert_eq!(rt; out.taken(), new.as_slice());
         assert_eq!(rt; diag.taken().len(), 0);
+    }
+    Ok(())
+}
+
+// Texts and their objects, and texts that mean none.
+#[test]
+fn assembles(rt: HostRuntime) -> Result<(), Fail> {
+    let halt: &[u8] =
+        b"MMO1\x00\x01\x00\x01\x00\x00\x00\x00\x00\x00\x00\x00\x01a\x03\x00\x00\x00\x01\x01\x00\x00\x00\x00\x00\x00\x00\x00";
+    // Two names that the text does not have, in the order of their bytes, and two words that become pointers to them.
+    let pointers: &[u8] =
+        b"MMO1\x00\x01\x00\x01\x00\x02\x00\x02\x00\x00\x00\x02\x01a\x05\x00\x00\x00\x02\x01\x00\x00\x00\x00\x00\x00\x00\x00\x00\x00\x00\x00\x00\x00\x00\x00\x01b\x01z\x00\x00\x00\x00\x00\x00\x01\x00\x02\x00\x00\x00\x00\x00\x00\x00\x00\x00\x01\x02\x00\x01\x00\x00\x00\x05";
+    for (text, object) in [
+        (".segment a 3\nhalt\n", halt),
+        (".segment a 3\r\nhalt", halt),
+        (
+            ".spare 2\n.segment a 5\n.ptr ro z\n.empty .ptr rw b + 5",
+            pointers,
+        ),
+    ] {
+        let held = files(&rt, Vec::new(rt.alloc()), text, 4096)?;
+        let (status, out, _) = answer(&rt, &["asm", "SCHEDULE"], held)?;
+        assert_eq!(rt; status, Status::Done);
+        assert_eq!(rt; out.taken(), object);
+    }
+    for (text, fault, line, column) in [
+        (".segment a ; 3", Fault::Token, 1, 15),
+        (".segment a 3\nhalt\nhalt", Fault::Full, 3, 1),
+        (".segment a 3\nbr nowhere", Fault::Label, 2, 4),
+        (".segment a 3\nbr a", Fault::Label, 2, 4),
+        (
+            ".segment a 4\nx: halt\n.segment b 3\nbr x",
+            Fault::Label,
+            4,
+            4,
+        ),
+        (".segment a 3\n.ptr ro a + 8", Fault::Range, 2, 9),
+        (
+            ".segment a 3\nhalt\nx:\n.segment b 3\n.ptr ro x",
+            Fault::Range,
+            5,
+            9,
+        ),
+        (".segment a 3\nbr nowhere\n$", Fault::Byte, 3, 1),
+    ] {
+        let held = files(&rt, Vec::new(rt.alloc()), text, 4096)?;
+        let (status, out, _) = answer(&rt, &["asm", "SCHEDULE"], held)?;
+        assert_eq!(rt;
+            status,
+            Status::Refused(Refusal::Asm {
+                fault,
+                line,
+                column
+            })
+        );
+        assert_eq!(rt; out.taken(), b"".as_slice());
     }
     Ok(())
 }

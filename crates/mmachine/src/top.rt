@@ -9,6 +9,7 @@ ghost use Rattle.mmachine.specs.Table.{InNoRow, IsInTable, Asks, LeaveInput, Row
 ghost use Rattle.mmachine.specs.Answers.{ComesTo, ReadFailed, WritesNothing, TookLine, NothingFails, HasToRefuse, RefusedUnless, RowEnds, Answers, call, writing, status_of, line_of, refuse, write};
 ghost use Rattle.mmachine.specs.Headline.{RunIsProved, TraceIsProved};
 
+use crate::asm::asm;
 use crate::extract::extract;
 use crate::grants::grants;
 use crate::line::write_line;
@@ -129,6 +130,7 @@ fn by_command<M: Boot, F: Files, I: Source, O: Sink>(
         Command::Solo(asked) => solo::<M, F, O>(alloc, asked, files, out),
         Command::Grants(asked) => grants(alloc, asked, files, out),
         Command::Extract(asked) => extract(alloc, asked, files, out),
+        Command::Asm(asked) => asm(alloc, asked, files, out),
         Command::Migrate(asked) => migrate(alloc, asked, files, out),
     }
 }

@@ -1,6 +1,6 @@
 // The words of the command line, by the table of commands.
 ghost use Rattle.std.specs.Prelude.{◌≡◌, ◌≢◌, MatchOption, ℕ, Bool, List, Option};
-ghost use Rattle.mmachine.specs.Table.{InNoRow, Asks, AreTexts, behind, run, solo, grants, extract, migrate, mode_text, texts, row_of};
+ghost use Rattle.mmachine.specs.Table.{InNoRow, Asks, AreTexts, behind, run, solo, grants, extract, asm, migrate, mode_text, texts, row_of};
 
 use crate::group_list::read_groups;
 use arrayvec::ArrayVec;
@@ -18,6 +18,8 @@ pub enum Command<'a> {
     Grants(GrantsWords<'a>),
     /// `extract IMAGE GROUPS`
     Extract(ExtractWords<'a>),
+    /// `asm SOURCE`
+    Asm(AsmWords<'a>),
     /// `migrate IMAGE MODE`
     Migrate(MigrateWords<'a>),
 }
@@ -53,6 +55,12 @@ pub struct ExtractWords<'a> {
     pub groups: ArrayVec<u8, 64>,
 }
 
+/// `SOURCE`
+#[derive(Clone, Copy)]
+pub struct AsmWords<'a> {
+    pub source: &'a str,
+}
+
 /// `IMAGE MODE`
 #[derive(Clone, Copy)]
 pub struct MigrateWords<'a> {
@@ -76,6 +84,7 @@ pub fn read_words(words: &[String]) -> Option<Command<'_>>
         "solo" => Some(Command::Solo(read_solo_words(rest)?)),
         "grants" => Some(Command::Grants(read_grants_words(rest)?)),
         "extract" => Some(Command::Extract(read_extract_words(rest)?)),
+        "asm" => Some(Command::Asm(read_asm_words(rest)?)),
         "migrate" => Some(Command::Migrate(read_migrate_words(rest)?)),
         _ => None,
     }
@@ -140,6 +149,18 @@ fn read_extract_words(rest: &[String]) -> Option<ExtractWords<'_>>
         [image, groups] => Some(ExtractWords {
             image: image.as_str(),
             groups: read_groups(groups.as_bytes())?,
+        }),
+        _ => None,
+    }
+}
+
+fn read_asm_words(rest: &[String]) -> Option<AsmWords<'_>>
+    ensures { MatchOption result ((source : List ℕ) → ¬ AreTexts (texts rest.now) (behind (asm source)))
+        (λ words. AreTexts (texts rest.now) (behind (row_of (Command.Asm words)))) }
+{
+    match rest {
+        [source] => Some(AsmWords {
+            source: source.as_str(),
         }),
         _ => None,
     }

@@ -5,3 +5,6 @@ returns-in-Image g c = rw (c.in-Image.is, ← c.number.ensures) c.write_pieces-i
 
 pub returns-in-Schedule : goal.returns-in-Schedule
 returns-in-Schedule g c = rw (c.in-Schedule.is) c.write_pieces-in-Schedule.ensures
+
+pub returns-in-Asm : goal.returns-in-Asm
+returns-in-Asm g c = rw (c.in-Asm.is, ← c.number-in-Asm.ensures) c.write_pieces-in-Asm.ensures

@@ -3,7 +3,6 @@ use Rattle.std.proofs.lemmas.List.{length-map}
 use Rattle.mm_word.specs.Adding.{adds_both}
 use Rattle.mmachine.specs.Kinds.{image_file, an_image}
 use Rattle.mmachine.specs.Files.{FilesRead, reading}
-use Rattle.mmachine.proofs.Reading.{GoesOn}
 use Rattle.mmachine.proofs.Images.{image_more, image_stops, images_asked}
 use Rattle.mmachine.proofs.load.load_images.Goals as goal
 

@@ -1,6 +1,5 @@
-use Rattle.std.proofs.Common.{◌≡◌, ◌+◌, ◌≤◌, ℕ, List, length, map, take, Ok}
+use Rattle.std.proofs.Common.{◌≡◌, ◌+◌, List, length, map, take, Ok}
 use Rattle.mm_io.specs.Files.{NoneFell}
-use Rattle.mmachine.specs.declared.status.Stop.{Stop}
 use Rattle.mmachine.specs.Kinds.{Value, an_image}
 use Rattle.mmachine.specs.Files.{FilesRead, reading}
 use Rattle.mmachine.specs.Table.{images_named}

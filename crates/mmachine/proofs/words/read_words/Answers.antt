@@ -1,5 +1,5 @@
 use Rattle.std.proofs.Common.{codes, sym, ◌∙◌, arith}
-use Rattle.mmachine.proofs.WordsBehind.{in_no_row, no_run, no_trace, no_solo, no_grants, no_extract, no_migrate}
+use Rattle.mmachine.proofs.WordsBehind.{in_no_row, no_run, no_trace, no_solo, no_grants, no_extract, no_asm, no_migrate}
 use Rattle.mmachine.proofs.words.read_words.Goals as goal
 
 pub returns-in_err-read_run_words-in-run : goal.returns-in_err-read_run_words-in-run
@@ -37,3 +37,9 @@ returns-in_err-read_migrate_words-in-migrate c =
     rw c.from_residual-in_err-read_migrate_words-in-migrate.ensures
     (in_no_row c.args.words.now c.word-item.result (codes "migrate") (omega arith) c.word-item.is (sym c.as_str.ensures.value ∙ c.in-migrate.is)
     (no_migrate _ c.in_err-read_migrate_words-in-migrate.ensures))
+
+pub returns-in_err-read_asm_words-in-asm : goal.returns-in_err-read_asm_words-in-asm
+returns-in_err-read_asm_words-in-asm c =
+    rw c.from_residual-in_err-read_asm_words-in-asm.ensures
+    (in_no_row c.args.words.now c.word-item.result (codes "asm") (omega arith) c.word-item.is (sym c.as_str.ensures.value ∙ c.in-asm.is)
+    (no_asm _ c.in_err-read_asm_words-in-asm.ensures))
