@@ -1,5 +1,5 @@
 -- What the assembler answers is what a text means, or its first fault.
-use Rattle.std.proofs.Common.{◌≡◌, ℕ, Bool, true, false, if◌then◌else◌, List, [], ◌∷◌, map, Option, Some, None, Result, Ok, Err, refl, sym, ap, ◌∙◌, subst}
+use Rattle.std.proofs.Common.{◌≡◌, ℕ, List, [], map, Option, Some, None, Result, Ok, Err, refl, sym, ap, ◌∙◌, subst}
 use Rattle.std.specs.Prelude.{IfOk}
 use Rattle.mm_line.specs.declared.fault.Fault.{Fault}
 use Rattle.mm_line.specs.Faults.{number_of}
@@ -9,27 +9,20 @@ use Rattle.mm_draft.specs.declared.fault.DraftError.{DraftError}
 use Rattle.mm_draft.specs.declared.fault.DraftError.TheVariants as early
 use Rattle.mm_draft.specs.declared.fault.Failure.{Failure}
 use Rattle.mm_draft.specs.Faults.{draft_of}
-use Rattle.mm_draft.specs.Laws.{Pair, failure_pair, precedes, sooner, least}
+use Rattle.mm_draft.specs.Laws.{Pair, failure_pair, least}
 use Rattle.mm_draft.proofs.Least.{first_is_least}
 use Rattle.mm_object.specs.Objects.{Object}
 use Rattle.mm_asm.specs.declared.fault.AsmError.{AsmError}
 use Rattle.mm_asm.specs.declared.fault.AsmError.TheVariants as errors
 use Rattle.mm_asm.specs.Meaning.{object_of}
 use Rattle.mm_asm.specs.Faults.{late_failures, first_fault, Means}
+use Rattle.mm_asm.proofs.Lists.{none_map}
+use Rattle.mm_asm.proofs.Texts.{none_least}
 use Rattle.mm_asm.specs.Answers.{Fails, Gives, IsNoMemory, IsUnlessNoMemory, FailsUnlessNoMemory, pair_of_error}
-
-sooner_is : (p : Pair) (q : Option Pair) → sooner p q ≡ None → ⊥
-sooner_is p None e = cc
-sooner_is p (Some q) e = chosen (precedes q p) e
-  where
-    chosen : (b : Bool) → (if b then Some q else Some p) ≡ None → ⊥
-    chosen true e = cc
-    chosen false e = cc
 
 -- failures without a least one are none
 pub none_late : (failures : List Failure) → least (map failure_pair failures) ≡ None → failures ≡ []
-none_late [] e = refl
-none_late (f ∷ failures) e = absurd (sooner_is (failure_pair f) (least (map failure_pair failures)) e)
+none_late failures e = none_map failure_pair failures (none_least (map failure_pair failures) e)
 
 -- 1. The first fault.
 

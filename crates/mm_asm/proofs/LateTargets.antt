@@ -1,6 +1,6 @@
 -- Where a draft has no late faults, what its targets come to can be written.
 use Rattle.std.proofs.Common.{◌≡◌, ℕ, zero, suc, ◌+◌, ◌*◌, ◌^◌, ◌<◌, ◌≤◌, true, not, nat_lt, List, [], ◌∷◌, length, slice_get, Option, Some, None, is_some, refl, sym, ap, ◌∙◌, subst, inl, inr, arith}
-use Rattle.std.specs.List.{flat_map, AllByRecursion}
+use Rattle.std.specs.List.{AllByRecursion}
 use Rattle.std.proofs.Math.Nat.{pow-le-pow_right}
 use Rattle.std.proofs.lemmas.Bool.Decides.{nat_tests}
 use Rattle.std.proofs.lemmas.List.{length-map}
@@ -22,12 +22,13 @@ use Rattle.mm_asm.specs.Meaning.{segment_of, target_of, target_by}
 use Rattle.mm_asm.specs.Faults.{late_failures}
 use Rattle.mm_asm.specs.Bounds as bounds
 use Rattle.mm_asm.specs.Bounds.{IsDraft}
-use Rattle.mm_asm.specs.Steps.{FitsTarget, FitsConstant, FitsPointer, FitsPointers, FitsThread}
+use Rattle.mm_asm.specs.Fits.{FitsTarget, FitsConstant, FitsPointer, FitsPointers, FitsThread}
 use Rattle.mm_asm.proofs.Lists.{In, in_flat, each_in, each_from, each_map}
-use Rattle.mm_asm.proofs.Uses.{in_merge, uses_placed}
+use Rattle.mm_asm.proofs.Uses.{uses_placed}
 use Rattle.mm_asm.proofs.Targets.{segments_of, external_count, targets_are, few_externals}
 use Rattle.mm_asm.proofs.Externals.{used_among}
 use Rattle.mm_asm.proofs.Segments.{words_in}
+use Rattle.mm_asm.proofs.Whole.{in_words, in_threads}
 
 -- 1. A target.
 
@@ -65,14 +66,6 @@ module _ (d : Draft) (is_draft : IsDraft d) (late : late_failures d ≡ []) wher
       (targets_are d late u m (uses_placed d u is_draft m)) in
       record { index = r.0; addend = r.1; known = λ none. used_among d u (uses_of d) [] m (ap (λ (o : Option Place). not (is_some o)) none) }
 
-  in_words : (u : Use) → In u (flat_map segment_uses d.segments) → In u (uses_of d)
-  unfolding uses_of
-  in_words u m = in_merge u (flat_map segment_uses d.segments) (flat_map thread_uses d.threads) (inl m)
-
-  in_threads : (u : Use) → In u (flat_map thread_uses d.threads) → In u (uses_of d)
-  unfolding uses_of
-  in_threads u m = in_merge u (flat_map segment_uses d.segments) (flat_map thread_uses d.threads) (inr m)
-
   constant_fits : (source : Source) (c : Constant) → ((u : Use) → In u (constant_uses source c) → FitsTarget d u.target) → FitsConstant d c
   constant_fits source (Integer n) h = tt
   constant_fits source (Pointer perm t) h = h (record { target = t; source = source }) (inl refl)
@@ -85,14 +78,14 @@ module _ (d : Draft) (is_draft : IsDraft d) (late : late_failures d ≡ []) wher
   pointers_fit = each_from (λ (s : draft.Segment). FitsPointers d s.words) d.segments (λ s m. (
     omega (arith, words_in s d.segments m, is_draft.segments.words),
     each_from (λ (w : Word). FitsPointer d w.content) s.words (λ w n. pointer_fits w.source w.content (λ u k.
-        use_fits u (in_words u (in_flat segment_uses s u d.segments m (in_flat word_uses w u s.words n k))))),
+        use_fits u (in_words d is_draft late u (in_flat segment_uses s u d.segments m (in_flat word_uses w u s.words n k))))),
   ))
 
   pub threads_fit : AllByRecursion (FitsThread d) d.threads
   threads_fit = each_from (FitsThread d) d.threads (λ t m. (
-    use_fits (record { target = t.target; source = t.source }) (in_threads _ (in_flat thread_uses t _ d.threads m (inl refl))),
+    use_fits (record { target = t.target; source = t.source }) (in_threads d is_draft late _ (in_flat thread_uses t _ d.threads m (inl refl))),
     each_from (λ (r : Register). FitsConstant d r.value) t.registers (λ r n. constant_fits r.source r.value (λ u k.
-        use_fits u (in_threads u (in_flat thread_uses t u d.threads m (inr (in_flat register_uses r u t.registers n k)))))),
+        use_fits u (in_threads d is_draft late u (in_flat thread_uses t u d.threads m (inr (in_flat register_uses r u t.registers n k)))))),
   ))
 
 -- 3. Where a target is.

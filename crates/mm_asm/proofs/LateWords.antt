@@ -1,53 +1,29 @@
 -- The words and names of a draft have their places in its object.
-use Rattle.std.proofs.Common.{◌≡◌, ℕ, zero, suc, ◌+◌, ◌<◌, ◌≤◌, true, List, [], ◌∷◌, ◌++◌, length, get_or, slice_get, Option, Some, None, refl, sym, ap, ◌∙◌, subst, arith}
+use Rattle.std.proofs.Common.{◌≡◌, ℕ, zero, suc, ◌+◌, ◌<◌, ◌≤◌, true, List, [], ◌∷◌, ◌++◌, length, get_or, sym, ap, ◌∙◌, subst, arith}
 use Rattle.std.specs.List.{list_all, AllByRecursion}
-use Rattle.std.specs.Prelude.{FitsSigned}
-use Rattle.std.specs.Int.{w32}
-use Rattle.std.proofs.lemmas.Int.{ints}
 use denote.Ref.{Bor}
-use Rattle.mm_isa.specs.declared.fields.Fields.{Fields}
 use Rattle.mm_isa.specs.Table.{FitInWord}
 use Rattle.mm_isa.proofs.Operands.{fields_fit}
 use Rattle.mm_line.specs.Ranges.{IsContent}
-use Rattle.mm_line.specs.declared.name.Mark.{Mark}
 use Rattle.mm_line.specs.declared.statement.Content.{Content}
 use Rattle.mm_line.specs.declared.statement.Content.TheVariants as content
 use Rattle.mm_draft.specs.declared.segment.Word.{Word}
-use Rattle.mm_draft.specs.declared.place.Place.{Place}
-use Rattle.mm_draft.specs.Drafts.{Segment, Draft, place_of, words_of}
+use Rattle.mm_draft.specs.Drafts.{Draft}
 use Rattle.mm_object.specs.Names.{is_name}
 use Rattle.mm_object.specs.Objects.{IsObject}
 use Rattle.mm_model.proofs.ImageBytes.Rising.{both}
 use Rattle.mm_asm.specs.Names.{Use, uses_of, externals_with}
-use Rattle.mm_asm.specs.Meaning.{distance_to, with_goal, object_of}
-use Rattle.mm_asm.specs.Bounds.{IsDraft, IsWord, IsSegment, IsPlace, HasWord}
+use Rattle.mm_asm.specs.Meaning.{object_of}
+use Rattle.mm_asm.specs.Bounds.{IsDraft, IsWord, IsSegment}
 use Rattle.mm_asm.specs.Answers.{bytes_of}
-use Rattle.mm_asm.specs.Steps.{FitsContent, FitsWords, FitsSegment}
+use Rattle.mm_asm.specs.Fits.{FitsContent, FitsWords, FitsSegment}
 use Rattle.mm_asm.proofs.Lists.{each_in, each_from}
-use Rattle.mm_asm.proofs.Segments.{words_in, place_is}
-
-word_in : (segments : List Segment) (i word : ℕ) → HasWord (slice_get segments i) word → word ≤ words_of segments
-word_in [] i word h = absurd h
-word_in (s ∷ segments) zero word h = omega (arith, h)
-word_in (s ∷ segments) (suc i) word h = omega (arith, word_in segments i word h)
+use Rattle.mm_asm.proofs.Segments.{words_in, fields_fit_with}
 
 module _ (d : Draft) (is_draft : IsDraft d) where
-  distance_fits : (o : Option Place) (k : ℕ) → ((p : Place) → o ≡ Some p → p.word ≤ 131072) → k ≤ 131072 → FitsSigned w32 (distance_to o k)
-  distance_fits None k h le = omega (arith, ints)
-  distance_fits (Some p) k h le = let small = h p refl in omega (arith, ints, small, le)
-
-  place_small : (name : List ℕ) (p : Place) → place_of d name ≡ Some p → p.word ≤ 131072
-  place_small name p e =
-      let has = place_is (IsPlace d.segments) d.names name p is_draft.segments.places e in
-      omega (arith, word_in d.segments p.segment p.word has, is_draft.segments.words)
-
-  fields_fit_with : (k : ℕ) (goal : Option Mark) (fields : Fields) → k ≤ 131072 → FitInWord fields → FitInWord (with_goal d k goal fields)
-  fields_fit_with k None fields le h = h
-  fields_fit_with k (Some m) fields le h = record { operation = h.operation; rd = h.rd; ra = h.ra; rb = h.rb; c = h.c; imm = distance_fits (place_of d m.name) k (place_small m.name) le }
-
   content_fits : (most k : ℕ) (c : Content) → k ≤ 131072 → IsContent most c → FitsContent d k c
   content_fits most k (content.Constant c) le h = tt
-  content_fits most k (content.Code code) le h = fields_fit_with k code.goal code.fields le (subst FitInWord h.fields.2 (fields_fit h.fields.0 h.fields.1))
+  content_fits most k (content.Code code) le h = fields_fit_with d is_draft k code.goal code.fields le (subst FitInWord h.fields.2 (fields_fit h.fields.0 h.fields.1))
 
   words_fit : (k : ℕ) (words : List Word) → k + length words ≤ 131072 → AllByRecursion IsWord words → FitsWords d k words
   words_fit k [] le h = tt

@@ -95,7 +95,7 @@ module _ (d : Draft) (is_draft : IsDraft d) where
       let has = place_is (IsPlace d.segments) d.names name p is_draft.segments.places e in
       omega (arith, word_in d.segments p.segment p.word has, is_draft.segments.words)
 
-  fields_fit_with : (k : ℕ) (goal : Option Mark) (fields : Fields) → k ≤ 131072 → FitInWord fields → FitInWord (with_goal d k goal fields)
+  pub fields_fit_with : (k : ℕ) (goal : Option Mark) (fields : Fields) → k ≤ 131072 → FitInWord fields → FitInWord (with_goal d k goal fields)
   fields_fit_with k None fields le h = h
   fields_fit_with k (Some m) fields le h = record { operation = h.operation; rd = h.rd; ra = h.ra; rb = h.rb; c = h.c; imm = distance_fits (place_of d m.name) k (place_small m.name) le }
 

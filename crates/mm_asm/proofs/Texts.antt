@@ -20,7 +20,7 @@ sooner_is p (Some q) e = chosen (precedes q p) e
     chosen false e = cc
 
 -- a list without a least item is empty
-none_least : (pairs : List Pair) → least pairs ≡ None → pairs ≡ []
+pub none_least : (pairs : List Pair) → least pairs ≡ None → pairs ≡ []
 none_least [] e = refl
 none_least (p ∷ pairs) e = absurd (sooner_is p (least pairs) e)
 

@@ -36,11 +36,11 @@ module _ (d : Draft) (is_draft : IsDraft d) (late : late_failures d ≡ []) wher
 
   -- 1. Targets.
 
-  in_words : (u : Use) → In u (flat_map segment_uses d.segments) → In u (uses_of d)
+  pub in_words : (u : Use) → In u (flat_map segment_uses d.segments) → In u (uses_of d)
   unfolding uses_of
   in_words u m = in_merge u (flat_map segment_uses d.segments) (flat_map thread_uses d.threads) (inl m)
 
-  in_threads : (u : Use) → In u (flat_map thread_uses d.threads) → In u (uses_of d)
+  pub in_threads : (u : Use) → In u (flat_map thread_uses d.threads) → In u (uses_of d)
   unfolding uses_of
   in_threads u m = in_merge u (flat_map segment_uses d.segments) (flat_map thread_uses d.threads) (inr m)
 

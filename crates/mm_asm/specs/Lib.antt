@@ -6,3 +6,4 @@ pub mod Laws
 pub mod Answers
 pub mod Steps
 pub mod Sources
+pub mod Fits

@@ -8,7 +8,7 @@ ghost use Rattle.mm_draft.specs.Faults.{draft_of};
 ghost use Rattle.mm_draft.specs.Seen.{Reads};
 ghost use Rattle.mm_object.specs.Objects.{Object as ObjectValue, IsObject};
 ghost use Rattle.std.specs.List.{AllByRecursion};
-ghost use Rattle.mm_asm.specs.Steps.{FitsSegment, FitsPointers, FitsThread};
+ghost use Rattle.mm_asm.specs.Fits.{FitsSegment, FitsPointers, FitsThread};
 ghost use Rattle.mm_draft.specs.Drafts.{Segment as SegmentValue};
 ghost use Rattle.mm_asm.specs.Bounds.{IsDraft};
 ghost use Rattle.mm_asm.specs.Sources.{IsSmallError, IsFromSmall};

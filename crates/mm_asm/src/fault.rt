@@ -1,7 +1,7 @@
 ghost use Rattle.std.specs.Prelude.{◌≡◌, Some};
 ghost use Rattle.mm_asm.specs.declared.fault.AsmError.TheVariants.{NoMemory};
 
-use mm_line::Fault;
+pub use mm_line::Fault as AsmFault;
 use std::alloc::{AllocError, AllocFailed};
 use thiserror::Error;
 
@@ -11,7 +11,7 @@ pub enum AsmError {
     /// The first fault of the text, and its place: a line and a byte of it, both counted from 1.
     #[error("source fault {} at {line}:{column}", .fault.number())]
     Fault {
-        fault: Fault,
+        fault: AsmFault,
         line: u32,
         column: u32,
     },

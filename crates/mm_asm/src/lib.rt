@@ -17,4 +17,4 @@ mod text_order;
 mod words;
 
 pub use assembling::assemble;
-pub use fault::AsmError;
+pub use fault::{AsmError, AsmFault};

@@ -1,7 +1,7 @@
 //! What targets come to.
 
 ghost use Rattle.std.specs.Prelude.{◌≡◌, ◌+◌, ◌*◌, ◌^◌, ◌<◌, true};
-ghost use Rattle.mm_asm.specs.Steps.{FitsTarget, FitsConstant};
+ghost use Rattle.mm_asm.specs.Fits.{FitsTarget, FitsConstant};
 ghost use Rattle.mm_asm.specs.Names.{position_of, externals_of};
 ghost use Rattle.mm_asm.specs.Meaning.{target_of, value_of};
 ghost use Rattle.std.specs.Ordering.{nat_cmp};

@@ -3,7 +3,7 @@
 ghost use Rattle.std.specs.Prelude.{◌≡◌, ◌++◌, ◌^◌, ◌<◌, ◌≤◌, length, IfOk, OnOk};
 ghost use Rattle.std.specs.List.{AllByRecursion};
 ghost use Rattle.mm_draft.specs.Drafts.{Segment as SegmentValue};
-ghost use Rattle.mm_asm.specs.Steps.{FitsPointer, FitsPointers};
+ghost use Rattle.mm_asm.specs.Fits.{FitsPointer, FitsPointers};
 ghost use Rattle.mm_asm.specs.Answers.{IsNoMemory};
 ghost use Rattle.mm_asm.specs.Names.{externals_of};
 ghost use Rattle.mm_asm.specs.Meaning.{content_relocs, words_relocs, segments_relocs};

@@ -4,7 +4,7 @@ ghost use Rattle.std.specs.Prelude.{◌≡◌, map, IfOk, FitsSigned};
 ghost use Rattle.std.specs.Int.{w32};
 ghost use Rattle.std.specs.List.{AllByRecursion};
 ghost use Rattle.mm_isa.specs.Table.{FitInWord};
-ghost use Rattle.mm_asm.specs.Steps.{FitsContent, FitsWords, FitsSegment};
+ghost use Rattle.mm_asm.specs.Fits.{FitsContent, FitsWords, FitsSegment};
 ghost use Rattle.mm_asm.specs.Answers.{IsNoMemory};
 ghost use Rattle.mm_asm.specs.Meaning.{distance_to, with_goal, bits_of, items_from, segment_of};
 ghost use Rattle.mm_draft.specs.Drafts.{place_of};

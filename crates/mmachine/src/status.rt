@@ -3,10 +3,10 @@ ghost use Rattle.std.specs.Prelude.{◌≡◌};
 ghost use Rattle.mmachine.specs.declared.status.Stop.TheVariants as stop;
 ghost use Rattle.mmachine.specs.Answers.{end_of, stop_of_extract};
 
+use mm_asm::AsmFault;
 use mm_audit::ExtractError;
 use mm_image::ImageFault;
 use mm_io::WriteFault;
-use mm_line::Fault;
 use mm_word::NoMemory;
 
 /// Why a command is refused. A file is counted from 1 among the command's file words.
@@ -29,7 +29,7 @@ pub enum Refusal {
     },
     /// The source means no object: its first fault, and where that stands, counted from 1 in lines and bytes.
     Asm {
-        fault: Fault,
+        fault: AsmFault,
         line: u32,
         column: u32,
     },

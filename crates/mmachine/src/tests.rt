@@ -1,7 +1,7 @@
 use crate::status::{Refusal, Status};
 use crate::top::mmachine;
+use mm_asm::AsmFault;
 use mm_io::{MemFiles, MemSink, StdFiles, StdSink, StdSource, SureSource};
-use mm_line::Fault;
 use mm_vmem::VMem;
 use std::fs;
 use std::test::Fail;
@@ -246,24 +246,24 @@ fn assembles(rt: HostRuntime) -> Result<(), Fail> {
         assert_eq!(rt; out.taken(), object);
     }
     for (text, fault, line, column) in [
-        (".segment a ; 3", Fault::Token, 1, 15),
-        (".segment a 3\nhalt\nhalt", Fault::Full, 3, 1),
-        (".segment a 3\nbr nowhere", Fault::Label, 2, 4),
-        (".segment a 3\nbr a", Fault::Label, 2, 4),
+        (".segment a ; 3", AsmFault::Token, 1, 15),
+        (".segment a 3\nhalt\nhalt", AsmFault::Full, 3, 1),
+        (".segment a 3\nbr nowhere", AsmFault::Label, 2, 4),
+        (".segment a 3\nbr a", AsmFault::Label, 2, 4),
         (
             ".segment a 4\nx: halt\n.segment b 3\nbr x",
-            Fault::Label,
+            AsmFault::Label,
             4,
             4,
         ),
-        (".segment a 3\n.ptr ro a + 8", Fault::Range, 2, 9),
+        (".segment a 3\n.ptr ro a + 8", AsmFault::Range, 2, 9),
         (
             ".segment a 3\nhalt\nx:\n.segment b 3\n.ptr ro x",
-            Fault::Range,
+            AsmFault::Range,
             5,
             9,
         ),
-        (".segment a 3\nbr nowhere\n$", Fault::Byte, 3, 1),
+        (".segment a 3\nbr nowhere\n$", AsmFault::Byte, 3, 1),
     ] {
         let held = files(&rt, Vec::new(rt.alloc()), text, 4096)?;
         let (status, out, _) = answer(&rt, &["asm", "SCHEDULE"], held)?;
