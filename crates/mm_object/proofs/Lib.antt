@@ -17,3 +17,4 @@ pub mod SpelledParts
 pub mod SpelledWhole
 pub mod Answered
 pub mod ReadSteps
+pub mod Found

@@ -47,6 +47,15 @@ impl Name {
     {
         self.bytes.as_slice()
     }
+
+    /// A name that is the same.
+    pub fn copy(&self) -> Name
+        ensures { result ≡ self.now }
+    {
+        let mut bytes = ArrayVec::new();
+        bytes.try_extend_from_slice(&self.bytes).unwrap();
+        Name { bytes }
+    }
 }
 
 fn is_name(bytes: &[u8]) -> bool

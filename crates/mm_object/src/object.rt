@@ -1,11 +1,14 @@
 //! Objects: what an assembler makes and a linker takes.
 
-ghost use Rattle.std.specs.Prelude.{◌≡◌};
+ghost use Rattle.std.specs.Prelude.{◌≡◌, ◌+◌, ◌*◌, ◌^◌, map, find};
+ghost use Rattle.std.specs.List.Sorted.{IsStrictlyIncreasing};
+ghost use Rattle.mm_object.specs.Objects.{place_of};
+ghost use Rattle.mm_object.specs.Lookups.{is_at, HaveSmallWords};
 
 use crate::fits::is_object;
 use crate::name::Name;
 use crate::segment::Segment;
-use crate::target::Reloc;
+use crate::target::{Reloc, Target};
 use crate::thread::Thread;
 use std::marker::Model;
 
@@ -31,8 +34,32 @@ impl Model for Object {
     ghost invariant = { λ o. IsObject (object_from o.segments.items o.externals.items o.relocs.items o.threads.items o.spare) };
 }
 
+// Where a relocation stands: its segment, and then its word.
+fn place(segment: u16, word: u32) -> u64
+    ensures { result ≡ segment * 2 ^ 32 + word }
+{
+    (u64::from(segment) << 32) + u64::from(word)
+}
+
+// The relocation of a word among those that rise, found by halving.
+fn reloc_in(relocs: &[Reloc], segment: u16, word: u32) -> Option<Reloc>
+    requires rising { IsStrictlyIncreasing (map place_of relocs.now) }
+    requires small { HaveSmallWords relocs.now }
+    ensures { result ≡ find (is_at segment word) relocs.now }
+{
+    match relocs.binary_search_by_key(&place(segment, word), |reloc| {
+        place(reloc.segment, reloc.word)
+    }) {
+        Ok(at) => Some(relocs[at]),
+        Err(_) => None,
+    }
+}
+
 impl Object {
+    ghost use Rattle.std.specs.Prelude.{◌+◌, ◌<◌, length};
     ghost use Rattle.std.specs.Option.{SomeIff};
+    ghost use Rattle.std.specs.List.{AllByRecursion};
+    ghost use Rattle.mm_object.specs.Lookups.{name_of_target, reloc_at};
     ghost use Rattle.mm_object.specs.Objects.{IsObject};
     ghost use Rattle.mm_object.specs.Fits.{object_from};
 
@@ -100,5 +127,37 @@ impl Object {
         ensures object { IsObject self.now }
     {
         self.spare
+    }
+
+    /// The name that a target goes by: that of a segment or, behind all segments, an external.
+    #[tactic(auto, unfolding(crate::specs::Lookups::name_of_target))]
+    pub fn target_name(&self, target: Target) -> &Name
+        requires { target.index < length self.now.segments + length self.now.externals }
+        ensures { result.now ≡ name_of_target self.now target }
+    {
+        let index = usize::from(target.index);
+        let own = self.segments.len();
+        if index < own {
+            &self.segments[index].name
+        } else {
+            &self.externals[index - own]
+        }
+    }
+
+    /// The relocation of a word of a segment, if it has one.
+    #[tactic(auto, unfolding(crate::specs::Lookups::reloc_at))]
+    pub fn reloc_at(&self, segment: u16, word: u32) -> Option<Reloc>
+        ensures { result ≡ reloc_at self.now segment word }
+    {
+        reloc_in(&self.relocs, segment, word)
+    }
+
+    /// What the type of each object keeps. Nothing is done.
+    pub fn typed(objects: &[Object])
+        ensures { AllByRecursion IsObject objects.now }
+    {
+        for object in objects {
+            object.spare();
+        }
     }
 }

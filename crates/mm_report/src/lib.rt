@@ -11,8 +11,9 @@ mod summary;
 mod trace;
 mod words;
 
+pub use counts::put_cycles;
 pub use output::put_output;
-pub use slots::{put_slot, slot_lines};
+pub use slots::{put_numbers, put_slot, put_state, slot_lines};
 pub use summary::report;
 pub use trace::{put_step, trace_line};
 pub use words::put_word;

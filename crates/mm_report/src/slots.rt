@@ -49,7 +49,8 @@ fn put_slot_line<O: Sink>(text: &mut Gather, out: &mut O, slot: &Slot)
     put_end(text, out, slot.past);
 }
 
-fn put_numbers<O: Sink>(text: &mut Gather, out: &mut O, number: u8, turns: u64)
+/// Begins the line of a slot: `slot S turns T ` with its number and its turns.
+pub fn put_numbers<O: Sink>(text: &mut Gather, out: &mut O, number: u8, turns: u64)
     ensures { Gathers O.taken O.faults out.old out.new text.old text.new (numbers_text number turns) }
 {
     text.put(
@@ -70,7 +71,8 @@ fn put_end<O: Sink>(text: &mut Gather, out: &mut O, past: bool)
     text.put_piece(out, &Piece::Text(if past { " past\n" } else { "\n" }));
 }
 
-fn put_state<O: Sink>(text: &mut Gather, out: &mut O, state: SlotState)
+/// Appends a state: `running`, `waiting`, `taken`, `halted`, or `faulted` with the number of the fault.
+pub fn put_state<O: Sink>(text: &mut Gather, out: &mut O, state: SlotState)
     ensures { Gathers O.taken O.faults out.old out.new text.old text.new (state_text state) }
 {
     match state {

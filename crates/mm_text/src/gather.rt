@@ -102,8 +102,8 @@ impl Gather {
         }
     }
 
-    // Appends the last hexadecimal digits of a number.
-    fn put_hex<O: Sink>(&mut self, out: &mut O, number: u64, digits: usize)
+    /// Appends the last hexadecimal digits of a number, at most 16 of them, in lower case.
+    pub fn put_hex<O: Sink>(&mut self, out: &mut O, number: u64, digits: usize)
         requires { digits ≤ 16 }
         ensures { Gathers O.taken O.faults out.old out.new self.old self.new (hex digits number) }
     {
