@@ -1,0 +1,116 @@
+-- Names that are there twice.
+use Rattle.std.proofs.Common.{◌≡◌, ℕ, ◌+◌, ◌<◌, Bool, true, false, not, if◌then◌else◌, List, [], ◌∷◌, ◌++◌, length, get_or, drop, reverse, Some, None, refl, sym, ap, ◌∙◌, true≢false}
+use Rattle.std.specs.Prelude.{◌||◌}
+use Rattle.std.specs.List.{list_any, AllByRecursion, IsDistinct}
+use Rattle.std.specs.List.Sorted.{IsPermutation}
+use Rattle.std.specs.Str.{bytes_eq}
+use Rattle.std.proofs.lemmas.Bool.Decides.{same_from_decides}
+use Rattle.std.proofs.lemmas.Slice.Eq.{bytes_eq-Decides}
+use Rattle.std.proofs.lemmas.List.{reverse-append}
+use Rattle.std.proofs.lemmas.List.Sorted.{IsPermutation-reverse, list_any-IsPermutation}
+use Rattle.std.proofs.lemmas.Map.Keys.{IsDistinct-IsPermutation}
+use Rattle.indexmap.specs.IndexSet.{insert_key}
+use denote.Ref.{Bor}
+use Rattle.mm_object.specs.Objects.{same_name, is_among}
+use Rattle.mm_object.proofs.Among.{same_name-Decides}
+use Rattle.mm_link.specs.Placing.{Part}
+use Rattle.mm_link.specs.Faults.{first_again}
+use Rattle.mm_link.specs.Steps.{bytes_of, part_names, same_part}
+use Rattle.mm_link.proofs.Lists.{at_item}
+
+-- names that are compared as bytes
+pub same_bytes : (a b : List ℕ) → bytes_eq a b ≡ same_name a b
+same_bytes a b = same_from_decides (bytes_eq a b) (same_name a b) (bytes_eq-Decides a b) (same_name-Decides a b)
+
+pub same_turned : (a b : List ℕ) → same_name a b ≡ same_name b a
+same_turned a b = same_from_decides (same_name a b) (same_name b a) (same_name-Decides a b) ((λ h. sym ((same_name-Decides b a).0 h)), (λ e. (same_name-Decides b a).1 (sym e)))
+
+abbrev pub same_key : Bor (List ℕ) → Bor (List ℕ) → Bool
+same_key x y = bytes_eq x.now y.now
+
+pub among_keys : (keys : List (Bor (List ℕ))) (k : Bor (List ℕ)) → list_any (same_key k) keys ≡ is_among k.now (bytes_of keys)
+among_keys [] k = refl
+among_keys (x ∷ keys) k = ap (λ b. b || list_any (same_key k) keys) (same_bytes k.now x.now) ∙ ap (λ b. same_name k.now x.now || b) (among_keys keys k)
+
+-- the names before, the last one first
+abbrev pub before_of : List (Bor (List ℕ)) → List (List ℕ)
+before_of keys = reverse (bytes_of keys)
+
+pub among_before : (keys : List (Bor (List ℕ))) (k : Bor (List ℕ)) → is_among k.now (before_of keys) ≡ list_any (same_key k) keys
+among_before keys k = sym (list_any-IsPermutation (same_name k.now) (bytes_of keys) (before_of keys) (IsPermutation-reverse (bytes_of keys))) ∙ sym (among_keys keys k)
+
+pub before_more : (keys : List (Bor (List ℕ))) (k : Bor (List ℕ)) → list_any (same_key k) keys ≡ false → before_of (insert_key same_key keys k) ≡ k.now ∷ before_of keys
+before_more keys k new = ap (λ b. before_of (if b then keys else keys ++ k ∷ [])) new ∙ ap reverse (pushed keys) ∙ reverse-append (bytes_of keys) (k.now ∷ [])
+  where
+    pushed : (keys : List (Bor (List ℕ))) → bytes_of (keys ++ k ∷ []) ≡ bytes_of keys ++ k.now ∷ []
+    pushed [] = refl
+    pushed (x ∷ keys) = ap (λ names. x.now ∷ names) (pushed keys)
+
+-- a name is new
+pub again_next : (before names : List (List ℕ)) (name : List ℕ) → is_among name before ≡ false → first_again before (name ∷ names) ≡ first_again (name ∷ before) names
+again_next before names name new = ap (λ b. if b then Some name else first_again (name ∷ before) names) new
+
+-- a name is there again
+pub again_here : (before names : List (List ℕ)) (name : List ℕ) → is_among name before ≡ true → first_again before (name ∷ names) ≡ Some name
+again_here before names name old = ap (λ b. if b then Some name else first_again (name ∷ before) names) old
+
+neither : (a b : Bool) → (a || b) ≡ false → (a ≡ false) × (b ≡ false)
+neither true b h = absurd (true≢false h)
+neither false b h = (refl, h)
+
+module _ (p : Part) (before : List (List ℕ)) where
+  old : (parts : List Part) → AllByRecursion (λ (q : Part). is_among q.segment.name (p.segment.name ∷ before) ≡ false) parts
+      → AllByRecursion (λ (q : Part). is_among q.segment.name before ≡ false) parts
+  old [] h = tt
+  old (q ∷ parts) h = ((neither (same_name q.segment.name p.segment.name) (is_among q.segment.name before) h.0).1, old parts h.1)
+
+  other : (parts : List Part) → AllByRecursion (λ (q : Part). is_among q.segment.name (p.segment.name ∷ before) ≡ false) parts
+      → AllByRecursion (λ (q : Part). same_part p q ≡ false) parts
+  other [] h = tt
+  other (q ∷ parts) h = (same_turned p.segment.name q.segment.name ∙ (neither (same_name q.segment.name p.segment.name) (is_among q.segment.name before) h.0).0, other parts h.1)
+
+-- where no name is there again, segments are told apart by their names
+pub distinct : (before : List (List ℕ)) (parts : List Part) → first_again before (part_names parts) ≡ None
+    → AllByRecursion (λ (p : Part). is_among p.segment.name before ≡ false) parts × IsDistinct same_part parts
+unfolding IsDistinct
+distinct before [] none = (tt, tt)
+distinct before (p ∷ parts) none = by (is_among p.segment.name before) refl none (distinct (p.segment.name ∷ before) parts)
+  where
+    by : (b : Bool) → is_among p.segment.name before ≡ b → (if b then Some p.segment.name else first_again (p.segment.name ∷ before) (part_names parts)) ≡ None
+        → (first_again (p.segment.name ∷ before) (part_names parts) ≡ None → AllByRecursion (λ (q : Part). is_among q.segment.name (p.segment.name ∷ before) ≡ false) parts ×
+        IsDistinct same_part parts)
+        → AllByRecursion (λ (q : Part). is_among q.segment.name before ≡ false) (p ∷ parts) × IsDistinct same_part (p ∷ parts)
+    by true e h rest = absurd (let impossible : Some p.segment.name ≡ None = h in cc)
+    by false e h rest = let r = rest h in ((e, old p before parts r.0), (other p before parts r.0, r.1))
+
+-- in whatever order
+pub distinct_placed : (parts placed : List Part) → IsPermutation parts placed → first_again [] (part_names parts) ≡ None → IsDistinct same_part placed
+distinct_placed parts placed moved none = IsDistinct-IsPermutation same_part (λ p q. same_turned p.segment.name q.segment.name) parts placed moved (distinct [] parts none).1
+
+-- A name more, as a set of names takes it.
+module _ (keys : List (Bor (List ℕ))) (parts : List Part) (i : ℕ) (p : Part) (k : Bor (List ℕ))
+    (so_far : first_again (before_of keys) (part_names (drop i parts)) ≡ first_again [] (part_names parts)) (lt : i < length parts) (at : p ≡ get_or parts i p)
+    (name : k.now ≡ p.segment.name) where
+  front : first_again (before_of keys) (k.now ∷ part_names (drop (i + 1) parts)) ≡ first_again [] (part_names parts)
+  front = ap (λ n. first_again (before_of keys) (n ∷ part_names (drop (i + 1) parts))) name
+      ∙ at_item (λ ps. first_again (before_of keys) (part_names ps)) (first_again [] (part_names parts)) parts i p lt at so_far
+
+  pub name_here : (r : Bool) → r ≡ not (list_any (same_key k) keys) → r ≡ false → first_again [] (part_names parts) ≡ Some p.segment.name
+  name_here r added old =
+      let there : list_any (same_key k) keys ≡ true = turned (list_any (same_key k) keys) (sym added ∙ old) in
+      sym front ∙ again_here (before_of keys) (part_names (drop (i + 1) parts)) k.now (among_before keys k ∙ there) ∙ ap Some name
+    where
+      turned : (b : Bool) → not b ≡ false → b ≡ true
+      turned true h = refl
+      turned false h = absurd (true≢false h)
+
+  pub name_next : (r : Bool) (new : List (Bor (List ℕ))) → r ≡ not (list_any (same_key k) keys) → r ≡ true → new ≡ insert_key same_key keys k
+      → first_again (before_of new) (part_names (drop (i + 1) parts)) ≡ first_again [] (part_names parts)
+  name_next r new added fresh now =
+      let absent : list_any (same_key k) keys ≡ false = turned (list_any (same_key k) keys) (sym added ∙ fresh) in
+      ap (λ ks. first_again (before_of ks) (part_names (drop (i + 1) parts))) now ∙ ap (λ names. first_again names (part_names (drop (i + 1) parts))) (before_more keys k absent)
+      ∙ sym (again_next (before_of keys) (part_names (drop (i + 1) parts)) k.now (among_before keys k ∙ absent)) ∙ front
+    where
+      turned : (b : Bool) → not b ≡ true → b ≡ false
+      turned true h = absurd (true≢false (sym h))
+      turned false h = refl

@@ -1,0 +1,6 @@
+use Rattle.mm_link.proofs.Targets.{reloc_target}
+use Rattle.mm_link.proofs.offsets.check_relocs.Goals as goal
+
+pub check_target-requires : goal.check_target-requires
+check_target-requires c = reloc_target c.args.object.now c.relocs-reloc-items.ensures.object c.relocs-reloc-items.result.now c.relocs-reloc-items.ensures.relocs
+    c.loop-reloc.reloc-index _ c.loop-reloc-test.true

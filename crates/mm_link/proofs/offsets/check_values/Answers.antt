@@ -1,0 +1,9 @@
+use Rattle.std.proofs.Common.{length}
+use Rattle.mm_object.specs.Objects.{is_value}
+use Rattle.mm_object.proofs.Bools.{all_at}
+use Rattle.mm_link.proofs.offsets.check_values.Goals as goal
+
+pub check_value-requires : goal.check_value-requires
+check_value-requires c =
+    let o = c.args.object.now in
+    all_at (is_value o.segments (length o.externals)) c.args.values.now c.requires c.loop-value.value-index _ c.loop-value-test.true

@@ -1,0 +1,25 @@
+-- What the linker answers.
+use Rattle.std.specs.Prelude.{◌≡◌, Option, Some, None, Result, Ok, Err}
+use Rattle.mm_link.specs.declared.fault.LinkFault.{LinkFault}
+use Rattle.mm_link.specs.declared.fault.LinkError.{LinkError}
+use Rattle.mm_link.specs.declared.fault.LinkError.TheVariants as errors
+
+-- the error has the fault, unless memory ran out
+abbrev pub Fails : Option LinkFault → LinkError → Type 0
+Fails fault (errors.Fault f) = fault ≡ Some f
+Fails fault errors.NoMemory = Unit {0}
+
+-- a function found no fault and this value, or it found this fault, unless memory ran out
+abbrev pub Gives : {X : Type 0} → Option LinkFault → X → Result X LinkError → Type 0
+Gives fault value (Ok x) = (fault ≡ None) × (x ≡ value)
+Gives fault value (Err e) = Fails fault e
+
+-- the answer is this value, unless memory ran out
+abbrev pub IsUnlessNoMemory : {X : Type 0} → X → Result X LinkError → Type 0
+IsUnlessNoMemory value (Ok x) = x ≡ value
+IsUnlessNoMemory value (Err e) = e ≡ errors.NoMemory
+
+-- the answer is this fault, unless memory ran out
+abbrev pub FailsUnlessNoMemory : {X : Type 0} → LinkFault → Result X LinkError → Type 0
+FailsUnlessNoMemory fault (Ok x) = ⊥
+FailsUnlessNoMemory fault (Err e) = Fails (Some fault) e

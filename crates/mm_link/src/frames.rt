@@ -1,0 +1,74 @@
+//! How many pages segments take, and how many frames a machine has for them.
+
+ghost use Rattle.std.specs.Prelude.{◌≡◌, ◌+◌, ◌*◌, ◌/◌, ◌≤◌, ◌^◌, length};
+ghost use Rattle.mm_link.specs.Placing.{bytes_of, parts_of};
+ghost use Rattle.mm_link.specs.Faults.{spares_of, frames_of, too_large};
+ghost use Rattle.mm_link.specs.Steps.{Passes};
+
+use crate::fault::{LinkError, LinkFault};
+use crate::placing::Part;
+use mm_object::Object;
+
+/// The most frames that an image has.
+const FRAMES: u32 = 256;
+
+/// How many bytes a page has.
+const PAGE_BYTES: u64 = 4096;
+
+// How many bytes segments have together.
+fn bytes_of(parts: &[Part<'_>]) -> u64
+    requires { length parts.now ≤ 4096 }
+    ensures bytes { result ≡ bytes_of parts.now }
+    ensures few { result ≤ 2 ^ 32 }
+{
+    let mut bytes = 0;
+    for part in parts {
+        bytes += part.size();
+    }
+    bytes
+}
+
+/// How many pages they take.
+pub(crate) fn page_count(parts: &[Part<'_>]) -> u32
+    requires { length parts.now ≤ 4096 }
+    ensures count { result ≡ (bytes_of parts.now + 4095) / 4096 }
+    ensures few { result ≤ 2 ^ 20 }
+{
+    bytes_of(parts).div_ceil(PAGE_BYTES) as u32
+}
+
+// How many spare frames objects ask for.
+fn spares_of(objects: &[Object]) -> u32
+    requires { length objects.now ≤ 16 }
+    ensures spares { result ≡ spares_of objects.now }
+    ensures few { result ≤ 256 * 16 }
+{
+    let mut spares = 0;
+    for object in objects {
+        spares += u32::from(object.spare());
+    }
+    spares
+}
+
+/// The frames of the pages and the spare ones, and one at least.
+pub(crate) fn frames_of(parts: &[Part<'_>], objects: &[Object]) -> u32
+    requires parts { parts.now ≡ parts_of objects.now }
+    requires few_parts { length parts.now ≤ 4096 }
+    requires few { length objects.now ≤ 16 }
+    ensures { result ≡ frames_of objects.now }
+{
+    (page_count(parts) + spares_of(objects)).max(1)
+}
+
+/// Whether an image has so many frames.
+pub(crate) fn check_frames(parts: &[Part<'_>], objects: &[Object]) -> Result<(), LinkError>
+    requires parts { parts.now ≡ parts_of objects.now }
+    requires few_parts { length parts.now ≤ 4096 }
+    requires few { length objects.now ≤ 16 }
+    ensures { Passes (too_large objects.now) result }
+{
+    if frames_of(parts, objects) > FRAMES {
+        return Err(LinkError::Fault(LinkFault::TooLarge));
+    }
+    Ok(())
+}

@@ -1,0 +1,145 @@
+//! The pages of an image.
+
+ghost use Rattle.std.specs.Prelude.{◌≡◌, ◌++◌, ◌≤◌, ◌<◌, ◌^◌, take, replicate, length, IfOk, OnOk};
+ghost use Rattle.std.specs.List.{flat_map};
+ghost use Rattle.mm_object.specs.Objects.{IsObject};
+ghost use Rattle.mm_object.specs.Lookups.{reloc_at};
+ghost use Rattle.mm_model.specs.Memory.{zero_cell, zero_page};
+ghost use Rattle.mm_link.specs.Linked.{word_by, cells_from, part_cells, pages_from, first_page};
+ghost use Rattle.mm_link.specs.Steps.{IsNoMemory};
+
+use crate::fault::LinkError;
+use crate::placing::Part;
+use crate::sites::Sites;
+use mm_model::Page;
+use mm_object::{Item, Object};
+use mm_word::{Cell, Word};
+use std::alloc::Global;
+
+/// The page of the first segment.
+const FIRST_PAGE: u64 = 0x100;
+
+/// How many cells a page has.
+const PAGE_CELLS: usize = 512;
+
+/// What a cell holds that no word stands in.
+const ZERO: Cell = Cell {
+    word: Word::Int(0),
+    full: true,
+};
+
+/// The pages of segments that stand one after another.
+pub(crate) fn pages_of(
+    alloc: Global,
+    sites: &Sites<'_>,
+    parts: &[Part<'_>],
+    count: u32,
+) -> Result<Vec<Page>, LinkError>
+    requires { count ≤ 256 }
+    ensures pages { IfOk result (λ v. v.items ≡ pages_from count first_page (flat_map (part_cells sites.now) parts.now)) }
+    ensures memory { IsNoMemory result }
+{
+    let cells = cells_of(alloc, sites, parts, count as usize * PAGE_CELLS)?;
+    pages_from(alloc, &cells, count)
+}
+
+// Their cells, for so many of which there is room.
+fn cells_of(
+    alloc: Global,
+    sites: &Sites<'_>,
+    parts: &[Part<'_>],
+    room: usize,
+) -> Result<Vec<Cell>, LinkError>
+    ensures cells { IfOk result (λ v. v.items ≡ flat_map (part_cells sites.now) parts.now) }
+    ensures memory { IsNoMemory result }
+{
+    let mut cells = Vec::with_capacity(alloc, room)?;
+    for part in parts {
+        push_part(&mut cells, sites, part)?;
+    }
+    Ok(cells)
+}
+
+#[tactic(auto, unfolding(crate::specs::Linked::part_cells))]
+fn push_part(cells: &mut Vec<Cell>, sites: &Sites<'_>, part: &Part<'_>) -> Result<(), LinkError>
+    ensures cells { OnOk result (cells.new.items ≡ cells.old.items ++ part_cells sites.now part.now) }
+    ensures memory { IsNoMemory result }
+{
+    let items = part.items();
+    push_items(cells, sites, part.object(), part.number(), items)?;
+    push_zeros(cells, (1 << (part.log() - 3)) - items.len())
+}
+
+// The words that a segment begins with.
+fn push_items(
+    cells: &mut Vec<Cell>,
+    sites: &Sites<'_>,
+    object: &Object,
+    segment: u16,
+    items: &[Item],
+) -> Result<(), LinkError>
+    requires object { IsObject object.now }
+    requires few { length items.now < 2 ^ 32 }
+    ensures cells { OnOk result (cells.new.items ≡ cells.old.items ++ cells_from sites.now object.now segment 0 items.now) }
+    ensures memory { IsNoMemory result }
+{
+    for (word, item) in items.iter().enumerate() {
+        cells.push(Cell {
+            word: word_of(sites, object, segment, word as u32, item.bits),
+            full: item.full,
+        })?;
+    }
+    Ok(())
+}
+
+// A word of a segment: the pointer of its relocation, or the integer that it is.
+fn word_of(sites: &Sites<'_>, object: &Object, segment: u16, word: u32, bits: u64) -> Word
+    requires { IsObject object.now }
+    ensures { result ≡ word_by sites.now object.now (reloc_at object.now segment word) bits }
+{
+    match object.reloc_at(segment, word) {
+        Some(reloc) => Word::Ptr(sites.pointer_to(object, reloc.perm, reloc.target)),
+        None => Word::Int(bits),
+    }
+}
+
+fn push_zeros(cells: &mut Vec<Cell>, count: usize) -> Result<(), LinkError>
+    ensures cells { OnOk result (cells.new.items ≡ cells.old.items ++ replicate count zero_cell) }
+    ensures memory { IsNoMemory result }
+{
+    for _ in 0..count {
+        cells.push(ZERO)?;
+    }
+    Ok(())
+}
+
+// So many pages of cells, the last of them filled with cells that no word stands in.
+fn pages_from(alloc: Global, cells: &[Cell], count: u32) -> Result<Vec<Page>, LinkError>
+    requires { count ≤ 256 }
+    ensures pages { IfOk result (λ v. v.items ≡ pages_from count first_page cells.now) }
+    ensures memory { IsNoMemory result }
+{
+    let mut pages = Vec::with_capacity(alloc, count as usize)?;
+    let mut rest = cells;
+    for number in 0..count {
+        pages.push(page_of(alloc, FIRST_PAGE + u64::from(number), rest)?)?;
+        rest = &rest[rest.len().min(PAGE_CELLS)..];
+    }
+    Ok(pages)
+}
+
+// The page of the first of these cells.
+fn page_of(alloc: Global, number: u64, cells: &[Cell]) -> Result<Page, LinkError>
+    requires { number < 2 ^ 42 }
+    ensures page { IfOk result (λ p. p ≡ (number, take 512 (cells.now ++ zero_page))) }
+    ensures memory { IsNoMemory result }
+{
+    let kept = cells.len().min(PAGE_CELLS);
+    let mut page = Vec::with_capacity(alloc, PAGE_CELLS)?;
+    page.extend_from_slice(&cells[..kept])?;
+    push_zeros(&mut page, PAGE_CELLS - kept)?;
+    match Page::new(number, page) {
+        Some(page) => Ok(page),
+        None => unreachable!(),
+    }
+}
