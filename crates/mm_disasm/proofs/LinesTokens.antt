@@ -1,0 +1,144 @@
+-- Numbers are read as they are written.
+use Rattle.std.proofs.Common.{◌≡◌, ℕ, zero, suc, ◌/◌, ◌%◌, ◌^◌, ◌<◌, ◌≤◌, Bool, true, false, not, ◌&&◌, ◌||◌, ◌==◌, nat_lt, List, [], ◌∷◌, ◌++◌, length, codes, refl, ap, ◌∙◌, arith}
+use Rattle.std.specs.List.{list_all}
+use Rattle.std.specs.Char.{digit_value, is_digit, is_ascii_alphabetic}
+use Rattle.std.specs.Fmt.{decimal, digit_glyph}
+use Rattle.std.specs.Str.Parse.{AllDigits, digits_value}
+use Rattle.std.proofs.lemmas.Bool.{ltb-true}
+use Rattle.std.proofs.lemmas.Bool.Decides.{nat_tests}
+use Rattle.std.proofs.lemmas.Fmt.{decimal_is_IsNumeral}
+use Rattle.std.proofs.lemmas.List.Folds.{list_all-append}
+use Rattle.std.proofs.lemmas.Int.Digits.{digits_push, digits_value_push}
+use Rattle.std.proofs.lemmas.Str.{digit_value-digit_char}
+use Rattle.mm_model.specs.Digits.{hex}
+use Rattle.mm_text.proofs.HexDigits.{length-hex}
+use Rattle.mm_line.specs.declared.token.Token.TheVariants.{Number}
+use Rattle.mm_line.specs.Tokens.{number, next_token}
+use Rattle.mm_line.specs.Standing.{written}
+use Rattle.mm_line.proofs.Choices.{either}
+use Rattle.mm_line.proofs.Written.{blank_read, decimal_read, negative_read, hexadecimal_read}
+use Rattle.mm_disasm.specs.Canonical.{digits_of, short_hex, long_hex}
+
+pub less : (a b : ℕ) → a < b → nat_lt a b ≡ true
+less a b h = grind (arith, nat_tests)
+
+pub all_append : {X : Type 0} (p : X → Bool) (a b : List X) → list_all p a ≡ true → list_all p b ≡ true → list_all p (a ++ b) ≡ true
+all_append p a b h k = rw (list_all-append p a b, h, k) refl
+
+pub not_true : (b : Bool) → not b ≡ true → b ≡ false
+not_true true e = cc
+not_true false e = refl
+
+-- a byte that a name goes on with
+abbrev pub name_byte : ℕ → Bool
+name_byte b = is_ascii_alphabetic b || b == 95 || is_digit b 10
+
+-- the first byte passes a test
+abbrev pub begins : (ℕ → Bool) → List ℕ → Bool
+begins p [] = false
+begins p (b ∷ bytes) = p b
+
+-- one byte or more, and each passes a test
+abbrev pub all_of : (ℕ → Bool) → List ℕ → Bool
+all_of p bytes = begins p bytes && list_all p bytes
+
+-- 1. Digits.
+
+digits_pass : (radix : ℕ) (p : ℕ → Bool) → ((b : ℕ) → digit_value b < radix → p b ≡ true) → (ds : List ℕ) → AllDigits radix ds → list_all p ds ≡ true
+digits_pass radix p f [] h = refl
+digits_pass radix p f (d ∷ ds) h = rw (f d h.0, digits_pass radix p f ds h.1) refl
+
+form_of : (radix : ℕ) (ds : List ℕ) → 0 < length ds → AllDigits radix ds → all_of (λ b. is_digit b radix) ds ≡ true
+form_of radix [] some h = absurd (omega arith)
+form_of radix (d ∷ ds) some h = rw (less (digit_value d) radix h.0) (digits_pass radix (λ b. is_digit b radix) (λ b q. less (digit_value b) radix q) ds h.1)
+
+or_last : (a : Bool) → (a || true) ≡ true
+or_last true = refl
+or_last false = refl
+
+digit_goes_on : (b : ℕ) → digit_value b < 10 → name_byte b ≡ true
+digit_goes_on b h = rw (less (digit_value b) 10 h) (or_last (is_ascii_alphabetic b || b == 95))
+
+-- decimal digits may stand in a name
+pub digits_go_on : (n : ℕ) → n < 2 ^ 64 → list_all name_byte (decimal n) ≡ true
+digits_go_on n h = digits_pass 10 name_byte digit_goes_on (decimal n) (decimal_is_IsNumeral n h).0.1
+
+pub are_decimal : (n : ℕ) → n < 2 ^ 64 → all_of (λ b. is_digit b 10) (decimal n) ≡ true
+are_decimal n h = let d = decimal_is_IsNumeral n h in form_of 10 (decimal n) d.0.0 d.0.1
+
+glyph_value : (d : ℕ) → d < 16 → digit_value (digit_glyph false d) ≡ d
+glyph_value d h = digit_value-digit_char d (omega arith)
+
+all_hexadecimal : (k n : ℕ) → AllDigits 16 (hex k n)
+unfolding hex
+all_hexadecimal zero n = tt
+all_hexadecimal (suc k) n =
+    let last : digit_value (digit_glyph false (n % 16)) < 16 = omega (arith, glyph_value (n % 16) (omega arith)) in
+    digits_push 16 (hex k (n / 16)) (digit_glyph false (n % 16)) (all_hexadecimal k (n / 16)) last
+
+fewer : (k n : ℕ) → n < 16 ^ suc k → n / 16 < 16 ^ k
+fewer k n h = omega arith
+
+hex_value : (k n : ℕ) → n < 16 ^ k → digits_value 16 (hex k n) ≡ n
+unfolding hex
+hex_value zero n h = omega arith
+hex_value (suc k) n h =
+    let whole = digits_value_push 16 (hex k (n / 16)) (digit_glyph false (n % 16)) in
+    let front = hex_value k (n / 16) (fewer k n h) in
+    let last = glyph_value (n % 16) (omega arith) in
+    omega (arith, whole, front, last)
+
+pub are_hexadecimal : (k n : ℕ) → 0 < k → all_of (λ b. is_digit b 16) (hex k n) ≡ true
+are_hexadecimal k n some = form_of 16 (hex k n) (omega (arith, length-hex k n)) (all_hexadecimal k n)
+
+-- 2. Tokens.
+
+-- a blank before a token
+pub blank : (line : List ℕ) → next_token (32 ∷ line) ≡ next_token line
+blank line = blank_read 32 line refl
+
+positive : (n : ℕ) → n < 2 ^ 64 → number false n ≡ Number false n
+positive n h = rw (less n (2 ^ 64) h) refl
+
+pub decimal_token : (n : ℕ) (rest : List ℕ) → n < 2 ^ 64 → begins name_byte rest ≡ false → next_token (decimal n ++ rest) ≡ written (Number false n) (decimal n) rest
+decimal_token n rest h stop =
+    decimal_read (decimal n) rest (are_decimal n h) stop ∙ ap (λ t. written t (decimal n) rest) (ap (number false) (decimal_is_IsNumeral n h).1 ∙ positive n h)
+
+negative : (n : ℕ) → n ≤ 2 ^ 63 → number true n ≡ Number true n
+negative n h = grind (arith, nat_tests)
+
+or_none : (a b : Bool) → (a || b) ≡ false → b ≡ false
+or_none true b e = cc
+or_none false b e = e
+
+no_digits : (rest : List ℕ) → begins name_byte rest ≡ false → begins (λ b. is_digit b 10) rest ≡ false
+no_digits [] stop = refl
+no_digits (b ∷ rest) stop = or_none (is_ascii_alphabetic b || b == 95) (is_digit b 10) stop
+
+pub negative_token : (n : ℕ) (rest : List ℕ) → n ≤ 2 ^ 63 → begins name_byte rest ≡ false
+    → next_token ((codes "-" ++ decimal n) ++ rest) ≡ written (Number true n) (codes "-" ++ decimal n) rest
+negative_token n rest h stop =
+    let small : n < 2 ^ 64 = omega arith in
+    negative_read (decimal n) rest (are_decimal n small) (no_digits rest stop)
+    ∙ ap (λ t. written t (codes "-" ++ decimal n) rest) (ap (number true) (decimal_is_IsNumeral n small).1 ∙ negative n h)
+
+pub hex_token : (k n : ℕ) (rest : List ℕ) → 0 < k → n < 16 ^ k → n < 2 ^ 64 → begins (λ b. is_digit b 16) rest ≡ false
+    → next_token ((codes "0x" ++ hex k n) ++ rest) ≡ written (Number false n) (codes "0x" ++ hex k n) rest
+hex_token k n rest some fits h stop =
+    hexadecimal_read (hex k n) rest (are_hexadecimal k n some) stop
+    ∙ ap (λ t. written t (codes "0x" ++ hex k n) rest) (ap (number false) (hex_value k n fits) ∙ positive n h)
+
+-- so many digits as it needs
+pub enough : (n : ℕ) → n < 2 ^ 20 → (0 < digits_of n) × (n < 16 ^ digits_of n)
+enough n h =
+    either (λ k. (0 < k) × (n < 16 ^ k)) (nat_lt n 0x10) 1 _ (λ e. let l = ltb-true n 0x10 e in (omega arith, omega arith)) (λ _.
+    either (λ k. (0 < k) × (n < 16 ^ k)) (nat_lt n 0x100) 2 _ (λ e. let l = ltb-true n 0x100 e in (omega arith, omega arith)) (λ _.
+    either (λ k. (0 < k) × (n < 16 ^ k)) (nat_lt n 0x1000) 3 _ (λ e. let l = ltb-true n 0x1000 e in (omega arith, omega arith)) (λ _.
+    either (λ k. (0 < k) × (n < 16 ^ k)) (nat_lt n 0x10000) 4 5 (λ e. let l = ltb-true n 0x10000 e in (omega arith, omega arith)) (λ _.
+    (omega arith, omega arith)))))
+
+pub short_token : (n : ℕ) (rest : List ℕ) → n < 2 ^ 20 → begins (λ b. is_digit b 16) rest ≡ false → next_token (short_hex n ++ rest) ≡ written (Number false n) (short_hex n) rest
+short_token n rest h stop = let e = enough n h in hex_token (digits_of n) n rest e.0 e.1 (omega arith) stop
+
+pub long_token : (n : ℕ) (rest : List ℕ) → n < 2 ^ 64 → begins (λ b. is_digit b 16) rest ≡ false → next_token (long_hex n ++ rest) ≡ written (Number false n) (long_hex n) rest
+long_token n rest h stop = hex_token 16 n rest (omega arith) (omega arith) h stop

@@ -1,0 +1,17 @@
+-- Laws of canonical texts.
+use Rattle.std.specs.Prelude.{◌≡◌, ◌≤◌, length}
+use Rattle.mm_object.specs.Objects.{Object, IsObject}
+use Rattle.mm_asm.specs.Faults.{Means}
+use Rattle.mm_disasm.specs.Canonical.{canonical}
+
+-- an object is what its canonical text means
+abbrev pub CanonicalTextsMeanTheirObjects : Type 0
+CanonicalTextsMeanTheirObjects = (o : Object) → IsObject o → Means (canonical o) o
+
+-- so that no two objects have the same one
+abbrev pub CanonicalTextsDiffer : Type 0
+CanonicalTextsDiffer = (a b : Object) → IsObject a → IsObject b → canonical a ≡ canonical b → a ≡ b
+
+-- and none is longer than a source may be
+abbrev pub CanonicalTextsAreSources : Type 0
+CanonicalTextsAreSources = (o : Object) → IsObject o → length (canonical o) ≤ 8388608

@@ -1,0 +1,54 @@
+//! Segments.
+
+ghost use Rattle.std.specs.Prelude.{◌≤◌, length};
+ghost use Rattle.std.specs.List.{AllByRecursion};
+ghost use Rattle.mm_object.specs.Objects.{IsObject, IsSegment};
+ghost use Rattle.mm_text.specs.Gathers.{Gathers};
+ghost use Rattle.mm_disasm.specs.Canonical.{segment_line, segment_text, segments_text};
+
+use crate::words::put_words;
+use mm_io::Sink;
+use mm_object::{Object, Segment};
+use mm_text::{Gather, Piece};
+
+/// Appends the lines of segments, each with a line for each word.
+pub(crate) fn put_segments<O: Sink>(
+    text: &mut Gather,
+    out: &mut O,
+    o: &Object,
+    segments: &[Segment],
+)
+    requires object { IsObject o.now }
+    requires few { length segments.now ≤ 256 }
+    requires segments { AllByRecursion IsSegment segments.now }
+    ensures { Gathers O.taken O.faults out.old out.new text.old text.new (segments_text o.now 0 segments.now) }
+{
+    for (number, segment) in segments.iter().enumerate() {
+        put_segment(text, out, o, number as u16, segment);
+    }
+}
+
+#[tactic(auto, unfolding(crate::specs::Canonical::segment_text))]
+fn put_segment<O: Sink>(text: &mut Gather, out: &mut O, o: &Object, number: u16, segment: &Segment)
+    requires object { IsObject o.now }
+    requires segment { IsSegment segment.now }
+    ensures { Gathers O.taken O.faults out.old out.new text.old text.new (segment_text o.now number segment.now) }
+{
+    put_segment_line(text, out, segment);
+    put_words(text, out, o, number, &segment.items);
+}
+
+fn put_segment_line<O: Sink>(text: &mut Gather, out: &mut O, segment: &Segment)
+    ensures { Gathers O.taken O.faults out.old out.new text.old text.new (segment_line segment.now) }
+{
+    text.put_piece(out, &Piece::Text(".segment "));
+    text.put_bytes(out, segment.name.bytes());
+    text.put(
+        out,
+        &[
+            Piece::Text(" "),
+            Piece::Decimal(segment.log as u64),
+            Piece::Text("\n"),
+        ],
+    );
+}
