@@ -1,0 +1,4 @@
+pub mod Numbers
+pub mod PageLists
+pub mod Images
+pub mod SlotTexts

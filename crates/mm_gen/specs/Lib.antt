@@ -1,0 +1,4 @@
+pub mod Generated
+pub mod Steps
+pub mod Summary
+pub mod Laws

@@ -1,0 +1,16 @@
+-- The summary of a machine.
+use Rattle.std.specs.Prelude.{ℕ, List, ◌++◌, length, codes, decimal}
+use Rattle.std.specs.List.{flat_map}
+use Rattle.mm_model.specs.Lines.{newline, numbers_text, state_text, word_text}
+use Rattle.mm_model.specs.Slot.{Slot, register}
+use Rattle.mm_model.specs.State.{Row, Core, State, output_of}
+use Rattle.mm_model.specs.Report.{cycles_line}
+
+-- a slot: its turns and state, how many bytes its group has put out, and its register 3
+abbrev pub slot_summary : Core → Slot → List ℕ
+slot_summary core s =
+    numbers_text s.number s.turns ++ state_text s.state ++ codes " out " ++ decimal (length (output_of core s.group)) ++ codes " xor " ++ word_text (register s 3) ++ newline
+
+-- how many cycles, and each slot
+unfoldable pub summary : State → List ℕ
+summary s = cycles_line s.cycles ++ flat_map (λ (row : Row). slot_summary s.core row.slot) s.core.rows

@@ -1,0 +1,160 @@
+//! The pages of generated images: the code of each slot, and its data behind it.
+ghost use Rattle.std.specs.Prelude.{◌≡◌, true, ◌+◌, ◌*◌, ◌≤◌, ◌<◌, ◌^◌, ◌++◌, length, replicate, IfOk, OnOk};
+ghost use Rattle.std.specs.List.{flat_map, range_with_len};
+ghost use Rattle.mm_model.specs.Memory.{zero_cell};
+ghost use Rattle.mm_gen.specs.Generated.{next_number, nth_number, code_page, data_page, loop as loop_of, code_cells, slot_pages};
+ghost use Rattle.mm_gen.specs.Steps.{cells_behind, pages_behind};
+
+use mm_isa::{AluOp, Instr, Reg, encode};
+use mm_model::{CELLS, Page};
+use mm_word::{Cell, Post, Pre, Word};
+use std::alloc::{AllocError, Global};
+
+/// The page of the first slot's code.
+const FIRST_PAGE: u64 = 256;
+
+/// How many instructions the code of a slot has.
+const LENGTH: usize = 5;
+
+/// The number behind a number.
+fn next_number(number: u64) -> u64
+    ensures { result ≡ next_number number }
+{
+    number
+        .wrapping_mul(0x5851_f42d_4c95_7f2d)
+        .wrapping_add(0x1405_7b7e_f767_814f)
+}
+
+/// The page of a slot's code.
+pub(crate) fn code_page(slot: u8) -> u64
+    ensures { result ≡ code_page slot }
+{
+    FIRST_PAGE + 2 * u64::from(slot)
+}
+
+/// The page of a slot's data.
+pub(crate) fn data_page(slot: u8) -> u64
+    ensures { result ≡ data_page slot }
+{
+    code_page(slot) + 1
+}
+
+fn register(number: u8) -> Reg
+    requires { number < 16 }
+    ensures { result ≡ number }
+{
+    match Reg::new(number) {
+        Some(register) => register,
+        None => unreachable!(),
+    }
+}
+
+/// The code of a slot, a loop that goes over its data: each word is taken into the exclusive or of all so far, whose low byte is put out.
+fn code() -> [Instr; LENGTH]
+    ensures { result ≡ loop_of }
+{
+    let place = register(1);
+    let word = register(2);
+    let sum = register(3);
+    [
+        Instr::Ld {
+            rd: word,
+            ra: place,
+            pre: Pre::Any,
+            post: Post::Keep,
+            imm: 0,
+        },
+        Instr::Alu {
+            op: AluOp::Xor,
+            rd: sum,
+            ra: sum,
+            rb: word,
+        },
+        Instr::Out { ra: sum },
+        Instr::Leai {
+            rd: place,
+            ra: place,
+            imm: 8,
+        },
+        Instr::Br { imm: -4 },
+    ]
+}
+
+fn full_cell(word: Word) -> Cell
+    ensures { result ≡ record { word = word; full = true } }
+{
+    Cell { word, full: true }
+}
+
+/// Appends so many zeros.
+fn push_zeros(cells: &mut Vec<Cell>, count: usize) -> Result<(), AllocError>
+    ensures { OnOk result (cells.new.items ≡ cells.old.items ++ replicate count zero_cell) }
+{
+    for _ in 0..count {
+        cells.push(full_cell(Word::Int(0)))?;
+    }
+    Ok(())
+}
+
+/// The cells of a slot's code, and zeros behind it.
+fn code_cells(alloc: Global) -> Result<Vec<Cell>, AllocError>
+    ensures { IfOk result (λ cells. cells.items ≡ code_cells) }
+{
+    let mut cells = Vec::with_capacity(alloc, CELLS)?;
+    for instruction in &code() {
+        cells.push(full_cell(Word::Int(encode(instruction))))?;
+    }
+    push_zeros(&mut cells, CELLS - LENGTH)?;
+    Ok(cells)
+}
+
+/// The cells of a slot's data, the numbers behind a number, which becomes the last of them.
+fn data_cells(alloc: Global, number: &mut u64) -> Result<Vec<Cell>, AllocError>
+    ensures last { OnOk result (number.new ≡ nth_number number.old 512) }
+    ensures cells { IfOk result (λ cells. cells.items ≡ cells_behind number.old 512) }
+{
+    let mut cells = Vec::with_capacity(alloc, CELLS)?;
+    for _ in 0..CELLS {
+        *number = next_number(*number);
+        cells.push(full_cell(Word::Int(*number)))?;
+    }
+    Ok(cells)
+}
+
+fn page(number: u64, cells: Vec<Cell>) -> Page
+    requires number { number < 2 ^ 42 }
+    requires cells { length cells.items ≡ 512 }
+    ensures { result ≡ (number, cells.items) }
+{
+    match Page::new(number, cells) {
+        Some(page) => page,
+        None => unreachable!(),
+    }
+}
+
+/// Appends the pages of a slot. Its data are the numbers behind a number, which becomes the last of them.
+fn push_pages(
+    alloc: Global,
+    pages: &mut Vec<Page>,
+    slot: u8,
+    number: &mut u64,
+) -> Result<(), AllocError>
+    ensures last { OnOk result (number.new ≡ nth_number number.old 512) }
+    ensures pages { OnOk result (pages.new.items ≡ pages.old.items ++ pages_behind number.old slot) }
+{
+    pages.push(page(code_page(slot), code_cells(alloc)?))?;
+    pages.push(page(data_page(slot), data_cells(alloc, number)?))?;
+    Ok(())
+}
+
+/// The pages of so many slots, whose data are the numbers that a number begins.
+pub(crate) fn pages(alloc: Global, number: u64, size: u8) -> Result<Vec<Page>, AllocError>
+    ensures { IfOk result (λ pages. pages.items ≡ flat_map (slot_pages number) (range_with_len 0 size)) }
+{
+    let mut pages = Vec::with_capacity(alloc, 2 * usize::from(size))?;
+    let mut last = number;
+    for slot in 0..size {
+        push_pages(alloc, &mut pages, slot, &mut last)?;
+    }
+    Ok(pages)
+}
