@@ -12,12 +12,18 @@ use Rattle.mm_line.specs.declared.fault.Fault.{Fault}
 use Rattle.mm_line.specs.declared.fault.Fault.TheVariants as text_faults
 use Rattle.mm_line.specs.Faults.{number_of as fault_number}
 use Rattle.mm_draft.specs.Laws.{Pair}
+use Rattle.mm_object.specs.declared.fault.ObjectFault.{ObjectFault}
+use Rattle.mm_object.specs.declared.fault.ObjectFault.TheVariants as object_faults
+use Rattle.mm_object.specs.Answers.{number_of as object_number}
+use Rattle.mm_object.specs.Faults.{object_fault}
 use Rattle.mm_object.specs.Objects.{Object}
+use Rattle.mm_object.specs.Spelling.{Spells as SpellsObject}
+use Rattle.mm_object.proofs.SpelledWhole as objects
 use Rattle.mm_asm.specs.Faults.{first_fault}
 use Rattle.mm_asm.proofs.Texts.{meanings_are_one, meaning_has_no_fault}
 use Rattle.mmachine.specs.declared.status.Refusal.{Refusal}
 use Rattle.mmachine.specs.declared.status.Refusal.TheVariants as refusal
-use Rattle.mmachine.specs.Kinds.{Kind, image_file, schedule_file, source_file, text_input, Value, an_image, a_list, an_object, a_text, Accepts, Faults}
+use Rattle.mmachine.specs.Kinds.{Kind, image_file, schedule_file, source_file, object_file, text_input, Value, an_image, a_list, an_object, a_text, Accepts, Faults}
 
 -- 1. Images.
 
@@ -62,7 +68,7 @@ one_image_fault bytes number kind other offset place one two =
 no_fault : (bytes : List ℕ) (i : Image) → Spells bytes i → image_fault bytes ≡ None
 no_fault bytes i s = spelled_clean bytes i s.image s.spelled
 
-one_spelled : (bytes : List ℕ) (i j : Image) → Spells bytes i → Spells bytes j → i ≡ j
+pub one_spelled : (bytes : List ℕ) (i j : Image) → Spells bytes i → Spells bytes j → i ≡ j
 one_spelled bytes i j one other = sym (image_same bytes i one.image one.spelled) ∙ image_same bytes j other.image other.spelled
 
 -- 2. Sources.
@@ -103,12 +109,42 @@ one_text_fault bytes kind other line column row place one two =
     let columns : column ≡ place = ap column_in (sym one) ∙ ap column_in two in
     cc
 
--- 3. Each kind.
+-- 3. Objects.
+
+abbrev object_kinds : List ObjectFault
+object_kinds =
+    object_faults.Short ∷ object_faults.Short ∷ object_faults.Magic ∷ object_faults.Version ∷ object_faults.Count ∷ object_faults.Name ∷ object_faults.Segment
+    ∷ object_faults.Reloc ∷ object_faults.Thread ∷ object_faults.Trailing ∷ []
+
+object_kind_at : (kind : ObjectFault) → slice_index_or object_kinds (object_number kind) object_faults.Short ≡ kind
+object_kind_at object_faults.Short = refl
+object_kind_at object_faults.Magic = refl
+object_kind_at object_faults.Version = refl
+object_kind_at object_faults.Count = refl
+object_kind_at object_faults.Name = refl
+object_kind_at object_faults.Segment = refl
+object_kind_at object_faults.Reloc = refl
+object_kind_at object_faults.Thread = refl
+object_kind_at object_faults.Trailing = refl
+
+one_object_fault : (bytes : List ℕ) (number : ℕ) (kind other : ObjectFault) (offset place : ℕ) → object_fault bytes ≡ Some (object_number kind, offset)
+    → object_fault bytes ≡ Some (object_number other, place) → refusal.Object number kind offset ≡ refusal.Object number other place
+one_object_fault bytes number kind other offset place one two =
+    let numbers : object_number kind ≡ object_number other = ap number_in (sym one) ∙ ap number_in two in
+    let same : kind ≡ other = sym (object_kind_at kind) ∙ ap (λ (n : ℕ). slice_index_or object_kinds n object_faults.Short) numbers ∙ object_kind_at other in
+    let at : offset ≡ place = ap place_in (sym one) ∙ ap place_in two in
+    cc
+
+pub one_object : (bytes : List ℕ) (a b : Object) → SpellsObject bytes a → SpellsObject bytes b → a ≡ b
+one_object bytes a b one other = sym (objects.object_same bytes a one.object one.spelled) ∙ objects.object_same bytes b other.object other.spelled
+
+-- 4. Each kind.
 
 pub one_value : (kind : Kind) (before : List Value) (bytes : List ℕ) (v w : Value) → Accepts kind before bytes v → Accepts kind before bytes w → v ≡ w
 one_value image_file before bytes (an_image i) (an_image j) one two = ap (λ (x : Image). an_image x) (one_spelled bytes i j one two)
 one_value schedule_file before bytes (a_list xs) (a_list ys) one two = ap (λ (x : List ℕ). a_list x) (means_unique bytes xs ys one two)
 one_value source_file before bytes (an_object a) (an_object b) one two = ap (λ (x : Object). an_object x) (meanings_are_one bytes a b one two)
+one_value object_file before bytes (an_object a) (an_object b) one two = ap (λ (x : Object). an_object x) (one_object bytes a b one two)
 one_value text_input before bytes (a_text s) (a_text t) one two = ap (λ (x : List ℕ). a_text x) (one ∙ sym two)
 one_value kind before bytes v w one two = absurd (assumption (one, two))
 
@@ -119,6 +155,8 @@ one_fault schedule_file before number bytes r q (offset, is, fault) (place, also
     is ∙ ap (λ (n : ℕ). refusal.Schedule number n) (fault_unique bytes offset place fault second) ∙ sym also
 one_fault source_file before number bytes r q (kind, line, column, is, fault) (other, row, place, also, second) =
     is ∙ one_text_fault bytes kind other line column row place fault second ∙ sym also
+one_fault object_file before number bytes r q (kind, offset, is, fault) (other, place, also, second) =
+    is ∙ one_object_fault bytes number kind other offset place fault second ∙ sym also
 one_fault text_input before number bytes r q one two = absurd one
 
 pub value_or_fault : (kind : Kind) (before : List Value) (number : ℕ) (bytes : List ℕ) (r : Refusal) (v : Value) → Faults kind before number bytes r → Accepts kind before bytes v → ⊥
@@ -126,4 +164,6 @@ value_or_fault image_file before number bytes r (an_image i) (kind, offset, is, 
 value_or_fault schedule_file before number bytes r (a_list xs) (offset, is, fault) means = never_both bytes xs offset means fault
 value_or_fault source_file before number bytes r (an_object o) (kind, line, column, is, fault) means =
     let none : first_fault bytes ≡ None = meaning_has_no_fault bytes o means in cc
+value_or_fault object_file before number bytes r (an_object o) (kind, offset, is, fault) means =
+    let none : object_fault bytes ≡ None = objects.spelled_clean bytes o means.object means.spelled in cc
 value_or_fault kind before number bytes r v fault means = assumption (fault, means)

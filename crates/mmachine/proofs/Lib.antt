@@ -14,5 +14,6 @@ pub mod GroupWords
 pub mod OwnItems
 pub mod WordsBehind
 pub mod Migrated
-pub mod Images
+pub mod Several
 pub mod CountsBehind
+pub mod Assembled

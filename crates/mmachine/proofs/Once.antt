@@ -1,8 +1,11 @@
 -- Words whose inputs are told come to one thing: a text, or one refusal.
-use Rattle.std.proofs.Common.{◌≡◌, ℕ, ◌⊎◌, inl, inr, Bool, List, [], ◌∷◌, true, false, Option, Result, Ok, Err, refl, sym, ap, ◌∙◌, subst, arith}
+use Rattle.std.proofs.Common.{◌≡◌, ℕ, ◌⊎◌, inl, inr, Bool, List, [], ◌∷◌, map, true, false, Option, None, Some, Result, Ok, Err, refl, sym, ap, ◌∙◌, subst, arith}
 use Rattle.mm_model.specs.declared.counts.Counts.{Counts}
 use Rattle.mm_model.specs.Uses.{Use}
 use Rattle.mm_model.specs.Image.{Image}
+use Rattle.mm_object.specs.Objects.{Object}
+use Rattle.mm_link.specs.declared.fault.LinkFault.{LinkFault}
+use Rattle.mm_link.specs.Faults.{link_fault}
 use Rattle.mm_model.specs.Groups.{among}
 use Rattle.mm_audit.specs.Refusals.{StandAlone}
 use Rattle.mmachine.specs.declared.status.Refusal.{Refusal}
@@ -12,10 +15,10 @@ use Rattle.mmachine.specs.declared.status.Status.TheVariants.{Done, NoMemory}
 use Rattle.mmachine.specs.declared.status.Stop.{Stop}
 use Rattle.mmachine.specs.declared.status.Stop.TheVariants as stop
 use Rattle.mmachine.specs.Groups.{GroupsRefused}
-use Rattle.mmachine.specs.Kinds.{Value, an_image, a_list}
+use Rattle.mmachine.specs.Kinds.{Value, an_image, a_list, an_object}
 use Rattle.mmachine.specs.Files.{InputsTold}
-use Rattle.mmachine.specs.Table.{Row, solo, extract, files_of, input_of}
-use Rattle.mmachine.specs.Commands.{Declines, Yields}
+use Rattle.mmachine.specs.Table.{Row, solo, extract, link, files_of, input_of}
+use Rattle.mmachine.specs.Commands.{Declines, Yields, LinkRefused, IsLinked}
 use Rattle.mmachine.specs.Answers.{Answers, Call, Gives, HasToRefuse, NothingFails, RefusedUnless, RowEnds, refuse, write, status_of}
 use Rattle.mmachine.proofs.OneRow.{one_row}
 use Rattle.mmachine.proofs.Told.{inputs_values, inputs_refusal, inputs_once}
@@ -44,16 +47,43 @@ groups_refusal i c refusal.NoGroup q first second = absurd second
 groups_refusal i c (refusal.Crosses n) q first second = absurd second
 groups_refusal i c r q first second = absurd first
 
--- 2. So does a row whose inputs have some values.
+-- 2. Objects link, or have one refusal.
+
+pub same_objects : (xs ys : List Object) → map an_object xs ≡ map an_object ys → xs ≡ ys
+same_objects [] [] same = refl
+same_objects [] (y ∷ ys) same = absurd (cc)
+same_objects (x ∷ xs) [] same = absurd (cc)
+same_objects (x ∷ xs) (y ∷ ys) same =
+    let first : x ≡ y = cc in
+    let others : map an_object xs ≡ map an_object ys = cc in
+    let rest : xs ≡ ys = same_objects xs ys others in
+    cc
+
+not_linked : (xs ys : List Object) (r : Refusal) (text : List ℕ) → map an_object xs ≡ map an_object ys → LinkRefused xs r → IsLinked ys text → ⊥
+not_linked xs ys r text same (fault, is, first) (i, linked, spells) =
+    let objects : ys ≡ xs = sym (same_objects xs ys same) in
+    let none : link_fault xs ≡ None = subst (λ (os : List Object). link_fault os ≡ None) objects linked.clean in
+    cc
+
+link_refusal : (xs ys : List Object) (r q : Refusal) → map an_object xs ≡ map an_object ys → LinkRefused xs r → LinkRefused ys q → r ≡ q
+link_refusal xs ys r q same (fault, is, first) (other, also, second) =
+    let objects : ys ≡ xs = sym (same_objects xs ys same) in
+    let again : link_fault xs ≡ Some other = subst (λ (os : List Object). link_fault os ≡ Some other) objects second in
+    let one : fault ≡ other = cc in
+    is ∙ ap (λ (f : LinkFault). refusal.Link f) one ∙ sym also
+
+-- 3. So does a row whose inputs have some values.
 
 not_both : (tells : List Use → Option Counts) (row : Row) (values : List Value) (r : Refusal) (text : List ℕ) → Declines row values r → Yields tells row values text → ⊥
 not_both tells (solo image groups cycles schedule) (an_image i ∷ a_list list ∷ []) r text declines writes = not_refused i (among groups) r writes.0 declines
 not_both tells (extract image groups) (an_image i ∷ []) r text declines writes = not_refused i (among groups) r writes.0 declines
+not_both tells (link names) values r text (xs, is, declines) (ys, also, writes) = not_linked xs ys r text (sym is ∙ also) declines writes
 not_both tells row values r text declines writes = assumption (declines, writes)
 
 one_refusal : (row : Row) (values : List Value) (r q : Refusal) → Declines row values r → Declines row values q → r ≡ q
 one_refusal (solo image groups cycles schedule) (an_image i ∷ lists) r q one two = groups_refusal i (among groups) r q one two
 one_refusal (extract image groups) (an_image i ∷ []) r q one two = groups_refusal i (among groups) r q one two
+one_refusal (link names) values r q (xs, is, one) (ys, also, two) = link_refusal xs ys r q (sym is ∙ also) one two
 one_refusal row values r q one two = absurd one
 
 module _ (tells : List Use → Option Counts) (held : List ℕ → Option (List ℕ)) (left : Option (List ℕ)) (row : Row) (told : InputsTold held left (files_of row) (input_of row)) where
@@ -71,7 +101,7 @@ module _ (tells : List Use → Option Counts) (held : List ℕ → Option (List 
       let same : others ≡ values = inputs_values held left (files_of row) (input_of row) others values told also accepted in
       one_refusal row values r q one (subst (λ (vs : List Value). Declines row vs q) same two)
 
--- 3. So what it comes to is answered.
+-- 4. So what it comes to is answered.
 
 fine : (c : Call) (words : List (List ℕ)) (nothing : NothingFails c words) (result : Result (Unit {0}) Stop) → RowEnds c nothing.row result
     → (status_of result ≡ Done) ⊎ (status_of result ≡ NoMemory)

@@ -1,11 +1,11 @@
 -- Words are in one row at most.
-use Rattle.std.proofs.Common.{◌≡◌, ℕ, ◌<◌, ◌^◌, Bool, true, false, List, [], ◌∷◌, map, codes, Option, None, Some, refl, ap, arith}
+use Rattle.std.proofs.Common.{◌≡◌, ℕ, ◌<◌, ◌^◌, Bool, true, false, List, [], ◌∷◌, map, codes, Option, None, Some, refl, sym, ap, ◌∙◌, arith}
 use Rattle.std.specs.Prelude.{⊤}
 use Rattle.std.specs.List.{AllByRecursion, position_or_len}
 use Rattle.std.specs.Str.{bytes_eq}
 use Rattle.std.proofs.lemmas.Fmt.{decimal_injective}
-use Rattle.mmachine.specs.Kinds.{schedule_file}
-use Rattle.mmachine.specs.Table.{Word, file_word, number_word, groups_word, mode_word, mode_text, text_of, IsInRange, perhaps, Row, run, trace, solo, grants, extract, asm, migrate, name_of, behind, Asks}
+use Rattle.mmachine.specs.Kinds.{Kind, schedule_file, object_file}
+use Rattle.mmachine.specs.Table.{Word, file_word, number_word, groups_word, mode_word, mode_text, text_of, IsInRange, perhaps, Row, run, trace, solo, grants, extract, asm, link, dis, gen, soak, migrate, name_of, behind, Asks}
 use Rattle.mmachine.proofs.GroupWords.{one_list}
 
 -- 1. Words of the same places.
@@ -13,7 +13,7 @@ use Rattle.mmachine.proofs.GroupWords.{one_list}
 -- two words may stand in the same place of a row
 abbrev IsAlike : Word → Word → Type 0
 IsAlike (file_word k a) (file_word l b) = k ≡ l
-IsAlike (number_word k a) (number_word l b) = (k ≡ l) × (k < 2 ^ 64)
+IsAlike (number_word least most a) (number_word other last b) = (least ≡ other) × (most ≡ last) × (most < 2 ^ 64)
 IsAlike (groups_word a) (groups_word b) = ⊤
 IsAlike (mode_word a) (mode_word b) = ⊤
 IsAlike _ _ = ⊥
@@ -26,8 +26,8 @@ one_mode false false same = refl
 
 one_word : (x y : Word) → IsAlike x y → IsInRange x → IsInRange y → text_of x ≡ text_of y → x ≡ y
 one_word (file_word k a) (file_word l b) alike one two same = cc
-one_word (number_word k n) (number_word l m) (most, small) one two same =
-    let number : n ≡ m = decimal_injective n m (omega arith) (omega (arith, most)) same in
+one_word (number_word least most n) (number_word other last m) (low, high, small) one two same =
+    let number : n ≡ m = decimal_injective n m (omega (arith, one.1)) (omega (arith, two.1, high)) same in
     cc
 one_word (groups_word a) (groups_word b) alike one two same = ap (λ (gs : List ℕ). groups_word gs) (one_list a b one two same)
 one_word (mode_word a) (mode_word b) alike one two same = ap (λ (split : Bool). mode_word split) (one_mode a b same)
@@ -64,7 +64,8 @@ one_perhaps word once (Some a) (Some b) same = let words : word a ≡ word b = c
 -- the place of a name among the names of commands
 abbrev pub place_of : List ℕ → ℕ
 place_of name =
-    position_or_len (bytes_eq name) (codes "run" ∷ codes "trace" ∷ codes "solo" ∷ codes "grants" ∷ codes "extract" ∷ codes "asm" ∷ codes "migrate" ∷ [])
+    position_or_len (bytes_eq name) (codes "run" ∷ codes "trace" ∷ codes "solo" ∷ codes "grants" ∷ codes "extract" ∷ codes "asm"
+    ∷ codes "link" ∷ codes "dis" ∷ codes "gen" ∷ codes "soak" ∷ codes "migrate" ∷ [])
 
 -- and of a row's name
 abbrev pub place : Row → ℕ
@@ -76,24 +77,34 @@ same_name words a b (is, one) (also, two) = cc
 same_behind : (words : List (List ℕ)) (a b : Row) → Asks words a → Asks words b → AreAlike (behind a) (behind b) → behind a ≡ behind b
 same_behind words a b (is, one) (also, two) alike =
     let texts : map text_of (behind a) ≡ map text_of (behind b) = cc in
-    one_text (behind a) (behind b) alike one two texts
+    one_text (behind a) (behind b) alike one.0 two.0 texts
 
 one_schedule : (s t : Option (List ℕ)) → perhaps (file_word schedule_file) s ≡ perhaps (file_word schedule_file) t → s ≡ t
 one_schedule s t same = one_perhaps (file_word schedule_file) (λ a b is. cc) s t same
 
+-- the words that name files are their names
+pub named_texts : (kind : Kind) (names : List (List ℕ)) → map text_of (map (file_word kind) names) ≡ names
+named_texts kind [] = refl
+named_texts kind (name ∷ names) = ap (λ (texts : List (List ℕ)). name ∷ texts) (named_texts kind names)
+
+-- and in their ranges
+pub named_in_range : (kind : Kind) (names : List (List ℕ)) → AllByRecursion IsInRange (map (file_word kind) names)
+named_in_range kind [] = tt
+named_in_range kind (name ∷ names) = (tt, named_in_range kind names)
+
 pub one_row : (words : List (List ℕ)) (a b : Row) → Asks words a → Asks words b → a ≡ b
 one_row words (run i n s) (run j m t) one two =
-    let same = same_behind words (run i n s) (run j m t) one two (refl, ((refl, omega arith), perhaps_alike (file_word schedule_file) (λ a b. refl) s t)) in
+    let same = same_behind words (run i n s) (run j m t) one two (refl, ((refl, refl, omega arith), perhaps_alike (file_word schedule_file) (λ a b. refl) s t)) in
     let rest : perhaps (file_word schedule_file) s ≡ perhaps (file_word schedule_file) t = cc in
     let schedule : s ≡ t = one_schedule s t rest in
     cc
 one_row words (trace i n s) (trace j m t) one two =
-    let same = same_behind words (trace i n s) (trace j m t) one two (refl, ((refl, omega arith), perhaps_alike (file_word schedule_file) (λ a b. refl) s t)) in
+    let same = same_behind words (trace i n s) (trace j m t) one two (refl, ((refl, refl, omega arith), perhaps_alike (file_word schedule_file) (λ a b. refl) s t)) in
     let rest : perhaps (file_word schedule_file) s ≡ perhaps (file_word schedule_file) t = cc in
     let schedule : s ≡ t = one_schedule s t rest in
     cc
 one_row words (solo i gs n s) (solo j hs m t) one two =
-    let same = same_behind words (solo i gs n s) (solo j hs m t) one two (refl, (tt, ((refl, omega arith), (refl, tt)))) in
+    let same = same_behind words (solo i gs n s) (solo j hs m t) one two (refl, (tt, ((refl, refl, omega arith), (refl, tt)))) in
     cc
 one_row words (grants i gs) (grants j hs) one two =
     let same = same_behind words (grants i gs) (grants j hs) one two (refl, perhaps_alike (λ x. groups_word x) (λ a b. tt) gs hs) in
@@ -105,6 +116,18 @@ one_row words (extract i gs) (extract j hs) one two =
     cc
 one_row words (asm s) (asm t) one two =
     let same = same_behind words (asm s) (asm t) one two (refl, tt) in
+    cc
+one_row words (link xs) (link ys) (is, one) (also, two) =
+    let texts : map text_of (map (file_word object_file) xs) ≡ map text_of (map (file_word object_file) ys) = cc in
+    ap (λ (names : List (List ℕ)). link names) (sym (named_texts object_file xs) ∙ texts ∙ named_texts object_file ys)
+one_row words (dis x) (dis y) one two =
+    let same = same_behind words (dis x) (dis y) one two (refl, tt) in
+    cc
+one_row words (gen n s) (gen m t) one two =
+    let same = same_behind words (gen n s) (gen m t) one two ((refl, refl, omega arith), ((refl, refl, omega arith), tt)) in
+    cc
+one_row words (soak n s c) (soak m t d) one two =
+    let same = same_behind words (soak n s c) (soak m t d) one two ((refl, refl, omega arith), ((refl, refl, omega arith), ((refl, refl, omega arith), tt))) in
     cc
 one_row words (migrate i a) (migrate j b) one two =
     let same = same_behind words (migrate i a) (migrate j b) one two (refl, (tt, tt)) in

@@ -1,15 +1,16 @@
 -- The answer to a row, by how its files are read and how the command ends with their values.
 use Rattle.std.proofs.Common.{◌≡◌, inl, inr, ℕ, List, [], ◌++◌, Option, None, Some, Result, Ok, Err, refl, sym, subst}
 use Rattle.std.specs.Result.{IsErrAnd}
+use Rattle.mm_word.specs.Adding.{adds_none}
 use Rattle.mmachine.specs.declared.status.Refusal.{Refusal}
 use Rattle.mmachine.specs.declared.status.Stop.{Stop}
 use Rattle.mmachine.specs.declared.status.Stop.TheVariants as stop
 use Rattle.mmachine.specs.Kinds.{Kind, Value}
-use Rattle.mmachine.specs.Files.{Reading, FilesAccepted, FilesRefused, FilesFailed, FilesRead, AsksFiles, Stops}
+use Rattle.mmachine.specs.Files.{Reading, reading, FilesAccepted, FilesRefused, FilesFailed, FilesRead, AsksFiles, Stops}
 use Rattle.mmachine.proofs.Reading.{stops_first, asks_of_all}
 use Rattle.mmachine.specs.Table.{Row, files_of, files_in, perhaps, groups_word}
 use Rattle.mmachine.specs.Commands.{Declines}
-use Rattle.mmachine.specs.Answers.{CommandEnds, Ends, Writing}
+use Rattle.mmachine.specs.Answers.{CommandEnds, Ends, EndsWith, Writing}
 
 -- the reading of its files stops
 stopped : (files : Reading) (out : Writing) (Text : Row → List Value → List ℕ → Type 0) (row : Row) (s : Stop) → Stops (FilesRefused files.held [] (files_of row)) (FilesFailed files [] (files_of row)) s
@@ -46,6 +47,16 @@ row_ends {files = files} {out = out} {Text = Text} {row = row} {values = values}
     let P : List (List ℕ × Kind) → Type 0 = λ fs. FilesAccepted files.held [] fs (values t) in
     let R : List (List ℕ × Kind) → Type 0 = λ fs. AsksFiles files [] fs in
     ends_read files out Text row (values t) Refuses IsText result (subst P (sym all) read.accepted) (subst R (sym all) read.asked) ends refuses writes
+
+-- a row that reads nothing
+pub row_alone : {F : Type 0} (held : F → List ℕ → Option (List ℕ)) (faults : F → List ℕ → ℕ) (asked : F → List (List ℕ) → Type 0) (files : F) {out : Writing}
+    (Text : Row → List Value → List ℕ → Type 0) (row : Row) (IsText : List ℕ → Type 0) {result : Result (Unit {0}) Stop} → files_of row ≡ [] → EndsWith out IsText result
+    → ((text : List ℕ) → IsText text → Text row [] text) → CommandEnds (reading held faults asked files files) out Text row result
+row_alone held faults asked files {out = out} Text row IsText {result = result} none ends writes =
+    let r = reading held faults asked files files in
+    let nothing : AsksFiles r [] [] = record { names = []; asked = adds_none files; in_order = refl } in
+    ends_read r out Text row [] (λ r. ⊥) IsText result (subst (λ (fs : List (List ℕ × Kind)). FilesAccepted r.held [] fs []) (sym none) tt)
+    (subst (λ (fs : List (List ℕ × Kind)). AsksFiles r [] fs) (sym none) nothing) ends (λ r no. absurd no) writes
 
 -- groups name no file
 pub groups_files : (groups : Option (List ℕ)) → files_in (perhaps groups_word groups) ≡ []

@@ -1,9 +1,9 @@
 -- The words behind a command's own word.
-use Rattle.std.proofs.Common.{◌≡◌, ℕ, ◌≤◌, ◌-◌, Bool, List, [], ◌∷◌, length, take, drop, map, get_or, codes, Option, String, string_bytes, sym, ap, ◌∙◌, subst, arith}
+use Rattle.std.proofs.Common.{◌≡◌, ℕ, ◌≤◌, ◌-◌, ◌==◌, Bool, false, List, [], ◌∷◌, length, take, drop, map, get_or, codes, Option, String, string_bytes, sym, ap, ◌∙◌, subst, arith}
 use Rattle.std.proofs.lemmas.List.{take_all}
 use Rattle.std.specs.declared.alloc.Global.{Global}
 use Rattle.mmachine.proofs.OneRow.{place_of, place}
-use Rattle.mmachine.specs.Table.{Row, Asks, name_of, run, trace, solo, grants, extract, asm, migrate, InNoRow, AreTexts, behind, text_of, texts}
+use Rattle.mmachine.specs.Table.{Row, Asks, name_of, run, trace, solo, grants, extract, asm, link, dis, gen, soak, migrate, InNoRow, AreTexts, IsCounted, behind, text_of, texts}
 
 -- the first word and the rest
 first_and_rest : (words : List (String Global)) (word : String Global) → 1 ≤ length words → word ≡ get_or words 0 word
@@ -26,31 +26,52 @@ placed_as name words row (is, ranges) = let names : name_of row ≡ name = cc in
 
 pub no_run : (words : List (List ℕ)) → ((image : List ℕ) (cycles : ℕ) (schedule : Option (List ℕ)) → ¬ AreTexts words (behind (run image cycles schedule)))
     → InNoRow (codes "run" ∷ words)
-no_run words none (run i n s) (is, ranges) = let rest : words ≡ map text_of (behind (run i n s)) = cc in none i n s (rest, ranges)
+no_run words none (run i n s) (is, ranges) = let rest : words ≡ map text_of (behind (run i n s)) = cc in none i n s (rest, ranges.0)
 no_run words none row asks = let places : place row ≡ 0 = placed_as (codes "run") words row asks in absurd (cc)
 
 pub no_trace : (words : List (List ℕ)) → ((image : List ℕ) (cycles : ℕ) (schedule : Option (List ℕ)) → ¬ AreTexts words (behind (trace image cycles schedule)))
     → InNoRow (codes "trace" ∷ words)
-no_trace words none (trace i n s) (is, ranges) = let rest : words ≡ map text_of (behind (trace i n s)) = cc in none i n s (rest, ranges)
+no_trace words none (trace i n s) (is, ranges) = let rest : words ≡ map text_of (behind (trace i n s)) = cc in none i n s (rest, ranges.0)
 no_trace words none row asks = let places : place row ≡ 1 = placed_as (codes "trace") words row asks in absurd (cc)
 
 pub no_solo : (words : List (List ℕ)) → ((image groups : List ℕ) (cycles : ℕ) (schedule : List ℕ) → ¬ AreTexts words (behind (solo image groups cycles schedule)))
     → InNoRow (codes "solo" ∷ words)
-no_solo words none (solo i gs n s) (is, ranges) = let rest : words ≡ map text_of (behind (solo i gs n s)) = cc in none i gs n s (rest, ranges)
+no_solo words none (solo i gs n s) (is, ranges) = let rest : words ≡ map text_of (behind (solo i gs n s)) = cc in none i gs n s (rest, ranges.0)
 no_solo words none row asks = let places : place row ≡ 2 = placed_as (codes "solo") words row asks in absurd (cc)
 
 pub no_grants : (words : List (List ℕ)) → ((image : List ℕ) (groups : Option (List ℕ)) → ¬ AreTexts words (behind (grants image groups))) → InNoRow (codes "grants" ∷ words)
-no_grants words none (grants i gs) (is, ranges) = let rest : words ≡ map text_of (behind (grants i gs)) = cc in none i gs (rest, ranges)
+no_grants words none (grants i gs) (is, ranges) = let rest : words ≡ map text_of (behind (grants i gs)) = cc in none i gs (rest, ranges.0)
 no_grants words none row asks = let places : place row ≡ 3 = placed_as (codes "grants") words row asks in absurd (cc)
 
 pub no_extract : (words : List (List ℕ)) → ((image groups : List ℕ) → ¬ AreTexts words (behind (extract image groups))) → InNoRow (codes "extract" ∷ words)
-no_extract words none (extract i gs) (is, ranges) = let rest : words ≡ map text_of (behind (extract i gs)) = cc in none i gs (rest, ranges)
+no_extract words none (extract i gs) (is, ranges) = let rest : words ≡ map text_of (behind (extract i gs)) = cc in none i gs (rest, ranges.0)
 no_extract words none row asks = let places : place row ≡ 4 = placed_as (codes "extract") words row asks in absurd (cc)
 
 pub no_asm : (words : List (List ℕ)) → ((source : List ℕ) → ¬ AreTexts words (behind (asm source))) → InNoRow (codes "asm" ∷ words)
-no_asm words none (asm s) (is, ranges) = let rest : words ≡ map text_of (behind (asm s)) = cc in none s (rest, ranges)
+no_asm words none (asm s) (is, ranges) = let rest : words ≡ map text_of (behind (asm s)) = cc in none s (rest, ranges.0)
 no_asm words none row asks = let places : place row ≡ 5 = placed_as (codes "asm") words row asks in absurd (cc)
 
+pub no_link : (words : List (List ℕ)) → ((objects : List (List ℕ)) → AreTexts words (behind (link objects)) → ¬ IsCounted (link objects)) → InNoRow (codes "link" ∷ words)
+no_link words none (link os) (is, ranges) = let rest : words ≡ map text_of (behind (link os)) = cc in none os (rest, ranges.0) ranges.1
+no_link words none row asks = let places : place row ≡ 6 = placed_as (codes "link") words row asks in absurd (cc)
+
+pub no_dis : (words : List (List ℕ)) → ((object : List ℕ) → ¬ AreTexts words (behind (dis object))) → InNoRow (codes "dis" ∷ words)
+no_dis words none (dis o) (is, ranges) = let rest : words ≡ map text_of (behind (dis o)) = cc in none o (rest, ranges.0)
+no_dis words none row asks = let places : place row ≡ 7 = placed_as (codes "dis") words row asks in absurd (cc)
+
+pub no_gen : (words : List (List ℕ)) → ((number size : ℕ) → ¬ AreTexts words (behind (gen number size))) → InNoRow (codes "gen" ∷ words)
+no_gen words none (gen n s) (is, ranges) = let rest : words ≡ map text_of (behind (gen n s)) = cc in none n s (rest, ranges.0)
+no_gen words none row asks = let places : place row ≡ 8 = placed_as (codes "gen") words row asks in absurd (cc)
+
+pub no_soak : (words : List (List ℕ)) → ((number size cycles : ℕ) → ¬ AreTexts words (behind (soak number size cycles))) → InNoRow (codes "soak" ∷ words)
+no_soak words none (soak n s c) (is, ranges) = let rest : words ≡ map text_of (behind (soak n s c)) = cc in none n s c (rest, ranges.0)
+no_soak words none row asks = let places : place row ≡ 9 = placed_as (codes "soak") words row asks in absurd (cc)
+
 pub no_migrate : (words : List (List ℕ)) → ((image : List ℕ) (split : Bool) → ¬ AreTexts words (behind (migrate image split))) → InNoRow (codes "migrate" ∷ words)
-no_migrate words none (migrate i m) (is, ranges) = let rest : words ≡ map text_of (behind (migrate i m)) = cc in none i m (rest, ranges)
-no_migrate words none row asks = let places : place row ≡ 6 = placed_as (codes "migrate") words row asks in absurd (cc)
+no_migrate words none (migrate i m) (is, ranges) = let rest : words ≡ map text_of (behind (migrate i m)) = cc in none i m (rest, ranges.0)
+no_migrate words none row asks = let places : place row ≡ 10 = placed_as (codes "migrate") words row asks in absurd (cc)
+
+-- the words of `link`
+pub some_names : (names : List (String Global)) → (length names == 0) ≡ false → 1 ≤ length names
+some_names [] none = absurd (cc)
+some_names (name ∷ names) none = omega arith

@@ -8,12 +8,18 @@ use Rattle.mm_io.specs.Files.{Rose}
 use Rattle.mm_io.specs.Sinks.{TookPart}
 use Rattle.mm_image.specs.Faults.{number_of}
 use Rattle.mm_line.specs.Faults.{number_of as fault_number}
+use Rattle.mm_object.specs.Answers.{number_of as object_number}
+use Rattle.mm_link.specs.declared.fault.LinkError.{LinkError}
+use Rattle.mm_link.specs.declared.fault.LinkError.TheVariants as linking
+use Rattle.mm_link.specs.declared.fault.LinkFault.{LinkFault}
+use Rattle.mm_link.specs.declared.fault.LinkFault.TheVariants.{Twice, Undefined, Offset, SlotTwice, NoThread, Handler, TooLarge}
+use Rattle.mm_link.specs.Faults.{number_of as link_number}
 use Rattle.mm_audit.specs.declared.extracting.ExtractError.{ExtractError}
 use Rattle.mm_audit.specs.declared.extracting.ExtractError.TheVariants as extracting
 use Rattle.mm_model.specs.declared.counts.Counts.{Counts}
 use Rattle.mm_model.specs.Uses.{Use}
 use Rattle.mmachine.specs.declared.status.Refusal.{Refusal}
-use Rattle.mmachine.specs.declared.status.Refusal.TheVariants.{TooLong, Image, Schedule, Asm, NoGroup, Crosses}
+use Rattle.mmachine.specs.declared.status.Refusal.TheVariants.{TooLong, Image, Schedule, Object, Asm, Link, NoGroup, Crosses}
 use Rattle.mmachine.specs.declared.status.Status.{Status}
 use Rattle.mmachine.specs.declared.status.Status.TheVariants.{Done, Usage, Refused, ReadFault, WriteFault, NoMemory}
 use Rattle.mmachine.specs.declared.status.Stop.{Stop}
@@ -77,6 +83,16 @@ WritesNothing Done = ⊥
 WritesNothing WriteFault = ⊥
 WritesNothing _ = ⊤
 
+-- what a fault of linking names: a name, a slot, or nothing
+abbrev pub named_by : LinkFault → List ℕ
+named_by (Twice name) = name
+named_by (Undefined name) = name
+named_by (Offset name) = name
+named_by (SlotTwice slot) = decimal slot
+named_by NoThread = codes "-"
+named_by (Handler slot) = decimal slot
+named_by TooLarge = codes "-"
+
 -- the line of an answer
 abbrev pub line_of : Status → List ℕ
 line_of Done = []
@@ -85,6 +101,9 @@ line_of (Refused (TooLong file)) = codes "mmachine: file " ++ decimal file ++ co
 line_of (Refused (Image file fault offset)) =
     codes "mmachine: file " ++ decimal file ++ codes " image fault " ++ decimal (number_of fault) ++ codes " at " ++ decimal offset ++ codes "\n"
 line_of (Refused (Schedule file offset)) = codes "mmachine: file " ++ decimal file ++ codes " schedule fault at " ++ decimal offset ++ codes "\n"
+line_of (Refused (Object file fault offset)) =
+    codes "mmachine: file " ++ decimal file ++ codes " object fault " ++ decimal (object_number fault) ++ codes " at " ++ decimal offset ++ codes "\n"
+line_of (Refused (Link fault)) = codes "mmachine: link fault " ++ decimal (link_number fault) ++ codes " " ++ named_by fault ++ codes "\n"
 line_of (Refused (Asm fault line column)) =
     codes "mmachine: source fault " ++ decimal (fault_number fault) ++ codes " at " ++ decimal line ++ codes ":" ++ decimal column ++ codes "\n"
 line_of (Refused NoGroup) = codes "mmachine: no group\n"
@@ -181,6 +200,11 @@ abbrev pub stop_of_error : ReadError → ℕ → Stop
 stop_of_error error.ReadFault file = stop.ReadFault
 stop_of_error error.TooLong file = stop.Refused (TooLong file)
 stop_of_error error.NoMemory file = stop.NoMemory
+
+-- and where objects do not link
+abbrev pub stop_of_link : LinkError → Stop
+stop_of_link (linking.Fault fault) = stop.Refused (Link fault)
+stop_of_link linking.NoMemory = stop.NoMemory
 
 -- and where groups cannot be extracted
 abbrev pub stop_of_extract : ExtractError → Stop

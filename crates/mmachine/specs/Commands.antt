@@ -1,5 +1,5 @@
 -- What each command comes to, by the values of its inputs.
-use Rattle.std.specs.Prelude.{◌≡◌, ℕ, Bool, List, [], ◌∷◌, ◌++◌, Option}
+use Rattle.std.specs.Prelude.{◌≡◌, ℕ, Bool, List, [], ◌∷◌, ◌++◌, map, Option, None, Some}
 use Rattle.mm_model.specs.declared.counts.Counts.{Counts}
 use Rattle.mm_model.specs.Uses.{Use}
 use Rattle.mm_model.specs.Image as model
@@ -9,15 +9,23 @@ use Rattle.mm_model.specs.Trace as lines
 use Rattle.mm_model.specs.Schedule.{first_items, only}
 use Rattle.mm_model.specs.Worlds.{Extracts, alone, migrated}
 use Rattle.mm_model.specs.Spelling.{Spells}
-use Rattle.mm_object.specs.Spelling as objects
+use Rattle.mm_object.specs.Objects.{Object}
+use Rattle.mm_object.specs.Spelling.{Spells as SpellsObject}
+use Rattle.mm_link.specs.declared.fault.LinkFault.{LinkFault}
+use Rattle.mm_link.specs.Faults.{link_fault}
+use Rattle.mm_link.specs.Linked.{Linked}
+use Rattle.mm_disasm.specs.Canonical.{canonical}
+use Rattle.mm_gen.specs.Generated.{generated}
+use Rattle.mm_gen.specs.Summary.{summary}
 use Rattle.mm_model.specs.Audit.{IsAudit}
 use Rattle.mm_model.specs.Report.{report}
 use Rattle.mm_audit.specs.Refusals.{StandAlone}
 use Rattle.mmachine.specs.declared.status.Refusal.{Refusal}
+use Rattle.mmachine.specs.declared.status.Refusal.TheVariants as refusal
 use Rattle.mmachine.specs.Kinds.{Value, an_image, a_list, an_object}
 use Rattle.mmachine.specs.Orders.{Issues}
 use Rattle.mmachine.specs.Groups.{GroupsRefused}
-use Rattle.mmachine.specs.Table.{Row, run, trace, solo, grants, extract, asm, migrate}
+use Rattle.mmachine.specs.Table.{Row, run, trace, solo, grants, extract, asm, link, dis, gen, soak, migrate}
 
 -- the report of an image's run under these items, with what the memory tells of the run's uses
 abbrev pub report_after : (List Use → Option Counts) → model.Image → List ℕ → List ℕ
@@ -32,17 +40,35 @@ own_report tells i list cycles c = report_after tells (alone i c) (only i (first
 abbrev pub IsExtract : model.Image → (ℕ → Bool) → List ℕ → Type 0
 IsExtract i c text = (own : model.Image) × Extracts i c own × Spells text own
 
+-- why objects are refused: they do not link, and this is their first fault
+abbrev pub LinkRefused : List Object → Refusal → Type 0
+LinkRefused objects r = (fault : LinkFault) × (r ≡ refusal.Link fault) × (link_fault objects ≡ Some fault)
+
+-- the text is the one spelling of the image that objects link to
+abbrev pub IsLinked : List Object → List ℕ → Type 0
+IsLinked objects text = (i : model.Image) × Linked objects i × Spells text i
+
+-- the summary of a generated image's run under so many cycles of round robin, over every memory
+abbrev pub soaked : (number size cycles : ℕ) → List ℕ
+soaked number size cycles =
+    let i = generated number size in
+    summary (machine.run (model.start i) (machine.robin_from (model.start i) None cycles))
+
 -- a row whose inputs have these values is refused
 abbrev pub Declines : Row → List Value → Refusal → Type 0
 Declines (solo image groups cycles schedule) (an_image i ∷ lists) r = GroupsRefused i (among groups) r
 Declines (extract image groups) (an_image i ∷ []) r = GroupsRefused i (among groups) r
+Declines (link names) values r = (objects : List Object) × (values ≡ map an_object objects) × LinkRefused objects r
 Declines _ _ r = ⊥
 
 -- a row that runs nothing and whose inputs have these values writes a text
 abbrev pub YieldsAlone : Row → List Value → List ℕ → Type 0
 YieldsAlone (grants image groups) (an_image i ∷ []) text = IsAudit i groups text
 YieldsAlone (extract image groups) (an_image i ∷ []) text = StandAlone i (among groups) × IsExtract i (among groups) text
-YieldsAlone (asm source) (an_object o ∷ []) text = objects.Spells text o
+YieldsAlone (asm source) (an_object o ∷ []) text = SpellsObject text o
+YieldsAlone (link names) values text = (objects : List Object) × (values ≡ map an_object objects) × IsLinked objects text
+YieldsAlone (dis object) (an_object o ∷ []) text = text ≡ canonical o
+YieldsAlone (gen number size) [] text = Spells text (generated number size)
 YieldsAlone (migrate image split) (an_image i ∷ []) text = Spells text (migrated i split)
 YieldsAlone _ _ text = ⊥
 
@@ -54,4 +80,5 @@ Yields tells (trace image cycles schedule) (an_image i ∷ lists) text =
     (items : List ℕ) × Issues i cycles lists items × (text ≡ lines.trace (model.start i) items ++ report_after tells i items)
 Yields tells (solo image groups cycles schedule) (an_image i ∷ a_list list ∷ []) text =
     StandAlone i (among groups) × (text ≡ own_report tells i list cycles (among groups))
+Yields tells (soak number size cycles) [] text = text ≡ soaked number size cycles
 Yields tells row values text = YieldsAlone row values text

@@ -7,7 +7,11 @@ use Rattle.mm_model.specs.Schedule.{Means, FaultsAt}
 use Rattle.mm_image.specs.declared.fault.ImageFault.{ImageFault}
 use Rattle.mm_line.specs.declared.fault.Fault.{Fault}
 use Rattle.mm_line.specs.Faults.{number_of as fault_number}
+use Rattle.mm_object.specs.declared.fault.ObjectFault.{ObjectFault}
+use Rattle.mm_object.specs.Answers.{number_of as object_number}
+use Rattle.mm_object.specs.Faults.{object_fault}
 use Rattle.mm_object.specs.Objects.{Object}
+use Rattle.mm_object.specs.Spelling.{Spells as SpellsObject}
 use Rattle.mm_asm.specs.Faults as text
 use Rattle.mm_image.specs.Faults.{number_of}
 use Rattle.mmachine.specs.declared.status.Refusal.{Refusal}
@@ -17,6 +21,7 @@ pub data Kind : Type 0 where
   image_file : Kind
   schedule_file : Kind
   source_file : Kind
+  object_file : Kind
   -- bytes of standard input, as they are
   text_input : Kind
 
@@ -32,6 +37,7 @@ abbrev pub limit_of : Kind → ℕ
 limit_of image_file = 33554432
 limit_of schedule_file = 8388608
 limit_of source_file = 8388608
+limit_of object_file = 2097152
 limit_of text_input = 1048576
 
 -- the bytes of an input mean a value, behind inputs of the values before
@@ -39,6 +45,7 @@ abbrev pub Accepts : Kind → (before : List Value) → List ℕ → Value → T
 Accepts image_file before bytes (an_image i) = Spells bytes i
 Accepts schedule_file before bytes (a_list items) = Means bytes items
 Accepts source_file before bytes (an_object o) = text.Means bytes o
+Accepts object_file before bytes (an_object o) = SpellsObject bytes o
 Accepts text_input before bytes (a_text text) = text ≡ bytes
 Accepts _ before bytes _ = ⊥
 
@@ -49,4 +56,6 @@ Faults image_file before number bytes r = (fault : ImageFault) × (offset : ℕ)
 Faults schedule_file before number bytes r = (offset : ℕ) × (r ≡ refusal.Schedule number offset) × FaultsAt bytes offset
 Faults source_file before number bytes r = (fault : Fault) × (line column : ℕ) × (r ≡ refusal.Asm fault line column)
     × (text.first_fault bytes ≡ Some (record { line = line; column = column; number = fault_number fault }))
+Faults object_file before number bytes r = (fault : ObjectFault) × (offset : ℕ) × (r ≡ refusal.Object number fault offset)
+    × (object_fault bytes ≡ Some (object_number fault, offset))
 Faults text_input before number bytes r = ⊥

@@ -9,3 +9,4 @@ pub mod Answers
 pub mod Exit
 pub mod Headline
 pub mod Memories
+pub mod TextToRun

@@ -1,21 +1,21 @@
 -- The table of commands.
-use Rattle.std.specs.Prelude.{◌≡◌, ℕ, ◌≤◌, Bool, true, false, List, [], ◌∷◌, map, String, string_bytes, codes, decimal, Option, None, Some, ⊤}
+use Rattle.std.specs.Prelude.{◌≡◌, ℕ, ◌≤◌, Bool, true, false, List, [], ◌∷◌, map, length, String, string_bytes, codes, decimal, Option, None, Some, ⊤}
 use Rattle.std.specs.List.{AllByRecursion}
 use Rattle.std.specs.Option.{option_map}
 use Rattle.std.specs.declared.alloc.Global.{Global}
 use Rattle.mm_model.specs.Audit.{groups_text}
 use Rattle.mmachine.specs.GroupList.{AreGroups}
-use Rattle.mmachine.specs.Kinds.{Kind, image_file, schedule_file, source_file}
+use Rattle.mmachine.specs.Kinds.{Kind, image_file, schedule_file, source_file, object_file}
 use Rattle.mmachine.specs.declared.words.Command.{Command}
-use Rattle.mmachine.specs.declared.words.Command.TheVariants.{Run, Trace, Solo, Grants, Extract, Asm, Migrate}
+use Rattle.mmachine.specs.declared.words.Command.TheVariants.{Run, Trace, Solo, Grants, Extract, Asm, Link, Dis, Gen, Soak, Migrate}
 
 -- 1. The words behind a command's own word.
 
 pub data Word : Type 0 where
   -- the name of a file of a kind
   file_word : Kind → (name : List ℕ) → Word
-  -- a number in decimal digits, and the most that it may be
-  number_word : (most : ℕ) → ℕ → Word
+  -- a number in decimal digits, and the least and the most that it may be
+  number_word : (least most : ℕ) → ℕ → Word
   -- groups with single commas between them
   groups_word : List ℕ → Word
   -- whether loads are split
@@ -27,14 +27,14 @@ mode_text true = codes "split"
 
 abbrev pub text_of : Word → List ℕ
 text_of (file_word kind name) = name
-text_of (number_word most n) = decimal n
+text_of (number_word least most n) = decimal n
 text_of (groups_word groups) = groups_text groups
 text_of (mode_word split) = mode_text split
 
 -- the word is in its range
 abbrev pub IsInRange : Word → Type 0
 IsInRange (file_word kind name) = ⊤
-IsInRange (number_word most n) = n ≤ most
+IsInRange (number_word least most n) = (least ≤ n) × (n ≤ most)
 IsInRange (groups_word groups) = AreGroups groups
 IsInRange (mode_word split) = ⊤
 
@@ -42,7 +42,7 @@ IsInRange (mode_word split) = ⊤
 abbrev pub files_in : List Word → List (List ℕ × Kind)
 files_in [] = []
 files_in (file_word kind name ∷ words) = (name, kind) ∷ files_in words
-files_in (number_word most n ∷ words) = files_in words
+files_in (number_word least most n ∷ words) = files_in words
 files_in (groups_word groups ∷ words) = files_in words
 files_in (mode_word split ∷ words) = files_in words
 
@@ -56,7 +56,14 @@ perhaps word None = []
 perhaps word (Some a) = word a ∷ []
 
 abbrev pub cycles_word : ℕ → Word
-cycles_word cycles = number_word 1000000 cycles
+cycles_word cycles = number_word 0 1000000 cycles
+
+-- of a generated image: its number, and how many slots it has
+abbrev pub seed_word : ℕ → Word
+seed_word number = number_word 0 18446744073709551615 number
+
+abbrev pub size_word : ℕ → Word
+size_word size = number_word 1 16 size
 
 -- 2. The rows, with what stands in the places of their names.
 
@@ -67,6 +74,10 @@ pub data Row : Type 0 where
   grants : (image : List ℕ) (groups : Option (List ℕ)) → Row
   extract : (image : List ℕ) (groups : List ℕ) → Row
   asm : (source : List ℕ) → Row
+  link : (objects : List (List ℕ)) → Row
+  dis : (object : List ℕ) → Row
+  gen : (number size : ℕ) → Row
+  soak : (number size cycles : ℕ) → Row
   migrate : (image : List ℕ) (split : Bool) → Row
 
 -- the command's own word
@@ -77,6 +88,10 @@ name_of (solo image groups cycles schedule) = codes "solo"
 name_of (grants image groups) = codes "grants"
 name_of (extract image groups) = codes "extract"
 name_of (asm source) = codes "asm"
+name_of (link objects) = codes "link"
+name_of (dis object) = codes "dis"
+name_of (gen number size) = codes "gen"
+name_of (soak number size cycles) = codes "soak"
 name_of (migrate image split) = codes "migrate"
 
 -- and those behind it
@@ -88,6 +103,10 @@ behind (solo image groups cycles schedule) =
 behind (grants image groups) = file_word image_file image ∷ perhaps groups_word groups
 behind (extract image groups) = file_word image_file image ∷ groups_word groups ∷ []
 behind (asm source) = file_word source_file source ∷ []
+behind (link objects) = map (file_word object_file) objects
+behind (dis object) = file_word object_file object ∷ []
+behind (gen number size) = seed_word number ∷ size_word size ∷ []
+behind (soak number size cycles) = seed_word number ∷ size_word size ∷ cycles_word cycles ∷ []
 behind (migrate image split) = file_word image_file image ∷ mode_word split ∷ []
 
 abbrev pub files_of : Row → List (List ℕ × Kind)
@@ -97,9 +116,14 @@ files_of row = files_in (behind row)
 abbrev pub input_of : Row → Option Kind
 input_of row = None
 
--- its words are in their ranges
+-- a row that takes a list of files takes 1 to 16 of them
+abbrev pub IsCounted : Row → Type 0
+IsCounted (link objects) = (1 ≤ length objects) × (length objects ≤ 16)
+IsCounted _ = ⊤
+
+-- its words are in their ranges, and as many as it may have
 abbrev pub IsInTable : Row → Type 0
-IsInTable row = AllByRecursion IsInRange (behind row)
+IsInTable row = AllByRecursion IsInRange (behind row) × IsCounted row
 
 -- the words are in this row
 abbrev pub Asks : List (List ℕ) → Row → Type 0
@@ -125,8 +149,12 @@ row_of (Solo w) = solo w.image.now w.groups.items w.cycles w.schedule.now
 row_of (Grants w) = grants w.image.now (option_map (λ groups. groups.items) w.groups)
 row_of (Extract w) = extract w.image.now w.groups.items
 row_of (Asm w) = asm w.source.now
+row_of (Link w) = link (texts w.objects.now)
+row_of (Dis w) = dis w.object.now
+row_of (Gen w) = gen w.number w.size
+row_of (Soak w) = soak w.number w.size w.cycles
 row_of (Migrate w) = migrate w.image.now w.split
 
--- image files of these names
-abbrev pub images_named : List (String Global) → List (List ℕ × Kind)
-images_named names = map (λ (name : String Global). (string_bytes name, image_file)) names
+-- files of a kind with these names
+abbrev pub files_named : Kind → List (String Global) → List (List ℕ × Kind)
+files_named kind names = map (λ (name : String Global). (string_bytes name, kind)) names

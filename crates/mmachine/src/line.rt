@@ -1,14 +1,16 @@
 // The line of an answer.
 ghost use Rattle.mm_io.specs.Sinks.{Writes};
-ghost use Rattle.mmachine.specs.Answers.{line_of};
+ghost use Rattle.mm_text.specs.Gathers.{Gathers};
+ghost use Rattle.mmachine.specs.Answers.{line_of, named_by};
 
 use crate::status::{Refusal, Status};
 use mm_io::{Sink, WriteFault, write_all};
-use mm_text::{Piece, write_pieces};
+use mm_link::LinkFault;
+use mm_text::{Gather, Piece, write_pieces};
 
 /// Writes the line that says why it is not done; nothing where it is.
-pub fn write_line<D: Sink>(status: Status, diag: &mut D) -> Result<(), WriteFault>
-    ensures { Writes D.taken D.faults diag.old diag.new (line_of status) result }
+pub fn write_line<D: Sink>(status: &Status, diag: &mut D) -> Result<(), WriteFault>
+    ensures { Writes D.taken D.faults diag.old diag.new (line_of status.now) result }
 {
     match status {
         Status::Done => Ok(()),
@@ -21,15 +23,15 @@ pub fn write_line<D: Sink>(status: Status, diag: &mut D) -> Result<(), WriteFaul
 }
 
 /// Writes the line of a refusal.
-fn write_refusal<D: Sink>(refusal: Refusal, diag: &mut D) -> Result<(), WriteFault>
-    ensures { Writes D.taken D.faults diag.old diag.new (line_of (Status.Refused refusal)) result }
+fn write_refusal<D: Sink>(refusal: &Refusal, diag: &mut D) -> Result<(), WriteFault>
+    ensures { Writes D.taken D.faults diag.old diag.new (line_of (Status.Refused refusal.now)) result }
 {
     match refusal {
         Refusal::TooLong { file } => write_pieces(
             diag,
             &[
                 Piece::Text("mmachine: file "),
-                Piece::Decimal(file as u64),
+                Piece::Decimal(*file as u64),
                 Piece::Text(" too long\n"),
             ],
         ),
@@ -41,14 +43,31 @@ fn write_refusal<D: Sink>(refusal: Refusal, diag: &mut D) -> Result<(), WriteFau
             diag,
             &[
                 Piece::Text("mmachine: file "),
-                Piece::Decimal(file as u64),
+                Piece::Decimal(*file as u64),
                 Piece::Text(" image fault "),
                 Piece::Decimal(fault.number() as u64),
                 Piece::Text(" at "),
-                Piece::Decimal(offset),
+                Piece::Decimal(*offset),
                 Piece::Text("\n"),
             ],
         ),
+        Refusal::Object {
+            file,
+            fault,
+            offset,
+        } => write_pieces(
+            diag,
+            &[
+                Piece::Text("mmachine: file "),
+                Piece::Decimal(*file as u64),
+                Piece::Text(" object fault "),
+                Piece::Decimal(fault.number() as u64),
+                Piece::Text(" at "),
+                Piece::Decimal(*offset),
+                Piece::Text("\n"),
+            ],
+        ),
+        Refusal::Link(fault) => write_link_fault(fault, diag),
         Refusal::Asm {
             fault,
             line,
@@ -59,9 +78,9 @@ fn write_refusal<D: Sink>(refusal: Refusal, diag: &mut D) -> Result<(), WriteFau
                 Piece::Text("mmachine: source fault "),
                 Piece::Decimal(fault.number() as u64),
                 Piece::Text(" at "),
-                Piece::Decimal(line as u64),
+                Piece::Decimal(*line as u64),
                 Piece::Text(":"),
-                Piece::Decimal(column as u64),
+                Piece::Decimal(*column as u64),
                 Piece::Text("\n"),
             ],
         ),
@@ -70,7 +89,7 @@ fn write_refusal<D: Sink>(refusal: Refusal, diag: &mut D) -> Result<(), WriteFau
             diag,
             &[
                 Piece::Text("mmachine: crosses slot "),
-                Piece::Decimal(slot as u64),
+                Piece::Decimal(*slot as u64),
                 Piece::Text("\n"),
             ],
         ),
@@ -78,11 +97,44 @@ fn write_refusal<D: Sink>(refusal: Refusal, diag: &mut D) -> Result<(), WriteFau
             diag,
             &[
                 Piece::Text("mmachine: file "),
-                Piece::Decimal(file as u64),
+                Piece::Decimal(*file as u64),
                 Piece::Text(" schedule fault at "),
-                Piece::Decimal(offset),
+                Piece::Decimal(*offset),
                 Piece::Text("\n"),
             ],
         ),
+    }
+}
+
+/// Writes the line of a fault of linking.
+fn write_link_fault<D: Sink>(fault: &LinkFault, diag: &mut D) -> Result<(), WriteFault>
+    ensures { Writes D.taken D.faults diag.old diag.new (line_of (Status.Refused (Refusal.Link fault.now))) result }
+{
+    let mut text = Gather::new();
+    text.put(
+        diag,
+        &[
+            Piece::Text("mmachine: link fault "),
+            Piece::Decimal(fault.number() as u64),
+            Piece::Text(" "),
+        ],
+    );
+    put_named(&mut text, diag, fault);
+    text.put_bytes(diag, b"\n");
+    text.finish(diag)
+}
+
+/// Appends what a fault of linking names: a name, a slot, or nothing.
+fn put_named<D: Sink>(text: &mut Gather, diag: &mut D, fault: &LinkFault)
+    ensures { Gathers D.taken D.faults diag.old diag.new text.old text.new (named_by fault.now) }
+{
+    match fault {
+        LinkFault::Twice(name) | LinkFault::Undefined(name) | LinkFault::Offset(name) => {
+            text.put_bytes(diag, name.bytes());
+        }
+        LinkFault::SlotTwice(slot) | LinkFault::Handler(slot) => {
+            text.put_piece(diag, &Piece::Decimal(*slot as u64));
+        }
+        LinkFault::NoThread | LinkFault::TooLarge => text.put_bytes(diag, b"-"),
     }
 }

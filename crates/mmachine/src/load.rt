@@ -4,9 +4,9 @@ ghost use Rattle.std.specs.Option.{option_map};
 ghost use Rattle.std.specs.Io.KnownBytes.{IsAtEnd};
 ghost use Rattle.mm_io.specs.Files.{Rose, NoneFell, Holds, AsksOnly};
 ghost use Rattle.mm_machine.specs.Machine.{StandsFor};
-ghost use Rattle.mmachine.specs.Kinds.{Value, image_file, schedule_file, source_file, text_input, an_image, a_list, an_object, a_text};
+ghost use Rattle.mmachine.specs.Kinds.{Value, image_file, schedule_file, source_file, object_file, text_input, an_image, a_list, an_object, a_text};
 ghost use Rattle.mmachine.specs.Files.{Stops, IsTooLong, FilesRead, InputRead, reading, drawing};
-ghost use Rattle.mmachine.specs.Table.{images_named, files_in, file_word, perhaps};
+ghost use Rattle.mmachine.specs.Table.{files_named, files_in, file_word, perhaps};
 ghost use Rattle.mmachine.specs.Orders.{values_of};
 ghost use Rattle.mmachine.specs.Answers.{stop_of_error};
 
@@ -16,7 +16,7 @@ use mm_image::{Image, ImageError};
 use mm_io::{Files, ReadError, Source, read_all, read_input};
 use mm_machine::Machine;
 use mm_mem::Boot;
-use mm_object::Object;
+use mm_object::{Object, ObjectError};
 use mm_sched::{Order, SchedError, Schedule};
 use mm_word::NoMemory;
 use std::alloc::Global;
@@ -29,6 +29,9 @@ const SCHEDULE_LIMIT: u64 = 8_388_608;
 
 /// The most bytes of a source file.
 const SOURCE_LIMIT: u64 = 8_388_608;
+
+/// The most bytes of an object file.
+const OBJECT_LIMIT: u64 = 2_097_152;
 
 /// The most bytes of standard input.
 const INPUT_LIMIT: u64 = 1_048_576;
@@ -140,6 +143,30 @@ pub fn load_source<F: Files>(
     }
 }
 
+/// Reads and parses an object file, the file of a number.
+pub fn load_object<F: Files>(
+    alloc: Global,
+    files: &mut F,
+    name: &str,
+    number: u8,
+) -> Result<Object, Stop>
+    ensures read { (before : List Value) → number ≡ length before + 1
+        → FilesRead (reading F.held F.faults F.asked files.old files.new) before ((name.now, object_file) ∷ []) (λ o. an_object o ∷ []) result }
+    ensures kept { F.held files.new ≡ F.held files.old }
+    ensures later { NoneFell (F.faults files.old) (F.faults files.new) }
+{
+    let bytes = read_file(alloc, files, name, OBJECT_LIMIT, number)?;
+    match mm_object::read(alloc, &bytes) {
+        Ok(object) => Ok(object),
+        Err(ObjectError::Fault { fault, offset }) => Err(Stop::Refused(Refusal::Object {
+            file: number,
+            fault,
+            offset,
+        })),
+        Err(ObjectError::NoMemory) => Err(Stop::NoMemory),
+    }
+}
+
 /// The order of a schedule file, the file of a number, or round robin where there is none.
 pub fn load_order<F: Files>(
     alloc: Global,
@@ -189,7 +216,7 @@ pub fn load_images<F: Files>(
     requires few { length names.now ≤ 16 }
     requires early { first ≤ 16 }
     ensures { (before : List Value) → first ≡ length before + 1
-        → FilesRead (reading F.held F.faults F.asked files.old files.new) before (images_named names.now) (λ images. map an_image images.items) result }
+        → FilesRead (reading F.held F.faults F.asked files.old files.new) before (files_named image_file names.now) (λ images. map an_image images.items) result }
 {
     let mut images = Vec::new(alloc);
     for at in 0..names.len() {
@@ -199,4 +226,27 @@ pub fn load_images<F: Files>(
         };
     }
     Ok(images)
+}
+
+/// Reads and parses object files one after the other, the first of them the file of a number.
+pub fn load_objects<F: Files>(
+    alloc: Global,
+    files: &mut F,
+    names: &[String],
+    first: u8,
+) -> Result<Vec<Object>, Stop>
+    requires few { length names.now ≤ 16 }
+    requires early { first ≤ 16 }
+    ensures read { (before : List Value) → first ≡ length before + 1
+        → FilesRead (reading F.held F.faults F.asked files.old files.new) before (files_named object_file names.now) (λ objects. map an_object objects.items) result }
+    ensures count { IfOk result (λ objects. length objects.items ≡ length names.now) }
+{
+    let mut objects = Vec::new(alloc);
+    for at in 0..names.len() {
+        let object = load_object(alloc, files, names[at].as_str(), first + at as u8)?;
+        let Ok(()) = objects.push(object) else {
+            return Err(Stop::NoMemory);
+        };
+    }
+    Ok(objects)
 }

@@ -9,15 +9,20 @@ ghost use Rattle.mmachine.specs.Exit.{exit_code};
 
 mod asm;
 mod cycles;
+mod dis;
 mod extract;
+mod generate;
 mod grants;
 mod group_list;
+mod laws;
 mod line;
+mod link;
 mod load;
 mod members;
 mod memories;
 mod migrate;
 mod run;
+mod soak;
 mod solo;
 mod status;
 #[cfg(test)]
@@ -38,8 +43,8 @@ use std::process::ExitCode;
 const NO_WORDS: u8 = 6;
 
 /// The status of the process at an answer.
-fn code(status: Status) -> u8
-    ensures { result ≡ exit_code status }
+fn code(status: &Status) -> u8
+    ensures { result ≡ exit_code status.now }
 {
     match status {
         Status::Done => 0,
@@ -72,5 +77,5 @@ fn main(rt: HostRuntime) -> ExitCode {
         &mut out,
         &mut diag,
     );
-    ExitCode::from(code(status))
+    ExitCode::from(code(&status))
 }

@@ -1,16 +1,18 @@
 // What a call answers.
 ghost use Rattle.std.specs.Prelude.{◌≡◌};
 ghost use Rattle.mmachine.specs.declared.status.Stop.TheVariants as stop;
-ghost use Rattle.mmachine.specs.Answers.{end_of, stop_of_extract};
+ghost use Rattle.mmachine.specs.Answers.{end_of, stop_of_extract, stop_of_link};
 
 use mm_asm::AsmFault;
 use mm_audit::ExtractError;
 use mm_image::ImageFault;
 use mm_io::WriteFault;
+use mm_link::{LinkError, LinkFault};
+use mm_object::ObjectFault;
 use mm_word::NoMemory;
 
 /// Why a command is refused. A file is counted from 1 among the command's file words.
-#[derive(Clone, Copy, Debug, PartialEq, Eq)]
+#[derive(Drop)]
 pub enum Refusal {
     /// The file is longer than its limit.
     TooLong {
@@ -27,12 +29,20 @@ pub enum Refusal {
         file: u8,
         offset: u64,
     },
+    /// The file spells no object: its first fault, and where that stands.
+    Object {
+        file: u8,
+        fault: ObjectFault,
+        offset: u64,
+    },
     /// The source means no object: its first fault, and where that stands, counted from 1 in lines and bytes.
     Asm {
         fault: AsmFault,
         line: u32,
         column: u32,
     },
+    /// The objects do not link: their first fault.
+    Link(LinkFault),
     /// No slot of the image is of one of the groups.
     NoGroup,
     /// A slot of one of the groups, the least such, has its handler in another group.
@@ -42,7 +52,7 @@ pub enum Refusal {
 }
 
 /// What the program answers.
-#[derive(Clone, Copy, Debug, PartialEq, Eq)]
+#[derive(Drop)]
 pub enum Status {
     /// All input was read, and the whole text was written.
     Done,
@@ -58,7 +68,7 @@ pub enum Status {
 }
 
 /// Why a command stops before it is done.
-#[derive(Clone, Copy, Debug, PartialEq, Eq)]
+#[derive(Drop)]
 pub enum Stop {
     Refused(Refusal),
     ReadFault,
@@ -92,6 +102,17 @@ impl From<ExtractError> for Stop {
             ExtractError::NoGroup => Stop::Refused(Refusal::NoGroup),
             ExtractError::Crosses { slot } => Stop::Refused(Refusal::Crosses { slot }),
             ExtractError::NoMemory => Stop::NoMemory,
+        }
+    }
+}
+
+impl From<LinkError> for Stop {
+    ghost from_gives = { λ error e. e ≡ stop_of_link error };
+
+    fn from(error: LinkError) -> Self {
+        match error {
+            LinkError::Fault(fault) => Stop::Refused(Refusal::Link(fault)),
+            LinkError::NoMemory => Stop::NoMemory,
         }
     }
 }

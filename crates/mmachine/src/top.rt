@@ -10,11 +10,15 @@ ghost use Rattle.mmachine.specs.Answers.{ComesTo, ReadFailed, WritesNothing, Too
 ghost use Rattle.mmachine.specs.Headline.{RunIsProved, TraceIsProved};
 
 use crate::asm::asm;
+use crate::dis::dis;
 use crate::extract::extract;
+use crate::generate::generate;
 use crate::grants::grants;
 use crate::line::write_line;
+use crate::link::link;
 use crate::migrate::migrate;
 use crate::run::run;
+use crate::soak::soak;
 use crate::solo::solo;
 use crate::status::{Refusal, Status, Stop};
 use crate::trace::trace;
@@ -70,7 +74,7 @@ pub fn mmachine<M: Boot, F: Files, I: Source, O: Sink, D: Sink>(
         → (result ≡ Status.Done) ⊎ (result ≡ Status.NoMemory) }
 {
     let status = answer::<M, F, I, O>(alloc, words, files, input, out);
-    let _ = write_line(status, diag);
+    let _ = write_line(&status, diag);
     status
 }
 
@@ -131,6 +135,10 @@ fn by_command<M: Boot, F: Files, I: Source, O: Sink>(
         Command::Grants(asked) => grants(alloc, asked, files, out),
         Command::Extract(asked) => extract(alloc, asked, files, out),
         Command::Asm(asked) => asm(alloc, asked, files, out),
+        Command::Link(asked) => link(alloc, asked, files, out),
+        Command::Dis(asked) => dis(alloc, asked, files, out),
+        Command::Gen(asked) => generate(alloc, asked, out),
+        Command::Soak(asked) => soak::<M, O>(alloc, asked, out),
         Command::Migrate(asked) => migrate(alloc, asked, files, out),
     }
 }

@@ -1,6 +1,6 @@
 // The words of the command line, by the table of commands.
-ghost use Rattle.std.specs.Prelude.{◌≡◌, ◌≢◌, MatchOption, ℕ, Bool, List, Option};
-ghost use Rattle.mmachine.specs.Table.{InNoRow, Asks, AreTexts, behind, run, solo, grants, extract, asm, migrate, mode_text, texts, row_of};
+ghost use Rattle.std.specs.Prelude.{◌≡◌, ◌≢◌, ◌≤◌, MatchOption, ℕ, Bool, List, Option, decimal};
+ghost use Rattle.mmachine.specs.Table.{InNoRow, Asks, AreTexts, IsCounted, behind, run, solo, grants, extract, asm, link, dis, gen, soak, migrate, mode_text, texts, row_of};
 
 use crate::group_list::read_groups;
 use arrayvec::ArrayVec;
@@ -20,6 +20,14 @@ pub enum Command<'a> {
     Extract(ExtractWords<'a>),
     /// `asm SOURCE`
     Asm(AsmWords<'a>),
+    /// `link OBJECT..`
+    Link(LinkWords<'a>),
+    /// `dis OBJECT`
+    Dis(DisWords<'a>),
+    /// `gen NUMBER SIZE`
+    Gen(GenWords),
+    /// `soak NUMBER SIZE CYCLES`
+    Soak(SoakWords),
     /// `migrate IMAGE MODE`
     Migrate(MigrateWords<'a>),
 }
@@ -61,6 +69,33 @@ pub struct AsmWords<'a> {
     pub source: &'a str,
 }
 
+/// `OBJECT..`
+#[derive(Clone, Copy)]
+pub struct LinkWords<'a> {
+    pub objects: &'a [String],
+}
+
+/// `OBJECT`
+#[derive(Clone, Copy)]
+pub struct DisWords<'a> {
+    pub object: &'a str,
+}
+
+/// `NUMBER SIZE`
+#[derive(Clone, Copy)]
+pub struct GenWords {
+    pub number: u64,
+    pub size: u8,
+}
+
+/// `NUMBER SIZE CYCLES`
+#[derive(Clone, Copy)]
+pub struct SoakWords {
+    pub number: u64,
+    pub size: u8,
+    pub cycles: u64,
+}
+
 /// `IMAGE MODE`
 #[derive(Clone, Copy)]
 pub struct MigrateWords<'a> {
@@ -70,6 +105,12 @@ pub struct MigrateWords<'a> {
 
 /// The most cycles of a command.
 const MAX_CYCLES: u64 = 1_000_000;
+
+/// The most objects that are linked.
+const MAX_OBJECTS: usize = 16;
+
+/// The most slots of a generated image.
+const MAX_SIZE: u64 = 16;
 
 /// The command that the words ask for; none where they are in no row of the table.
 pub fn read_words(words: &[String]) -> Option<Command<'_>>
@@ -85,6 +126,10 @@ pub fn read_words(words: &[String]) -> Option<Command<'_>>
         "grants" => Some(Command::Grants(read_grants_words(rest)?)),
         "extract" => Some(Command::Extract(read_extract_words(rest)?)),
         "asm" => Some(Command::Asm(read_asm_words(rest)?)),
+        "link" => Some(Command::Link(read_link_words(rest)?)),
+        "dis" => Some(Command::Dis(read_dis_words(rest)?)),
+        "gen" => Some(Command::Gen(read_gen_words(rest)?)),
+        "soak" => Some(Command::Soak(read_soak_words(rest)?)),
         "migrate" => Some(Command::Migrate(read_migrate_words(rest)?)),
         _ => None,
     }
@@ -163,6 +208,66 @@ fn read_asm_words(rest: &[String]) -> Option<AsmWords<'_>>
             source: source.as_str(),
         }),
         _ => None,
+    }
+}
+
+fn read_link_words(rest: &[String]) -> Option<LinkWords<'_>>
+    ensures { MatchOption result ((objects : List (List ℕ)) → AreTexts (texts rest.now) (behind (link objects)) → ¬ IsCounted (link objects))
+        (λ words. AreTexts (texts rest.now) (behind (row_of (Command.Link words))) × IsCounted (row_of (Command.Link words))) }
+{
+    if rest.is_empty() || rest.len() > MAX_OBJECTS {
+        return None;
+    }
+    Some(LinkWords { objects: rest })
+}
+
+fn read_dis_words(rest: &[String]) -> Option<DisWords<'_>>
+    ensures { MatchOption result ((object : List ℕ) → ¬ AreTexts (texts rest.now) (behind (dis object)))
+        (λ words. AreTexts (texts rest.now) (behind (row_of (Command.Dis words)))) }
+{
+    match rest {
+        [object] => Some(DisWords {
+            object: object.as_str(),
+        }),
+        _ => None,
+    }
+}
+
+fn read_gen_words(rest: &[String]) -> Option<GenWords>
+    ensures { MatchOption result ((number size : ℕ) → ¬ AreTexts (texts rest.now) (behind (gen number size)))
+        (λ words. AreTexts (texts rest.now) (behind (row_of (Command.Gen words)))) }
+{
+    match rest {
+        [seed, size] => Some(GenWords {
+            number: number(seed.as_bytes(), u64::MAX)?,
+            size: read_size(size.as_bytes())?,
+        }),
+        _ => None,
+    }
+}
+
+fn read_soak_words(rest: &[String]) -> Option<SoakWords>
+    ensures { MatchOption result ((number size cycles : ℕ) → ¬ AreTexts (texts rest.now) (behind (soak number size cycles)))
+        (λ words. AreTexts (texts rest.now) (behind (row_of (Command.Soak words)))) }
+{
+    match rest {
+        [seed, size, cycles] => Some(SoakWords {
+            number: number(seed.as_bytes(), u64::MAX)?,
+            size: read_size(size.as_bytes())?,
+            cycles: number(cycles.as_bytes(), MAX_CYCLES)?,
+        }),
+        _ => None,
+    }
+}
+
+/// How many slots a generated image has, 1 to 16.
+fn read_size(digits: &[u8]) -> Option<u8>
+    ensures { MatchOption result ((size : ℕ) → 1 ≤ size → size ≤ 16 → digits.now ≢ decimal size)
+        (λ size. (digits.now ≡ decimal size) × (1 ≤ size) × (size ≤ 16)) }
+{
+    match number(digits, MAX_SIZE)? {
+        0 => None,
+        size => Some(size as u8),
     }
 }
 

@@ -8,3 +8,6 @@ returns-in-Schedule g c = rw (c.in-Schedule.is) c.write_pieces-in-Schedule.ensur
 
 pub returns-in-Asm : goal.returns-in-Asm
 returns-in-Asm g c = rw (c.in-Asm.is, ← c.number-in-Asm.ensures) c.write_pieces-in-Asm.ensures
+
+pub returns-in-Object : goal.returns-in-Object
+returns-in-Object g c = rw (c.in-Object.is, ← c.number-in-Object.ensures) c.write_pieces-in-Object.ensures

@@ -3,7 +3,7 @@ use Rattle.std.proofs.lemmas.List.{length-map}
 use Rattle.mm_word.specs.Adding.{adds_both}
 use Rattle.mmachine.specs.Kinds.{image_file, an_image}
 use Rattle.mmachine.specs.Files.{FilesRead, reading}
-use Rattle.mmachine.proofs.Images.{image_more, image_stops, images_asked}
+use Rattle.mmachine.proofs.Several.{value_more, value_stops, values_asked}
 use Rattle.mmachine.proofs.load.load_images.Goals as goal
 
 pub loop-at-preserved : goal.loop-at-preserved
@@ -16,7 +16,7 @@ loop-at-preserved g c =
       read = λ before counted.
           let number : c.args.first + c.loop-at.at ≡ length (before ++ map an_image images) + 1 = omega (arith, length-append before (map an_image images), length-map images (λ x. an_image x), c.loop-at.invariant.count) in
           let P : List ℕ → Type 0 = λ text. FilesRead (reading g.F.Files.held g.F.Files.faults g.F.Files.asked c.loop-at.files c.load_image.new.files) (before ++ map an_image images) ((text, image_file) ∷ []) (λ i. an_image i ∷ []) (Ok c.in_ok-image.image) in
-          image_more c.args.names.now c.loop-at.at c.index-names-at.result images _ c.in_ok-image.image c.loop-at-test.true c.index-names-at.is c.in-Ok.ensures.items (c.loop-at.invariant.read before counted)
+          value_more image_file an_image c.args.names.now c.loop-at.at c.index-names-at.result images _ c.in_ok-image.image c.loop-at-test.true c.index-names-at.is c.in-Ok.ensures.items (c.loop-at.invariant.read before counted)
           (subst P c.as_str.ensures.value (c.in_ok-image.ensures.read (before ++ map an_image images) number))
           (record { kept = c.loop-at.invariant.kept; counts = refl; later = c.loop-at.invariant.later; asked = λ names more one two. adds_both one two });
     }
@@ -29,7 +29,7 @@ returns-in_default g c before counted =
     record {
       accepted = tt;
       stopped = tt;
-      asked = images_asked c.args.names.now c.loop-at.at c.index-names-at.result images _ _ c.loop-at-test.true c.index-names-at.is (c.loop-at.invariant.read before counted)
+      asked = values_asked image_file an_image c.args.names.now c.loop-at.at c.index-names-at.result images _ _ c.loop-at-test.true c.index-names-at.is (c.loop-at.invariant.read before counted)
           (subst P c.as_str.ensures.value (c.in_ok-image.ensures.read (before ++ map an_image images) number))
           (record { kept = c.loop-at.invariant.kept; counts = refl; later = c.loop-at.invariant.later; asked = λ names more one two. adds_both one two });
     }
@@ -39,6 +39,6 @@ returns-in_err-image g c before counted =
     let images = c.loop-at.images.items in
     let number : c.args.first + c.loop-at.at ≡ length (before ++ map an_image images) + 1 = omega (arith, length-append before (map an_image images), length-map images (λ x. an_image x), c.loop-at.invariant.count) in
     let P : List ℕ → Type 0 = λ text. FilesRead (reading g.F.Files.held g.F.Files.faults g.F.Files.asked c.loop-at.files c.load_image.new.files) (before ++ map an_image images) ((text, image_file) ∷ []) (λ i. an_image i ∷ []) (Err c.in_err-image.field-0.0) in
-    image_stops c.args.names.now c.loop-at.at c.index-names-at.result images _ _ c.from_residual.result c.loop-at-test.true c.index-names-at.is (c.loop-at.invariant.read before counted)
+    value_stops image_file an_image c.args.names.now c.loop-at.at c.index-names-at.result images _ _ c.from_residual.result c.loop-at-test.true c.index-names-at.is (c.loop-at.invariant.read before counted)
     (subst P c.as_str.ensures.value (c.in_err-image.ensures.read (before ++ map an_image images) number))
     (record { kept = c.loop-at.invariant.kept; counts = refl; later = c.loop-at.invariant.later; asked = λ names more one two. adds_both one two }) c.from_residual.ensures.1

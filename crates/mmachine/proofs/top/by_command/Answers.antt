@@ -1,4 +1,28 @@
+use Rattle.std.proofs.Common.{refl}
+use Rattle.mmachine.specs.Commands.{Yields}
+use Rattle.mmachine.proofs.Rows.{row_alone}
+use Rattle.mmachine.specs.Table.{gen, soak}
 use Rattle.mmachine.proofs.top.by_command.Goals as goal
 
 pub returns-in-Grants-clause-ends : goal.returns-in-Grants-clause-ends
 returns-in-Grants-clause-ends g c = rw c.in-Grants.is c.grants.ensures.ends
+
+pub returns-in-Gen-clause-ends : goal.returns-in-Gen-clause-ends
+returns-in-Gen-clause-ends g c =
+    rw c.in-Gen.is
+    (row_alone g.F.Files.held g.F.Files.faults g.F.Files.asked c.args.files.now (Yields g.M.Inspect.tells) (gen c.in-Gen.asked.number c.in-Gen.asked.size) _ refl c.generate.ensures (λ text is. is)).ends
+
+pub returns-in-Gen-clause-asked : goal.returns-in-Gen-clause-asked
+returns-in-Gen-clause-asked g c =
+    rw c.in-Gen.is
+    (row_alone g.F.Files.held g.F.Files.faults g.F.Files.asked c.args.files.now (Yields g.M.Inspect.tells) (gen c.in-Gen.asked.number c.in-Gen.asked.size) _ refl c.generate.ensures (λ text is. is)).asked
+
+pub returns-in-Soak-clause-ends : goal.returns-in-Soak-clause-ends
+returns-in-Soak-clause-ends g c =
+    rw c.in-Soak.is
+    (row_alone g.F.Files.held g.F.Files.faults g.F.Files.asked c.args.files.now (Yields g.M.Inspect.tells) (soak c.in-Soak.asked.number c.in-Soak.asked.size c.in-Soak.asked.cycles) _ refl c.soak.ensures (λ text is. is)).ends
+
+pub returns-in-Soak-clause-asked : goal.returns-in-Soak-clause-asked
+returns-in-Soak-clause-asked g c =
+    rw c.in-Soak.is
+    (row_alone g.F.Files.held g.F.Files.faults g.F.Files.asked c.args.files.now (Yields g.M.Inspect.tells) (soak c.in-Soak.asked.number c.in-Soak.asked.size c.in-Soak.asked.cycles) _ refl c.soak.ensures (λ text is. is)).asked

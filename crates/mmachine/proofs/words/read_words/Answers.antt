@@ -1,5 +1,5 @@
 use Rattle.std.proofs.Common.{codes, sym, ◌∙◌, arith}
-use Rattle.mmachine.proofs.WordsBehind.{in_no_row, no_run, no_trace, no_solo, no_grants, no_extract, no_asm, no_migrate}
+use Rattle.mmachine.proofs.WordsBehind.{in_no_row, no_run, no_trace, no_solo, no_grants, no_extract, no_asm, no_link, no_dis, no_gen, no_soak, no_migrate}
 use Rattle.mmachine.proofs.words.read_words.Goals as goal
 
 pub returns-in_err-read_run_words-in-run : goal.returns-in_err-read_run_words-in-run
@@ -43,3 +43,27 @@ returns-in_err-read_asm_words-in-asm c =
     rw c.from_residual-in_err-read_asm_words-in-asm.ensures
     (in_no_row c.args.words.now c.word-item.result (codes "asm") (omega arith) c.word-item.is (sym c.as_str.ensures.value ∙ c.in-asm.is)
     (no_asm _ c.in_err-read_asm_words-in-asm.ensures))
+
+pub returns-in_err-read_link_words-in-link : goal.returns-in_err-read_link_words-in-link
+returns-in_err-read_link_words-in-link c =
+    rw c.from_residual-in_err-read_link_words-in-link.ensures
+    (in_no_row c.args.words.now c.word-item.result (codes "link") (omega arith) c.word-item.is (sym c.as_str.ensures.value ∙ c.in-link.is)
+    (no_link _ c.in_err-read_link_words-in-link.ensures))
+
+pub returns-in_err-read_dis_words-in-dis : goal.returns-in_err-read_dis_words-in-dis
+returns-in_err-read_dis_words-in-dis c =
+    rw c.from_residual-in_err-read_dis_words-in-dis.ensures
+    (in_no_row c.args.words.now c.word-item.result (codes "dis") (omega arith) c.word-item.is (sym c.as_str.ensures.value ∙ c.in-dis.is)
+    (no_dis _ c.in_err-read_dis_words-in-dis.ensures))
+
+pub returns-in_err-read_gen_words-in-gen : goal.returns-in_err-read_gen_words-in-gen
+returns-in_err-read_gen_words-in-gen c =
+    rw c.from_residual-in_err-read_gen_words-in-gen.ensures
+    (in_no_row c.args.words.now c.word-item.result (codes "gen") (omega arith) c.word-item.is (sym c.as_str.ensures.value ∙ c.in-gen.is)
+    (no_gen _ c.in_err-read_gen_words-in-gen.ensures))
+
+pub returns-in_err-read_soak_words-in-soak : goal.returns-in_err-read_soak_words-in-soak
+returns-in_err-read_soak_words-in-soak c =
+    rw c.from_residual-in_err-read_soak_words-in-soak.ensures
+    (in_no_row c.args.words.now c.word-item.result (codes "soak") (omega arith) c.word-item.is (sym c.as_str.ensures.value ∙ c.in-soak.is)
+    (no_soak _ c.in_err-read_soak_words-in-soak.ensures))

@@ -1,0 +1,13 @@
+use Rattle.std.proofs.Common.{◌≡◌, [], refl}
+use Rattle.mmachine.proofs.Reported.{ends_written}
+use Rattle.mmachine.proofs.Rows.{row_stops, row_ends}
+use Rattle.mm_disasm.specs.Canonical.{canonical}
+use Rattle.mmachine.proofs.dis.dis.Goals as goal
+
+pub returns-in_err-object : goal.returns-in_err-object
+returns-in_err-object g c = row_stops [] c.from_residual.result (c.in_err-object.ensures.read [] refl) refl refl c.from_residual.ensures.1
+
+pub returns : goal.returns
+returns g c =
+    row_ends (λ r. ⊥) (λ text. text ≡ canonical c.in_ok-object.object) (c.in_ok-object.ensures.read [] refl) refl
+    (ends_written _ _ _ _ refl _ _ c.ended.ensures c.disassemble.ensures) (λ r no. no) (λ text is. is)

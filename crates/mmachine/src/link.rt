@@ -1,0 +1,40 @@
+// `link`: the image of objects.
+ghost use Rattle.std.specs.Prelude.{◌≤◌, length};
+ghost use Rattle.mmachine.specs.Files.{reading};
+ghost use Rattle.mmachine.specs.Table.{row_of};
+ghost use Rattle.mmachine.specs.Commands.{IsLinked, LinkRefused, YieldsAlone};
+ghost use Rattle.mmachine.specs.Answers.{CommandEnds, Ends, writing};
+
+use crate::load::load_objects;
+use crate::status::Stop;
+use crate::words::{Command, LinkWords};
+use mm_io::{Files, Sink, write_all};
+use mm_object::Object;
+use std::alloc::Global;
+
+/// `link OBJECT..`
+pub fn link<F: Files, O: Sink>(
+    alloc: Global,
+    asked: LinkWords<'_>,
+    files: &mut F,
+    out: &mut O,
+) -> Result<(), Stop>
+    requires some { 1 ≤ length asked.objects.now }
+    requires few { length asked.objects.now ≤ 16 }
+    ensures { CommandEnds (reading F.held F.faults F.asked files.old files.new) (writing O.taken O.faults out.old out.new) YieldsAlone (row_of (Command.Link asked.entry)) result }
+{
+    let objects = load_objects(alloc, files, asked.objects, 1)?;
+    write_linked(alloc, &objects, out)
+}
+
+/// Writes the one spelling of the image that objects link to.
+fn write_linked<O: Sink>(alloc: Global, objects: &[Object], out: &mut O) -> Result<(), Stop>
+    requires some { 1 ≤ length objects.now }
+    requires few { length objects.now ≤ 16 }
+    ensures { Ends (writing O.taken O.faults out.old out.new) (LinkRefused objects.now) ⊥ (IsLinked objects.now) result }
+{
+    let image = mm_link::link(alloc, objects)?;
+    let bytes = mm_image::write(alloc, &image)?;
+    write_all(out, bytes.as_slice())?;
+    Ok(())
+}
