@@ -47,3 +47,12 @@ RefusesRead s name = Contains s.fails (raised s.calls) ⊎ (file_in s.files name
 -- how many bytes a read from an offset moves into a buffer of a length
 abbrev pub moved : MemoryFiles → List ℕ → ℕ → ℕ → ℕ
 moved s name offset room = min (length (file_of s.files name) - offset) (min room s.piece)
+
+-- A source in memory: the bytes that are left, the numbers of the calls that fail, the most bytes that one call moves, and how many
+-- calls and faults there were.
+pub record MemorySource : Type 0 where
+  pub left : List ℕ
+  pub fails : List ℕ
+  pub piece : ℕ
+  pub calls : ℕ
+  pub faults : ℕ

@@ -12,6 +12,7 @@ mod kinds;
 mod memory;
 mod named;
 mod read;
+mod sources;
 mod sure;
 mod system;
 #[cfg(test)]
@@ -22,6 +23,7 @@ pub use files::MemFiles;
 pub use kinds::{Failed, Files, Sink, Source};
 pub use memory::{MemSink, NullSink};
 pub use read::{ReadError, read_all, read_input};
+pub use sources::MemSource;
 pub use sure::{SureFiles, SureSource};
 pub use system::{StdFiles, StdSink, StdSource};
 pub use write::{WriteFault, write_all};

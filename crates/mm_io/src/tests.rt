@@ -1,6 +1,6 @@
 use crate::{
-    Failed, Files, MemFiles, MemSink, NullSink, ReadError, Sink, Source, StdFiles, StdSink,
-    StdSource, SureFiles, SureSource, WriteFault, read_all, read_input, write_all,
+    Failed, Files, MemFiles, MemSink, MemSource, NullSink, ReadError, Sink, Source, StdFiles,
+    StdSink, StdSource, SureFiles, SureSource, WriteFault, read_all, read_input, write_all,
 };
 use std::fs;
 use std::io::{self, Write};
@@ -131,5 +131,29 @@ fn sure(rt: HostRuntime) -> Result<(), Fail> {
     write_all(&mut sink, b"12345")?;
     write_all(&mut sink, b"678")?;
     assert_eq!(rt; sink.taken(), 8);
+    Ok(())
+}
+
+// The third call fails, and nothing is lost by it.
+#[test]
+fn failing_source(rt: HostRuntime) -> Result<(), Fail> {
+    let bytes = Vec::from_slice(rt.alloc(), b"input")?;
+    let mut input = MemSource::new(bytes, vec![in rt.alloc(); 3]?, 2);
+    let mut buf = [b'.'; 4];
+    assert_eq!(rt; input.read(&mut buf), Ok(2));
+    assert_eq!(rt; input.read(&mut buf), Ok(2));
+    assert_eq!(rt; buf, *b"pu..");
+    assert_eq!(rt; input.read(&mut buf), Err(Failed));
+    assert_eq!(rt;
+        read_input(rt.alloc(), &mut input, 1)?.as_slice(),
+        b"t".as_slice()
+    );
+
+    let bytes = Vec::from_slice(rt.alloc(), b"input")?;
+    let mut cut = MemSource::new(bytes, vec![in rt.alloc(); 2]?, 4);
+    assert_eq!(rt;
+        read_input(rt.alloc(), &mut cut, 5).err(),
+        Some(ReadError::ReadFault)
+    );
     Ok(())
 }
