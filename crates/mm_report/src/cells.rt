@@ -39,7 +39,7 @@ fn is_same_cell(a: &Cell, b: &Cell) -> bool
 }
 
 /// Appends the line of a cell: `cell A WORD full` or `cell A WORD empty`.
-fn put_cell<O: Sink>(text: &mut Gather, out: &mut O, word: u64, cell: &Cell)
+pub fn put_cell<O: Sink>(text: &mut Gather, out: &mut O, word: u64, cell: &Cell)
     ensures { Gathers O.taken O.faults out.old out.new text.old text.new (cell_line word cell.now) }
 {
     text.put(

@@ -11,6 +11,7 @@ mod summary;
 mod trace;
 mod words;
 
+pub use cells::put_cell;
 pub use counts::put_cycles;
 pub use output::put_output;
 pub use slots::{put_numbers, put_slot, put_state, slot_lines};
