@@ -24,3 +24,5 @@ pub mod OwnImages
 pub mod OwnItems
 pub mod CellTexts
 pub mod WholeRuns
+pub mod VersionTurns
+pub mod VersionRuns

@@ -9,3 +9,4 @@ pub mod Isolated
 pub mod Runs
 pub mod CellLines
 pub mod Causes
+pub mod Migration

@@ -11,6 +11,7 @@ pub mod granted;
 pub mod grants;
 pub mod images;
 pub mod isolated;
+pub mod migration;
 pub mod restrictions;
 pub mod runs;
 pub mod schedules;
