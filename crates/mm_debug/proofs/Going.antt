@@ -1,0 +1,71 @@
+-- Whatever a command does, a session can still go to each point to which it could go before.
+use Rattle.std.proofs.Common.{◌≡◌, ℕ, List, refl, sym, subst}
+use Rattle.mm_mem.specs.declared.memory.Memory.{Ghosts}
+use Rattle.mm_model.specs.State.{State}
+use Rattle.mm_model.specs.Run.{after}
+use Rattle.mm_machine.specs.Kept.{Kept}
+use Rattle.mm_machine.specs.Snapshot.{Parts, CanRestore}
+use Rattle.mm_machine.proofs.Keeping.{goes_on}
+use Rattle.mm_machine.proofs.Restorable.{can_after}
+use Rattle.mm_debug.specs.declared.command.Command.{Command}
+use Rattle.mm_debug.specs.declared.session.Session.{Session as Held}
+use Rattle.mm_debug.specs.Commands.{command_of, lines_of}
+use Rattle.mm_debug.specs.Session.{Session, answer, answer_to, dialogue, debugged}
+use Rattle.mm_debug.specs.Shown.{session_of}
+use Rattle.mm_debug.specs.Standing.{Point, CanGo}
+use Rattle.mm_debug.proofs.AnswersKeep.{Keeps, answer_keeps, dialogue_keeps}
+
+-- a state of the same machine: it is kept where the first is, and can be put back to what the first can
+record Follows (s t : State) : Type 0 where
+  kept : ∥ Kept s ∥₁ → ∥ Kept t ∥₁
+  can : ∥ Kept s ∥₁ → (p : Parts) → CanRestore s p → CanRestore t p
+
+itself : (s : State) → Follows s s
+itself s = record { kept = λ k. k; can = λ k p can. can }
+
+one_more : (s t : State) (item : ℕ) → Follows s t → Follows s (after t item)
+one_more s t item f = record {
+  kept = λ k. goes_on t (after t item) item refl (f.kept k);
+  can = λ k p can. can_after t (after t item) item p refl (f.kept k) (f.can k p can);
+}
+
+each_follows : (s : State) → Keeps (λ (t : Session). Follows s t.state)
+each_follows s = record {
+  issues = λ t item is f. one_more s t.state item f;
+  breaks = λ t marks f. f;
+  watches = λ t words f. f;
+}
+
+answer_follows : (s : Session) (c : Command) → Follows s.state (answer s c).session.state
+answer_follows s c = answer_keeps (λ (t : Session). Follows s.state t.state) (each_follows s.state) s c (itself s.state)
+
+dialogue_follows : (s : Session) (lines : List (List ℕ)) → Follows s.state (dialogue s lines).session.state
+dialogue_follows s lines = dialogue_keeps (λ (t : Session). Follows s.state t.state) (each_follows s.state) s lines (itself s.state)
+
+can_go : (s t : Session) (p : Point) → Follows s.state t.state → ∥ Kept s.state ∥₁ → CanGo s p → CanGo t p
+can_go s t p f kept can = record { restore = f.can kept p.snapshot can.restore; limit = can.limit }
+
+-- after a command
+
+pub answer_kept : (s : Session) (c : Command) → ∥ Kept s.state ∥₁ → ∥ Kept (answer s c).session.state ∥₁
+answer_kept s c kept = (answer_follows s c).kept kept
+
+pub answer_goes : (s : Session) (c : Command) (p : Point) → ∥ Kept s.state ∥₁ → CanGo s p → CanGo (answer s c).session p
+answer_goes s c p kept can = can_go s (answer s c).session p (answer_follows s c) kept can
+
+-- after lines
+
+pub dialogue_kept : (s : Session) (lines : List (List ℕ)) → ∥ Kept s.state ∥₁ → ∥ Kept (dialogue s lines).session.state ∥₁
+dialogue_kept s lines kept = (dialogue_follows s lines).kept kept
+
+pub dialogue_goes : (s : Session) (lines : List (List ℕ)) (p : Point) → ∥ Kept s.state ∥₁ → CanGo s p → CanGo (dialogue s lines).session p
+dialogue_goes s lines p kept can = can_go s (dialogue s lines).session p (dialogue_follows s lines) kept can
+
+-- and of sessions that code holds, whose machine is kept
+
+module _ {M : Type 0} {memory : Ghosts M} where
+  pub line_goes : (old new : Held M memory) (line : List ℕ) → session_of new ≡ (answer_to (session_of old) line).session → (p : Point) → CanGo (session_of old) p → CanGo (session_of new) p
+  line_goes old new line is p can = subst (λ (t : Session). CanGo t p) (sym is) (answer_goes (session_of old) (command_of line) p old.machine.kept can)
+
+  pub input_goes : (old new : Held M memory) (input : List ℕ) → session_of new ≡ (debugged (session_of old) input).session → (p : Point) → CanGo (session_of old) p → CanGo (session_of new) p
+  input_goes old new input is p can = subst (λ (t : Session). CanGo t p) (sym is) (dialogue_goes (session_of old) (lines_of input) p old.machine.kept can)

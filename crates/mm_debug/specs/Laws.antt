@@ -1,0 +1,102 @@
+-- Laws of sessions.
+use Rattle.std.specs.Prelude.{◌≡◌, ◌↔◌, ℕ, zero, suc, ◌+◌, ◌<◌, ◌≤◌, Bool, true, false, ◌&&◌, if◌then◌else◌, List, [], ◌∷◌, Contains, Option, Some, None}
+use Rattle.mm_word.specs.declared.perm.Kind.{Kind}
+use Rattle.mm_model.specs.Image.{Image, start}
+use Rattle.mm_model.specs.Run.{run, turn_of}
+use Rattle.mm_model.specs.Uses.{Use, Accessed}
+use Rattle.mm_sched.specs.declared.schedule.Order.{Order}
+use Rattle.mm_debug.specs.declared.stop.Stop.{Stop}
+use Rattle.mm_debug.specs.declared.stop.Stop.TheVariants as stop
+use Rattle.mm_debug.specs.Marks.{has_watch}
+use Rattle.mm_debug.specs.Session.{Session, total_of, begun, next_item, stepped, sets_bit, stops_before, stops_after, ran, answer_to}
+use Rattle.mm_debug.specs.Standing.{StandsFor, first_items}
+
+-- 1. Where a run stops.
+
+abbrev pub watch_of : Option ℕ → Option Stop
+watch_of None = None
+watch_of (Some word) = Some (stop.Watch word)
+
+-- a watch behind the cycle of the next item
+abbrev pub watch_stands : Session → Option ℕ → Option Stop
+watch_stands s None = None
+watch_stands s (Some item) = watch_of (stops_after s item)
+
+-- the end where there is no next item, and else a break before it, which needs a cycle of the run
+abbrev pub end_or_break : (behind_cycle : Bool) → Session → Option ℕ → Option Stop
+end_or_break behind_cycle s None = Some stop.End
+end_or_break behind_cycle s (Some item) = if behind_cycle && stops_before s item then Some (stop.Break item) else None
+
+abbrev pub first_of : Option Stop → Option Stop → Option Stop
+first_of None other = other
+first_of (Some stop) other = Some stop
+
+-- the stop that stands after so many cycles of a run: a watch before the end before a break
+abbrev pub stop_after : Session → ℕ → Option Stop
+stop_after s zero = end_or_break false s (next_item s)
+stop_after s (suc count) =
+    first_of (watch_stands (stepped s count) (next_item (stepped s count)))
+    (end_or_break true (stepped s (suc count)) (next_item (stepped s (suc count))))
+
+-- A run issues the least number of cycles after which a stop stands.
+pub record StopsFirst (s : Session) : Type 0 where
+  pub count : ℕ
+  pub session : (ran s).session ≡ stepped s count
+  pub total : total_of (ran s).session ≡ total_of s + count
+  pub stands : stop_after s count ≡ Some (ran s).stop
+  pub least : (k : ℕ) → k < count → stop_after s k ≡ None
+
+abbrev pub RunsStopFirst : Type 0
+RunsStopFirst = (s : Session) → StopsFirst s
+
+-- 2. How many cycles a step issues.
+
+-- Up to so many cycles were issued, fewer only where the order or the limit has ended.
+pub record StepsUpTo (s : Session) (count : ℕ) : Type 0 where
+  pub issued : ℕ
+  pub most : issued ≤ count
+  pub total : total_of (stepped s count) ≡ total_of s + issued
+  pub ended : issued < count → next_item (stepped s count) ≡ None
+
+abbrev pub StepsIssueCycles : Type 0
+StepsIssueCycles = (s : Session) (count : ℕ) → StepsUpTo s count
+
+-- 3. What debugging changes.
+
+-- the session after lines, each of which is carried out
+abbrev pub after_lines : Session → List (List ℕ) → Session
+after_lines s [] = s
+after_lines s (line ∷ lines) = after_lines (answer_to s line).session lines
+
+-- After any lines a session has its order, and stands for every image for which it stood.
+abbrev pub LinesKeepStanding : Type 0
+LinesKeepStanding = (i : Image) (s : Session) (lines : List (List ℕ)) → StandsFor i s → ((after_lines s lines).order ≡ s.order) × StandsFor i (after_lines s lines)
+
+-- So of a session that began at the start of an image's run the state is, after any lines, where the run is after as many items of the order as the
+-- session has issued.
+abbrev pub DebuggingChangesNoRun : Type 0
+DebuggingChangesNoRun = (i : Image) (order : Order) (lines : List (List ℕ)) →
+    let s = after_lines (begun order (start i)) lines in s.state ≡ run (start i) (first_items i order (total_of s))
+
+-- 4. What an answer depends on: the image, the order, how many cycles were issued, the breaks and watches, and the line.
+
+-- both have issued as many cycles of one order, and keep the same
+pub record AreAlike (s t : Session) : Type 0 where
+  pub order : s.order ≡ t.order
+  pub total : total_of s ≡ total_of t
+  pub breaks : s.breaks ≡ t.breaks
+  pub watches : s.watches ≡ t.watches
+
+abbrev pub AnswersDependOnThese : Type 0
+AnswersDependOnThese = (i : Image) (s t : Session) (line : List ℕ) → StandsFor i s → StandsFor i t → AreAlike s t
+    → ((answer_to s line).reply ≡ (answer_to t line).reply) × ((answer_to s line).go ≡ (answer_to t line).go) × AreAlike (answer_to s line).session (answer_to t line).session
+
+-- 5. What a watch is.
+
+-- the uses of a cycle have a Store or a LoadSet on this word that was done
+abbrev pub SetsBitAt : ℕ → List Use → Type 0
+SetsBitAt word us = (kind : Kind) × (sets_bit kind ≡ true) × Contains us (Accessed kind word true true)
+
+-- A cycle stops a run exactly where it did a Store or a LoadSet on a watched word.
+abbrev pub WatchesSeeSignals : Type 0
+WatchesSeeSignals = (s : Session) (item word : ℕ) → (stops_after s item ≡ Some word) ↔ ((has_watch s.watches word ≡ true) × SetsBitAt word (turn_of s.state item).uses)

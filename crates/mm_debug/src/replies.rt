@@ -1,0 +1,137 @@
+// The texts of replies.
+ghost use Rattle.std.specs.Prelude.{◌≡◌, ◌≤◌, ◌<◌, ◌+◌, ◌*◌, ◌%◌, ◌^◌};
+ghost use Rattle.mm_text.specs.Gathers.{Gathers};
+ghost use Rattle.mm_model.specs.Memory.{cell_at};
+ghost use Rattle.mm_model.specs.State.{slot_at};
+ghost use Rattle.mm_machine.specs.Machine.{state_of};
+ghost use Rattle.mm_debug.specs.Session.{stepped_text, stop_text, break_text, watch_text, slot_text, word_line, memory_text};
+
+use crate::stop::Stop;
+use mm_io::Sink;
+use mm_machine::Machine;
+use mm_mem::{Inspect, Memory};
+use mm_report::{put_cell, put_slot};
+use mm_text::{Gather, Piece};
+
+/// How many cycles a `step` issued, and how many there were in all.
+pub(crate) fn put_stepped<O: Sink>(reply: &mut Gather, out: &mut O, count: u64, total: u64)
+    ensures { Gathers O.taken O.faults out.old out.new reply.old reply.new (stepped_text count total) }
+{
+    reply.put(
+        out,
+        &[
+            Piece::Text("stepped "),
+            Piece::Decimal(count),
+            Piece::Text(" total "),
+            Piece::Decimal(total),
+            Piece::Text("\n"),
+        ],
+    );
+}
+
+/// Why a `run` stopped, and how many cycles there were in all.
+pub(crate) fn put_stop<O: Sink>(reply: &mut Gather, out: &mut O, stop: Stop, total: u64)
+    ensures { Gathers O.taken O.faults out.old out.new reply.old reply.new (stop_text stop total) }
+{
+    match stop {
+        Stop::End => reply.put(
+            out,
+            &[
+                Piece::Text("stopped end "),
+                Piece::Decimal(total),
+                Piece::Text("\n"),
+            ],
+        ),
+        Stop::Break(slot) => reply.put(
+            out,
+            &[
+                Piece::Text("stopped break "),
+                Piece::Decimal(slot as u64),
+                Piece::Text(" "),
+                Piece::Decimal(total),
+                Piece::Text("\n"),
+            ],
+        ),
+        Stop::Watch(word) => reply.put(
+            out,
+            &[
+                Piece::Text("stopped watch "),
+                Piece::HexAddress(word),
+                Piece::Text(" "),
+                Piece::Decimal(total),
+                Piece::Text("\n"),
+            ],
+        ),
+    }
+}
+
+/// Whether a break is kept.
+pub(crate) fn put_break<O: Sink>(reply: &mut Gather, out: &mut O, kept: bool)
+    ensures { Gathers O.taken O.faults out.old out.new reply.old reply.new (break_text kept) }
+{
+    reply.put_piece(
+        out,
+        &Piece::Text(if kept { "break set\n" } else { "break full\n" }),
+    );
+}
+
+/// Whether a watch is kept.
+pub(crate) fn put_watch<O: Sink>(reply: &mut Gather, out: &mut O, kept: bool)
+    ensures { Gathers O.taken O.faults out.old out.new reply.old reply.new (watch_text kept) }
+{
+    reply.put_piece(
+        out,
+        &Piece::Text(if kept { "watch set\n" } else { "watch full\n" }),
+    );
+}
+
+/// The lines of a slot, or that there is none of this number.
+pub(crate) fn put_slot_at<M: Memory, O: Sink>(
+    reply: &mut Gather,
+    out: &mut O,
+    machine: &Machine<M>,
+    number: u8,
+)
+    ensures { Gathers O.taken O.faults out.old out.new reply.old reply.new (slot_text (slot_at (state_of machine.now).core number)) }
+{
+    match machine.slot(number) {
+        Some(slot) => put_slot(reply, out, slot),
+        None => reply.put_piece(out, &Piece::Text("no slot\n")),
+    }
+}
+
+/// A line for each of so many words from a word on.
+pub(crate) fn put_words<M: Inspect, O: Sink>(
+    reply: &mut Gather,
+    out: &mut O,
+    memory: &M,
+    word: u64,
+    count: u64,
+)
+    requires aligned { word % 8 ≡ 0 }
+    requires within { word + 8 * count ≤ 2 ^ 54 }
+    ensures { Gathers O.taken O.faults out.old out.new reply.old reply.new (memory_text (M.meaning memory.now) word count) }
+{
+    for k in 0..count {
+        put_word_line(reply, out, memory, word + 8 * k);
+    }
+}
+
+/// The line of a word: its cell, or that no mapped page has it.
+fn put_word_line<M: Inspect, O: Sink>(reply: &mut Gather, out: &mut O, memory: &M, word: u64)
+    requires aligned { word % 8 ≡ 0 }
+    requires within { word < 2 ^ 54 }
+    ensures { Gathers O.taken O.faults out.old out.new reply.old reply.new (word_line word (cell_at (M.meaning memory.now) word)) }
+{
+    match memory.peek(word) {
+        Some(cell) => put_cell(reply, out, word, &cell),
+        None => reply.put(
+            out,
+            &[
+                Piece::Text("none "),
+                Piece::HexAddress(word),
+                Piece::Text("\n"),
+            ],
+        ),
+    }
+}
