@@ -5,8 +5,8 @@ pub mod KindsOnce
 pub mod Told
 pub mod Reading
 pub mod Rows
+pub mod Inputs
 pub mod Rounds
-pub mod Running
 pub mod Reported
 pub mod Headlines
 pub mod TracedRuns

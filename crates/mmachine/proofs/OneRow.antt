@@ -5,7 +5,7 @@ use Rattle.std.specs.List.{AllByRecursion, position_or_len}
 use Rattle.std.specs.Str.{bytes_eq}
 use Rattle.std.proofs.lemmas.Fmt.{decimal_injective}
 use Rattle.mmachine.specs.Kinds.{Kind, schedule_file, object_file}
-use Rattle.mmachine.specs.Table.{Word, file_word, number_word, groups_word, mode_word, mode_text, text_of, IsInRange, perhaps, Row, run, trace, solo, grants, extract, asm, link, dis, gen, soak, migrate, name_of, behind, Asks}
+use Rattle.mmachine.specs.Table.{Word, file_word, number_word, groups_word, mode_word, mode_text, text_of, IsInRange, perhaps, Row, run, trace, solo, grants, extract, asm, link, dis, debug, gen, soak, migrate, name_of, behind, Asks}
 use Rattle.mmachine.proofs.GroupWords.{one_list}
 
 -- 1. Words of the same places.
@@ -65,7 +65,7 @@ one_perhaps word once (Some a) (Some b) same = let words : word a ≡ word b = c
 abbrev pub place_of : List ℕ → ℕ
 place_of name =
     position_or_len (bytes_eq name) (codes "run" ∷ codes "trace" ∷ codes "solo" ∷ codes "grants" ∷ codes "extract" ∷ codes "asm"
-    ∷ codes "link" ∷ codes "dis" ∷ codes "gen" ∷ codes "soak" ∷ codes "migrate" ∷ [])
+    ∷ codes "link" ∷ codes "dis" ∷ codes "debug" ∷ codes "gen" ∷ codes "soak" ∷ codes "migrate" ∷ [])
 
 -- and of a row's name
 abbrev pub place : Row → ℕ
@@ -122,6 +122,11 @@ one_row words (link xs) (link ys) (is, one) (also, two) =
     ap (λ (names : List (List ℕ)). link names) (sym (named_texts object_file xs) ∙ texts ∙ named_texts object_file ys)
 one_row words (dis x) (dis y) one two =
     let same = same_behind words (dis x) (dis y) one two (refl, tt) in
+    cc
+one_row words (debug i s) (debug j t) one two =
+    let same = same_behind words (debug i s) (debug j t) one two (refl, perhaps_alike (file_word schedule_file) (λ a b. refl) s t) in
+    let rest : perhaps (file_word schedule_file) s ≡ perhaps (file_word schedule_file) t = cc in
+    let schedule : s ≡ t = one_schedule s t rest in
     cc
 one_row words (gen n s) (gen m t) one two =
     let same = same_behind words (gen n s) (gen m t) one two ((refl, refl, omega arith), ((refl, refl, omega arith), tt)) in

@@ -1,11 +1,11 @@
 -- Files that are read one after the other.
-use Rattle.std.proofs.Common.{◌≡◌, ℕ, ◌≤◌, inl, inr, List, [], ◌∷◌, ◌++◌, Option, Result, Ok, Err, refl, sym, ap, ◌∙◌, subst, arith, append_assoc, append-nil}
+use Rattle.std.proofs.Common.{◌≡◌, ℕ, ◌+◌, ◌≤◌, inl, inr, List, [], ◌∷◌, ◌++◌, length, Option, Result, Ok, Err, refl, sym, ap, ◌∙◌, subst, arith, append_assoc, append-nil}
 use Rattle.std.specs.Prelude.{replicate}
-use Rattle.mm_io.specs.Files.{Rose, NoneFell}
+use Rattle.mm_io.specs.Files.{Rose, NoneFell, Holds}
 use Rattle.mmachine.specs.declared.status.Refusal.{Refusal}
 use Rattle.mmachine.specs.declared.status.Stop.{Stop}
 use Rattle.mmachine.specs.declared.status.Stop.TheVariants as stop
-use Rattle.mmachine.specs.Kinds.{Kind, Value}
+use Rattle.mmachine.specs.Kinds.{Kind, Value, Faults, limit_of}
 use Rattle.mmachine.specs.Files.{Reading, FilesAccepted, FilesRefused, FilesFailed, FilesRead, AsksInOrder, AsksFiles, Stops}
 
 -- 1. Files behind others.
@@ -175,3 +175,13 @@ asks_of_all {a = a} {before = before} {xs = xs} ys asked = record {
 -- one file was asked for and no other
 pub asks_one : {a : Reading} {before : List Value} {name : List ℕ} {kind : Kind} (times : ℕ) → a.asks (replicate times name) → AsksFiles a before ((name, kind) ∷ [])
 asks_one {name = name} times asked = record { names = replicate times name; asked = asked; in_order = (times, [], sym (append-nil (replicate times name)), inl refl) }
+
+-- and its bytes mean nothing
+pub refused_file : {T : Type 0} {a : Reading} {before : List Value} {name : List ℕ} {kind : Kind} {values : T → List Value} {r : Refusal} (times : ℕ) (bytes : List ℕ)
+    → Holds (a.held name) bytes → length bytes ≤ limit_of kind → Faults kind before (length before + 1) bytes r → a.asks (replicate times name)
+    → FilesRead a before ((name, kind) ∷ []) values (Err (stop.Refused r))
+refused_file times bytes holds short fault asked = record {
+  accepted = tt;
+  stopped = inl (inr (record { bytes = bytes; holds = holds; short = short; fault = fault }));
+  asked = asks_one times asked;
+}

@@ -1,5 +1,5 @@
 -- How a command that writes a text ends.
-use Rattle.std.proofs.Common.{◌≡◌, ℕ, List, [], Option, Result, Ok, Err, refl, sym, ap, subst}
+use Rattle.std.proofs.Common.{◌≡◌, ℕ, List, [], Option, Result, Ok, Err, refl, sym, ap, ◌∙◌, subst}
 use Rattle.std.specs.Result.{IsErrAnd}
 use Rattle.mm_io.specs.declared.write.WriteFault.{WriteFault}
 use Rattle.mm_io.specs.Sinks.{Writes}
@@ -16,11 +16,12 @@ use Rattle.mm_machine.specs.Machine.{state_of, StandsTo, StandsFor}
 use Rattle.mm_sched.specs.declared.schedule.Order.{Order}
 use Rattle.mm_sched.specs.declared.schedule.Order.TheVariants as order
 use Rattle.mm_sched.specs.Orders.{items_of}
+use Rattle.mm_debug.specs.Session as session
 use Rattle.mmachine.specs.declared.status.Refusal.{Refusal}
 use Rattle.mmachine.specs.declared.status.Stop.{Stop}
 use Rattle.mmachine.specs.declared.status.Stop.TheVariants as stop
 use Rattle.mmachine.specs.Orders.{Issues, values_of}
-use Rattle.mmachine.specs.Commands.{report_after}
+use Rattle.mmachine.specs.Commands.{report_after, replies_to}
 use Rattle.mmachine.specs.Answers.{Ends, end_of, writing}
 
 module _ {M : Type 0} {memory : Ghosts M} where
@@ -40,6 +41,14 @@ module _ {M : Type 0} {memory : Ghosts M} where
       → Writes taken faults old new (report_after tells i items) result
   reported tells i items m h writes =
       writes_same (writes (uses (start i) items) h.uses_made) (ap (λ (s : State). report s i (tells (uses (start i) items))) h.state)
+
+  -- the replies of a session that a machine began are those of its image
+  pub replied : {S T E : Type 0} {taken : S → Option (List ℕ)} {faults : S → ℕ} {old new : S} {result : Result T E}
+      (o : Order) (input : List ℕ) (i : Image) (m : Machine M memory) (s : session.Session) → StandsFor i [] m → s ≡ session.begun o (state_of m)
+      → Writes taken faults old new (session.debugged s input).text result → Writes taken faults old new (replies_to i o input) result
+  replied o input i m s h begun writes =
+      writes_same writes
+      (ap (λ (t : session.Session). (session.debugged t input).text) (begun ∙ ap (λ (state : State). session.begun o state) (start_state i m h)))
 
 -- the items of an order are those that are to be issued
 pub issued : (o : Order) (i : Image) (cycles : ℕ) → Issues i cycles (values_of o) (items_of o (start i) cycles)

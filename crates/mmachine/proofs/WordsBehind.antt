@@ -3,7 +3,7 @@ use Rattle.std.proofs.Common.{◌≡◌, ℕ, ◌≤◌, ◌-◌, ◌==◌, Bool
 use Rattle.std.proofs.lemmas.List.{take_all}
 use Rattle.std.specs.declared.alloc.Global.{Global}
 use Rattle.mmachine.proofs.OneRow.{place_of, place}
-use Rattle.mmachine.specs.Table.{Row, Asks, name_of, run, trace, solo, grants, extract, asm, link, dis, gen, soak, migrate, InNoRow, AreTexts, IsCounted, behind, text_of, texts}
+use Rattle.mmachine.specs.Table.{Row, Asks, name_of, run, trace, solo, grants, extract, asm, link, dis, debug, gen, soak, migrate, InNoRow, AreTexts, IsCounted, behind, text_of, texts}
 
 -- the first word and the rest
 first_and_rest : (words : List (String Global)) (word : String Global) → 1 ≤ length words → word ≡ get_or words 0 word
@@ -59,17 +59,21 @@ pub no_dis : (words : List (List ℕ)) → ((object : List ℕ) → ¬ AreTexts 
 no_dis words none (dis o) (is, ranges) = let rest : words ≡ map text_of (behind (dis o)) = cc in none o (rest, ranges.0)
 no_dis words none row asks = let places : place row ≡ 7 = placed_as (codes "dis") words row asks in absurd (cc)
 
+pub no_debug : (words : List (List ℕ)) → ((image : List ℕ) (schedule : Option (List ℕ)) → ¬ AreTexts words (behind (debug image schedule))) → InNoRow (codes "debug" ∷ words)
+no_debug words none (debug i s) (is, ranges) = let rest : words ≡ map text_of (behind (debug i s)) = cc in none i s (rest, ranges.0)
+no_debug words none row asks = let places : place row ≡ 8 = placed_as (codes "debug") words row asks in absurd (cc)
+
 pub no_gen : (words : List (List ℕ)) → ((number size : ℕ) → ¬ AreTexts words (behind (gen number size))) → InNoRow (codes "gen" ∷ words)
 no_gen words none (gen n s) (is, ranges) = let rest : words ≡ map text_of (behind (gen n s)) = cc in none n s (rest, ranges.0)
-no_gen words none row asks = let places : place row ≡ 8 = placed_as (codes "gen") words row asks in absurd (cc)
+no_gen words none row asks = let places : place row ≡ 9 = placed_as (codes "gen") words row asks in absurd (cc)
 
 pub no_soak : (words : List (List ℕ)) → ((number size cycles : ℕ) → ¬ AreTexts words (behind (soak number size cycles))) → InNoRow (codes "soak" ∷ words)
 no_soak words none (soak n s c) (is, ranges) = let rest : words ≡ map text_of (behind (soak n s c)) = cc in none n s c (rest, ranges.0)
-no_soak words none row asks = let places : place row ≡ 9 = placed_as (codes "soak") words row asks in absurd (cc)
+no_soak words none row asks = let places : place row ≡ 10 = placed_as (codes "soak") words row asks in absurd (cc)
 
 pub no_migrate : (words : List (List ℕ)) → ((image : List ℕ) (split : Bool) → ¬ AreTexts words (behind (migrate image split))) → InNoRow (codes "migrate" ∷ words)
 no_migrate words none (migrate i m) (is, ranges) = let rest : words ≡ map text_of (behind (migrate i m)) = cc in none i m (rest, ranges.0)
-no_migrate words none row asks = let places : place row ≡ 10 = placed_as (codes "migrate") words row asks in absurd (cc)
+no_migrate words none row asks = let places : place row ≡ 11 = placed_as (codes "migrate") words row asks in absurd (cc)
 
 -- the words of `link`
 pub some_names : (names : List (String Global)) → (length names == 0) ≡ false → 1 ≤ length names

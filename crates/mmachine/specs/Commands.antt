@@ -20,12 +20,14 @@ use Rattle.mm_gen.specs.Summary.{summary}
 use Rattle.mm_model.specs.Audit.{IsAudit}
 use Rattle.mm_model.specs.Report.{report}
 use Rattle.mm_audit.specs.Refusals.{StandAlone}
+use Rattle.mm_sched.specs.declared.schedule.Order.{Order}
+use Rattle.mm_debug.specs.Session as session
 use Rattle.mmachine.specs.declared.status.Refusal.{Refusal}
 use Rattle.mmachine.specs.declared.status.Refusal.TheVariants as refusal
-use Rattle.mmachine.specs.Kinds.{Value, an_image, a_list, an_object}
-use Rattle.mmachine.specs.Orders.{Issues}
+use Rattle.mmachine.specs.Kinds.{Value, an_image, a_list, an_object, a_text}
+use Rattle.mmachine.specs.Orders.{Issues, values_of}
 use Rattle.mmachine.specs.Groups.{GroupsRefused}
-use Rattle.mmachine.specs.Table.{Row, run, trace, solo, grants, extract, asm, link, dis, gen, soak, migrate}
+use Rattle.mmachine.specs.Table.{Row, run, trace, solo, grants, extract, asm, link, dis, debug, gen, soak, migrate}
 
 -- the report of an image's run under these items, with what the memory tells of the run's uses
 abbrev pub report_after : (List Use → Option Counts) → model.Image → List ℕ → List ℕ
@@ -47,6 +49,14 @@ LinkRefused objects r = (fault : LinkFault) × (r ≡ refusal.Link fault) × (li
 -- the text is the one spelling of the image that objects link to
 abbrev pub IsLinked : List Object → List ℕ → Type 0
 IsLinked objects text = (i : model.Image) × Linked objects i × Spells text i
+
+-- the replies to the lines of an input, in a session of an image under an order
+abbrev pub replies_to : model.Image → Order → (input : List ℕ) → List ℕ
+replies_to i order input = (session.debugged (session.begun order (model.start i)) input).text
+
+-- the values are those of an order and, behind it, of an input, and the text is the replies to that
+abbrev pub IsDialogue : model.Image → List Value → List ℕ → Type 0
+IsDialogue i values text = (order : Order) × (input : List ℕ) × (values ≡ values_of order ++ a_text input ∷ []) × (text ≡ replies_to i order input)
 
 -- the summary of a generated image's run under so many cycles of round robin, over every memory
 abbrev pub soaked : (number size cycles : ℕ) → List ℕ
@@ -80,5 +90,6 @@ Yields tells (trace image cycles schedule) (an_image i ∷ lists) text =
     (items : List ℕ) × Issues i cycles lists items × (text ≡ lines.trace (model.start i) items ++ report_after tells i items)
 Yields tells (solo image groups cycles schedule) (an_image i ∷ a_list list ∷ []) text =
     StandAlone i (among groups) × (text ≡ own_report tells i list cycles (among groups))
+Yields tells (debug image schedule) (an_image i ∷ values) text = IsDialogue i values text
 Yields tells (soak number size cycles) [] text = text ≡ soaked number size cycles
 Yields tells row values text = YieldsAlone row values text

@@ -5,9 +5,9 @@ use Rattle.std.specs.Option.{option_map}
 use Rattle.std.specs.declared.alloc.Global.{Global}
 use Rattle.mm_model.specs.Audit.{groups_text}
 use Rattle.mmachine.specs.GroupList.{AreGroups}
-use Rattle.mmachine.specs.Kinds.{Kind, image_file, schedule_file, source_file, object_file}
+use Rattle.mmachine.specs.Kinds.{Kind, image_file, schedule_file, source_file, object_file, text_input}
 use Rattle.mmachine.specs.declared.words.Command.{Command}
-use Rattle.mmachine.specs.declared.words.Command.TheVariants.{Run, Trace, Solo, Grants, Extract, Asm, Link, Dis, Gen, Soak, Migrate}
+use Rattle.mmachine.specs.declared.words.Command.TheVariants.{Run, Trace, Solo, Grants, Extract, Asm, Link, Dis, Debug, Gen, Soak, Migrate}
 
 -- 1. The words behind a command's own word.
 
@@ -76,6 +76,7 @@ pub data Row : Type 0 where
   asm : (source : List ℕ) → Row
   link : (objects : List (List ℕ)) → Row
   dis : (object : List ℕ) → Row
+  debug : (image : List ℕ) (schedule : Option (List ℕ)) → Row
   gen : (number size : ℕ) → Row
   soak : (number size cycles : ℕ) → Row
   migrate : (image : List ℕ) (split : Bool) → Row
@@ -90,6 +91,7 @@ name_of (extract image groups) = codes "extract"
 name_of (asm source) = codes "asm"
 name_of (link objects) = codes "link"
 name_of (dis object) = codes "dis"
+name_of (debug image schedule) = codes "debug"
 name_of (gen number size) = codes "gen"
 name_of (soak number size cycles) = codes "soak"
 name_of (migrate image split) = codes "migrate"
@@ -105,6 +107,7 @@ behind (extract image groups) = file_word image_file image ∷ groups_word group
 behind (asm source) = file_word source_file source ∷ []
 behind (link objects) = map (file_word object_file) objects
 behind (dis object) = file_word object_file object ∷ []
+behind (debug image schedule) = file_word image_file image ∷ perhaps (file_word schedule_file) schedule
 behind (gen number size) = seed_word number ∷ size_word size ∷ []
 behind (soak number size cycles) = seed_word number ∷ size_word size ∷ cycles_word cycles ∷ []
 behind (migrate image split) = file_word image_file image ∷ mode_word split ∷ []
@@ -114,7 +117,8 @@ files_of row = files_in (behind row)
 
 -- the kind of standard input, where a row reads that behind its files
 abbrev pub input_of : Row → Option Kind
-input_of row = None
+input_of (debug image schedule) = Some text_input
+input_of _ = None
 
 -- a row that takes a list of files takes 1 to 16 of them
 abbrev pub IsCounted : Row → Type 0
@@ -151,6 +155,7 @@ row_of (Extract w) = extract w.image.now w.groups.items
 row_of (Asm w) = asm w.source.now
 row_of (Link w) = link (texts w.objects.now)
 row_of (Dis w) = dis w.object.now
+row_of (Debug w) = debug w.image.now (option_map (λ name. name.now) w.schedule)
 row_of (Gen w) = gen w.number w.size
 row_of (Soak w) = soak w.number w.size w.cycles
 row_of (Migrate w) = migrate w.image.now w.split

@@ -206,28 +206,6 @@ pub fn boot<M: Boot>(alloc: Global, image: &Image) -> Result<Machine<M>, NoMemor
     Machine::new(alloc, image, memory)
 }
 
-/// Reads and parses image files one after the other, the first of them the file of a number.
-pub fn load_images<F: Files>(
-    alloc: Global,
-    files: &mut F,
-    names: &[String],
-    first: u8,
-) -> Result<Vec<Image>, Stop>
-    requires few { length names.now ≤ 16 }
-    requires early { first ≤ 16 }
-    ensures { (before : List Value) → first ≡ length before + 1
-        → FilesRead (reading F.held F.faults F.asked files.old files.new) before (files_named image_file names.now) (λ images. map an_image images.items) result }
-{
-    let mut images = Vec::new(alloc);
-    for at in 0..names.len() {
-        let image = load_image(alloc, files, names[at].as_str(), first + at as u8)?;
-        let Ok(()) = images.push(image) else {
-            return Err(Stop::NoMemory);
-        };
-    }
-    Ok(images)
-}
-
 /// Reads and parses object files one after the other, the first of them the file of a number.
 pub fn load_objects<F: Files>(
     alloc: Global,

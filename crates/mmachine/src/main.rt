@@ -9,6 +9,7 @@ ghost use Rattle.mmachine.specs.Exit.{exit_code};
 
 mod asm;
 mod cycles;
+mod debug;
 mod dis;
 mod extract;
 mod generate;

@@ -1,6 +1,6 @@
 use crate::status::Status;
 use crate::top::mmachine;
-use mm_io::{MemFiles, MemSink, StdFiles, StdSink, StdSource, SureSource};
+use mm_io::{MemFiles, MemSink, MemSource, Source, StdFiles, StdSink, StdSource, SureSource};
 use mm_vmem::VMem;
 use std::fs;
 use std::test::Fail;
@@ -98,7 +98,18 @@ fn files(rt: &HostRuntime, image: Vec<u8>, schedule: &str, piece: usize) -> Resu
 fn answer(
     rt: &HostRuntime,
     words: &[&str],
+    files: MemFiles,
+) -> Result<(Status, MemSink, MemSink), Fail> {
+    let mut nothing = SureSource::new(Vec::new(rt.alloc()));
+    answer_to(rt, words, files, &mut nothing)
+}
+
+/// The same with this standard input.
+fn answer_to<I: Source>(
+    rt: &HostRuntime,
+    words: &[&str],
     mut files: MemFiles,
+    input: &mut I,
 ) -> Result<(Status, MemSink, MemSink), Fail> {
     let mut out = MemSink::new(rt.alloc(), 10_000, Vec::new(rt.alloc()), 7)?;
     let mut diag = MemSink::new(rt.alloc(), 100, Vec::new(rt.alloc()), 7)?;
@@ -106,7 +117,7 @@ fn answer(
         rt.alloc(),
         &strings(rt, words)?,
         &mut files,
-        &mut SureSource::new(Vec::new(rt.alloc())),
+        input,
         &mut out,
         &mut diag,
     );
@@ -279,6 +290,54 @@ fn assembles(rt: HostRuntime) -> Result<(), Fail> {
         assert_eq!(rt; out.taken(), b"".as_slice());
         assert_eq!(rt; diag.taken(), line.as_bytes());
     }
+    Ok(())
+}
+
+const LINES: &[u8] = b"step 1\nregs 0\nmem 0x100000 1\njump\nquit\n";
+
+const REPLIES: &[u8] =
+    b"stepped 1 total 1\nslot 0 turns 1 running ip p3300000000100008\nr 1 i0000000000000041\ncell 00000000100000 i0210000000000041 full\nbad command\nbye\n";
+
+/// These lines, of which a read gives at most ten bytes. The reads of these numbers fail.
+fn lines(rt: &HostRuntime, fails: Vec<u64>) -> Result<MemSource, Fail> {
+    Ok(MemSource::new(Vec::from_slice(rt.alloc(), LINES)?, fails, 10))
+}
+
+// A reply to each line of standard input, and none behind `quit`.
+#[test]
+fn debugs(rt: HostRuntime) -> Result<(), Fail> {
+    let held = files(&rt, hello(&rt)?, "", 4096)?;
+    let mut input = lines(&rt, Vec::new(rt.alloc()))?;
+    let (status, out, diag) = answer_to(&rt, &["debug", "IMAGE"], held, &mut input)?;
+    assert!(rt; matches!(status, Status::Done));
+    assert_eq!(rt; out.taken(), REPLIES);
+    assert_eq!(rt; diag.taken().len(), 0);
+    Ok(())
+}
+
+// Each of the five reads of standard input fails in turn, the last of them at its end.
+#[test]
+fn failing_input(rt: HostRuntime) -> Result<(), Fail> {
+    for read in 1..=5 {
+        let held = files(&rt, hello(&rt)?, "", 4096)?;
+        let mut input = lines(&rt, vec![in rt.alloc(); read]?)?;
+        let (status, out, diag) = answer_to(&rt, &["debug", "IMAGE"], held, &mut input)?;
+        assert!(rt; matches!(status, Status::ReadFault));
+        assert_eq!(rt; out.taken().len(), 0);
+        assert_eq!(rt; diag.taken(), b"mmachine: read fault\n".as_slice());
+    }
+    Ok(())
+}
+
+// Standard input of one byte too many.
+#[test]
+fn long_input(rt: HostRuntime) -> Result<(), Fail> {
+    let held = files(&rt, hello(&rt)?, "", 4096)?;
+    let mut input = SureSource::new(vec![in rt.alloc(); b'\n'; 1_048_577]?);
+    let (status, out, diag) = answer_to(&rt, &["debug", "IMAGE"], held, &mut input)?;
+    assert!(rt; matches!(status, Status::Refused(_)));
+    assert_eq!(rt; out.taken().len(), 0);
+    assert_eq!(rt; diag.taken(), b"mmachine: file 0 too long\n".as_slice());
     Ok(())
 }
 

@@ -1,15 +1,16 @@
 // The top call: all that the program does.
-ghost use Rattle.std.specs.Prelude.{◌≡◌, ◌↔◌, ◌⊎◌, List, ℕ, Option, None, []};
-ghost use Rattle.std.specs.Io.KnownBytes.{append_known};
+ghost use Rattle.std.specs.Prelude.{◌≡◌, ◌↔◌, ◌⊎◌, List, ℕ, Option, None, IsSome, OnOk, []};
+ghost use Rattle.std.specs.Io.KnownBytes.{append_known, IsAtEnd};
 ghost use Rattle.mm_io.specs.Files.{Rose};
 ghost use Rattle.mm_io.specs.Sinks.{TookPart};
 ghost use Rattle.mmachine.specs.declared.status.Refusal.{Refusal};
-ghost use Rattle.mmachine.specs.Files.{AsksFiles, drawing, reading};
+ghost use Rattle.mmachine.specs.Files.{AsksFiles, DrawnBehind, drawing, reading};
 ghost use Rattle.mmachine.specs.Table.{InNoRow, IsInTable, Asks, LeaveInput, Row, files_of, input_of, row_of, run, trace, texts};
 ghost use Rattle.mmachine.specs.Answers.{ComesTo, ReadFailed, WritesNothing, TookLine, NothingFails, HasToRefuse, RefusedUnless, RowEnds, Answers, call, writing, status_of, line_of, refuse, write};
 ghost use Rattle.mmachine.specs.Headline.{RunIsProved, TraceIsProved};
 
 use crate::asm::asm;
+use crate::debug::debug;
 use crate::dis::dis;
 use crate::extract::extract;
 use crate::generate::generate;
@@ -24,7 +25,7 @@ use crate::status::{Refusal, Status, Stop};
 use crate::trace::trace;
 use crate::words::{Command, read_words};
 use mm_io::{Files, Sink, Source};
-use mm_mem::Boot;
+use mm_mem::{Boot, Reset};
 use std::alloc::Global;
 
 /// Does what the words ask, writes the result to `out`, and one line to `diag` where it is not done.
@@ -32,7 +33,7 @@ use std::alloc::Global;
 /// `words` are the command line without the program's name. `M` is the type of the memory that every command which runs an image
 /// makes and runs on.
 #[tactic(auto, using(crate::proofs::Verdicts::usage, crate::proofs::Verdicts::read_fault, crate::proofs::Verdicts::write_fault, crate::proofs::Verdicts::silent))]
-pub fn mmachine<M: Boot, F: Files, I: Source, O: Sink, D: Sink>(
+pub fn mmachine<M: Boot + Reset, F: Files, I: Source, O: Sink, D: Sink>(
     alloc: Global,
     words: &[String],
     files: &mut F,
@@ -46,10 +47,13 @@ pub fn mmachine<M: Boot, F: Files, I: Source, O: Sink, D: Sink>(
     ensures read_fault { result ≡ Status.ReadFault → ReadFailed (reading F.held F.faults F.asked files.old files.new) (drawing I.left I.faults input.old input.new) (texts words.now) }
     ensures write_fault { result ≡ Status.WriteFault → Rose (O.faults out.old) (O.faults out.new) }
 
-    // What is read: nothing where the words are in no row, and else the row's files alone, each once those before it were accepted.
+    // What is read: nothing where the words are in no row, and else the row's files alone, each once those before it were accepted, and
+    // behind them standard input, to its end, where the row reads that.
     ensures unread { result ≡ Status.Usage → files.new ≡ files.old }
     ensures asks { (row : Row) → Asks (texts words.now) row → AsksFiles (reading F.held F.faults F.asked files.old files.new) [] (files_of row) }
     ensures undrawn { LeaveInput (texts words.now) → input.new ≡ input.old }
+    ensures drawn { (row : Row) → Asks (texts words.now) row → DrawnBehind (F.held files.old) (files_of row) (input.new ≡ input.old) }
+    ensures read { result ≡ Status.Done → (row : Row) → Asks (texts words.now) row → IsSome (input_of row) → IsAtEnd (I.left input.new) }
 
     // What is written.
     ensures done { result ≡ Status.Done → (text : List ℕ) × ComesTo M.tells (F.held files.old) (I.left input.old) (texts words.now) (write text)
@@ -79,7 +83,7 @@ pub fn mmachine<M: Boot, F: Files, I: Source, O: Sink, D: Sink>(
 }
 
 /// Does what the words ask.
-fn answer<M: Boot, F: Files, I: Source, O: Sink>(
+fn answer<M: Boot + Reset, F: Files, I: Source, O: Sink>(
     alloc: Global,
     words: &[String],
     files: &mut F,
@@ -93,12 +97,14 @@ fn answer<M: Boot, F: Files, I: Source, O: Sink>(
     ensures complete { NothingFails (call M.tells (reading F.held F.faults F.asked files.old files.new) (drawing I.left I.faults input.old input.new) (writing O.taken O.faults out.old out.new)) (texts words.now) → (result ≡ Status.Done) ⊎ (result ≡ Status.NoMemory) }
     ensures unread { result ≡ Status.Usage → files.new ≡ files.old }
     ensures undrawn { LeaveInput (texts words.now) → input.new ≡ input.old }
+    ensures drawn { (row : Row) → Asks (texts words.now) row → DrawnBehind (F.held files.old) (files_of row) (input.new ≡ input.old) }
+    ensures read { result ≡ Status.Done → (row : Row) → Asks (texts words.now) row → IsSome (input_of row) → IsAtEnd (I.left input.new) }
 {
     by_row::<M, F, I, O>(alloc, words, files, input, out)
 }
 
 /// The same, by the row of the table that the words are in.
-fn by_row<M: Boot, F: Files, I: Source, O: Sink>(
+fn by_row<M: Boot + Reset, F: Files, I: Source, O: Sink>(
     alloc: Global,
     words: &[String],
     files: &mut F,
@@ -108,6 +114,8 @@ fn by_row<M: Boot, F: Files, I: Source, O: Sink>(
     ensures answers { Answers (call M.tells (reading F.held F.faults F.asked files.old files.new) (drawing I.left I.faults input.old input.new) (writing O.taken O.faults out.old out.new)) (texts words.now) result }
     ensures unread { result ≡ Status.Usage → files.new ≡ files.old }
     ensures undrawn { LeaveInput (texts words.now) → input.new ≡ input.old }
+    ensures drawn { (row : Row) → Asks (texts words.now) row → DrawnBehind (F.held files.old) (files_of row) (input.new ≡ input.old) }
+    ensures read { result ≡ Status.Done → (row : Row) → Asks (texts words.now) row → IsSome (input_of row) → IsAtEnd (I.left input.new) }
 {
     match read_words(words) {
         None => Status::Usage,
@@ -116,7 +124,7 @@ fn by_row<M: Boot, F: Files, I: Source, O: Sink>(
 }
 
 /// Does what a command asks.
-fn by_command<M: Boot, F: Files, I: Source, O: Sink>(
+fn by_command<M: Boot + Reset, F: Files, I: Source, O: Sink>(
     alloc: Global,
     command: Command<'_>,
     files: &mut F,
@@ -127,6 +135,8 @@ fn by_command<M: Boot, F: Files, I: Source, O: Sink>(
     ensures ends { RowEnds (call M.tells (reading F.held F.faults F.asked files.old files.new) (drawing I.left I.faults input.old input.new) (writing O.taken O.faults out.old out.new)) (row_of command.entry) result }
     ensures asked { AsksFiles (reading F.held F.faults F.asked files.old files.new) [] (files_of (row_of command.entry)) }
     ensures undrawn { input_of (row_of command.entry) ≡ None → input.new ≡ input.old }
+    ensures drawn { DrawnBehind (F.held files.old) (files_of (row_of command.entry)) (input.new ≡ input.old) }
+    ensures read { OnOk result (IsSome (input_of (row_of command.entry)) → IsAtEnd (I.left input.new)) }
 {
     match command {
         Command::Run(asked) => run::<M, F, O>(alloc, asked, files, out),
@@ -137,6 +147,7 @@ fn by_command<M: Boot, F: Files, I: Source, O: Sink>(
         Command::Asm(asked) => asm(alloc, asked, files, out),
         Command::Link(asked) => link(alloc, asked, files, out),
         Command::Dis(asked) => dis(alloc, asked, files, out),
+        Command::Debug(asked) => debug::<M, F, I, O>(alloc, asked, files, input, out),
         Command::Gen(asked) => generate(alloc, asked, out),
         Command::Soak(asked) => soak::<M, O>(alloc, asked, out),
         Command::Migrate(asked) => migrate(alloc, asked, files, out),

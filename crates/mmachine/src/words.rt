@@ -1,6 +1,6 @@
 // The words of the command line, by the table of commands.
 ghost use Rattle.std.specs.Prelude.{◌≡◌, ◌≢◌, ◌≤◌, MatchOption, ℕ, Bool, List, Option, decimal};
-ghost use Rattle.mmachine.specs.Table.{InNoRow, Asks, AreTexts, IsCounted, behind, run, solo, grants, extract, asm, link, dis, gen, soak, migrate, mode_text, texts, row_of};
+ghost use Rattle.mmachine.specs.Table.{InNoRow, Asks, AreTexts, IsCounted, behind, run, solo, grants, extract, asm, link, dis, debug, gen, soak, migrate, mode_text, texts, row_of};
 
 use crate::group_list::read_groups;
 use arrayvec::ArrayVec;
@@ -24,6 +24,8 @@ pub enum Command<'a> {
     Link(LinkWords<'a>),
     /// `dis OBJECT`
     Dis(DisWords<'a>),
+    /// `debug IMAGE [SCHEDULE]`
+    Debug(DebugWords<'a>),
     /// `gen NUMBER SIZE`
     Gen(GenWords),
     /// `soak NUMBER SIZE CYCLES`
@@ -81,6 +83,13 @@ pub struct DisWords<'a> {
     pub object: &'a str,
 }
 
+/// `IMAGE [SCHEDULE]`
+#[derive(Clone, Copy)]
+pub struct DebugWords<'a> {
+    pub image: &'a str,
+    pub schedule: Option<&'a str>,
+}
+
 /// `NUMBER SIZE`
 #[derive(Clone, Copy)]
 pub struct GenWords {
@@ -128,6 +137,7 @@ pub fn read_words(words: &[String]) -> Option<Command<'_>>
         "asm" => Some(Command::Asm(read_asm_words(rest)?)),
         "link" => Some(Command::Link(read_link_words(rest)?)),
         "dis" => Some(Command::Dis(read_dis_words(rest)?)),
+        "debug" => Some(Command::Debug(read_debug_words(rest)?)),
         "gen" => Some(Command::Gen(read_gen_words(rest)?)),
         "soak" => Some(Command::Soak(read_soak_words(rest)?)),
         "migrate" => Some(Command::Migrate(read_migrate_words(rest)?)),
@@ -228,6 +238,23 @@ fn read_dis_words(rest: &[String]) -> Option<DisWords<'_>>
     match rest {
         [object] => Some(DisWords {
             object: object.as_str(),
+        }),
+        _ => None,
+    }
+}
+
+fn read_debug_words(rest: &[String]) -> Option<DebugWords<'_>>
+    ensures { MatchOption result ((image : List ℕ) (schedule : Option (List ℕ)) → ¬ AreTexts (texts rest.now) (behind (debug image schedule)))
+        (λ words. AreTexts (texts rest.now) (behind (row_of (Command.Debug words)))) }
+{
+    match rest {
+        [image] => Some(DebugWords {
+            image: image.as_str(),
+            schedule: None,
+        }),
+        [image, schedule] => Some(DebugWords {
+            image: image.as_str(),
+            schedule: Some(schedule.as_str()),
         }),
         _ => None,
     }

@@ -3,7 +3,7 @@ use Rattle.mm_model.specs.State.{State}
 use Rattle.mm_model.specs.Run.{next_running}
 use Rattle.mm_machine.specs.Machine.{state_of, StandsFor}
 use Rattle.mmachine.proofs.Rounds.{after_cycles, one_more, robin_step, robin_over, robin_ends, robin_done}
-use Rattle.mmachine.proofs.Running.{next_is, none_is, zero_of}
+use Rattle.mm_debug.proofs.Running.{next_is, none_is, zero_of}
 use Rattle.mmachine.proofs.cycles.round_robin.Goals as goal
 
 pub loop-preserved : goal.loop-preserved

@@ -1,9 +1,9 @@
-use Rattle.std.proofs.Common.{◌≡◌, ℕ, List, Some, Err, inl, inr, ap, ◌∙◌, subst}
+use Rattle.std.proofs.Common.{◌≡◌, ℕ, List, Some, Err, ap, ◌∙◌, subst}
 use Rattle.mm_object.specs.Faults.{object_fault}
 use Rattle.mm_object.specs.declared.fault.ObjectError.{ObjectError}
 use Rattle.mm_object.specs.Answers.{number_of}
 use Rattle.mmachine.specs.declared.status.Refusal.TheVariants as refusal
-use Rattle.mmachine.proofs.Reading.{asks_one}
+use Rattle.mmachine.proofs.Reading.{refused_file}
 use Rattle.mmachine.proofs.load.load_object.Goals as goal
 
 pub returns-in-Err-Fault-clause-read : goal.returns-in-Err-Fault-clause-read
@@ -11,22 +11,6 @@ returns-in-Err-Fault-clause-read g c before counted =
     let fault = c.in-Err-Fault.fault in
     let offset = c.in-Err-Fault.offset in
     let P : List ℕ → Type 0 = λ bytes. object_fault bytes ≡ Some (number_of fault, offset) in
-    record {
-      accepted = tt;
-      stopped = inl (
-          inr (
-          record {
-            bytes = c.in_ok-bytes.bytes.items;
-            holds = c.in_ok-bytes.ensures.bytes;
-            short = c.in_ok-bytes.ensures.short;
-            fault = (
-              fault,
-              offset,
-              ap (λ (n : ℕ). refusal.Object n fault offset) counted,
-              subst P c.deref.ensures.value (c.read.ensures.fault fault offset (c.in-Err-Fault.is ∙ ap (λ (e : ObjectError). Err e) c.in-Err-Fault.field-0-is)),
-            );
-          }
-          )
-          );
-      asked = asks_one c.read_file.ensures.asks.times c.read_file.ensures.asks.asks;
-    }
+    let says = subst P c.deref.ensures.value (c.read.ensures.fault fault offset (c.in-Err-Fault.is ∙ ap (λ (e : ObjectError). Err e) c.in-Err-Fault.field-0-is)) in
+    refused_file _ _ c.in_ok-bytes.ensures.bytes c.in_ok-bytes.ensures.short (fault, offset, ap (λ (n : ℕ). refusal.Object n fault offset) counted, says)
+    c.read_file.ensures.asks.asks

@@ -1,5 +1,5 @@
 use Rattle.std.proofs.Common.{codes, sym, ◌∙◌, arith}
-use Rattle.mmachine.proofs.WordsBehind.{in_no_row, no_run, no_trace, no_solo, no_grants, no_extract, no_asm, no_link, no_dis, no_gen, no_soak, no_migrate}
+use Rattle.mmachine.proofs.WordsBehind.{in_no_row, no_run, no_trace, no_solo, no_grants, no_extract, no_asm, no_link, no_dis, no_debug, no_gen, no_soak, no_migrate}
 use Rattle.mmachine.proofs.words.read_words.Goals as goal
 
 pub returns-in_err-read_run_words-in-run : goal.returns-in_err-read_run_words-in-run
@@ -55,6 +55,12 @@ returns-in_err-read_dis_words-in-dis c =
     rw c.from_residual-in_err-read_dis_words-in-dis.ensures
     (in_no_row c.args.words.now c.word-item.result (codes "dis") (omega arith) c.word-item.is (sym c.as_str.ensures.value ∙ c.in-dis.is)
     (no_dis _ c.in_err-read_dis_words-in-dis.ensures))
+
+pub returns-in_err-read_debug_words-in-debug : goal.returns-in_err-read_debug_words-in-debug
+returns-in_err-read_debug_words-in-debug c =
+    rw c.from_residual-in_err-read_debug_words-in-debug.ensures
+    (in_no_row c.args.words.now c.word-item.result (codes "debug") (omega arith) c.word-item.is (sym c.as_str.ensures.value ∙ c.in-debug.is)
+    (no_debug _ c.in_err-read_debug_words-in-debug.ensures))
 
 pub returns-in_err-read_gen_words-in-gen : goal.returns-in_err-read_gen_words-in-gen
 returns-in_err-read_gen_words-in-gen c =

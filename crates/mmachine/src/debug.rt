@@ -1,0 +1,52 @@
+// `debug`: a session of an image, and the replies to the lines of standard input.
+ghost use Rattle.std.specs.Prelude.{◌≡◌, [], OnOk};
+ghost use Rattle.std.specs.Io.KnownBytes.{IsAtEnd};
+ghost use Rattle.mmachine.specs.Files.{AsksFiles, DrawnBehind, reading, drawing};
+ghost use Rattle.mmachine.specs.Table.{files_of, row_of};
+ghost use Rattle.mmachine.specs.Commands.{replies_to};
+ghost use Rattle.mmachine.specs.Answers.{RowEnds, EndsWith, call, writing};
+
+use crate::load::{boot, load_image, load_input, load_order};
+use crate::status::{Stop, ended};
+use crate::words::{Command, DebugWords};
+use mm_debug::Session;
+use mm_image::Image;
+use mm_io::{Files, Sink, Source};
+use mm_machine::Machine;
+use mm_mem::{Boot, Reset};
+use mm_sched::Order;
+use std::alloc::Global;
+
+/// `debug IMAGE [SCHEDULE]`
+pub fn debug<M: Boot + Reset, F: Files, I: Source, O: Sink>(
+    alloc: Global,
+    asked: DebugWords<'_>,
+    files: &mut F,
+    input: &mut I,
+    out: &mut O,
+) -> Result<(), Stop>
+    ensures ends { RowEnds (call M.tells (reading F.held F.faults F.asked files.old files.new) (drawing I.left I.faults input.old input.new) (writing O.taken O.faults out.old out.new)) (row_of (Command.Debug asked.entry)) result }
+    ensures asked { AsksFiles (reading F.held F.faults F.asked files.old files.new) [] (files_of (row_of (Command.Debug asked.entry))) }
+    ensures drawn { DrawnBehind (F.held files.old) (files_of (row_of (Command.Debug asked.entry))) (input.new ≡ input.old) }
+    ensures read { OnOk result (IsAtEnd (I.left input.new)) }
+{
+    let image = load_image(alloc, files, asked.image, 1)?;
+    let order = load_order(alloc, files, asked.schedule, 2)?;
+    let lines = load_input(alloc, input)?;
+    write_replies::<M, O>(alloc, &image, order, &lines, out)
+}
+
+/// Writes the replies to the lines of an input, in a session of an image under an order.
+fn write_replies<M: Boot + Reset, O: Sink>(
+    alloc: Global,
+    image: &Image,
+    order: Order,
+    lines: &[u8],
+    out: &mut O,
+) -> Result<(), Stop>
+    ensures { EndsWith (writing O.taken O.faults out.old out.new) (λ text. text ≡ replies_to image.now order lines.now) result }
+{
+    let machine: Machine<M> = boot(alloc, image)?;
+    let mut session = Session::new(machine, order);
+    ended(session.lines(lines, out))
+}
