@@ -12,6 +12,10 @@ marks = [f"break 0 {CODE + 64 + 8 * k}" for k in range(MARKS)]
 marks += [f"watch {DATA + 512 + 8 * k}" for k in range(MARKS)]
 
 
+# breaks at the spots of the addresses of the loop, so that each is looked for at each cycle
+spots = [f"break 0 {CODE + 8192 * (k + 1) + 8 * (k % 4)}" for k in range(MARKS)] + marks[MARKS:]
+
+
 def text(lines):
     return "".join(line + "\n" for line in lines)
 
@@ -19,6 +23,7 @@ def text(lines):
 inputs = {
     "run.txt": text(["run"]),
     "marks.txt": text(marks + ["run"]),
+    "spots.txt": text(spots + ["run"]),
     "steps.txt": text(["step 1"] * 100_000),
     "half.txt": text(["step 1"] * 50_000),
     "words.txt": text([f"mem {CODE} 64"] * 50_000),
