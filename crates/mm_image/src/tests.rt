@@ -82,6 +82,100 @@ fn cut_short(rt: HostRuntime) -> Result<(), Fail> {
     Ok(())
 }
 
+/// What is found in an image with one byte changed: its fault, or none where it is an image again, with one spelling.
+fn with_byte(alloc: Global, image: &[u8], at: usize, byte: u8) -> Result<Option<ImageError>, Fail> {
+    let mut bytes = Vec::from_slice(alloc, image)?;
+    *bytes.get_mut(at).ok_or("a byte of the image")? = byte;
+    match read(alloc, &bytes) {
+        Ok(image) => {
+            let written = write(alloc, &image)?;
+            if written.as_slice() == bytes.as_slice() {
+                Ok(None)
+            } else {
+                Err("the same bytes".into())
+            }
+        }
+        Err(error) => Ok(Some(error)),
+    }
+}
+
+// Each row: an image, the first and the last place of the byte that is changed, the byte written there, what is found.
+#[test]
+fn changed_bytes(rt: HostRuntime) -> Result<(), Fail> {
+    let one = smallest(rt.alloc())?;
+    let two = two_groups(rt.alloc())?;
+    for (image, first, last, byte, wanted) in [
+        // The header.
+        (&one, 0, 3, 255, fault(ImageFault::Magic, 0)),
+        (&one, 4, 5, 255, fault(ImageFault::Version, 4)),
+        (&one, 5, 5, 2, None),
+        (&one, 6, 7, 255, fault(ImageFault::Count, 6)),
+        (&one, 7, 7, 0, fault(ImageFault::Count, 6)),
+        (&one, 7, 7, 16, fault(ImageFault::Short, 158)),
+        (&one, 7, 7, 17, fault(ImageFault::Count, 6)),
+        (&one, 8, 8, 255, fault(ImageFault::Frames, 8)),
+        (&one, 9, 9, 0, fault(ImageFault::Frames, 8)),
+        (&one, 9, 9, 255, None),
+        (&one, 10, 11, 255, fault(ImageFault::Frames, 10)),
+        (&one, 11, 11, 1, fault(ImageFault::Short, 158)),
+        (&one, 12, 15, 255, fault(ImageFault::Count, 12)),
+        // Its slot.
+        (&one, 16, 16, 255, fault(ImageFault::SlotOrder, 16)),
+        (&one, 16, 16, 16, fault(ImageFault::SlotOrder, 16)),
+        (&one, 16, 17, 15, None),
+        (&one, 17, 17, 255, fault(ImageFault::Group, 17)),
+        (&one, 17, 17, 16, fault(ImageFault::Group, 17)),
+        (&one, 18, 18, 0, fault(ImageFault::Handler, 18)),
+        (&one, 18, 18, 255, None),
+        (&one, 19, 19, 255, fault(ImageFault::State, 19)),
+        (&one, 20, 20, 255, fault(ImageFault::Ip, 20)),
+        (&one, 20, 20, 0x23, fault(ImageFault::Ip, 20)),
+        (&one, 20, 20, 0x3e, fault(ImageFault::Ip, 20)),
+        (&one, 20, 20, 0x43, None),
+        (&one, 20, 20, 0x53, fault(ImageFault::Ip, 20)),
+        (&one, 21, 27, 255, None),
+        (&one, 28, 28, 255, fault(ImageFault::Pointer, 94)),
+        (&one, 29, 29, 255, fault(ImageFault::Pointer, 30)),
+        (&one, 30, 157, 255, None),
+        // Counts of the records that follow.
+        (&two, 7, 7, 1, fault(ImageFault::PageOrder, 158)),
+        (&two, 7, 7, 3, fault(ImageFault::SlotOrder, 300)),
+        (&two, 11, 11, 0, fault(ImageFault::Trailing, 300)),
+        // The first slot with the second one as its handler, and the second slot.
+        (&two, 18, 18, 1, None),
+        (&two, 158, 158, 0, fault(ImageFault::SlotOrder, 158)),
+        (&two, 158, 158, 16, fault(ImageFault::SlotOrder, 158)),
+        (&two, 158, 159, 15, None),
+        (&two, 159, 159, 16, fault(ImageFault::Group, 159)),
+        (&two, 160, 160, 0, None),
+        (&two, 160, 160, 1, fault(ImageFault::Handler, 160)),
+        (&two, 160, 160, 254, fault(ImageFault::Handler, 160)),
+        (&two, 161, 161, 1, None),
+        (&two, 161, 161, 2, fault(ImageFault::State, 161)),
+        (&two, 162, 162, 0x13, fault(ImageFault::Ip, 162)),
+        (&two, 163, 169, 255, None),
+        (&two, 170, 170, 0x80, fault(ImageFault::Pointer, 292)),
+        (&two, 171, 171, 0x02, fault(ImageFault::Pointer, 180)),
+        (&two, 172, 299, 255, None),
+        // The page: its number, tags, full cells and words.
+        (&two, 300, 302, 4, fault(ImageFault::PageOrder, 300)),
+        (&two, 302, 302, 3, None),
+        (&two, 303, 307, 255, None),
+        (&two, 308, 308, 0x01, fault(ImageFault::Pointer, 436)),
+        (&two, 308, 308, 0x02, None),
+        (&two, 308, 308, 0x04, fault(ImageFault::Pointer, 452)),
+        (&two, 371, 371, 0x80, fault(ImageFault::Pointer, 4524)),
+        (&two, 372, 435, 0, None),
+        (&two, 436, 4531, 255, None),
+    ] {
+        for at in first..=last {
+            let found = with_byte(rt.alloc(), image, at, byte)?;
+            assert_eq!(rt; found, wanted, "byte {at} as {byte}");
+        }
+    }
+    Ok(())
+}
+
 /// So many slots, each with the next one as its handler.
 fn many_slots(alloc: Global, count: u8) -> Result<Vec<Slot>, Fail> {
     let code = mm_word::setptr(CODE).ok().ok_or("a pointer")?;

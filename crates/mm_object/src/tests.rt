@@ -127,6 +127,10 @@ fn an_object_of_all_parts(rt: HostRuntime) -> Result<(), Fail> {
     assert_eq!(rt; again.threads().len(), 1);
     let written = write(rt.alloc(), &again)?;
     assert!(rt; written.as_slice() == bytes.as_slice());
+    for k in 0..bytes.len() {
+        let found = fault_of(rt.alloc(), &bytes[..k]);
+        assert_eq!(rt; found, fault(ObjectFault::Short, k as u64), "{k} bytes");
+    }
     Ok(())
 }
 

@@ -31,6 +31,18 @@ const ALONE_1: &[u8] =
 const BOTH: &[u8] =
     b"cycles 7\ngroup 0 output 2\no 4141\nslot 0 turns 4 running ip p3300000000100000\nr 1 i0000000000000041\ngroup 1 output 2\no 4242\nslot 1 turns 3 running ip p3300000000100008\nr 1 i0000000000000042\ncounts hits 6 misses 1 writebacks 0 tlb_hits 0 tlb_misses 1 reads 1 writes 0\n";
 
+// A source of two lines, and its object.
+const SOURCE: &[u8] = b".segment a 3\nhalt\n";
+
+const HALT: &[u8] =
+    b"MMO1\x00\x01\x00\x01\x00\x00\x00\x00\x00\x00\x00\x00\x01a\x03\x00\x00\x00\x01\x01\x00\x00\x00\x00\x00\x00\x00\x00";
+
+// The canonical text of that object.
+const HALT_AGAIN: &[u8] = b".spare 0\n.segment a 3\nhalt\n";
+
+// The least generated image after three cycles.
+const SOAKED: &[u8] = b"cycles 3\nslot 0 turns 3 running out 1 xor i14057b7ef767814f\n";
+
 /// The image of `examples/hello.img`.
 fn hello(rt: &HostRuntime) -> Result<Vec<u8>, Fail> {
     hello_as(rt, 1, 0)
@@ -56,11 +68,15 @@ fn hello_as(rt: &HostRuntime, version: u8, mode: u8) -> Result<Vec<u8>, Fail> {
 
 /// Two slots of two groups, which put out a byte of their own again and again. The first has this handler.
 fn pair(rt: &HostRuntime, handler: u8) -> Result<Vec<u8>, Fail> {
-    let mut bytes = Vec::from_slice(
-        rt.alloc(),
-        b"MMI1\x00\x01\x00\x02\x00\x01\x00\x01\x00\x00\x00\x00",
-    )?;
-    for (number, handler, byte) in [(0, handler, 0x41), (1, 0xff, 0x42)] {
+    putting(rt, &[(0, handler, 0x41), (1, 0xff, 0x42)])
+}
+
+/// Slots of these numbers and handlers, which put out these bytes again and again. Each has a group of its own, of its number.
+fn putting(rt: &HostRuntime, slots: &[(u8, u8, u8)]) -> Result<Vec<u8>, Fail> {
+    let mut bytes = Vec::from_slice(rt.alloc(), b"MMI1\x00\x01")?;
+    bytes.extend_from_slice(&(slots.len() as u64).to_be_bytes()[6..])?;
+    bytes.extend_from_slice(b"\x00\x01\x00\x01\x00\x00\x00\x00")?;
+    for &(number, handler, byte) in slots {
         bytes.extend_from_slice(&[number, number, handler, 0])?;
         bytes.extend_from_slice(&0x3300_0000_0010_0000_u64.to_be_bytes())?;
         bytes.extend_from_slice(&[0; 17])?;
@@ -73,6 +89,63 @@ fn pair(rt: &HostRuntime, handler: u8) -> Result<Vec<u8>, Fail> {
     bytes.extend_from_slice(&0x0701_0000_0000_0000_u64.to_be_bytes())?;
     bytes.extend_from_slice(&0x4000_0000_ffff_ffff_u64.to_be_bytes())?;
     bytes.extend_from_slice(&[0; 4080])?;
+    Ok(bytes)
+}
+
+/// The object of `examples/hello.asm`.
+fn hello_object(rt: &HostRuntime) -> Result<Vec<u8>, Fail> {
+    let mut bytes = Vec::from_slice(
+        rt.alloc(),
+        b"MMO1\x00\x01\x00\x01\x00\x00\x00\x00\x00\x01\x00\x00",
+    )?;
+    // The segment of 2^12 bytes: three full words.
+    bytes.extend_from_slice(b"\x05hello\x0c\x00\x00\x00\x03\x07")?;
+    bytes.extend_from_slice(&0x0210_0000_0000_0041_u64.to_be_bytes())?;
+    bytes.extend_from_slice(&0x0701_0000_0000_0000_u64.to_be_bytes())?;
+    bytes.extend_from_slice(&[0; 8])?;
+    // Slot 0 of group 0, with no handler: it executes as a user from the start of the segment.
+    bytes.extend_from_slice(b"\x00\x00\xff\x03")?;
+    bytes.extend_from_slice(&[0; 136])?;
+    Ok(bytes)
+}
+
+/// The generated image of number 0 with one slot.
+fn generated(rt: &HostRuntime) -> Result<Vec<u8>, Fail> {
+    let mut bytes = Vec::from_slice(
+        rt.alloc(),
+        b"MMI1\x00\x01\x00\x01\x00\x02\x00\x02\x00\x00\x00\x00",
+    )?;
+    // Slot 0 of group 0, with no handler, running, and register 1 a pointer to page 0x101.
+    bytes.extend_from_slice(b"\x00\x00\xff\x00")?;
+    bytes.extend_from_slice(&0x3300_0000_0010_0000_u64.to_be_bytes())?;
+    bytes.extend_from_slice(&[0, 2, 0, 0, 0, 0, 0, 0, 0, 0])?;
+    bytes.extend_from_slice(&0x2300_0000_0010_1000_u64.to_be_bytes())?;
+    bytes.extend_from_slice(&[0; 112])?;
+    // Page 0x100: the loop that goes over the data.
+    bytes.extend_from_slice(&0x100_u64.to_be_bytes())?;
+    bytes.extend_from_slice(&[0; 64])?;
+    bytes.extend_from_slice(&[0xff; 64])?;
+    for word in [
+        0x3021_0000_0000_0000_u64,
+        0x1733_2000_0000_0000,
+        0x0703_0000_0000_0000,
+        0x2111_0000_0000_0008,
+        0x4000_0000_ffff_fffc,
+    ] {
+        bytes.extend_from_slice(&word.to_be_bytes())?;
+    }
+    bytes.extend_from_slice(&[0; 4056])?;
+    // Page 0x101: the numbers behind 0.
+    bytes.extend_from_slice(&0x101_u64.to_be_bytes())?;
+    bytes.extend_from_slice(&[0; 64])?;
+    bytes.extend_from_slice(&[0xff; 64])?;
+    let mut number = 0_u64;
+    for _ in 0..512 {
+        number = number
+            .wrapping_mul(0x5851_f42d_4c95_7f2d)
+            .wrapping_add(0x1405_7b7e_f767_814f);
+        bytes.extend_from_slice(&number.to_be_bytes())?;
+    }
     Ok(bytes)
 }
 
@@ -124,19 +197,43 @@ fn answer_to<I: Source>(
     Ok((status, out, diag))
 }
 
+/// The files that the tables of commands name, which move so many bytes in a call. The call of this number fails.
+fn shelf(rt: &HostRuntime, fails: u64, piece: usize) -> Result<MemFiles, Fail> {
+    let mut held = Vec::new(rt.alloc());
+    held.push((String::from_str(rt.alloc(), "HELLO")?, hello(rt)?))?;
+    held.push((String::from_str(rt.alloc(), "PAIR")?, pair(rt, 0xff)?))?;
+    held.push((
+        String::from_str(rt.alloc(), "HELLO_OBJECT")?,
+        hello_object(rt)?,
+    ))?;
+    for (name, bytes) in [
+        ("SCHEDULE", b"0*2 5".as_slice()),
+        ("TURNS", TURNS.as_bytes()),
+        ("SOURCE", SOURCE),
+        ("OBJECT", HALT),
+    ] {
+        let bytes = Vec::from_slice(rt.alloc(), bytes)?;
+        held.push((String::from_str(rt.alloc(), name)?, bytes))?;
+    }
+    let fails = vec![in rt.alloc(); fails]?;
+    Ok(MemFiles::new(held, fails, piece.max(1)))
+}
+
 // The same text in whatever pieces the files are read.
 #[test]
 fn runs(rt: HostRuntime) -> Result<(), Fail> {
-    for piece in [1, 4096] {
-        let held = files(&rt, hello(&rt)?, "0*2 5", piece)?;
-        let (status, out, diag) = answer(&rt, &["run", "IMAGE", "10"], held)?;
-        assert!(rt; matches!(status, Status::Done));
-        assert_eq!(rt; out.taken(), HELLO);
-        assert_eq!(rt; diag.taken().len(), 0);
-        let held = files(&rt, hello(&rt)?, "0*2 5", piece)?;
-        let (status, out, _) = answer(&rt, &["run", "IMAGE", "10", "SCHEDULE"], held)?;
-        assert!(rt; matches!(status, Status::Done));
-        assert_eq!(rt; out.taken(), UNDER_A_SCHEDULE);
+    let rows: [(&[&str], &[u8]); 3] = [
+        (&["run", "HELLO", "10"], HELLO),
+        (&["run", "HELLO", "10", "SCHEDULE"], UNDER_A_SCHEDULE),
+        (&["run", "PAIR", "100", "TURNS"], BOTH),
+    ];
+    for (words, text) in rows {
+        for piece in [1, 4096] {
+            let (status, out, diag) = answer(&rt, words, shelf(&rt, 0, piece)?)?;
+            assert!(rt; matches!(status, Status::Done));
+            assert_eq!(rt; out.taken(), text);
+            assert_eq!(rt; diag.taken().len(), 0);
+        }
     }
     Ok(())
 }
@@ -177,6 +274,10 @@ fn solos(rt: HostRuntime) -> Result<(), Fail> {
 const REACH_0: &str = "group 0 user\ntouch 00000000100000 12\n";
 
 const REACH_1: &str = "group 1 user\ntouch 00000000100000 12\n";
+
+// What the audit writes of both groups.
+const REACH: &[u8] =
+    b"group 0 user\ntouch 00000000100000 12\napart 0 yes\ngroup 1 user\ntouch 00000000100000 12\napart 1 yes\n";
 
 // What each of two groups can reach, with its own answer, or with that of both together.
 #[test]
@@ -238,14 +339,12 @@ fn migrates(rt: HostRuntime) -> Result<(), Fail> {
 // Texts and their objects, and texts that mean none.
 #[test]
 fn assembles(rt: HostRuntime) -> Result<(), Fail> {
-    let halt: &[u8] =
-        b"MMO1\x00\x01\x00\x01\x00\x00\x00\x00\x00\x00\x00\x00\x01a\x03\x00\x00\x00\x01\x01\x00\x00\x00\x00\x00\x00\x00\x00";
     // Two names that the text does not have, in the order of their bytes, and two words that become pointers to them.
     let pointers: &[u8] =
         b"MMO1\x00\x01\x00\x01\x00\x02\x00\x02\x00\x00\x00\x02\x01a\x05\x00\x00\x00\x02\x01\x00\x00\x00\x00\x00\x00\x00\x00\x00\x00\x00\x00\x00\x00\x00\x00\x01b\x01z\x00\x00\x00\x00\x00\x00\x01\x00\x02\x00\x00\x00\x00\x00\x00\x00\x00\x00\x01\x02\x00\x01\x00\x00\x00\x05";
     for (text, object) in [
-        (".segment a 3\nhalt\n", halt),
-        (".segment a 3\r\nhalt", halt),
+        (".segment a 3\nhalt\n", HALT),
+        (".segment a 3\r\nhalt", HALT),
         (
             ".spare 2\n.segment a 5\n.ptr ro z\n.empty .ptr rw b + 5",
             pointers,
@@ -298,8 +397,9 @@ const LINES: &[u8] = b"step 1\nregs 0\nmem 0x100000 1\njump\nquit\n";
 const REPLIES: &[u8] =
     b"stepped 1 total 1\nslot 0 turns 1 running ip p3300000000100008\nr 1 i0000000000000041\ncell 00000000100000 i0210000000000041 full\nbad command\nbye\n";
 
-/// These lines, of which a read gives at most ten bytes. The reads of these numbers fail.
-fn lines(rt: &HostRuntime, fails: Vec<u64>) -> Result<MemSource, Fail> {
+/// These lines, of which a read gives at most ten bytes. The read of this number fails.
+fn lines(rt: &HostRuntime, fails: u64) -> Result<MemSource, Fail> {
+    let fails = vec![in rt.alloc(); fails]?;
     Ok(MemSource::new(Vec::from_slice(rt.alloc(), LINES)?, fails, 10))
 }
 
@@ -307,25 +407,11 @@ fn lines(rt: &HostRuntime, fails: Vec<u64>) -> Result<MemSource, Fail> {
 #[test]
 fn debugs(rt: HostRuntime) -> Result<(), Fail> {
     let held = files(&rt, hello(&rt)?, "", 4096)?;
-    let mut input = lines(&rt, Vec::new(rt.alloc()))?;
+    let mut input = lines(&rt, 0)?;
     let (status, out, diag) = answer_to(&rt, &["debug", "IMAGE"], held, &mut input)?;
     assert!(rt; matches!(status, Status::Done));
     assert_eq!(rt; out.taken(), REPLIES);
     assert_eq!(rt; diag.taken().len(), 0);
-    Ok(())
-}
-
-// Each of the five reads of standard input fails in turn, the last of them at its end.
-#[test]
-fn failing_input(rt: HostRuntime) -> Result<(), Fail> {
-    for read in 1..=5 {
-        let held = files(&rt, hello(&rt)?, "", 4096)?;
-        let mut input = lines(&rt, vec![in rt.alloc(); read]?)?;
-        let (status, out, diag) = answer_to(&rt, &["debug", "IMAGE"], held, &mut input)?;
-        assert!(rt; matches!(status, Status::ReadFault));
-        assert_eq!(rt; out.taken().len(), 0);
-        assert_eq!(rt; diag.taken(), b"mmachine: read fault\n".as_slice());
-    }
     Ok(())
 }
 
@@ -341,21 +427,126 @@ fn long_input(rt: HostRuntime) -> Result<(), Fail> {
     Ok(())
 }
 
-// A sink whose third write fails has a front part of the text.
-#[test]
-fn failing_third_write(rt: HostRuntime) -> Result<(), Fail> {
-    let mut out = MemSink::new(rt.alloc(), 10_000, vec![in rt.alloc(); 3]?, 10)?;
-    let mut diag = MemSink::new(rt.alloc(), 0, Vec::new(rt.alloc()), 7)?;
+/// The answer to the words, with what the sinks took, where the calls of these numbers fail: of the files, of standard input, of `out`
+/// and of `diag`. None fails for a number 0.
+fn attempt(
+    rt: &HostRuntime,
+    words: &[&str],
+    fails: [u64; 4],
+) -> Result<(Status, MemSink, MemSink), Fail> {
+    let [read, draw, write, line] = fails;
+    let mut out = MemSink::new(rt.alloc(), 10_000, vec![in rt.alloc(); write]?, 16)?;
+    let mut diag = MemSink::new(rt.alloc(), 100, vec![in rt.alloc(); line]?, 7)?;
     let status = mmachine::<VMem, _, _, _, _>(
         rt.alloc(),
-        &strings(&rt, &["run", "IMAGE", "10"])?,
-        &mut files(&rt, hello(&rt)?, "", 4096)?,
-        &mut SureSource::new(Vec::new(rt.alloc())),
+        &strings(rt, words)?,
+        &mut shelf(rt, read, 1024)?,
+        &mut lines(rt, draw)?,
         &mut out,
         &mut diag,
     );
-    assert!(rt; matches!(status, Status::WriteFault));
-    assert_eq!(rt; out.taken(), &HELLO[..20]);
+    Ok((status, out, diag))
+}
+
+/// Whether nothing but the line is written where a read fails.
+fn stops_at_read(rt: &HostRuntime, words: &[&str], fails: [u64; 4]) -> Result<bool, Fail> {
+    let (status, out, diag) = attempt(rt, words, fails)?;
+    Ok(
+        matches!(status, Status::ReadFault)
+            && out.taken().is_empty()
+            && diag.taken() == b"mmachine: read fault\n".as_slice(),
+    )
+}
+
+/// Whether `out` has a front part of the text, of whole pieces, where the write behind so many others fails.
+fn stops_at_write(
+    rt: &HostRuntime,
+    words: &[&str],
+    before: u16,
+    text: &[u8],
+) -> Result<bool, Fail> {
+    let (status, out, diag) = attempt(rt, words, [0, 0, before as u64 + 1, 0])?;
+    Ok(
+        matches!(status, Status::WriteFault)
+            && text.starts_with(out.taken())
+            && out.taken().len().div_ceil(16) == before as usize
+            && diag.taken() == b"mmachine: write fault\n".as_slice(),
+    )
+}
+
+/// Whether the whole text is written where no call fails.
+fn ends(rt: &HostRuntime, words: &[&str], fails: [u64; 4], text: &[u8]) -> Result<bool, Fail> {
+    let (status, out, diag) = attempt(rt, words, fails)?;
+    Ok(matches!(status, Status::Done) && out.taken() == text && diag.taken().is_empty())
+}
+
+/// Whether it is so for each call that the words make: so many reads of files, reads of standard input and writes. A failing call that
+/// they do not make changes nothing.
+fn fails_in_turn(
+    rt: &HostRuntime,
+    words: &[&str],
+    calls: [u16; 3],
+    text: &[u8],
+) -> Result<bool, Fail> {
+    let [reads, draws, writes] = calls;
+    let behind = [reads as u64 + 1, draws as u64 + 1, writes as u64 + 1, 1];
+    let mut holds = ends(rt, words, behind, text)?;
+    for read in 1..=reads {
+        holds &= stops_at_read(rt, words, [read as u64, 0, 0, 0])?;
+    }
+    for draw in 1..=draws {
+        holds &= stops_at_read(rt, words, [0, draw as u64, 0, 0])?;
+    }
+    for before in 0..writes {
+        holds &= stops_at_write(rt, words, before, text)?;
+    }
+    Ok(holds)
+}
+
+// Each command that writes a text, and `asm`.
+#[test]
+fn each_call_fails(rt: HostRuntime) -> Result<(), Fail> {
+    let rows: [(&[&str], [u16; 3], &[u8]); 11] = [
+        (&["run", "HELLO", "10"], [6, 0, 11], HELLO),
+        (
+            &["run", "HELLO", "10", "SCHEDULE"],
+            [8, 0, 11],
+            UNDER_A_SCHEDULE,
+        ),
+        (&["trace", "HELLO", "2"], [6, 0, 15], TWO_CYCLES),
+        (&["trace", "PAIR", "100", "TURNS"], [8, 0, 31], TRACE_OF_TWO),
+        (&["solo", "PAIR", "0", "100", "TURNS"], [8, 0, 11], ALONE_0),
+        (&["grants", "PAIR"], [6, 0, 7], REACH),
+        (&["asm", "SOURCE"], [2, 0, 2], HALT),
+        (&["dis", "OBJECT"], [2, 0, 2], HALT_AGAIN),
+        (&["debug", "HELLO"], [6, 5, 9], REPLIES),
+        (&["debug", "HELLO", "SCHEDULE"], [8, 5, 9], REPLIES),
+        (&["soak", "0", "1", "3"], [0, 0, 4], SOAKED),
+    ];
+    for (words, calls, text) in rows {
+        assert!(rt; fails_in_turn(&rt, words, calls, text)?, "{words:?}");
+    }
+    Ok(())
+}
+
+// Each command that writes an image.
+#[test]
+fn each_write_of_an_image_fails(rt: HostRuntime) -> Result<(), Fail> {
+    let alone = putting(&rt, &[(0, 0xff, 0x41)])?;
+    assert!(rt; fails_in_turn(&rt, &["extract", "PAIR", "0"], [6, 0, 275], &alone)?);
+    assert!(rt; fails_in_turn(&rt, &["link", "HELLO_OBJECT"], [2, 0, 275], &hello(&rt)?)?);
+    assert!(rt; fails_in_turn(&rt, &["gen", "0", "1"], [0, 0, 539], &generated(&rt)?)?);
+    let split = hello_as(&rt, 2, 1)?;
+    assert!(rt; fails_in_turn(&rt, &["migrate", "HELLO", "split"], [6, 0, 275], &split)?);
+    Ok(())
+}
+
+// Words in no row, and no line where `diag` takes none.
+#[test]
+fn failing_line(rt: HostRuntime) -> Result<(), Fail> {
+    let (status, out, diag) = attempt(&rt, &["walk"], [0, 0, 0, 1])?;
+    assert!(rt; matches!(status, Status::Usage));
+    assert_eq!(rt; out.taken().len(), 0);
     assert_eq!(rt; diag.taken().len(), 0);
     Ok(())
 }
