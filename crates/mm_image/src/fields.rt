@@ -7,9 +7,9 @@ ghost use Rattle.mm_model.specs.Places.Place.{Field, Test};
 
 use crate::fault::{ImageError, ImageFault};
 
-/// The bytes of an image file.
+/// The bytes of an image file, or of another file with such fields, words and records of pages.
 #[derive(Clone, Copy)]
-pub(crate) struct Reader<'a> {
+pub struct Reader<'a> {
     pub bytes: &'a [u8],
 }
 

@@ -37,6 +37,7 @@ mod words;
 mod writing;
 
 pub use fault::{ImageError, ImageFault};
+pub use fields::Reader;
 pub use image::Image;
 pub use reading::read;
-pub use writing::write;
+pub use writing::{put_page, put_words, tags_of, write};

@@ -68,7 +68,12 @@ impl Reader<'_> {
     }
 
     /// So many pages, with ascending numbers, from a place on.
-    pub fn pages(&self, alloc: Global, slots: u16, count: u16) -> Result<Vec<Page>, ImageError>
+    pub(crate) fn pages(
+        &self,
+        alloc: Global,
+        slots: u16,
+        count: u16,
+    ) -> Result<Vec<Page>, ImageError>
         ensures { let bytes = self.now.bytes.now in Gives (λ pages. pages.items) (first_bad (length bytes) (pages_places bytes slots count)) (pages_at bytes slots count) result }
     {
         let start = HEADER_BYTES + SLOT_BYTES * usize::from(slots);
@@ -83,7 +88,7 @@ impl Reader<'_> {
     }
 
     /// Whether the file ends behind the last of so many slots and pages.
-    pub fn nothing_follows(&self, slots: u16, pages: u16) -> Result<(), ImageError>
+    pub(crate) fn nothing_follows(&self, slots: u16, pages: u16) -> Result<(), ImageError>
         ensures { let bytes = self.now.bytes.now in Gives (λ _. true) (first_bad (length bytes) (end_places bytes 13 (page_offset slots pages))) true result }
     {
         let end = HEADER_BYTES + SLOT_BYTES * usize::from(slots) + PAGE_BYTES * usize::from(pages);

@@ -45,7 +45,7 @@ pub(crate) fn is_bad_handler(present: &[bool; 256], slot: &Slot) -> bool
 
 impl Reader<'_> {
     /// The slot whose record begins here. Its number and group are below the limit, and its number is no less than the least.
-    pub fn slot(&self, limit: u8, least: u8, at: usize) -> Result<Slot, ImageError>
+    pub(crate) fn slot(&self, limit: u8, least: u8, at: usize) -> Result<Slot, ImageError>
         requires { at < 2 ^ 39 }
         ensures slot { let bytes = self.now.bytes.now in Gives (λ s. s) (first_bad (length bytes) (slot_record_places bytes limit least at)) (slot_record_at bytes at) result }
         ensures number { IfOk result (λ s. s.number < limit) }
@@ -83,7 +83,12 @@ impl Reader<'_> {
     }
 
     /// So many slots, with ascending numbers.
-    pub fn slots(&self, alloc: Global, version: u16, count: u16) -> Result<Vec<Slot>, ImageError>
+    pub(crate) fn slots(
+        &self,
+        alloc: Global,
+        version: u16,
+        count: u16,
+    ) -> Result<Vec<Slot>, ImageError>
         ensures slots { let bytes = self.now.bytes.now in Gives (λ slots. slots.items) (first_bad (length bytes) (slots_places bytes version count)) (slots_at bytes count) result }
         ensures count { IfOk result (λ slots. vec_len slots ≡ count) }
     {
@@ -99,7 +104,7 @@ impl Reader<'_> {
     }
 
     /// Tests the handlers of the slots.
-    pub fn handlers(&self, slots: &[Slot]) -> Result<(), ImageError>
+    pub(crate) fn handlers(&self, slots: &[Slot]) -> Result<(), ImageError>
         requires count { length slots.now < 2 ^ 16 }
         requires slots { slots.now ≡ slots_at self.now.bytes.now (length slots.now) }
         ensures { let bytes = self.now.bytes.now in Gives (λ _. true) (first_bad (length bytes) (handlers_places bytes slots.now)) true result }

@@ -94,7 +94,8 @@ fn slot_head(slot: &Slot) -> [u8; 4]
     [slot.number, slot.group, handler, state]
 }
 
-fn put_words(out: &mut Vec<u8>, words: &[Word]) -> Result<(), AllocError>
+/// Appends the 64 bits of each word.
+pub fn put_words(out: &mut Vec<u8>, words: &[Word]) -> Result<(), AllocError>
     ensures { OnOk result (out.new.items ≡ out.old.items ++ words_spelling words.now) }
 {
     for word in words {
@@ -110,8 +111,9 @@ fn put_word(out: &mut Vec<u8>, word: Word) -> Result<(), AllocError>
     Ok(())
 }
 
+/// Appends the record of a page.
 #[tactic(auto, unfolding(mm_model::specs::Spelling::page_record))]
-fn put_page(out: &mut Vec<u8>, page: &Page) -> Result<(), AllocError>
+pub fn put_page(out: &mut Vec<u8>, page: &Page) -> Result<(), AllocError>
     ensures { OnOk result (out.new.items ≡ out.old.items ++ page_record page.now) }
 {
     out.extend_from_slice(&page.number().to_be_bytes())?;
@@ -150,8 +152,8 @@ fn put_cells(out: &mut Vec<u8>, cells: &[Cell]) -> Result<(), AllocError>
     Ok(())
 }
 
-// Which of the words are pointers, the first in the lowest bit.
-fn tags_of(words: &[Word]) -> u16
+/// Which of the words are pointers, the first in the lowest bit.
+pub fn tags_of(words: &[Word]) -> u16
     requires { length words.now ≤ 16 }
     ensures value { result ≡ number_of_flags (map is_pointer words.now) }
     ensures below { result < 2 ^ length words.now }

@@ -1,13 +1,13 @@
 mod Collecting
-mod Copied
+pub mod Copied
 pub mod Keeping
-mod Outputs
+pub mod Outputs
 mod Pendings
 mod Ports
 mod Queues
 pub mod Restorable
 mod Restoring
-mod Returning
+pub mod Returning
 mod Rising
 mod Shown
 mod Starting
