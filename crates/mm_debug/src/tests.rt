@@ -1,14 +1,12 @@
-ghost use Rattle.mm_debug.specs.Standing.{Point as PointValue, CanGo};
-ghost use Rattle.mm_debug.specs.Shown.{session_of};
-
 use crate::{Go, Session};
 use arrayvec::ArrayVec;
 use mm_image::Image;
 use mm_io::{MemSink, WriteFault};
 use mm_machine::{Machine, Slot, SlotState};
-use mm_mem::{Boot, PlainMem};
+use mm_mem::{Boot, PlainMem, Reset};
 use mm_model::{CELLS, Page};
 use mm_sched::Order;
+use mm_vmem::VMem;
 use mm_word::{Cell, GuardedPtr, Perm, Word};
 use std::alloc::Global;
 use std::test::Fail;
@@ -18,6 +16,10 @@ const CODE: [u64; 2] = [0x0210_0000_0000_0041, 0x0701_0000_0000_0000];
 
 const WORKED: &[u8] =
     b"stepped 1 total 1\nslot 0 turns 1 running ip p3300000000100008\nr 1 i0000000000000041\ncell 00000000100000 i0210000000000041 full\nbad command\nbye\n";
+
+// The replies to two cycles, to a look at the start and to the same two cycles again.
+const THERE_AND_BACK: &[u8] =
+    b"stepped 2 total 2\nslot 0 turns 0 running ip p3300000000100000\nstepped 2 total 2\n";
 
 /// A page of the code, with integer zeros behind it.
 fn page(alloc: Global) -> Result<Page, Fail> {
@@ -48,13 +50,13 @@ fn slot() -> Option<Slot> {
 }
 
 /// A session of one slot, which runs the code.
-fn session(alloc: Global) -> Result<Session<PlainMem>, Fail> {
+fn session<M: Boot>(alloc: Global) -> Result<Session<M>, Fail> {
     let mut slots = Vec::new(alloc);
     slots.push(slot().ok_or("a slot")?)?;
     let mut pages = Vec::new(alloc);
     pages.push(page(alloc)?)?;
     let image = Image::new(1, false, slots, pages, 1).ok_or("an image")?;
-    let Ok(mem) = PlainMem::new(alloc, image.pages(), image.frames()) else {
+    let Ok(mem) = M::new(alloc, image.pages(), image.frames()) else {
         return Err(Fail::from("memory"));
     };
     let Ok(machine) = Machine::new(alloc, &image, mem) else {
@@ -64,9 +66,7 @@ fn session(alloc: Global) -> Result<Session<PlainMem>, Fail> {
 }
 
 /// The reply to a line.
-fn reply(session: &mut Session<PlainMem>, alloc: Global, line: &[u8]) -> Result<MemSink, Fail>
-    ensures { (p : PointValue) → CanGo (session_of session.old) p → CanGo (session_of session.new) p }
-{
+fn reply(session: &mut Session<PlainMem>, alloc: Global, line: &[u8]) -> Result<MemSink, Fail> {
     let mut out = MemSink::new(alloc, 200, Vec::new(alloc), 7)?;
     session.line(line, &mut out)?;
     Ok(out)
@@ -74,7 +74,7 @@ fn reply(session: &mut Session<PlainMem>, alloc: Global, line: &[u8]) -> Result<
 
 #[test]
 fn a_worked_session(rt: HostRuntime) -> Result<(), Fail> {
-    let mut session = session(rt.alloc())?;
+    let mut session: Session<PlainMem> = session(rt.alloc())?;
     let mut out = MemSink::new(rt.alloc(), 1000, Vec::new(rt.alloc()), 7)?;
     session.lines(
         b"step 1\nregs 0\nmem 0x100000 1\njump\nquit\nstep 1\n",
@@ -85,28 +85,33 @@ fn a_worked_session(rt: HostRuntime) -> Result<(), Fail> {
     Ok(())
 }
 
+/// The replies to two cycles, to a look at the registers once the session went back to its start, and to the same two cycles again.
+fn there_and_back<M: Boot + Reset>(alloc: Global) -> Result<MemSink, Fail> {
+    let mut session: Session<M> = session(alloc)?;
+    let Ok(point) = session.point(alloc) else {
+        return Err(Fail::from("memory"));
+    };
+    let mut out = MemSink::new(alloc, 200, Vec::new(alloc), 7)?;
+    session.line(b"step 2", &mut out)?;
+    session.go(&point);
+    session.line(b"regs 0", &mut out)?;
+    session.line(b"step 2", &mut out)?;
+    Ok(out)
+}
+
 #[test]
 fn back_to_a_point(rt: HostRuntime) -> Result<(), Fail> {
-    let mut session = session(rt.alloc())?;
-    let Ok(point) = session.point(rt.alloc()) else {
-        panic!(rt; "memory");
-    };
     assert_eq!(rt;
-        reply(&mut session, rt.alloc(), b"step 2")?.taken(),
-        b"stepped 2 total 2\n".as_slice()
+        there_and_back::<PlainMem>(rt.alloc())?.taken(),
+        THERE_AND_BACK
     );
-    session.go(&point);
-    assert_eq!(rt; session.total(), 0);
-    assert_eq!(rt;
-        reply(&mut session, rt.alloc(), b"regs 0")?.taken(),
-        b"slot 0 turns 0 running ip p3300000000100000\n".as_slice()
-    );
+    assert_eq!(rt; there_and_back::<VMem>(rt.alloc())?.taken(), THERE_AND_BACK);
     Ok(())
 }
 
 #[test]
 fn lines_and_their_replies(rt: HostRuntime) -> Result<(), Fail> {
-    let mut session = session(rt.alloc())?;
+    let mut session: Session<PlainMem> = session(rt.alloc())?;
     for (line, text) in [
         ("step 0", "bad command\n"),
         ("step 1000001", "bad command\n"),
@@ -137,7 +142,7 @@ fn lines_and_their_replies(rt: HostRuntime) -> Result<(), Fail> {
 
 #[test]
 fn breaks_and_stops(rt: HostRuntime) -> Result<(), Fail> {
-    let mut session = session(rt.alloc())?;
+    let mut session: Session<PlainMem> = session(rt.alloc())?;
     for n in 0..64u8 {
         let line = [
             b'b',
@@ -176,7 +181,7 @@ fn breaks_and_stops(rt: HostRuntime) -> Result<(), Fail> {
 
 #[test]
 fn a_line_whose_reply_is_lost(rt: HostRuntime) -> Result<(), Fail> {
-    let mut session = session(rt.alloc())?;
+    let mut session: Session<PlainMem> = session(rt.alloc())?;
     // The second write fails.
     let mut out = MemSink::new(rt.alloc(), 200, vec![in rt.alloc(); 2]?, 200)?;
     assert_eq!(rt; session.line(b"step 1", &mut out), Ok(Go::More));

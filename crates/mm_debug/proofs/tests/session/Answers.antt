@@ -6,4 +6,4 @@ use Rattle.mm_debug.proofs.tests.session.Goals as goal
 -- a machine that stands at the start of an image has done no cycle
 pub new-requires-4 : goal.new-requires-4
 unfolding start
-new-requires-4 c = ap (λ (s : State). s.cycles) c.in-Ok-new.ensures.state
+new-requires-4 g c = ap (λ (s : State). s.cycles) c.in-Ok-new.ensures.state
