@@ -1,0 +1,51 @@
+-- What holds of swept images.
+use Rattle.std.specs.Prelude.{◌≡◌, ◌↔◌, ℕ, Bool, true, List}
+use Rattle.std.specs.List.{AllByRecursion}
+use Rattle.mm_word.specs.Access.{Touch}
+use Rattle.mm_word.specs.Pointer.{Pointer, InSegment}
+use Rattle.mm_seg.specs.Segments.{IsSegment}
+use Rattle.mm_model.specs.Image.{Image, start}
+use Rattle.mm_model.specs.Spelling.{IsImage}
+use Rattle.mm_model.specs.Run.{run, turn_of}
+use Rattle.mm_model.specs.Trace.{touches}
+use Rattle.mm_model.specs.Reach.{Entries, CanTouch, CanWrite}
+use Rattle.mm_model.specs.Worlds.{Apart}
+use Rattle.mm_sweep.specs.Swept.{InRange, meets, swept}
+use Rattle.mm_sweep.specs.Refusals.{CanSweep}
+
+-- 1. What the words mean.
+
+-- an address that lies both in the pointer's segment and in the range
+pub record SharesAddress (range : ℕ × ℕ) (p : Pointer) : Type 0 where
+  pub address : ℕ
+  pub in_segment : InSegment p address
+  pub in_range : InRange range address
+
+-- a pointer's segment meets a range exactly where they share an address
+abbrev pub MeetingIsSharing : Type 0
+MeetingIsSharing = (range : ℕ × ℕ) (p : Pointer) → (meets range p ≡ true) ↔ SharesAddress range p
+
+-- 2. What sweeping does to what groups can reach.
+
+-- Of an image and another: in the other nobody reaches the range, nobody reaches more than before, and groups that stood apart stand
+-- apart; under every list of entries, and where anything may be entered.
+pub record Revokes (range : ℕ × ℕ) (i j : Image) : Type 0 where
+  pub unreached : (e : Entries) (g w : ℕ) → InRange range w → ¬ CanTouch j e g w
+  pub touch : (e : Entries) (g w : ℕ) → CanTouch j e g w → CanTouch i e g w
+  pub write : (e : Entries) (g w : ℕ) → CanWrite j e g w → CanWrite i e g w
+  pub apart : (e : Entries) (c : ℕ → Bool) → Apart i e c → Apart j e c
+
+abbrev pub SweptImagesAreImages : Type 0
+SweptImagesAreImages = (range : ℕ × ℕ) (i : Image) → IsImage i → IsImage (swept range i)
+
+-- so it is of an image and the swept image, where no instruction pointer meets the range and no group is privileged
+abbrev pub SweepingRevokes : Type 0
+SweepingRevokes = (range : ℕ × ℕ) (i : Image) → CanSweep range i → Revokes range i (swept range i)
+
+-- 3. What a run of the swept image touches.
+
+-- no access of a turn is on a word of the range
+abbrev pub SweptSilent : Type 0
+SweptSilent =
+    (range : ℕ × ℕ) (i : Image) (before : List ℕ) (n : ℕ) → IsSegment range → IsImage i → CanSweep range i
+    → AllByRecursion (λ (t : Touch). ¬ InRange range t.addr) (touches (turn_of (run (start (swept range i)) before) n).step)
