@@ -8,6 +8,7 @@ use Rattle.mm_link.specs.declared.fault.LinkFault.{LinkFault}
 use Rattle.mm_link.specs.Faults.{link_fault}
 use Rattle.mm_model.specs.Groups.{among}
 use Rattle.mm_audit.specs.Refusals.{StandAlone}
+use Rattle.mm_sweep.specs.Refusals.{CanSweep}
 use Rattle.mmachine.specs.declared.status.Refusal.{Refusal}
 use Rattle.mmachine.specs.declared.status.Refusal.TheVariants as refusal
 use Rattle.mmachine.specs.declared.status.Status.{Status}
@@ -17,11 +18,12 @@ use Rattle.mmachine.specs.declared.status.Stop.TheVariants as stop
 use Rattle.mmachine.specs.Groups.{GroupsRefused}
 use Rattle.mmachine.specs.Kinds.{Value, an_image, a_list, an_object}
 use Rattle.mmachine.specs.Files.{InputsTold}
-use Rattle.mmachine.specs.Table.{Row, solo, extract, link, files_of, input_of}
+use Rattle.mmachine.specs.Ranges.{SweepRefused}
+use Rattle.mmachine.specs.Table.{Row, solo, extract, link, sweep, files_of, input_of}
 use Rattle.mmachine.specs.Commands.{Declines, Yields, LinkRefused, IsLinked}
-use Rattle.mmachine.specs.Answers.{Answers, Call, Gives, HasToRefuse, NothingFails, RefusedUnless, RowEnds, refuse, write, status_of}
+use Rattle.mmachine.specs.Answers.{Answers, Call, Gives, HasToRefuse, ToldToRefuse, NothingFails, RefusedUnless, RowEnds, refuse, write, status_of}
 use Rattle.mmachine.proofs.OneRow.{one_row}
-use Rattle.mmachine.proofs.Told.{inputs_values, inputs_refusal, inputs_once}
+use Rattle.mmachine.proofs.Told.{inputs_values, inputs_once, told_inputs_refusal, told_inputs_once}
 
 -- 1. Groups stand alone, or have one refusal.
 
@@ -72,43 +74,72 @@ link_refusal xs ys r q same (fault, is, first) (other, also, second) =
     let one : fault ≡ other = cc in
     is ∙ ap (λ (f : LinkFault). refusal.Link f) one ∙ sym also
 
--- 3. So does a row whose inputs have some values.
+-- 3. A range can be swept, or there is one refusal.
+
+not_swept : (range : ℕ × ℕ) (i : Image) (r : Refusal) → CanSweep range i → SweepRefused range i r → ⊥
+not_swept range i (refusal.Held n) can first = can.held n first.held
+not_swept range i (refusal.Privileged g) can first = can.privileged g first.1.privileged
+not_swept range i r can refused = refused
+
+sweep_refusal : (range : ℕ × ℕ) (i : Image) (r q : Refusal) → SweepRefused range i r → SweepRefused range i q → r ≡ q
+sweep_refusal range i (refusal.Held n) (refusal.Held m) first second =
+    let same : n ≡ m = omega (arith, first.least m second.held, second.least n first.held) in
+    ap (λ (k : ℕ). refusal.Held k) same
+sweep_refusal range i (refusal.Held n) (refusal.Privileged g) first second = absurd (second.0 n first.held)
+sweep_refusal range i (refusal.Privileged g) (refusal.Held n) first second = absurd (first.0 n second.held)
+sweep_refusal range i (refusal.Privileged g) (refusal.Privileged h) first second =
+    let same : g ≡ h = omega (arith, first.1.least h second.1.privileged, second.1.least g first.1.privileged) in
+    ap (λ (k : ℕ). refusal.Privileged k) same
+sweep_refusal range i (refusal.Held n) q first second = absurd second
+sweep_refusal range i (refusal.Privileged g) q first second = absurd second
+sweep_refusal range i r q first second = absurd first
+
+-- 4. So does a row whose inputs have some values.
 
 not_both : (tells : List Use → Option Counts) (row : Row) (values : List Value) (r : Refusal) (text : List ℕ) → Declines row values r → Yields tells row values text → ⊥
 not_both tells (solo image groups cycles schedule) (an_image i ∷ a_list list ∷ []) r text declines writes = not_refused i (among groups) r writes.0 declines
 not_both tells (extract image groups) (an_image i ∷ []) r text declines writes = not_refused i (among groups) r writes.0 declines
 not_both tells (link names) values r text (xs, is, declines) (ys, also, writes) = not_linked xs ys r text (sym is ∙ also) declines writes
+not_both tells (sweep image base log) (an_image i ∷ []) r text declines writes = not_swept (base, log) i r writes.0 declines
 not_both tells row values r text declines writes = assumption (declines, writes)
 
 one_refusal : (row : Row) (values : List Value) (r q : Refusal) → Declines row values r → Declines row values q → r ≡ q
 one_refusal (solo image groups cycles schedule) (an_image i ∷ lists) r q one two = groups_refusal i (among groups) r q one two
 one_refusal (extract image groups) (an_image i ∷ []) r q one two = groups_refusal i (among groups) r q one two
 one_refusal (link names) values r q (xs, is, one) (ys, also, two) = link_refusal xs ys r q (sym is ∙ also) one two
+one_refusal (sweep image base log) (an_image i ∷ []) r q one two = sweep_refusal (base, log) i r q one two
 one_refusal row values r q one two = absurd one
 
-module _ (tells : List Use → Option Counts) (held : List ℕ → Option (List ℕ)) (left : Option (List ℕ)) (row : Row) (told : InputsTold held left (files_of row) (input_of row)) where
-  row_once : (r : Refusal) (text : List ℕ) → Gives tells held left row (refuse r) → Gives tells held left row (write text) → ⊥
-  row_once r text (inl refused) (values, accepted, writes) = inputs_once held left (files_of row) (input_of row) r values told refused accepted
-  row_once r text (inr (values, accepted, declines)) (others, also, writes) =
+module _ (tells : List Use → Option Counts) (held : List ℕ → Option (List ℕ)) (left : Option (List ℕ)) (row : Row) where
+  refused_once : (r : Refusal) (text : List ℕ) → ToldToRefuse held left row r → Gives tells held left row (write text) → ⊥
+  refused_once r text (inl refused) (values, accepted, writes) = told_inputs_once held left (files_of row) (input_of row) r values refused accepted
+  refused_once r text (inr (told, (values, accepted, declines))) (others, also, writes) =
       let same : others ≡ values = inputs_values held left (files_of row) (input_of row) others values told also accepted in
       not_both tells row values r text declines (subst (λ (vs : List Value). Yields tells row vs text) same writes)
 
-  row_refusal : (r q : Refusal) → Gives tells held left row (refuse r) → Gives tells held left row (refuse q) → r ≡ q
-  row_refusal r q (inl one) (inl two) = inputs_refusal held left (files_of row) (input_of row) r q told one two
-  row_refusal r q (inl one) (inr (values, accepted, declines)) = absurd (inputs_once held left (files_of row) (input_of row) r values told one accepted)
-  row_refusal r q (inr (values, accepted, declines)) (inl two) = absurd (inputs_once held left (files_of row) (input_of row) q values told two accepted)
-  row_refusal r q (inr (values, accepted, one)) (inr (others, also, two)) =
+  told_to_one : (r q : Refusal) → ToldToRefuse held left row r → Gives tells held left row (refuse q) → q ≡ r
+  told_to_one r q (inl one) (inl two) = sym (told_inputs_refusal held left (files_of row) (input_of row) r q one two)
+  told_to_one r q (inl one) (inr (values, accepted, declines)) = absurd (told_inputs_once held left (files_of row) (input_of row) r values one accepted)
+  told_to_one r q (inr (told, (values, accepted, one))) (inl two) = absurd (inputs_once held left (files_of row) (input_of row) q values told two accepted)
+  told_to_one r q (inr (told, (values, accepted, one))) (inr (others, also, two)) =
       let same : others ≡ values = inputs_values held left (files_of row) (input_of row) others values told also accepted in
-      one_refusal row values r q one (subst (λ (vs : List Value). Declines row vs q) same two)
+      one_refusal row values q r (subst (λ (vs : List Value). Declines row vs q) same two) one
 
--- 4. So what it comes to is answered.
+-- 5. So what it comes to is answered.
+
+unrefused : (c : Call) (words : List (List ℕ)) (nothing : NothingFails c words) (r : Refusal) → Gives c.tells c.files.held c.input.left nothing.row (refuse r) → ⊥
+unrefused c words nothing r (inl refused) =
+    inputs_once c.files.held c.input.left (files_of nothing.row) (input_of nothing.row) r nothing.values nothing.told refused nothing.accepted
+unrefused c words nothing r (inr (others, also, declines)) =
+    let same : others ≡ nothing.values =
+    inputs_values c.files.held c.input.left (files_of nothing.row) (input_of nothing.row) others nothing.values nothing.told also nothing.accepted in
+    nothing.unrefused r (subst (λ (vs : List Value). Declines nothing.row vs r) same declines)
 
 fine : (c : Call) (words : List (List ℕ)) (nothing : NothingFails c words) (result : Result (Unit {0}) Stop) → RowEnds c nothing.row result
     → (status_of result ≡ Done) ⊎ (status_of result ≡ NoMemory)
 fine c words nothing (Ok done) ends = inl refl
 fine c words nothing (Err stop.NoMemory) ends = inr refl
-fine c words nothing (Err (stop.Refused r)) ends =
-    absurd (row_once c.tells c.files.held c.input.left nothing.row nothing.told r nothing.text ends.0 nothing.gives)
+fine c words nothing (Err (stop.Refused r)) ends = absurd (unrefused c words nothing r ends.0)
 fine c words nothing (Err stop.ReadFault) ends = absurd (nothing.read ends.0)
 fine c words nothing (Err stop.WriteFault) ends = absurd (nothing.written ends.3)
 
@@ -121,18 +152,18 @@ complete {c = c} {words = words} answers nothing = elim answers.cases [
       subst P (sym says.answers) (fine c words nothing says.result (subst (λ (x : Row). RowEnds c x says.result) same says.ends))
 ]
 
-answered : (c : Call) (row : Row) (r : Refusal) → InputsTold c.files.held c.input.left (files_of row) (input_of row) → Gives c.tells c.files.held c.input.left row (refuse r)
-    → (result : Result (Unit {0}) Stop) → RowEnds c row result → RefusedUnless r (status_of result)
-answered c row r told gives (Ok done) ends = absurd (row_once c.tells c.files.held c.input.left row told r ends.0 gives ends.1)
-answered c row r told gives (Err (stop.Refused q)) ends = row_refusal c.tells c.files.held c.input.left row told q r ends.0 gives
-answered c row r told gives (Err stop.ReadFault) ends = tt
-answered c row r told gives (Err stop.WriteFault) ends = absurd (row_once c.tells c.files.held c.input.left row told r ends.0 gives ends.1)
-answered c row r told gives (Err stop.NoMemory) ends = tt
+answered : (c : Call) (row : Row) (r : Refusal) → ToldToRefuse c.files.held c.input.left row r → (result : Result (Unit {0}) Stop) → RowEnds c row result
+    → RefusedUnless r (status_of result)
+answered c row r why (Ok done) ends = absurd (refused_once c.tells c.files.held c.input.left row r ends.0 why ends.1)
+answered c row r why (Err (stop.Refused q)) ends = told_to_one c.tells c.files.held c.input.left row r q why ends.0
+answered c row r why (Err stop.ReadFault) ends = tt
+answered c row r why (Err stop.WriteFault) ends = absurd (refused_once c.tells c.files.held c.input.left row r ends.0 why ends.1)
+answered c row r why (Err stop.NoMemory) ends = tt
 
-pub refuses : {c : Call} {words : List (List ℕ)} {status : Status} → Answers c words status → (r : Refusal) → HasToRefuse c.tells c.files.held c.input.left words r → RefusedUnless r status
+pub refuses : {c : Call} {words : List (List ℕ)} {status : Status} → Answers c words status → (r : Refusal) → HasToRefuse c.files.held c.input.left words r → RefusedUnless r status
 refuses {c = c} {words = words} answers r has = elim answers.cases [
   | inl none ↦ absurd (none.0 has.row has.asks)
   | inr says ↦
       let same : says.row ≡ has.row = one_row words says.row has.row says.asks has.asks in
-      subst (RefusedUnless r) (sym says.answers) (answered c has.row r has.told has.gives says.result (subst (λ (x : Row). RowEnds c x says.result) same says.ends))
+      subst (RefusedUnless r) (sym says.answers) (answered c has.row r has.why says.result (subst (λ (x : Row). RowEnds c x says.result) same says.ends))
 ]

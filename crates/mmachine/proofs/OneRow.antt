@@ -5,7 +5,7 @@ use Rattle.std.specs.List.{AllByRecursion, position_or_len}
 use Rattle.std.specs.Str.{bytes_eq}
 use Rattle.std.proofs.lemmas.Fmt.{decimal_injective}
 use Rattle.mmachine.specs.Kinds.{Kind, schedule_file, object_file}
-use Rattle.mmachine.specs.Table.{Word, file_word, number_word, groups_word, mode_word, mode_text, text_of, IsInRange, perhaps, Row, run, trace, solo, grants, extract, asm, link, dis, debug, gen, soak, migrate, name_of, behind, Asks}
+use Rattle.mmachine.specs.Table.{Word, file_word, number_word, groups_word, mode_word, mode_text, text_of, IsInRange, perhaps, Row, run, trace, solo, grants, extract, asm, link, dis, debug, gen, soak, migrate, sweep, holders, name_of, behind, Asks}
 use Rattle.mmachine.proofs.GroupWords.{one_list}
 
 -- 1. Words of the same places.
@@ -65,7 +65,7 @@ one_perhaps word once (Some a) (Some b) same = let words : word a ≡ word b = c
 abbrev pub place_of : List ℕ → ℕ
 place_of name =
     position_or_len (bytes_eq name) (codes "run" ∷ codes "trace" ∷ codes "solo" ∷ codes "grants" ∷ codes "extract" ∷ codes "asm"
-    ∷ codes "link" ∷ codes "dis" ∷ codes "debug" ∷ codes "gen" ∷ codes "soak" ∷ codes "migrate" ∷ [])
+    ∷ codes "link" ∷ codes "dis" ∷ codes "debug" ∷ codes "gen" ∷ codes "soak" ∷ codes "migrate" ∷ codes "sweep" ∷ codes "holders" ∷ [])
 
 -- and of a row's name
 abbrev pub place : Row → ℕ
@@ -136,5 +136,11 @@ one_row words (soak n s c) (soak m t d) one two =
     cc
 one_row words (migrate i a) (migrate j b) one two =
     let same = same_behind words (migrate i a) (migrate j b) one two (refl, (tt, tt)) in
+    cc
+one_row words (sweep i b l) (sweep j c m) one two =
+    let same = same_behind words (sweep i b l) (sweep j c m) one two (refl, ((refl, refl, omega arith), ((refl, refl, omega arith), tt))) in
+    cc
+one_row words (holders i b l) (holders j c m) one two =
+    let same = same_behind words (holders i b l) (holders j c m) one two (refl, ((refl, refl, omega arith), ((refl, refl, omega arith), tt))) in
     cc
 one_row words a b one two = let places : place a ≡ place b = ap place_of (same_name words a b one two) in absurd (cc)

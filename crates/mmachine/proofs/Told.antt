@@ -4,7 +4,7 @@ use Rattle.std.specs.Option.{IsSome}
 use Rattle.mm_io.specs.Files.{Holds}
 use Rattle.mmachine.specs.declared.status.Refusal.{Refusal}
 use Rattle.mmachine.specs.Kinds.{Kind, Value, Accepts, Faults}
-use Rattle.mmachine.specs.Files.{Accepted, InputRefused, FilesAccepted, FilesRefused, FilesTold, InputsAccepted, InputsRefused, InputsTold}
+use Rattle.mmachine.specs.Files.{Accepted, InputRefused, FilesAccepted, FilesRefused, FilesTold, InputsAccepted, InputsRefused, InputsTold, ToldFilesRefused, ToldInputsRefused}
 use Rattle.mmachine.proofs.KindsOnce.{one_value, one_fault, value_or_fault}
 
 -- 1. One input.
@@ -55,15 +55,22 @@ module _ (held : List ℕ → Option (List ℕ)) where
       (subst (λ (x : Value). FilesAccepted held (before ++ x ∷ []) files ws) same others) in
       cc
 
-  files_refusal : (before : List Value) (files : List (List ℕ × Kind)) (r q : Refusal) → FilesTold held files
-      → FilesRefused held before files r → FilesRefused held before files q → r ≡ q
-  files_refusal before [] r q told one two = absurd one
-  files_refusal before (file ∷ files) r q told (inl one) (inl two) = file_refusal file.1 before (held file.0) told.0 (length before + 1) r q one two
-  files_refusal before (file ∷ files) r q told (inl one) (inr (v, accepted, two)) = absurd (file_once file.1 before (held file.0) told.0 (length before + 1) r v one accepted)
-  files_refusal before (file ∷ files) r q told (inr (v, accepted, one)) (inl two) = absurd (file_once file.1 before (held file.0) told.0 (length before + 1) q v two accepted)
-  files_refusal before (file ∷ files) r q told (inr (v, accepted, one)) (inr (w, also, two)) =
-      let same : w ≡ v = file_value file.1 before (held file.0) told.0 w v also accepted in
-      files_refusal (before ++ v ∷ []) files r q told.1 one (subst (λ (x : Value). FilesRefused held (before ++ x ∷ []) files q) same two)
+  told_refusal : (before : List Value) (files : List (List ℕ × Kind)) (r q : Refusal) → ToldFilesRefused held before files r → FilesRefused held before files q → r ≡ q
+  told_refusal before [] r q one two = absurd one
+  told_refusal before (file ∷ files) r q (told, inl one) (inl two) = file_refusal file.1 before (held file.0) told (length before + 1) r q one two
+  told_refusal before (file ∷ files) r q (told, inl one) (inr (v, accepted, two)) = absurd (file_once file.1 before (held file.0) told (length before + 1) r v one accepted)
+  told_refusal before (file ∷ files) r q (told, inr (v, accepted, one)) (inl two) = absurd (file_once file.1 before (held file.0) told (length before + 1) q v two accepted)
+  told_refusal before (file ∷ files) r q (told, inr (v, accepted, one)) (inr (w, also, two)) =
+      let same : w ≡ v = file_value file.1 before (held file.0) told w v also accepted in
+      told_refusal (before ++ v ∷ []) files r q one (subst (λ (x : Value). FilesRefused held (before ++ x ∷ []) files q) same two)
+
+  told_once : (before : List Value) (files : List (List ℕ × Kind)) (r : Refusal) (vs : List Value) → ToldFilesRefused held before files r → FilesAccepted held before files vs → ⊥
+  told_once before [] r vs refused accepted = refused
+  told_once before (file ∷ files) r [] refused accepted = accepted
+  told_once before (file ∷ files) r (v ∷ vs) (told, inl refused) (here, rest) = file_once file.1 before (held file.0) told (length before + 1) r v refused here
+  told_once before (file ∷ files) r (v ∷ vs) (told, inr (w, also, refused)) (here, rest) =
+      let same : v ≡ w = file_value file.1 before (held file.0) told v w here also in
+      told_once (before ++ w ∷ []) files r vs refused (subst (λ (x : Value). FilesAccepted held (before ++ x ∷ []) files vs) same rest)
 
   files_once : (before : List Value) (files : List (List ℕ × Kind)) (r : Refusal) (vs : List Value) → FilesTold held files
       → FilesRefused held before files r → FilesAccepted held before files vs → ⊥
@@ -85,15 +92,21 @@ module _ (held : List ℕ → Option (List ℕ)) (left : Option (List ℕ)) (fil
       let last : v ≡ w = file_value kind before left told.1 v w here (subst (λ (vs : List Value). Accepted kind vs left w) same there) in
       is ∙ ap (λ (x : Value). before ++ x ∷ []) last ∙ ap (λ (vs : List Value). vs ++ w ∷ []) (sym same) ∙ sym also
 
-  pub inputs_refusal : (kind : Option Kind) (r q : Refusal) → InputsTold held left files kind → InputsRefused held left files kind r
-      → InputsRefused held left files kind q → r ≡ q
-  inputs_refusal None r q told one two = files_refusal held [] files r q told one two
-  inputs_refusal (Some kind) r q told (inl one) (inl two) = files_refusal held [] files r q told.0 one two
-  inputs_refusal (Some kind) r q told (inl one) (inr (before, front, two)) = absurd (files_once held [] files r before told.0 one front)
-  inputs_refusal (Some kind) r q told (inr (before, front, one)) (inl two) = absurd (files_once held [] files q before told.0 two front)
-  inputs_refusal (Some kind) r q told (inr (before, front, one)) (inr (others, others_front, two)) =
-      let same : others ≡ before = files_values held [] files others before told.0 others_front front in
-      file_refusal kind before left told.1 0 r q one (subst (λ (vs : List Value). InputRefused kind vs 0 left q) same two)
+  pub told_inputs_refusal : (kind : Option Kind) (r q : Refusal) → ToldInputsRefused held left files kind r → InputsRefused held left files kind q → r ≡ q
+  told_inputs_refusal None r q one two = told_refusal held [] files r q one two
+  told_inputs_refusal (Some kind) r q (inl one) (inl two) = told_refusal held [] files r q one two
+  told_inputs_refusal (Some kind) r q (inl one) (inr (before, front, two)) = absurd (told_once held [] files r before one front)
+  told_inputs_refusal (Some kind) r q (inr one) (inl two) = absurd (files_once held [] files q one.before one.told two one.accepted)
+  told_inputs_refusal (Some kind) r q (inr one) (inr (others, front, two)) =
+      let same : others ≡ one.before = files_values held [] files others one.before one.told front one.accepted in
+      file_refusal kind one.before left one.input_told 0 r q one.refused (subst (λ (vs : List Value). InputRefused kind vs 0 left q) same two)
+
+  pub told_inputs_once : (kind : Option Kind) (r : Refusal) (vs : List Value) → ToldInputsRefused held left files kind r → InputsAccepted held left files kind vs → ⊥
+  told_inputs_once None r vs refused accepted = told_once held [] files r vs refused accepted
+  told_inputs_once (Some kind) r vs (inl refused) (before, v, is, front, here) = told_once held [] files r before refused front
+  told_inputs_once (Some kind) r vs (inr one) (before, v, is, front, here) =
+      let same : before ≡ one.before = files_values held [] files before one.before one.told front one.accepted in
+      file_once kind one.before left one.input_told 0 r v one.refused (subst (λ (vs : List Value). Accepted kind vs left v) same here)
 
   pub inputs_once : (kind : Option Kind) (r : Refusal) (vs : List Value) → InputsTold held left files kind → InputsRefused held left files kind r
       → InputsAccepted held left files kind vs → ⊥

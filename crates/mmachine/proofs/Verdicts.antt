@@ -1,5 +1,5 @@
 -- What the clauses of the top call say, from what the answer to the words says.
-use Rattle.std.proofs.Common.{◌≡◌, ◌↔◌, ℕ, List, [], Option, Result, Ok, Err, inl, inr, refl, sym, ap, ◌∙◌, subst}
+use Rattle.std.proofs.Common.{◌≡◌, ◌↔◌, ℕ, List, [], Option, Result, Ok, Err, inl, inr, refl, sym, ap, ◌∙◌, subst, append-nil}
 use Rattle.std.specs.Io.KnownBytes.{append_known}
 use Rattle.mm_io.specs.Files.{Rose}
 use Rattle.mm_io.specs.Sinks.{TookPart, Writes}
@@ -11,7 +11,7 @@ use Rattle.mmachine.specs.declared.status.Stop.{Stop}
 use Rattle.mmachine.specs.declared.status.Stop.TheVariants as stop
 use Rattle.mmachine.specs.Files.{AsksFiles}
 use Rattle.mmachine.specs.Table.{Row, Asks, InNoRow, files_of}
-use Rattle.mmachine.specs.Answers.{Answers, Call, ComesTo, ReadFailed, RowEnds, line_of, refuse, write, status_of}
+use Rattle.mmachine.specs.Answers.{Answers, Call, ComesTo, ReadFailed, RowEnds, TookLine, line_of, refuse, write, status_of}
 use Rattle.mmachine.proofs.OneRow.{one_row}
 
 -- 1. A status other than that of usage, and the end of the command that it comes from.
@@ -86,6 +86,14 @@ done answers same = let e = ended answers (Ok tt) same in (e.ends.0, record { ro
 pub part : {c : Call} {words : List (List ℕ)} {status : Status} → Answers c words status → status ≡ WriteFault
     → (text : List ℕ) × ComesTo c.tells c.files.held c.input.left words (write text) × TookPart c.out.taken_before c.out.taken text
 part answers same = let e = ended answers (Err stop.WriteFault) same in (e.ends.0, record { row = e.row; asks = e.asks; gives = e.ends.1 }, e.ends.2)
+
+pub line : {S T E : Type 0} {taken : S → Option (List ℕ)} {faults : S → ℕ} {old new : S} {result : Result T E} {text : List ℕ}
+    → Writes taken faults old new text result → TookLine (taken old) (taken new) (faults old) (faults new) text
+line {taken = taken} {faults = faults} {old = old} {new = new} {result = Ok done} {text = text} wrote = record {
+  part = record { part = text; rest = []; splits = sym (append-nil text); took = wrote.whole };
+  whole = λ _. wrote.whole;
+}
+line {result = Err fault} wrote = record { part = wrote.part; whole = λ still. absurd (still wrote.failed) }
 
 pub silent : {S T E : Type 0} {taken : S → Option (List ℕ)} {faults : S → ℕ} {old new : S} {result : Result T E} {status : Status}
     → status ≡ Done → Writes taken faults old new (line_of status) result → taken new ≡ taken old

@@ -3,7 +3,7 @@ use Rattle.std.proofs.Common.{◌≡◌, ℕ, ◌≤◌, ◌-◌, ◌==◌, Bool
 use Rattle.std.proofs.lemmas.List.{take_all}
 use Rattle.std.specs.declared.alloc.Global.{Global}
 use Rattle.mmachine.proofs.OneRow.{place_of, place}
-use Rattle.mmachine.specs.Table.{Row, Asks, name_of, run, trace, solo, grants, extract, asm, link, dis, debug, gen, soak, migrate, InNoRow, AreTexts, IsCounted, behind, text_of, texts}
+use Rattle.mmachine.specs.Table.{Row, Asks, name_of, run, trace, solo, grants, extract, asm, link, dis, debug, gen, soak, migrate, sweep, holders, InNoRow, AreTexts, FitTogether, behind, text_of, texts}
 
 -- the first word and the rest
 first_and_rest : (words : List (String Global)) (word : String Global) → 1 ≤ length words → word ≡ get_or words 0 word
@@ -51,7 +51,7 @@ pub no_asm : (words : List (List ℕ)) → ((source : List ℕ) → ¬ AreTexts 
 no_asm words none (asm s) (is, ranges) = let rest : words ≡ map text_of (behind (asm s)) = cc in none s (rest, ranges.0)
 no_asm words none row asks = let places : place row ≡ 5 = placed_as (codes "asm") words row asks in absurd (cc)
 
-pub no_link : (words : List (List ℕ)) → ((objects : List (List ℕ)) → AreTexts words (behind (link objects)) → ¬ IsCounted (link objects)) → InNoRow (codes "link" ∷ words)
+pub no_link : (words : List (List ℕ)) → ((objects : List (List ℕ)) → AreTexts words (behind (link objects)) → ¬ FitTogether (link objects)) → InNoRow (codes "link" ∷ words)
 no_link words none (link os) (is, ranges) = let rest : words ≡ map text_of (behind (link os)) = cc in none os (rest, ranges.0) ranges.1
 no_link words none row asks = let places : place row ≡ 6 = placed_as (codes "link") words row asks in absurd (cc)
 
@@ -74,6 +74,16 @@ no_soak words none row asks = let places : place row ≡ 10 = placed_as (codes "
 pub no_migrate : (words : List (List ℕ)) → ((image : List ℕ) (split : Bool) → ¬ AreTexts words (behind (migrate image split))) → InNoRow (codes "migrate" ∷ words)
 no_migrate words none (migrate i m) (is, ranges) = let rest : words ≡ map text_of (behind (migrate i m)) = cc in none i m (rest, ranges.0)
 no_migrate words none row asks = let places : place row ≡ 11 = placed_as (codes "migrate") words row asks in absurd (cc)
+
+pub no_sweep : (words : List (List ℕ)) → ((image : List ℕ) (base log : ℕ) → AreTexts words (behind (sweep image base log)) → ¬ FitTogether (sweep image base log))
+    → InNoRow (codes "sweep" ∷ words)
+no_sweep words none (sweep i b l) (is, ranges) = let rest : words ≡ map text_of (behind (sweep i b l)) = cc in none i b l (rest, ranges.0) ranges.1
+no_sweep words none row asks = let places : place row ≡ 12 = placed_as (codes "sweep") words row asks in absurd (cc)
+
+pub no_holders : (words : List (List ℕ)) → ((image : List ℕ) (base log : ℕ) → AreTexts words (behind (holders image base log)) → ¬ FitTogether (holders image base log))
+    → InNoRow (codes "holders" ∷ words)
+no_holders words none (holders i b l) (is, ranges) = let rest : words ≡ map text_of (behind (holders i b l)) = cc in none i b l (rest, ranges.0) ranges.1
+no_holders words none row asks = let places : place row ≡ 13 = placed_as (codes "holders") words row asks in absurd (cc)
 
 -- the words of `link`
 pub some_names : (names : List (String Global)) → (length names == 0) ≡ false → 1 ≤ length names

@@ -16,16 +16,18 @@ use Rattle.mm_link.specs.declared.fault.LinkFault.TheVariants.{Twice, Undefined,
 use Rattle.mm_link.specs.Faults.{number_of as link_number}
 use Rattle.mm_audit.specs.declared.extracting.ExtractError.{ExtractError}
 use Rattle.mm_audit.specs.declared.extracting.ExtractError.TheVariants as extracting
+use Rattle.mm_sweep.specs.declared.sweeping.SweepError.{SweepError}
+use Rattle.mm_sweep.specs.declared.sweeping.SweepError.TheVariants as sweeping
 use Rattle.mm_model.specs.declared.counts.Counts.{Counts}
 use Rattle.mm_model.specs.Uses.{Use}
 use Rattle.mmachine.specs.declared.status.Refusal.{Refusal}
-use Rattle.mmachine.specs.declared.status.Refusal.TheVariants.{TooLong, Image, Schedule, Object, Asm, Link, NoGroup, Crosses}
+use Rattle.mmachine.specs.declared.status.Refusal.TheVariants.{TooLong, Image, Schedule, Object, Asm, Link, NoGroup, Crosses, Held, Privileged}
 use Rattle.mmachine.specs.declared.status.Status.{Status}
 use Rattle.mmachine.specs.declared.status.Status.TheVariants.{Done, Usage, Refused, ReadFault, WriteFault, NoMemory}
 use Rattle.mmachine.specs.declared.status.Stop.{Stop}
 use Rattle.mmachine.specs.declared.status.Stop.TheVariants as stop
 use Rattle.mmachine.specs.Kinds.{Value}
-use Rattle.mmachine.specs.Files.{Reading, Drawing, FilesAccepted, FilesRefused, FilesFailed, AsksFiles, InputsAccepted, InputsRefused, InputsFailed, InputsTold}
+use Rattle.mmachine.specs.Files.{Reading, Drawing, FilesAccepted, FilesRefused, FilesFailed, AsksFiles, InputsAccepted, InputsRefused, InputsFailed, InputsTold, ToldInputsRefused}
 use Rattle.mmachine.specs.Table.{Row, files_of, input_of, Asks, InNoRow}
 use Rattle.mmachine.specs.Commands.{Declines, Yields}
 
@@ -108,6 +110,8 @@ line_of (Refused (Asm fault line column)) =
     codes "mmachine: source fault " ++ decimal (fault_number fault) ++ codes " at " ++ decimal line ++ codes ":" ++ decimal column ++ codes "\n"
 line_of (Refused NoGroup) = codes "mmachine: no group\n"
 line_of (Refused (Crosses slot)) = codes "mmachine: crosses slot " ++ decimal slot ++ codes "\n"
+line_of (Refused (Held slot)) = codes "mmachine: held slot " ++ decimal slot ++ codes "\n"
+line_of (Refused (Privileged group)) = codes "mmachine: privileged group " ++ decimal group ++ codes "\n"
 line_of ReadFault = codes "mmachine: read fault\n"
 line_of WriteFault = codes "mmachine: write fault\n"
 line_of NoMemory = codes "mmachine: out of memory\n"
@@ -117,23 +121,31 @@ pub record TookLine (old new : Option (List ℕ)) (before now : ℕ) (line : Lis
   pub part : TookPart old new line
   pub whole : ¬ Rose before now → new ≡ append_known old line
 
--- What completeness asks: the words are in a row, its inputs are told and come to a text, and no count that the row
--- depends on rose or stands at its last value.
+-- What completeness asks: the words are in a row, its inputs are told and accepted, none of the row's own refusals stands, and no count
+-- that the row depends on rose or stands at its last value.
 pub record NothingFails (c : Call) (words : List (List ℕ)) : Type 0 where
   pub row : Row
   pub asks : Asks words row
   pub told : InputsTold c.files.held c.input.left (files_of row) (input_of row)
-  pub text : List ℕ
-  pub gives : Gives c.tells c.files.held c.input.left row (write text)
+  pub values : List Value
+  pub accepted : InputsAccepted c.files.held c.input.left (files_of row) (input_of row) values
+  pub unrefused : (r : Refusal) → ¬ Declines row values r
   pub read : ¬ InputsFailed c.files c.input (files_of row) (input_of row)
   pub written : ¬ Rose c.out.before c.out.now
 
--- A refusal that has to come: the words are in a row, its inputs are told and come to it.
-pub record HasToRefuse (tells : List Use → Option Counts) (held : List ℕ → Option (List ℕ)) (left : Option (List ℕ)) (words : List (List ℕ)) (r : Refusal) : Type 0 where
+-- why a refusal has to come: an input is refused, those before it are accepted, and what these hold is told; or what all hold is told,
+-- all are accepted, and the row declines their values
+abbrev pub ToldToRefuse : (List ℕ → Option (List ℕ)) → (left : Option (List ℕ)) → Row → Refusal → Type 0
+ToldToRefuse held left row r =
+    ToldInputsRefused held left (files_of row) (input_of row) r
+    ⊎ (InputsTold held left (files_of row) (input_of row)
+    × ((values : List Value) × InputsAccepted held left (files_of row) (input_of row) values × Declines row values r))
+
+-- A refusal that has to come: the words are in a row that has to give it.
+pub record HasToRefuse (held : List ℕ → Option (List ℕ)) (left : Option (List ℕ)) (words : List (List ℕ)) (r : Refusal) : Type 0 where
   pub row : Row
   pub asks : Asks words row
-  pub told : InputsTold held left (files_of row) (input_of row)
-  pub gives : Gives tells held left row (refuse r)
+  pub why : ToldToRefuse held left row r
 
 -- the answer is this refusal, unless a read failed or memory ran out
 abbrev pub RefusedUnless : Refusal → Status → Type 0
@@ -211,3 +223,9 @@ abbrev pub stop_of_extract : ExtractError → Stop
 stop_of_extract extracting.NoGroup = stop.Refused NoGroup
 stop_of_extract (extracting.Crosses slot) = stop.Refused (Crosses slot)
 stop_of_extract extracting.NoMemory = stop.NoMemory
+
+-- and where a range cannot be swept
+abbrev pub stop_of_sweep : SweepError → Stop
+stop_of_sweep (sweeping.Held slot) = stop.Refused (Held slot)
+stop_of_sweep (sweeping.Privileged group) = stop.Refused (Privileged group)
+stop_of_sweep sweeping.NoMemory = stop.NoMemory

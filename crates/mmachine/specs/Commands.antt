@@ -17,6 +17,9 @@ use Rattle.mm_link.specs.Linked.{Linked}
 use Rattle.mm_disasm.specs.Canonical.{canonical}
 use Rattle.mm_gen.specs.Generated.{generated}
 use Rattle.mm_gen.specs.Summary.{summary}
+use Rattle.mm_sweep.specs.Swept.{swept}
+use Rattle.mm_sweep.specs.Refusals.{CanSweep}
+use Rattle.mm_sweep.specs.Holders as holding
 use Rattle.mm_model.specs.Audit.{IsAudit}
 use Rattle.mm_model.specs.Report.{report}
 use Rattle.mm_audit.specs.Refusals.{StandAlone}
@@ -27,7 +30,8 @@ use Rattle.mmachine.specs.declared.status.Refusal.TheVariants as refusal
 use Rattle.mmachine.specs.Kinds.{Value, an_image, a_list, an_object, a_text}
 use Rattle.mmachine.specs.Orders.{Issues, values_of}
 use Rattle.mmachine.specs.Groups.{GroupsRefused}
-use Rattle.mmachine.specs.Table.{Row, run, trace, solo, grants, extract, asm, link, dis, debug, gen, soak, migrate}
+use Rattle.mmachine.specs.Ranges.{SweepRefused}
+use Rattle.mmachine.specs.Table.{Row, run, trace, solo, grants, extract, asm, link, dis, debug, gen, soak, migrate, sweep, holders}
 
 -- the report of an image's run under these items, with what the memory tells of the run's uses
 abbrev pub report_after : (List Use → Option Counts) → model.Image → List ℕ → List ℕ
@@ -69,6 +73,7 @@ abbrev pub Declines : Row → List Value → Refusal → Type 0
 Declines (solo image groups cycles schedule) (an_image i ∷ lists) r = GroupsRefused i (among groups) r
 Declines (extract image groups) (an_image i ∷ []) r = GroupsRefused i (among groups) r
 Declines (link names) values r = (objects : List Object) × (values ≡ map an_object objects) × LinkRefused objects r
+Declines (sweep image base log) (an_image i ∷ []) r = SweepRefused (base, log) i r
 Declines _ _ r = ⊥
 
 -- a row that runs nothing and whose inputs have these values writes a text
@@ -80,6 +85,8 @@ YieldsAlone (link names) values text = (objects : List Object) × (values ≡ ma
 YieldsAlone (dis object) (an_object o ∷ []) text = text ≡ canonical o
 YieldsAlone (gen number size) [] text = Spells text (generated number size)
 YieldsAlone (migrate image split) (an_image i ∷ []) text = Spells text (migrated i split)
+YieldsAlone (sweep image base log) (an_image i ∷ []) text = CanSweep (base, log) i × Spells text (swept (base, log) i)
+YieldsAlone (holders image base log) (an_image i ∷ []) text = text ≡ holding.holders (base, log) i
 YieldsAlone _ _ text = ⊥
 
 -- a row whose inputs have these values writes a text, where the memory tells so much of uses

@@ -121,7 +121,29 @@ abbrev pub InputsTold : (List ℕ → Option (List ℕ)) → (left : Option (Lis
 InputsTold held left files None = FilesTold held files
 InputsTold held left files (Some kind) = FilesTold held files × IsSome left
 
--- 4. What their reading answers.
+-- 4. Inputs that have to be refused.
+
+-- one of the files is refused and those before it are accepted; what it holds, and what each before it holds, is told
+abbrev pub ToldFilesRefused : (List ℕ → Option (List ℕ)) → (before : List Value) → List (List ℕ × Kind) → Refusal → Type 0
+ToldFilesRefused held before [] r = ⊥
+ToldFilesRefused held before (file ∷ files) r =
+    IsSome (held file.0)
+    × (InputRefused file.1 before (length before + 1) (held file.0) r
+    ⊎ ((v : Value) × Accepted file.1 before (held file.0) v × ToldFilesRefused held (before ++ v ∷ []) files r))
+
+-- the same of standard input behind them
+pub record ToldInputRefused (held : List ℕ → Option (List ℕ)) (left : Option (List ℕ)) (files : List (List ℕ × Kind)) (kind : Kind) (r : Refusal) : Type 0 where
+  pub told : FilesTold held files
+  pub before : List Value
+  pub accepted : FilesAccepted held [] files before
+  pub input_told : IsSome left
+  pub refused : InputRefused kind before 0 left r
+
+abbrev pub ToldInputsRefused : (List ℕ → Option (List ℕ)) → (left : Option (List ℕ)) → List (List ℕ × Kind) → Option Kind → Refusal → Type 0
+ToldInputsRefused held left files None r = ToldFilesRefused held [] files r
+ToldInputsRefused held left files (Some kind) r = ToldFilesRefused held [] files r ⊎ ToldInputRefused held left files kind r
+
+-- 5. What their reading answers.
 
 -- Why it stops: by a refusal, by a fault of the files, or by want of memory.
 abbrev pub Stops : (Refusal → Type 0) → Type 0 → Stop → Type 0

@@ -1,5 +1,6 @@
 pub mod GroupList
 pub mod Groups
+pub mod Ranges
 pub mod Kinds
 pub mod Files
 pub mod Orders

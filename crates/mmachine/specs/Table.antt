@@ -1,5 +1,5 @@
 -- The table of commands.
-use Rattle.std.specs.Prelude.{◌≡◌, ℕ, ◌≤◌, Bool, true, false, List, [], ◌∷◌, map, length, String, string_bytes, codes, decimal, Option, None, Some, ⊤}
+use Rattle.std.specs.Prelude.{◌≡◌, ℕ, ◌%◌, ◌^◌, ◌≤◌, Bool, true, false, List, [], ◌∷◌, map, length, String, string_bytes, codes, decimal, Option, None, Some, ⊤}
 use Rattle.std.specs.List.{AllByRecursion}
 use Rattle.std.specs.Option.{option_map}
 use Rattle.std.specs.declared.alloc.Global.{Global}
@@ -7,7 +7,7 @@ use Rattle.mm_model.specs.Audit.{groups_text}
 use Rattle.mmachine.specs.GroupList.{AreGroups}
 use Rattle.mmachine.specs.Kinds.{Kind, image_file, schedule_file, source_file, object_file, text_input}
 use Rattle.mmachine.specs.declared.words.Command.{Command}
-use Rattle.mmachine.specs.declared.words.Command.TheVariants.{Run, Trace, Solo, Grants, Extract, Asm, Link, Dis, Debug, Gen, Soak, Migrate}
+use Rattle.mmachine.specs.declared.words.Command.TheVariants.{Run, Trace, Solo, Grants, Extract, Asm, Link, Dis, Debug, Gen, Soak, Migrate, Sweep, Holders}
 
 -- 1. The words behind a command's own word.
 
@@ -65,6 +65,13 @@ seed_word number = number_word 0 18446744073709551615 number
 abbrev pub size_word : ℕ → Word
 size_word size = number_word 1 16 size
 
+-- of a range of addresses: where it begins, and the logarithm of its length
+abbrev pub base_word : ℕ → Word
+base_word base = number_word 0 18014398509481983 base
+
+abbrev pub log_word : ℕ → Word
+log_word log = number_word 3 54 log
+
 -- 2. The rows, with what stands in the places of their names.
 
 pub data Row : Type 0 where
@@ -80,6 +87,8 @@ pub data Row : Type 0 where
   gen : (number size : ℕ) → Row
   soak : (number size cycles : ℕ) → Row
   migrate : (image : List ℕ) (split : Bool) → Row
+  sweep : (image : List ℕ) (base log : ℕ) → Row
+  holders : (image : List ℕ) (base log : ℕ) → Row
 
 -- the command's own word
 abbrev pub name_of : Row → List ℕ
@@ -95,6 +104,8 @@ name_of (debug image schedule) = codes "debug"
 name_of (gen number size) = codes "gen"
 name_of (soak number size cycles) = codes "soak"
 name_of (migrate image split) = codes "migrate"
+name_of (sweep image base log) = codes "sweep"
+name_of (holders image base log) = codes "holders"
 
 -- and those behind it
 abbrev pub behind : Row → List Word
@@ -111,6 +122,8 @@ behind (debug image schedule) = file_word image_file image ∷ perhaps (file_wor
 behind (gen number size) = seed_word number ∷ size_word size ∷ []
 behind (soak number size cycles) = seed_word number ∷ size_word size ∷ cycles_word cycles ∷ []
 behind (migrate image split) = file_word image_file image ∷ mode_word split ∷ []
+behind (sweep image base log) = file_word image_file image ∷ base_word base ∷ log_word log ∷ []
+behind (holders image base log) = file_word image_file image ∷ base_word base ∷ log_word log ∷ []
 
 abbrev pub files_of : Row → List (List ℕ × Kind)
 files_of row = files_in (behind row)
@@ -120,14 +133,16 @@ abbrev pub input_of : Row → Option Kind
 input_of (debug image schedule) = Some text_input
 input_of _ = None
 
--- a row that takes a list of files takes 1 to 16 of them
-abbrev pub IsCounted : Row → Type 0
-IsCounted (link objects) = (1 ≤ length objects) × (length objects ≤ 16)
-IsCounted _ = ⊤
+-- its words fit together: a list has 1 to 16 files, and a range begins at a multiple of its length
+abbrev pub FitTogether : Row → Type 0
+FitTogether (link objects) = (1 ≤ length objects) × (length objects ≤ 16)
+FitTogether (sweep image base log) = base % 2 ^ log ≡ 0
+FitTogether (holders image base log) = base % 2 ^ log ≡ 0
+FitTogether _ = ⊤
 
--- its words are in their ranges, and as many as it may have
+-- its words are in their ranges, and fit together
 abbrev pub IsInTable : Row → Type 0
-IsInTable row = AllByRecursion IsInRange (behind row) × IsCounted row
+IsInTable row = AllByRecursion IsInRange (behind row) × FitTogether row
 
 -- the words are in this row
 abbrev pub Asks : List (List ℕ) → Row → Type 0
@@ -159,6 +174,8 @@ row_of (Debug w) = debug w.image.now (option_map (λ name. name.now) w.schedule)
 row_of (Gen w) = gen w.number w.size
 row_of (Soak w) = soak w.number w.size w.cycles
 row_of (Migrate w) = migrate w.image.now w.split
+row_of (Sweep w) = sweep w.image.now w.base w.log
+row_of (Holders w) = holders w.image.now w.base w.log
 
 -- files of a kind with these names
 abbrev pub files_named : Kind → List (String Global) → List (List ℕ × Kind)

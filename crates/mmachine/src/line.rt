@@ -93,6 +93,22 @@ fn write_refusal<D: Sink>(refusal: &Refusal, diag: &mut D) -> Result<(), WriteFa
                 Piece::Text("\n"),
             ],
         ),
+        Refusal::Held { slot } => write_pieces(
+            diag,
+            &[
+                Piece::Text("mmachine: held slot "),
+                Piece::Decimal(*slot as u64),
+                Piece::Text("\n"),
+            ],
+        ),
+        Refusal::Privileged { group } => write_pieces(
+            diag,
+            &[
+                Piece::Text("mmachine: privileged group "),
+                Piece::Decimal(*group as u64),
+                Piece::Text("\n"),
+            ],
+        ),
         Refusal::Schedule { file, offset } => write_pieces(
             diag,
             &[

@@ -15,6 +15,7 @@ mod extract;
 mod generate;
 mod grants;
 mod group_list;
+mod holders;
 mod laws;
 mod line;
 mod link;
@@ -26,6 +27,7 @@ mod run;
 mod soak;
 mod solo;
 mod status;
+mod sweep;
 #[cfg(test)]
 mod tests;
 mod top;

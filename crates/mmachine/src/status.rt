@@ -1,7 +1,7 @@
 // What a call answers.
 ghost use Rattle.std.specs.Prelude.{◌≡◌};
 ghost use Rattle.mmachine.specs.declared.status.Stop.TheVariants as stop;
-ghost use Rattle.mmachine.specs.Answers.{end_of, stop_of_extract, stop_of_link};
+ghost use Rattle.mmachine.specs.Answers.{end_of, stop_of_extract, stop_of_link, stop_of_sweep};
 
 use mm_asm::AsmFault;
 use mm_audit::ExtractError;
@@ -9,6 +9,7 @@ use mm_image::ImageFault;
 use mm_io::WriteFault;
 use mm_link::{LinkError, LinkFault};
 use mm_object::ObjectFault;
+use mm_sweep::SweepError;
 use mm_word::NoMemory;
 
 /// Why a command is refused. A file is counted from 1 among the command's file words.
@@ -48,6 +49,14 @@ pub enum Refusal {
     /// A slot of one of the groups, the least such, has its handler in another group.
     Crosses {
         slot: u8,
+    },
+    /// The segment of a slot's instruction pointer, of the least such slot, meets the range that is to be swept.
+    Held {
+        slot: u8,
+    },
+    /// None does, but a group, the least such, is privileged, whatever is entered: what is swept it can make again.
+    Privileged {
+        group: u8,
     },
 }
 
@@ -113,6 +122,18 @@ impl From<LinkError> for Stop {
         match error {
             LinkError::Fault(fault) => Stop::Refused(Refusal::Link(fault)),
             LinkError::NoMemory => Stop::NoMemory,
+        }
+    }
+}
+
+impl From<SweepError> for Stop {
+    ghost from_gives = { λ error e. e ≡ stop_of_sweep error };
+
+    fn from(error: SweepError) -> Self {
+        match error {
+            SweepError::Held { slot } => Stop::Refused(Refusal::Held { slot }),
+            SweepError::Privileged { group } => Stop::Refused(Refusal::Privileged { group }),
+            SweepError::NoMemory => Stop::NoMemory,
         }
     }
 }

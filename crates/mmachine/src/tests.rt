@@ -40,6 +40,9 @@ const HALT: &[u8] =
 // The canonical text of that object.
 const HALT_AGAIN: &[u8] = b".spare 0\n.segment a 3\nhalt\n";
 
+// Who holds a pointer into the page of the code of `pair`.
+const HOLDERS: &[u8] = b"ip 0 p3300000000100000\nip 1 p3300000000100000\n";
+
 // The least generated image after three cycles.
 const SOAKED: &[u8] = b"cycles 3\nslot 0 turns 3 running out 1 xor i14057b7ef767814f\n";
 
@@ -506,7 +509,7 @@ fn fails_in_turn(
 // Each command that writes a text, and `asm`.
 #[test]
 fn each_call_fails(rt: HostRuntime) -> Result<(), Fail> {
-    let rows: [(&[&str], [u16; 3], &[u8]); 11] = [
+    let rows: [(&[&str], [u16; 3], &[u8]); 12] = [
         (&["run", "HELLO", "10"], [6, 0, 11], HELLO),
         (
             &["run", "HELLO", "10", "SCHEDULE"],
@@ -522,6 +525,7 @@ fn each_call_fails(rt: HostRuntime) -> Result<(), Fail> {
         (&["debug", "HELLO"], [6, 5, 9], REPLIES),
         (&["debug", "HELLO", "SCHEDULE"], [8, 5, 9], REPLIES),
         (&["soak", "0", "1", "3"], [0, 0, 4], SOAKED),
+        (&["holders", "PAIR", "1048576", "12"], [6, 0, 3], HOLDERS),
     ];
     for (words, calls, text) in rows {
         assert!(rt; fails_in_turn(&rt, words, calls, text)?, "{words:?}");
@@ -538,6 +542,37 @@ fn each_write_of_an_image_fails(rt: HostRuntime) -> Result<(), Fail> {
     assert!(rt; fails_in_turn(&rt, &["gen", "0", "1"], [0, 0, 539], &generated(&rt)?)?);
     let split = hello_as(&rt, 2, 1)?;
     assert!(rt; fails_in_turn(&rt, &["migrate", "HELLO", "split"], [6, 0, 275], &split)?);
+    // Nobody holds a pointer into this range.
+    assert!(rt;
+        fails_in_turn(
+            &rt,
+            &["sweep", "HELLO", "0", "12"],
+            [6, 0, 275],
+            &hello(&rt)?
+        )?
+    );
+    Ok(())
+}
+
+// Ranges that are none, and one that a slot runs in.
+#[test]
+fn ranges(rt: HostRuntime) -> Result<(), Fail> {
+    for (words, line) in [
+        (["sweep", "PAIR", "8", "4"], "mmachine: usage\n"),
+        (["sweep", "PAIR", "8", "2"], "mmachine: usage\n"),
+        (["sweep", "PAIR", "08", "3"], "mmachine: usage\n"),
+        (["holders", "PAIR", "0", "55"], "mmachine: usage\n"),
+        (
+            ["holders", "PAIR", "18014398509481984", "3"],
+            "mmachine: usage\n",
+        ),
+        (["sweep", "PAIR", "1052664", "3"], "mmachine: held slot 0\n"),
+        (["sweep", "PAIR", "0", "54"], "mmachine: held slot 0\n"),
+    ] {
+        let (_, out, diag) = attempt(&rt, &words, [0; 4])?;
+        assert_eq!(rt; out.taken().len(), 0);
+        assert_eq!(rt; diag.taken(), line.as_bytes());
+    }
     Ok(())
 }
 

@@ -15,6 +15,7 @@ use crate::dis::dis;
 use crate::extract::extract;
 use crate::generate::generate;
 use crate::grants::grants;
+use crate::holders::holders;
 use crate::line::write_line;
 use crate::link::link;
 use crate::migrate::migrate;
@@ -22,6 +23,7 @@ use crate::run::run;
 use crate::soak::soak;
 use crate::solo::solo;
 use crate::status::{Refusal, Status, Stop};
+use crate::sweep::sweep;
 use crate::trace::trace;
 use crate::words::{Command, read_words};
 use mm_io::{Files, Sink, Source};
@@ -72,8 +74,8 @@ pub fn mmachine<M: Boot + Reset, F: Files, I: Source, O: Sink, D: Sink>(
     ensures reach { result ≡ Status.Done → (image : List ℕ) (cycles : ℕ) (schedule : Option (List ℕ)) → Asks (texts words.now) (trace image cycles schedule)
         → (written : List ℕ) × TraceIsProved M.tells (F.held files.old) image cycles schedule written × (O.taken out.new ≡ append_known (O.taken out.old) written) }
 
-    // Where a refusal has to come, it comes; and where nothing fails, it is done or there is no memory.
-    ensures refuses { (r : Refusal) → HasToRefuse M.tells (F.held files.old) (I.left input.old) (texts words.now) r → RefusedUnless r result }
+    // Where a refusal has to come, it comes, unless a read failed or memory ran out; and where nothing fails, it is done, or memory ran out.
+    ensures refuses { (r : Refusal) → HasToRefuse (F.held files.old) (I.left input.old) (texts words.now) r → RefusedUnless r result }
     ensures complete { NothingFails (call M.tells (reading F.held F.faults F.asked files.old files.new) (drawing I.left I.faults input.old input.new) (writing O.taken O.faults out.old out.new)) (texts words.now)
         → (result ≡ Status.Done) ⊎ (result ≡ Status.NoMemory) }
 {
@@ -93,7 +95,7 @@ fn answer<M: Boot + Reset, F: Files, I: Source, O: Sink>(
     ensures answers { Answers (call M.tells (reading F.held F.faults F.asked files.old files.new) (drawing I.left I.faults input.old input.new) (writing O.taken O.faults out.old out.new)) (texts words.now) result }
     ensures refused { (r : Refusal) → result ≡ Status.Refused r → ComesTo M.tells (F.held files.old) (I.left input.old) (texts words.now) (refuse r) }
     ensures asks { (row : Row) → Asks (texts words.now) row → AsksFiles (reading F.held F.faults F.asked files.old files.new) [] (files_of row) }
-    ensures refuses { (r : Refusal) → HasToRefuse M.tells (F.held files.old) (I.left input.old) (texts words.now) r → RefusedUnless r result }
+    ensures refuses { (r : Refusal) → HasToRefuse (F.held files.old) (I.left input.old) (texts words.now) r → RefusedUnless r result }
     ensures complete { NothingFails (call M.tells (reading F.held F.faults F.asked files.old files.new) (drawing I.left I.faults input.old input.new) (writing O.taken O.faults out.old out.new)) (texts words.now) → (result ≡ Status.Done) ⊎ (result ≡ Status.NoMemory) }
     ensures unread { result ≡ Status.Usage → files.new ≡ files.old }
     ensures undrawn { LeaveInput (texts words.now) → input.new ≡ input.old }
@@ -151,6 +153,8 @@ fn by_command<M: Boot + Reset, F: Files, I: Source, O: Sink>(
         Command::Gen(asked) => generate(alloc, asked, out),
         Command::Soak(asked) => soak::<M, O>(alloc, asked, out),
         Command::Migrate(asked) => migrate(alloc, asked, files, out),
+        Command::Sweep(asked) => sweep(alloc, asked, files, out),
+        Command::Holders(asked) => holders(alloc, asked, files, out),
     }
 }
 

@@ -1,6 +1,7 @@
 // The words of the command line, by the table of commands.
 ghost use Rattle.std.specs.Prelude.{◌≡◌, ◌≢◌, ◌≤◌, MatchOption, ℕ, Bool, List, Option, decimal};
-ghost use Rattle.mmachine.specs.Table.{InNoRow, Asks, AreTexts, IsCounted, behind, run, solo, grants, extract, asm, link, dis, debug, gen, soak, migrate, mode_text, texts, row_of};
+ghost use Rattle.mmachine.specs.Ranges.{IsRange};
+ghost use Rattle.mmachine.specs.Table.{InNoRow, Asks, AreTexts, FitTogether, behind, run, solo, grants, extract, asm, link, dis, debug, gen, soak, migrate, sweep, mode_text, texts, row_of};
 
 use crate::group_list::read_groups;
 use arrayvec::ArrayVec;
@@ -32,6 +33,10 @@ pub enum Command<'a> {
     Soak(SoakWords),
     /// `migrate IMAGE MODE`
     Migrate(MigrateWords<'a>),
+    /// `sweep IMAGE BASE LOG`
+    Sweep(RangeWords<'a>),
+    /// `holders IMAGE BASE LOG`
+    Holders(RangeWords<'a>),
 }
 
 /// `IMAGE CYCLES [SCHEDULE]`
@@ -112,6 +117,14 @@ pub struct MigrateWords<'a> {
     pub split: bool,
 }
 
+/// `IMAGE BASE LOG`
+#[derive(Clone, Copy)]
+pub struct RangeWords<'a> {
+    pub image: &'a str,
+    pub base: u64,
+    pub log: u8,
+}
+
 /// The most cycles of a command.
 const MAX_CYCLES: u64 = 1_000_000;
 
@@ -120,6 +133,14 @@ const MAX_OBJECTS: usize = 16;
 
 /// The most slots of a generated image.
 const MAX_SIZE: u64 = 16;
+
+/// The last address.
+const MAX_ADDRESS: u64 = (1 << 54) - 1;
+
+/// The logarithm of a word's length, and of the length of the whole address space.
+const MIN_LOG: u64 = 3;
+
+const MAX_LOG: u64 = 54;
 
 /// The command that the words ask for; none where they are in no row of the table.
 pub fn read_words(words: &[String]) -> Option<Command<'_>>
@@ -141,6 +162,8 @@ pub fn read_words(words: &[String]) -> Option<Command<'_>>
         "gen" => Some(Command::Gen(read_gen_words(rest)?)),
         "soak" => Some(Command::Soak(read_soak_words(rest)?)),
         "migrate" => Some(Command::Migrate(read_migrate_words(rest)?)),
+        "sweep" => Some(Command::Sweep(read_range_words(rest)?)),
+        "holders" => Some(Command::Holders(read_range_words(rest)?)),
         _ => None,
     }
 }
@@ -222,8 +245,8 @@ fn read_asm_words(rest: &[String]) -> Option<AsmWords<'_>>
 }
 
 fn read_link_words(rest: &[String]) -> Option<LinkWords<'_>>
-    ensures { MatchOption result ((objects : List (List ℕ)) → AreTexts (texts rest.now) (behind (link objects)) → ¬ IsCounted (link objects))
-        (λ words. AreTexts (texts rest.now) (behind (row_of (Command.Link words))) × IsCounted (row_of (Command.Link words))) }
+    ensures { MatchOption result ((objects : List (List ℕ)) → AreTexts (texts rest.now) (behind (link objects)) → ¬ FitTogether (link objects))
+        (λ words. AreTexts (texts rest.now) (behind (row_of (Command.Link words))) × FitTogether (row_of (Command.Link words))) }
 {
     if rest.is_empty() || rest.len() > MAX_OBJECTS {
         return None;
@@ -320,4 +343,46 @@ fn read_mode(word: &str) -> Option<bool>
         "split" => Some(true),
         _ => None,
     }
+}
+
+fn read_range_words(rest: &[String]) -> Option<RangeWords<'_>>
+    ensures { MatchOption result ((image : List ℕ) (base log : ℕ) → AreTexts (texts rest.now) (behind (sweep image base log)) → ¬ FitTogether (sweep image base log))
+        (λ words. AreTexts (texts rest.now) (behind (row_of (Command.Sweep words))) × FitTogether (row_of (Command.Sweep words))) }
+{
+    match rest {
+        [image, base, log] => {
+            let (base, log) = read_range(base.as_bytes(), log.as_bytes())?;
+            Some(RangeWords {
+                image: image.as_str(),
+                base,
+                log,
+            })
+        }
+        _ => None,
+    }
+}
+
+/// Where a range of addresses begins, and the logarithm of its length, 3 to 54. It begins at a multiple of its length.
+fn read_range(base: &[u8], log: &[u8]) -> Option<(u64, u8)>
+    ensures { MatchOption result ((first width : ℕ) → IsRange first width → base.now ≡ decimal first → log.now ≢ decimal width)
+        (λ range. IsRange range.0 range.1 × (base.now ≡ decimal range.0) × (log.now ≡ decimal range.1)) }
+{
+    let base = number(base, MAX_ADDRESS)?;
+    let log = read_log(log)?;
+    if base % (1 << log) != 0 {
+        return None;
+    }
+    Some((base, log))
+}
+
+/// The logarithm of a range's length, 3 to 54.
+fn read_log(digits: &[u8]) -> Option<u8>
+    ensures { MatchOption result ((log : ℕ) → 3 ≤ log → log ≤ 54 → digits.now ≢ decimal log)
+        (λ log. (digits.now ≡ decimal log) × (3 ≤ log) × (log ≤ 54)) }
+{
+    let log = number(digits, MAX_LOG)?;
+    if log < MIN_LOG {
+        return None;
+    }
+    Some(log as u8)
 }

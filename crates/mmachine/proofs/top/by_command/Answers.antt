@@ -64,3 +64,9 @@ returns-in-Soak-clause-read g c = none_read (row_of c.args.command) _ c.soak.res
 
 pub returns-in-Migrate-clause-read : goal.returns-in-Migrate-clause-read
 returns-in-Migrate-clause-read g c = none_read (row_of c.args.command) _ c.migrate.result (ap (λ (x : Command). input_of (row_of x)) c.in-Migrate.is)
+
+pub returns-in-Sweep-clause-read : goal.returns-in-Sweep-clause-read
+returns-in-Sweep-clause-read g c = none_read (row_of c.args.command) _ c.sweep.result (ap (λ (x : Command). input_of (row_of x)) c.in-Sweep.is)
+
+pub returns-in-Holders-clause-read : goal.returns-in-Holders-clause-read
+returns-in-Holders-clause-read g c = none_read (row_of c.args.command) _ c.holders.result (ap (λ (x : Command). input_of (row_of x)) c.in-Holders.is)

@@ -1,5 +1,5 @@
 use Rattle.std.proofs.Common.{codes, sym, ◌∙◌, arith}
-use Rattle.mmachine.proofs.WordsBehind.{in_no_row, no_run, no_trace, no_solo, no_grants, no_extract, no_asm, no_link, no_dis, no_debug, no_gen, no_soak, no_migrate}
+use Rattle.mmachine.proofs.WordsBehind.{in_no_row, no_run, no_trace, no_solo, no_grants, no_extract, no_asm, no_link, no_dis, no_debug, no_gen, no_soak, no_migrate, no_sweep, no_holders}
 use Rattle.mmachine.proofs.words.read_words.Goals as goal
 
 pub returns-in_err-read_run_words-in-run : goal.returns-in_err-read_run_words-in-run
@@ -73,3 +73,15 @@ returns-in_err-read_soak_words-in-soak c =
     rw c.from_residual-in_err-read_soak_words-in-soak.ensures
     (in_no_row c.args.words.now c.word-item.result (codes "soak") (omega arith) c.word-item.is (sym c.as_str.ensures.value ∙ c.in-soak.is)
     (no_soak _ c.in_err-read_soak_words-in-soak.ensures))
+
+pub returns-in_err-read_range_words-in-sweep : goal.returns-in_err-read_range_words-in-sweep
+returns-in_err-read_range_words-in-sweep c =
+    rw c.from_residual-in_err-read_range_words-in-sweep.ensures
+    (in_no_row c.args.words.now c.word-item.result (codes "sweep") (omega arith) c.word-item.is (sym c.as_str.ensures.value ∙ c.in-sweep.is)
+    (no_sweep _ c.in_err-read_range_words-in-sweep.ensures))
+
+pub returns-in_err-read_range_words-in-holders : goal.returns-in_err-read_range_words-in-holders
+returns-in_err-read_range_words-in-holders c =
+    rw c.from_residual-in_err-read_range_words-in-holders.ensures
+    (in_no_row c.args.words.now c.word-item.result (codes "holders") (omega arith) c.word-item.is (sym c.as_str.ensures.value ∙ c.in-holders.is)
+    (no_holders _ c.in_err-read_range_words-in-holders.ensures))
