@@ -18,7 +18,7 @@ def pointer(perm, log, address):
     return perm << 60 | log << 54 | address
 
 
-READ_WRITE, EXECUTE, PRIVILEGED = 2, 3, 4
+READ_ONLY, READ_WRITE, EXECUTE, PRIVILEGED = 1, 2, 3, 4
 
 
 def addi(rd, ra, imm):
@@ -72,6 +72,26 @@ registers = [addi(1, 1, 1), addi(2, 2, 1), addi(3, 3, 1), br(-3)]
 memory = [addi(3, 3, 1), st(1, 3), ld(4, 2), br(-3)]
 A, B = 0x200 * 4096 + 64, 0x201 * 4096 + 64  # two blocks with the index of one line, which is not that of the code
 
+# Each cell of the other pages has a pointer to the word behind it, and r1 one to the first.
+POINTERS = 0x1000 * 4096
+
+
+def chain(pages):
+    number = POINTERS // 4096
+    links = [
+        struct.pack(
+            ">Q64s64s512Q",
+            number + p,
+            b"\xff" * 64,
+            b"\xff" * 64,
+            *(pointer(READ_ONLY, 3, (number + p) * 4096 + 8 * k + 8) for k in range(512)),
+        )
+        for p in range(pages)
+    ]
+    ip = pointer(EXECUTE, 12, CODE * 4096)
+    return image([slot(0, 0, ip, {1: (pointer(READ_ONLY, 3, POINTERS), 1)})], 1 + pages, [page(CODE), *links])
+
+
 # r1 counts the pages from 0, r2 is their number; the page of the code is past them.
 replace = [
     word(0x61, 3, 1),  # unmap r3, r1
@@ -100,6 +120,7 @@ def main(folder):
             PAGES,
             [page(p, memory if p < SLOTS else ()) for p in range(PAGES)],
         ),
+        "pointers.img": chain(PAGES - 1),
         "replace.img": image(
             [slot(0, 0, pointer(PRIVILEGED, 12, PAGES * 4096), {2: (PAGES - 1, 0)})],
             PAGES,
