@@ -1,0 +1,129 @@
+-- Checkpoints: a state of an image's machine beside the slot that round robin issued last, and the bytes that spell it.
+use Rattle.std.specs.Prelude.{◌≡◌, ℕ, suc, ◌<◌, ◌≤◌, false, ◌==◌, if◌then◌else◌, List, [], ◌∷◌, ◌++◌, map, length, codes, Option, Some, None, IfSome}
+use Rattle.std.specs.List.{flat_map, find, AllByRecursion}
+use Rattle.std.specs.Int.{w16, w32, w64, to_be_bytes}
+use Rattle.std.specs.Option.{option_map}
+use Rattle.mm_word.specs.declared.word.Word.{Word}
+use Rattle.mm_word.specs.declared.word.Word.TheVariants.{Int}
+use Rattle.mm_word.specs.declared.word.Cell.{Cell}
+use Rattle.mm_word.specs.Cause.{number_of}
+use Rattle.mm_word.specs.Pointer.{bits_of}
+use Rattle.mm_word.specs.Word.{word_bits, is_pointer}
+use Rattle.mm_model.specs.declared.slot.SlotState.{SlotState}
+use Rattle.mm_model.specs.declared.slot.SlotState.TheVariants.{Running, Waiting, Taken, Halted}
+use Rattle.mm_model.specs.declared.slot.Pending.{Pending}
+use Rattle.mm_model.specs.declared.event.Event.{Event}
+use Rattle.mm_model.specs.Flags.{one_if, number_of_flags}
+use Rattle.mm_model.specs.Slot.{Slot}
+use Rattle.mm_model.specs.Image.{Image, output_limit}
+use Rattle.mm_model.specs.Fits.{identity_of}
+use Rattle.mm_model.specs.Spelling.{words_spelling, page_record}
+use Rattle.mm_thread.specs.declared.output.Output.{Output}
+use Rattle.mm_machine.specs.Snapshot.{Parts, IsSnapshot, IsTyped}
+
+-- 1. What a checkpoint is.
+
+-- what a checkpoint has: the parts of a state, the bytes of each output beside its group, and the slot that round robin issued last
+pub record Saved : Type 0 where
+  pub slots : List Slot
+  -- each beside the number of the slot in whose queue it is, in the order of its queue
+  pub events : List (ℕ × Event)
+  pub outputs : List (ℕ × List ℕ)
+  pub pages : List (ℕ × List Cell)
+  pub cycles : ℕ
+  pub last : Option ℕ
+
+abbrev pub saved_of : Parts → Option ℕ → Saved
+saved_of p last = record {
+  slots = p.slots;
+  events = p.events;
+  outputs = map (λ (o : Output). (o.group, o.bytes.items)) p.outputs;
+  pages = p.pages;
+  cycles = p.cycles;
+  last = last;
+}
+
+-- the rules that the parts of a state keep for an image's checkpoint; those of a machine of the image keep them after at most 1,000,000
+-- cycles
+pub record IsCheckpoint (i : Image) (p : Parts) (last : Option ℕ) : Type 0 where
+  pub rules : IsSnapshot p
+  pub typed : IsTyped p
+  -- the slots have the image's numbers, groups and handlers
+  pub slots : map identity_of p.slots ≡ map identity_of i.slots
+  pub cycles : p.cycles ≤ 1000000
+  pub pages : length p.pages ≤ i.memory.frames
+  pub outputs : AllByRecursion (λ (o : Output). length o.bytes.items ≤ output_limit i.version) p.outputs
+  -- no load is pending unless the image is split
+  pub mode : i.split ≡ false → AllByRecursion (λ (s : Slot). s.pending ≡ []) p.slots
+  -- it need not be a slot of the image
+  pub issued : IfSome last (λ n. n < 64)
+
+-- 2. How it is spelled.
+
+abbrev pub last_byte : Option ℕ → ℕ
+last_byte None = 255
+last_byte (Some n) = n
+
+abbrev pub state_byte : SlotState → ℕ
+state_byte Running = 0
+state_byte Waiting = 1
+state_byte Taken = 2
+state_byte (Halted cause) = 3
+
+-- the event of a slot, where it waits
+abbrev pub event_of : List (ℕ × Event) → ℕ → Option Event
+event_of events n = option_map (λ x. x.1) (find (λ x. x.1.slot == n) events)
+
+-- why a slot waits, or was halted
+abbrev pub cause_byte : SlotState → Option Event → ℕ
+cause_byte Waiting (Some event) = number_of event.cause
+cause_byte (Halted (Some cause)) event = number_of cause
+cause_byte _ _ = 0
+
+-- how many events stand in a queue before that of a slot
+abbrev pub place_in : List (ℕ × Event) → (queue slot : ℕ) → ℕ
+place_in [] queue slot = 0
+place_in (x ∷ events) queue slot =
+    if x.1.slot == slot then 0 else (if x.0 == queue then suc (place_in events queue slot) else place_in events queue slot)
+
+-- the place of a waiting slot's event in its handler's queue
+abbrev pub place_byte : List (ℕ × Event) → Slot → ℕ
+place_byte events s = if state_byte s.state == 1 then place_in events (elim s.handler [ None ↦ 0 | Some handler ↦ handler ]) s.number else 0
+
+-- a word behind its tag
+abbrev pub tagged_word : Word → List ℕ
+tagged_word word = one_if (is_pointer word) ∷ to_be_bytes w64 (word_bits word)
+
+-- the operands of a waiting slot's event, and untagged zeros of others
+abbrev pub operands : Option Event → List ℕ
+operands None = tagged_word (Int 0) ++ tagged_word (Int 0)
+operands (Some event) = tagged_word event.addr_op ++ tagged_word event.value_op
+
+abbrev pub pending_record : Pending → List ℕ
+pending_record p = p.reg ∷ tagged_word p.word
+
+-- state, cause, place and past; turns, instruction pointer; which registers hold pointers, which are empty, and the 16 registers; the
+-- operands; how many loads are pending, and these, oldest first
+unfoldable pub slot_record : List (ℕ × Event) → Slot → List ℕ
+slot_record events s =
+    (state_byte s.state ∷ cause_byte s.state (event_of events s.number) ∷ place_byte events s ∷ one_if s.past ∷ [])
+    ++ to_be_bytes w64 s.turns ++ to_be_bytes w64 (bits_of s.ip)
+    ++ to_be_bytes w16 (number_of_flags (map is_pointer s.regs)) ++ to_be_bytes w16 (number_of_flags s.empty) ++ words_spelling s.regs
+    ++ operands (event_of events s.number) ++ (length s.pending ∷ []) ++ flat_map pending_record s.pending
+
+-- how many bytes a group has put out, and these
+abbrev pub output_record : ℕ × List ℕ → List ℕ
+output_record output = to_be_bytes w32 (length output.1) ++ output.1
+
+-- magic, version, the slot that was issued last, zero, cycles, and how many pages
+abbrev pub header : Saved → List ℕ
+header c = codes "MMS1" ++ to_be_bytes w16 1 ++ (last_byte c.last ∷ 0 ∷ []) ++ to_be_bytes w64 c.cycles ++ to_be_bytes w16 (length c.pages)
+
+-- the bytes of a checkpoint's file
+unfoldable pub spelling : Saved → List ℕ
+spelling c = header c ++ flat_map (slot_record c.events) c.slots ++ flat_map output_record c.outputs ++ flat_map page_record c.pages
+
+-- the bytes are a checkpoint of the image: they spell these parts of a state and this last slot
+pub record Saves (bytes : List ℕ) (i : Image) (p : Parts) (last : Option ℕ) : Type 0 where
+  pub checkpoint : IsCheckpoint i p last
+  pub spelled : bytes ≡ spelling (saved_of p last)

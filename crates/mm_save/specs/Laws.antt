@@ -1,0 +1,39 @@
+-- Laws of checkpoints.
+use Rattle.std.specs.Prelude.{◌≡◌, ◌↔◌, ℕ, ◌<◌, ◌≤◌, List, length, Option, None, IfSome}
+use Rattle.mm_model.specs.Image.{Image, start}
+use Rattle.mm_model.specs.Places.{IsBytes}
+use Rattle.mm_model.specs.Run.{run}
+use Rattle.mm_model.specs.Spelling.{IsImage}
+use Rattle.mm_model.specs.State.{State}
+use Rattle.mm_machine.specs.Snapshot.{Parts, IsSnapshot, IsTyped, IsSnapshotOf, restored}
+use Rattle.mm_save.specs.Checkpoints.{saved_of, IsCheckpoint, Saves}
+use Rattle.mm_save.specs.Faults.{save_fault}
+
+-- some parts of a state, and a last slot, that bytes spell as a checkpoint of the image
+pub record SomeSaved (i : Image) (bytes : List ℕ) : Type 0 where
+  pub parts : Parts
+  pub last : Option ℕ
+  pub saves : Saves bytes i parts last
+
+-- bytes either are a checkpoint of the image or have a first fault
+abbrev pub CheckpointsHaveNoFault : Type 0
+CheckpointsHaveNoFault = (i : Image) (bytes : List ℕ) → IsImage i → IsBytes bytes → (save_fault i bytes ≡ None) ↔ SomeSaved i bytes
+
+-- bytes are one checkpoint of the image at most
+abbrev pub CheckpointsAreOne : Type 0
+CheckpointsAreOne = (i : Image) (bytes : List ℕ) (p q : Parts) (last also : Option ℕ) → IsImage i → Saves bytes i p last → Saves bytes i q also → saved_of p last ≡ saved_of q also
+
+-- a snapshot of a machine of an image, after at most 1,000,000 items, keeps the rules of its checkpoints
+abbrev pub SnapshotsAreCheckpoints : Type 0
+SnapshotsAreCheckpoints =
+    (i : Image) (items : List ℕ) (p : Parts) (last : Option ℕ) → IsImage i → length items ≤ 1000000 → IsSnapshotOf (run (start i) items) p → IsTyped p
+    → IfSome last (λ n. n < 64) → IsCheckpoint i p last
+
+-- parts with one saved form, of which the second keep the rules of snapshots: they are snapshots of the same states, put the same state
+-- back, and have the same last slot
+pub record SameStates (p q : Parts) : Type 0 where
+  pub of : (t : State) → IsSnapshotOf t p → IsSnapshotOf t q
+  pub restored : (s : State) → restored s p ≡ restored s q
+
+abbrev pub SavedFormsAreStates : Type 0
+SavedFormsAreStates = (p q : Parts) (last also : Option ℕ) → IsSnapshot q → saved_of p last ≡ saved_of q also → SameStates p q × (last ≡ also)

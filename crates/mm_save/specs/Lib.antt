@@ -1,0 +1,6 @@
+pub mod Answers
+pub mod Checkpoints
+pub mod Faults
+pub mod Laws
+pub mod Reading
+pub mod Steps
