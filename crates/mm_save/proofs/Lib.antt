@@ -22,12 +22,15 @@ pub mod CleanTagged
 pub mod CleanWaiters
 pub mod CleanWhole
 pub mod FewOutputs
+pub mod Forms
+pub mod GoesOn
 pub mod Inserted
 pub mod Lists
 pub mod Made
 pub mod Parts
 pub mod Reached
 pub mod Records
+pub mod RobinOn
 pub mod Runs
 pub mod SameState
 pub mod SpelledEntries

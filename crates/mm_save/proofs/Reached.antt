@@ -17,10 +17,10 @@ use Rattle.mm_machine.proofs.Restorable.{can_own}
 use Rattle.mm_save.specs.Checkpoints.{IsCheckpoint}
 
 -- what is true of a machine of the image after so many cycles
-record Reached (i : Image) (cycles : ℕ) (s : State) : Type 0 where
-  kept : Kept s
-  fits : Fits i s
-  counted : s.cycles ≡ cycles
+pub record Reached (i : Image) (cycles : ℕ) (s : State) : Type 0 where
+  pub kept : Kept s
+  pub fits : Fits i s
+  pub counted : s.cycles ≡ cycles
 
 reached_start : (i : Image) → IsImage i → Reached i 0 (start i)
 unfolding start
@@ -41,6 +41,9 @@ reached_run i cycles s (n ∷ items) image r =
     let more : cycles + 1 + length items ≡ cycles + length (n ∷ items) = omega arith in
     subst (λ (c : ℕ). Reached i c (run (after s n) items)) more (reached_run i (cycles + 1) (after s n) items image (reached_after i cycles s n image r))
 
+pub reached : (i : Image) (items : List ℕ) → IsImage i → Reached i (0 + length items) (run (start i) items)
+reached i items image = reached_run i 0 (start i) items image (reached_start i image)
+
 checkpoint_of : (i : Image) (cycles : ℕ) (s : State) (p : Parts) (last : Option ℕ) → Reached i cycles s → cycles ≤ 1000000 → IsSnapshotOf s p → IsTyped p
     → IfSome last (λ n. n < 64) → IsCheckpoint i p last
 checkpoint_of i cycles s p last r few is typed issued =
@@ -59,4 +62,4 @@ checkpoint_of i cycles s p last r few is typed issued =
 pub snapshots : (i : Image) (items : List ℕ) (p : Parts) (last : Option ℕ) → IsImage i → length items ≤ 1000000 → IsSnapshotOf (run (start i) items) p → IsTyped p
     → IfSome last (λ n. n < 64) → IsCheckpoint i p last
 snapshots i items p last image few is typed issued =
-    checkpoint_of i (0 + length items) (run (start i) items) p last (reached_run i 0 (start i) items image (reached_start i image)) (omega arith) is typed issued
+    checkpoint_of i (0 + length items) (run (start i) items) p last (reached i items image) (omega arith) is typed issued

@@ -83,7 +83,7 @@ has_group-identity : (slots : List Slot) (g : ℕ) → list_any (λ (x : ℕ × 
 has_group-identity [] g = refl
 has_group-identity (s ∷ slots) g = ap (λ b. eqb s.group g || b) (has_group-identity slots g)
 
-same_groups : (slots images : List Slot) (g : ℕ) → map identity_of slots ≡ map identity_of images → has_group slots g ≡ has_group images g
+pub same_groups : (slots images : List Slot) (g : ℕ) → map identity_of slots ≡ map identity_of images → has_group slots g ≡ has_group images g
 same_groups slots images g same = sym (has_group-identity slots g) ∙ ap (list_any (λ (x : ℕ × ℕ × Option ℕ). eqb x.1 g)) same ∙ has_group-identity images g
 
 few_groups : (limit : ℕ) (all slots : List Slot) (g : ℕ) → AllByRecursion (IsFresh limit all) slots → has_group slots g ≡ true → g < limit

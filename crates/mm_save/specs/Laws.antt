@@ -1,13 +1,14 @@
 -- Laws of checkpoints.
-use Rattle.std.specs.Prelude.{◌≡◌, ◌↔◌, ℕ, ◌<◌, ◌≤◌, List, length, Option, None, IfSome}
+use Rattle.std.specs.Prelude.{◌≡◌, ◌↔◌, ℕ, ◌+◌, ◌<◌, ◌≤◌, List, ◌++◌, length, Option, None, IfSome}
 use Rattle.mm_model.specs.Image.{Image, start}
 use Rattle.mm_model.specs.Places.{IsBytes}
-use Rattle.mm_model.specs.Run.{run}
+use Rattle.mm_model.specs.Run.{run, robin_from, last_item}
 use Rattle.mm_model.specs.Spelling.{IsImage}
 use Rattle.mm_model.specs.State.{State}
 use Rattle.mm_machine.specs.Snapshot.{Parts, IsSnapshot, IsTyped, IsSnapshotOf, restored}
 use Rattle.mm_save.specs.Checkpoints.{saved_of, IsCheckpoint, Saves}
 use Rattle.mm_save.specs.Faults.{save_fault}
+use Rattle.mm_save.specs.States.{saved_form}
 
 -- some parts of a state, and a last slot, that bytes spell as a checkpoint of the image
 pub record SomeSaved (i : Image) (bytes : List ℕ) : Type 0 where
@@ -37,3 +38,22 @@ pub record SameStates (p q : Parts) : Type 0 where
 
 abbrev pub SavedFormsAreStates : Type 0
 SavedFormsAreStates = (p q : Parts) (last also : Option ℕ) → IsSnapshot q → saved_of p last ≡ saved_of q also → SameStates p q × (last ≡ also)
+
+-- the snapshot of a machine of an image, after any list of items, brings the run's state back to a machine at the image's start, and so
+-- further items lead where the whole list leads
+abbrev pub RestoredRunsGoOn : Type 0
+RestoredRunsGoOn =
+    (i : Image) (items more : List ℕ) (p : Parts) → IsImage i → IsSnapshotOf (run (start i) items) p
+    → (restored (start i) p ≡ run (start i) items) × (run (restored (start i) p) more ≡ run (start i) (items ++ more))
+
+-- the saved form of a snapshot of a machine of an image, after any list of items, is that of the run's state
+abbrev pub SnapshotsHaveSavedForms : Type 0
+SnapshotsHaveSavedForms =
+    (i : Image) (items : List ℕ) (p : Parts) (last : Option ℕ) → IsImage i → IsSnapshotOf (run (start i) items) p → saved_of p last ≡ saved_form (run (start i) items) last
+
+-- round robin of so many cycles and then so many more is one round robin, which goes on from the state and the last item
+abbrev pub RoundRobinGoesOn : Type 0
+RoundRobinGoesOn =
+    (s : State) (last : Option ℕ) (first more : ℕ)
+    → robin_from s last (first + more)
+    ≡ robin_from s last first ++ robin_from (run s (robin_from s last first)) (last_item last (robin_from s last first)) more

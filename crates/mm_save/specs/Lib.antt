@@ -3,4 +3,5 @@ pub mod Checkpoints
 pub mod Faults
 pub mod Laws
 pub mod Reading
+pub mod States
 pub mod Steps

@@ -1,7 +1,7 @@
 //! What holds of all checkpoints.
 //!
 //! These functions do nothing when they run: the contract of each is the law.
-ghost use Rattle.mm_save.specs.Laws.{CheckpointsHaveNoFault, CheckpointsAreOne, SavedFormsAreStates, SnapshotsAreCheckpoints};
+ghost use Rattle.mm_save.specs.Laws.{CheckpointsHaveNoFault, CheckpointsAreOne, RestoredRunsGoOn, RoundRobinGoesOn, SavedFormsAreStates, SnapshotsAreCheckpoints, SnapshotsHaveSavedForms};
 
 /// The list of places of a file that is read against an image has no fault exactly where its bytes are some checkpoint of the image.
 pub fn checkpoints_have_no_fault()
@@ -21,4 +21,20 @@ pub fn snapshots_are_checkpoints()
 /// Two snapshots with one saved form are snapshots of the same states, put the same state back, and have the same last slot.
 pub fn saved_forms_are_states()
     ensures { SavedFormsAreStates }
+{}
+
+/// The snapshot of a machine of an image, after any list of items, brings the run's state back to a machine at the image's start, and
+/// further items lead where the whole list leads.
+pub fn restored_runs_go_on()
+    ensures { RestoredRunsGoOn }
+{}
+
+/// The saved form of a snapshot of a machine of an image, after any list of items, is that of the run's state.
+pub fn snapshots_have_saved_forms()
+    ensures { SnapshotsHaveSavedForms }
+{}
+
+/// Round robin of some cycles, and then of more from the state and the last slot that they leave, is one round robin of all these cycles.
+pub fn round_robin_goes_on()
+    ensures { RoundRobinGoesOn }
 {}
