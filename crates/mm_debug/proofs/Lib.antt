@@ -1,6 +1,6 @@
 mod Rising
 mod Kept
-mod StepCounts
+pub mod StepCounts
 mod SameAnswers
 mod Watching
 pub mod AnswersKeep

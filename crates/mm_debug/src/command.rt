@@ -41,7 +41,7 @@ const ADDRESS_END: u64 = 1 << 54;
 const MAX_WORDS: u64 = 64;
 
 /// The first line of an input that is not empty, and what is behind it.
-pub(crate) fn first_line(input: &[u8]) -> (&[u8], &[u8])
+pub fn first_line(input: &[u8]) -> (&[u8], &[u8])
     requires { 0 < length input.now }
     ensures lines { lines_of input.now ≡ result.0.now ∷ lines_of result.1.now }
     ensures shorter { length result.1.now < length input.now }
@@ -81,7 +81,7 @@ fn is_blank(byte: u8) -> bool
 }
 
 /// The first token of a line and what is behind it; an empty one where there is none.
-fn take_token(line: &[u8]) -> (&[u8], &[u8])
+pub fn take_token(line: &[u8]) -> (&[u8], &[u8])
     ensures token { tokens line.now ≡ with_token result.0.now (tokens result.1.now) }
     ensures end { result.0.now ≡ [] → result.1.now ≡ [] }
 {
@@ -107,7 +107,7 @@ fn token_len(line: &[u8]) -> usize
 }
 
 /// The number that a token writes.
-fn number(token: &[u8]) -> Option<u64>
+pub fn number(token: &[u8]) -> Option<u64>
     ensures { result ≡ number_of token.now }
 {
     let next = next_token(token);

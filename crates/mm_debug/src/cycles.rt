@@ -14,7 +14,7 @@ use mm_word::Kind;
 
 impl<M: Memory> Session<M> {
     /// Issues up to so many cycles, fewer where the order or the limit ends.
-    pub(crate) fn step(&mut self, count: u64)
+    pub fn step(&mut self, count: u64)
         ensures { session_of self.new ≡ stepped (session_of self.old) count }
     {
         for _ in 0..count {

@@ -21,6 +21,9 @@
 //! A `run` stops behind a cycle that did a store or a setting load on a watched word; else where the order or the limit has ended;
 //! else, once it has issued a cycle, where the next item is a running slot that is not past its segment and has a break at its
 //! instruction pointer's address. So a run that begins at a break goes on from it.
+//!
+//! What takes lines of its own beside a session's has the same parts for them: [`first_line`] and [`take_token`] cut an input into lines
+//! and a line into tokens, [`number`] reads one, [`Session::put_line`] carries out a line, and [`Session::step`] issues cycles.
 #![tactic(auto)]
 
 mod command;
@@ -34,5 +37,6 @@ mod stop;
 #[cfg(test)]
 mod tests;
 
+pub use command::{first_line, number, take_token};
 pub use point::Point;
 pub use session::{Go, Session};
