@@ -53,6 +53,12 @@ pub mod SpelledSorted
 pub mod SpelledStates
 pub mod SpelledText
 pub mod SpelledWhole
+pub mod Backing
+pub mod Backwards
+pub mod Recalled
+pub mod RecalledStands
+pub mod Recollected
+pub mod RingTotals
 pub mod SpelledWords
 pub mod Waits
 pub mod Wholes

@@ -6,8 +6,12 @@ use Rattle.mm_model.specs.Run.{run, robin_from, last_item}
 use Rattle.mm_model.specs.Spelling.{IsImage}
 use Rattle.mm_model.specs.State.{State}
 use Rattle.mm_machine.specs.Snapshot.{Parts, IsSnapshot, IsTyped, IsSnapshotOf, restored}
+use Rattle.mm_sched.specs.declared.schedule.Order.{Order}
+use Rattle.mm_debug.specs.Session.{begun, total_of}
+use Rattle.mm_debug.specs.Standing.{first_items}
 use Rattle.mm_save.specs.Checkpoints.{saved_of, IsCheckpoint, Saves}
 use Rattle.mm_save.specs.Faults.{save_fault}
+use Rattle.mm_save.specs.Recorder.{recollection}
 use Rattle.mm_save.specs.States.{saved_form}
 
 -- some parts of a state, and a last slot, that bytes spell as a checkpoint of the image
@@ -57,3 +61,9 @@ RoundRobinGoesOn =
     (s : State) (last : Option ℕ) (first more : ℕ)
     → robin_from s last (first + more)
     ≡ robin_from s last first ++ robin_from (run s (robin_from s last first)) (last_item last (robin_from s last first)) more
+
+-- of a session that began at the start of an image's run and can go back, the state is, after any lines, where the run is after as many
+-- items of the order as the session has issued
+abbrev pub GoingBackChangesNoRun : Type 0
+GoingBackChangesNoRun = (i : Image) (order : Order) (lines : List (List ℕ)) →
+    let first = begun order (start i) in let s = (recollection first first lines).session in s.state ≡ run (start i) (first_items i order (total_of s))

@@ -3,5 +3,8 @@ pub mod Checkpoints
 pub mod Faults
 pub mod Laws
 pub mod Reading
+pub mod Recorder
+pub mod Recorded
+pub mod Shown
 pub mod States
 pub mod Steps

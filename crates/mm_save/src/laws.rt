@@ -1,7 +1,7 @@
 //! What holds of all checkpoints.
 //!
 //! These functions do nothing when they run: the contract of each is the law.
-ghost use Rattle.mm_save.specs.Laws.{CheckpointsHaveNoFault, CheckpointsAreOne, RestoredRunsGoOn, RoundRobinGoesOn, SavedFormsAreStates, SnapshotsAreCheckpoints, SnapshotsHaveSavedForms};
+ghost use Rattle.mm_save.specs.Laws.{CheckpointsHaveNoFault, CheckpointsAreOne, GoingBackChangesNoRun, RestoredRunsGoOn, RoundRobinGoesOn, SavedFormsAreStates, SnapshotsAreCheckpoints, SnapshotsHaveSavedForms};
 
 /// The list of places of a file that is read against an image has no fault exactly where its bytes are some checkpoint of the image.
 pub fn checkpoints_have_no_fault()
@@ -37,4 +37,10 @@ pub fn snapshots_have_saved_forms()
 /// Round robin of some cycles, and then of more from the state and the last slot that they leave, is one round robin of all these cycles.
 pub fn round_robin_goes_on()
     ensures { RoundRobinGoesOn }
+{}
+
+/// A session that began at the start of an image's run and can go back is, after any lines, where that run is after as many items of
+/// the order as the session has issued.
+pub fn going_back_changes_no_run()
+    ensures { GoingBackChangesNoRun }
 {}

@@ -1,4 +1,4 @@
-//! Checkpoints: states of an image's machine as files.
+//! Checkpoints: states of an image's machine as files; and sessions that go back.
 //!
 //! A checkpoint is a state that a machine of an image can have, beside the slot that round robin issued last. [`write`] gives the bytes
 //! of its file; [`read`] gives what the bytes of a file spell as a checkpoint of an image, or the place of the first fault.
@@ -37,6 +37,10 @@
 //!
 //! The fields are read in order, each tested when it is read, but that the places in queues are tested behind the last slot. What each may
 //! say is in `docs/FORMATS.md`. The format is this project's profile.
+//!
+//! A [`Recorder`] is a debugging session that keeps up to 8 of the states on its way, beside that at its start. It takes one line more:
+//! `back N`, N 1 to 1,000,000, goes back K cycles, the least of N and the total, from the latest of these states that is not later, with
+//! the reply `back K total C`, C the new total.
 #![tactic(auto)]
 
 mod causes;
@@ -49,6 +53,7 @@ mod layout;
 mod outputs;
 mod pages;
 mod reading;
+mod recorder;
 mod slots;
 #[cfg(test)]
 mod tests;
@@ -58,4 +63,5 @@ mod writing;
 
 pub use fault::SaveError;
 pub use reading::read;
+pub use recorder::Recorder;
 pub use writing::write;

@@ -1,0 +1,97 @@
+-- Sessions that can go back: what they answer, and which of their states are kept.
+use Rattle.std.specs.Prelude.{◌≡◌, ◌⊎◌, ℕ, ◌+◌, ◌-◌, Bool, true, false, ◌||◌, nat_le, min, if◌then◌else◌, List, [], ◌∷◌, ◌++◌, codes, decimal, Option, Some, None, unwrap_or}
+use Rattle.std.specs.Str.{bytes_eq}
+use Rattle.circular_buffer.specs.Buffer.{keep_last, last_item}
+use Rattle.mm_model.specs.Image.{Image}
+use Rattle.mm_model.specs.Lines.{newline}
+use Rattle.mm_machine.specs.Snapshot.{restored}
+use Rattle.mm_debug.specs.Commands.{tokens, number_of, is_count, lines_of}
+use Rattle.mm_debug.specs.Session.{Session, total_of, stepped, Answer, replies, answer_to, Dialogue, behind_answer}
+use Rattle.mm_debug.specs.Standing.{Point, StandsFor}
+
+-- 1. Lines that go back.
+
+-- from 1 to 1,000,000 cycles
+abbrev pub count_of : Option ℕ → Option ℕ
+count_of None = None
+count_of (Some n) = if is_count n then Some n else None
+
+abbrev pub back_by : List (List ℕ) → Option ℕ
+back_by (word ∷ count ∷ []) = if bytes_eq word (codes "back") then count_of (number_of count) else None
+back_by _ = None
+
+-- how many cycles a line `back N` asks to go back; none of any other line
+unfoldable pub back_of : List ℕ → Option ℕ
+back_of line = back_by (tokens line)
+
+-- 2. What is seen of a recorder.
+
+-- A session, the session as it began, and the totals of the states in the ring, the oldest first.
+pub record Recording : Type 0 where
+  pub session : Session
+  pub first : Session
+  pub kept : List ℕ
+
+-- a session in which nothing is set
+abbrev pub bare : Session → Session
+bare s = record s { breaks = []; watches = [] }
+
+-- the session at a point, in which nothing is set
+abbrev pub began_at : Session → Point → Session
+began_at s p = bare (record s { last = p.last; state = restored s.state p.snapshot })
+
+-- both stand for the image under one order, the session and that with which it began
+pub record Recalls (i : Image) (r : Recording) : Type 0 where
+  pub session : StandsFor i r.session
+  pub first : StandsFor i r.first
+
+-- 3. Answers.
+
+-- a session with the state of another one, and with where that goes on; breaks and watches stay
+abbrev pub with_state : Session → (there : Session) → Session
+with_state s there = record s { last = there.last; state = there.state }
+
+-- the session as it was so many cycles ago
+abbrev pub gone_back : (first : Session) → Session → (count : ℕ) → Session
+gone_back first s count = with_state s (stepped first (total_of s - count))
+
+abbrev pub back_text : (count total : ℕ) → List ℕ
+back_text count total = codes "back " ++ decimal count ++ codes " total " ++ decimal total ++ newline
+
+-- `back N` goes back N cycles, or all where there are fewer
+abbrev pub answer_back : (first : Session) → Session → (line : List ℕ) → Option ℕ → Answer
+answer_back first s line None = answer_to s line
+answer_back first s line (Some n) = let count = min n (total_of s) in replies (back_text count (total_of s - count)) (gone_back first s count)
+
+-- the answer to a line: each other line is answered as by the session alone
+unfoldable pub recalled : (first : Session) → Session → List ℕ → Answer
+recalled first s line = answer_back first s line (back_of line)
+
+-- what is replied to lines, and the session afterwards: no line behind a `quit` is carried out
+unfoldable pub recollection : (first : Session) → Session → List (List ℕ) → Dialogue
+recollection first s [] = record { text = []; session = s }
+recollection first s (line ∷ lines) = behind_answer (recalled first s line) (recalled first s line).go (λ t. recollection first t lines)
+
+-- what is replied to an input
+abbrev pub recorded : (first : Session) → Session → List ℕ → Dialogue
+recorded first s input = recollection first s (lines_of input)
+
+-- 4. The ring.
+
+-- how many states it holds
+abbrev pub ring_size : ℕ
+ring_size = 8
+
+-- the newest total, or 0 where there is none
+abbrev pub newest : List ℕ → ℕ
+newest kept = unwrap_or (last_item kept) 0
+
+-- the two differ by 1,000 or more
+abbrev pub is_far : ℕ → ℕ → Bool
+is_far a b = nat_le (a + 1000) b || nat_le (b + 1000) a
+
+-- the totals after a line before which there were these, and this was the session's total: a line that is due keeps the state before it,
+-- unless memory runs out, and no other line does
+abbrev pub IsKept : (old : List ℕ) (total : ℕ) (new : List ℕ) → Type 0
+IsKept old total new =
+    (is_far (newest old) total ≡ true → (new ≡ keep_last ring_size (old ++ total ∷ [])) ⊎ (new ≡ old)) × (is_far (newest old) total ≡ false → new ≡ old)

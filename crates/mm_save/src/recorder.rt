@@ -1,0 +1,259 @@
+//! Sessions that can go back.
+
+ghost use Rattle.std.specs.Prelude.{◌≡◌, if◌then◌else◌, codes, None};
+ghost use Rattle.std.specs.Str.{bytes_eq};
+ghost use Rattle.mm_debug.specs.Shown.{session_of};
+ghost use Rattle.mm_save.specs.Recorder.{back_of, back_text, count_of};
+ghost use Rattle.mm_text.specs.Gathers.{Gathers};
+ghost use Rattle.mm_save.specs.Recorded.{Remembers};
+ghost use Rattle.std.proofs.Props.{props};
+
+use circular_buffer::HeapCircularBuffer;
+use mm_debug::{Go, Point, Session, first_line, number, take_token};
+use mm_io::{Sink, WriteFault};
+use mm_mem::{Memory, Reset};
+use mm_text::{Gather, Piece};
+use mm_word::NoMemory;
+use std::alloc::Global;
+
+/// How many states the ring holds.
+const RING_SIZE: usize = 8;
+
+/// How far the total has to be from that of the newest state in the ring, for a line to be due.
+const FAR: u64 = 1_000;
+
+/// The most cycles that one line goes back.
+const MAX_BACK: u64 = 1_000_000;
+
+/// A session that can go back, with the state at its start and a ring of 8 states on its way.
+///
+/// A line is due where the total before it differs by 1,000 or more from that of the newest state in the ring, or from 0 where the
+/// ring is empty. The state before a due line is put into the ring, and the oldest state falls out of a full one. Where memory for
+/// it runs out it is left out; no line fails for that.
+#[derive(Drop)]
+pub struct Recorder<M: Memory> {
+    alloc: Global,
+    session: Session<M>,
+    start: Point,
+    ring: HeapCircularBuffer<Point>,
+    ghost within: { Remembers (session_of session) start ring.items } by { Prim.hlevel props },
+    ghost size: { ring.capacity ≡ 8 },
+}
+
+impl<M: Reset> Recorder<M> {
+    ghost use Rattle.std.specs.Prelude.{◌≡◌, ◌-◌, ◌≤◌, [], IfOk, IfSome, IsSomeAnd, slice_get};
+    ghost use Rattle.mm_io.specs.Sinks.{Writes};
+    ghost use Rattle.mm_text.specs.Gathers.{Gathers};
+    ghost use Rattle.mm_model.specs.Image.{Image};
+    ghost use Rattle.mm_debug.specs.Session.{total_of};
+    ghost use Rattle.mm_debug.specs.Shown.{session_of};
+    ghost use Rattle.mm_debug.specs.Standing.{StandsFor, total_at};
+    ghost use Rattle.mm_save.specs.Recorder.{Recalls, recalled, recorded, bare, IsKept, gone_back};
+    ghost use Rattle.mm_save.specs.Shown.{recording_of};
+
+    /// A recorder of a session that has issued nothing yet. The ring is empty.
+    pub fn new(alloc: Global, session: Session<M>) -> Result<Recorder<M>, NoMemory>
+        requires { total_of (session_of session) ≡ 0 }
+        ensures session { IfOk result (λ r. (recording_of r).session ≡ session_of session) }
+        ensures first { IfOk result (λ r. (recording_of r).first ≡ bare (session_of session)) }
+        ensures empty { IfOk result (λ r. (recording_of r).kept ≡ []) }
+
+        // It stands for every image for which the session does.
+        ensures stands { (i : Image) → StandsFor i (session_of session) → IfOk result (λ r. Recalls i (recording_of r)) }
+    {
+        let start = session.point(alloc)?;
+        let Ok(ring) = HeapCircularBuffer::with_capacity(alloc, RING_SIZE) else {
+            return Err(NoMemory);
+        };
+        Ok(Recorder {
+            alloc,
+            session,
+            start,
+            ring,
+        })
+    }
+
+    /// The session as it is now.
+    pub fn session(&self) -> &Session<M>
+        ensures { session_of result.now ≡ (recording_of self.now).session }
+    {
+        &self.session
+    }
+
+    /// The total of a state in the ring, counted from 0 at the oldest.
+    pub fn kept(&self, i: usize) -> Option<u64>
+        ensures { result ≡ slice_get (recording_of self.now).kept i }
+    {
+        match self.ring.get(i) {
+            Some(point) => Some(point.total()),
+            None => None,
+        }
+    }
+
+    /// Carries out a line, which is handed over without its newline, and writes its reply: `back N`, with N 1 to 1,000,000, goes back
+    /// K cycles, the least of N and the total, with the reply `back K total C`, C the new total. Breaks and watches stay. Each other
+    /// line is the session's. At a [`WriteFault`] the sink took a front part of the reply; the recorder goes on as after any line.
+    pub fn line<O: Sink>(&mut self, text: &[u8], out: &mut O) -> Result<Go, WriteFault>
+        ensures session { let r = recording_of self.old in (recording_of self.new).session ≡ (recalled r.first r.session text.now).session }
+        ensures first { (recording_of self.new).first ≡ (recording_of self.old).first }
+        ensures kept { let r = recording_of self.old in IsKept r.kept (total_of r.session) (recording_of self.new).kept }
+        ensures reply { let r = recording_of self.old in Writes O.taken O.faults out.old out.new (recalled r.first r.session text.now).reply result }
+        ensures go { let r = recording_of self.old in IfOk result (λ go. go ≡ (recalled r.first r.session text.now).go) }
+
+        // It stands for every image for which it stood.
+        ensures stands { (i : Image) → Recalls i (recording_of self.old) → Recalls i (recording_of self.new) }
+    {
+        let mut reply = Gather::new();
+        let go = self.put_line(&mut reply, out, text);
+        reply.finish(out)?;
+        Ok(go)
+    }
+
+    /// Carries out the lines of an input up to its end or a `quit`, and writes their replies. At a [`WriteFault`] all lines are
+    /// carried out too, and the sink took a front part of the replies.
+    pub fn lines<O: Sink>(&mut self, input: &[u8], out: &mut O) -> Result<(), WriteFault>
+        ensures session { let r = recording_of self.old in (recording_of self.new).session ≡ (recorded r.first r.session input.now).session }
+        ensures first { (recording_of self.new).first ≡ (recording_of self.old).first }
+        ensures replies { let r = recording_of self.old in Writes O.taken O.faults out.old out.new (recorded r.first r.session input.now).text result }
+        ensures stands { (i : Image) → Recalls i (recording_of self.old) → Recalls i (recording_of self.new) }
+    {
+        let mut replies = Gather::new();
+        self.put_lines(&mut replies, out, input);
+        replies.finish(out)
+    }
+
+    /// Carries out the lines of an input up to its end or a `quit`, and appends their replies.
+    fn put_lines<O: Sink>(&mut self, replies: &mut Gather, out: &mut O, input: &[u8])
+        ensures session { let r = recording_of self.old in (recording_of self.new).session ≡ (recorded r.first r.session input.now).session }
+        ensures first { (recording_of self.new).first ≡ (recording_of self.old).first }
+        ensures replies { let r = recording_of self.old in Gathers O.taken O.faults out.old out.new replies.old replies.new (recorded r.first r.session input.now).text }
+        ensures stands { (i : Image) → Recalls i (recording_of self.old) → Recalls i (recording_of self.new) }
+    {
+        let mut rest = input;
+        while !rest.is_empty() {
+            let (line, behind) = first_line(rest);
+            if self.put_line(replies, out, line) == Go::Quit {
+                break;
+            }
+            rest = behind;
+        }
+    }
+
+    /// Carries out a line, and appends its reply.
+    fn put_line<O: Sink>(&mut self, reply: &mut Gather, out: &mut O, line: &[u8]) -> Go
+        ensures session { let r = recording_of self.old in (recording_of self.new).session ≡ (recalled r.first r.session line.now).session }
+        ensures first { (recording_of self.new).first ≡ (recording_of self.old).first }
+        ensures kept { let r = recording_of self.old in IsKept r.kept (total_of r.session) (recording_of self.new).kept }
+        ensures reply { let r = recording_of self.old in Gathers O.taken O.faults out.old out.new reply.old reply.new (recalled r.first r.session line.now).reply }
+        ensures go { let r = recording_of self.old in result ≡ (recalled r.first r.session line.now).go }
+        ensures stands { (i : Image) → Recalls i (recording_of self.old) → Recalls i (recording_of self.new) }
+    {
+        self.keep();
+        match back_of(line) {
+            None => self.session.put_line(reply, out, line),
+            Some(asked) => {
+                let count = asked.min(self.session.total());
+                self.go_back(count);
+                put_back(reply, out, count, self.session.total());
+                Go::More
+            }
+        }
+    }
+
+    /// Keeps the state of the session where a line is due, and memory is there.
+    fn keep(&mut self)
+        ensures session { (recording_of self.new).session ≡ (recording_of self.old).session }
+        ensures first { (recording_of self.new).first ≡ (recording_of self.old).first }
+        ensures kept { let r = recording_of self.old in IsKept r.kept (total_of r.session) (recording_of self.new).kept }
+    {
+        let newest = match self.ring.back() {
+            Some(point) => point.total(),
+            None => 0,
+        };
+        if newest.abs_diff(self.session.total()) >= FAR {
+            if let Ok(point) = self.session.point(self.alloc) {
+                self.ring.push_back(point);
+            }
+        }
+    }
+
+    /// Goes back so many cycles: to the latest state that is kept and not later, and from there on.
+    fn go_back(&mut self, count: u64)
+        requires { count ≤ total_of (recording_of self.old).session }
+        ensures session { let r = recording_of self.old in (recording_of self.new).session ≡ gone_back r.first r.session count }
+        ensures total { total_of (recording_of self.new).session ≡ total_of (recording_of self.old).session - count }
+        ensures first { (recording_of self.new).first ≡ (recording_of self.old).first }
+        ensures kept { (recording_of self.new).kept ≡ (recording_of self.old).kept }
+        ensures stands { (i : Image) → Recalls i (recording_of self.old) → Recalls i (recording_of self.new) }
+    {
+        let total = self.session.total() - count;
+        match self.latest(total) {
+            Some(at) => {
+                if let Some(point) = self.ring.get(at) {
+                    self.session.go(point);
+                    self.session.step(total - point.total());
+                }
+            }
+            None => {
+                self.session.go(&self.start);
+                self.session.step(total - self.start.total());
+            }
+        }
+    }
+
+    /// The place in the ring of the latest state that is not later than so many cycles.
+    fn latest(&self, total: u64) -> Option<usize>
+        ensures { IfSome result (λ at. IsSomeAnd (slice_get self.now.ring.items at) (λ p. total_at p ≤ total)) }
+    {
+        let mut latest = None;
+        let mut issued = 0;
+        for at in 0..self.ring.len() {
+            if let Some(point) = self.ring.get(at) {
+                if issued <= point.total() && point.total() <= total {
+                    latest = Some(at);
+                    issued = point.total();
+                }
+            }
+        }
+        latest
+    }
+}
+
+/// How many cycles a line `back N` asks to go back; none of any other line.
+fn back_of(line: &[u8]) -> Option<u64>
+    ensures { result ≡ back_of line.now }
+{
+    let (word, rest) = take_token(line);
+    let (count, rest) = take_token(rest);
+    let (behind, _) = take_token(rest);
+    if word.is_empty() || count.is_empty() || !behind.is_empty() {
+        return None;
+    }
+    count_of(word, number(count))
+}
+
+/// How many cycles a word and a number ask to go back.
+fn count_of(word: &[u8], number: Option<u64>) -> Option<u64>
+    ensures { result ≡ (if bytes_eq word.now (codes "back") then count_of number else None) }
+{
+    match (word, number) {
+        (b"back", Some(n)) if 1 <= n && n <= MAX_BACK => Some(n),
+        _ => None,
+    }
+}
+
+/// Appends the reply of a line that went back.
+fn put_back<O: Sink>(reply: &mut Gather, out: &mut O, count: u64, total: u64)
+    ensures { Gathers O.taken O.faults out.old out.new reply.old reply.new (back_text count total) }
+{
+    reply.put(
+        out,
+        &[
+            Piece::Text("back "),
+            Piece::Decimal(count),
+            Piece::Text(" total "),
+            Piece::Decimal(total),
+            Piece::Text("\n"),
+        ],
+    );
+}
