@@ -1,7 +1,9 @@
 -- Bytes mean one value of a kind at most, or have one fault.
-use Rattle.std.proofs.Common.{◌≡◌, ℕ, List, [], ◌∷◌, Option, None, Some, slice_index_or, refl, sym, ap, ◌∙◌}
+use Rattle.std.proofs.Common.{◌≡◌, ℕ, List, [], ◌∷◌, ◌++◌, Option, None, Some, slice_index_or, refl, sym, ap, ◌∙◌}
+use Rattle.std.specs.Prelude.{⊤}
+use Rattle.std.specs.List.{AllByRecursion}
 use Rattle.mm_model.specs.Image.{Image}
-use Rattle.mm_model.specs.Spelling.{Spells}
+use Rattle.mm_model.specs.Spelling.{IsImage, Spells}
 use Rattle.mm_model.specs.ImageFaults.{image_fault}
 use Rattle.mm_image.specs.declared.fault.ImageFault.{ImageFault}
 use Rattle.mm_image.specs.declared.fault.ImageFault.TheVariants as faults
@@ -19,11 +21,14 @@ use Rattle.mm_object.specs.Faults.{object_fault}
 use Rattle.mm_object.specs.Objects.{Object}
 use Rattle.mm_object.specs.Spelling.{Spells as SpellsObject}
 use Rattle.mm_object.proofs.SpelledWhole as objects
+use Rattle.mm_save.specs.Checkpoints.{Saved}
+use Rattle.mm_save.specs.Faults.{save_fault}
+use Rattle.mm_save.proofs.SpelledLaws as checkpoints
 use Rattle.mm_asm.specs.Faults.{first_fault}
 use Rattle.mm_asm.proofs.Texts.{meanings_are_one, meaning_has_no_fault}
 use Rattle.mmachine.specs.declared.status.Refusal.{Refusal}
 use Rattle.mmachine.specs.declared.status.Refusal.TheVariants as refusal
-use Rattle.mmachine.specs.Kinds.{Kind, image_file, schedule_file, source_file, object_file, text_input, Value, an_image, a_list, an_object, a_text, Accepts, Faults}
+use Rattle.mmachine.specs.Kinds.{Kind, image_file, schedule_file, source_file, object_file, checkpoint_file, text_input, Value, an_image, a_list, an_object, a_checkpoint, a_text, Accepts, Faults}
 
 -- 1. Images.
 
@@ -138,15 +143,40 @@ one_object_fault bytes number kind other offset place one two =
 pub one_object : (bytes : List ℕ) (a b : Object) → SpellsObject bytes a → SpellsObject bytes b → a ≡ b
 one_object bytes a b one other = sym (objects.object_same bytes a one.object one.spelled) ∙ objects.object_same bytes b other.object other.spelled
 
--- 4. Each kind.
+-- 4. Values before others.
 
-pub one_value : (kind : Kind) (before : List Value) (bytes : List ℕ) (v w : Value) → Accepts kind before bytes v → Accepts kind before bytes w → v ≡ w
-one_value image_file before bytes (an_image i) (an_image j) one two = ap (λ (x : Image). an_image x) (one_spelled bytes i j one two)
-one_value schedule_file before bytes (a_list xs) (a_list ys) one two = ap (λ (x : List ℕ). a_list x) (means_unique bytes xs ys one two)
-one_value source_file before bytes (an_object a) (an_object b) one two = ap (λ (x : Object). an_object x) (meanings_are_one bytes a b one two)
-one_value object_file before bytes (an_object a) (an_object b) one two = ap (λ (x : Object). an_object x) (one_object bytes a b one two)
-one_value text_input before bytes (a_text s) (a_text t) one two = ap (λ (x : List ℕ). a_text x) (one ∙ sym two)
-one_value kind before bytes v w one two = absurd (assumption (one, two))
+-- a value as it is read: an image keeps the rules of images
+abbrev pub IsSound : Value → Type 0
+IsSound (an_image i) = IsImage i
+IsSound _ = ⊤
+
+abbrev pub AreSound : List Value → Type 0
+AreSound values = AllByRecursion IsSound values
+
+pub sound_value : (kind : Kind) (before : List Value) (bytes : List ℕ) (v : Value) → Accepts kind before bytes v → IsSound v
+sound_value image_file before bytes (an_image i) means = means.image
+sound_value schedule_file before bytes (a_list xs) means = tt
+sound_value source_file before bytes (an_object o) means = tt
+sound_value object_file before bytes (an_object o) means = tt
+sound_value checkpoint_file (an_image i ∷ []) bytes (a_checkpoint c) means = tt
+sound_value text_input before bytes (a_text text) means = tt
+sound_value kind before bytes v means = absurd (assumption means)
+
+pub sound_more : (before : List Value) (v : Value) → AreSound before → IsSound v → AreSound (before ++ v ∷ [])
+sound_more [] v sound one = (one, tt)
+sound_more (x ∷ before) v sound one = (sound.0, sound_more before v sound.1 one)
+
+-- 5. Each kind.
+
+pub one_value : (kind : Kind) (before : List Value) (bytes : List ℕ) (v w : Value) → AreSound before → Accepts kind before bytes v → Accepts kind before bytes w → v ≡ w
+one_value image_file before bytes (an_image i) (an_image j) sound one two = ap (λ (x : Image). an_image x) (one_spelled bytes i j one two)
+one_value schedule_file before bytes (a_list xs) (a_list ys) sound one two = ap (λ (x : List ℕ). a_list x) (means_unique bytes xs ys one two)
+one_value source_file before bytes (an_object a) (an_object b) sound one two = ap (λ (x : Object). an_object x) (meanings_are_one bytes a b one two)
+one_value object_file before bytes (an_object a) (an_object b) sound one two = ap (λ (x : Object). an_object x) (one_object bytes a b one two)
+one_value checkpoint_file (an_image i ∷ []) bytes (a_checkpoint c) (a_checkpoint d) sound (p, last, saves, is) (q, also, saves_too, is_too) =
+    ap (λ (x : Saved). a_checkpoint x) (is ∙ checkpoints.are_one i bytes p q last also sound.0 saves saves_too ∙ sym is_too)
+one_value text_input before bytes (a_text s) (a_text t) sound one two = ap (λ (x : List ℕ). a_text x) (one ∙ sym two)
+one_value kind before bytes v w sound one two = absurd (assumption (one, two))
 
 pub one_fault : (kind : Kind) (before : List Value) (number : ℕ) (bytes : List ℕ) (r q : Refusal) → Faults kind before number bytes r → Faults kind before number bytes q → r ≡ q
 one_fault image_file before number bytes r q (kind, offset, is, fault) (other, place, also, second) =
@@ -157,13 +187,18 @@ one_fault source_file before number bytes r q (kind, line, column, is, fault) (o
     is ∙ one_text_fault bytes kind other line column row place fault second ∙ sym also
 one_fault object_file before number bytes r q (kind, offset, is, fault) (other, place, also, second) =
     is ∙ one_object_fault bytes number kind other offset place fault second ∙ sym also
-one_fault text_input before number bytes r q one two = absurd one
+one_fault checkpoint_file (an_image i ∷ []) number bytes r q (offset, is, fault) (place, also, second) =
+    let at : offset ≡ place = cc in
+    is ∙ ap (λ (n : ℕ). refusal.Checkpoint number n) at ∙ sym also
+one_fault kind before number bytes r q one two = absurd (assumption (one, two))
 
-pub value_or_fault : (kind : Kind) (before : List Value) (number : ℕ) (bytes : List ℕ) (r : Refusal) (v : Value) → Faults kind before number bytes r → Accepts kind before bytes v → ⊥
-value_or_fault image_file before number bytes r (an_image i) (kind, offset, is, fault) means = let none : image_fault bytes ≡ None = no_fault bytes i means in cc
-value_or_fault schedule_file before number bytes r (a_list xs) (offset, is, fault) means = never_both bytes xs offset means fault
-value_or_fault source_file before number bytes r (an_object o) (kind, line, column, is, fault) means =
+pub value_or_fault : (kind : Kind) (before : List Value) (number : ℕ) (bytes : List ℕ) (r : Refusal) (v : Value) → AreSound before → Faults kind before number bytes r → Accepts kind before bytes v → ⊥
+value_or_fault image_file before number bytes r (an_image i) sound (kind, offset, is, fault) means = let none : image_fault bytes ≡ None = no_fault bytes i means in cc
+value_or_fault schedule_file before number bytes r (a_list xs) sound (offset, is, fault) means = never_both bytes xs offset means fault
+value_or_fault source_file before number bytes r (an_object o) sound (kind, line, column, is, fault) means =
     let none : first_fault bytes ≡ None = meaning_has_no_fault bytes o means in cc
-value_or_fault object_file before number bytes r (an_object o) (kind, offset, is, fault) means =
+value_or_fault object_file before number bytes r (an_object o) sound (kind, offset, is, fault) means =
     let none : object_fault bytes ≡ None = objects.spelled_clean bytes o means.object means.spelled in cc
-value_or_fault kind before number bytes r v fault means = assumption (fault, means)
+value_or_fault checkpoint_file (an_image i ∷ []) number bytes r (a_checkpoint c) sound (offset, is, fault) (p, last, saves, same) =
+    let none : save_fault i bytes ≡ None = checkpoints.no_fault i bytes sound.0 (record { parts = p; last = last; saves = saves }) in cc
+value_or_fault kind before number bytes r v sound fault means = assumption (fault, means)

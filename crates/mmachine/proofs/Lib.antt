@@ -7,6 +7,10 @@ pub mod Reading
 pub mod Rows
 pub mod Inputs
 pub mod Rounds
+pub mod Went
+pub mod Issued
+pub mod SavedForms
+pub mod SavedRuns
 pub mod Reported
 pub mod Headlines
 pub mod TracedRuns

@@ -17,7 +17,6 @@ use Rattle.mmachine.specs.declared.status.Stop.{Stop}
 use Rattle.mmachine.specs.declared.status.Stop.TheVariants as stop
 use Rattle.mmachine.specs.Groups.{GroupsRefused}
 use Rattle.mmachine.specs.Kinds.{Value, an_image, a_list, an_object}
-use Rattle.mmachine.specs.Files.{InputsTold}
 use Rattle.mmachine.specs.Ranges.{SweepRefused}
 use Rattle.mmachine.specs.Table.{Row, solo, extract, link, sweep, files_of, input_of}
 use Rattle.mmachine.specs.Commands.{Declines, Yields, LinkRefused, IsLinked}

@@ -5,7 +5,7 @@ use Rattle.std.specs.List.{AllByRecursion, position_or_len}
 use Rattle.std.specs.Str.{bytes_eq}
 use Rattle.std.proofs.lemmas.Fmt.{decimal_injective}
 use Rattle.mmachine.specs.Kinds.{Kind, schedule_file, object_file}
-use Rattle.mmachine.specs.Table.{Word, file_word, number_word, groups_word, mode_word, mode_text, text_of, IsInRange, perhaps, Row, run, trace, solo, grants, extract, asm, link, dis, debug, gen, soak, migrate, sweep, holders, name_of, behind, Asks}
+use Rattle.mmachine.specs.Table.{Word, file_word, number_word, groups_word, mode_word, mode_text, text_of, IsInRange, perhaps, Row, run, trace, solo, grants, extract, asm, link, dis, debug, gen, soak, migrate, sweep, holders, save, continue, name_of, behind, Asks}
 use Rattle.mmachine.proofs.GroupWords.{one_list}
 
 -- 1. Words of the same places.
@@ -65,7 +65,7 @@ one_perhaps word once (Some a) (Some b) same = let words : word a ≡ word b = c
 abbrev pub place_of : List ℕ → ℕ
 place_of name =
     position_or_len (bytes_eq name) (codes "run" ∷ codes "trace" ∷ codes "solo" ∷ codes "grants" ∷ codes "extract" ∷ codes "asm"
-    ∷ codes "link" ∷ codes "dis" ∷ codes "debug" ∷ codes "gen" ∷ codes "soak" ∷ codes "migrate" ∷ codes "sweep" ∷ codes "holders" ∷ [])
+    ∷ codes "link" ∷ codes "dis" ∷ codes "debug" ∷ codes "gen" ∷ codes "soak" ∷ codes "migrate" ∷ codes "sweep" ∷ codes "holders" ∷ codes "save" ∷ codes "continue" ∷ [])
 
 -- and of a row's name
 abbrev pub place : Row → ℕ
@@ -142,5 +142,15 @@ one_row words (sweep i b l) (sweep j c m) one two =
     cc
 one_row words (holders i b l) (holders j c m) one two =
     let same = same_behind words (holders i b l) (holders j c m) one two (refl, ((refl, refl, omega arith), ((refl, refl, omega arith), tt))) in
+    cc
+one_row words (save i n s) (save j m t) one two =
+    let same = same_behind words (save i n s) (save j m t) one two (refl, ((refl, refl, omega arith), perhaps_alike (file_word schedule_file) (λ a b. refl) s t)) in
+    let rest : perhaps (file_word schedule_file) s ≡ perhaps (file_word schedule_file) t = cc in
+    let schedule : s ≡ t = one_schedule s t rest in
+    cc
+one_row words (continue i c n s) (continue j d m t) one two =
+    let same = same_behind words (continue i c n s) (continue j d m t) one two (refl, (refl, ((refl, refl, omega arith), perhaps_alike (file_word schedule_file) (λ a b. refl) s t))) in
+    let rest : perhaps (file_word schedule_file) s ≡ perhaps (file_word schedule_file) t = cc in
+    let schedule : s ≡ t = one_schedule s t rest in
     cc
 one_row words a b one two = let places : place a ≡ place b = ap place_of (same_name words a b one two) in absurd (cc)

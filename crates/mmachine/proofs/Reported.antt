@@ -17,6 +17,7 @@ use Rattle.mm_sched.specs.declared.schedule.Order.{Order}
 use Rattle.mm_sched.specs.declared.schedule.Order.TheVariants as order
 use Rattle.mm_sched.specs.Orders.{items_of}
 use Rattle.mm_debug.specs.Session as session
+use Rattle.mm_save.specs.Recorder.{bare, recorded}
 use Rattle.mmachine.specs.declared.status.Refusal.{Refusal}
 use Rattle.mmachine.specs.declared.status.Stop.{Stop}
 use Rattle.mmachine.specs.declared.status.Stop.TheVariants as stop
@@ -42,13 +43,15 @@ module _ {M : Type 0} {memory : Ghosts M} where
   reported tells i items m h writes =
       writes_same (writes (uses (start i) items) h.uses_made) (ap (λ (s : State). report s i (tells (uses (start i) items))) h.state)
 
-  -- the replies of a session that a machine began are those of its image
+  -- the replies of a recorder whose session a machine began are those of its image
   pub replied : {S T E : Type 0} {taken : S → Option (List ℕ)} {faults : S → ℕ} {old new : S} {result : Result T E}
-      (o : Order) (input : List ℕ) (i : Image) (m : Machine M memory) (s : session.Session) → StandsFor i [] m → s ≡ session.begun o (state_of m)
-      → Writes taken faults old new (session.debugged s input).text result → Writes taken faults old new (replies_to i o input) result
-  replied o input i m s h begun writes =
+      (o : Order) (input : List ℕ) (i : Image) (m : Machine M memory) (s first now : session.Session) → StandsFor i [] m → s ≡ session.begun o (state_of m)
+      → first ≡ bare s → now ≡ s → Writes taken faults old new (recorded first now input).text result → Writes taken faults old new (replies_to i o input) result
+  replied o input i m s first now h begun nothing_set same writes =
+      let is : s ≡ session.begun o (start i) = begun ∙ ap (λ (state : State). session.begun o state) (start_state i m h) in
       writes_same writes
-      (ap (λ (t : session.Session). (session.debugged t input).text) (begun ∙ ap (λ (state : State). session.begun o state) (start_state i m h)))
+      (ap (λ (t : session.Session). (recorded first t input).text) (same ∙ is)
+      ∙ ap (λ (t : session.Session). (recorded t (session.begun o (start i)) input).text) (nothing_set ∙ ap bare is))
 
 -- the items of an order are those that are to be issued
 pub issued : (o : Order) (i : Image) (cycles : ℕ) → Issues i cycles (values_of o) (items_of o (start i) cycles)

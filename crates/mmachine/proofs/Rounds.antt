@@ -1,6 +1,7 @@
 -- Round robin and lists, one cycle at a time.
-use Rattle.std.proofs.Common.{◌≡◌, ℕ, zero, suc, ◌+◌, ◌<◌, List, [], ◌∷◌, ◌++◌, length, take, get_or, Option, Some, None, refl, sym, ap, ◌∙◌, arith, append_assoc, append-nil}
-use Rattle.std.proofs.lemmas.List.{take_more}
+use Rattle.std.proofs.Common.{◌≡◌, ℕ, zero, suc, ◌+◌, ◌<◌, ◌≤◌, List, [], ◌∷◌, ◌++◌, length, take, get_or, Option, Some, None, refl, sym, ap, ◌∙◌, arith, append_assoc, append-nil}
+use Rattle.std.proofs.lemmas.List.{take_more, length-take}
+use Rattle.mm_model.specs.Schedule.{first_items}
 use Rattle.mm_model.specs.State.{State}
 use Rattle.mm_model.specs.Run.{after, next_running, then_issued, robin_from}
 
@@ -51,3 +52,16 @@ robin_step s t last now n count less front whole next more is last_is so_far =
 pub robin_over : (s : State) (last : Option ℕ) (count : ℕ) (front whole : List ℕ) → robin_from s last count ≡ [] → front ++ robin_from s last count ≡ whole
     → front ≡ whole
 robin_over s last count front whole none so_far = sym (append-nil front) ∙ ap (λ (xs : List ℕ). front ++ xs) (sym none) ∙ so_far
+
+-- no more items are issued than there are cycles
+pub robin_length : (s : State) (last : Option ℕ) (count : ℕ) → length (robin_from s last count) ≤ count
+unfolding robin_from
+robin_length s last zero = omega arith
+robin_length s last (suc count) = by (next_running s.core.rows last) (λ n. robin_length (after s n) (Some n) count)
+  where
+    by : (o : Option ℕ) → ((n : ℕ) → length (robin_from (after s n) (Some n) count) ≤ count) → length (then_issued o (λ n. robin_from (after s n) (Some n) count)) ≤ suc count
+    by None rest = omega arith
+    by (Some n) rest = omega (arith, rest n)
+
+pub first_length : (items : List ℕ) (count : ℕ) → length (first_items items count) ≤ count
+first_length items count = omega (arith, length-take count items)

@@ -3,7 +3,7 @@ use Rattle.std.proofs.Common.{◌≡◌, ℕ, ◌≤◌, ◌-◌, ◌==◌, Bool
 use Rattle.std.proofs.lemmas.List.{take_all}
 use Rattle.std.specs.declared.alloc.Global.{Global}
 use Rattle.mmachine.proofs.OneRow.{place_of, place}
-use Rattle.mmachine.specs.Table.{Row, Asks, name_of, run, trace, solo, grants, extract, asm, link, dis, debug, gen, soak, migrate, sweep, holders, InNoRow, AreTexts, FitTogether, behind, text_of, texts}
+use Rattle.mmachine.specs.Table.{Row, Asks, name_of, run, trace, solo, grants, extract, asm, link, dis, debug, gen, soak, migrate, sweep, holders, save, continue, InNoRow, AreTexts, FitTogether, behind, text_of, texts}
 
 -- the first word and the rest
 first_and_rest : (words : List (String Global)) (word : String Global) → 1 ≤ length words → word ≡ get_or words 0 word
@@ -84,6 +84,16 @@ pub no_holders : (words : List (List ℕ)) → ((image : List ℕ) (base log : �
     → InNoRow (codes "holders" ∷ words)
 no_holders words none (holders i b l) (is, ranges) = let rest : words ≡ map text_of (behind (holders i b l)) = cc in none i b l (rest, ranges.0) ranges.1
 no_holders words none row asks = let places : place row ≡ 13 = placed_as (codes "holders") words row asks in absurd (cc)
+
+pub no_save : (words : List (List ℕ)) → ((image : List ℕ) (cycles : ℕ) (schedule : Option (List ℕ)) → ¬ AreTexts words (behind (save image cycles schedule)))
+    → InNoRow (codes "save" ∷ words)
+no_save words none (save i n s) (is, ranges) = let rest : words ≡ map text_of (behind (save i n s)) = cc in none i n s (rest, ranges.0)
+no_save words none row asks = let places : place row ≡ 14 = placed_as (codes "save") words row asks in absurd (cc)
+
+pub no_continue : (words : List (List ℕ)) → ((image checkpoint : List ℕ) (cycles : ℕ) (schedule : Option (List ℕ)) → ¬ AreTexts words (behind (continue image checkpoint cycles schedule)))
+    → InNoRow (codes "continue" ∷ words)
+no_continue words none (continue i k n s) (is, ranges) = let rest : words ≡ map text_of (behind (continue i k n s)) = cc in none i k n s (rest, ranges.0)
+no_continue words none row asks = let places : place row ≡ 15 = placed_as (codes "continue") words row asks in absurd (cc)
 
 -- the words of `link`
 pub some_names : (names : List (String Global)) → (length names == 0) ≡ false → 1 ≤ length names

@@ -25,13 +25,15 @@ use Rattle.mm_model.specs.Report.{report}
 use Rattle.mm_audit.specs.Refusals.{StandAlone}
 use Rattle.mm_sched.specs.declared.schedule.Order.{Order}
 use Rattle.mm_debug.specs.Session as session
+use Rattle.mm_save.specs.Recorder.{recorded}
 use Rattle.mmachine.specs.declared.status.Refusal.{Refusal}
 use Rattle.mmachine.specs.declared.status.Refusal.TheVariants as refusal
-use Rattle.mmachine.specs.Kinds.{Value, an_image, a_list, an_object, a_text}
+use Rattle.mmachine.specs.Kinds.{Value, an_image, a_list, an_object, a_checkpoint, a_text}
 use Rattle.mmachine.specs.Orders.{Issues, values_of}
 use Rattle.mmachine.specs.Groups.{GroupsRefused}
 use Rattle.mmachine.specs.Ranges.{SweepRefused}
-use Rattle.mmachine.specs.Table.{Row, run, trace, solo, grants, extract, asm, link, dis, debug, gen, soak, migrate, sweep, holders}
+use Rattle.mmachine.specs.Saving.{last_issued, saved_after, Continues}
+use Rattle.mmachine.specs.Table.{Row, run, trace, solo, grants, extract, asm, link, dis, debug, gen, soak, migrate, sweep, holders, save, continue}
 
 -- the report of an image's run under these items, with what the memory tells of the run's uses
 abbrev pub report_after : (List Use → Option Counts) → model.Image → List ℕ → List ℕ
@@ -54,9 +56,9 @@ LinkRefused objects r = (fault : LinkFault) × (r ≡ refusal.Link fault) × (li
 abbrev pub IsLinked : List Object → List ℕ → Type 0
 IsLinked objects text = (i : model.Image) × Linked objects i × Spells text i
 
--- the replies to the lines of an input, in a session of an image under an order
+-- the replies to the lines of an input, in a session of an image under an order, which can go back as far as it began
 abbrev pub replies_to : model.Image → Order → (input : List ℕ) → List ℕ
-replies_to i order input = (session.debugged (session.begun order (model.start i)) input).text
+replies_to i order input = let first = session.begun order (model.start i) in (recorded first first input).text
 
 -- the values are those of an order and, behind it, of an input, and the text is the replies to that
 abbrev pub IsDialogue : model.Image → List Value → List ℕ → Type 0
@@ -99,4 +101,7 @@ Yields tells (solo image groups cycles schedule) (an_image i ∷ a_list list ∷
     StandAlone i (among groups) × (text ≡ own_report tells i list cycles (among groups))
 Yields tells (debug image schedule) (an_image i ∷ values) text = IsDialogue i values text
 Yields tells (soak number size cycles) [] text = text ≡ soaked number size cycles
+Yields tells (save image cycles schedule) (an_image i ∷ lists) text =
+    (items : List ℕ) × Issues i cycles lists items × (text ≡ saved_after i items (last_issued lists items))
+Yields tells (continue image checkpoint cycles schedule) (an_image i ∷ a_checkpoint c ∷ lists) text = Continues tells i c cycles lists text
 Yields tells row values text = YieldsAlone row values text

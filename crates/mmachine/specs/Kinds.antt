@@ -1,5 +1,5 @@
 -- The kinds of inputs: how long they may be, what they mean, and their faults.
-use Rattle.std.specs.Prelude.{◌≡◌, ℕ, List, Some}
+use Rattle.std.specs.Prelude.{◌≡◌, ℕ, List, [], ◌∷◌, Option, Some}
 use Rattle.mm_model.specs.Image.{Image}
 use Rattle.mm_model.specs.Spelling.{Spells}
 use Rattle.mm_model.specs.ImageFaults.{image_fault}
@@ -14,6 +14,9 @@ use Rattle.mm_object.specs.Objects.{Object}
 use Rattle.mm_object.specs.Spelling.{Spells as SpellsObject}
 use Rattle.mm_asm.specs.Faults as text
 use Rattle.mm_image.specs.Faults.{number_of}
+use Rattle.mm_machine.specs.Snapshot.{Parts}
+use Rattle.mm_save.specs.Checkpoints.{Saved, Saves, saved_of}
+use Rattle.mm_save.specs.Faults.{save_fault}
 use Rattle.mmachine.specs.declared.status.Refusal.{Refusal}
 use Rattle.mmachine.specs.declared.status.Refusal.TheVariants as refusal
 
@@ -22,6 +25,8 @@ pub data Kind : Type 0 where
   schedule_file : Kind
   source_file : Kind
   object_file : Kind
+  -- read against the image before it
+  checkpoint_file : Kind
   -- bytes of standard input, as they are
   text_input : Kind
 
@@ -30,6 +35,7 @@ pub data Value : Type 0 where
   an_image : Image → Value
   a_list : List ℕ → Value
   an_object : Object → Value
+  a_checkpoint : Saved → Value
   a_text : List ℕ → Value
 
 -- the most bytes that an input of a kind has
@@ -38,6 +44,7 @@ limit_of image_file = 33554432
 limit_of schedule_file = 8388608
 limit_of source_file = 8388608
 limit_of object_file = 2097152
+limit_of checkpoint_file = 33554432
 limit_of text_input = 1048576
 
 -- the bytes of an input mean a value, behind inputs of the values before
@@ -46,6 +53,7 @@ Accepts image_file before bytes (an_image i) = Spells bytes i
 Accepts schedule_file before bytes (a_list items) = Means bytes items
 Accepts source_file before bytes (an_object o) = text.Means bytes o
 Accepts object_file before bytes (an_object o) = SpellsObject bytes o
+Accepts checkpoint_file (an_image i ∷ []) bytes (a_checkpoint c) = (p : Parts) × (last : Option ℕ) × Saves bytes i p last × (c ≡ saved_of p last)
 Accepts text_input before bytes (a_text text) = text ≡ bytes
 Accepts _ before bytes _ = ⊥
 
@@ -58,4 +66,5 @@ Faults source_file before number bytes r = (fault : Fault) × (line column : ℕ
     × (text.first_fault bytes ≡ Some (record { line = line; column = column; number = fault_number fault }))
 Faults object_file before number bytes r = (fault : ObjectFault) × (offset : ℕ) × (r ≡ refusal.Object number fault offset)
     × (object_fault bytes ≡ Some (object_number fault, offset))
-Faults text_input before number bytes r = ⊥
+Faults checkpoint_file (an_image i ∷ []) number bytes r = (offset : ℕ) × (r ≡ refusal.Checkpoint number offset) × (save_fault i bytes ≡ Some offset)
+Faults _ before number bytes r = ⊥

@@ -4,6 +4,8 @@ pub mod Ranges
 pub mod Kinds
 pub mod Files
 pub mod Orders
+pub mod Saving
+pub mod Going
 pub mod Table
 pub mod Commands
 pub mod Answers
@@ -11,3 +13,4 @@ pub mod Exit
 pub mod Headline
 pub mod Memories
 pub mod TextToRun
+pub mod SaveToRun

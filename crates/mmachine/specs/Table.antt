@@ -5,9 +5,9 @@ use Rattle.std.specs.Option.{option_map}
 use Rattle.std.specs.declared.alloc.Global.{Global}
 use Rattle.mm_model.specs.Audit.{groups_text}
 use Rattle.mmachine.specs.GroupList.{AreGroups}
-use Rattle.mmachine.specs.Kinds.{Kind, image_file, schedule_file, source_file, object_file, text_input}
+use Rattle.mmachine.specs.Kinds.{Kind, image_file, schedule_file, source_file, object_file, checkpoint_file, text_input}
 use Rattle.mmachine.specs.declared.words.Command.{Command}
-use Rattle.mmachine.specs.declared.words.Command.TheVariants.{Run, Trace, Solo, Grants, Extract, Asm, Link, Dis, Debug, Gen, Soak, Migrate, Sweep, Holders}
+use Rattle.mmachine.specs.declared.words.Command.TheVariants.{Run, Trace, Solo, Grants, Extract, Asm, Link, Dis, Debug, Gen, Soak, Migrate, Sweep, Holders, Save, Continue}
 
 -- 1. The words behind a command's own word.
 
@@ -89,6 +89,8 @@ pub data Row : Type 0 where
   migrate : (image : List ℕ) (split : Bool) → Row
   sweep : (image : List ℕ) (base log : ℕ) → Row
   holders : (image : List ℕ) (base log : ℕ) → Row
+  save : (image : List ℕ) (cycles : ℕ) (schedule : Option (List ℕ)) → Row
+  continue : (image checkpoint : List ℕ) (cycles : ℕ) (schedule : Option (List ℕ)) → Row
 
 -- the command's own word
 abbrev pub name_of : Row → List ℕ
@@ -106,6 +108,8 @@ name_of (soak number size cycles) = codes "soak"
 name_of (migrate image split) = codes "migrate"
 name_of (sweep image base log) = codes "sweep"
 name_of (holders image base log) = codes "holders"
+name_of (save image cycles schedule) = codes "save"
+name_of (continue image checkpoint cycles schedule) = codes "continue"
 
 -- and those behind it
 abbrev pub behind : Row → List Word
@@ -124,6 +128,9 @@ behind (soak number size cycles) = seed_word number ∷ size_word size ∷ cycle
 behind (migrate image split) = file_word image_file image ∷ mode_word split ∷ []
 behind (sweep image base log) = file_word image_file image ∷ base_word base ∷ log_word log ∷ []
 behind (holders image base log) = file_word image_file image ∷ base_word base ∷ log_word log ∷ []
+behind (save image cycles schedule) = file_word image_file image ∷ cycles_word cycles ∷ perhaps (file_word schedule_file) schedule
+behind (continue image checkpoint cycles schedule) =
+    file_word image_file image ∷ file_word checkpoint_file checkpoint ∷ cycles_word cycles ∷ perhaps (file_word schedule_file) schedule
 
 abbrev pub files_of : Row → List (List ℕ × Kind)
 files_of row = files_in (behind row)
@@ -148,7 +155,7 @@ IsInTable row = AllByRecursion IsInRange (behind row) × FitTogether row
 abbrev pub Asks : List (List ℕ) → Row → Type 0
 Asks words row = (words ≡ name_of row ∷ map text_of (behind row)) × IsInTable row
 
--- the words are in no row, or a number is out of its range
+-- the words are in no row: none has so many, or a number is out of its range, or they do not fit together
 abbrev pub InNoRow : List (List ℕ) → Type 0
 InNoRow words = (row : Row) → Asks words row → ⊥
 
@@ -176,6 +183,8 @@ row_of (Soak w) = soak w.number w.size w.cycles
 row_of (Migrate w) = migrate w.image.now w.split
 row_of (Sweep w) = sweep w.image.now w.base w.log
 row_of (Holders w) = holders w.image.now w.base w.log
+row_of (Save w) = save w.image.now w.cycles (option_map (λ name. name.now) w.schedule)
+row_of (Continue w) = continue w.image.now w.checkpoint.now w.cycles (option_map (λ name. name.now) w.schedule)
 
 -- files of a kind with these names
 abbrev pub files_named : Kind → List (String Global) → List (List ℕ × Kind)

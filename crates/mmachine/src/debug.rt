@@ -1,4 +1,4 @@
-// `debug`: a session of an image, and the replies to the lines of standard input.
+// `debug`: a session of an image that can go back, and the replies to the lines of standard input.
 ghost use Rattle.std.specs.Prelude.{◌≡◌, [], OnOk};
 ghost use Rattle.std.specs.Io.KnownBytes.{IsAtEnd};
 ghost use Rattle.mmachine.specs.Files.{AsksFiles, DrawnBehind, reading, drawing};
@@ -14,6 +14,7 @@ use mm_image::Image;
 use mm_io::{Files, Sink, Source};
 use mm_machine::Machine;
 use mm_mem::{Boot, Reset};
+use mm_save::Recorder;
 use mm_sched::Order;
 use std::alloc::Global;
 
@@ -47,6 +48,7 @@ fn write_replies<M: Boot + Reset, O: Sink>(
     ensures { EndsWith (writing O.taken O.faults out.old out.new) (λ text. text ≡ replies_to image.now order lines.now) result }
 {
     let machine: Machine<M> = boot(alloc, image)?;
-    let mut session = Session::new(machine, order);
-    ended(session.lines(lines, out))
+    let session = Session::new(machine, order);
+    let mut recorder = Recorder::new(alloc, session)?;
+    ended(recorder.lines(lines, out))
 }

@@ -109,6 +109,16 @@ fn write_refusal<D: Sink>(refusal: &Refusal, diag: &mut D) -> Result<(), WriteFa
                 Piece::Text("\n"),
             ],
         ),
+        Refusal::Checkpoint { file, offset } => write_pieces(
+            diag,
+            &[
+                Piece::Text("mmachine: file "),
+                Piece::Decimal(*file as u64),
+                Piece::Text(" checkpoint fault at "),
+                Piece::Decimal(*offset),
+                Piece::Text("\n"),
+            ],
+        ),
         Refusal::Schedule { file, offset } => write_pieces(
             diag,
             &[

@@ -3,8 +3,10 @@ ghost use Rattle.std.specs.Prelude.{◌≡◌, ◌+◌, ◌<◌, ◌≤◌, ◌^
 ghost use Rattle.std.specs.Option.{option_map};
 ghost use Rattle.std.specs.Io.KnownBytes.{IsAtEnd};
 ghost use Rattle.mm_io.specs.Files.{Rose, NoneFell, Holds, AsksOnly};
+ghost use Rattle.mm_model.specs.Spelling.{IsImage};
 ghost use Rattle.mm_machine.specs.Machine.{StandsFor};
-ghost use Rattle.mmachine.specs.Kinds.{Value, image_file, schedule_file, source_file, object_file, text_input, an_image, a_list, an_object, a_text};
+ghost use Rattle.mm_save.specs.Checkpoints.{saved_of, IsCheckpoint};
+ghost use Rattle.mmachine.specs.Kinds.{Value, image_file, schedule_file, source_file, object_file, checkpoint_file, text_input, an_image, a_list, an_object, a_checkpoint, a_text};
 ghost use Rattle.mmachine.specs.Files.{Stops, IsTooLong, FilesRead, InputRead, reading, drawing};
 ghost use Rattle.mmachine.specs.Table.{files_named, files_in, file_word, perhaps};
 ghost use Rattle.mmachine.specs.Orders.{values_of};
@@ -14,9 +16,10 @@ use crate::status::{Refusal, Stop};
 use mm_asm::{AsmError, assemble};
 use mm_image::{Image, ImageError};
 use mm_io::{Files, ReadError, Source, read_all, read_input};
-use mm_machine::Machine;
+use mm_machine::{Machine, Snapshot};
 use mm_mem::Boot;
 use mm_object::{Object, ObjectError};
+use mm_save::SaveError;
 use mm_sched::{Order, SchedError, Schedule};
 use mm_word::NoMemory;
 use std::alloc::Global;
@@ -32,6 +35,9 @@ const SOURCE_LIMIT: u64 = 8_388_608;
 
 /// The most bytes of an object file.
 const OBJECT_LIMIT: u64 = 2_097_152;
+
+/// The most bytes of a checkpoint file.
+const CHECKPOINT_LIMIT: u64 = 33_554_432;
 
 /// The most bytes of standard input.
 const INPUT_LIMIT: u64 = 1_048_576;
@@ -167,6 +173,36 @@ pub fn load_object<F: Files>(
     }
 }
 
+/// A state that a machine of an image can have, beside the slot that round robin issued last.
+#[derive(Drop)]
+pub struct Checkpoint {
+    pub snapshot: Snapshot,
+    pub last: Option<u8>,
+}
+
+/// Reads a checkpoint file, the second file, against the image of the first, and parses it.
+pub fn load_checkpoint<F: Files>(
+    alloc: Global,
+    files: &mut F,
+    name: &str,
+    image: &Image,
+) -> Result<Checkpoint, Stop>
+    ensures read { FilesRead (reading F.held F.faults F.asked files.old files.new) (an_image image.now ∷ []) ((name.now, checkpoint_file) ∷ [])
+        (λ c. a_checkpoint (saved_of c.snapshot c.last) ∷ []) result }
+    ensures checkpoint { IfOk result (λ c. IsCheckpoint image.now c.snapshot c.last) }
+    ensures kept { F.held files.new ≡ F.held files.old }
+    ensures later { NoneFell (F.faults files.old) (F.faults files.new) }
+{
+    let bytes = read_file(alloc, files, name, CHECKPOINT_LIMIT, 2)?;
+    match mm_save::read(alloc, image, &bytes) {
+        Ok((snapshot, last)) => Ok(Checkpoint { snapshot, last }),
+        Err(SaveError::Fault { offset }) => {
+            Err(Stop::Refused(Refusal::Checkpoint { file: 2, offset }))
+        }
+        Err(SaveError::NoMemory) => Err(Stop::NoMemory),
+    }
+}
+
 /// The order of a schedule file, the file of a number, or round robin where there is none.
 pub fn load_order<F: Files>(
     alloc: Global,
@@ -200,7 +236,8 @@ pub fn load_input<I: Source>(alloc: Global, input: &mut I) -> Result<Vec<u8>, St
 
 /// The machine of an image at its start.
 pub fn boot<M: Boot>(alloc: Global, image: &Image) -> Result<Machine<M>, NoMemory>
-    ensures { IfOk result (StandsFor image.now []) }
+    ensures stands { IfOk result (StandsFor image.now []) }
+    ensures image { IsImage image.now }
 {
     let memory = M::new(alloc, image.pages(), image.frames())?;
     Machine::new(alloc, image, memory)

@@ -46,6 +46,6 @@ fn write_run<M: Boot, O: Sink>(
     ensures { EndsWith (writing O.taken O.faults out.old out.new) (λ text. text ≡ report_after M.tells image.now (items_of order.now (start image.now) cycles)) result }
 {
     let mut machine: Machine<M> = boot(alloc, image)?;
-    issue(&mut machine, order, cycles);
+    issue(&mut machine, order, None, cycles);
     ended(report(&machine, image, out))
 }

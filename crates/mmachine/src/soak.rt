@@ -22,6 +22,6 @@ pub fn soak<M: Boot, O: Sink>(alloc: Global, asked: SoakWords, out: &mut O) -> R
 {
     let image = image(alloc, asked.number, asked.size)?;
     let mut machine: Machine<M> = boot(alloc, &image)?;
-    round_robin(&mut machine, asked.cycles);
+    round_robin(&mut machine, None, asked.cycles);
     ended(summary(&machine, out))
 }

@@ -42,6 +42,11 @@ pub enum Refusal {
         line: u32,
         column: u32,
     },
+    /// The file is no checkpoint of the image: where its fault stands.
+    Checkpoint {
+        file: u8,
+        offset: u64,
+    },
     /// The objects do not link: their first fault.
     Link(LinkFault),
     /// No slot of the image is of one of the groups.
@@ -65,7 +70,7 @@ pub enum Refusal {
 pub enum Status {
     /// All input was read, and the whole text was written.
     Done,
-    /// The words are in no row of the table of commands, or a number is out of its range.
+    /// The words are in no row of the table of commands: none has so many, or a number is out of its range, or they do not fit together.
     Usage,
     Refused(Refusal),
     /// A file could not be read.

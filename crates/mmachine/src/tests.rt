@@ -554,7 +554,7 @@ fn each_write_of_an_image_fails(rt: HostRuntime) -> Result<(), Fail> {
     Ok(())
 }
 
-// Ranges that are none, and one that a slot runs in.
+// Ranges that are none, and one that a slot runs in; a number of cycles that is none, and a file that is no checkpoint.
 #[test]
 fn ranges(rt: HostRuntime) -> Result<(), Fail> {
     for (words, line) in [
@@ -568,6 +568,11 @@ fn ranges(rt: HostRuntime) -> Result<(), Fail> {
         ),
         (["sweep", "PAIR", "1052664", "3"], "mmachine: held slot 0\n"),
         (["sweep", "PAIR", "0", "54"], "mmachine: held slot 0\n"),
+        (["continue", "PAIR", "PAIR", "01"], "mmachine: usage\n"),
+        (
+            ["continue", "PAIR", "PAIR", "1"],
+            "mmachine: file 2 checkpoint fault at 0\n",
+        ),
     ] {
         let (_, out, diag) = attempt(&rt, &words, [0; 4])?;
         assert_eq!(rt; out.taken().len(), 0);

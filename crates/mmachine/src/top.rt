@@ -14,12 +14,14 @@ use crate::debug::debug;
 use crate::dis::dis;
 use crate::extract::extract;
 use crate::generate::generate;
+use crate::going_on::go_on;
 use crate::grants::grants;
 use crate::holders::holders;
 use crate::line::write_line;
 use crate::link::link;
 use crate::migrate::migrate;
 use crate::run::run;
+use crate::save::save;
 use crate::soak::soak;
 use crate::solo::solo;
 use crate::status::{Refusal, Status, Stop};
@@ -126,6 +128,7 @@ fn by_row<M: Boot + Reset, F: Files, I: Source, O: Sink>(
 }
 
 /// Does what a command asks.
+#[tactic(auto, using(crate::proofs::Inputs::none_read))]
 fn by_command<M: Boot + Reset, F: Files, I: Source, O: Sink>(
     alloc: Global,
     command: Command<'_>,
@@ -155,6 +158,8 @@ fn by_command<M: Boot + Reset, F: Files, I: Source, O: Sink>(
         Command::Migrate(asked) => migrate(alloc, asked, files, out),
         Command::Sweep(asked) => sweep(alloc, asked, files, out),
         Command::Holders(asked) => holders(alloc, asked, files, out),
+        Command::Save(asked) => save::<M, F, O>(alloc, asked, files, out),
+        Command::Continue(asked) => go_on::<M, F, O>(alloc, asked, files, out),
     }
 }
 

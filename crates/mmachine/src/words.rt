@@ -1,7 +1,7 @@
 // The words of the command line, by the table of commands.
 ghost use Rattle.std.specs.Prelude.{◌≡◌, ◌≢◌, ◌≤◌, MatchOption, ℕ, Bool, List, Option, decimal};
 ghost use Rattle.mmachine.specs.Ranges.{IsRange};
-ghost use Rattle.mmachine.specs.Table.{InNoRow, Asks, AreTexts, FitTogether, behind, run, solo, grants, extract, asm, link, dis, debug, gen, soak, migrate, sweep, mode_text, texts, row_of};
+ghost use Rattle.mmachine.specs.Table.{InNoRow, Asks, AreTexts, FitTogether, behind, run, solo, grants, extract, asm, link, dis, debug, gen, soak, migrate, sweep, continue, mode_text, texts, row_of};
 
 use crate::group_list::read_groups;
 use arrayvec::ArrayVec;
@@ -37,6 +37,10 @@ pub enum Command<'a> {
     Sweep(RangeWords<'a>),
     /// `holders IMAGE BASE LOG`
     Holders(RangeWords<'a>),
+    /// `save IMAGE CYCLES [SCHEDULE]`
+    Save(RunWords<'a>),
+    /// `continue IMAGE CHECKPOINT CYCLES [SCHEDULE]`
+    Continue(ContinueWords<'a>),
 }
 
 /// `IMAGE CYCLES [SCHEDULE]`
@@ -125,6 +129,15 @@ pub struct RangeWords<'a> {
     pub log: u8,
 }
 
+/// `IMAGE CHECKPOINT CYCLES [SCHEDULE]`
+#[derive(Clone, Copy)]
+pub struct ContinueWords<'a> {
+    pub image: &'a str,
+    pub checkpoint: &'a str,
+    pub cycles: u64,
+    pub schedule: Option<&'a str>,
+}
+
 /// The most cycles of a command.
 const MAX_CYCLES: u64 = 1_000_000;
 
@@ -164,6 +177,8 @@ pub fn read_words(words: &[String]) -> Option<Command<'_>>
         "migrate" => Some(Command::Migrate(read_migrate_words(rest)?)),
         "sweep" => Some(Command::Sweep(read_range_words(rest)?)),
         "holders" => Some(Command::Holders(read_range_words(rest)?)),
+        "save" => Some(Command::Save(read_run_words(rest)?)),
+        "continue" => Some(Command::Continue(read_continue_words(rest)?)),
         _ => None,
     }
 }
@@ -385,4 +400,25 @@ fn read_log(digits: &[u8]) -> Option<u8>
         return None;
     }
     Some(log as u8)
+}
+
+fn read_continue_words(rest: &[String]) -> Option<ContinueWords<'_>>
+    ensures { MatchOption result ((image checkpoint : List ℕ) (cycles : ℕ) (schedule : Option (List ℕ)) → ¬ AreTexts (texts rest.now) (behind (continue image checkpoint cycles schedule)))
+        (λ words. AreTexts (texts rest.now) (behind (row_of (Command.Continue words)))) }
+{
+    match rest {
+        [image, checkpoint, cycles] => Some(ContinueWords {
+            image: image.as_str(),
+            checkpoint: checkpoint.as_str(),
+            cycles: number(cycles.as_bytes(), MAX_CYCLES)?,
+            schedule: None,
+        }),
+        [image, checkpoint, cycles, schedule] => Some(ContinueWords {
+            image: image.as_str(),
+            checkpoint: checkpoint.as_str(),
+            cycles: number(cycles.as_bytes(), MAX_CYCLES)?,
+            schedule: Some(schedule.as_str()),
+        }),
+        _ => None,
+    }
 }

@@ -11,3 +11,6 @@ returns-in-Asm g c = rw (c.in-Asm.is, ← c.number-in-Asm.ensures) c.write_piece
 
 pub returns-in-Object : goal.returns-in-Object
 returns-in-Object g c = rw (c.in-Object.is, ← c.number-in-Object.ensures) c.write_pieces-in-Object.ensures
+
+pub returns-in-Checkpoint : goal.returns-in-Checkpoint
+returns-in-Checkpoint g c = rw (c.in-Checkpoint.is) c.write_pieces-in-Checkpoint.ensures

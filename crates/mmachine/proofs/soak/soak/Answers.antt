@@ -1,22 +1,22 @@
 use Rattle.std.proofs.Common.{[], None, refl, ap, subst, arith}
 use Rattle.mm_io.proofs.Known.{writes_same}
 use Rattle.mm_model.specs.Image.{Image, start}
-use Rattle.mm_model.specs.State.{State}
 use Rattle.mm_model.specs.Run.{robin_from}
 use Rattle.mm_machine.specs.Machine.{StandsFor}
+use Rattle.mm_sched.specs.declared.schedule.Order.TheVariants as order
 use Rattle.mm_gen.specs.Generated.{generated}
 use Rattle.mm_gen.specs.Summary.{summary}
-use Rattle.mmachine.proofs.Reported.{start_cycles, start_state, ends_written}
+use Rattle.mmachine.proofs.Reported.{start_cycles, ends_written}
+use Rattle.mmachine.proofs.Issued.{issued_from_start}
 use Rattle.mmachine.proofs.soak.soak.Goals as goal
 
-pub round_robin-requires : goal.round_robin-requires
-round_robin-requires g c = omega (arith, c.requires.most, start_cycles _ _ c.in_ok-machine.ensures)
+pub round_robin-requires-clause-few : goal.round_robin-requires-clause-few
+round_robin-requires-clause-few g c = omega (arith, c.requires.most, start_cycles _ _ c.in_ok-machine.ensures.stands)
 
 pub returns : goal.returns
 returns g c =
     let i = generated c.args.asked.number c.args.asked.size in
     let m = c.in_ok-machine.machine in
-    let begun : StandsFor i [] m = subst (λ (j : Image). StandsFor j [] m) c.in_ok-image.ensures c.in_ok-machine.ensures in
-    let P : State → Type 0 = λ s. StandsFor i (robin_from s None c.args.asked.cycles) c.round_robin.new.machine in
-    let stands : StandsFor i (robin_from (start i) None c.args.asked.cycles) c.round_robin.new.machine = subst P (start_state i m begun) (c.round_robin.ensures i [] begun) in
+    let begun : StandsFor i [] m = subst (λ (j : Image). StandsFor j [] m) c.in_ok-image.ensures c.in_ok-machine.ensures.stands in
+    let stands : StandsFor i (robin_from (start i) None c.args.asked.cycles) c.round_robin.new.machine = issued_from_start i order.Robin c.args.asked.cycles m c.round_robin.new.machine begun c.round_robin.ensures.goes in
     ends_written _ _ _ _ refl _ _ c.ended.ensures (writes_same c.summary.ensures (ap summary stands.state))

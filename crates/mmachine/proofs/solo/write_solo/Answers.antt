@@ -1,4 +1,4 @@
-use Rattle.std.proofs.Common.{◌≡◌, ◌==◌, ℕ, List, [], take, ap, ◌∙◌, subst, arith}
+use Rattle.std.proofs.Common.{◌≡◌, ◌==◌, ℕ, List, take, ap, ◌∙◌, subst, arith}
 use Rattle.std.specs.List.{filter, list_any}
 use Rattle.mm_model.specs.Image.{Image}
 use Rattle.mm_model.specs.Groups.{among}
@@ -9,11 +9,12 @@ use Rattle.mm_machine.specs.Machine.{StandsFor}
 use Rattle.mmachine.specs.Groups.{members_of}
 use Rattle.mmachine.specs.Commands.{report_after}
 use Rattle.mmachine.proofs.Reported.{start_cycles, reported, ends_written}
+use Rattle.mmachine.proofs.Went.{went_from_start}
 use Rattle.mmachine.proofs.OwnItems.{members_keep}
 use Rattle.mmachine.proofs.solo.write_solo.Goals as goal
 
 pub follow-requires : goal.follow-requires
-follow-requires g c = omega (arith, c.items-2.ensures.limit, start_cycles _ _ c.in_ok-machine.ensures)
+follow-requires g c = omega (arith, c.items-2.ensures.limit, start_cycles _ _ c.in_ok-machine.ensures.stands)
 
 pub returns : goal.returns
 returns g c =
@@ -26,7 +27,7 @@ returns g c =
     (c.as_slice.ensures.value ∙ c.members.ensures ∙ ap members_of c.in_ok-own.ensures.own)
     ∙ members_keep i inside (subst IsImage c.image.view_is c.image.invariant) (take c.args.cycles c.args.list.now) in
     let stands : StandsFor own c.in_ok-items.items c.follow.new.machine =
-    subst (λ (xs : List ℕ). StandsFor own xs c.follow.new.machine) c.items-2.ensures.items (c.follow.ensures own [] c.in_ok-machine.ensures) in
+    subst (λ (xs : List ℕ). StandsFor own xs c.follow.new.machine) c.items-2.ensures.items (went_from_start own c.in_ok-machine.machine c.follow.new.machine _ c.in_ok-machine.ensures.stands c.follow.ensures) in
     ends_written _ _ _ _
     (c.in_ok-own.ensures.stand, ap (λ (j : Image). report_after g.M.Inspect.tells j c.in_ok-items.items) c.in_ok-own.ensures.own ∙ ap (report_after g.M.Inspect.tells (worlds.alone i inside)) items)
     _ _ c.ended.ensures (reported g.M.Inspect.tells own c.in_ok-items.items c.follow.new.machine stands c.report.ensures)

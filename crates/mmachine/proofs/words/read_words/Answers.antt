@@ -1,5 +1,5 @@
 use Rattle.std.proofs.Common.{codes, sym, ◌∙◌, arith}
-use Rattle.mmachine.proofs.WordsBehind.{in_no_row, no_run, no_trace, no_solo, no_grants, no_extract, no_asm, no_link, no_dis, no_debug, no_gen, no_soak, no_migrate, no_sweep, no_holders}
+use Rattle.mmachine.proofs.WordsBehind.{in_no_row, no_run, no_trace, no_solo, no_grants, no_extract, no_asm, no_link, no_dis, no_debug, no_gen, no_soak, no_migrate, no_sweep, no_holders, no_save, no_continue}
 use Rattle.mmachine.proofs.words.read_words.Goals as goal
 
 pub returns-in_err-read_run_words-in-run : goal.returns-in_err-read_run_words-in-run
@@ -85,3 +85,15 @@ returns-in_err-read_range_words-in-holders c =
     rw c.from_residual-in_err-read_range_words-in-holders.ensures
     (in_no_row c.args.words.now c.word-item.result (codes "holders") (omega arith) c.word-item.is (sym c.as_str.ensures.value ∙ c.in-holders.is)
     (no_holders _ c.in_err-read_range_words-in-holders.ensures))
+
+pub returns-in_err-read_run_words-in-save : goal.returns-in_err-read_run_words-in-save
+returns-in_err-read_run_words-in-save c =
+    rw c.from_residual-in_err-read_run_words-in-save.ensures
+    (in_no_row c.args.words.now c.word-item.result (codes "save") (omega arith) c.word-item.is (sym c.as_str.ensures.value ∙ c.in-save.is)
+    (no_save _ c.in_err-read_run_words-in-save.ensures))
+
+pub returns-in_err-read_continue_words-in-continue : goal.returns-in_err-read_continue_words-in-continue
+returns-in_err-read_continue_words-in-continue c =
+    rw c.from_residual-in_err-read_continue_words-in-continue.ensures
+    (in_no_row c.args.words.now c.word-item.result (codes "continue") (omega arith) c.word-item.is (sym c.as_str.ensures.value ∙ c.in-continue.is)
+    (no_continue _ c.in_err-read_continue_words-in-continue.ensures))

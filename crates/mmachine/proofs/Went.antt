@@ -1,0 +1,50 @@
+-- Cycles of a machine, one more at a time, and from an image's start.
+use Rattle.std.proofs.Common.{◌≡◌, ℕ, ◌<◌, inl, inr, List, [], ◌∷◌, ◌++◌, Option, Some, None, refl, sym, ap, ◌∙◌, subst}
+use Rattle.mm_mem.specs.declared.memory.Memory.{Ghosts}
+use Rattle.mm_model.specs.Uses.{Use, takes_none, takes_both}
+use Rattle.mm_model.specs.State.{State}
+use Rattle.mm_model.specs.Image.{Image}
+use Rattle.mm_model.specs.Run.{after, run, uses, turn_of, last_item}
+use Rattle.mm_machine.specs.declared.machine.Machine.{Machine}
+use Rattle.mm_machine.specs.Machine.{state_of, Takes, StandsTo, StandsFor}
+use Rattle.mm_machine.proofs.Keeping.{run_more, uses_more}
+use Rattle.mm_sched.specs.Following.{IsNext}
+use Rattle.mmachine.specs.Going.{WentOn}
+use Rattle.mmachine.proofs.Reported.{start_state}
+
+module _ {M : Type 0} {memory : Ghosts M} where
+  -- no item
+  pub went_nowhere : (m : Machine M memory) → WentOn m m []
+  unfolding run uses
+  went_nowhere m = record { state = refl; takes = takes_none m.mem }
+
+  -- one item more
+  pub went_further : (old mid new : Machine M memory) (front : List ℕ) (n : ℕ) → WentOn old mid front → state_of new ≡ after (state_of mid) n
+      → Takes mid new (turn_of (state_of mid) n).uses → WentOn old new (front ++ n ∷ [])
+  went_further old mid new front n went is takes = record {
+    state = is ∙ ap (λ (s : State). after s n) went.state ∙ sym (run_more (state_of old) front n);
+    takes = subst (λ (us : List Use). Takes old new us) (sym (uses_more (state_of old) front n))
+        (takes_both went.takes (subst (λ (s : State). Takes mid new (turn_of s n).uses) went.state takes));
+  }
+
+  -- from the start of an image
+  pub went_from_start : (i : Image) (old new : Machine M memory) (items : List ℕ) → StandsFor i [] old → WentOn old new items → StandsFor i items new
+  unfolding uses
+  went_from_start i old new items begun went = record {
+    state = went.state ∙ ap (λ (s : State). run s items) (start_state i old begun);
+    uses_made = subst (λ (s : State). new_stands (uses s items)) (start_state i old begun) (went.takes.each [] begun.uses_made);
+  }
+    where
+      new_stands : List Use → Type 0
+      new_stands us = StandsTo new us
+
+-- the last item of a list with one behind it
+pub last_more : (before : Option ℕ) (items : List ℕ) (n : ℕ) → last_item before (items ++ n ∷ []) ≡ Some n
+last_more before [] n = refl
+last_more before (m ∷ items) n = last_more (Some m) items n
+
+-- a slot that comes next has one of 64 numbers
+pub next_below : (mask : ℕ) (last : Option ℕ) (n : ℕ) → IsNext mask last n → n < 64
+next_below mask None n next = next.small
+next_below mask (Some last) n (inl above) = above.small
+next_below mask (Some last) n (inr (none, least)) = least.small

@@ -1,0 +1,44 @@
+use Rattle.std.proofs.Common.{[], ◌∷◌, Ok, refl, sym, ◌∙◌, arith, append-nil}
+use Rattle.mm_word.specs.Adding.{adds_both}
+use Rattle.mm_save.specs.Checkpoints.{saved_of}
+use Rattle.mmachine.specs.Kinds.{an_image, a_checkpoint, image_file, checkpoint_file}
+use Rattle.mmachine.specs.Files.{FilesRead, reading}
+use Rattle.mmachine.proofs.Reading.{files_then}
+use Rattle.mmachine.proofs.Rows.{row_stops, row_ends}
+use Rattle.mmachine.proofs.going_on.go_on.Goals as goal
+
+pub returns-in_err-image : goal.returns-in_err-image
+returns-in_err-image g c = row_stops _ c.from_residual.result (c.in_err-image.ensures.read [] refl) refl refl c.from_residual.ensures.1
+
+pub returns-in_err-checkpoint : goal.returns-in_err-checkpoint
+returns-in_err-checkpoint g c =
+    row_stops _ c.from_residual-in_err-checkpoint.result
+    (files_then (c.in_ok-image.ensures.read [] refl) c.in_err-checkpoint.ensures.read
+    (record { kept = c.load_image.ensures.kept; counts = refl; later = c.load_image.ensures.later; asked = λ names more one two. adds_both one two }))
+    refl refl c.from_residual-in_err-checkpoint.ensures.1
+
+pub returns-in_err-order : goal.returns-in_err-order
+returns-in_err-order g c =
+    let i = c.in_ok-image.image in
+    let k = c.in_ok-checkpoint.checkpoint in
+    let both : FilesRead (reading g.F.Files.held g.F.Files.faults g.F.Files.asked c.args.files.now c.load_checkpoint.new.files) [] ((c.args.asked.image.now, image_file) ∷ (c.args.asked.checkpoint.now, checkpoint_file) ∷ [])
+    (λ k. an_image i ∷ a_checkpoint (saved_of k.snapshot k.last) ∷ []) (Ok k) =
+    files_then (c.in_ok-image.ensures.read [] refl) c.in_ok-checkpoint.ensures.read
+    (record { kept = c.load_image.ensures.kept; counts = refl; later = c.load_image.ensures.later; asked = λ names more one two. adds_both one two }) in
+    row_stops _ c.from_residual-in_err-order.result
+    (files_then both (c.in_err-order.ensures (an_image i ∷ a_checkpoint (saved_of k.snapshot k.last) ∷ []) refl)
+    (record { kept = c.load_checkpoint.ensures.kept ∙ c.load_image.ensures.kept; counts = refl; later = λ n. omega (arith, c.load_image.ensures.later n, c.load_checkpoint.ensures.later n); asked = λ names more one two. adds_both one two }))
+    (sym (append-nil _)) refl c.from_residual-in_err-order.ensures.1
+
+pub returns : goal.returns
+returns g c =
+    let i = c.in_ok-image.image in
+    let k = c.in_ok-checkpoint.checkpoint in
+    let both : FilesRead (reading g.F.Files.held g.F.Files.faults g.F.Files.asked c.args.files.now c.load_checkpoint.new.files) [] ((c.args.asked.image.now, image_file) ∷ (c.args.asked.checkpoint.now, checkpoint_file) ∷ [])
+    (λ k. an_image i ∷ a_checkpoint (saved_of k.snapshot k.last) ∷ []) (Ok k) =
+    files_then (c.in_ok-image.ensures.read [] refl) c.in_ok-checkpoint.ensures.read
+    (record { kept = c.load_image.ensures.kept; counts = refl; later = c.load_image.ensures.later; asked = λ names more one two. adds_both one two }) in
+    row_ends _ _
+    (files_then both (c.in_ok-order.ensures (an_image i ∷ a_checkpoint (saved_of k.snapshot k.last) ∷ []) refl)
+    (record { kept = c.load_checkpoint.ensures.kept ∙ c.load_image.ensures.kept; counts = refl; later = λ n. omega (arith, c.load_image.ensures.later n, c.load_checkpoint.ensures.later n); asked = λ names more one two. adds_both one two }))
+    refl c.write_further.ensures (λ r no. no) (λ text is. is)

@@ -1,0 +1,28 @@
+use Rattle.std.proofs.Common.{[], ◌∷◌, refl, sym, append-nil}
+use Rattle.mm_word.specs.Adding.{adds_both}
+use Rattle.mm_model.specs.Image.{start}
+use Rattle.mm_sched.specs.Orders.{items_of}
+use Rattle.mmachine.specs.Kinds.{an_image}
+use Rattle.mmachine.proofs.Reading.{files_then}
+use Rattle.mmachine.proofs.Reported.{issued}
+use Rattle.mmachine.proofs.Rows.{row_stops, row_ends}
+use Rattle.mmachine.proofs.save.save.Goals as goal
+
+pub returns-in_err-image : goal.returns-in_err-image
+returns-in_err-image g c = row_stops _ c.from_residual.result (c.in_err-image.ensures.read [] refl) refl refl c.from_residual.ensures.1
+
+pub returns-in_err-order : goal.returns-in_err-order
+returns-in_err-order g c =
+    row_stops _ c.from_residual-in_err-order.result
+    (files_then (c.in_ok-image.ensures.read [] refl) (c.in_err-order.ensures (an_image c.in_ok-image.image ∷ []) refl)
+    (record { kept = c.load_image.ensures.kept; counts = refl; later = c.load_image.ensures.later; asked = λ names more one two. adds_both one two }))
+    (sym (append-nil _)) refl c.from_residual-in_err-order.ensures.1
+
+pub returns : goal.returns
+returns g c =
+    let i = c.in_ok-image.image in
+    let order = c.in_ok-order.order in
+    row_ends _ _
+    (files_then (c.in_ok-image.ensures.read [] refl) (c.in_ok-order.ensures (an_image i ∷ []) refl)
+    (record { kept = c.load_image.ensures.kept; counts = refl; later = c.load_image.ensures.later; asked = λ names more one two. adds_both one two }))
+    refl c.write_saved.ensures (λ r no. no) (λ text is. (items_of order (start i) c.args.asked.cycles, issued order i c.args.asked.cycles, is))
