@@ -1,0 +1,12 @@
+-- What the readers of the two texts ask of a word and of a link.
+use Rattle.std.specs.Prelude.{ℕ, Bool, ◌&&◌, ◌||◌, ◌==◌, List}
+use Rattle.std.specs.List.{list_any}
+use Rattle.mm_net.specs.declared.link.Link.{Link}
+
+-- the word has the byte
+abbrev pub has : ℕ → List ℕ → Bool
+has mark word = list_any (λ b. b == mark) word
+
+-- the link takes or puts at the word of the node
+abbrev pub has_end : ℕ → ℕ → Link → Bool
+has_end node address link = (link.from == node && link.take == address) || (link.to == node && link.put == address)

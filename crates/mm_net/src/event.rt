@@ -1,0 +1,74 @@
+// One word of a text of events.
+ghost use Rattle.std.specs.Prelude.{◌≡◌, ℕ, ◌∷◌, ◌++◌, false, IfSome, IsNone};
+ghost use Rattle.mm_model.specs.Schedule.{IsItem};
+ghost use Rattle.mm_net.specs.Marks.{has};
+ghost use Rattle.mm_net.specs.Events.{IsEvent, Spells};
+
+use crate::NetItem;
+use crate::words::split;
+use mm_sched::{ITEM_LIMIT, number};
+
+/// The slot of a text `S` or `S*K`, and how many turns of it the text says.
+fn turns(text: &[u8]) -> Option<(u8, u32)>
+    ensures some { IfSome result (λ said. IsItem text.now said.0 said.1) }
+    ensures none { IsNone result → (slot count : ℕ) → ¬ IsItem text.now slot count }
+{
+    let Some((slot, count)) = split(text, b'*') else {
+        return Some((number(text, 255)? as u8, 1));
+    };
+    let slot = number(slot, 255)?;
+    let count = number(count, ITEM_LIMIT as u64)?;
+    if count > 0 {
+        Some((slot as u8, count as u32))
+    } else {
+        None
+    }
+}
+
+/// What a text `N:S` or `N:S*K` says, by its two parts.
+fn turn(node: &[u8], rest: &[u8]) -> Option<(NetItem, u32)>
+    requires { has 58 node.now ≡ false }
+    ensures some { IfSome result (λ said. IsEvent said.0 × Spells (node.now ++ 58 ∷ rest.now) said.0 said.1) }
+    ensures none { IsNone result → (item : NetItem) (count : ℕ) → IsEvent item → ¬ Spells (node.now ++ 58 ∷ rest.now) item count }
+{
+    let node = number(node, 7)? as u8;
+    let (slot, count) = turns(rest)?;
+    Some((NetItem::Turn { node, slot }, count))
+}
+
+/// What a text `+L` says, by the part behind the `+`.
+fn send(digits: &[u8]) -> Option<(NetItem, u32)>
+    ensures some { IfSome result (λ said. IsEvent said.0 × Spells (43 ∷ digits.now) said.0 said.1) }
+    ensures none { IsNone result → (item : NetItem) (count : ℕ) → IsEvent item → ¬ Spells (43 ∷ digits.now) item count }
+{
+    let link = number(digits, 63)? as u8;
+    Some((NetItem::Send { link }, 1))
+}
+
+/// What a text `L@K` says, by its two parts.
+fn carry(link: &[u8], integer: &[u8]) -> Option<(NetItem, u32)>
+    requires { has 64 link.now ≡ false }
+    ensures some { IfSome result (λ said. IsEvent said.0 × Spells (link.now ++ 64 ∷ integer.now) said.0 said.1) }
+    ensures none { IsNone result → (item : NetItem) (count : ℕ) → IsEvent item → ¬ Spells (link.now ++ 64 ∷ integer.now) item count }
+{
+    let link = number(link, 63)? as u8;
+    let number = number(integer, 999_999)? as u32;
+    Some((NetItem::Carry { link, number }, 1))
+}
+
+/// The item of a word, and how many of it the word says.
+pub fn event(word: &[u8]) -> Option<(NetItem, u32)>
+    ensures some { IfSome result (λ said. IsEvent said.0 × Spells word.now said.0 said.1) }
+    ensures none { IsNone result → (item : NetItem) (count : ℕ) → IsEvent item → ¬ Spells word.now item count }
+{
+    if let [b'+', link @ ..] = word {
+        return send(link);
+    }
+    if let Some((link, number)) = split(word, b'@') {
+        return carry(link, number);
+    }
+    match split(word, b':') {
+        Some((node, rest)) => turn(node, rest),
+        None => None,
+    }
+}

@@ -1,0 +1,49 @@
+// The runs of bytes between blanks and comments.
+ghost use Rattle.std.specs.Prelude.{◌≡◌, ◌<◌, ◌≤◌, ◌∷◌, length, slice_range, slice_index_or, false, true, IsTrue};
+ghost use Rattle.mm_model.specs.Schedule.{is_blank as blank};
+ghost use Rattle.mm_sched.specs.Places.{runs_at, is_word_byte};
+
+fn is_blank(b: u8) -> bool
+    ensures { result ≡ blank b }
+{
+    b == b'\t' || b == b'\n' || b == b'\r' || b == b' '
+}
+
+/// The place of the first run from a place on, or the end of the text.
+pub fn run_start(bytes: &[u8], from: usize) -> usize
+    requires { from ≤ length bytes.now }
+    ensures from { from ≤ result }
+    ensures end { result ≤ length bytes.now }
+    ensures same { runs_at bytes.now result ≡ runs_at bytes.now from }
+    ensures begins { result < length bytes.now → is_word_byte (slice_index_or bytes.now result 0) ≡ true }
+{
+    let mut in_comment = false;
+    for at in from..bytes.len() {
+        let b = bytes[at];
+        if b == b'\n' {
+            in_comment = false;
+        } else if in_comment || b == b'#' {
+            in_comment = true;
+        } else if !is_blank(b) {
+            return at;
+        }
+    }
+    bytes.len()
+}
+
+/// Where the run ends that begins at a place.
+pub fn run_end(bytes: &[u8], from: usize) -> usize
+    requires inside { from < length bytes.now }
+    requires begins { is_word_byte (slice_index_or bytes.now from 0) ≡ true }
+    ensures from { from < result }
+    ensures end { result ≤ length bytes.now }
+    ensures run { runs_at bytes.now from ≡ (from, slice_range bytes.now from result) ∷ runs_at bytes.now result }
+{
+    for at in from + 1..bytes.len() {
+        let b = bytes[at];
+        if is_blank(b) || b == b'#' {
+            return at;
+        }
+    }
+    bytes.len()
+}
