@@ -1,6 +1,5 @@
 pub mod Words
-pub mod Items
-pub mod Clashes
+pub mod Numbers
 pub mod Texts
 pub mod Bits
 pub mod Rounds

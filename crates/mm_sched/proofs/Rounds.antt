@@ -1,5 +1,5 @@
 -- The next slot of a mask is the next running slot.
-use Rattle.std.proofs.Common.{◌≡◌, ℕ, ◌+◌, ◌<◌, ◌⊎◌, inl, inr, Bool, true, false, nat_lt, ◌==◌, if◌then◌else◌, List, [], ◌∷◌, map, Option, Some, None, refl, sym, ap, ◌∙◌, subst, arith}
+use Rattle.std.proofs.Common.{◌≡◌, ℕ, ◌<◌, ◌⊎◌, inl, inr, Bool, true, false, nat_lt, ◌==◌, if◌then◌else◌, List, [], ◌∷◌, map, Option, Some, None, refl, sym, ap, ◌∙◌, arith}
 use Rattle.std.specs.List.{AllByRecursion}
 use Rattle.std.specs.List.Sorted.{IsStrictlyIncreasing}
 use Rattle.std.specs.Int.{bit_at}
@@ -8,10 +8,10 @@ use Rattle.std.proofs.lemmas.Bool.Decides.{nat_tests}
 use Rattle.mm_model.specs.State.{Row, Core, slot_at, row_in, slot_of}
 use Rattle.mm_model.specs.Spelling.{numbers_of}
 use Rattle.mm_model.specs.Turn.{is_running}
-use Rattle.mm_model.specs.Run.{first_running, or_else, any_number, next_running}
+use Rattle.mm_model.specs.Run.{first_running, any_number, next_running}
 use Rattle.mm_model.proofs.CoreRows.{above_first, rest_rises, Rises}
-use Rattle.mm_sched.specs.Shown.{runs, runs_at, Shows}
-use Rattle.mm_sched.specs.Following.{IsLeast, NoneAbove, IsNext}
+use Rattle.mm_sched.specs.Shown.{runs, Shows}
+use Rattle.mm_sched.specs.Following.{IsLeast, IsNext}
 
 abbrev numbers : List Row → List ℕ
 numbers rows = numbers_of (map (λ (row : Row). row.slot) rows)

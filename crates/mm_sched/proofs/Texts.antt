@@ -1,36 +1,34 @@
 -- What a text means, and where its fault is: one of the two, and each once.
-use Rattle.std.proofs.Common.{◌≡◌, ℕ, ◌+◌, ◌<◌, ◌≤◌, ◌^◌, false, ◌⊎◌, inl, inr, List, [], ◌∷◌, ◌++◌, length, replicate, decimal, refl, sym, ap, ◌∙◌, subst, arith, append_assoc, append-nil}
+use Rattle.std.proofs.Common.{◌≡◌, ℕ, ◌+◌, ◌<◌, ◌≤◌, false, ◌⊎◌, inl, inr, List, [], ◌∷◌, ◌++◌, length, replicate, decimal, refl, sym, ap, ◌∙◌, subst, arith, append_assoc, append-nil}
 use Rattle.std.proofs.lemmas.Fmt.{decimal_injective}
 use Rattle.std.proofs.Math.ListN.{drop_of_length-le}
 use Rattle.std.proofs.lemmas.List.{length-append, length-replicate}
 use Rattle.mm_model.specs.Schedule.{IsItem, Lists, Means, FaultsAt, runs_of, item_limit}
 use Rattle.mm_model.specs.Schedule.Lists.{no_word, word}
 use Rattle.mm_sched.specs.Places.{runs_in}
-use Rattle.mm_sched.specs.Stars.{FirstStar}
-use Rattle.mm_sched.proofs.Items.{plain_word, first_star, no_star_single, around_front, around_back}
+use Rattle.mm_sched.specs.Numbers.{IsCount}
+use Rattle.mm_sched.proofs.Numbers.{begins_item, says}
 
 -- 1. A word says one thing.
 
-pub item_unique : (w : List ℕ) (n k m j : ℕ) → IsItem w n k → IsItem w m j → (n ≡ m) × (k ≡ j)
-item_unique w n k m j a b =
-    let small_n : n < 2 ^ 64 = omega (arith, a.number_limit) in
-    let small_m : m < 2 ^ 64 = omega (arith, b.number_limit) in
-    let small_k : k < 2 ^ 64 = omega (arith, a.count_limit) in
-    let small_j : j < 2 ^ 64 = omega (arith, b.count_limit) in
+count_unique : (rest : List ℕ) (k j : ℕ) → IsCount rest k → IsCount rest j → k ≡ j
+count_unique rest k j a b =
     elim a.spelled [
       | inl one ↦ elim b.spelled [
-        | inl other ↦ (decimal_injective n m small_n small_m (sym one.0 ∙ other.0), one.1 ∙ sym other.1)
-        | inr other ↦ absurd (no_star_single m j w small_m (plain_word w n small_n one.0) other)
+        | inl other ↦ one.1 ∙ sym other.1
+        | inr other ↦ absurd (cc (one.0, other))
       ]
       | inr one ↦ elim b.spelled [
-        | inl other ↦ absurd (no_star_single n k w small_n (plain_word w m small_m other.0) one)
-        | inr other ↦
-            let star : FirstStar w (length (decimal n)) = first_star w n k small_n one in
-            let front : decimal n ≡ decimal m = sym (around_front n k (length (decimal n)) w small_n star one) ∙ around_front m j (length (decimal n)) w small_m star other in
-            let back : decimal k ≡ decimal j = sym (around_back n k (length (decimal n)) w small_n star one) ∙ around_back m j (length (decimal n)) w small_m star other in
-            (decimal_injective n m small_n small_m front, decimal_injective k j small_k small_j back)
+        | inl other ↦ absurd (cc (one, other.0))
+        | inr other ↦ decimal_injective k j (omega (arith, a.limit)) (omega (arith, b.limit)) (let same : decimal k ≡ decimal j = cc (one, other) in same)
       ]
     ]
+
+pub item_unique : (w : List ℕ) (n k m j : ℕ) → IsItem w n k → IsItem w m j → (n ≡ m) × (k ≡ j)
+item_unique w n k m j a b =
+    let f = begins_item w n k a in
+    let other = says w f.0 n m j a.number_limit f.1 b in
+    (other.0, count_unique f.0 k j f.2 other.1)
 
 -- 2. Words list one thing.
 

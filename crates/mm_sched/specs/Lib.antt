@@ -1,5 +1,5 @@
 pub mod Places
 pub mod Following
-pub mod Stars
+pub mod Numbers
 pub mod Shown
 pub mod Orders

@@ -1,15 +1,16 @@
 //! Schedules: which slot's turn, or which port's delivery, each cycle is.
 #![tactic(auto)]
 
-mod item;
 mod robin;
 mod runs;
 mod schedule;
 #[cfg(test)]
 mod tests;
 mod text;
+mod word;
 
-pub use item::number;
 pub use robin::Robin;
+pub use runs::{run_end, run_start};
 pub use schedule::{ITEM_LIMIT, Order, Schedule, only};
 pub use text::{SchedError, parse};
+pub use word::{item, number};

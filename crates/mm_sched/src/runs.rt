@@ -1,7 +1,7 @@
 // The runs of bytes between blanks and comments.
 ghost use Rattle.std.specs.Prelude.{◌≡◌, ◌<◌, ◌≤◌, ◌∷◌, length, slice_range, slice_index_or, false, true, IsTrue};
 ghost use Rattle.mm_model.specs.Schedule.{is_blank as blank};
-ghost use Rattle.mm_sched.specs.Places.{runs_at, is_word_byte};
+ghost use Rattle.mm_sched.specs.Places.{runs_at, runs_in, is_word_byte};
 
 fn is_blank(b: u8) -> bool
     ensures { result ≡ blank b }
@@ -9,7 +9,8 @@ fn is_blank(b: u8) -> bool
     b == b'\t' || b == b'\n' || b == b'\r' || b == b' '
 }
 
-/// The place of the first run from a place on, or the end of the text.
+/// Where the first run of bytes begins that are neither blank nor in a comment, from a place on that is in no comment; or the end of
+/// the text.
 pub fn run_start(bytes: &[u8], from: usize) -> usize
     requires { from ≤ length bytes.now }
     ensures from { from ≤ result }
@@ -17,14 +18,29 @@ pub fn run_start(bytes: &[u8], from: usize) -> usize
     ensures same { runs_at bytes.now result ≡ runs_at bytes.now from }
     ensures begins { result < length bytes.now → is_word_byte (slice_index_or bytes.now result 0) ≡ true }
 {
-    let mut in_comment = false;
-    for at in from..bytes.len() {
+    let mut at = from;
+    while at < bytes.len() {
         let b = bytes[at];
-        if b == b'\n' {
-            in_comment = false;
-        } else if in_comment || b == b'#' {
-            in_comment = true;
-        } else if !is_blank(b) {
+        if b == b'#' {
+            at = line_end(bytes, at + 1);
+        } else if is_blank(b) {
+            at += 1;
+        } else {
+            return at;
+        }
+    }
+    at
+}
+
+/// Where the line ends, at its newline or with the text, of a comment that goes on at a place.
+fn line_end(bytes: &[u8], from: usize) -> usize
+    requires { from ≤ length bytes.now }
+    ensures from { from ≤ result }
+    ensures end { result ≤ length bytes.now }
+    ensures same { runs_at bytes.now result ≡ runs_in true bytes.now from }
+{
+    for at in from..bytes.len() {
+        if bytes[at] == b'\n' {
             return at;
         }
     }

@@ -2,9 +2,9 @@
 ghost use Rattle.std.specs.Prelude.{◌≡◌, ◌⊎◌, ℕ, ◌++◌, List, IfOk, OnOk, Ok, Err, replicate};
 ghost use Rattle.mm_model.specs.Schedule.{Means, FaultsAt};
 
-use crate::item::item;
 use crate::runs::{run_end, run_start};
 use crate::schedule::{ITEM_LIMIT, Schedule};
+use crate::word::item;
 use mm_word::NoMemory;
 use std::alloc::Global;
 
@@ -47,7 +47,11 @@ pub fn parse(alloc: Global, bytes: &[u8]) -> Result<Schedule, SchedError>
     ensures reads { (items : List ℕ) → Means bytes.now items → (result ≡ Ok items) ⊎ (result ≡ Err SchedError.NoMemory) }
     ensures refuses { (offset : ℕ) → FaultsAt bytes.now offset → (result ≡ Err (SchedError.Fault offset)) ⊎ (result ≡ Err SchedError.NoMemory) }
 {
-    let mut items = Vec::new(alloc);
+    // Room for one item of each word: a byte at least stands between two words.
+    let room = bytes.len().div_ceil(2).min(ITEM_LIMIT);
+    let Ok(mut items) = Vec::with_capacity(alloc, room) else {
+        return Err(SchedError::NoMemory);
+    };
     let mut at = run_start(bytes, 0);
     while at < bytes.len() {
         let end = run_end(bytes, at);
