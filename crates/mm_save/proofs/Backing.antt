@@ -1,5 +1,5 @@
 -- What the code of a recorder does to a line.
-use Rattle.std.proofs.Common.{◌≡◌, ℕ, ◌-◌, ◌≤◌, true, List, Option, Some, None, sym, ap, ap₂, subst, ◌∙◌, arith}
+use Rattle.std.proofs.Common.{◌≡◌, ℕ, ◌-◌, ◌≤◌, true, List, Option, Some, None, refl, sym, ap, ap₂, subst, ◌∙◌, arith}
 use Rattle.std.specs.Prelude.{min, slice_get, IsSomeAnd}
 use Rattle.std.specs.Int.{abs_diff}
 use Rattle.std.proofs.lemmas.Bool.Decides.{nat_tests}
@@ -80,7 +80,7 @@ module _ (s was : Session) (start : Point) (first : Session) (stays : StaysSo s 
   plain_first t is = ap (λ (u : Session). began_at u start) is ∙ answer_first s (command_of line) start ∙ stays.began
 
   stood : (i : Image) (kept now : List Point) → StandsFor i was → StandsFor i first → Recalls i (recording_by s start now)
-  stood i kept now stands begins = record { session = subst (StandsFor i) (sym stays.session) stands; first = subst (StandsFor i) (sym stays.began) begins }
+  stood i kept now stands begins = record { order = refl; session = subst (StandsFor i) (sym stays.session) stands; first = subst (StandsFor i) (sym stays.began) begins }
 
   pub plain_recalls : (i : Image) (t : Session) (ring : List Point) → t ≡ (answer_to s line).session → StandsFor i was → StandsFor i first → Recalls i (recording_by t start ring)
   plain_recalls i t ring is stands begins =
@@ -105,6 +105,12 @@ module _ (s was : Session) (start : Point) (first : Session) (stays : StaysSo s 
 
     pub back_more : More ≡ (recalled first was line).go
     back_more = ap (λ (a : Answer). a.go) (sym (backwards first was line n some))
+
+    -- the total is lowered by the least of N and the total
+    pub back_lowers : (total : ℕ) → total ≡ total_of s - count → (m : ℕ) → back_of line ≡ Some m → total ≡ total_of was - min m (total_of was)
+    back_lowers total is m asks =
+        let same : n ≡ m = cc in
+        is ∙ ap₂ (λ (a b : ℕ). a - b) (ap total_of stays.session) (same_count ∙ ap (λ (k : ℕ). min k (total_of was)) same)
 
 -- 3. The ring.
 

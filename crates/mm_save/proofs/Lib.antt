@@ -1,4 +1,5 @@
 pub mod Answered
+pub mod CheckpointBytes
 pub mod CleanCounts
 pub mod CleanEach
 pub mod CleanEntries
@@ -25,12 +26,16 @@ pub mod FewOutputs
 pub mod Forms
 pub mod GoesOn
 pub mod Inserted
+pub mod KeptTotals
 pub mod Lists
 pub mod Made
+pub mod OutputBytes
 pub mod Parts
 pub mod Reached
 pub mod Records
 pub mod RobinOn
+pub mod RunCheckpoints
+pub mod RunParts
 pub mod Runs
 pub mod SameState
 pub mod SpelledEntries

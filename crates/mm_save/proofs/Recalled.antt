@@ -1,4 +1,4 @@
--- What a recorder keeps of its session: it is where as many cycles lead as it has issued, and so was each kept state.
+-- What a recorder keeps of its session: it is where as many cycles lead as its total says, and so was each kept state.
 use Rattle.std.proofs.Common.{◌≡◌, ℕ, zero, suc, ◌+◌, ◌-◌, ◌≤◌, inl, inr, List, [], ◌∷◌, ◌++◌, length, get_or, Option, Some, None, refl, sym, ap, ◌∙◌, arith}
 use Rattle.std.proofs.lemmas.Bool.{cases_lt}
 use Rattle.std.proofs.lemmas.List.Elements.{All-append, All-cons, All-drop, All-nil}
@@ -56,7 +56,7 @@ one_cycle s item next = ap (λ (o : Option ℕ). then_stepped s o (λ n. issued 
 
 -- 2. Sessions on the way of another one.
 
--- as many cycles lead there from the first one as it has issued
+-- as many cycles lead there from the first one as its total says
 abbrev pub IsOn : (first s : Session) → Type 0
 IsOn first s = stepped (bare first) (total_of s) ≡ bare s
 
@@ -141,7 +141,7 @@ module _ (s : Session) (start : Point) (ring : List Point) (r : Remembers s star
   abbrev first : Session
   first = began_at s start
 
-  -- so many cycles are issued, where the session has issued as many
+  -- so many cycles are issued, where the session's total is as many
   reaches : (target : ℕ) → target ≤ total_of s → total_of (stepped first target) ≡ target
   reaches target few =
       let u : StepsUpTo first target = steps_issue first target in

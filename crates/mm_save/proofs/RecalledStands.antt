@@ -15,7 +15,7 @@ use Rattle.mm_debug.proofs.LinesStand.{answer_order}
 use Rattle.mm_debug.proofs.Standing.{begun_stands, answer_stands, stepped_stands}
 use Rattle.mm_save.specs.Recorder.{Recalls, back_of, bare, began_at, with_state, gone_back, answer_back, recalled, recollection}
 use Rattle.mm_save.specs.Recorded.{IsOnTheWay, Remembers, recording_by}
-use Rattle.mm_save.specs.Laws.{GoingBackChangesNoRun}
+use Rattle.mm_save.specs.Laws.{IsInRun, GoingBackChangesNoRun, after_lines}
 use Rattle.mm_save.proofs.Recalled.{stepped_own, answer_first, back_first, back_stands, point_here, went_back}
 
 -- breaks and watches are no part of it
@@ -65,17 +65,27 @@ module _ (i : Image) (first : Session) (begins : StandsFor i first) where
       let next = recalled_goes s line now in
       behind (recalled first s line) (recalled first s line).go (λ t. recollection first t lines) next (recollection_goes (recalled first s line).session lines next)
 
+  -- also behind a `quit`
+  pub lines_go : (s : Session) (lines : List (List ℕ)) → Goes i first s → Goes i first (after_lines first s lines)
+  lines_go s [] now = now
+  lines_go s (line ∷ lines) now = lines_go (recalled first s line).session lines (recalled_goes s line now)
+
+in_run : (i : Image) (first s : Session) → Goes i first s → IsInRun i first.order s
+in_run i first s goes = goes.stands.state ∙ ap (λ (o : Order). run (start i) (first_items i o (total_of s))) goes.order
+
 pub going_back_changes_no_run : GoingBackChangesNoRun
 going_back_changes_no_run i order lines =
     let first : Session = begun order (start i) in
     let stands = begun_stands i order in
-    let last : Session = (recollection first first lines).session in
-    let goes : Goes i first last = recollection_goes i first stands first lines (record { order = refl; stands = stands }) in
-    goes.stands.state ∙ ap (λ (o : Order). run (start i) (first_items i o (total_of last))) goes.order
+    let begins : Goes i first first = record { order = refl; stands = stands } in (
+      in_run i first (recollection first first lines).session (recollection_goes i first stands first lines begins),
+      in_run i first (after_lines first first lines) (lines_go i first stands first lines begins),
+    )
 
 -- a recorder after an answer of its session
 pub answer_recalls : (i : Image) (s : Session) (c : Command) (start : Point) (ring now : List Point) → Recalls i (recording_by s start ring) → Recalls i (recording_by (answer s c).session start now)
 answer_recalls i s c start ring now recalls = record {
+  order = refl;
   session = answer_stands i s c recalls.session;
   first = subst (StandsFor i) (sym (answer_first s c start)) recalls.first;
 }
@@ -84,10 +94,11 @@ answer_recalls i s c start ring now recalls = record {
 pub back_recalls : (i : Image) (s : Session) (start : Point) (ring now : List Point) (r : Remembers s start ring) (q : Point) (on : IsOnTheWay (began_at s start) s q) (target : ℕ) (later : total_at q ≤ target) (few : target ≤ total_of s)
     → Recalls i (recording_by s start ring) → Recalls i (recording_by (stepped (gone s q) (target - total_at q)) start now)
 back_recalls i s start ring now r q on target later few recalls = record {
+  order = refl;
   session = subst (StandsFor i) (sym (went_back s start ring r q on target later few)) (back_stands s start ring r i target few recalls.first);
   first = subst (StandsFor i) (sym (back_first s start ring r q on target later few)) recalls.first;
 }
 
 -- a recorder that begins
 pub begins_recalls : (i : Image) (s : Session) (p : Point) (ring : List Point) → ∥ Kept s.state ∥₁ → IsPointOf s p → StandsFor i s → Recalls i (recording_by s p ring)
-begins_recalls i s p ring kept is stands = record { session = stands; first = subst (StandsFor i) (sym (point_here s p kept is)) (bare_stands i s stands) }
+begins_recalls i s p ring kept is stands = record { order = refl; session = stands; first = subst (StandsFor i) (sym (point_here s p kept is)) (bare_stands i s stands) }

@@ -8,6 +8,8 @@ use Rattle.mm_machine.specs.Snapshot.{restored}
 use Rattle.mm_debug.specs.Commands.{tokens, number_of, is_count, lines_of}
 use Rattle.mm_debug.specs.Session.{Session, total_of, stepped, Answer, replies, answer_to, Dialogue, behind_answer}
 use Rattle.mm_debug.specs.Standing.{Point, StandsFor}
+use Rattle.mm_debug.specs.declared.session.Go.{Go}
+use Rattle.mm_debug.specs.declared.session.Go.TheVariants as go
 
 -- 1. Lines that go back.
 
@@ -40,8 +42,9 @@ bare s = record s { breaks = []; watches = [] }
 abbrev pub began_at : Session → Point → Session
 began_at s p = bare (record s { last = p.last; state = restored s.state p.snapshot })
 
--- both stand for the image under one order, the session and that with which it began
+-- the session and the one with which it began have one order, and both stand for the image under it
 pub record Recalls (i : Image) (r : Recording) : Type 0 where
+  pub order : r.session.order ≡ r.first.order
   pub session : StandsFor i r.session
   pub first : StandsFor i r.first
 
@@ -90,8 +93,23 @@ newest kept = unwrap_or (last_item kept) 0
 abbrev pub is_far : ℕ → ℕ → Bool
 is_far a b = nat_le (a + 1000) b || nat_le (b + 1000) a
 
--- the totals after a line before which there were these, and this was the session's total: a line that is due keeps the state before it,
--- unless memory runs out, and no other line does
+-- the totals after a line before which there were these, and this was the session's total: where the line is due they are the last 8 of
+-- these and the session's, or still these, and where it is not they are these
 abbrev pub IsKept : (old : List ℕ) (total : ℕ) (new : List ℕ) → Type 0
 IsKept old total new =
     (is_far (newest old) total ≡ true → (new ≡ keep_last ring_size (old ++ total ∷ [])) ⊎ (new ≡ old)) × (is_far (newest old) total ≡ false → new ≡ old)
+
+-- no line behind a `quit` is carried out
+abbrev pub totals_behind : Go → (later : List ℕ) → List ℕ
+totals_behind go.Quit later = []
+totals_behind go.More later = later
+
+-- the session's totals before each of these lines that is carried out
+unfoldable pub totals_before : (first : Session) → Session → List (List ℕ) → List ℕ
+totals_before first s [] = []
+totals_before first s (line ∷ lines) = total_of s ∷ totals_behind (recalled first s line).go (totals_before first (recalled first s line).session lines)
+
+-- the ring's totals after lines, before which they were these, and before each of which the session's total was one of these, in turn
+abbrev pub AreKept : (old : List ℕ) (totals : List ℕ) (new : List ℕ) → Type 0
+AreKept old [] new = new ≡ old
+AreKept old (total ∷ totals) new = (after : List ℕ) × IsKept old total after × AreKept after totals new

@@ -1,7 +1,7 @@
 //! What holds of all checkpoints.
 //!
 //! These functions do nothing when they run: the contract of each is the law.
-ghost use Rattle.mm_save.specs.Laws.{CheckpointsHaveNoFault, CheckpointsAreOne, GoingBackChangesNoRun, RestoredRunsGoOn, RoundRobinGoesOn, SavedFormsAreStates, SnapshotsAreCheckpoints, SnapshotsHaveSavedForms};
+ghost use Rattle.mm_save.specs.Laws.{CheckpointsHaveNoFault, CheckpointsAreOne, CheckpointsAreShort, GoingBackChangesNoRun, RestoredRunsGoOn, RoundRobinGoesOn, RunsHaveCheckpoints, RunsHaveSnapshots, SavedFormsAreStates, SnapshotsAreCheckpoints, SnapshotsHaveSavedForms};
 
 /// The list of places of a file that is read against an image has no fault exactly where its bytes are some checkpoint of the image.
 pub fn checkpoints_have_no_fault()
@@ -11,6 +11,22 @@ pub fn checkpoints_have_no_fault()
 /// Bytes are one checkpoint of an image at most.
 pub fn checkpoints_are_one()
     ensures { CheckpointsAreOne }
+{}
+
+/// A checkpoint of an image has at most 33,554,432 bytes, so that none is too long to be read from a file.
+pub fn checkpoints_are_short()
+    ensures { CheckpointsAreShort }
+{}
+
+/// There is a snapshot of the state of each run of an image, after any list of items.
+pub fn runs_have_snapshots()
+    ensures { RunsHaveSnapshots }
+{}
+
+/// The state of each run of an image under at most 1,000,000 items, beside no last slot or any below 64, is spelled by bytes, and these
+/// are a checkpoint of the image.
+pub fn runs_have_checkpoints()
+    ensures { RunsHaveCheckpoints }
 {}
 
 /// A snapshot of a machine of an image, after at most 1,000,000 items, keeps the rules of the image's checkpoints.
@@ -40,7 +56,7 @@ pub fn round_robin_goes_on()
 {}
 
 /// A session that began at the start of an image's run and can go back is, after any lines, where that run is after as many items of
-/// the order as the session has issued.
+/// the order as its total says: after those of an input, up to a `quit`, and also where the lines behind it are carried out.
 pub fn going_back_changes_no_run()
     ensures { GoingBackChangesNoRun }
 {}

@@ -28,8 +28,8 @@ const MAX_BACK: u64 = 1_000_000;
 /// A session that can go back, with the state at its start and a ring of 8 states on its way.
 ///
 /// A line is due where the total before it differs by 1,000 or more from that of the newest state in the ring, or from 0 where the
-/// ring is empty. The state before a due line is put into the ring, and the oldest state falls out of a full one. Where memory for
-/// it runs out it is left out; no line fails for that.
+/// ring is empty. The state before a due line is put into the ring, and the oldest state falls out of a full one. It may be left out
+/// instead: that is meant for want of memory, but no clause ties it to that. No line fails for want of memory.
 #[derive(Drop)]
 pub struct Recorder<M: Memory> {
     alloc: Global,
@@ -41,14 +41,15 @@ pub struct Recorder<M: Memory> {
 }
 
 impl<M: Reset> Recorder<M> {
-    ghost use Rattle.std.specs.Prelude.{◌≡◌, ◌-◌, ◌≤◌, [], IfOk, IfSome, IsSomeAnd, slice_get};
+    ghost use Rattle.std.specs.Prelude.{◌≡◌, ℕ, ◌-◌, ◌≤◌, min, [], IfOk, IfSome, IsSomeAnd, slice_get};
     ghost use Rattle.mm_io.specs.Sinks.{Writes};
     ghost use Rattle.mm_text.specs.Gathers.{Gathers};
     ghost use Rattle.mm_model.specs.Image.{Image};
+    ghost use Rattle.mm_debug.specs.Commands.{lines_of};
     ghost use Rattle.mm_debug.specs.Session.{total_of};
     ghost use Rattle.mm_debug.specs.Shown.{session_of};
     ghost use Rattle.mm_debug.specs.Standing.{StandsFor, total_at};
-    ghost use Rattle.mm_save.specs.Recorder.{Recalls, recalled, recorded, bare, IsKept, gone_back};
+    ghost use Rattle.mm_save.specs.Recorder.{Recalls, recalled, recorded, bare, IsKept, AreKept, totals_before, gone_back};
     ghost use Rattle.mm_save.specs.Shown.{recording_of};
 
     /// A recorder of a session that has issued nothing yet. The ring is empty.
@@ -100,6 +101,9 @@ impl<M: Reset> Recorder<M> {
         ensures reply { let r = recording_of self.old in Writes O.taken O.faults out.old out.new (recalled r.first r.session text.now).reply result }
         ensures go { let r = recording_of self.old in IfOk result (λ go. go ≡ (recalled r.first r.session text.now).go) }
 
+        // A line `back N` lowers the total by the least of N and the total.
+        ensures total { let was = total_of (recording_of self.old).session in (n : ℕ) → back_of text.now ≡ Some n → total_of (recording_of self.new).session ≡ was - min n was }
+
         // It stands for every image for which it stood.
         ensures stands { (i : Image) → Recalls i (recording_of self.old) → Recalls i (recording_of self.new) }
     {
@@ -114,6 +118,7 @@ impl<M: Reset> Recorder<M> {
     pub fn lines<O: Sink>(&mut self, input: &[u8], out: &mut O) -> Result<(), WriteFault>
         ensures session { let r = recording_of self.old in (recording_of self.new).session ≡ (recorded r.first r.session input.now).session }
         ensures first { (recording_of self.new).first ≡ (recording_of self.old).first }
+        ensures kept { let r = recording_of self.old in AreKept r.kept (totals_before r.first r.session (lines_of input.now)) (recording_of self.new).kept }
         ensures replies { let r = recording_of self.old in Writes O.taken O.faults out.old out.new (recorded r.first r.session input.now).text result }
         ensures stands { (i : Image) → Recalls i (recording_of self.old) → Recalls i (recording_of self.new) }
     {
@@ -126,6 +131,7 @@ impl<M: Reset> Recorder<M> {
     fn put_lines<O: Sink>(&mut self, replies: &mut Gather, out: &mut O, input: &[u8])
         ensures session { let r = recording_of self.old in (recording_of self.new).session ≡ (recorded r.first r.session input.now).session }
         ensures first { (recording_of self.new).first ≡ (recording_of self.old).first }
+        ensures kept { let r = recording_of self.old in AreKept r.kept (totals_before r.first r.session (lines_of input.now)) (recording_of self.new).kept }
         ensures replies { let r = recording_of self.old in Gathers O.taken O.faults out.old out.new replies.old replies.new (recorded r.first r.session input.now).text }
         ensures stands { (i : Image) → Recalls i (recording_of self.old) → Recalls i (recording_of self.new) }
     {
@@ -146,6 +152,7 @@ impl<M: Reset> Recorder<M> {
         ensures kept { let r = recording_of self.old in IsKept r.kept (total_of r.session) (recording_of self.new).kept }
         ensures reply { let r = recording_of self.old in Gathers O.taken O.faults out.old out.new reply.old reply.new (recalled r.first r.session line.now).reply }
         ensures go { let r = recording_of self.old in result ≡ (recalled r.first r.session line.now).go }
+        ensures total { let was = total_of (recording_of self.old).session in (n : ℕ) → back_of line.now ≡ Some n → total_of (recording_of self.new).session ≡ was - min n was }
         ensures stands { (i : Image) → Recalls i (recording_of self.old) → Recalls i (recording_of self.new) }
     {
         self.keep();
@@ -160,7 +167,7 @@ impl<M: Reset> Recorder<M> {
         }
     }
 
-    /// Keeps the state of the session where a line is due, and memory is there.
+    /// Where a line is due, keeps the state of the session, or leaves the ring as it was.
     fn keep(&mut self)
         ensures session { (recording_of self.new).session ≡ (recording_of self.old).session }
         ensures first { (recording_of self.new).first ≡ (recording_of self.old).first }

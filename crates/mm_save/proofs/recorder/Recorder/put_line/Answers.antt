@@ -1,13 +1,13 @@
-use Rattle.std.proofs.Common.{◌≡◌, sym, ap, ◌∙◌, subst}
+use Rattle.std.proofs.Common.{◌≡◌, None, sym, ap, ◌∙◌, subst}
 use Rattle.std.specs.Prelude.{min}
 use Rattle.mm_text.proofs.Gathering.{gathers_same}
 use Rattle.mm_debug.specs.Commands.{command_of}
 use Rattle.mm_debug.specs.Session.{Session, Answer, total_of}
 use Rattle.mm_debug.specs.Shown.{session_of}
-use Rattle.mm_save.specs.Recorder.{began_at}
+use Rattle.mm_save.specs.Recorder.{began_at, back_of}
 use Rattle.mm_save.specs.Recorded.{Remembers}
 use Rattle.mm_save.proofs.Recalled.{answer_remembers}
-use Rattle.mm_save.proofs.Backing.{StaysSo, plainly, plain_first, plain_recalls, back_session, back_reply, back_more}
+use Rattle.mm_save.proofs.Backing.{StaysSo, plainly, plain_first, plain_recalls, back_session, back_reply, back_more, back_lowers}
 use Rattle.mm_save.proofs.recorder.Recorder.put_line.Given.{Over}
 use Rattle.mm_save.proofs.recorder.Recorder.put_line.Goals as goal
 use Rattle.mm_save.proofs.recorder.Recorder.put_line.Goals.{After-keep, After-min-count}
@@ -39,6 +39,10 @@ returns-in-None-clause-reply g c = gathers_same c.put_line.ensures.reply (ap (λ
 pub returns-in-None-clause-go : goal.returns-in-None-clause-go
 returns-in-None-clause-go g c = c.put_line.ensures.go ∙ ap (λ (a : Answer). a.go) (plainly _ _ _ _ (stays g (goal.at.returns-in-None-clause-go g c).After-keep) c.args.line.now c.in-None.ensures)
 
+-- which is no `back N`
+pub returns-in-None-clause-total : goal.returns-in-None-clause-total
+returns-in-None-clause-total g c n is = let none : None ≡ back_of c.args.line.now = c.in-None.ensures in cc
+
 pub returns-in-None-clause-stands : goal.returns-in-None-clause-stands
 returns-in-None-clause-stands g c i recalls = plain_recalls _ _ _ _ (stays g (goal.at.returns-in-None-clause-stands g c).After-keep) c.args.line.now i _ _ c.put_line.ensures.session recalls.session recalls.first
 
@@ -54,3 +58,7 @@ returns-in-Some-clause-reply g c = gathers_same c.put_back.ensures (back_reply _
 
 pub returns-in-Some-clause-go : goal.returns-in-Some-clause-go
 returns-in-Some-clause-go g c = back_more _ _ _ _ (stays g (goal.at.returns-in-Some-clause-go g c).After-keep) c.args.line.now c.in-Some.asked _ c.in-Some.ensures (least g (goal.at.returns-in-Some-clause-go g c).After-min-count)
+
+pub returns-in-Some-clause-total : goal.returns-in-Some-clause-total
+returns-in-Some-clause-total g c n is =
+    back_lowers _ _ _ _ (stays g (goal.at.returns-in-Some-clause-total g c).After-keep) c.args.line.now c.in-Some.asked _ c.in-Some.ensures (least g (goal.at.returns-in-Some-clause-total g c).After-min-count) _ c.go_back.ensures.total n is

@@ -8,6 +8,7 @@ use Rattle.mm_debug.proofs.Dialogues.{Ends, no_text}
 use Rattle.mm_debug.proofs.InputLines.{no_lines}
 use Rattle.mm_save.specs.Recorder.{recalled, recorded}
 use Rattle.mm_save.specs.Shown.{recording_of}
+use Rattle.mm_save.proofs.KeptTotals.{none_yet, keeps_on, keeps_last, keeps_all}
 use Rattle.mm_save.proofs.Recollected.{begins, goes_on, ends_at, ends}
 use Rattle.mm_save.proofs.recorder.Recorder.put_lines.Given.{Over}
 use Rattle.mm_save.proofs.recorder.Recorder.put_lines.Goals as goal
@@ -15,7 +16,15 @@ use Rattle.mm_save.proofs.recorder.Recorder.put_lines.Goals.{Then-eq, After-loop
 
 pub loop-rest-init : goal.loop-rest-init
 loop-rest-init g c =
-    let r = recording_of c.args.self.now in record { said = []; gathers = no_text; goes = begins r.first r.session (lines_of c.args.input.now); first = refl; stands = λ i recalls. recalls }
+    let r = recording_of c.args.self.now in
+    record {
+      said = [];
+      gathers = no_text;
+      goes = begins r.first r.session (lines_of c.args.input.now);
+      first = refl;
+      kept = none_yet r.first r.kept r.session (lines_of c.args.input.now);
+      stands = λ i recalls. recalls;
+    }
 
 pub loop-rest-preserved : goal.loop-rest-preserved
 loop-rest-preserved g c =
@@ -30,6 +39,8 @@ loop-rest-preserved g c =
       goes = goes_on was.first (lines_of c.loop-rest.rest.now) (lines_of c.first_line.result.1.now) line c.put_line.result (recording_of c.put_line.new.self).session
           c.first_line.ensures.lines c.loop-rest.invariant.goes (c.put_line.ensures.go ∙ ap (λ (a : Answer). a.go) same) more (c.put_line.ensures.session ∙ ap (λ (a : Answer). a.session) same);
       first = c.put_line.ensures.first ∙ c.loop-rest.invariant.first;
+      kept = keeps_on was.first was.kept (lines_of c.loop-rest.rest.now) (lines_of c.first_line.result.1.now) line c.put_line.result (recording_of c.put_line.new.self).session (recording_of c.put_line.new.self).kept
+          c.first_line.ensures.lines c.loop-rest.invariant.kept (c.put_line.ensures.go ∙ ap (λ (a : Answer). a.go) same) more (c.put_line.ensures.session ∙ ap (λ (a : Answer). a.session) same) c.put_line.ensures.kept;
       stands = λ i recalls. c.put_line.ensures.stands i (c.loop-rest.invariant.stands i recalls);
     }
 
@@ -56,6 +67,16 @@ returns-then-eq-clause-replies g c =
     let same = ap (λ (f : Session). recalled f now.session c.first_line.result.0.now) c.loop-rest.invariant.first in
     gathers_same (gathers_then c.loop-rest.invariant.gathers (gathers_same c.put_line.ensures.reply (ap (λ (a : Answer). a.reply) same))) (quit g c).text
 
+pub returns-then-eq-clause-kept : goal.returns-then-eq-clause-kept
+returns-then-eq-clause-kept g c =
+    let was = recording_of c.args.self.now in
+    let now = recording_of c.loop-rest.self in
+    let line = c.first_line.result.0.now in
+    let last : Quit ≡ c.put_line.result = search rules in
+    let same = ap (λ (f : Session). recalled f now.session line) c.loop-rest.invariant.first in
+    keeps_last was.first was.kept (lines_of c.loop-rest.rest.now) (lines_of c.first_line.result.1.now) line c.put_line.result (recording_of c.put_line.new.self).kept
+    c.first_line.ensures.lines c.loop-rest.invariant.kept (c.put_line.ensures.go ∙ ap (λ (a : Answer). a.go) same) last c.put_line.ensures.kept
+
 -- the end of the input
 end : (g : Over) (c : After-loop-rest g)
     → Ends (recorded (recording_of c.args.self.now).first (recording_of c.args.self.now).session c.args.input.now) c.loop-rest.invariant.said (recording_of c.loop-rest.self).session
@@ -70,3 +91,10 @@ returns-after-loop-rest-clause-session g c = (end g c).session
 
 pub returns-after-loop-rest-clause-replies : goal.returns-after-loop-rest-clause-replies
 returns-after-loop-rest-clause-replies g c = gathers_same c.loop-rest.invariant.gathers (end g c).text
+
+pub returns-after-loop-rest-clause-kept : goal.returns-after-loop-rest-clause-kept
+returns-after-loop-rest-clause-kept g c =
+    let was = recording_of c.args.self.now in
+    let none : length c.loop-rest.rest.now ≡ 0 = grind (arith, nat_tests) in
+    let nothing : lines_of c.loop-rest.rest.now ≡ [] = no_lines c.loop-rest.rest.now none in
+    keeps_all was.first was.kept (rw nothing at c.loop-rest.invariant.kept)
