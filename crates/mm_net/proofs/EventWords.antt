@@ -152,10 +152,3 @@ too_many w items i k range spelled many said says are =
     let same : said ≡ replicate k i = says_unique w said (replicate k i) says (record { item = i; count = k; range = range; spelled = spelled; repeated = refl }) in
     let size : length said ≡ k = ap length same ∙ length-replicate k i in
     omega (arith, are.limit, length-append items said)
-
--- the parts of a text of turns around its first `*`
-pub says_turns : (text a x : List ℕ) (slot count : ℕ) → has 42 a ≡ false → text ≡ a ++ 42 ∷ x → IsItem text slot count → (a ≡ decimal slot) × (x ≡ decimal count)
-says_turns text a x slot count lacks e item = elim item.spelled [
-  | inl one ↦ absurd (lacking 42 (decimal slot) a x (digits_without 42 slot (inl (omega arith)) (omega (arith, item.number_limit))) (sym one.0 ∙ e))
-  | inr more ↦ split_unique 42 a (decimal slot) x (decimal count) lacks (digits_without 42 slot (inl (omega arith)) (omega (arith, item.number_limit))) (sym e ∙ more)
-]

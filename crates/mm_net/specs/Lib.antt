@@ -2,3 +2,12 @@ pub mod Words
 pub mod Marks
 pub mod Links
 pub mod Events
+pub mod Nets
+pub mod Moves
+pub mod InOrder
+pub mod Granted
+pub mod Isolated
+pub mod Wires
+pub mod Kept
+pub mod Net
+pub mod Texts

@@ -1,29 +1,11 @@
 // One word of a text of events.
 ghost use Rattle.std.specs.Prelude.{◌≡◌, ℕ, ◌∷◌, ◌++◌, false, IfSome, IsNone};
-ghost use Rattle.mm_model.specs.Schedule.{IsItem};
 ghost use Rattle.mm_net.specs.Marks.{has};
 ghost use Rattle.mm_net.specs.Events.{IsEvent, Spells};
 
 use crate::NetItem;
 use crate::words::split;
-use mm_sched::{ITEM_LIMIT, number};
-
-/// The slot of a text `S` or `S*K`, and how many turns of it the text says.
-fn turns(text: &[u8]) -> Option<(u8, u32)>
-    ensures some { IfSome result (λ said. IsItem text.now said.0 said.1) }
-    ensures none { IsNone result → (slot count : ℕ) → ¬ IsItem text.now slot count }
-{
-    let Some((slot, count)) = split(text, b'*') else {
-        return Some((number(text, 255)? as u8, 1));
-    };
-    let slot = number(slot, 255)?;
-    let count = number(count, ITEM_LIMIT as u64)?;
-    if count > 0 {
-        Some((slot as u8, count as u32))
-    } else {
-        None
-    }
-}
+use mm_sched::{item, number};
 
 /// What a text `N:S` or `N:S*K` says, by its two parts.
 fn turn(node: &[u8], rest: &[u8]) -> Option<(NetItem, u32)>
@@ -32,7 +14,7 @@ fn turn(node: &[u8], rest: &[u8]) -> Option<(NetItem, u32)>
     ensures none { IsNone result → (item : NetItem) (count : ℕ) → IsEvent item → ¬ Spells (node.now ++ 58 ∷ rest.now) item count }
 {
     let node = number(node, 7)? as u8;
-    let (slot, count) = turns(rest)?;
+    let (slot, count) = item(rest)?;
     Some((NetItem::Turn { node, slot }, count))
 }
 

@@ -4,8 +4,8 @@ ghost use Rattle.mm_net.specs.Events.{Means, FaultsAt};
 
 use crate::event::event;
 use crate::fault::fault;
-use crate::runs::{run_end, run_start};
 use crate::{NetError, NetItem};
+use mm_sched::{run_end, run_start};
 use mm_word::NoMemory;
 use std::alloc::Global;
 use std::marker::Model;

@@ -1,4 +1,5 @@
-//! Nets of nodes: the text that links them, and the text of their events.
+//! Networks of machines: nodes, and links that take integers from a word of one and put them at a word of another; the text of the links
+//! and the text of the events.
 #![tactic(auto)]
 
 mod end;
@@ -6,11 +7,15 @@ mod event;
 mod events;
 mod fault;
 mod item;
+pub mod laws;
 mod link;
 mod links;
-mod runs;
+mod net;
+mod summary;
 #[cfg(test)]
 mod tests;
+mod tick;
+mod wire;
 mod words;
 
 pub use events::{EVENT_LIMIT, Events, read_events};
@@ -18,3 +23,6 @@ pub use fault::NetError;
 pub use item::NetItem;
 pub use link::Link;
 pub use links::{LINK_LIMIT, Links, read_links};
+pub use net::Net;
+pub use summary::report;
+pub use tick::NetTick;

@@ -6,8 +6,8 @@ ghost use Rattle.mm_net.specs.Marks.{has_end};
 
 use crate::end::link;
 use crate::fault::fault;
-use crate::runs::{run_end, run_start};
 use crate::{Link, NetError};
+use mm_sched::{run_end, run_start};
 use std::alloc::Global;
 use std::marker::Model;
 

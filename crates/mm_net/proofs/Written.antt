@@ -1,0 +1,89 @@
+-- Texts of lists that are written item by item.
+use Rattle.std.proofs.Common.{◌≡◌, ℕ, ◌+◌, ◌<◌, ◌≤◌, List, [], ◌++◌, length, take, drop, get_or, slice_get, Option, Some, option_copied, Bor, Result, Ok, Err, IsErr, refl, sym, ap, ◌∙◌, arith}
+use Rattle.std.specs.List.{flat_map, enumerate_from, zip}
+use Rattle.std.specs.Result.{IsErrAnd}
+use Rattle.std.proofs.lemmas.List.{take-append-drop, take_all}
+use Rattle.std.proofs.lemmas.List.FromFn.{length-enumerate_from, get_or-enumerate_from}
+use Rattle.std.proofs.lemmas.Option.{get_or_from_slice_get}
+use Rattle.std.proofs.lemmas.Slice.Zip.{get_or-zip, length-zip}
+use Rattle.std.proofs.lemmas.Grind.{flat_map-append}
+use Rattle.mm_io.specs.Sinks.{Writes}
+use Rattle.mm_io.proofs.Known.{writes_then, writes_same, writes_cut, append_known-[]}
+use Rattle.mm_text.proofs.Gathering.{lines_more}
+use Rattle.mm_model.specs.declared.counts.Counts.{Counts}
+use Rattle.mm_model.specs.Uses.{Use}
+use Rattle.mm_model.specs.State.{State}
+use Rattle.mm_model.specs.Image.{Image}
+use Rattle.mm_net.specs.declared.link.Link.{Link}
+use Rattle.mm_net.specs.declared.item.NetItem.{NetItem}
+use Rattle.mm_net.specs.Nets.{NetState, net_start, net_run, net_uses}
+use Rattle.mm_net.specs.Texts.{nodes_text, link_lines, net_text}
+
+-- nothing was written yet
+pub writes_nothing : {S E : Type 0} (taken : S → Option (List ℕ)) (faults : S → ℕ) (s : S) → Writes {T = Unit {0}} {E = E} taken faults s s [] (Ok tt)
+writes_nothing taken faults s = record { later = omega arith; whole = sym (append_known-[] (taken s)); part = tt; failed = tt }
+
+-- one more item of a list is written
+pub writes_item : {S A E T : Type 0} {taken : S → Option (List ℕ)} {faults : S → ℕ} {a b c : S} {t : T} {result : Result T E} (line : A → List ℕ) (items : List A) (i : ℕ) (item : A)
+    → i < length items → item ≡ get_or items i item → Writes {E = E} taken faults a b (flat_map line (take i items)) (Ok t) → Writes taken faults b c (line item) result
+    → Writes taken faults a c (flat_map line (take (i + 1) items)) result
+writes_item line items i item inside is before now =
+    writes_same (writes_then before (writes_same now (ap line is))) (sym (lines_more line items i item inside))
+
+-- all items are written
+pub writes_all : {S A E T : Type 0} {taken : S → Option (List ℕ)} {faults : S → ℕ} {a b : S} {result : Result T E} (line : A → List ℕ) (items : List A) (i : ℕ)
+    → length items ≤ i → Writes taken faults a b (flat_map line (take i items)) result → Writes taken faults a b (flat_map line items) result
+writes_all line items i past w = writes_same w (ap (flat_map line) (take_all i items past))
+
+-- the write of one more item failed: the text of all is longer
+pub writes_stop : {S A E F T U : Type 0} {taken : S → Option (List ℕ)} {faults : S → ℕ} {a b c : S} {t : T} {e : E} (line : A → List ℕ) (items : List A) (i : ℕ) (item : A)
+    → i < length items → item ≡ get_or items i item → Writes {E = E} taken faults a b (flat_map line (take i items)) (Ok t) → Writes {T = T} taken faults b c (line item) (Err e)
+    → (final : Result U F) → IsErr final → Writes taken faults a c (flat_map line items) final
+writes_stop line items i item inside is before now final err =
+    writes_cut (writes_item line items i item inside is before now) (flat_map line items) (flat_map line (drop (i + 1) items))
+    (ap (flat_map line) (sym (take-append-drop (i + 1) items)) ∙ flat_map-append line (take (i + 1) items) (drop (i + 1) items)) final err
+
+-- an item beside its place
+pub placed : {A : Type 0} (xs : List A) (i : ℕ) (x : A) → i < length xs → x ≡ get_or xs i x → (i, x) ≡ get_or (enumerate_from 0 xs) i (i, x)
+placed xs i x inside is =
+    let front : (i, get_or xs i x) ≡ (0 + i, get_or xs i x) = ap (λ (n : ℕ). (n, get_or xs i x)) (omega arith) in
+    ap (λ y. (i, y)) is ∙ front ∙ sym (get_or-enumerate_from 0 xs i (i, x) inside)
+
+-- an item beside the one at the same place of a list that is as long
+pub paired : {A B : Type 0} (xs : List A) (ys : List B) (i : ℕ) (x : A) (y : B) → i < length xs → i < length ys → x ≡ get_or xs i x → y ≡ get_or ys i y
+    → (x, y) ≡ get_or (zip xs ys) i (x, y)
+paired xs ys i x y here there ex ey = ap (λ z. (z, y)) ex ∙ ap (λ z. (get_or xs i x, z)) ey ∙ sym (get_or-zip xs ys i (x, y) here there)
+
+pub places_count : {A : Type 0} (xs : List A) → length (enumerate_from 0 xs) ≡ length xs
+places_count xs = length-enumerate_from 0 xs
+
+-- a node's image and state, beside its number
+pub record IsItem (images : List Image) (states : List State) (n : ℕ) (i : Image) (s : State) : Type 0 where
+  pub inside : n < length (enumerate_from 0 (zip images states))
+  pub item : (n, (i, s)) ≡ get_or (enumerate_from 0 (zip images states)) n (n, (i, s))
+
+pub is_item : (images : List Image) (states : List State) (n : ℕ) (i : Image) (s : State) → length images ≡ length states → n < length states
+    → i ≡ get_or images n i → slice_get states n ≡ Some s → IsItem images states n i s
+is_item images states n i s same below image state =
+    let count : length (zip images states) ≡ length states = omega (arith, length-zip images states) in
+    record {
+      inside = omega (arith, count, places_count (zip images states));
+      item = placed (zip images states) n (i, s) (omega (arith, count)) (paired images states n i s (omega arith) below image (sym (get_or_from_slice_get states n s s state)));
+    }
+
+pub item_count : (images : List Image) (states : List State) → length images ≡ length states → length (enumerate_from 0 (zip images states)) ≡ length states
+item_count images states same = omega (arith, places_count (zip images states), length-zip images states)
+
+pub is_an_error : {T E : Type 0} (P : E → Type 0) (r : Result T E) → IsErrAnd r P → IsErr r
+is_an_error P (Ok x) h = absurd h
+is_an_error P (Err e) h = refl
+
+-- the text of a net that stands for its images
+pub text_is : (tells : List Use → Option Counts) (links : List Link) (images : List Image) (items : List NetItem) (s : NetState) → s ≡ net_run links (net_start images links) items
+    → net_text tells links images items ≡ nodes_text tells images s.nodes (net_uses links (net_start images links) items) ++ link_lines s.links
+unfolding net_text
+text_is tells links images items s is = ap (λ (t : NetState). nodes_text tells images t.nodes (net_uses links (net_start images links) items) ++ link_lines t.links) (sym is)
+
+-- what a look-up gave
+pub looked_up : {A : Type 0} (found : Option (Bor A)) (there : Option A) (x : Bor A) → option_copied found ≡ there → found ≡ Some x → there ≡ Some x.now
+looked_up found there x copied is = sym copied ∙ ap option_copied is

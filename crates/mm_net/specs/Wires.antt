@@ -1,0 +1,35 @@
+-- The links of a net at work: each beside what it carried, and with the accesses by which it takes and puts.
+use Rattle.std.specs.Prelude.{◌≡◌, ℕ, ◌≤◌, List, map}
+use Rattle.mm_word.specs.declared.perm.Kind.{Kind}
+use Rattle.mm_word.specs.declared.perm.Kind.TheVariants.{LoadSet, Store}
+use Rattle.mm_word.specs.Access.{Touch}
+use Rattle.mm_net.specs.declared.link.Link.{Link}
+use Rattle.mm_net.specs.Nets.{Carried}
+
+-- a link, what it carried, and how many integers it has room for
+pub record Wired : Type 0 where
+  pub link : Link
+  pub carried : Carried
+  pub room : ℕ
+
+abbrev pub link_list : List Wired → List Link
+link_list wires = map (λ (w : Wired). w.link) wires
+
+abbrev pub carried_list : List Wired → List Carried
+carried_list wires = map (λ (w : Wired). w.carried) wires
+
+-- the most integers that a link takes
+abbrev pub send_limit : ℕ
+send_limit = 1000000
+
+-- an access of a kind to the word at an address
+pub record Reaches (access : Touch) (kind : Kind) (address : ℕ) : Type 0 where
+  pub of_kind : access.kind ≡ kind
+  pub at : access.addr ≡ address
+
+-- the accesses are those of the link, and no more integers arrived than it took
+pub record IsWire (link : Link) (taking putting : Touch) (sent arrived : ℕ) : Type 0 where
+  pub takes : Reaches taking LoadSet link.take
+  pub puts : Reaches putting Store link.put
+  pub front : arrived ≤ sent
+  pub few : sent ≤ send_limit
