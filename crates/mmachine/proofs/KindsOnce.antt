@@ -24,11 +24,18 @@ use Rattle.mm_object.proofs.SpelledWhole as objects
 use Rattle.mm_save.specs.Checkpoints.{Saved}
 use Rattle.mm_save.specs.Faults.{save_fault}
 use Rattle.mm_save.proofs.SpelledLaws as checkpoints
+use Rattle.mm_net.specs.declared.link.Link.{Link}
+use Rattle.mm_net.specs.declared.item.NetItem.{NetItem}
+use Rattle.mm_net.specs.Links as links
+use Rattle.mm_net.specs.Events as events
+use Rattle.mm_net.proofs.Reading as texts
+use Rattle.mm_net.proofs.LinkWords.{links_grammar}
+use Rattle.mm_net.proofs.EventWords.{events_grammar}
 use Rattle.mm_asm.specs.Faults.{first_fault}
 use Rattle.mm_asm.proofs.Texts.{meanings_are_one, meaning_has_no_fault}
 use Rattle.mmachine.specs.declared.status.Refusal.{Refusal}
 use Rattle.mmachine.specs.declared.status.Refusal.TheVariants as refusal
-use Rattle.mmachine.specs.Kinds.{Kind, image_file, schedule_file, source_file, object_file, checkpoint_file, text_input, Value, an_image, a_list, an_object, a_checkpoint, a_text, Accepts, Faults}
+use Rattle.mmachine.specs.Kinds.{Kind, image_file, schedule_file, source_file, object_file, checkpoint_file, links_file, events_file, text_input, Value, an_image, a_list, an_object, a_checkpoint, a_links, an_events, a_text, Accepts, Faults}
 
 -- 1. Images.
 
@@ -159,6 +166,8 @@ sound_value schedule_file before bytes (a_list xs) means = tt
 sound_value source_file before bytes (an_object o) means = tt
 sound_value object_file before bytes (an_object o) means = tt
 sound_value checkpoint_file (an_image i ∷ []) bytes (a_checkpoint c) means = tt
+sound_value links_file before bytes (a_links ls) means = tt
+sound_value events_file before bytes (an_events es) means = tt
 sound_value text_input before bytes (a_text text) means = tt
 sound_value kind before bytes v means = absurd (assumption means)
 
@@ -175,6 +184,10 @@ one_value source_file before bytes (an_object a) (an_object b) sound one two = a
 one_value object_file before bytes (an_object a) (an_object b) sound one two = ap (λ (x : Object). an_object x) (one_object bytes a b one two)
 one_value checkpoint_file (an_image i ∷ []) bytes (a_checkpoint c) (a_checkpoint d) sound (p, last, saves, is) (q, also, saves_too, is_too) =
     ap (λ (x : Saved). a_checkpoint x) (is ∙ checkpoints.are_one i bytes p q last also sound.0 saves saves_too ∙ sym is_too)
+one_value links_file before bytes (a_links ls) (a_links ms) sound one two =
+    ap (λ (x : List Link). a_links x) (texts.means_unique links.Says links.AreLinks links_grammar bytes ls ms one two)
+one_value events_file before bytes (an_events es) (an_events fs) sound one two =
+    ap (λ (x : List NetItem). an_events x) (texts.means_unique events.Says events.AreEvents events_grammar bytes es fs one two)
 one_value text_input before bytes (a_text s) (a_text t) sound one two = ap (λ (x : List ℕ). a_text x) (one ∙ sym two)
 one_value kind before bytes v w sound one two = absurd (assumption (one, two))
 
@@ -190,6 +203,10 @@ one_fault object_file before number bytes r q (kind, offset, is, fault) (other, 
 one_fault checkpoint_file (an_image i ∷ []) number bytes r q (offset, is, fault) (place, also, second) =
     let at : offset ≡ place = cc in
     is ∙ ap (λ (n : ℕ). refusal.Checkpoint number n) at ∙ sym also
+one_fault links_file before number bytes r q (offset, is, fault) (place, also, second) =
+    is ∙ ap (λ (n : ℕ). refusal.Links number n) (texts.fault_unique links.Says links.AreLinks links_grammar bytes offset place fault second) ∙ sym also
+one_fault events_file before number bytes r q (offset, is, fault) (place, also, second) =
+    is ∙ ap (λ (n : ℕ). refusal.Schedule number n) (texts.fault_unique events.Says events.AreEvents events_grammar bytes offset place fault second) ∙ sym also
 one_fault kind before number bytes r q one two = absurd (assumption (one, two))
 
 pub value_or_fault : (kind : Kind) (before : List Value) (number : ℕ) (bytes : List ℕ) (r : Refusal) (v : Value) → AreSound before → Faults kind before number bytes r → Accepts kind before bytes v → ⊥
@@ -201,4 +218,7 @@ value_or_fault object_file before number bytes r (an_object o) sound (kind, offs
     let none : object_fault bytes ≡ None = objects.spelled_clean bytes o means.object means.spelled in cc
 value_or_fault checkpoint_file (an_image i ∷ []) number bytes r (a_checkpoint c) sound (offset, is, fault) (p, last, saves, same) =
     let none : save_fault i bytes ≡ None = checkpoints.no_fault i bytes sound.0 (record { parts = p; last = last; saves = saves }) in cc
+value_or_fault links_file before number bytes r (a_links ls) sound (offset, is, fault) means = texts.never_both links.Says links.AreLinks links_grammar bytes ls offset means fault
+value_or_fault events_file before number bytes r (an_events es) sound (offset, is, fault) means =
+    texts.never_both events.Says events.AreEvents events_grammar bytes es offset means fault
 value_or_fault kind before number bytes r v sound fault means = assumption (fault, means)

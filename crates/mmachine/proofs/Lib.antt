@@ -21,3 +21,4 @@ pub mod Migrated
 pub mod Several
 pub mod CountsBehind
 pub mod Assembled
+pub mod Joined

@@ -1,5 +1,5 @@
 -- Words whose inputs are told come to one thing: a text, or one refusal.
-use Rattle.std.proofs.Common.{◌≡◌, ℕ, ◌⊎◌, inl, inr, Bool, List, [], ◌∷◌, map, true, false, Option, None, Some, Result, Ok, Err, refl, sym, ap, ◌∙◌, subst, arith}
+use Rattle.std.proofs.Common.{◌≡◌, ℕ, ◌⊎◌, inl, inr, Bool, List, [], ◌∷◌, map, length, true, false, Option, None, Some, Result, Ok, Err, refl, sym, ap, ◌∙◌, subst, arith}
 use Rattle.mm_model.specs.declared.counts.Counts.{Counts}
 use Rattle.mm_model.specs.Uses.{Use}
 use Rattle.mm_model.specs.Image.{Image}
@@ -16,9 +16,11 @@ use Rattle.mmachine.specs.declared.status.Status.TheVariants.{Done, NoMemory}
 use Rattle.mmachine.specs.declared.status.Stop.{Stop}
 use Rattle.mmachine.specs.declared.status.Stop.TheVariants as stop
 use Rattle.mmachine.specs.Groups.{GroupsRefused}
-use Rattle.mmachine.specs.Kinds.{Value, an_image, a_list, an_object}
+use Rattle.mm_net.specs.declared.link.Link.{Link}
+use Rattle.mmachine.specs.Kinds.{Value, an_image, a_list, an_object, a_links, an_events}
+use Rattle.mmachine.specs.Nodes.{LacksNode, NoneLacking, JoinRefused}
 use Rattle.mmachine.specs.Ranges.{SweepRefused}
-use Rattle.mmachine.specs.Table.{Row, solo, extract, link, sweep, files_of, input_of}
+use Rattle.mmachine.specs.Table.{Row, solo, extract, link, sweep, net, files_of, input_of}
 use Rattle.mmachine.specs.Commands.{Declines, Yields, LinkRefused, IsLinked}
 use Rattle.mmachine.specs.Answers.{Answers, Call, Gives, HasToRefuse, ToldToRefuse, NothingFails, RefusedUnless, RowEnds, refuse, write, status_of}
 use Rattle.mmachine.proofs.OneRow.{one_row}
@@ -93,13 +95,41 @@ sweep_refusal range i (refusal.Held n) q first second = absurd second
 sweep_refusal range i (refusal.Privileged g) q first second = absurd second
 sweep_refusal range i r q first second = absurd first
 
--- 4. So does a row whose inputs have some values.
+-- 4. Links join nodes, or there is one refusal.
+
+pub same_images : (xs ys : List Image) → map an_image xs ≡ map an_image ys → xs ≡ ys
+same_images [] [] same = refl
+same_images [] (y ∷ ys) same = absurd (cc)
+same_images (x ∷ xs) [] same = absurd (cc)
+same_images (x ∷ xs) (y ∷ ys) same =
+    let first : x ≡ y = cc in
+    let others : map an_image xs ≡ map an_image ys = cc in
+    let rest : xs ≡ ys = same_images xs ys others in
+    cc
+
+not_joined : (links : List Link) (xs ys : List Image) (r : Refusal) → map an_image xs ≡ map an_image ys → JoinRefused links (length xs) r → NoneLacking links (length ys) → ⊥
+not_joined links xs ys (refusal.NoNode l) same first none = none l (subst (λ (images : List Image). LacksNode links (length images) l) (same_images xs ys same) first.lacks)
+not_joined links xs ys r same refused none = refused
+
+join_refusal : (links : List Link) (count : ℕ) (r q : Refusal) → JoinRefused links count r → JoinRefused links count q → r ≡ q
+join_refusal links count (refusal.NoNode l) (refusal.NoNode m) first second =
+    let same : l ≡ m = omega (arith, first.least m second.lacks, second.least l first.lacks) in
+    ap (λ (k : ℕ). refusal.NoNode k) same
+join_refusal links count (refusal.NoNode l) q first second = absurd second
+join_refusal links count r q first second = absurd first
+
+same_nodes : (links : List Link) (xs ys : List Image) (q : Refusal) → map an_image xs ≡ map an_image ys → JoinRefused links (length ys) q → JoinRefused links (length xs) q
+same_nodes links xs ys q same refused = subst (λ (images : List Image). JoinRefused links (length images) q) (sym (same_images xs ys same)) refused
+
+-- 5. So does a row whose inputs have some values.
 
 not_both : (tells : List Use → Option Counts) (row : Row) (values : List Value) (r : Refusal) (text : List ℕ) → Declines row values r → Yields tells row values text → ⊥
 not_both tells (solo image groups cycles schedule) (an_image i ∷ a_list list ∷ []) r text declines writes = not_refused i (among groups) r writes.0 declines
 not_both tells (extract image groups) (an_image i ∷ []) r text declines writes = not_refused i (among groups) r writes.0 declines
 not_both tells (link names) values r text (xs, is, declines) (ys, also, writes) = not_linked xs ys r text (sym is ∙ also) declines writes
 not_both tells (sweep image base log) (an_image i ∷ []) r text declines writes = not_swept (base, log) i r writes.0 declines
+not_both tells (net first second cycles names) (a_links links ∷ an_events events ∷ values) r text (xs, is, declines) (ys, also, none, writes) =
+    not_joined links xs ys r (sym is ∙ also) declines none
 not_both tells row values r text declines writes = assumption (declines, writes)
 
 one_refusal : (row : Row) (values : List Value) (r q : Refusal) → Declines row values r → Declines row values q → r ≡ q
@@ -107,6 +137,8 @@ one_refusal (solo image groups cycles schedule) (an_image i ∷ lists) r q one t
 one_refusal (extract image groups) (an_image i ∷ []) r q one two = groups_refusal i (among groups) r q one two
 one_refusal (link names) values r q (xs, is, one) (ys, also, two) = link_refusal xs ys r q (sym is ∙ also) one two
 one_refusal (sweep image base log) (an_image i ∷ []) r q one two = sweep_refusal (base, log) i r q one two
+one_refusal (net first second cycles names) (a_links links ∷ an_events events ∷ values) r q (xs, is, one) (ys, also, two) =
+    join_refusal links (length xs) r q one (same_nodes links xs ys q (sym is ∙ also) two)
 one_refusal row values r q one two = absurd one
 
 module _ (tells : List Use → Option Counts) (held : List ℕ → Option (List ℕ)) (left : Option (List ℕ)) (row : Row) where
@@ -124,7 +156,7 @@ module _ (tells : List Use → Option Counts) (held : List ℕ → Option (List 
       let same : others ≡ values = inputs_values held left (files_of row) (input_of row) others values told also accepted in
       one_refusal row values q r (subst (λ (vs : List Value). Declines row vs q) same two) one
 
--- 5. So what it comes to is answered.
+-- 6. So what it comes to is answered.
 
 unrefused : (c : Call) (words : List (List ℕ)) (nothing : NothingFails c words) (r : Refusal) → Gives c.tells c.files.held c.input.left nothing.row (refuse r) → ⊥
 unrefused c words nothing r (inl refused) =

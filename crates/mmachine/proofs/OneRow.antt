@@ -4,8 +4,8 @@ use Rattle.std.specs.Prelude.{⊤}
 use Rattle.std.specs.List.{AllByRecursion, position_or_len}
 use Rattle.std.specs.Str.{bytes_eq}
 use Rattle.std.proofs.lemmas.Fmt.{decimal_injective}
-use Rattle.mmachine.specs.Kinds.{Kind, schedule_file, object_file}
-use Rattle.mmachine.specs.Table.{Word, file_word, number_word, groups_word, mode_word, mode_text, text_of, IsInRange, perhaps, Row, run, trace, solo, grants, extract, asm, link, dis, debug, gen, soak, migrate, sweep, holders, save, continue, name_of, behind, Asks}
+use Rattle.mmachine.specs.Kinds.{Kind, schedule_file, object_file, image_file}
+use Rattle.mmachine.specs.Table.{Word, file_word, number_word, groups_word, mode_word, mode_text, text_of, IsInRange, perhaps, Row, run, trace, solo, grants, extract, asm, link, dis, debug, gen, soak, migrate, sweep, holders, save, continue, net, name_of, behind, Asks}
 use Rattle.mmachine.proofs.GroupWords.{one_list}
 
 -- 1. Words of the same places.
@@ -65,7 +65,7 @@ one_perhaps word once (Some a) (Some b) same = let words : word a ≡ word b = c
 abbrev pub place_of : List ℕ → ℕ
 place_of name =
     position_or_len (bytes_eq name) (codes "run" ∷ codes "trace" ∷ codes "solo" ∷ codes "grants" ∷ codes "extract" ∷ codes "asm"
-    ∷ codes "link" ∷ codes "dis" ∷ codes "debug" ∷ codes "gen" ∷ codes "soak" ∷ codes "migrate" ∷ codes "sweep" ∷ codes "holders" ∷ codes "save" ∷ codes "continue" ∷ [])
+    ∷ codes "link" ∷ codes "dis" ∷ codes "debug" ∷ codes "gen" ∷ codes "soak" ∷ codes "migrate" ∷ codes "sweep" ∷ codes "holders" ∷ codes "save" ∷ codes "continue" ∷ codes "net" ∷ [])
 
 -- and of a row's name
 abbrev pub place : Row → ℕ
@@ -86,6 +86,12 @@ one_schedule s t same = one_perhaps (file_word schedule_file) (λ a b is. cc) s 
 pub named_texts : (kind : Kind) (names : List (List ℕ)) → map text_of (map (file_word kind) names) ≡ names
 named_texts kind [] = refl
 named_texts kind (name ∷ names) = ap (λ (texts : List (List ℕ)). name ∷ texts) (named_texts kind names)
+
+-- of the same kind
+named_alike : (kind : Kind) (names others : List (List ℕ)) → AreAlike (map (file_word kind) names) (map (file_word kind) others)
+named_alike kind [] others = tt
+named_alike kind (name ∷ names) [] = tt
+named_alike kind (name ∷ names) (other ∷ others) = (refl, named_alike kind names others)
 
 -- and in their ranges
 pub named_in_range : (kind : Kind) (names : List (List ℕ)) → AllByRecursion IsInRange (map (file_word kind) names)
@@ -152,5 +158,10 @@ one_row words (continue i c n s) (continue j d m t) one two =
     let same = same_behind words (continue i c n s) (continue j d m t) one two (refl, (refl, ((refl, refl, omega arith), perhaps_alike (file_word schedule_file) (λ a b. refl) s t))) in
     let rest : perhaps (file_word schedule_file) s ≡ perhaps (file_word schedule_file) t = cc in
     let schedule : s ≡ t = one_schedule s t rest in
+    cc
+one_row words (net l e n is) (net m f k js) one two =
+    let same = same_behind words (net l e n is) (net m f k js) one two (refl, (refl, ((refl, refl, omega arith), named_alike image_file is js))) in
+    let rest : map (file_word image_file) is ≡ map (file_word image_file) js = cc in
+    let images : is ≡ js = sym (named_texts image_file is) ∙ ap (map text_of) rest ∙ named_texts image_file js in
     cc
 one_row words a b one two = let places : place a ≡ place b = ap place_of (same_name words a b one two) in absurd (cc)

@@ -3,7 +3,7 @@ use Rattle.std.proofs.Common.{◌≡◌, ℕ, ◌≤◌, ◌-◌, ◌==◌, Bool
 use Rattle.std.proofs.lemmas.List.{take_all}
 use Rattle.std.specs.declared.alloc.Global.{Global}
 use Rattle.mmachine.proofs.OneRow.{place_of, place}
-use Rattle.mmachine.specs.Table.{Row, Asks, name_of, run, trace, solo, grants, extract, asm, link, dis, debug, gen, soak, migrate, sweep, holders, save, continue, InNoRow, AreTexts, FitTogether, behind, text_of, texts}
+use Rattle.mmachine.specs.Table.{Row, Asks, name_of, run, trace, solo, grants, extract, asm, link, dis, debug, gen, soak, migrate, sweep, holders, save, continue, net, InNoRow, AreTexts, FitTogether, behind, text_of, texts}
 
 -- the first word and the rest
 first_and_rest : (words : List (String Global)) (word : String Global) → 1 ≤ length words → word ≡ get_or words 0 word
@@ -12,6 +12,16 @@ first_and_rest [] word some is = absurd (omega arith)
 first_and_rest (w ∷ words) word some is =
     ap (λ (x : String Global). string_bytes x ∷ texts words) (sym is)
     ∙ ap (λ (xs : List (String Global)). string_bytes word ∷ texts xs) (sym (take_all (length (w ∷ words) - 1) words (omega arith)))
+
+-- the first three words and the rest
+pub three_and_rest : (words : List (String Global)) (a b c : String Global) → 3 ≤ length words → a ≡ get_or words 0 a → b ≡ get_or words 1 b → c ≡ get_or words 2 c
+    → texts words ≡ string_bytes a ∷ string_bytes b ∷ string_bytes c ∷ texts (take (length words - 3) (drop 3 words))
+three_and_rest [] a b c some first second third = absurd (omega arith)
+three_and_rest (x ∷ []) a b c some first second third = absurd (omega arith)
+three_and_rest (x ∷ y ∷ []) a b c some first second third = absurd (omega arith)
+three_and_rest (x ∷ y ∷ z ∷ words) a b c some first second third =
+    rw (first, second, third)
+    (ap (λ (xs : List (String Global)). string_bytes x ∷ string_bytes y ∷ string_bytes z ∷ texts xs) (sym (take_all (length (x ∷ y ∷ z ∷ words) - 3) words (omega arith))))
 
 -- words that begin with a name are in no row where the name and the rest are in none
 pub in_no_row : (words : List (String Global)) (word : String Global) (name : List ℕ) → 1 ≤ length words → word ≡ get_or words 0 word → string_bytes word ≡ name
@@ -95,7 +105,12 @@ pub no_continue : (words : List (List ℕ)) → ((image checkpoint : List ℕ) (
 no_continue words none (continue i k n s) (is, ranges) = let rest : words ≡ map text_of (behind (continue i k n s)) = cc in none i k n s (rest, ranges.0)
 no_continue words none row asks = let places : place row ≡ 15 = placed_as (codes "continue") words row asks in absurd (cc)
 
--- the words of `link`
+pub no_net : (words : List (List ℕ)) → ((links events : List ℕ) (cycles : ℕ) (images : List (List ℕ)) → AreTexts words (behind (net links events cycles images))
+    → ¬ FitTogether (net links events cycles images)) → InNoRow (codes "net" ∷ words)
+no_net words none (net l e n is) (same, ranges) = let rest : words ≡ map text_of (behind (net l e n is)) = cc in none l e n is (rest, ranges.0) ranges.1
+no_net words none row asks = let places : place row ≡ 16 = placed_as (codes "net") words row asks in absurd (cc)
+
+-- the words of `link`, and the images of `net`
 pub some_names : (names : List (String Global)) → (length names == 0) ≡ false → 1 ≤ length names
 some_names [] none = absurd (cc)
 some_names (name ∷ names) none = omega arith

@@ -21,7 +21,7 @@ use Rattle.mm_sweep.specs.declared.sweeping.SweepError.TheVariants as sweeping
 use Rattle.mm_model.specs.declared.counts.Counts.{Counts}
 use Rattle.mm_model.specs.Uses.{Use}
 use Rattle.mmachine.specs.declared.status.Refusal.{Refusal}
-use Rattle.mmachine.specs.declared.status.Refusal.TheVariants.{TooLong, Image, Schedule, Object, Asm, Link, NoGroup, Crosses, Held, Privileged, Checkpoint}
+use Rattle.mmachine.specs.declared.status.Refusal.TheVariants.{TooLong, Image, Schedule, Object, Asm, Link, NoGroup, Crosses, Held, Privileged, Checkpoint, Links, NoNode}
 use Rattle.mmachine.specs.declared.status.Status.{Status}
 use Rattle.mmachine.specs.declared.status.Status.TheVariants.{Done, Usage, Refused, ReadFault, WriteFault, NoMemory}
 use Rattle.mmachine.specs.declared.status.Stop.{Stop}
@@ -113,6 +113,8 @@ line_of (Refused (Crosses slot)) = codes "mmachine: crosses slot " ++ decimal sl
 line_of (Refused (Held slot)) = codes "mmachine: held slot " ++ decimal slot ++ codes "\n"
 line_of (Refused (Privileged group)) = codes "mmachine: privileged group " ++ decimal group ++ codes "\n"
 line_of (Refused (Checkpoint file offset)) = codes "mmachine: file " ++ decimal file ++ codes " checkpoint fault at " ++ decimal offset ++ codes "\n"
+line_of (Refused (Links file offset)) = codes "mmachine: file " ++ decimal file ++ codes " links fault at " ++ decimal offset ++ codes "\n"
+line_of (Refused (NoNode link)) = codes "mmachine: no node link " ++ decimal link ++ codes "\n"
 line_of ReadFault = codes "mmachine: read fault\n"
 line_of WriteFault = codes "mmachine: write fault\n"
 line_of NoMemory = codes "mmachine: out of memory\n"

@@ -1,5 +1,5 @@
 -- What each command comes to, by the values of its inputs.
-use Rattle.std.specs.Prelude.{◌≡◌, ℕ, Bool, List, [], ◌∷◌, ◌++◌, map, Option, None, Some}
+use Rattle.std.specs.Prelude.{◌≡◌, ℕ, Bool, List, [], ◌∷◌, ◌++◌, map, length, take, Option, None, Some}
 use Rattle.mm_model.specs.declared.counts.Counts.{Counts}
 use Rattle.mm_model.specs.Uses.{Use}
 use Rattle.mm_model.specs.Image as model
@@ -28,12 +28,14 @@ use Rattle.mm_debug.specs.Session as session
 use Rattle.mm_save.specs.Recorder.{recorded}
 use Rattle.mmachine.specs.declared.status.Refusal.{Refusal}
 use Rattle.mmachine.specs.declared.status.Refusal.TheVariants as refusal
-use Rattle.mmachine.specs.Kinds.{Value, an_image, a_list, an_object, a_checkpoint, a_text}
+use Rattle.mm_net.specs.Texts.{net_text}
+use Rattle.mmachine.specs.Kinds.{Value, an_image, a_list, an_object, a_checkpoint, a_links, an_events, a_text}
 use Rattle.mmachine.specs.Orders.{Issues, values_of}
 use Rattle.mmachine.specs.Groups.{GroupsRefused}
 use Rattle.mmachine.specs.Ranges.{SweepRefused}
+use Rattle.mmachine.specs.Nodes.{NoneLacking, JoinRefused}
 use Rattle.mmachine.specs.Saving.{last_issued, saved_after, Continues}
-use Rattle.mmachine.specs.Table.{Row, run, trace, solo, grants, extract, asm, link, dis, debug, gen, soak, migrate, sweep, holders, save, continue}
+use Rattle.mmachine.specs.Table.{Row, run, trace, solo, grants, extract, asm, link, dis, debug, gen, soak, migrate, sweep, holders, save, continue, net}
 
 -- the report of an image's run under these items, with what the memory tells of the run's uses
 abbrev pub report_after : (List Use → Option Counts) → model.Image → List ℕ → List ℕ
@@ -76,6 +78,8 @@ Declines (solo image groups cycles schedule) (an_image i ∷ lists) r = GroupsRe
 Declines (extract image groups) (an_image i ∷ []) r = GroupsRefused i (among groups) r
 Declines (link names) values r = (objects : List Object) × (values ≡ map an_object objects) × LinkRefused objects r
 Declines (sweep image base log) (an_image i ∷ []) r = SweepRefused (base, log) i r
+Declines (net first second cycles names) (a_links links ∷ an_events events ∷ values) r =
+    (images : List model.Image) × (values ≡ map an_image images) × JoinRefused links (length images) r
 Declines _ _ r = ⊥
 
 -- a row that runs nothing and whose inputs have these values writes a text
@@ -104,4 +108,6 @@ Yields tells (soak number size cycles) [] text = text ≡ soaked number size cyc
 Yields tells (save image cycles schedule) (an_image i ∷ lists) text =
     (items : List ℕ) × Issues i cycles lists items × (text ≡ saved_after i items (last_issued lists items))
 Yields tells (continue image checkpoint cycles schedule) (an_image i ∷ a_checkpoint c ∷ lists) text = Continues tells i c cycles lists text
+Yields tells (net first second cycles names) (a_links links ∷ an_events events ∷ values) text =
+    (images : List model.Image) × (values ≡ map an_image images) × NoneLacking links (length images) × (text ≡ net_text tells links images (take cycles events))
 Yields tells row values text = YieldsAlone row values text

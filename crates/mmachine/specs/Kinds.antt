@@ -17,6 +17,10 @@ use Rattle.mm_image.specs.Faults.{number_of}
 use Rattle.mm_machine.specs.Snapshot.{Parts}
 use Rattle.mm_save.specs.Checkpoints.{Saved, Saves, saved_of}
 use Rattle.mm_save.specs.Faults.{save_fault}
+use Rattle.mm_net.specs.declared.link.Link.{Link}
+use Rattle.mm_net.specs.declared.item.NetItem.{NetItem}
+use Rattle.mm_net.specs.Links as link
+use Rattle.mm_net.specs.Events as event
 use Rattle.mmachine.specs.declared.status.Refusal.{Refusal}
 use Rattle.mmachine.specs.declared.status.Refusal.TheVariants as refusal
 
@@ -27,6 +31,8 @@ pub data Kind : Type 0 where
   object_file : Kind
   -- read against the image before it
   checkpoint_file : Kind
+  links_file : Kind
+  events_file : Kind
   -- bytes of standard input, as they are
   text_input : Kind
 
@@ -36,6 +42,8 @@ pub data Value : Type 0 where
   a_list : List ℕ → Value
   an_object : Object → Value
   a_checkpoint : Saved → Value
+  a_links : List Link → Value
+  an_events : List NetItem → Value
   a_text : List ℕ → Value
 
 -- the most bytes that an input of a kind has
@@ -45,6 +53,8 @@ limit_of schedule_file = 8388608
 limit_of source_file = 8388608
 limit_of object_file = 2097152
 limit_of checkpoint_file = 33554432
+limit_of links_file = 65536
+limit_of events_file = 8388608
 limit_of text_input = 1048576
 
 -- the bytes of an input mean a value, behind inputs of the values before
@@ -54,6 +64,8 @@ Accepts schedule_file before bytes (a_list items) = Means bytes items
 Accepts source_file before bytes (an_object o) = text.Means bytes o
 Accepts object_file before bytes (an_object o) = SpellsObject bytes o
 Accepts checkpoint_file (an_image i ∷ []) bytes (a_checkpoint c) = (p : Parts) × (last : Option ℕ) × Saves bytes i p last × (c ≡ saved_of p last)
+Accepts links_file before bytes (a_links links) = link.Means bytes links
+Accepts events_file before bytes (an_events items) = event.Means bytes items
 Accepts text_input before bytes (a_text text) = text ≡ bytes
 Accepts _ before bytes _ = ⊥
 
@@ -67,4 +79,6 @@ Faults source_file before number bytes r = (fault : Fault) × (line column : ℕ
 Faults object_file before number bytes r = (fault : ObjectFault) × (offset : ℕ) × (r ≡ refusal.Object number fault offset)
     × (object_fault bytes ≡ Some (object_number fault, offset))
 Faults checkpoint_file (an_image i ∷ []) number bytes r = (offset : ℕ) × (r ≡ refusal.Checkpoint number offset) × (save_fault i bytes ≡ Some offset)
+Faults links_file before number bytes r = (offset : ℕ) × (r ≡ refusal.Links number offset) × link.FaultsAt bytes offset
+Faults events_file before number bytes r = (offset : ℕ) × (r ≡ refusal.Schedule number offset) × event.FaultsAt bytes offset
 Faults _ before number bytes r = ⊥

@@ -1,6 +1,7 @@
 pub mod GroupList
 pub mod Groups
 pub mod Ranges
+pub mod Nodes
 pub mod Kinds
 pub mod Files
 pub mod Orders

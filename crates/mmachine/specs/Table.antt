@@ -5,9 +5,9 @@ use Rattle.std.specs.Option.{option_map}
 use Rattle.std.specs.declared.alloc.Global.{Global}
 use Rattle.mm_model.specs.Audit.{groups_text}
 use Rattle.mmachine.specs.GroupList.{AreGroups}
-use Rattle.mmachine.specs.Kinds.{Kind, image_file, schedule_file, source_file, object_file, checkpoint_file, text_input}
+use Rattle.mmachine.specs.Kinds.{Kind, image_file, schedule_file, source_file, object_file, checkpoint_file, links_file, events_file, text_input}
 use Rattle.mmachine.specs.declared.words.Command.{Command}
-use Rattle.mmachine.specs.declared.words.Command.TheVariants.{Run, Trace, Solo, Grants, Extract, Asm, Link, Dis, Debug, Gen, Soak, Migrate, Sweep, Holders, Save, Continue}
+use Rattle.mmachine.specs.declared.words.Command.TheVariants.{Run, Trace, Solo, Grants, Extract, Asm, Link, Dis, Debug, Gen, Soak, Migrate, Sweep, Holders, Save, Continue, Net}
 
 -- 1. The words behind a command's own word.
 
@@ -91,6 +91,7 @@ pub data Row : Type 0 where
   holders : (image : List ℕ) (base log : ℕ) → Row
   save : (image : List ℕ) (cycles : ℕ) (schedule : Option (List ℕ)) → Row
   continue : (image checkpoint : List ℕ) (cycles : ℕ) (schedule : Option (List ℕ)) → Row
+  net : (links events : List ℕ) (cycles : ℕ) (images : List (List ℕ)) → Row
 
 -- the command's own word
 abbrev pub name_of : Row → List ℕ
@@ -110,6 +111,7 @@ name_of (sweep image base log) = codes "sweep"
 name_of (holders image base log) = codes "holders"
 name_of (save image cycles schedule) = codes "save"
 name_of (continue image checkpoint cycles schedule) = codes "continue"
+name_of (net links events cycles images) = codes "net"
 
 -- and those behind it
 abbrev pub behind : Row → List Word
@@ -131,6 +133,8 @@ behind (holders image base log) = file_word image_file image ∷ base_word base 
 behind (save image cycles schedule) = file_word image_file image ∷ cycles_word cycles ∷ perhaps (file_word schedule_file) schedule
 behind (continue image checkpoint cycles schedule) =
     file_word image_file image ∷ file_word checkpoint_file checkpoint ∷ cycles_word cycles ∷ perhaps (file_word schedule_file) schedule
+behind (net links events cycles images) =
+    file_word links_file links ∷ file_word events_file events ∷ cycles_word cycles ∷ map (file_word image_file) images
 
 abbrev pub files_of : Row → List (List ℕ × Kind)
 files_of row = files_in (behind row)
@@ -140,11 +144,12 @@ abbrev pub input_of : Row → Option Kind
 input_of (debug image schedule) = Some text_input
 input_of _ = None
 
--- its words fit together: a list has 1 to 16 files, and a range begins at a multiple of its length
+-- its words fit together: there are 1 to 16 objects, 1 to 8 images of nodes, and a range begins at a multiple of its length
 abbrev pub FitTogether : Row → Type 0
 FitTogether (link objects) = (1 ≤ length objects) × (length objects ≤ 16)
 FitTogether (sweep image base log) = base % 2 ^ log ≡ 0
 FitTogether (holders image base log) = base % 2 ^ log ≡ 0
+FitTogether (net links events cycles images) = (1 ≤ length images) × (length images ≤ 8)
 FitTogether _ = ⊤
 
 -- its words are in their ranges, and fit together
@@ -185,6 +190,7 @@ row_of (Sweep w) = sweep w.image.now w.base w.log
 row_of (Holders w) = holders w.image.now w.base w.log
 row_of (Save w) = save w.image.now w.cycles (option_map (λ name. name.now) w.schedule)
 row_of (Continue w) = continue w.image.now w.checkpoint.now w.cycles (option_map (λ name. name.now) w.schedule)
+row_of (Net w) = net w.links.now w.events.now w.cycles (texts w.images.now)
 
 -- files of a kind with these names
 abbrev pub files_named : Kind → List (String Global) → List (List ℕ × Kind)

@@ -8,8 +8,8 @@ pub fn texts_are_run()
     ensures { TextsAreRun }
 {}
 
-/// A law: where a checkpoint is read from what `save` wrote, `continue` writes the report of the one run that goes on from where the saved one ended, with
-/// the counts of the further cycles alone; in round robin that is the run of all cycles. Nothing is done.
+/// A law: what `save` writes is a file that is read as one checkpoint of the image, and `continue` writes of that the report of the one run that goes on
+/// from where the saved one ended, with the counts of the further cycles alone; in round robin that is the run of all cycles. Nothing is done.
 pub fn saves_go_on()
     ensures { SavesGoOn }
 {}

@@ -119,6 +119,24 @@ fn write_refusal<D: Sink>(refusal: &Refusal, diag: &mut D) -> Result<(), WriteFa
                 Piece::Text("\n"),
             ],
         ),
+        Refusal::Links { file, offset } => write_pieces(
+            diag,
+            &[
+                Piece::Text("mmachine: file "),
+                Piece::Decimal(*file as u64),
+                Piece::Text(" links fault at "),
+                Piece::Decimal(*offset),
+                Piece::Text("\n"),
+            ],
+        ),
+        Refusal::NoNode { link } => write_pieces(
+            diag,
+            &[
+                Piece::Text("mmachine: no node link "),
+                Piece::Decimal(*link as u64),
+                Piece::Text("\n"),
+            ],
+        ),
         Refusal::Schedule { file, offset } => write_pieces(
             diag,
             &[

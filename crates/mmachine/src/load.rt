@@ -5,8 +5,9 @@ ghost use Rattle.std.specs.Io.KnownBytes.{IsAtEnd};
 ghost use Rattle.mm_io.specs.Files.{Rose, NoneFell, Holds, AsksOnly};
 ghost use Rattle.mm_model.specs.Spelling.{IsImage};
 ghost use Rattle.mm_machine.specs.Machine.{StandsFor};
+ghost use Rattle.mm_net.specs.Net.{IsUnused};
 ghost use Rattle.mm_save.specs.Checkpoints.{saved_of, IsCheckpoint};
-ghost use Rattle.mmachine.specs.Kinds.{Value, image_file, schedule_file, source_file, object_file, checkpoint_file, text_input, an_image, a_list, an_object, a_checkpoint, a_text};
+ghost use Rattle.mmachine.specs.Kinds.{Value, image_file, schedule_file, source_file, object_file, checkpoint_file, links_file, events_file, text_input, an_image, a_list, an_object, a_checkpoint, a_links, an_events, a_text};
 ghost use Rattle.mmachine.specs.Files.{Stops, IsTooLong, FilesRead, InputRead, reading, drawing};
 ghost use Rattle.mmachine.specs.Table.{files_named, files_in, file_word, perhaps};
 ghost use Rattle.mmachine.specs.Orders.{values_of};
@@ -18,6 +19,7 @@ use mm_image::{Image, ImageError};
 use mm_io::{Files, ReadError, Source, read_all, read_input};
 use mm_machine::{Machine, Snapshot};
 use mm_mem::Boot;
+use mm_net::{Events, Links, NetError, read_events, read_links};
 use mm_object::{Object, ObjectError};
 use mm_save::SaveError;
 use mm_sched::{Order, SchedError, Schedule};
@@ -38,6 +40,12 @@ const OBJECT_LIMIT: u64 = 2_097_152;
 
 /// The most bytes of a checkpoint file.
 const CHECKPOINT_LIMIT: u64 = 33_554_432;
+
+/// The most bytes of a file of links.
+const LINKS_LIMIT: u64 = 65_536;
+
+/// The most bytes of a file of events.
+const EVENTS_LIMIT: u64 = 8_388_608;
 
 /// The most bytes of standard input.
 const INPUT_LIMIT: u64 = 1_048_576;
@@ -203,6 +211,52 @@ pub fn load_checkpoint<F: Files>(
     }
 }
 
+/// Reads and parses a file of links, the file of a number.
+pub fn load_links<F: Files>(
+    alloc: Global,
+    files: &mut F,
+    name: &str,
+    number: u8,
+) -> Result<Links, Stop>
+    ensures read { (before : List Value) → number ≡ length before + 1
+        → FilesRead (reading F.held F.faults F.asked files.old files.new) before ((name.now, links_file) ∷ []) (λ links. a_links links ∷ []) result }
+    ensures kept { F.held files.new ≡ F.held files.old }
+    ensures later { NoneFell (F.faults files.old) (F.faults files.new) }
+{
+    let bytes = read_file(alloc, files, name, LINKS_LIMIT, number)?;
+    match read_links(alloc, &bytes) {
+        Ok(links) => Ok(links),
+        Err(NetError::Fault { offset }) => Err(Stop::Refused(Refusal::Links {
+            file: number,
+            offset,
+        })),
+        Err(NetError::NoMemory) => Err(Stop::NoMemory),
+    }
+}
+
+/// Reads and parses a file of events, the file of a number. It is refused as a schedule is.
+pub fn load_events<F: Files>(
+    alloc: Global,
+    files: &mut F,
+    name: &str,
+    number: u8,
+) -> Result<Events, Stop>
+    ensures read { (before : List Value) → number ≡ length before + 1
+        → FilesRead (reading F.held F.faults F.asked files.old files.new) before ((name.now, events_file) ∷ []) (λ events. an_events events ∷ []) result }
+    ensures kept { F.held files.new ≡ F.held files.old }
+    ensures later { NoneFell (F.faults files.old) (F.faults files.new) }
+{
+    let bytes = read_file(alloc, files, name, EVENTS_LIMIT, number)?;
+    match read_events(alloc, &bytes) {
+        Ok(events) => Ok(events),
+        Err(NetError::Fault { offset }) => Err(Stop::Refused(Refusal::Schedule {
+            file: number,
+            offset,
+        })),
+        Err(NetError::NoMemory) => Err(Stop::NoMemory),
+    }
+}
+
 /// The order of a schedule file, the file of a number, or round robin where there is none.
 pub fn load_order<F: Files>(
     alloc: Global,
@@ -237,6 +291,7 @@ pub fn load_input<I: Source>(alloc: Global, input: &mut I) -> Result<Vec<u8>, St
 /// The machine of an image at its start.
 pub fn boot<M: Boot>(alloc: Global, image: &Image) -> Result<Machine<M>, NoMemory>
     ensures stands { IfOk result (StandsFor image.now []) }
+    ensures unused { IfOk result IsUnused }
     ensures image { IsImage image.now }
 {
     let memory = M::new(alloc, image.pages(), image.frames())?;
@@ -264,4 +319,27 @@ pub fn load_objects<F: Files>(
         };
     }
     Ok(objects)
+}
+
+/// Reads and parses image files one after the other, the first of them the file of a number.
+pub fn load_images<F: Files>(
+    alloc: Global,
+    files: &mut F,
+    names: &[String],
+    first: u8,
+) -> Result<Vec<Image>, Stop>
+    requires few { length names.now ≤ 16 }
+    requires early { first ≤ 16 }
+    ensures read { (before : List Value) → first ≡ length before + 1
+        → FilesRead (reading F.held F.faults F.asked files.old files.new) before (files_named image_file names.now) (λ images. map an_image images.items) result }
+    ensures count { IfOk result (λ images. length images.items ≡ length names.now) }
+{
+    let mut images = Vec::new(alloc);
+    for at in 0..names.len() {
+        let image = load_image(alloc, files, names[at].as_str(), first + at as u8)?;
+        let Ok(()) = images.push(image) else {
+            return Err(Stop::NoMemory);
+        };
+    }
+    Ok(images)
 }

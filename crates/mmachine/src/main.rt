@@ -24,6 +24,7 @@ mod load;
 mod members;
 mod memories;
 mod migrate;
+mod nets;
 mod run;
 mod save;
 mod soak;

@@ -47,6 +47,11 @@ pub enum Refusal {
         file: u8,
         offset: u64,
     },
+    /// The file is no list of links: where its fault stands.
+    Links {
+        file: u8,
+        offset: u64,
+    },
     /// The objects do not link: their first fault.
     Link(LinkFault),
     /// No slot of the image is of one of the groups.
@@ -62,6 +67,10 @@ pub enum Refusal {
     /// None does, but a group, the least such, is privileged, whatever is entered: what is swept it can make again.
     Privileged {
         group: u8,
+    },
+    /// A link, the least such, names a node that is not there.
+    NoNode {
+        link: u8,
     },
 }
 

@@ -46,6 +46,22 @@ const HOLDERS: &[u8] = b"ip 0 p3300000000100000\nip 1 p3300000000100000\n";
 // The least generated image after three cycles.
 const SOAKED: &[u8] = b"cycles 3\nslot 0 turns 3 running out 1 xor i14057b7ef767814f\n";
 
+// A word of `HELLO` is taken by a link, which finds no empty word in `PAIR`.
+const LINK: &[u8] = b"0.1048640>1.1048648";
+
+const EVENTS: &[u8] = b"0:0*2 +0 0@0 1:0 1:1";
+
+const HELLO_AND_PAIR: &[u8] =
+    b"node 0\ncycles 2\ngroup 0 output 1\no 41\nslot 0 turns 2 running ip p3300000000100010\nr 1 i0000000000000041\ncell 00000000100040 i0000000000000000 empty\ncounts hits 1 misses 2 writebacks 0 tlb_hits 1 tlb_misses 1 reads 2 writes 0\nnode 1\ncycles 2\ngroup 0 output 1\no 41\nslot 0 turns 1 running ip p3300000000100008\nr 1 i0000000000000041\ngroup 1 output 1\no 42\nslot 1 turns 1 running ip p3300000000100008\nr 1 i0000000000000042\ncounts hits 1 misses 2 writebacks 0 tlb_hits 1 tlb_misses 1 reads 2 writes 0\nlink 0 sent 1 arrived 0\n";
+
+// A node stores a letter, a link carries it, and the other node loads it and puts it out.
+const LETTER: &[u8] =
+    b"node 0\ncycles 1\ngroup 0 output 0\nslot 0 turns 1 running ip p3300000000100008\nr 1 p20c0000000101000\nr 2 i0000000000000041\ncell 00000000101000 i0000000000000041 empty\ncounts hits 1 misses 2 writebacks 0 tlb_hits 0 tlb_misses 2 reads 2 writes 0\nnode 1\ncycles 3\ngroup 0 output 1\no 41\nslot 0 turns 3 halted ip p3300000000100010\nr 1 p20c0000000101000\nr 2 i0000000000000041\ncell 00000000101000 i0000000000000041 empty\ncounts hits 1 misses 4 writebacks 2 tlb_hits 4 tlb_misses 2 reads 4 writes 2\nlink 0 sent 1 arrived 1\n";
+
+// The same of a pointer, which arrives as an integer: the other node cannot load through it.
+const POINTER: &[u8] =
+    b"node 0\ncycles 1\ngroup 0 output 0\nslot 0 turns 1 running ip p3300000000100008\nr 1 p20c0000000101000\nr 2 p20c0000000101000\ncell 00000000101000 p20c0000000101000 empty\ncounts hits 1 misses 2 writebacks 0 tlb_hits 0 tlb_misses 2 reads 2 writes 0\nnode 1\ncycles 3\ngroup 0 output 0\nslot 0 turns 2 faulted 1 ip p3300000000100008\nr 1 p20c0000000101000\nr 2 i20c0000000101000\ncell 00000000101000 i20c0000000101000 empty\ncounts hits 0 misses 4 writebacks 2 tlb_hits 4 tlb_misses 2 reads 4 writes 2\nlink 0 sent 1 arrived 1\n";
+
 /// The image of `examples/hello.img`.
 fn hello(rt: &HostRuntime) -> Result<Vec<u8>, Fail> {
     hello_as(rt, 1, 0)
@@ -92,6 +108,33 @@ fn putting(rt: &HostRuntime, slots: &[(u8, u8, u8)]) -> Result<Vec<u8>, Fail> {
     bytes.extend_from_slice(&0x0701_0000_0000_0000_u64.to_be_bytes())?;
     bytes.extend_from_slice(&0x4000_0000_ffff_ffff_u64.to_be_bytes())?;
     bytes.extend_from_slice(&[0; 4080])?;
+    Ok(bytes)
+}
+
+/// A node whose slot has a pointer to an empty word in register 1, a word in register 2, with these tags, and this code.
+fn node(rt: &HostRuntime, tags: u8, word: u64, code: [u64; 2]) -> Result<Vec<u8>, Fail> {
+    let mut bytes = Vec::from_slice(
+        rt.alloc(),
+        b"MMI1\x00\x01\x00\x01\x00\x02\x00\x02\x00\x00\x00\x00\x00\x00\xff\x00",
+    )?;
+    bytes.extend_from_slice(&0x3300_0000_0010_0000_u64.to_be_bytes())?;
+    bytes.extend_from_slice(&[0, tags, 0, 0, 0, 0, 0, 0, 0, 0])?;
+    bytes.extend_from_slice(&0x20c0_0000_0010_1000_u64.to_be_bytes())?;
+    bytes.extend_from_slice(&word.to_be_bytes())?;
+    bytes.extend_from_slice(&[0; 104])?;
+    // Page 0x100: the code.
+    bytes.extend_from_slice(&0x100_u64.to_be_bytes())?;
+    bytes.extend_from_slice(&[0; 64])?;
+    bytes.extend_from_slice(&[0xff; 64])?;
+    bytes.extend_from_slice(&code[0].to_be_bytes())?;
+    bytes.extend_from_slice(&code[1].to_be_bytes())?;
+    bytes.extend_from_slice(&[0; 4080])?;
+    // Page 0x101: its first cell is empty.
+    bytes.extend_from_slice(&0x101_u64.to_be_bytes())?;
+    bytes.extend_from_slice(&[0; 64])?;
+    bytes.push(0xfe)?;
+    bytes.extend_from_slice(&[0xff; 63])?;
+    bytes.extend_from_slice(&[0; 4096])?;
     Ok(bytes)
 }
 
@@ -214,6 +257,8 @@ fn shelf(rt: &HostRuntime, fails: u64, piece: usize) -> Result<MemFiles, Fail> {
         ("TURNS", TURNS.as_bytes()),
         ("SOURCE", SOURCE),
         ("OBJECT", HALT),
+        ("LINKS", LINK),
+        ("EVENTS", EVENTS),
     ] {
         let bytes = Vec::from_slice(rt.alloc(), bytes)?;
         held.push((String::from_str(rt.alloc(), name)?, bytes))?;
@@ -533,6 +578,25 @@ fn each_call_fails(rt: HostRuntime) -> Result<(), Fail> {
     Ok(())
 }
 
+// A net, whose parts are written one after the other: each write takes more of the text.
+#[test]
+fn each_call_of_a_net_fails(rt: HostRuntime) -> Result<(), Fail> {
+    let words = ["net", "LINKS", "EVENTS", "100", "HELLO", "PAIR"];
+    assert!(rt; ends(&rt, &words, [17, 1, 36, 1], HELLO_AND_PAIR)?);
+    for read in 1..=16 {
+        assert!(rt; stops_at_read(&rt, &words, [read, 0, 0, 0])?);
+    }
+    let mut taken = 0;
+    for write in 1..=35 {
+        let (status, out, _) = attempt(&rt, &words, [0, 0, write, 0])?;
+        assert!(rt; matches!(status, Status::WriteFault));
+        assert!(rt; HELLO_AND_PAIR.starts_with(out.taken()));
+        assert!(rt; write == 1 || out.taken().len() > taken);
+        taken = out.taken().len();
+    }
+    Ok(())
+}
+
 // Each command that writes an image.
 #[test]
 fn each_write_of_an_image_fails(rt: HostRuntime) -> Result<(), Fail> {
@@ -577,6 +641,96 @@ fn ranges(rt: HostRuntime) -> Result<(), Fail> {
         let (_, out, diag) = attempt(&rt, &words, [0; 4])?;
         assert_eq!(rt; out.taken().len(), 0);
         assert_eq!(rt; diag.taken(), line.as_bytes());
+    }
+    Ok(())
+}
+
+/// Files `LINKS` and `EVENTS` with these texts, and the nodes `FIRST` and `SECOND`.
+fn net_files(
+    rt: &HostRuntime,
+    links: &str,
+    events: &str,
+    first: Vec<u8>,
+    second: Vec<u8>,
+) -> Result<MemFiles, Fail> {
+    let mut held = Vec::new(rt.alloc());
+    for (name, text) in [("LINKS", links), ("EVENTS", events)] {
+        let bytes = Vec::from_slice(rt.alloc(), text.as_bytes())?;
+        held.push((String::from_str(rt.alloc(), name)?, bytes))?;
+    }
+    held.push((String::from_str(rt.alloc(), "FIRST")?, first))?;
+    held.push((String::from_str(rt.alloc(), "SECOND")?, second))?;
+    Ok(MemFiles::new(held, Vec::new(rt.alloc()), 4096))
+}
+
+// The first node stores a word where a link takes, and the second loads where it puts: an integer, and a pointer.
+#[test]
+fn joins(rt: HostRuntime) -> Result<(), Fail> {
+    let out_it = 0x0702_0000_0000_0000;
+    let load_by_it = 0x3032_0000_0000_0000;
+    for (tags, word, then, text) in [
+        (2, 0x41, out_it, LETTER),
+        (6, 0x20c0_0000_0010_1000, load_by_it, POINTER),
+    ] {
+        let first = node(&rt, tags, word, [0x3101_2900_0000_0000, 0])?;
+        let second = node(&rt, 2, 0, [0x3021_0600_0000_0000, then])?;
+        let links = "0.1052672>1.1052672";
+        let held = net_files(&rt, links, "0:0 +0 0@0 0@0 1:0*3", first, second)?;
+        let words = ["net", "LINKS", "EVENTS", "100", "FIRST", "SECOND"];
+        let (status, out, diag) = answer(&rt, &words, held)?;
+        assert!(rt; matches!(status, Status::Done));
+        assert_eq!(rt; out.taken(), text);
+        assert_eq!(rt; diag.taken().len(), 0);
+    }
+    Ok(())
+}
+
+// Links and events with a fault, a link whose node is not there, and words that fit no net.
+#[test]
+fn joins_nothing(rt: HostRuntime) -> Result<(), Fail> {
+    for (links, events, words, line) in [
+        (
+            "0.1052672>1.8 0.1052672>1.16",
+            "8:0",
+            ["1", "FIRST", "SECOND"],
+            "mmachine: file 1 links fault at 14\n",
+        ),
+        (
+            "0.8>2.8",
+            "0:0 8:0",
+            ["1", "FIRST", "SECOND"],
+            "mmachine: file 2 schedule fault at 4\n",
+        ),
+        (
+            "0.8>2.8",
+            "",
+            ["1", "FIRST", "LINKS"],
+            "mmachine: file 4 image fault 2 at 0\n",
+        ),
+        (
+            "0.8>1.8 1.16>0.16 1.24>2.8 2.16>0.24",
+            "",
+            ["1", "FIRST", "SECOND"],
+            "mmachine: no node link 2\n",
+        ),
+        ("", "", ["1000001", "FIRST", "SECOND"], "mmachine: usage\n"),
+    ] {
+        let first = hello(&rt)?;
+        let second = hello(&rt)?;
+        let held = net_files(&rt, links, events, first, second)?;
+        let [cycles, one, other] = words;
+        let words = ["net", "LINKS", "EVENTS", cycles, one, other];
+        let (_, out, diag) = answer(&rt, &words, held)?;
+        assert_eq!(rt; out.taken().len(), 0);
+        assert_eq!(rt; diag.taken(), line.as_bytes());
+    }
+    // None, and nine.
+    let words = [
+        "net", "A", "B", "0", "C", "D", "E", "F", "G", "H", "I", "J", "K",
+    ];
+    for count in [4, 13] {
+        let (status, _, _) = attempt(&rt, &words[..count], [0; 4])?;
+        assert!(rt; matches!(status, Status::Usage));
     }
     Ok(())
 }

@@ -20,6 +20,7 @@ use crate::holders::holders;
 use crate::line::write_line;
 use crate::link::link;
 use crate::migrate::migrate;
+use crate::nets::run_net;
 use crate::run::run;
 use crate::save::save;
 use crate::soak::soak;
@@ -160,6 +161,7 @@ fn by_command<M: Boot + Reset, F: Files, I: Source, O: Sink>(
         Command::Holders(asked) => holders(alloc, asked, files, out),
         Command::Save(asked) => save::<M, F, O>(alloc, asked, files, out),
         Command::Continue(asked) => go_on::<M, F, O>(alloc, asked, files, out),
+        Command::Net(asked) => run_net::<M, F, O>(alloc, asked, files, out),
     }
 }
 

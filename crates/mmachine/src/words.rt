@@ -1,7 +1,7 @@
 // The words of the command line, by the table of commands.
 ghost use Rattle.std.specs.Prelude.{◌≡◌, ◌≢◌, ◌≤◌, MatchOption, ℕ, Bool, List, Option, decimal};
 ghost use Rattle.mmachine.specs.Ranges.{IsRange};
-ghost use Rattle.mmachine.specs.Table.{InNoRow, Asks, AreTexts, FitTogether, behind, run, solo, grants, extract, asm, link, dis, debug, gen, soak, migrate, sweep, continue, mode_text, texts, row_of};
+ghost use Rattle.mmachine.specs.Table.{InNoRow, Asks, AreTexts, FitTogether, behind, run, solo, grants, extract, asm, link, dis, debug, gen, soak, migrate, sweep, continue, net, mode_text, texts, row_of};
 
 use crate::group_list::read_groups;
 use arrayvec::ArrayVec;
@@ -41,6 +41,8 @@ pub enum Command<'a> {
     Save(RunWords<'a>),
     /// `continue IMAGE CHECKPOINT CYCLES [SCHEDULE]`
     Continue(ContinueWords<'a>),
+    /// `net LINKS EVENTS CYCLES IMAGE..`
+    Net(NetWords<'a>),
 }
 
 /// `IMAGE CYCLES [SCHEDULE]`
@@ -138,11 +140,23 @@ pub struct ContinueWords<'a> {
     pub schedule: Option<&'a str>,
 }
 
+/// `LINKS EVENTS CYCLES IMAGE..`
+#[derive(Clone, Copy)]
+pub struct NetWords<'a> {
+    pub links: &'a str,
+    pub events: &'a str,
+    pub cycles: u64,
+    pub images: &'a [String],
+}
+
 /// The most cycles of a command.
 const MAX_CYCLES: u64 = 1_000_000;
 
 /// The most objects that are linked.
 const MAX_OBJECTS: usize = 16;
+
+/// The most nodes of a net.
+const MAX_NODES: usize = 8;
 
 /// The most slots of a generated image.
 const MAX_SIZE: u64 = 16;
@@ -179,6 +193,7 @@ pub fn read_words(words: &[String]) -> Option<Command<'_>>
         "holders" => Some(Command::Holders(read_range_words(rest)?)),
         "save" => Some(Command::Save(read_run_words(rest)?)),
         "continue" => Some(Command::Continue(read_continue_words(rest)?)),
+        "net" => Some(Command::Net(read_net_words(rest)?)),
         _ => None,
     }
 }
@@ -421,4 +436,22 @@ fn read_continue_words(rest: &[String]) -> Option<ContinueWords<'_>>
         }),
         _ => None,
     }
+}
+
+fn read_net_words(rest: &[String]) -> Option<NetWords<'_>>
+    ensures { MatchOption result ((links events : List ℕ) (cycles : ℕ) (images : List (List ℕ)) → AreTexts (texts rest.now) (behind (net links events cycles images)) → ¬ FitTogether (net links events cycles images))
+        (λ words. AreTexts (texts rest.now) (behind (row_of (Command.Net words))) × FitTogether (row_of (Command.Net words))) }
+{
+    let [links, events, cycles, images @ ..] = rest else {
+        return None;
+    };
+    if images.is_empty() || images.len() > MAX_NODES {
+        return None;
+    }
+    Some(NetWords {
+        links: links.as_str(),
+        events: events.as_str(),
+        cycles: number(cycles.as_bytes(), MAX_CYCLES)?,
+        images,
+    })
 }

@@ -9,10 +9,11 @@ use Rattle.mm_machine.specs.Machine.{state_of}
 use Rattle.mm_machine.specs.Snapshot.{Parts, CanRestore, restored}
 use Rattle.mm_machine.proofs.Keeping.{kept_core}
 use Rattle.mm_save.specs.Checkpoints.{saved_of}
+use Rattle.mm_save.proofs.Forms.{have_form}
 use Rattle.mmachine.specs.Saving.{HasState, items_behind}
 use Rattle.mmachine.proofs.Issued.{further}
 use Rattle.mmachine.proofs.Reported.{start_state, ends_written}
-use Rattle.mmachine.proofs.SavedForms.{can_begin, have_form}
+use Rattle.mmachine.proofs.SavedForms.{can_begin}
 use Rattle.mmachine.proofs.going_on.write_further.Goals as goal
 
 pub restore-requires : goal.restore-requires
@@ -40,7 +41,7 @@ returns g c =
         frames = ap (λ (x : State). x.memory.frames) is;
         core = ∥∥₁_map c.restore.new.self.kept (λ k. kept_core s k);
       };
-      saved = have_form i s p last c.in_ok-machine.ensures.image c.requires.checkpoint.slots c.restore.ensures.shown;
+      saved = sym (have_form i s p last c.in_ok-machine.ensures.image c.requires.checkpoint.slots c.restore.ensures.shown);
     } in
     let went = c.issue.ensures.goes in
     ends_written _ _ _ _ (s, has, (items, further c.args.order.now s last c.args.cycles, refl)) _ _ c.ended.ensures

@@ -14,3 +14,9 @@ returns-in-Object g c = rw (c.in-Object.is, ← c.number-in-Object.ensures) c.wr
 
 pub returns-in-Checkpoint : goal.returns-in-Checkpoint
 returns-in-Checkpoint g c = rw (c.in-Checkpoint.is) c.write_pieces-in-Checkpoint.ensures
+
+pub returns-in-Links : goal.returns-in-Links
+returns-in-Links g c = rw (c.in-Links.is) c.write_pieces-in-Links.ensures
+
+pub returns-in-NoNode : goal.returns-in-NoNode
+returns-in-NoNode g c = rw (c.in-NoNode.is) c.write_pieces-in-NoNode.ensures

@@ -1,5 +1,5 @@
 use Rattle.std.proofs.Common.{codes, sym, ◌∙◌, arith}
-use Rattle.mmachine.proofs.WordsBehind.{in_no_row, no_run, no_trace, no_solo, no_grants, no_extract, no_asm, no_link, no_dis, no_debug, no_gen, no_soak, no_migrate, no_sweep, no_holders, no_save, no_continue}
+use Rattle.mmachine.proofs.WordsBehind.{in_no_row, no_run, no_trace, no_solo, no_grants, no_extract, no_asm, no_link, no_dis, no_debug, no_gen, no_soak, no_migrate, no_sweep, no_holders, no_save, no_continue, no_net}
 use Rattle.mmachine.proofs.words.read_words.Goals as goal
 
 pub returns-in_err-read_run_words-in-run : goal.returns-in_err-read_run_words-in-run
@@ -97,3 +97,9 @@ returns-in_err-read_continue_words-in-continue c =
     rw c.from_residual-in_err-read_continue_words-in-continue.ensures
     (in_no_row c.args.words.now c.word-item.result (codes "continue") (omega arith) c.word-item.is (sym c.as_str.ensures.value ∙ c.in-continue.is)
     (no_continue _ c.in_err-read_continue_words-in-continue.ensures))
+
+pub returns-in_err-read_net_words-in-net : goal.returns-in_err-read_net_words-in-net
+returns-in_err-read_net_words-in-net c =
+    rw c.from_residual-in_err-read_net_words-in-net.ensures
+    (in_no_row c.args.words.now c.word-item.result (codes "net") (omega arith) c.word-item.is (sym c.as_str.ensures.value ∙ c.in-net.is)
+    (no_net _ c.in_err-read_net_words-in-net.ensures))
