@@ -1,5 +1,6 @@
 ; A producer stores numbers into a box, a consumer takes them out and says them as letters, and a gate counts the calls. The consumer
-; holds an enter pointer to the gate's door alone: it cannot touch the count, nor begin anywhere else behind the gate.
+; holds an enter pointer to the gate's door alone, and has no handler that could look behind it: it cannot touch the count, nor begin
+; anywhere else behind the gate.
 .segment prod 6
 loop: st r1, r2, 0, empty, full
   addi r2, r2, 1

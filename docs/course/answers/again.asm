@@ -1,0 +1,16 @@
+; Two threads that lost a tag. One goes on as if it were there, and one asks for it.
+.segment uses 5
+  addi r2, r1, 0
+  ld r3, r2, 0, any, keep
+  halt
+.segment asks 5
+  addi r2, r1, 0
+  setptr r2, r2
+  ld r3, r2, 0, any, keep
+  halt
+.segment cell 3
+  .int 65
+.thread 0 0 none xu uses
+.reg 1 ptr ro cell
+.thread 1 1 none xu asks
+.reg 1 ptr ro cell

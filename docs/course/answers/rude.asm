@@ -1,0 +1,25 @@
+; Group 0 counts as before. Of group 1 one thread talks without end, and the other makes up a pointer to the first one's word.
+.segment code 6
+again: ld r2, r1, 0, any, keep
+  addi r2, r2, 1
+  st r1, r2, 0, any, keep
+  out r2
+  addi r3, r3, -1
+  bnz r3, again
+  halt
+.segment forge 5
+  ldi r1, 0x20c00000      ; read/write, 2^3 bytes,
+  ldhi r1, 0x00100070     ; at the address of the word
+  st r1, r2, 0, any, keep
+  halt
+.segment noise 4
+more: out r1
+  br more
+.segment upper 3
+  .int 64
+.thread 0 0 none xu code
+.reg 1 ptr rw upper
+.reg 3 int 3
+.thread 1 1 none xu noise
+.reg 1 int 33
+.thread 2 1 none xu forge
