@@ -39,7 +39,7 @@ pub fn run_net<M: Boot, F: Files, O: Sink>(
     write_net::<M, O>(alloc, links, &events, &images, asked.cycles, out)
 }
 
-/// Writes what a net of images comes to by its first so many events: the report of each node, and what each link carried.
+/// Writes what a net of images has come to after the first so many events: the report of each node, and what each link carried.
 fn write_net<M: Boot, O: Sink>(
     alloc: Global,
     links: Links,
@@ -92,7 +92,7 @@ fn boot_nodes<M: Boot>(alloc: Global, images: &[Image]) -> Result<Vec<Machine<M>
     Ok(nodes)
 }
 
-/// How many of the items have a link take, so many integers at most are sent.
+/// How many of the items have a link take: at most so many integers are sent.
 fn count_sends(items: &[NetItem]) -> u32
     requires { length items.now ≤ 1000000 }
     ensures count { result ≡ count_by is_send items.now }
@@ -101,13 +101,14 @@ fn count_sends(items: &[NetItem]) -> u32
     items.iter().filter(|item| is_send(item)).count() as u32
 }
 
+/// Whether a link takes.
 fn is_send(item: &NetItem) -> bool
     ensures { result ≡ is_send item.now }
 {
     matches!(item, NetItem::Send { .. })
 }
 
-/// Issues the items. There is room for what they send.
+/// Issues the items, where there is room for what they send.
 fn issue_items<M: Memory>(net: &mut Net<M>, items: &[NetItem])
     requires few { steps_of net.old + length items.now ≤ 2 ^ 32 }
     requires room { sent_count (net_of net.old) + count_by is_send items.now ≤ room_of net.old }
