@@ -5,3 +5,4 @@ pub mod Operands
 pub mod Packing
 pub mod Rows
 pub mod Spelling
+pub mod Sums

@@ -1,3 +1,4 @@
 pub mod Alu
 pub mod Decode
+pub mod Sum
 pub mod Table

@@ -5,6 +5,7 @@ ghost use Rattle.mm_word.specs.Access.{check_result};
 ghost use Rattle.mm_model.specs.Slot.{register};
 ghost use Rattle.mm_model.specs.Operands.{lacks};
 ghost use Rattle.mm_model.specs.Ask.{load_kind};
+ghost use Rattle.mm_model.specs.Turn.{is_running};
 ghost use Rattle.mm_thread.specs.Places.{slot_in};
 ghost use Rattle.mm_thread.specs.Left.{CanTurn, Executes, core_loaded, outcome_loaded, core_stored, outcome_stored, page_named};
 
@@ -156,6 +157,7 @@ fn reach(slot: &Slot, ra: Reg, imm: i32, kind: Kind) -> Result<Access, Cause>
 // The word that a load brought goes to a register.
 fn receive(tables: &mut Tables, place: usize, rd: Reg, loaded: Loaded) -> Outcome
     requires place { place < length tables.old.rows }
+    requires runs { is_running (slot_in tables.old place).state ≡ true }
     requires turns { (slot_in tables.old place).turns < 2 ^ 62 }
     requires room { tables.old.split ≡ true → length (slot_in tables.old place).pending < 16 }
     ensures core { tables.new ≡ core_loaded tables.old place rd loaded }
@@ -177,6 +179,7 @@ fn receive(tables: &mut Tables, place: usize, rd: Reg, loaded: Loaded) -> Outcom
 
 fn finish_store(tables: &mut Tables, place: usize, stored: Stored) -> Outcome
     requires place { place < length tables.old.rows }
+    requires runs { is_running (slot_in tables.old place).state ≡ true }
     requires turns { (slot_in tables.old place).turns < 2 ^ 62 }
     ensures core { tables.new ≡ core_stored tables.old place stored }
     ensures outcome { result ≡ outcome_stored stored }

@@ -1,6 +1,7 @@
 //! The running slots as bits, one for each slot's number.
 
 ghost use Rattle.std.specs.Prelude.{◌≡◌, ◌<◌, length};
+ghost use Rattle.std.specs.Int.{bit_at};
 ghost use Rattle.mm_thread.specs.Runners.{AreNumbered, HasRunners, IsNoted};
 
 use crate::item::is_running;
@@ -18,6 +19,29 @@ pub(crate) fn noted(runners: u64, slot: &Slot) -> u64
     } else {
         runners & !bit
     }
+}
+
+/// The same behind a turn of a slot that ran: nearly every turn leaves it so, and then no bit is looked at.
+pub(crate) fn kept(runners: u64, slot: &Slot) -> u64
+    requires small { slot.now.number < 64 }
+    requires ran { bit_at runners slot.now.number ≡ 1 }
+    ensures { IsNoted runners result slot.now }
+{
+    if is_running(slot) {
+        runners
+    } else {
+        without(runners, slot)
+    }
+}
+
+// The bits without that of a slot that does not run.
+#[cold]
+#[inline(never)]
+fn without(runners: u64, slot: &Slot) -> u64
+    requires { slot.now.number < 64 }
+    ensures { IsNoted runners result slot.now }
+{
+    noted(runners, slot)
 }
 
 /// The bits of rows.

@@ -9,7 +9,7 @@ ghost use Rattle.mm_model.specs.State.{slot_at, output_of, put_output};
 ghost use Rattle.mm_model.specs.Image.{output_limit};
 ghost use Rattle.mm_model.specs.Effect.{effect, plain, delivered, resumed_by};
 ghost use Rattle.mm_model.specs.Effect.Reply.{Fine};
-ghost use Rattle.mm_model.specs.Turn.{slot_after, stood};
+ghost use Rattle.mm_model.specs.Turn.{slot_after, stood, is_running};
 ghost use Rattle.mm_thread.specs.Ends.{EndsAlone, is_alone};
 ghost use Rattle.mm_thread.specs.Runners.{AreNumbered};
 ghost use Rattle.mm_thread.specs.Places.{row_alone, slot_in, queue_in, with_row, with_slot, with_queue_in, first_register, event_writes};
@@ -18,7 +18,7 @@ use crate::alone::Entered;
 use crate::carry_out::carry_out;
 use crate::group_output::GroupOutput;
 use crate::row::Row;
-use crate::runners::{noted, runners_of};
+use crate::runners::{kept, noted, runners_of};
 use crate::slot::{advance, deliver, issue, resume, set_register, sets, stand, take_event};
 use mm_isa::{EvtReg, How, Instr, Reg};
 use mm_model::{Event, Slot, SlotState};
@@ -167,30 +167,33 @@ impl Tables {
     /// The slot goes on to its next instruction.
     pub(crate) fn advance(&mut self, place: usize)
         requires place { place < length self.old.rows }
+        requires runs { is_running (slot_in self.old place).state ≡ true }
         requires turns { (slot_in self.old place).turns < 2 ^ 62 }
         ensures { self.new ≡ with_slot self.old place (slot_after (slot_in self.old place) (plain (slot_in self.old place))) }
     {
         let row = &mut self.rows[place];
         let slot = &mut row.slot;
         advance(slot);
-        self.runners = noted(self.runners, slot);
+        self.runners = kept(self.runners, slot);
     }
 
     /// The same, and a register gets a word.
     pub(crate) fn sets(&mut self, place: usize, rd: Reg, word: Word)
         requires place { place < length self.old.rows }
+        requires runs { is_running (slot_in self.old place).state ≡ true }
         requires turns { (slot_in self.old place).turns < 2 ^ 62 }
         ensures { self.new ≡ with_slot self.old place (slot_after (slot_in self.old place) (record (plain (slot_in self.old place)) { writes = (rd, word) ∷ [] })) }
     {
         let row = &mut self.rows[place];
         let slot = &mut row.slot;
         sets(slot, rd, word);
-        self.runners = noted(self.runners, slot);
+        self.runners = kept(self.runners, slot);
     }
 
     /// The same, where the word arrives later.
     pub(crate) fn issue(&mut self, place: usize, rd: Reg, word: Word)
         requires place { place < length self.old.rows }
+        requires runs { is_running (slot_in self.old place).state ≡ true }
         requires turns { (slot_in self.old place).turns < 2 ^ 62 }
         requires room { length (slot_in self.old place).pending < 16 }
         ensures { self.new ≡ with_slot self.old place (slot_after (slot_in self.old place) (record (plain (slot_in self.old place)) { writes = (rd, Int 0) ∷ []; issue = Some (record { reg = rd; word = word }) })) }
@@ -198,12 +201,13 @@ impl Tables {
         let row = &mut self.rows[place];
         let slot = &mut row.slot;
         issue(slot, rd, word);
-        self.runners = noted(self.runners, slot);
+        self.runners = kept(self.runners, slot);
     }
 
     /// The slot carries out an instruction that concerns it alone.
     pub(crate) fn carry_out(&mut self, place: usize, instr: Instr) -> Entered
         requires place { place < length self.old.rows }
+        requires runs { is_running (slot_in self.old place).state ≡ true }
         requires turns { (slot_in self.old place).turns < 2 ^ 62 }
         requires alone { is_alone instr ≡ true }
         ensures ends { (split : Bool) → EndsAlone (effect split instr (slot_in self.old place) Fine) (slot_in self.old place) (slot_in self.new place) result }
@@ -212,20 +216,21 @@ impl Tables {
         let row = &mut self.rows[place];
         let slot = &mut row.slot;
         let entered = carry_out(slot, instr);
-        self.runners = noted(self.runners, slot);
+        self.runners = kept(self.runners, slot);
         entered
     }
 
     /// The words of an event go to four registers, and the slot goes on.
     pub(crate) fn take_event(&mut self, place: usize, rd: EvtReg, event: &Event)
         requires place { place < length self.old.rows }
+        requires runs { is_running (slot_in self.old place).state ≡ true }
         requires turns { (slot_in self.old place).turns < 2 ^ 62 }
         ensures { self.new ≡ with_slot self.old place (slot_after (slot_in self.old place) (record (plain (slot_in self.old place)) { writes = event_writes rd event.now })) }
     {
         let row = &mut self.rows[place];
         let slot = &mut row.slot;
         take_event(slot, rd, event);
-        self.runners = noted(self.runners, slot);
+        self.runners = kept(self.runners, slot);
     }
 
     /// The slot's oldest pending load is delivered. Tells its register.
