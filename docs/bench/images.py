@@ -103,6 +103,9 @@ replace = [
     br(-6),
 ]
 
+# r1 goes over the cells from POINTERS on, and r2 is stored to each.
+changed = [*(word(0x31, 0, 1, 2, imm=8 * k) for k in range(8)), word(0x21, 1, 1, imm=64), br(-9)]
+
 
 def main(folder):
     files = {
@@ -121,6 +124,11 @@ def main(folder):
             [page(p, memory if p < SLOTS else ()) for p in range(PAGES)],
         ),
         "pointers.img": chain(PAGES - 1),
+        "changed.img": image(
+            [slot(0, 0, pointer(EXECUTE, 12, CODE * 4096), {1: (pointer(READ_WRITE, 24, POINTERS), 1), 2: (7, 0)})],
+            PAGES,
+            [page(CODE, changed), *(page(POINTERS // 4096 + p) for p in range(PAGES - 1))],
+        ),
         "replace.img": image(
             [slot(0, 0, pointer(PRIVILEGED, 12, PAGES * 4096), {2: (PAGES - 1, 0)})],
             PAGES,

@@ -76,13 +76,12 @@ operation_named-none name none = skipped name (rows (unused 0)) (λ i. by (bytes
     by false d h = refl
 
 -- the test of a name
-pub name_read : (name : List ℕ) (i : Instr) (form : Form) (text : List ℕ) → form ≡ form_of i → text ≡ form.name → bytes_eq text name ≡ true → (operation_of i).name ≡ name
-name_read name i form text e t same = sym (ap (λ (x : Form). x.name) e) ∙ sym t ∙ (bytes_eq-Decides text name).0 same
+pub name_read : (name : List ℕ) (i : Instr) → bytes_eq (operation_of i).name name ≡ true → (operation_of i).name ≡ name
+name_read name i same = (bytes_eq-Decides (operation_of i).name name).0 same
 
-pub name_not_read : (name : List ℕ) (i : Instr) (form : Form) (text : List ℕ) → form ≡ form_of i → text ≡ form.name → bytes_eq text name ≡ false → (operation_of i).name ≢ name
-name_not_read name i form text e t differ = λ same.
-    let read : text ≡ name = t ∙ ap (λ (x : Form). x.name) e ∙ same in
-    let is : bytes_eq text name ≡ true = (bytes_eq-Decides text name).1 read in
+pub name_not_read : (name : List ℕ) (i : Instr) → bytes_eq (operation_of i).name name ≡ false → (operation_of i).name ≢ name
+name_not_read name i differ = λ same.
+    let is : bytes_eq (operation_of i).name name ≡ true = (bytes_eq-Decides (operation_of i).name name).1 same in
     cc
 
 -- a form is full with the kinds of its row

@@ -1,5 +1,6 @@
 ghost use Rattle.std.specs.Prelude.{◌≡◌, ◌≢◌, IfSome, IfNone};
 ghost use Rattle.mm_isa.specs.declared.instr.Instr.{Instr};
+ghost use Rattle.std.specs.Str.{bytes_eq};
 ghost use Rattle.mm_isa.specs.Table.{operation_of};
 ghost use Rattle.mm_isa.specs.Decode.{form_of, operation_named};
 
@@ -60,7 +61,42 @@ impl Visitor for Form {
     }
 }
 
+// The name of a row, without its operands.
+#[derive(Drop)]
+struct Name {
+    text: &'static str,
+}
+
+impl Model for Name {
+    ghost use Rattle.std.specs.Prelude.{ℕ, List};
+
+    ghost Value = { List ℕ };
+
+    ghost view = { λ n. n.text.now };
+}
+
+impl Visitor for Name {
+    ghost told = { λ _ name _. name };
+
+    ghost given = { λ name _. name };
+
+    fn operation(self, name: &'static str, _code: u8) -> Name {
+        Name { text: name }
+    }
+
+    fn operand(self, _operand: Operand) -> Name {
+        self
+    }
+}
+
 impl Instr {
+    // Whether text names the instruction's operation so.
+    fn is_named(&self, name: &[u8]) -> bool
+        ensures { result ≡ bytes_eq (operation_of self.now).name name.now }
+    {
+        self.visit(Name { text: "" }).text.as_bytes() == name
+    }
+
     // The form of the instruction's row.
     fn form(self) -> Form
         ensures { result ≡ form_of self }
@@ -88,9 +124,8 @@ pub fn operation_named(name: &[u8]) -> Option<Form>
 {
     for code in 0..NUMBERS {
         if let Some(instr) = row(Fields::unused(code)) {
-            let form = instr.form();
-            if form.name.as_bytes() == name {
-                return Some(form);
+            if instr.is_named(name) {
+                return Some(instr.form());
             }
         }
     }

@@ -78,7 +78,10 @@ fn claim_by<'a>(
 fn claim_of<'a>(next: Next<'a>) -> Option<Claim<'a>>
     ensures { result ≡ claim_of (seen next.entry) }
 {
-    claim_by(directive_named(next.text), next, next_token(next.rest))
+    match directive_named(next.text) {
+        None => None,
+        directive => claim_by(directive, next, next_token(next.rest)),
+    }
 }
 
 /// The statement that begins with this token, if one is there.

@@ -43,34 +43,28 @@ fn operand_of(kind: OperandKind, next: Next) -> Result<Operand, Problem>
     }
 }
 
-/// The code with an operand of this kind in its place. A name in the place of a distance is a label.
-fn with_operand<'a>(kind: OperandKind, code: Code<'a>, next: Next<'a>) -> Result<Code<'a>, Problem>
-    ensures { result ≡ with_operand kind code.entry (seen next.entry) }
+/// Puts an operand of this kind in its place. A name in the place of a distance is a label.
+fn put_operand<'a>(kind: OperandKind, code: &mut Code<'a>, next: Next<'a>) -> Result<(), Problem>
+    ensures { Gives (λ _. code.new) result (with_operand kind code.old (seen next.entry)) }
 {
     match (kind, next.token) {
-        (OperandKind::Distance, Token::Name) => Ok(Code {
-            goal: Some(name_of(next)?),
-            fields: code.fields.put(Operand::Distance(0)),
-        }),
-        _ => Ok(Code {
-            fields: code.fields.put(operand_of(kind, next)?),
-            goal: code.goal,
-        }),
+        (OperandKind::Distance, Token::Name) => {
+            code.goal = Some(name_of(next)?);
+            code.fields = code.fields.put(Operand::Distance(0));
+        }
+        _ => code.fields = code.fields.put(operand_of(kind, next)?),
     }
+    Ok(())
 }
 
-/// An operand, and the line behind it.
+/// Puts the operand that is next in a line in its place, and gives the line behind it.
 #[tactic(auto, unfolding(crate::specs::Operands::operand_at))]
-fn operand<'a>(
-    kind: OperandKind,
-    code: Code<'a>,
-    line: &'a [u8],
-) -> Result<(Code<'a>, &'a [u8]), Problem>
-    ensures { Gives (λ x. (x.0, x.1.now)) result (operand_at kind code.entry line.now) }
+fn operand<'a>(kind: OperandKind, code: &mut Code<'a>, line: &'a [u8]) -> Result<&'a [u8], Problem>
+    ensures { Gives (λ rest. (code.new, rest.now)) result (operand_at kind code.old line.now) }
 {
     let next = next_token(line);
-    let code = with_operand(kind, code, next)?;
-    Ok((code, next.rest))
+    put_operand(kind, code, next)?;
+    Ok(next.rest)
 }
 
 fn comma(line: &[u8]) -> Result<&[u8], Problem>
@@ -85,18 +79,14 @@ fn comma(line: &[u8]) -> Result<&[u8], Problem>
 
 /// Further operands, each behind a comma.
 #[tactic(auto, unfolding(crate::specs::Operands::more_at))]
-fn more<'a>(
-    kinds: &[OperandKind],
-    code: Code<'a>,
-    line: &'a [u8],
-) -> Result<(Code<'a>, &'a [u8]), Problem>
-    ensures { Gives (λ x. (x.0, x.1.now)) result (more_at kinds.now code.entry line.now) }
+fn more<'a>(kinds: &[OperandKind], code: &mut Code<'a>, line: &'a [u8]) -> Result<&'a [u8], Problem>
+    ensures { Gives (λ rest. (code.new, rest.now)) result (more_at kinds.now code.old line.now) }
 {
     match kinds {
-        [] => Ok((code, line)),
+        [] => Ok(line),
         [kind, kinds @ ..] => {
             let rest = comma(line)?;
-            let (code, rest) = operand(*kind, code, rest)?;
+            let rest = operand(*kind, code, rest)?;
             more(kinds, code, rest)
         }
     }
@@ -106,15 +96,15 @@ fn more<'a>(
 #[tactic(auto, unfolding(crate::specs::Operands::operands_at))]
 fn operands<'a>(
     kinds: &[OperandKind],
-    code: Code<'a>,
+    code: &mut Code<'a>,
     line: &'a [u8],
-) -> Result<(Code<'a>, &'a [u8]), Problem>
-    ensures { Gives (λ x. (x.0, x.1.now)) result (operands_at kinds.now code.entry line.now) }
+) -> Result<&'a [u8], Problem>
+    ensures { Gives (λ rest. (code.new, rest.now)) result (operands_at kinds.now code.old line.now) }
 {
     match kinds {
-        [] => Ok((code, line)),
+        [] => Ok(line),
         [kind, kinds @ ..] => {
-            let (code, rest) = operand(*kind, code, line)?;
+            let rest = operand(*kind, code, line)?;
             more(kinds, code, rest)
         }
     }
@@ -125,9 +115,10 @@ fn operands<'a>(
 pub(crate) fn read_code<'a>(form: &Form, line: &'a [u8]) -> Result<(Code<'a>, &'a [u8]), Problem>
     ensures { Gives (λ x. (x.0, x.1.now)) result (code_at form.now line.now) }
 {
-    let bare = Code {
+    let mut code = Code {
         fields: Fields::unused(form.code),
         goal: None,
     };
-    operands(form.kinds.as_slice(), bare, line)
+    let rest = operands(form.kinds.as_slice(), &mut code, line)?;
+    Ok((code, rest))
 }

@@ -83,22 +83,33 @@ fn push_items(
     ensures cells { OnOk result (cells.new.items ≡ cells.old.items ++ cells_from sites.now object.now segment 0 items.now) }
     ensures memory { IsNoMemory result }
 {
+    let mut near = 0;
     for (word, item) in items.iter().enumerate() {
         cells.push(Cell {
-            word: word_of(sites, object, segment, word as u32, item.bits),
+            word: word_of(sites, object, &mut near, segment, word as u32, item.bits),
             full: item.full,
         })?;
     }
     Ok(())
 }
 
-// A word of a segment: the pointer of its relocation, or the integer that it is.
-fn word_of(sites: &Sites<'_>, object: &Object, segment: u16, word: u32, bits: u64) -> Word
+// A word of a segment: the pointer of its relocation, or the integer that it is. The relocation is looked for near a place first, and the place behind it is kept.
+fn word_of(
+    sites: &Sites<'_>,
+    object: &Object,
+    near: &mut usize,
+    segment: u16,
+    word: u32,
+    bits: u64,
+) -> Word
     requires { IsObject object.now }
     ensures { result ≡ word_by sites.now object.now (reloc_at object.now segment word) bits }
 {
-    match object.reloc_at(segment, word) {
-        Some(reloc) => Word::Ptr(sites.pointer_to(object, reloc.perm, reloc.target)),
+    match object.reloc_near(*near, segment, word) {
+        Some((at, reloc)) => {
+            *near = at.saturating_add(1);
+            Word::Ptr(sites.pointer_to(object, reloc.perm, reloc.target))
+        }
         None => Word::Int(bits),
     }
 }

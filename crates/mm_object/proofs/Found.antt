@@ -74,14 +74,17 @@ module _ (segment word : ℕ) where
   elsewhere : (r : Reloc) → place_of r ≢ segment * 2 ^ 32 + word → is_at segment word r ≡ false
   elsewhere r other = is_false (is_at segment word r) (λ h. other (at_its_place r h))
 
+  pub standing : (r : Reloc) → r.segment ≡ segment → r.word ≡ word → is_at segment word r ≡ true
+  standing r s w = agree r.segment segment s r.word word w
+    where
+      agree : (a b : ℕ) → a ≡ b → (c d : ℕ) → c ≡ d → (a == b && c == d) ≡ true
+      agree a b e c d f = grind (arith, nat_tests)
+
   here : (r : Reloc) → r.word < 2 ^ 32 → word < 2 ^ 32 → place_of r ≡ segment * 2 ^ 32 + word → is_at segment word r ≡ true
   here r small low same =
       let s : r.segment ≡ segment = omega (arith, same) in
       let w : r.word ≡ word = omega (arith, same) in
-      agree r.segment segment s r.word word w
-    where
-      agree : (a b : ℕ) → a ≡ b → (c d : ℕ) → c ≡ d → (a == b && c == d) ≡ true
-      agree a b e c d f = grind (arith, nat_tests)
+      standing r s w
 
   module _ (xs : List Reloc) (rising : IsStrictlyIncreasing (map place_of xs)) where
     rises : (i j : ℕ) (d : Reloc) → i < j → j < length xs → place_of (get_or xs i d) < place_of (get_or xs j d)
@@ -90,6 +93,11 @@ module _ (segment word : ℕ) where
         let a : get_or (map place_of xs) i 0 ≡ place_of (get_or xs i d) = get_or-map place_of xs i d 0 (omega arith) in
         let b : get_or (map place_of xs) j 0 ≡ place_of (get_or xs j d) = get_or-map place_of xs j d 0 lt in
         omega (arith, up, a, b)
+
+    -- a relocation of the word is the only one
+    pub found_at : (i : ℕ) (d : Reloc) → i < length xs → is_at segment word (get_or xs i d) ≡ true → find (is_at segment word) xs ≡ Some (get_or xs i d)
+    found_at i d lt this =
+        found_here (is_at segment word) xs i d lt this (λ j less. elsewhere (get_or xs j d) (λ e. let up = rises j i d less lt in let at = at_its_place (get_or xs i d) this in omega (arith, up, at, e)))
 
     module _ (q : ℕ) (is : q ≡ segment * 2 ^ 32 + word) where
       pub found_reloc : (i : ℕ) (d : Reloc) → i < length xs → HoldsAt (λ (x : Reloc). nat_cmp (place_of x) q ≡ Equal) xs i → HaveSmallWords xs → word < 2 ^ 32

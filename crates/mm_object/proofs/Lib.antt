@@ -1,6 +1,7 @@
 pub mod Bools
 pub mod Adjacent
 pub mod Among
+pub mod Keys
 pub mod Totals
 pub mod Used
 pub mod Written

@@ -1,12 +1,13 @@
 -- What the code that reads an object keeps between its fields.
-use Rattle.std.specs.Prelude.{ℕ, zero, suc, ◌+◌, ◌*◌, ◌-◌, ◌/◌, ◌^◌, Bool, false, not, ◌||◌, nat_lt, List, [], ◌∷◌, map, length}
+use Rattle.std.specs.Prelude.{◌≡◌, ℕ, zero, suc, ◌+◌, ◌*◌, ◌-◌, ◌/◌, ◌^◌, Bool, false, not, ◌||◌, nat_lt, List, [], ◌∷◌, map, length}
 use Rattle.std.specs.List.{list_any, range_with_len}
+use denote.Ref.{Bor}
 use Rattle.mm_model.specs.Places.{Place, number_at, bit_at}
 use Rattle.mm_model.specs.Places.Place.{Field, Test}
 use Rattle.mm_object.specs.declared.item.Item.{Item}
 use Rattle.mm_object.specs.declared.header.Header.{Header}
 use Rattle.mm_object.specs.Names.{is_before}
-use Rattle.mm_object.specs.Objects.{Segment, is_reloc, is_thread, place_of, word_limit, least_log, greatest_log}
+use Rattle.mm_object.specs.Objects.{Segment, is_among, is_reloc, is_thread, place_of, word_limit, least_log, greatest_log}
 use Rattle.mm_object.specs.Faults.{has_unused_bit, is_perm, is_bad_register}
 use Rattle.mm_object.specs.Reading.{segment_place, segments_at, external_place, externals_at, segments_of, externals_of, relocs_of, threads_of, spare_of, reloc_record_at, reloc_place, thread_record_at, thread_place}
 
@@ -21,6 +22,14 @@ segment_size s = 1 + length s.name + 5 + (length s.items + 7) / 8 + 8 * length s
 -- the words of a segment whose bitmap and words stand at these places
 abbrev pub items_from : (bytes : List ℕ) (bitmap words count : ℕ) → List Item
 items_from bytes bitmap words count = map (λ k. record { bits = number_at bytes (words + 8 * k) 8; full = bit_at bytes bitmap k }) (range_with_len 0 count)
+
+-- the names that keys refer to
+abbrev pub bytes_of : List (Bor (List ℕ)) → List (List ℕ)
+bytes_of keys = map (λ (k : Bor (List ℕ)). k.now) keys
+
+-- a name is one of these exactly where it is one of those
+abbrev pub AreTheSame : List (List ℕ) → List (List ℕ) → Type 0
+AreTheSame these those = (name : List ℕ) → is_among name these ≡ is_among name those
 
 -- whether the last of the names does not stand before another one
 abbrev pub is_late : List (List ℕ) → List ℕ → Bool

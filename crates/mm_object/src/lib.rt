@@ -29,6 +29,7 @@ mod fields;
 mod fits;
 mod header;
 mod item;
+mod known;
 pub mod laws;
 mod limits;
 mod name;

@@ -5,16 +5,17 @@ ghost use Rattle.mm_model.specs.Places.{first_bad};
 ghost use Rattle.mm_object.specs.Answers.{Gives};
 ghost use Rattle.mm_object.specs.Faults.{externals_places, form_places, name_places};
 ghost use Rattle.mm_object.specs.Names.{has_form};
-ghost use Rattle.mm_object.specs.Objects.{is_among, names_of};
+ghost use Rattle.mm_object.specs.Objects.{is_among};
 ghost use Rattle.mm_object.specs.Reading.{external_place, name_at, name_end};
-ghost use Rattle.mm_object.specs.Steps.{externals_read, is_late};
+ghost use Rattle.mm_object.specs.Steps.{bytes_of, externals_read, is_late};
 
 use crate::fault::{ObjectError, ObjectFault};
 use crate::fields::{Reader, fault};
+use crate::known::{is_known, known_names};
 use crate::name::{NAME_BYTES, Name, is_before};
 use crate::segment::Segment;
-use crate::segments::has_name;
 use std::alloc::Global;
+use std::collections::BTreeSet;
 
 /// How long the record of a name is.
 pub(crate) fn name_size(name: &Name) -> usize
@@ -42,10 +43,10 @@ fn is_late(names: &[Name], name: &Name) -> bool
 }
 
 // Whether a name is that of a segment, or does not stand behind the names before it.
-fn is_bad_external(segments: &[Segment], names: &[Name], name: &Name) -> bool
-    ensures { result ≡ (is_among name.now (names_of segments.now) || is_late names.now name.now) }
+fn is_bad_external(known: &BTreeSet<&[u8]>, names: &[Name], name: &Name) -> bool
+    ensures { result ≡ (is_among name.now (bytes_of known.now.keys) || is_late names.now name.now) }
 {
-    has_name(segments, name) || is_late(names, name)
+    is_known(known, name) || is_late(names, name)
 }
 
 impl Reader<'_> {
@@ -76,24 +77,20 @@ impl Reader<'_> {
         Name::new(&self.bytes[at..at + size])
     }
 
-    /// The name of an external, behind the names before it.
-    pub fn external(
+    // The name of an external, behind the names before it. The names of segments are known.
+    fn external(
         &self,
-        segments: &[Segment],
+        known: &BTreeSet<&[u8]>,
         names: &[Name],
         at: usize,
     ) -> Result<Name, ObjectError>
         requires { at ≤ length self.now.bytes.now }
-        ensures name { let bytes = self.now.bytes.now in Gives (λ n. n) (first_bad (length bytes) (name_places bytes at (is_among (name_at bytes at) (names_of segments.now) || is_late names.now (name_at bytes at)))) (name_at bytes at) result }
+        ensures name { let bytes = self.now.bytes.now in Gives (λ n. n) (first_bad (length bytes) (name_places bytes at (is_among (name_at bytes at) (bytes_of known.now.keys) || is_late names.now (name_at bytes at)))) (name_at bytes at) result }
         ensures within { OnOk result (name_end self.now.bytes.now at ≤ length self.now.bytes.now) }
         ensures size { IfOk result (λ n. name_end self.now.bytes.now at ≡ at + (1 + length n)) }
     {
         let name = self.name(at)?;
-        self.refuse_if(
-            is_bad_external(segments, names, &name),
-            ObjectFault::Name,
-            at,
-        )?;
+        self.refuse_if(is_bad_external(known, names, &name), ObjectFault::Name, at)?;
         Ok(name)
     }
 }
@@ -113,10 +110,11 @@ impl Reader<'_> {
         ensures within { IfOk result (λ r. r.1 ≤ length self.now.bytes.now) }
         ensures count { IfOk result (λ r. vec_len r.0 ≡ count) }
     {
+        let known = known_names(alloc, segments)?;
         let mut names = Vec::with_capacity(alloc, usize::from(count))?;
         let mut at = start;
         for _ in 0..count {
-            let name = self.external(segments, &names, at)?;
+            let name = self.external(&known, &names, at)?;
             at += name_size(&name);
             names.push(name)?;
         }

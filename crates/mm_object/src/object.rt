@@ -1,6 +1,7 @@
 //! Objects: what an assembler makes and a linker takes.
 
-ghost use Rattle.std.specs.Prelude.{◌≡◌, ◌+◌, ◌*◌, ◌^◌, map, find};
+ghost use Rattle.std.specs.Prelude.{◌≡◌, ◌+◌, ◌*◌, ◌^◌, map, find, Some, IfSome};
+ghost use Rattle.std.specs.Option.{option_map};
 ghost use Rattle.std.specs.List.Sorted.{IsStrictlyIncreasing};
 ghost use Rattle.mm_object.specs.Objects.{place_of};
 ghost use Rattle.mm_object.specs.Lookups.{is_at, HaveSmallWords};
@@ -41,17 +42,33 @@ fn place(segment: u16, word: u32) -> u64
     (u64::from(segment) << 32) + u64::from(word)
 }
 
-// The relocation of a word among those that rise, found by halving.
-fn reloc_in(relocs: &[Reloc], segment: u16, word: u32) -> Option<Reloc>
+// The relocation of a word among those that rise, and its place there, found by halving.
+fn reloc_in(relocs: &[Reloc], segment: u16, word: u32) -> Option<(usize, Reloc)>
     requires rising { IsStrictlyIncreasing (map place_of relocs.now) }
     requires small { HaveSmallWords relocs.now }
-    ensures { result ≡ find (is_at segment word) relocs.now }
+    ensures { option_map (λ found. found.1) result ≡ find (is_at segment word) relocs.now }
 {
     match relocs.binary_search_by_key(&place(segment, word), |reloc| {
         place(reloc.segment, reloc.word)
     }) {
-        Ok(at) => Some(relocs[at]),
+        Ok(at) => Some((at, relocs[at])),
         Err(_) => None,
+    }
+}
+
+// The relocation of a word, if it stands at a place among those that rise.
+fn reloc_standing(relocs: &[Reloc], at: usize, segment: u16, word: u32) -> Option<Reloc>
+    requires { IsStrictlyIncreasing (map place_of relocs.now) }
+    ensures { IfSome result (λ reloc. find (is_at segment word) relocs.now ≡ Some reloc) }
+{
+    if at >= relocs.len() {
+        return None;
+    }
+    let reloc = relocs[at];
+    if reloc.segment == segment && reloc.word == word {
+        Some(reloc)
+    } else {
+        None
     }
 }
 
@@ -149,7 +166,19 @@ impl Object {
     pub fn reloc_at(&self, segment: u16, word: u32) -> Option<Reloc>
         ensures { result ≡ reloc_at self.now segment word }
     {
-        reloc_in(&self.relocs, segment, word)
+        let (_, reloc) = reloc_in(&self.relocs, segment, word)?;
+        Some(reloc)
+    }
+
+    /// The same, with its place among the relocations. That is looked at first, so that words in their order are found at once.
+    #[tactic(auto, unfolding(crate::specs::Lookups::reloc_at))]
+    pub fn reloc_near(&self, near: usize, segment: u16, word: u32) -> Option<(usize, Reloc)>
+        ensures { option_map (λ found. found.1) result ≡ reloc_at self.now segment word }
+    {
+        match reloc_standing(&self.relocs, near, segment, word) {
+            Some(reloc) => Some((near, reloc)),
+            None => reloc_in(&self.relocs, segment, word),
+        }
     }
 
     /// What the type of each object keeps. Nothing is done.

@@ -4,13 +4,12 @@ use Rattle.mm_isa.specs.Table.{unused}
 use Rattle.mm_isa.specs.Decode.{row_of, operation_named}
 use Rattle.mm_isa.proofs.Forms.{NamesOther, name_read, name_not_read, operation_named-name, operation_named-none, no_instr_named}
 use Rattle.mm_isa.proofs.form.operation_named.Goals as goal
-use Rattle.mm_isa.proofs.form.operation_named.Goals.{in-Some+else-eq, in_default}
+use Rattle.mm_isa.proofs.form.operation_named.Goals.{in-Some+else-is_named, in_default}
 
-pub returns-then-eq-clause-value : goal.returns-then-eq-clause-value
-returns-then-eq-clause-value c =
-    let text : c.as_bytes.result.now ≡ c.form-form.result.name = search rules in
-    let same = name_read c.args.name.now c.in-Some.instr c.form-form.result c.as_bytes.result.now c.form-form.ensures text (sym c.eq.ensures ∙ c.if-eq.true) in
-    ap Some c.form-form.ensures ∙ sym (operation_named-name c.in-Some.instr) ∙ ap operation_named same
+pub returns-then-is_named-clause-value : goal.returns-then-is_named-clause-value
+returns-then-is_named-clause-value c =
+    let same = name_read c.args.name.now c.in-Some.instr (sym c.is_named.ensures ∙ c.if-is_named.true) in
+    ap Some c.form.ensures ∙ sym (operation_named-name c.in-Some.instr) ∙ ap operation_named same
 
 pub loop-code-preserved : goal.loop-code-preserved
 loop-code-preserved c =
@@ -18,9 +17,8 @@ loop-code-preserved c =
     let row : c.row.result ≡ row_of (unused c.loop-code.code) = c.row.ensures ∙ ap row_of c.unused.ensures in
     below_more P c.loop-code.code c.loop-code.invariant
     (elim c.match-row.branch [
-      | in-Some+else-eq w ↦
-          let text : w.as_bytes.result.now ≡ w.form-form.result.name = search rules in
-          let other = name_not_read c.args.name.now w.in-Some.instr w.form-form.result w.as_bytes.result.now w.form-form.ensures text (sym w.eq.ensures ∙ w.if-eq.false) in
+      | in-Some+else-is_named w ↦
+          let other = name_not_read c.args.name.now w.in-Some.instr (sym w.is_named.ensures ∙ w.if-is_named.false) in
           subst (NamesOther c.args.name.now) (sym w.in-Some.is ∙ row) other
       | in_default w ↦
           let none : c.row.result ≡ None = search rules in

@@ -1,0 +1,7 @@
+use Rattle.std.proofs.Common.{sym, subst}
+use Rattle.mm_object.specs.Lookups.{HaveSmallWords}
+use Rattle.mm_object.proofs.Found.{small_words}
+use Rattle.mm_object.proofs.object.Object.reloc_near.Goals as goal
+
+pub reloc_in-requires-clause-small : goal.reloc_in-requires-clause-small
+reloc_in-requires-clause-small c = subst HaveSmallWords (sym c.deref-in-None.ensures.value) (small_words _ _ _ c.self.invariant.few_words c.self.invariant.relocs)
