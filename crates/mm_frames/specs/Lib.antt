@@ -1,3 +1,4 @@
 pub mod Blocks
 pub mod Framed
+pub mod Packed
 pub mod Laws

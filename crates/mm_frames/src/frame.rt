@@ -3,32 +3,39 @@ ghost use Rattle.mm_model.specs.Memory.{zero_page};
 ghost use Rattle.mm_frames.specs.Blocks.{block_in, with_block};
 
 use crate::frames::{BLOCK, Block};
+use crate::packed::{fulls_of, is_set, put_bits, tags_of, word_of};
 use mm_model::{CELLS, Page};
 use mm_word::{Cell, NoMemory, Word};
 use std::alloc::Global;
 use std::marker::Model;
 
-// What each cell of a page holds that was just mapped.
-pub(crate) const ZERO: Cell = Cell {
+// How many blocks a frame has.
+const BLOCKS: usize = 64;
+
+const ZERO: Cell = Cell {
     word: Word::Int(0),
     full: true,
 };
 
-// The cells of a frame. They are taken once, and stay for as long as the frame does.
+// The cells of a frame: eight bytes and two bits each. The memory is taken once, and stays for as long as the frame does.
 #[derive(Drop)]
 pub(crate) struct Frame {
-    cells: Vec<Cell>,
+    bits: Vec<u64>,
+    // A byte for each block: which of its cells hold pointers, and which are full.
+    tags: [u8; BLOCKS],
+    fulls: [u8; BLOCKS],
 }
 
 impl Model for Frame {
-    ghost use Rattle.std.specs.Prelude.{◌≡◌, List, length};
+    ghost use Rattle.std.specs.Prelude.{List};
     ghost use Rattle.mm_word.specs.declared.word.Cell.{Cell};
+    ghost use Rattle.mm_frames.specs.Packed.{cells_of, ArePacked};
 
     ghost Value = { List Cell };
 
-    ghost view = { λ f. f.cells.items };
+    ghost view = { λ f. cells_of f.bits.items f.tags f.fulls };
 
-    ghost invariant = { λ f. length f.cells.items ≡ 512 };
+    ghost invariant = { λ f. ArePacked f.bits.items f.tags f.fulls };
 }
 
 impl Frame {
@@ -36,10 +43,14 @@ impl Frame {
     pub(crate) fn new(alloc: Global) -> Result<Frame, NoMemory>
         ensures { IfOk result (λ f. f ≡ zero_page) }
     {
-        let Ok(cells) = Vec::from_elem(alloc, ZERO, CELLS) else {
+        let Ok(bits) = Vec::from_elem(alloc, 0, CELLS) else {
             return Err(NoMemory);
         };
-        Ok(Frame { cells })
+        Ok(Frame {
+            bits,
+            tags: [0; BLOCKS],
+            fulls: [u8::MAX; BLOCKS],
+        })
     }
 
     // The cell at this place.
@@ -47,7 +58,12 @@ impl Frame {
         requires { place < 512 }
         ensures { slice_get self.now place ≡ Some result }
     {
-        self.cells[place]
+        let block = place / BLOCK;
+        let bit = place % BLOCK;
+        Cell {
+            word: word_of(self.bits[place], is_set(self.tags[block], bit)),
+            full: is_set(self.fulls[block], bit),
+        }
     }
 
     // The block at this place.
@@ -55,9 +71,10 @@ impl Frame {
         requires { place < 64 }
         ensures { result ≡ block_in self.now place }
     {
-        let at = place * BLOCK;
         let mut block = [ZERO; BLOCK];
-        block.copy_from_slice(&self.cells[at..at + BLOCK]);
+        for (i, cell) in block.iter_mut().enumerate() {
+            *cell = self.cell(place * BLOCK + i);
+        }
         block
     }
 
@@ -68,21 +85,39 @@ impl Frame {
         ensures whole { length self.old ≡ 512 }
         ensures block { length block.now ≡ 8 }
     {
-        let at = place * BLOCK;
-        self.cells[at..at + BLOCK].copy_from_slice(block);
+        self.pack(place, block);
     }
 
     // Makes each cell zero.
     pub(crate) fn clear(&mut self)
         ensures { self.new ≡ zero_page }
     {
-        self.cells.fill(ZERO);
+        self.bits.fill(0);
+        self.tags = [0; BLOCKS];
+        self.fulls = [u8::MAX; BLOCKS];
     }
 
     // Makes them the cells of this page.
     pub(crate) fn copy(&mut self, page: &Page)
         ensures { self.new ≡ page.now.1 }
     {
-        self.cells.copy_from_slice(page.cells());
+        let cells = page.cells();
+        for place in 0..BLOCKS {
+            let at = place * BLOCK;
+            self.pack(place, &cells[at..at + BLOCK]);
+        }
+    }
+
+    // Writes these eight cells as the block at a place.
+    fn pack(&mut self, place: usize, cells: &[Cell])
+        requires place { place < 64 }
+        requires block { length cells.now ≡ 8 }
+        ensures cells { self.new ≡ with_block self.old place cells.now }
+        ensures whole { length self.old ≡ 512 }
+    {
+        let at = place * BLOCK;
+        put_bits(&mut self.bits[at..at + BLOCK], cells);
+        self.tags[place] = tags_of(cells);
+        self.fulls[place] = fulls_of(cells);
     }
 }

@@ -5,6 +5,7 @@
 mod frame;
 mod frames;
 pub mod laws;
+mod packed;
 mod row;
 mod search;
 

@@ -1,0 +1,27 @@
+use Rattle.std.proofs.Common.{◌≡◌, ◌*◌, ◌+◌, ◌-◌, ℕ, List, length, sym, ◌∙◌, ap, arith, take, drop, refl}
+use Rattle.std.proofs.lemmas.List.{take_all, length-take-le, length-drop}
+use Rattle.mm_word.specs.declared.word.Cell.{Cell}
+use Rattle.mm_frames.specs.Blocks.{with_block}
+use Rattle.mm_frames.proofs.PackedCells.{front_more, whole_with_block}
+use Rattle.mm_frames.proofs.frame.Frame.copy.Goals as goal
+
+pub loop-place-preserved : goal.loop-place-preserved
+loop-place-preserved c =
+    let l = c.loop-place in
+    let cells : List Cell = c.cells-cells.result.now in
+    let block : List Cell = take (l.place * 8 + 8 - l.place * 8) (drop (l.place * 8) cells) in
+    let eight : length block ≡ 8 = omega (arith, length-take-le (l.place * 8 + 8 - l.place * 8) (drop (l.place * 8) cells) (omega (arith, length-drop (l.place * 8) cells, c.cells-cells.ensures.whole, c.loop-place-test.true))) in
+    record {
+      copied = ap (take ((l.place + 1) * 8)) c.pack.ensures.cells
+          ∙ front_more l.self cells block l.place c.loop-place-test.true c.pack.ensures.whole c.cells-cells.ensures.whole refl l.invariant.copied;
+      whole = λ _. ap length c.pack.ensures.cells ∙ whole_with_block l.self block l.place c.loop-place-test.true c.pack.ensures.whole eight;
+    }
+
+pub returns : goal.returns
+returns c =
+    let l = c.loop-place in
+    let whole : length l.self ≡ 512 = l.invariant.whole (omega (arith, c.loop-place-test.false)) in
+    sym (take_all (l.place * 8) l.self (omega (arith, whole, c.loop-place-test.false)))
+    ∙ l.invariant.copied
+    ∙ take_all (l.place * 8) c.cells-cells.result.now (omega (arith, c.cells-cells.ensures.whole, c.loop-place-test.false))
+    ∙ c.cells-cells.ensures.cells
