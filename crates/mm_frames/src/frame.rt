@@ -2,26 +2,21 @@ ghost use Rattle.std.specs.Prelude.{◌≡◌, ◌<◌, IfOk, Some, length, slic
 ghost use Rattle.mm_model.specs.Memory.{zero_page};
 ghost use Rattle.mm_frames.specs.Blocks.{block_in, with_block};
 
-use crate::frames::{BLOCK, Block};
-use crate::packed::{fulls_of, is_set, put_bits, tags_of, word_of};
+use crate::block::{BLOCK, Block};
+use crate::packed::{is_set, word_of};
 use mm_model::{CELLS, Page};
-use mm_word::{Cell, NoMemory, Word};
+use mm_word::{Cell, NoMemory};
 use std::alloc::Global;
 use std::marker::Model;
 
 // How many blocks a frame has.
 const BLOCKS: usize = 64;
 
-const ZERO: Cell = Cell {
-    word: Word::Int(0),
-    full: true,
-};
-
-// The cells of a frame: eight bytes and two bits each. The memory is taken once, and stays for as long as the frame does.
+// The cells of a frame, eight bytes and two bits each. The memory is taken once, and stays for as long as the frame does.
 #[derive(Drop)]
 pub(crate) struct Frame {
     bits: Vec<u64>,
-    // A byte for each block: which of its cells hold pointers, and which are full.
+    // Which cells hold pointers, and which are full: a byte for each block.
     tags: [u8; BLOCKS],
     fulls: [u8; BLOCKS],
 }
@@ -29,13 +24,13 @@ pub(crate) struct Frame {
 impl Model for Frame {
     ghost use Rattle.std.specs.Prelude.{List};
     ghost use Rattle.mm_word.specs.declared.word.Cell.{Cell};
-    ghost use Rattle.mm_frames.specs.Packed.{cells_of, ArePacked};
+    ghost use Rattle.mm_frames.specs.Packed.{cells_of, IsPackedFrame};
 
     ghost Value = { List Cell };
 
     ghost view = { λ f. cells_of f.bits.items f.tags f.fulls };
 
-    ghost invariant = { λ f. ArePacked f.bits.items f.tags f.fulls };
+    ghost invariant = { λ f. IsPackedFrame f.bits.items f.tags f.fulls };
 }
 
 impl Frame {
@@ -58,8 +53,7 @@ impl Frame {
         requires { place < 512 }
         ensures { slice_get self.now place ≡ Some result }
     {
-        let block = place / BLOCK;
-        let bit = place % BLOCK;
+        let (block, bit) = (place / BLOCK, place % BLOCK);
         Cell {
             word: word_of(self.bits[place], is_set(self.tags[block], bit)),
             full: is_set(self.fulls[block], bit),
@@ -71,11 +65,10 @@ impl Frame {
         requires { place < 64 }
         ensures { result ≡ block_in self.now place }
     {
-        let mut block = [ZERO; BLOCK];
-        for (i, cell) in block.iter_mut().enumerate() {
-            *cell = self.cell(place * BLOCK + i);
-        }
-        block
+        let at = place * BLOCK;
+        let mut bits = [0; BLOCK];
+        bits.copy_from_slice(&self.bits[at..at + BLOCK]);
+        Block::from_parts(bits, self.tags[place], self.fulls[place])
     }
 
     // Writes the block at this place.
@@ -85,7 +78,10 @@ impl Frame {
         ensures whole { length self.old ≡ 512 }
         ensures block { length block.now ≡ 8 }
     {
-        self.pack(place, block);
+        let at = place * BLOCK;
+        self.bits[at..at + BLOCK].copy_from_slice(&block.bits);
+        self.tags[place] = block.tags;
+        self.fulls[place] = block.fulls;
     }
 
     // Makes each cell zero.
@@ -104,20 +100,7 @@ impl Frame {
         let cells = page.cells();
         for place in 0..BLOCKS {
             let at = place * BLOCK;
-            self.pack(place, &cells[at..at + BLOCK]);
+            self.put(place, &Block::of(&cells[at..at + BLOCK]));
         }
-    }
-
-    // Writes these eight cells as the block at a place.
-    fn pack(&mut self, place: usize, cells: &[Cell])
-        requires place { place < 64 }
-        requires block { length cells.now ≡ 8 }
-        ensures cells { self.new ≡ with_block self.old place cells.now }
-        ensures whole { length self.old ≡ 512 }
-    {
-        let at = place * BLOCK;
-        put_bits(&mut self.bits[at..at + BLOCK], cells);
-        self.tags[place] = tags_of(cells);
-        self.fulls[place] = fulls_of(cells);
     }
 }

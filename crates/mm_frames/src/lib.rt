@@ -2,6 +2,7 @@
 //! and written, each counted.
 #![tactic(auto)]
 
+mod block;
 mod frame;
 mod frames;
 pub mod laws;
@@ -9,4 +10,5 @@ mod packed;
 mod row;
 mod search;
 
-pub use frames::{BLOCK, Block, Frames};
+pub use block::{BLOCK, Block};
+pub use frames::Frames;

@@ -1,11 +1,11 @@
-// Words and bits of cells that are packed.
-ghost use Rattle.std.specs.Prelude.{◌≡◌, ◌<◌, true, length, map};
+// Words and bits of packed cells.
+ghost use Rattle.std.specs.Prelude.{◌≡◌, ◌≢◌, ℕ, ◌<◌, true, length};
 ghost use Rattle.std.specs.List.{AllByRecursion};
 ghost use Rattle.mm_word.specs.declared.word.Cell.{Cell as CellValue};
 ghost use Rattle.mm_word.specs.Pointer.{SpellsPointer};
-ghost use Rattle.mm_word.specs.Word.{IsWord, word_bits, is_pointer};
-ghost use Rattle.mm_model.specs.Flags.{number_of_flags};
+ghost use Rattle.mm_word.specs.Word.{IsWord};
 ghost use Rattle.mm_frames.specs.Packed.{bit_of, word_of};
+ghost use Rattle.mm_frames.specs.Unpacked.{words_of, tags_of, fulls_of};
 
 use mm_word::{Cell, GuardedPtr, Word};
 
@@ -15,6 +15,19 @@ pub(crate) fn is_set(byte: u8, place: usize) -> bool
     ensures { result ≡ bit_of byte place }
 {
     byte >> place & 1 == 1
+}
+
+// The byte with this bit at a place.
+pub(crate) fn with_bit(byte: u8, place: usize, bit: bool) -> u8
+    requires { place < 8 }
+    ensures own { bit_of result place ≡ bit }
+    ensures others { (i : ℕ) → i < 8 → i ≢ place → bit_of result i ≡ bit_of byte i }
+{
+    if bit {
+        byte | 1 << place
+    } else {
+        byte & !(1 << place)
+    }
 }
 
 // The word of these bits: a pointer where it is tagged.
@@ -32,9 +45,9 @@ pub(crate) fn word_of(bits: u64, tagged: bool) -> Word
 }
 
 // Writes the 64 bits of each cell's word.
-pub(crate) fn put_bits(bits: &mut [u64], cells: &[Cell])
+pub(crate) fn put_words(bits: &mut [u64], cells: &[Cell])
     requires { length bits.old ≡ length cells.now }
-    ensures bits { bits.new ≡ map (λ (c : CellValue). word_bits c.word) cells.now }
+    ensures bits { bits.new ≡ words_of cells.now }
     ensures words { AllByRecursion (λ (c : CellValue). IsWord c.word) cells.now }
 {
     for (i, cell) in cells.iter().enumerate() {
@@ -42,10 +55,10 @@ pub(crate) fn put_bits(bits: &mut [u64], cells: &[Cell])
     }
 }
 
-// The byte that tells which of eight cells hold pointers.
+// The byte that says which of eight cells hold pointers.
 pub(crate) fn tags_of(cells: &[Cell]) -> u8
     requires { length cells.now ≡ 8 }
-    ensures { result ≡ number_of_flags (map (λ (c : CellValue). is_pointer c.word) cells.now) }
+    ensures { result ≡ tags_of cells.now }
 {
     let mut byte = 0;
     for (i, cell) in cells.iter().enumerate() {
@@ -54,10 +67,10 @@ pub(crate) fn tags_of(cells: &[Cell]) -> u8
     byte
 }
 
-// The byte that tells which of eight cells are full.
+// The byte that says which of eight cells are full.
 pub(crate) fn fulls_of(cells: &[Cell]) -> u8
     requires { length cells.now ≡ 8 }
-    ensures { result ≡ number_of_flags (map (λ (c : CellValue). c.full) cells.now) }
+    ensures { result ≡ fulls_of cells.now }
 {
     let mut byte = 0;
     for (i, cell) in cells.iter().enumerate() {

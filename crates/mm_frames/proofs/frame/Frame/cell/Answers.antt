@@ -4,18 +4,18 @@ use Rattle.std.proofs.lemmas.Option.{slice_get-get_or}
 use Rattle.mm_word.specs.declared.word.Word.{Word}
 use Rattle.mm_word.specs.declared.word.Cell.{Cell}
 use Rattle.mm_model.specs.Memory.{zero_cell}
-use Rattle.mm_frames.specs.Packed.{bit_in, word_of, cell_of, cells_of}
+use Rattle.mm_frames.specs.Packed.{bit_of, word_of, cell_of_frame, cells_of}
 use Rattle.mm_frames.proofs.PackedCells.{get_or-cells_of, length-cells_of}
 use Rattle.mm_frames.proofs.frame.Frame.cell.Goals as goal
 
 -- the bits, the tag and the full bit are those of this place
-cell_is : (c : goal.After-is_set-2) → cell_of c.self.inside.bits.items c.self.inside.tags c.self.inside.fulls c.args.place ≡ record { word = c.word_of.result; full = c.is_set-2.result }
+cell_is : (c : goal.After-is_set-2) → cell_of_frame c.self.inside.bits.items c.self.inside.tags c.self.inside.fulls c.args.place ≡ record { word = c.word_of.result; full = c.is_set-2.result }
 cell_is c =
     let f = c.self.inside in
     let place = c.args.place in
     let bits = c.index.ensures ∙ get_or_default f.bits.items place c.index.result.now 0 (omega (arith, c.requires, c.self.invariant.words)) in
     let word = c.word_of.ensures ∙ ap (λ (n : ℕ). word_of n c.is_set.result) bits ∙ ap (word_of (get_or f.bits.items place 0)) c.is_set.ensures in
-    ap (λ (w : Word). record { word = w; full = bit_in f.fulls place }) (sym word) ∙ ap (λ (b : Bool). record { word = c.word_of.result; full = b }) (sym c.is_set-2.ensures)
+    ap (λ (w : Word). record { word = w; full = bit_of (get_or f.fulls (place / 8) 0) (place % 8) }) (sym word) ∙ ap (λ (b : Bool). record { word = c.word_of.result; full = b }) (sym c.is_set-2.ensures)
 
 pub returns : goal.returns
 returns c =

@@ -1,5 +1,5 @@
 use Rattle.std.proofs.Common.{◌≡◌, ℕ, List, length, replicate, vec_len, arith, sym, subst, ap, ◌∙◌}
-use Rattle.mm_frames.specs.Packed.{cells_of, ArePacked}
+use Rattle.mm_frames.specs.Packed.{cells_of, IsPackedFrame}
 use Rattle.mm_frames.proofs.PackedCells.{zeros_packed, zero_cells}
 use Rattle.mm_frames.proofs.frame.Frame.clear.Goals as goal
 
@@ -9,7 +9,7 @@ zeros c =
     c.fill.ensures.items (λ y e. e) ∙ ap (λ (n : ℕ). replicate n 0) many
 
 pub invariant_of-self : goal.invariant_of-self
-invariant_of-self c = subst (λ (bits : List ℕ). ArePacked bits (replicate 64 0) (replicate 64 255)) (sym (zeros c)) zeros_packed
+invariant_of-self c = subst (λ (bits : List ℕ). IsPackedFrame bits (replicate 64 0) (replicate 64 255)) (sym (zeros c)) zeros_packed
 
 pub returns : goal.returns
 returns c = ap (λ (bits : List ℕ). cells_of bits (replicate 64 0) (replicate 64 255)) (zeros c) ∙ zero_cells

@@ -9,12 +9,10 @@ pub loop-place-preserved : goal.loop-place-preserved
 loop-place-preserved c =
     let l = c.loop-place in
     let cells : List Cell = c.cells-cells.result.now in
-    let block : List Cell = take (l.place * 8 + 8 - l.place * 8) (drop (l.place * 8) cells) in
-    let eight : length block ≡ 8 = omega (arith, length-take-le (l.place * 8 + 8 - l.place * 8) (drop (l.place * 8) cells) (omega (arith, length-drop (l.place * 8) cells, c.cells-cells.ensures.whole, c.loop-place-test.true))) in
     record {
-      copied = ap (take ((l.place + 1) * 8)) c.pack.ensures.cells
-          ∙ front_more l.self cells block l.place c.loop-place-test.true c.pack.ensures.whole c.cells-cells.ensures.whole refl l.invariant.copied;
-      whole = λ _. ap length c.pack.ensures.cells ∙ whole_with_block l.self block l.place c.loop-place-test.true c.pack.ensures.whole eight;
+      copied = ap (take ((l.place + 1) * 8)) c.put.ensures.cells
+          ∙ front_more l.self cells c.of.result l.place c.loop-place-test.true c.put.ensures.whole c.cells-cells.ensures.whole c.of.ensures l.invariant.copied;
+      whole = λ _. ap length c.put.ensures.cells ∙ whole_with_block l.self c.of.result l.place c.loop-place-test.true c.put.ensures.whole c.put.ensures.block;
     }
 
 pub returns : goal.returns
