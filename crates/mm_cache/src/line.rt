@@ -1,7 +1,7 @@
 ghost use Rattle.std.specs.Prelude.{◌≡◌, Some};
 ghost use Rattle.mm_cache.specs.Lines.{victim_of};
 
-use mm_word::Cell;
+use mm_frames::Block;
 
 /// A line that has a block.
 #[derive(Clone, Copy, Debug, PartialEq, Eq)]
@@ -10,14 +10,14 @@ pub struct Line {
     pub block: u64,
     /// Whether it was written since it was filled.
     pub dirty: bool,
-    pub cells: [Cell; 8],
+    pub cells: Block,
 }
 
 /// A block that has to be written back.
 #[derive(Clone, Copy, Debug, PartialEq, Eq)]
 pub struct Victim {
     pub block: u64,
-    pub cells: [Cell; 8],
+    pub cells: Block,
 }
 
 impl Line {
