@@ -8,9 +8,9 @@ use mm_frames::Block;
 pub struct Line {
     /// The number of the block, which is its address divided by 64.
     pub block: u64,
+    pub cells: Block,
     /// Whether it was written since it was filled.
     pub dirty: bool,
-    pub cells: Block,
 }
 
 /// A block that has to be written back.
@@ -27,8 +27,8 @@ impl Line {
     {
         let Line {
             block,
-            dirty,
             cells,
+            dirty,
         } = self;
         if dirty {
             Some(Victim { block, cells })

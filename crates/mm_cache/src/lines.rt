@@ -151,8 +151,8 @@ impl Lines {
         cells.whole();
         self.lines[line_of(block)] = Some(Line {
             block,
-            dirty: false,
             cells,
+            dirty: false,
         });
     }
 
