@@ -1,12 +1,12 @@
 -- Cells that are packed, and read again.
-use Rattle.std.proofs.Common.{◌≡◌, ◌≢◌, ℕ, ◌+◌, ◌-◌, ◌*◌, ◌/◌, ◌%◌, ◌^◌, ◌<◌, ◌≤◌, Bool, true, false, List, [], ◌∷◌, ◌++◌, zero, suc, length, map, take, drop, get_or, set, replicate, slice_get, Some, refl, sym, ap, subst, ◌∙◌, ⊎_elim, arith, lit<}
+use Rattle.std.proofs.Common.{◌≡◌, ◌≢◌, ℕ, ◌+◌, ◌-◌, ◌*◌, ◌/◌, ◌%◌, ◌^◌, ◌<◌, ◌≤◌, Bool, true, false, List, [], ◌∷◌, ◌++◌, zero, suc, length, map, take, drop, get_or, set, replicate, refl, sym, ap, subst, ◌∙◌, ⊎_elim, arith, lit<}
 use Rattle.std.specs.Prelude.{◌==◌}
-use Rattle.std.specs.List.{AllByRecursion, range_with_len}
+use Rattle.std.specs.List.{AllByRecursion}
 use Rattle.std.specs.Int.RustNames.{bit_or}
 use Rattle.std.proofs.lemmas.Nat.{or_shifted, or_comm, pow_below}
 use Rattle.std.proofs.lemmas.Nat.Bits.{bit_at-zero, bit_at_ones}
 use Rattle.std.proofs.lemmas.Bool.{cases_lt, cases_eq}
-use Rattle.std.proofs.lemmas.List.{length-append, length-take-le, length-drop, length-map, length-set, get_or-take, get_or-drop, get_or_append_left, get_or-append_right, get_or-append-add, get_or-set_same, get_or-set_other, get_or-map, get_or-replicate, length-replicate, map_more, take_at, drop-drop, append_assoc, get_or_default}
+use Rattle.std.proofs.lemmas.List.{length-append, length-take-le, length-drop, length-map, length-set, get_or-take, get_or-drop, get_or_append_left, get_or-append_right, get_or-append-add, get_or-set_same, get_or-set_other, get_or-map, get_or-replicate, length-replicate, map_more, take_at, drop-drop, append_assoc}
 use Rattle.std.proofs.Math.Seq.{take-add}
 use Rattle.std.proofs.lemmas.List.FromFn.{length-map-range_with_len, get_or-map-range_with_len, fill_by_all}
 use mir.Val.{bool_byte}
@@ -14,7 +14,7 @@ use borrow.Rule.Slice.PartMut.{put_mid}
 use Rattle.mm_word.specs.declared.word.Word.{Word}
 use Rattle.mm_word.specs.declared.word.Word.TheVariants.{Int, Ptr}
 use Rattle.mm_word.specs.declared.word.Cell.{Cell}
-use Rattle.mm_word.specs.Pointer.{SpellsPointer, pointer_of, bits_of}
+use Rattle.mm_word.specs.Pointer.{SpellsPointer}
 use Rattle.mm_word.specs.Word.{IsWord, word_bits, is_pointer}
 use Rattle.mm_word.proofs.Packing.{pointer_of-bits_of, SpellsPointer-bits_of}
 use Rattle.mm_model.specs.Flags.{one_if, number_of_flags}
@@ -181,14 +181,14 @@ module _ (bits : List ℕ) (tags fulls : ℕ) (is : IsPackedBlock bits tags full
   each : (i : ℕ) → i < 8 → get_or (set cells place c) i zero_cell ≡ cell_of_block words_after tags_after fulls_after i
   each i lt = ⊎_elim
       (λ (e : i ≡ place).
-          ap (λ n. get_or (set cells place c) n zero_cell) e
-          ∙ get_or-set_same cells place c zero_cell (omega (arith, within, length-block_of bits tags fulls))
-          ∙ sym (cell_again _ _ _ c here tag_own full_own word)
-          ∙ ap (cell_of_block words_after tags_after fulls_after) (sym e))
+      ap (λ n. get_or (set cells place c) n zero_cell) e
+      ∙ get_or-set_same cells place c zero_cell (omega (arith, within, length-block_of bits tags fulls))
+      ∙ sym (cell_again _ _ _ c here tag_own full_own word)
+      ∙ ap (cell_of_block words_after tags_after fulls_after) (sym e))
       (λ (ne : i ≡ place → ⊥).
-          get_or-set_other cells place i c zero_cell ne
-          ∙ get_or-block_of bits tags fulls i zero_cell lt
-          ∙ sym (same_cell _ _ tags_after tags fulls_after fulls i i (there i ne) (tag_others i lt ne) (full_others i lt ne)))
+      get_or-set_other cells place i c zero_cell ne
+      ∙ get_or-block_of bits tags fulls i zero_cell lt
+      ∙ sym (same_cell _ _ tags_after tags fulls_after fulls i i (there i ne) (tag_others i lt ne) (full_others i lt ne)))
       (cases_eq i place)
 
   pub cell_set : block_of words_after tags_after fulls_after ≡ set cells place c
@@ -298,17 +298,17 @@ module _ (bits tags fulls : List ℕ) (is : IsPackedFrame bits tags fulls) (plac
   each_cell : (k : ℕ) → k < 512 → get_or (pasted before place block_cells) k zero_cell ≡ cell_of_frame bits_after tags_after fulls_after k
   each_cell k lt = ⊎_elim
       (λ (e : k / 8 ≡ place).
-          let at : place * 8 + k % 8 ≡ k = omega (arith, e) in
-          let low : k % 8 < 8 = omega arith in
-          ap (λ n. get_or (pasted before place block_cells) n zero_cell) (sym at)
-          ∙ get_or_inside before block_cells place eight_cells wide (k % 8) zero_cell low
-          ∙ get_or-block_of ws t f (k % 8) zero_cell low
-          ∙ sym (cell_here (k % 8) low)
-          ∙ ap (cell_of_frame bits_after tags_after fulls_after) at)
+      let at : place * 8 + k % 8 ≡ k = omega (arith, e) in
+      let low : k % 8 < 8 = omega arith in
+      ap (λ n. get_or (pasted before place block_cells) n zero_cell) (sym at)
+      ∙ get_or_inside before block_cells place eight_cells wide (k % 8) zero_cell low
+      ∙ get_or-block_of ws t f (k % 8) zero_cell low
+      ∙ sym (cell_here (k % 8) low)
+      ∙ ap (cell_of_frame bits_after tags_after fulls_after) at)
       (λ (ne : k / 8 ≡ place → ⊥).
-          get_or_outside before block_cells place eight_cells wide k zero_cell ne
-          ∙ get_or-cells_of bits tags fulls k zero_cell lt
-          ∙ sym (cell_away k ne))
+      get_or_outside before block_cells place eight_cells wide k zero_cell ne
+      ∙ get_or-cells_of bits tags fulls k zero_cell lt
+      ∙ sym (cell_away k ne))
       (cases_eq (k / 8) place)
 
   pub block_put : cells_of bits_after tags_after fulls_after ≡ with_block before place block_cells
@@ -321,12 +321,12 @@ module _ (bits tags fulls : List ℕ) (is : IsPackedFrame bits tags fulls) (plac
     full_bytes = length-set fulls place f ∙ is.full_bytes;
     pointers = λ k lt tagged. ⊎_elim
         (λ (e : k / 8 ≡ place).
-            let at : place * 8 + k % 8 ≡ k = omega (arith, e) in
-            let low : k % 8 < 8 = omega arith in
-            let byte : get_or tags_after (k / 8) 0 ≡ t = ap (λ n. get_or tags_after n 0) e ∙ byte_here tags t is.tag_bytes in
-            subst SpellsPointer (sym (word_here (k % 8) low) ∙ ap (λ n. get_or bits_after n 0) at) (block.pointers (k % 8) low (ap (λ n. bit_of n (k % 8)) (sym byte) ∙ tagged)))
+        let at : place * 8 + k % 8 ≡ k = omega (arith, e) in
+        let low : k % 8 < 8 = omega arith in
+        let byte : get_or tags_after (k / 8) 0 ≡ t = ap (λ n. get_or tags_after n 0) e ∙ byte_here tags t is.tag_bytes in
+        subst SpellsPointer (sym (word_here (k % 8) low) ∙ ap (λ n. get_or bits_after n 0) at) (block.pointers (k % 8) low (ap (λ n. bit_of n (k % 8)) (sym byte) ∙ tagged)))
         (λ (ne : k / 8 ≡ place → ⊥).
-            subst SpellsPointer (sym (word_away k ne)) (is.pointers k lt (ap (λ n. bit_of n (k % 8)) (sym (tag_away k ne)) ∙ tagged)))
+        subst SpellsPointer (sym (word_away k ne)) (is.pointers k lt (ap (λ n. bit_of n (k % 8)) (sym (tag_away k ne)) ∙ tagged)))
         (cases_eq (k / 8) place);
   }
 

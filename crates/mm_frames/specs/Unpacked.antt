@@ -1,11 +1,11 @@
 -- A packed block is given back by its cells.
-use Rattle.std.specs.Prelude.{◌≡◌, ℕ, ◌+◌, ◌/◌, ◌%◌, ◌^◌, ◌<◌, ◌==◌, Bool, true, false, List, length, map, slice_index, refl}
+use Rattle.std.specs.Prelude.{◌≡◌, ℕ, ◌<◌, Bool, true, false, List, length, map, refl}
 use Rattle.std.specs.List.{range_with_len}
 use Rattle.std.proofs.Common.{sym, ap, ◌∙◌, arith, get_or}
 use Rattle.std.proofs.lemmas.List.{length-map, get_or-map, get_or_default, same_lists}
 use Rattle.std.proofs.lemmas.List.FromFn.{length-map-range_with_len, get_or-map-range_with_len}
 use Rattle.mm_word.specs.declared.word.Cell.{Cell}
-use Rattle.mm_word.specs.Pointer.{pointer_of, SpellsPointer, bits_of}
+use Rattle.mm_word.specs.Pointer.{SpellsPointer}
 use Rattle.mm_word.specs.PointerBits.{bits_of-pointer_of}
 use Rattle.mm_word.specs.Word.{word_bits, is_pointer}
 use Rattle.mm_model.specs.Flags.{number_of_flags}
@@ -45,11 +45,11 @@ module _ (bits : List ℕ) (tags fulls : ℕ) (is : IsPackedBlock bits tags full
   words_again =
       let count : length (words_of (map at (range_with_len 0 8))) ≡ 8 = length-map (map at (range_with_len 0 8)) (λ (c : Cell). word_bits c.word) ∙ length-map-range_with_len at 0 8 in
       same_lists (words_of (map at (range_with_len 0 8))) bits (count ∙ sym is.words) (λ i d lt.
-          let low : i < 8 = omega (arith, count) in
-          get_or-map (λ (c : Cell). word_bits c.word) (map at (range_with_len 0 8)) i (at 0) d (omega (arith, low, length-map-range_with_len at 0 8))
-          ∙ ap (λ (c : Cell). word_bits c.word) (get_or-map-range_with_len at 0 8 i i (at 0) low (omega arith))
-          ∙ bits_again (get_or bits i 0) (bit_of tags i) (is.pointers i low)
-          ∙ get_or_default bits i 0 d (omega (arith, low, is.words)))
+      let low : i < 8 = omega (arith, count) in
+      get_or-map (λ (c : Cell). word_bits c.word) (map at (range_with_len 0 8)) i (at 0) d (omega (arith, low, length-map-range_with_len at 0 8))
+      ∙ ap (λ (c : Cell). word_bits c.word) (get_or-map-range_with_len at 0 8 i i (at 0) low (omega arith))
+      ∙ bits_again (get_or bits i 0) (bit_of tags i) (is.pointers i low)
+      ∙ get_or_default bits i 0 d (omega (arith, low, is.words)))
 
   tags_again : tags_of (map at (range_with_len 0 8)) ≡ tags
   tags_again =

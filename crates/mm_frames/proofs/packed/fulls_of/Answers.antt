@@ -1,6 +1,5 @@
 use Rattle.std.proofs.Common.{refl}
 use Rattle.mm_word.specs.declared.word.Cell.{Cell}
-use Rattle.mm_word.specs.Word.{is_pointer}
 use Rattle.mm_frames.proofs.PackedCells.{byte_more}
 use Rattle.mm_frames.proofs.packed.fulls_of.Goals as goal
 

@@ -1,4 +1,4 @@
-use Rattle.std.proofs.Common.{◌≡◌, ◌==◌, ◌<◌, ℕ, List, Bool, true, false, length, refl, sym, ap, ◌∙◌, arith}
+use Rattle.std.proofs.Common.{◌≡◌, ◌<◌, ℕ, List, false, length, refl, arith}
 use Rattle.mm_model.specs.Counted.{has}
 use Rattle.mm_vmem.specs.declared.buffer.Entry.{Entry}
 use Rattle.mm_vmem.specs.Entries.{pages_in}

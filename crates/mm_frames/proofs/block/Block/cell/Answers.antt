@@ -1,4 +1,4 @@
-use Rattle.std.proofs.Common.{◌≡◌, ◌<◌, ℕ, Bool, List, get_or, sym, ap, ◌∙◌, arith, Some, slice_get, length}
+use Rattle.std.proofs.Common.{◌<◌, Bool, List, get_or, sym, ap, ◌∙◌, arith, Some, slice_get, length}
 use Rattle.std.proofs.lemmas.Option.{slice_get-get_or}
 use Rattle.mm_word.specs.declared.word.Word.{Word}
 use Rattle.mm_word.specs.declared.word.Cell.{Cell}
@@ -17,5 +17,5 @@ returns c =
     sym (ap (λ (cells : List Cell). slice_get cells place) c.self.view_is)
     ∙ slice_get-get_or cells place zero_cell within
     ∙ ap Some (get_or-block_of b.bits b.tags b.fulls place zero_cell c.requires
-        ∙ ap (λ (w : Word). record { word = w; full = bit_of b.fulls place }) (sym word)
-        ∙ ap (λ (full : Bool). record { word = c.word_of.result; full = full }) (sym c.is_set-2.ensures))
+    ∙ ap (λ (w : Word). record { word = w; full = bit_of b.fulls place }) (sym word)
+    ∙ ap (λ (full : Bool). record { word = c.word_of.result; full = full }) (sym c.is_set-2.ensures))

@@ -1,7 +1,7 @@
-use Rattle.std.proofs.Common.{◌≡◌, ◌<◌, true, ℕ, List, get_or, sym, subst, ap, ◌∙◌}
+use Rattle.std.proofs.Common.{ℕ, List, get_or, sym, subst, ap, ◌∙◌}
 use Rattle.mm_word.specs.Pointer.{SpellsPointer}
 use Rattle.mm_frames.specs.Packed.{bit_of, block_of}
-use Rattle.mm_frames.specs.Unpacked.{words_of, tags_of, fulls_of}
+use Rattle.mm_frames.specs.Unpacked.{words_of, tags_of}
 use Rattle.mm_frames.proofs.PackedCells.{block_packed, packed_is}
 use Rattle.mm_frames.proofs.block.Block.of.Goals as goal
 

@@ -1,4 +1,4 @@
-use Rattle.std.proofs.Common.{◌≡◌, ℕ, List, length, replicate, vec_len, arith, sym, subst, ap, ◌∙◌}
+use Rattle.std.proofs.Common.{◌≡◌, ℕ, List, replicate, vec_len, arith, sym, subst, ap, ◌∙◌}
 use Rattle.mm_frames.specs.Packed.{cells_of, IsPackedFrame}
 use Rattle.mm_frames.proofs.PackedCells.{zeros_packed, zero_cells}
 use Rattle.mm_frames.proofs.frame.Frame.clear.Goals as goal

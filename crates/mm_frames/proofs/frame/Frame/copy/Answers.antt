@@ -1,7 +1,6 @@
-use Rattle.std.proofs.Common.{◌≡◌, ◌*◌, ◌+◌, ◌-◌, ℕ, List, length, sym, ◌∙◌, ap, arith, take, drop, refl}
-use Rattle.std.proofs.lemmas.List.{take_all, length-take-le, length-drop}
+use Rattle.std.proofs.Common.{◌≡◌, ◌*◌, ◌+◌, List, length, sym, ◌∙◌, ap, arith, take}
+use Rattle.std.proofs.lemmas.List.{take_all}
 use Rattle.mm_word.specs.declared.word.Cell.{Cell}
-use Rattle.mm_frames.specs.Blocks.{with_block}
 use Rattle.mm_frames.proofs.PackedCells.{front_more, whole_with_block}
 use Rattle.mm_frames.proofs.frame.Frame.copy.Goals as goal
 

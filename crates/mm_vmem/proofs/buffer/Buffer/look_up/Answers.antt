@@ -1,6 +1,5 @@
-use Rattle.std.proofs.Common.{◌≡◌, ◌<◌, ◌≤◌, ◌∷◌, [], ◌++◌, ℕ, List, Bool, true, false, length, refl, sym, subst, ap, ◌∙◌, arith, eqb-true, eq-eqb}
+use Rattle.std.proofs.Common.{◌≡◌, ◌<◌, ◌≤◌, ◌∷◌, [], ◌++◌, List, Bool, true, false, length, refl, sym, subst, ap, ◌∙◌, arith, eqb-true, eq-eqb}
 use Rattle.std.specs.Prelude.{◌==◌}
-use Rattle.std.proofs.lemmas.Bool.Decides.{nat_tests}
 use Rattle.std.specs.List.{refill}
 use Rattle.mm_model.specs.Counted.{has}
 use Rattle.mm_vmem.specs.Entries.{AreEntries, pages_in, entries_without, after_look_up}
@@ -72,7 +71,7 @@ pushed : (c : goal.After-push) → c.push.new.self.items ≡ after_look_up (reco
 pushed c =
     c.push.ensures.items
     ∙ room (record { page = c.args.page; frame = c.args.frame }) c.in-Some.last c.self.inside.entries.items c.as_mut_slice.result.now c.move_down.new.entries c.self.invariant.few
-        c.as_mut_slice.ensures.value c.move_down.auto.entries c.in-Some.ensures.left c.in-Some.ensures.found.1 c.is_full.result c.is_full.ensures.value c.if-not-is_full.true
+    c.as_mut_slice.ensures.value c.move_down.auto.entries c.in-Some.ensures.left c.in-Some.ensures.found.1 c.is_full.result c.is_full.ensures.value c.if-not-is_full.true
 
 pub invariant_of-self-then-not-is_full : goal.invariant_of-self-then-not-is_full
 invariant_of-self-then-not-is_full c = subst AreEntries (sym (pushed c)) (entries_entered (record { page = c.args.page; frame = c.args.frame }) c.self.inside.entries.items c.self.invariant)
