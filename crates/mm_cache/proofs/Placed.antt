@@ -1,11 +1,12 @@
 -- Lines that stand in their places, after a change of one line and while the blocks of a page go.
 use Rattle.std.proofs.Common.{◌≡◌, ◌≢◌, ℕ, zero, suc, ◌<◌, List, [], ◌∷◌, length, length-set, Option, None, Some, replicate, refl, sym, ap, arith, ◌∙◌, ◌⊎◌, inl, inr}
 use Rattle.std.proofs.lemmas.Bool.{cases_eq}
-use Rattle.std.specs.Prelude.{slice_set}
-use Rattle.mm_model.specs.Counted.{line_of}
+use Rattle.std.specs.Prelude.{slice_set, ◌==◌, Bool, true, false, if◌then◌else◌}
+use Rattle.mm_word.specs.declared.word.Cell.{Cell}
+use Rattle.mm_model.specs.Counted.{block_of, line_of}
 use Rattle.mm_model.proofs.Memories.{get_set_other}
 use Rattle.mm_cache.specs.declared.line.Line.{Line}
-use Rattle.mm_cache.specs.Lines.{flat_line, line_in, AreLines}
+use Rattle.mm_cache.specs.Lines.{flat_line, line_in, line_with, place_in_block, AreLines}
 
 -- lines by their index
 
@@ -73,3 +74,17 @@ lines_set ls i o old fits full = record {
 
 pub lines_emptied : (ls : List (Option Line)) (i : ℕ) → AreLines ls → AreLines (slice_set ls i None)
 lines_emptied ls i old = lines_set ls i None old (λ l is. cc) (λ l is. cc)
+
+-- lines in which the cell of a word is written in its line
+pub lines_written : (ls : List (Option Line)) (word : ℕ) (c : Cell) (o : Option Line) → AreLines ls → line_in ls (line_of (block_of word)) ≡ o → AreLines (slice_set ls (line_of (block_of word)) (line_with o word c))
+lines_written ls word c None are found = lines_emptied ls (line_of (block_of word)) are
+lines_written ls word c (Some l) are found = go (l.block == block_of word)
+  where
+    whole : length (slice_set l.cells (place_in_block word) c) ≡ 8
+    whole = length-set l.cells (place_in_block word) c ∙ are.whole (line_of (block_of word)) l found
+
+    go : (b : Bool) → AreLines (slice_set ls (line_of (block_of word)) (if b then Some (record { block = l.block; dirty = true; cells = slice_set l.cells (place_in_block word) c }) else Some l))
+    go true = lines_set ls (line_of (block_of word)) (Some (record { block = l.block; dirty = true; cells = slice_set l.cells (place_in_block word) c })) are
+        (λ k e. let block : l.block ≡ k.block = cc in ap line_of (sym block) ∙ are.placed (line_of (block_of word)) l found)
+        (λ k e. let same : slice_set l.cells (place_in_block word) c ≡ k.cells = cc in ap length (sym same) ∙ whole)
+    go false = lines_set ls (line_of (block_of word)) (Some l) are (λ k e. are.placed (line_of (block_of word)) k (found ∙ e)) (λ k e. are.whole (line_of (block_of word)) k (found ∙ e))

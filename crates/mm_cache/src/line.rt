@@ -1,23 +1,23 @@
 ghost use Rattle.std.specs.Prelude.{◌≡◌, Some};
 ghost use Rattle.mm_cache.specs.Lines.{victim_of};
 
-use mm_word::Cell;
+use mm_frames::Block;
 
 /// A line that has a block.
 #[derive(Clone, Copy, Debug, PartialEq, Eq)]
 pub struct Line {
     /// The number of the block, which is its address divided by 64.
     pub block: u64,
+    pub cells: Block,
     /// Whether it was written since it was filled.
     pub dirty: bool,
-    pub cells: [Cell; 8],
 }
 
 /// A block that has to be written back.
 #[derive(Clone, Copy, Debug, PartialEq, Eq)]
 pub struct Victim {
     pub block: u64,
-    pub cells: [Cell; 8],
+    pub cells: Block,
 }
 
 impl Line {
@@ -27,8 +27,8 @@ impl Line {
     {
         let Line {
             block,
-            dirty,
             cells,
+            dirty,
         } = self;
         if dirty {
             Some(Victim { block, cells })

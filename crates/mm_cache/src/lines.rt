@@ -1,8 +1,9 @@
 ghost use Rattle.std.specs.Prelude.{◌≡◌, ◌^◌, ◌<◌, None, replicate, true, false};
 ghost use Rattle.mm_model.specs.Counted.{block_of, line_of};
-ghost use Rattle.mm_cache.specs.Lines.{place_in_block, line_without};
+ghost use Rattle.mm_cache.specs.Lines.{place_in_block, is_in, line_with, line_without};
 
 use crate::line::{Line, Victim};
+use mm_frames::Block;
 use mm_word::Cell;
 use std::marker::Model;
 
@@ -30,6 +31,21 @@ fn place_of(word: u64) -> usize
     ensures within { result < 8 }
 {
     (word % 64 / 8) as usize
+}
+
+// Writes the cell of a word in a line and marks it as dirty, where it has the word's block. False exactly where it has not.
+fn write(line: &mut Option<Line>, word: u64, cell: Cell) -> bool
+    ensures answer { result ≡ is_in line.old (block_of word) }
+    ensures after { line.new ≡ line_with line.old word cell }
+{
+    match line {
+        Some(line) if line.block == block_of(word) => {
+            line.cells.set(place_of(word), cell);
+            line.dirty = true;
+            true
+        }
+        _ => false,
+    }
 }
 
 // Whether a line has a block of a page.
@@ -102,7 +118,7 @@ impl Lines {
         ensures { result ≡ cell_of self.now word }
     {
         match &self.lines[line_of(block_of(word))] {
-            Some(line) if line.block == block_of(word) => Some(line.cells[place_of(word)]),
+            Some(line) if line.block == block_of(word) => Some(line.cells.cell(place_of(word))),
             _ => None,
         }
     }
@@ -112,14 +128,7 @@ impl Lines {
         ensures answer { result ≡ hits self.old (block_of word) }
         ensures after { self.new ≡ with_cell self.old word cell }
     {
-        match &mut self.lines[line_of(block_of(word))] {
-            Some(line) if line.block == block_of(word) => {
-                line.cells[place_of(word)] = cell;
-                line.dirty = true;
-                true
-            }
-            _ => false,
-        }
+        write(&mut self.lines[line_of(block_of(word))], word, cell)
     }
 
     /// Empties a line, and gives its block exactly where it was dirty.
@@ -135,14 +144,15 @@ impl Lines {
     }
 
     /// Fills the empty line of a block, which is clean then.
-    pub fn fill(&mut self, block: u64, cells: [Cell; 8])
+    pub fn fill(&mut self, block: u64, cells: Block)
         requires { line_in self.old (line_of block) ≡ None }
         ensures { self.new ≡ filled self.old block cells }
     {
+        cells.whole();
         self.lines[line_of(block)] = Some(Line {
             block,
-            dirty: false,
             cells,
+            dirty: false,
         });
     }
 

@@ -4,3 +4,4 @@ pub mod Blocks
 pub mod Framed
 pub mod Kept
 pub mod Seating
+pub mod PackedCells

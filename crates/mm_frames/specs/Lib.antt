@@ -1,3 +1,5 @@
 pub mod Blocks
 pub mod Framed
+pub mod Packed
+pub mod Unpacked
 pub mod Laws

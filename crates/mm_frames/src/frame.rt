@@ -2,33 +2,35 @@ ghost use Rattle.std.specs.Prelude.{◌≡◌, ◌<◌, IfOk, Some, length, slic
 ghost use Rattle.mm_model.specs.Memory.{zero_page};
 ghost use Rattle.mm_frames.specs.Blocks.{block_in, with_block};
 
-use crate::frames::{BLOCK, Block};
+use crate::block::{BLOCK, Block};
+use crate::packed::{is_set, word_of};
 use mm_model::{CELLS, Page};
-use mm_word::{Cell, NoMemory, Word};
+use mm_word::{Cell, NoMemory};
 use std::alloc::Global;
 use std::marker::Model;
 
-// What each cell of a page holds that was just mapped.
-pub(crate) const ZERO: Cell = Cell {
-    word: Word::Int(0),
-    full: true,
-};
+// How many blocks a frame has.
+const BLOCKS: usize = 64;
 
-// The cells of a frame. They are taken once, and stay for as long as the frame does.
+// The cells of a frame, eight bytes and two bits each. The memory is taken once, and stays for as long as the frame does.
 #[derive(Drop)]
 pub(crate) struct Frame {
-    cells: Vec<Cell>,
+    bits: Vec<u64>,
+    // Which cells hold pointers, and which are full: a byte for each block.
+    tags: [u8; BLOCKS],
+    fulls: [u8; BLOCKS],
 }
 
 impl Model for Frame {
-    ghost use Rattle.std.specs.Prelude.{◌≡◌, List, length};
+    ghost use Rattle.std.specs.Prelude.{List};
     ghost use Rattle.mm_word.specs.declared.word.Cell.{Cell};
+    ghost use Rattle.mm_frames.specs.Packed.{cells_of, IsPackedFrame};
 
     ghost Value = { List Cell };
 
-    ghost view = { λ f. f.cells.items };
+    ghost view = { λ f. cells_of f.bits.items f.tags f.fulls };
 
-    ghost invariant = { λ f. length f.cells.items ≡ 512 };
+    ghost invariant = { λ f. IsPackedFrame f.bits.items f.tags f.fulls };
 }
 
 impl Frame {
@@ -36,10 +38,14 @@ impl Frame {
     pub(crate) fn new(alloc: Global) -> Result<Frame, NoMemory>
         ensures { IfOk result (λ f. f ≡ zero_page) }
     {
-        let Ok(cells) = Vec::from_elem(alloc, ZERO, CELLS) else {
+        let Ok(bits) = Vec::from_elem(alloc, 0, CELLS) else {
             return Err(NoMemory);
         };
-        Ok(Frame { cells })
+        Ok(Frame {
+            bits,
+            tags: [0; BLOCKS],
+            fulls: [u8::MAX; BLOCKS],
+        })
     }
 
     // The cell at this place.
@@ -47,7 +53,11 @@ impl Frame {
         requires { place < 512 }
         ensures { slice_get self.now place ≡ Some result }
     {
-        self.cells[place]
+        let (block, bit) = (place / BLOCK, place % BLOCK);
+        Cell {
+            word: word_of(self.bits[place], is_set(self.tags[block], bit)),
+            full: is_set(self.fulls[block], bit),
+        }
     }
 
     // The block at this place.
@@ -56,9 +66,9 @@ impl Frame {
         ensures { result ≡ block_in self.now place }
     {
         let at = place * BLOCK;
-        let mut block = [ZERO; BLOCK];
-        block.copy_from_slice(&self.cells[at..at + BLOCK]);
-        block
+        let mut bits = [0; BLOCK];
+        bits.copy_from_slice(&self.bits[at..at + BLOCK]);
+        Block::from_parts(bits, self.tags[place], self.fulls[place])
     }
 
     // Writes the block at this place.
@@ -69,20 +79,28 @@ impl Frame {
         ensures block { length block.now ≡ 8 }
     {
         let at = place * BLOCK;
-        self.cells[at..at + BLOCK].copy_from_slice(block);
+        self.bits[at..at + BLOCK].copy_from_slice(&block.bits);
+        self.tags[place] = block.tags;
+        self.fulls[place] = block.fulls;
     }
 
     // Makes each cell zero.
     pub(crate) fn clear(&mut self)
         ensures { self.new ≡ zero_page }
     {
-        self.cells.fill(ZERO);
+        self.bits.fill(0);
+        self.tags = [0; BLOCKS];
+        self.fulls = [u8::MAX; BLOCKS];
     }
 
     // Makes them the cells of this page.
     pub(crate) fn copy(&mut self, page: &Page)
         ensures { self.new ≡ page.now.1 }
     {
-        self.cells.copy_from_slice(page.cells());
+        let cells = page.cells();
+        for place in 0..BLOCKS {
+            let at = place * BLOCK;
+            self.put(place, &Block::of(&cells[at..at + BLOCK]));
+        }
     }
 }

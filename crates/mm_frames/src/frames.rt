@@ -7,6 +7,7 @@ ghost use Rattle.mm_model.specs.Flags.{one_if};
 ghost use Rattle.mm_model.specs.Memory.{IsPage};
 ghost use Rattle.mm_frames.specs.Framed.{memory_of, times, rows_with};
 
+use crate::block::Block;
 use crate::frame::Frame;
 use crate::row::Row;
 use crate::search::search;
@@ -14,12 +15,6 @@ use mm_model::Page;
 use mm_word::{Cell, NoMemory};
 use std::alloc::Global;
 use std::marker::Model;
-
-/// The cells in a block, 64 bytes.
-pub const BLOCK: usize = 8;
-
-/// The cells of a block.
-pub type Block = [Cell; BLOCK];
 
 // So many frames of zeros.
 fn zeros(alloc: Global, count: u32) -> Result<Vec<Frame>, NoMemory>

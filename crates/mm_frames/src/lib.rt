@@ -2,10 +2,13 @@
 //! and written, each counted.
 #![tactic(auto)]
 
+mod block;
 mod frame;
 mod frames;
 pub mod laws;
+mod packed;
 mod row;
 mod search;
 
-pub use frames::{BLOCK, Block, Frames};
+pub use block::{BLOCK, Block};
+pub use frames::Frames;

@@ -1,8 +1,10 @@
 -- The entries of the buffer, and their pages.
-use Rattle.std.proofs.Common.{◌≡◌, ◌≢◌, ℕ, zero, suc, ◌+◌, ◌-◌, ◌<◌, ◌≤◌, ◌==◌, Bool, true, false, cond, if◌then◌else◌, List, [], ◌∷◌, take, length, get_or, Option, None, Some, is_some, nat_lt, refl, sym, ap, subst, arith, ◌∙◌, eqb-true}
-use Rattle.std.specs.List.{AllByRecursion, remove, position, position_or_len}
+use Rattle.std.proofs.Common.{◌≡◌, ℕ, zero, suc, ◌+◌, ◌<◌, ◌≤◌, ◌==◌, Bool, true, false, cond, if◌then◌else◌, List, [], ◌∷◌, take, drop, length, get_or, set, ◌++◌, inl, inr, Option, None, Some, is_some, nat_lt, refl, sym, ap, subst, arith, ◌∙◌, eqb-true, eq-eqb}
+use Rattle.std.specs.List.{AllByRecursion, remove, refill, position, position_or_len}
+use Rattle.std.proofs.lemmas.Bool.{cases_lt}
+use Rattle.std.proofs.lemmas.Grind.{drop_more_same}
 use Rattle.std.proofs.lemmas.Bool.Decides.{nat_tests}
-use Rattle.std.proofs.lemmas.List.{take-map}
+use Rattle.std.proofs.lemmas.List.{take-map, take_at, take_more, take_more_set, get_or-drop, drop-set-lt, set_split, append_assoc, length_push, get_or_default}
 use Rattle.std.proofs.lemmas.List.Quantifiers.{position-Some}
 use Rattle.std.proofs.lemmas.List.Sums.{fails_before_first}
 use Rattle.mm_model.specs.Counted.{has, without}
@@ -90,7 +92,7 @@ pub record IsFirst (page i : ℕ) (es : List Entry) : Type 0 where
   pub at : (d : Entry) → ((get_or es i d).page == page) ≡ true
   pub before : (k : ℕ) (d : Entry) → k < i → ((get_or es k d).page == page) ≡ false
 
-abbrev no_entry : Entry
+abbrev pub no_entry : Entry
 no_entry = record { page = 0; frame = 0 }
 
 pub first_place : (page i : ℕ) (es : List Entry) → position (λ e. e.page == page) es ≡ Some i → IsFirst page i es
@@ -110,7 +112,7 @@ past_end n m is = by (nat_lt n m) refl is
     by true lt at = cc
     by false ge at = grind (arith, nat_tests, ge)
 
-absent_entries : (page : ℕ) (es : List Entry) → ((k : ℕ) (d : Entry) → k < length es → ((get_or es k d).page == page) ≡ false) → has page (pages_in es) ≡ false
+pub absent_entries : (page : ℕ) (es : List Entry) → ((k : ℕ) (d : Entry) → k < length es → ((get_or es k d).page == page) ≡ false) → has page (pages_in es) ≡ false
 absent_entries page [] none = refl
 absent_entries page (e ∷ es) none =
     ap (λ (b : Bool). if b then true else has page (pages_in es)) (flip_test page e.page ∙ none 0 no_entry (omega arith))
@@ -165,18 +167,69 @@ take_whole zero (e ∷ es) le = absurd (omega (arith, le))
 take_whole (suc n) [] le = refl
 take_whole (suc n) (e ∷ es) le = ap (λ (xs : List Entry). e ∷ xs) (take_whole n es (omega (arith, le)))
 
--- an entry that is taken out
-pub left_found : (page i : ℕ) (es new : List Entry) → AreEntries es → IsFirst page i es → new ≡ remove es i → length new + 1 ≡ length es → new ≡ take 15 (entries_without page es)
-left_found page i es new are first is long =
-    let few : length es ≤ 16 = are.few in
-    sym (take_whole 15 new (omega (arith, few, long))) ∙ ap (λ (xs : List Entry). take 15 xs) (is ∙ removed_left page i es are.distinct first)
+-- 6. Entries that move down, one after the other, while the first ones wait at the front.
 
--- the last one that goes
-pub left_full : (page : ℕ) (es new : List Entry) → has page (pages_in es) ≡ false → length es ≡ 16 → new ≡ take (length es - 1) es → new ≡ take 15 (entries_without page es)
-left_full page es new absent full is =
-    is ∙ ap (λ (n : ℕ). take (n - 1) es) full ∙ ap (λ (xs : List Entry). take 15 xs) (sym (absent_left page es absent))
+module _ (first carried : Entry) (old now : List Entry) (i : ℕ) (within : i < length now) (whole : i < length old) (front : take i now ++ carried ∷ [] ≡ first ∷ take i old) (rest : drop i now ≡ drop i old) where
+  -- the entry that comes next has not moved
+  pub next_is : (d : Entry) → get_or now i d ≡ get_or old i d
+  next_is d =
+      let here : i + 0 ≡ i = omega arith in
+      ap (λ n. get_or now n d) (sym here) ∙ sym (get_or-drop i now 0 d) ∙ ap (λ xs. get_or xs 0 d) rest ∙ get_or-drop i old 0 d ∙ ap (λ n. get_or old n d) here
 
--- room for another
-pub left_room : (page : ℕ) (es : List Entry) → has page (pages_in es) ≡ false → length es ≤ 16 → length es ≢ 16 → es ≡ take 15 (entries_without page es)
-left_room page es absent few room =
-    sym (take_whole 15 es (omega (arith, few, room))) ∙ ap (λ (xs : List Entry). take 15 xs) (sym (absent_left page es absent))
+  pub moves_on : (d : Entry) → take (i + 1) (set now i carried) ++ get_or now i d ∷ [] ≡ first ∷ take (i + 1) old
+  moves_on d =
+      ap (λ xs. xs ++ get_or now i d ∷ []) (take_more_set now i carried within ∙ front)
+      ∙ ap (λ (e : Entry). first ∷ (take i old ++ e ∷ [])) (next_is d)
+      ∙ ap (λ xs. first ∷ xs) (sym (take_more old i d whole))
+
+  pub rest_stays : drop (i + 1) (set now i carried) ≡ drop (i + 1) old
+  rest_stays = drop-set-lt (i + 1) now i carried (omega arith) ∙ drop_more_same now old i rest
+
+  -- the old entry of the page is gone
+  pub moved_down : IsDistinct (pages_in old) → IsFirst first.page i old → set now i carried ≡ first ∷ entries_without first.page old
+  moved_down distinct its =
+      let next : i + 1 ≡ suc i = omega arith in
+      let behind : drop (suc i) now ≡ drop (suc i) old = subst (λ n. drop n now ≡ drop n old) next (drop_more_same now old i rest) in
+      set_split now i carried within
+      ∙ sym (append_assoc (take i now) (carried ∷ []) (drop (suc i) now))
+      ∙ ap (λ xs. xs ++ drop (suc i) now) front
+      ∙ ap (λ xs. first ∷ (take i old ++ xs)) behind
+      ∙ ap (λ xs. first ∷ xs) (removed_left first.page i old distinct its)
+
+  default_page : (d : Entry) → (get_or now i no_entry).page ≡ (get_or old i d).page
+  default_page d = ap (λ (e : Entry). e.page) (get_or_default now i no_entry d within ∙ next_is d)
+
+  pub its_first : ((k : ℕ) (d : Entry) → k < i → ((get_or old k d).page == first.page) ≡ false) → (get_or now i no_entry).page ≡ first.page → IsFirst first.page i old
+  its_first before same = record { in_range = whole; at = λ d. eq-eqb (get_or old i d).page first.page (sym (default_page d) ∙ same); before = before }
+
+  pub not_here : ((get_or now i no_entry).page ≡ first.page → ⊥) → (d : Entry) → ((get_or old i d).page == first.page) ≡ false
+  not_here other d = let e = default_page d in grind (arith, nat_tests, other, e)
+
+-- no entry of the page so far
+pub none_more : (page i : ℕ) (old : List Entry) → ((k : ℕ) (d : Entry) → k < i → ((get_or old k d).page == page) ≡ false) → ((d : Entry) → ((get_or old i d).page == page) ≡ false)
+    → (k : ℕ) (d : Entry) → k < i + 1 → ((get_or old k d).page == page) ≡ false
+none_more page i old before here k d lt = elim (cases_lt k i) [
+  | inl less ↦ before k d less
+  | inr more ↦ (let same : k ≡ i = omega (arith, lt, more) in ap (λ n. (get_or old n d).page == page) same ∙ here d)
+]
+
+-- a list that was written through is what was written
+pub refilled : (xs ws : List Entry) → length ws ≡ length xs → refill (length xs) xs ws ≡ ws
+refilled xs ws e = take_at ws (drop (length ws) xs) (length xs) e
+
+-- 7. The buffer after a look-up.
+
+module _ (e : Entry) (old : List Entry) (few : length old ≤ 16) where
+  -- its page was there
+  pub after_found : (new : List Entry) → length new ≡ length old → new ≡ e ∷ entries_without e.page old → new ≡ after_look_up e old
+  after_found new long is = sym (take_whole 16 new (omega (arith, long, few))) ∙ ap (take 16) is
+
+  -- it was not, and the last one has no room
+  pub after_full : (last : Entry) (new : List Entry) → has e.page (pages_in old) ≡ false → length new ≡ 16 → new ++ last ∷ [] ≡ e ∷ old → new ≡ after_look_up e old
+  after_full last new absent full is =
+      sym (take_at new (last ∷ []) 16 full) ∙ ap (take 16) (is ∙ ap (λ xs. e ∷ xs) (sym (absent_left e.page old absent)))
+
+  -- or has room
+  pub after_room : (last : Entry) (new : List Entry) → has e.page (pages_in old) ≡ false → length new < 16 → new ++ last ∷ [] ≡ e ∷ old → new ++ last ∷ [] ≡ after_look_up e old
+  after_room last new absent room is =
+      sym (take_whole 16 (new ++ last ∷ []) (omega (arith, room, length_push new last))) ∙ ap (take 16) (is ∙ ap (λ xs. e ∷ xs) (sym (absent_left e.page old absent)))

@@ -1,6 +1,7 @@
-ghost use Rattle.std.specs.Prelude.{◌≡◌, ◌==◌, [], take, position};
+ghost use Rattle.std.specs.Prelude.{◌≡◌, ◌==◌, ◌↔◌, [], ◌∷◌, ◌++◌, true, position, IfSome, IfNone, IsNone};
 ghost use Rattle.mm_model.specs.Counted.{has};
-ghost use Rattle.mm_vmem.specs.Entries.{pages_in, entries_without, AreEntries};
+ghost use Rattle.mm_vmem.specs.Stands.{IsDistinct};
+ghost use Rattle.mm_vmem.specs.Entries.{pages_in, entries_without};
 
 use arrayvec::ArrayVec;
 use std::marker::Model;
@@ -40,24 +41,24 @@ fn place(entries: &[Entry], page: u64) -> Option<usize>
     entries.iter().position(|entry| entry.page == page)
 }
 
-// Takes out the entry of a page, and tells whether there was one. Where there is none and no room for another, the last entry goes.
-fn make_room(entries: &mut ArrayVec<Entry, ENTRIES>, page: u64) -> bool
-    requires { AreEntries entries.old.items }
-    ensures found { result ≡ has page (pages_in entries.old.items) }
-    ensures after { entries.new.items ≡ take 15 (entries_without page entries.old.items) }
+// Puts an entry first, and moves each before the old one of its page, or all where there is none, one place down. Gives the entry that is left over,
+// where there is none.
+fn move_down(entries: &mut [Entry], first: Entry) -> Option<Entry>
+    requires { IsDistinct (pages_in entries.old) }
+    ensures found { IsNone result ↔ (has first.page (pages_in entries.old) ≡ true) }
+    ensures moved { IfNone result (entries.new ≡ first ∷ entries_without first.page entries.old) }
+    ensures left { IfSome result (λ last. entries.new ++ last ∷ [] ≡ first ∷ entries.old) }
 {
-    match place(entries.as_slice(), page) {
-        Some(i) => {
-            entries.remove(i);
-            true
+    let mut carried = first;
+    for entry in entries.iter_mut() {
+        let old = *entry;
+        *entry = carried;
+        if old.page == first.page {
+            return None;
         }
-        None => {
-            if entries.is_full() {
-                entries.pop();
-            }
-            false
-        }
+        carried = old;
     }
+    Some(carried)
 }
 
 impl Buffer {
@@ -86,9 +87,15 @@ impl Buffer {
         ensures found { result ≡ has page (pages_in self.old) }
         ensures after { self.new ≡ after_look_up (record { page = page; frame = frame }) self.old }
     {
-        let found = make_room(&mut self.entries, page);
-        self.entries.insert(0, Entry { page, frame });
-        found
+        match move_down(self.entries.as_mut_slice(), Entry { page, frame }) {
+            None => true,
+            Some(last) => {
+                if !self.entries.is_full() {
+                    self.entries.push(last);
+                }
+                false
+            }
+        }
     }
 
     /// Empties it.
