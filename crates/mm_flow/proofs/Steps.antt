@@ -1,19 +1,30 @@
 -- The steps of the flow.
-use Rattle.std.proofs.lemmas.Nat.Bits.{bit_at_and, bit_at-lt}
-use Rattle.std.proofs.Common.{◌≡◌, ℕ, ◌<◌, ◌⊎◌, inl, inr, List, [], ◌∷◌, ◌++◌, length, slice_index, min, bit_and, refl, sym, ◌∙◌, subst, arith}
+use Rattle.std.proofs.lemmas.Nat.Bits.{bit_at_and, bit_at-lt, bit_at-zero}
+use Rattle.std.proofs.Common.{◌≡◌, ℕ, ◌<◌, ◌≤◌, ◌⊎◌, inl, inr, List, [], ◌∷◌, ◌++◌, length, slice_index, min, bit_and, refl, sym, ◌∙◌, subst, arith}
 use Rattle.std.specs.Int.{bit_at}
 use Rattle.mm_flow.specs.Net.{Edges, low_at, high_at, entry_at, enters_at}
 use Rattle.mm_flow.specs.Flow.{Within, Has, IsIn, Carried, IsAmong, Fits, Flows, Settled, IsFlow, Flowing}
 use Rattle.mm_flow.specs.Flow.Flows.{from, along, through}
 use Rattle.mm_flow.proofs.Masks.{Within-refl, Within-trans, in_push_cases, in_push_left}
 
-pub flowing_start : (e : Edges) (old p : List ℕ) → Fits e (length old) → ((k : ℕ) → IsIn k p → k < length old) → ((k : ℕ) → k < length old → IsIn k p) → Flowing e old old p
+-- nothing flows from a node without a mark
+no_mark : (e : Edges) (marks : List ℕ) (k : ℕ) → slice_index marks k ≡ 0 → Settled e marks k
+no_mark e marks k none = record {
+  cells = λ j lo hi g. subst (λ v. bit_at v g ≤ bit_at (slice_index marks (slice_index e.targets j)) g) (sym none) (let z = bit_at-zero g in omega arith);
+  entry = λ g. subst (λ v. bit_at (bit_and v (enters_at e k)) g ≤ bit_at (slice_index marks (entry_at e k)) g) (sym none)
+      (at_least _ _ _ (bit_at_and 0 (enters_at e k) g) (bit_at-zero g));
+}
+  where
+    at_least : (x y z : ℕ) → z ≡ min x y → x ≡ 0 → {w : ℕ} → z ≤ w
+    at_least x y z is none = omega arith
+
+pub flowing_start : (e : Edges) (old p : List ℕ) → Fits e (length old) → ((k : ℕ) → IsIn k p → k < length old) → ((k : ℕ) → k < length old → IsIn k p ⊎ (slice_index old k ≡ 0)) → Flowing e old old p
 flowing_start e old p fits listed all = record {
   fits = fits;
   len = refl;
   grows = λ k. Within-refl (slice_index old k);
   listed = listed;
-  settled = λ k lt. inl (all k lt);
+  settled = λ k lt. elim (all k lt) [ inl x ↦ inl x | inr none ↦ inr (no_mark e old k none) ];
   sound = λ k g h. from h;
   no_rise = omega arith;
 }

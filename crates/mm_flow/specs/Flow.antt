@@ -1,5 +1,5 @@
 -- Marks that flow along edges: a node's mark is a mask of groups.
-use Rattle.std.specs.Prelude.{◌≡◌, ℕ, ◌+◌, ◌-◌, ◌*◌, ◌^◌, ◌<◌, ◌≤◌, ◌⊎◌, List, [], ◌∷◌, length, slice_index, bit_and}
+use Rattle.std.specs.Prelude.{◌≡◌, ℕ, ◌+◌, ◌-◌, ◌*◌, ◌^◌, ◌<◌, ◌≤◌, ◌⊎◌, List, [], ◌∷◌, length, slice_index, bit_and, bit_or}
 use Rattle.std.specs.Int.{bit_at}
 use Rattle.mm_flow.specs.Net.{Edges, low_at, high_at, entry_at, enters_at}
 
@@ -73,6 +73,40 @@ pub record Flowing (e : Edges) (old marks pending : List ℕ) : Type 0 where
   pub settled : (k : ℕ) → k < length old → IsIn k pending ⊎ Settled e marks k
   pub sound : (k g : ℕ) → Has marks k g → Flows e old g k
   pub no_rise : room (2 ^ 64) marks ≤ room (2 ^ 64) old
+
+-- what is carried by a node is at all its targets
+abbrev pub IsPassed : Edges → List ℕ → List ℕ → Type 0
+IsPassed e marks carried = (i j : ℕ) → low_at e i ≤ j → j < high_at e i → Within (slice_index carried i) (slice_index marks (slice_index e.targets j))
+
+-- for each of n nodes a later one, or the number of nodes
+pub record IsAhead (after : List ℕ) (n : ℕ) : Type 0 where
+  pub len : length after ≡ n
+  pub later : (k : ℕ) → k < n → k < slice_index after k
+  pub ends : (k : ℕ) → k < n → slice_index after k ≤ n
+
+-- the targets of the first node are targets of the second
+abbrev pub IsInner : Edges → ℕ → ℕ → Type 0
+IsInner e i k = (low_at e k ≤ low_at e i) × (high_at e i ≤ high_at e k)
+
+-- one step of the way over the nodes from k on, with k's targets at places before `done` done: the node `at` was passed by, or carries
+-- the mask from now on
+pub record Walked (e : Edges) (k mask at done : ℕ) (old p carried : List ℕ) (at2 done2 : ℕ) (new q carried2 : List ℕ) : Type 0 where
+  pub forth : at < at2
+  pub low : done ≤ done2
+  pub high : done2 ≤ high_at e k
+  pub marks : Carried (IsAmong e.targets done done2) old p mask new q
+  pub len : length carried2 ≡ length carried
+  pub others : (i : ℕ) → (i ≡ at → ⊥) → slice_index carried2 i ≡ slice_index carried i
+  pub own : (slice_index carried2 at ≡ slice_index carried at) ⊎ ((slice_index carried2 at ≡ bit_or (slice_index carried at) mask) × IsInner e at k)
+
+-- what stands on that way: what a node carries is at its targets, or will be, since it is the mask and they are targets of k
+pub record Walking (e : Edges) (k mask at done : ℕ) (old p new q carried : List ℕ) : Type 0 where
+  pub low : low_at e k ≤ done
+  pub high : done ≤ high_at e k
+  pub marks : Carried (IsAmong e.targets (low_at e k) done) old p mask new q
+  pub len : length carried ≡ length old
+  pub ahead : (i j : ℕ) → at ≤ i → low_at e i ≤ j → j < high_at e i → Within (slice_index carried i) (slice_index new (slice_index e.targets j))
+  pub behind : (i j g : ℕ) → low_at e i ≤ j → j < high_at e i → Has carried i g → Has new (slice_index e.targets j) g ⊎ ((bit_at mask g ≡ 1) × IsInner e i k)
 
 -- one node was worked off
 pub record Stepped (e : Edges) (k : ℕ) (old p new q : List ℕ) : Type 0 where

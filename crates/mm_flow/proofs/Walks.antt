@@ -1,0 +1,198 @@
+-- The way over the nodes within one.
+use Rattle.std.proofs.lemmas.Bool.{cases_lt, cases_eq}
+use Rattle.std.proofs.lemmas.Nat.Bits.{bit_at-lt, bit_at-zero}
+use Rattle.std.proofs.Common.{◌≡◌, ℕ, zero, suc, ◌+◌, ◌<◌, ◌≤◌, ◌⊎◌, inl, inr, List, length, slice_index, slice_set, replicate, max, bit_or, refl, sym, ap, ◌∙◌, subst, arith}
+use Rattle.std.specs.Int.{bit_at}
+use Rattle.mm_flow.specs.Net.{Edges, low_at, high_at}
+use Rattle.mm_flow.specs.Flow.{Within, Has, Carried, IsAmong, IsPassed, IsInner, Walked, Walking}
+use Rattle.mm_flow.proofs.Masks.{Within-refl, Within-trans, Within-or_right, or_cases, set_cases, length_set}
+use Rattle.mm_flow.proofs.Masks.Set.{here, there}
+
+pub at_one : (x y g : ℕ) → Within x y → bit_at x g ≡ 1 → bit_at y g ≡ 1
+at_one x y g h one = let le = h g in let lt = bit_at-lt y g in omega arith
+
+pub within_from : (x y : ℕ) → ((g : ℕ) → bit_at x g ≡ 1 → bit_at y g ≡ 1) → Within x y
+within_from x y h g = two (bit_at x g) (bit_at y g) (bit_at-lt x g) (h g)
+  where
+    two : (a b : ℕ) → a < 2 → (a ≡ 1 → b ≡ 1) → a ≤ b
+    two zero b lt f = omega arith
+    two (suc zero) b lt f = let e = f refl in omega arith
+    two (suc (suc n)) b lt f = absurd (omega arith)
+
+carried_none : (targets old p : List ℕ) (mask lo : ℕ) → Carried (IsAmong targets lo lo) old p mask old p
+carried_none targets old p mask lo = record {
+  len = refl;
+  grows = λ k. Within-refl (slice_index old k);
+  each = λ t m. absurd (let a = m.low in let b = m.high in omega arith);
+  changed = λ k. inl refl;
+  keeps = λ k h. h;
+  only = λ k g h. inl h;
+  bounded = λ k h. inl h;
+  no_rise = omega arith;
+  room = omega arith;
+}
+
+module _ (targets old p a q : List ℕ) (mask lo d : ℕ) (h : Carried (IsAmong targets lo d) old p mask a q) where
+  wider : (d2 t : ℕ) → d ≤ d2 → IsAmong targets lo d t → IsAmong targets lo d2 t
+  wider d2 t le m = record { at = m.at; low = m.low; high = (let lt = m.high in omega arith); is = m.is }
+
+  -- targets that have the mask already
+  pub carried_free : (d2 : ℕ) → d ≤ d2 → ((j : ℕ) → d ≤ j → j < d2 → Within mask (slice_index a (slice_index targets j))) → Carried (IsAmong targets lo d2) old p mask a q
+  carried_free d2 le free = record {
+    len = h.len;
+    grows = h.grows;
+    each = λ t m. elim (cases_lt m.at d) [
+      | inl lt ↦ h.each t (record { at = m.at; low = m.low; high = lt; is = m.is })
+      | inr ge ↦ subst (λ v. Within mask (slice_index a v)) m.is (free m.at ge m.high)
+    ];
+    changed = h.changed;
+    keeps = h.keeps;
+    only = λ k g x. elim (h.only k g x) [ inl y ↦ inl y | inr y ↦ inr (wider d2 k le y.0, y.1) ];
+    bounded = h.bounded;
+    no_rise = h.no_rise;
+    room = h.room;
+  }
+
+  -- targets further on
+  pub carried_on : (d2 : ℕ) (b r : List ℕ) → lo ≤ d → d ≤ d2 → Carried (IsAmong targets d d2) a q mask b r → Carried (IsAmong targets lo d2) old p mask b r
+  carried_on d2 b r from le k = record {
+    len = k.len ∙ h.len;
+    grows = λ n. Within-trans (slice_index old n) (slice_index a n) (slice_index b n) (h.grows n) (k.grows n);
+    each = λ t m. elim (cases_lt m.at d) [
+      | inl lt ↦ Within-trans mask (slice_index a t) (slice_index b t) (h.each t (record { at = m.at; low = m.low; high = lt; is = m.is })) (k.grows t)
+      | inr ge ↦ k.each t (record { at = m.at; low = ge; high = m.high; is = m.is })
+    ];
+    changed = λ n. elim (k.changed n) [
+      | inr x ↦ inr x
+      | inl e ↦ elim (h.changed n) [ inr y ↦ inr (k.keeps n y) | inl f ↦ inl (e ∙ f) ]
+    ];
+    keeps = λ n x. k.keeps n (h.keeps n x);
+    only = λ n g x. elim (k.only n g x) [
+      | inr y ↦ inr (record { at = y.0.at; low = (let ge = y.0.low in omega arith); high = y.0.high; is = y.0.is }, y.1)
+      | inl y ↦ elim (h.only n g y) [ inl z ↦ inl z | inr z ↦ inr (wider d2 n le z.0, z.1) ]
+    ];
+    bounded = λ n x. elim (k.bounded n x) [
+      | inr y ↦ inr (let e = h.len in omega arith)
+      | inl y ↦ h.bounded n y
+    ];
+    no_rise = let x = h.no_rise in let y = k.no_rise in omega arith;
+    room = let x = h.room in let y = k.room in omega arith;
+  }
+
+-- the steps of the way
+module _ (e : Edges) (k mask at done : ℕ) (old p carried : List ℕ) (fit : done ≤ high_at e k) where
+  -- past a node that stays as it is
+  pub walked_past : Walked e k mask at done old p carried (at + 1) done old p carried
+  walked_past = record {
+    forth = omega arith;
+    low = omega arith;
+    high = fit;
+    marks = carried_none e.targets old p mask done;
+    len = refl;
+    others = λ i ne. refl;
+    own = inl refl;
+  }
+
+  -- past a node that carries the mask from now on
+  pub walked_marked : at < length carried → IsInner e at k → Walked e k mask at done old p carried (at + 1) done old p (slice_set carried at (bit_or (slice_index carried at) mask))
+  walked_marked lt inner = record {
+    forth = omega arith;
+    low = omega arith;
+    high = fit;
+    marks = carried_none e.targets old p mask done;
+    len = length_set carried at _;
+    others = λ i ne. elim (set_cases carried at (bit_or (slice_index carried at) mask) i lt) [ here is f ↦ absurd (ne is) | there nothere f ↦ f ];
+    own = elim (set_cases carried at (bit_or (slice_index carried at) mask) at lt) [ here is f ↦ inr (f, inner) | there ne f ↦ absurd (ne refl) ];
+  }
+
+  -- past all that a node holds which carries the mask
+  pub walked_by : (at2 start done2 : ℕ) (new q : List ℕ) → at < at2 → start ≡ max done (low_at e at) → done2 ≡ max start (high_at e at) → low_at e at ≤ high_at e at → IsInner e at k
+      → bit_or (slice_index carried at) mask ≡ slice_index carried at
+      → ((j : ℕ) → low_at e at ≤ j → j < high_at e at → Within (slice_index carried at) (slice_index old (slice_index e.targets j)))
+      → Carried (IsAmong e.targets done start) old p mask new q → Walked e k mask at done old p carried at2 done2 new q carried
+  walked_by at2 start done2 new q forth is is2 order inner has passed v =
+      let high = inner.1 in
+      record {
+        forth = forth;
+        low = omega arith;
+        high = omega arith;
+        marks = carried_free e.targets old p new q mask done start v done2 (omega arith) (λ j lo hi.
+            Within-trans mask (slice_index old (slice_index e.targets j)) (slice_index new (slice_index e.targets j))
+            (Within-trans mask (slice_index carried at) (slice_index old (slice_index e.targets j)) (subst (Within mask) has (Within-or_right (slice_index carried at) mask)) (passed j (omega arith) (omega arith)))
+            (v.grows (slice_index e.targets j)));
+        len = refl;
+        others = λ i ne. refl;
+        own = inl refl;
+      }
+
+pub walking_start : (e : Edges) (k mask : ℕ) (old p carried : List ℕ) → IsPassed e old carried → length carried ≡ length old → low_at e k ≤ high_at e k → Walking e k mask k (low_at e k) old p old p carried
+walking_start e k mask old p carried passed len order = record {
+  low = omega arith;
+  high = order;
+  marks = carried_none e.targets old p mask (low_at e k);
+  len = len;
+  ahead = λ i j le lo hi. passed i j lo hi;
+  behind = λ i j g lo hi has. inl (at_one _ _ g (passed i j lo hi) has);
+}
+
+module _ (e : Edges) (k mask at done : ℕ) (old p a q carried : List ℕ) (w : Walking e k mask at done old p a q carried) where
+  module _ (at2 done2 : ℕ) (b r carried2 : List ℕ) (s : Walked e k mask at done a q carried at2 done2 b r carried2) where
+    grown : (i j g : ℕ) → Has a (slice_index e.targets j) g → Has b (slice_index e.targets j) g
+    grown i j g h = at_one _ _ g (s.marks.grows (slice_index e.targets j)) h
+
+    abbrev Will : ℕ → ℕ → ℕ → Type 0
+    Will i j g = Has b (slice_index e.targets j) g ⊎ ((bit_at mask g ≡ 1) × IsInner e i k)
+
+    before : (i j g : ℕ) → low_at e i ≤ j → j < high_at e i → Has carried i g → Will i j g
+    before i j g lo hi has = elim (w.behind i j g lo hi has) [ inl x ↦ inl (grown i j g x) | inr x ↦ inr x ]
+
+    itself : (j g : ℕ) → low_at e at ≤ j → j < high_at e at → Has carried2 at g → Will at j g
+    itself j g lo hi has = elim s.own [
+      | inl same ↦ before at j g lo hi (ap (λ v. bit_at v g) (sym same) ∙ has)
+      | inr more ↦ elim (or_cases (slice_index carried at) mask g (ap (λ v. bit_at v g) (sym more.0) ∙ has)) [
+        | inl x ↦ before at j g lo hi x
+        | inr x ↦ inr (x, more.1)
+      ]
+    ]
+
+    pub walking_more : Walking e k mask at2 done2 old p b r carried2
+    walking_more = record {
+      low = let x = w.low in let y = s.low in omega arith;
+      high = s.high;
+      marks = carried_on e.targets old p a q mask (low_at e k) done w.marks done2 b r w.low s.low s.marks;
+      len = s.len ∙ w.len;
+      ahead = λ i j le lo hi.
+          let forth = s.forth in
+          let kept : slice_index carried2 i ≡ slice_index carried i = s.others i (λ same. omega arith) in
+          subst (λ v. Within v (slice_index b (slice_index e.targets j))) (sym kept)
+          (Within-trans (slice_index carried i) (slice_index a (slice_index e.targets j)) (slice_index b (slice_index e.targets j)) (w.ahead i j (omega arith) lo hi) (s.marks.grows (slice_index e.targets j)));
+      behind = λ i j g lo hi has. elim (cases_eq i at) [
+        | inl same ↦ subst (λ v. Will v j g) (sym same) (itself j g (subst (λ v. low_at e v ≤ j) same lo) (subst (λ v. j < high_at e v) same hi) (subst (λ v. Has carried2 v g) same has))
+        | inr ne ↦ before i j g lo hi (ap (λ v. bit_at v g) (sym (s.others i ne)) ∙ has)
+      ];
+    }
+
+  module _ (b r : List ℕ) (v : Carried (IsAmong e.targets done (high_at e k)) a q mask b r) where
+    pub walking_marks : Carried (IsAmong e.targets (low_at e k) (high_at e k)) old p mask b r
+    walking_marks = carried_on e.targets old p a q mask (low_at e k) done w.marks (high_at e k) b r w.low w.high v
+
+    pub walking_passed : IsPassed e b carried
+    walking_passed i j lo hi = within_from _ _ (λ g has. elim (w.behind i j g lo hi has) [
+      | inl x ↦ at_one _ _ g (v.grows (slice_index e.targets j)) x
+      | inr x ↦
+          let low = x.1.0 in
+          let high = x.1.1 in
+          at_one _ _ g (walking_marks.each (slice_index e.targets j) (record { at = j; low = omega arith; high = omega arith; is = refl })) x.0
+    ])
+
+-- what is carried is so still when marks grow
+pub passed_still : (e : Edges) (a b carried : List ℕ) → ((n : ℕ) → Within (slice_index a n) (slice_index b n)) → IsPassed e a carried → IsPassed e b carried
+passed_still e a b carried grows h i j lo hi = Within-trans (slice_index carried i) (slice_index a (slice_index e.targets j)) (slice_index b (slice_index e.targets j)) (h i j lo hi) (grows (slice_index e.targets j))
+
+pub nothing_passed : (e : Edges) (marks carried : List ℕ) (n : ℕ) → carried ≡ replicate n 0 → IsPassed e marks carried
+nothing_passed e marks carried n is i j lo hi g = subst (λ v. bit_at v g ≤ bit_at (slice_index marks (slice_index e.targets j)) g) (sym (ap (λ v. slice_index v i) is ∙ zeros n i)) (let z = bit_at-zero g in omega arith)
+  where
+    zeros : (n i : ℕ) → slice_index (replicate n 0) i ≡ 0
+    zeros zero i = refl
+    zeros (suc n) zero = refl
+    zeros (suc n) (suc i) = zeros n i
