@@ -24,7 +24,9 @@ mod mark;
 mod net;
 mod nodes;
 mod order;
+mod placed;
 mod seed;
+mod targets;
 
 pub use entries::Entries;
 pub use key::Key;
