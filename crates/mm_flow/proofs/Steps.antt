@@ -3,20 +3,17 @@ use Rattle.std.proofs.lemmas.Nat.Bits.{bit_at_and, bit_at-lt, bit_at-zero}
 use Rattle.std.proofs.Common.{◌≡◌, ℕ, ◌<◌, ◌≤◌, ◌⊎◌, inl, inr, List, [], ◌∷◌, ◌++◌, length, slice_index, min, bit_and, refl, sym, ◌∙◌, subst, arith}
 use Rattle.std.specs.Int.{bit_at}
 use Rattle.mm_flow.specs.Net.{Edges, low_at, high_at, entry_at, enters_at}
-use Rattle.mm_flow.specs.Flow.{Within, Has, IsIn, Carried, IsAmong, Fits, Flows, Settled, IsFlow, Flowing}
+use Rattle.mm_flow.specs.Flow.{Within, Has, IsIn, Carried, IsAmong, IsPassed, Fits, Flows, Settled, IsFlow, Flowing}
 use Rattle.mm_flow.specs.Flow.Flows.{from, along, through}
-use Rattle.mm_flow.proofs.Masks.{Within-refl, Within-trans, in_push_cases, in_push_left}
+use Rattle.mm_flow.proofs.Masks.{Within-refl, Within-trans, in_push_cases, in_push_left, changed_both}
+use Rattle.mm_flow.proofs.Walks.{and_within, zero_and_within}
 
 -- nothing flows from a node without a mark
 no_mark : (e : Edges) (marks : List ℕ) (k : ℕ) → slice_index marks k ≡ 0 → Settled e marks k
 no_mark e marks k none = record {
   cells = λ j lo hi g. subst (λ v. bit_at v g ≤ bit_at (slice_index marks (slice_index e.targets j)) g) (sym none) (let z = bit_at-zero g in omega arith);
-  entry = λ g. subst (λ v. bit_at (bit_and v (enters_at e k)) g ≤ bit_at (slice_index marks (entry_at e k)) g) (sym none)
-      (at_least _ _ _ (bit_at_and 0 (enters_at e k) g) (bit_at-zero g));
+  entry = subst (λ v. Within (bit_and v (enters_at e k)) (slice_index marks (entry_at e k))) (sym none) (zero_and_within (enters_at e k) (slice_index marks (entry_at e k)));
 }
-  where
-    at_least : (x y z : ℕ) → z ≡ min x y → x ≡ 0 → {w : ℕ} → z ≤ w
-    at_least x y z is none = omega arith
 
 pub flowing_start : (e : Edges) (old p : List ℕ) → Fits e (length old) → ((k : ℕ) → IsIn k p → k < length old) → ((k : ℕ) → k < length old → IsIn k p ⊎ (slice_index old k ≡ 0)) → Flowing e old old p
 flowing_start e old p fits listed all = record {
@@ -54,15 +51,22 @@ settled_still e a b k same grows s = record {
 }
 
 module _ (e : Edges) (old marks p a q b r : List ℕ) (k : ℕ) (h : Flowing e old marks (p ++ k ∷ [])) (lt : k < length old)
-    (v : Carried (IsAmong e.targets (low_at e k) (high_at e k)) marks p (slice_index marks k) a q)
-    (c : Carried (λ t. t ≡ entry_at e k) a q (bit_and (slice_index marks k) (enters_at e k)) b r) where
+    (carried : List ℕ) (v : Carried (IsAmong e.targets (low_at e k) (high_at e k)) marks p (slice_index marks k) carried a q)
+    (c : Carried (λ t. t ≡ entry_at e k) a q (bit_and (slice_index marks k) (enters_at e k)) carried b r) (passed : IsPassed e b carried) where
   grew : (n : ℕ) → Within (slice_index marks n) (slice_index b n)
   grew n = Within-trans (slice_index marks n) (slice_index a n) (slice_index b n) (v.grows n) (c.grows n)
 
-  changed : (n : ℕ) → (slice_index b n ≡ slice_index marks n) ⊎ IsIn n r
-  changed n = elim (c.changed n) [
-    | inr x ↦ inr x
-    | inl x ↦ elim (v.changed n) [ inr y ↦ inr (c.keeps n y) | inl y ↦ inl (x ∙ y) ]
+  -- a node whose targets have its mark already
+  covered : (n : ℕ) → Within (slice_index b n) (slice_index carried n) → Settled e b n
+  covered n within = record {
+    cells = λ j lo hi. Within-trans (slice_index b n) (slice_index carried n) (slice_index b (slice_index e.targets j)) within (passed.cells n j lo hi);
+    entry = Within-trans (bit_and (slice_index b n) (enters_at e n)) (bit_and (slice_index carried n) (enters_at e n)) (slice_index b (entry_at e n)) (and_within (slice_index b n) (slice_index carried n) (enters_at e n) within) (passed.entry n);
+  }
+
+  changed : (n : ℕ) → (slice_index b n ≡ slice_index marks n) ⊎ (IsIn n r ⊎ Settled e b n)
+  changed n = elim (changed_both marks a b carried q r n c.keeps (v.changed n) (c.changed n)) [
+    | inl x ↦ inl x
+    | inr x ↦ elim x [ inl y ↦ inr (inl y) | inr z ↦ inr (inr (covered n z)) ]
   ]
 
   -- the node itself, where its mark stayed
@@ -76,10 +80,10 @@ module _ (e : Edges) (old marks p a q b r : List ℕ) (k : ℕ) (h : Flowing e o
 
   settled_after : (n : ℕ) → n < length old → IsIn n r ⊎ Settled e b n
   settled_after n small = elim (h.settled n small) [
-    | inr s ↦ elim (changed n) [ inr x ↦ inl x | inl same ↦ inr (settled_still e marks b n same grew s) ]
+    | inr s ↦ elim (changed n) [ inr x ↦ x | inl same ↦ inr (settled_still e marks b n same grew s) ]
     | inl x ↦ elim (in_push_cases n p k x) [
       | inl y ↦ inl (c.keeps n (v.keeps n y))
-      | inr is ↦ elim (changed n) [ inr y ↦ inl y | inl same ↦ inr (subst (Settled e b) (sym is) (itself (subst (λ w. slice_index b w ≡ slice_index marks w) is same))) ]
+      | inr is ↦ elim (changed n) [ inr y ↦ y | inl same ↦ inr (subst (Settled e b) (sym is) (itself (subst (λ w. slice_index b w ≡ slice_index marks w) is same))) ]
     ]
   ]
 

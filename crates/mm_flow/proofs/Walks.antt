@@ -1,11 +1,11 @@
 -- The way over the nodes within one.
 use Rattle.std.proofs.lemmas.Bool.{cases_lt, cases_eq}
-use Rattle.std.proofs.lemmas.Nat.Bits.{bit_at-lt, bit_at-zero}
-use Rattle.std.proofs.Common.{◌≡◌, ℕ, zero, suc, ◌+◌, ◌<◌, ◌≤◌, ◌⊎◌, inl, inr, List, length, slice_index, slice_set, replicate, max, bit_or, refl, sym, ap, ◌∙◌, subst, arith}
+use Rattle.std.proofs.lemmas.Nat.Bits.{bit_at-lt, bit_at-zero, bit_at_and}
+use Rattle.std.proofs.Common.{◌≡◌, ℕ, zero, suc, ◌+◌, ◌<◌, ◌≤◌, ◌⊎◌, inl, inr, List, length, slice_index, slice_set, replicate, max, min, bit_and, bit_or, refl, sym, ap, ◌∙◌, subst, arith}
 use Rattle.std.specs.Int.{bit_at}
-use Rattle.mm_flow.specs.Net.{Edges, low_at, high_at}
+use Rattle.mm_flow.specs.Net.{Edges, low_at, high_at, entry_at, enters_at}
 use Rattle.mm_flow.specs.Flow.{Within, Has, Carried, IsAmong, IsPassed, IsInner, Walked, Walking}
-use Rattle.mm_flow.proofs.Masks.{Within-refl, Within-trans, Within-or_right, or_cases, set_cases, length_set}
+use Rattle.mm_flow.proofs.Masks.{Within-refl, Within-trans, Within-or_left, Within-or_right, or_cases, set_cases, length_set, changed_both}
 use Rattle.mm_flow.proofs.Masks.Set.{here, there}
 
 pub at_one : (x y g : ℕ) → Within x y → bit_at x g ≡ 1 → bit_at y g ≡ 1
@@ -19,8 +19,29 @@ within_from x y h g = two (bit_at x g) (bit_at y g) (bit_at-lt x g) (h g)
     two (suc zero) b lt f = let e = f refl in omega arith
     two (suc (suc n)) b lt f = absurd (omega arith)
 
-carried_none : (targets old p : List ℕ) (mask lo : ℕ) → Carried (IsAmong targets lo lo) old p mask old p
-carried_none targets old p mask lo = record {
+zero_within : (m : ℕ) → Within 0 m
+zero_within m g = let z = bit_at-zero g in omega arith
+
+pub zero_and_within : (x m : ℕ) → Within (bit_and 0 x) m
+zero_and_within x m g = least _ _ _ (bit_at_and 0 x g) (bit_at-zero g)
+  where
+    least : (x y z : ℕ) → z ≡ min x y → x ≡ 0 → {w : ℕ} → z ≤ w
+    least x y z is none = omega arith
+
+none_within : (x m : ℕ) → Within (bit_and x 0) m
+none_within x m g = least _ _ _ (bit_at_and x 0 g) (bit_at-zero g)
+  where
+    least : (x y z : ℕ) → z ≡ min x y → y ≡ 0 → {w : ℕ} → z ≤ w
+    least x y z is none = omega arith
+
+pub and_within : (x y z : ℕ) → Within x y → Within (bit_and x z) (bit_and y z)
+and_within x y z h g = least _ _ _ _ _ (bit_at_and x z g) (bit_at_and y z g) (h g)
+  where
+    least : (a b c d e : ℕ) → d ≡ min a c → e ≡ min b c → a ≤ b → d ≤ e
+    least a b c d e p q le = omega arith
+
+carried_none : (targets old p carried : List ℕ) (mask lo : ℕ) → Carried (IsAmong targets lo lo) old p mask carried old p
+carried_none targets old p carried mask lo = record {
   len = refl;
   grows = λ k. Within-refl (slice_index old k);
   each = λ t m. absurd (let a = m.low in let b = m.high in omega arith);
@@ -32,12 +53,29 @@ carried_none targets old p mask lo = record {
   room = omega arith;
 }
 
-module _ (targets old p a q : List ℕ) (mask lo d : ℕ) (h : Carried (IsAmong targets lo d) old p mask a q) where
+-- where nodes carry more
+carried_wider : (T : ℕ → Type 0) (old p c d new q : List ℕ) (mask : ℕ) → ((n : ℕ) → Within (slice_index c n) (slice_index d n)) → Carried T old p mask c new q → Carried T old p mask d new q
+carried_wider T old p c d new q mask more h = record {
+  len = h.len;
+  grows = h.grows;
+  each = h.each;
+  changed = λ k. elim (h.changed k) [
+    | inl e ↦ inl e
+    | inr x ↦ elim x [ inl y ↦ inr (inl y) | inr z ↦ inr (inr (Within-trans (slice_index new k) (slice_index c k) (slice_index d k) z (more k))) ]
+  ];
+  keeps = h.keeps;
+  only = h.only;
+  bounded = h.bounded;
+  no_rise = h.no_rise;
+  room = h.room;
+}
+
+module _ (targets old p c a q : List ℕ) (mask lo d : ℕ) (h : Carried (IsAmong targets lo d) old p mask c a q) where
   wider : (d2 t : ℕ) → d ≤ d2 → IsAmong targets lo d t → IsAmong targets lo d2 t
   wider d2 t le m = record { at = m.at; low = m.low; high = (let lt = m.high in omega arith); is = m.is }
 
   -- targets that have the mask already
-  pub carried_free : (d2 : ℕ) → d ≤ d2 → ((j : ℕ) → d ≤ j → j < d2 → Within mask (slice_index a (slice_index targets j))) → Carried (IsAmong targets lo d2) old p mask a q
+  pub carried_free : (d2 : ℕ) → d ≤ d2 → ((j : ℕ) → d ≤ j → j < d2 → Within mask (slice_index a (slice_index targets j))) → Carried (IsAmong targets lo d2) old p mask c a q
   carried_free d2 le free = record {
     len = h.len;
     grows = h.grows;
@@ -54,7 +92,7 @@ module _ (targets old p a q : List ℕ) (mask lo d : ℕ) (h : Carried (IsAmong 
   }
 
   -- targets further on
-  pub carried_on : (d2 : ℕ) (b r : List ℕ) → lo ≤ d → d ≤ d2 → Carried (IsAmong targets d d2) a q mask b r → Carried (IsAmong targets lo d2) old p mask b r
+  pub carried_on : (d2 : ℕ) (b r : List ℕ) → lo ≤ d → d ≤ d2 → Carried (IsAmong targets d d2) a q mask c b r → Carried (IsAmong targets lo d2) old p mask c b r
   carried_on d2 b r from le k = record {
     len = k.len ∙ h.len;
     grows = λ n. Within-trans (slice_index old n) (slice_index a n) (slice_index b n) (h.grows n) (k.grows n);
@@ -62,10 +100,7 @@ module _ (targets old p a q : List ℕ) (mask lo d : ℕ) (h : Carried (IsAmong 
       | inl lt ↦ Within-trans mask (slice_index a t) (slice_index b t) (h.each t (record { at = m.at; low = m.low; high = lt; is = m.is })) (k.grows t)
       | inr ge ↦ k.each t (record { at = m.at; low = ge; high = m.high; is = m.is })
     ];
-    changed = λ n. elim (k.changed n) [
-      | inr x ↦ inr x
-      | inl e ↦ elim (h.changed n) [ inr y ↦ inr (k.keeps n y) | inl f ↦ inl (e ∙ f) ]
-    ];
+    changed = λ n. changed_both old a b c q r n k.keeps (h.changed n) (k.changed n);
     keeps = λ n x. k.keeps n (h.keeps n x);
     only = λ n g x. elim (k.only n g x) [
       | inr y ↦ inr (record { at = y.0.at; low = (let ge = y.0.low in omega arith); high = y.0.high; is = y.0.is }, y.1)
@@ -87,36 +122,36 @@ module _ (e : Edges) (k mask at done : ℕ) (old p carried : List ℕ) (fit : do
     forth = omega arith;
     low = omega arith;
     high = fit;
-    marks = carried_none e.targets old p mask done;
+    marks = carried_none e.targets old p carried mask done;
     len = refl;
     others = λ i ne. refl;
     own = inl refl;
   }
 
   -- past a node that carries the mask from now on
-  pub walked_marked : at < length carried → IsInner e at k → Walked e k mask at done old p carried (at + 1) done old p (slice_set carried at (bit_or (slice_index carried at) mask))
-  walked_marked lt inner = record {
+  pub walked_marked : at < length carried → IsInner e at k → enters_at e at ≡ 0 → Walked e k mask at done old p carried (at + 1) done old p (slice_set carried at (bit_or (slice_index carried at) mask))
+  walked_marked lt inner none = record {
     forth = omega arith;
     low = omega arith;
     high = fit;
-    marks = carried_none e.targets old p mask done;
+    marks = carried_none e.targets old p carried mask done;
     len = length_set carried at _;
     others = λ i ne. elim (set_cases carried at (bit_or (slice_index carried at) mask) i lt) [ here is f ↦ absurd (ne is) | there nothere f ↦ f ];
-    own = elim (set_cases carried at (bit_or (slice_index carried at) mask) at lt) [ here is f ↦ inr (f, inner) | there ne f ↦ absurd (ne refl) ];
+    own = elim (set_cases carried at (bit_or (slice_index carried at) mask) at lt) [ here is f ↦ inr (f, inner, none) | there ne f ↦ absurd (ne refl) ];
   }
 
   -- past all that a node holds which carries the mask
   pub walked_by : (at2 start done2 : ℕ) (new q : List ℕ) → at < at2 → start ≡ max done (low_at e at) → done2 ≡ max start (high_at e at) → low_at e at ≤ high_at e at → IsInner e at k
       → bit_or (slice_index carried at) mask ≡ slice_index carried at
       → ((j : ℕ) → low_at e at ≤ j → j < high_at e at → Within (slice_index carried at) (slice_index old (slice_index e.targets j)))
-      → Carried (IsAmong e.targets done start) old p mask new q → Walked e k mask at done old p carried at2 done2 new q carried
+      → Carried (IsAmong e.targets done start) old p mask carried new q → Walked e k mask at done old p carried at2 done2 new q carried
   walked_by at2 start done2 new q forth is is2 order inner has passed v =
       let high = inner.1 in
       record {
         forth = forth;
         low = omega arith;
         high = omega arith;
-        marks = carried_free e.targets old p new q mask done start v done2 (omega arith) (λ j lo hi.
+        marks = carried_free e.targets old p carried new q mask done start v done2 (omega arith) (λ j lo hi.
             Within-trans mask (slice_index old (slice_index e.targets j)) (slice_index new (slice_index e.targets j))
             (Within-trans mask (slice_index carried at) (slice_index old (slice_index e.targets j)) (subst (Within mask) has (Within-or_right (slice_index carried at) mask)) (passed j (omega arith) (omega arith)))
             (v.grows (slice_index e.targets j)));
@@ -129,10 +164,11 @@ pub walking_start : (e : Edges) (k mask : ℕ) (old p carried : List ℕ) → Is
 walking_start e k mask old p carried passed len order = record {
   low = omega arith;
   high = order;
-  marks = carried_none e.targets old p mask (low_at e k);
+  marks = carried_none e.targets old p carried mask (low_at e k);
   len = len;
-  ahead = λ i j le lo hi. passed i j lo hi;
-  behind = λ i j g lo hi has. inl (at_one _ _ g (passed i j lo hi) has);
+  ahead = λ i j le lo hi. passed.cells i j lo hi;
+  entry = passed.entry;
+  behind = λ i j g lo hi has. inl (at_one _ _ g (passed.cells i j lo hi) has);
 }
 
 module _ (e : Edges) (k mask at done : ℕ) (old p a q carried : List ℕ) (w : Walking e k mask at done old p a q carried) where
@@ -155,29 +191,49 @@ module _ (e : Edges) (k mask at done : ℕ) (old p a q carried : List ℕ) (w : 
       ]
     ]
 
+    more : (n : ℕ) → Within (slice_index carried n) (slice_index carried2 n)
+    more n = elim (cases_eq n at) [
+      | inr ne ↦ subst (Within (slice_index carried n)) (sym (s.others n ne)) (Within-refl (slice_index carried n))
+      | inl same ↦ subst (λ v. Within (slice_index carried v) (slice_index carried2 v)) (sym same) (elim s.own [
+        | inl kept ↦ subst (Within (slice_index carried at)) (sym kept) (Within-refl (slice_index carried at))
+        | inr new ↦ subst (Within (slice_index carried at)) (sym new.0) (Within-or_left (slice_index carried at) mask)
+      ])
+    ]
+
+    kept_entry : (i : ℕ) → slice_index carried2 i ≡ slice_index carried i → Within (bit_and (slice_index carried2 i) (enters_at e i)) (slice_index b (entry_at e i))
+    kept_entry i same = subst (λ v. Within (bit_and v (enters_at e i)) (slice_index b (entry_at e i))) (sym same)
+        (Within-trans (bit_and (slice_index carried i) (enters_at e i)) (slice_index a (entry_at e i)) (slice_index b (entry_at e i)) (w.entry i) (s.marks.grows (entry_at e i)))
+
     pub walking_more : Walking e k mask at2 done2 old p b r carried2
     walking_more = record {
       low = let x = w.low in let y = s.low in omega arith;
       high = s.high;
-      marks = carried_on e.targets old p a q mask (low_at e k) done w.marks done2 b r w.low s.low s.marks;
+      marks = carried_on e.targets old p carried2 a q mask (low_at e k) done (carried_wider _ old p carried carried2 a q mask more w.marks) done2 b r w.low s.low (carried_wider _ a q carried carried2 b r mask more s.marks);
       len = s.len ∙ w.len;
       ahead = λ i j le lo hi.
           let forth = s.forth in
           let kept : slice_index carried2 i ≡ slice_index carried i = s.others i (λ same. omega arith) in
           subst (λ v. Within v (slice_index b (slice_index e.targets j))) (sym kept)
           (Within-trans (slice_index carried i) (slice_index a (slice_index e.targets j)) (slice_index b (slice_index e.targets j)) (w.ahead i j (omega arith) lo hi) (s.marks.grows (slice_index e.targets j)));
+      entry = λ i. elim (cases_eq i at) [
+        | inr ne ↦ kept_entry i (s.others i ne)
+        | inl same ↦ subst (λ v. Within (bit_and (slice_index carried2 v) (enters_at e v)) (slice_index b (entry_at e v))) (sym same) (elim s.own [
+          | inl kept ↦ kept_entry at kept
+          | inr new ↦ subst (λ v. Within (bit_and (slice_index carried2 at) v) (slice_index b (entry_at e at))) (sym new.2) (none_within (slice_index carried2 at) (slice_index b (entry_at e at)))
+        ])
+      ];
       behind = λ i j g lo hi has. elim (cases_eq i at) [
         | inl same ↦ subst (λ v. Will v j g) (sym same) (itself j g (subst (λ v. low_at e v ≤ j) same lo) (subst (λ v. j < high_at e v) same hi) (subst (λ v. Has carried2 v g) same has))
         | inr ne ↦ before i j g lo hi (ap (λ v. bit_at v g) (sym (s.others i ne)) ∙ has)
       ];
     }
 
-  module _ (b r : List ℕ) (v : Carried (IsAmong e.targets done (high_at e k)) a q mask b r) where
-    pub walking_marks : Carried (IsAmong e.targets (low_at e k) (high_at e k)) old p mask b r
-    walking_marks = carried_on e.targets old p a q mask (low_at e k) done w.marks (high_at e k) b r w.low w.high v
+  module _ (b r : List ℕ) (v : Carried (IsAmong e.targets done (high_at e k)) a q mask carried b r) where
+    pub walking_marks : Carried (IsAmong e.targets (low_at e k) (high_at e k)) old p mask carried b r
+    walking_marks = carried_on e.targets old p carried a q mask (low_at e k) done w.marks (high_at e k) b r w.low w.high v
 
-    pub walking_passed : IsPassed e b carried
-    walking_passed i j lo hi = within_from _ _ (λ g has. elim (w.behind i j g lo hi has) [
+    cells : (i j : ℕ) → low_at e i ≤ j → j < high_at e i → Within (slice_index carried i) (slice_index b (slice_index e.targets j))
+    cells i j lo hi = within_from _ _ (λ g has. elim (w.behind i j g lo hi has) [
       | inl x ↦ at_one _ _ g (v.grows (slice_index e.targets j)) x
       | inr x ↦
           let low = x.1.0 in
@@ -185,14 +241,29 @@ module _ (e : Edges) (k mask at done : ℕ) (old p a q carried : List ℕ) (w : 
           at_one _ _ g (walking_marks.each (slice_index e.targets j) (record { at = j; low = omega arith; high = omega arith; is = refl })) x.0
     ])
 
--- what is carried is so still when marks grow
+    pub walking_passed : IsPassed e b carried
+    walking_passed = record {
+      cells = cells;
+      entry = λ i. Within-trans (bit_and (slice_index carried i) (enters_at e i)) (slice_index a (entry_at e i)) (slice_index b (entry_at e i)) (w.entry i) (v.grows (entry_at e i));
+    }
+
+-- what nodes carry stays at their targets when marks grow
 pub passed_still : (e : Edges) (a b carried : List ℕ) → ((n : ℕ) → Within (slice_index a n) (slice_index b n)) → IsPassed e a carried → IsPassed e b carried
-passed_still e a b carried grows h i j lo hi = Within-trans (slice_index carried i) (slice_index a (slice_index e.targets j)) (slice_index b (slice_index e.targets j)) (h i j lo hi) (grows (slice_index e.targets j))
+passed_still e a b carried grows h = record {
+  cells = λ i j lo hi. Within-trans (slice_index carried i) (slice_index a (slice_index e.targets j)) (slice_index b (slice_index e.targets j)) (h.cells i j lo hi) (grows (slice_index e.targets j));
+  entry = λ i. Within-trans (bit_and (slice_index carried i) (enters_at e i)) (slice_index a (entry_at e i)) (slice_index b (entry_at e i)) (h.entry i) (grows (entry_at e i));
+}
 
 pub nothing_passed : (e : Edges) (marks carried : List ℕ) (n : ℕ) → carried ≡ replicate n 0 → IsPassed e marks carried
-nothing_passed e marks carried n is i j lo hi g = subst (λ v. bit_at v g ≤ bit_at (slice_index marks (slice_index e.targets j)) g) (sym (ap (λ v. slice_index v i) is ∙ zeros n i)) (let z = bit_at-zero g in omega arith)
+nothing_passed e marks carried n is = record {
+  cells = λ i j lo hi. subst (λ v. Within v (slice_index marks (slice_index e.targets j))) (sym (zero_at i)) (zero_within (slice_index marks (slice_index e.targets j)));
+  entry = λ i. subst (λ v. Within (bit_and v (enters_at e i)) (slice_index marks (entry_at e i))) (sym (zero_at i)) (zero_and_within (enters_at e i) (slice_index marks (entry_at e i)));
+}
   where
     zeros : (n i : ℕ) → slice_index (replicate n 0) i ≡ 0
     zeros zero i = refl
     zeros (suc n) zero = refl
     zeros (suc n) (suc i) = zeros n i
+
+    zero_at : (i : ℕ) → slice_index carried i ≡ 0
+    zero_at i = ap (λ v. slice_index v i) is ∙ zeros n i

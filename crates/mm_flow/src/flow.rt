@@ -7,20 +7,25 @@ use crate::forest::greater;
 use crate::node::Node;
 use std::alloc::{AllocError, Global};
 
-/// Adds the groups of the mask to the node, which is pending where that changes it.
+/// Adds the groups of the mask to the node, which is pending where that changes it, unless it carries all its groups already.
 fn carry(
     marks: &mut [u64],
     pending: &mut Vec<usize>,
+    carried: &[u64],
     to: usize,
     mask: u64,
 ) -> Result<(), AllocError>
-    requires { to < length marks.old }
-    ensures { IfOk result (λ _. Carried (λ t. t ≡ to) marks.old pending.old.items mask marks.new pending.new.items) }
+    requires node { to < length marks.old }
+    requires len { length carried.now ≡ length marks.old }
+    ensures { IfOk result (λ _. Carried (λ t. t ≡ to) marks.old pending.old.items mask carried.now marks.new pending.new.items) }
 {
     let old = marks[to];
     let new = old | mask;
     marks[to] = new;
     if new == old {
+        return Ok(());
+    }
+    if new | carried[to] == carried[to] {
         return Ok(());
     }
     pending.push(to)?;
@@ -31,6 +36,7 @@ fn carry(
 fn visit(
     marks: &mut [u64],
     pending: &mut Vec<usize>,
+    carried: &[u64],
     targets: &[usize],
     lo: usize,
     hi: usize,
@@ -38,21 +44,26 @@ fn visit(
 ) -> Result<(), AllocError>
     requires ends { hi ≤ length targets.now }
     requires order { lo ≤ hi }
+    requires len { length carried.now ≡ length marks.old }
     requires targets { (j : ℕ) → j < length targets.now → slice_index targets.now j < length marks.old }
-    ensures { IfOk result (λ _. Carried (IsAmong targets.now lo hi) marks.old pending.old.items mask marks.new pending.new.items) }
+    ensures { IfOk result (λ _. Carried (IsAmong targets.now lo hi) marks.old pending.old.items mask carried.now marks.new pending.new.items) }
 {
     for j in lo..hi {
-        carry(marks, pending, targets[j], mask)?;
+        carry(marks, pending, carried, targets[j], mask)?;
     }
     Ok(())
 }
 
-/// Whether the first node has targets, and all of them are targets of the second.
+/// Whether the first node has targets and no entry, and all its targets are targets of the second.
 fn is_within(inner: Node, outer: Node) -> bool
     ensures low { result ≡ true → outer.low ≤ inner.low }
     ensures high { result ≡ true → inner.high ≤ outer.high }
+    ensures entry { result ≡ true → inner.enters ≡ 0 }
 {
-    inner.low < inner.high && outer.low <= inner.low && inner.high <= outer.high
+    inner.low < inner.high
+        && inner.enters == 0
+        && outer.low <= inner.low
+        && inner.high <= outer.high
 }
 
 /// A place on the way over the nodes that lie within one.
@@ -98,7 +109,7 @@ fn walk_on(
         return Ok(Walk { at: at + 1, ..walk });
     }
     let start = greater(walk.done, inner.low);
-    visit(marks, pending, targets, walk.done, start, mask)?;
+    visit(marks, pending, carried, targets, walk.done, start, mask)?;
     Ok(Walk {
         at: after[at],
         done: greater(start, inner.high),
@@ -122,7 +133,7 @@ fn pass(
     requires passed { IsPassed (record { nodes = nodes.now; targets = targets.now }) marks.old carried.old }
     ensures marks { IfOk
         result
-        (λ _. Carried (IsAmong targets.now (low_at (record { nodes = nodes.now; targets = targets.now }) k) (high_at (record { nodes = nodes.now; targets = targets.now }) k)) marks.old pending.old.items (slice_index marks.old k) marks.new pending.new.items) }
+        (λ _. Carried (IsAmong targets.now (low_at (record { nodes = nodes.now; targets = targets.now }) k) (high_at (record { nodes = nodes.now; targets = targets.now }) k)) marks.old pending.old.items (slice_index marks.old k) carried.new marks.new pending.new.items) }
     ensures passed { IfOk result (λ _. IsPassed (record { nodes = nodes.now; targets = targets.now }) marks.new carried.new) }
     ensures len { IfOk result (λ _. length carried.new ≡ length carried.old) }
 {
@@ -138,7 +149,9 @@ fn pass(
             marks, pending, carried, nodes, targets, after, k, mask, walk,
         )?;
     }
-    visit(marks, pending, targets, walk.done, node.high, mask)?;
+    visit(
+        marks, pending, carried, targets, walk.done, node.high, mask,
+    )?;
     Ok(())
 }
 
@@ -157,14 +170,14 @@ fn step(
     requires len { length carried.old ≡ length marks.old }
     requires node { k < length marks.old }
     requires passed { IsPassed (record { nodes = nodes.now; targets = targets.now }) marks.old carried.old }
-    ensures step { IfOk result (λ _. Stepped (record { nodes = nodes.now; targets = targets.now }) k marks.old pending.old.items marks.new pending.new.items) }
+    ensures step { IfOk result (λ _. Stepped (record { nodes = nodes.now; targets = targets.now }) k marks.old pending.old.items carried.new marks.new pending.new.items) }
     ensures passed { IfOk result (λ _. IsPassed (record { nodes = nodes.now; targets = targets.now }) marks.new carried.new) }
     ensures len { IfOk result (λ _. length carried.new ≡ length carried.old) }
 {
     let mask = marks[k];
     let node = nodes[k];
     pass(marks, pending, carried, nodes, targets, after, k)?;
-    carry(marks, pending, node.entry, mask & node.enters)?;
+    carry(marks, pending, carried, node.entry, mask & node.enters)?;
     Ok(())
 }
 

@@ -17,13 +17,13 @@ step-requires-clause-node c =
     let e = c.loop-k.invariant.0.len in
     omega arith
 
-stepped : (e : Edges) (old marks all p b r : List ℕ) (k : ℕ) → Flowing e old marks all → all ≡ p ++ k ∷ [] → Stepped e k marks p b r → Flowing e old b r
-stepped e old marks all p b r k h is s =
-    flowing_step e old marks p s.marks s.pending b r k (subst (Flowing e old marks) is h) (node_below e old marks all p k h is) s.cells s.entry
+stepped : (e : Edges) (old marks all p carried b r : List ℕ) (k : ℕ) → Flowing e old marks all → all ≡ p ++ k ∷ [] → Stepped e k marks p carried b r → Flowing e old b r
+stepped e old marks all p carried b r k h is s =
+    flowing_step e old marks p s.marks s.pending b r k (subst (Flowing e old marks) is h) (node_below e old marks all p k h is) carried s.cells s.entry s.passed
 
 pub loop-k-preserved : goal.loop-k-preserved
 loop-k-preserved c = (
-  stepped _ _ _ _ c.pop.new.self.items _ _ c.in-Some.k c.loop-k.invariant.0 c.in-Some.ensures.items c.in_ok-step.ensures.step,
+  stepped _ _ _ _ c.pop.new.self.items _ _ _ c.in-Some.k c.loop-k.invariant.0 c.in-Some.ensures.items c.in_ok-step.ensures.step,
   c.in_ok-step.ensures.passed,
   c.in_ok-step.ensures.len ∙ c.loop-k.invariant.2,
 )

@@ -5,5 +5,5 @@ use Rattle.mm_flow.proofs.flow.visit.Goals as goal
 pub loop-j-preserved : goal.loop-j-preserved
 loop-j-preserved c =
     let low : c.args.lo ≤ c.loop-j.j = omega arith in
-    carried_more c.args.targets.now c.args.marks.now c.args.pending.now.items c.loop-j.marks c.loop-j.pending.items c.args.mask c.args.lo c.loop-j.j low c.loop-j.invariant
+    carried_more c.args.targets.now c.args.marks.now c.args.pending.now.items c.args.carried.now c.loop-j.marks c.loop-j.pending.items c.args.mask c.args.lo c.loop-j.j low c.loop-j.invariant
     c.carry.new.marks c.carry.new.pending.items c.in_ok-carry.ensures
