@@ -32,7 +32,7 @@ pub fn in_order(alloc: Global, keys: &[Key]) -> Result<Vec<Placed>, AllocError>
     ensures { IfOk result (λ placed. IsPlaced keys.now placed.items) }
 {
     let mut placed = places_of(alloc, keys)?;
-    placed.sort_unstable();
+    placed.sort()?;
     Ok(placed)
 }
 
