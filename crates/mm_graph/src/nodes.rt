@@ -7,7 +7,7 @@ ghost use Rattle.mm_graph.specs.Nodes.{found_word, IsAscending, IsBefore, IsBoun
 
 use crate::found::Found;
 use crate::key::Key;
-use crate::order::place;
+use crate::order::near;
 use mm_flow::Node;
 use mm_word::{GuardedPtr, Perm};
 use std::alloc::{AllocError, Global};
@@ -120,8 +120,8 @@ fn range(found: &[Found], hint: usize, p: GuardedPtr) -> (usize, usize)
     }
 }
 
-/// The place of what an entry by a pointer gives.
-fn entry_of(keys: &[Key], key: Key) -> Option<usize>
+/// The place of what an entry by a pointer gives, which is found quickly where it is the hint or the next one.
+fn entry_of(keys: &[Key], hint: usize, key: Key) -> Option<usize>
     requires rising { IsRising keys.now }
     requires key { IsKey key }
     requires there { (x : KeyType) → entry_key key ≡ Some x → Contains keys.now x }
@@ -132,7 +132,7 @@ fn entry_of(keys: &[Key], key: Key) -> Option<usize>
         return None;
     }
     match key.entry() {
-        Some(x) => Some(place(keys, x)),
+        Some(x) => Some(near(keys, hint, x)),
         None => None,
     }
 }
@@ -149,7 +149,7 @@ fn node_for(keys: &[Key], found: &[Found], hint: usize, mask: u64, k: usize) -> 
     let key = keys[k];
     let p = key.pointer();
     let (low, high) = range(found, hint, p);
-    let (entry, enters) = match entry_of(keys, key) {
+    let (entry, enters) = match entry_of(keys, k.saturating_sub(1), key) {
         Some(to) => (to, mask),
         None => (k, 0),
     };
