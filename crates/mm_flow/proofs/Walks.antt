@@ -4,8 +4,9 @@ use Rattle.std.proofs.lemmas.Nat.Bits.{bit_at-lt, bit_at-zero, bit_at_and}
 use Rattle.std.proofs.Common.{◌≡◌, ℕ, zero, suc, ◌+◌, ◌<◌, ◌≤◌, ◌⊎◌, inl, inr, List, length, slice_index, slice_set, replicate, max, min, bit_and, bit_or, refl, sym, ap, ◌∙◌, subst, arith}
 use Rattle.std.specs.Int.{bit_at}
 use Rattle.mm_flow.specs.Net.{Edges, low_at, high_at, entry_at, enters_at}
-use Rattle.mm_flow.specs.Flow.{Within, Has, Carried, IsAmong, IsPassed, IsInner, Walked, Walking}
-use Rattle.mm_flow.proofs.Masks.{Within-refl, Within-trans, Within-or_left, Within-or_right, or_cases, set_cases, length_set, changed_both}
+use Rattle.mm_flow.specs.Flow.{Within, Has, Carried, IsAmong, IsListed, StaysListed, IsPassed, IsInner, Walked, Walking}
+use Rattle.mm_flow.proofs.Masks.{Within-refl, Within-trans, Within-or_left, Within-or_right, or_cases, set_cases, length_set, Set}
+use Rattle.mm_flow.proofs.Giving.{and_both}
 use Rattle.mm_flow.proofs.Masks.Set.{here, there}
 
 pub at_one : (x y g : ℕ) → Within x y → bit_at x g ≡ 1 → bit_at y g ≡ 1
@@ -19,7 +20,7 @@ within_from x y h g = two (bit_at x g) (bit_at y g) (bit_at-lt x g) (h g)
     two (suc zero) b lt f = let e = f refl in omega arith
     two (suc (suc n)) b lt f = absurd (omega arith)
 
-zero_within : (m : ℕ) → Within 0 m
+pub zero_within : (m : ℕ) → Within 0 m
 zero_within m g = let z = bit_at-zero g in omega arith
 
 pub zero_and_within : (x m : ℕ) → Within (bit_and 0 x) m
@@ -40,12 +41,18 @@ and_within x y z h g = least _ _ _ _ _ (bit_at_and x z g) (bit_at_and y z g) (h 
     least : (a b c d e : ℕ) → d ≡ min a c → e ≡ min b c → a ≤ b → d ≤ e
     least a b c d e p q le = omega arith
 
-carried_none : (targets old p carried : List ℕ) (mask lo : ℕ) → Carried (IsAmong targets lo lo) old p mask carried old p
-carried_none targets old p carried mask lo = record {
+pub both_bits : (m f g : ℕ) → bit_at (bit_and m f) g ≡ 1 → (bit_at m g ≡ 1) × (bit_at f g ≡ 1)
+both_bits m f g h = at_least _ _ _ (bit_at_and m f g) h (bit_at-lt m g) (bit_at-lt f g)
+  where
+    at_least : (x y z : ℕ) → z ≡ min x y → z ≡ 1 → x < 2 → y < 2 → (x ≡ 1) × (y ≡ 1)
+    at_least x y z e h a b = (omega arith, omega arith)
+
+-- where there are no targets
+pub carried_none : (targets old p : List ℕ) (mask lo hi : ℕ) → hi ≤ lo → Carried (IsAmong targets lo hi) old p mask old p
+carried_none targets old p mask lo hi none = record {
   len = refl;
   grows = λ k. Within-refl (slice_index old k);
   each = λ t m. absurd (let a = m.low in let b = m.high in omega arith);
-  changed = λ k. inl refl;
   keeps = λ k h. h;
   only = λ k g h. inl h;
   bounded = λ k h. inl h;
@@ -53,29 +60,12 @@ carried_none targets old p carried mask lo = record {
   room = omega arith;
 }
 
--- where nodes carry more
-carried_wider : (T : ℕ → Type 0) (old p c d new q : List ℕ) (mask : ℕ) → ((n : ℕ) → Within (slice_index c n) (slice_index d n)) → Carried T old p mask c new q → Carried T old p mask d new q
-carried_wider T old p c d new q mask more h = record {
-  len = h.len;
-  grows = h.grows;
-  each = h.each;
-  changed = λ k. elim (h.changed k) [
-    | inl e ↦ inl e
-    | inr x ↦ elim x [ inl y ↦ inr (inl y) | inr z ↦ inr (inr (Within-trans (slice_index new k) (slice_index c k) (slice_index d k) z (more k))) ]
-  ];
-  keeps = h.keeps;
-  only = h.only;
-  bounded = h.bounded;
-  no_rise = h.no_rise;
-  room = h.room;
-}
-
-module _ (targets old p c a q : List ℕ) (mask lo d : ℕ) (h : Carried (IsAmong targets lo d) old p mask c a q) where
+module _ (targets old p a q : List ℕ) (mask lo d : ℕ) (h : Carried (IsAmong targets lo d) old p mask a q) where
   wider : (d2 t : ℕ) → d ≤ d2 → IsAmong targets lo d t → IsAmong targets lo d2 t
   wider d2 t le m = record { at = m.at; low = m.low; high = (let lt = m.high in omega arith); is = m.is }
 
   -- targets that have the mask already
-  pub carried_free : (d2 : ℕ) → d ≤ d2 → ((j : ℕ) → d ≤ j → j < d2 → Within mask (slice_index a (slice_index targets j))) → Carried (IsAmong targets lo d2) old p mask c a q
+  pub carried_free : (d2 : ℕ) → d ≤ d2 → ((j : ℕ) → d ≤ j → j < d2 → Within mask (slice_index a (slice_index targets j))) → Carried (IsAmong targets lo d2) old p mask a q
   carried_free d2 le free = record {
     len = h.len;
     grows = h.grows;
@@ -83,7 +73,6 @@ module _ (targets old p c a q : List ℕ) (mask lo d : ℕ) (h : Carried (IsAmon
       | inl lt ↦ h.each t (record { at = m.at; low = m.low; high = lt; is = m.is })
       | inr ge ↦ subst (λ v. Within mask (slice_index a v)) m.is (free m.at ge m.high)
     ];
-    changed = h.changed;
     keeps = h.keeps;
     only = λ k g x. elim (h.only k g x) [ inl y ↦ inl y | inr y ↦ inr (wider d2 k le y.0, y.1) ];
     bounded = h.bounded;
@@ -92,7 +81,7 @@ module _ (targets old p c a q : List ℕ) (mask lo d : ℕ) (h : Carried (IsAmon
   }
 
   -- targets further on
-  pub carried_on : (d2 : ℕ) (b r : List ℕ) → lo ≤ d → d ≤ d2 → Carried (IsAmong targets d d2) a q mask c b r → Carried (IsAmong targets lo d2) old p mask c b r
+  pub carried_on : (d2 : ℕ) (b r : List ℕ) → lo ≤ d → d ≤ d2 → Carried (IsAmong targets d d2) a q mask b r → Carried (IsAmong targets lo d2) old p mask b r
   carried_on d2 b r from le k = record {
     len = k.len ∙ h.len;
     grows = λ n. Within-trans (slice_index old n) (slice_index a n) (slice_index b n) (h.grows n) (k.grows n);
@@ -100,7 +89,6 @@ module _ (targets old p c a q : List ℕ) (mask lo d : ℕ) (h : Carried (IsAmon
       | inl lt ↦ Within-trans mask (slice_index a t) (slice_index b t) (h.each t (record { at = m.at; low = m.low; high = lt; is = m.is })) (k.grows t)
       | inr ge ↦ k.each t (record { at = m.at; low = ge; high = m.high; is = m.is })
     ];
-    changed = λ n. changed_both old a b c q r n k.keeps (h.changed n) (k.changed n);
     keeps = λ n x. k.keeps n (h.keeps n x);
     only = λ n g x. elim (k.only n g x) [
       | inr y ↦ inr (record { at = y.0.at; low = (let ge = y.0.low in omega arith); high = y.0.high; is = y.0.is }, y.1)
@@ -122,7 +110,8 @@ module _ (e : Edges) (k mask at done : ℕ) (old p carried : List ℕ) (fit : do
     forth = omega arith;
     low = omega arith;
     high = fit;
-    marks = carried_none e.targets old p carried mask done;
+    marks = carried_none e.targets old p mask done done (omega arith);
+    stays = λ i x. x;
     len = refl;
     others = λ i ne. refl;
     own = inl refl;
@@ -134,7 +123,8 @@ module _ (e : Edges) (k mask at done : ℕ) (old p carried : List ℕ) (fit : do
     forth = omega arith;
     low = omega arith;
     high = fit;
-    marks = carried_none e.targets old p carried mask done;
+    marks = carried_none e.targets old p mask done done (omega arith);
+    stays = λ i x. x;
     len = length_set carried at _;
     others = λ i ne. elim (set_cases carried at (bit_or (slice_index carried at) mask) i lt) [ here is f ↦ absurd (ne is) | there nothere f ↦ f ];
     own = elim (set_cases carried at (bit_or (slice_index carried at) mask) at lt) [ here is f ↦ inr (f, inner, none) | there ne f ↦ absurd (ne refl) ];
@@ -144,32 +134,82 @@ module _ (e : Edges) (k mask at done : ℕ) (old p carried : List ℕ) (fit : do
   pub walked_by : (at2 start done2 : ℕ) (new q : List ℕ) → at < at2 → start ≡ max done (low_at e at) → done2 ≡ max start (high_at e at) → low_at e at ≤ high_at e at → IsInner e at k
       → bit_or (slice_index carried at) mask ≡ slice_index carried at
       → ((j : ℕ) → low_at e at ≤ j → j < high_at e at → Within (slice_index carried at) (slice_index old (slice_index e.targets j)))
-      → Carried (IsAmong e.targets done start) old p mask carried new q → Walked e k mask at done old p carried at2 done2 new q carried
-  walked_by at2 start done2 new q forth is is2 order inner has passed v =
+      → Carried (IsAmong e.targets done start) old p mask new q → StaysListed carried old p new q → Walked e k mask at done old p carried at2 done2 new q carried
+  walked_by at2 start done2 new q forth is is2 order inner has passed v stays =
       let high = inner.1 in
       record {
         forth = forth;
         low = omega arith;
         high = omega arith;
-        marks = carried_free e.targets old p carried new q mask done start v done2 (omega arith) (λ j lo hi.
+        marks = carried_free e.targets old p new q mask done start v done2 (omega arith) (λ j lo hi.
             Within-trans mask (slice_index old (slice_index e.targets j)) (slice_index new (slice_index e.targets j))
             (Within-trans mask (slice_index carried at) (slice_index old (slice_index e.targets j)) (subst (Within mask) has (Within-or_right (slice_index carried at) mask)) (passed j (omega arith) (omega arith)))
             (v.grows (slice_index e.targets j)));
+        stays = stays;
         len = refl;
         others = λ i ne. refl;
         own = inl refl;
       }
 
-pub walking_start : (e : Edges) (k mask : ℕ) (old p carried : List ℕ) → IsPassed e old carried → length carried ≡ length old → low_at e k ≤ high_at e k → Walking e k mask k (low_at e k) old p old p carried
-walking_start e k mask old p carried passed len order = record {
-  low = omega arith;
-  high = order;
-  marks = carried_none e.targets old p carried mask (low_at e k);
-  len = len;
-  ahead = λ i j le lo hi. passed.cells i j lo hi;
-  entry = passed.entry;
-  behind = λ i j g lo hi has. inl (at_one _ _ g (passed.cells i j lo hi) has);
-}
+-- the start, once the mask is at the entry
+module _ (e : Edges) (k : ℕ) (old p carried a q : List ℕ) (passed : IsPassed e old carried) (len : length carried ≡ length old) (small : k < length carried) (order : low_at e k ≤ high_at e k)
+    (listed : (i : ℕ) → (i ≡ k) ⊎ IsListed old carried p i) (c : Carried (λ t. t ≡ entry_at e k) old p (bit_and (slice_index old k) (enters_at e k)) a q) (stays : StaysListed carried old p a q) where
+  abbrev own : ℕ
+  own = slice_index old k
+
+  abbrev carried2 : List ℕ
+  carried2 = slice_set carried k (bit_or (slice_index carried k) own)
+
+  start_case : (i : ℕ) → Set carried k (bit_or (slice_index carried k) own) i
+  start_case i = set_cases carried k (bit_or (slice_index carried k) own) i small
+
+  -- its mark is what it carries, though its entry may have given to it
+  own_listed : Within (slice_index a k) (bit_or (slice_index carried k) own)
+  own_listed = within_from (slice_index a k) (bit_or (slice_index carried k) own) (λ g has. at_one own (bit_or (slice_index carried k) own) g (Within-or_right (slice_index carried k) own) (elim (c.only k g has) [
+    | inl x ↦ x
+    | inr y ↦ (both_bits own (enters_at e k) g y.1).0
+  ]))
+
+  start_entry : Within (bit_and (bit_or (slice_index carried k) own) (enters_at e k)) (slice_index a (entry_at e k))
+  start_entry = within_from (bit_and (bit_or (slice_index carried k) own) (enters_at e k)) (slice_index a (entry_at e k)) (λ g has.
+      let two = both_bits (bit_or (slice_index carried k) own) (enters_at e k) g has in
+      elim (or_cases (slice_index carried k) own g two.0) [
+        | inl x ↦ at_one (slice_index old (entry_at e k)) (slice_index a (entry_at e k)) g (c.grows (entry_at e k)) (at_one (bit_and (slice_index carried k) (enters_at e k)) (slice_index old (entry_at e k)) g (passed.entry k) (and_both (slice_index carried k) (enters_at e k) g x two.1))
+        | inr x ↦ at_one (bit_and own (enters_at e k)) (slice_index a (entry_at e k)) g (c.each (entry_at e k) refl) (and_both own (enters_at e k) g x two.1)
+      ])
+
+  grown_cells : (i j g : ℕ) → low_at e i ≤ j → j < high_at e i → Has carried i g → Has a (slice_index e.targets j) g
+  grown_cells i j g lo hi has = at_one (slice_index old (slice_index e.targets j)) (slice_index a (slice_index e.targets j)) g (c.grows (slice_index e.targets j)) (at_one (slice_index carried i) (slice_index old (slice_index e.targets j)) g (passed.cells i j lo hi) has)
+
+  pub walking_start : Walking e k own (k + 1) (low_at e k) a q a q carried2
+  walking_start = record {
+    low = omega arith;
+    high = order;
+    marks = carried_none e.targets a q own (low_at e k) (low_at e k) (omega arith);
+    listed = λ i. elim (start_case i) [
+      | here same f ↦ inr (rw (f, same) own_listed)
+      | there ne f ↦ elim (listed i) [
+        | inl same ↦ absurd (ne same)
+        | inr x ↦ elim (stays i x) [ inl m ↦ inl m | inr w ↦ inr (subst (Within (slice_index a i)) (sym f) w) ]
+      ]
+    ];
+    len = length_set carried k _ ∙ len ∙ sym c.len;
+    ahead = λ i j le lo hi. elim (start_case i) [
+      | here same f ↦ absurd (omega arith)
+      | there ne f ↦ subst (λ v. Within v (slice_index a (slice_index e.targets j))) (sym f) (Within-trans (slice_index carried i) (slice_index old (slice_index e.targets j)) (slice_index a (slice_index e.targets j)) (passed.cells i j lo hi) (c.grows (slice_index e.targets j)))
+    ];
+    entry = λ i. elim (start_case i) [
+      | here same f ↦ rw (f, same) start_entry
+      | there ne f ↦ subst (λ v. Within (bit_and v (enters_at e i)) (slice_index a (entry_at e i))) (sym f) (Within-trans (bit_and (slice_index carried i) (enters_at e i)) (slice_index old (entry_at e i)) (slice_index a (entry_at e i)) (passed.entry i) (c.grows (entry_at e i)))
+    ];
+    behind = λ i j g lo hi has. elim (start_case i) [
+      | there ne f ↦ inl (grown_cells i j g lo hi (ap (λ v. bit_at v g) (sym f) ∙ has))
+      | here same f ↦ elim (or_cases (slice_index carried k) own g (ap (λ v. bit_at v g) (sym f) ∙ has)) [
+        | inl x ↦ inl (grown_cells i j g lo hi (subst (λ v. Has carried v g) (sym same) x))
+        | inr x ↦ inr (x, subst (λ v. IsInner e v k) (sym same) (omega arith, omega arith))
+      ]
+    ];
+  }
 
 module _ (e : Edges) (k mask at done : ℕ) (old p a q carried : List ℕ) (w : Walking e k mask at done old p a q carried) where
   module _ (at2 done2 : ℕ) (b r carried2 : List ℕ) (s : Walked e k mask at done a q carried at2 done2 b r carried2) where
@@ -208,7 +248,8 @@ module _ (e : Edges) (k mask at done : ℕ) (old p a q carried : List ℕ) (w : 
     walking_more = record {
       low = let x = w.low in let y = s.low in omega arith;
       high = s.high;
-      marks = carried_on e.targets old p carried2 a q mask (low_at e k) done (carried_wider _ old p carried carried2 a q mask more w.marks) done2 b r w.low s.low (carried_wider _ a q carried carried2 b r mask more s.marks);
+      marks = carried_on e.targets old p a q mask (low_at e k) done w.marks done2 b r w.low s.low s.marks;
+      listed = λ i. elim (s.stays i (w.listed i)) [ inl m ↦ inl m | inr x ↦ inr (Within-trans (slice_index b i) (slice_index carried i) (slice_index carried2 i) x (more i)) ];
       len = s.len ∙ w.len;
       ahead = λ i j le lo hi.
           let forth = s.forth in
@@ -228,9 +269,9 @@ module _ (e : Edges) (k mask at done : ℕ) (old p a q carried : List ℕ) (w : 
       ];
     }
 
-  module _ (b r : List ℕ) (v : Carried (IsAmong e.targets done (high_at e k)) a q mask carried b r) where
-    pub walking_marks : Carried (IsAmong e.targets (low_at e k) (high_at e k)) old p mask carried b r
-    walking_marks = carried_on e.targets old p carried a q mask (low_at e k) done w.marks (high_at e k) b r w.low w.high v
+  module _ (b r : List ℕ) (v : Carried (IsAmong e.targets done (high_at e k)) a q mask b r) where
+    pub walking_marks : Carried (IsAmong e.targets (low_at e k) (high_at e k)) old p mask b r
+    walking_marks = carried_on e.targets old p a q mask (low_at e k) done w.marks (high_at e k) b r w.low w.high v
 
     cells : (i j : ℕ) → low_at e i ≤ j → j < high_at e i → Within (slice_index carried i) (slice_index b (slice_index e.targets j))
     cells i j lo hi = within_from _ _ (λ g has. elim (w.behind i j g lo hi has) [

@@ -1,23 +1,25 @@
 // Marks that flow along edges.
-ghost use Rattle.std.specs.Prelude.{◌≡◌, ℕ, ◌<◌, ◌≤◌, ◌⊎◌, IfOk, length, slice_index, true};
+ghost use Rattle.std.specs.Prelude.{◌≡◌, ℕ, ◌+◌, ◌<◌, ◌≤◌, ◌⊎◌, IfOk, length, slice_index, true};
 ghost use Rattle.mm_flow.specs.Net.{low_at, high_at};
-ghost use Rattle.mm_flow.specs.Flow.{Carried, IsAmong, Fits, IsFlow, Stepped, IsIn, IsAhead, IsPassed, Walked, Within};
+ghost use Rattle.mm_flow.specs.Flow.{Carried, IsAmong, Fits, IsFlow, Stepped, IsIn, IsAhead, IsListed, StaysListed, IsPassed, Walked, Walking, Within};
 
 use crate::forest::greater;
 use crate::node::Node;
 use std::alloc::{AllocError, Global};
+use std::collections::VecDeque;
 
-/// Adds the groups of the mask to the node, which is pending where that changes it, unless it carries all its groups already.
+/// Adds the groups of the mask to the node, which is pending from then on where it does not carry them already.
 fn carry(
     marks: &mut [u64],
-    pending: &mut Vec<usize>,
+    pending: &mut VecDeque<usize>,
     carried: &[u64],
     to: usize,
     mask: u64,
 ) -> Result<(), AllocError>
     requires node { to < length marks.old }
     requires len { length carried.now ≡ length marks.old }
-    ensures { IfOk result (λ _. Carried (λ t. t ≡ to) marks.old pending.old.items mask carried.now marks.new pending.new.items) }
+    ensures marks { IfOk result (λ _. Carried (λ t. t ≡ to) marks.old pending.old.items mask marks.new pending.new.items) }
+    ensures stays { IfOk result (λ _. StaysListed carried.now marks.old pending.old.items marks.new pending.new.items) }
 {
     let old = marks[to];
     let new = old | mask;
@@ -25,17 +27,21 @@ fn carry(
     if new == old {
         return Ok(());
     }
-    if new | carried[to] == carried[to] {
+    let done = carried[to];
+    if new | done == done {
         return Ok(());
     }
-    pending.push(to)?;
+    if old | done != done {
+        return Ok(());
+    }
+    pending.push_back(to)?;
     Ok(())
 }
 
 /// Carries the mask to the targets at places from `lo` up to `hi`.
 fn visit(
     marks: &mut [u64],
-    pending: &mut Vec<usize>,
+    pending: &mut VecDeque<usize>,
     carried: &[u64],
     targets: &[usize],
     lo: usize,
@@ -46,7 +52,8 @@ fn visit(
     requires order { lo ≤ hi }
     requires len { length carried.now ≡ length marks.old }
     requires targets { (j : ℕ) → j < length targets.now → slice_index targets.now j < length marks.old }
-    ensures { IfOk result (λ _. Carried (IsAmong targets.now lo hi) marks.old pending.old.items mask carried.now marks.new pending.new.items) }
+    ensures marks { IfOk result (λ _. Carried (IsAmong targets.now lo hi) marks.old pending.old.items mask marks.new pending.new.items) }
+    ensures stays { IfOk result (λ _. StaysListed carried.now marks.old pending.old.items marks.new pending.new.items) }
 {
     for j in lo..hi {
         carry(marks, pending, carried, targets[j], mask)?;
@@ -79,7 +86,7 @@ struct Walk {
 /// it, once the outer node's targets before its own have the mask.
 fn walk_on(
     marks: &mut [u64],
-    pending: &mut Vec<usize>,
+    pending: &mut VecDeque<usize>,
     carried: &mut [u64],
     nodes: &[Node],
     targets: &[usize],
@@ -116,32 +123,35 @@ fn walk_on(
     })
 }
 
-/// Carries the node's mark to all its targets.
+/// Carries the mask to all targets of a node that carries it from now on.
 fn pass(
     marks: &mut [u64],
-    pending: &mut Vec<usize>,
+    pending: &mut VecDeque<usize>,
     carried: &mut [u64],
     nodes: &[Node],
     targets: &[usize],
     after: &[usize],
     k: usize,
+    mask: u64,
 ) -> Result<(), AllocError>
     requires fits { Fits (record { nodes = nodes.now; targets = targets.now }) (length marks.old) }
     requires ahead { IsAhead after.now (length marks.old) }
-    requires len { length carried.old ≡ length marks.old }
     requires node { k < length marks.old }
-    requires passed { IsPassed (record { nodes = nodes.now; targets = targets.now }) marks.old carried.old }
+    requires start { Walking (record { nodes = nodes.now; targets = targets.now }) k mask (k + 1) (low_at (record { nodes = nodes.now; targets = targets.now }) k) marks.old pending.old.items marks.old pending.old.items carried.old }
     ensures marks { IfOk
         result
-        (λ _. Carried (IsAmong targets.now (low_at (record { nodes = nodes.now; targets = targets.now }) k) (high_at (record { nodes = nodes.now; targets = targets.now }) k)) marks.old pending.old.items (slice_index marks.old k) carried.new marks.new pending.new.items) }
+        (λ _. Carried (IsAmong targets.now (low_at (record { nodes = nodes.now; targets = targets.now }) k) (high_at (record { nodes = nodes.now; targets = targets.now }) k)) marks.old pending.old.items mask marks.new pending.new.items) }
     ensures passed { IfOk result (λ _. IsPassed (record { nodes = nodes.now; targets = targets.now }) marks.new carried.new) }
+    ensures listed { IfOk result (λ _. (n : ℕ) → IsListed marks.new carried.new pending.new.items n) }
     ensures len { IfOk result (λ _. length carried.new ≡ length carried.old) }
 {
-    let mask = marks[k];
     let node = nodes[k];
+    if node.low >= node.high {
+        return Ok(());
+    }
     let end = after[k];
     let mut walk = Walk {
-        at: k,
+        at: k + 1,
         done: node.low,
     };
     while walk.at < end {
@@ -155,10 +165,10 @@ fn pass(
     Ok(())
 }
 
-/// Works off one pending node.
+/// Works off one node that was pending.
 fn step(
     marks: &mut [u64],
-    pending: &mut Vec<usize>,
+    pending: &mut VecDeque<usize>,
     carried: &mut [u64],
     nodes: &[Node],
     targets: &[usize],
@@ -170,26 +180,31 @@ fn step(
     requires len { length carried.old ≡ length marks.old }
     requires node { k < length marks.old }
     requires passed { IsPassed (record { nodes = nodes.now; targets = targets.now }) marks.old carried.old }
-    ensures step { IfOk result (λ _. Stepped (record { nodes = nodes.now; targets = targets.now }) k marks.old pending.old.items carried.new marks.new pending.new.items) }
+    requires listed { (n : ℕ) → (n ≡ k) ⊎ IsListed marks.old carried.old pending.old.items n }
+    ensures step { IfOk result (λ _. Stepped (record { nodes = nodes.now; targets = targets.now }) k marks.old pending.old.items marks.new pending.new.items) }
     ensures passed { IfOk result (λ _. IsPassed (record { nodes = nodes.now; targets = targets.now }) marks.new carried.new) }
+    ensures listed { IfOk result (λ _. (n : ℕ) → IsListed marks.new carried.new pending.new.items n) }
     ensures len { IfOk result (λ _. length carried.new ≡ length carried.old) }
 {
     let mask = marks[k];
     let node = nodes[k];
-    pass(marks, pending, carried, nodes, targets, after, k)?;
     carry(marks, pending, carried, node.entry, mask & node.enters)?;
+    carried[k] |= mask;
+    pass(
+        marks, pending, carried, nodes, targets, after, k, mask,
+    )?;
     Ok(())
 }
 
 /// The nodes that some group marks.
-fn marked_nodes(alloc: Global, marks: &[u64]) -> Result<Vec<usize>, AllocError>
+fn marked_nodes(alloc: Global, marks: &[u64]) -> Result<VecDeque<usize>, AllocError>
     ensures below { IfOk result (λ v. (k : ℕ) → IsIn k v.items → k < length marks.now) }
     ensures all { IfOk result (λ v. (k : ℕ) → k < length marks.now → IsIn k v.items ⊎ (slice_index marks.now k ≡ 0)) }
 {
-    let mut all = Vec::new(alloc);
+    let mut all = VecDeque::new(alloc);
     for k in 0..marks.len() {
         if marks[k] != 0 {
-            all.push(k)?;
+            all.push_back(k)?;
         }
     }
     Ok(all)
@@ -216,7 +231,7 @@ pub fn flow(
     ensures len { IfOk result (λ _. length carried.new ≡ length carried.old) }
 {
     let mut pending = marked_nodes(alloc, marks)?;
-    while let Some(k) = pending.pop() {
+    while let Some(k) = pending.pop_front() {
         step(marks, &mut pending, carried, nodes, targets, after, k)?;
     }
     Ok(())

@@ -2,7 +2,7 @@ use Rattle.std.proofs.Common.{◌≡◌, ℕ, ◌+◌, ◌<◌, ◌⊎◌, List,
 use Rattle.mm_flow.specs.Flow.{IsIn}
 use Rattle.mm_flow.proofs.Masks.{in_push_left, in_push_last, in_push_cases, below_cases}
 use Rattle.mm_flow.proofs.flow.marked_nodes.Goals as goal
-use Rattle.mm_flow.proofs.flow.marked_nodes.Goals.{then-marks-k-ne0+in_ok-push, else-marks-k-ne0}
+use Rattle.mm_flow.proofs.flow.marked_nodes.Goals.{then-marks-k-ne0+in_ok-push_back, else-marks-k-ne0}
 
 module _ (marks xs : List ℕ) (k : ℕ) (below : (n : ℕ) → IsIn n xs → n < k) (all : (n : ℕ) → n < k → IsIn n xs ⊎ (slice_index marks n ≡ 0)) where
   listed : ((n : ℕ) → IsIn n (xs ++ k ∷ []) → n < k + 1) × ((n : ℕ) → n < k + 1 → IsIn n (xs ++ k ∷ []) ⊎ (slice_index marks n ≡ 0))
@@ -23,7 +23,7 @@ module _ (marks xs : List ℕ) (k : ℕ) (below : (n : ℕ) → IsIn n xs → n 
 pub loop-k-preserved : goal.loop-k-preserved
 loop-k-preserved c =
     elim c.if-marks-k-ne0.branch [
-      | then-marks-k-ne0+in_ok-push w ↦ rw (w.all-is, w.in_ok-push.ensures.items) (listed c.args.marks.now c.loop-k.all.items c.loop-k.k c.loop-k.invariant.0 c.loop-k.invariant.1)
+      | then-marks-k-ne0+in_ok-push_back w ↦ rw (w.all-is, w.in_ok-push_back.ensures.items) (listed c.args.marks.now c.loop-k.all.items c.loop-k.k c.loop-k.invariant.0 c.loop-k.invariant.1)
       | else-marks-k-ne0 w ↦ rw w.all-is (left_out c.args.marks.now c.loop-k.all.items c.loop-k.k c.loop-k.invariant.0 c.loop-k.invariant.1 w.if-marks-k-ne0.false)
     ]
 

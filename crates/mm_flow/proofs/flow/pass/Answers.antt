@@ -1,8 +1,6 @@
-use Rattle.mm_flow.proofs.Walks.{walking_start, walking_more, walking_marks, walking_passed}
+use Rattle.std.proofs.Common.{◌∙◌, sym, arith}
+use Rattle.mm_flow.proofs.Walks.{carried_none, walking_more, walking_marks, walking_passed}
 use Rattle.mm_flow.proofs.flow.pass.Goals as goal
-
-pub loop-walk-init : goal.loop-walk-init
-loop-walk-init c = walking_start _ c.args.k _ c.args.marks.now c.args.pending.now.items c.args.carried.now c.requires.passed c.requires.len (c.requires.fits.order c.args.k c.requires.node)
 
 pub loop-walk-preserved : goal.loop-walk-preserved
 loop-walk-preserved c =
@@ -11,8 +9,11 @@ loop-walk-preserved c =
 
 pub returns-clause-marks : goal.returns-clause-marks
 returns-clause-marks c =
-    walking_marks _ c.args.k _ c.loop-walk.walk.at c.loop-walk.walk.done c.args.marks.now c.args.pending.now.items c.loop-walk.marks c.loop-walk.pending.items c.loop-walk.carried c.loop-walk.invariant c.visit.new.marks c.visit.new.pending.items c.in_ok-visit.ensures
+    walking_marks _ c.args.k _ c.loop-walk.walk.at c.loop-walk.walk.done c.args.marks.now c.args.pending.now.items c.loop-walk.marks c.loop-walk.pending.items c.loop-walk.carried c.loop-walk.invariant c.visit.new.marks c.visit.new.pending.items c.in_ok-visit.ensures.marks
 
 pub returns-clause-passed : goal.returns-clause-passed
 returns-clause-passed c =
-    walking_passed _ c.args.k _ c.loop-walk.walk.at c.loop-walk.walk.done c.args.marks.now c.args.pending.now.items c.loop-walk.marks c.loop-walk.pending.items c.loop-walk.carried c.loop-walk.invariant c.visit.new.marks c.visit.new.pending.items c.in_ok-visit.ensures
+    walking_passed _ c.args.k _ c.loop-walk.walk.at c.loop-walk.walk.done c.args.marks.now c.args.pending.now.items c.loop-walk.marks c.loop-walk.pending.items c.loop-walk.carried c.loop-walk.invariant c.visit.new.marks c.visit.new.pending.items c.in_ok-visit.ensures.marks
+
+pub returns-clause-listed : goal.returns-clause-listed
+returns-clause-listed c n = c.in_ok-visit.ensures.stays n (c.loop-walk.invariant.listed n)
