@@ -1,4 +1,5 @@
 pub mod Masks
+pub mod Takes
 pub mod Walks
 pub mod Steps
 pub mod Giving

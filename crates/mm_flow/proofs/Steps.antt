@@ -5,7 +5,7 @@ use Rattle.std.proofs.Math.ListN.{get_or-eq_default}
 use Rattle.std.proofs.Common.{◌≡◌, ℕ, ◌<◌, ◌≤◌, ◌⊎◌, inl, inr, List, [], ◌∷◌, length, slice_index, bit_and, refl, sym, ◌∙◌, subst, arith}
 use Rattle.std.specs.Int.{bit_at}
 use Rattle.mm_flow.specs.Net.{Edges, low_at, high_at, entry_at, enters_at}
-use Rattle.mm_flow.specs.Flow.{Within, Has, IsIn, IsListed, Carried, IsAmong, IsPassed, Fits, Flows, Settled, IsFlow, Flowing}
+use Rattle.mm_flow.specs.Flow.{Within, Has, IsIn, IsListed, Carried, IsAmong, IsPassed, IsTaken, Fits, Flows, Settled, IsFlow, Flowing}
 use Rattle.mm_flow.specs.Flow.Flows.{from, along, through}
 use Rattle.mm_flow.proofs.Masks.{Within-refl, Within-trans}
 use Rattle.mm_flow.proofs.Walks.{and_within, zero_within, both_bits}
@@ -44,7 +44,7 @@ flowing_end e old marks carried h passed = record {
   no_rise = h.no_rise;
 }
 
-module _ (e : Edges) (old marks carried p a q b carried2 r : List ℕ) (k : ℕ) (h : Flowing e old marks carried (k ∷ p)) (lt : k < length old)
+module _ (e : Edges) (old marks carried p a q b carried2 r : List ℕ) (k : ℕ) (all : List ℕ) (h : Flowing e old marks carried all) (t : IsTaken k all p) (lt : k < length old)
     (c : Carried (λ t. t ≡ entry_at e k) marks p (bit_and (slice_index marks k) (enters_at e k)) a q)
     (v : Carried (IsAmong e.targets (low_at e k) (high_at e k)) a q (slice_index marks k) b r) where
   sound_a : (n g : ℕ) → Has a n g → Flows e old g n
@@ -68,7 +68,7 @@ module _ (e : Edges) (old marks carried p a q b carried2 r : List ℕ) (k : ℕ)
       | inr y ↦ let e1 = c.len in let e2 = h.len in omega arith
       | inl y ↦ elim (c.bounded n y) [
         | inr z ↦ let e2 = h.len in omega arith
-        | inl z ↦ h.nodes n (inr z)
+        | inl z ↦ h.nodes n (t.keeps n z)
       ]
     ];
     listed = listed;

@@ -56,6 +56,13 @@ pub record Carried (T : ℕ → Type 0) (old p : List ℕ) (mask : ℕ) (new q :
   pub no_rise : room (2 ^ 64) new ≤ room (2 ^ 64) old
   pub room : 2 * room (2 ^ 64) new + length q ≤ 2 * room (2 ^ 64) old + length p
 
+-- the node was taken out of all that were pending
+pub record IsTaken (k : ℕ) (all rest : List ℕ) : Type 0 where
+  pub there : IsIn k all
+  pub cases : (n : ℕ) → IsIn n all → (n ≡ k) ⊎ IsIn n rest
+  pub keeps : (n : ℕ) → IsIn n rest → IsIn n all
+  pub len : length rest + 1 ≡ length all
+
 -- the node carries its mark already, or is pending
 abbrev pub IsListed : List ℕ → List ℕ → List ℕ → ℕ → Type 0
 IsListed marks carried pending k = IsIn k pending ⊎ Within (slice_index marks k) (slice_index carried k)

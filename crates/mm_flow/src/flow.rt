@@ -5,8 +5,12 @@ ghost use Rattle.mm_flow.specs.Flow.{Carried, IsAmong, Fits, IsFlow, Stepped, Is
 
 use crate::forest::greater;
 use crate::node::Node;
+use crate::pending::take;
 use std::alloc::{AllocError, Global};
 use std::collections::VecDeque;
+
+/// Where more than this part of the nodes are pending, the oldest of them comes first.
+const MANY: usize = 16;
 
 /// Adds the groups of the mask to the node, which is pending from then on where it does not carry them already.
 fn carry(
@@ -102,7 +106,7 @@ fn walk_on(
     requires node { walk.at < length marks.old }
     requires done { walk.done ≤ high_at (record { nodes = nodes.now; targets = targets.now }) k }
     requires passed { (j : ℕ) → low_at (record { nodes = nodes.now; targets = targets.now }) walk.at ≤ j → j < high_at (record { nodes = nodes.now; targets = targets.now }) walk.at
-      → Within (slice_index carried.old walk.at) (slice_index marks.old (slice_index targets.now j)) }
+        → Within (slice_index carried.old walk.at) (slice_index marks.old (slice_index targets.now j)) }
     ensures { IfOk result (λ w. Walked (record { nodes = nodes.now; targets = targets.now }) k mask walk.at walk.done marks.old pending.old.items carried.old w.at w.done marks.new pending.new.items carried.new) }
 {
     let at = walk.at;
@@ -159,9 +163,7 @@ fn pass(
             marks, pending, carried, nodes, targets, after, k, mask, walk,
         )?;
     }
-    visit(
-        marks, pending, carried, targets, walk.done, node.high, mask,
-    )?;
+    visit(marks, pending, carried, targets, walk.done, node.high, mask)?;
     Ok(())
 }
 
@@ -190,9 +192,7 @@ fn step(
     let node = nodes[k];
     carry(marks, pending, carried, node.entry, mask & node.enters)?;
     carried[k] |= mask;
-    pass(
-        marks, pending, carried, nodes, targets, after, k, mask,
-    )?;
+    pass(marks, pending, carried, nodes, targets, after, k, mask)?;
     Ok(())
 }
 
@@ -231,7 +231,8 @@ pub fn flow(
     ensures len { IfOk result (λ _. length carried.new ≡ length carried.old) }
 {
     let mut pending = marked_nodes(alloc, marks)?;
-    while let Some(k) = pending.pop_front() {
+    let many = marks.len() / MANY;
+    while let Some(k) = take(&mut pending, many) {
         step(marks, &mut pending, carried, nodes, targets, after, k)?;
     }
     Ok(())

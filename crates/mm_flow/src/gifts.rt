@@ -70,7 +70,11 @@ fn given_next(last: u64, gift: u64, mask: u64, gives: &[u64]) -> u64
     requires gift { (g : ℕ) → (bit_at gift g ≡ 1) ↔ GivenBy 64 last gives.now g }
     ensures { (g : ℕ) → (bit_at result g ≡ 1) ↔ GivenBy 64 mask gives.now g }
 {
-    if mask == last { gift } else { given(mask, gives) }
+    if mask == last {
+        gift
+    } else {
+        given(mask, gives)
+    }
 }
 
 /// Each node's mark gets what its groups give; answers whether a mark changed.

@@ -111,7 +111,14 @@ pub fn saturate(
     let after = after(alloc, parents)?;
     let mut carried = vec![in alloc; 0u64; marks.len()]?;
     settle(
-        alloc, marks, &mut carried, nodes, targets, &after, parents, links,
+        alloc,
+        marks,
+        &mut carried,
+        nodes,
+        targets,
+        &after,
+        parents,
+        links,
     )?;
     Ok(())
 }
