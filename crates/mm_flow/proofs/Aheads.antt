@@ -1,5 +1,5 @@
 -- A later node for each.
-use Rattle.std.proofs.Common.{◌≡◌, ℕ, ◌+◌, ◌<◌, ◌≤◌, List, [], ◌∷◌, ◌++◌, length, slice_index, slice_set, sym, ap, ◌∙◌, subst, arith}
+use Rattle.std.proofs.Common.{◌≡◌, ℕ, ◌+◌, ◌<◌, ◌≤◌, List, [], ◌∷◌, ◌++◌, length, slice_index, slice_set, sym, ap, ◌∙◌, arith}
 use Rattle.mm_flow.specs.Flow.{IsAhead}
 use Rattle.mm_flow.proofs.Giving.{push_cases, push_length}
 use Rattle.mm_flow.proofs.Giving.Pushed.{last, before}

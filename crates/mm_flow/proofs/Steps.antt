@@ -1,9 +1,7 @@
 -- The steps of the flow.
 use Rattle.std.proofs.lemmas.Bool.{cases_lt}
-use Rattle.std.proofs.lemmas.Nat.Bits.{bit_at-zero}
 use Rattle.std.proofs.Math.ListN.{get_or-eq_default}
-use Rattle.std.proofs.Common.{◌≡◌, ℕ, ◌<◌, ◌≤◌, ◌⊎◌, inl, inr, List, [], ◌∷◌, length, slice_index, bit_and, refl, sym, ◌∙◌, subst, arith}
-use Rattle.std.specs.Int.{bit_at}
+use Rattle.std.proofs.Common.{◌≡◌, ℕ, ◌<◌, ◌⊎◌, inl, inr, List, [], length, slice_index, bit_and, refl, sym, ◌∙◌, subst, arith}
 use Rattle.mm_flow.specs.Net.{Edges, low_at, high_at, entry_at, enters_at}
 use Rattle.mm_flow.specs.Flow.{Within, Has, IsIn, IsListed, Carried, IsAmong, IsPassed, IsTaken, Fits, Flows, Settled, IsFlow, Flowing}
 use Rattle.mm_flow.specs.Flow.Flows.{from, along, through}

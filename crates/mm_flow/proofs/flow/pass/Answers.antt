@@ -1,5 +1,4 @@
-use Rattle.std.proofs.Common.{◌∙◌, sym, arith}
-use Rattle.mm_flow.proofs.Walks.{carried_none, walking_more, walking_marks, walking_passed}
+use Rattle.mm_flow.proofs.Walks.{walking_more, walking_marks, walking_passed}
 use Rattle.mm_flow.proofs.flow.pass.Goals as goal
 
 pub loop-walk-preserved : goal.loop-walk-preserved

@@ -1,4 +1,4 @@
-use Rattle.std.proofs.Common.{◌≡◌, ◌-◌, ◌<◌, length, slice_index}
+use Rattle.std.proofs.Common.{◌-◌}
 use Rattle.mm_flow.specs.Flow.{Walking}
 use Rattle.mm_flow.proofs.flow.pass.Given as goal
 

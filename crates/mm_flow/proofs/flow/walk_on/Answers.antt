@@ -1,4 +1,3 @@
-use Rattle.std.proofs.Common.{◌≡◌, refl, arith}
 use Rattle.mm_flow.proofs.Walks.{walked_by}
 use Rattle.mm_flow.proofs.flow.walk_on.Goals as goal
 
