@@ -1,5 +1,4 @@
-use Rattle.std.proofs.Common.{subst, sym, ◌↔◌, map}
-use Rattle.mm_graph.specs.Placed.{HasTargets, all_keys_of}
+use Rattle.mm_graph.specs.Placed.{all_keys_of}
 use Rattle.mm_graph.proofs.EntryKeys.{entry_is_key}
 use Rattle.mm_graph.proofs.KeyLists.{keys_made, targets_made}
 use Rattle.mm_graph.proofs.Places.{same_through, placed_there}

@@ -1,4 +1,4 @@
-use Rattle.std.proofs.Common.{map, subst, ◌↔◌}
+use Rattle.std.proofs.Common.{subst, ◌↔◌}
 use Rattle.std.specs.List.{Contains}
 use Rattle.mm_graph.proofs.keys.keys_of.Goals as goal
 

@@ -1,4 +1,4 @@
-use Rattle.std.proofs.Common.{ℕ, ◌≡◌, ◌<◌, length}
+use Rattle.std.proofs.Common.{◌≡◌, length}
 use Rattle.mm_graph.proofs.Places.{Filled}
 use Rattle.mm_graph.proofs.targets.fill_targets.Given as goal
 
