@@ -6,7 +6,7 @@ use Rattle.std.specs.Int.{bit_at}
 use Rattle.mm_flow.specs.Flow.{Has, Within, room}
 use Rattle.mm_flow.proofs.Masks.{set_cases, or_cases, below_cases, length_set, room_set, Within-refl, Within-trans, Within-or_left}
 use Rattle.mm_flow.proofs.Masks.Set.{here as set_here, there as set_there}
-use Rattle.mm_flow.specs.Gifts.{Up, Lifted, IsLifted, IsGift, GivenBy, IsSpread, Spreading, kept_mark}
+use Rattle.mm_flow.specs.Gifts.{Up, Lifted, IsLifted, IsGift, GivenBy, Spreading, kept_mark}
 use Rattle.mm_flow.specs.Gifts.Up.{here, over}
 
 pub or_left : (a b g : ℕ) → bit_at a g ≡ 1 → bit_at (bit_or a b) g ≡ 1

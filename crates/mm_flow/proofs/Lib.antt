@@ -1,7 +1,10 @@
 pub mod Masks
+pub mod Takes
+pub mod Walks
 pub mod Steps
 pub mod Giving
 pub mod Kept
 pub mod Saturation
 pub mod Ups
 pub mod Geometry
+pub mod Aheads

@@ -1,12 +1,12 @@
 -- What is given is reached, and marks that nothing changes hold all that is reached.
 use Rattle.std.proofs.lemmas.Nat.Bits.{bit_at-lt}
-use Rattle.std.proofs.Common.{◌≡◌, ℕ, ◌+◌, ◌<◌, ◌≤◌, ◌↔◌, inl, inr, Bool, false, List, length, slice_index, refl, sym, ap, ◌∙◌, subst, arith}
+use Rattle.std.proofs.Common.{◌≡◌, ℕ, ◌<◌, ◌≤◌, ◌↔◌, inl, inr, Bool, false, List, length, slice_index, refl, sym, ◌∙◌, subst, arith}
 use Rattle.std.specs.Int.{bit_at}
 use Rattle.mm_flow.specs.declared.node.Right.TheVariants.{Load, Store, Make}
 use Rattle.mm_flow.specs.Net.{Edges, Ties, enters_at, right_at}
 use Rattle.mm_flow.specs.Flow.{Has, Within, Flows, IsFlow}
 use Rattle.mm_flow.specs.Flow.Flows.{from as flow_from, along as flow_along, through as flow_through}
-use Rattle.mm_flow.proofs.Masks.{Within-refl, Within-trans, below_cases}
+use Rattle.mm_flow.proofs.Masks.{Within-refl, Within-trans}
 use Rattle.mm_flow.specs.Gifts.{Up, IsLifted, IsGift, IsSpread}
 use Rattle.mm_flow.proofs.Giving.{and_both}
 use Rattle.mm_flow.specs.Reached.{HasSome, Gives, IsGifts, Gifting, Reached, IsReach, Saturating}

@@ -1,105 +1,75 @@
 -- The steps of the flow.
-use Rattle.std.proofs.lemmas.Nat.Bits.{bit_at_and, bit_at-lt}
-use Rattle.std.proofs.Common.{◌≡◌, ℕ, ◌<◌, ◌⊎◌, inl, inr, List, [], ◌∷◌, ◌++◌, length, slice_index, min, bit_and, refl, sym, ◌∙◌, subst, arith}
-use Rattle.std.specs.Int.{bit_at}
+use Rattle.std.proofs.lemmas.Bool.{cases_lt}
+use Rattle.std.proofs.Math.ListN.{get_or-eq_default}
+use Rattle.std.proofs.Common.{◌≡◌, ℕ, ◌<◌, ◌⊎◌, inl, inr, List, [], length, slice_index, bit_and, refl, sym, ◌∙◌, subst, arith}
 use Rattle.mm_flow.specs.Net.{Edges, low_at, high_at, entry_at, enters_at}
-use Rattle.mm_flow.specs.Flow.{Within, Has, IsIn, Carried, IsAmong, Fits, Flows, Settled, IsFlow, Flowing}
+use Rattle.mm_flow.specs.Flow.{Within, Has, IsIn, IsListed, Carried, IsAmong, IsPassed, IsTaken, Fits, Flows, Settled, IsFlow, Flowing}
 use Rattle.mm_flow.specs.Flow.Flows.{from, along, through}
-use Rattle.mm_flow.proofs.Masks.{Within-refl, Within-trans, in_push_cases, in_push_left}
+use Rattle.mm_flow.proofs.Masks.{Within-refl, Within-trans}
+use Rattle.mm_flow.proofs.Walks.{and_within, zero_within, both_bits}
 
-pub flowing_start : (e : Edges) (old p : List ℕ) → Fits e (length old) → ((k : ℕ) → IsIn k p → k < length old) → ((k : ℕ) → k < length old → IsIn k p) → Flowing e old old p
-flowing_start e old p fits listed all = record {
+pub flowing_start : (e : Edges) (old carried p : List ℕ) → Fits e (length old) → ((k : ℕ) → IsIn k p → k < length old) → ((k : ℕ) → k < length old → IsIn k p ⊎ (slice_index old k ≡ 0)) → Flowing e old old carried p
+flowing_start e old carried p fits nodes all = record {
   fits = fits;
   len = refl;
   grows = λ k. Within-refl (slice_index old k);
-  listed = listed;
-  settled = λ k lt. inl (all k lt);
+  nodes = nodes;
+  listed = λ k. elim (cases_lt k (length old)) [
+    | inl lt ↦ elim (all k lt) [ inl x ↦ inl x | inr none ↦ inr (unmarked k none) ]
+    | inr ge ↦ inr (unmarked k (get_or-eq_default old 0 ge))
+  ];
   sound = λ k g h. from h;
   no_rise = omega arith;
 }
+  where
+    unmarked : (k : ℕ) → slice_index old k ≡ 0 → Within (slice_index old k) (slice_index carried k)
+    unmarked k none = subst (λ v. Within v (slice_index carried k)) (sym none) (zero_within (slice_index carried k))
 
-pub flowing_end : (e : Edges) (old marks : List ℕ) → Flowing e old marks [] → IsFlow e old marks
-flowing_end e old marks h = record {
+-- a node that carries its mark is settled
+settled : (e : Edges) (marks carried : List ℕ) (k : ℕ) → IsPassed e marks carried → Within (slice_index marks k) (slice_index carried k) → Settled e marks k
+settled e marks carried k passed within = record {
+  cells = λ j lo hi. Within-trans (slice_index marks k) (slice_index carried k) (slice_index marks (slice_index e.targets j)) within (passed.cells k j lo hi);
+  entry = Within-trans (bit_and (slice_index marks k) (enters_at e k)) (bit_and (slice_index carried k) (enters_at e k)) (slice_index marks (entry_at e k))
+      (and_within (slice_index marks k) (slice_index carried k) (enters_at e k) within) (passed.entry k);
+}
+
+pub flowing_end : (e : Edges) (old marks carried : List ℕ) → Flowing e old marks carried [] → IsPassed e marks carried → IsFlow e old marks
+flowing_end e old marks carried h passed = record {
   len = h.len;
   grows = h.grows;
-  settled = λ k lt. elim (h.settled k (let e = h.len in omega arith)) [ inl no_one ↦ absurd no_one | inr s ↦ s ];
+  settled = λ k lt. elim (h.listed k) [ inl no_one ↦ absurd no_one | inr within ↦ settled e marks carried k passed within ];
   sound = h.sound;
   no_rise = h.no_rise;
 }
 
-pub both_bits : (m f g : ℕ) → bit_at (bit_and m f) g ≡ 1 → (bit_at m g ≡ 1) × (bit_at f g ≡ 1)
-both_bits m f g h = at_least _ _ _ (bit_at_and m f g) h (bit_at-lt m g) (bit_at-lt f g)
-  where
-    at_least : (x y z : ℕ) → z ≡ min x y → z ≡ 1 → x < 2 → y < 2 → (x ≡ 1) × (y ≡ 1)
-    at_least x y z e h a b = (omega arith, omega arith)
-
--- a node whose mark stays is settled still
-settled_still : (e : Edges) (a b : List ℕ) (k : ℕ) → slice_index b k ≡ slice_index a k → ((n : ℕ) → Within (slice_index a n) (slice_index b n)) → Settled e a k → Settled e b k
-settled_still e a b k same grows s = record {
-  cells = λ j lo hi. subst (λ v. Within v (slice_index b (slice_index e.targets j))) (sym same)
-      (Within-trans (slice_index a k) (slice_index a (slice_index e.targets j)) (slice_index b (slice_index e.targets j)) (s.cells j lo hi) (grows (slice_index e.targets j)));
-  entry = subst (λ v. Within (bit_and v (enters_at e k)) (slice_index b (entry_at e k))) (sym same)
-      (Within-trans (bit_and (slice_index a k) (enters_at e k)) (slice_index a (entry_at e k)) (slice_index b (entry_at e k)) s.entry (grows (entry_at e k)));
-}
-
-module _ (e : Edges) (old marks p a q b r : List ℕ) (k : ℕ) (h : Flowing e old marks (p ++ k ∷ [])) (lt : k < length old)
-    (v : Carried (IsAmong e.targets (low_at e k) (high_at e k)) marks p (slice_index marks k) a q)
-    (c : Carried (λ t. t ≡ entry_at e k) a q (bit_and (slice_index marks k) (enters_at e k)) b r) where
-  grew : (n : ℕ) → Within (slice_index marks n) (slice_index b n)
-  grew n = Within-trans (slice_index marks n) (slice_index a n) (slice_index b n) (v.grows n) (c.grows n)
-
-  changed : (n : ℕ) → (slice_index b n ≡ slice_index marks n) ⊎ IsIn n r
-  changed n = elim (c.changed n) [
-    | inr x ↦ inr x
-    | inl x ↦ elim (v.changed n) [ inr y ↦ inr (c.keeps n y) | inl y ↦ inl (x ∙ y) ]
-  ]
-
-  -- the node itself, where its mark stayed
-  itself : slice_index b k ≡ slice_index marks k → Settled e b k
-  itself same = record {
-    cells = λ j lo hi. subst (λ w. Within w (slice_index b (slice_index e.targets j))) (sym same)
-        (Within-trans (slice_index marks k) (slice_index a (slice_index e.targets j)) (slice_index b (slice_index e.targets j))
-        (v.each (slice_index e.targets j) (record { at = j; low = lo; high = hi; is = refl })) (c.grows (slice_index e.targets j)));
-    entry = subst (λ w. Within (bit_and w (enters_at e k)) (slice_index b (entry_at e k))) (sym same) (c.each (entry_at e k) refl);
-  }
-
-  settled_after : (n : ℕ) → n < length old → IsIn n r ⊎ Settled e b n
-  settled_after n small = elim (h.settled n small) [
-    | inr s ↦ elim (changed n) [ inr x ↦ inl x | inl same ↦ inr (settled_still e marks b n same grew s) ]
-    | inl x ↦ elim (in_push_cases n p k x) [
-      | inl y ↦ inl (c.keeps n (v.keeps n y))
-      | inr is ↦ elim (changed n) [ inr y ↦ inl y | inl same ↦ inr (subst (Settled e b) (sym is) (itself (subst (λ w. slice_index b w ≡ slice_index marks w) is same))) ]
-    ]
-  ]
-
+module _ (e : Edges) (old marks carried p a q b carried2 r : List ℕ) (k : ℕ) (all : List ℕ) (h : Flowing e old marks carried all) (t : IsTaken k all p) (lt : k < length old)
+    (c : Carried (λ t. t ≡ entry_at e k) marks p (bit_and (slice_index marks k) (enters_at e k)) a q)
+    (v : Carried (IsAmong e.targets (low_at e k) (high_at e k)) a q (slice_index marks k) b r) where
   sound_a : (n g : ℕ) → Has a n g → Flows e old g n
-  sound_a n g x = elim (v.only n g x) [
+  sound_a n g x = elim (c.only n g x) [
     | inl y ↦ h.sound n g y
-    | inr y ↦ along k y.0.at (h.sound k g y.1) lt y.0.low y.0.high y.0.is
-  ]
-
-  sound_b : (n g : ℕ) → Has b n g → Flows e old g n
-  sound_b n g x = elim (c.only n g x) [
-    | inl y ↦ sound_a n g y
     | inr y ↦ let two = both_bits (slice_index marks k) (enters_at e k) g y.1 in through k (h.sound k g two.0) lt two.1 (sym y.0)
   ]
 
-  pub flowing_step : Flowing e old b r
-  flowing_step = record {
+  sound_b : (n g : ℕ) → Has b n g → Flows e old g n
+  sound_b n g x = elim (v.only n g x) [
+    | inl y ↦ sound_a n g y
+    | inr y ↦ along k y.0.at (h.sound k g y.1) lt y.0.low y.0.high y.0.is
+  ]
+
+  pub flowing_step : ((n : ℕ) → IsListed b carried2 r n) → Flowing e old b carried2 r
+  flowing_step listed = record {
     fits = h.fits;
-    len = c.len ∙ v.len ∙ h.len;
-    grows = λ n. Within-trans (slice_index old n) (slice_index marks n) (slice_index b n) (h.grows n) (grew n);
-    listed = λ n x. elim (c.bounded n x) [
-      | inr y ↦ let e1 = v.len in let e2 = h.len in omega arith
-      | inl y ↦ elim (v.bounded n y) [
+    len = v.len ∙ c.len ∙ h.len;
+    grows = λ n. Within-trans (slice_index old n) (slice_index marks n) (slice_index b n) (h.grows n) (Within-trans (slice_index marks n) (slice_index a n) (slice_index b n) (c.grows n) (v.grows n));
+    nodes = λ n x. elim (v.bounded n x) [
+      | inr y ↦ let e1 = c.len in let e2 = h.len in omega arith
+      | inl y ↦ elim (c.bounded n y) [
         | inr z ↦ let e2 = h.len in omega arith
-        | inl z ↦ h.listed n (in_push n z)
+        | inl z ↦ h.nodes n (t.keeps n z)
       ]
     ];
-    settled = settled_after;
+    listed = listed;
     sound = sound_b;
     no_rise = let x = h.no_rise in let y = v.no_rise in let z = c.no_rise in omega arith;
   }
-    where
-      in_push : (n : ℕ) → IsIn n p → IsIn n (p ++ k ∷ [])
-      in_push n z = in_push_left n p k z

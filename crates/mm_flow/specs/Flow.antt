@@ -1,5 +1,5 @@
 -- Marks that flow along edges: a node's mark is a mask of groups.
-use Rattle.std.specs.Prelude.{◌≡◌, ℕ, ◌+◌, ◌-◌, ◌*◌, ◌^◌, ◌<◌, ◌≤◌, ◌⊎◌, List, [], ◌∷◌, length, slice_index, bit_and}
+use Rattle.std.specs.Prelude.{◌≡◌, ℕ, ◌+◌, ◌-◌, ◌*◌, ◌^◌, ◌<◌, ◌≤◌, ◌⊎◌, List, [], ◌∷◌, length, slice_index, bit_and, bit_or}
 use Rattle.std.specs.Int.{bit_at}
 use Rattle.mm_flow.specs.Net.{Edges, low_at, high_at, entry_at, enters_at}
 
@@ -45,17 +45,31 @@ abbrev pub IsIn : ℕ → List ℕ → Type 0
 IsIn x [] = ⊥
 IsIn x (y ∷ ys) = (x ≡ y) ⊎ IsIn x ys
 
--- the mask was carried to each target, what it changed is pending, and the measure did not rise
+-- the mask was carried to each target, and the measure did not rise
 pub record Carried (T : ℕ → Type 0) (old p : List ℕ) (mask : ℕ) (new q : List ℕ) : Type 0 where
   pub len : length new ≡ length old
   pub grows : (k : ℕ) → Within (slice_index old k) (slice_index new k)
   pub each : (t : ℕ) → T t → Within mask (slice_index new t)
-  pub changed : (k : ℕ) → (slice_index new k ≡ slice_index old k) ⊎ IsIn k q
   pub keeps : (k : ℕ) → IsIn k p → IsIn k q
   pub only : (k g : ℕ) → Has new k g → Has old k g ⊎ (T k × (bit_at mask g ≡ 1))
   pub bounded : (k : ℕ) → IsIn k q → IsIn k p ⊎ (k < length old)
   pub no_rise : room (2 ^ 64) new ≤ room (2 ^ 64) old
   pub room : 2 * room (2 ^ 64) new + length q ≤ 2 * room (2 ^ 64) old + length p
+
+-- the node was taken out of all that were pending
+pub record IsTaken (k : ℕ) (all rest : List ℕ) : Type 0 where
+  pub there : IsIn k all
+  pub cases : (n : ℕ) → IsIn n all → (n ≡ k) ⊎ IsIn n rest
+  pub keeps : (n : ℕ) → IsIn n rest → IsIn n all
+  pub len : length rest + 1 ≡ length all
+
+-- the node carries its mark already, or is pending
+abbrev pub IsListed : List ℕ → List ℕ → List ℕ → ℕ → Type 0
+IsListed marks carried pending k = IsIn k pending ⊎ Within (slice_index marks k) (slice_index carried k)
+
+-- and so it stays
+abbrev pub StaysListed : List ℕ → List ℕ → List ℕ → List ℕ → List ℕ → Type 0
+StaysListed carried old p new q = (k : ℕ) → IsListed old carried p k → IsListed new carried q k
 
 -- the node is a target at a place from lo up to hi
 pub record IsAmong (targets : List ℕ) (lo hi t : ℕ) : Type 0 where
@@ -65,18 +79,56 @@ pub record IsAmong (targets : List ℕ) (lo hi t : ℕ) : Type 0 where
   pub is : slice_index targets at ≡ t
 
 -- what stands while the pending nodes are worked off
-pub record Flowing (e : Edges) (old marks pending : List ℕ) : Type 0 where
+pub record Flowing (e : Edges) (old marks carried pending : List ℕ) : Type 0 where
   pub fits : Fits e (length old)
   pub len : length marks ≡ length old
   pub grows : (k : ℕ) → Within (slice_index old k) (slice_index marks k)
-  pub listed : (k : ℕ) → IsIn k pending → k < length old
-  pub settled : (k : ℕ) → k < length old → IsIn k pending ⊎ Settled e marks k
+  pub nodes : (k : ℕ) → IsIn k pending → k < length old
+  pub listed : (k : ℕ) → IsListed marks carried pending k
   pub sound : (k g : ℕ) → Has marks k g → Flows e old g k
   pub no_rise : room (2 ^ 64) marks ≤ room (2 ^ 64) old
+
+-- what a node carries is at all its targets
+pub record IsPassed (e : Edges) (marks carried : List ℕ) : Type 0 where
+  pub cells : (i j : ℕ) → low_at e i ≤ j → j < high_at e i → Within (slice_index carried i) (slice_index marks (slice_index e.targets j))
+  pub entry : (i : ℕ) → Within (bit_and (slice_index carried i) (enters_at e i)) (slice_index marks (entry_at e i))
+
+-- for each of n nodes a later one, or the number of nodes
+pub record IsAhead (after : List ℕ) (n : ℕ) : Type 0 where
+  pub len : length after ≡ n
+  pub later : (k : ℕ) → k < n → k < slice_index after k
+  pub ends : (k : ℕ) → k < n → slice_index after k ≤ n
+
+-- the targets of the first node are targets of the second
+abbrev pub IsInner : Edges → ℕ → ℕ → Type 0
+IsInner e i k = (low_at e k ≤ low_at e i) × (high_at e i ≤ high_at e k)
+
+-- one step of the way over the nodes from k on, with k's targets at places before `done` done: the node `at` was passed by, or carries
+-- the mask from now on
+pub record Walked (e : Edges) (k mask at done : ℕ) (old p carried : List ℕ) (at2 done2 : ℕ) (new q carried2 : List ℕ) : Type 0 where
+  pub forth : at < at2
+  pub low : done ≤ done2
+  pub high : done2 ≤ high_at e k
+  pub marks : Carried (IsAmong e.targets done done2) old p mask new q
+  pub stays : StaysListed carried old p new q
+  pub len : length carried2 ≡ length carried
+  pub others : (i : ℕ) → (i ≡ at → ⊥) → slice_index carried2 i ≡ slice_index carried i
+  pub own : (slice_index carried2 at ≡ slice_index carried at) ⊎ ((slice_index carried2 at ≡ bit_or (slice_index carried at) mask) × IsInner e at k × (enters_at e at ≡ 0))
+
+-- what stands on that way: what a node carries is at its targets, or will be, since it is the mask and they are targets of k
+pub record Walking (e : Edges) (k mask at done : ℕ) (old p new q carried : List ℕ) : Type 0 where
+  pub low : low_at e k ≤ done
+  pub high : done ≤ high_at e k
+  pub marks : Carried (IsAmong e.targets (low_at e k) done) old p mask new q
+  pub listed : (i : ℕ) → IsListed new carried q i
+  pub len : length carried ≡ length old
+  pub ahead : (i j : ℕ) → at ≤ i → low_at e i ≤ j → j < high_at e i → Within (slice_index carried i) (slice_index new (slice_index e.targets j))
+  pub entry : (i : ℕ) → Within (bit_and (slice_index carried i) (enters_at e i)) (slice_index new (entry_at e i))
+  pub behind : (i j g : ℕ) → low_at e i ≤ j → j < high_at e i → Has carried i g → Has new (slice_index e.targets j) g ⊎ ((bit_at mask g ≡ 1) × IsInner e i k)
 
 -- one node was worked off
 pub record Stepped (e : Edges) (k : ℕ) (old p new q : List ℕ) : Type 0 where
   pub marks : List ℕ
   pub pending : List ℕ
-  pub cells : Carried (IsAmong e.targets (low_at e k) (high_at e k)) old p (slice_index old k) marks pending
-  pub entry : Carried (λ t. t ≡ entry_at e k) marks pending (bit_and (slice_index old k) (enters_at e k)) new q
+  pub entry : Carried (λ t. t ≡ entry_at e k) old p (bit_and (slice_index old k) (enters_at e k)) marks pending
+  pub cells : Carried (IsAmong e.targets (low_at e k) (high_at e k)) marks pending (slice_index old k) new q

@@ -1,5 +1,6 @@
 // The nearest segment above each.
-ghost use Rattle.std.specs.Prelude.{◌≡◌, ℕ, ◌<◌, ◌≤◌, IfOk, length, slice_index};
+ghost use Rattle.std.specs.Prelude.{◌≡◌, ℕ, ◌<◌, ◌≤◌, IfOk, length, slice_index, max};
+ghost use Rattle.mm_flow.specs.Flow.{IsAhead};
 ghost use Rattle.mm_flow.specs.Forest.{IsNested, IsForest, Climbed};
 
 use std::alloc::{AllocError, Global};
@@ -39,4 +40,45 @@ pub fn parents(alloc: Global, bases: &[u64], ends: &[u64]) -> Result<Vec<usize>,
         par.push(up)?;
     }
     Ok(par)
+}
+
+/// For each of `n` nodes the next one.
+fn next_ones(alloc: Global, n: usize) -> Result<Vec<usize>, AllocError>
+    ensures { IfOk result (λ v. IsAhead v.items n) }
+{
+    let mut next = Vec::new(alloc);
+    for k in 0..n {
+        next.push(k + 1)?;
+    }
+    Ok(next)
+}
+
+/// The greater of two numbers.
+pub fn greater(a: usize, b: usize) -> usize
+    ensures { result ≡ max a b }
+{
+    if a < b { b } else { a }
+}
+
+/// Makes each node's number at least that of each node whose parent it is.
+fn join_up(next: &mut [usize], parents: &[usize])
+    requires { IsAhead next.old (length parents.now) }
+    ensures { IsAhead next.new (length parents.now) }
+{
+    for k in 0..parents.len() {
+        let child = parents.len() - 1 - k;
+        let up = parents[child];
+        if up < child {
+            next[up] = greater(next[up], next[child]);
+        }
+    }
+}
+
+/// For each node the first one behind all that it is above.
+pub fn after(alloc: Global, parents: &[usize]) -> Result<Vec<usize>, AllocError>
+    ensures { IfOk result (λ v. IsAhead v.items (length parents.now)) }
+{
+    let mut next = next_ones(alloc, parents.len())?;
+    join_up(&mut next, parents);
+    Ok(next)
 }

@@ -64,15 +64,32 @@ pub fn given(mask: u64, gives: &[u64]) -> u64
     all
 }
 
+/// What the groups of the mask give, where those of the last one give `gift`.
+fn given_next(last: u64, gift: u64, mask: u64, gives: &[u64]) -> u64
+    requires len { length gives.now ≡ 64 }
+    requires gift { (g : ℕ) → (bit_at gift g ≡ 1) ↔ GivenBy 64 last gives.now g }
+    ensures { (g : ℕ) → (bit_at result g ≡ 1) ↔ GivenBy 64 mask gives.now g }
+{
+    if mask == last {
+        gift
+    } else {
+        given(mask, gives)
+    }
+}
+
 /// Each node's mark gets what its groups give; answers whether a mark changed.
 pub fn spread(marks: &mut [u64], gives: &[u64]) -> bool
     requires { length gives.now ≡ 64 }
     ensures { IsSpread gives.now marks.old marks.new result }
 {
     let mut changed = false;
+    let mut last = 0;
+    let mut gift = 0;
     for k in 0..marks.len() {
         let old = marks[k];
-        let new = old | given(old, gives);
+        gift = given_next(last, gift, old, gives);
+        last = old;
+        let new = old | gift;
         if new != old {
             marks[k] = new;
             changed = true;

@@ -9,6 +9,7 @@ mod flow;
 mod forest;
 mod gifts;
 mod node;
+mod pending;
 mod reach;
 
 pub use forest::parents;

@@ -2,10 +2,11 @@
 ghost use Rattle.std.specs.Prelude.{◌≡◌, ℕ, ◌^◌, ◌<◌, ◌≤◌, ◌↔◌, IfOk, length, slice_index};
 ghost use Rattle.std.specs.Int.{bit_at};
 ghost use Rattle.mm_flow.specs.Net.{right_at};
-ghost use Rattle.mm_flow.specs.Flow.{Fits};
+ghost use Rattle.mm_flow.specs.Flow.{Fits, IsAhead, IsPassed};
 ghost use Rattle.mm_flow.specs.Reached.{TiesFit, HasSome, IsGifts, Gifting, IsReach};
 
 use crate::flow::flow;
+use crate::forest::after;
 use crate::gifts::{give, kept, lift, spread};
 use crate::node::{Node, Right};
 use std::alloc::{AllocError, Global};
@@ -29,8 +30,14 @@ fn fill(gives: &mut [u64], writes: &[u64], touches: &[u64])
     requires same { length touches.now ≡ length writes.now }
     ensures { Gifting gives.old writes.now touches.now (length writes.now) gives.new }
 {
+    let mut from = 0;
+    let mut to = 0;
     for m in 0..writes.len() {
-        give(gives, writes[m], touches[m]);
+        if writes[m] != from || touches[m] != to {
+            from = writes[m];
+            to = touches[m];
+            give(gives, from, to);
+        }
     }
 }
 
@@ -54,6 +61,37 @@ fn gifts(
     Ok(())
 }
 
+/// Spreads marks along edges and by gifts, until nothing changes. `carried` and `after` are as in `flow`.
+fn settle(
+    alloc: Global,
+    marks: &mut [u64],
+    carried: &mut [u64],
+    nodes: &[Node],
+    targets: &[usize],
+    after: &[usize],
+    parents: &[usize],
+    links: [u64; 64],
+) -> Result<(), AllocError>
+    requires edges { Fits (record { nodes = nodes.now; targets = targets.now }) (length marks.old) }
+    requires ties { TiesFit (record { nodes = nodes.now; parents = parents.now; links = links }) (length marks.old) }
+    requires ahead { IsAhead after.now (length marks.old) }
+    requires len { length carried.old ≡ length marks.old }
+    requires passed { IsPassed (record { nodes = nodes.now; targets = targets.now }) marks.old carried.old }
+    ensures reach { IfOk
+        result
+        (λ _. IsReach (record { nodes = nodes.now; targets = targets.now }) (record { nodes = nodes.now; parents = parents.now; links = links }) marks.old marks.new) }
+    ensures fits { IfOk result (λ _. (k : ℕ) → slice_index marks.new k < 2 ^ 64) }
+{
+    loop {
+        flow(alloc, marks, carried, nodes, targets, after)?;
+        let mut gives = links;
+        gifts(alloc, marks, nodes, parents, &mut gives)?;
+        if !spread(marks, &gives) {
+            return Ok(());
+        }
+    }
+}
+
 /// Marks all that each group reaches.
 pub fn saturate(
     alloc: Global,
@@ -70,12 +108,17 @@ pub fn saturate(
         (λ _. IsReach (record { nodes = nodes.now; targets = targets.now }) (record { nodes = nodes.now; parents = parents.now; links = links }) marks.old marks.new) }
     ensures fits { IfOk result (λ _. (k : ℕ) → slice_index marks.new k < 2 ^ 64) }
 {
-    loop {
-        flow(alloc, marks, nodes, targets)?;
-        let mut gives = links;
-        gifts(alloc, marks, nodes, parents, &mut gives)?;
-        if !spread(marks, &gives) {
-            return Ok(());
-        }
-    }
+    let after = after(alloc, parents)?;
+    let mut carried = vec![in alloc; 0u64; marks.len()]?;
+    settle(
+        alloc,
+        marks,
+        &mut carried,
+        nodes,
+        targets,
+        &after,
+        parents,
+        links,
+    )?;
+    Ok(())
 }

@@ -1,12 +1,12 @@
 -- Links, one after the other.
-use Rattle.std.proofs.Common.{◌≡◌, ℕ, ◌+◌, ◌<◌, inl, inr, List, length, Some, get_or, refl, sym, ap, ◌∙◌, subst, arith}
+use Rattle.std.proofs.Common.{◌≡◌, ℕ, ◌+◌, ◌<◌, inl, inr, List, length, get_or, sym, ap, ◌∙◌, subst, arith}
 use Rattle.std.specs.List.{Contains}
 use Rattle.std.proofs.lemmas.List.{get_or_read}
 use Rattle.mm_flow.specs.Flow.{Has}
 use Rattle.mm_flow.proofs.Masks.{below_cases}
 use Rattle.mm_model.specs.Slot.{Slot}
 use Rattle.mm_graph.specs.Linking.{IsLink, Handles, LinksTo, ServedBy, LinksOne}
-use Rattle.mm_graph.specs.Nodes.{AreLinked, IsLinks}
+use Rattle.mm_graph.specs.Nodes.{AreLinked}
 use Rattle.mm_graph.proofs.OneBits.{with_bit, with_bit-only, with_bit-keeps, with_bit-there, with_bit-length}
 
 pub both_ways : (old : List ℕ) (a b : ℕ) → length old ≡ 64 → a < 64 → b < 64 → IsLink a b old (with_bit (with_bit old a b) b a)

@@ -1,14 +1,16 @@
 -- Lists of keys.
-use Rattle.std.proofs.Common.{◌≡◌, ℕ, zero, suc, ◌+◌, ◌<◌, ◌⊎◌, ◌↔◌, inl, inr, List, [], ◌∷◌, ◌++◌, length, take, map, get_or, Option, Some, None, refl, sym, ap, ◌∙◌, subst, arith}
+use Rattle.std.proofs.Common.{◌≡◌, ℕ, zero, suc, ◌+◌, ◌<◌, ◌⊎◌, ◌↔◌, inl, inr, List, [], ◌∷◌, ◌++◌, length, length-append, slice_index_or, take, map, get_or, Option, Some, None, refl, sym, ap, ◌∙◌, subst, arith}
 use Rattle.std.specs.List.{Contains, All, filter_map, cons_option}
 use Rattle.std.specs.Option.{option_to_list}
-use Rattle.std.proofs.lemmas.List.{take_more}
+use Rattle.std.proofs.lemmas.List.{take_more, get_or_append_left, get_or-map, length-map}
 use Rattle.std.proofs.lemmas.List.Elements.{filter_map-append, All-append, All-map, All-contains, Contains-get_or, Contains-append_left, Contains-append_right, Contains-append_cases}
 use Rattle.mm_graph.specs.declared.key.Key.{Key}
 use Rattle.mm_graph.specs.declared.found.Found.{Found}
 use Rattle.mm_graph.specs.declared.seed.Seed.{Seed}
-use Rattle.mm_graph.specs.Key.{IsKey, IsRising, entry_key}
-use Rattle.mm_graph.specs.Nodes.{IsKeysOf}
+use Rattle.mm_graph.specs.declared.placed.Placed.{Placed}
+use Rattle.mm_graph.specs.Key.{IsKey, IsRising, entry_key, key_at, no_key}
+use Rattle.mm_graph.specs.Placed.{held_keys, all_keys_of, IsPlaced, HasTargets}
+use Rattle.mm_graph.specs.Nodes.{IsKeysOf, IsTargets, nothing}
 use Rattle.mm_graph.proofs.Standing.{entry_again}
 
 cons_list : {A : Type 0} (o : Option A) → cons_option o [] ≡ option_to_list o
@@ -73,47 +75,76 @@ pub all_from_contains : {A : Type 0} (P : A → Type 0) (xs : List A) → ((x : 
 all_from_contains P xs f = λ k d lt. f (get_or xs k d) (Contains-get_or xs k d lt)
 
 -- the keys of what was found and of seeds
-module _ (found : List Found) (seeds : List Seed) (xs ys zs : List Key) (none : xs ≡ []) (first : ys ≡ xs ++ map (λ (f : Found). f.key) found) (second : zs ≡ ys ++ map (λ (s : Seed). s.key) seeds)
-    (of_found : All (λ (f : Found). IsKey f.key) found) (of_seeds : All (λ (s : Seed). IsKey s.key) seeds) where
-  joined : zs ≡ map (λ (f : Found). f.key) found ++ map (λ (s : Seed). s.key) seeds
-  joined = second ∙ ap (λ v. v ++ map (λ (s : Seed). s.key) seeds) (first ∙ ap (λ v. v ++ map (λ (f : Found). f.key) found) none)
+module _ (found : List Found) (seeds : List Seed) where
+  pub held_is : (xs ys zs : List Key) → xs ≡ [] → ys ≡ xs ++ map (λ (f : Found). f.key) found → zs ≡ ys ++ map (λ (s : Seed). s.key) seeds → zs ≡ held_keys found seeds
+  held_is xs ys zs none first second = second ∙ ap (λ v. v ++ map (λ (s : Seed). s.key) seeds) (first ∙ ap (λ v. v ++ map (λ (f : Found). f.key) found) none)
 
-  pub all_keys : All IsKey zs
-  all_keys = subst (All IsKey) (sym joined) (All-append IsKey _ _ (All-map IsKey (λ (f : Found). f.key) found of_found) (All-map IsKey (λ (s : Seed). s.key) seeds of_seeds))
+  pub all_is : (zs ws : List Key) → zs ≡ held_keys found seeds → ws ≡ zs ++ filter_map entry_key zs → ws ≡ all_keys_of found seeds
+  all_is zs ws is third = third ∙ ap (λ v. v ++ filter_map entry_key v) is
 
-  module _ (ws new : List Key) (third : ws ≡ zs ++ filter_map entry_key zs) (rising : IsRising new) (same : (x : Key) → Contains new x ↔ Contains ws x) where
+  pub held_are_keys : (zs : List Key) → zs ≡ held_keys found seeds → All (λ (f : Found). IsKey f.key) found → All (λ (s : Seed). IsKey s.key) seeds → All IsKey zs
+  held_are_keys zs is of_found of_seeds = subst (All IsKey) (sym is) (All-append IsKey _ _ (All-map IsKey (λ (f : Found). f.key) found of_found) (All-map IsKey (λ (s : Seed). s.key) seeds of_seeds))
+
+  pub key_of_found : (j : ℕ) → j < length found → key_at (all_keys_of found seeds) j ≡ (slice_index_or found j nothing).key
+  key_of_found j lt =
+      let le : j < length (map (λ (f : Found). f.key) found) = subst (λ v. j < v) (sym (length-map found (λ (f : Found). f.key))) lt in
+      let more : j < length (held_keys found seeds) = (let e = length-append (map (λ (f : Found). f.key) found) (map (λ (s : Seed). s.key) seeds) in omega arith) in
+      get_or_append_left (held_keys found seeds) (filter_map entry_key (held_keys found seeds)) no_key j more
+      ∙ get_or_append_left (map (λ (f : Found). f.key) found) (map (λ (s : Seed). s.key) seeds) no_key j le
+      ∙ get_or-map (λ (f : Found). f.key) found j nothing no_key lt
+
+  pub found_fits : (j : ℕ) → j < length found → j < length (all_keys_of found seeds)
+  found_fits j lt =
+      let e = length-map found (λ (f : Found). f.key) in
+      let one = length-append (map (λ (f : Found). f.key) found) (map (λ (s : Seed). s.key) seeds) in
+      let two = length-append (held_keys found seeds) (filter_map entry_key (held_keys found seeds)) in
+      omega arith
+
+  pub targets_made : (keys : List Key) (placed : List Placed) (targets : List ℕ) → length targets ≡ length found → IsPlaced (all_keys_of found seeds) placed → HasTargets keys placed targets → IsTargets keys found targets
+  targets_made keys placed targets len is has = record {
+    len = len;
+    small = λ j lt. (has (all_keys_of found seeds) is j (found_fits j lt) (omega arith)).0;
+    at = λ j lt. (has (all_keys_of found seeds) is j (found_fits j lt) (omega arith)).1 ∙ key_of_found j lt;
+  }
+
+  module _ (of_found : All (λ (f : Found). IsKey f.key) found) (of_seeds : All (λ (s : Seed). IsKey s.key) seeds) (new : List Key) (rising : IsRising new) (same : (x : Key) → Contains new x ↔ Contains (all_keys_of found seeds) x) where
+    abbrev zs : List Key
+    zs = held_keys found seeds
+
     into : (x : Key) → Contains zs x → Contains new x
-    into x m = (same x).1 (subst (λ v. Contains v x) (sym third) (Contains-append_left zs (filter_map entry_key zs) x m))
+    into x m = (same x).1 (Contains-append_left zs (filter_map entry_key zs) x m)
 
     data Origin (x : Key) : Type 0 where
       direct : Contains zs x → Origin x
       entry : Gives entry_key zs x → Origin x
 
     origin : (x : Key) → Contains new x → Origin x
-    origin x m = elim (Contains-append_cases zs (filter_map entry_key zs) x (subst (λ v. Contains v x) third ((same x).0 m))) [
+    origin x m = elim (Contains-append_cases zs (filter_map entry_key zs) x ((same x).0 m)) [
       | inl a ↦ direct a
       | inr b ↦ entry (from_filter_map entry_key zs x b)
     ]
 
     entry_in : (k x : Key) → Contains zs k → entry_key k ≡ Some x → Contains new x
-    entry_in k x m e = (same x).1 (subst (λ v. Contains v x) (sym third) (Contains-append_right zs (filter_map entry_key zs) x (in_filter_map entry_key zs k x m e)))
+    entry_in k x m e = (same x).1 (Contains-append_right zs (filter_map entry_key zs) x (in_filter_map entry_key zs k x m e))
 
     same_some : {x y : Key} → ◌≡◌ {A = Option Key} (Some x) (Some y) → x ≡ y
     same_some h = cc
 
     pub keys_made : ((k x : Key) → IsKey k → entry_key k ≡ Some x → IsKey x) → IsKeysOf found seeds new
-    keys_made keys = record {
-      rising = rising;
-      all = all_from_contains IsKey new (λ x m. elim (origin x m) [
-        | direct a ↦ All-contains IsKey zs x all_keys a
-        | entry g ↦ keys g.from x (All-contains IsKey zs g.from all_keys g.is_in) g.gives
-      ]);
-      of_found = λ f m. into f.key (subst (λ v. Contains v f.key) (sym joined) (Contains-append_left _ _ f.key (in_map (λ (v : Found). v.key) found f m)));
-      of_seeds = λ s m. into s.key (subst (λ v. Contains v s.key) (sym joined) (Contains-append_right _ _ s.key (in_map (λ (v : Seed). v.key) seeds s m)));
-      of_entries = λ k x m e. elim (origin k m) [
-        | direct a ↦ entry_in k x a e
-        | entry g ↦
-            let again = entry_again g.from k (All-contains IsKey zs g.from all_keys g.is_in).well_formed g.gives in
-            subst (Contains new) (same_some (sym again ∙ e)) m
-      ];
-    }
+    keys_made keys =
+        let all_keys = held_are_keys zs refl of_found of_seeds in
+        record {
+          rising = rising;
+          all = all_from_contains IsKey new (λ x m. elim (origin x m) [
+            | direct a ↦ All-contains IsKey zs x all_keys a
+            | entry g ↦ keys g.from x (All-contains IsKey zs g.from all_keys g.is_in) g.gives
+          ]);
+          of_found = λ f m. into f.key (Contains-append_left _ _ f.key (in_map (λ (v : Found). v.key) found f m));
+          of_seeds = λ s m. into s.key (Contains-append_right _ _ s.key (in_map (λ (v : Seed). v.key) seeds s m));
+          of_entries = λ k x m e. elim (origin k m) [
+            | direct a ↦ entry_in k x a e
+            | entry g ↦
+                let again = entry_again g.from k (All-contains IsKey zs g.from all_keys g.is_in).well_formed g.gives in
+                subst (Contains new) (same_some (sym again ∙ e)) m
+          ];
+        }

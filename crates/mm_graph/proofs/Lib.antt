@@ -5,6 +5,7 @@ pub mod GroupLinks
 pub mod Marking
 pub mod Standing
 pub mod KeyLists
+pub mod Places
 pub mod EntryKeys
 pub mod Nesting
 pub mod EntryMasks

@@ -1,5 +1,6 @@
 pub mod Key
 pub mod Found
+pub mod Placed
 pub mod Nodes
 pub mod Marking
 pub mod Linking

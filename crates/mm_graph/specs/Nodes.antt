@@ -34,6 +34,13 @@ pub record IsBefore (found : List Found) (a r : ℕ) : Type 0 where
   pub before : (j : ℕ) → j < r → found_word found j < a
   pub after : (j : ℕ) → r ≤ j → j < length found → a ≤ found_word found j
 
+-- and bounds of this number
+pub record IsBounds (found : List Found) (a low high : ℕ) : Type 0 where
+  pub order : low ≤ high
+  pub fits : high ≤ length found
+  pub before : (j : ℕ) → j < low → found_word found j < a
+  pub after : (j : ℕ) → high ≤ j → j < length found → a ≤ found_word found j
+
 -- the places from one up to another are those of the words that a pointer loads
 pub record IsRange (found : List Found) (p : Pointer) (low high : ℕ) : Type 0 where
   pub order : low ≤ high

@@ -1,16 +1,21 @@
 // The keys of a net.
-ghost use Rattle.std.specs.Prelude.{◌≡◌, ◌++◌, All, OnOk, IfOk, map};
+ghost use Rattle.std.specs.Prelude.{◌≡◌, ◌++◌, ◌↔◌, All, Contains, OnOk, IfOk, map};
 ghost use Rattle.std.specs.List.{filter_map};
 ghost use Rattle.std.specs.Option.{option_to_list};
 ghost use Rattle.mm_graph.specs.declared.found.Found.{Found as FoundType};
 ghost use Rattle.mm_graph.specs.declared.seed.Seed.{Seed as SeedType};
-ghost use Rattle.mm_graph.specs.Key.{IsKey, entry_key};
-ghost use Rattle.mm_graph.specs.Nodes.{IsKeysOf};
+ghost use Rattle.mm_graph.specs.declared.key.Key.{Key as KeyType};
+ghost use Rattle.mm_graph.specs.declared.placed.Placed.{Placed as PlacedType};
+ghost use Rattle.mm_graph.specs.Key.{IsKey, IsRising, entry_key};
+ghost use Rattle.mm_graph.specs.Placed.{all_keys_of, IsPlaced};
+ghost use Rattle.mm_graph.specs.Nodes.{IsKeysOf, IsTargets};
 
 use crate::found::Found;
 use crate::key::Key;
 use crate::order::put_in_order;
+use crate::placed::{Placed, in_order, keys_in};
 use crate::seed::Seed;
+use crate::targets::targets_of;
 use std::alloc::{AllocError, Global};
 
 /// Adds the keys of what was found.
@@ -57,16 +62,54 @@ fn add_entries(keys: &mut Vec<Key>) -> Result<(), AllocError>
     Ok(())
 }
 
-/// The keys of what was found and of seeds, and of what entries by them give, in their order.
-pub fn keys_of(alloc: Global, found: &[Found], seeds: &[Seed]) -> Result<Vec<Key>, AllocError>
+/// The keys of what was found and of seeds, and of what entries by them give, those of what was found first.
+fn all_keys(alloc: Global, found: &[Found], seeds: &[Seed]) -> Result<Vec<Key>, AllocError>
     requires found { All (λ f. IsKey f.key) found.now }
     requires seeds { All (λ s. IsKey s.key) seeds.now }
-    ensures { IfOk result (λ keys. IsKeysOf found.now seeds.now keys.items) }
+    ensures { IfOk result (λ keys. keys.items ≡ all_keys_of found.now seeds.now) }
 {
     let mut keys = Vec::new(alloc);
     add_found(&mut keys, found)?;
     add_seeds(&mut keys, seeds)?;
     add_entries(&mut keys)?;
+    Ok(keys)
+}
+
+/// All these keys with their places.
+fn ordered(alloc: Global, found: &[Found], seeds: &[Seed]) -> Result<Vec<Placed>, AllocError>
+    requires found { All (λ f. IsKey f.key) found.now }
+    requires seeds { All (λ s. IsKey s.key) seeds.now }
+    ensures { IfOk result (λ placed. IsPlaced (all_keys_of found.now seeds.now) placed.items) }
+{
+    let keys = all_keys(alloc, found, seeds)?;
+    let order = in_order(alloc, &keys)?;
+    Ok(order)
+}
+
+/// The keys of a list with their places, in their order, each once.
+fn keys_of(alloc: Global, placed: &[Placed]) -> Result<Vec<Key>, AllocError>
+    ensures rising { IfOk result (λ keys. IsRising keys.items) }
+    ensures same { IfOk result (λ keys. (x : KeyType) → Contains keys.items x ↔ Contains (map (λ (p : PlacedType). p.key) placed.now) x) }
+{
+    let mut keys = keys_in(alloc, placed)?;
     put_in_order(&mut keys);
     Ok(keys)
+}
+
+/// The keys of what was found and of seeds, and of what entries by them give, in their order; and the places of what was found
+/// among them.
+pub fn keys_and_targets(
+    alloc: Global,
+    found: &[Found],
+    seeds: &[Seed],
+) -> Result<(Vec<Key>, Vec<usize>), AllocError>
+    requires found { All (λ f. IsKey f.key) found.now }
+    requires seeds { All (λ s. IsKey s.key) seeds.now }
+    ensures keys { IfOk result (λ r. IsKeysOf found.now seeds.now r.0.items) }
+    ensures targets { IfOk result (λ r. IsTargets r.0.items found.now r.1.items) }
+{
+    let order = ordered(alloc, found, seeds)?;
+    let keys = keys_of(alloc, &order)?;
+    let targets = targets_of(alloc, &keys, &order, found.len())?;
+    Ok((keys, targets))
 }

@@ -6,7 +6,7 @@
 //! | rule | part | made in |
 //! |---|---|---|
 //! | a slot of the group has it in a register; or runs by it | seeds: where marks start | `seed`, `mark` |
-//! | a cell that the group can load holds it | a node's targets: the nodes of what stands in its segment | `found`, `nodes` |
+//! | a cell that the group can load holds it | a node's targets: the nodes of what stands in its segment | `found`, `placed`, `targets`, `nodes` |
 //! | it is below one of the group's pointers | parents: the nearest node whose segment holds the node's own | `above` |
 //! | a group that is granted it can store where this group can load | ties: who stores and who loads at nodes that meet | `mm_flow` |
 //! | the group entered there | entries: the node of what an entry leaves, and the groups that may enter | `entries`, `nodes` |
@@ -24,7 +24,9 @@ mod mark;
 mod net;
 mod nodes;
 mod order;
+mod placed;
 mod seed;
+mod targets;
 
 pub use entries::Entries;
 pub use key::Key;

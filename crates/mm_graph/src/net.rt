@@ -1,7 +1,7 @@
 // The net of an image, and its marks.
 ghost use Rattle.std.specs.Prelude.{◌≡◌, IfOk};
 ghost use Rattle.mm_graph.specs.Found.{page_keys, seeds_of};
-ghost use Rattle.mm_graph.specs.Nodes.{IsKeysOf, IsAscending};
+ghost use Rattle.mm_graph.specs.Nodes.{IsKeysOf, IsTargets};
 ghost use Rattle.mm_graph.specs.Masks.{meaning};
 ghost use Rattle.mm_graph.specs.Parts.{HasNodes, IsBuilt};
 ghost use Rattle.mm_graph.specs.Marked.{IsMarked};
@@ -12,10 +12,10 @@ use crate::above::parents_of;
 use crate::entries::{Entries, entry_masks};
 use crate::found::{Found, found_in};
 use crate::key::Key;
-use crate::keys::keys_of;
+use crate::keys::keys_and_targets;
 use crate::links::links_of;
 use crate::mark::marks_of;
-use crate::nodes::{nodes_of, targets_of};
+use crate::nodes::nodes_of;
 use crate::seed::{Seed, seeds_in};
 use mm_flow::{Node, saturate};
 use mm_image::Image;
@@ -68,15 +68,16 @@ fn net_of(
     found: &[Found],
     seeds: &[Seed],
     keys: Vec<Key>,
+    targets: Vec<usize>,
 ) -> Result<Net, AllocError>
     requires found { found.now ≡ page_keys img.now.memory.pages }
     requires seeds { seeds.now ≡ seeds_of img.now.slots }
     requires keys { IsKeysOf (page_keys img.now.memory.pages) (seeds_of img.now.slots) keys.items }
+    requires targets { IsTargets keys.items (page_keys img.now.memory.pages) targets.items }
     requires image { IsImage img.now }
     ensures { IfOk result (λ n. IsBuilt img.now (meaning entries.now) n.keys.items n.nodes.items n.targets.items n.parents.items n.links n.start.items) }
 {
     let nodes = nodes_in(alloc, img, entries, found, &keys)?;
-    let targets = targets_of(alloc, &keys, found)?;
     let parents = parents_of(alloc, &keys)?;
     let links = links_of(img.slots());
     let start = marks_of(alloc, &keys, seeds)?;
@@ -97,8 +98,8 @@ fn built(alloc: Global, img: &Image, entries: &Entries) -> Result<Net, AllocErro
 {
     let found = found_in(alloc, img.pages())?;
     let seeds = seeds_in(alloc, img.slots())?;
-    let keys = keys_of(alloc, &found, &seeds)?;
-    let net = net_of(alloc, img, entries, &found, &seeds, keys)?;
+    let (keys, targets) = keys_and_targets(alloc, &found, &seeds)?;
+    let net = net_of(alloc, img, entries, &found, &seeds, keys, targets)?;
     Ok(net)
 }
 

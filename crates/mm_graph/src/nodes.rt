@@ -1,25 +1,53 @@
 // The nodes of a net.
-ghost use Rattle.std.specs.Prelude.{◌≡◌, ◌<◌, ◌^◌, ◌+◌, ◌⊎◌, ℕ, All, IfOk, IfSome, MatchOption, Contains, None, Some, true, false, length, slice_index};
+ghost use Rattle.std.specs.Prelude.{◌≡◌, ◌<◌, ◌≤◌, ◌^◌, ◌+◌, ◌⊎◌, ℕ, All, IfOk, IfSome, MatchOption, Contains, None, Some, true, false, length, slice_index};
 ghost use Rattle.mm_word.specs.Pointer.{base_of};
 ghost use Rattle.mm_graph.specs.declared.key.Key.{Key as KeyType};
-ghost use Rattle.mm_graph.specs.declared.found.Found.{Found as FoundType};
 ghost use Rattle.mm_graph.specs.Key.{IsKey, IsRising, key_at, pointer_at, entry_key, loads_words, stores_words, makes_pointers, is_entry};
-ghost use Rattle.mm_graph.specs.Nodes.{IsAscending, IsBefore, IsRange, IsNode, IsNodes, IsTargets};
+ghost use Rattle.mm_graph.specs.Nodes.{found_word, IsAscending, IsBefore, IsBounds, IsRange, IsNode, IsNodes};
 
 use crate::found::Found;
 use crate::key::Key;
-use crate::order::place;
+use crate::order::near;
 use mm_flow::Node;
 use mm_word::{GuardedPtr, Perm};
 use std::alloc::{AllocError, Global};
 
-/// How many were found before an address.
-fn before(found: &[Found], a: u64) -> usize
+/// Whether all that were found before a place are at words before an address.
+fn is_hint(found: &[Found], hint: usize, a: u64) -> bool
     requires { IsAscending found.now }
+    ensures { result ≡ true → (hint ≤ length found.now) × ((j : ℕ) → j < hint → found_word found.now j < a) }
+{
+    hint == 0 || hint <= found.len() && found[hint - 1].word < a
+}
+
+/// Bounds of how many were found before an address, by ever longer steps from a number of these.
+fn bounds(found: &[Found], from: usize, a: u64) -> (usize, usize)
+    requires ascending { IsAscending found.now }
+    requires fits { from ≤ length found.now }
+    requires before { (j : ℕ) → j < from → found_word found.now j < a }
+    ensures { IsBounds found.now a result.0 result.1 }
+{
+    let mut low = from;
+    let mut step = 1usize;
+    while step <= found.len() - low {
+        let next = low + (step - 1);
+        if a <= found[next].word {
+            return (low, next);
+        }
+        low = next + 1;
+        step = step.saturating_add(step);
+    }
+    (low, found.len())
+}
+
+/// How many were found before an address, between two bounds.
+fn between(found: &[Found], low: usize, high: usize, a: u64) -> usize
+    requires ascending { IsAscending found.now }
+    requires bounds { IsBounds found.now a low high }
     ensures { IsBefore found.now a result }
 {
-    let mut lo = 0;
-    let mut hi = found.len();
+    let mut lo = low;
+    let mut hi = high;
     while lo < hi {
         let mid = lo + (hi - lo) / 2;
         if found[mid].word < a {
@@ -29,6 +57,16 @@ fn before(found: &[Found], a: u64) -> usize
         }
     }
     lo
+}
+
+/// How many were found before an address. It is found quickly where it is not far above the hint.
+fn before(found: &[Found], hint: usize, a: u64) -> usize
+    requires { IsAscending found.now }
+    ensures { IsBefore found.now a result }
+{
+    let from = if is_hint(found, hint, a) { hint } else { 0 };
+    let (low, high) = bounds(found, from, a);
+    between(found, low, high, a)
 }
 
 fn loads_words(p: GuardedPtr) -> bool
@@ -69,21 +107,21 @@ fn end(p: GuardedPtr) -> u64
 }
 
 /// The places of the words that a pointer loads.
-fn range(found: &[Found], p: GuardedPtr) -> (usize, usize)
+fn range(found: &[Found], hint: usize, p: GuardedPtr) -> (usize, usize)
     requires { IsAscending found.now }
     ensures { IsRange found.now p result.0 result.1 }
 {
     if loads_words(p) {
-        let low = before(found, p.base());
-        let high = before(found, end(p));
+        let low = before(found, hint, p.base());
+        let high = before(found, low, end(p));
         (low, high)
     } else {
         (0, 0)
     }
 }
 
-/// The place of what an entry by a pointer gives.
-fn entry_of(keys: &[Key], key: Key) -> Option<usize>
+/// The place of what an entry by a pointer gives, which is found quickly where it is the hint or the next one.
+fn entry_of(keys: &[Key], hint: usize, key: Key) -> Option<usize>
     requires rising { IsRising keys.now }
     requires key { IsKey key }
     requires there { (x : KeyType) → entry_key key ≡ Some x → Contains keys.now x }
@@ -94,13 +132,13 @@ fn entry_of(keys: &[Key], key: Key) -> Option<usize>
         return None;
     }
     match key.entry() {
-        Some(x) => Some(place(keys, x)),
+        Some(x) => Some(near(keys, hint, x)),
         None => None,
     }
 }
 
 /// The node of the key at a place.
-fn node_for(keys: &[Key], found: &[Found], mask: u64, k: usize) -> Node
+fn node_for(keys: &[Key], found: &[Found], hint: usize, mask: u64, k: usize) -> Node
     requires rising { IsRising keys.now }
     requires keys { All IsKey keys.now }
     requires entries { (y x : KeyType) → Contains keys.now y → entry_key y ≡ Some x → Contains keys.now x }
@@ -110,8 +148,8 @@ fn node_for(keys: &[Key], found: &[Found], mask: u64, k: usize) -> Node
 {
     let key = keys[k];
     let p = key.pointer();
-    let (low, high) = range(found, p);
-    let (entry, enters) = match entry_of(keys, key) {
+    let (low, high) = range(found, hint, p);
+    let (entry, enters) = match entry_of(keys, k.saturating_sub(1), key) {
         Some(to) => (to, mask),
         None => (k, 0),
     };
@@ -141,21 +179,13 @@ pub fn nodes_of(
     ensures { IfOk result (λ nodes. IsNodes keys.now found.now masks.now nodes.items) }
 {
     let mut nodes = Vec::new(alloc);
+    let mut hint = 0;
     for k in 0..keys.len() {
-        nodes.push(node_for(keys, found, masks[k], k))?;
+        let node = node_for(keys, found, hint, masks[k], k);
+        if hint < node.low {
+            hint = node.low;
+        }
+        nodes.push(node)?;
     }
     Ok(nodes)
-}
-
-/// The place of each key that was found.
-pub fn targets_of(alloc: Global, keys: &[Key], found: &[Found]) -> Result<Vec<usize>, AllocError>
-    requires rising { IsRising keys.now }
-    requires there { (f : FoundType) → Contains found.now f → Contains keys.now f.key }
-    ensures { IfOk result (λ targets. IsTargets keys.now found.now targets.items) }
-{
-    let mut targets = Vec::new(alloc);
-    for j in 0..found.len() {
-        targets.push(place(keys, found[j].key))?;
-    }
-    Ok(targets)
 }

@@ -37,3 +37,22 @@ pub fn place(keys: &[Key], key: Key) -> usize
         None => unreachable!(),
     }
 }
+
+/// The same, where it is likely at this place or the next one.
+pub fn near(keys: &[Key], at: usize, key: Key) -> usize
+    requires rising { IsRising keys.now }
+    requires there { Contains keys.now key }
+    ensures small { result < length keys.now }
+    ensures at { key_at keys.now result ≡ key }
+{
+    if at < keys.len() && keys[at] == key {
+        return at;
+    }
+    if at < keys.len() {
+        let next = at + 1;
+        if next < keys.len() && keys[next] == key {
+            return next;
+        }
+    }
+    place(keys, key)
+}

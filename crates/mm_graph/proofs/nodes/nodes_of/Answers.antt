@@ -15,6 +15,6 @@ pushed P xs n k len old new j lt = elim (below_cases j k lt) [
 pub loop-k-preserved : goal.loop-k-preserved
 loop-k-preserved c =
     rw c.in_ok-push.ensures.items (
-      length_push c.loop-k.nodes.items c.node_for.result ∙ ap (λ v. v + 1) c.loop-k.invariant.0,
-      pushed (λ j n. IsNode c.args.keys.now c.args.found.now (slice_index c.args.masks.now j) j n) c.loop-k.nodes.items c.node_for.result c.loop-k.k c.loop-k.invariant.0 c.loop-k.invariant.1 c.node_for.ensures,
+      length_push c.loop-k.nodes.items c.node_for-node.result ∙ ap (λ v. v + 1) c.loop-k.invariant.0,
+      pushed (λ j n. IsNode c.args.keys.now c.args.found.now (slice_index c.args.masks.now j) j n) c.loop-k.nodes.items c.node_for-node.result c.loop-k.k c.loop-k.invariant.0 c.loop-k.invariant.1 c.node_for-node.ensures,
     )

@@ -1,0 +1,30 @@
+-- A later node for each.
+use Rattle.std.proofs.Common.{◌≡◌, ℕ, ◌+◌, ◌<◌, ◌≤◌, List, [], ◌∷◌, ◌++◌, length, slice_index, slice_set, sym, ap, ◌∙◌, arith}
+use Rattle.mm_flow.specs.Flow.{IsAhead}
+use Rattle.mm_flow.proofs.Giving.{push_cases, push_length}
+use Rattle.mm_flow.proofs.Giving.Pushed.{last, before}
+use Rattle.mm_flow.proofs.Masks.{set_cases, length_set}
+use Rattle.mm_flow.proofs.Masks.Set.{here, there}
+
+pub nexts_more : (next : List ℕ) (k : ℕ) → length next ≡ k → ((i : ℕ) → i < k → slice_index next i ≡ i + 1) → (length (next ++ (k + 1) ∷ []) ≡ k + 1) × ((i : ℕ) → i < k + 1 → slice_index (next ++ (k + 1) ∷ []) i ≡ i + 1)
+nexts_more next k len h = (
+  push_length next (k + 1) k len,
+  λ i lt. elim (push_cases next (k + 1) i (omega arith)) [
+    | last e f ↦ f ∙ ap (λ v. v + 1) (sym (e ∙ len))
+    | before small f ↦ f ∙ h i (omega arith)
+  ],
+)
+
+pub nexts_ahead : (next : List ℕ) (k n : ℕ) → k ≡ n → length next ≡ k → ((i : ℕ) → i < k → slice_index next i ≡ i + 1) → IsAhead next n
+nexts_ahead next k n same len h = record {
+  len = len ∙ same;
+  later = λ i lt. let e = h i (omega arith) in omega arith;
+  ends = λ i lt. let e = h i (omega arith) in omega arith;
+}
+
+pub ahead_set : (next : List ℕ) (n at v : ℕ) → IsAhead next n → at < n → at < v → v ≤ n → IsAhead (slice_set next at v) n
+ahead_set next n at v h lt later ends = record {
+  len = length_set next at v ∙ h.len;
+  later = λ k small. elim (set_cases next at v k (let e = h.len in omega arith)) [ here e f ↦ omega arith | there ne f ↦ (let old = h.later k small in omega arith) ];
+  ends = λ k small. elim (set_cases next at v k (let e = h.len in omega arith)) [ here e f ↦ omega arith | there ne f ↦ (let old = h.ends k small in omega arith) ];
+}

@@ -1,0 +1,310 @@
+-- The way over the nodes within one.
+use Rattle.std.proofs.lemmas.Bool.{cases_lt, cases_eq}
+use Rattle.std.proofs.lemmas.Nat.Bits.{bit_at-lt, bit_at-zero, bit_at_and}
+use Rattle.std.proofs.Common.{◌≡◌, ℕ, zero, suc, ◌+◌, ◌<◌, ◌≤◌, ◌⊎◌, inl, inr, List, length, slice_index, slice_set, replicate, max, min, bit_and, bit_or, refl, sym, ap, ◌∙◌, subst, arith}
+use Rattle.std.specs.Int.{bit_at}
+use Rattle.mm_flow.specs.Net.{Edges, low_at, high_at, entry_at, enters_at}
+use Rattle.mm_flow.specs.Flow.{Within, Has, Carried, IsAmong, IsListed, StaysListed, IsPassed, IsInner, Walked, Walking}
+use Rattle.mm_flow.proofs.Masks.{Within-refl, Within-trans, Within-or_left, Within-or_right, or_cases, set_cases, length_set, Set}
+use Rattle.mm_flow.proofs.Giving.{and_both}
+use Rattle.mm_flow.proofs.Masks.Set.{here, there}
+
+pub at_one : (x y g : ℕ) → Within x y → bit_at x g ≡ 1 → bit_at y g ≡ 1
+at_one x y g h one = let le = h g in let lt = bit_at-lt y g in omega arith
+
+pub within_from : (x y : ℕ) → ((g : ℕ) → bit_at x g ≡ 1 → bit_at y g ≡ 1) → Within x y
+within_from x y h g = two (bit_at x g) (bit_at y g) (bit_at-lt x g) (h g)
+  where
+    two : (a b : ℕ) → a < 2 → (a ≡ 1 → b ≡ 1) → a ≤ b
+    two zero b lt f = omega arith
+    two (suc zero) b lt f = let e = f refl in omega arith
+    two (suc (suc n)) b lt f = absurd (omega arith)
+
+pub zero_within : (m : ℕ) → Within 0 m
+zero_within m g = let z = bit_at-zero g in omega arith
+
+pub zero_and_within : (x m : ℕ) → Within (bit_and 0 x) m
+zero_and_within x m g = least _ _ _ (bit_at_and 0 x g) (bit_at-zero g)
+  where
+    least : (x y z : ℕ) → z ≡ min x y → x ≡ 0 → {w : ℕ} → z ≤ w
+    least x y z is none = omega arith
+
+none_within : (x m : ℕ) → Within (bit_and x 0) m
+none_within x m g = least _ _ _ (bit_at_and x 0 g) (bit_at-zero g)
+  where
+    least : (x y z : ℕ) → z ≡ min x y → y ≡ 0 → {w : ℕ} → z ≤ w
+    least x y z is none = omega arith
+
+pub and_within : (x y z : ℕ) → Within x y → Within (bit_and x z) (bit_and y z)
+and_within x y z h g = least _ _ _ _ _ (bit_at_and x z g) (bit_at_and y z g) (h g)
+  where
+    least : (a b c d e : ℕ) → d ≡ min a c → e ≡ min b c → a ≤ b → d ≤ e
+    least a b c d e p q le = omega arith
+
+pub both_bits : (m f g : ℕ) → bit_at (bit_and m f) g ≡ 1 → (bit_at m g ≡ 1) × (bit_at f g ≡ 1)
+both_bits m f g h = at_least _ _ _ (bit_at_and m f g) h (bit_at-lt m g) (bit_at-lt f g)
+  where
+    at_least : (x y z : ℕ) → z ≡ min x y → z ≡ 1 → x < 2 → y < 2 → (x ≡ 1) × (y ≡ 1)
+    at_least x y z e h a b = (omega arith, omega arith)
+
+-- where there are no targets
+pub carried_none : (targets old p : List ℕ) (mask lo hi : ℕ) → hi ≤ lo → Carried (IsAmong targets lo hi) old p mask old p
+carried_none targets old p mask lo hi none = record {
+  len = refl;
+  grows = λ k. Within-refl (slice_index old k);
+  each = λ t m. absurd (let a = m.low in let b = m.high in omega arith);
+  keeps = λ k h. h;
+  only = λ k g h. inl h;
+  bounded = λ k h. inl h;
+  no_rise = omega arith;
+  room = omega arith;
+}
+
+module _ (targets old p a q : List ℕ) (mask lo d : ℕ) (h : Carried (IsAmong targets lo d) old p mask a q) where
+  wider : (d2 t : ℕ) → d ≤ d2 → IsAmong targets lo d t → IsAmong targets lo d2 t
+  wider d2 t le m = record { at = m.at; low = m.low; high = (let lt = m.high in omega arith); is = m.is }
+
+  -- targets that have the mask already
+  pub carried_free : (d2 : ℕ) → d ≤ d2 → ((j : ℕ) → d ≤ j → j < d2 → Within mask (slice_index a (slice_index targets j))) → Carried (IsAmong targets lo d2) old p mask a q
+  carried_free d2 le free = record {
+    len = h.len;
+    grows = h.grows;
+    each = λ t m. elim (cases_lt m.at d) [
+      | inl lt ↦ h.each t (record { at = m.at; low = m.low; high = lt; is = m.is })
+      | inr ge ↦ subst (λ v. Within mask (slice_index a v)) m.is (free m.at ge m.high)
+    ];
+    keeps = h.keeps;
+    only = λ k g x. elim (h.only k g x) [ inl y ↦ inl y | inr y ↦ inr (wider d2 k le y.0, y.1) ];
+    bounded = h.bounded;
+    no_rise = h.no_rise;
+    room = h.room;
+  }
+
+  -- targets further on
+  pub carried_on : (d2 : ℕ) (b r : List ℕ) → lo ≤ d → d ≤ d2 → Carried (IsAmong targets d d2) a q mask b r → Carried (IsAmong targets lo d2) old p mask b r
+  carried_on d2 b r from le k = record {
+    len = k.len ∙ h.len;
+    grows = λ n. Within-trans (slice_index old n) (slice_index a n) (slice_index b n) (h.grows n) (k.grows n);
+    each = λ t m. elim (cases_lt m.at d) [
+      | inl lt ↦ Within-trans mask (slice_index a t) (slice_index b t) (h.each t (record { at = m.at; low = m.low; high = lt; is = m.is })) (k.grows t)
+      | inr ge ↦ k.each t (record { at = m.at; low = ge; high = m.high; is = m.is })
+    ];
+    keeps = λ n x. k.keeps n (h.keeps n x);
+    only = λ n g x. elim (k.only n g x) [
+      | inr y ↦ inr (record { at = y.0.at; low = (let ge = y.0.low in omega arith); high = y.0.high; is = y.0.is }, y.1)
+      | inl y ↦ elim (h.only n g y) [ inl z ↦ inl z | inr z ↦ inr (wider d2 n le z.0, z.1) ]
+    ];
+    bounded = λ n x. elim (k.bounded n x) [
+      | inr y ↦ inr (let e = h.len in omega arith)
+      | inl y ↦ h.bounded n y
+    ];
+    no_rise = let x = h.no_rise in let y = k.no_rise in omega arith;
+    room = let x = h.room in let y = k.room in omega arith;
+  }
+
+-- the steps of the way
+module _ (e : Edges) (k mask at done : ℕ) (old p carried : List ℕ) (fit : done ≤ high_at e k) where
+  -- past a node that stays as it is
+  pub walked_past : Walked e k mask at done old p carried (at + 1) done old p carried
+  walked_past = record {
+    forth = omega arith;
+    low = omega arith;
+    high = fit;
+    marks = carried_none e.targets old p mask done done (omega arith);
+    stays = λ i x. x;
+    len = refl;
+    others = λ i ne. refl;
+    own = inl refl;
+  }
+
+  -- past a node that carries the mask from now on
+  pub walked_marked : at < length carried → IsInner e at k → enters_at e at ≡ 0 → Walked e k mask at done old p carried (at + 1) done old p (slice_set carried at (bit_or (slice_index carried at) mask))
+  walked_marked lt inner none = record {
+    forth = omega arith;
+    low = omega arith;
+    high = fit;
+    marks = carried_none e.targets old p mask done done (omega arith);
+    stays = λ i x. x;
+    len = length_set carried at _;
+    others = λ i ne. elim (set_cases carried at (bit_or (slice_index carried at) mask) i lt) [ here is f ↦ absurd (ne is) | there nothere f ↦ f ];
+    own = elim (set_cases carried at (bit_or (slice_index carried at) mask) at lt) [ here is f ↦ inr (f, inner, none) | there ne f ↦ absurd (ne refl) ];
+  }
+
+  -- past all that a node holds which carries the mask
+  pub walked_by : (at2 start done2 : ℕ) (new q : List ℕ) → at < at2 → start ≡ max done (low_at e at) → done2 ≡ max start (high_at e at) → low_at e at ≤ high_at e at → IsInner e at k
+      → bit_or (slice_index carried at) mask ≡ slice_index carried at
+      → ((j : ℕ) → low_at e at ≤ j → j < high_at e at → Within (slice_index carried at) (slice_index old (slice_index e.targets j)))
+      → Carried (IsAmong e.targets done start) old p mask new q → StaysListed carried old p new q → Walked e k mask at done old p carried at2 done2 new q carried
+  walked_by at2 start done2 new q forth is is2 order inner has passed v stays =
+      let high = inner.1 in
+      record {
+        forth = forth;
+        low = omega arith;
+        high = omega arith;
+        marks = carried_free e.targets old p new q mask done start v done2 (omega arith) (λ j lo hi.
+            Within-trans mask (slice_index old (slice_index e.targets j)) (slice_index new (slice_index e.targets j))
+            (Within-trans mask (slice_index carried at) (slice_index old (slice_index e.targets j)) (subst (Within mask) has (Within-or_right (slice_index carried at) mask)) (passed j (omega arith) (omega arith)))
+            (v.grows (slice_index e.targets j)));
+        stays = stays;
+        len = refl;
+        others = λ i ne. refl;
+        own = inl refl;
+      }
+
+-- the start, once the mask is at the entry
+module _ (e : Edges) (k : ℕ) (old p carried a q : List ℕ) (passed : IsPassed e old carried) (len : length carried ≡ length old) (small : k < length carried) (order : low_at e k ≤ high_at e k)
+    (listed : (i : ℕ) → (i ≡ k) ⊎ IsListed old carried p i) (c : Carried (λ t. t ≡ entry_at e k) old p (bit_and (slice_index old k) (enters_at e k)) a q) (stays : StaysListed carried old p a q) where
+  abbrev own : ℕ
+  own = slice_index old k
+
+  abbrev carried2 : List ℕ
+  carried2 = slice_set carried k (bit_or (slice_index carried k) own)
+
+  start_case : (i : ℕ) → Set carried k (bit_or (slice_index carried k) own) i
+  start_case i = set_cases carried k (bit_or (slice_index carried k) own) i small
+
+  -- its mark is what it carries, though its entry may have given to it
+  own_listed : Within (slice_index a k) (bit_or (slice_index carried k) own)
+  own_listed = within_from (slice_index a k) (bit_or (slice_index carried k) own) (λ g has. at_one own (bit_or (slice_index carried k) own) g (Within-or_right (slice_index carried k) own) (elim (c.only k g has) [
+    | inl x ↦ x
+    | inr y ↦ (both_bits own (enters_at e k) g y.1).0
+  ]))
+
+  start_entry : Within (bit_and (bit_or (slice_index carried k) own) (enters_at e k)) (slice_index a (entry_at e k))
+  start_entry = within_from (bit_and (bit_or (slice_index carried k) own) (enters_at e k)) (slice_index a (entry_at e k)) (λ g has.
+      let two = both_bits (bit_or (slice_index carried k) own) (enters_at e k) g has in
+      elim (or_cases (slice_index carried k) own g two.0) [
+        | inl x ↦ at_one (slice_index old (entry_at e k)) (slice_index a (entry_at e k)) g (c.grows (entry_at e k)) (at_one (bit_and (slice_index carried k) (enters_at e k)) (slice_index old (entry_at e k)) g (passed.entry k) (and_both (slice_index carried k) (enters_at e k) g x two.1))
+        | inr x ↦ at_one (bit_and own (enters_at e k)) (slice_index a (entry_at e k)) g (c.each (entry_at e k) refl) (and_both own (enters_at e k) g x two.1)
+      ])
+
+  grown_cells : (i j g : ℕ) → low_at e i ≤ j → j < high_at e i → Has carried i g → Has a (slice_index e.targets j) g
+  grown_cells i j g lo hi has = at_one (slice_index old (slice_index e.targets j)) (slice_index a (slice_index e.targets j)) g (c.grows (slice_index e.targets j)) (at_one (slice_index carried i) (slice_index old (slice_index e.targets j)) g (passed.cells i j lo hi) has)
+
+  pub walking_start : Walking e k own (k + 1) (low_at e k) a q a q carried2
+  walking_start = record {
+    low = omega arith;
+    high = order;
+    marks = carried_none e.targets a q own (low_at e k) (low_at e k) (omega arith);
+    listed = λ i. elim (start_case i) [
+      | here same f ↦ inr (rw (f, same) own_listed)
+      | there ne f ↦ elim (listed i) [
+        | inl same ↦ absurd (ne same)
+        | inr x ↦ elim (stays i x) [ inl m ↦ inl m | inr w ↦ inr (subst (Within (slice_index a i)) (sym f) w) ]
+      ]
+    ];
+    len = length_set carried k _ ∙ len ∙ sym c.len;
+    ahead = λ i j le lo hi. elim (start_case i) [
+      | here same f ↦ absurd (omega arith)
+      | there ne f ↦ subst (λ v. Within v (slice_index a (slice_index e.targets j))) (sym f) (Within-trans (slice_index carried i) (slice_index old (slice_index e.targets j)) (slice_index a (slice_index e.targets j)) (passed.cells i j lo hi) (c.grows (slice_index e.targets j)))
+    ];
+    entry = λ i. elim (start_case i) [
+      | here same f ↦ rw (f, same) start_entry
+      | there ne f ↦ subst (λ v. Within (bit_and v (enters_at e i)) (slice_index a (entry_at e i))) (sym f) (Within-trans (bit_and (slice_index carried i) (enters_at e i)) (slice_index old (entry_at e i)) (slice_index a (entry_at e i)) (passed.entry i) (c.grows (entry_at e i)))
+    ];
+    behind = λ i j g lo hi has. elim (start_case i) [
+      | there ne f ↦ inl (grown_cells i j g lo hi (ap (λ v. bit_at v g) (sym f) ∙ has))
+      | here same f ↦ elim (or_cases (slice_index carried k) own g (ap (λ v. bit_at v g) (sym f) ∙ has)) [
+        | inl x ↦ inl (grown_cells i j g lo hi (subst (λ v. Has carried v g) (sym same) x))
+        | inr x ↦ inr (x, subst (λ v. IsInner e v k) (sym same) (omega arith, omega arith))
+      ]
+    ];
+  }
+
+module _ (e : Edges) (k mask at done : ℕ) (old p a q carried : List ℕ) (w : Walking e k mask at done old p a q carried) where
+  module _ (at2 done2 : ℕ) (b r carried2 : List ℕ) (s : Walked e k mask at done a q carried at2 done2 b r carried2) where
+    grown : (i j g : ℕ) → Has a (slice_index e.targets j) g → Has b (slice_index e.targets j) g
+    grown i j g h = at_one _ _ g (s.marks.grows (slice_index e.targets j)) h
+
+    abbrev Will : ℕ → ℕ → ℕ → Type 0
+    Will i j g = Has b (slice_index e.targets j) g ⊎ ((bit_at mask g ≡ 1) × IsInner e i k)
+
+    before : (i j g : ℕ) → low_at e i ≤ j → j < high_at e i → Has carried i g → Will i j g
+    before i j g lo hi has = elim (w.behind i j g lo hi has) [ inl x ↦ inl (grown i j g x) | inr x ↦ inr x ]
+
+    itself : (j g : ℕ) → low_at e at ≤ j → j < high_at e at → Has carried2 at g → Will at j g
+    itself j g lo hi has = elim s.own [
+      | inl same ↦ before at j g lo hi (ap (λ v. bit_at v g) (sym same) ∙ has)
+      | inr more ↦ elim (or_cases (slice_index carried at) mask g (ap (λ v. bit_at v g) (sym more.0) ∙ has)) [
+        | inl x ↦ before at j g lo hi x
+        | inr x ↦ inr (x, more.1)
+      ]
+    ]
+
+    more : (n : ℕ) → Within (slice_index carried n) (slice_index carried2 n)
+    more n = elim (cases_eq n at) [
+      | inr ne ↦ subst (Within (slice_index carried n)) (sym (s.others n ne)) (Within-refl (slice_index carried n))
+      | inl same ↦ subst (λ v. Within (slice_index carried v) (slice_index carried2 v)) (sym same) (elim s.own [
+        | inl kept ↦ subst (Within (slice_index carried at)) (sym kept) (Within-refl (slice_index carried at))
+        | inr new ↦ subst (Within (slice_index carried at)) (sym new.0) (Within-or_left (slice_index carried at) mask)
+      ])
+    ]
+
+    kept_entry : (i : ℕ) → slice_index carried2 i ≡ slice_index carried i → Within (bit_and (slice_index carried2 i) (enters_at e i)) (slice_index b (entry_at e i))
+    kept_entry i same = subst (λ v. Within (bit_and v (enters_at e i)) (slice_index b (entry_at e i))) (sym same)
+        (Within-trans (bit_and (slice_index carried i) (enters_at e i)) (slice_index a (entry_at e i)) (slice_index b (entry_at e i)) (w.entry i) (s.marks.grows (entry_at e i)))
+
+    pub walking_more : Walking e k mask at2 done2 old p b r carried2
+    walking_more = record {
+      low = let x = w.low in let y = s.low in omega arith;
+      high = s.high;
+      marks = carried_on e.targets old p a q mask (low_at e k) done w.marks done2 b r w.low s.low s.marks;
+      listed = λ i. elim (s.stays i (w.listed i)) [ inl m ↦ inl m | inr x ↦ inr (Within-trans (slice_index b i) (slice_index carried i) (slice_index carried2 i) x (more i)) ];
+      len = s.len ∙ w.len;
+      ahead = λ i j le lo hi.
+          let forth = s.forth in
+          let kept : slice_index carried2 i ≡ slice_index carried i = s.others i (λ same. omega arith) in
+          subst (λ v. Within v (slice_index b (slice_index e.targets j))) (sym kept)
+          (Within-trans (slice_index carried i) (slice_index a (slice_index e.targets j)) (slice_index b (slice_index e.targets j)) (w.ahead i j (omega arith) lo hi) (s.marks.grows (slice_index e.targets j)));
+      entry = λ i. elim (cases_eq i at) [
+        | inr ne ↦ kept_entry i (s.others i ne)
+        | inl same ↦ subst (λ v. Within (bit_and (slice_index carried2 v) (enters_at e v)) (slice_index b (entry_at e v))) (sym same) (elim s.own [
+          | inl kept ↦ kept_entry at kept
+          | inr new ↦ subst (λ v. Within (bit_and (slice_index carried2 at) v) (slice_index b (entry_at e at))) (sym new.2) (none_within (slice_index carried2 at) (slice_index b (entry_at e at)))
+        ])
+      ];
+      behind = λ i j g lo hi has. elim (cases_eq i at) [
+        | inl same ↦ subst (λ v. Will v j g) (sym same) (itself j g (subst (λ v. low_at e v ≤ j) same lo) (subst (λ v. j < high_at e v) same hi) (subst (λ v. Has carried2 v g) same has))
+        | inr ne ↦ before i j g lo hi (ap (λ v. bit_at v g) (sym (s.others i ne)) ∙ has)
+      ];
+    }
+
+  module _ (b r : List ℕ) (v : Carried (IsAmong e.targets done (high_at e k)) a q mask b r) where
+    pub walking_marks : Carried (IsAmong e.targets (low_at e k) (high_at e k)) old p mask b r
+    walking_marks = carried_on e.targets old p a q mask (low_at e k) done w.marks (high_at e k) b r w.low w.high v
+
+    cells : (i j : ℕ) → low_at e i ≤ j → j < high_at e i → Within (slice_index carried i) (slice_index b (slice_index e.targets j))
+    cells i j lo hi = within_from _ _ (λ g has. elim (w.behind i j g lo hi has) [
+      | inl x ↦ at_one _ _ g (v.grows (slice_index e.targets j)) x
+      | inr x ↦
+          let low = x.1.0 in
+          let high = x.1.1 in
+          at_one _ _ g (walking_marks.each (slice_index e.targets j) (record { at = j; low = omega arith; high = omega arith; is = refl })) x.0
+    ])
+
+    pub walking_passed : IsPassed e b carried
+    walking_passed = record {
+      cells = cells;
+      entry = λ i. Within-trans (bit_and (slice_index carried i) (enters_at e i)) (slice_index a (entry_at e i)) (slice_index b (entry_at e i)) (w.entry i) (v.grows (entry_at e i));
+    }
+
+-- what nodes carry stays at their targets when marks grow
+pub passed_still : (e : Edges) (a b carried : List ℕ) → ((n : ℕ) → Within (slice_index a n) (slice_index b n)) → IsPassed e a carried → IsPassed e b carried
+passed_still e a b carried grows h = record {
+  cells = λ i j lo hi. Within-trans (slice_index carried i) (slice_index a (slice_index e.targets j)) (slice_index b (slice_index e.targets j)) (h.cells i j lo hi) (grows (slice_index e.targets j));
+  entry = λ i. Within-trans (bit_and (slice_index carried i) (enters_at e i)) (slice_index a (entry_at e i)) (slice_index b (entry_at e i)) (h.entry i) (grows (entry_at e i));
+}
+
+pub nothing_passed : (e : Edges) (marks carried : List ℕ) (n : ℕ) → carried ≡ replicate n 0 → IsPassed e marks carried
+nothing_passed e marks carried n is = record {
+  cells = λ i j lo hi. subst (λ v. Within v (slice_index marks (slice_index e.targets j))) (sym (zero_at i)) (zero_within (slice_index marks (slice_index e.targets j)));
+  entry = λ i. subst (λ v. Within (bit_and v (enters_at e i)) (slice_index marks (entry_at e i))) (sym (zero_at i)) (zero_and_within (enters_at e i) (slice_index marks (entry_at e i)));
+}
+  where
+    zeros : (n i : ℕ) → slice_index (replicate n 0) i ≡ 0
+    zeros zero i = refl
+    zeros (suc n) zero = refl
+    zeros (suc n) (suc i) = zeros n i
+
+    zero_at : (i : ℕ) → slice_index carried i ≡ 0
+    zero_at i = ap (λ v. slice_index v i) is ∙ zeros n i

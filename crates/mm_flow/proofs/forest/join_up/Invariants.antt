@@ -1,0 +1,6 @@
+use Rattle.std.proofs.Common.{length}
+use Rattle.mm_flow.specs.Flow.{IsAhead}
+use Rattle.mm_flow.proofs.forest.join_up.Given as goal
+
+abbrev pub invariant-loop-k : goal.invariant-loop-k
+invariant-loop-k l = IsAhead l.next (length l.parents)

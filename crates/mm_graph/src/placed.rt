@@ -1,0 +1,48 @@
+// Keys with their places, in the order of the keys.
+ghost use Rattle.std.specs.Prelude.{◌≡◌, IfOk, map};
+ghost use Rattle.mm_graph.specs.declared.placed.Placed.{Placed as PlacedType};
+ghost use Rattle.mm_graph.specs.Placed.{IsPlacing, IsPlaced};
+
+use crate::key::Key;
+use std::alloc::{AllocError, Global};
+
+/// A key and its place in a list.
+#[derive(Clone, Copy, PartialEq, Eq, PartialOrd, Ord, Debug)]
+pub struct Placed {
+    pub key: Key,
+    pub place: usize,
+}
+
+/// Each key of a list with its place.
+fn places_of(alloc: Global, keys: &[Key]) -> Result<Vec<Placed>, AllocError>
+    ensures { IfOk result (λ placed. IsPlacing keys.now placed.items) }
+{
+    let mut placed = Vec::new(alloc);
+    for place in 0..keys.len() {
+        placed.push(Placed {
+            key: keys[place],
+            place,
+        })?;
+    }
+    Ok(placed)
+}
+
+/// Each key of a list with its place, by ascending keys.
+pub fn in_order(alloc: Global, keys: &[Key]) -> Result<Vec<Placed>, AllocError>
+    ensures { IfOk result (λ placed. IsPlaced keys.now placed.items) }
+{
+    let mut placed = places_of(alloc, keys)?;
+    placed.sort()?;
+    Ok(placed)
+}
+
+/// The keys alone.
+pub fn keys_in(alloc: Global, placed: &[Placed]) -> Result<Vec<Key>, AllocError>
+    ensures { IfOk result (λ keys. keys.items ≡ map (λ (p : PlacedType). p.key) placed.now) }
+{
+    let mut keys = Vec::new(alloc);
+    for p in placed {
+        keys.push(p.key)?;
+    }
+    Ok(keys)
+}
