@@ -32,9 +32,11 @@ fn carry(
         return Ok(());
     }
     let done = carried[to];
+    // It carries all its groups: nothing new leaves it.
     if new | done == done {
         return Ok(());
     }
+    // It lacked some before, so it is pending.
     if old | done != done {
         return Ok(());
     }
