@@ -4,7 +4,7 @@ use Rattle.mm_word.specs.declared.word.Pre.{Pre}
 use Rattle.mm_word.specs.declared.word.Pre.TheVariants as pre
 use Rattle.mm_word.specs.declared.word.Post.{Post}
 use Rattle.mm_word.specs.declared.word.Post.TheVariants as post
-use Rattle.mm_isa.specs.declared.encoding.Sum.{Sum}
+use Rattle.mm_isa.specs.declared.sum.Sum.{Sum}
 use Rattle.mm_isa.specs.declared.instr.AluOp.{AluOp}
 use Rattle.mm_isa.specs.declared.instr.AluOp.TheVariants.{Add, Sub, Mul, Divu, Remu, And, Or, Xor, Shl, Shr, Sar, Eq, Ltu, Lts}
 use Rattle.mm_isa.specs.declared.instr.How.{How}

@@ -1,7 +1,7 @@
 -- A word that is put together operand by operand.
 use Rattle.std.specs.Prelude.{ℕ, ◌+◌, ◌*◌, ◌%◌, ◌^◌}
 use Rattle.std.specs.Int.{w32, cast_unsigned}
-use Rattle.mm_isa.specs.declared.encoding.Sum.{Sum}
+use Rattle.mm_isa.specs.declared.sum.Sum.{Sum}
 use Rattle.mm_isa.specs.declared.operand.Operand.{Operand}
 use Rattle.mm_isa.specs.declared.operand.Operand.TheVariants as operand
 use Rattle.mm_isa.specs.declared.operand.Operand.TheVariants.{Rd, EvtRd, Ra, Rb, Imm, Distance, RegisterNumber}

@@ -3,10 +3,10 @@ ghost use Rattle.mm_isa.specs.declared.instr.Instr.{Instr};
 ghost use Rattle.mm_isa.specs.Table.{number_of, spelling, IsInstr};
 ghost use Rattle.mm_isa.specs.Decode.{instr_of, row_of, pre_in, post_in, how_in, register_in};
 
-use crate::encoding::encode;
 use crate::fields::Fields;
 use crate::instr::{AluOp, How, Instr};
 use crate::reg::{EvtReg, Reg};
+use crate::sum::summed;
 use mm_word::{Post, Pre};
 
 /// The instruction that a word spells.
@@ -16,10 +16,11 @@ pub fn decode(w: u64) -> Option<Instr>
     ensures none { IfNone result ((i : Instr) → IsInstr i → spelling i ≢ w) }
 {
     let i = row(Fields::of_word(w))?;
-    if encode(&i) == w { Some(i) } else { None }
+    if summed(&i) == w { Some(i) } else { None }
 }
 
 // The row of the operation, with the used fields read off. Unused fields are not looked at.
+#[inline(always)]
 #[tactic(auto, unfolding(crate::specs::Decode::row_of, crate::specs::Decode::rows))]
 pub(crate) fn row(f: Fields) -> Option<Instr>
     ensures { result ≡ row_of f }

@@ -13,6 +13,7 @@ pub mod laws;
 mod operand;
 mod operation;
 mod reg;
+mod sum;
 mod table;
 
 pub use arithmetic::alu;

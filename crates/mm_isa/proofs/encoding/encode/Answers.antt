@@ -1,13 +1,11 @@
-use Rattle.std.proofs.Common.{ap, ◌∙◌}
+use Rattle.std.proofs.Common.{rules, ◌≡◌, ap, ◌∙◌}
+use Rattle.mm_isa.specs.Table.{spelling, IsInstr}
 use Rattle.mm_isa.specs.Decode.{instr_of}
-use Rattle.mm_isa.specs.declared.encoding.Sum.{Sum}
 use Rattle.mm_isa.proofs.Spelling.{instr_of-spelling}
-use Rattle.mm_isa.proofs.Sums.{sum_is_spelling}
 use Rattle.mm_isa.proofs.encoding.encode.Goals as goal
-
-pub returns-clause-value : goal.returns-clause-value
-returns-clause-value c = ap (λ (s : Sum). s.word) c.visit-sum.ensures.value ∙ sum_is_spelling c.args.i.now c.visit-sum.ensures.legal
 
 pub returns-clause-again : goal.returns-clause-again
 returns-clause-again c =
-    ap instr_of (returns-clause-value c) ∙ instr_of-spelling c.args.i.now c.visit-sum.ensures.legal
+    let legal : IsInstr c.args.i.now = search rules in
+    let value : c.word.result ≡ spelling c.args.i.now = search rules in
+    ap instr_of value ∙ instr_of-spelling c.args.i.now legal
