@@ -10,31 +10,32 @@ ghost use Rattle.mm_thread.specs.Places.{slot_in, numbers_in, IsIndex};
 ghost use Rattle.mm_thread.specs.Left.{Gives, AsksNothing};
 
 use crate::fault::{Places, place_of};
-use crate::running::{start, step};
+use crate::running::{start, tell};
 use crate::tables::Tables;
 use mm_mem::Memory;
 use mm_model::{Slot, SlotState, Step, Tick};
 
-/// The turn of an item.
+/// The turn of an item, and its step.
 pub(crate) fn take_item<M: Memory>(
     tables: &mut Tables,
     places: &Places,
     mem: &mut M,
     item: u8,
-) -> Step
+    step: &mut Step,
+)
     requires whole { IsCore tables.old }
     requires index { IsIndex (numbers_in tables.old) places.now }
     requires turns { AllByRecursion (λ (s : SlotValue). s.turns < 2 ^ 61) (slots_of tables.old) }
     requires room { M.uses mem.old < 2 ^ 61 }
-    ensures { Gives M.meaning M.uses M.stands (turn tables.old (M.meaning mem.old) item) mem.old mem.new tables.new result }
+    ensures { Gives M.meaning M.uses M.stands (turn tables.old (M.meaning mem.old) item) mem.old mem.new tables.new step.new }
 {
     match place_of(places, tables, u64::from(item)) {
-        None => take_port(tables, places, item),
+        None => take_port(tables, places, item, step),
         Some(place) => {
             if is_running(tables.slot(place)) {
-                start(tables, places, place, mem)
+                start(tables, places, place, mem, step);
             } else {
-                step(Tick::Idle, item, None, None)
+                tell(step, Tick::Idle, item, None, None);
             }
         }
     }
@@ -48,20 +49,21 @@ pub(crate) fn is_running(slot: &Slot) -> bool
 }
 
 // The turn of an item that is no slot's number.
-fn take_port(tables: &mut Tables, places: &Places, item: u8) -> Step
+fn take_port(tables: &mut Tables, places: &Places, item: u8, step: &mut Step)
     requires whole { IsCore tables.old }
     requires index { IsIndex (numbers_in tables.old) places.now }
-    ensures { (m : MemoryValue) → AsksNothing (taken_by_port tables.old m item (port_of tables.old item)) m tables.new result }
+    ensures { (m : MemoryValue) → AsksNothing (taken_by_port tables.old m item (port_of tables.old item)) m tables.new step.new }
 {
     let Some(place) = port_of(tables, places, item) else {
-        return step(Tick::Idle, item, None, None);
+        tell(step, Tick::Idle, item, None, None);
+        return;
     };
     let number = tables.slot(place).number;
     let tick = match tables.deliver(place) {
         Some(register) => Tick::Delivered(register),
         None => Tick::Idle,
     };
-    step(tick, number, None, None)
+    tell(step, tick, number, None, None);
 }
 
 // The place of the slot whose port the item is: in a split machine the items from 128 on are ports.

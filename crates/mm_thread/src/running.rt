@@ -18,16 +18,17 @@ use mm_mem::Memory;
 use mm_model::{SlotState, Step, Tick};
 use mm_word::{Access, Cause, Kind, Word, check};
 
-/// The turn of the running slot at a place.
+/// The turn of the running slot at a place, and its step.
 pub(crate) fn start<M: Memory>(
     tables: &mut Tables,
     places: &Places,
     place: usize,
     mem: &mut M,
-) -> Step
+    step: &mut Step,
+)
     requires can { CanTurn tables.old places.now place }
     requires room { M.uses mem.old < 2 ^ 61 }
-    ensures { Gives M.meaning M.uses M.stands (started tables.old (M.meaning mem.old) (slot_in tables.old place)) mem.old mem.new tables.new result }
+    ensures { Gives M.meaning M.uses M.stands (started tables.old (M.meaning mem.old) (slot_in tables.old place)) mem.old mem.new tables.new step.new }
 {
     let slot = tables.slot(place);
     let number = slot.number;
@@ -42,14 +43,15 @@ pub(crate) fn start<M: Memory>(
             Word::Int(0),
             Word::Int(0),
         );
-        return step(tick, number, None, None);
+        tell(step, tick, number, None, None);
+        return;
     }
     match check(Word::Ptr(ip), 0, Kind::Fetch) {
         Err(cause) => {
             let tick = fault(tables, places, place, cause, Word::Int(0), Word::Int(0));
-            step(tick, number, None, None)
+            tell(step, tick, number, None, None);
         }
-        Ok(access) => fetch(tables, places, place, mem, access),
+        Ok(access) => fetch(tables, places, place, mem, access, step),
     }
 }
 
@@ -60,11 +62,12 @@ fn fetch<M: Memory>(
     place: usize,
     mem: &mut M,
     access: Access,
-) -> Step
+    step: &mut Step,
+)
     requires can { CanTurn tables.old places.now place }
     requires room { M.uses mem.old < 2 ^ 61 }
     requires kind { access.kind ≡ Kind.Fetch }
-    ensures { Gives M.meaning M.uses M.stands (fetched tables.old (M.meaning mem.old) (slot_in tables.old place) access (cell_at (M.meaning mem.old) access.addr)) mem.old mem.new tables.new result }
+    ensures { Gives M.meaning M.uses M.stands (fetched tables.old (M.meaning mem.old) (slot_in tables.old place) access (cell_at (M.meaning mem.old) access.addr)) mem.old mem.new tables.new step.new }
 {
     let number = tables.slot(place).number;
     let Some(word) = mem.fetch(&access) else {
@@ -76,7 +79,8 @@ fn fetch<M: Memory>(
             Word::Int(0),
             Word::Int(0),
         );
-        return step(tick, number, Some(access), None);
+        tell(step, tick, number, Some(access), None);
+        return;
     };
     match instr_in(word) {
         None => {
@@ -88,9 +92,9 @@ fn fetch<M: Memory>(
                 Word::Int(0),
                 Word::Int(0),
             );
-            step(tick, number, Some(access), None)
+            tell(step, tick, number, Some(access), None);
         }
-        Some(instr) => issue(tables, places, place, mem, access, instr),
+        Some(instr) => issue(tables, places, place, mem, access, instr, step),
     }
 }
 
@@ -112,20 +116,22 @@ fn issue<M: Memory>(
     mem: &mut M,
     access: Access,
     instr: Instr,
-) -> Step
+    step: &mut Step,
+)
     requires can { CanTurn tables.old places.now place }
     requires room { M.uses mem.old < 2 ^ 62 }
     ensures { (before : M) (u : Use) → TakesUses M.stands before mem.old (u ∷ []) → M.meaning mem.old ≡ M.meaning before → M.uses mem.old ≡ M.uses before + accesses (u ∷ []) →
-        Gives M.meaning M.uses M.stands (issued tables.old (M.meaning before) (slot_in tables.old place) access u instr) before mem.new tables.new result }
+        Gives M.meaning M.uses M.stands (issued tables.old (M.meaning before) (slot_in tables.old place) access u instr) before mem.new tables.new step.new }
 {
     let number = tables.slot(place).number;
     if must_wait(tables, place, &instr) {
         let _register = tables.deliver(place);
         tables.stand(place, SlotState::Running);
-        return step(Tick::Blocked, number, Some(access), None);
+        tell(step, Tick::Blocked, number, Some(access), None);
+        return;
     }
     let told = execute(tables, places, place, mem, &instr);
-    end(tables, places, place, number, &instr, access, told)
+    end(tables, places, place, number, &instr, access, told, step);
 }
 
 // Whether a register that the instruction names waits for a load, in a split machine.
@@ -145,21 +151,18 @@ fn end(
     instr: &Instr,
     access: Access,
     told: Told,
-) -> Step
+    step: &mut Step,
+)
     requires { CanEnd told.outcome tables.old places.now place }
     ensures core { tables.new ≡ core_ended instr.now tables.old (slot_in tables.old place) place told.outcome }
-    ensures step { result ≡ step_ended number (slot_in tables.old place) access told.touched told.outcome }
+    ensures step { step.new ≡ step_ended number (slot_in tables.old place) access told.touched told.outcome }
 {
     let Told { outcome, touched } = told;
     let tick = match outcome {
         Outcome::Goes(entered) => {
-            return Step {
-                tick: Tick::Did,
-                slot: number,
-                fetched: Some(access),
-                touched,
-                entered,
-            };
+            tell(step, Tick::Did, number, Some(access), touched);
+            step.entered = entered;
+            return;
         }
         Outcome::Waits => {
             tables.stand(place, SlotState::Running);
@@ -171,18 +174,24 @@ fn end(
             fault(tables, places, place, cause, addr_op, value_op)
         }
     };
-    step(tick, number, Some(access), touched)
+    tell(step, tick, number, Some(access), touched);
 }
 
-/// The step of a turn that enters nothing.
-pub(crate) fn step(tick: Tick, slot: u8, fetched: Option<Access>, touched: Option<Access>) -> Step
-    ensures { result ≡ record { tick = tick; slot = slot; fetched = fetched; touched = touched; entered = None } }
+/// Tells the step of a turn that enters nothing. It is written part by part where its caller keeps it, since a step that is handed
+/// up from function to function is copied at each of them.
+#[inline(always)]
+pub(crate) fn tell(
+    step: &mut Step,
+    tick: Tick,
+    slot: u8,
+    fetched: Option<Access>,
+    touched: Option<Access>,
+)
+    ensures { step.new ≡ record { tick = tick; slot = slot; fetched = fetched; touched = touched; entered = None } }
 {
-    Step {
-        tick,
-        slot,
-        fetched,
-        touched,
-        entered: None,
-    }
+    step.tick = tick;
+    step.slot = slot;
+    step.fetched = fetched;
+    step.touched = touched;
+    step.entered = None;
 }

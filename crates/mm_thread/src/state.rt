@@ -23,7 +23,7 @@ use crate::making::{no_outputs, places_of, rows_of};
 use crate::output::Output;
 use crate::tables::Tables;
 use mm_mem::Memory;
-use mm_model::{Event, Slot, Step};
+use mm_model::{Event, Slot, Step, Tick};
 use mm_word::NoMemory;
 use std::alloc::Global;
 use std::marker::Model;
@@ -71,7 +71,15 @@ pub fn turn<M: Memory>(core: &mut Core, mem: &mut M, item: u8) -> Step
     // The step tells exactly the accesses that were made.
     ensures exactly { accesses_in (turn_of core.old (M.meaning mem.old) item).uses ≡ accesses_told result }
 {
-    take_item(&mut core.tables, &core.places, mem, item)
+    let mut step = Step {
+        tick: Tick::Idle,
+        slot: item,
+        fetched: None,
+        touched: None,
+        entered: None,
+    };
+    take_item(&mut core.tables, &core.places, mem, item, &mut step);
+    step
 }
 
 impl Core {

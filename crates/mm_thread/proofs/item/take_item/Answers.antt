@@ -20,7 +20,7 @@ returns-in-None g c =
     let t = a.tables.now in
     let m = g.M.Memory.meaning a.mem.now in
     let none = ap (slot_at t) (sym c.from.ensures) ∙ c.in-None.ensures.missing in
-    rw (turn-none t m a.item none) (nothing_gives g.M.Memory.meaning g.M.Memory.uses g.M.Memory.stands _ a.mem.now c.take_port.new.tables c.take_port.result (c.take_port.ensures m))
+    rw (turn-none t m a.item none) (nothing_gives g.M.Memory.meaning g.M.Memory.uses g.M.Memory.stands _ a.mem.now c.take_port.new.tables c.take_port.new.step (c.take_port.ensures m))
 
 pub returns-then-is_running : goal.returns-then-is_running
 returns-then-is_running g c =
@@ -40,4 +40,4 @@ returns-else-is_running g c =
     let m = g.M.Memory.meaning a.mem.now in
     let found = ap (slot_at t) (sym (c.in-Some.ensures.number ∙ c.from.ensures)) ∙ slot_found t a.places.now c.requires.index p c.in-Some.ensures.within in
     let rests = ap (λ (x : Slot). is_running x.state) (sym c.slot.ensures) ∙ sym c.is_running.ensures ∙ c.if-is_running.false in
-    rw (turn-resting t m a.item (slot_in t p) found rests) (nothing_gives g.M.Memory.meaning g.M.Memory.uses g.M.Memory.stands _ a.mem.now t c.step.result (idles t m a.item c.step.result c.step.ensures))
+    rw (turn-resting t m a.item (slot_in t p) found rests) (nothing_gives g.M.Memory.meaning g.M.Memory.uses g.M.Memory.stands _ a.mem.now t c.tell.new.step (idles t m a.item c.tell.new.step c.tell.ensures))

@@ -6,7 +6,7 @@ use Rattle.mm_thread.proofs.item.take_port.Goals as goal
 use Rattle.mm_thread.proofs.item.take_port.Goals.{in-Some-deliver, in-None}
 
 pub returns-in_default : goal.returns-in_default
-returns-in_default c = λ m. port_idles c.args.tables.now m c.args.item c.step.result c.in_default.ensures.none c.step.ensures
+returns-in_default c = λ m. port_idles c.args.tables.now m c.args.item c.tell.new.step c.in_default.ensures.none c.tell.ensures
 
 pub deliver-requires-clause-registers : goal.deliver-requires-clause-registers
 deliver-requires-clause-registers c =
@@ -23,5 +23,5 @@ returns c = λ m.
       | in-Some-deliver w ↦ w.tick-is ∙ ap arrival (sym w.in-Some-deliver.is)
       | in-None w ↦ w.tick-is ∙ ap arrival (sym w.in-None.is)
     ] in
-    port_delivers t c.args.places.now c.requires.index p c.in-Some.ensures.within m c.args.item c.deliver.new.self c.step-2.result c.match-deliver.tick
-    c.in-Some.ensures.port c.deliver.ensures.slot (told ∙ ap arrival c.deliver.ensures.register) (c.step-2.ensures ∙ ap (step_of c.match-deliver.tick) number)
+    port_delivers t c.args.places.now c.requires.index p c.in-Some.ensures.within m c.args.item c.deliver.new.self c.tell-2.new.step c.match-deliver.tick
+    c.in-Some.ensures.port c.deliver.ensures.slot (told ∙ ap arrival c.deliver.ensures.register) (c.tell-2.ensures ∙ ap (step_of c.match-deliver.tick) number)

@@ -19,8 +19,8 @@ returns-in_default g c =
     let number = ap (λ (x : Slot). x.number) (c.behind-tables.view_is ∙ c.slot.ensures) in
     let cell : cell_at m f.addr ≡ None = fetched-none (cell_at m f.addr) (sym c.fetch.ensures.answer ∙ c.in_default.is) in
     let takes = rw cell at c.fetch.ensures.takes in
-    rw cell (faults_give g.M.Memory.meaning g.M.Memory.uses g.M.Memory.stands t m s NoPage (Int 0) (Int 0) (Some f) (Accessed f.kind f.addr false false ∷ []) a.mem.now c.fetch.new.self c.fault-tick.new.tables c.step.result c.fault-tick.result c.behind-tables.inside.number
-    c.fault-tick.ensures.core c.fetch.ensures.after c.fault-tick.ensures.tick number c.step.ensures takes c.fetch.ensures.count)
+    rw cell (faults_give g.M.Memory.meaning g.M.Memory.uses g.M.Memory.stands t m s NoPage (Int 0) (Int 0) (Some f) (Accessed f.kind f.addr false false ∷ []) a.mem.now c.fetch.new.self c.fault-tick.new.tables c.tell.new.step c.fault-tick.result c.behind-tables.inside.number
+    c.fault-tick.ensures.core c.fetch.ensures.after c.fault-tick.ensures.tick number c.tell.ensures takes c.fetch.ensures.count)
 
 pub returns-in-None : goal.returns-in-None
 returns-in-None g c =
@@ -33,8 +33,8 @@ returns-in-None g c =
     let found = fetched-some (cell_at m f.addr) c.in-Some.word (sym c.fetch.ensures.answer ∙ c.in-Some.is) in
     let takes = rw found.1 at c.fetch.ensures.takes in
     let none : instr_in (found.0).word ≡ None = ap instr_in found.2 ∙ sym c.instr_in.ensures ∙ c.in-None.is in
-    rw (found.1, none) (faults_give g.M.Memory.meaning g.M.Memory.uses g.M.Memory.stands t m s Illegal (Int 0) (Int 0) (Some f) (Accessed f.kind f.addr true true ∷ []) a.mem.now c.fetch.new.self c.fault-tick-in-None.new.tables c.step-in-None.result c.fault-tick-in-None.result c.behind-tables.inside.number
-    c.fault-tick-in-None.ensures.core c.fetch.ensures.after c.fault-tick-in-None.ensures.tick number c.step-in-None.ensures takes c.fetch.ensures.count)
+    rw (found.1, none) (faults_give g.M.Memory.meaning g.M.Memory.uses g.M.Memory.stands t m s Illegal (Int 0) (Int 0) (Some f) (Accessed f.kind f.addr true true ∷ []) a.mem.now c.fetch.new.self c.fault-tick-in-None.new.tables c.tell-in-None.new.step c.fault-tick-in-None.result c.behind-tables.inside.number
+    c.fault-tick-in-None.ensures.core c.fetch.ensures.after c.fault-tick-in-None.ensures.tick number c.tell-in-None.ensures takes c.fetch.ensures.count)
 
 pub returns-in-Some-instr_in : goal.returns-in-Some-instr_in
 returns-in-Some-instr_in g c =

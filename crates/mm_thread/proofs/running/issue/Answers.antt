@@ -20,7 +20,7 @@ returns-then-must_wait g c = λ before u first same counted.
     let a = c.args in
     let number = ap (λ (x : Slot). x.number) (c.behind-tables.view_is ∙ c.slot.ensures) in
     issued_waits g.M.Memory.meaning g.M.Memory.uses g.M.Memory.stands a.tables.now a.places.now a.place c.requires.can a.access u a.instr before a.mem.now first same counted
-    (sym c.must_wait.ensures ∙ c.if-must_wait.true) c.deliver-register.new.self c.stand.new.self c.step.result c.behind-tables.inside.number c.deliver-register.ensures.slot c.stand.ensures number c.step.ensures
+    (sym c.must_wait.ensures ∙ c.if-must_wait.true) c.deliver-register.new.self c.stand.new.self c.tell.new.step c.behind-tables.inside.number c.deliver-register.ensures.slot c.stand.ensures number c.tell.ensures
 
 pub end-requires : goal.end-requires
 end-requires g c =
@@ -32,5 +32,5 @@ returns g c = λ before u first same counted.
     let a = c.args in
     let number = ap (λ (x : Slot). x.number) (c.behind-tables.view_is ∙ c.slot.ensures) in
     issued_gives g.M.Memory.meaning g.M.Memory.uses g.M.Memory.stands a.tables.now a.places.now a.place c.requires.can a.access u a.instr before a.mem.now first same counted
-    (sym c.must_wait.ensures ∙ c.if-must_wait.false) c.execute-told.new.mem c.execute-told.new.tables c.end.new.tables c.execute-told.result c.end.result c.execute-told.ensures c.end.ensures.core
+    (sym c.must_wait.ensures ∙ c.if-must_wait.false) c.execute-told.new.mem c.execute-told.new.tables c.end.new.tables c.execute-told.result c.end.new.step c.execute-told.ensures c.end.ensures.core
     (c.end.ensures.step ∙ ap (λ (n : ℕ). step_ended n (slot_in c.execute-told.new.tables a.place) a.access c.execute-told.result.touched c.execute-told.result.outcome) number)

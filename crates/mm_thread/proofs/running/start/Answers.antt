@@ -16,8 +16,8 @@ returns-then-past g c =
     let s = slot_in t a.place in
     let same = c.slot.view_is ∙ c.slot-slot.ensures in
     let past : s.past ≡ true = ap (λ (x : Slot). x.past) (sym same) ∙ c.if-past.true in
-    rw (starts_past t (g.M.Memory.meaning a.mem.now) s past) (faults_give g.M.Memory.meaning g.M.Memory.uses g.M.Memory.stands t (g.M.Memory.meaning a.mem.now) s Bounds (Int 0) (Int 0) None [] a.mem.now a.mem.now c.fault-tick.new.tables c.step.result c.fault-tick.result c.slot.inside.number
-    c.fault-tick.ensures.core refl c.fault-tick.ensures.tick (ap (λ (x : Slot). x.number) same) c.step.ensures (takes_none a.mem.now) (omega arith))
+    rw (starts_past t (g.M.Memory.meaning a.mem.now) s past) (faults_give g.M.Memory.meaning g.M.Memory.uses g.M.Memory.stands t (g.M.Memory.meaning a.mem.now) s Bounds (Int 0) (Int 0) None [] a.mem.now a.mem.now c.fault-tick.new.tables c.tell.new.step c.fault-tick.result c.slot.inside.number
+    c.fault-tick.ensures.core refl c.fault-tick.ensures.tick (ap (λ (x : Slot). x.number) same) c.tell.ensures (takes_none a.mem.now) (omega arith))
 
 pub returns-in-Err : goal.returns-in-Err
 returns-in-Err g c =
@@ -27,8 +27,8 @@ returns-in-Err g c =
     let same = c.slot.view_is ∙ c.slot-slot.ensures in
     let past : s.past ≡ false = ap (λ (x : Slot). x.past) (sym same) ∙ c.if-past.false in
     let checked : check_result (Ptr s.ip) (pos 0) Fetch ≡ Err c.in-Err.cause = ap (λ (x : Slot). check_result (Ptr x.ip) (pos 0) Fetch) (sym same) ∙ sym c.in-Err.ensures.value in
-    rw (starts_unfetched t (g.M.Memory.meaning a.mem.now) s c.in-Err.cause past checked) (faults_give g.M.Memory.meaning g.M.Memory.uses g.M.Memory.stands t (g.M.Memory.meaning a.mem.now) s c.in-Err.cause (Int 0) (Int 0) None [] a.mem.now a.mem.now c.fault-tick-in-Err.new.tables c.step-in-Err.result c.fault-tick-in-Err.result c.slot.inside.number
-    c.fault-tick-in-Err.ensures.core refl c.fault-tick-in-Err.ensures.tick (ap (λ (x : Slot). x.number) same) c.step-in-Err.ensures (takes_none a.mem.now) (omega arith))
+    rw (starts_unfetched t (g.M.Memory.meaning a.mem.now) s c.in-Err.cause past checked) (faults_give g.M.Memory.meaning g.M.Memory.uses g.M.Memory.stands t (g.M.Memory.meaning a.mem.now) s c.in-Err.cause (Int 0) (Int 0) None [] a.mem.now a.mem.now c.fault-tick-in-Err.new.tables c.tell-in-Err.new.step c.fault-tick-in-Err.result c.slot.inside.number
+    c.fault-tick-in-Err.ensures.core refl c.fault-tick-in-Err.ensures.tick (ap (λ (x : Slot). x.number) same) c.tell-in-Err.ensures (takes_none a.mem.now) (omega arith))
 
 pub returns-in-Ok : goal.returns-in-Ok
 returns-in-Ok g c =
