@@ -59,3 +59,20 @@ one_test m g = at (bit_at m g) (bit_and m (2 ^ g)) (bit_at-lt m g) (and_pow m g)
 
 pub clear_bit : (m g : ℕ) → bit_and (m / 2 ^ g) 1 ≡ 0 → bit_at m g ≡ 1 → ⊥
 clear_bit m g h bit = let e = shr_and_one m g in omega arith
+
+-- the bits of one mask that are not of another
+pub fresh_bit : (a b g : ℕ) → b < 2 ^ 64 → g < 64 → (bit_at (bit_and a (bit_not w64 b)) g ≡ 1) ↔ ((bit_at a g ≡ 1) × (bit_at b g ≡ 1 → ⊥))
+fresh_bit a b g fits lt = at _ _ _ _ (bit_at_and a (bit_not w64 b) g) (bit_at_not w64 b g fits lt) (bit_at-lt a g) (bit_at-lt b g)
+  where
+    at : (x y u z : ℕ) → z ≡ min x u → u ≡ 1 - y → x < 2 → y < 2 → (z ≡ 1) ↔ ((x ≡ 1) × (y ≡ 1 → ⊥))
+    at x zero u z e f p q = (λ h. (grind arith, λ t. absurd (omega arith)), λ h. let one = h.0 in grind arith)
+    at x (suc zero) u z e f p q = (λ h. absurd (let none : z ≡ 0 = grind arith in omega arith), λ h. absurd (h.1 refl))
+    at x (suc (suc y)) u z e f p q = absurd (omega arith)
+
+pub zero_or_one : (m g : ℕ) → (bit_at m g ≡ 1 → ⊥) ⊎ (bit_at m g ≡ 1)
+zero_or_one m g = at (bit_at m g) (bit_at-lt m g)
+  where
+    at : (b : ℕ) → b < 2 → (b ≡ 1 → ⊥) ⊎ (b ≡ 1)
+    at zero lt = inl (λ h. absurd (omega arith))
+    at (suc zero) lt = inr refl
+    at (suc (suc b)) lt = absurd (omega arith)

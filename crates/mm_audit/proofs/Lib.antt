@@ -15,3 +15,6 @@ mod Outermost
 mod SharedSets
 mod Bits
 mod Collecting
+mod Noting
+mod Opens
+mod Meetings

@@ -1,5 +1,5 @@
 -- The words at which groups meet: one writes what the other touches.
-use Rattle.std.specs.Prelude.{◌≡◌, ℕ, ◌+◌, ◌<◌, ◌≤◌, ◌↔◌, ◌⊎◌, List, length, slice_index, slice_index_or, replicate}
+use Rattle.std.specs.Prelude.{◌≡◌, ℕ, ◌+◌, ◌<◌, ◌≤◌, ◌↔◌, ◌⊎◌, List, [], length, slice_index, slice_index_or, replicate}
 use Rattle.std.specs.Int.{bit_at}
 use Rattle.mm_audit.specs.declared.span.Access.TheVariants.{Touch, Write}
 use Rattle.mm_audit.specs.declared.span.Span.{Span}
@@ -10,8 +10,12 @@ use Rattle.mm_audit.specs.Opening.{IsLive}
 abbrev pub no_meets : Meets
 no_meets = record { groups = 0; words = replicate 64 0 }
 
+-- what stands past the end of a table
+abbrev pub no_row : Meets
+no_row = record { groups = 0; words = [] }
+
 abbrev pub row_at : List Meets → ℕ → Meets
-row_at table h = slice_index_or table h no_meets
+row_at table h = slice_index_or table h no_row
 
 -- the group of a row has a word with another
 abbrev pub HasWord : List Meets → ℕ → ℕ → Type 0
@@ -19,6 +23,10 @@ HasWord table h g = bit_at (row_at table h).groups g ≡ 1
 
 abbrev pub word_at : List Meets → ℕ → ℕ → ℕ
 word_at table h g = slice_index (row_at table h).words g
+
+-- the groups of the one mask that are not of the other
+abbrev pub IsWithout : ℕ → ℕ → ℕ → Type 0
+IsWithout groups others result = (g : ℕ) → g < 64 → (bit_at result g ≡ 1) ↔ ((bit_at groups g ≡ 1) × (bit_at others g ≡ 1 → ⊥))
 
 -- the word was put at these groups, of those before one
 pub record FillsWords (groups word top : ℕ) (old new : List ℕ) : Type 0 where

@@ -1,6 +1,6 @@
 // The words that one group writes and others touch.
 ghost use Rattle.std.specs.Prelude.{◌≡◌, length};
-ghost use Rattle.mm_audit.specs.Meeting.{FillsWords, NotesWord, no_meets};
+ghost use Rattle.mm_audit.specs.Meeting.{FillsWords, IsWithout, NotesWord, no_meets};
 
 /// Of one group that writes: which groups touch a word that it can write, and the least such word of each.
 #[derive(Clone, Copy, Debug)]
@@ -21,6 +21,13 @@ fn fill(words: &mut [u64], groups: u64, word: u64)
     }
 }
 
+/// The groups of the one mask that are not of the other.
+fn without(groups: u64, others: u64) -> u64
+    ensures { IsWithout groups others result }
+{
+    groups & !others
+}
+
 impl Meets {
     /// No group touches a word.
     pub fn none() -> Meets
@@ -37,7 +44,7 @@ impl Meets {
         requires { length self.old.words ≡ 64 }
         ensures { NotesWord groups word self.old self.new }
     {
-        let fresh = groups & !self.groups;
+        let fresh = without(groups, self.groups);
         if fresh != 0 {
             fill(&mut self.words, fresh, word);
             self.groups |= fresh;
