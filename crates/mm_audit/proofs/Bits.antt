@@ -76,3 +76,17 @@ zero_or_one m g = at (bit_at m g) (bit_at-lt m g)
     at zero lt = inl (λ h. absurd (omega arith))
     at (suc zero) lt = inr refl
     at (suc (suc b)) lt = absurd (omega arith)
+
+pub and_then : (a b g : ℕ) → bit_at (bit_and a b) g ≡ 1 → (bit_at a g ≡ 1) × (bit_at b g ≡ 1)
+and_then a b g h = both _ _ _ (bit_at_and a b g) h (bit_at-lt a g) (bit_at-lt b g)
+  where
+    both : (x y z : ℕ) → z ≡ min x y → z ≡ 1 → x < 2 → y < 2 → (x ≡ 1) × (y ≡ 1)
+    both x y z e h p q = (omega arith, omega arith)
+
+pub set_bit : (m g : ℕ) → (bit_and (m / 2 ^ g) 1 ≡ 0 → ⊥) → bit_at m g ≡ 1
+set_bit m g some = at (bit_at m g) (bit_at-lt m g) (λ e. some (shr_and_one m g ∙ e))
+  where
+    at : (b : ℕ) → b < 2 → (b ≡ 0 → ⊥) → b ≡ 1
+    at zero lt h = absurd (h refl)
+    at (suc zero) lt h = refl
+    at (suc (suc b)) lt h = absurd (omega arith)

@@ -18,3 +18,7 @@ mod Collecting
 mod Noting
 mod Opens
 mod Meetings
+pub mod Exactly
+mod LeastTable
+pub mod AuditSets
+mod Rows

@@ -1,0 +1,48 @@
+-- The sets of a survey are its audit.
+use Rattle.std.proofs.Common.{◌≡◌, ℕ, ◌%◌, ◌^◌, ◌<◌, ◌≤◌, ◌↔◌, inl, inr, List, sym, subst, arith}
+use Rattle.std.proofs.lemmas.Bool.{cases_lt}
+use Rattle.mm_model.specs.Image.{Image}
+use Rattle.mm_model.specs.Reach.{Entries}
+use Rattle.mm_model.specs.Audit.{MaximalSegments}
+use Rattle.mm_seg.specs.Segments.{IsSet, Covered}
+use Rattle.mm_audit.specs.declared.span.Access.{Access}
+use Rattle.mm_audit.specs.declared.span.Access.TheVariants.{Touch, Write}
+use Rattle.mm_audit.specs.Audits.{Audits, set_of}
+use Rattle.mm_audit.specs.GroupSets.{AreGroupSets}
+use Rattle.mm_audit.specs.Spans.{can}
+use Rattle.mm_audit.specs.Surveys.{SurveyValue, Surveys}
+use Rattle.mm_audit.proofs.Exactly.{CanUse, touch_use, write_use, are_maximal, group_covers}
+use Rattle.mm_audit.proofs.Granted.{granted-small}
+use Rattle.mm_audit.proofs.Outermost.{outermost_set}
+use Rattle.mm_audit.proofs.Reading.{past}
+
+module _ (i : Image) (e : Entries) (s : SurveyValue) (h : Surveys i e s) where
+  module _ (access : Access) (sets : List (List (ℕ × ℕ))) (own : AreGroupSets s.spans access 64 sets) where
+    maximal : (g : ℕ) → g < 64 → MaximalSegments i e g (can access) (set_of sets g)
+    maximal g lt = subst (MaximalSegments i e g (can access)) (sym (own.each g lt)) (are_maximal i e s.spans h.spans access g)
+
+    set_is : (g : ℕ) → g < 64 → IsSet (set_of sets g)
+    set_is g lt = subst IsSet (sym (own.each g lt)) (outermost_set access (2 ^ g) s.spans 0 h.spans.order)
+
+    covers : (g w : ℕ) → w % 8 ≡ 0 → Covered (set_of sets g) w ↔ CanUse i e access g w
+    covers g w aligned = elim (cases_lt g 64) [
+      | inl lt ↦ subst (λ v. Covered v w ↔ CanUse i e access g w) (sym (own.each g lt)) (group_covers i e s.spans h.spans access g w aligned)
+      | inr le ↦ (λ c. absurd (past sets g w own.len le c), λ u. absurd (let lt = granted-small i e h.image g u.by u.granted in omega arith))
+    ]
+
+  pub audits : (touch write : List (List (ℕ × ℕ))) → AreGroupSets s.spans Touch 64 touch → AreGroupSets s.spans Write 64 write
+      → Audits i e (record { privileged = s.privileged; touch = touch; write = write; served = s.served; least = s.least })
+  audits touch write t w = record {
+    image = h.image;
+    served = h.served;
+    least = h.least;
+    touch_len = t.len;
+    write_len = w.len;
+    touch_sets = set_is Touch touch t;
+    write_sets = set_is Write write w;
+    privileged = h.privileged;
+    touch_covers = λ g a aligned small. let c = covers Touch touch t g a aligned in (λ y. (touch_use i e g a).1 (c.0 y), λ y. c.1 ((touch_use i e g a).0 y));
+    write_covers = λ g a aligned small. let c = covers Write write w g a aligned in (λ y. (write_use i e g a).1 (c.0 y), λ y. c.1 ((write_use i e g a).0 y));
+    touch_maximal = maximal Touch touch t;
+    write_maximal = maximal Write write w;
+  }
