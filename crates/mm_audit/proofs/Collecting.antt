@@ -1,13 +1,11 @@
 -- Segments that are collected one by one.
-use Rattle.std.proofs.Common.{◌≡◌, ℕ, zero, suc, ◌+◌, ◌/◌, ◌^◌, ◌<◌, ◌≤◌, ◌⊎◌, inl, inr, Bool, not, ◌==◌, bit_and, bit_or, bit_xor, List, [], ◌∷◌, ◌++◌, length, length-append, slice_index_or, refl, sym, ap, ◌∙◌, subst, arith}
+use Rattle.std.proofs.Common.{◌≡◌, ℕ, ◌+◌, ◌/◌, ◌^◌, ◌<◌, ◌≤◌, inl, inr, ◌==◌, bit_or, bit_xor, List, [], ◌∷◌, ◌++◌, length, length-append, refl, sym, ap, ◌∙◌, subst, arith}
 use Rattle.std.specs.Int.{bit_at}
-use Rattle.std.proofs.lemmas.Bool.{both_ways}
 use Rattle.std.proofs.lemmas.List.{get_or_append_left, get_or_push}
 use Rattle.mm_seg.specs.Segments.{IsSet, IsSegment, IsBehind, segment_at, end_of}
 use Rattle.mm_seg.proofs.Searches.{same_or_below}
 use Rattle.mm_audit.specs.declared.span.Access.{Access}
 use Rattle.mm_audit.specs.declared.span.Span.{Span}
-use Rattle.mm_audit.specs.Audits.{set_of}
 use Rattle.mm_audit.specs.Spans.{mask, span_at}
 use Rattle.mm_audit.specs.GroupSets.{AreGroupSets, SameUsers}
 use Rattle.mm_audit.specs.Walks.{outermost}

@@ -1,6 +1,5 @@
 -- The outermost spans of a group are the maximal segments that it is granted.
-use Rattle.std.proofs.Common.{◌≡◌, ◌==◌, not, ℕ, suc, ◌+◌, ◌-◌, ◌*◌, ◌/◌, ◌%◌, ◌^◌, ◌<◌, ◌≤◌, ◌↔◌, inl, inr, true, nat_le, bit_and, List, [], ◌∷◌, length, zip, drop, refl, sym, ap, ◌∙◌, subst, arith, pow_pos, eqb-true, eq-eqb}
-use Rattle.std.specs.Int.{bit_at}
+use Rattle.std.proofs.Common.{◌≡◌, ℕ, suc, ◌+◌, ◌%◌, ◌^◌, ◌<◌, ◌≤◌, ◌↔◌, inl, inr, true, List, [], ◌∷◌, length, zip, drop, sym, ap, ◌∙◌, subst, arith, pow_pos, eqb-true, eq-eqb}
 use Rattle.std.specs.List.{Contains, AllByRecursion}
 use Rattle.std.proofs.lemmas.Bool.{cases_lt}
 use Rattle.std.proofs.lemmas.List.{get_or_default}
@@ -16,7 +15,7 @@ use Rattle.mm_graph.proofs.Bounds.{covers_in, in_covers}
 use Rattle.mm_audit.specs.declared.span.Access.{Access}
 use Rattle.mm_audit.specs.declared.span.Access.TheVariants.{Touch, Write}
 use Rattle.mm_audit.specs.declared.span.Span.{Span}
-use Rattle.mm_audit.specs.Spans.{AreSpans, IsHeld, Uses, can, mask, span_at, base_at, end_at, segment_of as span_segment}
+use Rattle.mm_audit.specs.Spans.{AreSpans, Uses, can, mask, span_at, base_at, end_at}
 use Rattle.mm_audit.specs.Walks.{outermost}
 use Rattle.mm_audit.proofs.Bits.{one_test}
 use Rattle.mm_audit.proofs.Outermost.{is_of, from_spans, outermost_set, outermost_holds}

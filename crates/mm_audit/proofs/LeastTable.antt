@@ -1,15 +1,14 @@
 -- The words at which groups meet are the least that they share.
-use Rattle.std.proofs.Common.{◌≡◌, ℕ, ◌+◌, ◌*◌, ◌/◌, ◌%◌, ◌^◌, ◌<◌, ◌≤◌, inl, inr, List, length, sym, subst, arith}
+use Rattle.std.proofs.Common.{ℕ, ◌+◌, ◌<◌, ◌≤◌, inl, inr, List, length, sym, subst, arith}
 use Rattle.mm_model.specs.Image.{Image}
 use Rattle.mm_model.specs.Spelling.{IsImage}
 use Rattle.mm_model.specs.Reach.{Entries, CanTouch, CanWrite}
-use Rattle.mm_seg.specs.Segments.{IsSegment}
 use Rattle.mm_seg.proofs.Searches.{compare, same_or_below}
 use Rattle.mm_audit.specs.declared.span.Access.{Access}
 use Rattle.mm_audit.specs.declared.span.Access.TheVariants.{Touch, Write}
 use Rattle.mm_audit.specs.declared.span.Span.{Span}
 use Rattle.mm_audit.specs.declared.meets.Meets.{Meets}
-use Rattle.mm_audit.specs.Spans.{AreSpans, Uses, base_at, end_at, segment_of}
+use Rattle.mm_audit.specs.Spans.{AreSpans, base_at}
 use Rattle.mm_audit.specs.Opening.{IsLive}
 use Rattle.mm_audit.specs.Meeting.{HaveMet, HasWord, MeetAt, word_at}
 use Rattle.mm_audit.specs.Surveys.{IsLeastShared, IsLeastTable}

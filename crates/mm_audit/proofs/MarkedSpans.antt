@@ -1,5 +1,5 @@
 -- The spans of an exact summary are those of what is granted.
-use Rattle.std.proofs.Common.{◌≡◌, ℕ, ◌+◌, ◌-◌, ◌^◌, ◌<◌, ◌≤◌, ◌↔◌, inl, inr, Bool, true, false, ◌&&◌, nat_le, IsTrue, List, length, slice_index, refl, sym, ap, ◌∙◌, subst, arith, eqb-true, eq-eqb}
+use Rattle.std.proofs.Common.{◌≡◌, ℕ, ◌<◌, ◌≤◌, ◌↔◌, inl, inr, Bool, true, false, ◌&&◌, nat_le, List, length, slice_index, refl, sym, ap, ◌∙◌, subst, arith, eqb-true, eq-eqb}
 use Rattle.std.specs.Int.{bit_at}
 use Rattle.std.proofs.lemmas.Bool.Decides.{nat_tests}
 use Rattle.std.proofs.lemmas.Bool.{and_parts, and_from}
@@ -18,14 +18,13 @@ use Rattle.mm_flow.specs.declared.node.Node.{Node}
 use Rattle.mm_flow.specs.declared.node.Right.{Right}
 use Rattle.mm_flow.specs.declared.node.Right.TheVariants.{Load, Store, Make}
 use Rattle.mm_flow.specs.Net.{right_at}
-use Rattle.mm_flow.specs.Flow.{Has}
 use Rattle.mm_flow.specs.Reached.{HasSome}
 use Rattle.mm_summary.specs.Summary.{IsIdle, IsExact, Holds}
 use Rattle.mm_summary.specs.NetOf.{Marked}
 use Rattle.mm_summary.proofs.Segments.{below-can_load, below-can_store}
 use Rattle.mm_seg.specs.Segments.{LiesIn}
 use Rattle.mm_graph.specs.declared.key.Key.{Key}
-use Rattle.mm_graph.specs.Key.{IsKey, key_at, no_key, pointer_at}
+use Rattle.mm_graph.specs.Key.{key_at, no_key, pointer_at}
 use Rattle.mm_graph.specs.Marked.{IsMarked, node_pointer}
 use Rattle.mm_graph.proofs.Nesting.{log_is}
 use Rattle.mm_graph.proofs.Bounds.{three_then}
@@ -33,7 +32,7 @@ use Rattle.mm_audit.specs.declared.span.Access.{Access}
 use Rattle.mm_audit.specs.declared.span.Access.TheVariants.{Touch, Write}
 use Rattle.mm_audit.specs.declared.span.Span.{Span}
 use Rattle.mm_audit.specs.Spans.{AreSpans, IsHeld, Uses, can, mask, span_at, segment_of as span_segment}
-use Rattle.mm_audit.specs.Marks.{kept_mask, span_of, whole_span, IsUsed, OfNode, Stands, SpansOf}
+use Rattle.mm_audit.specs.Marks.{kept_mask, span_of, whole_span, IsUsed, Stands, SpansOf}
 use Rattle.mm_audit.specs.Surveys.{ArePrivileged}
 use Rattle.mm_audit.proofs.Granted.{granted-well_formed}
 use Rattle.mm_audit.proofs.KeyOrder.{key_segment, in_memory}

@@ -1,10 +1,10 @@
 -- The outermost spans of groups are disjoint, and hold all spans of these groups.
-use Rattle.std.proofs.Common.{◌≡◌, ℕ, zero, suc, ◌+◌, ◌^◌, ◌<◌, ◌≤◌, ◌⊎◌, inl, inr, Bool, true, false, not, ◌==◌, ◌&&◌, nat_le, bit_and, if◌then◌else◌, List, [], ◌∷◌, length, refl, sym, ap, subst, arith, pow_pos}
+use Rattle.std.proofs.Common.{◌≡◌, ℕ, zero, suc, ◌<◌, ◌≤◌, ◌⊎◌, inl, inr, Bool, true, false, not, ◌==◌, ◌&&◌, nat_le, bit_and, if◌then◌else◌, List, [], ◌∷◌, length, refl, sym, ap, subst, arith, pow_pos}
 use Rattle.std.proofs.lemmas.Bool.{and_parts}
 use Rattle.std.proofs.lemmas.Bool.Decides.{nat_tests}
 use Rattle.mm_audit.specs.declared.span.Access.{Access}
 use Rattle.mm_audit.specs.declared.span.Span.{Span}
-use Rattle.mm_seg.specs.Segments.{IsSegment, IsSet, SomeHolds, LiesIn, segment_at, end_of}
+use Rattle.mm_seg.specs.Segments.{IsSegment, IsSet, SomeHolds, segment_at, end_of}
 use Rattle.mm_audit.specs.Spans.{AreInOrder, mask, segment_of, span_at, base_at, end_at}
 use Rattle.mm_audit.specs.Walks.{is_next, outermost}
 

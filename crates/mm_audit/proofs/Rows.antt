@@ -1,5 +1,5 @@
 -- The best so far, with one group more.
-use Rattle.std.proofs.Common.{◌≡◌, ℕ, zero, suc, ◌+◌, ◌/◌, ◌^◌, ◌<◌, ◌≤◌, inl, inr, min, bit_and, List, slice_index, Option, Some, None, MatchOption, refl, sym, ap, ◌∙◌, subst, arith}
+use Rattle.std.proofs.Common.{◌≡◌, ℕ, ◌+◌, ◌<◌, ◌≤◌, inl, inr, min, bit_and, List, slice_index, Option, Some, None, MatchOption, sym, ◌∙◌, subst, arith}
 use Rattle.std.specs.Int.{bit_at}
 use Rattle.mm_seg.proofs.Searches.{compare, same_or_below}
 use Rattle.mm_audit.specs.declared.meets.Meets.{Meets}

@@ -1,5 +1,5 @@
 -- The outermost spans of groups.
-use Rattle.std.specs.Prelude.{◌≡◌, ℕ, Bool, not, ◌==◌, ◌&&◌, nat_le, bit_and, if◌then◌else◌, List, [], ◌∷◌}
+use Rattle.std.specs.Prelude.{ℕ, Bool, not, ◌==◌, ◌&&◌, nat_le, bit_and, if◌then◌else◌, List, [], ◌∷◌}
 use Rattle.mm_audit.specs.declared.span.Access.{Access}
 use Rattle.mm_audit.specs.declared.span.Span.{Span}
 use Rattle.mm_seg.specs.Segments.{end_of}

@@ -1,5 +1,4 @@
 use Rattle.std.proofs.Common.{◌≡◌, ℕ, ◌<◌, ◌≤◌, length, take}
-use Rattle.mm_audit.specs.declared.opening.Open.{Open}
 use Rattle.mm_audit.specs.Opening.{open_end}
 use Rattle.mm_audit.proofs.opening.close.Given as goal
 

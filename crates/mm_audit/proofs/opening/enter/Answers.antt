@@ -1,4 +1,4 @@
-use Rattle.std.proofs.Common.{rules, ◌+◌, ◌++◌, ◌∷◌, [], sym, subst}
+use Rattle.std.proofs.Common.{rules, ◌+◌, subst}
 use Rattle.mm_audit.specs.Spans.{base_at}
 use Rattle.mm_audit.specs.Opening.{AreOpen, IsLast}
 use Rattle.mm_audit.proofs.Opens.{open_users, still_open}

@@ -1,5 +1,5 @@
-use Rattle.std.proofs.Common.{sym, subst, ◌∙◌}
-use Rattle.mm_audit.specs.Marks.{Added, SpansOf}
+use Rattle.std.proofs.Common.{subst}
+use Rattle.mm_audit.specs.Marks.{Added}
 use Rattle.mm_audit.proofs.Spanning.{spans_first, spans_more}
 use Rattle.mm_audit.proofs.spans.spans_of.Goals as goal
 

@@ -1,5 +1,5 @@
 use Rattle.mm_graph.specs.Masks.{meaning}
-use Rattle.mm_audit.proofs.MarkedSpans.{used_nodes, are_privileged, are_spans}
+use Rattle.mm_audit.proofs.MarkedSpans.{are_privileged, are_spans}
 use Rattle.mm_audit.proofs.surveying.granted_in.Goals as goal
 
 pub returns-clause-privileged : goal.returns-clause-privileged
