@@ -1,5 +1,5 @@
 // The lines of an audit.
-ghost use Rattle.std.specs.Prelude.{◌≡◌, List, ℕ};
+ghost use Rattle.std.specs.Prelude.{◌≡◌, ◌≤◌, List, length, ℕ};
 ghost use Rattle.std.specs.List.{flat_map};
 ghost use Rattle.mm_model.specs.Audit.{ApartLine, apart_line, groups_text, kind_line, segment_line, verdict_text};
 ghost use Rattle.mm_model.specs.Image.{Image as ImageValue};
@@ -8,6 +8,7 @@ ghost use Rattle.mm_text.specs.Gathers.{Gathers};
 ghost use Rattle.mm_audit.specs.Surveys.{Surveys};
 ghost use Rattle.mm_audit.specs.Crossing.{verdict_of};
 
+use crate::segment::{LINE, put_line};
 use mm_audit::{Apart, Segments, Survey};
 use mm_io::Sink;
 use mm_text::{Gather, Piece};
@@ -33,19 +34,12 @@ pub fn put_kind<O: Sink>(text: &mut Gather, out: &mut O, group: u8, privileged: 
 
 /// Appends the line of a segment.
 fn put_segment<O: Sink>(text: &mut Gather, out: &mut O, name: &str, base: u64, log: u8)
+    requires { length name.now ≤ 8 }
     ensures { Gathers O.taken O.faults out.old out.new text.old text.new (segment_line name.now (base, log)) }
 {
-    text.put(
-        out,
-        &[
-            Piece::Text(name),
-            Piece::Text(" "),
-            Piece::HexAddress(base),
-            Piece::Text(" "),
-            Piece::Decimal(log as u64),
-            Piece::Text("\n"),
-        ],
-    );
+    let mut line = [0u8; LINE];
+    let start = put_line(&mut line, name, base, log);
+    text.put_bytes(out, &line[start..]);
 }
 
 /// Appends the lines of segments.
@@ -55,6 +49,7 @@ pub fn put_segments<O: Sink>(
     name: &str,
     segments: &mut Segments<'_>,
 )
+    requires { length name.now ≤ 8 }
     ensures { Gathers O.taken O.faults out.old out.new text.old text.new (flat_map (segment_line name.now) segments.old) }
 {
     while let Some((base, log)) = segments.next() {
