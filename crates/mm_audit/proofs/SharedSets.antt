@@ -16,4 +16,3 @@ new_set sets set places k e h =
     map-append (set_of (sets ++ set ∷ [])) places (k ∷ [])
     ∙ ap (λ v. v ++ set_of (sets ++ set ∷ []) k ∷ []) (grown sets set places h)
     ∙ ap (λ v. map (set_of sets) places ++ v ∷ []) (get_or_push sets set [] k e)
-

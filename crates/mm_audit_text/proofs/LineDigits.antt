@@ -1,5 +1,5 @@
 -- Bytes that are written from the last one on.
-use Rattle.std.proofs.Common.{◌≡◌, ℕ, ◌+◌, ◌-◌, ◌<◌, ◌≤◌, ◌/◌, ◌%◌, ◌^◌, suc, zero, List, [], ◌∷◌, ◌++◌, length, drop, get_or, codes, decimal, append_assoc, refl, sym, ap, ◌∙◌, arith, false}
+use Rattle.std.proofs.Common.{◌≡◌, ℕ, ◌+◌, ◌<◌, ◌≤◌, ◌/◌, ◌%◌, suc, zero, List, [], ◌∷◌, ◌++◌, length, codes, decimal, append_assoc, sym, ap, ◌∙◌, arith, false}
 use Rattle.std.proofs.lemmas.Fmt.{decimal_digit, decimal_step}
 use Rattle.std.specs.Fmt.{digit_glyph}
 use Rattle.mm_model.specs.Digits.{hex}

@@ -59,7 +59,13 @@ fn put_present<O: Sink>(
 }
 
 /// Appends what is written of each group that has a slot, ascending, each maybe with whether it stands apart.
-pub fn put_groups<O: Sink>(text: &mut Gather, out: &mut O, survey: &Survey, img: &Image, apart: bool)
+pub fn put_groups<O: Sink>(
+    text: &mut Gather,
+    out: &mut O,
+    survey: &Survey,
+    img: &Image,
+    apart: bool,
+)
     ensures { (whole : List ℕ) × Gathers O.taken O.faults out.old out.new text.old text.new whole
         × (Surveys img.now All survey.now → IsPart img.now apart (groups_of (start img.now).core) whole) }
 {

@@ -1,7 +1,7 @@
 -- A set with one segment more at its end.
-use Rattle.std.proofs.Common.{◌≡◌, ℕ, ◌+◌, ◌<◌, ◌≤◌, inl, inr, List, [], ◌∷◌, ◌++◌, length, length-append, sym, subst, arith}
+use Rattle.std.proofs.Common.{◌≡◌, ℕ, ◌+◌, ◌<◌, inl, inr, List, [], ◌∷◌, ◌++◌, length, length-append, sym, subst, arith}
 use Rattle.std.proofs.lemmas.List.{get_or_append_left, get_or_push}
-use Rattle.mm_seg.specs.Segments.{IsSet, IsSegment, IsBehind, segment_at, end_of}
+use Rattle.mm_seg.specs.Segments.{IsSet, IsSegment, IsBehind, segment_at}
 use Rattle.mm_seg.proofs.Searches.{same_or_below}
 
 module _ (xs : List (ℕ × ℕ)) (s : ℕ × ℕ) where

@@ -1,4 +1,4 @@
-use Rattle.std.proofs.Common.{◌≡◌, ◌+◌, ◌-◌, ◌++◌, length, drop}
+use Rattle.std.proofs.Common.{◌≡◌, ◌+◌, ◌-◌, ◌++◌, drop}
 use Rattle.mm_model.specs.Digits.{hex}
 use Rattle.mm_audit_text.proofs.segment.put_address.Given as goal
 

@@ -1,4 +1,4 @@
-use Rattle.std.proofs.Common.{◌+◌, ◌*◌, ◌/◌, ◌%◌, ◌∷◌, List, ℕ, drop, ap, ◌∙◌, arith}
+use Rattle.std.proofs.Common.{◌+◌, ◌/◌, ◌%◌, ◌∷◌, List, ℕ, drop, ap, ◌∙◌}
 use Rattle.mm_audit_text.proofs.LineDigits.{one_digit, two_digits, three_digits}
 use Rattle.mm_audit_text.proofs.segment.put_decimal.Goals as goal
 
