@@ -1,15 +1,24 @@
 pub mod Sharing
-pub mod Kept
 pub mod Reading
-pub mod OneSet
-pub mod SharedSets
 pub mod Granted
-pub mod Exactly
-pub mod AuditSets
-pub mod Bests
 pub mod Crossings
 pub mod Words
 pub mod Judgements
 pub mod Leaving
 pub mod OwnPages
 pub mod Touches
+mod KeyOrder
+mod PointerSegments
+mod MarkedSpans
+mod Spanning
+mod Outermost
+mod SharedSets
+mod Bits
+mod Collecting
+mod Noting
+mod Opens
+mod Meetings
+pub mod Exactly
+mod LeastTable
+pub mod AuditSets
+mod Rows

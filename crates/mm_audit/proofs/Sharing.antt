@@ -1,18 +1,22 @@
 -- Masks that share a group.
-use Rattle.std.proofs.Common.{◌≡◌, ◌==◌, ◌↔◌, ℕ, zero, suc, Bool, true, false, not, eqb-true, ◌*◌, ◌%◌, ◌^◌, ◌<◌, inl, inr, min, bit_and, refl, sym, ap, ◌∙◌, arith}
+use Rattle.std.proofs.Common.{◌≡◌, ◌==◌, ◌↔◌, ℕ, zero, suc, Bool, true, false, not, eqb-true, ◌*◌, ◌%◌, ◌^◌, ◌<◌, min, bit_and, refl, ap, ◌∙◌, arith}
 use Rattle.std.specs.Int.{bit_at, w64}
-use Rattle.std.proofs.lemmas.Bool.{cases_lt}
-use Rattle.std.proofs.lemmas.Nat.{pow_below, and_le_l}
-use Rattle.std.proofs.lemmas.Nat.Bits.{bit_at-zero, bit_at_and, bit_at-lt, bit_at-trailing_zeros, bit_at-pow_same, bit_at-pow_other}
-use Rattle.mm_flow.proofs.Giving.{and_both}
-use Rattle.mm_audit.specs.Sets.{Shares}
+use Rattle.std.proofs.lemmas.Nat.{pow_below, and_le_r}
+use Rattle.std.proofs.lemmas.Nat.Bits.{bit_at-zero, bit_at_and, bit_at-lt, bit_at-trailing_zeros}
+use Rattle.mm_audit.proofs.Bits.{and_both}
+
+-- a group is of both masks
+pub record Shares (a b : ℕ) : Type 0 where
+  pub group : ℕ
+  pub one : bit_at a group ≡ 1
+  pub other : bit_at b group ≡ 1
 
 both_bits : (x y z : ℕ) → z ≡ min x y → z ≡ 1 → x < 2 → y < 2 → (x ≡ 1) × (y ≡ 1)
 both_bits x y z e h a b = (omega arith, omega arith)
 
-shares_then : (a b : ℕ) → a < 2 ^ 64 → 0 < bit_and a b → Shares a b
+shares_then : (a b : ℕ) → b < 2 ^ 64 → 0 < bit_and a b → Shares a b
 shares_then a b lt some =
-    let small : bit_and a b < 2 ^ 64 = omega (arith, and_le_l a b) in
+    let small : bit_and a b < 2 ^ 64 = omega (arith, and_le_r a b) in
     let t = bit_at-trailing_zeros w64 (bit_and a b) some small in
     let at = both_bits _ _ _ (bit_at_and a b _) t.1 (bit_at-lt a _) (bit_at-lt b _) in
     record { group = _; one = at.0; other = at.1 }
@@ -23,7 +27,7 @@ then_shares a b e s =
     let clear = ap (λ v. bit_at v s.group) e ∙ bit_at-zero s.group in
     omega arith
 
-pub shares_test : (a b : ℕ) → a < 2 ^ 64 → (not (bit_and a b == 0) ≡ true) ↔ Shares a b
+pub shares_test : (a b : ℕ) → b < 2 ^ 64 → (not (bit_and a b == 0) ≡ true) ↔ Shares a b
 shares_test a b lt = by (bit_and a b == 0) refl
   where
     by : (t : Bool) → (bit_and a b == 0) ≡ t → (not t ≡ true) ↔ Shares a b
@@ -33,19 +37,6 @@ shares_test a b lt = by (bit_and a b == 0) refl
         some : (n : ℕ) → (n == 0) ≡ false → 0 < n
         some zero f = cc
         some (suc n) f = omega arith
-
-pub pow_group : (g h : ℕ) → bit_at (2 ^ g) h ≡ 1 → h ≡ g
-pow_group g h e = elim (cases_lt h g) [
-  | inl lt ↦ absurd (let z = bit_at-pow_other g h (λ s. absurd (omega arith)) in omega arith)
-  | inr le ↦ elim (cases_lt g h) [ inl lt ↦ absurd (let z = bit_at-pow_other g h (λ s. absurd (omega arith)) in omega arith) | inr ge ↦ omega arith ]
-]
-
--- a mask with one group
-pub shares_one : (a g : ℕ) → bit_at a g ≡ 1 → Shares a (2 ^ g)
-shares_one a g h = record { group = g; one = h; other = bit_at-pow_same g }
-
-pub one_shares : (a g : ℕ) → Shares a (2 ^ g) → bit_at a g ≡ 1
-one_shares a g s = ap (bit_at a) (sym (pow_group g s.group s.other)) ∙ s.one
 
 pub one_bit : (b : ℕ) → b < 64 → 1 * 2 ^ b % 2 ^ 64 ≡ 2 ^ b
 one_bit b lt = let below : 2 ^ b < 2 ^ 64 = pow_below b 64 lt in omega arith

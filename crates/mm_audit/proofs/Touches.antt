@@ -1,33 +1,22 @@
 -- The set of some groups covers what they can touch.
-use Rattle.std.proofs.Common.{◌≡◌, ℕ, zero, suc, ◌%◌, ◌^◌, ◌<◌, ◌≤◌, ◌↔◌, inl, inr, Bool, true, false, ◌&&◌, ◌||◌, nat_le, nat_lt, IsTrue, List, [], ◌∷◌, length, refl, sym, subst, arith, eqb-true, eq-eqb}
+use Rattle.std.proofs.Common.{◌≡◌, ℕ, zero, suc, ◌%◌, ◌^◌, ◌<◌, ◌≤◌, ◌↔◌, Bool, true, false, ◌&&◌, ◌||◌, nat_le, nat_lt, IsTrue, List, [], ◌∷◌, refl, sym, arith, eqb-true, eq-eqb}
 use Rattle.std.specs.Int.{bit_at}
 use Rattle.std.proofs.lemmas.Bool.{and_parts, and_from}
 use Rattle.std.proofs.lemmas.Bool.Decides.{nat_tests}
-use Rattle.mm_word.specs.declared.perm.Perm.TheVariants.{Ro}
-use Rattle.mm_word.specs.Perm.{can_load}
 use Rattle.mm_word.proofs.Segments.{segment_below}
 use Rattle.mm_model.specs.Image.{Image}
-use Rattle.mm_model.specs.Groups.{in_mask}
 use Rattle.mm_model.specs.Spelling.{IsImage}
 use Rattle.mm_model.specs.Reach.{Entries, CanTouch}
 use Rattle.mm_model.specs.Reach.Entries.{All}
 use Rattle.mm_model.specs.Worlds.{Touchable}
-use Rattle.mm_flow.specs.declared.node.Node.{Node}
-use Rattle.mm_flow.specs.declared.node.Right.TheVariants.{Load, Make}
-use Rattle.mm_flow.specs.Net.{right_at}
-use Rattle.mm_flow.specs.Reached.{HasSome}
-use Rattle.mm_summary.specs.Summary.{IsExact}
-use Rattle.mm_summary.specs.NetOf.{Marked}
-use Rattle.mm_summary.proofs.Segments.{below-can_load}
-use Rattle.mm_seg.specs.Segments.{Covered, At, segment_at, end_of}
-use Rattle.mm_graph.specs.declared.key.Key.{Key}
-use Rattle.mm_graph.specs.Key.{IsKey, key_at, no_key}
-use Rattle.mm_graph.specs.Marked.{IsMarked, node_pointer}
-use Rattle.mm_audit.specs.Sets.{Shares, IsKeptSet}
-use Rattle.mm_audit.specs.GroupSets.{IsGroupSet}
+use Rattle.mm_seg.specs.Segments.{Covered, At, end_of}
 use Rattle.mm_audit.specs.Own.{CoversTouched, is_covered}
-use Rattle.mm_audit.proofs.Exactly.{CanUse, HoldsMarked, used_by, use_covered, top_covers}
-use Rattle.mm_audit.proofs.AuditSets.{no_load_key}
+use Rattle.mm_audit.specs.declared.span.Access.TheVariants.{Touch}
+use Rattle.mm_audit.specs.declared.span.Span.{Span}
+use Rattle.mm_audit.specs.Spans.{AreSpans, span_at}
+use Rattle.mm_audit.specs.Walks.{outermost}
+use Rattle.mm_audit.proofs.Exactly.{touch_use, use_span, span_use, covered_use, use_covered}
+use Rattle.mm_audit.proofs.Sharing.{shares_test}
 use Rattle.mm_audit.proofs.Granted.{granted-well_formed, granted-small}
 use Rattle.mm_audit.proofs.Words.{first_byte}
 
@@ -36,59 +25,17 @@ touch_small i e image g w t =
     let p = granted-well_formed i e image g t.by t.granted in
     segment_below t.by.log w t.by.addr p.log_in_range p.addr_in_range (first_byte t.by w t.loads.covers)
 
-module _ (i : Image) (image : IsImage i) (keys : List Key) (nodes : List Node) (marks : List ℕ) (m : IsMarked i All keys nodes marks)
-    (privileged : ℕ) (rights : (g : ℕ) → (bit_at privileged g ≡ 1) ↔ HasSome marks (right_at nodes Make) g)
-    (groups : ℕ) (set : List (ℕ × ℕ)) (s : IsGroupSet keys nodes marks Load privileged groups set) where
-  abbrev test : ℕ → Bool
-  test = in_mask privileged
-
-  x : IsExact i All test (Marked (node_pointer keys) marks)
-  x = m.exact privileged rights
-
-  all : (k : ℕ) → k < length keys → IsKey (key_at keys k)
-  all k lt = m.all k no_key lt
-
-  use_touch : (g w : ℕ) → CanUse i All g can_load w → CanTouch i All g w
-  use_touch g w u = record { by = u.by; granted = u.granted; loads = record { word = u.word; right = u.right; covers = u.covers } }
-
-  touch_use : (g w : ℕ) → CanTouch i All g w → CanUse i All g can_load w
-  touch_use g w c = record { by = c.by; granted = c.granted; word = c.loads.word; right = c.loads.right; covers = c.loads.covers }
-
-  -- a privileged group touches every word
-  every : Shares privileged groups → set ≡ (0, 54) ∷ [] → CoversTouched i groups set
-  every t e w aligned small = (
-    λ c. record {
-      group = t.group;
-      member = eq-eqb _ _ t.other;
-      touches = use_touch t.group w
-          ((top_covers i All image keys nodes marks test all m.marks_len x Load can_load Ro refl no_load_key below-can_load m.loads t.group (eq-eqb _ _ t.one) w aligned small).0 (subst (λ v. Covered v w) e c));
-    },
-    λ y. subst (λ v. Covered v w) (sym e) (record { by = 0; at = (omega arith, omega arith, omega arith) }),
-  )
-
-  -- else each word of a kept node
-  each : ¬ Shares privileged groups → IsKeptSet keys nodes marks Load groups (length keys) set → CoversTouched i groups set
-  each none kept w aligned small = (
+module _ (i : Image) (spans : List Span) (s : AreSpans i All spans) (groups : ℕ) (fits : groups < 2 ^ 64) where
+  pub covers_touched : CoversTouched i groups (outermost Touch groups 0 spans)
+  covers_touched w aligned small = (
     λ c.
-        let k = kept.from c.by c.at.0 in
-        let t = k.is_kept.1 in
-        record {
-          group = t.group;
-          member = eq-eqb _ _ t.other;
-          touches = use_touch t.group w
-              (used_by i All image keys nodes marks test all m.marks_len x Load can_load Ro refl no_load_key below-can_load m.loads t.group (segment_at set c.by) w
-              (record { node = k.node; small = k.small; marked = t.one; kept = k.is_kept.0; is = k.is }) aligned c.at.1 c.at.2);
-        },
+        let u = covered_use i All spans s Touch groups w c in
+        let t = (shares_test (span_at spans u.0).touch groups fits).0 u.2 in
+        record { group = t.group; member = eq-eqb _ _ t.other; touches = (touch_use i All t.group w).1 (span_use i All spans s Touch t.group w aligned (record { at = u.0; small = u.1; uses = t.one; low = u.3; high = u.4 })) },
     λ y.
-        use_covered i All image keys nodes marks test all m.marks_len x Load can_load Ro refl no_load_key below-can_load m.loads y.group
-        (λ top. none (record { group = y.group; one = eqb-true _ _ top; other = eqb-true _ _ y.member })) set (holds y.group (eqb-true _ _ y.member)) w (touch_use y.group w y.touches),
+        let u = use_span i All spans s Touch y.group w ((touch_use i All y.group w).0 y.touches) in
+        use_covered i All spans s Touch groups w u.at u.small ((shares_test (span_at spans u.at).touch groups fits).1 (record { group = y.group; one = u.uses; other = eqb-true _ _ y.member })) u.low u.high,
   )
-    where
-      holds : (g : ℕ) → bit_at groups g ≡ 1 → HoldsMarked keys nodes marks Load g set
-      holds g member k lt has right_is = kept.holds k lt (right_is, record { group = g; one = has; other = member })
-
-  pub covers_touched : CoversTouched i groups set
-  covers_touched = elim s.is [ inl t ↦ every t.0 t.1 | inr t ↦ each t.0 t.1 ]
 
 -- the test of a set
 

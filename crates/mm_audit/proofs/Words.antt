@@ -1,5 +1,5 @@
 -- Words in segments.
-use Rattle.std.proofs.Common.{◌≡◌, ℕ, ◌+◌, ◌-◌, ◌*◌, ◌/◌, ◌^◌, ◌<◌, ◌≤◌, sym, ap, ◌∙◌, subst, arith, pow-add, add-zero}
+use Rattle.std.proofs.Common.{◌≡◌, ℕ, ◌+◌, ◌-◌, ◌*◌, ◌/◌, ◌%◌, ◌^◌, ◌<◌, ◌≤◌, sym, ap, ◌∙◌, subst, arith, pow-add, pow_pos, add-zero}
 use Rattle.std.proofs.Math.Nat.{div-eq_of_lt-le}
 use Rattle.mm_word.proofs.Segments.{segment_below}
 use Rattle.mm_word.specs.Pointer.{Pointer, Covers}
@@ -22,3 +22,11 @@ word_start s w seg lo hi =
 
 pub first_byte : (p : Pointer) (w : ℕ) → Covers p w → w / 2 ^ p.log ≡ p.addr / 2 ^ p.log
 first_byte p w c = rw add-zero at (c 0 (omega arith))
+
+-- a segment begins with a word
+pub base_word : (s : ℕ × ℕ) → IsSegment s → s.0 % 8 ≡ 0
+base_word s seg =
+    let room : s.0 < end_of s = (let r = pow_pos s.1 in omega arith) in
+    let w = word_start s s.0 seg (omega arith) room in
+    let low = w.0 in
+    omega arith

@@ -8,14 +8,18 @@ use Rattle.mm_model.specs.Reach.{Entries, CanTouch, CanWrite, Privileged}
 use Rattle.mm_model.specs.Audit.{MaximalSegments}
 use Rattle.mm_seg.specs.Segments.{IsSet, Covered}
 use Rattle.mm_audit.specs.declared.served.Served.{Served}
+use Rattle.mm_audit.specs.declared.meets.Meets.{Meets}
 use Rattle.mm_audit.specs.Serving.{served_of}
+use Rattle.mm_audit.specs.Surveys.{IsLeastTable}
 
--- an audit as contracts see it: the mask of the privileged groups, each group's segments, and who serves whom
+-- an audit as contracts see it: the mask of the privileged groups, each group's segments, who serves whom,
+-- and of each two groups the least word that the one writes and the other touches
 pub record ReachValue : Type 0 where
   pub privileged : ℕ
   pub touch : List (List (ℕ × ℕ))
   pub write : List (List (ℕ × ℕ))
   pub served : List Served
+  pub least : List Meets
 
 abbrev pub set_of : List (List (ℕ × ℕ)) → ℕ → List (ℕ × ℕ)
 set_of sets g = slice_index_or sets g []
@@ -24,6 +28,7 @@ set_of sets g = slice_index_or sets g []
 pub record Audits (i : Image) (e : Entries) (r : ReachValue) : Type 0 where
   pub image : IsImage i
   pub served : r.served ≡ served_of i.slots
+  pub least : IsLeastTable i e r.least
   pub touch_len : length r.touch ≡ 64
   pub write_len : length r.write ≡ 64
   pub touch_sets : (g : ℕ) → g < 64 → IsSet (set_of r.touch g)

@@ -1,4 +1,9 @@
-pub mod Sets
+pub mod Spans
+pub mod Marks
+pub mod Walks
+pub mod Opening
+pub mod Meeting
+pub mod Surveys
 pub mod Audits
 pub mod GroupSets
 pub mod Serving

@@ -2,9 +2,18 @@
 ghost use Rattle.std.specs.Prelude.{◌≡◌, ◌≢◌, ◌<◌, ◌↔◌, ℕ, min, true, MatchOption, length};
 ghost use Rattle.std.specs.Int.{bit_at};
 ghost use Rattle.mm_model.specs.Groups.{among};
-ghost use Rattle.mm_audit.specs.Crossing.{NoCrossing, LeastCrossing};
+ghost use Rattle.mm_model.specs.Image.{Image as ImageValue};
+ghost use Rattle.mm_model.specs.Spelling.{IsImage};
+ghost use Rattle.mm_model.specs.Reach.{Entries as EntriesValue};
+ghost use Rattle.mm_model.specs.Audit.{Judged};
+ghost use Rattle.mm_audit.specs.Crossing.{NoCrossing, LeastCrossing, verdict_of};
+ghost use Rattle.mm_audit.specs.Meeting.{AreRows};
+ghost use Rattle.mm_audit.specs.Serving.{served_of};
+ghost use Rattle.mm_audit.specs.Surveys.{IsLeastTable};
 
+use crate::meets::Meets;
 use crate::served::Served;
+use crate::writers::writer;
 
 /// Whether groups stand apart from all others.
 #[derive(Clone, Copy, Debug, PartialEq, Eq)]
@@ -65,4 +74,19 @@ pub fn crossing(served: &[Served], groups: &[u8]) -> Option<u8>
         }
     }
     best
+}
+
+/// Whether groups stand apart from all others: the least slot whose handler is on the other side, else the least
+/// group outside that can write a word that one inside can touch, with the least such word.
+pub fn judge(served: &[Served], least: &[Meets], groups: &[u8]) -> Apart
+    requires { AreRows least.now }
+    ensures { (i : ImageValue) (e : EntriesValue) → IsImage i → served.now ≡ served_of i.slots → IsLeastTable i e least.now → Judged i e (among groups.now) (verdict_of result) }
+{
+    if let Some(slot) = crossing(served, groups) {
+        return Apart::Handler { slot };
+    }
+    match writer(least, mask_of(groups)) {
+        Some((group, word)) => Apart::Writer { group, word },
+        None => Apart::Yes,
+    }
 }

@@ -1,4 +1,5 @@
 ghost use Rattle.std.specs.Prelude.{◌≡◌, ◌<◌, ◌%◌, ◌^◌, ◌↔◌, ℕ, IsTrue};
+ghost use Rattle.std.specs.Int.{bit_at};
 ghost use Rattle.mm_word.specs.Perm.{can_load, can_store};
 ghost use Rattle.mm_model.specs.Image.{Image as ImageValue};
 ghost use Rattle.mm_model.specs.Groups.{among};
@@ -6,11 +7,18 @@ ghost use Rattle.mm_model.specs.Reach.{Entries as EntriesValue, CanTouch, CanWri
 ghost use Rattle.mm_model.specs.Audit.{MaximalSegments, Judged};
 
 use crate::group_sets::GroupSets;
-use crate::judge::{Apart, crossing, mask_of};
+use crate::judge::{Apart, judge};
+use crate::meets::Meets;
 use crate::served::Served;
-use crate::writers::writer;
 use mm_seg::SegSet;
 use std::marker::Model;
+
+/// Whether the group is of the mask.
+pub fn is_privileged(mask: u64, group: u8) -> bool
+    ensures { IsTrue result ↔ (bit_at mask group ≡ 1) }
+{
+    group < 64 && (mask >> group) & 1 == 1
+}
 
 /// A finished audit.
 #[derive(Drop)]
@@ -19,17 +27,19 @@ pub struct Reach {
     pub(crate) touch: GroupSets,
     pub(crate) write: GroupSets,
     pub(crate) served: Vec<Served>,
+    pub(crate) least: Vec<Meets>,
 }
 
 impl Model for Reach {
     ghost use Rattle.std.specs.Prelude.{◌≡◌, ◌<◌, ◌^◌, length};
+    ghost use Rattle.mm_audit.specs.Meeting.{AreRows};
     ghost use Rattle.mm_audit.specs.Audits.{ReachValue};
 
     ghost Value = { ReachValue };
 
-    ghost view = { λ r. record { privileged = r.privileged; touch = r.touch; write = r.write; served = r.served.items } };
+    ghost view = { λ r. record { privileged = r.privileged; touch = r.touch; write = r.write; served = r.served.items; least = r.least.items } };
 
-    ghost invariant = { λ r. (length r.touch ≡ 64) × (length r.write ≡ 64) };
+    ghost invariant = { λ r. (length r.touch ≡ 64) × (length r.write ≡ 64) × AreRows r.least.items };
 }
 
 impl Reach {
@@ -58,8 +68,7 @@ impl Reach {
     pub fn privileged(&self, group: u8) -> bool
         ensures { (i : ImageValue) (e : EntriesValue) → Audits i e self.now → IsTrue result ↔ Privileged i e group }
     {
-        let mask = self.privileged;
-        group < 64 && (mask >> group) & 1 == 1
+        is_privileged(self.privileged, group)
     }
 
     /// The maximal segments of at least a word that a group can touch.
@@ -83,15 +92,6 @@ impl Reach {
     pub fn apart(&self, groups: &[u8]) -> Apart
         ensures { (i : ImageValue) (e : EntriesValue) → Audits i e self.now → Judged i e (among groups.now) (verdict_of result) }
     {
-        if let Some(slot) = crossing(&self.served, groups) {
-            return Apart::Handler { slot };
-        }
-        match writer(&self.write, &self.touch, mask_of(groups)) {
-            Some((g, word)) => Apart::Writer {
-                group: g as u8,
-                word,
-            },
-            None => Apart::Yes,
-        }
+        judge(&self.served, &self.least, groups)
     }
 }

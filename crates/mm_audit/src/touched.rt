@@ -2,9 +2,10 @@
 ghost use Rattle.std.specs.Prelude.{IfOk};
 ghost use Rattle.mm_audit.specs.Own.{CoversTouched};
 
-use crate::sets::group_set;
-use mm_flow::{Right, any};
-use mm_graph::{Entries, marked};
+use crate::sets::set_of;
+use crate::span::Access;
+use crate::surveying::granted_in;
+use mm_graph::Entries;
 use mm_image::Image;
 use mm_seg::SegSet;
 use mm_word::NoMemory;
@@ -15,18 +16,7 @@ pub fn touched_by(alloc: Global, img: &Image, groups: u64) -> Result<SegSet, NoM
     ensures { IfOk result (λ set. CoversTouched img.now groups set) }
 {
     let _slots = img.slots();
-    let Ok(m) = marked(alloc, img, &Entries::All) else {
-        return Err(NoMemory);
-    };
-    let privileged = any(&m.nodes, &m.marks, Right::Make);
-    let set = group_set(
-        alloc,
-        &m.keys,
-        &m.nodes,
-        &m.marks,
-        Right::Load,
-        privileged,
-        groups,
-    )?;
+    let granted = granted_in(alloc, img, &Entries::All)?;
+    let set = set_of(alloc, &granted.spans, Access::Touch, groups)?;
     Ok(set)
 }

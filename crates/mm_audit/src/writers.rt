@@ -1,9 +1,9 @@
 // The least word that a group outside writes and one inside touches.
-ghost use Rattle.std.specs.Prelude.{◌≡◌, ◌≤◌, min, MatchOption, length};
+ghost use Rattle.std.specs.Prelude.{◌≡◌, ◌<◌, min, MatchOption, length};
+ghost use Rattle.mm_audit.specs.Meeting.{AreRows};
 ghost use Rattle.mm_audit.specs.Writers.{NoneWith, LeastWith, NoWriter, IsWriter};
 
-use crate::group_sets::GroupSets;
-use mm_seg::SegSet;
+use crate::meets::Meets;
 
 fn lesser(a: Option<u64>, b: u64) -> u64
     ensures { MatchOption a (result ≡ b) (λ v. result ≡ min v b) }
@@ -14,34 +14,30 @@ fn lesser(a: Option<u64>, b: u64) -> u64
     }
 }
 
-/// The least word that the set shares with the sets of the groups inside.
-fn least_with(set: &SegSet, sets: &GroupSets, inside: u64) -> Option<u64>
-    requires { length sets.now ≤ 64 }
-    ensures { MatchOption result (NoneWith set.now sets.now inside (length sets.now)) (λ a. LeastWith set.now sets.now inside (length sets.now) a) }
+/// The least word of the row with the groups inside.
+fn least_with(row: &Meets, inside: u64) -> Option<u64>
+    requires { length row.now.words ≡ 64 }
+    ensures { MatchOption result (NoneWith row.now inside 64) (λ w. LeastWith row.now inside 64 w) }
 {
+    let shared = row.groups & inside;
     let mut best = None;
-    for h in 0..sets.len() {
-        if (inside >> h) & 1 == 1 {
-            let other = sets.of(h);
-            if let Some(w) = set.meets(other) {
-                best = Some(lesser(best, w));
-            }
+    for g in 0..64usize {
+        if (shared >> g) & 1 == 1 {
+            best = Some(lesser(best, row.words[g]));
         }
     }
     best
 }
 
 /// The least group outside that writes what a group inside touches, with the least such word.
-pub fn writer(writes: &GroupSets, touches: &GroupSets, inside: u64) -> Option<(usize, u64)>
-    requires left { length writes.now ≤ 64 }
-    requires right { length touches.now ≤ 64 }
-    ensures { MatchOption result (NoWriter writes.now touches.now inside) (λ p. IsWriter writes.now touches.now inside p.0 p.1) }
+pub fn writer(table: &[Meets], inside: u64) -> Option<(u8, u64)>
+    requires { AreRows table.now }
+    ensures { MatchOption result (NoWriter table.now inside) (λ p. IsWriter table.now inside p.0 p.1) }
 {
-    for g in 0..writes.len() {
-        if (inside >> g) & 1 == 0 {
-            let set = writes.of(g);
-            if let Some(w) = least_with(set, touches, inside) {
-                return Some((g, w));
+    for h in 0..64u8 {
+        if (inside >> h) & 1 == 0 {
+            if let Some(w) = least_with(&table[h as usize], inside) {
+                return Some((h, w));
             }
         }
     }

@@ -3,11 +3,11 @@ ghost use Rattle.std.specs.Prelude.{List, ℕ, None, Some};
 ghost use Rattle.mm_io.specs.Sinks.{Writes};
 ghost use Rattle.mm_model.specs.Audit.{IsAudit};
 ghost use Rattle.mm_model.specs.Reach.Entries.{All};
-ghost use Rattle.mm_audit.specs.Audits.{Audits};
+ghost use Rattle.mm_audit.specs.Surveys.{Surveys};
 
 use crate::groups::put_groups;
 use crate::lines::put_apart;
-use mm_audit::Reach;
+use mm_audit::Survey;
 use mm_image::Image;
 use mm_io::{Sink, WriteFault};
 use mm_text::Gather;
@@ -15,27 +15,27 @@ use mm_text::Gather;
 /// Writes the audit of an image under all entries: for each group that has a slot, ascending, whether it is privileged, the maximal
 /// segments of at least a word that it can touch and that it can write, and whether it stands apart from all others. At a
 /// [`WriteFault`] the sink took a front part.
-pub fn write_audit<O: Sink>(reach: &Reach, img: &Image, out: &mut O) -> Result<(), WriteFault>
+pub fn write_audit<O: Sink>(survey: &Survey, img: &Image, out: &mut O) -> Result<(), WriteFault>
     ensures { (text : List ℕ) × Writes O.taken O.faults out.old out.new text result
-        × (Audits img.now All reach.now → IsAudit img.now None text) }
+        × (Surveys img.now All survey.now → IsAudit img.now None text) }
 {
     let mut text = Gather::new();
-    put_groups(&mut text, out, reach, img, true);
+    put_groups(&mut text, out, survey, img, true);
     text.finish(out)
 }
 
 /// The same without the groups' own answers, and at its end whether these groups together stand apart from all others.
 pub fn write_audit_of<O: Sink>(
-    reach: &Reach,
+    survey: &Survey,
     img: &Image,
     groups: &[u8],
     out: &mut O,
 ) -> Result<(), WriteFault>
     ensures { (text : List ℕ) × Writes O.taken O.faults out.old out.new text result
-        × (Audits img.now All reach.now → IsAudit img.now (Some groups.now) text) }
+        × (Surveys img.now All survey.now → IsAudit img.now (Some groups.now) text) }
 {
     let mut text = Gather::new();
-    put_groups(&mut text, out, reach, img, false);
-    put_apart(&mut text, out, reach, groups);
+    put_groups(&mut text, out, survey, img, false);
+    put_apart(&mut text, out, survey, groups);
     text.finish(out)
 }

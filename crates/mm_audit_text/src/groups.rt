@@ -6,11 +6,11 @@ ghost use Rattle.mm_model.specs.Report.{groups_of};
 ghost use Rattle.mm_model.specs.Audit.{AuditOf};
 ghost use Rattle.mm_model.specs.Reach.Entries.{All};
 ghost use Rattle.mm_text.specs.Gathers.{Gathers};
-ghost use Rattle.mm_audit.specs.Audits.{Audits};
+ghost use Rattle.mm_audit.specs.Surveys.{Surveys};
 ghost use Rattle.mm_audit_text.specs.Parts.{IsPart, if_present};
 
 use crate::lines::{put_apart, put_kind, put_segments};
-use mm_audit::Reach;
+use mm_audit::Survey;
 use mm_image::Image;
 use mm_io::Sink;
 use mm_model::Slot;
@@ -27,43 +27,49 @@ fn has_slot(slots: &[Slot], group: u8) -> bool
 }
 
 /// Appends whether a group is privileged, and the segments that it can touch and write.
-fn put_group<O: Sink>(text: &mut Gather, out: &mut O, reach: &Reach, group: u8)
+fn put_group<O: Sink>(text: &mut Gather, out: &mut O, survey: &Survey, group: u8)
     requires { group < 64 }
     ensures { (own : List ℕ) × Gathers O.taken O.faults out.old out.new text.old text.new own
-        × ((i : ImageValue) → Audits i All reach.now → AuditOf i group own) }
+        × ((i : ImageValue) → Surveys i All survey.now → AuditOf i group own) }
 {
-    put_kind(text, out, group, reach.privileged(group));
-    put_segments(text, out, "touch", reach.touch_set(group).items());
-    put_segments(text, out, "write", reach.write_set(group).items());
+    put_kind(text, out, group, survey.privileged(group));
+    put_segments(text, out, "touch", &mut survey.touched(group));
+    put_segments(text, out, "write", &mut survey.written(group));
 }
 
 /// Appends what is written of a group where it has a slot, and maybe whether it stands apart.
 fn put_present<O: Sink>(
     text: &mut Gather,
     out: &mut O,
-    reach: &Reach,
+    survey: &Survey,
     img: &Image,
     group: u8,
     apart: bool,
 )
     requires { group < 64 }
     ensures { (part : List ℕ) × Gathers O.taken O.faults out.old out.new text.old text.new part
-        × (Audits img.now All reach.now → IsPart img.now apart (if_present (has_group img.now.slots group) group) part) }
+        × (Surveys img.now All survey.now → IsPart img.now apart (if_present (has_group img.now.slots group) group) part) }
 {
     if has_slot(img.slots(), group) {
-        put_group(text, out, reach, group);
+        put_group(text, out, survey, group);
         if apart {
-            put_apart(text, out, reach, &[group]);
+            put_apart(text, out, survey, &[group]);
         }
     }
 }
 
 /// Appends what is written of each group that has a slot, ascending, each maybe with whether it stands apart.
-pub fn put_groups<O: Sink>(text: &mut Gather, out: &mut O, reach: &Reach, img: &Image, apart: bool)
+pub fn put_groups<O: Sink>(
+    text: &mut Gather,
+    out: &mut O,
+    survey: &Survey,
+    img: &Image,
+    apart: bool,
+)
     ensures { (whole : List ℕ) × Gathers O.taken O.faults out.old out.new text.old text.new whole
-        × (Audits img.now All reach.now → IsPart img.now apart (groups_of (start img.now).core) whole) }
+        × (Surveys img.now All survey.now → IsPart img.now apart (groups_of (start img.now).core) whole) }
 {
     for group in 0..GROUPS {
-        put_present(text, out, reach, img, group, apart);
+        put_present(text, out, survey, img, group, apart);
     }
 }

@@ -4,5 +4,6 @@
 mod audit;
 mod groups;
 mod lines;
+mod segment;
 
 pub use audit::{write_audit, write_audit_of};

@@ -1,14 +1,15 @@
 // The lines of an audit.
-ghost use Rattle.std.specs.Prelude.{◌≡◌, List, ℕ};
+ghost use Rattle.std.specs.Prelude.{◌≡◌, ◌≤◌, List, length, ℕ};
 ghost use Rattle.std.specs.List.{flat_map};
 ghost use Rattle.mm_model.specs.Audit.{ApartLine, apart_line, groups_text, kind_line, segment_line, verdict_text};
 ghost use Rattle.mm_model.specs.Image.{Image as ImageValue};
 ghost use Rattle.mm_model.specs.Reach.Entries.{All};
 ghost use Rattle.mm_text.specs.Gathers.{Gathers};
-ghost use Rattle.mm_audit.specs.Audits.{Audits};
+ghost use Rattle.mm_audit.specs.Surveys.{Surveys};
 ghost use Rattle.mm_audit.specs.Crossing.{verdict_of};
 
-use mm_audit::{Apart, Reach};
+use crate::segment::{LINE, put_line};
+use mm_audit::{Apart, Segments, Survey};
 use mm_io::Sink;
 use mm_text::{Gather, Piece};
 
@@ -33,27 +34,26 @@ pub fn put_kind<O: Sink>(text: &mut Gather, out: &mut O, group: u8, privileged: 
 
 /// Appends the line of a segment.
 fn put_segment<O: Sink>(text: &mut Gather, out: &mut O, name: &str, base: u64, log: u8)
+    requires { length name.now ≤ 8 }
     ensures { Gathers O.taken O.faults out.old out.new text.old text.new (segment_line name.now (base, log)) }
 {
-    text.put(
-        out,
-        &[
-            Piece::Text(name),
-            Piece::Text(" "),
-            Piece::HexAddress(base),
-            Piece::Text(" "),
-            Piece::Decimal(log as u64),
-            Piece::Text("\n"),
-        ],
-    );
+    let mut line = [0u8; LINE];
+    let start = put_line(&mut line, name, base, log);
+    text.put_bytes(out, &line[start..]);
 }
 
 /// Appends the lines of segments.
-pub fn put_segments<O: Sink>(text: &mut Gather, out: &mut O, name: &str, segments: &[(u64, u8)])
-    ensures { Gathers O.taken O.faults out.old out.new text.old text.new (flat_map (segment_line name.now) segments.now) }
+pub fn put_segments<O: Sink>(
+    text: &mut Gather,
+    out: &mut O,
+    name: &str,
+    segments: &mut Segments<'_>,
+)
+    requires { length name.now ≤ 8 }
+    ensures { Gathers O.taken O.faults out.old out.new text.old text.new (flat_map (segment_line name.now) segments.old) }
 {
-    for segment in segments {
-        put_segment(text, out, name, segment.0, segment.1);
+    while let Some((base, log)) = segments.next() {
+        put_segment(text, out, name, base, log);
     }
 }
 
@@ -105,9 +105,9 @@ fn put_answer<O: Sink>(text: &mut Gather, out: &mut O, groups: &[u8], apart: Apa
 }
 
 /// Appends whether groups stand apart from all others.
-pub fn put_apart<O: Sink>(text: &mut Gather, out: &mut O, reach: &Reach, groups: &[u8])
+pub fn put_apart<O: Sink>(text: &mut Gather, out: &mut O, survey: &Survey, groups: &[u8])
     ensures { (line : List ℕ) × Gathers O.taken O.faults out.old out.new text.old text.new line
-        × ((i : ImageValue) → Audits i All reach.now → ApartLine i groups.now line) }
+        × ((i : ImageValue) → Surveys i All survey.now → ApartLine i groups.now line) }
 {
-    put_answer(text, out, groups, reach.apart(groups));
+    put_answer(text, out, groups, survey.apart(groups));
 }

@@ -24,6 +24,10 @@ pub record IsSet (xs : List (ℕ × ℕ)) : Type 0 where
   pub segments : (k : ℕ) → k < length xs → IsSegment (segment_at xs k)
   pub rise : (i j : ℕ) → i < j → j < length xs → end_of (segment_at xs i) ≤ (segment_at xs j).0
 
+-- all of the segments have ended at the address
+abbrev pub IsBehind : List (ℕ × ℕ) → ℕ → Type 0
+IsBehind xs a = (k : ℕ) → k < length xs → end_of (segment_at xs k) ≤ a
+
 -- the segment lies in one of them
 pub record SomeHolds (xs : List (ℕ × ℕ)) (s : ℕ × ℕ) : Type 0 where
   pub at : ℕ

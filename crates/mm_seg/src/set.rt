@@ -1,4 +1,4 @@
-ghost use Rattle.std.specs.Prelude.{◌≡◌, ◌∷◌, [], ◌↔◌, IsTrue, MatchOption, OnOk, OnErr};
+ghost use Rattle.std.specs.Prelude.{◌≡◌, ◌∷◌, ◌++◌, [], ◌↔◌, IsTrue, MatchOption, OnOk, OnErr};
 
 use crate::insert::insert;
 use crate::meet::least;
@@ -26,7 +26,7 @@ impl Model for SegSet {
 }
 
 impl SegSet {
-    ghost use Rattle.mm_seg.specs.Segments.{IsSet, IsSegment, IsMaximal, Covered, IsLeast, AreApart};
+    ghost use Rattle.mm_seg.specs.Segments.{IsSet, IsSegment, IsMaximal, IsBehind, Covered, IsLeast, AreApart};
 
     /// No segment.
     pub fn new(alloc: Global) -> SegSet
@@ -53,6 +53,19 @@ impl SegSet {
         ensures err { OnErr result (self.new ≡ self.old) }
     {
         insert(&mut self.items, (base, log))
+    }
+
+    /// Adds a segment that begins where all others have ended.
+    pub fn push(&mut self, base: u64, log: u8) -> Result<(), NoMemory>
+        requires segment { IsSegment (base, log) }
+        requires behind { IsBehind self.old base }
+        ensures ok { OnOk result (self.new ≡ self.old ++ (base, log) ∷ []) }
+        ensures err { OnErr result (self.new ≡ self.old) }
+    {
+        if self.items.push((base, log)).is_err() {
+            return Err(NoMemory);
+        }
+        Ok(())
     }
 
     /// Whether the set covers the word.

@@ -2,12 +2,12 @@
 ghost use Rattle.std.specs.Prelude.{◌≡◌, MatchOption};
 ghost use Rattle.mm_model.specs.Image.{Image as ImageValue};
 ghost use Rattle.mm_model.specs.Reach.Entries.{All};
-ghost use Rattle.mm_audit.specs.Audits.{Audits};
+ghost use Rattle.mm_audit.specs.Surveys.{Surveys};
 ghost use Rattle.mm_sweep.specs.Swept.{meets};
 ghost use Rattle.mm_sweep.specs.Refusals.{NoneHeld, FirstHeld, NonePrivileged, FirstPrivileged};
 
 use crate::meeting::Range;
-use mm_audit::Reach;
+use mm_audit::Survey;
 use mm_image::Image;
 use mm_model::Slot;
 
@@ -32,11 +32,11 @@ pub fn held(range: &Range, img: &Image) -> Option<u8>
 }
 
 /// The least group that is privileged.
-pub fn privileged(reach: &Reach) -> Option<u8>
-    ensures { (i : ImageValue) → Audits i All reach.now → MatchOption result (NonePrivileged i) (λ g. FirstPrivileged i g) }
+pub fn privileged(survey: &Survey) -> Option<u8>
+    ensures { (i : ImageValue) → Surveys i All survey.now → MatchOption result (NonePrivileged i) (λ g. FirstPrivileged i g) }
 {
     for group in 0..64 {
-        if reach.privileged(group) {
+        if survey.privileged(group) {
             return Some(group);
         }
     }

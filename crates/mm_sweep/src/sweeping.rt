@@ -9,7 +9,7 @@ use crate::laws::sweeping_revokes;
 use crate::meeting::Range;
 use crate::refusing::{held, privileged};
 use crate::words::{swept_pages, swept_slots};
-use mm_audit::{Entries, audit};
+use mm_audit::{Entries, survey};
 use mm_image::Image;
 use mm_word::NoMemory;
 use std::alloc::Global;
@@ -50,10 +50,10 @@ fn sweep_unheld(alloc: Global, range: &Range, img: &Image) -> Result<Image, Swee
     ensures swept { IfOk result (λ j. j ≡ swept range.now img.now) }
     ensures refused { IfErr result (λ e. IsSweepError range.now img.now e) }
 {
-    let Ok(reach) = audit(alloc, img, &Entries::All) else {
+    let Ok(survey) = survey(alloc, img, &Entries::All) else {
         return Err(SweepError::NoMemory);
     };
-    match privileged(&reach) {
+    match privileged(&survey) {
         Some(group) => Err(SweepError::Privileged { group }),
         None => match swept_image(alloc, range, img) {
             Ok(swept) => Ok(swept),

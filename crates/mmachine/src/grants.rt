@@ -4,7 +4,7 @@ ghost use Rattle.std.specs.Option.{option_map};
 ghost use Rattle.mm_io.specs.Sinks.{Writes};
 ghost use Rattle.mm_model.specs.Audit.{IsAudit};
 ghost use Rattle.mm_model.specs.Reach.Entries.{All};
-ghost use Rattle.mm_audit.specs.Audits.{Audits};
+ghost use Rattle.mm_audit.specs.Surveys.{Surveys};
 ghost use Rattle.mmachine.specs.Files.{reading};
 ghost use Rattle.mmachine.specs.Table.{row_of};
 ghost use Rattle.mmachine.specs.Commands.{YieldsAlone};
@@ -14,7 +14,7 @@ use crate::load::load_image;
 use crate::status::Stop;
 use crate::words::{Command, GrantsWords};
 use arrayvec::ArrayVec;
-use mm_audit::{Entries, Reach, audit};
+use mm_audit::{Entries, Survey, survey};
 use mm_audit_text::{write_audit, write_audit_of};
 use mm_image::Image;
 use mm_io::{Files, Sink, WriteFault};
@@ -42,23 +42,23 @@ fn write_grants<O: Sink>(
 ) -> Result<(), Stop>
     ensures { EndsWith (writing O.taken O.faults out.old out.new) (IsAudit image.now (option_map (λ list. list.items) groups)) result }
 {
-    let reach = audit(alloc, image, &Entries::All)?;
-    write_text(&reach, image, groups, out)?;
+    let survey = survey(alloc, image, &Entries::All)?;
+    write_text(&survey, image, groups, out)?;
     Ok(())
 }
 
 /// The same, of what each group can reach.
 fn write_text<O: Sink>(
-    reach: &Reach,
+    survey: &Survey,
     image: &Image,
     groups: Option<ArrayVec<u8, 64>>,
     out: &mut O,
 ) -> Result<(), WriteFault>
     ensures { (text : List ℕ) × Writes O.taken O.faults out.old out.new text result
-        × (Audits image.now All reach.now → IsAudit image.now (option_map (λ list. list.items) groups) text) }
+        × (Surveys image.now All survey.now → IsAudit image.now (option_map (λ list. list.items) groups) text) }
 {
     match groups {
-        None => write_audit(reach, image, out),
-        Some(groups) => write_audit_of(reach, image, groups.as_slice(), out),
+        None => write_audit(survey, image, out),
+        Some(groups) => write_audit_of(survey, image, groups.as_slice(), out),
     }
 }

@@ -1,21 +1,24 @@
-use Rattle.std.proofs.Common.{◌-◌, ◌+◌, sym, subst, arith}
+use Rattle.std.proofs.Common.{◌≡◌, ◌-◌, ◌+◌, ◌^◌, sym, ap, ◌∙◌, subst, arith}
+use Rattle.mm_audit.specs.Walks.{outermost}
 use Rattle.mm_audit.specs.Audits.{set_of}
-use Rattle.mm_audit.specs.GroupSets.{IsGroupSet}
-use Rattle.mm_audit.proofs.SharedSets.{BelowSets, same_set, next_set}
+use Rattle.mm_audit.specs.GroupSets.{AreGroupSets}
+use Rattle.mm_audit.proofs.Bits.{clear_bit}
+use Rattle.mm_audit.proofs.Collecting.{sets_more, same_set}
 use Rattle.mm_audit.proofs.Sharing.{one_bit}
 use Rattle.mm_audit.proofs.sets.group_sets.Goals as goal
-use Rattle.mm_audit.proofs.sets.group_sets.Goals.{then-g-gt0+then-same_marks+in_ok-push_same, else-g-gt0+in_ok-set+in_ok-push}
+use Rattle.mm_audit.proofs.sets.group_sets.Goals.{then-g-gt0+then-changed-g-eq0+in_ok-push_same, else-g-gt0+in_ok-set+in_ok-push}
 
 pub loop-g-preserved : goal.loop-g-preserved
 loop-g-preserved c =
     elim c.if-g-gt0.branch [
-      | then-g-gt0+then-same_marks+in_ok-push_same w ↦
-          let before = c.loop-g.invariant.1 (c.loop-g.g - 1) (omega arith) in
-          let same = same_set c.args.keys.now c.args.nodes.now c.args.marks.now c.args.right c.args.privileged (c.loop-g.g - 1) c.loop-g.g c.requires.nodes (w.same_marks.ensures w.if-same_marks.true) (set_of c.loop-g.sets (c.loop-g.g - 1)) before in
-          subst (λ v. BelowSets c.args.keys.now c.args.nodes.now c.args.marks.now c.args.right c.args.privileged v (c.loop-g.g + 1)) (sym w.sets-is)
-          (next_set c.args.keys.now c.args.nodes.now c.args.marks.now c.args.right c.args.privileged c.loop-g.sets _ (set_of c.loop-g.sets (c.loop-g.g - 1)) c.loop-g.g c.loop-g.invariant w.in_ok-push_same.ensures same)
+      | then-g-gt0+then-changed-g-eq0+in_ok-push_same w ↦
+          let last = c.loop-g.g - 1 in
+          let up : last + 1 ≡ c.loop-g.g = (let some = w.if-g-gt0.true in omega arith) in
+          let before = c.loop-g.invariant.each last (omega arith) in
+          let same = same_set c.args.spans.now c.args.access last (c.changes-changed.ensures last (clear_bit _ _ w.if-changed-g-eq0.true)) in
+          subst (AreGroupSets c.args.spans.now c.args.access (c.loop-g.g + 1)) (sym (w.sets-is ∙ w.in_ok-push_same.ensures))
+          (sets_more c.args.spans.now c.args.access c.loop-g.g c.loop-g.sets (set_of c.loop-g.sets last) c.loop-g.invariant (before ∙ same ∙ ap (λ v. outermost c.args.access (2 ^ v) 0 c.args.spans.now) up))
       | else-g-gt0+in_ok-set+in_ok-push w ↦
-          let own = subst (λ v. IsGroupSet c.args.keys.now c.args.nodes.now c.args.marks.now c.args.right c.args.privileged v w.in_ok-set.set) (one_bit c.loop-g.g c.loop-g-test.true) w.in_ok-set.ensures in
-          subst (λ v. BelowSets c.args.keys.now c.args.nodes.now c.args.marks.now c.args.right c.args.privileged v (c.loop-g.g + 1)) (sym w.sets-is)
-          (next_set c.args.keys.now c.args.nodes.now c.args.marks.now c.args.right c.args.privileged c.loop-g.sets _ w.in_ok-set.set c.loop-g.g c.loop-g.invariant w.in_ok-push.ensures own)
+          subst (AreGroupSets c.args.spans.now c.args.access (c.loop-g.g + 1)) (sym (w.sets-is ∙ w.in_ok-push.ensures))
+          (sets_more c.args.spans.now c.args.access c.loop-g.g c.loop-g.sets w.in_ok-set.set c.loop-g.invariant (w.in_ok-set.ensures ∙ ap (λ v. outermost c.args.access v 0 c.args.spans.now) (one_bit c.loop-g.g c.loop-g-test.true)))
     ]

@@ -1,5 +1,5 @@
-use Rattle.mm_audit.proofs.SharedSets.{BelowSets}
+use Rattle.mm_audit.specs.GroupSets.{AreGroupSets}
 use Rattle.mm_audit.proofs.sets.group_sets.Given as goal
 
 abbrev pub invariant-loop-g : goal.invariant-loop-g
-invariant-loop-g l = BelowSets l.keys l.nodes l.marks l.right l.privileged l.sets l.g
+invariant-loop-g l = AreGroupSets l.spans l.access l.g l.sets

@@ -1,16 +1,11 @@
-use Rattle.std.proofs.Common.{length, subst, arith}
-use Rattle.mm_audit.specs.Writers.{NoneWith}
-use Rattle.mm_audit.proofs.Bests.{groups_more, bit_one}
+use Rattle.mm_audit.proofs.Bits.{set_bit}
+use Rattle.mm_audit.proofs.Rows.{rows_more}
 use Rattle.mm_audit.proofs.writers.writer.Goals as goal
-use Rattle.mm_audit.proofs.writers.writer.Goals.{then-inside-g-eq0+in_default, else-inside-g-eq0}
+use Rattle.mm_audit.proofs.writers.writer.Goals.{then-inside-h-eq0+in_default, else-inside-h-eq0}
 
-pub loop-g-preserved : goal.loop-g-preserved
-loop-g-preserved c =
-    elim c.if-inside-g-eq0.branch [
-      | then-inside-g-eq0+in_default w ↦ groups_more c.args.writes.now c.args.touches.now c.args.inside c.loop-g.g c.loop-g.invariant
-          (λ out. subst (λ v. NoneWith v c.args.touches.now c.args.inside (length c.args.touches.now)) w.of-set.ensures w.in_default.ensures)
-      | else-inside-g-eq0 w ↦ groups_more c.args.writes.now c.args.touches.now c.args.inside c.loop-g.g c.loop-g.invariant (λ out. absurd (bit_one _ _ w.if-inside-g-eq0.false out))
+pub loop-h-preserved : goal.loop-h-preserved
+loop-h-preserved c =
+    elim c.if-inside-h-eq0.branch [
+      | then-inside-h-eq0+in_default w ↦ rows_more c.args.table.now c.args.inside c.loop-h.h c.loop-h.invariant (λ out. w.in_default.ensures)
+      | else-inside-h-eq0 w ↦ rows_more c.args.table.now c.args.inside c.loop-h.h c.loop-h.invariant (λ out. absurd (out (set_bit _ _ w.if-inside-h-eq0.false)))
     ]
-
-pub returns : goal.returns
-returns c g lt out = c.loop-g.invariant g (omega arith) out

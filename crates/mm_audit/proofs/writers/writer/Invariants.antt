@@ -1,7 +1,7 @@
-use Rattle.std.proofs.Common.{ℕ, ◌<◌, length}
+use Rattle.std.proofs.Common.{ℕ, ◌<◌}
+use Rattle.mm_audit.specs.Meeting.{row_at}
 use Rattle.mm_audit.specs.Writers.{NoneWith, IsOutside}
-use Rattle.mm_audit.specs.Audits.{set_of}
 use Rattle.mm_audit.proofs.writers.writer.Given as goal
 
-abbrev pub invariant-loop-g : goal.invariant-loop-g
-invariant-loop-g l = (h : ℕ) → h < l.g → IsOutside l.inside h → NoneWith (set_of l.writes h) l.touches l.inside (length l.touches)
+abbrev pub invariant-loop-h : goal.invariant-loop-h
+invariant-loop-h l = (k : ℕ) → k < l.h → IsOutside l.inside k → NoneWith (row_at l.table k) l.inside 64

@@ -8,5 +8,5 @@ returns g c =
     let (line, then, answers) = c.put_apart.ensures in (
       own ++ line,
       gathered_writes c.new-text.ensures (gathers_then wrote then) c.finish.ensures,
-      λ audits. (own, is audits, (line, answers c.args.img.now audits, refl)),
+      λ surveys. (own, is surveys, (line, answers c.args.img.now surveys, refl)),
     )

@@ -7,7 +7,7 @@ use Rattle.mm_audit_text.proofs.Presence.{nothing_yet, then_part, one_more, all_
 use Rattle.mm_audit_text.proofs.groups.put_groups.Goals as goal
 
 pub loop-group-init : goal.loop-group-init
-loop-group-init g c = ([], search rules, λ audits. nothing_yet c.args.img.now c.args.apart)
+loop-group-init g c = ([], search rules, λ surveys. nothing_yet c.args.img.now c.args.apart)
 
 pub loop-group-preserved : goal.loop-group-preserved
 loop-group-preserved g c =
@@ -17,13 +17,13 @@ loop-group-preserved g c =
     let (part, then, more) = c.put_present.ensures in (
       whole ++ part,
       gathers_then wrote then,
-      λ audits.
+      λ surveys.
           subst (λ gs. IsPart i c.args.apart gs (whole ++ part)) (sym (one_more (has_group i.slots) n (omega arith)))
-          (then_part i c.args.apart (filter (has_group i.slots) (take n (range_with_len 0 64))) (if_present (has_group i.slots n) n) whole part (is audits) (more audits)),
+          (then_part i c.args.apart (filter (has_group i.slots) (take n (range_with_len 0 64))) (if_present (has_group i.slots n) n) whole part (is surveys) (more surveys)),
     )
 
 pub returns : goal.returns
 returns g c =
     let i = c.args.img.now in
     let (whole, wrote, is) = c.loop-group.invariant in
-    (whole, wrote, λ audits. subst (λ gs. IsPart i c.args.apart gs whole) (all_present i c.loop-group.group (omega arith)) (is audits))
+    (whole, wrote, λ surveys. subst (λ gs. IsPart i c.args.apart gs whole) (all_present i c.loop-group.group (omega arith)) (is surveys))

@@ -3,7 +3,7 @@ use Rattle.std.specs.List.{filter, range_with_len}
 use Rattle.mm_model.specs.Groups.{has_group}
 use Rattle.mm_text.specs.Gathers.{Gathers}
 use Rattle.mm_model.specs.Reach.Entries.{All}
-use Rattle.mm_audit.specs.Audits.{Audits}
+use Rattle.mm_audit.specs.Surveys.{Surveys}
 use Rattle.mm_audit_text.specs.Parts.{IsPart}
 use Rattle.mm_audit_text.proofs.groups.put_groups.Given as goal
 
@@ -11,4 +11,4 @@ use Rattle.mm_audit_text.proofs.groups.put_groups.Given as goal
 abbrev pub invariant-loop-group : goal.invariant-loop-group
 invariant-loop-group g l =
     (whole : List ℕ) × Gathers g.O.Sink.taken g.O.Sink.faults l.initial.out l.out l.initial.text l.text whole
-    × (Audits l.img All l.reach → IsPart l.img l.apart (filter (has_group l.img.slots) (take l.group (range_with_len 0 64))) whole)
+    × (Surveys l.img All l.survey → IsPart l.img l.apart (filter (has_group l.img.slots) (take l.group (range_with_len 0 64))) whole)

@@ -1,7 +1,25 @@
+use Rattle.std.proofs.Common.{rules, ◌≡◌, ◌∷◌, ◌++◌, [], List, ℕ, ap, refl, sym, ◌∙◌, append_assoc, append-nil}
+use Rattle.std.specs.List.{flat_map}
+use Rattle.std.proofs.lemmas.Grind.{flat_map-append}
 use Rattle.mm_model.specs.Audit.{segment_line}
-use Rattle.mm_text.proofs.Gathering.{gathers_more}
+use Rattle.mm_text.proofs.Gathering.{gathers_then, gathers_same}
 use Rattle.mm_audit_text.proofs.lines.put_segments.Goals as goal
 
-pub loop-segment-preserved : goal.loop-segment-preserved
-loop-segment-preserved g c =
-    gathers_more (segment_line c.args.name.now) c.args.segments.now c.loop-segment.segment-index (0, 0) c.loop-segment-test.true c.loop-segment.invariant c.put_segment.ensures
+pub loop-base-init : goal.loop-base-init
+loop-base-init g c = ([], refl, search rules)
+
+one_more : (f : ℕ × ℕ → List ℕ) (done : List (ℕ × ℕ)) (s : ℕ × ℕ) → flat_map f done ++ f s ≡ flat_map f (done ++ s ∷ [])
+one_more f done s = ap (λ (text : List ℕ). flat_map f done ++ text) (sym (append-nil (f s))) ∙ sym (flat_map-append f done (s ∷ []))
+
+pub loop-base-preserved : goal.loop-base-preserved
+loop-base-preserved g c =
+    let (done, is, wrote) = c.loop-base.invariant in (
+      done ++ (c.in-Some.base, c.in-Some.log) ∷ [],
+      is ∙ ap (λ (l : List (ℕ × ℕ)). done ++ l) c.in-Some.ensures ∙ sym (append_assoc done ((c.in-Some.base, c.in-Some.log) ∷ []) c.next.new.self),
+      gathers_same (gathers_then wrote c.put_segment.ensures) (one_more (segment_line c.args.name.now) done (c.in-Some.base, c.in-Some.log)),
+    )
+
+pub returns : goal.returns
+returns g c =
+    let (done, is, wrote) = c.loop-base.invariant in
+    gathers_same wrote (ap (flat_map (segment_line c.args.name.now)) (sym (is ∙ ap (λ (l : List (ℕ × ℕ)). done ++ l) c.in_default.ensures ∙ append-nil done)))

@@ -1,0 +1,62 @@
+-- The words at which groups meet are the least that they share.
+use Rattle.std.proofs.Common.{ℕ, ◌+◌, ◌<◌, ◌≤◌, inl, inr, List, length, sym, subst, arith}
+use Rattle.mm_model.specs.Image.{Image}
+use Rattle.mm_model.specs.Spelling.{IsImage}
+use Rattle.mm_model.specs.Reach.{Entries, CanTouch, CanWrite}
+use Rattle.mm_seg.proofs.Searches.{compare, same_or_below}
+use Rattle.mm_audit.specs.declared.span.Access.{Access}
+use Rattle.mm_audit.specs.declared.span.Access.TheVariants.{Touch, Write}
+use Rattle.mm_audit.specs.declared.span.Span.{Span}
+use Rattle.mm_audit.specs.declared.meets.Meets.{Meets}
+use Rattle.mm_audit.specs.Spans.{AreSpans, base_at}
+use Rattle.mm_audit.specs.Opening.{IsLive}
+use Rattle.mm_audit.specs.Meeting.{HaveMet, HasWord, MeetAt, word_at}
+use Rattle.mm_audit.specs.Surveys.{IsLeastShared, IsLeastTable}
+use Rattle.mm_audit.proofs.Exactly.{CanUse, UsedSpan, touch_use, write_use, use_span, span_use}
+use Rattle.mm_audit.proofs.Granted.{granted-small}
+use Rattle.mm_audit.proofs.Words.{base_word}
+
+module _ (i : Image) (e : Entries) (image : IsImage i) (spans : List Span) (a : AreSpans i e spans) (table : List Meets) (m : HaveMet spans (length spans) table) where
+  rises : (j k : ℕ) → j ≤ k → k < length spans → base_at spans j ≤ base_at spans k
+  rises j k le lt = elim (same_or_below j k (omega arith)) [ inl less ↦ a.order.rise j k less lt | inr same ↦ subst (λ v. base_at spans j ≤ base_at spans v) same (omega arith) ]
+
+  -- who is live at the base of a span uses it
+  live_use : (access : Access) (g k : ℕ) → k < length spans → IsLive spans access (k + 1) (base_at spans k) g → CanUse i e access g (base_at spans k)
+  live_use access g k lt live =
+      span_use i e spans a access g (base_at spans k) (base_word _ (a.order.segments k lt))
+      (record { at = live.span; small = (let s = live.small in omega arith); uses = live.uses; low = rises live.span k (let s = live.small in omega arith) lt; high = live.live })
+
+  use_live : (access : Access) (g w k : ℕ) (u : UsedSpan spans access g w) → u.at ≤ k → base_at spans k ≤ w → IsLive spans access (k + 1) (base_at spans k) g
+  use_live access g w k u le low = record { span = u.at; small = omega arith; uses = u.uses; live = (let h = u.high in omega arith) }
+
+  -- Two groups that share a word meet at the base of the later of the two spans that have it.
+  pub record MeetBefore (h g w : ℕ) : Type 0 where
+    pub at : ℕ
+    pub small : at < length spans
+    pub low : base_at spans at ≤ w
+    pub meet : MeetAt spans at h g
+
+  meet_before : (h g w : ℕ) → UsedSpan spans Write h w → UsedSpan spans Touch g w → MeetBefore h g w
+  meet_before h g w x y = elim (compare x.at y.at) [
+    | inl lt ↦ record { at = y.at; small = y.small; low = y.low; meet = record { writes = use_live Write h w y.at x (omega arith) y.low; touches = use_live Touch g w y.at y (omega arith) y.low } }
+    | inr le ↦ record { at = x.at; small = x.small; low = x.low; meet = record { writes = use_live Write h w x.at x (omega arith) x.low; touches = use_live Touch g w x.at y le x.low } }
+  ]
+
+  shared_word : (h g w : ℕ) → CanWrite i e h w → CanTouch i e g w → HasWord table h g × (word_at table h g ≤ w)
+  shared_word h g w x y =
+      let b = meet_before h g w (use_span i e spans a Write h w ((write_use i e h w).0 x)) (use_span i e spans a Touch g w ((touch_use i e g w).0 y)) in
+      let z = m.each b.at h g b.small (granted-small i e image h x.by x.granted) (granted-small i e image g y.by y.granted) b.meet in
+      (z.0, let p = z.1 in let q = b.low in omega arith)
+
+  pub least_table : IsLeastTable i e table
+  least_table = record {
+    len = m.rows.len;
+    some = λ h g lt small has.
+        let x = m.some h g lt small has in
+        subst (IsLeastShared i e h g) (sym x.is) (record {
+          writes = (write_use i e h (base_at spans x.span)).1 (live_use Write h x.span x.small x.meet.writes);
+          touches = (touch_use i e g (base_at spans x.span)).1 (live_use Touch g x.span x.small x.meet.touches);
+          least = λ v p q. let z = (shared_word h g v p q).1 in let is = x.is in omega arith;
+        });
+    each = λ h g w x y. (shared_word h g w x y).0;
+  }

@@ -1,0 +1,14 @@
+use Rattle.std.proofs.Common.{subst}
+use Rattle.mm_audit.specs.Marks.{Added}
+use Rattle.mm_audit.proofs.Spanning.{spans_first, spans_more}
+use Rattle.mm_audit.proofs.spans.spans_of.Goals as goal
+
+pub loop-k-init : goal.loop-k-init
+loop-k-init c =
+    spans_first c.args.keys.now c.args.nodes.now c.args.marks.now c.args.privileged c.add.new.spans.items
+    (subst (λ v. Added v _ c.add.new.spans.items) c.whole_span.ensures (subst (λ v. Added c.whole_span.result v c.add.new.spans.items) c.in-Ok.ensures.items c.in_ok-add.ensures))
+
+pub loop-k-preserved : goal.loop-k-preserved
+loop-k-preserved c =
+    spans_more c.args.keys.now c.args.nodes.now c.args.marks.now c.args.privileged c.requires.rising c.requires.keys c.requires.words c.loop-k.k c.loop-k-test.true c.loop-k.spans.items c.loop-k.invariant c.add-in-loop-k.new.spans.items
+    (subst (λ v. Added v c.loop-k.spans.items c.add-in-loop-k.new.spans.items) c.node_span.ensures c.in_ok-add-2.ensures)

@@ -1,0 +1,14 @@
+use Rattle.mm_graph.specs.Masks.{meaning}
+use Rattle.mm_audit.proofs.MarkedSpans.{are_privileged, are_spans}
+use Rattle.mm_audit.proofs.surveying.granted_in.Goals as goal
+
+pub returns-clause-privileged : goal.returns-clause-privileged
+returns-clause-privileged c =
+    are_privileged c.args.img.now (meaning c.args.entries.now) c.requires c.in-Ok.m.keys.items c.in-Ok.m.nodes.items c.in-Ok.m.marks.items c.in-Ok.ensures c.any-privileged.result
+    (λ g. rw (c.deref.ensures.value, c.deref-2.ensures.value) at (c.any-privileged.ensures g))
+
+pub returns-clause-spans : goal.returns-clause-spans
+returns-clause-spans c =
+    are_spans c.args.img.now (meaning c.args.entries.now) c.requires c.in-Ok.m.keys.items c.in-Ok.m.nodes.items c.in-Ok.m.marks.items c.in-Ok.ensures c.any-privileged.result
+    (λ g. rw (c.deref.ensures.value, c.deref-2.ensures.value) at (c.any-privileged.ensures g)) c.in_ok-spans.spans.items
+    (rw (c.deref-3.ensures.value, c.deref-4.ensures.value, c.deref-5.ensures.value) at c.in_ok-spans.ensures)

@@ -1,0 +1,8 @@
+use Rattle.std.proofs.Common.{sym, subst}
+use Rattle.mm_audit.specs.Surveys.{Surveys}
+use Rattle.mm_audit.proofs.surveys.Survey.privileged.Goals as goal
+
+pub returns : goal.returns
+returns c i e a =
+    let b = subst (Surveys i e) (sym c.self.view_is) a in
+    (λ h. (b.privileged c.args.group).0 (c.is_privileged.ensures.0 h), λ p. c.is_privileged.ensures.1 ((b.privileged c.args.group).1 p))

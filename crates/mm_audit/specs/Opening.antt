@@ -1,0 +1,56 @@
+-- Who uses an address, of the spans that begin before or at it.
+use Rattle.std.specs.Prelude.{◌≡◌, ℕ, ◌+◌, ◌-◌, ◌<◌, ◌≤◌, ◌↔◌, List, length, take, slice_index_or}
+use Rattle.std.specs.Int.{bit_at}
+use Rattle.mm_audit.specs.declared.span.Access.{Access}
+use Rattle.mm_audit.specs.declared.span.Access.TheVariants.{Touch, Write}
+use Rattle.mm_audit.specs.declared.span.Span.{Span}
+use Rattle.mm_audit.specs.declared.opening.Open.{Open}
+use Rattle.mm_audit.specs.Spans.{Uses, base_at, end_at}
+
+abbrev pub no_open : Open
+no_open = record { end = 0; touch = 0; write = 0 }
+
+abbrev pub open_at : List Open → ℕ → Open
+open_at stack n = slice_index_or stack n no_open
+
+abbrev pub open_end : List Open → ℕ → ℕ
+open_end stack n = (open_at stack n).end
+
+abbrev pub users : Access → Open → ℕ
+users Touch o = o.touch
+users Write o = o.write
+
+-- the group uses one of the first spans, which ends behind the address
+pub record IsLive (spans : List Span) (access : Access) (top a g : ℕ) : Type 0 where
+  pub span : ℕ
+  pub small : span < top
+  pub uses : Uses spans access span g
+  pub live : a < end_at spans span
+
+-- those at the end that end at or before the address are gone
+pub record Closed (base : ℕ) (old new : List Open) : Type 0 where
+  pub fits : length new ≤ length old
+  pub front : new ≡ take (length new) old
+  pub ended : (n : ℕ) → length new ≤ n → n < length old → open_end old n ≤ base
+  pub last : 0 < length new → base < open_end new (length new - 1)
+
+pub record IsLast (stack : List Open) (o : Open) : Type 0 where
+  pub some : 0 < length stack → o ≡ open_at stack (length stack - 1)
+  pub none : length stack ≡ 0 → o ≡ no_open
+
+-- the innermost of the open spans that ends behind the address
+pub record IsInnermost (stack : List Open) (n a : ℕ) : Type 0 where
+  pub small : n < length stack
+  pub holds : a < open_end stack n
+  pub last : n + 1 < length stack → open_end stack (n + 1) ≤ a
+
+-- Of each address from one on, the innermost open span tells who uses it, of the first spans.
+pub record AreOpen (spans : List Span) (top from : ℕ) (stack : List Open) : Type 0 where
+  pub fall : (m n : ℕ) → m < n → n < length stack → open_end stack n ≤ open_end stack m
+  pub ends : (n : ℕ) → n < length stack → (j : ℕ) × (j < top) × (open_end stack n ≡ end_at spans j)
+  pub inside : (access : Access) (n a g : ℕ) → from ≤ a → IsInnermost stack n a → (bit_at (users access (open_at stack n)) g ≡ 1) ↔ IsLive spans access top a g
+  pub outside : (access : Access) (a g : ℕ) → from ≤ a → (0 < length stack → open_end stack 0 ≤ a) → ¬ IsLive spans access top a g
+
+-- it tells who uses the first address of the span at a place
+abbrev pub IsOpenAt : List Span → ℕ → Open → Type 0
+IsOpenAt spans k o = (access : Access) (g : ℕ) → (bit_at (users access o) g ≡ 1) ↔ IsLive spans access (k + 1) (base_at spans k) g

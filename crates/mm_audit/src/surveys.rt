@@ -1,0 +1,72 @@
+// What groups can reach, in one list for all of them.
+ghost use Rattle.std.specs.Prelude.{◌<◌, ◌↔◌, IfOk, IsTrue};
+ghost use Rattle.mm_word.specs.Perm.{can_load, can_store};
+ghost use Rattle.mm_model.specs.Image.{Image as ImageValue};
+ghost use Rattle.mm_model.specs.Groups.{among};
+ghost use Rattle.mm_model.specs.Reach.{Entries as EntriesValue, Privileged};
+ghost use Rattle.mm_model.specs.Audit.{MaximalSegments, Judged};
+
+use crate::judge::{Apart, judge};
+use crate::meets::Meets;
+use crate::reach::is_privileged;
+use crate::served::Served;
+use crate::span::{Access, Span};
+use crate::walk::Segments;
+use std::marker::Model;
+
+/// A survey of an image: an audit that keeps one list of segments for all groups, and gives each group's own one by one.
+#[derive(Drop)]
+pub struct Survey {
+    pub(crate) privileged: u64,
+    pub(crate) spans: Vec<Span>,
+    pub(crate) served: Vec<Served>,
+    pub(crate) least: Vec<Meets>,
+}
+
+impl Model for Survey {
+    ghost use Rattle.mm_audit.specs.Spans.{AreInOrder};
+    ghost use Rattle.mm_audit.specs.Meeting.{AreRows};
+    ghost use Rattle.mm_audit.specs.Surveys.{SurveyValue};
+
+    ghost Value = { SurveyValue };
+
+    ghost view = { λ s. record { privileged = s.privileged; spans = s.spans.items; served = s.served.items; least = s.least.items } };
+
+    ghost invariant = { λ s. AreInOrder s.spans.items × AreRows s.least.items };
+}
+
+impl Survey {
+    ghost use Rattle.mm_audit.specs.Surveys.{Surveys};
+    ghost use Rattle.mm_audit.specs.Crossing.{verdict_of};
+
+    /// Whether a group is privileged.
+    pub fn privileged(&self, group: u8) -> bool
+        ensures { (i : ImageValue) (e : EntriesValue) → Surveys i e self.now → IsTrue result ↔ Privileged i e group }
+    {
+        is_privileged(self.privileged, group)
+    }
+
+    /// The maximal segments of at least a word that a group can touch.
+    pub fn touched(&self, group: u8) -> Segments<'_>
+        requires { group < 64 }
+        ensures { (i : ImageValue) (e : EntriesValue) → Surveys i e self.now → MaximalSegments i e group can_load result }
+    {
+        Segments::new(&self.spans, Access::Touch, 1u64 << group)
+    }
+
+    /// The maximal segments of at least a word that a group can write.
+    pub fn written(&self, group: u8) -> Segments<'_>
+        requires { group < 64 }
+        ensures { (i : ImageValue) (e : EntriesValue) → Surveys i e self.now → MaximalSegments i e group can_store result }
+    {
+        Segments::new(&self.spans, Access::Write, 1u64 << group)
+    }
+
+    /// Whether groups stand apart from all others: the least slot whose handler is on the other side, else the least
+    /// group outside that can write a word that one inside can touch, with the least such word.
+    pub fn apart(&self, groups: &[u8]) -> Apart
+        ensures { (i : ImageValue) (e : EntriesValue) → Surveys i e self.now → Judged i e (among groups.now) (verdict_of result) }
+    {
+        judge(&self.served, &self.least, groups)
+    }
+}

@@ -1,0 +1,88 @@
+// The outermost spans of groups, one after the other.
+ghost use Rattle.std.specs.Prelude.{◌≡◌, ◌<◌, ◌≤◌, drop, length, IsTrue};
+ghost use Rattle.mm_audit.specs.Spans.{span_at};
+ghost use Rattle.mm_audit.specs.Walks.{is_next, outermost};
+
+use crate::span::{Access, Span};
+use std::marker::Model;
+
+/// The maximal segments that groups reach, ascending: each a base, and the base-2 logarithm of the length. Contracts see
+/// those that are still to come.
+#[derive(Drop)]
+pub struct Segments<'a> {
+    spans: &'a [Span],
+    access: Access,
+    groups: u64,
+    /// The place of the next span,
+    at: usize,
+    /// and where the last segment ended.
+    from: u64,
+}
+
+impl<'a> Model for Segments<'a> {
+    ghost use Rattle.std.specs.Prelude.{ℕ, List, drop, ◌≤◌, length};
+    ghost use Rattle.mm_audit.specs.Spans.{AreInOrder};
+    ghost use Rattle.mm_audit.specs.Walks.{outermost};
+
+    ghost Value = { List (ℕ × ℕ) };
+
+    ghost view = { λ s. outermost s.access s.groups s.from (drop s.at s.spans.now) };
+
+    ghost invariant = { λ s. AreInOrder s.spans.now × (s.at ≤ length s.spans.now) };
+}
+
+/// Whether one of the groups uses the span in this way, and it does not begin before the address.
+fn is_next(span: Span, access: Access, groups: u64, from: u64) -> bool
+    ensures { result ≡ is_next access groups from span }
+{
+    span.mask(access) & groups != 0 && from <= span.base
+}
+
+/// The place of the next such span; the number of spans where there is none.
+fn next_place(spans: &[Span], access: Access, groups: u64, from: u64, at: usize) -> usize
+    requires { at ≤ length spans.now }
+    ensures fits { result ≤ length spans.now }
+    ensures same { outermost access groups from (drop at spans.now) ≡ outermost access groups from (drop result spans.now) }
+    ensures next { result < length spans.now → IsTrue (is_next access groups from (span_at spans.now result)) }
+{
+    for k in at..spans.len() {
+        if is_next(spans[k], access, groups, from) {
+            return k;
+        }
+    }
+    spans.len()
+}
+
+impl<'a> Segments<'a> {
+    ghost use Rattle.std.specs.Prelude.{[], ◌∷◌, MatchOption};
+    ghost use Rattle.mm_audit.specs.Spans.{AreInOrder};
+
+    /// Those of these groups.
+    pub(crate) fn new(spans: &'a [Span], access: Access, groups: u64) -> Segments<'a>
+        requires { AreInOrder spans.now }
+        ensures { result ≡ outermost access groups 0 spans.now }
+    {
+        Segments {
+            spans,
+            access,
+            groups,
+            at: 0,
+            from: 0,
+        }
+    }
+
+    /// The next one.
+    pub fn next(&mut self) -> Option<(u64, u8)>
+        ensures { MatchOption result (self.old ≡ []) (λ s. self.old ≡ s ∷ self.new) }
+    {
+        let place = next_place(self.spans, self.access, self.groups, self.from, self.at);
+        if place == self.spans.len() {
+            self.at = place;
+            return None;
+        }
+        let span = self.spans[place];
+        self.at = place + 1;
+        self.from = span.end();
+        Some((span.base, span.log))
+    }
+}
