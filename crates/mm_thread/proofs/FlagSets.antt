@@ -1,6 +1,6 @@
 -- A flag of a number that is set or cleared.
 use Rattle.std.proofs.Common.{◌≡◌, ◌≢◌, ℕ, zero, suc, ◌*◌, ◌/◌, ◌%◌, ◌^◌, ◌<◌, Bool, true, false, eqb, get_or, set, length, refl, sym, ap, ◌∙◌, arith, inl, inr, bit_and, bit_or}
-use Rattle.std.specs.Int.{w16, w64, bit_not, bit_at}
+use Rattle.std.specs.Int.{w16, bit_not, bit_at}
 use Rattle.std.proofs.lemmas.Bool.{cases_eq}
 use Rattle.std.proofs.lemmas.List.{same_lists, get_or-set_same, get_or-set_other, get_or_default, length-set}
 use Rattle.std.proofs.lemmas.Nat.Bits.{bit_at_set_same, bit_at_set_other, bit_at_clear_same, bit_at_clear_other}

@@ -1,11 +1,11 @@
 -- The running slots as bits.
-use Rattle.std.proofs.Common.{◌≡◌, ◌≢◌, ℕ, zero, suc, ◌+◌, ◌*◌, ◌%◌, ◌^◌, ◌<◌, ◌↔◌, ◌⊎◌, Bool, true, false, List, [], ◌∷◌, length, get_or, set, bit_or, bit_and, Option, Some, None, Result, refl, sym, ap, ◌∙◌, arith, inl, inr}
+use Rattle.std.proofs.Common.{◌≡◌, ◌≢◌, ℕ, zero, suc, ◌*◌, ◌%◌, ◌^◌, ◌<◌, ◌↔◌, ◌⊎◌, Bool, true, false, List, [], ◌∷◌, length, get_or, set, bit_or, bit_and, Option, Some, None, Result, refl, sym, ap, ◌∙◌, arith, inl, inr}
 use Rattle.std.specs.Prelude.{IsSomeAnd}
 use Rattle.std.specs.Int.{IsBitSet, bit_at, bit_not, w64}
 use Rattle.std.proofs.lemmas.Bool.{cases_eq, cases_lt}
 use Rattle.std.proofs.lemmas.List.{get_or-set_same, get_or-set_other, get_or_default, length-set}
 use Rattle.std.proofs.lemmas.Nat.{pow_pos}
-use Rattle.std.proofs.lemmas.Nat.Bits.{and_pow, bit_at-zero, bit_at_above, bit_at_set_same, bit_at_set_other, bit_at_clear_same, bit_at_clear_other}
+use Rattle.std.proofs.lemmas.Nat.Bits.{and_pow, bit_at_above, bit_at_set_same, bit_at_set_other, bit_at_clear_same, bit_at_clear_other}
 use Rattle.mm_word.specs.declared.cause.Cause.{Cause}
 use Rattle.mm_word.specs.Pointer.{Pointer}
 use Rattle.mm_isa.specs.declared.instr.How.{How}
@@ -21,7 +21,7 @@ use Rattle.mm_model.specs.Flags.{one_if}
 use Rattle.mm_model.proofs.TurnKeeps.{changed_from}
 use Rattle.mm_thread.specs.Ends.{EndsAlone}
 use Rattle.mm_thread.specs.Places.{no_row}
-use Rattle.mm_thread.specs.Runners.{slot_of_row, AreNumbered, AreRunners, HasRunners, IsNoted}
+use Rattle.mm_thread.specs.Runners.{slot_of_row, AreNumbered, HasRunners, IsNoted}
 use Rattle.mm_thread.proofs.Index.{row_in-none, row_in-alone}
 
 -- 1. One bit.

@@ -1,8 +1,8 @@
-use Rattle.std.specs.Prelude.{◌≡◌, ℕ, ◌<◌, ◌==◌, if◌then◌else◌}
+use Rattle.std.specs.Prelude.{◌≡◌, ℕ, ◌<◌}
 use Rattle.std.proofs.Common.{arith, ap}
 use Rattle.std.proofs.lemmas.Bool.Decides.{nat_tests}
 use Rattle.mm_word.specs.declared.access.Access.TheInside.{Inside}
-use Rattle.mm_word.specs.Access.{Touch, IsGranted, kind_code, kind_of}
+use Rattle.mm_word.specs.Access.{IsGranted, kind_code, kind_of}
 
 pub kind_again : (n : ℕ) → n < 4 → kind_code (kind_of n) ≡ n
 kind_again n small = grind (arith, nat_tests)
