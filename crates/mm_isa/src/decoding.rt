@@ -3,6 +3,7 @@ ghost use Rattle.mm_isa.specs.declared.instr.Instr.{Instr};
 ghost use Rattle.mm_isa.specs.Table.{number_of, spelling, IsInstr};
 ghost use Rattle.mm_isa.specs.Decode.{instr_of, row_of, pre_in, post_in, how_in, register_in};
 
+use crate::encoding::encode;
 use crate::fields::Fields;
 use crate::instr::{AluOp, How, Instr};
 use crate::reg::{EvtReg, Reg};
@@ -11,6 +12,17 @@ use mm_word::{Post, Pre};
 
 /// The instruction that a word spells.
 pub fn decode(w: u64) -> Option<Instr>
+    ensures value { result ≡ instr_of w }
+    ensures spelled { IfSome result (λ i. IsInstr i × (spelling i ≡ w)) }
+    ensures none { IfNone result ((i : Instr) → IsInstr i → spelling i ≢ w) }
+{
+    let i = row(Fields::of_word(w))?;
+    if encode(&i) == w { Some(i) } else { None }
+}
+
+/// The same, for the turn of a slot: it becomes a part of its caller, and tests a word by one mask and one number for each row.
+#[inline(always)]
+pub fn read(w: u64) -> Option<Instr>
     ensures value { result ≡ instr_of w }
     ensures spelled { IfSome result (λ i. IsInstr i × (spelling i ≡ w)) }
     ensures none { IfNone result ((i : Instr) → IsInstr i → spelling i ≢ w) }

@@ -56,7 +56,7 @@ fn placed(operand: Operand) -> u64
     }
 }
 
-/// The word of an instruction, as [`encode`](crate::encode) gives it.
+/// The word of an instruction, as [`encode`](crate::encode) gives it, for [`read`](crate::read) alone.
 #[inline(always)]
 pub(crate) fn summed(i: &Instr) -> u64
     ensures value { result ≡ spelling i.now }

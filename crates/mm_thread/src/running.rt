@@ -13,7 +13,7 @@ use crate::fault::{Places, fault};
 use crate::operands::{addr_operand, lacks, value_operand};
 use crate::outcome::{Outcome, Told};
 use crate::tables::Tables;
-use mm_isa::{Instr, decode};
+use mm_isa::{Instr, read};
 use mm_mem::Memory;
 use mm_model::{SlotState, Step, Tick};
 use mm_word::{Access, Cause, Kind, Word, check};
@@ -103,7 +103,7 @@ fn instr_in(word: Word) -> Option<Instr>
     ensures { result ≡ instr_in word }
 {
     match word {
-        Word::Int(bits) => decode(bits),
+        Word::Int(bits) => read(bits),
         Word::Ptr(_) => None,
     }
 }

@@ -16,15 +16,15 @@ returns-in_err-i-clause-none c =
     let none : instr_of c.args.w ≡ None = instr_of-no_row c.args.w row in
     rw c.from_residual.ensures (instr_of-none c.args.w none)
 
-pub returns-else-summed-w-clause-value : goal.returns-else-summed-w-clause-value
-returns-else-summed-w-clause-value c =
+pub returns-else-encode-w-clause-value : goal.returns-else-encode-w-clause-value
+returns-else-encode-w-clause-value c =
     let row : row_of (fields_in c.args.w) ≡ Some c.in_ok-i.i = search rules in
     let other : spelling c.in_ok-i.i ≢ c.args.w = search rules in
     let none : instr_of c.args.w ≡ None = instr_of-other c.args.w c.in_ok-i.i row other in
     cc
 
-pub returns-else-summed-w-clause-none : goal.returns-else-summed-w-clause-none
-returns-else-summed-w-clause-none c =
+pub returns-else-encode-w-clause-none : goal.returns-else-encode-w-clause-none
+returns-else-encode-w-clause-none c =
     let row : row_of (fields_in c.args.w) ≡ Some c.in_ok-i.i = search rules in
     let other : spelling c.in_ok-i.i ≢ c.args.w = search rules in
     instr_of-none c.args.w (instr_of-other c.args.w c.in_ok-i.i row other)
