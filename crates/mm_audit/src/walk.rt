@@ -13,7 +13,7 @@ pub struct Segments<'a> {
     spans: &'a [Span],
     access: Access,
     groups: u64,
-    /// The place of the next span,
+    /// The place from which the next span is looked for,
     at: usize,
     /// and where the last segment ended.
     from: u64,
@@ -73,7 +73,7 @@ impl<'a> Segments<'a> {
 
     /// The next one.
     pub fn next(&mut self) -> Option<(u64, u8)>
-        ensures { MatchOption result (self.old ≡ []) (λ s. self.old ≡ s ∷ self.new) }
+        ensures { MatchOption result ((self.old ≡ []) × (self.new ≡ [])) (λ s. self.old ≡ s ∷ self.new) }
     {
         let place = next_place(self.spans, self.access, self.groups, self.from, self.at);
         if place == self.spans.len() {

@@ -4,7 +4,7 @@ ghost use Rattle.mm_model.specs.Audit.{segment_line};
 ghost use Rattle.mm_model.specs.Digits.{hex};
 ghost use Rattle.std.specs.Fmt.{digit_glyph};
 
-/// How many bytes a line has at most.
+/// The room for a line, which has at most 28 bytes.
 pub const LINE: usize = 32;
 
 /// The hexadecimal digits of an address.

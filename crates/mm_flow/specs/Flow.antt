@@ -88,7 +88,7 @@ pub record Flowing (e : Edges) (old marks carried pending : List ℕ) : Type 0 w
   pub sound : (k g : ℕ) → Has marks k g → Flows e old g k
   pub no_rise : room (2 ^ 64) marks ≤ room (2 ^ 64) old
 
--- what a node carries is at all its targets
+-- what a node carries is at all its targets, and at its entry for the groups that enter
 pub record IsPassed (e : Edges) (marks carried : List ℕ) : Type 0 where
   pub cells : (i j : ℕ) → low_at e i ≤ j → j < high_at e i → Within (slice_index carried i) (slice_index marks (slice_index e.targets j))
   pub entry : (i : ℕ) → Within (bit_and (slice_index carried i) (enters_at e i)) (slice_index marks (entry_at e i))

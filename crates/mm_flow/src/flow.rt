@@ -67,7 +67,7 @@ fn visit(
     Ok(())
 }
 
-/// Whether the first node has targets and no entry, and all its targets are targets of the second.
+/// True only where the first node has targets and no entry, and all its targets are targets of the second.
 fn is_within(inner: Node, outer: Node) -> bool
     ensures low { result ≡ true → outer.low ≤ inner.low }
     ensures high { result ≡ true → inner.high ≤ outer.high }
@@ -214,8 +214,8 @@ fn marked_nodes(alloc: Global, marks: &[u64]) -> Result<VecDeque<usize>, AllocEr
 
 /// Carries each mark along all edges, until no mark lacks a group.
 ///
-/// `carried` has for each node groups whose marks its targets have already. `after` has for each node the first one behind those
-/// that lie within it.
+/// `carried` has for each node groups whose marks its targets have already. `after` has for each node a later one, the first
+/// behind those that lie within it where it is to be fast.
 pub fn flow(
     alloc: Global,
     marks: &mut [u64],

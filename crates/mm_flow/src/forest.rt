@@ -60,7 +60,8 @@ pub fn greater(a: usize, b: usize) -> usize
     if a < b { b } else { a }
 }
 
-/// Makes each node's number at least that of each node whose parent it is.
+/// Makes each node's number at least that of each node whose parent it is. How far they get is a matter of speed alone; proved is that
+/// each is behind its node.
 fn join_up(next: &mut [usize], parents: &[usize])
     requires { IsAhead next.old (length parents.now) }
     ensures { IsAhead next.new (length parents.now) }
@@ -74,7 +75,7 @@ fn join_up(next: &mut [usize], parents: &[usize])
     }
 }
 
-/// For each node the first one behind all that it is above.
+/// For each node the first one behind all that it is above. What is proved is that it is behind the node; the rest is speed alone.
 pub fn after(alloc: Global, parents: &[usize]) -> Result<Vec<usize>, AllocError>
     ensures { IfOk result (λ v. IsAhead v.items (length parents.now)) }
 {

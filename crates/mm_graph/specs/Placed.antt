@@ -7,11 +7,11 @@ use Rattle.mm_graph.specs.declared.seed.Seed.{Seed}
 use Rattle.mm_graph.specs.declared.placed.Placed.{Placed}
 use Rattle.mm_graph.specs.Key.{key_at, no_key, entry_key}
 
--- of what was found and of seeds
+-- the keys of what was found and of seeds
 abbrev pub held_keys : List Found → List Seed → List Key
 held_keys found seeds = map (λ (f : Found). f.key) found ++ map (λ (s : Seed). s.key) seeds
 
--- and of what entries by them give
+-- these, and the keys of what entries by them give
 abbrev pub all_keys_of : List Found → List Seed → List Key
 all_keys_of found seeds = held_keys found seeds ++ filter_map entry_key (held_keys found seeds)
 

@@ -27,7 +27,7 @@ fn places_of(alloc: Global, keys: &[Key]) -> Result<Vec<Placed>, AllocError>
     Ok(placed)
 }
 
-/// Each key of a list with its place, by ascending keys.
+/// Each key of a list with its place, by ascending keys. What comes of them is the same in any order; this one is fast.
 pub fn in_order(alloc: Global, keys: &[Key]) -> Result<Vec<Placed>, AllocError>
     ensures { IfOk result (λ placed. IsPlaced keys.now placed.items) }
 {

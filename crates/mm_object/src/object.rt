@@ -1,6 +1,6 @@
 //! Objects: what an assembler makes and a linker takes.
 
-ghost use Rattle.std.specs.Prelude.{◌≡◌, ◌+◌, ◌*◌, ◌^◌, map, find, Some, IfSome};
+ghost use Rattle.std.specs.Prelude.{◌≡◌, ◌+◌, ◌*◌, ◌^◌, map, find, slice_get, Some, IfSome};
 ghost use Rattle.std.specs.Option.{option_map};
 ghost use Rattle.std.specs.List.Sorted.{IsStrictlyIncreasing};
 ghost use Rattle.mm_object.specs.Objects.{place_of};
@@ -46,7 +46,8 @@ fn place(segment: u16, word: u32) -> u64
 fn reloc_in(relocs: &[Reloc], segment: u16, word: u32) -> Option<(usize, Reloc)>
     requires rising { IsStrictlyIncreasing (map place_of relocs.now) }
     requires small { HaveSmallWords relocs.now }
-    ensures { option_map (λ found. found.1) result ≡ find (is_at segment word) relocs.now }
+    ensures reloc { option_map (λ found. found.1) result ≡ find (is_at segment word) relocs.now }
+    ensures place { IfSome result (λ found. slice_get relocs.now found.0 ≡ Some found.1) }
 {
     match relocs.binary_search_by_key(&place(segment, word), |reloc| {
         place(reloc.segment, reloc.word)
@@ -59,7 +60,8 @@ fn reloc_in(relocs: &[Reloc], segment: u16, word: u32) -> Option<(usize, Reloc)>
 // The relocation of a word, if it stands at a place among those that rise.
 fn reloc_standing(relocs: &[Reloc], at: usize, segment: u16, word: u32) -> Option<Reloc>
     requires { IsStrictlyIncreasing (map place_of relocs.now) }
-    ensures { IfSome result (λ reloc. find (is_at segment word) relocs.now ≡ Some reloc) }
+    ensures reloc { IfSome result (λ reloc. find (is_at segment word) relocs.now ≡ Some reloc) }
+    ensures place { IfSome result (λ reloc. slice_get relocs.now at ≡ Some reloc) }
 {
     if at >= relocs.len() {
         return None;
@@ -170,10 +172,12 @@ impl Object {
         Some(reloc)
     }
 
-    /// The same, with its place among the relocations. That is looked at first, so that words in their order are found at once.
+    /// The relocation of a word, if it has one, with its place among the relocations. The place `near` is looked at first, so that words in
+    /// their order are found at once.
     #[tactic(auto, unfolding(crate::specs::Lookups::reloc_at))]
     pub fn reloc_near(&self, near: usize, segment: u16, word: u32) -> Option<(usize, Reloc)>
-        ensures { option_map (λ found. found.1) result ≡ reloc_at self.now segment word }
+        ensures reloc { option_map (λ found. found.1) result ≡ reloc_at self.now segment word }
+        ensures place { IfSome result (λ found. slice_get self.now.relocs found.0 ≡ Some found.1) }
     {
         match reloc_standing(&self.relocs, near, segment, word) {
             Some(reloc) => Some((near, reloc)),

@@ -1,7 +1,9 @@
 -- A set with one segment more at its end.
-use Rattle.std.proofs.Common.{◌≡◌, ℕ, ◌+◌, ◌<◌, inl, inr, List, [], ◌∷◌, ◌++◌, length, length-append, sym, subst, arith}
+use Rattle.std.proofs.Common.{◌≡◌, ℕ, ◌+◌, ◌<◌, inl, inr, List, [], ◌∷◌, ◌++◌, length, length-append, refl, sym, subst, arith}
 use Rattle.std.proofs.lemmas.List.{get_or_append_left, get_or_push}
-use Rattle.mm_seg.specs.Segments.{IsSet, IsSegment, IsBehind, segment_at}
+use Rattle.std.specs.List.{Contains}
+use Rattle.mm_seg.specs.Segments.{IsSet, IsSegment, IsBehind, IsMaximal, LiesIn, segment_at}
+use Rattle.mm_seg.proofs.Inserts.{at_in, in_at, in_first, in_rest, in_cases}
 use Rattle.mm_seg.proofs.Searches.{same_or_below}
 
 module _ (xs : List (ℕ × ℕ)) (s : ℕ × ℕ) where
@@ -23,5 +25,20 @@ module _ (xs : List (ℕ × ℕ)) (s : ℕ × ℕ) where
     rise = λ i j lt small. elim (same_or_below j (length xs) (let l = len in omega arith)) [
       | inl less ↦ rw (pushed_before i (omega arith), pushed_before j less) (set.rise i j lt less)
       | inr e ↦ rw (pushed_before i (omega arith), pushed_last j e) (behind i (omega arith))
+    ];
+  }
+
+  -- nothing lies in a segment behind all others, nor has it others in it
+  pub pushed_maximal : IsMaximal (s ∷ xs) (xs ++ s ∷ [])
+  pushed_maximal = record {
+    from = λ k lt. elim (same_or_below k (length xs) (let l = len in omega arith)) [
+      | inl less ↦ in_rest s _ xs (subst (Contains xs) (sym (pushed_before k less)) (at_in xs k less))
+      | inr e ↦ subst (Contains (s ∷ xs)) (sym (pushed_last k e)) (in_first s xs)
+    ];
+    holds = λ t h. elim (in_cases s t xs h) [
+      | inl e ↦ record { at = length xs; small = (let l = len in omega arith); within = subst (λ v. LiesIn t v) (sym (pushed_last (length xs) refl)) (subst (λ v. LiesIn v s) (sym e) (omega arith, omega arith)) }
+      | inr m ↦
+          let f = in_at xs t m in
+          record { at = f.at; small = (let l = len in let lt = f.small in omega arith); within = subst (λ v. LiesIn t v) (sym (pushed_before f.at f.small)) (subst (λ v. LiesIn v (segment_at xs f.at)) (sym f.is) (omega arith, omega arith)) }
     ];
   }

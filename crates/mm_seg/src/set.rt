@@ -55,11 +55,12 @@ impl SegSet {
         insert(&mut self.items, (base, log))
     }
 
-    /// Adds a segment that begins where all others have ended.
+    /// Adds a segment that begins at or behind the end of all others.
     pub fn push(&mut self, base: u64, log: u8) -> Result<(), NoMemory>
         requires segment { IsSegment (base, log) }
         requires behind { IsBehind self.old base }
         ensures ok { OnOk result (self.new ≡ self.old ++ (base, log) ∷ []) }
+        ensures maximal { OnOk result (IsMaximal ((base, log) ∷ self.old) self.new) }
         ensures err { OnErr result (self.new ≡ self.old) }
     {
         if self.items.push((base, log)).is_err() {

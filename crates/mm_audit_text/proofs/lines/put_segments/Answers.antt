@@ -22,4 +22,4 @@ loop-base-preserved g c =
 pub returns : goal.returns
 returns g c =
     let (done, is, wrote) = c.loop-base.invariant in
-    gathers_same wrote (ap (flat_map (segment_line c.args.name.now)) (sym (is ∙ ap (λ (l : List (ℕ × ℕ)). done ++ l) c.in_default.ensures ∙ append-nil done)))
+    gathers_same wrote (ap (flat_map (segment_line c.args.name.now)) (sym (is ∙ ap (λ (l : List (ℕ × ℕ)). done ++ l) c.in_default.ensures.0 ∙ append-nil done)))

@@ -4,8 +4,8 @@ use Rattle.mm_object.specs.declared.target.Reloc.{Reloc}
 use Rattle.mm_object.proofs.Found.{standing, found_at}
 use Rattle.mm_object.proofs.object.reloc_standing.Goals as goal
 
-pub returns-then-reloc-word : goal.returns-then-reloc-word
-returns-then-reloc-word c =
+pub returns-then-reloc-word-clause-reloc : goal.returns-then-reloc-word-clause-reloc
+returns-then-reloc-word-clause-reloc c =
     let none : Reloc = record { segment = 0; word = 0; perm = Ro; target = record { index = 0; addend = 0 } } in
     let relocs = c.args.relocs.now in
     let this = standing c.args.segment c.args.word (get_or relocs c.args.at none) c.if-reloc-segment.true c.if-reloc-word.true in
