@@ -8,7 +8,7 @@ chain.img     each cell has a read-only pointer to the next, and r1 one to the f
 falling.img   r1 reads all cells, which hold pointers to words that can be written, in falling order
 late.img      the chain, and at its end a pointer to a word that can be written, which another group loads
 chain64.img, falling64.img, random64.img   the same for 64 groups with a slot each; random64.img has the pointers of falling.img in random order
-words64.img   the chain for 64 groups, each with a word of its own that it can write
+words64.img   the chain for 64 groups, each with a word of its own that it can write, behind all pages
 
 A NAME is one of these without its '.img'; without one all are made."""
 import random
@@ -23,6 +23,7 @@ ALL = (pointer(READ_ONLY, 24, POINTERS), 1)
 FIRST = (pointer(READ_ONLY, 3, POINTERS), 1)
 IP = pointer(EXECUTE, 12, CODE * 4096)
 OWN = CODE * 4096 + 2048  # words of the page of the code, behind it
+FAR = 1 << 30  # words behind all pages
 
 
 def pages_of(cells):
@@ -66,7 +67,7 @@ MAKERS = {
     "chain64": lambda: whole(chain(CELLS), [{1: FIRST}] * 64),
     "falling64": lambda: whole(falling(), [{1: ALL}] * 64),
     "random64": lambda: whole(shuffled(), [{1: ALL}] * 64),
-    "words64": lambda: whole(chain(CELLS), [{1: FIRST, 2: (pointer(READ_WRITE, 3, OWN + 8 * n), 1)} for n in range(64)]),
+    "words64": lambda: whole(chain(CELLS), [{1: FIRST, 2: (pointer(READ_WRITE, 3, FAR + 8 * n), 1)} for n in range(64)]),
 }
 
 
