@@ -12,7 +12,6 @@ pub mod Asked
 pub mod Dialogues
 pub mod InputLines
 pub mod LineTokens
-pub mod Running
 pub mod Stepping
 pub mod Runs
 pub mod FirstStops

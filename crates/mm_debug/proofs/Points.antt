@@ -13,6 +13,7 @@ use Rattle.mm_sched.specs.declared.schedule.Order.TheVariants as order
 use Rattle.mm_machine.specs.Kept.{Kept}
 use Rattle.mm_machine.specs.Snapshot.{IsSnapshotOf, CanRestore, restored}
 use Rattle.mm_machine.proofs.Keeping.{kept_after}
+use Rattle.mm_machine.proofs.Went.{run_both}
 use Rattle.mm_debug.specs.Session.{Session, total_of}
 use Rattle.mm_debug.specs.Standing.{first_items, GoesOnAfter, StandsFor, Point, total_at, PointStandsFor}
 use Rattle.mm_debug.proofs.AnyRuns.{run_goes_on}
@@ -44,11 +45,6 @@ list_front (n ∷ items) (suc few) (suc many) le = let front = list_front items 
 front_of : (i : Image) (o : Order) (few many : ℕ) → few ≤ many → IsFront (first_items i o few) (first_items i o many)
 front_of i order.Robin few many le = robin_front (start i) None few many le
 front_of i (order.List items) few many le = list_front items few many le
-
-run_both : (s : State) (items rest : List ℕ) → run s (items ++ rest) ≡ run (run s items) rest
-unfolding run
-run_both s [] rest = refl
-run_both s (n ∷ items) rest = run_both (after s n) items rest
 
 run_front : (s : State) (items all : List ℕ) (f : IsFront items all) → run s all ≡ run (run s items) f.rest
 run_front s items all f = ap (run s) f.is ∙ run_both s items f.rest

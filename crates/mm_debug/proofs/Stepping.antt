@@ -14,7 +14,7 @@ use Rattle.mm_machine.specs.Kept.{Kept}
 use Rattle.mm_sched.specs.declared.schedule.Order.TheVariants as order
 use Rattle.mm_sched.specs.Following.{IsNext}
 use Rattle.mm_debug.specs.Session.{Session, total_of, item_in, next_item, issued, then_stepped, stepped}
-use Rattle.mm_debug.proofs.Running.{Masks, next_is, none_is, zero_of}
+use Rattle.mm_machine.proofs.Running.{Masks, next_is, none_is, zero_of}
 
 -- 1. The next item.
 
@@ -36,11 +36,6 @@ item_below_limit s item next = elim (below_or_not (total_of s) 1000000) [
   | inl lt ↦ lt
   | inr over ↦ let none = limit_ends s over in absurd (cc)
 ]
-
--- what comes next in the mask of the running slots is the next running slot
-pub peeked : (s : State) (mask : ℕ) (last next : Option ℕ) → ∥ Kept s ∥₁ → Masks s mask → (IsSome next ↔ (mask ≢ 0)) → IfSome next (IsNext mask last) → next ≡ next_running s.core.rows last
-peeked s mask last None kept masks some is = sym (none_is s mask last kept masks (zero_of mask some.1))
-peeked s mask last (Some n) kept masks some is = sym (next_is s mask last n kept masks is)
 
 -- 2. An item of round robin is a slot's number.
 

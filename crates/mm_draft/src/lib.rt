@@ -13,8 +13,6 @@ mod place;
 mod reading;
 mod segment;
 mod source;
-#[cfg(test)]
-mod tests;
 mod thread;
 
 pub use draft::Draft;

@@ -16,7 +16,8 @@ use Rattle.mm_model.proofs.Fitted.{paged_of, core_of}
 use Rattle.mm_model.proofs.StateKeeps.{after_state, after_fits, after_kept}
 use Rattle.mm_word.specs.declared.cause.Cause.{Cause}
 use Rattle.mm_model.specs.Outcomes.{StopsAt, FaultChanges}
-use Rattle.mm_model.proofs.Causes.{IsOrderly, core_orderly, fault_changes}
+use Rattle.mm_model.specs.declared.step.Step.{Step}
+use Rattle.mm_model.proofs.Causes.{IsOrderly, EndsExactly, core_orderly, ends_exactly, fault_changes}
 use Rattle.mm_model.proofs.TurnBounds.{after_within}
 use Rattle.mm_machine.specs.Kept.{Kept}
 
@@ -80,6 +81,10 @@ state_made s n core memory c m =
 -- what a fault changes, of a state that is kept
 pub kept_orderly : (s : State) → ∥ Kept s ∥₁ → IsOrderly s.core
 kept_orderly s h = ∥∥₁_elim h (hlevel props) (λ k. core_orderly s.core (kept_core s k))
+
+-- what comes of an item, by its step
+pub exactly : (s : State) (n : ℕ) (step : Step) → ∥ Kept s ∥₁ → step ≡ (turn_of s n).step → EndsExactly s.core s.memory n step.tick
+exactly s n step kept is = subst (λ (x : Step). EndsExactly s.core s.memory n x.tick) (sym is) (ends_exactly s.core s.memory n (kept_orderly s kept))
 
 pub fault_changed : (s t : State) (n : ℕ) → t ≡ after s n → ∥ Kept s ∥₁ → (x : Slot) (c : Cause) → StopsAt s.core s.memory n x c → FaultChanges x c s t
 fault_changed s t n is kept x c stops = subst (FaultChanges x c s) (sym is) (fault_changes s n x c (kept_orderly s kept) stops)

@@ -1,6 +1,10 @@
 mod Collecting
 pub mod Copied
 pub mod Keeping
+pub mod Rounds
+pub mod Running
+pub mod Went
+mod Issuing
 pub mod Outputs
 mod Pendings
 mod Ports

@@ -34,7 +34,7 @@ use Rattle.mm_machine.specs.Kept.{Kept}
 use Rattle.mm_machine.specs.Snapshot.{Parts, numbered, page_numbers, IsEventOf, IsAwaited, IsPending, IsSnapshot, IsTypedEvent, IsTyped, CanRestore, restored}
 use Rattle.mm_machine.proofs.Keeping.{kept_core}
 use Rattle.mm_machine.proofs.Pendings.{loads_counted}
-use Rattle.mm_machine.proofs.Queues.{slot_numbered, numbered_has, matched, waits_handled}
+use Rattle.mm_machine.proofs.Queues.{slot_numbered, matched, waits_handled}
 use Rattle.mm_machine.proofs.Outputs.{outputs_count, outputs_within, nothing_within, output_untouched, outputs_given, group_has}
 use Rattle.mm_machine.proofs.Steps.{from_zero}
 

@@ -1,4 +1,5 @@
 pub mod Kept
 pub mod Machine
+pub mod Going
 pub mod Snapshot
 pub mod Taking

@@ -5,8 +5,6 @@ mod machine;
 mod snapshot;
 mod standing;
 mod taking;
-#[cfg(test)]
-mod tests;
 
 pub use machine::Machine;
 pub use mm_thread::{Event, Output, Pending, Slot, SlotState, Step, Tick};

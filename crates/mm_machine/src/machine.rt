@@ -5,7 +5,8 @@ use crate::Snapshot;
 use crate::taking::{events_of, outputs_of, pages_of, slots_of};
 use mm_image::Image;
 use mm_mem::{Inspect, Loaded, Memory, Reset, Stored};
-use mm_thread::{Core, Slot, Step, turn};
+use mm_sched::Robin;
+use mm_thread::{Core, Slot, Step, Tick, turn};
 use mm_word::{Access, NoMemory, Post, Pre, Word};
 use std::alloc::{AllocError, Global};
 
@@ -24,7 +25,7 @@ pub struct Machine<M: Memory> {
 }
 
 impl<M: Memory> Machine<M> {
-    ghost use Rattle.std.specs.Prelude.{◌≡◌, ◌↔◌, ℕ, ◌+◌, ◌<◌, ◌≤◌, ◌^◌, [], ◌∷◌, ◌++◌, true, List, length, slice_get, IfOk, IsSomeAnd, Some};
+    ghost use Rattle.std.specs.Prelude.{◌≡◌, ◌↔◌, ℕ, ◌+◌, ◌<◌, ◌≤◌, ◌^◌, [], ◌∷◌, ◌++◌, true, List, length, slice_get, slice_index, IfOk, IfSome, IsSomeAnd, Some};
     ghost use Rattle.mm_model.specs.Fits.{slots_of};
     ghost use Rattle.std.specs.Option.{option_copied};
     ghost use Rattle.std.specs.Int.{IsBitSet};
@@ -34,13 +35,14 @@ impl<M: Memory> Machine<M> {
     ghost use Rattle.mm_model.specs.Uses.{Use};
     ghost use Rattle.mm_model.specs.Image.{Image as ImageValue, start};
     ghost use Rattle.mm_model.specs.State.{slot_at, output_of};
-    ghost use Rattle.mm_model.specs.Run.{turn_of, after};
+    ghost use Rattle.mm_model.specs.Run.{turn_of, after, run, next_running, or_else, robin_from, last_item};
     ghost use Rattle.mm_word.specs.declared.cause.Cause.{Cause};
     ghost use Rattle.mm_model.specs.declared.step.Tick.{Tick};
     ghost use Rattle.mm_model.specs.Slot.{Slot as SlotValue};
     ghost use Rattle.mm_model.specs.Outcomes.{IsIdle, Delivers, StopsAt, Blocks, Faults, Completes, FaultChanges};
     ghost use Rattle.mm_mem.specs.Answers.{loaded, stored, after_load, after_store, access_uses};
     ghost use Rattle.mm_machine.specs.Machine.{state_of, ports_used, StandsTo, Takes, StandsFor};
+    ghost use Rattle.mm_machine.specs.Going.{WentOn};
 
     /// The machine of an image at its start, over a memory that holds the image's pages and was not used yet.
     pub fn new(alloc: Global, img: &Image, mem: M) -> Result<Machine<M>, NoMemory>
@@ -82,6 +84,103 @@ impl<M: Memory> Machine<M> {
 
         // After any items of an image, one item more.
         ensures runs { (i : ImageValue) (items : List ℕ) → StandsFor i items self.old → StandsFor i (items ++ item ∷ []) self.new }
+        ensures ports { ports_used self.new ≡ ports_used self.old }
+    {
+        let mut step = Step {
+            tick: Tick::Idle,
+            slot: item,
+            fetched: None,
+            touched: None,
+            entered: None,
+        };
+        self.issue(&[item], None, 0, &mut step);
+        step
+    }
+
+    /// Issues the items of a list.
+    pub fn follow(&mut self, items: &[u8])
+        requires { (state_of self.old).cycles + length items.now ≤ 2 ^ 32 }
+        ensures goes { WentOn self.old self.new items.now }
+        ensures ports { ports_used self.new ≡ ports_used self.old }
+    {
+        let mut step = Step {
+            tick: Tick::Idle,
+            slot: 0,
+            fetched: None,
+            touched: None,
+            entered: None,
+        };
+        self.issue(items, None, 0, &mut step);
+    }
+
+    /// Issues so many cycles of round robin behind a slot, fewer only where no slot runs. Gives the slot that was issued last, that one
+    /// where none was.
+    pub fn round_robin(&mut self, behind: Option<u8>, count: u64) -> Option<u8>
+        requires few { (state_of self.old).cycles + count ≤ 2 ^ 32 }
+        requires slot { IfSome behind (λ n. n < 64) }
+        ensures goes { WentOn self.old self.new (robin_from (state_of self.old) behind count) }
+        ensures last { result ≡ last_item behind (robin_from (state_of self.old) behind count) }
+        ensures slot { IfSome result (λ n. n < 64) }
+        ensures ports { ports_used self.new ≡ ports_used self.old }
+    {
+        let mut step = Step {
+            tick: Tick::Idle,
+            slot: 0,
+            fetched: None,
+            touched: None,
+            entered: None,
+        };
+        self.issue(&[], behind, count, &mut step)
+    }
+
+    /// Issues the items of a list, and then so many cycles of round robin behind a slot, fewer only where no slot runs. Gives the slot
+    /// that round robin issued last, that one where it issued none. The step is that of an item that is issued alone.
+    ///
+    /// Every cycle passes here: with one loop there is one copy of a turn, and it is a part of the loop.
+    fn issue(&mut self, items: &[u8], behind: Option<u8>, count: u64, step: &mut Step) -> Option<u8>
+        requires few { (state_of self.old).cycles + (length items.now + count) ≤ 2 ^ 32 }
+        requires slot { IfSome behind (λ n. n < 64) }
+        ensures goes { WentOn self.old self.new (items.now ++ robin_from (run (state_of self.old) items.now) behind count) }
+        ensures last { result ≡ last_item behind (robin_from (run (state_of self.old) items.now) behind count) }
+        ensures slot { IfSome result (λ n. n < 64) }
+        ensures step { (n : ℕ) → items.now ≡ n ∷ [] → count ≡ 0 → step.new ≡ (turn_of (state_of self.old) n).step }
+        ensures ports { ports_used self.new ≡ ports_used self.old }
+    {
+        let mut last = behind;
+        let total = items.len() as u64 + count;
+        for at in 0..total {
+            let Some(item) = self.next_item(items, at, &mut last) else {
+                break;
+            };
+            let made = self.take(item);
+            if at + 1 == total {
+                *step = made;
+            }
+        }
+        last
+    }
+
+    /// What comes next: the item at a place of a list, and behind its end the next slot of round robin.
+    fn next_item(&self, items: &[u8], at: u64, last: &mut Option<u8>) -> Option<u8>
+        requires slot { IfSome last.old (λ n. n < 64) }
+        ensures listed { at < length items.now → (result ≡ Some (slice_index items.now at)) × (last.new ≡ last.old) }
+        ensures behind { length items.now ≤ at → (result ≡ next_running (state_of self.now).core.rows last.old) × (last.new ≡ or_else result last.old) }
+        ensures slot { IfSome last.new (λ n. n < 64) }
+    {
+        if at < items.len() as u64 {
+            return Some(items[at as usize]);
+        }
+        let next = Robin::after(*last).peek(self.core.running())?;
+        *last = Some(next);
+        Some(next)
+    }
+
+    /// One cycle more, the turn of an item.
+    fn take(&mut self, item: u8) -> Step
+        requires { (state_of self.old).cycles < 2 ^ 32 }
+        ensures state { state_of self.new ≡ after (state_of self.old) item }
+        ensures step { result ≡ (turn_of (state_of self.old) item).step }
+        ensures takes { Takes self.old self.new (turn_of (state_of self.old) item).uses }
         ensures ports { ports_used self.new ≡ ports_used self.old }
     {
         self.cycles += 1;

@@ -12,8 +12,6 @@ mod link;
 mod links;
 mod net;
 mod summary;
-#[cfg(test)]
-mod tests;
 mod tick;
 mod wire;
 mod words;

@@ -12,12 +12,12 @@ use Rattle.mm_model.specs.Spelling.{IsImage}
 use Rattle.mm_machine.specs.Snapshot.{Parts, IsSnapshotOf}
 use Rattle.mm_save.specs.Checkpoints.{saved_of, spelling}
 use Rattle.mm_save.proofs.Forms.{have_forms}
-use Rattle.mmachine.specs.Going.{WentOn}
+use Rattle.mm_machine.specs.Going.{WentOn}
 use Rattle.mmachine.specs.Orders.{values_of}
 use Rattle.mmachine.specs.Saving.{items_behind, last_behind, last_issued, saved_after, Further}
 use Rattle.mmachine.proofs.Reported.{start_state}
-use Rattle.mmachine.proofs.Rounds.{robin_length, first_length}
-use Rattle.mmachine.proofs.Went.{went_from_start}
+use Rattle.mm_machine.proofs.Rounds.{robin_length, first_length}
+use Rattle.mm_machine.proofs.Went.{went_from_start}
 
 -- behind no slot an order issues its items from the start on
 pub items_from_start : (o : Order) (s : State) (count : ℕ) → items_behind o s None count ≡ items_of o s count

@@ -6,8 +6,6 @@ pub mod Told
 pub mod Reading
 pub mod Rows
 pub mod Inputs
-pub mod Rounds
-pub mod Went
 pub mod Issued
 pub mod SavedForms
 pub mod SavedRuns

@@ -29,7 +29,7 @@ use Rattle.mmachine.specs.Kinds.{Value, an_image, a_list, a_checkpoint, checkpoi
 use Rattle.mmachine.specs.Orders.{Issues}
 use Rattle.mmachine.specs.Saving.{last_issued, HasState, Further, Continues}
 use Rattle.mmachine.specs.SaveToRun.{IsOneRun, SavesGoOn}
-use Rattle.mmachine.proofs.Rounds.{robin_length, first_length}
+use Rattle.mm_machine.proofs.Rounds.{robin_length, first_length}
 
 -- 1. The slots that round robin issues have one of 64 numbers.
 

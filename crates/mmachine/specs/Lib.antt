@@ -6,7 +6,6 @@ pub mod Kinds
 pub mod Files
 pub mod Orders
 pub mod Saving
-pub mod Going
 pub mod Table
 pub mod Commands
 pub mod Answers

@@ -3,7 +3,6 @@ ghost use Rattle.std.specs.Prelude.{◌≡◌, ◌≤◌};
 ghost use Rattle.mmachine.specs.Commands.{soaked};
 ghost use Rattle.mmachine.specs.Answers.{EndsWith, writing};
 
-use crate::cycles::round_robin;
 use crate::load::boot;
 use crate::status::{Stop, ended};
 use crate::words::SoakWords;
@@ -22,6 +21,6 @@ pub fn soak<M: Boot, O: Sink>(alloc: Global, asked: SoakWords, out: &mut O) -> R
 {
     let image = image(alloc, asked.number, asked.size)?;
     let mut machine: Machine<M> = boot(alloc, &image)?;
-    round_robin(&mut machine, None, asked.cycles);
+    machine.round_robin(None, asked.cycles);
     ended(summary(&machine, out))
 }

@@ -8,7 +8,6 @@ ghost use Rattle.mmachine.specs.Table.{row_of};
 ghost use Rattle.mmachine.specs.Commands.{own_report, Yields};
 ghost use Rattle.mmachine.specs.Answers.{CommandEnds, Ends, writing};
 
-use crate::cycles::follow;
 use crate::load::{boot, load_image, load_schedule};
 use crate::members::members;
 use crate::status::{Stop, ended};
@@ -58,6 +57,6 @@ fn write_solo<M: Boot, O: Sink>(
     let own = alone(alloc, &image, groups)?;
     let items = only(alloc, list, cycles, members(&own).as_slice())?;
     let mut machine: Machine<M> = boot(alloc, &own)?;
-    follow(&mut machine, items.items());
+    machine.follow(items.items());
     ended(report(&machine, &own, out))
 }

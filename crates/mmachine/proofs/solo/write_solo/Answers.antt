@@ -9,7 +9,7 @@ use Rattle.mm_machine.specs.Machine.{StandsFor}
 use Rattle.mmachine.specs.Groups.{members_of}
 use Rattle.mmachine.specs.Commands.{report_after}
 use Rattle.mmachine.proofs.Reported.{start_cycles, reported, ends_written}
-use Rattle.mmachine.proofs.Went.{went_from_start}
+use Rattle.mm_machine.proofs.Went.{went_from_start}
 use Rattle.mmachine.proofs.OwnItems.{members_keep}
 use Rattle.mmachine.proofs.solo.write_solo.Goals as goal
 
@@ -26,8 +26,8 @@ returns g c =
     ∙ ap (λ (ms : List ℕ). filter (λ n. list_any (λ m. m == n) ms) (take c.args.cycles c.args.list.now))
     (c.as_slice.ensures.value ∙ c.members.ensures ∙ ap members_of c.in_ok-own.ensures.own)
     ∙ members_keep i inside (subst IsImage c.image.view_is c.image.invariant) (take c.args.cycles c.args.list.now) in
-    let stands : StandsFor own c.in_ok-items.items c.follow.new.machine =
-    subst (λ (xs : List ℕ). StandsFor own xs c.follow.new.machine) c.items-2.ensures.items (went_from_start own c.in_ok-machine.machine c.follow.new.machine _ c.in_ok-machine.ensures.stands c.follow.ensures) in
+    let stands : StandsFor own c.in_ok-items.items c.follow.new.self =
+    subst (λ (xs : List ℕ). StandsFor own xs c.follow.new.self) c.items-2.ensures.items (went_from_start own c.in_ok-machine.machine c.follow.new.self _ c.in_ok-machine.ensures.stands c.follow.ensures.goes) in
     ends_written _ _ _ _
     (c.in_ok-own.ensures.stand, ap (λ (j : Image). report_after g.M.Inspect.tells j c.in_ok-items.items) c.in_ok-own.ensures.own ∙ ap (report_after g.M.Inspect.tells (worlds.alone i inside)) items)
-    _ _ c.ended.ensures (reported g.M.Inspect.tells own c.in_ok-items.items c.follow.new.machine stands c.report.ensures)
+    _ _ c.ended.ensures (reported g.M.Inspect.tells own c.in_ok-items.items c.follow.new.self stands c.report.ensures)

@@ -5,7 +5,7 @@ use Rattle.mm_model.specs.Run.{run}
 use Rattle.mm_model.specs.Trace.{trace}
 use Rattle.mm_text.proofs.Gathering.{gathers_then, gathers_same}
 use Rattle.mm_machine.specs.Machine.{state_of, StandsFor}
-use Rattle.mmachine.proofs.Rounds.{after_cycles, one_item_more}
+use Rattle.mm_machine.proofs.Rounds.{after_cycles, one_item_more}
 use Rattle.mmachine.proofs.TracedRuns.{state_more, lines_more, no_state, no_lines}
 use Rattle.mmachine.proofs.traced.trace_list.Goals as goal
 

@@ -4,8 +4,8 @@ use Rattle.mm_model.specs.Run.{next_running, robin_from}
 use Rattle.mm_model.specs.Trace.{trace}
 use Rattle.mm_text.proofs.Gathering.{gathers_then, gathers_same}
 use Rattle.mm_machine.specs.Machine.{state_of, StandsFor}
-use Rattle.mmachine.proofs.Rounds.{after_cycles, one_more, robin_step, robin_over, robin_ends, robin_done}
-use Rattle.mm_debug.proofs.Running.{next_is, none_is, zero_of}
+use Rattle.mm_machine.proofs.Rounds.{after_cycles, one_more, robin_step, robin_over, robin_ends, robin_done}
+use Rattle.mm_machine.proofs.Running.{next_is, none_is, zero_of}
 use Rattle.mmachine.proofs.TracedRuns.{state_more, lines_more, no_state, no_lines}
 use Rattle.mmachine.proofs.traced.trace_robin.Goals as goal
 

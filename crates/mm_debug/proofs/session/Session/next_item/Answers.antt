@@ -3,7 +3,8 @@ use Rattle.std.proofs.lemmas.Bool.Decides.{nat_tests}
 use Rattle.std.proofs.lemmas.Option.{slice_get_past, slice_get_read}
 use Rattle.mm_debug.specs.Session.{total_of, item_in}
 use Rattle.mm_debug.specs.Shown.{session_of}
-use Rattle.mm_debug.proofs.Stepping.{limit_ends, item_of_order, peeked}
+use Rattle.mm_machine.proofs.Running.{peeked}
+use Rattle.mm_debug.proofs.Stepping.{limit_ends, item_of_order}
 use Rattle.mm_debug.proofs.session.Session.next_item.Goals as goal
 
 pub returns-then-total-ge-CYCLE_LIMIT : goal.returns-then-total-ge-CYCLE_LIMIT

@@ -1,41 +1,36 @@
-use Rattle.std.proofs.Common.{◌≡◌, ◌∙◌, ◌++◌, ◌∷◌, [], List, ap, sym, subst, arith}
-use Rattle.mm_model.specs.State.{State}
-use Rattle.mm_model.specs.Uses.{Use}
-use Rattle.mm_model.specs.Image.{start}
-use Rattle.mm_model.specs.Run.{turn_of, after, uses}
+use Rattle.std.proofs.Common.{refl}
 use Rattle.mm_machine.specs.Machine.{state_of}
-use Rattle.mm_machine.proofs.Keeping.{few_turns, fault_changed, goes_on, state_made, run_more, uses_more}
+use Rattle.mm_machine.proofs.Keeping.{fault_changed, exactly}
+use Rattle.mm_machine.proofs.Went.{went_stands}
+use Rattle.mm_machine.proofs.Issuing.{one_more_of}
 use Rattle.mm_machine.proofs.machine.Machine.cycle.Goals as goal
 
-pub turn-requires-clause-turns : goal.turn-requires-clause-turns
-turn-requires-clause-turns g c = few_turns (state_of c.args.self.now) c.requires c.args.self.now.kept
-
-pub invariant_of-self : goal.invariant_of-self
-invariant_of-self g c =
-    let old : State = state_of c.args.self.now in
-    record {
-      kept = goes_on old _ c.args.item (state_made old c.args.item c.turn.new.core (g.M.Memory.meaning c.turn.new.mem) c.turn.ensures.core c.turn.ensures.memory) c.args.self.now.kept;
-      few_ports = c.args.self.now.few_ports;
-      few_uses = omega (arith, c.turn.ensures.count, c.turn.ensures.few, c.args.self.now.few_uses);
-      most_uses = omega (arith, c.turn.ensures.count, c.turn.ensures.few, c.args.self.now.few_uses);
-    }
-
 pub returns-clause-state : goal.returns-clause-state
-returns-clause-state g c = state_made (state_of c.args.self.now) c.args.item c.turn.new.core (g.M.Memory.meaning c.turn.new.mem) c.turn.ensures.core c.turn.ensures.memory
+returns-clause-state g c = (one_more_of c.args.self.now c.issue.new.self c.args.item c.issue.ensures.goes).state
+
+pub returns-clause-step : goal.returns-clause-step
+returns-clause-step g c = c.issue.ensures.step c.args.item refl refl
+
+pub returns-clause-takes : goal.returns-clause-takes
+returns-clause-takes g c = (one_more_of c.args.self.now c.issue.new.self c.args.item c.issue.ensures.goes).takes
+
+pub returns-clause-idle : goal.returns-clause-idle
+returns-clause-idle g c = (exactly (state_of c.args.self.now) c.args.item _ c.args.self.now.kept (returns-clause-step g c)).idle
+
+pub returns-clause-delivered : goal.returns-clause-delivered
+returns-clause-delivered g c = (exactly (state_of c.args.self.now) c.args.item _ c.args.self.now.kept (returns-clause-step g c)).delivered
+
+pub returns-clause-blocked : goal.returns-clause-blocked
+returns-clause-blocked g c = (exactly (state_of c.args.self.now) c.args.item _ c.args.self.now.kept (returns-clause-step g c)).blocked
+
+pub returns-clause-faulted : goal.returns-clause-faulted
+returns-clause-faulted g c = (exactly (state_of c.args.self.now) c.args.item _ c.args.self.now.kept (returns-clause-step g c)).faulted
+
+pub returns-clause-did : goal.returns-clause-did
+returns-clause-did g c = (exactly (state_of c.args.self.now) c.args.item _ c.args.self.now.kept (returns-clause-step g c)).did
 
 pub returns-clause-unchanged : goal.returns-clause-unchanged
 returns-clause-unchanged g c = fault_changed (state_of c.args.self.now) _ c.args.item (returns-clause-state g c) c.args.self.now.kept
 
 pub returns-clause-runs : goal.returns-clause-runs
-returns-clause-runs g c i items h =
-    let old : State = state_of c.args.self.now in
-    let Stands : List Use → Type 0 = λ us. g.M.Memory.stands c.turn.new.mem us in
-    let made : uses (start i) items ++ (turn_of old c.args.item).uses ≡ uses (start i) (items ++ c.args.item ∷ []) =
-    ap (λ (s : State). uses (start i) items ++ (turn_of s c.args.item).uses) h.state ∙ sym (uses_more (start i) items c.args.item) in
-    record {
-      state =
-          state_made old c.args.item c.turn.new.core (g.M.Memory.meaning c.turn.new.mem) c.turn.ensures.core c.turn.ensures.memory
-          ∙ ap (λ (s : State). after s c.args.item) h.state
-          ∙ sym (run_more (start i) items c.args.item);
-      uses_made = subst Stands made (c.turn.ensures.takes.each (uses (start i) items) h.uses_made);
-    }
+returns-clause-runs g c i items h = went_stands i items _ c.args.self.now c.issue.new.self h (one_more_of c.args.self.now c.issue.new.self c.args.item c.issue.ensures.goes).went

@@ -1,5 +1,5 @@
 -- The running slots of a machine, as bits of a mask.
-use Rattle.std.proofs.Common.{◌≡◌, ◌≢◌, ◌↔◌, ℕ, zero, suc, ◌*◌, ◌<◌, ◌^◌, true, false, Option, None, Some, bit_and, refl, ap, ◌∙◌, arith}
+use Rattle.std.proofs.Common.{◌≡◌, ◌≢◌, ◌↔◌, ℕ, zero, suc, ◌*◌, ◌<◌, ◌^◌, true, false, Option, None, Some, IsSome, IfSome, bit_and, refl, sym, ap, ◌∙◌, arith}
 use Rattle.std.proofs.Props.{props}
 use Rattle.std.proofs.Math.Logic.{∥∥₁_elim}
 use Rattle.std.proofs.lemmas.Nat.{pow_pos}
@@ -69,3 +69,8 @@ none_is s mask last kept masks none =
 pub zero_of : (n : ℕ) → (n ≢ 0 → false ≡ true) → n ≡ 0
 zero_of zero none = refl
 zero_of (suc n) none = let clash : false ≡ true = none (λ is. omega arith) in absurd (cc)
+
+-- what comes next in the mask of the running slots is the next running slot
+pub peeked : (s : State) (mask : ℕ) (last next : Option ℕ) → ∥ Kept s ∥₁ → Masks s mask → (IsSome next ↔ (mask ≢ 0)) → IfSome next (IsNext mask last) → next ≡ next_running s.core.rows last
+peeked s mask last None kept masks some is = sym (none_is s mask last kept masks (zero_of mask some.1))
+peeked s mask last (Some n) kept masks some is = sym (next_is s mask last n kept masks is)
