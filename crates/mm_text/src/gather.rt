@@ -5,7 +5,7 @@ ghost use Rattle.mm_text.specs.Gathers.{Gathers, Finishes, nothing};
 ghost use Rattle.mm_text.specs.Pieces.{piece_text, pieces_text};
 ghost use Rattle.mm_model.specs.Digits.{hex};
 
-use crate::digits::{MOST_DIGITS, fill_digits};
+use crate::line::Line;
 use crate::piece::Piece;
 use arrayvec::ArrayVec;
 use itoa::Buffer;
@@ -107,9 +107,9 @@ impl Gather {
         requires { digits ≤ 16 }
         ensures { Gathers O.taken O.faults out.old out.new self.old self.new (hex digits number) }
     {
-        let mut buffer = [0u8; MOST_DIGITS];
-        let start = fill_digits(&mut buffer, number, digits);
-        self.put_bytes(out, &buffer[start..]);
+        let mut line = Line::new();
+        line.put_hex(number, digits);
+        self.put_bytes(out, line.as_bytes());
     }
 
     /// Appends the pieces, one after the other, each as [`Gather::put_piece`] does.
