@@ -1,33 +1,8 @@
 -- Bits of masks.
-use Rattle.std.proofs.Common.{◌≡◌, ◌==◌, not, ℕ, zero, suc, ◌+◌, ◌-◌, ◌*◌, ◌/◌, ◌%◌, ◌^◌, ◌<◌, ◌⊎◌, ◌↔◌, inl, inr, true, max, min, bit_and, bit_or, bit_xor, refl, sym, ap, ◌∙◌, arith, pow_pos}
+use Rattle.std.proofs.Common.{◌≡◌, ◌==◌, not, ℕ, zero, suc, ◌+◌, ◌-◌, ◌*◌, ◌/◌, ◌%◌, ◌^◌, ◌<◌, ◌⊎◌, ◌↔◌, inl, inr, true, min, bit_and, bit_xor, refl, sym, ap, ◌∙◌, arith, pow_pos}
 use Rattle.std.specs.Int.{bit_at, bit_not, w64}
 use Rattle.std.proofs.lemmas.Bool.Decides.{nat_tests}
-use Rattle.std.proofs.lemmas.Nat.Bits.{bit_at_or, bit_at_and, bit_at_xor, bit_at_not, bit_at-lt, bit_at-suc, and_pow, shr_and_one}
-
-pub or_left : (a b g : ℕ) → bit_at a g ≡ 1 → bit_at (bit_or a b) g ≡ 1
-or_left a b g h = raise _ _ _ (bit_at_or a b g) h (bit_at-lt b g)
-  where
-    raise : (x y z : ℕ) → z ≡ max x y → x ≡ 1 → y < 2 → z ≡ 1
-    raise x y z e h lt = grind arith
-
-pub or_right : (a b g : ℕ) → bit_at b g ≡ 1 → bit_at (bit_or a b) g ≡ 1
-or_right a b g h = raise _ _ _ (bit_at_or a b g) h (bit_at-lt a g)
-  where
-    raise : (x y z : ℕ) → z ≡ max x y → y ≡ 1 → x < 2 → z ≡ 1
-    raise x y z e h lt = grind arith
-
-pub or_cases : (a b g : ℕ) → bit_at (bit_or a b) g ≡ 1 → (bit_at a g ≡ 1) ⊎ (bit_at b g ≡ 1)
-or_cases a b g h = cases _ _ _ (bit_at_or a b g) h (bit_at-lt a g) (bit_at-lt b g)
-  where
-    cases : (x y z : ℕ) → z ≡ max x y → z ≡ 1 → x < 2 → y < 2 → (x ≡ 1) ⊎ (y ≡ 1)
-    cases zero y z e h a b = inr (grind arith)
-    cases (suc x) y z e h a b = inl (omega arith)
-
-pub and_both : (a b g : ℕ) → bit_at a g ≡ 1 → bit_at b g ≡ 1 → bit_at (bit_and a b) g ≡ 1
-and_both a b g h k = low _ _ _ (bit_at_and a b g) h k
-  where
-    low : (x y z : ℕ) → z ≡ min x y → x ≡ 1 → y ≡ 1 → z ≡ 1
-    low x y z e h k = grind arith
+use Rattle.std.proofs.lemmas.Nat.Bits.{bit_at_and, bit_at_xor, bit_at_not, bit_at-lt, bit_at-suc, and_pow, shr_and_one}
 
 -- two bits that differ leave a bit
 pub same_bit : (a b g : ℕ) → (bit_at (bit_xor a b) g ≡ 1 → ⊥) → bit_at a g ≡ bit_at b g
@@ -76,12 +51,6 @@ zero_or_one m g = at (bit_at m g) (bit_at-lt m g)
     at zero lt = inl (λ h. absurd (omega arith))
     at (suc zero) lt = inr refl
     at (suc (suc b)) lt = absurd (omega arith)
-
-pub and_then : (a b g : ℕ) → bit_at (bit_and a b) g ≡ 1 → (bit_at a g ≡ 1) × (bit_at b g ≡ 1)
-and_then a b g h = both _ _ _ (bit_at_and a b g) h (bit_at-lt a g) (bit_at-lt b g)
-  where
-    both : (x y z : ℕ) → z ≡ min x y → z ≡ 1 → x < 2 → y < 2 → (x ≡ 1) × (y ≡ 1)
-    both x y z e h p q = (omega arith, omega arith)
 
 pub set_bit : (m g : ℕ) → (bit_and (m / 2 ^ g) 1 ≡ 0 → ⊥) → bit_at m g ≡ 1
 set_bit m g some = at (bit_at m g) (bit_at-lt m g) (λ e. some (shr_and_one m g ∙ e))

@@ -9,7 +9,8 @@ use Rattle.mm_audit.specs.declared.span.Span.{Span}
 use Rattle.mm_audit.specs.Spans.{mask, span_at}
 use Rattle.mm_audit.specs.GroupSets.{AreGroupSets, SameUsers}
 use Rattle.mm_audit.specs.Walks.{outermost}
-use Rattle.mm_audit.proofs.Bits.{or_left, or_right, same_bit, half_bit, one_test}
+use Rattle.mm_flow.proofs.Bits.{or_left, or_right}
+use Rattle.mm_audit.proofs.Bits.{same_bit, half_bit, one_test}
 use Rattle.mm_audit.proofs.Outermost.{outermost_agree}
 
 module _ (s : ℕ × ℕ) (ys : List (ℕ × ℕ)) where

@@ -1,22 +1,16 @@
 -- The segments of keys in their order.
-use Rattle.std.proofs.Common.{◌≡◌, ℕ, ◌-◌, ◌*◌, ◌^◌, ◌<◌, ◌≤◌, ◌⊎◌, inl, inr, refl, ap, arith, pow_pos}
-use Rattle.std.specs.Ordering.{nat_cmp, ordering_then}
-use Rattle.std.specs.declared.cmp.Ordering.{Ordering}
-use Rattle.std.specs.declared.cmp.Ordering.TheVariants.{Less, Equal, Greater}
-use Rattle.std.proofs.lemmas.Cmp.{ranked}
+use Rattle.std.proofs.Common.{◌≡◌, ℕ, ◌-◌, ◌^◌, ◌<◌, ◌≤◌, inl, inr, refl, arith, pow_pos}
+use Rattle.std.specs.declared.cmp.Ordering.TheVariants.{Less}
 use Rattle.std.proofs.Math.Pow.{pow_mono}
 use Rattle.mm_seg.specs.Segments.{IsSegment, end_of}
-use Rattle.mm_seg.proofs.Inserts.{IsAligned, nested_aligned}
+use Rattle.mm_seg.proofs.Inserts.{nested_aligned}
 use Rattle.mm_graph.specs.declared.key.Key.{Key}
 use Rattle.mm_graph.specs.Key.{IsKey, key_cmp, pointer_at}
-use Rattle.mm_graph.proofs.Standing.{base-block, base_below}
-use Rattle.mm_graph.proofs.Nesting.{log_is}
+use Rattle.mm_graph.proofs.Standing.{base_below}
+use Rattle.mm_graph.proofs.Nesting.{log_is, aligned_key, base_rises, length_falls}
 
 abbrev pub key_segment : Key → ℕ × ℕ
 key_segment k = (k.base, 54 - k.narrow)
-
-aligned_key : (k : Key) → IsKey k → IsAligned (key_segment k)
-aligned_key k h = rw (log_is k h, h.base) (ap (λ v. v * 2 ^ (pointer_at k).log) (base-block (pointer_at k).log (pointer_at k).addr))
 
 pub key_is_segment : (k : Key) → IsKey k → 3 ≤ (pointer_at k).log → IsSegment (key_segment k)
 key_is_segment k h long =
@@ -28,41 +22,14 @@ key_is_segment k h long =
     let base = h.base in
     record { low = omega arith; high = omega arith; aligned = aligned_key k h; below = omega arith }
 
--- by base, or by length at one base
-less_cases : (x y : Key) → key_cmp x y ≡ Less → (x.base < y.base) ⊎ ((x.base ≡ y.base) × (x.narrow ≤ y.narrow))
-less_cases x y h = at (nat_cmp x.base y.base) refl h
-  where
-    narrows : (o : Ordering) → o ≡ nat_cmp x.narrow y.narrow → ordering_then o (nat_cmp x.bits y.bits) ≡ Less → x.narrow ≤ y.narrow
-    narrows Less e f = let lt = ranked x.narrow y.narrow Less e in omega arith
-    narrows Equal e f = let same = ranked x.narrow y.narrow Equal e in omega arith
-    narrows Greater e f = cc
-
-    at : (o : Ordering) → o ≡ nat_cmp x.base y.base → ordering_then o (ordering_then (nat_cmp x.narrow y.narrow) (nat_cmp x.bits y.bits)) ≡ Less → (x.base < y.base) ⊎ ((x.base ≡ y.base) × (x.narrow ≤ y.narrow))
-    at Less e f = inl (ranked x.base y.base Less e)
-    at Equal e f = inr (ranked x.base y.base Equal e, narrows (nat_cmp x.narrow y.narrow) refl f)
-    at Greater e f = cc
-
 module _ (x y : Key) (less : key_cmp x y ≡ Less) where
-  pub base_rises : x.base ≤ y.base
-  base_rises = elim (less_cases x y less) [ inl lt ↦ omega arith | inr same ↦ let e = same.0 in omega arith ]
-
-  shrinks : x.base ≡ y.base → end_of (key_segment y) ≤ end_of (key_segment x)
-  shrinks e = elim (less_cases x y less) [
-    | inl lt ↦ absurd (omega arith)
-    | inr same ↦
-        let narrow = same.1 in
-        let le : 54 - y.narrow ≤ 54 - x.narrow = omega arith in
-        let up : 2 ^ (54 - y.narrow) ≤ 2 ^ (54 - x.narrow) = pow_mono le in
-        omega arith
-  ]
-
   pub end_nests : IsKey x → IsKey y → y.base < end_of (key_segment x) → end_of (key_segment y) ≤ end_of (key_segment x)
   end_nests kx ky inside =
-      let up = base_rises in
+      let up = base_rises x y less in
       let room = pow_pos (54 - y.narrow) in
       elim (nested_aligned (key_segment x) (key_segment y) (aligned_key x kx) (aligned_key y ky) (omega arith) inside) [
         | inl w ↦ w.1
-        | inr w ↦ let le = w.0 in shrinks (omega arith)
+        | inr w ↦ let le = w.0 in let same : x.base ≡ y.base = omega arith in let falls = length_falls x y less same in omega arith
       ]
 
 -- a segment lies in the whole memory

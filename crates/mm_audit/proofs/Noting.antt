@@ -4,7 +4,8 @@ use Rattle.std.specs.Int.{bit_at}
 use Rattle.std.proofs.lemmas.Nat.Bits.{bit_at-zero}
 use Rattle.mm_audit.specs.declared.meets.Meets.{Meets}
 use Rattle.mm_audit.specs.Meeting.{FillsWords, IsWithout, NotesWord}
-use Rattle.mm_audit.proofs.Bits.{or_left, or_right, or_cases, zero_or_one}
+use Rattle.mm_flow.proofs.Bits.{or_left, or_right, or_cases}
+use Rattle.mm_audit.proofs.Bits.{zero_or_one}
 
 module _ (groups word fresh : ℕ) (old : Meets) (is : IsWithout groups old.groups fresh) where
   pub noted : (words : List ℕ) → FillsWords fresh word 64 old.words words → NotesWord groups word old (record { groups = bit_or old.groups fresh; words = words })

@@ -10,7 +10,7 @@ use Rattle.mm_audit.specs.declared.span.Span.{Span}
 use Rattle.mm_audit.specs.declared.opening.Open.{Open}
 use Rattle.mm_audit.specs.Spans.{AreInOrder, Uses, mask, span_at, base_at, end_at}
 use Rattle.mm_audit.specs.Opening.{IsLive, Closed, IsLast, IsInnermost, AreOpen, IsOpenAt, no_open, open_at, open_end, users}
-use Rattle.mm_audit.proofs.Bits.{or_left, or_right, or_cases}
+use Rattle.mm_flow.proofs.Bits.{or_left, or_right, or_cases}
 
 -- 1. Before any span, and at later addresses.
 

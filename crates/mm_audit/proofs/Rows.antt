@@ -5,7 +5,7 @@ use Rattle.mm_seg.proofs.Searches.{compare, same_or_below}
 use Rattle.mm_audit.specs.declared.meets.Meets.{Meets}
 use Rattle.mm_audit.specs.Meeting.{row_at}
 use Rattle.mm_audit.specs.Writers.{IsWord, NoneWith, LeastWith, IsOutside}
-use Rattle.mm_audit.proofs.Bits.{and_both, and_then}
+use Rattle.mm_flow.proofs.Bits.{and_both, both_bits}
 
 module _ (row : Meets) (inside h : ℕ) where
   abbrev pub Best : ℕ → Option ℕ → Type 0
@@ -18,7 +18,7 @@ module _ (row : Meets) (inside h : ℕ) where
   wider g x = record { small = (let lt = x.small in omega arith); is_in = x.is_in; has = x.has }
 
   here : bit_at (bit_and row.groups inside) h ≡ 1 → IsWord row inside (h + 1) h
-  here bit = let b = and_then row.groups inside h bit in record { small = omega arith; is_in = b.1; has = b.0 }
+  here bit = let b = both_bits row.groups inside h bit in record { small = omega arith; is_in = b.1; has = b.0 }
 
   not_here : (bit_at (bit_and row.groups inside) h ≡ 1 → ⊥) → (g : ℕ) → IsWord row inside (h + 1) g → IsWord row inside h g
   not_here out g x = narrower g x (λ e. out (and_both row.groups inside h (subst (λ v. bit_at row.groups v ≡ 1) e x.has) (subst (λ v. bit_at inside v ≡ 1) e x.is_in)))

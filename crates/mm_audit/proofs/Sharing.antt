@@ -1,9 +1,9 @@
 -- Masks that share a group.
-use Rattle.std.proofs.Common.{◌≡◌, ◌==◌, ◌↔◌, ℕ, zero, suc, Bool, true, false, not, eqb-true, ◌*◌, ◌%◌, ◌^◌, ◌<◌, min, bit_and, refl, ap, ◌∙◌, arith}
+use Rattle.std.proofs.Common.{◌≡◌, ◌==◌, ◌↔◌, ℕ, zero, suc, Bool, true, false, not, eqb-true, ◌^◌, ◌<◌, bit_and, refl, ap, ◌∙◌, arith}
 use Rattle.std.specs.Int.{bit_at, w64}
-use Rattle.std.proofs.lemmas.Nat.{pow_below, and_le_r}
-use Rattle.std.proofs.lemmas.Nat.Bits.{bit_at-zero, bit_at_and, bit_at-lt, bit_at-trailing_zeros}
-use Rattle.mm_audit.proofs.Bits.{and_both}
+use Rattle.std.proofs.lemmas.Nat.{and_le_r}
+use Rattle.std.proofs.lemmas.Nat.Bits.{bit_at-zero, bit_at-trailing_zeros}
+use Rattle.mm_flow.proofs.Bits.{and_both, both_bits}
 
 -- a group is of both masks
 pub record Shares (a b : ℕ) : Type 0 where
@@ -11,14 +11,11 @@ pub record Shares (a b : ℕ) : Type 0 where
   pub one : bit_at a group ≡ 1
   pub other : bit_at b group ≡ 1
 
-both_bits : (x y z : ℕ) → z ≡ min x y → z ≡ 1 → x < 2 → y < 2 → (x ≡ 1) × (y ≡ 1)
-both_bits x y z e h a b = (omega arith, omega arith)
-
 shares_then : (a b : ℕ) → b < 2 ^ 64 → 0 < bit_and a b → Shares a b
 shares_then a b lt some =
     let small : bit_and a b < 2 ^ 64 = omega (arith, and_le_r a b) in
     let t = bit_at-trailing_zeros w64 (bit_and a b) some small in
-    let at = both_bits _ _ _ (bit_at_and a b _) t.1 (bit_at-lt a _) (bit_at-lt b _) in
+    let at = both_bits a b _ t.1 in
     record { group = _; one = at.0; other = at.1 }
 
 then_shares : (a b : ℕ) → bit_and a b ≡ 0 → Shares a b → ⊥
@@ -37,6 +34,3 @@ shares_test a b lt = by (bit_and a b == 0) refl
         some : (n : ℕ) → (n == 0) ≡ false → 0 < n
         some zero f = cc
         some (suc n) f = omega arith
-
-pub one_bit : (b : ℕ) → b < 64 → 1 * 2 ^ b % 2 ^ 64 ≡ 2 ^ b
-one_bit b lt = let below : 2 ^ b < 2 ^ 64 = pow_below b 64 lt in omega arith

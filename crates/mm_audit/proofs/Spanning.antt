@@ -10,7 +10,8 @@ use Rattle.mm_graph.specs.Key.{IsKey, IsRising, key_at, no_key, pointer_at}
 use Rattle.mm_audit.specs.declared.span.Span.{Span}
 use Rattle.mm_audit.specs.Spans.{AreInOrder, segment_of, span_at, no_span, base_at, end_at}
 use Rattle.mm_audit.specs.Marks.{span_of, whole_span, IsUsed, Added, OfNode, Stands, SpansOf}
-use Rattle.mm_audit.proofs.KeyOrder.{key_segment, key_is_segment, base_rises, end_nests, in_memory}
+use Rattle.mm_graph.proofs.Nesting.{base_rises}
+use Rattle.mm_audit.proofs.KeyOrder.{key_segment, key_is_segment, end_nests, in_memory}
 
 abbrev pub Rises : Span → Span → Type 0
 Rises s t = s.base ≤ t.base

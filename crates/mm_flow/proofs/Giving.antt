@@ -1,31 +1,13 @@
 -- The steps of giving.
 use Rattle.std.proofs.lemmas.Nat.{le_or_l}
-use Rattle.std.proofs.lemmas.Nat.Bits.{bit_at_or, bit_at_and, bit_at-lt, bit_at-zero, shr_and_one}
-use Rattle.std.proofs.Common.{◌≡◌, ℕ, zero, suc, ◌+◌, ◌/◌, ◌^◌, ◌<◌, ◌≤◌, ◌⊎◌, ◌↔◌, inl, inr, Bool, true, false, List, [], ◌∷◌, ◌++◌, length, slice_index, slice_index_or, slice_set, max, min, bit_and, bit_or, refl, sym, ap, ◌∙◌, subst, arith, length-append}
+use Rattle.std.proofs.Common.{◌≡◌, ℕ, zero, suc, ◌+◌, ◌^◌, ◌<◌, ◌≤◌, ◌⊎◌, ◌↔◌, inl, inr, Bool, true, false, List, [], ◌∷◌, ◌++◌, length, slice_index, slice_index_or, slice_set, bit_or, refl, sym, ap, ◌∙◌, subst, arith, length-append}
 use Rattle.std.specs.Int.{bit_at}
 use Rattle.mm_flow.specs.Flow.{Has, Within, room}
-use Rattle.mm_flow.proofs.Masks.{set_cases, or_cases, below_cases, length_set, room_set, Within-refl, Within-trans, Within-or_left}
+use Rattle.mm_flow.proofs.Bits.{or_left, or_right, or_cases, zero_bit}
+use Rattle.mm_flow.proofs.Masks.{set_cases, below_cases, length_set, room_set, Within-refl, Within-trans, Within-or_left}
 use Rattle.mm_flow.proofs.Masks.Set.{here as set_here, there as set_there}
 use Rattle.mm_flow.specs.Gifts.{Up, Lifted, IsLifted, IsGift, GivenBy, Spreading, kept_mark}
 use Rattle.mm_flow.specs.Gifts.Up.{here, over}
-
-pub or_left : (a b g : ℕ) → bit_at a g ≡ 1 → bit_at (bit_or a b) g ≡ 1
-or_left a b g h = raise _ _ _ (bit_at_or a b g) h (bit_at-lt b g)
-  where
-    raise : (x y z : ℕ) → z ≡ max x y → x ≡ 1 → y < 2 → z ≡ 1
-    raise x y z e h lt = grind arith
-
-pub or_right : (a b g : ℕ) → bit_at b g ≡ 1 → bit_at (bit_or a b) g ≡ 1
-or_right a b g h = raise _ _ _ (bit_at_or a b g) h (bit_at-lt a g)
-  where
-    raise : (x y z : ℕ) → z ≡ max x y → y ≡ 1 → x < 2 → z ≡ 1
-    raise x y z e h lt = grind arith
-
-pub and_both : (a b g : ℕ) → bit_at a g ≡ 1 → bit_at b g ≡ 1 → bit_at (bit_and a b) g ≡ 1
-and_both a b g h k = low _ _ _ (bit_at_and a b g) h k
-  where
-    low : (x y z : ℕ) → z ≡ min x y → x ≡ 1 → y ≡ 1 → z ≡ 1
-    low x y z e h k = grind arith
 
 -- the groups of one more
 module _ (old a : List ℕ) (from to h : ℕ) (k : IsGift h old from to a) where
@@ -101,9 +83,6 @@ push_cases [] v zero lt = last refl refl
 push_cases [] v (suc k) lt = absurd (omega arith)
 push_cases (x ∷ xs) v zero lt = before (omega arith) refl
 push_cases (x ∷ xs) v (suc k) lt = elim (push_cases xs v k (omega arith)) [ last e f ↦ last (omega arith) f | before small f ↦ before (omega arith) f ]
-
-pub zero_bit : (g : ℕ) → bit_at 0 g ≡ 1 → ⊥
-zero_bit g h = let e = bit_at-zero g in omega arith
 
 pub kept_then : (b : Bool) (m g : ℕ) → bit_at (kept_mark b m) g ≡ 1 → (bit_at m g ≡ 1) × (b ≡ true)
 kept_then true m g h = (h, refl)
@@ -200,13 +179,6 @@ module _ (gives old a : List ℕ) (ch : Bool) (k r : ℕ) (s : Spreading k gives
 
       fell : room (2 ^ 64) (slice_set a k (bit_or (slice_index a k) r)) + 1 ≤ room (2 ^ 64) a
       fell = let up = le_or_l (slice_index a k) r in room_set (2 ^ 64) a k (bit_or (slice_index a k) r) small (omega arith) below
-
--- the test of one bit
-pub bit_set : (m h : ℕ) → bit_and (m / 2 ^ h) 1 ≡ 1 → bit_at m h ≡ 1
-bit_set m h e = sym (shr_and_one m h) ∙ e
-
-pub bit_clear : (m h : ℕ) → (bit_and (m / 2 ^ h) 1 ≡ 1 → ⊥) → bit_at m h ≡ 1 → ⊥
-bit_clear m h e x = e (shr_and_one m h ∙ x)
 
 -- within the list the default does not count
 pub same_default : (xs : List ℕ) (i d : ℕ) → i < length xs → slice_index_or xs i d ≡ slice_index xs i

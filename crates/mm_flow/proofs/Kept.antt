@@ -2,8 +2,9 @@
 use Rattle.std.proofs.Common.{◌≡◌, ℕ, ◌+◌, ◌<◌, ◌↔◌, inl, inr, Bool, true, List, length, slice_index, bit_or, sym, ap, ◌∙◌, arith}
 use Rattle.std.specs.Int.{bit_at}
 use Rattle.mm_flow.specs.Flow.{Has}
-use Rattle.mm_flow.proofs.Masks.{or_cases, below_cases}
-use Rattle.mm_flow.proofs.Giving.{or_left, or_right, zero_bit, kept_then, then_kept}
+use Rattle.mm_flow.proofs.Bits.{or_left, or_right, or_cases, zero_bit}
+use Rattle.mm_flow.proofs.Masks.{below_cases}
+use Rattle.mm_flow.proofs.Giving.{kept_then, then_kept}
 use Rattle.mm_flow.specs.Gifts.{kept_mark}
 use Rattle.mm_flow.specs.Reached.{HasSome}
 

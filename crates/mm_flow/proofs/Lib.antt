@@ -1,3 +1,4 @@
+pub mod Bits
 pub mod Masks
 pub mod Takes
 pub mod Walks

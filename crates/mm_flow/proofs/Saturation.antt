@@ -1,14 +1,14 @@
 -- What is given is reached, and marks that nothing changes hold all that is reached.
-use Rattle.std.proofs.lemmas.Nat.Bits.{bit_at-lt}
 use Rattle.std.proofs.Common.{◌≡◌, ℕ, ◌<◌, ◌≤◌, ◌↔◌, inl, inr, Bool, false, List, length, slice_index, refl, sym, ◌∙◌, subst, arith}
 use Rattle.std.specs.Int.{bit_at}
 use Rattle.mm_flow.specs.declared.node.Right.TheVariants.{Load, Store, Make}
 use Rattle.mm_flow.specs.Net.{Edges, Ties, enters_at, right_at}
-use Rattle.mm_flow.specs.Flow.{Has, Within, Flows, IsFlow}
+use Rattle.mm_flow.specs.Flow.{Has, Flows, IsFlow}
 use Rattle.mm_flow.specs.Flow.Flows.{from as flow_from, along as flow_along, through as flow_through}
 use Rattle.mm_flow.proofs.Masks.{Within-refl, Within-trans}
 use Rattle.mm_flow.specs.Gifts.{Up, IsLifted, IsGift, IsSpread}
-use Rattle.mm_flow.proofs.Giving.{and_both}
+use Rattle.mm_flow.proofs.Bits.{and_both}
+use Rattle.mm_flow.proofs.Walks.{at_one}
 use Rattle.mm_flow.specs.Reached.{HasSome, Gives, IsGifts, Gifting, Reached, IsReach, Saturating}
 use Rattle.mm_flow.specs.Gifts.Up.{here, over}
 use Rattle.mm_flow.specs.Reached.Gives.{linked as gift_linked, shared as gift_shared, lent as gift_lent}
@@ -76,20 +76,17 @@ module _ (e : Edges) (n : Ties) (start : List ℕ) where
     }
 
     module _ (still : changed ≡ false) where
-      at_one : (m x y : ℕ) → Within x y → bit_at x m ≡ 1 → bit_at y m ≡ 1
-      at_one m x y h one = let le = h m in let lt = bit_at-lt y m in omega arith
-
       gets : (h g k : ℕ) → h < 64 → k < length b → Has b k h → Gives n b h g → Has b k g
       gets h g k small lt has x =
           let same = d.same still in
           subst (λ v. Has v k g) same (d.still still k g (let q = d.len in omega arith) (record { by = h; small = small; has = subst (λ v. Has v k h) (sym same) has; gift = w.each h g small x }))
 
       complete : (g k : ℕ) → k < length b → Reached e n start g k → Has b k g
-      complete g k lt (from x) = at_one g _ _ (f.grows k) (at_one g _ _ (s.grows k) x)
+      complete g k lt (from x) = at_one _ _ g (f.grows k) (at_one _ _ g (s.grows k) x)
       complete g k lt (along v j r small lo hi is) =
-          subst (λ z. Has b z g) is (at_one g _ _ ((f.settled v (let q = b_len in omega arith)).cells j lo hi) (complete g v (let q = b_len in omega arith) r))
+          subst (λ z. Has b z g) is (at_one _ _ g ((f.settled v (let q = b_len in omega arith)).cells j lo hi) (complete g v (let q = b_len in omega arith) r))
       complete g k lt (through v r small kept is) =
-          subst (λ z. Has b z g) is (at_one g _ _ ((f.settled v (let q = b_len in omega arith)).entry) (and_both (slice_index b v) (enters_at e v) g (complete g v (let q = b_len in omega arith) r) kept))
+          subst (λ z. Has b z g) is (at_one _ _ g ((f.settled v (let q = b_len in omega arith)).entry) (and_both (slice_index b v) (enters_at e v) g (complete g v (let q = b_len in omega arith) r) kept))
       complete g k lt (linked h small r x) = gets h g k small lt (complete h k lt r) (gift_linked x)
       complete g k lt (shared h m x y small r lm rx sx ux ry ly uy) =
           let q = b_len in

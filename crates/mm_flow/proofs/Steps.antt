@@ -6,7 +6,8 @@ use Rattle.mm_flow.specs.Net.{Edges, low_at, high_at, entry_at, enters_at}
 use Rattle.mm_flow.specs.Flow.{Within, Has, IsIn, IsListed, Carried, IsAmong, IsPassed, IsTaken, Fits, Flows, Settled, IsFlow, Flowing}
 use Rattle.mm_flow.specs.Flow.Flows.{from, along, through}
 use Rattle.mm_flow.proofs.Masks.{Within-refl, Within-trans}
-use Rattle.mm_flow.proofs.Walks.{and_within, zero_within, both_bits}
+use Rattle.mm_flow.proofs.Bits.{both_bits}
+use Rattle.mm_flow.proofs.Walks.{and_within, zero_within}
 
 pub flowing_start : (e : Edges) (old carried p : List ℕ) → Fits e (length old) → ((k : ℕ) → IsIn k p → k < length old) → ((k : ℕ) → k < length old → IsIn k p ⊎ (slice_index old k ≡ 0)) → Flowing e old old carried p
 flowing_start e old carried p fits nodes all = record {

@@ -5,8 +5,8 @@ use Rattle.std.proofs.Common.{◌≡◌, ℕ, zero, suc, ◌+◌, ◌<◌, ◌�
 use Rattle.std.specs.Int.{bit_at}
 use Rattle.mm_flow.specs.Net.{Edges, low_at, high_at, entry_at, enters_at}
 use Rattle.mm_flow.specs.Flow.{Within, Has, Carried, IsAmong, IsListed, StaysListed, IsPassed, IsInner, Walked, Walking}
-use Rattle.mm_flow.proofs.Masks.{Within-refl, Within-trans, Within-or_left, Within-or_right, or_cases, set_cases, length_set, Set}
-use Rattle.mm_flow.proofs.Giving.{and_both}
+use Rattle.mm_flow.proofs.Masks.{Within-refl, Within-trans, Within-or_left, Within-or_right, set_cases, length_set, Set}
+use Rattle.mm_flow.proofs.Bits.{or_cases, and_both, both_bits}
 use Rattle.mm_flow.proofs.Masks.Set.{here, there}
 
 pub at_one : (x y g : ℕ) → Within x y → bit_at x g ≡ 1 → bit_at y g ≡ 1
@@ -40,12 +40,6 @@ and_within x y z h g = least _ _ _ _ _ (bit_at_and x z g) (bit_at_and y z g) (h 
   where
     least : (a b c d e : ℕ) → d ≡ min a c → e ≡ min b c → a ≤ b → d ≤ e
     least a b c d e p q le = omega arith
-
-pub both_bits : (m f g : ℕ) → bit_at (bit_and m f) g ≡ 1 → (bit_at m g ≡ 1) × (bit_at f g ≡ 1)
-both_bits m f g h = at_least _ _ _ (bit_at_and m f g) h (bit_at-lt m g) (bit_at-lt f g)
-  where
-    at_least : (x y z : ℕ) → z ≡ min x y → z ≡ 1 → x < 2 → y < 2 → (x ≡ 1) × (y ≡ 1)
-    at_least x y z e h a b = (omega arith, omega arith)
 
 -- where there are no targets
 pub carried_none : (targets old p : List ℕ) (mask lo hi : ℕ) → hi ≤ lo → Carried (IsAmong targets lo hi) old p mask old p

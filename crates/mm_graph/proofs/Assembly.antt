@@ -23,7 +23,7 @@ use Rattle.mm_flow.specs.Flow.{Has}
 use Rattle.mm_flow.specs.Gifts.{Up}
 use Rattle.mm_flow.specs.Forest.{In}
 use Rattle.mm_flow.proofs.Geometry.{share, shared_base}
-use Rattle.mm_flow.proofs.Giving.{zero_bit}
+use Rattle.mm_flow.proofs.Bits.{zero_bit}
 use Rattle.mm_summary.specs.Summary.{IsIdle}
 use Rattle.mm_summary.specs.NetOf.{IsNetOf, Started, TargetOf, CellOf, EntryOf, CommonWord, Meet, LoadedWord, Entered}
 use Rattle.mm_graph.specs.declared.key.Key.{Key}

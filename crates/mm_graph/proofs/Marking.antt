@@ -4,7 +4,7 @@ use Rattle.std.specs.List.{Contains}
 use Rattle.std.proofs.lemmas.List.{take_more, length-replicate}
 use Rattle.std.proofs.lemmas.List.Elements.{Contains-append_left, Contains-push, Contains-push_cases}
 use Rattle.mm_flow.specs.Flow.{Has}
-use Rattle.mm_flow.proofs.Giving.{zero_bit}
+use Rattle.mm_flow.proofs.Bits.{zero_bit}
 use Rattle.std.specs.Int.{bit_at}
 use Rattle.mm_graph.specs.declared.key.Key.{Key}
 use Rattle.mm_graph.specs.declared.seed.Seed.{Seed}

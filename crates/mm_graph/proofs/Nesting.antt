@@ -1,12 +1,11 @@
 -- The keys of a net in their order: segments that nest.
-use Rattle.std.proofs.Common.{◌≡◌, ℕ, zero, suc, ◌+◌, ◌-◌, ◌*◌, ◌^◌, ◌<◌, ◌≤◌, ◌⊎◌, inl, inr, List, [], ◌∷◌, length, map, slice_index, refl, sym, ap, ◌∙◌, arith}
+use Rattle.std.proofs.Common.{◌≡◌, ℕ, zero, suc, ◌+◌, ◌-◌, ◌*◌, ◌/◌, ◌^◌, ◌<◌, ◌≤◌, ◌⊎◌, inl, inr, List, [], ◌∷◌, length, map, slice_index, refl, sym, ap, ◌∙◌, arith}
 use Rattle.std.specs.List.{All}
 use Rattle.std.specs.Ordering.{nat_cmp, ordering_then}
 use Rattle.std.specs.declared.cmp.Ordering.{Ordering}
 use Rattle.std.specs.declared.cmp.Ordering.TheVariants.{Less, Equal, Greater}
 use Rattle.std.proofs.lemmas.Cmp.{ranked}
 use Rattle.std.proofs.Math.Pow.{pow_mono}
-use Rattle.mm_word.specs.Pointer.{base_of}
 use Rattle.mm_flow.specs.Forest.{IsOrdered, IsNested, IsForest}
 use Rattle.mm_flow.proofs.Geometry.{ordered_nested}
 use Rattle.mm_graph.specs.declared.key.Key.{Key}
@@ -28,6 +27,16 @@ less_cases x y h = at (nat_cmp x.base y.base) refl h
     at Equal e f = inr (ranked x.base y.base Equal e, narrows (nat_cmp x.narrow y.narrow) refl f)
     at Greater e f = cc
 
+module _ (x y : Key) (less : key_cmp x y ≡ Less) where
+  pub base_rises : x.base ≤ y.base
+  base_rises = elim (less_cases x y less) [ inl lt ↦ omega arith | inr same ↦ let e = same.0 in omega arith ]
+
+  pub length_falls : x.base ≡ y.base → 2 ^ (54 - y.narrow) ≤ 2 ^ (54 - x.narrow)
+  length_falls e = elim (less_cases x y less) [
+    | inl lt ↦ absurd (omega arith)
+    | inr same ↦ let narrow = same.1 in let le : 54 - y.narrow ≤ 54 - x.narrow = omega arith in pow_mono le
+  ]
+
 abbrev pub logs_of : List Key → List ℕ
 logs_of keys = map (λ (k : Key). 54 - k.narrow) keys
 
@@ -39,15 +48,16 @@ log_at (x ∷ xs) (suc k) lt = log_at xs k (omega arith)
 pub log_is : (k : Key) → IsKey k → 54 - k.narrow ≡ (pointer_at k).log
 log_is k h = let e = h.narrow in omega arith
 
+-- the base is a multiple of the length
+pub aligned_key : (k : Key) → IsKey k → k.base / 2 ^ (54 - k.narrow) * 2 ^ (54 - k.narrow) ≡ k.base
+aligned_key k h = rw (log_is k h, h.base) (ap (λ v. v * 2 ^ (pointer_at k).log) (base-block (pointer_at k).log (pointer_at k).addr))
+
 pub ordered_keys : (keys : List Key) (bases ends : List ℕ) → IsRising keys → All IsKey keys → IsBases keys bases → IsEnds keys ends → IsOrdered bases (logs_of keys) ends
 ordered_keys keys bases ends rising all b e = record {
   len = e.len ∙ sym b.len;
   aligned = λ k lt.
       let small : k < length keys = (let l = b.len in omega arith) in
-      let key = all k no_key small in
-      let log : slice_index (logs_of keys) k ≡ (pointer_at (key_at keys k)).log = log_at keys k small ∙ log_is (key_at keys k) key in
-      let base : slice_index bases k ≡ base_of (pointer_at (key_at keys k)) = b.at k small ∙ key.base in
-      rw (log, base) (ap (λ v. v * 2 ^ (pointer_at (key_at keys k)).log) (base-block (pointer_at (key_at keys k)).log (pointer_at (key_at keys k)).addr));
+      rw (log_at keys k small, b.at k small) (aligned_key (key_at keys k) (all k no_key small));
   last = λ k lt.
       let small : k < length keys = (let l = b.len in omega arith) in
       e.at k small ∙ ap (λ v. v + 2 ^ (54 - (key_at keys k).narrow)) (sym (b.at k small)) ∙ ap (λ v. slice_index bases k + 2 ^ v) (sym (log_at keys k small));
@@ -55,21 +65,16 @@ ordered_keys keys bases ends rising all b e = record {
       let sj : j < length keys = (let l = b.len in omega arith) in
       let bi = b.at i (omega arith) in
       let bj = b.at j sj in
-      elim (less_cases (key_at keys i) (key_at keys j) (rising.rise i j lt sj)) [ inl x ↦ omega arith | inr x ↦ let same = x.0 in omega arith ];
+      let up = base_rises (key_at keys i) (key_at keys j) (rising.rise i j lt sj) in
+      omega arith;
   greater = λ i j lt small same.
       let sj : j < length keys = (let l = b.len in omega arith) in
       let bi = b.at i (omega arith) in
       let bj = b.at j sj in
       let ei = e.at i (omega arith) in
       let ej = e.at j sj in
-      elim (less_cases (key_at keys i) (key_at keys j) (rising.rise i j lt sj)) [
-        | inl x ↦ absurd (omega arith)
-        | inr x ↦
-            let narrow = x.1 in
-            let le : 54 - (key_at keys j).narrow ≤ 54 - (key_at keys i).narrow = omega arith in
-            let up : 2 ^ (54 - (key_at keys j).narrow) ≤ 2 ^ (54 - (key_at keys i).narrow) = pow_mono le in
-            omega arith
-      ];
+      let up = length_falls (key_at keys i) (key_at keys j) (rising.rise i j lt sj) (omega arith) in
+      omega arith;
 }
 
 pub nested_keys : (keys : List Key) (bases ends : List ℕ) → IsRising keys → All IsKey keys → IsBases keys bases → IsEnds keys ends → IsNested bases ends

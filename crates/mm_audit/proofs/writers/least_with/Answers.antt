@@ -1,5 +1,5 @@
 use Rattle.std.proofs.Common.{◌+◌, sym, subst}
-use Rattle.mm_flow.proofs.Giving.{bit_set, bit_clear}
+use Rattle.mm_flow.proofs.Bits.{bit_set, bit_clear}
 use Rattle.mm_audit.proofs.Rows.{Best, best_skip, best_more}
 use Rattle.mm_audit.proofs.writers.least_with.Goals as goal
 use Rattle.mm_audit.proofs.writers.least_with.Goals.{then-shared-g-eq1, else-shared-g-eq1}

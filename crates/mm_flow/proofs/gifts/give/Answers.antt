@@ -1,5 +1,6 @@
 use Rattle.std.proofs.Common.{◌<◌, length, arith}
-use Rattle.mm_flow.proofs.Giving.{gift_more, gift_skip, bit_set, bit_clear}
+use Rattle.mm_flow.proofs.Bits.{bit_set, bit_clear}
+use Rattle.mm_flow.proofs.Giving.{gift_more, gift_skip}
 use Rattle.mm_flow.proofs.gifts.give.Goals as goal
 use Rattle.mm_flow.proofs.gifts.give.Goals.{then-from-h-eq1, else-from-h-eq1}
 

@@ -1,4 +1,5 @@
-use Rattle.mm_flow.proofs.Giving.{given_more, given_skip, bit_set, bit_clear}
+use Rattle.mm_flow.proofs.Bits.{bit_set, bit_clear}
+use Rattle.mm_flow.proofs.Giving.{given_more, given_skip}
 use Rattle.mm_flow.proofs.gifts.given.Goals as goal
 use Rattle.mm_flow.proofs.gifts.given.Goals.{then-mask-h-eq1, else-mask-h-eq1}
 

@@ -5,7 +5,7 @@ use Rattle.mm_audit.specs.declared.span.Access.TheVariants.{Touch}
 use Rattle.mm_audit.specs.Surveys.{Surveys}
 use Rattle.mm_audit.specs.Walks.{outermost}
 use Rattle.mm_audit.proofs.Exactly.{are_maximal}
-use Rattle.mm_audit.proofs.Sharing.{one_bit}
+use Rattle.mm_graph.proofs.OneBits.{one_bit}
 use Rattle.mm_audit.proofs.surveys.Survey.touched.Goals as goal
 
 pub returns : goal.returns
