@@ -1,2 +1,1 @@
 pub mod Presence
-mod LineDigits

@@ -10,6 +10,7 @@ ghost use Rattle.mm_audit.specs.Surveys.{Surveys};
 ghost use Rattle.mm_audit_text.specs.Parts.{IsPart, if_present};
 
 use crate::lines::{put_apart, put_kind, put_segments};
+use crate::right::Right;
 use mm_audit::Survey;
 use mm_image::Image;
 use mm_io::Sink;
@@ -33,8 +34,8 @@ fn put_group<O: Sink>(text: &mut Gather, out: &mut O, survey: &Survey, group: u8
         × ((i : ImageValue) → Surveys i All survey.now → AuditOf i group own) }
 {
     put_kind(text, out, group, survey.privileged(group));
-    put_segments(text, out, "touch", &mut survey.touched(group));
-    put_segments(text, out, "write", &mut survey.written(group));
+    put_segments(text, out, Right::Touch, &mut survey.touched(group));
+    put_segments(text, out, Right::Write, &mut survey.written(group));
 }
 
 /// Appends what is written of a group where it has a slot, and maybe whether it stands apart.

@@ -1,5 +1,5 @@
 // The lines of an audit.
-ghost use Rattle.std.specs.Prelude.{◌≡◌, ◌≤◌, List, length, ℕ};
+ghost use Rattle.std.specs.Prelude.{List, ℕ};
 ghost use Rattle.std.specs.List.{flat_map};
 ghost use Rattle.mm_model.specs.Audit.{ApartLine, apart_line, groups_text, kind_line, segment_line, verdict_text};
 ghost use Rattle.mm_model.specs.Image.{Image as ImageValue};
@@ -7,11 +7,12 @@ ghost use Rattle.mm_model.specs.Reach.Entries.{All};
 ghost use Rattle.mm_text.specs.Gathers.{Gathers};
 ghost use Rattle.mm_audit.specs.Surveys.{Surveys};
 ghost use Rattle.mm_audit.specs.Crossing.{verdict_of};
+ghost use Rattle.mm_audit_text.specs.Rights.{right_text};
 
-use crate::segment::{LINE, put_line};
+use crate::right::{Right, right_name};
 use mm_audit::{Apart, Segments, Survey};
 use mm_io::Sink;
-use mm_text::{Gather, Piece};
+use mm_text::{Gather, Line, Piece};
 
 /// Appends whether a group is privileged.
 pub fn put_kind<O: Sink>(text: &mut Gather, out: &mut O, group: u8, privileged: bool)
@@ -33,27 +34,31 @@ pub fn put_kind<O: Sink>(text: &mut Gather, out: &mut O, group: u8, privileged: 
 }
 
 /// Appends the line of a segment.
-fn put_segment<O: Sink>(text: &mut Gather, out: &mut O, name: &str, base: u64, log: u8)
-    requires { length name.now ≤ 8 }
-    ensures { Gathers O.taken O.faults out.old out.new text.old text.new (segment_line name.now (base, log)) }
+#[tactic(auto, using(mm_text::proofs::LineLengths::line_lengths))]
+fn put_segment<O: Sink>(text: &mut Gather, out: &mut O, right: Right, base: u64, log: u8)
+    ensures { Gathers O.taken O.faults out.old out.new text.old text.new (segment_line (right_text right) (base, log)) }
 {
-    let mut line = [0u8; LINE];
-    let start = put_line(&mut line, name, base, log);
-    text.put_bytes(out, &line[start..]);
+    let mut line = Line::new();
+    line.put_byte(b'\n');
+    line.put_decimal(log);
+    line.put_byte(b' ');
+    line.put_hex(base, 14);
+    line.put_byte(b' ');
+    line.put_text(right_name(right));
+    text.put_bytes(out, line.as_bytes());
 }
 
 /// Appends the lines of segments.
 pub fn put_segments<O: Sink>(
     text: &mut Gather,
     out: &mut O,
-    name: &str,
+    right: Right,
     segments: &mut Segments<'_>,
 )
-    requires { length name.now ≤ 8 }
-    ensures { Gathers O.taken O.faults out.old out.new text.old text.new (flat_map (segment_line name.now) segments.old) }
+    ensures { Gathers O.taken O.faults out.old out.new text.old text.new (flat_map (segment_line (right_text right)) segments.old) }
 {
     while let Some((base, log)) = segments.next() {
-        put_segment(text, out, name, base, log);
+        put_segment(text, out, right, base, log);
     }
 }
 

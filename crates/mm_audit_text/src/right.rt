@@ -1,0 +1,20 @@
+// What a group can do with the words of a segment.
+ghost use Rattle.std.specs.Prelude.{◌≡◌};
+ghost use Rattle.mm_audit_text.specs.Rights.{right_text};
+
+/// What a group can do with the words of a segment.
+#[derive(Clone, Copy)]
+pub enum Right {
+    Touch,
+    Write,
+}
+
+/// The word of a right.
+pub fn right_name(right: Right) -> &'static str
+    ensures { result.now ≡ right_text right }
+{
+    match right {
+        Right::Touch => "touch",
+        Right::Write => "write",
+    }
+}
