@@ -1,24 +1,26 @@
 -- The steps of the flow.
 use Rattle.std.proofs.lemmas.Bool.{cases_lt}
 use Rattle.std.proofs.Math.ListN.{get_or-eq_default}
-use Rattle.std.proofs.Common.{◌≡◌, ℕ, ◌<◌, ◌⊎◌, inl, inr, List, [], length, slice_index, bit_and, refl, sym, ◌∙◌, subst, arith}
-use Rattle.mm_flow.specs.Net.{Edges, low_at, high_at, entry_at, enters_at}
-use Rattle.mm_flow.specs.Flow.{Within, Has, IsIn, IsListed, Carried, IsAmong, IsPassed, IsTaken, Fits, Flows, Settled, IsFlow, Flowing}
+use Rattle.std.proofs.Common.{◌≡◌, ℕ, ◌<◌, ◌⊎◌, inl, inr, List, [], ◌∷◌, length, slice_index, bit_and, refl, sym, ◌∙◌, subst, arith}
+use Rattle.mm_flow.specs.Net.{Edges, entry_at, enters_at}
+use Rattle.mm_flow.specs.Flow.{Within, Has, IsIn, Carried, IsTarget, IsPassed, IsReady, Working, IsTaken, Flows, Settled, IsFlow, Flowing}
 use Rattle.mm_flow.specs.Flow.Flows.{from, along, through}
 use Rattle.mm_flow.proofs.Masks.{Within-refl, Within-trans}
 use Rattle.mm_flow.proofs.Bits.{both_bits}
 use Rattle.mm_flow.proofs.Walks.{and_within, zero_within}
 
-pub flowing_start : (e : Edges) (old carried p : List ℕ) → Fits e (length old) → ((k : ℕ) → IsIn k p → k < length old) → ((k : ℕ) → k < length old → IsIn k p ⊎ (slice_index old k ≡ 0)) → Flowing e old old carried p
-flowing_start e old carried p fits nodes all = record {
-  fits = fits;
+pub flowing_start : (e : Edges) (old carried p : List ℕ) → IsReady e old carried → ((k : ℕ) → IsIn k p → k < length old) → ((k : ℕ) → k < length old → IsIn k p ⊎ (slice_index old k ≡ 0)) → Flowing e old old carried p
+flowing_start e old carried p ready nodes all = record {
   len = refl;
   grows = λ k. Within-refl (slice_index old k);
   nodes = nodes;
-  listed = λ k. elim (cases_lt k (length old)) [
-    | inl lt ↦ elim (all k lt) [ inl x ↦ inl x | inr none ↦ inr (unmarked k none) ]
-    | inr ge ↦ inr (unmarked k (get_or-eq_default old 0 ge))
-  ];
+  working = record {
+    ready = ready;
+    listed = λ k. elim (cases_lt k (length old)) [
+      | inl lt ↦ elim (all k lt) [ inl x ↦ inl x | inr none ↦ inr (unmarked k none) ]
+      | inr ge ↦ inr (unmarked k (get_or-eq_default old 0 ge))
+    ];
+  };
   sound = λ k g h. from h;
   no_rise = omega arith;
 }
@@ -34,18 +36,18 @@ settled e marks carried k passed within = record {
       (and_within (slice_index marks k) (slice_index carried k) (enters_at e k) within) (passed.entry k);
 }
 
-pub flowing_end : (e : Edges) (old marks carried : List ℕ) → Flowing e old marks carried [] → IsPassed e marks carried → IsFlow e old marks
-flowing_end e old marks carried h passed = record {
+pub flowing_end : (e : Edges) (old marks carried : List ℕ) → Flowing e old marks carried [] → IsFlow e old marks
+flowing_end e old marks carried h = record {
   len = h.len;
   grows = h.grows;
-  settled = λ k lt. elim (h.listed k) [ inl no_one ↦ absurd no_one | inr within ↦ settled e marks carried k passed within ];
+  settled = λ k lt. elim (h.working.listed k) [ inl no_one ↦ absurd no_one | inr within ↦ settled e marks carried k h.working.ready.passed within ];
   sound = h.sound;
   no_rise = h.no_rise;
 }
 
 module _ (e : Edges) (old marks carried p a q b carried2 r : List ℕ) (k : ℕ) (all : List ℕ) (h : Flowing e old marks carried all) (t : IsTaken k all p) (lt : k < length old)
     (c : Carried (λ t. t ≡ entry_at e k) marks p (bit_and (slice_index marks k) (enters_at e k)) a q)
-    (v : Carried (IsAmong e.targets (low_at e k) (high_at e k)) a q (slice_index marks k) b r) where
+    (v : Carried (IsTarget e k) a q (slice_index marks k) b r) where
   sound_a : (n g : ℕ) → Has a n g → Flows e old g n
   sound_a n g x = elim (c.only n g x) [
     | inl y ↦ h.sound n g y
@@ -58,9 +60,8 @@ module _ (e : Edges) (old marks carried p a q b carried2 r : List ℕ) (k : ℕ)
     | inr y ↦ along k y.0.at (h.sound k g y.1) lt y.0.low y.0.high y.0.is
   ]
 
-  pub flowing_step : ((n : ℕ) → IsListed b carried2 r n) → Flowing e old b carried2 r
-  flowing_step listed = record {
-    fits = h.fits;
+  pub flowing_step : Working e b carried2 r → Flowing e old b carried2 r
+  flowing_step working = record {
     len = v.len ∙ c.len ∙ h.len;
     grows = λ n. Within-trans (slice_index old n) (slice_index marks n) (slice_index b n) (h.grows n) (Within-trans (slice_index marks n) (slice_index a n) (slice_index b n) (c.grows n) (v.grows n));
     nodes = λ n x. elim (v.bounded n x) [
@@ -70,7 +71,11 @@ module _ (e : Edges) (old marks carried p a q b carried2 r : List ℕ) (k : ℕ)
         | inl z ↦ h.nodes n (t.keeps n z)
       ]
     ];
-    listed = listed;
+    working = working;
     sound = sound_b;
     no_rise = let x = h.no_rise in let y = v.no_rise in let z = c.no_rise in omega arith;
   }
+
+-- where a pending node is taken, it alone may neither be pending nor carry its mark
+pub working_taken : (e : Edges) (marks carried all p : List ℕ) (k : ℕ) → Working e marks carried all → IsTaken k all p → Working e marks carried (k ∷ p)
+working_taken e marks carried all p k h t = record { ready = h.ready; listed = λ n. elim (h.listed n) [ inl m ↦ inl (t.cases n m) | inr w ↦ inr w ] }

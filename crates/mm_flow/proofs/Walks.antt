@@ -1,10 +1,11 @@
 -- The way over the nodes within one.
 use Rattle.std.proofs.lemmas.Bool.{cases_lt, cases_eq}
+use Rattle.std.proofs.lemmas.List.{length-replicate}
 use Rattle.std.proofs.lemmas.Nat.Bits.{bit_at-lt, bit_at-zero, bit_at_and}
-use Rattle.std.proofs.Common.{◌≡◌, ℕ, zero, suc, ◌+◌, ◌<◌, ◌≤◌, ◌⊎◌, inl, inr, List, length, slice_index, slice_set, replicate, max, min, bit_and, bit_or, refl, sym, ap, ◌∙◌, subst, arith}
+use Rattle.std.proofs.Common.{◌≡◌, ℕ, zero, suc, ◌+◌, ◌<◌, ◌≤◌, ◌⊎◌, inl, inr, List, ◌∷◌, length, slice_index, slice_set, replicate, max, min, bit_and, bit_or, refl, sym, ap, ◌∙◌, subst, arith}
 use Rattle.std.specs.Int.{bit_at}
 use Rattle.mm_flow.specs.Net.{Edges, low_at, high_at, entry_at, enters_at}
-use Rattle.mm_flow.specs.Flow.{Within, Has, Carried, IsAmong, IsListed, StaysListed, IsPassed, IsInner, Walked, Walking}
+use Rattle.mm_flow.specs.Flow.{Within, Has, Carried, IsAmong, IsListed, StaysListed, HasGiven, IsPassed, IsReady, Working, IsInner, IsOnWay, Walked, Walking}
 use Rattle.mm_flow.proofs.Masks.{Within-refl, Within-trans, Within-or_left, Within-or_right, set_cases, length_set, Set}
 use Rattle.mm_flow.proofs.Bits.{or_cases, and_both, both_bits}
 use Rattle.mm_flow.proofs.Masks.Set.{here, there}
@@ -126,8 +127,7 @@ module _ (e : Edges) (k mask at done : ℕ) (old p carried : List ℕ) (fit : do
 
   -- past all that a node holds which carries the mask
   pub walked_by : (at2 start done2 : ℕ) (new q : List ℕ) → at < at2 → start ≡ max done (low_at e at) → done2 ≡ max start (high_at e at) → low_at e at ≤ high_at e at → IsInner e at k
-      → bit_or (slice_index carried at) mask ≡ slice_index carried at
-      → ((j : ℕ) → low_at e at ≤ j → j < high_at e at → Within (slice_index carried at) (slice_index old (slice_index e.targets j)))
+      → bit_or mask (slice_index carried at) ≡ slice_index carried at → HasGiven e old carried at
       → Carried (IsAmong e.targets done start) old p mask new q → StaysListed carried old p new q → Walked e k mask at done old p carried at2 done2 new q carried
   walked_by at2 start done2 new q forth is is2 order inner has passed v stays =
       let high = inner.1 in
@@ -137,7 +137,7 @@ module _ (e : Edges) (k mask at done : ℕ) (old p carried : List ℕ) (fit : do
         high = omega arith;
         marks = carried_free e.targets old p new q mask done start v done2 (omega arith) (λ j lo hi.
             Within-trans mask (slice_index old (slice_index e.targets j)) (slice_index new (slice_index e.targets j))
-            (Within-trans mask (slice_index carried at) (slice_index old (slice_index e.targets j)) (subst (Within mask) has (Within-or_right (slice_index carried at) mask)) (passed j (omega arith) (omega arith)))
+            (Within-trans mask (slice_index carried at) (slice_index old (slice_index e.targets j)) (subst (Within mask) has (Within-or_left mask (slice_index carried at))) (passed j (omega arith) (omega arith)))
             (v.grows (slice_index e.targets j)));
         stays = stays;
         len = refl;
@@ -146,8 +146,8 @@ module _ (e : Edges) (k mask at done : ℕ) (old p carried : List ℕ) (fit : do
       }
 
 -- the start, once the mask is at the entry
-module _ (e : Edges) (k : ℕ) (old p carried a q : List ℕ) (passed : IsPassed e old carried) (len : length carried ≡ length old) (small : k < length carried) (order : low_at e k ≤ high_at e k)
-    (listed : (i : ℕ) → (i ≡ k) ⊎ IsListed old carried p i) (c : Carried (λ t. t ≡ entry_at e k) old p (bit_and (slice_index old k) (enters_at e k)) a q) (stays : StaysListed carried old p a q) where
+module _ (e : Edges) (k : ℕ) (old p carried a q : List ℕ) (working : Working e old carried (k ∷ p)) (small : k < length old) (order : low_at e k ≤ high_at e k)
+    (c : Carried (λ t. t ≡ entry_at e k) old p (bit_and (slice_index old k) (enters_at e k)) a q) (stays : StaysListed carried old p a q) where
   abbrev own : ℕ
   own = slice_index old k
 
@@ -155,7 +155,16 @@ module _ (e : Edges) (k : ℕ) (old p carried a q : List ℕ) (passed : IsPassed
   carried2 = slice_set carried k (bit_or (slice_index carried k) own)
 
   start_case : (i : ℕ) → Set carried k (bit_or (slice_index carried k) own) i
-  start_case i = set_cases carried k (bit_or (slice_index carried k) own) i small
+  start_case i = set_cases carried k (bit_or (slice_index carried k) own) i (let e = working.ready.len in omega arith)
+
+  passed : IsPassed e old carried
+  passed = working.ready.passed
+
+  still_listed : (i : ℕ) → (i ≡ k → ⊥) → IsListed a carried q i
+  still_listed i ne = stays i (elim (working.listed i) [
+    | inr w ↦ inr w
+    | inl m ↦ elim m [ inl same ↦ absurd (ne same) | inr x ↦ inl x ]
+  ])
 
   -- its mark is what it carries, though its entry may have given to it
   own_listed : Within (slice_index a k) (bit_or (slice_index carried k) own)
@@ -177,18 +186,16 @@ module _ (e : Edges) (k : ℕ) (old p carried a q : List ℕ) (passed : IsPassed
 
   pub walking_start : Walking e k own (k + 1) (low_at e k) a q a q carried2
   walking_start = record {
+    nodes = working.ready.nodes ∙ sym c.len;
     low = omega arith;
     high = order;
     marks = carried_none e.targets a q own (low_at e k) (low_at e k) (omega arith);
     listed = λ i. elim (start_case i) [
       | here same f ↦ inr (rw (f, same) own_listed)
-      | there ne f ↦ elim (listed i) [
-        | inl same ↦ absurd (ne same)
-        | inr x ↦ elim (stays i x) [ inl m ↦ inl m | inr w ↦ inr (subst (Within (slice_index a i)) (sym f) w) ]
-      ]
+      | there ne f ↦ elim (still_listed i ne) [ inl m ↦ inl m | inr w ↦ inr (subst (Within (slice_index a i)) (sym f) w) ]
     ];
-    len = length_set carried k _ ∙ len ∙ sym c.len;
-    ahead = λ i j le lo hi. elim (start_case i) [
+    len = length_set carried k _ ∙ working.ready.len ∙ sym c.len;
+    ahead = λ i le j lo hi. elim (start_case i) [
       | here same f ↦ absurd (omega arith)
       | there ne f ↦ subst (λ v. Within v (slice_index a (slice_index e.targets j))) (sym f) (Within-trans (slice_index carried i) (slice_index old (slice_index e.targets j)) (slice_index a (slice_index e.targets j)) (passed.cells i j lo hi) (c.grows (slice_index e.targets j)))
     ];
@@ -206,6 +213,11 @@ module _ (e : Edges) (k : ℕ) (old p carried a q : List ℕ) (passed : IsPassed
   }
 
 module _ (e : Edges) (k mask at done : ℕ) (old p a q carried : List ℕ) (w : Walking e k mask at done old p a q carried) where
+  pub on_way : k < length old → at < length old → IsOnWay e k at done a carried
+  on_way lk la =
+      let same : length old ≡ length a = sym w.marks.len in
+      record { nodes = w.nodes ∙ same; len = w.len ∙ same; outer = omega arith; node = omega arith; end = w.high; given = w.ahead at (omega arith) }
+
   module _ (at2 done2 : ℕ) (b r carried2 : List ℕ) (s : Walked e k mask at done a q carried at2 done2 b r carried2) where
     grown : (i j g : ℕ) → Has a (slice_index e.targets j) g → Has b (slice_index e.targets j) g
     grown i j g h = at_one _ _ g (s.marks.grows (slice_index e.targets j)) h
@@ -240,16 +252,17 @@ module _ (e : Edges) (k mask at done : ℕ) (old p a q carried : List ℕ) (w : 
 
     pub walking_more : Walking e k mask at2 done2 old p b r carried2
     walking_more = record {
+      nodes = w.nodes;
       low = let x = w.low in let y = s.low in omega arith;
       high = s.high;
       marks = carried_on e.targets old p a q mask (low_at e k) done w.marks done2 b r w.low s.low s.marks;
       listed = λ i. elim (s.stays i (w.listed i)) [ inl m ↦ inl m | inr x ↦ inr (Within-trans (slice_index b i) (slice_index carried i) (slice_index carried2 i) x (more i)) ];
       len = s.len ∙ w.len;
-      ahead = λ i j le lo hi.
+      ahead = λ i le j lo hi.
           let forth = s.forth in
           let kept : slice_index carried2 i ≡ slice_index carried i = s.others i (λ same. omega arith) in
           subst (λ v. Within v (slice_index b (slice_index e.targets j))) (sym kept)
-          (Within-trans (slice_index carried i) (slice_index a (slice_index e.targets j)) (slice_index b (slice_index e.targets j)) (w.ahead i j (omega arith) lo hi) (s.marks.grows (slice_index e.targets j)));
+          (Within-trans (slice_index carried i) (slice_index a (slice_index e.targets j)) (slice_index b (slice_index e.targets j)) (w.ahead i (omega arith) j lo hi) (s.marks.grows (slice_index e.targets j)));
       entry = λ i. elim (cases_eq i at) [
         | inr ne ↦ kept_entry i (s.others i ne)
         | inl same ↦ subst (λ v. Within (bit_and (slice_index carried2 v) (enters_at e v)) (slice_index b (entry_at e v))) (sym same) (elim s.own [
@@ -276,20 +289,28 @@ module _ (e : Edges) (k mask at done : ℕ) (old p a q carried : List ℕ) (w : 
           at_one _ _ g (walking_marks.each (slice_index e.targets j) (record { at = j; low = omega arith; high = omega arith; is = refl })) x.0
     ])
 
-    pub walking_passed : IsPassed e b carried
+    walking_passed : IsPassed e b carried
     walking_passed = record {
       cells = cells;
       entry = λ i. Within-trans (bit_and (slice_index carried i) (enters_at e i)) (slice_index a (entry_at e i)) (slice_index b (entry_at e i)) (w.entry i) (v.grows (entry_at e i));
     }
 
+    pub walking_working : StaysListed carried a q b r → Working e b carried r
+    walking_working stays =
+        let same : length old ≡ length b = sym w.marks.len ∙ sym v.len in
+        record { ready = record { nodes = w.nodes ∙ same; len = w.len ∙ same; passed = walking_passed }; listed = λ i. stays i (w.listed i) }
+
 -- what nodes carry stays at their targets when marks grow
-pub passed_still : (e : Edges) (a b carried : List ℕ) → ((n : ℕ) → Within (slice_index a n) (slice_index b n)) → IsPassed e a carried → IsPassed e b carried
+passed_still : (e : Edges) (a b carried : List ℕ) → ((n : ℕ) → Within (slice_index a n) (slice_index b n)) → IsPassed e a carried → IsPassed e b carried
 passed_still e a b carried grows h = record {
   cells = λ i j lo hi. Within-trans (slice_index carried i) (slice_index a (slice_index e.targets j)) (slice_index b (slice_index e.targets j)) (h.cells i j lo hi) (grows (slice_index e.targets j));
   entry = λ i. Within-trans (bit_and (slice_index carried i) (enters_at e i)) (slice_index a (entry_at e i)) (slice_index b (entry_at e i)) (h.entry i) (grows (entry_at e i));
 }
 
-pub nothing_passed : (e : Edges) (marks carried : List ℕ) (n : ℕ) → carried ≡ replicate n 0 → IsPassed e marks carried
+pub ready_still : (e : Edges) (a b carried : List ℕ) → length b ≡ length a → ((n : ℕ) → Within (slice_index a n) (slice_index b n)) → IsReady e a carried → IsReady e b carried
+ready_still e a b carried len grows h = record { nodes = h.nodes ∙ sym len; len = h.len ∙ sym len; passed = passed_still e a b carried grows h.passed }
+
+nothing_passed : (e : Edges) (marks carried : List ℕ) (n : ℕ) → carried ≡ replicate n 0 → IsPassed e marks carried
 nothing_passed e marks carried n is = record {
   cells = λ i j lo hi. subst (λ v. Within v (slice_index marks (slice_index e.targets j))) (sym (zero_at i)) (zero_within (slice_index marks (slice_index e.targets j)));
   entry = λ i. subst (λ v. Within (bit_and v (enters_at e i)) (slice_index marks (entry_at e i))) (sym (zero_at i)) (zero_and_within (enters_at e i) (slice_index marks (entry_at e i)));
@@ -302,3 +323,7 @@ nothing_passed e marks carried n is = record {
 
     zero_at : (i : ℕ) → slice_index carried i ≡ 0
     zero_at i = ap (λ v. slice_index v i) is ∙ zeros n i
+
+-- before anything is carried
+pub ready_start : (e : Edges) (marks carried : List ℕ) (n : ℕ) → length e.nodes ≡ length marks → n ≡ length marks → carried ≡ replicate n 0 → IsReady e marks carried
+ready_start e marks carried n nodes len is = record { nodes = nodes; len = ap length is ∙ length-replicate n 0 ∙ len; passed = nothing_passed e marks carried n is }

@@ -78,20 +78,38 @@ pub record IsAmong (targets : List ℕ) (lo hi t : ℕ) : Type 0 where
   pub high : at < hi
   pub is : slice_index targets at ≡ t
 
--- what stands while the pending nodes are worked off
-pub record Flowing (e : Edges) (old marks carried pending : List ℕ) : Type 0 where
-  pub fits : Fits e (length old)
-  pub len : length marks ≡ length old
-  pub grows : (k : ℕ) → Within (slice_index old k) (slice_index marks k)
-  pub nodes : (k : ℕ) → IsIn k pending → k < length old
-  pub listed : (k : ℕ) → IsListed marks carried pending k
-  pub sound : (k g : ℕ) → Has marks k g → Flows e old g k
-  pub no_rise : room (2 ^ 64) marks ≤ room (2 ^ 64) old
+-- the node is a target of k
+abbrev pub IsTarget : Edges → ℕ → ℕ → Type 0
+IsTarget e k = IsAmong e.targets (low_at e k) (high_at e k)
+
+-- what the node carries is at its targets
+abbrev pub HasGiven : Edges → List ℕ → List ℕ → ℕ → Type 0
+HasGiven e marks carried i = (j : ℕ) → low_at e i ≤ j → j < high_at e i → Within (slice_index carried i) (slice_index marks (slice_index e.targets j))
 
 -- what a node carries is at all its targets, and at its entry for the groups that enter
 pub record IsPassed (e : Edges) (marks carried : List ℕ) : Type 0 where
-  pub cells : (i j : ℕ) → low_at e i ≤ j → j < high_at e i → Within (slice_index carried i) (slice_index marks (slice_index e.targets j))
+  pub cells : (i : ℕ) → HasGiven e marks carried i
   pub entry : (i : ℕ) → Within (bit_and (slice_index carried i) (enters_at e i)) (slice_index marks (entry_at e i))
+
+-- the nodes have marks, and what they carry has been passed on
+pub record IsReady (e : Edges) (marks carried : List ℕ) : Type 0 where
+  pub nodes : length e.nodes ≡ length marks
+  pub len : length carried ≡ length marks
+  pub passed : IsPassed e marks carried
+
+-- and each node carries its mark, or is pending
+pub record Working (e : Edges) (marks carried pending : List ℕ) : Type 0 where
+  pub ready : IsReady e marks carried
+  pub listed : (k : ℕ) → IsListed marks carried pending k
+
+-- what stands while the pending nodes are worked off
+pub record Flowing (e : Edges) (old marks carried pending : List ℕ) : Type 0 where
+  pub len : length marks ≡ length old
+  pub grows : (k : ℕ) → Within (slice_index old k) (slice_index marks k)
+  pub nodes : (k : ℕ) → IsIn k pending → k < length old
+  pub working : Working e marks carried pending
+  pub sound : (k g : ℕ) → Has marks k g → Flows e old g k
+  pub no_rise : room (2 ^ 64) marks ≤ room (2 ^ 64) old
 
 -- for each of n nodes a later one, or the number of nodes
 pub record IsAhead (after : List ℕ) (n : ℕ) : Type 0 where
@@ -102,6 +120,15 @@ pub record IsAhead (after : List ℕ) (n : ℕ) : Type 0 where
 -- the targets of the first node are targets of the second
 abbrev pub IsInner : Edges → ℕ → ℕ → Type 0
 IsInner e i k = (low_at e k ≤ low_at e i) × (high_at e i ≤ high_at e k)
+
+-- a place on the way over the nodes from k on: a node, whose targets have what it carries
+pub record IsOnWay (e : Edges) (k at done : ℕ) (marks carried : List ℕ) : Type 0 where
+  pub nodes : length e.nodes ≡ length marks
+  pub len : length carried ≡ length marks
+  pub outer : k < length marks
+  pub node : at < length marks
+  pub end : done ≤ high_at e k
+  pub given : HasGiven e marks carried at
 
 -- one step of the way over the nodes from k on, with k's targets at places before `done` done: the node `at` was passed by, or carries
 -- the mask from now on
@@ -117,12 +144,13 @@ pub record Walked (e : Edges) (k mask at done : ℕ) (old p carried : List ℕ) 
 
 -- what stands on that way: what a node carries is at its targets, or will be, since it is the mask and they are targets of k
 pub record Walking (e : Edges) (k mask at done : ℕ) (old p new q carried : List ℕ) : Type 0 where
+  pub nodes : length e.nodes ≡ length old
   pub low : low_at e k ≤ done
   pub high : done ≤ high_at e k
   pub marks : Carried (IsAmong e.targets (low_at e k) done) old p mask new q
   pub listed : (i : ℕ) → IsListed new carried q i
   pub len : length carried ≡ length old
-  pub ahead : (i j : ℕ) → at ≤ i → low_at e i ≤ j → j < high_at e i → Within (slice_index carried i) (slice_index new (slice_index e.targets j))
+  pub ahead : (i : ℕ) → at ≤ i → HasGiven e new carried i
   pub entry : (i : ℕ) → Within (bit_and (slice_index carried i) (enters_at e i)) (slice_index new (entry_at e i))
   pub behind : (i j g : ℕ) → low_at e i ≤ j → j < high_at e i → Has carried i g → Has new (slice_index e.targets j) g ⊎ ((bit_at mask g ≡ 1) × IsInner e i k)
 
@@ -131,4 +159,4 @@ pub record Stepped (e : Edges) (k : ℕ) (old p new q : List ℕ) : Type 0 where
   pub marks : List ℕ
   pub pending : List ℕ
   pub entry : Carried (λ t. t ≡ entry_at e k) old p (bit_and (slice_index old k) (enters_at e k)) marks pending
-  pub cells : Carried (IsAmong e.targets (low_at e k) (high_at e k)) marks pending (slice_index old k) new q
+  pub cells : Carried (IsTarget e k) marks pending (slice_index old k) new q

@@ -1,11 +1,14 @@
 // Marks that flow along edges.
-ghost use Rattle.std.specs.Prelude.{◌≡◌, ℕ, ◌+◌, ◌<◌, ◌≤◌, ◌⊎◌, IfOk, length, slice_index, true};
-ghost use Rattle.mm_flow.specs.Net.{low_at, high_at};
-ghost use Rattle.mm_flow.specs.Flow.{Carried, IsAmong, Fits, IsFlow, Stepped, IsIn, IsAhead, IsListed, StaysListed, IsPassed, Walked, Walking, Within};
+ghost use Rattle.std.specs.Prelude.{◌≡◌, ℕ, ◌+◌, ◌<◌, ◌≤◌, ◌⊎◌, ◌∷◌, IfOk, length, slice_index, true};
+ghost use Rattle.mm_flow.specs.Net.{low_at};
+ghost use Rattle.mm_flow.specs.Flow.{Carried, IsAmong, IsTarget, IsFlow, Stepped, IsIn, StaysListed, IsReady, Working, IsOnWay, Walked, Walking};
+ghost use Rattle.mm_flow.specs.Graph.{edges_of};
 
 use crate::forest::greater;
+use crate::graph::Graph;
 use crate::node::Node;
 use crate::pending::take;
+use crate::work::Work;
 use std::alloc::{AllocError, Global};
 use std::collections::VecDeque;
 
@@ -13,17 +16,12 @@ use std::collections::VecDeque;
 const MANY: usize = 16;
 
 /// Adds the groups of the mask to the node, which is pending from then on where it does not carry them already.
-fn carry(
-    marks: &mut [u64],
-    pending: &mut VecDeque<usize>,
-    carried: &[u64],
-    to: usize,
-    mask: u64,
-) -> Result<(), AllocError>
+fn carry(marks: &mut [u64], work: &mut Work, to: usize, mask: u64) -> Result<(), AllocError>
     requires node { to < length marks.old }
-    requires len { length carried.now ≡ length marks.old }
-    ensures marks { IfOk result (λ _. Carried (λ t. t ≡ to) marks.old pending.old.items mask marks.new pending.new.items) }
-    ensures stays { IfOk result (λ _. StaysListed carried.now marks.old pending.old.items marks.new pending.new.items) }
+    requires len { length work.old.carried.items ≡ length marks.old }
+    ensures marks { IfOk result (λ _. Carried (λ t. t ≡ to) marks.old work.old.pending.items mask marks.new work.new.pending.items) }
+    ensures stays { IfOk result (λ _. StaysListed work.old.carried.items marks.old work.old.pending.items marks.new work.new.pending.items) }
+    ensures same { IfOk result (λ _. work.new.carried ≡ work.old.carried) }
 {
     let old = marks[to];
     let new = old | mask;
@@ -31,24 +29,22 @@ fn carry(
     if new == old {
         return Ok(());
     }
-    let done = carried[to];
     // It carries all its groups: nothing new leaves it.
-    if new | done == done {
+    if work.carries(to, new) {
         return Ok(());
     }
     // It lacked some before, so it is pending.
-    if old | done != done {
+    if !work.carries(to, old) {
         return Ok(());
     }
-    pending.push_back(to)?;
+    work.pending.push_back(to)?;
     Ok(())
 }
 
 /// Carries the mask to the targets at places from `lo` up to `hi`.
 fn visit(
     marks: &mut [u64],
-    pending: &mut VecDeque<usize>,
-    carried: &[u64],
+    work: &mut Work,
     targets: &[usize],
     lo: usize,
     hi: usize,
@@ -56,13 +52,14 @@ fn visit(
 ) -> Result<(), AllocError>
     requires ends { hi ≤ length targets.now }
     requires order { lo ≤ hi }
-    requires len { length carried.now ≡ length marks.old }
+    requires len { length work.old.carried.items ≡ length marks.old }
     requires targets { (j : ℕ) → j < length targets.now → slice_index targets.now j < length marks.old }
-    ensures marks { IfOk result (λ _. Carried (IsAmong targets.now lo hi) marks.old pending.old.items mask marks.new pending.new.items) }
-    ensures stays { IfOk result (λ _. StaysListed carried.now marks.old pending.old.items marks.new pending.new.items) }
+    ensures marks { IfOk result (λ _. Carried (IsAmong targets.now lo hi) marks.old work.old.pending.items mask marks.new work.new.pending.items) }
+    ensures stays { IfOk result (λ _. StaysListed work.old.carried.items marks.old work.old.pending.items marks.new work.new.pending.items) }
+    ensures same { IfOk result (λ _. work.new.carried ≡ work.old.carried) }
 {
     for j in lo..hi {
-        carry(marks, pending, carried, targets[j], mask)?;
+        carry(marks, work, targets[j], mask)?;
     }
     Ok(())
 }
@@ -92,39 +89,28 @@ struct Walk {
 /// it, once the outer node's targets before its own have the mask.
 fn walk_on(
     marks: &mut [u64],
-    pending: &mut VecDeque<usize>,
-    carried: &mut [u64],
-    nodes: &[Node],
-    targets: &[usize],
-    after: &[usize],
+    work: &mut Work,
+    graph: &Graph<'_>,
     k: usize,
     mask: u64,
     walk: Walk,
 ) -> Result<Walk, AllocError>
-    requires fits { Fits (record { nodes = nodes.now; targets = targets.now }) (length marks.old) }
-    requires ahead { IsAhead after.now (length marks.old) }
-    requires len { length carried.old ≡ length marks.old }
-    requires outer { k < length marks.old }
-    requires node { walk.at < length marks.old }
-    requires done { walk.done ≤ high_at (record { nodes = nodes.now; targets = targets.now }) k }
-    requires passed { (j : ℕ) → low_at (record { nodes = nodes.now; targets = targets.now }) walk.at ≤ j → j < high_at (record { nodes = nodes.now; targets = targets.now }) walk.at
-        → Within (slice_index carried.old walk.at) (slice_index marks.old (slice_index targets.now j)) }
-    ensures { IfOk result (λ w. Walked (record { nodes = nodes.now; targets = targets.now }) k mask walk.at walk.done marks.old pending.old.items carried.old w.at w.done marks.new pending.new.items carried.new) }
+    requires { IsOnWay (edges_of graph.now) k walk.at walk.done marks.old work.old.carried.items }
+    ensures { IfOk result (λ w. Walked (edges_of graph.now) k mask walk.at walk.done marks.old work.old.pending.items work.old.carried.items w.at w.done marks.new work.new.pending.items work.new.carried.items) }
 {
     let at = walk.at;
-    let inner = nodes[at];
-    if !is_within(inner, nodes[k]) {
+    let inner = graph.nodes[at];
+    if !is_within(inner, graph.nodes[k]) {
         return Ok(Walk { at: at + 1, ..walk });
     }
-    let old = carried[at];
-    if old | mask != old {
-        carried[at] = old | mask;
+    if !work.carries(at, mask) {
+        work.add(at, mask);
         return Ok(Walk { at: at + 1, ..walk });
     }
     let start = greater(walk.done, inner.low);
-    visit(marks, pending, carried, targets, walk.done, start, mask)?;
+    visit(marks, work, graph.targets, walk.done, start, mask)?;
     Ok(Walk {
-        at: after[at],
+        at: graph.after[at],
         done: greater(start, inner.high),
     })
 }
@@ -132,69 +118,44 @@ fn walk_on(
 /// Carries the mask to all targets of a node that carries it from now on.
 fn pass(
     marks: &mut [u64],
-    pending: &mut VecDeque<usize>,
-    carried: &mut [u64],
-    nodes: &[Node],
-    targets: &[usize],
-    after: &[usize],
+    work: &mut Work,
+    graph: &Graph<'_>,
     k: usize,
     mask: u64,
 ) -> Result<(), AllocError>
-    requires fits { Fits (record { nodes = nodes.now; targets = targets.now }) (length marks.old) }
-    requires ahead { IsAhead after.now (length marks.old) }
     requires node { k < length marks.old }
-    requires start { Walking (record { nodes = nodes.now; targets = targets.now }) k mask (k + 1) (low_at (record { nodes = nodes.now; targets = targets.now }) k) marks.old pending.old.items marks.old pending.old.items carried.old }
-    ensures marks { IfOk
-        result
-        (λ _. Carried (IsAmong targets.now (low_at (record { nodes = nodes.now; targets = targets.now }) k) (high_at (record { nodes = nodes.now; targets = targets.now }) k)) marks.old pending.old.items mask marks.new pending.new.items) }
-    ensures passed { IfOk result (λ _. IsPassed (record { nodes = nodes.now; targets = targets.now }) marks.new carried.new) }
-    ensures listed { IfOk result (λ _. (n : ℕ) → IsListed marks.new carried.new pending.new.items n) }
-    ensures len { IfOk result (λ _. length carried.new ≡ length carried.old) }
+    requires start { Walking (edges_of graph.now) k mask (k + 1) (low_at (edges_of graph.now) k) marks.old work.old.pending.items marks.old work.old.pending.items work.old.carried.items }
+    ensures marks { IfOk result (λ _. Carried (IsTarget (edges_of graph.now) k) marks.old work.old.pending.items mask marks.new work.new.pending.items) }
+    ensures working { IfOk result (λ _. Working (edges_of graph.now) marks.new work.new.carried.items work.new.pending.items) }
 {
-    let node = nodes[k];
+    let node = graph.nodes[k];
     if node.low >= node.high {
         return Ok(());
     }
-    let end = after[k];
+    let end = graph.after[k];
     let mut walk = Walk {
         at: k + 1,
         done: node.low,
     };
     while walk.at < end {
-        walk = walk_on(
-            marks, pending, carried, nodes, targets, after, k, mask, walk,
-        )?;
+        walk = walk_on(marks, work, graph, k, mask, walk)?;
     }
-    visit(marks, pending, carried, targets, walk.done, node.high, mask)?;
+    visit(marks, work, graph.targets, walk.done, node.high, mask)?;
     Ok(())
 }
 
 /// Works off one node that was pending.
-fn step(
-    marks: &mut [u64],
-    pending: &mut VecDeque<usize>,
-    carried: &mut [u64],
-    nodes: &[Node],
-    targets: &[usize],
-    after: &[usize],
-    k: usize,
-) -> Result<(), AllocError>
-    requires fits { Fits (record { nodes = nodes.now; targets = targets.now }) (length marks.old) }
-    requires ahead { IsAhead after.now (length marks.old) }
-    requires len { length carried.old ≡ length marks.old }
+fn step(marks: &mut [u64], work: &mut Work, graph: &Graph<'_>, k: usize) -> Result<(), AllocError>
     requires node { k < length marks.old }
-    requires passed { IsPassed (record { nodes = nodes.now; targets = targets.now }) marks.old carried.old }
-    requires listed { (n : ℕ) → (n ≡ k) ⊎ IsListed marks.old carried.old pending.old.items n }
-    ensures step { IfOk result (λ _. Stepped (record { nodes = nodes.now; targets = targets.now }) k marks.old pending.old.items marks.new pending.new.items) }
-    ensures passed { IfOk result (λ _. IsPassed (record { nodes = nodes.now; targets = targets.now }) marks.new carried.new) }
-    ensures listed { IfOk result (λ _. (n : ℕ) → IsListed marks.new carried.new pending.new.items n) }
-    ensures len { IfOk result (λ _. length carried.new ≡ length carried.old) }
+    requires working { Working (edges_of graph.now) marks.old work.old.carried.items (k ∷ work.old.pending.items) }
+    ensures step { IfOk result (λ _. Stepped (edges_of graph.now) k marks.old work.old.pending.items marks.new work.new.pending.items) }
+    ensures working { IfOk result (λ _. Working (edges_of graph.now) marks.new work.new.carried.items work.new.pending.items) }
 {
     let mask = marks[k];
-    let node = nodes[k];
-    carry(marks, pending, carried, node.entry, mask & node.enters)?;
-    carried[k] |= mask;
-    pass(marks, pending, carried, nodes, targets, after, k, mask)?;
+    let node = graph.nodes[k];
+    carry(marks, work, node.entry, mask & node.enters)?;
+    work.add(k, mask);
+    pass(marks, work, graph, k, mask)?;
     Ok(())
 }
 
@@ -213,29 +174,20 @@ fn marked_nodes(alloc: Global, marks: &[u64]) -> Result<VecDeque<usize>, AllocEr
 }
 
 /// Carries each mark along all edges, until no mark lacks a group.
-///
-/// `carried` has for each node groups whose marks its targets have already. `after` has for each node a later one, the first
-/// behind those that lie within it where it is to be fast.
 pub fn flow(
     alloc: Global,
     marks: &mut [u64],
-    carried: &mut [u64],
-    nodes: &[Node],
-    targets: &[usize],
-    after: &[usize],
+    work: &mut Work,
+    graph: &Graph<'_>,
 ) -> Result<(), AllocError>
-    requires fits { Fits (record { nodes = nodes.now; targets = targets.now }) (length marks.old) }
-    requires ahead { IsAhead after.now (length marks.old) }
-    requires len { length carried.old ≡ length marks.old }
-    requires passed { IsPassed (record { nodes = nodes.now; targets = targets.now }) marks.old carried.old }
-    ensures flow { IfOk result (λ _. IsFlow (record { nodes = nodes.now; targets = targets.now }) marks.old marks.new) }
-    ensures passed { IfOk result (λ _. IsPassed (record { nodes = nodes.now; targets = targets.now }) marks.new carried.new) }
-    ensures len { IfOk result (λ _. length carried.new ≡ length carried.old) }
+    requires { IsReady (edges_of graph.now) marks.old work.old.carried.items }
+    ensures flow { IfOk result (λ _. IsFlow (edges_of graph.now) marks.old marks.new) }
+    ensures ready { IfOk result (λ _. IsReady (edges_of graph.now) marks.new work.new.carried.items) }
 {
-    let mut pending = marked_nodes(alloc, marks)?;
+    work.pending = marked_nodes(alloc, marks)?;
     let many = marks.len() / MANY;
-    while let Some(k) = take(&mut pending, many) {
-        step(marks, &mut pending, carried, nodes, targets, after, k)?;
+    while let Some(k) = take(&mut work.pending, many) {
+        step(marks, work, graph, k)?;
     }
     Ok(())
 }

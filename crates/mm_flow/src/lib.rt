@@ -8,9 +8,11 @@
 mod flow;
 mod forest;
 mod gifts;
+mod graph;
 mod node;
 mod pending;
 mod reach;
+mod work;
 
 pub use forest::parents;
 pub use node::{Node, Right};

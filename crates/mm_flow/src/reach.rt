@@ -2,14 +2,18 @@
 ghost use Rattle.std.specs.Prelude.{◌≡◌, ℕ, ◌^◌, ◌<◌, ◌≤◌, ◌↔◌, IfOk, length, slice_index};
 ghost use Rattle.std.specs.Int.{bit_at};
 ghost use Rattle.mm_flow.specs.Net.{right_at};
-ghost use Rattle.mm_flow.specs.Flow.{Fits, IsAhead, IsPassed};
+ghost use Rattle.mm_flow.specs.Flow.{Fits, IsReady};
+ghost use Rattle.mm_flow.specs.Graph.{edges_of};
 ghost use Rattle.mm_flow.specs.Reached.{TiesFit, HasSome, IsGifts, Gifting, IsReach};
 
 use crate::flow::flow;
 use crate::forest::after;
 use crate::gifts::{give, kept, lift, spread};
+use crate::graph::Graph;
 use crate::node::{Node, Right};
+use crate::work::Work;
 use std::alloc::{AllocError, Global};
+use std::collections::VecDeque;
 
 /// The groups that mark a node with the right.
 pub fn any(nodes: &[Node], marks: &[u64], right: Right) -> u64
@@ -61,31 +65,26 @@ fn gifts(
     Ok(())
 }
 
-/// Spreads marks along edges and by gifts, until nothing changes. `carried` and `after` are as in `flow`.
+/// Spreads marks along edges and by gifts, until nothing changes.
 fn settle(
     alloc: Global,
     marks: &mut [u64],
-    carried: &mut [u64],
-    nodes: &[Node],
-    targets: &[usize],
-    after: &[usize],
+    work: &mut Work,
+    graph: &Graph<'_>,
     parents: &[usize],
     links: [u64; 64],
 ) -> Result<(), AllocError>
-    requires edges { Fits (record { nodes = nodes.now; targets = targets.now }) (length marks.old) }
-    requires ties { TiesFit (record { nodes = nodes.now; parents = parents.now; links = links }) (length marks.old) }
-    requires ahead { IsAhead after.now (length marks.old) }
-    requires len { length carried.old ≡ length marks.old }
-    requires passed { IsPassed (record { nodes = nodes.now; targets = targets.now }) marks.old carried.old }
+    requires ready { IsReady (edges_of graph.now) marks.old work.old.carried.items }
+    requires ties { TiesFit (record { nodes = graph.now.nodes.now; parents = parents.now; links = links }) (length marks.old) }
     ensures reach { IfOk
         result
-        (λ _. IsReach (record { nodes = nodes.now; targets = targets.now }) (record { nodes = nodes.now; parents = parents.now; links = links }) marks.old marks.new) }
+        (λ _. IsReach (edges_of graph.now) (record { nodes = graph.now.nodes.now; parents = parents.now; links = links }) marks.old marks.new) }
     ensures fits { IfOk result (λ _. (k : ℕ) → slice_index marks.new k < 2 ^ 64) }
 {
     loop {
-        flow(alloc, marks, carried, nodes, targets, after)?;
+        flow(alloc, marks, work, graph)?;
         let mut gives = links;
-        gifts(alloc, marks, nodes, parents, &mut gives)?;
+        gifts(alloc, marks, graph.nodes, parents, &mut gives)?;
         if !spread(marks, &gives) {
             return Ok(());
         }
@@ -109,16 +108,15 @@ pub fn saturate(
     ensures fits { IfOk result (λ _. (k : ℕ) → slice_index marks.new k < 2 ^ 64) }
 {
     let after = after(alloc, parents)?;
-    let mut carried = vec![in alloc; 0u64; marks.len()]?;
-    settle(
-        alloc,
-        marks,
-        &mut carried,
+    let graph = Graph {
         nodes,
         targets,
-        &after,
-        parents,
-        links,
-    )?;
+        after: &after,
+    };
+    let mut work = Work {
+        carried: vec![in alloc; 0u64; marks.len()]?,
+        pending: VecDeque::new(alloc),
+    };
+    settle(alloc, marks, &mut work, &graph, parents, links)?;
     Ok(())
 }

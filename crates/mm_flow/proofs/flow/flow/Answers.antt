@@ -1,37 +1,31 @@
-use Rattle.std.proofs.Common.{◌≡◌, ℕ, ◌<◌, ◌⊎◌, inl, inr, List, length, arith, ◌∙◌, subst}
-use Rattle.mm_flow.specs.Flow.{IsListed, IsTaken, Flowing, Stepped}
-use Rattle.mm_flow.specs.Net.{Edges}
-use Rattle.mm_flow.proofs.Steps.{flowing_start, flowing_step, flowing_end}
+use Rattle.std.proofs.Common.{arith, subst}
+use Rattle.mm_flow.specs.Flow.{Flowing}
+use Rattle.mm_flow.specs.Graph.{edges_of}
+use Rattle.mm_flow.proofs.Steps.{flowing_start, flowing_step, flowing_end, working_taken}
 use Rattle.mm_flow.proofs.flow.flow.Goals as goal
 
 pub loop-k-init : goal.loop-k-init
-loop-k-init c = (flowing_start _ c.args.marks.now c.args.carried.now c.in_ok-pending.pending.items c.requires.fits c.in_ok-pending.ensures.below c.in_ok-pending.ensures.all, c.requires.passed, c.requires.len)
-
-module _ (e : Edges) (old marks carried all p : List ℕ) (k : ℕ) (h : Flowing e old marks carried all) (t : IsTaken k all p) where
-  node_below : k < length old
-  node_below = h.nodes k t.there
-
-  others_listed : (n : ℕ) → (n ≡ k) ⊎ IsListed marks carried p n
-  others_listed n = elim (h.listed n) [ inr w ↦ inr (inr w) | inl m ↦ elim (t.cases n m) [ inl e ↦ inl e | inr x ↦ inr (inl x) ] ]
-
-  stepped : (b carried2 r : List ℕ) → Stepped e k marks p b r → ((n : ℕ) → IsListed b carried2 r n) → Flowing e old b carried2 r
-  stepped b carried2 r s listed = flowing_step e old marks carried p s.marks s.pending b carried2 r k all h t node_below s.entry s.cells listed
+loop-k-init c = flowing_start (edges_of c.args.graph.now) c.args.marks.now c.args.work.now.carried.items _ c.requires c.in_ok-work.ensures.below c.in_ok-work.ensures.all
 
 pub step-requires-clause-node : goal.step-requires-clause-node
 step-requires-clause-node c =
-    let lt = node_below _ _ _ _ _ c.take.new.pending.items c.in-Some.k c.loop-k.invariant.0 c.in-Some.ensures in
-    let e = c.loop-k.invariant.0.len in
+    let lt = c.loop-k.invariant.nodes c.in-Some.k c.in-Some.ensures.there in
+    let e = c.loop-k.invariant.len in
     omega arith
 
-pub step-requires-clause-listed : goal.step-requires-clause-listed
-step-requires-clause-listed c = others_listed _ _ _ _ _ c.take.new.pending.items c.in-Some.k c.loop-k.invariant.0 c.in-Some.ensures
+pub step-requires-clause-working : goal.step-requires-clause-working
+step-requires-clause-working c = working_taken (edges_of c.args.graph.now) c.loop-k.marks c.loop-k.work.carried.items c.loop-k.work.pending.items _ c.in-Some.k c.loop-k.invariant.working c.in-Some.ensures
 
 pub loop-k-preserved : goal.loop-k-preserved
-loop-k-preserved c = (
-  stepped _ _ _ _ _ c.take.new.pending.items c.in-Some.k c.loop-k.invariant.0 c.in-Some.ensures c.step.new.marks c.step.new.carried c.step.new.pending.items c.in_ok-step.ensures.step c.in_ok-step.ensures.listed,
-  c.in_ok-step.ensures.passed,
-  c.in_ok-step.ensures.len ∙ c.loop-k.invariant.2,
-)
+loop-k-preserved c =
+    let s = c.in_ok-step.ensures.step in
+    let lt = c.loop-k.invariant.nodes c.in-Some.k c.in-Some.ensures.there in
+    flowing_step (edges_of c.args.graph.now) c.args.marks.now c.loop-k.marks c.loop-k.work.carried.items _ s.marks s.pending c.step.new.marks c.step.new.work.carried.items c.step.new.work.pending.items c.in-Some.k c.loop-k.work.pending.items
+    c.loop-k.invariant c.in-Some.ensures lt s.entry s.cells c.in_ok-step.ensures.working
 
 pub returns-clause-flow : goal.returns-clause-flow
-returns-clause-flow c = flowing_end _ _ _ c.loop-k.carried (subst (Flowing _ c.args.marks.now c.loop-k.marks c.loop-k.carried) c.in_default.ensures c.loop-k.invariant.0) c.loop-k.invariant.1
+returns-clause-flow c =
+    flowing_end (edges_of c.args.graph.now) c.args.marks.now c.loop-k.marks c.loop-k.work.carried.items (subst (Flowing (edges_of c.args.graph.now) c.args.marks.now c.loop-k.marks c.loop-k.work.carried.items) c.in_default.ensures c.loop-k.invariant)
+
+pub returns-clause-ready : goal.returns-clause-ready
+returns-clause-ready c = c.loop-k.invariant.working.ready

@@ -1,9 +1,10 @@
-use Rattle.std.proofs.Common.{◌≡◌, ◌+◌, ◌*◌, ◌^◌, length}
-use Rattle.mm_flow.specs.Flow.{Flowing, IsPassed, room}
+use Rattle.std.proofs.Common.{◌+◌, ◌*◌, ◌^◌, length}
+use Rattle.mm_flow.specs.Flow.{Flowing, room}
+use Rattle.mm_flow.specs.Graph.{edges_of}
 use Rattle.mm_flow.proofs.flow.flow.Given as goal
 
 abbrev pub invariant-loop-k : goal.invariant-loop-k
-invariant-loop-k l = Flowing (record { nodes = l.nodes; targets = l.targets }) l.fn.marks l.marks l.carried l.pending.items × IsPassed (record { nodes = l.nodes; targets = l.targets }) l.marks l.carried × (length l.carried ≡ length l.fn.marks)
+invariant-loop-k l = Flowing (edges_of l.graph) l.fn.marks l.marks l.work.carried.items l.work.pending.items
 
 abbrev pub decreases-loop-k : goal.decreases-loop-k
-decreases-loop-k l = 2 * room (2 ^ 64) l.marks + length l.pending.items
+decreases-loop-k l = 2 * room (2 ^ 64) l.marks + length l.work.pending.items

@@ -1,10 +1,15 @@
 use Rattle.std.proofs.Common.{arith}
+use Rattle.mm_flow.specs.Graph.{edges_of}
 use Rattle.mm_flow.proofs.Walks.{walking_start}
 use Rattle.mm_flow.proofs.flow.step.Goals as goal
 
 pub pass-requires-clause-start : goal.pass-requires-clause-start
 pass-requires-clause-start c =
-    walking_start _ c.args.k c.args.marks.now c.args.pending.now.items c.args.carried.now c.carry.new.marks c.carry.new.pending.items c.requires.passed c.requires.len (let e = c.requires.len in let lt = c.requires.node in omega arith) (c.requires.fits.order c.args.k c.requires.node) c.requires.listed c.in_ok-carry.ensures.marks c.in_ok-carry.ensures.stays
+    let g = c.args.graph.now in
+    let order = g.fits.order c.args.k (let e = c.requires.working.ready.nodes in let lt = c.requires.node in omega arith) in
+    rw (c.add.ensures.carried, c.add.ensures.pending, c.in_ok-carry.ensures.same) (
+    walking_start (edges_of g) c.args.k c.args.marks.now c.args.work.now.pending.items c.args.work.now.carried.items c.carry.new.marks c.carry.new.work.pending.items c.requires.working c.requires.node order
+    c.in_ok-carry.ensures.marks c.in_ok-carry.ensures.stays)
 
 pub returns-clause-step : goal.returns-clause-step
-returns-clause-step c = record { marks = c.carry.new.marks; pending = c.carry.new.pending.items; entry = c.in_ok-carry.ensures.marks; cells = c.in_ok-pass.ensures.marks }
+returns-clause-step c = record { marks = c.carry.new.marks; pending = c.carry.new.work.pending.items; entry = c.in_ok-carry.ensures.marks; cells = rw c.add.ensures.pending at c.in_ok-pass.ensures.marks }

@@ -1,10 +1,9 @@
-use Rattle.std.proofs.Common.{◌∙◌}
-use Rattle.mm_flow.proofs.Walks.{passed_still}
+use Rattle.mm_flow.proofs.Walks.{ready_still}
 use Rattle.mm_flow.proofs.Saturation.{saturating_start, saturating_more, reach_end}
 use Rattle.mm_flow.proofs.reach.settle.Goals as goal
 
 pub loop-gives-init : goal.loop-gives-init
-loop-gives-init c = (saturating_start _ _ c.args.marks.now, c.requires.passed, c.requires.len)
+loop-gives-init c = (saturating_start _ _ c.args.marks.now, c.requires.ready)
 
 pub returns-then-not-spread-clause-reach : goal.returns-then-not-spread-clause-reach
 returns-then-not-spread-clause-reach c =
@@ -13,6 +12,5 @@ returns-then-not-spread-clause-reach c =
 pub loop-gives-preserved : goal.loop-gives-preserved
 loop-gives-preserved c = (
   saturating_more _ _ c.args.marks.now c.loop-gives.marks c.flow.new.marks c.gifts.new.gives c.spread.new.marks c.spread.result c.loop-gives.invariant.0 c.in_ok-flow.ensures.flow c.in_ok-gifts.ensures c.spread.ensures,
-  passed_still _ c.flow.new.marks c.spread.new.marks _ c.spread.ensures.grows c.in_ok-flow.ensures.passed,
-  c.in_ok-flow.ensures.len ∙ c.loop-gives.invariant.2,
+  ready_still _ c.flow.new.marks c.spread.new.marks _ c.spread.ensures.len c.spread.ensures.grows c.in_ok-flow.ensures.ready,
 )

@@ -1,0 +1,16 @@
+// The graph that marks flow over.
+ghost use Rattle.std.specs.Prelude.{length};
+ghost use Rattle.mm_flow.specs.Flow.{Fits, IsAhead};
+
+use crate::node::Node;
+
+/// Nodes, and where each leads.
+#[derive(Clone, Copy)]
+pub struct Graph<'a> {
+    pub nodes: &'a [Node],
+    pub targets: &'a [usize],
+    /// For each node a later one, the first behind those that lie within it where it is to be fast.
+    pub after: &'a [usize],
+    ghost fits: { Fits (record { nodes = nodes.now; targets = targets.now }) (length nodes.now) },
+    ghost ahead: { IsAhead after.now (length nodes.now) },
+}
