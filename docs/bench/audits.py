@@ -9,6 +9,8 @@ falling.img   r1 reads all cells, which hold pointers to words that can be writt
 late.img      the chain, and at its end a pointer to a word that can be written, which another group loads
 chain64.img, falling64.img, random64.img   the same for 64 groups with a slot each; random64.img has the pointers of falling.img in random order
 words64.img   the chain for 64 groups, each with a word of its own that it can write, behind all pages
+gates64.img   each cell has an enter pointer to the next, and each of 64 groups one to another cell
+scattered64.img   the falling pointers, and 64 groups with 15 registers each that read segments of random lengths at random places
 
 A NAME is one of these without its '.img'; without one all are made."""
 import random
@@ -16,7 +18,7 @@ import struct
 import sys
 from pathlib import Path
 
-from images import CODE, EXECUTE, PAGES, POINTERS, READ_ONLY, READ_WRITE, image, page, pointer, slot
+from images import CODE, ENTER, EXECUTE, PAGES, POINTERS, READ_ONLY, READ_WRITE, image, page, pointer, slot
 
 CELLS = 512 * (PAGES - 1)
 ALL = (pointer(READ_ONLY, 24, POINTERS), 1)
@@ -59,6 +61,20 @@ def late():
     return whole(cells, [{1: FIRST}, {1: (pointer(READ_ONLY, 3, OWN), 1)}])
 
 
+def gates(cells):
+    return [pointer(ENTER, 3, POINTERS + 8 * k + 8) for k in range(cells)]
+
+
+def scattered():
+    chance = random.Random(11)
+
+    def register():
+        log = chance.randrange(3, 21)
+        return (pointer(READ_ONLY, log, POINTERS + (chance.randrange(8 * CELLS) >> log << log)), 1)
+
+    return whole(falling(), [{k: register() for k in range(1, 16)} for _ in range(64)])
+
+
 MAKERS = {
     "version1": lambda: whole(chain(512 * 255), [{1: FIRST}] * 16, 1),
     "chain": lambda: whole(chain(CELLS), [{1: FIRST}]),
@@ -68,6 +84,8 @@ MAKERS = {
     "falling64": lambda: whole(falling(), [{1: ALL}] * 64),
     "random64": lambda: whole(shuffled(), [{1: ALL}] * 64),
     "words64": lambda: whole(chain(CELLS), [{1: FIRST, 2: (pointer(READ_WRITE, 3, FAR + 8 * n), 1)} for n in range(64)]),
+    "gates64": lambda: whole(gates(CELLS), [{1: (pointer(ENTER, 3, POINTERS + 8 * (CELLS // 64) * n), 1)} for n in range(64)]),
+    "scattered64": scattered,
 }
 
 

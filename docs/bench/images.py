@@ -18,7 +18,7 @@ def pointer(perm, log, address):
     return perm << 60 | log << 54 | address
 
 
-READ_ONLY, READ_WRITE, EXECUTE, PRIVILEGED = 1, 2, 3, 4
+READ_ONLY, READ_WRITE, EXECUTE, PRIVILEGED, ENTER = 1, 2, 3, 4, 5
 
 
 def addi(rd, ra, imm):
