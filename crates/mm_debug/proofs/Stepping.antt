@@ -1,20 +1,18 @@
 -- The next item of a session, and the session after cycles.
-use Rattle.std.proofs.Common.{◌≡◌, ◌≢◌, ◌↔◌, ◌⊎◌, inl, inr, ℕ, zero, suc, ◌+◌, ◌<◌, ◌≤◌, Bool, true, false, nat_lt, if◌then◌else◌, List, [], ◌∷◌, map, Option, None, Some, IsSome, IfSome, refl, sym, ap, ◌∙◌, arith}
+use Rattle.std.proofs.Common.{◌≡◌, ◌⊎◌, inl, inr, ℕ, zero, suc, ◌+◌, ◌<◌, ◌≤◌, Bool, true, false, nat_lt, if◌then◌else◌, List, [], ◌∷◌, map, Option, None, Some, refl, sym, ap, ◌∙◌, arith}
 use Rattle.std.proofs.Props.{props}
 use Rattle.std.proofs.Math.Logic.{∥∥₁_elim}
 use Rattle.std.proofs.lemmas.Bool.Decides.{nat_tests}
 use Rattle.std.specs.List.{AllByRecursion}
 use Rattle.mm_model.specs.Slot.{Slot}
-use Rattle.mm_model.specs.State.{Row, State}
+use Rattle.mm_model.specs.State.{Row}
 use Rattle.mm_model.specs.Turn.{is_running}
 use Rattle.mm_model.specs.Run.{after, first_running, or_else, any_number, next_running}
 use Rattle.mm_model.specs.Fits.{IsSlot, slots_of}
 use Rattle.mm_model.proofs.CoreRows.{each_map}
 use Rattle.mm_machine.specs.Kept.{Kept}
 use Rattle.mm_sched.specs.declared.schedule.Order.TheVariants as order
-use Rattle.mm_sched.specs.Following.{IsNext}
 use Rattle.mm_debug.specs.Session.{Session, total_of, item_in, next_item, issued, then_stepped, stepped}
-use Rattle.mm_machine.proofs.Running.{Masks, next_is, none_is, zero_of}
 
 -- 1. The next item.
 
