@@ -86,13 +86,7 @@ impl<M: Memory> Machine<M> {
         ensures runs { (i : ImageValue) (items : List ℕ) → StandsFor i items self.old → StandsFor i (items ++ item ∷ []) self.new }
         ensures ports { ports_used self.new ≡ ports_used self.old }
     {
-        let mut step = Step {
-            tick: Tick::Idle,
-            slot: item,
-            fetched: None,
-            touched: None,
-            entered: None,
-        };
+        let mut step = no_step();
         self.issue(&[item], None, 0, &mut step);
         step
     }
@@ -103,13 +97,7 @@ impl<M: Memory> Machine<M> {
         ensures goes { WentOn self.old self.new items.now }
         ensures ports { ports_used self.new ≡ ports_used self.old }
     {
-        let mut step = Step {
-            tick: Tick::Idle,
-            slot: 0,
-            fetched: None,
-            touched: None,
-            entered: None,
-        };
+        let mut step = no_step();
         self.issue(items, None, 0, &mut step);
     }
 
@@ -123,18 +111,12 @@ impl<M: Memory> Machine<M> {
         ensures slot { IfSome result (λ n. n < 64) }
         ensures ports { ports_used self.new ≡ ports_used self.old }
     {
-        let mut step = Step {
-            tick: Tick::Idle,
-            slot: 0,
-            fetched: None,
-            touched: None,
-            entered: None,
-        };
+        let mut step = no_step();
         self.issue(&[], behind, count, &mut step)
     }
 
     /// Issues the items of a list, and then so many cycles of round robin behind a slot, fewer only where no slot runs. Gives the slot
-    /// that round robin issued last, that one where it issued none. The step is that of an item that is issued alone.
+    /// that round robin issued last, that one where it issued none. The step is that of the last item, where all are issued.
     ///
     /// Every cycle passes here: with one loop there is one copy of a turn, and it is a part of the loop.
     fn issue(&mut self, items: &[u8], behind: Option<u8>, count: u64, step: &mut Step) -> Option<u8>
@@ -153,6 +135,7 @@ impl<M: Memory> Machine<M> {
                 break;
             };
             let made = self.take(item);
+            // Behind each cycle this would cost more than a tenth of it.
             if at + 1 == total {
                 *step = made;
             }
@@ -237,6 +220,17 @@ impl<M: Memory> Machine<M> {
         ensures paged { IsPaged (M.meaning result.now) }
     {
         &self.mem
+    }
+}
+
+/// The step of no cycle.
+fn no_step() -> Step {
+    Step {
+        tick: Tick::Idle,
+        slot: 0,
+        fetched: None,
+        touched: None,
+        entered: None,
     }
 }
 
