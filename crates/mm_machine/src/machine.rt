@@ -135,7 +135,7 @@ impl<M: Memory> Machine<M> {
                 break;
             };
             let made = self.take(item);
-            // Behind each cycle this would cost more than a tenth of it.
+            // Behind each cycle this would be some fifteen instructions more.
             if at + 1 == total {
                 *step = made;
             }
