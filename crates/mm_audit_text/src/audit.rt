@@ -12,7 +12,7 @@ use mm_image::Image;
 use mm_io::{Sink, WriteFault};
 use mm_text::Gather;
 
-/// Writes the audit of an image under all entries: for each group that has a slot, ascending, whether it is privileged, the maximal
+/// Writes the audit of an image by its survey under all entries: for each group that has a slot, ascending, whether it is privileged, the maximal
 /// segments of at least a word that it can touch and that it can write, and whether it stands apart from all others. At a
 /// [`WriteFault`] the sink took a front part.
 pub fn write_audit<O: Sink>(survey: &Survey, img: &Image, out: &mut O) -> Result<(), WriteFault>

@@ -12,10 +12,10 @@ use crate::work::Work;
 use std::alloc::{AllocError, Global};
 use std::collections::VecDeque;
 
-/// Where more than this part of the nodes are pending, the oldest of them comes first.
+/// Where more than one node in so many is pending, the oldest of them comes first.
 const MANY: usize = 16;
 
-/// Adds the groups of the mask to the node, which is pending from then on where it does not carry them already.
+/// Adds the groups of the mask to the node's mark. A node that carried its mark or was pending does so still.
 fn carry(marks: &mut [u64], work: &mut Work, to: usize, mask: u64) -> Result<(), AllocError>
     requires node { to < length marks.old }
     requires len { length work.old.carried.items ≡ length marks.old }
@@ -86,7 +86,8 @@ struct Walk {
 }
 
 /// Takes one step of the way over the nodes within `k`. A node that carries the mask already is passed by, with all that lie within
-/// it, once the outer node's targets before its own have the mask.
+/// it, once the outer node's targets before its own have the mask. One that does not carries it from now on, since all its targets
+/// get it on this way.
 fn walk_on(
     marks: &mut [u64],
     work: &mut Work,

@@ -25,13 +25,12 @@ pub struct Machine<M: Memory> {
 }
 
 impl<M: Memory> Machine<M> {
-    ghost use Rattle.std.specs.Prelude.{◌≡◌, ◌↔◌, ℕ, ◌+◌, ◌<◌, ◌≤◌, ◌^◌, [], ◌∷◌, ◌++◌, true, List, length, slice_get, slice_index, IfOk, IfSome, IsSomeAnd, Some};
+    ghost use Rattle.std.specs.Prelude.{◌≡◌, ◌↔◌, ℕ, ◌+◌, ◌<◌, ◌≤◌, ◌^◌, [], ◌∷◌, ◌++◌, List, length, slice_get, slice_index, IfOk, IfSome, IsSomeAnd, Some};
     ghost use Rattle.mm_model.specs.Fits.{slots_of};
     ghost use Rattle.std.specs.Option.{option_copied};
     ghost use Rattle.std.specs.Int.{IsBitSet};
     ghost use Rattle.mm_model.specs.declared.slot.SlotState.TheVariants.{Running};
-    ghost use Rattle.mm_model.specs.Memory.{IsPaged, cell_at};
-    ghost use Rattle.mm_model.specs.Ask.{load_kind};
+    ghost use Rattle.mm_model.specs.Memory.{IsPaged};
     ghost use Rattle.mm_model.specs.Uses.{Use};
     ghost use Rattle.mm_model.specs.Image.{Image as ImageValue, start};
     ghost use Rattle.mm_model.specs.State.{slot_at, output_of};
@@ -40,7 +39,6 @@ impl<M: Memory> Machine<M> {
     ghost use Rattle.mm_model.specs.declared.step.Tick.{Tick};
     ghost use Rattle.mm_model.specs.Slot.{Slot as SlotValue};
     ghost use Rattle.mm_model.specs.Outcomes.{IsIdle, Delivers, StopsAt, Blocks, Faults, Completes, FaultChanges};
-    ghost use Rattle.mm_mem.specs.Answers.{loaded, stored, after_load, after_store, access_uses};
     ghost use Rattle.mm_machine.specs.Machine.{state_of, ports_used, StandsTo, Takes, StandsFor};
     ghost use Rattle.mm_machine.specs.Going.{WentOn};
 
@@ -101,8 +99,8 @@ impl<M: Memory> Machine<M> {
         self.issue(items, None, 0, &mut step);
     }
 
-    /// Issues so many cycles of round robin behind a slot, fewer only where no slot runs. Gives the slot that was issued last, that one
-    /// where none was.
+    /// Issues so many cycles of round robin, fewer only where no slot runs: behind a slot, or from the least where none is named. Gives
+    /// the slot that was issued last, `behind` where none was.
     pub fn round_robin(&mut self, behind: Option<u8>, count: u64) -> Option<u8>
         requires few { (state_of self.old).cycles + count ≤ 2 ^ 32 }
         requires slot { IfSome behind (λ n. n < 64) }
@@ -115,10 +113,10 @@ impl<M: Memory> Machine<M> {
         self.issue(&[], behind, count, &mut step)
     }
 
-    /// Issues the items of a list, and then so many cycles of round robin behind a slot, fewer only where no slot runs. Gives the slot
-    /// that round robin issued last, that one where it issued none. The step is that of the last item, where all are issued.
+    /// Issues the items of a list, and then so many cycles of round robin as [`Machine::round_robin`] does. Of an item that is issued
+    /// alone the step is told.
     ///
-    /// Every cycle passes here: with one loop there is one copy of a turn, and it is a part of the loop.
+    /// Every cycle passes here, so that a turn has one caller, into whose loop the compiler puts it.
     fn issue(&mut self, items: &[u8], behind: Option<u8>, count: u64, step: &mut Step) -> Option<u8>
         requires few { (state_of self.old).cycles + (length items.now + count) ≤ 2 ^ 32 }
         requires slot { IfSome behind (λ n. n < 64) }
@@ -134,8 +132,8 @@ impl<M: Memory> Machine<M> {
             let Some(item) = self.next_item(items, at, &mut last) else {
                 break;
             };
-            let made = self.take(item);
-            // Behind each cycle this would be some fifteen instructions more.
+            let made = self.advance(item);
+            // To copy each step would be some fifteen instructions a cycle.
             if at + 1 == total {
                 *step = made;
             }
@@ -143,7 +141,7 @@ impl<M: Memory> Machine<M> {
         last
     }
 
-    /// What comes next: the item at a place of a list, and behind its end the next slot of round robin.
+    /// What comes next: the item at a place of a list, and behind its end the next slot of round robin, which is the last from then on.
     fn next_item(&self, items: &[u8], at: u64, last: &mut Option<u8>) -> Option<u8>
         requires slot { IfSome last.old (λ n. n < 64) }
         ensures listed { at < length items.now → (result ≡ Some (slice_index items.now at)) × (last.new ≡ last.old) }
@@ -159,7 +157,7 @@ impl<M: Memory> Machine<M> {
     }
 
     /// One cycle more, the turn of an item.
-    fn take(&mut self, item: u8) -> Step
+    fn advance(&mut self, item: u8) -> Step
         requires { (state_of self.old).cycles < 2 ^ 32 }
         ensures state { state_of self.new ≡ after (state_of self.old) item }
         ensures step { result ≡ (turn_of (state_of self.old) item).step }

@@ -24,18 +24,18 @@ loop-at-preserved g c =
     let at = c.loop-at.at in
     let item = c.in-Some.item in
     record {
-      cycles = omega (arith, ap (λ (s : State). s.cycles) c.take-made.ensures.state ∙ after_cycles (state_of mid) item, c.loop-at.invariant.cycles);
+      cycles = omega (arith, ap (λ (s : State). s.cycles) c.advance-made.ensures.state ∙ after_cycles (state_of mid) item, c.loop-at.invariant.cycles);
       slot = c.next_item.ensures.slot;
-      issued = cycle_more old mid c.take-made.new.self items c.args.behind c.loop-at.last c.next_item.new.last c.args.count at item c.loop-at.invariant.issued (omega arith)
+      issued = cycle_more old mid c.advance-made.new.self items c.args.behind c.loop-at.last c.next_item.new.last c.args.count at item c.loop-at.invariant.issued (omega arith)
           (λ inside. let (next, same) = c.next_item.ensures.listed inside in (sym c.in-Some.is ∙ next, same))
           (λ past. let (next, same) = c.next_item.ensures.behind past in (sym c.in-Some.is ∙ next, same ∙ ap (λ (o : Option ℕ). or_else o c.loop-at.last) c.in-Some.is))
-          c.take-made.ensures.state c.take-made.ensures.takes;
+          c.advance-made.ensures.state c.advance-made.ensures.takes;
       step = elim c.if-at-total.branch [
         | then-at-total w ↦ cycle_step old mid items c.args.behind c.loop-at.last c.args.count at item c.if-at-total.step c.loop-at.invariant.issued
-            (λ inside. sym c.in-Some.is ∙ (c.next_item.ensures.listed inside).0) (w.step-is ∙ c.take-made.ensures.step)
+            (λ inside. sym c.in-Some.is ∙ (c.next_item.ensures.listed inside).0) (w.step-is ∙ c.advance-made.ensures.step)
         | else-at-total w ↦ λ n one none first. let some : length items ≡ 1 = ap (λ (xs : List ℕ). length xs) one in absurd (omega (arith, w.if-at-total.false, some, none, first))
       ];
-      ports = c.take-made.ensures.ports ∙ c.loop-at.invariant.ports;
+      ports = c.advance-made.ensures.ports ∙ c.loop-at.invariant.ports;
     }
 
 pub returns-after-loop-at-clause-goes : goal.returns-after-loop-at-clause-goes

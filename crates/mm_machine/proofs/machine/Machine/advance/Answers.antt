@@ -2,7 +2,7 @@ use Rattle.std.proofs.Common.{arith}
 use Rattle.mm_model.specs.State.{State}
 use Rattle.mm_machine.specs.Machine.{state_of}
 use Rattle.mm_machine.proofs.Keeping.{few_turns, goes_on, state_made}
-use Rattle.mm_machine.proofs.machine.Machine.take.Goals as goal
+use Rattle.mm_machine.proofs.machine.Machine.advance.Goals as goal
 
 pub turn-requires-clause-turns : goal.turn-requires-clause-turns
 turn-requires-clause-turns g c = few_turns (state_of c.args.self.now) c.requires c.args.self.now.kept
