@@ -34,8 +34,6 @@ mod point;
 mod replies;
 mod session;
 mod stop;
-#[cfg(test)]
-mod tests;
 
 pub use command::{first_line, number, take_token};
 pub use point::Point;

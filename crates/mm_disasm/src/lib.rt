@@ -9,8 +9,6 @@ pub mod laws;
 mod names;
 mod numbers;
 mod segments;
-#[cfg(test)]
-mod tests;
 mod threads;
 mod words;
 

@@ -31,8 +31,6 @@ mod layout;
 mod pages;
 mod reading;
 mod slots;
-#[cfg(test)]
-mod tests;
 mod words;
 mod writing;
 

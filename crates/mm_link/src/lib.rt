@@ -14,8 +14,6 @@ mod offsets;
 mod placing;
 mod sites;
 mod slots;
-#[cfg(test)]
-mod tests;
 mod threads;
 
 pub use fault::{LinkError, LinkFault};

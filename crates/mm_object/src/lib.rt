@@ -42,8 +42,6 @@ mod segment;
 mod segment_records;
 mod segments;
 mod target;
-#[cfg(test)]
-mod tests;
 mod thread;
 mod thread_records;
 mod threads;

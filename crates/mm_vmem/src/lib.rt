@@ -2,8 +2,6 @@
 #![tactic(auto)]
 
 mod buffer;
-#[cfg(test)]
-mod tests;
 mod vmem;
 
 pub use buffer::{Buffer, ENTRIES, Entry};
