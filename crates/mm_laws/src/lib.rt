@@ -9,7 +9,6 @@ pub mod cell_lines;
 pub mod counts;
 pub mod granted;
 pub mod grants;
-pub mod images;
 pub mod isolated;
 pub mod migration;
 pub mod restrictions;
