@@ -55,8 +55,6 @@ mod pages;
 mod reading;
 mod recorder;
 mod slots;
-#[cfg(test)]
-mod tests;
 mod waiting;
 mod words;
 mod writing;

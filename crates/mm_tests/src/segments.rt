@@ -1,4 +1,4 @@
-use crate::SegSet;
+use mm_seg::SegSet;
 use std::test::Fail;
 
 #[test]

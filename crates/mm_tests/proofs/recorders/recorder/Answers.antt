@@ -2,7 +2,7 @@ use Rattle.std.proofs.Common.{ap, ◌∙◌}
 use Rattle.mm_model.specs.Image.{start}
 use Rattle.mm_model.specs.State.{State}
 use Rattle.mm_debug.specs.Session.{total_of}
-use Rattle.mm_save.proofs.tests.recorder.Goals as goal
+use Rattle.mm_tests.proofs.recorders.recorder.Goals as goal
 
 -- a machine that stands at the start of an image has done no cycle
 pub new-requires-5 : goal.new-requires-5

@@ -1,4 +1,4 @@
-use crate::{Apart, Entries, audit};
+use mm_audit::{Apart, Entries, audit};
 use mm_image::read;
 use std::test::Fail;
 

@@ -1,4 +1,3 @@
-use super::*;
 use arrayvec::ArrayVec;
 use mm_debug::Session;
 use mm_image::Image;
@@ -6,6 +5,7 @@ use mm_io::MemSink;
 use mm_machine::{Machine, Slot, SlotState};
 use mm_mem::{Boot, PlainMem};
 use mm_model::{CELLS, Page};
+use mm_save::Recorder;
 use mm_sched::Order;
 use mm_word::{Cell, GuardedPtr, Perm, Word};
 use std::alloc::Global;
