@@ -27,7 +27,7 @@ use Rattle.mm_asm.specs.Laws.{TargetsStandInOrder}
 use Rattle.mm_asm.proofs.Lists.{each_in, each_from, each_weaker, none_both}
 use Rattle.mm_asm.proofs.Uses.{in_merge}
 use Rattle.mm_asm.proofs.Relocs.{RisesWithin, higher, rises, in_turn}
-use Rattle.mm_asm.proofs.Externals.{fault_none}
+use Rattle.mm_asm.proofs.ExternalNames.{fault_none}
 use Rattle.mm_asm.proofs.Bounded.{none_first}
 
 abbrev line_of_use : Use → ℕ

@@ -16,7 +16,7 @@ use Rattle.mm_asm.specs.Faults.{is_outside, meant_faults, use_failures, goal_fai
 use Rattle.mm_asm.specs.Bounds.{IsPlaced}
 use Rattle.mm_asm.proofs.Lists.{In, none_both, none_flat, none_map, get_map, get_past}
 use Rattle.mm_asm.proofs.Order.{Rising, position_below}
-use Rattle.mm_asm.proofs.Externals.{fault_none, externals_rise, externals_few, used_among}
+use Rattle.mm_asm.proofs.ExternalNames.{fault_none, externals_rise, externals_few, used_among}
 
 module _ (d : Draft) where
   pub externals_rising : Rising (externals_of d)

@@ -13,7 +13,7 @@ use Rattle.mm_asm.specs.Names.{Use, Here, meant_by, meant, uses_of, is_external,
 use Rattle.mm_asm.specs.Meaning.{target_by, target_of}
 use Rattle.mm_asm.proofs.Lists.{In, each_in, found}
 use Rattle.mm_asm.proofs.Order.{before_all, not_itself, is_same, position_at}
-use Rattle.mm_asm.proofs.Externals.{externals_each, used_among}
+use Rattle.mm_asm.proofs.ExternalNames.{externals_each, used_among}
 use Rattle.mm_asm.proofs.Targets.{externals_rising}
 use Rattle.mm_disasm.proofs.Saying.{IsTargetOf}
 use Rattle.mm_disasm.proofs.DraftedOrder.{same_items, ascend_all}
