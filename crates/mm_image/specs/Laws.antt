@@ -11,7 +11,8 @@ ImagesHaveNoFault = (bytes : List ℕ) → IsBytes bytes → (image_fault bytes 
 
 -- each image has a spelling, and no other
 abbrev pub ImagesAreSpelled : Type 0
-ImagesAreSpelled = (i : Image) → IsImage i → Spells (spelling i) i × ((bytes : List ℕ) → Spells bytes i → bytes ≡ spelling i)
+ImagesAreSpelled =
+    (i : Image) → IsImage i → Spells (spelling i) i × ((bytes : List ℕ) → Spells bytes i → bytes ≡ spelling i)
 
 -- bytes spell one image at most
 abbrev pub SpelledImagesAreOne : Type 0
