@@ -1,18 +1,14 @@
 -- Cells that are packed, and read again.
-use Rattle.std.proofs.Common.{◌≡◌, ◌≢◌, ℕ, ◌+◌, ◌-◌, ◌*◌, ◌/◌, ◌%◌, ◌^◌, ◌<◌, ◌≤◌, Bool, true, false, List, [], ◌∷◌, ◌++◌, zero, suc, length, map, take, drop, get_or, set, replicate, refl, sym, ap}
-use Rattle.std.proofs.Common.{subst, ◌∙◌, ⊎_elim, arith, lit<}
-use Rattle.std.specs.Prelude.{◌==◌}
+use Rattle.std.proofs.Common.{◌≡◌, ◌≢◌, ℕ, ◌+◌, ◌*◌, ◌%◌, ◌^◌, ◌<◌, Bool, true, false, List, [], ◌∷◌, ◌++◌, zero, suc, length, map, take, get_or, set, refl, sym, ap}
+use Rattle.std.proofs.Common.{subst, ◌∙◌, ⊎_elim, arith}
 use Rattle.std.specs.List.{AllByRecursion}
 use Rattle.std.specs.Int.RustNames.{bit_or}
 use Rattle.std.proofs.lemmas.Nat.{or_shifted, or_comm, pow_below}
-use Rattle.std.proofs.lemmas.Nat.Bits.{bit_at-zero, bit_at_ones}
-use Rattle.std.proofs.lemmas.Bool.{cases_lt, cases_eq}
-use Rattle.std.proofs.lemmas.List.{length-append, length-take-le, length-drop, length-map, length-set, get_or-take, get_or-drop, get_or_append_left, get_or-append_right, get_or-append-add}
-use Rattle.std.proofs.lemmas.List.{get_or-set_same, get_or-set_other, get_or-map, get_or-replicate, length-replicate, map_more, take_at, drop-drop, append_assoc}
-use Rattle.std.proofs.Math.Seq.{take-add}
+use Rattle.std.proofs.lemmas.Bool.{cases_eq}
+use Rattle.std.proofs.lemmas.List.{length-take-le, length-map, length-set}
+use Rattle.std.proofs.lemmas.List.{get_or-set_same, get_or-set_other, get_or-map, map_more}
 use Rattle.std.proofs.lemmas.List.FromFn.{length-map-range_with_len, get_or-map-range_with_len, fill_by_all}
 use mir.Val.{bool_byte}
-use borrow.Rule.Slice.PartMut.{put_mid}
 use Rattle.mm_word.specs.declared.word.Word.{Word}
 use Rattle.mm_word.specs.declared.word.Word.TheVariants.{Int, Ptr}
 use Rattle.mm_word.specs.declared.word.Cell.{Cell}
@@ -20,9 +16,8 @@ use Rattle.mm_word.specs.Pointer.{SpellsPointer}
 use Rattle.mm_word.specs.Word.{IsWord, word_bits, is_pointer}
 use Rattle.mm_word.proofs.Packing.{pointer_of-bits_of, SpellsPointer-bits_of}
 use Rattle.mm_model.specs.Flags.{one_if, number_of_flags}
-use Rattle.mm_model.specs.Memory.{zero_cell, zero_page}
+use Rattle.mm_model.specs.Memory.{zero_cell}
 use Rattle.mm_model.proofs.ImageBytes.Apart.{number_of_flags-below, flag-get}
-use Rattle.mm_mem.specs.Blocks.{block_in, with_block}
 use Rattle.mm_mem.specs.Packed.{bit_of, word_of, cell_from, cell_of_block, block_of, IsPackedBlock}
 use Rattle.mm_mem.specs.Unpacked.{words_of, tags_of, fulls_of}
 

@@ -1,5 +1,5 @@
 -- What the calls of a memory answer, what they leave, and the uses that they add.
-use Rattle.std.specs.Prelude.{ℕ, Bool, true, false, if◌then◌else◌, List, [], ◌∷◌, Option, Some, None}
+use Rattle.std.specs.Prelude.{ℕ, if◌then◌else◌, List, [], ◌∷◌, Option, Some, None}
 use Rattle.mm_word.specs.declared.word.Word.{Word}
 use Rattle.mm_word.specs.declared.word.Cell.{Cell}
 use Rattle.mm_word.specs.declared.word.Pre.{Pre}

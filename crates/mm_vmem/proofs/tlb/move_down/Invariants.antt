@@ -1,6 +1,6 @@
 use Rattle.std.proofs.Common.{◌≡◌, ◌==◌, ℕ, ◌<◌, false, [], ◌∷◌, ◌++◌, take, drop, get_or}
-use Rattle.mm_vmem.specs.declared.buffer.Entry.{Entry}
-use Rattle.mm_vmem.proofs.buffer.move_down.Given as goal
+use Rattle.mm_vmem.specs.declared.tlb.Entry.{Entry}
+use Rattle.mm_vmem.proofs.tlb.move_down.Given as goal
 
 -- the first entries have moved, one is carried on, and none of them is of the page
 abbrev pub invariant-loop-entry : goal.invariant-loop-entry

@@ -6,25 +6,25 @@ ghost use Rattle.mm_vmem.specs.Entries.{pages_in, entries_without};
 use arrayvec::ArrayVec;
 use std::marker::Model;
 
-/// How many entries a translation buffer has room for.
+/// How many entries a TLB has room for.
 pub const ENTRIES: usize = 16;
 
-/// A page that was looked up, and its frame.
+/// An entry of the TLB: a page that was looked up, and its frame.
 #[derive(Clone, Copy, Debug, Default, PartialEq, Eq)]
 pub struct Entry {
     pub page: u64,
     pub frame: u32,
 }
 
-/// A translation buffer: up to 16 pages with their frames, each page once, the last used first.
+/// A translation buffer (TLB): up to 16 pages with their frames, each page once, the last used first.
 #[derive(Drop)]
-pub struct Buffer {
+pub struct Tlb {
     entries: ArrayVec<Entry, ENTRIES>,
 }
 
-impl Model for Buffer {
+impl Model for Tlb {
     ghost use Rattle.std.specs.Prelude.{List};
-    ghost use Rattle.mm_vmem.specs.declared.buffer.Entry.{Entry};
+    ghost use Rattle.mm_vmem.specs.declared.tlb.Entry.{Entry};
     ghost use Rattle.mm_vmem.specs.Entries.{AreEntries};
 
     ghost Value = { List Entry };
@@ -34,15 +34,15 @@ impl Model for Buffer {
     ghost invariant = { λ b. AreEntries b.entries.items };
 }
 
-// Where a page stands.
+// The index of the entry of a page.
 fn place(entries: &[Entry], page: u64) -> Option<usize>
     ensures { result ≡ position (λ entry. entry.page == page) entries.now }
 {
     entries.iter().position(|entry| entry.page == page)
 }
 
-// Puts an entry first, and moves each before the old one of its page, or all where there is none, one place down. Gives the entry that is left over,
-// where there is none.
+// Puts an entry first, and moves the entries before the old one of its page one place down. Where its page has no entry
+// yet, moves all of them, and gives the last, for which there is no place.
 fn move_down(entries: &mut [Entry], first: Entry) -> Option<Entry>
     requires { IsDistinct (pages_in entries.old) }
     ensures found { IsNone result ↔ (has first.page (pages_in entries.old) ≡ true) }
@@ -61,19 +61,19 @@ fn move_down(entries: &mut [Entry], first: Entry) -> Option<Entry>
     Some(carried)
 }
 
-impl Buffer {
+impl Tlb {
     ghost use Rattle.mm_vmem.specs.Entries.{frame_in, after_look_up};
 
-    /// An empty buffer.
-    pub fn new() -> Buffer
+    /// An empty TLB.
+    pub fn new() -> Tlb
         ensures { result ≡ [] }
     {
-        Buffer {
+        Tlb {
             entries: ArrayVec::new(),
         }
     }
 
-    /// The frame of a page, if it has the page. It stays as it is.
+    /// The frame of a page, if the TLB has the page. The order of the entries stays.
     pub fn find(&self, page: u64) -> Option<u32>
         ensures { result ≡ frame_in page self.now }
     {
@@ -82,7 +82,8 @@ impl Buffer {
         Some(entries[i].frame)
     }
 
-    /// Looks up a page, whose frame this is, and tells whether it was there. Its entry becomes the first; where there is no room the last one goes.
+    /// Looks up a page with its frame, and tells whether it was there. Its entry becomes the first; where there is no
+    /// room the last one goes.
     pub fn look_up(&mut self, page: u64, frame: u32) -> bool
         ensures found { result ≡ has page (pages_in self.old) }
         ensures after { self.new ≡ after_look_up (record { page = page; frame = frame }) self.old }
@@ -98,7 +99,7 @@ impl Buffer {
         }
     }
 
-    /// Empties it.
+    /// Removes all entries.
     pub fn clear(&mut self)
         ensures { self.new ≡ [] }
     {

@@ -3,13 +3,14 @@ use Rattle.std.specs.Prelude.{◌==◌}
 use Rattle.std.specs.List.{refill}
 use Rattle.mm_model.specs.Counted.{has}
 use Rattle.mm_vmem.specs.Entries.{AreEntries, pages_in, entries_without, after_look_up}
-use Rattle.mm_vmem.specs.declared.buffer.Entry.{Entry}
+use Rattle.mm_vmem.specs.declared.tlb.Entry.{Entry}
 use Rattle.mm_vmem.proofs.Entries.{entries_entered, refilled, after_found, after_full, after_room}
-use Rattle.mm_vmem.proofs.buffer.Buffer.look_up.Goals as goal
+use Rattle.mm_vmem.proofs.tlb.Tlb.look_up.Goals as goal
 
 -- its page was there
 
-found : (c : goal.In-None) → refill (length c.self.inside.entries.items) c.self.inside.entries.items c.move_down.new.entries ≡ after_look_up (record { page = c.args.page; frame = c.args.frame }) c.self.inside.entries.items
+found : (c : goal.In-None) → refill (length c.self.inside.entries.items) c.self.inside.entries.items c.move_down.new.entries ≡ after_look_up
+    (record { page = c.args.page; frame = c.args.frame }) c.self.inside.entries.items
 found c =
     let e : Entry = record { page = c.args.page; frame = c.args.frame } in
     let old : List Entry = c.self.inside.entries.items in
@@ -29,7 +30,8 @@ absent : (b : Bool) → (b ≡ true → true ≡ false) → b ≡ false
 absent true h = cc (h refl)
 absent false h = refl
 
-module _ (e last : Entry) (old read new : List Entry) (few : length old ≤ 16) (value : read ≡ old) (long : length new ≡ length read) (left : new ++ last ∷ [] ≡ e ∷ read) (none : has e.page (pages_in read) ≡ true → true ≡ false) where
+module _ (e last : Entry) (old read new : List Entry) (few : length old ≤ 16) (value : read ≡ old) (long : length new ≡ length read) (left : new ++ last ∷ [] ≡ e ∷ read)
+    (none : has e.page (pages_in read) ≡ true → true ≡ false) where
   not_there : has e.page (pages_in old) ≡ false
   not_there = ap (λ (xs : List Entry). has e.page (pages_in xs)) (sym value) ∙ absent (has e.page (pages_in read)) none
 
@@ -56,7 +58,8 @@ module _ (e last : Entry) (old read new : List Entry) (few : length old ≤ 16) 
       let less : length new < 16 = omega (arith, same_length, few, apart) in
       ap (λ (xs : List Entry). xs ++ last ∷ []) same_items ∙ after_room e old few last new not_there less shifted
 
-kept : (c : goal.Else-not-is_full) → refill (length c.self.inside.entries.items) c.self.inside.entries.items c.move_down.new.entries ≡ after_look_up (record { page = c.args.page; frame = c.args.frame }) c.self.inside.entries.items
+kept : (c : goal.Else-not-is_full) → refill (length c.self.inside.entries.items) c.self.inside.entries.items c.move_down.new.entries ≡ after_look_up
+    (record { page = c.args.page; frame = c.args.frame }) c.self.inside.entries.items
 kept c =
     full (record { page = c.args.page; frame = c.args.frame }) c.in-Some.last c.self.inside.entries.items c.as_mut_slice.result.now c.move_down.new.entries c.self.invariant.few
     c.as_mut_slice.ensures.value c.move_down.auto.entries c.in-Some.ensures.left c.in-Some.ensures.found.1 c.is_full.result c.is_full.ensures.value c.if-not-is_full.false
