@@ -6,7 +6,8 @@ use mm_word::Perm;
 use std::alloc::Global;
 use std::test::Fail;
 
-/// Texts, each with the canonical text of its object: all operations with each kind of operand, and all other statements.
+/// Texts, each with the canonical text of its object: all operations with each kind of operand, and all other
+/// statements.
 const TEXTS: [(&[u8], &[u8]); 2] = [
     (
         b".segment all 9\n\thalt ; halt\n\tnop\n\tldi r1, 0x41\n\tldhi r15,4294967295 ; ldhi\nloop:mov r10, r9\n\tisptr r0, r1\n\teqw r1,r2,r3 ; eqw\n\tout r12\n\tself r3\n\tadd r1, r2, r3 ; add\n\tsub r1, r2, r3\n\tmul r1, r2, r3\n\tdivu r1, r2, r3 ; divu\n\tremu r1, r2, r3\n\tand r1, r2, r3\n\tor r1, r2, r3 ; or\n\txor r1, r2, r3\n\tshl r1, r2, r3\n\tshr r1, r2, r3 ; shr\n\tsar r1, r2, r3\n\teq r1, r2, r3\n\tltu r1, r2, r3 ; ltu\n\tlts r1, r2, r3\n\taddi r1, r1, -2147483648\n\tlea r1, r2, r3 ; lea\n\tleai r1, r1, 0x80000000\n\tleab r4, r5, r6\n\trestrict r1, r2, r3 ; restrict\n\tsubseg r1, r2, r3\n\tsetptr r1, r2\n\tld r2, r1, 8, any, keep ; ld\n\tld r2, r1, -8, full, empty\n\tst r1, r2, 0, empty, full\n\tbr loop ; br\n\tbz r1, -1\n\tbnz r1, loop\n\tjmp r1 ; jmp\n\tjal r1, r2\n\tlip r7, loop\n\ttrap 5 ; trap\n\tevt r12\n\tresume r8, retry\n\tresume r8, skip ; resume\n\tresume r8, kill\n\trreg r1, r2, 15\n\twreg r1, r2, 0 ; wreg\n\tmap r1, r2\n\tunmap r1, r2\n",
@@ -82,7 +83,8 @@ fn threads(alloc: Global) -> Result<Vec<Thread>, Fail> {
     Ok(threads)
 }
 
-/// An object that no text made: an empty cell that becomes a pointer, a word that spells an instruction and that no thread runs, and 16 threads.
+/// An object that no text made: an empty cell that becomes a pointer, a word that spells an instruction and that no
+/// thread runs, and 16 threads.
 fn program(alloc: Global) -> Result<Object, Fail> {
     let mut segments = Vec::new(alloc);
     segments.push(segment(
