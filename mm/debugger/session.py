@@ -137,7 +137,7 @@ class Session:
         for cycle, turn in self.history.after(self.total, mine):
             if turn.slot == slot and not first and until(turn):
                 self.total, self.slot = cycle - 1, slot
-                return Halt(turn=self.last_turn)
+                return Halt(turn=self.history.previous(cycle, slot))
             point = None if first and turn.slot == slot else self._met(cycle, turn)
             point = point or next((each for each in self.points if not each.kind.before and each.meets(turn)), None)
             if point:

@@ -8,6 +8,7 @@ from mm.debugger.points import PointKind
 from mm.debugger.session import Halt, Session
 from mm.machine.causes import Cause
 from mm.machine.words import Cell, Word
+from mm.names.numbers import counted
 from mm.outputs.report import SlotState
 from mm.views.report import ReportView
 from mm.views.spell import Memory, bytes_as_text
@@ -95,13 +96,13 @@ class Show:
         yield from self.reason(halt)
         yield from self.did(halt)
         ended = turn is None
-        yield f"{self.style.soft(f'cycle {session.total}')}{', the end of the run' if ended else ''}"
+        yield f"{self.style.soft(f'cycle {session.total}')}{', the end of the run (`run` begins again, `back` goes back)' if ended else ''}"
         if current:
             yield self.slot_line(current)
         if turn and turn.slot != session.slot:
             other = session.report.slot(turn.slot)
             if other:
-                yield f"next is {self.slot_line(other)}"
+                yield f"next: {self.slot_line(other)}"
 
     def registers(self, slot: SlotState) -> Iterator[str]:
         yield self.slot_line(slot)
@@ -115,12 +116,12 @@ class Show:
     def slots(self) -> Iterator[str]:
         for slot in self.session.report.slots:
             mark = "*" if slot.number == self.session.slot else " "
-            yield f"{mark} {self.slot_line(slot)}  (group {slot.group}, {slot.turns} turns)"
+            yield f"{mark} {self.slot_line(slot)}  (group {slot.group}, {counted(slot.turns, 'turn')})"
 
     def points(self) -> Iterator[str]:
         for point in self.session.points:
             where = f" at {self.session.symbols.show(point.address)}" if point.kind.has_place else ""
-            yield f"{point.number:>3}  {point}{where}" + (f"  (met {point.hits} times)" if point.hits else "")
+            yield f"{point.number:>3}  {point}{where}" + (f"  (met {counted(point.hits, 'time')})" if point.hits else "")
         if not self.session.points:
             yield "no breaks and no watches"
 

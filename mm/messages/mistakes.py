@@ -106,7 +106,7 @@ def _offset_in_brackets(scene: Scene) -> Optional[str]:
 def _register_name(scene: Scene) -> Optional[str]:
     if re.fullmatch(r"R\d+", scene.found):
         return f"registers are written in small letters: `{scene.found.lower()}`"
-    if re.fullmatch(r"r\d+", scene.found) and scene.fault == 2:
+    if re.fullmatch(r"r\d+", scene.found) and scene.fault == 2 and int(scene.found[1:]) > 15:
         return "there are sixteen registers, r0 to r15"
     if re.fullmatch(r"(x|a|t|s|R|e|w)\d+|sp|ra|fp|lr|pc|zero|[er][abcds][xpi]", scene.found) and scene.fault == 2:
         return "registers have no other names than r0 to r15, and r0 is one like all others"
@@ -186,6 +186,12 @@ def _commas(scene: Scene) -> Optional[str]:
     return None
 
 
+def _two_statements(scene: Scene) -> Optional[str]:
+    if scene.fault == 2 and (scene.found in OPERANDS or scene.found.startswith(".")) and scene.head not in ("", scene.found):
+        return f"a line has one statement: put `{scene.found}` into the next"
+    return None
+
+
 def _label(scene: Scene) -> Optional[str]:
     if scene.fault == 3 and scene.found == scene.head and re.fullmatch(r"[A-Za-z_]\w*", scene.head):
         first = scene.rest.split()[:1]
@@ -262,7 +268,7 @@ def _numbers(scene: Scene) -> Optional[str]:
 
 
 HINTS: list[Callable[[Scene], Optional[str]]] = [
-    _offset_in_brackets, _quotes, _marks, _other, _register_name, _commas, _conditions, _immediate, _two_operands, _label, _segment, _thread, _reg, _pointer, _numbers,
+    _offset_in_brackets, _quotes, _marks, _other, _register_name, _commas, _conditions, _immediate, _two_operands, _two_statements, _label, _segment, _thread, _reg, _pointer, _numbers,
 ]
 
 

@@ -60,8 +60,8 @@ class Explained:
         """How the statement is written."""
         operation, directive = OPERATIONS.get(self.head), DIRECTIVES.get(self.head)
         if operation:
-            return f"`{operation.usage}`, as `{operation.example}`"
-        return f"`{directive.usage}`, as `{directive.example}`" if directive else None
+            return f"it is written `{operation.usage}`, as `{operation.example}`"
+        return f"it is written `{directive.usage}`, as `{directive.example}`" if directive else None
 
 
 def _bad_byte(at: Explained) -> str:
@@ -72,10 +72,10 @@ def _syntax(at: Explained) -> str:
     if at.want is None:
         return f"{at.found} cannot stand here"
     if at.want is wants.END:
-        return f"the line should end here, and {at.found} follows"
+        return f"expected the end of the line, found {at.found}"
     if at.token is None:
-        return f"the line ends where {at.want.says} is wanted"
-    return f"{at.found} stands where {at.want.says} is wanted"
+        return f"the line ends too early: expected {at.want.says}"
+    return f"expected {at.want.says}, found {at.found}"
 
 
 def _name(at: Explained) -> str:
@@ -83,7 +83,7 @@ def _name(at: Explained) -> str:
     if len(text) > wants.LONGEST_NAME:
         return f"`{text[:12]}..` has {len(text)} letters, and a name has at most {wants.LONGEST_NAME}"
     if at.want is not None and at.want.choices:
-        return f"`{text}` stands where {at.want.says} is wanted"
+        return f"expected {at.want.says}, found `{text}`"
     return f"there is no {'directive' if text.startswith('.') else 'operation'} `{text}`"
 
 
@@ -166,9 +166,14 @@ def _hint_for_name(at: Explained) -> Optional[str]:
     return f"do you mean `{near}`?" if near else "`mm help operations` and `mm help directives` list all"
 
 
+TWICE_HINTS = {
+    ".thread": "a slot has one thread: give this one another slot",
+    ".reg": "a register begins with one value: remove one of the lines, or give the register of another thread after its `.thread`",
+    ".spare": "write one `.spare` with the sum",
+}
 OWN_HINTS: dict[int, Callable[[Explained], Optional[str]]] = {
     3: _hint_for_name, 5: _hint_for_label, 8: _hint_for_full,
-    6: lambda at: "labels and segments share one set of names: give one of them another" if at.head not in (".spare", ".thread", ".reg") else None,
+    6: lambda at: TWICE_HINTS.get(at.head, "labels and segments share one set of names: give one of them another"),
     7: lambda at: "registers belong to the thread before them" if at.head == ".reg" else "begin with a segment, as `.segment main 6`",
     9: lambda at: LIMITS,
     4: lambda at: None if at.want else "an offset is below the segment's length; give the segment a greater one",
@@ -179,12 +184,10 @@ def explain(source: SourceText, fault: int, number: int, column: int) -> Diagnos
     """A fault of a source in words."""
     at = Explained(source, number, column)
     message = MESSAGES[fault](at) if fault in MESSAGES else f"source fault {fault}"
-    hint = hint_of(at.scene(fault)) if fault <= 4 else None
-    hints = [found for found in [hint or OWN_HINTS.get(fault, lambda _: None)(at)] if found]
-    usage = at.usage() if fault in (2, 4) and at.want is not None else None
-    if usage and not any(usage.split("`")[1].split()[0] + " " in found for found in hints):
-        hints.append(f"it is written {usage}")
-    return Diagnostic(source.path, message, number, column, at.said, hints)
+    hint = (hint_of(at.scene(fault)) if fault <= 4 else None) or OWN_HINTS.get(fault, lambda _: None)(at)
+    if hint is None and fault in (2, 4) and at.want is not None:
+        hint = at.usage()
+    return Diagnostic(source.path, message, number, column, at.said, [hint] if hint else [])
 
 
 def explain_refusal(path: str, data: bytes, refusal: Refusal) -> Diagnostic:

@@ -8,7 +8,7 @@ import re
 from typing import Optional
 
 from mm.source.lines import read_line
-from mm.source.wants import SEGMENT_NAME
+from mm.source.wants import OPERANDS, SEGMENT_NAME
 
 FRESH = "zz_mended_"
 WIDEST = 20
@@ -16,6 +16,7 @@ RANGE, LABEL, TWICE, PLACE, FULL, LIMIT = 4, 5, 6, 7, 8, 9
 BEGINS_SEGMENT = re.compile(r"[^;]*\.segment\b")
 BEGINS_THREAD = re.compile(r"[^;]*\.thread\b")
 SETS_REGISTER = re.compile(r"[^;]*\.reg\b")
+FORGOTTEN = re.compile(rf"[ \t\r]*([A-Za-z_][A-Za-z0-9_]{{0,30}})[ \t\r]*((?:{'|'.join(OPERANDS)})\b.*)?(?:;.*)?")
 # Directives of other assemblers that make no word.
 NO_WORD = re.compile(r"\.(text|data|bss|rodata|section|globl?|global|extern|align|p?2align|balign|org|equ|set|type|size|file|end|macro|endm|include|code|stack|org)\b")
 
@@ -56,8 +57,12 @@ class Mender:
         self.lines[number - 1] = line[:begin - 1] + " " * (stop - begin + 1) + line[stop:]
 
     def _mend_statement(self, number: int) -> None:
-        """Puts a statement that has no fault into the place of one."""
+        """Puts a statement that has no fault into the place of one. A name alone is a label whose `:` was forgotten."""
         said = self.lines[number - 1]
+        alone = FORGOTTEN.fullmatch(said)
+        if alone and alone[1] not in OPERANDS:
+            self.lines[number - 1] = f"{alone[1]}: {alone[2] or ''}"
+            return
         line = read_line(said)
         label = f"{line.label.text}: " if line.label else ""
         rest = said.split(":", 1)[1] if line.label else said

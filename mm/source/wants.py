@@ -138,6 +138,6 @@ DIRECTIVES = {
     ".fill": Directive(".fill COUNT", ".fill 8", "so many words that hold 0"),
     ".empty": Directive(".empty WORD", ".empty .int 0", "a word whose synchronisation bit is empty; WORD is .int, .ptr or an operation"),
     ".thread": Directive(".thread SLOT GROUP HANDLER PERMISSION TARGET", ".thread 0 0 none xu main", "a thread begins at the target; HANDLER is a slot or none, PERMISSION is xu or xp"),
-    ".reg": Directive(".reg NUMBER int VALUE, or .reg NUMBER ptr PERMISSION TARGET", ".reg 1 ptr rw box", "what a register of the latest thread begins with"),
+    ".reg": Directive(".reg NUMBER int VALUE | ptr PERMISSION TARGET", ".reg 1 ptr rw box", "what a register of the latest thread begins with"),
     ".spare": Directive(".spare FRAMES", ".spare 2", "how many frames the machine has besides those of its pages"),
 }
