@@ -16,7 +16,7 @@ RANGE, LABEL, TWICE, PLACE, FULL, LIMIT = 4, 5, 6, 7, 8, 9
 BEGINS_SEGMENT = re.compile(r"[^;]*\.segment\b")
 BEGINS_THREAD = re.compile(r"[^;]*\.thread\b")
 SETS_REGISTER = re.compile(r"[^;]*\.reg\b")
-FORGOTTEN = re.compile(rf"[ \t\r]*([A-Za-z_][A-Za-z0-9_]{{0,30}})[ \t\r]*((?:{'|'.join(OPERANDS)})\b.*)?(?:;.*)?")
+FORGOTTEN = re.compile(rf"[ \t\r]*([A-Za-z_][A-Za-z0-9_]{{0,30}})(?:[ \t\r]+((?:{'|'.join(OPERANDS)})\b.*?))?[ \t\r]*(?:;.*)?")
 # Directives of other assemblers that make no word.
 NO_WORD = re.compile(r"\.(text|data|bss|rodata|section|globl?|global|extern|align|p?2align|balign|org|equ|set|type|size|file|end|macro|endm|include|code|stack|org)\b")
 
