@@ -9,7 +9,7 @@ from typing import Optional, Sequence
 
 from mm.formats.image import Image, read_image
 from mm.formats.kinds import FileKind, looks_binary
-from mm.formats.object import Object, read_object
+from mm.formats.object import MOST_WORDS, Object, object_of_words, read_object
 from mm.machine.program import Answer, Program
 from mm.messages.diagnostic import Diagnostic
 from mm.messages.files import NamedFile, explain_files
@@ -122,11 +122,14 @@ class Workshop:
     def _all_faults(self, name: str, data: bytes, refusal: Refusal, status: int) -> Refused:
         """The first fault, and those that show once it is taken out, up to a limit."""
         source = read_source(name, data)
-        mender, found, seen = Mender(source.lines), [], set()
+        mender = Mender(source.lines)
+        found: list[Diagnostic] = []
+        seen: set[tuple[int, int, int]] = set()
         fault, line, column = refusal["fault"], refusal["line"], refusal["column"]
         while len(found) < MOST_ERRORS and (fault, line, column) not in seen:
             seen.add((fault, line, column))
-            found.append(explain(source, fault, line, column))
+            told = explain(source, fault, line, column)
+            found += [told] if told.name not in mender.dropped else []
             next_one = self._next_fault(mender, fault, line, column)
             if next_one is None:
                 return Refused(status, sorted(found, key=lambda one: (one.line, one.column)))
@@ -140,6 +143,16 @@ class Workshop:
         if refusal is None or refusal.kind is not RefusalKind.SOURCE or refusal["line"] < 2:
             return None
         return refusal["fault"], refusal["line"] - 1, refusal["column"]
+
+    def texts(self, words: Sequence[int]) -> list[str]:
+        """What `mmachine dis` calls each word: an instruction, or `.int` and its digits."""
+        found: list[str] = []
+        for at in range(0, len(words), MOST_WORDS):
+            answer = self.program.run(["dis", self.keep(object_of_words(list(words[at:at + MOST_WORDS])), ".obj")])
+            if answer.status:
+                raise refused(answer, [NamedFile("the words of an image", b"")])
+            found += [line for line in answer.text.splitlines() if not line.startswith((".spare", ".segment"))]
+        return found
 
     def unit(self, name: str, data: bytes) -> Unit:
         """The object of a file that is a source or an object."""

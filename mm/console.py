@@ -50,6 +50,11 @@ class Console:
         self._workshop: Optional[Workshop] = None
 
     @property
+    def name(self) -> str:
+        """The name of the command."""
+        return self.said.command.name if self.said.command else ""
+
+    @property
     def words(self) -> list[str]:
         return self.said.words
 

@@ -16,7 +16,7 @@ from mm.words import Words, check_count, read_words
 
 def _help(console: Console, said: Words) -> int:
     module = importlib.import_module("mm.commands.help")
-    return module.run_topic(console, said.command.name if said.command else "")
+    return int(module.run_topic(console, said.command.name if said.command else ""))
 
 
 def carry_out(console: Console) -> int:
@@ -31,7 +31,7 @@ def carry_out(console: Console) -> int:
         _help(console, said)
         raise usage("mm: say what to do")
     check_count(said)
-    return importlib.import_module(said.command.home).run(console)
+    return int(importlib.import_module(said.command.home).run(console))
 
 
 def _end(console: Console, status: int) -> int:

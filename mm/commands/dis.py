@@ -4,7 +4,6 @@ from __future__ import annotations
 
 from mm.build import read_file
 from mm.console import Console
-from mm.formats.image import read_image
 from mm.formats.kinds import FileKind
 from mm.messages.files import NamedFile
 from mm.status import Status
@@ -20,5 +19,8 @@ def run(console: Console) -> int:
         console.write(answer.text.splitlines())
         return Status.DONE
     built = console.build([name])
-    console.write(ImageListing(read_image(built.data), built.symbols, console.style).lines())
+    words = [(address, cell.word.bits) for address, cell in built.image.cells() if not cell.word.tagged and (cell.word.bits or built.symbols.origin(address))]
+    texts = console.workshop.texts([bits for _, bits in words])
+    named = {address: text for (address, _), text in zip(words, texts)}
+    console.write(ImageListing(built.image, built.symbols, named, console.style).lines())
     return Status.DONE

@@ -65,4 +65,4 @@ COMMANDS = {"asm": _asm, "link": _link, "extract": _extract, "migrate": _migrate
 
 
 def run(console: Console) -> int:
-    return COMMANDS[console.said.command.name](console)
+    return COMMANDS[console.name](console)

@@ -66,4 +66,4 @@ COMMANDS = {"holders": _holders, "sweep": _sweep}
 
 
 def run(console: Console) -> int:
-    return COMMANDS[console.said.command.name](console)
+    return COMMANDS[console.name](console)

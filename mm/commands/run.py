@@ -70,4 +70,4 @@ COMMANDS = {"run": _run, "solo": _solo, "continue": _continue}
 
 
 def run(console: Console) -> int:
-    return COMMANDS[console.said.command.name](console)
+    return COMMANDS[console.name](console)

@@ -7,6 +7,7 @@ from typing import Optional
 
 from mm.build import Built
 from mm.console import Console, Order
+from mm.messages.files import NamedFile
 from mm.outputs.report import Report, read_report
 from mm.views.waiting import Waiting, waiting
 from mm.words import MOST_CYCLES
@@ -38,7 +39,7 @@ class Runner:
         return [command, self.built.path, str(cycles), *self.order.words]
 
     @property
-    def files(self):
+    def files(self) -> list[NamedFile]:
         return [self.built.file, *self.order.files]
 
     def run(self, cycles: int) -> Run:

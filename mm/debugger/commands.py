@@ -10,6 +10,8 @@ from mm.debugger.points import PointKind
 from mm.debugger.session import Halt, Session
 from mm.debugger.show import Show
 from mm.machine.isa import OPERATIONS
+from mm.machine.words import Pointer
+from mm.outputs.trace import Turn
 from mm.views.listing import map_lines
 
 Lines = Iterable[str]
@@ -62,22 +64,35 @@ def _next(debugger: Debugger, rest: str) -> Lines:
     session = debugger.session
     halt = Halt()
     for _ in range(count_of(rest)):
-        here = session.current.ip.pointer if session.current else None
-        instruction = session.memory.instruction(here.address) if here else None
-        called = instruction is not None and instruction.name == "jal" and here is not None
-        halt = session.follow((lambda turn, back=here.address + 8: turn.fetch == back) if called and here else (lambda turn: True))
+        halt = session.follow(_over_call(debugger))
         if halt.point or halt.ended:
             break
     return debugger.stop(halt)
 
 
+def _here(debugger: Debugger) -> Pointer:
+    """Where the current slot stands."""
+    slot = debugger.session.current
+    pointer = slot.ip.pointer if slot else None
+    if pointer is None:
+        raise Wrong("there is no such slot")
+    return pointer
+
+
+def _over_call(debugger: Debugger) -> Callable[[Turn], bool]:
+    """What the next turn of the current slot is: that after the way back, if it stands at a call."""
+    here = _here(debugger)
+    instruction = debugger.session.memory.instruction(here.address)
+    if instruction is None or instruction.name != "jal":
+        return lambda turn: True
+    back = here.address + 8
+    return lambda turn: turn.fetch == back
+
+
 def _finish(debugger: Debugger, rest: str) -> Lines:
     """To where the current slot leaves its segment."""
-    session = debugger.session
-    here = session.current.ip.pointer if session.current else None
-    if here is None:
-        raise Wrong("there is no such slot")
-    return debugger.stop(session.follow(lambda turn: turn.fetch is not None and not here.covers(turn.fetch)))
+    here = _here(debugger)
+    return debugger.stop(debugger.session.follow(lambda turn: turn.fetch is not None and not here.covers(turn.fetch)))
 
 
 def _until(debugger: Debugger, rest: str) -> Lines:
@@ -85,9 +100,7 @@ def _until(debugger: Debugger, rest: str) -> Lines:
     if rest:
         address, length = place_of(rest, session)
         return debugger.stop(session.follow(lambda turn: turn.fetch is not None and address <= turn.fetch < address + length))
-    here = session.current.ip.pointer if session.current else None
-    if here is None:
-        raise Wrong("there is no such slot")
+    here = _here(debugger)
     return debugger.stop(session.follow(lambda turn: turn.fetch is not None and here.address < turn.fetch < here.end))
 
 

@@ -97,3 +97,17 @@ def read_object(data: bytes) -> Object:
         moved[place][index] = Relocation(permission, _target(reader, names))
     found = tuple(Segment(*segment, moved[place]) for place, segment in enumerate(raw))
     return Object(found, others, tuple(_thread(reader, names) for _ in range(threads)), spare)
+
+
+MOST_WORDS = 131_072
+
+
+def object_of_words(words: list[int]) -> bytes:
+    """An object of one segment that holds words, at most `MOST_WORDS` of them, so that `mmachine dis` can be asked what they are."""
+    count, log = len(words), max(3, (8 * len(words) - 1).bit_length())
+    bitmap = bytearray(b"\xff" * (count // 8))
+    if count % 8:
+        bitmap.append((1 << count % 8) - 1)
+    header = b"MMO1" + b"".join(number.to_bytes(2, "big") for number in (1, 1, 0, 0, 0, 0))
+    segment = b"\1a" + bytes([log]) + count.to_bytes(4, "big") + bytes(bitmap)
+    return header + segment + b"".join(word.to_bytes(8, "big") for word in words)

@@ -57,8 +57,8 @@ class Program:
             return file.read()
 
 
-def _usable(path: Optional[str]) -> bool:
-    return bool(path) and os.path.isfile(path) and os.access(path, os.X_OK)
+def _usable(path: str) -> bool:
+    return os.path.isfile(path) and os.access(path, os.X_OK)
 
 
 def find_program(named: Optional[str] = None) -> Program:

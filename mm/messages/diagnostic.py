@@ -19,6 +19,8 @@ class Diagnostic:
     text: Optional[str] = None
     hints: list[str] = field(default_factory=list)
     severity: str = "error"
+    # The label that is missing, where one is.
+    name: Optional[str] = None
 
     @property
     def place(self) -> str:

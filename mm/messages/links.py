@@ -37,7 +37,7 @@ class Link:
 
 
 def _twice(link: Link, name: str) -> list[Diagnostic]:
-    places = [(source, source.segment(name)) for source in link.sources if source.segment(name)]
+    places = [(source, segment) for source in link.sources for segment in source.segments if segment.name == name]
     message = f"two segments have the name `{name}`"
     if len(places) > 1:
         source, segment = places[1]

@@ -13,10 +13,11 @@ from mm.outputs.refusal import Refusal
 from mm.source import wants
 from mm.source.lines import Line, read_line
 from mm.source.tokens import Token, TokenKind, tokens_of
-from mm.source.text import SourceText, read_source
+from mm.source.text import SourceSegment, SourceText, read_source
 from mm.source.wants import DIRECTIVES, OPERANDS
 
 KINDS = {TokenKind.NAME: "the name", TokenKind.DIRECTIVE: "the directive", TokenKind.NUMBER: "the number", TokenKind.SIGN: "the sign"}
+LABEL = 5
 LIMITS = "a source has at most 256 segments, 131072 words, 65535 pointers and 1024 names of other sources; divide it into several"
 
 
@@ -134,7 +135,7 @@ MESSAGES: dict[int, Callable[[Explained], str]] = {
 }
 
 
-def _segment_of_line(source: SourceText, number: int):
+def _segment_of_line(source: SourceText, number: int) -> Optional[SourceSegment]:
     before = [segment for segment in source.segments if segment.line <= number]
     return before[-1] if before else None
 
@@ -187,7 +188,8 @@ def explain(source: SourceText, fault: int, number: int, column: int) -> Diagnos
     hint = (hint_of(at.scene(fault)) if fault <= 4 else None) or OWN_HINTS.get(fault, lambda _: None)(at)
     if hint is None and fault in (2, 4) and at.want is not None:
         hint = at.usage()
-    return Diagnostic(source.path, message, number, column, at.said, [hint] if hint else [])
+    name = at.token.text if fault == LABEL and at.token else None
+    return Diagnostic(source.path, message, number, column, at.said, [hint] if hint else [], name=name)
 
 
 def explain_refusal(path: str, data: bytes, refusal: Refusal) -> Diagnostic:

@@ -6,10 +6,10 @@ import bisect
 from dataclasses import dataclass
 from typing import Optional, Sequence
 
-from mm.formats.object import Object
+from mm.formats.object import Object, Segment
 from mm.machine.isa import OPERATIONS
 from mm.names.layout import Placed
-from mm.source.text import SourceText
+from mm.source.text import SourceSegment, SourceText
 
 
 @dataclass(frozen=True)
@@ -65,7 +65,7 @@ def fits(source: SourceText, made: Object) -> bool:
     return all(_same_words(read, segment) for read, segment in zip(source.segments, made.segments))
 
 
-def _same_words(read, segment) -> bool:
+def _same_words(read: SourceSegment, segment: Segment) -> bool:
     for run in read.runs:
         operation = OPERATIONS.get(run.head)
         if operation and segment.words[run.place] >> 56 != operation.number:

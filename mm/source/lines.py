@@ -3,7 +3,7 @@
 from __future__ import annotations
 
 from dataclasses import dataclass, field
-from typing import Optional
+from typing import Callable, NoReturn, Optional
 
 from mm.source import wants
 from mm.source.tokens import Token, TokenKind, tokens_of
@@ -59,7 +59,7 @@ class _Reader:
     def peek(self) -> Optional[Token]:
         return self.tokens[self.at] if self.at < len(self.tokens) else None
 
-    def refuse(self, fault: int, want: Want) -> None:
+    def refuse(self, fault: int, want: Want) -> NoReturn:
         token = self.peek()
         self.line.mismatch = Mismatch(fault, token.column if token else self.end, want, token)
         raise _Stop
@@ -154,7 +154,7 @@ def _register(reader: _Reader) -> None:
         _pointer(reader)
 
 
-_DIRECTIVE_READERS = {
+_DIRECTIVE_READERS: dict[str, Callable[[_Reader], object]] = {
     ".segment": _segment,
     ".int": lambda reader: reader.take(wants.ANY_NUMBER),
     ".ptr": _pointer,

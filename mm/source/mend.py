@@ -26,6 +26,8 @@ class Mender:
 
     def __init__(self, lines: list[str]) -> None:
         self.lines, self.prelude, self.made = list(lines), "", 0
+        # Labels that were taken out. That nothing has their names is no fault of the source.
+        self.dropped: set[str] = set()
 
     def data(self) -> bytes:
         """The text as it is now. It has one line before the first."""
@@ -41,6 +43,7 @@ class Mender:
             return self._give_place(number)
         line = read_line(self.lines[number - 1])
         if line.label and (fault == TWICE and column == line.label.column):
+            self.dropped.add(line.label.text)
             self._blank(number, column, self.lines[number - 1].index(":", column) + 2)
             return True
         self._mend_statement(number)

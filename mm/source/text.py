@@ -5,7 +5,7 @@ from __future__ import annotations
 import bisect
 import re
 from dataclasses import dataclass, field
-from typing import Iterator, Optional
+from typing import Optional
 
 from mm.source import wants
 from mm.source.lines import WORD_DIRECTIVES, Line, read_line

@@ -64,12 +64,13 @@ class Stream(io.TextIOWrapper):
     """A text stream in memory that is no terminal."""
 
     def __init__(self) -> None:
-        super().__init__(io.BytesIO(), encoding="utf-8", newline="\n")
+        self.kept = io.BytesIO()
+        super().__init__(self.kept, encoding="utf-8", newline="\n")
 
     @property
     def bytes(self) -> bytes:
         self.flush()
-        return self.buffer.getvalue()
+        return self.kept.getvalue()
 
 
 def mm(*words: str, lines: Optional[str] = None) -> Ended:

@@ -2,10 +2,13 @@
 
 import json
 import os
+import re
 import subprocess
 import sys
 import unittest
 
+from mm.build import Workshop
+from mm.machine.isa import decode, encode
 from mm.machine.program import CHECKOUT, find_program
 from mm.tests.support import folder, mm, needs_program, path_of, read, read_bytes, sources, write
 
@@ -159,6 +162,14 @@ class Looking(unittest.TestCase):
         out = mm("dis", "examples/counter.img").out
         for text in (" door:", "0x1000c8  i45700000ffffffff  lip r7, gate", "pointer rw 2^3 count", "bnz r3, prod", "(empty)", "number 0"):
             self.assertIn(text, out)
+
+    def test_instructions_are_called_what_the_program_calls_them(self):
+        words = [int(bits, 16) for name in ("counter", "server", "hello") for bits in re.findall(r"i([0-9a-f]{16})", mm("dis", f"examples/{name}.img").out)]
+        words += [encode(instruction) for instruction in map(decode, range(0, 0x70 << 56, 1 << 52)) if instruction]
+        workshop = Workshop(find_program())
+        texts = workshop.texts(words)
+        workshop.close()
+        self.assertEqual([decode(bits).text() if decode(bits) else f".int 0x{bits:016x}" for bits in words], texts)
 
     def test_audit(self):
         out = mm("audit", "examples/counter.asm").out

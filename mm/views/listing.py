@@ -2,7 +2,7 @@
 
 from __future__ import annotations
 
-from typing import Iterator, Optional
+from typing import Iterator, Mapping, Optional
 
 from mm.formats.image import Image
 from mm.machine.words import ZERO, Cell, bytes_in_words
@@ -10,6 +10,8 @@ from mm.names.numbers import counted
 from mm.names.symbols import Symbol, Symbols
 from mm.views.spell import Memory, Speller
 from mm.views.style import Style
+
+ZERO_CELL = Cell()
 
 
 def map_lines(symbols: Symbols, style: Style) -> Iterator[str]:
@@ -25,10 +27,10 @@ def map_lines(symbols: Symbols, style: Style) -> Iterator[str]:
 
 
 class ImageListing:
-    """An image word by word: address, word, instruction, and names."""
+    """An image word by word: address, word, instruction, and names. `texts` are what `mmachine dis` calls its words, by address."""
 
-    def __init__(self, image: Image, symbols: Symbols, style: Style) -> None:
-        self.image, self.symbols, self.style = image, symbols, style
+    def __init__(self, image: Image, symbols: Symbols, texts: Mapping[int, str], style: Style) -> None:
+        self.image, self.symbols, self.texts, self.style = image, symbols, texts, style
         self.memory, self.speller = Memory(image), Speller(symbols)
         self.heads: dict[int, list[Symbol]] = {}
         for symbol in symbols.symbols:
@@ -47,11 +49,11 @@ class ImageListing:
         """What a word is: a pointer, an instruction, or a number. In a segment that no thread can run an integer is shown as a number too."""
         if cell.word.tagged:
             return f"pointer {self.speller.word(cell.word)}"
+        origin, text = self.symbols.origin(address), self.texts.get(address, ".int")
+        if text.startswith(".int") or (origin and ".int" in origin.text.split(";")[0]):
+            return f"number {self.speller.word(cell.word)}"
         instruction = self.memory.instruction(address)
-        origin = self.symbols.origin(address)
-        if instruction and not (origin and ".int" in origin.text.split(";")[0]):
-            return self.speller.instruction(instruction, address)
-        return f"number {self.speller.word(cell.word)}"
+        return self.speller.instruction(instruction, address) if instruction and instruction.text() == text else text
 
     def word(self, address: int, cell: Cell) -> str:
         bit = "" if cell.full else "  (empty)"
@@ -59,7 +61,7 @@ class ImageListing:
 
     def blank(self, address: int, cell: Cell) -> bool:
         """A word that no source made and that holds 0: listed as a run of such."""
-        return cell == Cell() and not self.symbols.origin(address)
+        return cell == ZERO_CELL and not self.symbols.origin(address)
 
     def words(self) -> Iterator[str]:
         """All words by address; runs of untouched zeros in one line."""

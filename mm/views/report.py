@@ -12,6 +12,7 @@ from mm.views.spell import Memory, Speller, bytes_as_text
 from mm.views.style import Style
 from mm.views.waiting import Waiting, what_for
 from mm.views.why import why
+from mm.words import MOST_CYCLES
 
 BYTES_SHOWN = 64
 CELLS_SHOWN = 64
@@ -106,8 +107,11 @@ class ReportView:
         return f"{self.speller.word(cell.word)}{bit} (it was {self.speller.word(before.word)}{'' if before.full else ', empty'})"
 
     def verdict(self) -> list[str]:
-        """A word for a run that can come no further."""
+        """A word for a run that can come no further, or that was cut off."""
         stuck = [slot for slot, wait in self.waits.items() if wait.stuck]
+        going = [slot.number for slot in self.report.slots if slot.running]
+        if not stuck and self.report.cycles == MOST_CYCLES and going:
+            return ["", self.style.warn(f"a run has at most {MOST_CYCLES} cycles: `mm save` and `mm continue` make a longer one of two")]
         if not stuck:
             return []
         return ["", self.style.warn("nothing can change any more: each slot that runs waits" + (" (a deadlock)" if len(stuck) > 1 else ""))]

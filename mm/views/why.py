@@ -110,7 +110,8 @@ def _bounds(at: Refusal) -> list[str]:
 
 def _bounds_of_code(at: Refusal) -> list[str]:
     show, here = at.speller.symbols.show, at.ip
-    to = here.address + 8 if at.name == "jal" else here.address + 8 * at.instruction.value("imm")
+    words = at.instruction.value("imm") if at.instruction and at.name in BRANCHES else 1
+    to = here.address + 8 * words
     lines = [f"{show(to)} is outside of the code's segment, {at.segment(here)}"]
     if at.name == "jal":
         lines.append("the way back would be behind the segment: leave a word after a call")
