@@ -133,7 +133,7 @@ def _set_break(debugger: Debugger, rest: str, once: bool = False) -> Lines:
     point = session.add(PointKind.BREAK, place, address, length, slot, once)
     where = f"at {session.symbols.show(address)}" if length == 8 else f"where a slot comes into {session.symbols.show(address)}"
     origin = session.symbols.origin(address)
-    yield f"{point.number}: break {where}" + (f", {origin}: {origin.text.strip()}" if origin and length == 8 else "")
+    yield f"{point.number}: break {where}" + (f", {origin}: {origin.code}" if origin and length == 8 else "")
 
 
 def _set_once(debugger: Debugger, rest: str) -> Lines:

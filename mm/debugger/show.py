@@ -33,7 +33,7 @@ class Show:
         text = session.speller.at(session.memory, address)
         where = self.style.name(session.symbols.show(address))
         if origin and address not in session.report.cells:
-            return f"{where}  {self.style.soft(str(origin) + ':')}  {origin.text.split(';')[0].strip()}"
+            return f"{where}  {self.style.soft(str(origin) + ':')}  {origin.code}"
         return f"{where}:  {text}"
 
     def slot_line(self, slot: SlotState) -> str:
@@ -144,9 +144,8 @@ class Show:
         pointer = word.pointer
         if pointer is None:
             return f"{self.session.speller.word(word)}   (0x{word.bits:x})"
-        symbols = self.session.symbols
-        reach = f"{pointer.permission.full}, {symbols.show(pointer.base)} up to {symbols.show(pointer.end - 1)}, at 0x{pointer.address:x}"
-        return f"{self.session.speller.pointer(pointer)}   ({reach})"
+        speller = self.session.speller
+        return f"{speller.pointer(pointer)}   ({pointer.permission.full}, {speller.reach(pointer)}, at 0x{pointer.address:x})"
 
     def source(self, address: int) -> Iterator[str]:
         """The source around the line of an address, or the instructions around it."""

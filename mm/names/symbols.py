@@ -20,6 +20,11 @@ class Origin:
     line: int
     text: str
 
+    @property
+    def code(self) -> str:
+        """The line without its comment."""
+        return self.text.split(";")[0].strip()
+
     def __str__(self) -> str:
         return f"{self.path}:{self.line}"
 

@@ -31,7 +31,7 @@ class Sessions(unittest.TestCase):
         self.assertIn("cycle 27", first)
         self.assertIn("bug.asm:6:  leai r1, r1, 8", first)
         self.assertIn("bug.asm:5:  st r2, r3, 0, any, keep", back)
-        self.assertIn("rw 2^6 price   (read/write, record up to price+31", register)
+        self.assertIn("rw 2^6 price   (read/write, all 64 bytes of record", register)
         self.assertIn("36 '$'", price)
 
     def test_breaks(self):
@@ -75,7 +75,7 @@ class Sessions(unittest.TestCase):
         self.assertIn("lip r7, gate", said[2])
         self.assertIn("count = 2", said[3])
         self.assertIn("0x1000c8", said[4])
-        self.assertIn("enter-user, gate up to door+55", said[5])
+        self.assertIn("enter-user, all 64 bytes of gate", said[5])
         self.assertIn("box", said[6])
         self.assertIn("r1   rw 2^3 box", said[7])
         self.assertIn('group 1  "AB"', said[8])

@@ -50,7 +50,7 @@ class ImageListing:
         if cell.word.tagged:
             return f"pointer {self.speller.word(cell.word)}"
         origin, text = self.symbols.origin(address), self.texts.get(address, ".int")
-        if text.startswith(".int") or (origin and ".int" in origin.text.split(";")[0]):
+        if text.startswith(".int") or (origin and ".int" in origin.code):
             return f"number {self.speller.word(cell.word)}"
         instruction = self.memory.instruction(address)
         return self.speller.instruction(instruction, address) if instruction and instruction.text() == text else text

@@ -78,7 +78,7 @@ class ReportView:
             return []
         origin = self.speller.symbols.origin(ip.address)
         if origin and ip.address not in self.memory.changed:
-            return [f"{self.style.soft(str(origin) + ':')} {origin.text.strip()}"]
+            return [f"{self.style.soft(str(origin) + ':')} {origin.code}"]
         return [self.style.soft(f"0x{ip.address:x}: ") + self.speller.at(self.memory, ip.address)]
 
     def pages(self) -> list[str]:

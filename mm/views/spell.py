@@ -6,7 +6,7 @@ from typing import Mapping, Optional
 
 from mm.formats.image import Image
 from mm.machine.isa import Instruction, decode
-from mm.machine.words import Cell, Pointer, Word, letter_of
+from mm.machine.words import Cell, Pointer, Word, bytes_in_words, letter_of
 from mm.names.symbols import Symbols
 
 SMALL = 1 << 16
@@ -36,6 +36,14 @@ class Speller:
     def pointer(self, pointer: Pointer) -> str:
         """`rw 2^3 box`: what it may, how long its segment is, and where it stands."""
         return f"{pointer.permission.short} 2^{pointer.log} {self.symbols.show(pointer.address)}"
+
+    def reach(self, pointer: Pointer) -> str:
+        """From where to where a pointer reaches: `all 64 bytes of gate`, `16 bytes from letters+32 on`."""
+        region = self.symbols.region(pointer.base)
+        length = bytes_in_words(pointer.log)
+        if region and (region.base, region.log) == (pointer.base, pointer.log):
+            return f"all {length} of {region.name}"
+        return f"{length} from {self.symbols.show(pointer.base)} on"
 
     def word(self, word: Word) -> str:
         """A pointer spelled out, or an integer as a number, with its letter where it is one."""

@@ -47,10 +47,8 @@ class Refusal:
         """The address of an access."""
         return self.pointer.address + self.instruction.value("imm") if self.pointer and self.instruction else 0
 
-    def segment(self, pointer: Pointer) -> str:
-        """`box .. box+7`: from where to where a pointer reaches."""
-        last = pointer.end - 1
-        return f"{self.speller.symbols.show(pointer.base)} up to {self.speller.symbols.show(last)}"
+    def reach(self, pointer: Pointer) -> str:
+        return self.speller.reach(pointer)
 
 
 def _not_pointer(at: Refusal) -> list[str]:
@@ -95,12 +93,12 @@ def _bounds(at: Refusal) -> list[str]:
     if at.slot.past or at.instruction is None:
         return [f"the thread ran past the end of its segment: {show(at.ip.address)} was its last word", "end it with `halt`, or branch back"]
     if at.is_access and at.pointer:
-        return [f"{at.spelled('ra')}, and the access is at {show(at.address)}", f"the pointer reaches {at.segment(at.pointer)} and no further"]
+        return [f"{at.spelled('ra')}, and the access is at {show(at.address)}", f"it reaches {at.reach(at.pointer)}, and no further"]
     if at.name in ("lea", "leai", "leab") and at.pointer:
         by = at.instruction.value("imm") if at.name == "leai" else at.word("rb").signed
         start = at.pointer.base if at.name == "leab" else at.pointer.address
         lines = [f"{at.spelled('ra')}, and {by:+d} bytes {'from its base ' if at.name == 'leab' else ''}would lead to {show(start + by)}"]
-        return lines + [f"the pointer reaches {at.segment(at.pointer)}: no pointer stands outside of its segment, not even one behind its last word"]
+        return lines + [f"it reaches {at.reach(at.pointer)}: no pointer stands outside of its segment, not even at its end"]
     if at.name == "subseg" and at.pointer:
         return [f"{at.spelled('ra')}, and a segment of 2^{at.word('rb').bits} bytes is not shorter than its 2^{at.pointer.log}"]
     if at.name in ("map", "unmap"):
@@ -112,7 +110,7 @@ def _bounds_of_code(at: Refusal) -> list[str]:
     show, here = at.speller.symbols.show, at.ip
     words = at.instruction.value("imm") if at.instruction and at.name in BRANCHES else 1
     to = here.address + 8 * words
-    lines = [f"{show(to)} is outside of the code's segment, {at.segment(here)}"]
+    lines = [f"{show(to)} is outside of the code, which has {at.reach(here)}"]
     if at.name == "jal":
         lines.append("the way back would be behind the segment: leave a word after a call")
     elif at.name in BRANCHES:
