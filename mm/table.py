@@ -35,13 +35,13 @@ class Command:
         return f"mm.commands.{self.module or self.name}"
 
 
-CYCLES = Option("--cycles", "how many cycles at most, 0 to 1000000; as many as the run has where it is not said", "N", "-n")
-SCHEDULE = Option("--schedule", "the order of turns, from a file; round robin where it is not said", "FILE", "-s")
+CYCLES = Option("--cycles", "how many cycles at most, 0 to 1000000; else as many as the run has", "N", "-n")
+SCHEDULE = Option("--schedule", "the order of turns, from a file; else round robin", "FILE", "-s")
 TURNS = Option("--turns", "the order of turns itself, as '0 1*5'", "ITEMS", "-t")
 GROUPS = Option("--groups", "ask of these groups together, as 0,1", "LIST", "-g")
 JSON = Option("--json", "write JSON, in the form of docs/JSON.md")
 OUTPUT = Option("--output", "write to this file", "FILE", "-o")
-NAMES = Option("--names", "take names for an image from this source or object; may be given several times", "FILE")
+NAMES = Option("--names", "take names for an image from this source; may be given again", "FILE")
 RUNNING = (CYCLES, SCHEDULE, TURNS, NAMES)
 FILES = "FILE.."
 
@@ -52,7 +52,7 @@ COMMANDS = (
     Command("symbols", FILES, "the map of a link: segments and labels with their addresses", (NAMES, JSON)),
     Command("dis", "FILE", "an image or an object word by word: address, word, instruction and name", (NAMES,), most=1),
     Command("audit", FILES, "what each group can read and write, whatever its code does", (GROUPS, NAMES, JSON)),
-    Command("holders", "FILE.. RANGE", "who holds a pointer into a range: a name, or an address and the logarithm of a length as 0x1000,6", (NAMES,), least=2, module="ranges"),
+    Command("holders", "FILE.. RANGE", "who holds a pointer into a range (`mm help ranges`)", (NAMES,), least=2, module="ranges"),
     Command("sweep", "FILE.. RANGE", "an image in which nobody has a pointer into a range", (OUTPUT, NAMES), least=2, module="ranges"),
     Command("extract", "FILE.. GROUPS", "an image of some groups and what they can touch", (OUTPUT,), least=2, module="make"),
     Command("solo", "FILE.. GROUPS", "run some groups without the others, under what a schedule has for them", (*RUNNING, JSON), least=2, module="run"),
@@ -64,11 +64,11 @@ COMMANDS = (
     Command("migrate", "FILE.. MODE", "an image of version 2, in which loads answer at once (plain) or later (split)", (OUTPUT,), least=2, module="make"),
     Command("gen", "NUMBER SIZE", "the generated image of a number", (OUTPUT,), least=2, most=2, module="make"),
     Command("soak", "NUMBER SIZE", "run that image, and write a summary", (CYCLES,), least=2, most=2, module="make"),
-    Command("help", "[TOPIC]", "what a command, an operation, a directive, a fault or another topic is", (), least=0),
+    Command("help", "[TOPIC]", "what a command, an operation, a fault or another topic is", (), least=0),
 )
 BY_NAME = {command.name: command for command in COMMANDS}
 ALIASES = {"grants": "audit", "disassemble": "dis", "map": "symbols"}
-PROGRAM = Option("--program", "the program mmachine; else $MMACHINE, that of this checkout, or that on the path", "FILE")
+PROGRAM = Option("--program", "which mmachine; else $MMACHINE, this checkout's, or that on the path", "FILE")
 HELP = Option("--help", "what is said here, or of a command", short="-h")
 VERSION = Option("--version", "which version this is", short="-V")
 GLOBAL_OPTIONS = (PROGRAM, HELP, VERSION)

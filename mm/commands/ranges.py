@@ -10,15 +10,18 @@ from mm.names.numbers import number_of
 from mm.status import Status, usage
 from mm.views.spell import Speller
 
+WORD_LOG = 3
+
 
 def range_of(text: str, built: Built) -> tuple[int, int]:
-    """The base and the logarithm of a range: a name has its own length, `ADDRESS,LOG` says it."""
+    """The base and the logarithm of a range: a segment has its own length, anything else is a word, and `ADDRESS,LOG` says it."""
     place, comma, length = text.partition(",")
     try:
         address, size = span_of(place, built.symbols)
     except NoAddress as error:
         raise usage(f"mm: {error}") from None
-    log = number_of(length) if comma else (size - 1).bit_length()
+    segment = any(symbol.segment for symbol in built.symbols.named(place))
+    log = number_of(length) if comma else (size - 1).bit_length() if segment else WORD_LOG
     if log is None or not 3 <= log <= LONGEST:
         raise usage(f"mm: `{length}` is no logarithm of a length: 3 to {LONGEST}, as 3 for a word of 2^3 bytes")
     if address & (1 << log) - 1:

@@ -253,7 +253,7 @@ def _help(debugger: Debugger, rest: str) -> Lines:
         yield f"{operation.usage}: {operation.effect}"
         return
     for entry in ENTRIES if not rest else [find(rest)]:
-        yield f"  {', '.join(entry.names):<26} {entry.words:<14} {entry.says}"
+        yield f"  {', '.join(entry.names):<30}  {entry.words:<14}  {entry.says}"
     if not rest:
         yield "A place is a name (door), a name and an offset (box+8), a line (7, or counter.asm:20), or a number (0x100100)."
         yield "An empty line does the last command again. Nothing that is typed changes the run."

@@ -67,9 +67,16 @@ def operation_lines(name: str) -> Iterator[str]:
         yield "    the last two operands: what the synchronisation bit must be (any, full, empty), and what it becomes (keep, full, empty)"
 
 
+SHORTER = (("any|full|empty", "PRE"), ("keep|full|empty", "POST"), ("retry|skip|kill", "HOW"), ("NUMBER", "N"))
+
+
 def operations() -> Iterator[str]:
     for operation in OPERATIONS.values():
-        yield f"  {operation.usage:<48} {operation.effect}"
+        usage = operation.usage
+        for long, short in SHORTER:
+            usage = usage.replace(long, short)
+        yield f"  {usage:<24}  {operation.effect}"
+    yield "PRE is what the word's bit must be: any, full or empty. POST is what it becomes: keep, full or empty. HOW is retry, skip or kill."
 
 
 def directives() -> Iterator[str]:
@@ -109,7 +116,7 @@ def letters() -> Iterator[str]:
 
 def debugger() -> Iterator[str]:
     for entry in ENTRIES:
-        yield f"  {', '.join(entry.names):<26} {entry.words:<14} {entry.says}"
+        yield f"  {', '.join(entry.names):<30}  {entry.words:<14}  {entry.says}"
 
 
 def permission_lines(short: str) -> Iterator[str]:

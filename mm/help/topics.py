@@ -35,9 +35,13 @@ A source is a text. Each line has an optional label (a name and `:`) and an opti
 POINTERS = Topic("pointers", "what a guarded pointer says", """\
 A pointer has a permission, a segment of 2^L bytes and an address in it. `rw 2^3 box` is a pointer that may read and write the 8 bytes at box.
 
-    ro   read                       xu   read and run as user code          eu   enter as user code: jump to it, nothing else
-    rw   read and write             xp   read and run as privileged code    ep   enter as privileged code
-                                                                            key  nothing: a ticket that cannot be forged
+    ro   read
+    rw   read and write
+    xu   read, and run as user code
+    xp   read, and run as privileged code
+    eu   enter as user code: jump to it, and nothing else
+    ep   enter as privileged code
+    key  nothing: a ticket that cannot be forged
 
 Pointers are tagged words. Arithmetic on one gives an integer: it loses the tag, and nothing makes it a pointer again.
     lea, leai, leab   move a pointer inside its segment (never to its end: no pointer stands outside)

@@ -3,6 +3,7 @@
 from __future__ import annotations
 
 import bisect
+from collections import Counter
 from dataclasses import dataclass
 from typing import Optional, Sequence
 
@@ -90,8 +91,15 @@ class Symbols:
         for region in self.regions:
             self.symbols += _symbols_of(region)
         self.symbols.sort(key=lambda symbol: (symbol.address, not symbol.segment))
-        self.labels = [symbol for symbol in self.symbols if not symbol.segment]
-        self.label_places = [symbol.address for symbol in self.labels]
+        labels = [symbol for symbol in self.symbols if not symbol.segment]
+        self.label_places = [symbol.address for symbol in labels]
+        self.label_names = self._label_names(labels)
+
+    def _label_names(self, labels: Sequence[Symbol]) -> list[str]:
+        """The names of labels, with their segments where several have the same."""
+        counts = Counter(label.name for label in labels)
+        regions = [self.region(label.address) for label in labels]
+        return [f"{region.name}.{label.name}" if region and counts[label.name] > 1 else label.name for label, region in zip(labels, regions)]
 
     def __bool__(self) -> bool:
         return bool(self.regions)
@@ -108,8 +116,8 @@ class Symbols:
         if region is None:
             return None
         at = bisect.bisect_right(self.label_places, address) - 1
-        label = self.labels[at] if at >= 0 and self.label_places[at] > region.base else None
-        start, name = (label.address, label.name) if label else (region.base, region.name)
+        labelled = at >= 0 and self.label_places[at] > region.base
+        start, name = (self.label_places[at], self.label_names[at]) if labelled else (region.base, region.name)
         return name if start == address else f"{name}+{address - start}"
 
     def show(self, address: int) -> str:
@@ -123,7 +131,7 @@ class Symbols:
         return Origin(region.source.path, line, region.source.line(line)) if region and region.source and line else None
 
     def named(self, name: str) -> list[Symbol]:
-        """All that has a name. `FILE:NAME` and `SEGMENT.NAME` say which of several is meant."""
+        """All that has a name. `SEGMENT.NAME` says which of several labels is meant."""
         outer, dot, inner = name.partition(".")
         if dot:
             region = next((region for region in self.regions if region.name == outer), None)

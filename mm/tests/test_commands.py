@@ -190,6 +190,24 @@ class Looking(unittest.TestCase):
 
 
 @needs_program
+class Json(unittest.TestCase):
+    def keys(self, value):
+        """All keys of a value, but for those that are names of registers."""
+        if isinstance(value, list):
+            return set().union(*map(self.keys, value))
+        if isinstance(value, dict):
+            return {key for key in value if not re.fullmatch(r"r\d+", key)} | self.keys(list(value.values()))
+        return set()
+
+    def test_every_key_is_on_the_page(self):
+        page = read("docs", "JSON.md") + read("docs", "CACHE.md")
+        calls = (("run", "examples/faults.asm"), ("run", "examples/server.asm"), ("trace", "examples/counter.asm"), ("symbols", "examples/counter.asm"), ("audit", "examples/counter.asm"))
+        for words in calls:
+            for key in self.keys(json.loads(mm(*words, "--json").out)):
+                self.assertTrue(f"`{key}`" in page or f'"{key}"' in page or f" {key} " in page, key)
+
+
+@needs_program
 class Making(unittest.TestCase):
     def test_bytes_are_the_programs(self):
         self.assertEqual(mm("link", "examples/kernel.asm").data, read_bytes("examples", "kernel.img"))
