@@ -1,34 +1,38 @@
-ghost use Rattle.std.specs.Prelude.{◌≡◌, ◌<◌, ◌++◌, [], ◌∷◌, drop, length};
+ghost use Rattle.std.specs.Prelude.{◌≡◌, ◌<◌, ◌≤◌, ◌++◌, [], ◌∷◌, drop, length, IfOk};
 
-use arrayvec::ArrayVec;
 use mm_model::Event;
+use mm_word::NoMemory;
+use std::alloc::Global;
 use std::marker::Model;
 
 /// How many events a queue has room for: one of each slot.
 const ROOM: usize = 64;
 
-/// The events that a slot has still to handle, oldest first.
+/// The events that a slot has still to handle, oldest first. Its room is taken whole when it is made.
 #[derive(Drop)]
 pub(crate) struct Queue {
-    events: ArrayVec<Event, ROOM>,
+    events: Vec<Event>,
 }
 
 impl Model for Queue {
-    ghost use Rattle.std.specs.Prelude.{List};
+    ghost use Rattle.std.specs.Prelude.{List, ◌≤◌, vec_capacity};
     ghost use Rattle.mm_model.specs.declared.event.Event.{Event};
 
     ghost Value = { List Event };
 
     ghost view = { λ q. q.events.items };
+
+    ghost invariant = { λ q. 64 ≤ vec_capacity q.events };
 }
 
 impl Queue {
     /// An empty queue.
-    pub(crate) fn new() -> Queue
-        ensures { result ≡ [] }
+    pub(crate) fn new(alloc: Global) -> Result<Queue, NoMemory>
+        ensures { IfOk result (λ queue. queue ≡ []) }
     {
-        Queue {
-            events: ArrayVec::new(),
+        match Vec::with_capacity(alloc, ROOM) {
+            Ok(events) => Ok(Queue { events }),
+            Err(_) => Err(NoMemory),
         }
     }
 
@@ -36,7 +40,7 @@ impl Queue {
     pub(crate) fn events(&self) -> &[Event]
         ensures { result.now ≡ self.now }
     {
-        self.events.as_slice()
+        &self.events
     }
 
     /// Adds the newest event.
@@ -44,7 +48,7 @@ impl Queue {
         requires { length self.old < 64 }
         ensures { self.new ≡ self.old ++ event ∷ [] }
     {
-        self.events.push(event);
+        self.events.extend_from_slice(&[event]).unwrap();
     }
 
     /// Takes the oldest event away.
@@ -52,7 +56,7 @@ impl Queue {
         requires { 0 < length self.old }
         ensures { self.new ≡ drop 1 self.old }
     {
-        self.events.remove(0);
+        let _event = self.events.remove(0);
     }
 
     /// Takes all events away.

@@ -1,5 +1,5 @@
 use Rattle.std.proofs.Common.{arith}
-use Rattle.mm_thread.specs.Output.{Output}
+use Rattle.mm_thread.specs.declared.output.Output.{Output}
 use Rattle.mm_machine.proofs.Rising.{rise_more, rise_not}
 use Rattle.mm_machine.proofs.standing.groups_ascend.Goals as goal
 

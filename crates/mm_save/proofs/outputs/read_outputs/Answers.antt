@@ -1,6 +1,6 @@
 use Rattle.std.proofs.Common.{◌≡◌, ℕ, ◌+◌, List, [], ◌∷◌, ◌++◌, map, get_or, refl, ap, ◌∙◌, arith}
 use Rattle.std.proofs.lemmas.Result.{err_from_is_err_and}
-use Rattle.mm_thread.specs.Output.{Output}
+use Rattle.mm_thread.specs.declared.output.Output.{Output}
 use Rattle.mm_save.specs.Reading.{output_at, output_length, output_end}
 use Rattle.mm_save.specs.Steps.{put_out}
 use Rattle.mm_save.proofs.Runs.{outputs_stop, outputs_go_on, outputs_done, held_outputs, all_outputs, put_more}
