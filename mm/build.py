@@ -23,6 +23,7 @@ from mm.source.text import SourceText, read_source
 from mm.status import Status, Stop
 
 MOST_ERRORS = 20
+OUR_SUFFIXES = (".asm", ".obj", ".img", ".mms", ".schedule", ".links", ".events")
 
 
 class Refused(Stop):
@@ -80,7 +81,7 @@ def _beside(name: str, error: OSError) -> list[str]:
     except OSError:
         return [f"there is no folder {folder}"]
     stem = os.path.splitext(last)[0]
-    meant = sorted(other for other in there if os.path.splitext(other)[0] == stem)[:3]
+    meant = sorted(other for other in there if os.path.splitext(other)[0] == stem and other.endswith(OUR_SUFFIXES))[:3]
     return [f"there is {' and '.join(os.path.join(folder, other) for other in meant)}"] if meant else []
 
 

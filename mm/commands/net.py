@@ -29,15 +29,14 @@ def _end(node: str, place: str, nodes: list[Built]) -> str:
         raise usage(f"mm: link {node}.{place}: {error}") from None
 
 
-def numeric(data: bytes, nodes: list[Built]) -> bytes:
-    """A text of links with numbers for names. Each word keeps its place, so that a fault is told where it stands in the user's own text."""
-    made, at = [], 0
+def numeric(data: bytes, nodes: list[Built]) -> tuple[bytes, dict[int, int]]:
+    """A text of links with numbers for names, and of each item's place in it the place in the user's own text."""
+    made, places = b"", {}
     for offset, word in words_of(data):
         match = LINK.fullmatch(word.decode("latin-1"))
-        made.append(data[at:offset])
-        made.append(f"{_end(match[1], match[2], nodes)}>{_end(match[3], match[4], nodes)}".encode() if match else word)
-        at = offset + len(word)
-    return b"".join([*made, data[at:]])
+        places[len(made)] = offset
+        made += (f"{_end(match[1], match[2], nodes)}>{_end(match[3], match[4], nodes)}".encode() if match else word) + b"\n"
+    return made, places
 
 
 def _split(text: str) -> tuple[list[list[str]], list[str]]:
@@ -59,8 +58,9 @@ def run(console: Console) -> int:
     if len(names) > MOST_NODES:
         raise usage(f"mm: net: a net has at most {MOST_NODES} nodes, and {len(names)} files are given")
     nodes = [console.build([name]) for name in names]
-    text, order = numeric(read_file(links), nodes), read_file(events)
-    files = [NamedFile(links, text), NamedFile(events, order, events=True), *(node.file for node in nodes)]
+    said, order = read_file(links), read_file(events)
+    text, moved = numeric(said, nodes)
+    files = [NamedFile(links, said, moved=moved), NamedFile(events, order, events=True), *(node.file for node in nodes)]
     words = ["net", console.workshop.keep(text, ".links"), console.workshop.keep(order, ".events"), str(console.cycles(MOST_CYCLES)), *(node.path for node in nodes)]
     reports, told = _split(console.ask(words, files).text)
     for number, (node, lines) in enumerate(zip(nodes, reports)):

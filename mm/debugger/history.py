@@ -9,12 +9,14 @@ from typing import Iterator, Optional
 from mm.build import Built
 from mm.console import Console, Order
 from mm.outputs.report import Report, read_report
-from mm.outputs.trace import Turn, read_turn
+from mm.outputs.trace import Turn, read_turn, split_trace
+from mm.views.waiting import waiting
 from mm.words import MOST_CYCLES
 
 FIRST_TURNS = 2_000
 GROWTH = 8
 STATES_KEPT = 64
+LOOKED_AT = 2_000
 
 
 class History:
@@ -30,6 +32,8 @@ class History:
         self.files = [built.file, *order.files]
         self.items = list(self.schedule.items()) if self.schedule else None
         self.end: Optional[int] = None
+        # Whether the run ends here since each slot that runs waits, and nothing can change that.
+        self.stuck = False
 
     def report(self, total: int) -> Report:
         """The state after so many cycles."""
@@ -50,14 +54,13 @@ class History:
         while cycle > self.asked and self.end is None:
             wanted = min(MOST_CYCLES, max(cycle, FIRST_TURNS, GROWTH * self.asked))
             answer = self.console.ask(["trace", self.built.path, str(wanted), *self.order.words], self.files)
-            text = answer.text
-            begin = 0 if text.startswith("cycles ") else text.find("\ncycles ") + 1
-            done = int(text[begin:].split(None, 2)[1])
-            self.lines = text[:begin].splitlines()
-            self.cycles = self._cycles(done)
+            self.lines, report = split_trace(answer.text)
+            self.cycles = self._cycles(report.cycles)
             self.asked = wanted
-            if done < wanted or wanted == MOST_CYCLES:
-                self.end = done
+            waits = waiting(self.lines[-LOOKED_AT:], report, self.built.image.split)
+            self.stuck = any(wait.stuck for wait in waits.values())
+            if report.cycles < wanted or wanted == MOST_CYCLES or self.stuck:
+                self.end = report.cycles
 
     def _cycles(self, done: int) -> list[int]:
         """The cycle of each line: every one in round robin, under a schedule those that are not idle."""

@@ -14,9 +14,12 @@ from mm.views.report import ReportView
 from mm.views.spell import Memory, bytes_as_text
 from mm.views.style import Style
 from mm.views.trace import TraceView
+from mm.views.waiting import what_for
 from mm.views.why import why
 
 AROUND = 5
+# The states of a slot after a fault, which are told by verbs of their own.
+FAULTED = ("faulted", "waiting", "taken")
 BYTES_SHOWN = 256
 
 
@@ -43,7 +46,7 @@ class Show:
         if slot.running and ip:
             return f"{head} is {'past the end of its segment' if slot.past else 'at ' + self.place(ip.address)}"
         view = ReportView(self.session.report, self.session.memory, self.session.speller, self.style)
-        return f"{head} is {view.state(slot)}" if not slot.fault else f"{head} {view.state(slot)}"
+        return f"{head} {'' if slot.state in FAULTED else 'is '}{view.state(slot)}"
 
     def did(self, halt: Halt) -> Iterator[str]:
         """The turn that was the last."""
@@ -97,7 +100,10 @@ class Show:
         yield from self.did(halt)
         ended = turn is None
         yield f"{self.style.soft(f'cycle {session.total}')}{', the end of the run (`run` begins again, `back` goes back)' if ended else ''}"
-        if current:
+        if ended and session.history.stuck:
+            yield "nothing can change any more: each slot that runs waits"
+            yield from (f"  slot {slot.number} is {what_for(slot, session.memory, session.speller)}" for slot in session.report.slots if slot.running)
+        elif current:
             yield self.slot_line(current)
         if turn and turn.slot != session.slot:
             other = session.report.slot(turn.slot)

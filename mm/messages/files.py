@@ -2,8 +2,8 @@
 
 from __future__ import annotations
 
-from dataclasses import dataclass
-from typing import Callable, Optional, Sequence
+from dataclasses import dataclass, field
+from typing import Callable, Mapping, Optional, Sequence
 
 from mm.formats.kinds import FileKind
 from mm.formats.schedule import words_of
@@ -45,11 +45,12 @@ EVENTS_HINT = "an item is `N:S` or `N:S*K` (turns of slot S of node N), `+L` (li
 
 @dataclass(frozen=True)
 class NamedFile:
-    """A file as its user named it, with its bytes."""
+    """A file as its user named it, with its bytes. `moved` has the offsets of items that stand elsewhere in what `mmachine` was given."""
 
     name: str
     data: bytes
     events: bool = False
+    moved: Mapping[int, int] = field(default_factory=dict)
 
 
 def _image(file: NamedFile, refusal: Refusal) -> Diagnostic:
@@ -83,7 +84,7 @@ def _place(data: bytes, offset: int) -> tuple[int, int, str]:
 
 
 def _text(file: NamedFile, refusal: Refusal, what: str, hint: str) -> Diagnostic:
-    offset = refusal["offset"]
+    offset = file.moved.get(refusal["offset"], refusal["offset"])
     line, column, text = _place(file.data, offset)
     word = next((word for at, word in words_of(file.data) if at == offset), b"").decode("latin-1")
     return Diagnostic(file.name, f"`{word[:40]}` is no item of {what}, or one too many", line, column, text, [_better_item(word) or hint])

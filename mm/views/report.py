@@ -68,8 +68,9 @@ class ReportView:
             wait = self.waits[slot.number]
             lasts = "for ever" if wait.stuck else f"its last {counted(wait.turns, 'turn')}"
             return f"{self.style.warn(what_for(slot, self.memory, self.speller))}, {lasts}"
-        words = {"waiting": "has faulted, and its handler has not looked yet", "taken": "has faulted, and its handler has it"}
-        return f"{words.get(slot.state, slot.state)} {where}" + (", past the end of its segment" if slot.past else "")
+        words = {"waiting": ("has faulted", ", and its handler has not looked yet"), "taken": ("has faulted", ", and its handler has it")}
+        before, after = words.get(slot.state, (slot.state, ""))
+        return f"{before} {where}{', past the end of its segment' if slot.past else ''}{after}"
 
     def place(self, slot: SlotState) -> list[str]:
         """The instruction at which a slot stands, with the line that it comes from."""

@@ -153,7 +153,7 @@ def _malformed(at: Refusal) -> list[str]:
 
 def _trap(at: Refusal) -> list[str]:
     number = at.instruction.value("imm") if at.instruction else 0
-    return [f"trap {number}, and the slot has no handler that would answer it"]
+    return [f"trap {number}, and the slot has no handler that would answer it" if at.slot.fault else f"trap {number}, which is for the handler to answer"]
 
 
 def _no_slot(at: Refusal) -> list[str]:
