@@ -10,8 +10,7 @@ use crate::stop::Stop;
 use mm_io::Sink;
 use mm_machine::Machine;
 use mm_mem::{Inspect, Memory};
-use mm_report::{put_cell, put_slot};
-use mm_text::{Gather, Piece};
+use mm_text::{Gather, Piece, put_cell, put_slot};
 
 /// How many cycles a `step` issued, and how many there were in all.
 pub(crate) fn put_stepped<O: Sink>(reply: &mut Gather, out: &mut O, count: u64, total: u64)

@@ -6,7 +6,6 @@ use mm_machine::{Machine, Slot, SlotState};
 use mm_mem::{Boot, PlainMem, Reset};
 use mm_model::{CELLS, Page};
 use mm_sched::Order;
-use mm_vmem::VMem;
 use mm_word::{Cell, GuardedPtr, Perm, Word};
 use std::alloc::Global;
 use std::test::Fail;
@@ -105,7 +104,6 @@ fn back_to_a_point(rt: HostRuntime) -> Result<(), Fail> {
         there_and_back::<PlainMem>(rt.alloc())?.taken(),
         THERE_AND_BACK
     );
-    assert_eq!(rt; there_and_back::<VMem>(rt.alloc())?.taken(), THERE_AND_BACK);
     Ok(())
 }
 

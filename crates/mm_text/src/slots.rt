@@ -3,12 +3,14 @@ ghost use Rattle.std.specs.Prelude.{◌≡◌, ◌<◌, ◌++◌, codes, decimal
 ghost use Rattle.std.specs.List.{flat_map};
 ghost use Rattle.mm_io.specs.Sinks.{Writes};
 ghost use Rattle.mm_text.specs.Gathers.{Gathers};
-ghost use Rattle.mm_model.specs.Lines.{slot_lines as slot_lines_of, slot_line, state_text, past_text, register_lines, register_line, word_line, is_zero as is_zero_word, numbers_text, pending_line};
+ghost use Rattle.mm_model.specs.Lines.{slot_lines as slot_lines_of, slot_line, numbers_text, state_text, past_text};
+ghost use Rattle.mm_model.specs.Lines.{register_lines, register_line, word_line, is_zero as is_zero_word, pending_line};
 
+use crate::gather::Gather;
+use crate::piece::Piece;
 use crate::words::put_word;
 use mm_io::{Sink, WriteFault};
 use mm_model::{Pending, Slot, SlotState};
-use mm_text::{Gather, Piece};
 use mm_word::Word;
 
 /// Writes the lines of a slot:

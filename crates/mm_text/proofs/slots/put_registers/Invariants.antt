@@ -2,7 +2,7 @@ use Rattle.std.proofs.Common.{take}
 use Rattle.std.specs.List.{flat_map, range_with_len}
 use Rattle.mm_text.specs.Gathers.{Gathers}
 use Rattle.mm_model.specs.Lines.{register_line}
-use Rattle.mm_report.proofs.slots.put_registers.Given as goal
+use Rattle.mm_text.proofs.slots.put_registers.Given as goal
 
 abbrev pub invariant-loop-number : goal.invariant-loop-number
 invariant-loop-number g l =

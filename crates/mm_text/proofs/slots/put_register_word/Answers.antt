@@ -1,7 +1,7 @@
 use Rattle.std.proofs.Common.{rules}
 use Rattle.mm_text.proofs.Gathering.{gathers_then, gathers_same}
-use Rattle.mm_report.proofs.RegisterLines.{some_line}
-use Rattle.mm_report.proofs.slots.put_register_word.Goals as goal
+use Rattle.mm_text.proofs.RegisterLines.{some_line}
+use Rattle.mm_text.proofs.slots.put_register_word.Goals as goal
 
 pub returns-then-not-is_zero : goal.returns-then-not-is_zero
 returns-then-not-is_zero g c =

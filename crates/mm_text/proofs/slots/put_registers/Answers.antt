@@ -4,7 +4,7 @@ use Rattle.std.proofs.lemmas.List.FromFn.{get_or-range_with_len}
 use Rattle.std.specs.List.{flat_map, range_with_len}
 use Rattle.mm_model.specs.Lines.{register_line}
 use Rattle.mm_text.proofs.Gathering.{gathers_item, gathers_same}
-use Rattle.mm_report.proofs.slots.put_registers.Goals as goal
+use Rattle.mm_text.proofs.slots.put_registers.Goals as goal
 
 pub loop-number-preserved : goal.loop-number-preserved
 loop-number-preserved g c =

@@ -1,7 +1,7 @@
 use Rattle.std.proofs.Common.{ap}
 use Rattle.mm_model.specs.Lines.{slot_line}
 use Rattle.mm_text.proofs.Gathering.{gathers_then, gathers_same}
-use Rattle.mm_report.proofs.slots.put_slot_line.Goals as goal
+use Rattle.mm_text.proofs.slots.put_slot_line.Goals as goal
 
 pub returns : goal.returns
 returns g c =

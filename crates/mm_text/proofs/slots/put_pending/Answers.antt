@@ -1,6 +1,6 @@
 use Rattle.mm_model.specs.Lines.{pending_line}
 use Rattle.mm_text.proofs.Gathering.{gathers_item}
-use Rattle.mm_report.proofs.slots.put_pending.Goals as goal
+use Rattle.mm_text.proofs.slots.put_pending.Goals as goal
 
 pub loop-load-preserved : goal.loop-load-preserved
 loop-load-preserved g c =

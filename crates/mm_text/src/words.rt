@@ -1,9 +1,10 @@
-// The texts of words.
+// The text of a word.
 ghost use Rattle.mm_text.specs.Gathers.{Gathers};
 ghost use Rattle.mm_model.specs.Lines.{word_text};
 
+use crate::gather::Gather;
+use crate::piece::Piece;
 use mm_io::Sink;
-use mm_text::{Gather, Piece};
 use mm_word::Word;
 
 /// Appends a word: `i` for an integer or `p` for a pointer, and its 64 bits in 16 lower-case

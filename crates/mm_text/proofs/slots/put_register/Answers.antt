@@ -1,6 +1,6 @@
 use Rattle.mm_text.proofs.Gathering.{gathers_then, gathers_same}
-use Rattle.mm_report.proofs.RegisterLines.{empty_line}
-use Rattle.mm_report.proofs.slots.put_register.Goals as goal
+use Rattle.mm_text.proofs.RegisterLines.{empty_line}
+use Rattle.mm_text.proofs.slots.put_register.Goals as goal
 
 pub returns-then-is_empty : goal.returns-then-is_empty
 returns-then-is_empty g c =

@@ -1,7 +1,7 @@
 use Rattle.std.proofs.Common.{rules}
 use Rattle.mm_model.specs.Lines.{slot_lines}
 use Rattle.mm_text.proofs.Gathering.{gathers_then}
-use Rattle.mm_report.proofs.slots.put_slot.Goals as goal
+use Rattle.mm_text.proofs.slots.put_slot.Goals as goal
 
 pub returns : goal.returns
 unfolding slot_lines
