@@ -10,7 +10,7 @@ use mm_word::{Cell, GuardedPtr, Perm, Word};
 use std::alloc::Global;
 use std::test::Fail;
 
-/// `ldi r1, 65` and `out r1`, and `halt` behind them.
+/// `ldi r1, 65` and `out r1`, and `halt` after them.
 const CODE: [u64; 2] = [0x0210_0000_0000_0041, 0x0701_0000_0000_0000];
 
 const WORKED: &[u8] =
@@ -20,7 +20,7 @@ const WORKED: &[u8] =
 const THERE_AND_BACK: &[u8] =
     b"stepped 2 total 2\nslot 0 turns 0 running ip p3300000000100000\nstepped 2 total 2\n";
 
-/// A page of the code, with integer zeros behind it.
+/// A page of the code, with integer zeros after it.
 fn page(alloc: Global) -> Result<Page, Fail> {
     let mut cells = Vec::with_capacity(alloc, CELLS)?;
     for place in 0..CELLS {
@@ -84,7 +84,8 @@ fn a_worked_session(rt: HostRuntime) -> Result<(), Fail> {
     Ok(())
 }
 
-/// The replies to two cycles, to a look at the registers once the session went back to its start, and to the same two cycles again.
+/// The replies to two cycles, to a look at the registers once the session went back to its start, and to the same two
+/// cycles again.
 fn there_and_back<M: Boot + Reset>(alloc: Global) -> Result<MemSink, Fail> {
     let mut session: Session<M> = session(alloc)?;
     let Ok(point) = session.point(alloc) else {

@@ -26,7 +26,6 @@ pub mod FewOutputs
 pub mod Forms
 pub mod GoesOn
 pub mod Inserted
-pub mod KeptTotals
 pub mod Lists
 pub mod Made
 pub mod OutputBytes
@@ -62,7 +61,7 @@ pub mod Backing
 pub mod Backwards
 pub mod Recalled
 pub mod RecalledStands
-pub mod Recollected
+pub mod LinesHandled
 pub mod RingTotals
 pub mod SpelledWords
 pub mod Waits

@@ -1,12 +1,12 @@
 // Breaks and watches.
 ghost use Rattle.std.specs.Prelude.{◌≡◌, ◌<◌, []};
-ghost use Rattle.mm_debug.specs.Marks.{has_break, has_watch, fits, with_break, with_watch, spot_of};
+ghost use Rattle.mm_debug.specs.Breakpoints.{has_break, has_watch, fits, with_break, with_watch, spot_of};
 
 use arrayvec::ArrayVec;
 use std::marker::Model;
 
 /// The most that are kept of each.
-const MARKS: usize = 64;
+const ENTRIES: usize = 64;
 
 /// How many spots of addresses are told apart without a search.
 const SPOTS: usize = 1024;
@@ -22,7 +22,7 @@ pub struct Break {
 /// At most 64 breaks in rising order, no two the same. Contracts see the list.
 #[derive(Drop)]
 pub struct Breaks {
-    kept: ArrayVec<Break, MARKS>,
+    kept: ArrayVec<Break, ENTRIES>,
     /// The spots at which there may be a break: most addresses are none of them, and need no search.
     spots: [bool; SPOTS],
 }
@@ -37,14 +37,14 @@ fn spot(address: u64) -> usize
 
 impl Model for Breaks {
     ghost use Rattle.std.specs.Prelude.{List};
-    ghost use Rattle.mm_debug.specs.declared.marks.Break.{Break};
-    ghost use Rattle.mm_debug.specs.Marks.{AreMarks, AreSpotted, break_cmp};
+    ghost use Rattle.mm_debug.specs.declared.breakpoints.Break.{Break};
+    ghost use Rattle.mm_debug.specs.Breakpoints.{AreEntries, AreSpotted, break_cmp};
 
     ghost Value = { List Break };
 
     ghost view = { λ s. s.kept.items };
 
-    ghost invariant = { λ s. AreMarks break_cmp s.kept.items × AreSpotted s.spots s.kept.items };
+    ghost invariant = { λ s. AreEntries break_cmp s.kept.items × AreSpotted s.spots s.kept.items };
 }
 
 impl Breaks {
@@ -73,12 +73,12 @@ impl Breaks {
         ensures fits { result ≡ fits (has_break self.old slot address) self.old }
         ensures after { self.new ≡ with_break self.old (record { slot = slot; address = address }) }
     {
-        let mark = Break { slot, address };
-        match self.kept.binary_search(&mark) {
+        let entry = Break { slot, address };
+        match self.kept.binary_search(&entry) {
             Ok(_) => true,
             Err(place) => {
                 self.spots[spot(address)] = true;
-                self.kept.try_insert(place, mark).is_ok()
+                self.kept.try_insert(place, entry).is_ok()
             }
         }
     }
@@ -87,19 +87,19 @@ impl Breaks {
 /// At most 64 watched words in rising order, no two the same. Contracts see the list.
 #[derive(Drop)]
 pub struct Watches {
-    kept: ArrayVec<u64, MARKS>,
+    kept: ArrayVec<u64, ENTRIES>,
 }
 
 impl Model for Watches {
     ghost use Rattle.std.specs.Prelude.{ℕ, List};
     ghost use Rattle.std.specs.Ordering.{nat_cmp};
-    ghost use Rattle.mm_debug.specs.Marks.{AreMarks};
+    ghost use Rattle.mm_debug.specs.Breakpoints.{AreEntries};
 
     ghost Value = { List ℕ };
 
     ghost view = { λ s. s.kept.items };
 
-    ghost invariant = { λ s. AreMarks nat_cmp s.kept.items };
+    ghost invariant = { λ s. AreEntries nat_cmp s.kept.items };
 }
 
 impl Watches {

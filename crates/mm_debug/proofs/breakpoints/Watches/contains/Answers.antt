@@ -1,6 +1,6 @@
 use Rattle.std.proofs.Common.{◌∙◌}
 use Rattle.mm_debug.proofs.Kept.{answered, word_searched}
-use Rattle.mm_debug.proofs.marks.Watches.contains.Goals as goal
+use Rattle.mm_debug.proofs.breakpoints.Watches.contains.Goals as goal
 
 pub returns : goal.returns
 returns c =

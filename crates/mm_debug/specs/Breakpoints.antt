@@ -5,16 +5,16 @@ use Rattle.std.specs.List.Sorted.{IsStrictlySortedBy}
 use Rattle.std.specs.declared.cmp.Ordering.{Ordering}
 use Rattle.std.specs.declared.cmp.Ordering.TheVariants.{Less, Equal, Greater}
 use Rattle.std.specs.Ordering.{nat_cmp, ordering_then}
-use Rattle.mm_debug.specs.declared.marks.Break.{Break}
+use Rattle.mm_debug.specs.declared.breakpoints.Break.{Break}
 
 -- the most that are kept of each
-abbrev pub mark_limit : ℕ
-mark_limit = 64
+abbrev pub entry_limit : ℕ
+entry_limit = 64
 
 -- Entries in rising order, no two the same, of which there are not too many.
-pub record AreMarks {A : Type 0} (cmp : A → A → Ordering) (marks : List A) : Type 0 where
-  pub rise : IsStrictlySortedBy cmp marks
-  pub few : length marks ≤ mark_limit
+pub record AreEntries {A : Type 0} (cmp : A → A → Ordering) (entries : List A) : Type 0 where
+  pub rise : IsStrictlySortedBy cmp entries
+  pub few : length entries ≤ entry_limit
 
 -- a break by its slot, and then by its address
 abbrev pub break_cmp : Break → Break → Ordering
@@ -52,18 +52,18 @@ module _ {A : Type 0} (cmp : A → A → Ordering) where
 
 -- there is room for one entry more, or it is there already
 abbrev pub fits : {A : Type 0} → (there : Bool) → List A → Bool
-fits true marks = true
-fits false marks = nat_lt (length marks) mark_limit
+fits true entries = true
+fits false entries = nat_lt (length entries) entry_limit
 
 -- a list after an entry is set: as it is where the entry is there already, or where there is no room for it
-abbrev pub marked : {A : Type 0} → (there : Bool) → (marks with_it : List A) → List A
-marked true marks with_it = marks
-marked false marks with_it = if nat_lt (length marks) mark_limit then with_it else marks
+abbrev pub entered : {A : Type 0} → (there : Bool) → (entries with_it : List A) → List A
+entered true entries with_it = entries
+entered false entries with_it = if nat_lt (length entries) entry_limit then with_it else entries
 
 -- the breaks after one is set
 abbrev pub with_break : List Break → Break → List Break
-with_break breaks b = marked (has_break breaks b.slot b.address) breaks (placed break_cmp b breaks)
+with_break breaks b = entered (has_break breaks b.slot b.address) breaks (placed break_cmp b breaks)
 
 -- the watches after one is set
 abbrev pub with_watch : List ℕ → ℕ → List ℕ
-with_watch watches word = marked (has_watch watches word) watches (placed nat_cmp word watches)
+with_watch watches word = entered (has_watch watches word) watches (placed nat_cmp word watches)
