@@ -10,8 +10,7 @@ use mm_io::{Sink, WriteFault};
 use mm_machine::Machine;
 use mm_mem::Memory;
 use mm_model::Slot;
-use mm_report::{put_cycles, put_numbers, put_state, put_word};
-use mm_text::{Gather, Piece};
+use mm_text::{Gather, Piece, put_cycles, put_numbers, put_state, put_word};
 
 /// The register of which a summary speaks.
 const REGISTER: u8 = 3;

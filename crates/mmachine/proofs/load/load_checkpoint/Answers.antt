@@ -1,6 +1,6 @@
 use Rattle.std.proofs.Common.{◌≡◌, ℕ, List, Some, Err, refl, ap, ◌∙◌, subst}
-use Rattle.mm_save.specs.Faults.{save_fault}
-use Rattle.mm_save.specs.declared.fault.SaveError.{SaveError}
+use Rattle.mm_checkpoint.specs.Faults.{save_fault}
+use Rattle.mm_checkpoint.specs.declared.fault.SaveError.{SaveError}
 use Rattle.mmachine.proofs.Reading.{refused_file}
 use Rattle.mmachine.proofs.load.load_checkpoint.Goals as goal
 
