@@ -67,11 +67,11 @@ module _ (held : List ℕ → Option (List ℕ)) (ys : List (List ℕ × Kind)) 
   asks_then before other (x ∷ xs) [] reads more front asks back = absurd front
   asks_then before other (x ∷ xs) (v ∷ vs) reads more (here, rest) (mine, later, is, of, inl none) back =
       let all : reads ++ more ≡ mine ++ more =
-          ap (λ (ns : List PieceRead). ns ++ more) (is ∙ ap (λ (ns : List PieceRead). mine ++ ns) none ∙ append-nil mine) in
+      ap (λ (ns : List PieceRead). ns ++ more) (is ∙ ap (λ (ns : List PieceRead). mine ++ ns) none ∙ append-nil mine) in
       (mine, more, all, of, inr (v, here, asks_behind (before ++ v ∷ []) xs vs more rest (subst (λ (b : List Value). AsksInOrder held b ys more) (behind_one before v vs) back)))
   asks_then before other (x ∷ xs) (v ∷ vs) reads more (here, rest) (mine, later, is, of, inr (w, also, asks)) back =
       let all : reads ++ more ≡ mine ++ (later ++ more) =
-          ap (λ (ns : List PieceRead). ns ++ more) is ∙ append_assoc mine later more in (
+      ap (λ (ns : List PieceRead). ns ++ more) is ∙ append_assoc mine later more in (
         mine,
         later ++ more,
         all,
