@@ -61,10 +61,6 @@ class Session:
         """The turn of the next cycle that is not idle."""
         return next((turn for _, turn in self.history.after(self.total, ANY_TURN)), None)
 
-    @property
-    def at_end(self) -> bool:
-        return self.history.turn(self.total + 1) is None and self.history.end is not None and self.total >= self.history.end
-
     def add(self, kind: PointKind, text: str, address: int = 0, length: int = 8, slot: Optional[int] = None, once: bool = False) -> Point:
         self.made += 1
         point = Point(self.made, kind, text, address, length, slot, once)
