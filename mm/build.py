@@ -42,6 +42,8 @@ class Unit:
     data: bytes
     made: Object
     source: Optional[SourceText] = None
+    # Whether it is a text that was read here otherwise than `mmachine` reads it, so that its labels and lines are not used.
+    misread: bool = False
 
 
 @dataclass
@@ -112,7 +114,8 @@ class Workshop:
         if answer.status:
             raise self._source_refused(name, data, answer)
         made, source = read_object(answer.out), read_source(name, data)
-        return Unit(name, answer.out, made, source if fits(source, made) else None)
+        read_alike = fits(source, made)
+        return Unit(name, answer.out, made, source if read_alike else None, not read_alike)
 
     def _source_refused(self, name: str, data: bytes, answer: Answer) -> Refused:
         refusal = read_refusal(answer.line)
@@ -219,6 +222,7 @@ def give_names(built: Built, units: Sequence[Unit]) -> None:
     """Gives an image the names of its units, if it has the cells that their link makes; else says how many it has not."""
     placed = place([unit.made for unit in units])
     wrong = differences(placed, built.image)
+    built.notes += [f"{unit.name}: its lines and labels are not shown, since they were not read as `mmachine` reads them" for unit in units if unit.misread]
     built.placed, built.symbols = placed, symbols_of(placed, [unit.source for unit in units])
     if wrong:
         total = sum(len(item.segment.words) for item in placed)

@@ -11,6 +11,7 @@ from mm.status import usage
 from mm.table import ALIASES, BY_NAME, GLOBAL_OPTIONS, Command, Option
 
 MOST_CYCLES = 1_000_000
+MOST_GROUP = 63
 
 
 @dataclass
@@ -84,6 +85,15 @@ def check_count(said: Words) -> None:
     if command and not command.least <= len(said.words) <= (command.most if command.most is not None else len(said.words)):
         what = "is too few words" if len(said.words) < command.least else "is too many words"
         raise usage(f"mm: {command.name}: {len(said.words)} {what}", f"    it is written: mm {command.name} {command.operands}", f"    `mm help {command.name}` says more")
+
+
+def groups_of(text: str) -> str:
+    """Groups as `mmachine` takes them, ascending and once each; numbers may have any base and order."""
+    numbers = {number_of(part.strip()) for part in text.split(",")}
+    known = sorted(number for number in numbers if number is not None and 0 <= number <= MOST_GROUP)
+    if len(known) < len(numbers):
+        raise usage(f"mm: `{text}` are no groups: numbers 0 to {MOST_GROUP} with commas between, as 0 or 0,2")
+    return ",".join(map(str, known))
 
 
 def cycles_of(text: Optional[str]) -> Optional[int]:

@@ -16,7 +16,7 @@ from mm.table import CYCLES, JSON
 from mm.views.data import ReportForm
 from mm.views.report import ReportView
 from mm.views.spell import Memory, Speller
-from mm.words import MOST_CYCLES, cycles_of
+from mm.words import MOST_CYCLES, cycles_of, groups_of
 
 
 def show(console: Console, built: Built, run: Run, order: str) -> int:
@@ -44,7 +44,8 @@ def _as_schedule(console: Console, built: Built, cycles: int) -> Order:
 
 
 def _solo(console: Console) -> int:
-    *names, groups = console.words
+    *names, last = console.words
+    groups = groups_of(last)
     built, order = console.build(names), console.order()
     cycles = console.cycles(MOST_CYCLES)
     if order.path is None:

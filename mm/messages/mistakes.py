@@ -6,6 +6,7 @@ import re
 from dataclasses import dataclass
 from typing import Callable, Optional
 
+from mm.source.tokens import BEYOND, value_of_digits
 from mm.source.wants import OPERANDS
 
 # Operations of other machines, and what does their work here.
@@ -208,7 +209,7 @@ def _segment(scene: Scene) -> Optional[str]:
     if scene.fault == 2 and not scene.found:
         return "the length is wanted too, as a power of two of bytes: `.segment main 6` has 2^6 = 64 bytes, room for 8 words"
     if scene.fault == 4 and re.fullmatch(r"\d+|0x[0-9A-Fa-f]+", scene.found):
-        length = int(scene.found, 0) if scene.found.startswith("0x") else int(scene.found)
+        length = value_of_digits(scene.found)
         if 8 < length <= 1 << 20:
             return f"the number is the logarithm of the length: for {length} bytes write {max(3, (length - 1).bit_length())}"
     return None
@@ -256,8 +257,8 @@ def _pointer(scene: Scene) -> Optional[str]:
 
 
 def _numbers(scene: Scene) -> Optional[str]:
-    if scene.head == "ldi" and scene.fault == 4:
-        value = int(scene.found, 0) if scene.found.startswith("0x") else int(scene.found)
+    value = value_of_digits(scene.found) if scene.head == "ldi" and scene.fault == 4 else BEYOND
+    if abs(value) < 1 << 64:
         high, low = value >> 32 & 0xFFFFFFFF, value & 0xFFFFFFFF
         return f"`ldi` takes 32 bits: write `ldi r1, 0x{high:x}` and then `ldhi r1, 0x{low:x}`"
     if scene.head == "evt" and scene.fault == 4:

@@ -176,6 +176,8 @@ class Looking(unittest.TestCase):
         self.assertIn("group 0 does not stand apart: group 1 can write box, which it can read", out)
         self.assertIn("read and write  box", out)
         self.assertIn("groups 0, 1 stand apart", mm("audit", "examples/kernel.asm", "--groups", "0,1").out)
+        self.assertEqual(mm("audit", "examples/kernel.asm", "--groups", "0x1,0,1").out, mm("audit", "examples/kernel.asm", "--groups", "0,1").out)
+        self.assertIn("are no groups", mm("audit", "examples/kernel.asm", "--groups", "a").err)
         form = json.loads(mm("audit", "examples/kernel.asm", "--json").out)
         self.assertEqual([apart["apart"] for apart in form["apart"]], [True, True])
 

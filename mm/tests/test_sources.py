@@ -29,7 +29,7 @@ class Lines(unittest.TestCase):
     def test_places(self):
         rows = [
             ("ldi r16, 1", 2, 5), ("ld r2, r1, 0, keep, any", 3, 15), ("evt r13", 4, 5), (".thread 0 0 0 xu a", 4, 13), (".empty .fill 3", 2, 8), (".int 0x", 2, 7),
-            ("halt $", 1, 6), (".reg 1 ptr rw a +", 2, 18), ("a: b: halt", 3, 4), (".ptr rw", 2, 8), ("st r1, r2, 4294967296, any, keep", 4, 12), ("resume r1, go", 3, 12),
+            ("halt $", 1, 6), ("halt \x0b", 1, 6), (".int " + "9" * 5000, 4, 6), (".reg 1 ptr rw a +", 2, 18), ("a: b: halt", 3, 4), (".ptr rw", 2, 8), ("st r1, r2, 4294967296, any, keep", 4, 12), ("resume r1, go", 3, 12),
         ]
         for text, fault, column in rows:
             mismatch = read_line(text).mismatch
