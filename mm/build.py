@@ -83,8 +83,8 @@ def _beside(name: str, error: OSError) -> list[str]:
     except OSError:
         return [f"there is no folder {folder}"]
     stem = os.path.splitext(last)[0]
-    meant = sorted(other for other in there if os.path.splitext(other)[0] == stem and other.endswith(OUR_SUFFIXES))[:3]
-    return [f"there is {' and '.join(os.path.join(folder, other) for other in meant)}"] if meant else []
+    meant = [stem + suffix for suffix in OUR_SUFFIXES if stem + suffix in there]
+    return [f"there is {os.path.join(folder, meant[0])}"] if meant else []
 
 
 class Workshop:
