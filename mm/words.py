@@ -3,6 +3,7 @@
 from __future__ import annotations
 
 import difflib
+import os
 from dataclasses import dataclass, field
 from typing import Optional, Sequence
 
@@ -40,6 +41,8 @@ def _known(command: Optional[Command]) -> dict[str, Option]:
 
 def _command(name: str) -> Command:
     found = BY_NAME.get(ALIASES.get(name, name))
+    if found is None and os.path.exists(name):
+        raise usage(f"mm: say what to do with {name}, as `mm run {name}`", "    `mm help` lists the commands")
     if found is None:
         near = difflib.get_close_matches(name, [*BY_NAME, *ALIASES], 1)
         raise usage(f"mm: there is no command `{name}`" + (f"; do you mean `{near[0]}`?" if near else ""), "    `mm help` lists the commands")

@@ -131,9 +131,12 @@ def _set_break(debugger: Debugger, rest: str, once: bool = False) -> Lines:
         return
     address, length = place_of(place, session)
     point = session.add(PointKind.BREAK, place, address, length, slot, once)
-    where = f"at {session.symbols.show(address)}" if length == 8 else f"where a slot comes into {session.symbols.show(address)}"
-    origin = session.symbols.origin(address)
-    yield f"{point.number}: break {where}" + (f", {origin}: {origin.code}" if origin and length == 8 else "")
+    name, origin = session.symbols.show(address), session.symbols.origin(address)
+    if length > 8:
+        yield f"{point.number}: break where a slot comes into {name}"
+        return
+    typed = "" if place == name else f"{place} "
+    yield f"{point.number}: break {typed}at {name}" + (f", {origin}: {origin.code}" if origin else "")
 
 
 def _set_once(debugger: Debugger, rest: str) -> Lines:

@@ -139,6 +139,7 @@ class Files(unittest.TestCase):
         self.assertIn("do you mean `run`?", self.refused(1, "rum", "examples/hello.asm"))
         self.assertIn("has no option --cycle; do you mean --cycles?", self.refused(1, "run", "examples/hello.asm", "--cycle", "5"))
         self.assertIn("no number of cycles", self.refused(1, "run", "examples/hello.asm", "--cycles", "many"))
+        self.assertIn("as `mm run examples/hello.asm`", self.refused(1, "examples/hello.asm"))
         self.assertIn("too few words", self.refused(1, "run"))
         self.assertIn("no program of that name", self.refused(127, "--program", "nowhere", "run", "examples/hello.asm"))
 
