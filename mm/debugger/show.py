@@ -10,6 +10,7 @@ from mm.machine.causes import Cause
 from mm.machine.words import Cell, Word
 from mm.names.numbers import counted
 from mm.outputs.report import SlotState
+from mm.source.tokens import readable
 from mm.views.report import ReportView
 from mm.views.spell import Memory, bytes_as_text
 from mm.views.style import Style
@@ -166,4 +167,4 @@ class Show:
     def lines(self, lines: list[str], middle: int, marked: Optional[int]) -> Iterator[str]:
         for number in range(max(1, middle - AROUND), min(len(lines), middle + AROUND) + 1):
             mark = "=>" if number == marked else "  "
-            yield f"{mark} {number:>4}  {lines[number - 1].rstrip()}"
+            yield f"{mark} {number:>4}  {readable(lines[number - 1]).rstrip()}"

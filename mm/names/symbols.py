@@ -11,6 +11,7 @@ from mm.formats.object import Object, Segment
 from mm.machine.isa import OPERATIONS
 from mm.names.layout import Placed
 from mm.source.text import SourceSegment, SourceText
+from mm.source.tokens import readable
 
 
 @dataclass(frozen=True)
@@ -24,7 +25,7 @@ class Origin:
     @property
     def code(self) -> str:
         """The line without its comment."""
-        return self.text.split(";")[0].strip()
+        return readable(self.text.split(";")[0].strip())
 
     def __str__(self) -> str:
         return f"{self.path}:{self.line}"

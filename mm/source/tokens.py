@@ -35,6 +35,11 @@ class Token:
         return value_of_digits(self.text)
 
 
+def readable(line: str) -> str:
+    """A line as people wrote it, from the latin-1 in which columns are bytes."""
+    return line.encode("latin-1").decode("utf-8", "replace")
+
+
 BLANKS = " \t\r"
 MOST_DIGITS = 40
 BEYOND = 1 << 80
