@@ -75,4 +75,3 @@ def main(given: Sequence[str]) -> int:
         return 130
     finally:
         console.close()
-

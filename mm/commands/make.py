@@ -61,7 +61,15 @@ def _soak(console: Console) -> int:
     return Status.DONE
 
 
-COMMANDS = {"asm": _asm, "link": _link, "extract": _extract, "migrate": _migrate, "save": _save, "gen": _gen, "soak": _soak}
+COMMANDS = {
+    "asm": _asm,
+    "link": _link,
+    "extract": _extract,
+    "migrate": _migrate,
+    "save": _save,
+    "gen": _gen,
+    "soak": _soak,
+}
 
 
 def run(console: Console) -> int:

@@ -40,6 +40,6 @@ def _shown(text: str, number: int, column: Optional[int], style: Style) -> list[
     head = f"{number:>5} | "
     lines = [style.soft(head) + readable(text).rstrip().replace("\t", " ")]
     if column is not None:
-        before = readable(text[:column - 1]).replace("\t", " ")
+        before = readable(text[: column - 1]).replace("\t", " ")
         lines.append(" " * (len(head) - 2) + style.soft("| ") + " " * len(before) + style.good("^"))
     return lines

@@ -8,7 +8,12 @@ from typing import Optional
 # An address as reports print it: 14 digits without `0x`. Read as a decimal number it would mean another address.
 PRINTED_ADDRESS = re.compile(r"[0-9a-fA-F]{14}")
 MOST_DIGITS = 100
-FORMS = ((re.compile(r"0[xX][0-9a-fA-F_]+"), 16), (re.compile(r"0[bB][01_]+"), 2), (re.compile(r"0[oO][0-7_]+"), 8), (re.compile(r"[0-9][0-9_]*"), 10))
+FORMS = (
+    (re.compile(r"0[xX][0-9a-fA-F_]+"), 16),
+    (re.compile(r"0[bB][01_]+"), 2),
+    (re.compile(r"0[oO][0-7_]+"), 8),
+    (re.compile(r"[0-9][0-9_]*"), 10),
+)
 
 
 def number_of(text: str) -> Optional[int]:

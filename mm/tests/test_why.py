@@ -13,6 +13,7 @@ def code(*lines, size=6):
     return f".segment main {size}\n" + "".join(f"  {line}\n" for line in lines) + DATA + THREAD
 
 
+# fmt: off
 ROWS = [
     (1, code("ld r7, r6, 0, any, keep"), "r6 is the integer 0", "a register that nothing was put into is 0"),
     (1, code("addi r6, r1, 0", "ld r7, r6, 0, any, keep"), "its bits are those of rw 2^4 box", "arithmetic"),
@@ -41,6 +42,7 @@ ROWS = [
     (12, code("resume r5, skip"), "r5 is 9", "whose event it has read by `evt`"),
     (13, code("out r5", "br -1"), "the group has put out 4096 bytes", "mm migrate"),
 ]
+# fmt: on
 
 
 @needs_program
