@@ -2,8 +2,12 @@
 
 What it tells of a machine comes from `mmachine`. By itself it reads sources, objects, images and texts, whose formats are documented.
 
-    main       words to a command, and how it ends
-    table      the commands in their order, with their options; help, completions and the manual page are compared with it
+    main       from the words of a command line to a command, and how it ends
+    table      the commands in their order, with their options; completions and the manual page are compared with it
+    words      the words of a command line, read by that table
+    console    what a command works with: its words, its streams, the program
+    status     exit statuses
+    version    which version this is
     commands   what each command does
     build      from files to an image with names
     machine    words, pointers, the table of operations, the faults, and the program `mmachine`

@@ -42,6 +42,8 @@ class Unit:
     data: bytes
     made: Object
     source: Optional[SourceText] = None
+    # Whether it is a text that was read here otherwise than `mmachine` reads it, so that its labels and lines are not used.
+    misread: bool = False
 
 
 @dataclass
@@ -68,7 +70,9 @@ def read_file(name: str) -> bytes:
         with open(name, "rb") as file:
             return file.read()
     except OSError as error:
-        raise Refused(Status.READ_FAULT, [Diagnostic(name, f"cannot be read: {error.strerror}", hints=_beside(name, error))]) from None
+        raise Refused(
+            Status.READ_FAULT, [Diagnostic(name, f"cannot be read: {error.strerror}", hints=_beside(name, error))]
+        ) from None
 
 
 def _beside(name: str, error: OSError) -> list[str]:
@@ -81,8 +85,8 @@ def _beside(name: str, error: OSError) -> list[str]:
     except OSError:
         return [f"there is no folder {folder}"]
     stem = os.path.splitext(last)[0]
-    meant = sorted(other for other in there if os.path.splitext(other)[0] == stem and other.endswith(OUR_SUFFIXES))[:3]
-    return [f"there is {' and '.join(os.path.join(folder, other) for other in meant)}"] if meant else []
+    meant = [stem + suffix for suffix in OUR_SUFFIXES if stem + suffix in there]
+    return [f"there is {os.path.join(folder, meant[0])}"] if meant else []
 
 
 class Workshop:
@@ -107,12 +111,22 @@ class Workshop:
     def assemble(self, name: str, data: bytes) -> Unit:
         """The object of a source, or a message for each of its faults."""
         if looks_binary(data):
-            raise Refused(Status.REFUSED, [Diagnostic(name, "this is no text, no image and no object", hints=["a source is a text; `mm help sources` shows one"])])
+            raise Refused(
+                Status.REFUSED,
+                [
+                    Diagnostic(
+                        name,
+                        "this is no text, no image and no object",
+                        hints=["a source is a text; `mm help sources` shows one"],
+                    )
+                ],
+            )
         answer = self.program.run(["asm", self.keep(data, ".asm")])
         if answer.status:
             raise self._source_refused(name, data, answer)
         made, source = read_object(answer.out), read_source(name, data)
-        return Unit(name, answer.out, made, source if fits(source, made) else None)
+        read_alike = fits(source, made)
+        return Unit(name, answer.out, made, source if read_alike else None, not read_alike)
 
     def _source_refused(self, name: str, data: bytes, answer: Answer) -> Refused:
         refusal = read_refusal(answer.line)
@@ -135,7 +149,9 @@ class Workshop:
             if next_one is None:
                 return Refused(status, sorted(found, key=lambda one: (one.line, one.column)))
             fault, line, column = next_one
-        return Refused(status, sorted(found, key=lambda one: (one.line, one.column)), more=(fault, line, column) not in seen)
+        return Refused(
+            status, sorted(found, key=lambda one: (one.line, one.column)), more=(fault, line, column) not in seen
+        )
 
     def _next_fault(self, mender: Mender, fault: int, line: int, column: int) -> Optional[tuple[int, int, int]]:
         if not mender.mend(fault, line, column):
@@ -149,7 +165,7 @@ class Workshop:
         """What `mmachine dis` calls each word: an instruction, or `.int` and its digits."""
         found: list[str] = []
         for at in range(0, len(words), MOST_WORDS):
-            answer = self.program.run(["dis", self.keep(object_of_words(list(words[at:at + MOST_WORDS])), ".obj")])
+            answer = self.program.run(["dis", self.keep(object_of_words(list(words[at : at + MOST_WORDS])), ".obj")])
             if answer.status:
                 raise refused(answer, [NamedFile("the words of an image", b"")])
             found += [line for line in answer.text.splitlines() if not line.startswith((".spare", ".segment"))]
@@ -170,7 +186,12 @@ class Workshop:
         if answer.status:
             refusal = read_refusal(answer.line)
             if refusal and refusal.kind is RefusalKind.LINK:
-                raise Refused(answer.status, explain_link(refusal["fault"], refusal.name, [(unit.name, unit.made, unit.source) for unit in units]))
+                raise Refused(
+                    answer.status,
+                    explain_link(
+                        refusal["fault"], refusal.name, [(unit.name, unit.made, unit.source) for unit in units]
+                    ),
+                )
             raise refused(answer, [NamedFile(unit.name, unit.data) for unit in units])
         image = read_image(answer.out)
         built = Built(units[0].name, self.keep(answer.out, ".img"), answer.out, image, units=list(units))
@@ -184,10 +205,21 @@ class Workshop:
         if FileKind.IMAGE in kinds:
             if len(names) > 1:
                 image = names[kinds.index(FileKind.IMAGE)]
-                raise Refused(Status.USAGE, [Diagnostic(image, "an image is linked already: give it alone, or the sources and objects of all")])
+                raise Refused(
+                    Status.USAGE,
+                    [Diagnostic(image, "an image is linked already: give it alone, or the sources and objects of all")],
+                )
             return self._image(names[0], datas[0], others)
         if FileKind.CHECKPOINT in kinds:
-            raise Refused(Status.USAGE, [Diagnostic(names[kinds.index(FileKind.CHECKPOINT)], "this is a checkpoint: `mm continue FILE.. CHECKPOINT` goes on from it")])
+            raise Refused(
+                Status.USAGE,
+                [
+                    Diagnostic(
+                        names[kinds.index(FileKind.CHECKPOINT)],
+                        "this is a checkpoint: `mm continue FILE.. CHECKPOINT` goes on from it",
+                    )
+                ],
+            )
         return self.link([self.unit(name, data) for name, data in zip(names, datas)])
 
     def _image(self, name: str, data: bytes, others: Sequence[str]) -> Built:
@@ -219,10 +251,17 @@ def give_names(built: Built, units: Sequence[Unit]) -> None:
     """Gives an image the names of its units, if it has the cells that their link makes; else says how many it has not."""
     placed = place([unit.made for unit in units])
     wrong = differences(placed, built.image)
+    built.notes += [
+        f"{unit.name}: its lines and labels are not shown, since they were not read as `mmachine` reads them"
+        for unit in units
+        if unit.misread
+    ]
     built.placed, built.symbols = placed, symbols_of(placed, [unit.source for unit in units])
     if wrong:
         total = sum(len(item.segment.words) for item in placed)
-        built.notes.append(f"names come from other files than the image: {len(wrong)} of {total} words differ, the first at {built.symbols.show(wrong[0])}")
+        built.notes.append(
+            f"names come from other files than the image: {len(wrong)} of {total} words differ, the first at {built.symbols.show(wrong[0])}"
+        )
 
 
 def refused(answer: Answer, files: Sequence[NamedFile]) -> Refused:

@@ -120,7 +120,9 @@ class Console:
         name = self.said.value(OUTPUT)
         if name is None:
             if self.out.isatty():
-                raise usage("mm: this would write bytes to the terminal: say where to with --output FILE, or send it to a file by `>`")
+                raise usage(
+                    "mm: this would write bytes to the terminal: say where to with --output FILE, or send it to a file by `>`"
+                )
             self.out.flush()
             self.out.buffer.write(data)
             self.out.buffer.flush()
@@ -142,4 +144,3 @@ def show_stop(console: Console, stop: Stop) -> None:
         if stop.more:
             console.tell(f"mm: {len(stop.diagnostics)} errors are shown, and there are more")
     console.tell(*stop.lines)
-

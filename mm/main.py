@@ -3,6 +3,7 @@
 from __future__ import annotations
 
 import importlib
+import io
 import os
 import sys
 from typing import Sequence
@@ -54,6 +55,9 @@ def _gone() -> int:
 
 def main(given: Sequence[str]) -> int:
     """Does what words say. The exit status is that of the `mmachine` that was run, or one of `Status`."""
+    for stream in (sys.stdout, sys.stderr):
+        if isinstance(stream, io.TextIOWrapper):
+            stream.reconfigure(errors="backslashreplace")
     console = Console(Words())
     try:
         console = Console(read_words(given))
@@ -71,4 +75,3 @@ def main(given: Sequence[str]) -> int:
         return 130
     finally:
         console.close()
-

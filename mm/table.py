@@ -45,6 +45,7 @@ NAMES = Option("--names", "take names for an image from this source; may be give
 RUNNING = (CYCLES, SCHEDULE, TURNS, NAMES)
 FILES = "FILE.."
 
+# fmt: off
 COMMANDS = (
     Command("run", FILES, "run sources, objects or an image, and tell what came of it", (*RUNNING, JSON)),
     Command("debug", FILES, "step through a run, forwards and back, with names and source lines", (SCHEDULE, TURNS, NAMES)),
@@ -66,6 +67,7 @@ COMMANDS = (
     Command("soak", "NUMBER SIZE", "run that image, and write a summary", (CYCLES,), least=2, most=2, module="make"),
     Command("help", "[TOPIC]", "what a command, an operation, a fault or another topic is", (), least=0),
 )
+# fmt: on
 BY_NAME = {command.name: command for command in COMMANDS}
 ALIASES = {"grants": "audit", "disassemble": "dis", "map": "symbols"}
 PROGRAM = Option("--program", "which mmachine; else $MMACHINE, this checkout's, or that on the path", "FILE")

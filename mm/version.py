@@ -21,7 +21,12 @@ def version() -> str:
     except OSError:
         pass
     try:
-        described = subprocess.run(["git", "-C", CHECKOUT, "describe", "--always", "--tags", "--dirty"], capture_output=True, text=True, check=False)
+        described = subprocess.run(
+            ["git", "-C", CHECKOUT, "describe", "--always", "--tags", "--dirty"],
+            capture_output=True,
+            text=True,
+            check=False,
+        )
     except OSError:
         return "unknown"
     return described.stdout.strip() if described.returncode == 0 else "unknown"

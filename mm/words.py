@@ -3,6 +3,7 @@
 from __future__ import annotations
 
 import difflib
+import os
 from dataclasses import dataclass, field
 from typing import Optional, Sequence
 
@@ -11,6 +12,7 @@ from mm.status import usage
 from mm.table import ALIASES, BY_NAME, GLOBAL_OPTIONS, Command, Option
 
 MOST_CYCLES = 1_000_000
+MOST_GROUP = 63
 
 
 @dataclass
@@ -39,9 +41,14 @@ def _known(command: Optional[Command]) -> dict[str, Option]:
 
 def _command(name: str) -> Command:
     found = BY_NAME.get(ALIASES.get(name, name))
+    if found is None and os.path.exists(name):
+        raise usage(f"mm: say what to do with {name}, as `mm run {name}`", "    `mm help` lists the commands")
     if found is None:
         near = difflib.get_close_matches(name, [*BY_NAME, *ALIASES], 1)
-        raise usage(f"mm: there is no command `{name}`" + (f"; do you mean `{near[0]}`?" if near else ""), "    `mm help` lists the commands")
+        raise usage(
+            f"mm: there is no command `{name}`" + (f"; do you mean `{near[0]}`?" if near else ""),
+            "    `mm help` lists the commands",
+        )
     return found
 
 
@@ -68,7 +75,10 @@ def _take_option(said: Words, word: str, rest: list[str]) -> None:
     if option is None:
         where = f"`mm {said.command.name}`" if said.command else "`mm`"
         near = difflib.get_close_matches(name, _known(said.command), 1)
-        raise usage(f"mm: {where} has no option {name}" + (f"; do you mean {near[0]}?" if near else ""), f"    `mm help{' ' + said.command.name if said.command else ''}` lists them")
+        raise usage(
+            f"mm: {where} has no option {name}" + (f"; do you mean {near[0]}?" if near else ""),
+            f"    `mm help{' ' + said.command.name if said.command else ''}` lists them",
+        )
     if option.value and not equals:
         if not rest:
             raise usage(f"mm: {name} wants {option.value}: {option.says}")
@@ -81,9 +91,24 @@ def _take_option(said: Words, word: str, rest: list[str]) -> None:
 def check_count(said: Words) -> None:
     """Refuses a command with too few or too many words."""
     command = said.command
-    if command and not command.least <= len(said.words) <= (command.most if command.most is not None else len(said.words)):
+    if command and not command.least <= len(said.words) <= (
+        command.most if command.most is not None else len(said.words)
+    ):
         what = "is too few words" if len(said.words) < command.least else "is too many words"
-        raise usage(f"mm: {command.name}: {len(said.words)} {what}", f"    it is written: mm {command.name} {command.operands}", f"    `mm help {command.name}` says more")
+        raise usage(
+            f"mm: {command.name}: {len(said.words)} {what}",
+            f"    it is written: mm {command.name} {command.operands}",
+            f"    `mm help {command.name}` says more",
+        )
+
+
+def groups_of(text: str) -> str:
+    """Groups as `mmachine` takes them, ascending and once each; numbers may have any base and order."""
+    numbers = {number_of(part.strip()) for part in text.split(",")}
+    known = sorted(number for number in numbers if number is not None and 0 <= number <= MOST_GROUP)
+    if len(known) < len(numbers):
+        raise usage(f"mm: `{text}` are no groups: numbers 0 to {MOST_GROUP} with commas between, as 0 or 0,2")
+    return ",".join(map(str, known))
 
 
 def cycles_of(text: Optional[str]) -> Optional[int]:

@@ -8,12 +8,13 @@ from mm.status import Status
 from mm.table import GROUPS, JSON
 from mm.views.audit import AuditView
 from mm.views.data import audit_form
+from mm.words import groups_of
 
 
 def run(console: Console) -> int:
     built = console.build(console.words)
     groups = console.said.value(GROUPS)
-    answer = console.ask(["grants", built.path, *([groups] if groups is not None else [])], [built.file])
+    answer = console.ask(["grants", built.path, *([groups_of(groups)] if groups is not None else [])], [built.file])
     audit = read_audit(answer.text)
     if console.said.has(JSON):
         console.write_json(audit_form(audit, built.symbols))

@@ -17,5 +17,10 @@ def run(console: Console) -> int:
     session = Session(console, built, order)
     debugger = Debugger(session, Show(session, console.style))
     names = counted(len(built.symbols.symbols), "name") if built.symbols else "no names"
-    console.write([f"{', '.join(console.words)}: {counted(len(built.image.slots), 'slot')}, {names}, {order}. `help` lists the commands.", *debugger.stop(Halt())])
+    console.write(
+        [
+            f"{', '.join(console.words)}: {counted(len(built.image.slots), 'slot')}, {names}, {order}. `help` lists the commands.",
+            *debugger.stop(Halt()),
+        ]
+    )
     return Shell(console, debugger).loop()

@@ -19,7 +19,11 @@ def run(console: Console) -> int:
         console.write(answer.text.splitlines())
         return Status.DONE
     built = console.build([name])
-    words = [(address, cell.word.bits) for address, cell in built.image.cells() if not cell.word.tagged and (cell.word.bits or built.symbols.origin(address))]
+    words = [
+        (address, cell.word.bits)
+        for address, cell in built.image.cells()
+        if not cell.word.tagged and (cell.word.bits or built.symbols.origin(address))
+    ]
     texts = console.workshop.texts([bits for _, bits in words])
     named = {address: text for (address, _), text in zip(words, texts)}
     console.write(ImageListing(built.image, built.symbols, named, console.style).lines())

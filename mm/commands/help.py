@@ -17,7 +17,10 @@ def run_topic(console: Console, topic: str) -> int:
     lines = topic_lines(topic) or topic_lines(topic + "s") or topic_lines(topic.rstrip("s"))
     if lines is None:
         near = nearest(topic.lower(), all_topics())
-        raise usage(f"mm: there is no topic `{topic}`" + (f"; do you mean `{near}`?" if near else ""), "    `mm help` lists the topics")
+        raise usage(
+            f"mm: there is no topic `{topic}`" + (f"; do you mean `{near}`?" if near else ""),
+            "    `mm help` lists the topics",
+        )
     console.write(fold(lines))
     return Status.DONE
 

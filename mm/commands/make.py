@@ -6,7 +6,7 @@ from mm.build import read_file
 from mm.console import Console
 from mm.names.numbers import number_of
 from mm.status import Status, usage
-from mm.words import MOST_CYCLES
+from mm.words import MOST_CYCLES, groups_of
 
 MODES = ("plain", "split")
 
@@ -23,7 +23,7 @@ def _link(console: Console) -> int:
 def _extract(console: Console) -> int:
     *names, groups = console.words
     built = console.build(names)
-    return console.put(console.ask(["extract", built.path, groups], [built.file]).out)
+    return console.put(console.ask(["extract", built.path, groups_of(groups)], [built.file]).out)
 
 
 def _migrate(console: Console) -> int:
@@ -61,7 +61,15 @@ def _soak(console: Console) -> int:
     return Status.DONE
 
 
-COMMANDS = {"asm": _asm, "link": _link, "extract": _extract, "migrate": _migrate, "save": _save, "gen": _gen, "soak": _soak}
+COMMANDS = {
+    "asm": _asm,
+    "link": _link,
+    "extract": _extract,
+    "migrate": _migrate,
+    "save": _save,
+    "gen": _gen,
+    "soak": _soak,
+}
 
 
 def run(console: Console) -> int:

@@ -35,7 +35,9 @@ def numeric(data: bytes, nodes: list[Built]) -> tuple[bytes, dict[int, int]]:
     for offset, word in words_of(data):
         match = LINK.fullmatch(word.decode("latin-1"))
         places[len(made)] = offset
-        made += (f"{_end(match[1], match[2], nodes)}>{_end(match[3], match[4], nodes)}".encode() if match else word) + b"\n"
+        made += (
+            f"{_end(match[1], match[2], nodes)}>{_end(match[3], match[4], nodes)}".encode() if match else word
+        ) + b"\n"
     return made, places
 
 
@@ -61,7 +63,13 @@ def run(console: Console) -> int:
     said, order = read_file(links), read_file(events)
     text, moved = numeric(said, nodes)
     files = [NamedFile(links, said, moved=moved), NamedFile(events, order, events=True), *(node.file for node in nodes)]
-    words = ["net", console.workshop.keep(text, ".links"), console.workshop.keep(order, ".events"), str(console.cycles(MOST_CYCLES)), *(node.path for node in nodes)]
+    words = [
+        "net",
+        console.workshop.keep(text, ".links"),
+        console.workshop.keep(order, ".events"),
+        str(console.cycles(MOST_CYCLES)),
+        *(node.path for node in nodes),
+    ]
     reports, told = _split(console.ask(words, files).text)
     for number, (node, lines) in enumerate(zip(nodes, reports)):
         console.write([f"{console.style.strong(f'node {number}')}  {node.name}"])

@@ -16,7 +16,7 @@ from mm.table import CYCLES, JSON
 from mm.views.data import ReportForm
 from mm.views.report import ReportView
 from mm.views.spell import Memory, Speller
-from mm.words import MOST_CYCLES, cycles_of
+from mm.words import MOST_CYCLES, cycles_of, groups_of
 
 
 def show(console: Console, built: Built, run: Run, order: str) -> int:
@@ -44,14 +44,20 @@ def _as_schedule(console: Console, built: Built, cycles: int) -> Order:
 
 
 def _solo(console: Console) -> int:
-    *names, groups = console.words
+    *names, last = console.words
+    groups = groups_of(last)
     built, order = console.build(names), console.order()
     cycles = console.cycles(MOST_CYCLES)
     if order.path is None:
         order = _as_schedule(console, built, min(cycles, 100_000))
     answer = console.ask(["solo", built.path, groups, str(cycles), *order.words], [built.file, *order.files])
     report = read_report(answer.text.splitlines())
-    return show(console, built, Run(report, {}), f"groups {groups} alone, by their turns of {order.file.name if order.file else 'round robin'}")
+    return show(
+        console,
+        built,
+        Run(report, {}),
+        f"groups {groups} alone, by their turns of {order.file.name if order.file else 'round robin'}",
+    )
 
 
 def _continue(console: Console) -> int:
@@ -60,7 +66,13 @@ def _continue(console: Console) -> int:
     if FileKind.of(data) is not FileKind.CHECKPOINT and FileKind.of(read_file(names[-1])) is FileKind.CHECKPOINT:
         raise usage("mm: continue: the checkpoint is the last word: mm continue FILE.. CHECKPOINT")
     built, order = console.build(names), console.order()
-    words = ["continue", built.path, console.workshop.keep(data, ".mms"), str(console.cycles(MOST_CYCLES)), *order.words]
+    words = [
+        "continue",
+        built.path,
+        console.workshop.keep(data, ".mms"),
+        str(console.cycles(MOST_CYCLES)),
+        *order.words,
+    ]
     answer = console.ask(words, [built.file, NamedFile(checkpoint, data), *order.files])
     report = read_report(answer.text.splitlines())
     return show(console, built, Run(report, {}), f"the last of them from {checkpoint} on, {order}")

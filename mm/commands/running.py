@@ -62,5 +62,5 @@ class Runner:
         """The last lines of the trace of a run, whose report has a known length."""
         wanted = report_length + TAIL_BYTES
         tail = self.console.program.tail(self.words("trace", cycles), wanted)
-        lines = tail[:max(0, len(tail) - report_length)].decode("latin-1").splitlines()
+        lines = tail[: max(0, len(tail) - report_length)].decode("latin-1").splitlines()
         return lines[1:] if len(tail) == wanted else lines

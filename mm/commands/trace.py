@@ -30,7 +30,9 @@ def run(console: Console) -> int:
         for cycle, turn in turns:
             text = speller.at(memory, turn.fetch) if turn.fetch is not None else None
             rows.append(turn_form(cycle, turn, built.symbols, text))
-        console.write_json({"form": FORM, "turns": rows, "report": ReportForm(report, memory, built.symbols, waits).form()})
+        console.write_json(
+            {"form": FORM, "turns": rows, "report": ReportForm(report, memory, built.symbols, waits).form()}
+        )
         return Status.DONE
     console.write(TraceView(memory, speller, console.style).lines(turns))
     console.write(["", *ReportView(report, memory, speller, console.style, waits).lines(str(order))])

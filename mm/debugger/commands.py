@@ -99,7 +99,9 @@ def _until(debugger: Debugger, rest: str) -> Lines:
     session = debugger.session
     if rest:
         address, length = place_of(rest, session)
-        return debugger.stop(session.follow(lambda turn: turn.fetch is not None and address <= turn.fetch < address + length))
+        return debugger.stop(
+            session.follow(lambda turn: turn.fetch is not None and address <= turn.fetch < address + length)
+        )
     here = _here(debugger)
     return debugger.stop(session.follow(lambda turn: turn.fetch is not None and here.address < turn.fetch < here.end))
 
@@ -124,16 +126,25 @@ def _start(debugger: Debugger, rest: str) -> Lines:
 def _set_break(debugger: Debugger, rest: str, once: bool = False) -> Lines:
     session = debugger.session
     place, slot = slot_of(rest, session)
-    kinds = {"fault": PointKind.FAULT, "faults": PointKind.FAULT, "entry": PointKind.ENTRY, "entries": PointKind.ENTRY, "enter": PointKind.ENTRY}
+    kinds = {
+        "fault": PointKind.FAULT,
+        "faults": PointKind.FAULT,
+        "entry": PointKind.ENTRY,
+        "entries": PointKind.ENTRY,
+        "enter": PointKind.ENTRY,
+    }
     if place in kinds and not session.symbols.named(place):
         point = session.add(kinds[place], "", slot=slot, once=once)
         yield f"{point.number}: {point}"
         return
     address, length = place_of(place, session)
     point = session.add(PointKind.BREAK, place, address, length, slot, once)
-    where = f"at {session.symbols.show(address)}" if length == 8 else f"where a slot comes into {session.symbols.show(address)}"
-    origin = session.symbols.origin(address)
-    yield f"{point.number}: break {where}" + (f", {origin}: {origin.code}" if origin and length == 8 else "")
+    name, origin = session.symbols.show(address), session.symbols.origin(address)
+    if length > 8:
+        yield f"{point.number}: break where a slot comes into {name}"
+        return
+    typed = "" if place == name else f"{place} "
+    yield f"{point.number}: break {typed}at {name}" + (f", {origin}: {origin.code}" if origin else "")
 
 
 def _set_once(debugger: Debugger, rest: str) -> Lines:
@@ -147,6 +158,7 @@ def _set_watch(kind: PointKind) -> Callable[[Debugger, str], Lines]:
         point = debugger.session.add(kind, place, address & ~7, length, slot)
         now = debugger.show.cell(debugger.session.memory.cell(point.address)) if length == 8 else f"{length // 8} words"
         yield f"{point.number}: {kind.title} {place}, now {now}"
+
     return run
 
 
@@ -227,11 +239,22 @@ INFO: dict[str, tuple[str, Callable[[Debugger, str], Lines]]] = {
     "slots": ("where each slot stands", _slot),
     "registers": ("the registers of a slot", _registers),
     "breakpoints": ("breaks and watches", lambda debugger, rest: debugger.show.points()),
-    "symbols": ("names with their addresses", lambda debugger, rest: map_lines(debugger.session.symbols, debugger.show.style)),
+    "symbols": (
+        "names with their addresses",
+        lambda debugger, rest: map_lines(debugger.session.symbols, debugger.show.style),
+    ),
     "output": ("what each group has put out", _output),
     "line": ("where this slot stands", _where),
 }
-INFO_NAMES = {"threads": "slots", "watchpoints": "breakpoints", "locals": "registers", "frame": "line", "program": "line", "variables": "symbols", "functions": "symbols"}
+INFO_NAMES = {
+    "threads": "slots",
+    "watchpoints": "breakpoints",
+    "locals": "registers",
+    "frame": "line",
+    "program": "line",
+    "variables": "symbols",
+    "functions": "symbols",
+}
 
 
 def _info(debugger: Debugger, rest: str) -> Lines:
@@ -259,6 +282,7 @@ def _help(debugger: Debugger, rest: str) -> Lines:
         yield "An empty line does the last command again. Nothing that is typed changes the run."
 
 
+# fmt: off
 ENTRIES = (
     Entry(("step", "s", "si", "stepi"), "[N]", "N cycles on, whichever slots they belong to", "", _step),
     Entry(("next", "n", "ni", "nexti"), "[N]", "N turns of this slot on; a call counts as one", "", _next),
@@ -288,6 +312,7 @@ ENTRIES = (
     Entry(("help", "h"), "[WHAT]", "this list, a command or an operation", "help", _help),
     Entry(("quit", "q", "exit"), "", "the end", "", _quit),
 )
+# fmt: on
 BY_NAME = {name: entry for entry in ENTRIES for name in entry.names}
 
 
@@ -310,4 +335,3 @@ def carry_out(debugger: Debugger, line: str) -> Lines:
         word, slash, form = word.partition("/")
         rest = f"/{form} {rest}" if word == "x" else rest
     return find(word).run(debugger, rest.strip())
-

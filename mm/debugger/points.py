@@ -65,12 +65,26 @@ class Point:
             return turn.entered is not None
         if self.kind is PointKind.BREAK:
             return turn.fetch is not None and self.address <= turn.fetch < self.address + self.length
-        if turn.outcome != "did" or turn.address is None or not self.address <= turn.address < self.address + self.length:
+        if (
+            turn.outcome != "did"
+            or turn.address is None
+            or not self.address <= turn.address < self.address + self.length
+        ):
             return False
         return re.fullmatch(self.kind.access, turn.access or "") is not None
 
     def __str__(self) -> str:
-        return " ".join(filter(None, [self.kind.title, self.text, f"slot {self.slot}" if self.slot is not None else "", "once" if self.once else ""]))
+        return " ".join(
+            filter(
+                None,
+                [
+                    self.kind.title,
+                    self.text,
+                    f"slot {self.slot}" if self.slot is not None else "",
+                    "once" if self.once else "",
+                ],
+            )
+        )
 
 
 def pattern_of(points: Iterable[Point]) -> re.Pattern[str]:

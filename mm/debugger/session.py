@@ -61,11 +61,15 @@ class Session:
         """The turn of the next cycle that is not idle."""
         return next((turn for _, turn in self.history.after(self.total, ANY_TURN)), None)
 
-    @property
-    def at_end(self) -> bool:
-        return self.history.turn(self.total + 1) is None and self.history.end is not None and self.total >= self.history.end
-
-    def add(self, kind: PointKind, text: str, address: int = 0, length: int = 8, slot: Optional[int] = None, once: bool = False) -> Point:
+    def add(
+        self,
+        kind: PointKind,
+        text: str,
+        address: int = 0,
+        length: int = 8,
+        slot: Optional[int] = None,
+        once: bool = False,
+    ) -> Point:
         self.made += 1
         point = Point(self.made, kind, text, address, length, slot, once)
         self.points.append(point)
@@ -107,13 +111,19 @@ class Session:
         previous = self.history.previous(cycle, turn.slot)
         if previous is None or previous.fetch is None:
             return False
-        return previous.outcome == "blocked" and previous.fetch == turn.fetch or point.length > 8 and point.meets(previous)
+        return (
+            previous.outcome == "blocked" and previous.fetch == turn.fetch or point.length > 8 and point.meets(previous)
+        )
 
     def resume(self) -> Halt:
         """Goes on to the next point, or to the end. A break right here does not count."""
         for cycle, turn in self.history.after(self.total, pattern_of(self.points)):
             here = [point for point in self.points if point.kind.before] if cycle == self.total + 1 else []
-            point = next((point for point in self.points if point not in here and point.meets(turn)), None) if here else self._met(cycle, turn)
+            point = (
+                next((point for point in self.points if point not in here and point.meets(turn)), None)
+                if here
+                else self._met(cycle, turn)
+            )
             if point:
                 return self._stop(cycle, turn, point)
         return self._to_end()

@@ -29,7 +29,12 @@ class Completer:
         kind = entry.completes if entry else ""
         names = [symbol.name for symbol in self.debugger.session.symbols.symbols]
         registers = [f"r{number}" for number in range(16)] + ["ip"]
-        offered = {"place": names + ["fault", "entry"], "value": names + registers, "info": list(INFO), "help": [*BY_NAME, *OPERATIONS]}
+        offered = {
+            "place": names + ["fault", "entry"],
+            "value": names + registers,
+            "info": list(INFO),
+            "help": [*BY_NAME, *OPERATIONS],
+        }
         return offered.get(kind, [])
 
     def __call__(self, text: str, state: int) -> Optional[str]:

@@ -10,6 +10,7 @@ from mm.machine.causes import Cause
 from mm.machine.words import Cell, Word
 from mm.names.numbers import counted
 from mm.outputs.report import SlotState
+from mm.source.tokens import readable
 from mm.views.report import ReportView
 from mm.views.spell import Memory, bytes_as_text
 from mm.views.style import Style
@@ -80,7 +81,9 @@ class Show:
 
     def change(self, address: int) -> str:
         """What a word was before the last cycle, and what it is."""
-        before = Memory(self.session.built.image, self.session.history.report(self.session.total - 1).cells).cell(address)
+        before = Memory(self.session.built.image, self.session.history.report(self.session.total - 1).cells).cell(
+            address
+        )
         after = self.session.memory.cell(address)
         name = self.session.symbols.show(address)
         if before == after:
@@ -102,7 +105,11 @@ class Show:
         yield f"{self.style.soft(f'cycle {session.total}')}{', the end of the run (`run` begins again, `back` goes back)' if ended else ''}"
         if ended and session.history.stuck:
             yield "nothing can change any more: each slot that runs waits"
-            yield from (f"  slot {slot.number} is {what_for(slot, session.memory, session.speller)}" for slot in session.report.slots if slot.running)
+            yield from (
+                f"  slot {slot.number} is {what_for(slot, session.memory, session.speller)}"
+                for slot in session.report.slots
+                if slot.running
+            )
         elif current:
             yield self.slot_line(current)
         if turn and turn.slot != session.slot:
@@ -127,7 +134,9 @@ class Show:
     def points(self) -> Iterator[str]:
         for point in self.session.points:
             where = f" at {self.session.symbols.show(point.address)}" if point.kind.has_place else ""
-            yield f"{point.number:>3}  {point}{where}" + (f"  (met {counted(point.hits, 'time')})" if point.hits else "")
+            yield f"{point.number:>3}  {point}{where}" + (
+                f"  (met {counted(point.hits, 'time')})" if point.hits else ""
+            )
         if not self.session.points:
             yield "no breaks and no watches"
 
@@ -166,4 +175,4 @@ class Show:
     def lines(self, lines: list[str], middle: int, marked: Optional[int]) -> Iterator[str]:
         for number in range(max(1, middle - AROUND), min(len(lines), middle + AROUND) + 1):
             mark = "=>" if number == marked else "  "
-            yield f"{mark} {number:>4}  {lines[number - 1].rstrip()}"
+            yield f"{mark} {number:>4}  {readable(lines[number - 1]).rstrip()}"

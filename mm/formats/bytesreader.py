@@ -17,7 +17,7 @@ class BytesReader:
         if self.at + length > len(self.data):
             raise CutShort
         self.at += length
-        return self.data[self.at - length:self.at]
+        return self.data[self.at - length : self.at]
 
     def number(self, length: int) -> int:
         return int.from_bytes(self.take(length), "big")

@@ -34,7 +34,7 @@ class Page:
     words: bytes
 
     def cell(self, place: int) -> Cell:
-        bits = int.from_bytes(self.words[place * 8:place * 8 + 8], "big")
+        bits = int.from_bytes(self.words[place * 8 : place * 8 + 8], "big")
         return Cell(Word(bits, bit_of(self.tags, place)), bit_of(self.full, place))
 
 

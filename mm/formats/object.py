@@ -61,7 +61,12 @@ def _segment(reader: BytesReader) -> tuple[str, int, tuple[int, ...], tuple[bool
     name, log, count = reader.name(), reader.number(1), reader.number(4)
     bitmap = reader.take((count + 7) // 8)
     words = reader.take(8 * count)
-    return name, log, tuple(int.from_bytes(words[at:at + 8], "big") for at in range(0, len(words), 8)), tuple(bit_of(bitmap, at) for at in range(count))
+    return (
+        name,
+        log,
+        tuple(int.from_bytes(words[at : at + 8], "big") for at in range(0, len(words), 8)),
+        tuple(bit_of(bitmap, at) for at in range(count)),
+    )
 
 
 def _target(reader: BytesReader, names: list[str]) -> Target:

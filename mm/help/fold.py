@@ -24,4 +24,11 @@ def fold(lines: Iterable[str]) -> Iterator[str]:
         if len(line) <= width:
             yield line
         else:
-            yield from textwrap.wrap(line, width, subsequent_indent=" " * indent_of(line, width), drop_whitespace=True, break_long_words=False, break_on_hyphens=False)
+            yield from textwrap.wrap(
+                line,
+                width,
+                subsequent_indent=" " * indent_of(line, width),
+                drop_whitespace=True,
+                break_long_words=False,
+                break_on_hyphens=False,
+            )

@@ -13,8 +13,11 @@ from mm.source.wants import DIRECTIVES
 from mm.table import ALIASES, BY_NAME, COMMANDS, GLOBAL_OPTIONS, Command, Option
 
 MADE_TOPICS = {
-    "operations": "the table of operations", "directives": "the table of directives", "faults": "the thirteen faults",
-    "letters": "letters and their numbers", "debugger": "the commands of `mm debug`",
+    "operations": "the table of operations",
+    "directives": "the table of directives",
+    "faults": "the thirteen faults",
+    "letters": "letters and their numbers",
+    "debugger": "the commands of `mm debug`",
 }
 FIRST_STEPS = """\
     mm run examples/counter.asm         assemble, link, run, and say what came of it
@@ -62,7 +65,11 @@ def operation_lines(name: str) -> Iterator[str]:
     yield f"{operation.usage}"
     yield f"    {operation.effect}"
     yield f"    as: {operation.example}"
-    yield f"    operation 0x{operation.number:02x}" + (f"; faults, in the order of the tests: {', '.join(operation.tests.split())}" if operation.tests else "; it has no fault of its own")
+    yield f"    operation 0x{operation.number:02x}" + (
+        f"; faults, in the order of the tests: {', '.join(operation.tests.split())}"
+        if operation.tests
+        else "; it has no fault of its own"
+    )
     if Kind.PRE in operation.operands:
         yield "    the last two operands: what the synchronisation bit must be (any, full, empty), and what it becomes (keep, full, empty)"
 
@@ -110,7 +117,9 @@ def letters() -> Iterator[str]:
     codes = list(range(32, 127))
     rows = 16
     for row in range(rows):
-        yield "  ".join(f"{code:>3} {chr(code) if code > 32 else 'blank'}".ljust(9) for code in codes[row::rows]).rstrip()
+        yield "  ".join(
+            f"{code:>3} {chr(code) if code > 32 else 'blank'}".ljust(9) for code in codes[row::rows]
+        ).rstrip()
     yield "10 ends a line."
 
 
@@ -121,13 +130,28 @@ def debugger() -> Iterator[str]:
 
 def permission_lines(short: str) -> Iterator[str]:
     permission = BY_SHORT[short]
-    can = [what for what, may in (("load", permission.loads), ("store", permission.stores), ("run as code", permission.executes), ("be jumped to", permission.executes or permission.enters)) if may]
+    can = [
+        what
+        for what, may in (
+            ("load", permission.loads),
+            ("store", permission.stores),
+            ("run as code", permission.executes),
+            ("be jumped to", permission.executes or permission.enters),
+        )
+        if may
+    ]
     yield f"{short}: {permission.full}, code {permission.code}"
     yield f"    it may {', '.join(can) or 'do nothing: it is a ticket'}"
     yield f"    `restrict` may make of it: {', '.join(each.short for each in permission.may_become) or 'nothing'}"
 
 
-MADE: dict[str, Callable[[], Iterator[str]]] = {"operations": operations, "directives": directives, "faults": faults, "letters": letters, "debugger": debugger}
+MADE: dict[str, Callable[[], Iterator[str]]] = {
+    "operations": operations,
+    "directives": directives,
+    "faults": faults,
+    "letters": letters,
+    "debugger": debugger,
+}
 
 
 def topic_lines(topic: str) -> Optional[Iterator[str]]:
@@ -152,4 +176,13 @@ def topic_lines(topic: str) -> Optional[Iterator[str]]:
 
 
 def all_topics() -> list[str]:
-    return [*BY_NAME, *ALIASES, *OPERATIONS, *DIRECTIVES, *(cause.title.lower() for cause in Cause), *BY_SHORT, *TOPICS, *MADE]
+    return [
+        *BY_NAME,
+        *ALIASES,
+        *OPERATIONS,
+        *DIRECTIVES,
+        *(cause.title.lower() for cause in Cause),
+        *BY_SHORT,
+        *TOPICS,
+        *MADE,
+    ]

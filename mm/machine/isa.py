@@ -40,7 +40,11 @@ class Kind(Enum):
 
 
 REGISTERS = (Kind.RD, Kind.RA, Kind.RB, Kind.RD4)
-CHOICES = {Kind.PRE: ("any", "full", "empty"), Kind.POST: ("keep", "full", "empty"), Kind.HOW: ("retry", "skip", "kill")}
+CHOICES = {
+    Kind.PRE: ("any", "full", "empty"),
+    Kind.POST: ("keep", "full", "empty"),
+    Kind.HOW: ("retry", "skip", "kill"),
+}
 BRANCHES = ("br", "bz", "bnz", "lip")
 
 
@@ -61,13 +65,28 @@ class Operation:
         return " ".join(filter(None, [self.name, ", ".join(_SHOWN.get(kind, kind.field) for kind in self.operands)]))
 
 
-_SHOWN = {Kind.IMM: "NUMBER", Kind.PLACE: "LABEL", Kind.REGISTER: "0..15", Kind.PRE: "any|full|empty", Kind.POST: "keep|full|empty", Kind.HOW: "retry|skip|kill"}
+_SHOWN = {
+    Kind.IMM: "NUMBER",
+    Kind.PLACE: "LABEL",
+    Kind.REGISTER: "0..15",
+    Kind.PRE: "any|full|empty",
+    Kind.POST: "keep|full|empty",
+    Kind.HOW: "retry|skip|kill",
+}
 _KINDS = {
-    "rd": (Kind.RD,), "ra": (Kind.RA,), "rb": (Kind.RB,), "rd4": (Kind.RD4,), "imm": (Kind.IMM,), "place": (Kind.PLACE,),
-    "register": (Kind.REGISTER,), "c": (Kind.PRE, Kind.POST), "how": (Kind.HOW,),
+    "rd": (Kind.RD,),
+    "ra": (Kind.RA,),
+    "rb": (Kind.RB,),
+    "rd4": (Kind.RD4,),
+    "imm": (Kind.IMM,),
+    "place": (Kind.PLACE,),
+    "register": (Kind.REGISTER,),
+    "c": (Kind.PRE, Kind.POST),
+    "how": (Kind.HOW,),
 }
 _ACCESS = "NotPointer Perm Bounds Align NoPage Sync"
 
+# fmt: off
 _ROWS = [
     (0x00, "halt", "", "", "the thread ends", "halt"),
     (0x01, "nop", "", "", "nothing", "nop"),
@@ -115,9 +134,12 @@ _ROWS = [
     (0x60, "map", "rd ra", "Priv Bounds", "the page ra is mapped; rd = 1, or 0 if it cannot be", "map r2, r1"),
     (0x61, "unmap", "rd ra", "Priv Bounds", "the page ra is removed; rd = 1, or 0 if it is not there", "unmap r2, r1"),
 ]
+# fmt: on
 
 OPERATIONS = {
-    name: Operation(number, name, tuple(kind for word in fields.split() for kind in _KINDS[word]), tests, effect, example)
+    name: Operation(
+        number, name, tuple(kind for word in fields.split() for kind in _KINDS[word]), tests, effect, example
+    )
     for number, name, fields, tests, effect, example in _ROWS
 }
 BY_NUMBER = {operation.number: operation for operation in OPERATIONS.values()}
@@ -147,7 +169,17 @@ class Instruction:
 
     def text(self, place: Optional[Callable[[int], str]] = None) -> str:
         """How a source has it. `place` gives the name of a label for a distance in words."""
-        return " ".join(filter(None, [self.name, ", ".join(self._operand(kind, value, place) for kind, value in zip(self.operation.operands, self.values))]))
+        return " ".join(
+            filter(
+                None,
+                [
+                    self.name,
+                    ", ".join(
+                        self._operand(kind, value, place) for kind, value in zip(self.operation.operands, self.values)
+                    ),
+                ],
+            )
+        )
 
     def _operand(self, kind: Kind, value: int, place: Optional[Callable[[int], str]]) -> str:
         if kind.is_register:

@@ -44,7 +44,9 @@ class Program:
     def run(self, words: Sequence[str], lines: Optional[bytes] = None) -> Answer:
         """Runs a command to its end. `lines` is its standard input, empty where none is given."""
         try:
-            ended = subprocess.run([self.path, *words], input=lines or b"", stdout=subprocess.PIPE, stderr=subprocess.PIPE, check=False)
+            ended = subprocess.run(
+                [self.path, *words], input=lines or b"", stdout=subprocess.PIPE, stderr=subprocess.PIPE, check=False
+            )
         except OSError as error:
             raise Stop(Status.NO_PROGRAM, f"mm: {self.path} cannot be run: {error.strerror}") from None
         return Answer(ended.returncode, ended.stdout, ended.stderr.decode("utf-8", "replace").strip())
@@ -52,7 +54,9 @@ class Program:
     def tail(self, words: Sequence[str], length: int) -> bytes:
         """The last bytes of what a command writes, which may be long."""
         with tempfile.TemporaryFile() as file:
-            subprocess.run([self.path, *words], stdin=subprocess.DEVNULL, stdout=file, stderr=subprocess.DEVNULL, check=False)
+            subprocess.run(
+                [self.path, *words], stdin=subprocess.DEVNULL, stdout=file, stderr=subprocess.DEVNULL, check=False
+            )
             file.seek(max(0, file.seek(0, os.SEEK_END) - length))
             return file.read()
 

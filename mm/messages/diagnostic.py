@@ -5,6 +5,7 @@ from __future__ import annotations
 from dataclasses import dataclass, field
 from typing import Optional
 
+from mm.source.tokens import readable
 from mm.views.style import Style
 
 
@@ -35,15 +36,10 @@ class Diagnostic:
         return lines + [f"    {style.good('hint:')} {hint}" for hint in self.hints]
 
 
-def _decoded(text: str) -> str:
-    """A line as people wrote it, from the latin-1 in which columns are bytes."""
-    return text.encode("latin-1").decode("utf-8", "replace")
-
-
 def _shown(text: str, number: int, column: Optional[int], style: Style) -> list[str]:
     head = f"{number:>5} | "
-    lines = [style.soft(head) + _decoded(text).rstrip().replace("\t", " ")]
+    lines = [style.soft(head) + readable(text).rstrip().replace("\t", " ")]
     if column is not None:
-        before = _decoded(text[:column - 1]).replace("\t", " ")
+        before = readable(text[: column - 1]).replace("\t", " ")
         lines.append(" " * (len(head) - 2) + style.soft("| ") + " " * len(before) + style.good("^"))
     return lines

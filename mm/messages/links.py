@@ -30,7 +30,11 @@ class Link:
                 yield from ((source, use) for use in source.uses if use.name == name)
 
     def at(self, source: Optional[SourceText], line: int, column: int, message: str, hints: list[str]) -> Diagnostic:
-        return Diagnostic(source.path, message, line, column, source.line(line), hints) if source else self.whole(message, hints)
+        return (
+            Diagnostic(source.path, message, line, column, source.line(line), hints)
+            if source
+            else self.whole(message, hints)
+        )
 
     def whole(self, message: str, hints: list[str]) -> Diagnostic:
         return Diagnostic(self.units[0][0] if len(self.units) == 1 else "link", message, hints=hints)
@@ -55,13 +59,19 @@ def _undefined_hint(link: Link, name: str) -> str:
             offset = f" + {8 * label.place}" if label.place else ""
             return f"`{name}` is a label of {source.path}, and labels are known in their own source alone: write `{segment}{offset}`"
     near = nearest(name, [known for source in link.sources for known in source.names])
-    return f"do you mean `{near}`?" if near else f"write a `.segment {name} L` or a label `{name}:`, or give the source that has the segment"
+    return (
+        f"do you mean `{near}`?"
+        if near
+        else f"write a `.segment {name} L` or a label `{name}:`, or give the source that has the segment"
+    )
 
 
 def _undefined(link: Link, name: str) -> list[Diagnostic]:
     """Each undefined name, the one that was told first."""
     known = {segment.name for _, made, _ in link.units for segment in made.segments}
-    names = [name] + [other for _, made, _ in link.units for other in made.externals if other not in known and other != name]
+    names = [name] + [
+        other for _, made, _ in link.units for other in made.externals if other not in known and other != name
+    ]
     found = []
     for missing in dict.fromkeys(names):
         message, hint = f"`{missing}` is no label here and no segment of any file", _undefined_hint(link, missing)
@@ -74,38 +84,67 @@ def _offset(link: Link, name: str) -> list[Diagnostic]:
     log = next(segment.log for _, made, _ in link.units for segment in made.segments if segment.name == name)
     message = f"this leads to the end of the segment `{name}` or past it"
     hints = [f"`{name}` has 2^{log} bytes, so an offset is below {1 << log}"]
-    places = [link.at(source, use.line, use.column, message, hints) for source, use in link.uses(name) if use.addend >= 1 << log]
+    places = [
+        link.at(source, use.line, use.column, message, hints)
+        for source, use in link.uses(name)
+        if use.addend >= 1 << log
+    ]
     return places or [link.whole(f"a pointer to `{name}` leads to its end or past it", hints)]
 
 
 def _slot_twice(link: Link, name: str) -> list[Diagnostic]:
     places = [(source, thread) for source in link.sources for thread in source.threads if thread.slot == int(name)]
     message, hints = f"two threads have slot {name}", ["a slot has one thread: give this one another slot"]
-    return [link.at(places[-1][0], places[-1][1].line, places[-1][1].column, message, hints) if places else link.whole(message, hints)]
+    return [
+        link.at(places[-1][0], places[-1][1].line, places[-1][1].column, message, hints)
+        if places
+        else link.whole(message, hints)
+    ]
 
 
 def _no_thread(link: Link, _: str) -> list[Diagnostic]:
     first = next((segment.name for _, made, _ in link.units for segment in made.segments), "main")
-    return [link.whole("there is no thread, so nothing would run", [f"say where one begins: `.thread 0 0 none xu {first}` (slot, group, handler, permission, name)"])]
+    return [
+        link.whole(
+            "there is no thread, so nothing would run",
+            [f"say where one begins: `.thread 0 0 none xu {first}` (slot, group, handler, permission, name)"],
+        )
+    ]
 
 
 def _handler(link: Link, name: str) -> list[Diagnostic]:
     places = [(source, thread) for source in link.sources for thread in source.threads if thread.slot == int(name)]
     waits = places[0][1].handler if places else None
-    message = f"the thread in slot {name} has a handler in slot {waits}, and no thread is there" if waits is not None else f"the handler of slot {name} is no thread"
+    message = (
+        f"the thread in slot {name} has a handler in slot {waits}, and no thread is there"
+        if waits is not None
+        else f"the handler of slot {name} is no thread"
+    )
     hints = ["write a thread for that slot, or `none` for no handler"]
-    return [link.at(places[0][0], places[0][1].line, places[0][1].column, message, hints) if places else link.whole(message, hints)]
+    return [
+        link.at(places[0][0], places[0][1].line, places[0][1].column, message, hints)
+        if places
+        else link.whole(message, hints)
+    ]
 
 
 def _too_large(link: Link, _: str) -> list[Diagnostic]:
     used = sum(1 << segment.log for _, made, _ in link.units for segment in made.segments)
     spare = sum(made.spare for _, made, _ in link.units)
-    hints = [f"segments take {(used + 4095) // 4096} pages of 4096 bytes by their lengths, and {spare} frames are spare: make long segments shorter"]
+    hints = [
+        f"segments take {(used + 4095) // 4096} pages of 4096 bytes by their lengths, and {spare} frames are spare: make long segments shorter"
+    ]
     return [link.whole("the segments and spare frames are more than the 256 frames of a machine", hints)]
 
 
 FAULTS: dict[int, Callable[[Link, str], list[Diagnostic]]] = {
-    TWICE: _twice, UNDEFINED: _undefined, OFFSET: _offset, SLOT_TWICE: _slot_twice, NO_THREAD: _no_thread, HANDLER: _handler, TOO_LARGE: _too_large,
+    TWICE: _twice,
+    UNDEFINED: _undefined,
+    OFFSET: _offset,
+    SLOT_TWICE: _slot_twice,
+    NO_THREAD: _no_thread,
+    HANDLER: _handler,
+    TOO_LARGE: _too_large,
 }
 
 

@@ -6,6 +6,7 @@ import re
 from dataclasses import dataclass
 from typing import Callable, Optional
 
+from mm.source.tokens import BEYOND, value_of_digits
 from mm.source.wants import OPERANDS
 
 # Operations of other machines, and what does their work here.
@@ -97,7 +98,10 @@ def _offset_in_brackets(scene: Scene) -> Optional[str]:
     match = re.search(r"(-?\w+)?\s*[(\[]\s*([rR]\d+)\s*(?:[,+]\s*#?(-?\w+)\s*)?[)\]]", scene.code)
     if not match or scene.fault not in (1, 2):
         return None
-    offset, pointer = match[1] if match[1] and re.fullmatch(r"-?\d+|0x\w+", match[1]) else match[3] or "0", match[2].lower()
+    offset, pointer = (
+        match[1] if match[1] and re.fullmatch(r"-?\d+|0x\w+", match[1]) else match[3] or "0",
+        match[2].lower(),
+    )
     if scene.head == "st":
         return f"the pointer comes first and the offset has a place of its own: `st {pointer}, r2, {offset}, any, keep`"
     return f"the offset has a place of its own, after the pointer: `ld r2, {pointer}, {offset}, any, keep`"
@@ -124,7 +128,7 @@ def _quotes(scene: Scene) -> Optional[str]:
 def _marks(scene: Scene) -> Optional[str]:
     if scene.fault != 1:
         return None
-    rest = scene.code[scene.column - 1:]
+    rest = scene.code[scene.column - 1 :]
     if re.match(r"#\s*-?\d|\$\s*-?\d", rest):
         return "a number stands by itself, without a mark before it"
     if re.match(r"%\w|\$\w|@\w", rest):
@@ -167,19 +171,35 @@ def _immediate(scene: Scene) -> Optional[str]:
         return f"with a number it is `addi {parts[0]}, {parts[1]}, -{parts[2]}`"
     if scene.head == "mov":
         return f"a number goes into a register by `ldi {', '.join(parts)}`"
-    return f"`{scene.head}` takes a register here: put the number into one by `ldi` first" if scene.head in OPERANDS else None
+    return (
+        f"`{scene.head}` takes a register here: put the number into one by `ldi` first"
+        if scene.head in OPERANDS
+        else None
+    )
 
 
 def _two_operands(scene: Scene) -> Optional[str]:
     parts = [part.strip() for part in scene.rest.split(",")]
     operands = OPERANDS.get(scene.head, ())
-    if scene.fault == 2 and not scene.found and len(parts) == 2 and len(operands) == 3 and all(re.fullmatch(r"r\d+", part) for part in parts):
+    if (
+        scene.fault == 2
+        and not scene.found
+        and len(parts) == 2
+        and len(operands) == 3
+        and all(re.fullmatch(r"r\d+", part) for part in parts)
+    ):
         return f"three operands are wanted, the result first: `{scene.head} {parts[0]}, {parts[0]}, {parts[1]}`"
     return None
 
 
 def _commas(scene: Scene) -> Optional[str]:
-    if scene.head in OPERANDS and scene.fault == 2 and re.search(r"\w\s+-?\w", scene.rest) and "," not in scene.rest and len(OPERANDS[scene.head]) > 1:
+    if (
+        scene.head in OPERANDS
+        and scene.fault == 2
+        and re.search(r"\w\s+-?\w", scene.rest)
+        and "," not in scene.rest
+        and len(OPERANDS[scene.head]) > 1
+    ):
         return f"operands have commas between: `{scene.head} {', '.join(scene.rest.split())}`"
     if scene.head.startswith(".") and scene.found == ",":
         return "the words of a directive have no commas between"
@@ -187,7 +207,11 @@ def _commas(scene: Scene) -> Optional[str]:
 
 
 def _two_statements(scene: Scene) -> Optional[str]:
-    if scene.fault == 2 and (scene.found in OPERANDS or scene.found.startswith(".")) and scene.head not in ("", scene.found):
+    if (
+        scene.fault == 2
+        and (scene.found in OPERANDS or scene.found.startswith("."))
+        and scene.head not in ("", scene.found)
+    ):
         return f"a line has one statement: put `{scene.found}` into the next"
     return None
 
@@ -208,7 +232,7 @@ def _segment(scene: Scene) -> Optional[str]:
     if scene.fault == 2 and not scene.found:
         return "the length is wanted too, as a power of two of bytes: `.segment main 6` has 2^6 = 64 bytes, room for 8 words"
     if scene.fault == 4 and re.fullmatch(r"\d+|0x[0-9A-Fa-f]+", scene.found):
-        length = int(scene.found, 0) if scene.found.startswith("0x") else int(scene.found)
+        length = value_of_digits(scene.found)
         if 8 < length <= 1 << 20:
             return f"the number is the logarithm of the length: for {length} bytes write {max(3, (length - 1).bit_length())}"
     return None
@@ -256,8 +280,8 @@ def _pointer(scene: Scene) -> Optional[str]:
 
 
 def _numbers(scene: Scene) -> Optional[str]:
-    if scene.head == "ldi" and scene.fault == 4:
-        value = int(scene.found, 0) if scene.found.startswith("0x") else int(scene.found)
+    value = value_of_digits(scene.found) if scene.head == "ldi" and scene.fault == 4 else BEYOND
+    if abs(value) < 1 << 64:
         high, low = value >> 32 & 0xFFFFFFFF, value & 0xFFFFFFFF
         return f"`ldi` takes 32 bits: write `ldi r1, 0x{high:x}` and then `ldhi r1, 0x{low:x}`"
     if scene.head == "evt" and scene.fault == 4:
@@ -268,7 +292,22 @@ def _numbers(scene: Scene) -> Optional[str]:
 
 
 HINTS: list[Callable[[Scene], Optional[str]]] = [
-    _offset_in_brackets, _quotes, _marks, _other, _register_name, _commas, _conditions, _immediate, _two_operands, _two_statements, _label, _segment, _thread, _reg, _pointer, _numbers,
+    _offset_in_brackets,
+    _quotes,
+    _marks,
+    _other,
+    _register_name,
+    _commas,
+    _conditions,
+    _immediate,
+    _two_operands,
+    _two_statements,
+    _label,
+    _segment,
+    _thread,
+    _reg,
+    _pointer,
+    _numbers,
 ]
 
 

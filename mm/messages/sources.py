@@ -16,7 +16,12 @@ from mm.source.tokens import Token, TokenKind, tokens_of
 from mm.source.text import SourceSegment, SourceText, read_source
 from mm.source.wants import DIRECTIVES, OPERANDS
 
-KINDS = {TokenKind.NAME: "the name", TokenKind.DIRECTIVE: "the directive", TokenKind.NUMBER: "the number", TokenKind.SIGN: "the sign"}
+KINDS = {
+    TokenKind.NAME: "the name",
+    TokenKind.DIRECTIVE: "the directive",
+    TokenKind.NUMBER: "the number",
+    TokenKind.SIGN: "the sign",
+}
 LABEL = 5
 LIMITS = "a source has at most 256 segments, 131072 words, 65535 pointers and 1024 names of other sources; divide it into several"
 
@@ -101,7 +106,11 @@ def _label(at: Explained) -> str:
 
 def _twice(at: Explained) -> str:
     if at.head in (".spare", ".thread", ".reg") and not (at.line.label and at.line.label.column == at.column):
-        what = {".spare": "a second `.spare`", ".thread": f"a second thread in slot {at.token.text if at.token else ''}", ".reg": "this register of the thread is set already"}
+        what = {
+            ".spare": "a second `.spare`",
+            ".thread": f"a second thread in slot {at.token.text if at.token else ''}",
+            ".reg": "this register of the thread is set already",
+        }
         return what[at.head]
     name = at.token.text if at.token else ""
     return f"the name `{name}` is there already{_where(at.source, name, at.number)}"
@@ -131,7 +140,15 @@ def _limit(at: Explained) -> str:
 
 
 MESSAGES: dict[int, Callable[[Explained], str]] = {
-    1: _bad_byte, 2: _syntax, 3: _name, 4: _range, 5: _label, 6: _twice, 7: _place, 8: _full, 9: _limit,
+    1: _bad_byte,
+    2: _syntax,
+    3: _name,
+    4: _range,
+    5: _label,
+    6: _twice,
+    7: _place,
+    8: _full,
+    9: _limit,
 }
 
 
@@ -155,7 +172,11 @@ def _hint_for_full(at: Explained) -> Optional[str]:
     if segment is None:
         return None
     log = max(3, (segment.words - 1).bit_length() + 3)
-    return f"it has {counted(segment.words, 'word')} in all: write `.segment {segment.name} {log}`" if log <= 20 else "a segment has at most 2^20 bytes: divide it"
+    return (
+        f"it has {counted(segment.words, 'word')} in all: write `.segment {segment.name} {log}`"
+        if log <= 20
+        else "a segment has at most 2^20 bytes: divide it"
+    )
 
 
 def _hint_for_name(at: Explained) -> Optional[str]:
@@ -173,9 +194,13 @@ TWICE_HINTS = {
     ".spare": "write one `.spare` with the sum",
 }
 OWN_HINTS: dict[int, Callable[[Explained], Optional[str]]] = {
-    3: _hint_for_name, 5: _hint_for_label, 8: _hint_for_full,
+    3: _hint_for_name,
+    5: _hint_for_label,
+    8: _hint_for_full,
     6: lambda at: TWICE_HINTS.get(at.head, "labels and segments share one set of names: give one of them another"),
-    7: lambda at: "registers belong to the thread before them" if at.head == ".reg" else "begin with a segment, as `.segment main 6`",
+    7: lambda at: "registers belong to the thread before them"
+    if at.head == ".reg"
+    else "begin with a segment, as `.segment main 6`",
     9: lambda at: LIMITS,
     4: lambda at: None if at.want else "an offset is below the segment's length; give the segment a greater one",
 }

@@ -30,11 +30,18 @@ def _symbol(name: str, symbols: Symbols) -> Symbol:
         return found[0]
     if found:
         several = [symbols.region(symbol.address) for symbol in found]
-        raise NoAddress(f"there are several `{name}`: say {' or '.join(f'{region.name}.{name}' for region in several if region)}")
+        raise NoAddress(
+            f"there are several `{name}`: say {' or '.join(f'{region.name}.{name}' for region in several if region)}"
+        )
     if not symbols:
-        raise NoAddress(f"`{name}` is not known: this image has no names. Give the sources that it was made of, or write a number, as 0x100100")
+        raise NoAddress(
+            f"`{name}` is not known: this image has no names. Give the sources that it was made of, or write a number, as 0x100100"
+        )
     near = nearest(name, [symbol.name for symbol in symbols.symbols])
-    raise NoAddress(f"there is no label or segment `{name}`" + (f"; do you mean `{near}`?" if near else "; `info symbols` and `mm symbols` list the names"))
+    raise NoAddress(
+        f"there is no label or segment `{name}`"
+        + (f"; do you mean `{near}`?" if near else "; `info symbols` and `mm symbols` list the names")
+    )
 
 
 def _of_line(path: str, line: int, symbols: Symbols) -> int:

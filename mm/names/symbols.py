@@ -11,6 +11,7 @@ from mm.formats.object import Object, Segment
 from mm.machine.isa import OPERATIONS
 from mm.names.layout import Placed
 from mm.source.text import SourceSegment, SourceText
+from mm.source.tokens import readable
 
 
 @dataclass(frozen=True)
@@ -24,7 +25,7 @@ class Origin:
     @property
     def code(self) -> str:
         """The line without its comment."""
-        return self.text.split(";")[0].strip()
+        return readable(self.text.split(";")[0].strip())
 
     def __str__(self) -> str:
         return f"{self.path}:{self.line}"
@@ -66,7 +67,9 @@ class Region:
 
 def fits(source: SourceText, made: Object) -> bool:
     """Whether what was read of a source is what `mmachine` made of it: the segments, their words, and which of these are pointers."""
-    if [(item.name, item.log, item.words) for item in source.segments] != [(item.name, item.log, len(item.words)) for item in made.segments]:
+    if [(item.name, item.log, item.words) for item in source.segments] != [
+        (item.name, item.log, len(item.words)) for item in made.segments
+    ]:
         return False
     return all(_same_words(read, segment) for read, segment in zip(source.segments, made.segments))
 
@@ -99,7 +102,10 @@ class Symbols:
         """The names of labels, with their segments where several have the same."""
         counts = Counter(label.name for label in labels)
         regions = [self.region(label.address) for label in labels]
-        return [f"{region.name}.{label.name}" if region and counts[label.name] > 1 else label.name for label, region in zip(labels, regions)]
+        return [
+            f"{region.name}.{label.name}" if region and counts[label.name] > 1 else label.name
+            for label, region in zip(labels, regions)
+        ]
 
     def __bool__(self) -> bool:
         return bool(self.regions)
@@ -158,17 +164,28 @@ def _symbols_of(region: Region) -> list[Symbol]:
     found = [Symbol(region.name, region.base, 1 << region.log, True, origin)]
     if source is None:
         return found
-    labels = sorted((label.place, label.line, label) for label in source.labels.values() if label.segment == region.index)
+    labels = sorted(
+        (label.place, label.line, label) for label in source.labels.values() if label.segment == region.index
+    )
     ends = [place for place, _, _ in labels[1:]] + [max(region.words, labels[-1][0] + 1 if labels else 0)]
     for (place, line, label), end in zip(labels, ends):
         address = region.base + 8 * place
         if address < region.end:
-            found.append(Symbol(label.name, address, max(8, 8 * (end - place)), False, Origin(source.path, line, source.line(line))))
+            found.append(
+                Symbol(
+                    label.name, address, max(8, 8 * (end - place)), False, Origin(source.path, line, source.line(line))
+                )
+            )
     return found
 
 
 def symbols_of(placed: Sequence[Placed], sources: Sequence[Optional[SourceText]]) -> Symbols:
     """The names of placed segments; of each unit its source, where there is one that fits."""
-    return Symbols([
-        Region(item.segment.name, item.base, item.segment.log, len(item.segment.words), sources[item.unit], item.index) for item in placed
-    ])
+    return Symbols(
+        [
+            Region(
+                item.segment.name, item.base, item.segment.log, len(item.segment.words), sources[item.unit], item.index
+            )
+            for item in placed
+        ]
+    )

@@ -53,7 +53,9 @@ def read_slot(words: list[str], group: int) -> SlotState:
     """A line `slot S turns T STATE ip WORD`, with the fault of a slot that has faulted and the mark of one that is past."""
     at = words.index("ip")
     fault = int(words[5]) if words[4] == "faulted" else None
-    return SlotState(int(words[1]), group, int(words[3]), words[4], fault, Word.parse(words[at + 1]), words[-1] == "past")
+    return SlotState(
+        int(words[1]), group, int(words[3]), words[4], fault, Word.parse(words[at + 1]), words[-1] == "past"
+    )
 
 
 def read_register(slot: SlotState, words: list[str]) -> None:

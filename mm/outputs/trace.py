@@ -47,8 +47,14 @@ def read_turn(line: str) -> Optional[Turn]:
     if match:
         slot, number, outcome, fault, fetch, access, address, entered = match.groups()
         return Turn(
-            int(slot), int(number), outcome.split()[0], int(fault) if fault else None, int(fetch, 16) if fetch else None,
-            access, int(address, 16) if address else None, Word.parse(entered) if entered else None,
+            int(slot),
+            int(number),
+            outcome.split()[0],
+            int(fault) if fault else None,
+            int(fetch, 16) if fetch else None,
+            access,
+            int(address, 16) if address else None,
+            Word.parse(entered) if entered else None,
         )
     match = DELIVERY.match(line)
     return Turn(int(match[1]), 0, "delivered", delivered=int(match[2])) if match else None

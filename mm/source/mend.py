@@ -16,9 +16,13 @@ RANGE, LABEL, TWICE, PLACE, FULL, LIMIT = 4, 5, 6, 7, 8, 9
 BEGINS_SEGMENT = re.compile(r"[^;]*\.segment\b")
 BEGINS_THREAD = re.compile(r"[^;]*\.thread\b")
 SETS_REGISTER = re.compile(r"[^;]*\.reg\b")
-FORGOTTEN = re.compile(rf"[ \t\r]*([A-Za-z_][A-Za-z0-9_]{{0,30}})(?:[ \t\r]+((?:{'|'.join(OPERANDS)})\b.*?))?[ \t\r]*(?:;.*)?")
+FORGOTTEN = re.compile(
+    rf"[ \t\r]*([A-Za-z_][A-Za-z0-9_]{{0,30}})(?:[ \t\r]+((?:{'|'.join(OPERANDS)})\b.*?))?[ \t\r]*(?:;.*)?"
+)
 # Directives of other assemblers that make no word.
-NO_WORD = re.compile(r"\.(text|data|bss|rodata|section|globl?|global|extern|align|p?2align|balign|org|equ|set|type|size|file|end|macro|endm|include|code|stack|org)\b")
+NO_WORD = re.compile(
+    r"\.(text|data|bss|rodata|section|globl?|global|extern|align|p?2align|balign|org|equ|set|type|size|file|end|macro|endm|include|code|stack|org)\b"
+)
 
 
 class Mender:
@@ -57,7 +61,7 @@ class Mender:
         """Blanks a line from a column up to another."""
         line = self.lines[number - 1]
         stop = len(line) if end is None else end - 1
-        self.lines[number - 1] = line[:begin - 1] + " " * (stop - begin + 1) + line[stop:]
+        self.lines[number - 1] = line[: begin - 1] + " " * (stop - begin + 1) + line[stop:]
 
     def _mend_statement(self, number: int) -> None:
         """Puts a statement that has no fault into the place of one. A name alone is a label whose `:` was forgotten."""
@@ -76,14 +80,18 @@ class Mender:
     def _statement(self, number: int, head: str, name: Optional[object]) -> str:
         if head == ".segment":
             kept = getattr(name, "text", "")
-            taken = any(BEGINS_SEGMENT.match(line) and re.search(rf"\.segment[ \t]+{kept}\b", line) for at, line in enumerate(self.lines) if at != number - 1)
+            taken = any(
+                BEGINS_SEGMENT.match(line) and re.search(rf"\.segment[ \t]+{kept}\b", line)
+                for at, line in enumerate(self.lines)
+                if at != number - 1
+            )
             return f".segment {kept if kept and not taken else self._fresh()} {WIDEST}"
         if head == ".thread":
             slot = self._free_slot()
             return f".thread {slot} 0 none xu {FRESH}" if slot is not None else self._drop_registers(number)
         if head in (".reg", ".spare", ".fill") or NO_WORD.match(head):
             return ""
-        in_segment = any(BEGINS_SEGMENT.match(line) for line in self.lines[:number - 1]) or bool(self.prelude)
+        in_segment = any(BEGINS_SEGMENT.match(line) for line in self.lines[: number - 1]) or bool(self.prelude)
         return "nop" if in_segment and head else ""
 
     def _free_slot(self) -> Optional[int]:

@@ -13,7 +13,9 @@ from mm.source.tokens import TokenKind
 from mm.source.wants import DIRECTIVES, OPERANDS
 
 # The beginning of a line: its label, `.empty`, and its directive or operation. What follows is read only where it matters here.
-BEGINNING = re.compile(r"[ \t\r]*(?:([A-Za-z_][A-Za-z0-9_]*)[ \t\r]*:)?[ \t\r]*(?:\.empty(?![A-Za-z0-9_])[ \t\r]*)?(\.?[A-Za-z_][A-Za-z0-9_]*)?")
+BEGINNING = re.compile(
+    r"[ \t\r]*(?:([A-Za-z_][A-Za-z0-9_]*)[ \t\r]*:)?[ \t\r]*(?:\.empty(?![A-Za-z0-9_])[ \t\r]*)?(\.?[A-Za-z_][A-Za-z0-9_]*)?"
+)
 WORDS = frozenset(OPERANDS) | frozenset(WORD_DIRECTIVES)
 
 

@@ -31,8 +31,26 @@ class Token:
 
     @property
     def value(self) -> int:
-        """What a number token is worth."""
-        return int(self.text, 16) if self.text.startswith("0x") else int(self.text)
+        """What a number token is worth; of one with more digits than any range has, some number beyond all ranges."""
+        return value_of_digits(self.text)
+
+
+def readable(line: str) -> str:
+    """A line as people wrote it, from the latin-1 in which columns are bytes."""
+    return line.encode("latin-1").decode("utf-8", "replace")
+
+
+BLANKS = " \t\r"
+MOST_DIGITS = 40
+BEYOND = 1 << 80
+
+
+def value_of_digits(text: str) -> int:
+    """The number that digits spell, with `-` or `0x` before them."""
+    sign, digits = (-1, text[1:]) if text.startswith("-") else (1, text)
+    base, digits = (16, digits[2:]) if digits.startswith("0x") else (10, digits)
+    plain = digits.lstrip("0") or "0"
+    return sign * (int(plain, base) if len(plain) <= MOST_DIGITS else BEYOND)
 
 
 TOKEN = re.compile(
@@ -48,6 +66,6 @@ def tokens_of(line: str) -> list[Token]:
         kind = match.lastgroup
         if kind == "COMMENT":
             break
-        if kind and (kind != "BAD" or not match[kind].isspace()):
+        if kind and (kind != "BAD" or match[kind] not in BLANKS):
             found.append(Token(TokenKind[kind], match[kind], match.start(kind) + 1))
     return found

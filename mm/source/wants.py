@@ -87,8 +87,14 @@ def _sign(want: Want, token: Token) -> Optional[int]:
 
 
 _TESTS = {
-    Sort.NAME: _name, Sort.NUMBER: _number, Sort.CHOICE: _choice, Sort.WORD: _word, Sort.HANDLER: _handler,
-    Sort.REGISTER: _register, Sort.PLACE: _place, Sort.SIGN: _sign,
+    Sort.NAME: _name,
+    Sort.NUMBER: _number,
+    Sort.CHOICE: _choice,
+    Sort.WORD: _word,
+    Sort.HANDLER: _handler,
+    Sort.REGISTER: _register,
+    Sort.PLACE: _place,
+    Sort.SIGN: _sign,
 }
 
 COMMA = Want(Sort.SIGN, "a comma", choices=(",",))
@@ -132,12 +138,26 @@ class Directive:
 
 
 DIRECTIVES = {
-    ".segment": Directive(".segment NAME L", ".segment main 6", "a segment of 2^L bytes begins, L from 3 to 20: room for 2^(L-3) words"),
+    ".segment": Directive(
+        ".segment NAME L", ".segment main 6", "a segment of 2^L bytes begins, L from 3 to 20: room for 2^(L-3) words"
+    ),
     ".int": Directive(".int NUMBER", ".int 65", "a word that holds the number"),
-    ".ptr": Directive(".ptr PERMISSION TARGET", ".ptr rw box + 8", "a word that holds a pointer to a label or a segment"),
+    ".ptr": Directive(
+        ".ptr PERMISSION TARGET", ".ptr rw box + 8", "a word that holds a pointer to a label or a segment"
+    ),
     ".fill": Directive(".fill COUNT", ".fill 8", "so many words that hold 0"),
-    ".empty": Directive(".empty WORD", ".empty .int 0", "a word whose synchronisation bit is empty; WORD is .int, .ptr or an operation"),
-    ".thread": Directive(".thread SLOT GROUP HANDLER PERMISSION TARGET", ".thread 0 0 none xu main", "a thread begins at the target; HANDLER is a slot or none, PERMISSION is xu or xp"),
-    ".reg": Directive(".reg NUMBER int VALUE | ptr PERMISSION TARGET", ".reg 1 ptr rw box", "what a register of the latest thread begins with"),
+    ".empty": Directive(
+        ".empty WORD", ".empty .int 0", "a word whose synchronisation bit is empty; WORD is .int, .ptr or an operation"
+    ),
+    ".thread": Directive(
+        ".thread SLOT GROUP HANDLER PERMISSION TARGET",
+        ".thread 0 0 none xu main",
+        "a thread begins at the target; HANDLER is a slot or none, PERMISSION is xu or xp",
+    ),
+    ".reg": Directive(
+        ".reg NUMBER int VALUE | ptr PERMISSION TARGET",
+        ".reg 1 ptr rw box",
+        "what a register of the latest thread begins with",
+    ),
     ".spare": Directive(".spare FRAMES", ".spare 2", "how many frames the machine has besides those of its pages"),
 }

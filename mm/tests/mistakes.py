@@ -27,6 +27,7 @@ def thread(text: str, place: str, says: str, hint: str) -> Mistake:
     return Mistake(HEAD + "  halt\n.thread 0 0 none xu main\n" + text + "\n", place, says, hint)
 
 
+# fmt: off
 MISTAKES = [
     line("  ld r2, 8(r1)", "2:10", "expected a register", "`ld r2, r1, 8, any, keep`"),
     line("  ld r2, [r1]", "2:10", "`[`", "`ld r2, r1, 0, any, keep`"),
@@ -92,3 +93,4 @@ MISTAKES = [
     thread(".reg 1 ptr rw main + 64", "4:15", "to the end of its segment", "below the segment's length"),
     Mistake(".reg 1 int 5\n" + HEAD + TAIL, "1:1", "before the first `.thread`", "the thread before them"),
 ]
+# fmt: on

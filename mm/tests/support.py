@@ -79,7 +79,9 @@ def mm(*words: str, lines: Optional[str] = None) -> Ended:
     before = os.getcwd()
     os.chdir(CHECKOUT)
     try:
-        with mock.patch.object(sys, "stdout", out), mock.patch.object(sys, "stderr", err), mock.patch.object(sys, "stdin", io.StringIO(lines or "")):
+        with mock.patch.object(sys, "stdout", out), mock.patch.object(sys, "stderr", err), mock.patch.object(
+            sys, "stdin", io.StringIO(lines or "")
+        ):
             status = main(words)
     finally:
         os.chdir(before)

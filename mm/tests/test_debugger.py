@@ -25,7 +25,9 @@ class Sessions(unittest.TestCase):
         return [said for _, said in answers(ended)]
 
     def test_bug_is_found_by_name(self):
-        watch, first, back, register, price, *_ = self.session(["watch price", "continue", "back", "p r2", "p price", "list"], "examples/bug.asm")
+        watch, first, back, register, price, *_ = self.session(
+            ["watch price", "continue", "back", "p r2", "p price", "list"], "examples/bug.asm"
+        )
         self.assertIn("watch price, now 36 '$'", watch)
         self.assertIn("price was 36 '$', and is 111 'o'", first)
         self.assertIn("cycle 27", first)
@@ -44,7 +46,23 @@ class Sessions(unittest.TestCase):
         self.assertIn("cycle 36, the end of the run", said[8])
 
     def test_places(self):
-        said = self.session(["b 13", "c", "b counter.asm:15", "c", "b door+8", "c", "b *0x1000c8", "b gate", "tb fault", "b entry slot 1", "b 0x100000 slot 7", "b nowhere"], "examples/counter.asm")
+        said = self.session(
+            [
+                "b 13",
+                "c",
+                "b counter.asm:15",
+                "c",
+                "b door+8",
+                "c",
+                "b *0x1000c8",
+                "b gate",
+                "tb fault",
+                "b entry slot 1",
+                "b 0x100000 slot 7",
+                "b nowhere",
+            ],
+            "examples/counter.asm",
+        )
         self.assertIn("cycle", said[0] + said[1])
         self.assertIn("counter.asm:15", said[2])
         self.assertIn("door+8", said[4])
@@ -70,7 +88,22 @@ class Sessions(unittest.TestCase):
         self.assertIn("count was 0, and is 1", said[5])
 
     def test_memory_and_registers(self):
-        said = self.session(["goto 36", "x/2 box", "x/3i door", "p count", "p &door", "p r5", "x r1", "regs 0", "info output", "i slots", "p 5"], "examples/counter.asm")
+        said = self.session(
+            [
+                "goto 36",
+                "x/2 box",
+                "x/3i door",
+                "p count",
+                "p &door",
+                "p r5",
+                "x r1",
+                "regs 0",
+                "info output",
+                "i slots",
+                "p 5",
+            ],
+            "examples/counter.asm",
+        )
         self.assertIn("box    2 (empty)", said[1])
         self.assertIn("lip r7, gate", said[2])
         self.assertIn("count = 2", said[3])

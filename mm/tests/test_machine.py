@@ -30,7 +30,9 @@ class Words(unittest.TestCase):
         self.assertIsNone(Word.parse("i51800000001000c8").pointer)
 
     def test_rights(self):
-        table = re.findall(r"^\| (\d) \| [\w/-]+ \| (yes|no) \| (yes|no) \| (yes|no) \| (yes|no) \|", read("docs", "MACHINE.md"), re.M)
+        table = re.findall(
+            r"^\| (\d) \| [\w/-]+ \| (yes|no) \| (yes|no) \| (yes|no) \| (yes|no) \|", read("docs", "MACHINE.md"), re.M
+        )
         self.assertEqual(len(table), 7)
         for code, loads, stores, fetches, jumps in table:
             permission = Permission.of_code(int(code))
@@ -41,7 +43,18 @@ class Words(unittest.TestCase):
         self.assertEqual([bytes_in_words(log) for log in (0, 3, 12, 20)], ["1 byte", "8 bytes", "4 KiB", "1 MiB"])
 
     def test_numbers(self):
-        given = {"10": 10, "0x10": 16, "0b101": 5, "0o17": 15, "1_000": 1000, "-5": -5, "00000000100040": 0x100040, "box": None, "0x": None, "": None}
+        given = {
+            "10": 10,
+            "0x10": 16,
+            "0b101": 5,
+            "0o17": 15,
+            "1_000": 1000,
+            "-5": -5,
+            "00000000100040": 0x100040,
+            "box": None,
+            "0x": None,
+            "": None,
+        }
         self.assertEqual({text: number_of(text) for text in given}, given)
 
 
@@ -57,7 +70,9 @@ class Operations(unittest.TestCase):
             wanted = [fields.get(word, word) for word in re.findall(r"\b(rd|ra|rb|imm|c)\b", said)]
             wanted = ["how" if name == "resume" and word == "pre" else word for word in wanted]
             self.assertEqual(kinds - {"post"}, set(wanted), name)
-            titles = [cause.title for cause in Cause if re.search(rf"\b{cause.title.replace('NotPointer', 'Ptr')}\b", tests)]
+            titles = [
+                cause.title for cause in Cause if re.search(rf"\b{cause.title.replace('NotPointer', 'Ptr')}\b", tests)
+            ]
             if "access" not in tests:
                 self.assertEqual(sorted(titles), sorted(operation.tests.split()), name)
 
@@ -67,9 +82,19 @@ class Operations(unittest.TestCase):
 
     def test_each_instruction_has_one_word(self):
         for operation in BY_NUMBER.values():
-            made = Instruction(operation, tuple(-3 if kind.field == "imm" and kind.name != "REGISTER" else 1 for kind in operation.operands))
+            made = Instruction(
+                operation,
+                tuple(-3 if kind.field == "imm" and kind.name != "REGISTER" else 1 for kind in operation.operands),
+            )
             self.assertEqual(decode(encode(made)), made)
-        for bits in (0x0000000000000001, 0x0010000000000000, 0x09 << 56, 0x30210C0000000000, 0x51D0000000000000, 0x3021030000000000):
+        for bits in (
+            0x0000000000000001,
+            0x0010000000000000,
+            0x09 << 56,
+            0x30210C0000000000,
+            0x51D0000000000000,
+            0x3021030000000000,
+        ):
             self.assertIsNone(decode(bits), hex(bits))
 
     def test_words_of_a_page(self):
@@ -78,7 +103,9 @@ class Operations(unittest.TestCase):
 
     def test_image(self):
         image = read_image(read_bytes("examples", "counter.img"))
-        self.assertEqual([(slot.number, slot.group, slot.handler) for slot in image.slots], [(0, 0, None), (1, 1, None)])
+        self.assertEqual(
+            [(slot.number, slot.group, slot.handler) for slot in image.slots], [(0, 0, None), (1, 1, None)]
+        )
         self.assertTrue(image.cell(0x1000C0).word.tagged)
         self.assertFalse(image.cell(0x100100).full)
         self.assertIsNone(image.cell(0x200000))

@@ -46,7 +46,7 @@ class Mistakes(unittest.TestCase):
         with folder() as room:
             path = write(room, "mine.asm", MANY)
             ended = mm("run", path)
-        places = [line.split(": error")[0][len(path) + 1:] for line in ended.err.splitlines() if ": error: " in line]
+        places = [line.split(": error")[0][len(path) + 1 :] for line in ended.err.splitlines() if ": error: " in line]
         self.assertEqual(places, ["2:3", "3:10", "5:12", "6:6", "8:14", "9:3", "11:13", "12:12"])
         self.assertEqual(ended.status, 2)
 
@@ -80,11 +80,19 @@ class Files(unittest.TestCase):
     def test_files_that_are_not_there(self):
         self.assertIn("nofile.asm: error: cannot be read", self.refused(3, "run", "nofile.asm"))
         self.assertIn("there is examples/counter.asm", self.refused(3, "run", "examples/counter.s"))
-        self.assertIn("nothing.schedule: error: cannot be read", self.refused(3, "run", "examples/counter.asm", "--schedule", "nothing.schedule"))
+        self.assertIn(
+            "nothing.schedule: error: cannot be read",
+            self.refused(3, "run", "examples/counter.asm", "--schedule", "nothing.schedule"),
+        )
         self.assertIn("examples: error: cannot be read", self.refused(3, "run", "examples"))
 
     def test_schedules(self):
-        for text, hint in (("0*3 x", "an item is a slot's number"), ("0, 1", "no commas"), ("07", "no leading zero: 7"), ("s1", "its number alone: 1")):
+        for text, hint in (
+            ("0*3 x", "an item is a slot's number"),
+            ("0, 1", "no commas"),
+            ("07", "no leading zero: 7"),
+            ("s1", "its number alone: 1"),
+        ):
             err = self.refused(2, "run", "examples/counter.asm", "--turns", text)
             self.assertIn("--turns:1:", err)
             self.assertIn(hint, err)
@@ -97,7 +105,11 @@ class Files(unittest.TestCase):
             image = file.read()
         with folder() as room:
             path = write(room, "bad.img", "")
-            for data, says in ((image[:200], "ends within a field"), (image + b"x", "goes on after the last page"), (image[:5] + b"\x09" + image[6:], "neither 1 nor 2")):
+            for data, says in (
+                (image[:200], "ends within a field"),
+                (image + b"x", "goes on after the last page"),
+                (image[:5] + b"\x09" + image[6:], "neither 1 nor 2"),
+            ):
                 with open(path, "wb") as file:
                     file.write(data)
                 self.assertIn(says, self.refused(2, "run", path))
@@ -119,7 +131,9 @@ class Files(unittest.TestCase):
 
     def test_groups_and_ranges(self):
         self.assertIn("no slot is of one of these groups", self.refused(2, "extract", "examples/hello.asm", "5"))
-        self.assertIn("slot 1 runs by a pointer into the range", self.refused(2, "sweep", "examples/letterbox.asm", "reader"))
+        self.assertIn(
+            "slot 1 runs by a pointer into the range", self.refused(2, "sweep", "examples/letterbox.asm", "reader")
+        )
         self.assertIn("do you mean `box`?", self.refused(1, "holders", "examples/letterbox.asm", "bx"))
         self.assertIn("begins at a multiple", self.refused(1, "holders", "examples/letterbox.asm", "box,12"))
         self.assertIn("no checkpoint", self.refused(2, "continue", "examples/hello.asm", "examples/hello.asm"))
@@ -131,14 +145,23 @@ class Files(unittest.TestCase):
             self.assertIn("nothing", self.refused(1, "net", links, events, "examples/ask.asm", "examples/answer.asm"))
             write(room, "my.links", "0.sent>1.got\n")
             write(room, "my.events", "0:0*7 go\n")
-            self.assertIn(f"{events}:1:7: error: `go` is no item of events", self.refused(2, "net", links, events, "examples/ask.asm", "examples/answer.asm"))
+            self.assertIn(
+                f"{events}:1:7: error: `go` is no item of events",
+                self.refused(2, "net", links, events, "examples/ask.asm", "examples/answer.asm"),
+            )
             write(room, "my.links", "0.sent>1.got zero\n")
-            self.assertIn(f"{links}:1:14: error: `zero` is no item of links", self.refused(2, "net", links, events, "examples/ask.asm", "examples/answer.asm"))
+            self.assertIn(
+                f"{links}:1:14: error: `zero` is no item of links",
+                self.refused(2, "net", links, events, "examples/ask.asm", "examples/answer.asm"),
+            )
 
     def test_words(self):
         self.assertIn("do you mean `run`?", self.refused(1, "rum", "examples/hello.asm"))
-        self.assertIn("has no option --cycle; do you mean --cycles?", self.refused(1, "run", "examples/hello.asm", "--cycle", "5"))
+        self.assertIn(
+            "has no option --cycle; do you mean --cycles?", self.refused(1, "run", "examples/hello.asm", "--cycle", "5")
+        )
         self.assertIn("no number of cycles", self.refused(1, "run", "examples/hello.asm", "--cycles", "many"))
+        self.assertIn("as `mm run examples/hello.asm`", self.refused(1, "examples/hello.asm"))
         self.assertIn("too few words", self.refused(1, "run"))
         self.assertIn("no program of that name", self.refused(127, "--program", "nowhere", "run", "examples/hello.asm"))
 

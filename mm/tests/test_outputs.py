@@ -50,12 +50,26 @@ class Texts(unittest.TestCase):
     def test_trace_and_report(self):
         lines, report = split_trace(TRACE)
         turns = [read_turn(line) for line in lines]
-        self.assertEqual([(turn.slot, turn.outcome, turn.fault, turn.access, turn.item) for turn in turns],
-                         [(0, "did", None, "store", 0), (1, "blocked", None, "loadset", 1), (1, "did", None, None, 1), (1, "faulted", 3, None, 1), (1, "delivered", None, None, 129)])
+        self.assertEqual(
+            [(turn.slot, turn.outcome, turn.fault, turn.access, turn.item) for turn in turns],
+            [
+                (0, "did", None, "store", 0),
+                (1, "blocked", None, "loadset", 1),
+                (1, "did", None, None, 1),
+                (1, "faulted", 3, None, 1),
+                (1, "delivered", None, None, 129),
+            ],
+        )
         self.assertEqual(turns[2].entered.pointer, Pointer(Permission.EU, 6, 0x1000C8))
-        self.assertEqual((report.cycles, report.outputs[0][-1:], report.pages, report.counts["tlb_misses"]), (6, b"6", [(0x200, True)], 5))
+        self.assertEqual(
+            (report.cycles, report.outputs[0][-1:], report.pages, report.counts["tlb_misses"]),
+            (6, b"6", [(0x200, True)], 5),
+        )
         zero, one = report.slots
-        self.assertEqual((zero.past, zero.registers, zero.pending, zero.register(3), zero.register(4)), (True, {3: None}, [(3, Word(0x41))], None, Word(0)))
+        self.assertEqual(
+            (zero.past, zero.registers, zero.pending, zero.register(3), zero.register(4)),
+            (True, {3: None}, [(3, Word(0x41))], None, Word(0)),
+        )
         self.assertEqual((one.state, one.fault, one.group), ("faulted", 3, 0))
         self.assertFalse(report.cells[0x100100].full)
 
@@ -75,9 +89,17 @@ class Texts(unittest.TestCase):
         self.assertEqual([cycle for cycle, _ in numbered(turns, None)], [1, 2, 3, 4])
 
     def test_audit(self):
-        audit = read_audit("group 0 user\ntouch 00000000100000 12\nwrite 00000000100018 3\napart 0 writer 1 word 00000000100018\ngroup 1 privileged\napart 1 handler 2\napart 0,1 yes\n")
-        self.assertEqual([(reach.group, reach.privileged, reach.touch, reach.write) for reach in audit.reaches], [(0, False, [(0x100000, 12)], [(0x100018, 3)]), (1, True, [], [])])
-        self.assertEqual([(apart.groups, apart.apart, apart.writer, apart.word, apart.handler) for apart in audit.aparts], [("0", False, 1, 0x100018, None), ("1", False, None, None, 2), ("0,1", True, None, None, None)])
+        audit = read_audit(
+            "group 0 user\ntouch 00000000100000 12\nwrite 00000000100018 3\napart 0 writer 1 word 00000000100018\ngroup 1 privileged\napart 1 handler 2\napart 0,1 yes\n"
+        )
+        self.assertEqual(
+            [(reach.group, reach.privileged, reach.touch, reach.write) for reach in audit.reaches],
+            [(0, False, [(0x100000, 12)], [(0x100018, 3)]), (1, True, [], [])],
+        )
+        self.assertEqual(
+            [(apart.groups, apart.apart, apart.writer, apart.word, apart.handler) for apart in audit.aparts],
+            [("0", False, 1, 0x100018, None), ("1", False, None, None, 2), ("0,1", True, None, None, None)],
+        )
 
     def test_refusals(self):
         """Each line of the table of docs/FORMATS.md is one of these."""
@@ -91,9 +113,15 @@ class Texts(unittest.TestCase):
 class Names(unittest.TestCase):
     def test_labels_and_segments(self):
         symbols = symbols_of(".segment gate 6\nfirst: .ptr rw box\ndoor: halt\n halt\n.segment box 3\n .int 0\n")
-        self.assertEqual([symbols.show(address) for address in (0x1000, 0x1008, 0x1010, 0x103F, 0x1040, 0x2000)], ["gate", "door", "door+8", "door+55", "0x1040", "box"])
+        self.assertEqual(
+            [symbols.show(address) for address in (0x1000, 0x1008, 0x1010, 0x103F, 0x1040, 0x2000)],
+            ["gate", "door", "door+8", "door+55", "0x1040", "box"],
+        )
         self.assertEqual((symbols.origin(0x1010).line, symbols.origin(0x1018)), (4, None))
-        self.assertEqual([span_of(text, symbols) for text in ("gate", "door", "first", "box+0", "&box", "0x1010", "0.asm:4")], [(0x1000, 64), (0x1008, 16), (0x1000, 8), (0x2000, 8), (0x2000, 8), (0x1010, 8), (0x1010, 8)])
+        self.assertEqual(
+            [span_of(text, symbols) for text in ("gate", "door", "first", "box+0", "&box", "0x1010", "0.asm:4")],
+            [(0x1000, 64), (0x1008, 16), (0x1000, 8), (0x2000, 8), (0x2000, 8), (0x1010, 8), (0x1010, 8)],
+        )
         for text in ("boxx", "box+many", "1.asm:4", "0.asm:99", "box box", "-1"):
             self.assertRaises(NoAddress, address_of, text, symbols)
 
@@ -108,20 +136,33 @@ class Names(unittest.TestCase):
         self.assertEqual(speller.word(Word(Pointer(Permission.RW, 3, 0x1000).bits, True)), "rw 2^3 box")
         self.assertEqual(speller.reach(Pointer(Permission.RW, 3, 0x1000)), "all 8 bytes of box")
         self.assertEqual(speller.reach(Pointer(Permission.RW, 4, 0x1000)), "16 bytes from box on")
-        self.assertEqual([integer(Word(bits)) for bits in (65, 0, (1 << 64) - 1, 1 << 20)], ["65 'A'", "0", "-1", "1048576 0x100000"])
+        self.assertEqual(
+            [integer(Word(bits)) for bits in (65, 0, (1 << 64) - 1, 1 << 20)], ["65 'A'", "0", "-1", "1048576 0x100000"]
+        )
         self.assertEqual(bytes_as_text(b'a"\n\x00'), '"a\\"\\n\\x00"')
 
 
 class Waits(unittest.TestCase):
     def waits(self, lines, running, split=False):
-        report = Report(slots=[SlotState(slot, slot, 1, "running" if slot in running else "halted", None, Word(0), False) for slot in range(3)])
+        report = Report(
+            slots=[
+                SlotState(slot, slot, 1, "running" if slot in running else "halted", None, Word(0), False)
+                for slot in range(3)
+            ]
+        )
         return {slot: (wait.turns, wait.stuck) for slot, wait in waiting(lines, report, split).items()}
 
     def test_one_waits_while_another_goes_on(self):
-        self.assertEqual(self.waits(["t 0 1 did", "t 1 1 blocked", "t 0 2 did", "t 1 2 blocked", "t 0 3 did"], {0, 1}), {1: (2, False)})
+        self.assertEqual(
+            self.waits(["t 0 1 did", "t 1 1 blocked", "t 0 2 did", "t 1 2 blocked", "t 0 3 did"], {0, 1}),
+            {1: (2, False)},
+        )
 
     def test_nobody_goes_on(self):
-        self.assertEqual(self.waits(["t 0 1 did", "t 1 1 blocked", "t 0 2 blocked", "t 1 2 blocked"], {0, 1}), {0: (1, True), 1: (2, True)})
+        self.assertEqual(
+            self.waits(["t 0 1 did", "t 1 1 blocked", "t 0 2 blocked", "t 1 2 blocked"], {0, 1}),
+            {0: (1, True), 1: (2, True)},
+        )
 
     def test_blocked_once_is_no_waiting(self):
         self.assertEqual(self.waits(["t 1 1 blocked", "t 0 2 did"], {0, 1}), {})

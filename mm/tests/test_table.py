@@ -20,8 +20,14 @@ class Written(unittest.TestCase):
     def test_manual_page(self):
         page = read("docs", "mm.1")
         self.assertEqual(set(re.findall(r"^\.(?:It )?Cm (\w+)", page, re.M)) & NAMES, NAMES)
-        options = {option.name for command in COMMANDS for option in command.options} | {option.name for option in GLOBAL_OPTIONS}
-        self.assertEqual({f"--{name}" for name in re.findall(r"^\.It Fl (?:\w , )?F?l?l? ?Fl (?:Fl )?([a-z]+)", page, re.M)} - options, set())
+        options = {option.name for command in COMMANDS for option in command.options} | {
+            option.name for option in GLOBAL_OPTIONS
+        }
+        self.assertEqual(
+            {f"--{name}" for name in re.findall(r"^\.It Fl (?:\w , )?F?l?l? ?Fl (?:Fl )?([a-z]+)", page, re.M)}
+            - options,
+            set(),
+        )
         for option in options:
             self.assertRegex(page, rf"Fl Fl {option[2:]}\b")
 
@@ -30,7 +36,11 @@ class Written(unittest.TestCase):
         self.assertEqual(set(re.search(r"commands='([^']*)'", text)[1].split()), NAMES)
         self.assertEqual(set(re.search(r'help\).*-W "\$commands ([^"]*)"', text)[1].split()), {*TOPICS, *MADE})
         for command in COMMANDS:
-            cases = [row for row in re.findall(r"^            ([\w |]+)\) options=\"\$options ([^\"]*)\"", text, re.M) if command.name in row[0].split(" | ")]
+            cases = [
+                row
+                for row in re.findall(r"^            ([\w |]+)\) options=\"\$options ([^\"]*)\"", text, re.M)
+                if command.name in row[0].split(" | ")
+            ]
             said = cases[0][1].split() if cases else []
             self.assertEqual(set(said), {option.name for option in command.options}, command.name)
 

@@ -41,7 +41,10 @@ class AuditView:
             return [f"{head} can read and write nothing"]
         names = [self.segment(base, log) for _, base, log in rows]
         width = max(map(len, names))
-        lines = [f"  {what:<14}  {self.style.name(name.ljust(width))}  {bytes_in_words(log):>9}  0x{base:x}" for (what, base, log), name in zip(rows, names)]
+        lines = [
+            f"  {what:<14}  {self.style.name(name.ljust(width))}  {bytes_in_words(log):>9}  0x{base:x}"
+            for (what, base, log), name in zip(rows, names)
+        ]
         return [f"{head} can", *lines]
 
     def apart(self, apart: Apart) -> str:
@@ -50,7 +53,10 @@ class AuditView:
         who = f"groups {apart.groups.replace(',', ', ')}" if many else f"group {apart.groups}"
         verb, pronoun = ("stand", "they") if many else ("stands", "it")
         if apart.apart:
-            return self.style.good(f"{who} {verb} apart") + f": nobody else can write a word that {pronoun} can read, and no fault is handled across"
+            return (
+                self.style.good(f"{who} {verb} apart")
+                + f": nobody else can write a word that {pronoun} can read, and no fault is handled across"
+            )
         does_not = self.style.warn(f"{who} {'do' if many else 'does'} not stand apart")
         if apart.handler is not None:
             return f"{does_not}: slot {apart.handler} and its handler are on two sides"

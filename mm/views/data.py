@@ -31,7 +31,12 @@ def word_form(word: Optional[Word], symbols: Symbols) -> Optional[Json]:
     pointer = word.pointer
     if pointer is None:
         return {**form, "integer": word.signed} if abs(word.signed) < 1 << 53 else form
-    return {**form, "permission": pointer.permission.short, "log": pointer.log, **address_form(pointer.address, symbols)}
+    return {
+        **form,
+        "permission": pointer.permission.short,
+        "log": pointer.log,
+        **address_form(pointer.address, symbols),
+    }
 
 
 def cell_form(cell: Optional[Cell], symbols: Symbols) -> Optional[Json]:
@@ -48,10 +53,22 @@ class ReportForm:
     def slot(self, slot: SlotState) -> Json:
         ip = slot.ip.pointer
         form: Json = {
-            "slot": slot.number, "group": slot.group, "turns": slot.turns, "state": slot.state, "past": slot.past,
-            "ip": word_form(slot.ip, self.symbols), "registers": {f"r{number}": word_form(word, self.symbols) for number, word in sorted(slot.registers.items())},
-            "pending": [{"register": f"r{number}", "word": word_form(word, self.symbols)} for number, word in slot.pending],
-            "fault": self.fault(slot), "waits": self.wait(slot), "source": None, "instruction": None,
+            "slot": slot.number,
+            "group": slot.group,
+            "turns": slot.turns,
+            "state": slot.state,
+            "past": slot.past,
+            "ip": word_form(slot.ip, self.symbols),
+            "registers": {
+                f"r{number}": word_form(word, self.symbols) for number, word in sorted(slot.registers.items())
+            },
+            "pending": [
+                {"register": f"r{number}", "word": word_form(word, self.symbols)} for number, word in slot.pending
+            ],
+            "fault": self.fault(slot),
+            "waits": self.wait(slot),
+            "source": None,
+            "instruction": None,
         }
         origin = self.symbols.origin(ip.address) if ip else None
         if origin:
@@ -63,20 +80,36 @@ class ReportForm:
 
     def fault(self, slot: SlotState) -> Optional[Json]:
         cause = Cause.of_number(slot.fault) if slot.fault else None
-        return {"number": cause.number, "name": cause.title, "why": why(cause, slot, self.memory, self.speller)} if cause else None
+        return (
+            {"number": cause.number, "name": cause.title, "why": why(cause, slot, self.memory, self.speller)}
+            if cause
+            else None
+        )
 
     def wait(self, slot: SlotState) -> Optional[Json]:
         wait = self.waits.get(slot.number)
-        return {"turns": wait.turns, "for_ever": wait.stuck, "what": what_for(slot, self.memory, self.speller)} if wait else None
+        return (
+            {"turns": wait.turns, "for_ever": wait.stuck, "what": what_for(slot, self.memory, self.speller)}
+            if wait
+            else None
+        )
 
     def cell(self, address: int, cell: Cell) -> Json:
         before = self.memory.image.cell(address)
-        return {**address_form(address, self.symbols), **(cell_form(cell, self.symbols) or {}), "before": cell_form(before, self.symbols)}
+        return {
+            **address_form(address, self.symbols),
+            **(cell_form(cell, self.symbols) or {}),
+            "before": cell_form(before, self.symbols),
+        }
 
     def form(self) -> Json:
         return {
-            "form": FORM, "cycles": self.report.cycles,
-            "groups": [{"group": group, "output": {"hex": data.hex(), "text": data.decode("latin-1")}} for group, data in self.report.outputs.items()],
+            "form": FORM,
+            "cycles": self.report.cycles,
+            "groups": [
+                {"group": group, "output": {"hex": data.hex(), "text": data.decode("latin-1")}}
+                for group, data in self.report.outputs.items()
+            ],
             "slots": [self.slot(slot) for slot in self.report.slots],
             "pages": [{"page": f"0x{page:x}", "change": "new" if new else "gone"} for page, new in self.report.pages],
             "cells": [self.cell(address, cell) for address, cell in sorted(self.report.cells.items())],
@@ -89,8 +122,13 @@ def turn_form(cycle: int, turn: Turn, symbols: Symbols, instruction: Optional[st
     if turn.delivered is not None:
         return {"cycle": cycle, "slot": turn.slot, "outcome": "delivered", "register": f"r{turn.delivered}"}
     return {
-        "cycle": cycle, "slot": turn.slot, "turn": turn.number, "outcome": turn.outcome, "fault": turn.fault,
-        "fetch": address_form(turn.fetch, symbols) if turn.fetch is not None else None, "instruction": instruction,
+        "cycle": cycle,
+        "slot": turn.slot,
+        "turn": turn.number,
+        "outcome": turn.outcome,
+        "fault": turn.fault,
+        "fetch": address_form(turn.fetch, symbols) if turn.fetch is not None else None,
+        "instruction": instruction,
         "access": {"kind": turn.access, **address_form(turn.address, symbols)} if turn.address is not None else None,
         "enters": word_form(turn.entered, symbols) if turn.entered else None,
     }
@@ -101,12 +139,26 @@ def symbols_form(symbols: Symbols) -> Json:
     rows = []
     for symbol in symbols.symbols:
         origin = {"file": symbol.origin.path, "line": symbol.origin.line} if symbol.origin else None
-        rows.append({"name": symbol.name, "kind": "segment" if symbol.segment else "label", "address": f"0x{symbol.address:x}", "length": symbol.length, "source": origin})
+        rows.append(
+            {
+                "name": symbol.name,
+                "kind": "segment" if symbol.segment else "label",
+                "address": f"0x{symbol.address:x}",
+                "length": symbol.length,
+                "source": origin,
+            }
+        )
     return {"form": FORM, "symbols": rows}
 
 
 def _apart_form(apart: Apart, symbols: Symbols) -> Json:
-    form: Json = {"groups": [int(group) for group in apart.groups.split(",")], "apart": apart.apart, "writer": apart.writer, "word": None, "handler": apart.handler}
+    form: Json = {
+        "groups": [int(group) for group in apart.groups.split(",")],
+        "apart": apart.apart,
+        "writer": apart.writer,
+        "word": None,
+        "handler": apart.handler,
+    }
     if apart.word is not None:
         form["word"] = address_form(apart.word, symbols)
     return form
@@ -114,8 +166,17 @@ def _apart_form(apart: Apart, symbols: Symbols) -> Json:
 
 def audit_form(audit: Audit, symbols: Symbols) -> Json:
     """An audit: what each group can reach, and which stand apart."""
+
     def segments(found: list[tuple[int, int]]) -> list[Json]:
         return [{**address_form(base, symbols), "log": log} for base, log in found]
 
-    groups = [{"group": reach.group, "privileged": reach.privileged, "touch": segments(reach.touch), "write": segments(reach.write)} for reach in audit.reaches]
+    groups = [
+        {
+            "group": reach.group,
+            "privileged": reach.privileged,
+            "touch": segments(reach.touch),
+            "write": segments(reach.write),
+        }
+        for reach in audit.reaches
+    ]
     return {"form": FORM, "groups": groups, "apart": [_apart_form(apart, symbols) for apart in audit.aparts]}

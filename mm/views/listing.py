@@ -19,7 +19,9 @@ def map_lines(symbols: Symbols, style: Style) -> Iterator[str]:
     width = max((len(symbol.name) + 2 for symbol in symbols.symbols), default=4)
     yield style.soft(f"{'address':<12}  {'length':>9}  {'name':<{width}}  line")
     for symbol in symbols.symbols:
-        length = bytes_in_words((symbol.length - 1).bit_length()) if symbol.segment else counted(symbol.length // 8, "word")
+        length = (
+            bytes_in_words((symbol.length - 1).bit_length()) if symbol.segment else counted(symbol.length // 8, "word")
+        )
         name = symbol.name if symbol.segment else f"  {symbol.name}"
         origin = str(symbol.origin) if symbol.origin else ""
         shown = style.strong(name.ljust(width)) if symbol.segment else style.name(name.ljust(width))
@@ -76,7 +78,9 @@ class ImageListing:
                 yield self.zeros(skipped, count)
                 skipped = None
             for symbol in heads:
-                yield (self.style.strong(f"{symbol.name}:") + f"  2^{(symbol.length - 1).bit_length()} bytes") if symbol.segment else self.style.name(f" {symbol.name}:")
+                yield (
+                    self.style.strong(f"{symbol.name}:") + f"  2^{(symbol.length - 1).bit_length()} bytes"
+                ) if symbol.segment else self.style.name(f" {symbol.name}:")
             yield self.word(address, cell)
         if skipped is not None:
             yield self.zeros(skipped, count)
@@ -87,6 +91,8 @@ class ImageListing:
     def lines(self) -> Iterator[str]:
         image = self.image
         mode = ", split" if image.split else ""
-        yield self.style.soft(f"image of version {image.version}{mode}: {counted(len(image.slots), 'slot')}, {counted(len(image.pages), 'page')}, {counted(image.frames, 'frame')}")
+        yield self.style.soft(
+            f"image of version {image.version}{mode}: {counted(len(image.slots), 'slot')}, {counted(len(image.pages), 'page')}, {counted(image.frames, 'frame')}"
+        )
         yield from self.slots()
         yield from self.words()

@@ -21,7 +21,14 @@ CELLS_SHOWN = 64
 class ReportView:
     """Writes a report as lines."""
 
-    def __init__(self, report: Report, memory: Memory, speller: Speller, style: Style, waits: Optional[Mapping[int, Waiting]] = None) -> None:
+    def __init__(
+        self,
+        report: Report,
+        memory: Memory,
+        speller: Speller,
+        style: Style,
+        waits: Optional[Mapping[int, Waiting]] = None,
+    ) -> None:
         self.report, self.memory, self.speller, self.style = report, memory, speller, style
         self.waits = waits or {}
 
@@ -51,10 +58,15 @@ class ReportView:
         lines += [f"    {line}" for line in self.place(slot)]
         cause = Cause.of_number(slot.fault) if slot.fault else None
         if cause:
-            lines += [f"    {self.style.bad(line) if at == 0 else line}" for at, line in enumerate(why(cause, slot, self.memory, self.speller))]
+            lines += [
+                f"    {self.style.bad(line) if at == 0 else line}"
+                for at, line in enumerate(why(cause, slot, self.memory, self.speller))
+            ]
         for number, word in sorted(slot.registers.items()):
             lines.append(f"    {f'r{number}':<4} {self.speller.register(word)}")
-        return lines + [f"    a load of r{number} has not arrived: {self.speller.word(word)}" for number, word in slot.pending]
+        return lines + [
+            f"    a load of r{number} has not arrived: {self.speller.word(word)}" for number, word in slot.pending
+        ]
 
     def state(self, slot: SlotState) -> str:
         """`halted at cons+48`, `stopped by fault 3 Bounds at ..`."""
@@ -68,7 +80,10 @@ class ReportView:
             wait = self.waits[slot.number]
             lasts = "for ever" if wait.stuck else f"its last {counted(wait.turns, 'turn')}"
             return f"{self.style.warn(what_for(slot, self.memory, self.speller))}, {lasts}"
-        words = {"waiting": ("has faulted", ", and its handler has not looked yet"), "taken": ("has faulted", ", and its handler has it")}
+        words = {
+            "waiting": ("has faulted", ", and its handler has not looked yet"),
+            "taken": ("has faulted", ", and its handler has it"),
+        }
         before, after = words.get(slot.state, (slot.state, ""))
         return f"{before} {where}{', past the end of its segment' if slot.past else ''}{after}"
 
@@ -85,7 +100,9 @@ class ReportView:
     def pages(self) -> list[str]:
         if not self.report.pages:
             return []
-        return ["", "pages"] + [f"  0x{page << 12:x}  {'mapped' if new else 'removed'} by the run" for page, new in self.report.pages]
+        return ["", "pages"] + [
+            f"  0x{page << 12:x}  {'mapped' if new else 'removed'} by the run" for page, new in self.report.pages
+        ]
 
     def cells(self) -> list[str]:
         """Cells that differ from the image's, with what they were."""
@@ -98,7 +115,9 @@ class ReportView:
         for name, (address, cell) in zip(names, cells):
             lines.append(f"  {self.style.name(name.ljust(width))}  {self.change(address, cell)}")
         rest = len(cells) - CELLS_SHOWN
-        return lines + ([f"  .. and {counted(rest, 'word')} more (`mmachine run` and --json list all)"] if rest > 0 else [])
+        return lines + (
+            [f"  .. and {counted(rest, 'word')} more (`mmachine run` and --json list all)"] if rest > 0 else []
+        )
 
     def change(self, address: int, cell: Cell) -> str:
         before = self.memory.image.cell(address) or Cell()
@@ -112,13 +131,28 @@ class ReportView:
         stuck = [slot for slot, wait in self.waits.items() if wait.stuck]
         going = [slot.number for slot in self.report.slots if slot.running]
         if not stuck and self.report.cycles == MOST_CYCLES and going:
-            return ["", self.style.warn(f"a run has at most {MOST_CYCLES} cycles: `mm save` and `mm continue` make a longer one of two")]
+            return [
+                "",
+                self.style.warn(
+                    f"a run has at most {MOST_CYCLES} cycles: `mm save` and `mm continue` make a longer one of two"
+                ),
+            ]
         if not stuck:
             return []
-        return ["", self.style.warn("nothing can change any more: each slot that runs waits" + (" (a deadlock)" if len(stuck) > 1 else ""))]
+        return [
+            "",
+            self.style.warn(
+                "nothing can change any more: each slot that runs waits" + (" (a deadlock)" if len(stuck) > 1 else "")
+            ),
+        ]
 
     def counts(self) -> list[str]:
         counts = self.report.counts
         if not counts:
             return []
-        return ["", self.style.soft("cache: " + ", ".join(f"{name.replace('_', ' ')} {value}" for name, value in counts.items()))]
+        return [
+            "",
+            self.style.soft(
+                "cache: " + ", ".join(f"{name.replace('_', ' ')} {value}" for name, value in counts.items())
+            ),
+        ]

@@ -77,4 +77,6 @@ def integer(word: Word) -> str:
 def bytes_as_text(data: bytes) -> str:
     """Bytes as a text between quotes, with `\\n` and the like for what cannot be printed."""
     shown = {10: "\\n", 13: "\\r", 9: "\\t", 34: '\\"', 92: "\\\\"}
-    return '"' + "".join(shown.get(byte) or (chr(byte) if 32 <= byte < 127 else f"\\x{byte:02x}") for byte in data) + '"'
+    return (
+        '"' + "".join(shown.get(byte) or (chr(byte) if 32 <= byte < 127 else f"\\x{byte:02x}") for byte in data) + '"'
+    )

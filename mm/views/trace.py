@@ -48,7 +48,9 @@ class TraceView:
             return f"{head} {'':>6}  a load arrives in r{turn.delivered}"
         place = self.speller.symbols.show(turn.fetch) if turn.fetch is not None else "?"
         said = "; ".join(filter(None, [self.outcome(turn), *self.effects(turn)]))
-        return f"{head} {turn.number:>6}  {self.style.name(f'{place:<14}')}  {self.instruction(turn):<30}  {said}".rstrip()
+        return (
+            f"{head} {turn.number:>6}  {self.style.name(f'{place:<14}')}  {self.instruction(turn):<30}  {said}".rstrip()
+        )
 
     def lines(self, turns: Iterable[tuple[int, Turn]]) -> Iterator[str]:
         yield self.style.soft(f"{'cycle':>6}  {'slot':<7} {'turn':>6}  {'place':<14}  {'instruction':<30}  what it did")

@@ -28,7 +28,8 @@ class Waiting:
 def waiting(lines: Sequence[str], report: Report, split: bool = False) -> dict[int, Waiting]:
     """The running slots of which every turn among the last lines of a trace was blocked, from the last turn of theirs that was not.
 
-    Once each running slot was blocked and none did anything in between, the state stays as it is but for the counts: they wait for ever."""
+    Once each running slot was blocked and none did anything in between, the state stays as it is but for the counts: they wait for ever.
+    """
     running = {slot.number for slot in report.slots if slot.running}
     blocked, quiet = _count_blocked(lines, running)
     needed = ENOUGH_SPLIT if split else 1
