@@ -22,7 +22,13 @@ impl Default for Event {
     ghost use Rattle.mm_word.specs.declared.perm.Perm.TheVariants.{Key};
     ghost use Rattle.mm_word.specs.declared.word.Word.TheVariants.{Int};
 
-    ghost is_default = { λ e. e ≡ record { slot = 0; cause = Trap; ip = record { perm = Key; log = 0; addr = 0 }; addr_op = Int 0; value_op = Int 0 } };
+    ghost is_default = { λ e. e ≡ record {
+      slot = 0;
+      cause = Trap;
+      ip = record { perm = Key; log = 0; addr = 0 };
+      addr_op = Int 0;
+      value_op = Int 0;
+    } };
 
     fn default() -> Event {
         Event {
