@@ -14,7 +14,7 @@ use Rattle.mm_thread.specs.Output.{Output}
 use Rattle.mm_thread.proofs.Cores.{output_short}
 use Rattle.mm_machine.specs.Kept.{Kept}
 use Rattle.mm_machine.specs.Snapshot.{Parts, IsSnapshotOf, IsTyped}
-use Rattle.mm_machine.specs.Taking.{OutputsBelow}
+use Rattle.mm_machine.specs.Capture.{OutputsBelow}
 use Rattle.mm_machine.proofs.Keeping.{kept_core}
 use Rattle.mm_machine.proofs.Outputs.{group_has}
 use Rattle.mm_machine.proofs.Copied.{snapshot_taken, typed_taken}

@@ -20,7 +20,7 @@ use Rattle.mm_mem.specs.Places.{IsAt}
 use Rattle.mm_mem.proofs.Flats.{mapped_here, page_here}
 use Rattle.mm_thread.specs.Output.{Output}
 use Rattle.mm_machine.specs.Snapshot.{groups_of, has_output, IsOutputOf, queued_at}
-use Rattle.mm_machine.specs.Taking.{cells_of, OutputsBelow}
+use Rattle.mm_machine.specs.Capture.{cells_of, OutputsBelow}
 use Rattle.mm_machine.proofs.Steps.{same_test, or_true}
 
 -- 1. Outputs.

@@ -32,7 +32,7 @@ use Rattle.mm_thread.proofs.Sound.{queue-none}
 use Rattle.mm_model.specs.Typed.{IsTypedSlot}
 use Rattle.mm_machine.specs.Kept.{Kept}
 use Rattle.mm_machine.specs.Snapshot.{parts_of, numbered, has_output, page_numbers, queues_of, IsEventOf, IsAwaited, HasOneEvent, IsPending, DoesNotFall, IsSnapshot, IsOutputOf, IsTypedEvent, IsTyped, queued, queued_at}
-use Rattle.mm_machine.specs.Taking.{OutputsBelow}
+use Rattle.mm_machine.specs.Capture.{OutputsBelow}
 use Rattle.mm_machine.proofs.Keeping.{kept_core}
 use Rattle.mm_machine.proofs.Pendings.{loads_counted}
 use Rattle.mm_machine.proofs.Queues.{slot_numbered, tally, tallied, beside_one, of_none, awaited_by}

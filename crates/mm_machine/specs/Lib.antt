@@ -2,4 +2,4 @@ pub mod Kept
 pub mod Machine
 pub mod Going
 pub mod Snapshot
-pub mod Taking
+pub mod Capture

@@ -1,10 +1,10 @@
 //! Machines: slots over a memory, cycle by cycle.
 #![tactic(auto)]
 
+mod capture;
 mod machine;
 mod snapshot;
-mod standing;
-mod taking;
+mod validate;
 
 pub use machine::Machine;
 pub use mm_thread::{Event, Output, Pending, Slot, SlotState, Step, Tick};

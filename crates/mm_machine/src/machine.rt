@@ -2,7 +2,7 @@ ghost use Rattle.std.specs.Prelude.{◌≡◌, ◌+◌, ◌*◌, ◌≤◌, ◌^
 ghost use Rattle.mm_machine.specs.Kept.{Kept};
 
 use crate::Snapshot;
-use crate::taking::{events_of, outputs_of, pages_of, slots_of};
+use crate::capture::{events_of, outputs_of, pages_of, slots_of};
 use mm_image::Image;
 use mm_mem::{Inspect, Loaded, Memory, Reset, Stored};
 use mm_sched::Robin;

@@ -3,7 +3,7 @@
 ghost use Rattle.std.specs.Prelude.{◌≡◌};
 ghost use Rattle.std.specs.Option.{SomeIff};
 
-use crate::standing::is_snapshot;
+use crate::validate::is_snapshot;
 use mm_model::{Event, Page, Slot};
 use mm_thread::Output;
 use std::marker::Model;

@@ -25,16 +25,17 @@ use Rattle.mm_model.specs.Turn.{reply, reached, removal_use, touch_of, asked_use
 use Rattle.mm_mem.specs.Answers.{loaded as loaded_answer, stored as stored_answer, set_where, put_where}
 use Rattle.mm_thread.specs.declared.outcome.Outcome.{Outcome}
 use Rattle.mm_thread.specs.declared.outcome.Outcome.TheVariants.{Goes}
-use Rattle.mm_thread.specs.declared.outcome.Told.{Told}
+use Rattle.mm_thread.specs.declared.outcome.Retired.{Retired}
 use Rattle.mm_thread.specs.Ends.{is_alone}
-use Rattle.mm_thread.specs.Places.{slot_in, with_slot, numbers_in, IsIndex}
-use Rattle.mm_thread.specs.Left.{Leaves, effect_in, Executes, core_loaded, outcome_loaded, core_stored, outcome_stored, page_named}
+use Rattle.mm_thread.specs.Places.{slot_in, with_slot}
+use Rattle.mm_thread.specs.Execution.{Leaves, effect_in, Executes, core_loaded, outcome_loaded, core_stored, outcome_stored, page_named}
+use Rattle.mm_thread.specs.Tables.{AreNumbered}
 use Rattle.mm_thread.proofs.Around.{own_put}
 
 -- 1. An instruction by what it asks.
 
 module _ {M : Type 0} (meaning : M → Memory) (uses : M → ℕ) (stands : M → List Use → Type 0) where
-  pub executes_by : (core : Core) (s : Slot) (i : Instr) (old new : M) (core' : Core) (told : Told) (a : Ask) → ask i s ≡ a
+  pub executes_by : (core : Core) (s : Slot) (i : Instr) (old new : M) (core' : Core) (told : Retired) (a : Ask) → ask i s ≡ a
       → Leaves core (meaning old) s (effect core.split i s (reply core (meaning old) s.number a)) core' (meaning new) told.outcome
       → told.touched ≡ touch_of a → TakesUses stands old new (asked_use (meaning old) a) → uses new ≡ uses old + accesses (asked_use (meaning old) a)
       → Executes meaning uses stands core s i old new core' told
@@ -49,7 +50,7 @@ module _ {M : Type 0} (meaning : M → Memory) (uses : M → ℕ) (stands : M �
       }
 
   -- what no memory is asked for
-  pub executes_quietly : (core : Core) (s : Slot) (i : Instr) (old : M) (core' : Core) (told : Told) (a : Ask) → ask i s ≡ a → touch_of a ≡ None → asked_use (meaning old) a ≡ []
+  pub executes_quietly : (core : Core) (s : Slot) (i : Instr) (old : M) (core' : Core) (told : Retired) (a : Ask) → ask i s ≡ a → touch_of a ≡ None → asked_use (meaning old) a ≡ []
       → Leaves core (meaning old) s (effect_in core (meaning old) s i) core' (meaning old) told.outcome → told.touched ≡ None
       → Executes meaning uses stands core s i old old core' told
   executes_quietly core s i old core' told a is untouched unasked leaves touched =
@@ -64,14 +65,14 @@ module _ {M : Type 0} (meaning : M → Memory) (uses : M → ℕ) (stands : M �
 
 -- 2. Loads and stores.
 
-module _ (core : Core) (places : List ℕ) (index : IsIndex (numbers_in core) places) (p : ℕ) (within : p < length core.rows) where
+module _ (core : Core) (apart : AreNumbered core.rows) (p : ℕ) (within : p < length core.rows) where
   abbrev s : Slot
   s = slot_in core p
 
   load_core : (split : Bool) (rd : ℕ) (w : Word) (cell : Option (ℕ × Cell)) → core_after core s (record (loads split s rd w) { cell = cell }) ≡ with_slot core p (slot_after s (loads split s rd w))
   unfolding core_after plain slot_after
-  load_core true rd w cell = own_put core places index p within (loads true s rd w)
-  load_core false rd w cell = own_put core places index p within (loads false s rd w)
+  load_core true rd w cell = own_put core apart p within (loads true s rd w)
+  load_core false rd w cell = own_put core apart p within (loads false s rd w)
 
   load_memory : (m : Memory) (split : Bool) (rd : ℕ) (w : Word) (cell : Option (ℕ × Cell)) → memory_after m (record (loads split s rd w) { cell = cell }) ≡ Rattle.mm_model.specs.Turn.with_cell m cell
   unfolding memory_after plain
@@ -106,7 +107,7 @@ module _ (core : Core) (places : List ℕ) (index : IsIndex (numbers_in core) pl
     where
       by : (b : Bool) → Leaves core m s (stored s w post (cond b (Rattle.mm_model.specs.Effect.Reply.Got a c) (Refused Sync))) (core_stored core p (cond b Rattle.mm_mem.specs.declared.answer.Stored.TheVariants.Done Rattle.mm_mem.specs.declared.answer.Stored.TheVariants.NotReady))
           (cond b (Rattle.mm_model.specs.Memory.put_cell m a.addr (record { word = w; full = Rattle.mm_model.specs.Memory.full_after post c.full })) m) (outcome_stored (cond b Rattle.mm_mem.specs.declared.answer.Stored.TheVariants.Done Rattle.mm_mem.specs.declared.answer.Stored.TheVariants.NotReady))
-      by true = record { core_is = sym (own_put core places index p within (plain s)); memory_is = refl; outcome_is = refl; stays = λ e. cc }
+      by true = record { core_is = sym (own_put core apart p within (plain s)); memory_is = refl; outcome_is = refl; stays = λ e. cc }
       by false = record { core_is = refl; memory_is = refl; outcome_is = refl; stays = λ e. cc }
 
   -- 3. Pages.
@@ -114,14 +115,14 @@ module _ (core : Core) (places : List ℕ) (index : IsIndex (numbers_in core) pl
   pub map_leaves : (m : Memory) (rd page : ℕ) (b : Bool)
       → Leaves core m s (maps s rd (Paged page b)) (with_slot core p (slot_after s (record (plain s) { writes = (rd, Int (test b)) ∷ [] }))) (cond b (Rattle.mm_model.specs.Memory.map_page m page) m) (Goes None)
   unfolding core_after memory_after plain slot_after
-  map_leaves m rd page true = record { core_is = sym (own_put core places index p within (record (plain s) { writes = (rd, Int 1) ∷ [] })); memory_is = refl; outcome_is = refl; stays = λ e. cc }
-  map_leaves m rd page false = record { core_is = sym (own_put core places index p within (record (plain s) { writes = (rd, Int 0) ∷ [] })); memory_is = refl; outcome_is = refl; stays = λ e. cc }
+  map_leaves m rd page true = record { core_is = sym (own_put core apart p within (record (plain s) { writes = (rd, Int 1) ∷ [] })); memory_is = refl; outcome_is = refl; stays = λ e. cc }
+  map_leaves m rd page false = record { core_is = sym (own_put core apart p within (record (plain s) { writes = (rd, Int 0) ∷ [] })); memory_is = refl; outcome_is = refl; stays = λ e. cc }
 
   pub unmap_leaves : (m : Memory) (rd page : ℕ) (b : Bool)
       → Leaves core m s (unmaps s rd (Paged page b)) (with_slot core p (slot_after s (record (plain s) { writes = (rd, Int (test b)) ∷ [] }))) (cond b (Rattle.mm_model.specs.Memory.unmap_page m page) m) (Goes None)
   unfolding core_after memory_after plain slot_after
-  unmap_leaves m rd page true = record { core_is = sym (own_put core places index p within (record (plain s) { writes = (rd, Int 1) ∷ [] })); memory_is = refl; outcome_is = refl; stays = λ e. cc }
-  unmap_leaves m rd page false = record { core_is = sym (own_put core places index p within (record (plain s) { writes = (rd, Int 0) ∷ [] })); memory_is = refl; outcome_is = refl; stays = λ e. cc }
+  unmap_leaves m rd page true = record { core_is = sym (own_put core apart p within (record (plain s) { writes = (rd, Int 1) ∷ [] })); memory_is = refl; outcome_is = refl; stays = λ e. cc }
+  unmap_leaves m rd page false = record { core_is = sym (own_put core apart p within (record (plain s) { writes = (rd, Int 0) ∷ [] })); memory_is = refl; outcome_is = refl; stays = λ e. cc }
 
 -- what is asked with the page that a register names
 abbrev pub page_ask : (ℕ → Ask) → Result ℕ Cause → Ask
@@ -169,13 +170,13 @@ no_access page false = refl
 
 module _ {M : Type 0} (meaning : M → Memory) (uses : M → ℕ) (stands : M → List Use → Type 0) where
   -- what reaches no cell
-  pub executes_untouched : (core : Core) (s : Slot) (i : Instr) (old : M) (core' : Core) (told : Told) (o : Outcome) (a : Ask) → told ≡ record { outcome = o; touched = None }
+  pub executes_untouched : (core : Core) (s : Slot) (i : Instr) (old : M) (core' : Core) (told : Retired) (o : Outcome) (a : Ask) → told ≡ record { outcome = o; touched = None }
       → ask i s ≡ a → touch_of a ≡ None → asked_use (meaning old) a ≡ [] → Leaves core (meaning old) s (effect_in core (meaning old) s i) core' (meaning old) o
       → Executes meaning uses stands core s i old old core' told
   executes_untouched core s i old core' told o a is asks untouched unasked leaves =
       executes_quietly meaning uses stands core s i old core' told a asks untouched unasked
-      (leaves_all core (meaning old) s _ core' (meaning old) o core' (meaning old) told.outcome leaves refl refl (ap (λ (x : Told). x.outcome) is))
-      (ap (λ (x : Told). x.touched) is)
+      (leaves_all core (meaning old) s _ core' (meaning old) o core' (meaning old) told.outcome leaves refl refl (ap (λ (x : Retired). x.outcome) is))
+      (ap (λ (x : Retired). x.touched) is)
 
 pub is_alone-others : (i : Instr) → ((ra : ℕ) → i ≡ Out ra → ⊥) → ((rd ra : ℕ) (pre : Pre) (post : Post) (imm : ℤ) → i ≡ Ld rd ra pre post imm → ⊥) → ((ra rb : ℕ) (pre : Pre) (post : Post) (imm : ℤ) → i ≡ St ra rb pre post imm → ⊥)
     → ((rd : ℕ) → i ≡ Evt rd → ⊥) → ((ra : ℕ) (how : How) → i ≡ Resume ra how → ⊥) → ((rd ra reg : ℕ) → i ≡ Rreg rd ra reg → ⊥) → ((ra rb reg : ℕ) → i ≡ Wreg ra rb reg → ⊥)

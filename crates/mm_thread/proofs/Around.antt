@@ -31,10 +31,12 @@ use Rattle.mm_model.proofs.TurnKeeps.{changed_from}
 use Rattle.mm_thread.specs.declared.outcome.Outcome.{Outcome}
 use Rattle.mm_thread.specs.declared.outcome.Outcome.TheVariants.{Goes, Waits, Fails}
 use Rattle.mm_thread.specs.Ends.{is_alone, alone, EndsAlone}
-use Rattle.mm_thread.specs.Places.{no_row, row_at, slot_in, queue_in, with_slot, with_queue_in, numbers_in, IsIndex, event_writes}
-use Rattle.mm_thread.specs.Left.{Leaves, effect_in}
+use Rattle.mm_thread.specs.Places.{no_row, row_at, slot_in, queue_in, with_slot, with_queue_in, event_writes}
+use Rattle.mm_thread.specs.Tables.{AreNumbered}
+use Rattle.mm_thread.specs.Execution.{Leaves, effect_in}
 use Rattle.mm_thread.proofs.Index.{slot_found, queue_found, put_slot-place, put_queue-place}
-use Rattle.mm_thread.proofs.Cores.{slot_in-other, queue_in-slot, index-with_slot, number-with_slot, length-with_row}
+use Rattle.mm_thread.proofs.Placing.{apart_in}
+use Rattle.mm_thread.proofs.Cores.{slot_in-other, queue_in-slot, apart-with_slot, number-with_slot, length-with_row}
 
 -- 1. An instruction that asks nothing.
 
@@ -64,9 +66,9 @@ alone_goes : (told : Result (Option Pointer) Cause) → outcome_alone told ≡ W
 alone_goes (Ok entered) e = cc
 alone_goes (Err c) e = cc
 
-module _ (core : Core) (places : List ℕ) (index : IsIndex (numbers_in core) places) (p : ℕ) (within : p < length core.rows) where
+module _ (core : Core) (apart : AreNumbered core.rows) (p : ℕ) (within : p < length core.rows) where
   pub own_put : (c : Change) → put_slot core (slot_after (slot_in core p) c) ≡ with_slot core p (slot_after (slot_in core p) c)
-  own_put c = put_slot-place core places index p within (slot_after (slot_in core p) c) (changed_from (slot_in core p) c).number
+  own_put c = put_slot-place core apart p within (slot_after (slot_in core p) c) (changed_from (slot_in core p) c).number
 
   alone_core : (c : Change) → alone c ≡ c → core_after core (slot_in core p) c ≡ with_slot core p (slot_after (slot_in core p) c)
   unfolding core_after
@@ -137,23 +139,23 @@ module _ (core : Core) (places : List ℕ) (index : IsIndex (numbers_in core) pl
     two_slots c =
         let s = slot_in core p in
         let one : Core = with_slot core q o in
-        let indexed = index-with_slot core places index q inside o numbered in
+        let indexed = apart-with_slot core apart q inside o numbered in
         let still : p < length one.rows = omega (arith, length-with_row core q (record (row_at core q) { slot = o })) in
-        let number : (slot_after s c).number ≡ (slot_in one p).number = (changed_from s c).number ∙ sym (number-with_slot core places index q inside o numbered p within) in
-        ap (λ (k : Core). put_slot k (slot_after s c)) (put_slot-place core places index q inside o numbered) ∙ put_slot-place one places indexed p still (slot_after s c) number
+        let number : (slot_after s c).number ≡ (slot_in one p).number = (changed_from s c).number ∙ sym (number-with_slot core apart q inside o numbered p within) in
+        ap (λ (k : Core). put_slot k (slot_after s c)) (put_slot-place core apart q inside o numbered) ∙ put_slot-place one indexed p still (slot_after s c) number
 
     -- the slot itself stays
     others_stay : slot_at (with_slot core q o) (slot_in core p).number ≡ slot_at core (slot_in core p).number
     others_stay =
         let s = slot_in core p in
         let one : Core = with_slot core q o in
-        let indexed = index-with_slot core places index q inside o numbered in
+        let indexed = apart-with_slot core apart q inside o numbered in
         let still : p < length one.rows = omega (arith, length-with_row core q (record (row_at core q) { slot = o })) in
-        ap (slot_at one) (sym (number-with_slot core places index q inside o numbered p within)) ∙ slot_found one places indexed p still
-        ∙ ap (λ (x : Slot). Some x) (slot_in-other core q p o (λ same. other (sym same))) ∙ sym (slot_found core places index p within)
+        ap (slot_at one) (sym (number-with_slot core apart q inside o numbered p within)) ∙ slot_found one indexed p still
+        ∙ ap (λ (x : Slot). Some x) (slot_in-other core q p o (λ same. other (sym same))) ∙ sym (slot_found core apart p within)
 
     waits_put : put_slot core o ≡ with_slot core q o
-    waits_put = put_slot-place core places index q inside o numbered
+    waits_put = put_slot-place core apart q inside o numbered
 
 resumed_number : (how : How) (of : Slot) → (resumed_by how of).number ≡ of.number
 resumed_number Retry of = refl
@@ -184,7 +186,7 @@ module _ (core : Core) (m : Memory) (s : Slot) where
   unfolding ask reply effect
   write_refused ra rb reg is = rw is (record { core_is = refl; memory_is = refl; outcome_is = refl; stays = λ e. cc })
 
-module _ (core : Core) (places : List ℕ) (index : IsIndex (numbers_in core) places) (p : ℕ) (within : p < length core.rows) (q : ℕ) (inside : q < length core.rows) (other : q ≢ p) (m : Memory) where
+module _ (core : Core) (apart : AreNumbered core.rows) (p : ℕ) (within : p < length core.rows) (q : ℕ) (inside : q < length core.rows) (other : q ≢ p) (m : Memory) where
   abbrev me : Slot
   me = slot_in core p
 
@@ -195,7 +197,7 @@ module _ (core : Core) (places : List ℕ) (index : IsIndex (numbers_in core) pl
       → Leaves core m me (effect_in core m me (Resume ra how)) (with_slot (with_slot core q (resumed_by how of)) p (slot_after me (plain me))) m (Goes None)
   unfolding ask reply effect core_after memory_after plain slot_after
   resume_serves ra how is = rw is (record {
-    core_is = sym (two_slots core places index p within q inside other (resumed_by how of) (resumed_number how of) (plain me));
+    core_is = sym (two_slots core apart p within q inside other (resumed_by how of) (resumed_number how of) (plain me));
     memory_is = refl;
     outcome_is = refl;
     stays = λ e. cc;
@@ -205,17 +207,17 @@ module _ (core : Core) (places : List ℕ) (index : IsIndex (numbers_in core) pl
       → Leaves core m me (effect_in core m me (Rreg rd ra reg)) (with_slot core q (delivered of)) m Waits
   unfolding ask reply effect
   read_waits rd ra reg is empty = rw (is, empty) (record {
-    core_is = sym (waits_put core places index p within q inside other (delivered of) (delivered_from of).number);
+    core_is = sym (waits_put core apart p within q inside other (delivered of) (delivered_from of).number);
     memory_is = refl;
     outcome_is = refl;
-    stays = λ e. others_stay core places index p within q inside other (delivered of) (delivered_from of).number;
+    stays = λ e. others_stay core apart p within q inside other (delivered of) (delivered_from of).number;
   })
 
   pub read_reads : (rd ra reg : ℕ) → served me.number (slot_at core (word_bits (register me ra))) ≡ Served of → (core.split && is_empty of reg) ≡ false
       → Leaves core m me (effect_in core m me (Rreg rd ra reg)) (with_slot core p (slot_after me (record (plain me) { writes = (rd, register of reg) ∷ [] }))) m (Goes None)
   unfolding ask reply effect core_after memory_after plain
   read_reads rd ra reg is full = rw (is, full) (record {
-    core_is = sym (own_put core places index p within (record (plain me) { writes = (rd, register of reg) ∷ [] }));
+    core_is = sym (own_put core apart p within (record (plain me) { writes = (rd, register of reg) ∷ [] }));
     memory_is = refl;
     outcome_is = refl;
     stays = λ e. cc;
@@ -225,17 +227,17 @@ module _ (core : Core) (places : List ℕ) (index : IsIndex (numbers_in core) pl
       → Leaves core m me (effect_in core m me (Wreg ra rb reg)) (with_slot core q (delivered of)) m Waits
   unfolding ask reply effect
   write_waits ra rb reg is empty = rw (is, empty) (record {
-    core_is = sym (waits_put core places index p within q inside other (delivered of) (delivered_from of).number);
+    core_is = sym (waits_put core apart p within q inside other (delivered of) (delivered_from of).number);
     memory_is = refl;
     outcome_is = refl;
-    stays = λ e. others_stay core places index p within q inside other (delivered of) (delivered_from of).number;
+    stays = λ e. others_stay core apart p within q inside other (delivered of) (delivered_from of).number;
   })
 
   pub write_writes : (ra rb reg : ℕ) → served me.number (slot_at core (word_bits (register me ra))) ≡ Served of → (core.split && is_empty of reg) ≡ false
       → Leaves core m me (effect_in core m me (Wreg ra rb reg)) (with_slot (with_slot core q (record of { regs = set of.regs reg (register me rb) })) p (slot_after me (plain me))) m (Goes None)
   unfolding ask reply effect core_after memory_after plain slot_after
   write_writes ra rb reg is full = rw (is, full) (record {
-    core_is = sym (two_slots core places index p within q inside other (record of { regs = set of.regs reg (register me rb) }) refl (plain me));
+    core_is = sym (two_slots core apart p within q inside other (record of { regs = set of.regs reg (register me rb) }) refl (plain me));
     memory_is = refl;
     outcome_is = refl;
     stays = λ e. cc;
@@ -243,17 +245,17 @@ module _ (core : Core) (places : List ℕ) (index : IsIndex (numbers_in core) pl
 
 -- 5. Events.
 
-module _ (core : Core) (places : List ℕ) (index : IsIndex (numbers_in core) places) (p : ℕ) (within : p < length core.rows) (m : Memory) where
+module _ (core : Core) (apart : AreNumbered core.rows) (p : ℕ) (within : p < length core.rows) (m : Memory) where
   abbrev self : Slot
   self = slot_in core p
 
   pub no_event : (rd : ℕ) → queue_in core p ≡ [] → Leaves core m self (effect_in core m self (Evt rd)) core m Waits
   unfolding ask reply effect
-  no_event rd none = rw (queue_found core places index p within, none) (record { core_is = refl; memory_is = refl; outcome_is = refl; stays = λ e. refl })
+  no_event rd none = rw (queue_found core apart p within, none) (record { core_is = refl; memory_is = refl; outcome_is = refl; stays = λ e. refl })
 
   pub no_slot_of_event : (rd : ℕ) (e : Event) (rest : List Event) → queue_in core p ≡ e ∷ rest → slot_at core e.slot ≡ None → Leaves core m self (effect_in core m self (Evt rd)) core m Waits
   unfolding ask reply effect
-  no_slot_of_event rd e rest some none = rw (queue_found core places index p within, some, none) (record { core_is = refl; memory_is = refl; outcome_is = refl; stays = λ e. refl })
+  no_slot_of_event rd e rest some none = rw (queue_found core apart p within, some, none) (record { core_is = refl; memory_is = refl; outcome_is = refl; stays = λ e. refl })
 
   module _ (e : Event) (rest : List Event) (some : queue_in core p ≡ e ∷ rest) (q : ℕ) (inside : q < length core.rows) (other : q ≢ p) (found : slot_at core e.slot ≡ Some (slot_in core q)) where
     abbrev taken : Core
@@ -268,20 +270,20 @@ module _ (core : Core) (places : List ℕ) (index : IsIndex (numbers_in core) pl
         let after : Core = with_slot taken p (slot_after self c) in
         let was : p < length taken.rows = omega (arith, length-with_row core q (record (row_at core q) { slot = record (slot_in core q) { state = Taken } })) in
         let still : p < length after.rows = omega (arith, length-with_row taken p (record (row_at taken p) { slot = slot_after self c })) in
-        let indexed = index-with_slot core places index q inside (record (slot_in core q) { state = Taken }) refl in
-        let unmoved : (slot_in taken p).number ≡ self.number = number-with_slot core places index q inside (record (slot_in core q) { state = Taken }) refl p within in
+        let indexed = apart-with_slot core apart q inside (record (slot_in core q) { state = Taken }) refl in
+        let unmoved : (slot_in taken p).number ≡ self.number = number-with_slot core apart q inside (record (slot_in core q) { state = Taken }) refl p within in
         let numbered : (slot_after self c).number ≡ (slot_in taken p).number = (changed_from self c).number ∙ sym unmoved in
-        let indexed_after = index-with_slot taken places indexed p was (slot_after self c) numbered in
-        let number : (slot_in after p).number ≡ self.number = number-with_slot taken places indexed p was (slot_after self c) numbered p was ∙ unmoved in
+        let indexed_after = apart-with_slot taken indexed p was (slot_after self c) numbered in
+        let number : (slot_in after p).number ≡ self.number = number-with_slot taken indexed p was (slot_after self c) numbered p was ∙ unmoved in
         let queue : queue_in after p ≡ e ∷ rest =
         queue_in-slot taken p p (slot_after self c) was ∙ queue_in-slot core q p (record (slot_in core q) { state = Taken }) inside ∙ some
         in
-        rw (queue_found core places index p within, some, found) (record {
+        rw (queue_found core apart p within, some, found) (record {
           core_is =
               ap (λ (es : List Event). with_queue_in after p (drop 1 es)) queue
-              ∙ sym (put_queue-place after places indexed_after p still rest)
+              ∙ sym (put_queue-place after indexed_after p still rest)
               ∙ ap (λ (n : ℕ). put_queue after n rest) number
-              ∙ ap (λ (k : Core). put_queue k self.number rest) (sym (two_slots core places index p within q inside other (record (slot_in core q) { state = Taken }) refl c));
+              ∙ ap (λ (k : Core). put_queue k self.number rest) (sym (two_slots core apart p within q inside other (record (slot_in core q) { state = Taken }) refl c));
           memory_is = refl;
           outcome_is = refl;
           stays = λ e. cc;
@@ -298,13 +300,13 @@ goes_after core q p o f other k k' first second =
     second ∙ ap (λ (x : Core). with_slot x p (f (slot_in x p))) first ∙ ap (λ (x : Slot). with_slot (with_slot core q o) p (f x)) (slot_in-other core q p o (λ same. other (sym same)))
 
 -- what an event's slot waits for is no running slot's handler
-pub event_differs : (core : Core) → IsCore core → (places : List ℕ) → IsIndex (numbers_in core) places → (p : ℕ) → p < length core.rows → is_running (slot_in core p).state ≡ true
+pub event_differs : (core : Core) → IsCore core → (p : ℕ) → p < length core.rows → is_running (slot_in core p).state ≡ true
     → (e : Event) (rest : List Event) → queue_in core p ≡ e ∷ rest → (q : ℕ) → q < length core.rows → (slot_in core q).number ≡ e.slot → q ≢ p
-event_differs core whole places index p within runs e rest some q inside number same =
-    let found : slot_at core e.slot ≡ Some (slot_in core q) = ap (slot_at core) (sym number) ∙ slot_found core places index q inside in
+event_differs core whole p within runs e rest some q inside number same =
+    let found : slot_at core e.slot ≡ Some (slot_in core q) = ap (slot_at core) (sym number) ∙ slot_found core (apart_in core whole) q inside in
     let all = queued_waits core whole.matched e.slot (slot_in core q) found (slot_in core p).number in
     let Waits : List Event → Type 0 = AllByRecursion (λ (d : Event). d.slot ≡ e.slot → (is_waiting (slot_in core q).state ≡ true) × ((slot_in core q).handler ≡ Some (slot_in core p).number)) in
-    let first = subst Waits (queue_found core places index p within ∙ some) all in
+    let first = subst Waits (queue_found core (apart_in core whole) p within ∙ some) all in
     by (slot_in core p).state runs (ap (λ (k : ℕ). is_waiting (slot_in core k).state) (sym same) ∙ (first.0 refl).0)
   where
     by : (state : SlotState) → is_running state ≡ true → is_waiting state ≡ true → ⊥

@@ -1,5 +1,5 @@
 -- How a core is put back part by part.
-use Rattle.std.proofs.Common.{◌≡◌, ◌≢◌, ℕ, ◌+◌, ◌<◌, ◌≤◌, ◌⊎◌, inl, inr, Bool, true, false, cond, eqb, List, [], ◌∷◌, ◌++◌, length, map, take, drop, get_or, set, replicate, Option, Some, refl, sym, ap, subst, ◌∙◌, arith}
+use Rattle.std.proofs.Common.{◌≡◌, ◌≢◌, ℕ, ◌+◌, ◌<◌, ◌≤◌, ◌⊎◌, inl, inr, Bool, true, false, cond, eqb, List, [], ◌∷◌, ◌++◌, length, map, take, drop, get_or, set, replicate, Option, Some, None, refl, sym, ap, subst, ◌∙◌, arith}
 use Rattle.std.specs.Prelude.{IfSome}
 use Rattle.std.specs.List.{AllByRecursion}
 use Rattle.std.proofs.Math.Seq.{get_or-append_seam}
@@ -14,38 +14,46 @@ use Rattle.mm_model.specs.Fits.{identity_of, slots_of, IsSlot, IsCore}
 use Rattle.mm_model.proofs.CoreRows.{each_map, slots_found}
 use Rattle.mm_model.proofs.Shortness.{queue_short}
 use Rattle.mm_thread.specs.Output.{Output}
-use Rattle.mm_thread.specs.Places.{row_alone, slot_in, queue_in, with_queue_in, numbers_in, IsIndex, IsSound}
+use Rattle.mm_thread.specs.Places.{row_alone, slot_in, queue_in, with_queue_in}
+use Rattle.mm_thread.specs.Tables.{AreNumbered}
 use Rattle.mm_thread.specs.Parts.{events_for, row_with, core_of}
 use Rattle.mm_thread.proofs.Cores.{output_short}
 use Rattle.mm_thread.proofs.Sound.{numbers-same}
-use Rattle.mm_thread.proofs.Index.{HasNone, row_found, queue_found, put_queue-place, map-none}
+use Rattle.mm_thread.proofs.Index.{row_found, queue_found, put_queue-place}
 
 -- 1. One event.
 
-module _ (core : Core) (places : List ℕ) (index : IsIndex (numbers_in core) places) where
+module _ (core : Core) (apart : AreNumbered core.rows) where
   pub event_put : (p n : ℕ) (e : Event) → p < length core.rows → (slot_in core p).number ≡ n → with_queue_in core p (queue_in core p ++ e ∷ []) ≡ put_queue core n (queue_at core n ++ e ∷ [])
   event_put p n e within number =
-      let queue : queue_at core n ≡ queue_in core p = ap (queue_at core) (sym number) ∙ queue_found core places index p within in
-      sym (put_queue-place core places index p within (queue_in core p ++ e ∷ []))
+      let queue : queue_at core n ≡ queue_in core p = ap (queue_at core) (sym number) ∙ queue_found core apart p within in
+      sym (put_queue-place core apart p within (queue_in core p ++ e ∷ []))
       ∙ ap (λ (k : ℕ). put_queue core k (queue_in core p ++ e ∷ [])) number
       ∙ ap (λ (q : List Event). put_queue core n (q ++ e ∷ [])) (sym queue)
 
   pub room_at : (p n : ℕ) → p < length core.rows → (slot_in core p).number ≡ n → IfSome (row_in core.rows n) (λ row. length row.queue < 64) → length (queue_in core p) < 64
   room_at p n within number room =
       let P : Option Row → Type 0 = λ o. IfSome o (λ row. length row.queue < 64) in
-      subst P (ap (row_in core.rows) (sym number) ∙ row_found core places index p within) room
-
-pub event_unput : (core : Core) (n : ℕ) (q : List Event) → HasNone core.rows n → core ≡ put_queue core n q
-unfolding put_queue
-event_unput core n q none = ap (λ (rows : List Row). record core { rows = rows }) (sym (map-none core.rows n (λ row. record row { queue = q }) none))
-
--- 2. A list of events.
+      subst P (ap (row_in core.rows) (sym number) ∙ row_found core apart p within) room
 
 same_test : (a b : ℕ) → a ≡ b → eqb a b ≡ true
 same_test a b e = grind (arith, nat_tests)
 
 other_test : (a b : ℕ) → a ≢ b → eqb a b ≡ false
 other_test a b e = grind (arith, nat_tests)
+
+unput : (rows : List Row) (n : ℕ) (change : Row → Row) → slot_of (row_in rows n) ≡ None → map (at_number n change) rows ≡ rows
+unput [] n change none = refl
+unput (row ∷ rows) n change none = elim (cases_eq row.slot.number n) as (λ _. map (at_number n change) (row ∷ rows) ≡ row ∷ rows) [
+  | inl same ↦ absurd (let found : slot_of (row_in (row ∷ rows) n) ≡ Some row.slot = rw (same_test row.slot.number n same) refl in cc (found, none))
+  | inr other ↦ rw (other_test row.slot.number n other) (ap (λ (rs : List Row). row ∷ rs) (unput rows n change (rw (other_test row.slot.number n other) at none)))
+]
+
+pub event_unput : (core : Core) (n : ℕ) (q : List Event) → slot_at core n ≡ None → core ≡ put_queue core n q
+unfolding put_queue slot_at
+event_unput core n q none = ap (λ (rows : List Row). record core { rows = rows }) (sym (unput core.rows n (λ row. record row { queue = q }) none))
+
+-- 2. A list of events.
 
 events_for-append : (n : ℕ) (xs ys : List (ℕ × Event)) → events_for n (xs ++ ys) ≡ events_for n xs ++ events_for n ys
 events_for-append n [] ys = refl
@@ -175,11 +183,3 @@ module _ (version : ℕ) (split : Bool) (slots : List Slot) (events : List (ℕ 
 
   pub parts_short : AllByRecursion (λ (o : Output). output_of core o.group ≡ o.bytes) outputs → AllByRecursion (λ (o : Output). length o.bytes ≤ 65536) outputs
   parts_short given = each_map (λ (o : Output). output_of core o.group ≡ o.bytes) (λ (o : Output). length o.bytes ≤ 65536) (λ o is. omega (arith, output_short core whole o.group, ap length is)) outputs given
-
-  pub parts_sound : (old : Core) (places : List ℕ) → IsSound old places → map identity_of slots ≡ map identity_of (slots_of old) → (new : Core) → new ≡ core → IsSound new places
-  parts_sound old places sound same new is =
-      let Index : List ℕ → Type 0 = λ ns. IsIndex ns places in
-      record {
-        whole = subst IsCore (sym is) whole;
-        index = subst Index (sym (ap numbers_in is ∙ ap numbers_of slots_are ∙ numbers-same slots (slots_of old) same)) sound.index;
-      }

@@ -17,8 +17,11 @@ use Rattle.mm_model.proofs.CoreRows.{each_get, slot_limit-few, slot_has, slot_at
 use Rattle.mm_model.proofs.CoreSteps.{waits_for-rests}
 use Rattle.mm_model.proofs.EffectSteps.{running_waits_not}
 use Rattle.mm_model.proofs.Shortness as short
-use Rattle.mm_thread.specs.Places.{no_row, row_at, slot_in, queue_in, with_row, with_slot, with_queue_in, numbers_in, IsIndex}
+use Rattle.mm_thread.specs.Places.{no_row, row_at, slot_in, queue_in, with_row, with_slot, with_queue_in, numbers_in}
+use Rattle.mm_thread.specs.Tables.{AreNumbered}
 use Rattle.mm_thread.proofs.Index.{slot_found, queue_found, put_slot-place, put_queue-place, numbers-with_row, number-get}
+use Rattle.mm_thread.proofs.Placing.{apart_in}
+use Rattle.mm_thread.proofs.RunningSlots.{numbered_set}
 
 -- 1. A row in the place of one.
 
@@ -70,9 +73,12 @@ module _ (core : Core) (whole : IsCore core) where
     | inr past ↦ omega (arith, ap length (get_or_past core.outputs g [] (omega (arith, whole.formed.outputs))))
   ]
 
-  module _ (places : List ℕ) (index : IsIndex (numbers_in core) places) (p : ℕ) (within : p < length core.rows) where
+  abbrev apart : AreNumbered core.rows
+  apart = apart_in core whole
+
+  module _ (p : ℕ) (within : p < length core.rows) where
     abbrev there : slot_at core (slot_in core p).number ≡ Some (slot_in core p)
-    there = slot_found core places index p within
+    there = slot_found core apart p within
 
     own : IsSlot (slot_in core p)
     own = slot_is (slot_in core p).number (slot_in core p) there
@@ -98,7 +104,7 @@ module _ (core : Core) (whole : IsCore core) where
     pub handler_there : (h : ℕ) → (slot_in core p).handler ≡ Some h → slot_at core h ≡ None → ⊥
     handler_there h is none =
         let s = slot_in core p in
-        let other : IfSome s.handler (IsOther (slots_of core) s.number) = slot_has (λ (t : Slot). IfSome t.handler (IsOther (slots_of core) t.number)) core s.number s whole.handlers (slot_found core places index p within) in
+        let other : IfSome s.handler (IsOther (slots_of core) s.number) = slot_has (λ (t : Slot). IfSome t.handler (IsOther (slots_of core) t.number)) core s.number s whole.handlers (slot_found core apart p within) in
         let at = other_at core whole.formed.rising s.number h (subst (λ o. IfSome o (IsOther (slots_of core) s.number)) is other) in
         cc (at.1.1)
 
@@ -108,26 +114,24 @@ module _ (core : Core) (whole : IsCore core) where
         let s = slot_in core p in
         let h : ℕ = (slot_in core q).number in
         let room = short.queue_room core whole.matched h whole.formed s.number number_small (ap (waits_for h) there ∙ waits_for-rests h s (running_waits_not s.state runs)) in
-        omega (arith, room, ap length (queue_found core places index q inside))
+        omega (arith, room, ap length (queue_found core apart q inside))
 
 -- 3. A slot that waits and its event in its handler's queue.
 
-pub index-with_slot : (core : Core) (places : List ℕ) → IsIndex (numbers_in core) places → (p : ℕ) → p < length core.rows → (s : Slot) → s.number ≡ (slot_in core p).number
-    → IsIndex (numbers_in (with_slot core p s)) places
-index-with_slot core places index p within s same =
-    let P : List ℕ → Type 0 = λ ns. IsIndex ns places in
-    subst P (sym (numbers-with_row core places index p within (record (row_at core p) { slot = s }) same)) index
+pub apart-with_slot : (core : Core) → AreNumbered core.rows → (p : ℕ) → p < length core.rows → (s : Slot) → s.number ≡ (slot_in core p).number
+    → AreNumbered (with_slot core p s).rows
+apart-with_slot core apart p within s same = numbered_set core.rows p within (record (row_at core p) { slot = s }) same apart
 
-pub number-with_slot : (core : Core) (places : List ℕ) → IsIndex (numbers_in core) places → (p : ℕ) → p < length core.rows → (s : Slot) → s.number ≡ (slot_in core p).number
+pub number-with_slot : (core : Core) → AreNumbered core.rows → (p : ℕ) → p < length core.rows → (s : Slot) → s.number ≡ (slot_in core p).number
     → (q : ℕ) → q < length core.rows → (slot_in (with_slot core p s) q).number ≡ (slot_in core q).number
-number-with_slot core places index p within s same q inside =
+number-with_slot core apart p within s same q inside =
     let row : Row = record (row_at core p) { slot = s } in
     let still : q < length (with_slot core p s).rows = omega (arith, length-with_row core p row) in
     sym (number-get (with_slot core p s) q still)
-    ∙ ap (λ (ns : List ℕ). slice_index ns q) (numbers-with_row core places index p within row same)
+    ∙ ap (λ (ns : List ℕ). slice_index ns q) (numbers-with_row core apart p within row same)
     ∙ number-get core q inside
 
-module _ (core : Core) (places : List ℕ) (index : IsIndex (numbers_in core) places) (p : ℕ) (within : p < length core.rows) where
+module _ (core : Core) (apart : AreNumbered core.rows) (p : ℕ) (within : p < length core.rows) where
   pub faulted-handled : (e : Event) (h at : ℕ) → at < length core.rows → (slot_in core at).number ≡ h
       → let waits = with_slot core p (stood (slot_in core p) Waiting) in
       with_queue_in waits at (queue_in waits at ++ e ∷ []) ≡ core_faulted core (slot_in core p) e (Some h)
@@ -135,21 +139,21 @@ module _ (core : Core) (places : List ℕ) (index : IsIndex (numbers_in core) pl
   faulted-handled e h at inside is =
       let s = slot_in core p in
       let waits : Core = with_slot core p (stood s Waiting) in
-      let indexed = index-with_slot core places index p within (stood s Waiting) refl in
+      let indexed = apart-with_slot core apart p within (stood s Waiting) refl in
       let still : at < length waits.rows = omega (arith, length-with_row core p (record (row_at core p) { slot = stood s Waiting })) in
-      let number : (slot_in waits at).number ≡ h = number-with_slot core places index p within (stood s Waiting) refl at inside ∙ is in
-      let queue : queue_at waits h ≡ queue_in waits at = ap (queue_at waits) (sym number) ∙ queue_found waits places indexed at still in
+      let number : (slot_in waits at).number ≡ h = number-with_slot core apart p within (stood s Waiting) refl at inside ∙ is in
+      let queue : queue_at waits h ≡ queue_in waits at = ap (queue_at waits) (sym number) ∙ queue_found waits indexed at still in
       let put : with_queue_in waits at (queue_in waits at ++ e ∷ []) ≡ put_queue waits h (queue_at waits h ++ e ∷ []) =
-      sym (put_queue-place waits places indexed at still (queue_in waits at ++ e ∷ []))
+      sym (put_queue-place waits indexed at still (queue_in waits at ++ e ∷ []))
       ∙ ap (λ (n : ℕ). put_queue waits n (queue_in waits at ++ e ∷ [])) number
       ∙ ap (λ (q : List Event). put_queue waits h (q ++ e ∷ [])) (sym queue)
       in
-      put ∙ ap (λ (c : Core). put_queue c h (queue_at c h ++ e ∷ [])) (sym (put_slot-place core places index p within (stood s Waiting) refl))
+      put ∙ ap (λ (c : Core). put_queue c h (queue_at c h ++ e ∷ [])) (sym (put_slot-place core apart p within (stood s Waiting) refl))
 
   pub faulted-waits : (e : Event) → is_sync e.cause ≡ true → with_slot core p (stood (slot_in core p) Running) ≡ core_faulted core (slot_in core p) e None
   unfolding core_faulted
-  faulted-waits e sync = rw sync (sym (put_slot-place core places index p within (stood (slot_in core p) Running) refl))
+  faulted-waits e sync = rw sync (sym (put_slot-place core apart p within (stood (slot_in core p) Running) refl))
 
   pub faulted-halts : (e : Event) → is_sync e.cause ≡ false → with_slot core p (stood (slot_in core p) (Halted (Some e.cause))) ≡ core_faulted core (slot_in core p) e None
   unfolding core_faulted
-  faulted-halts e sync = rw sync (sym (put_slot-place core places index p within (stood (slot_in core p) (Halted (Some e.cause))) refl))
+  faulted-halts e sync = rw sync (sym (put_slot-place core apart p within (stood (slot_in core p) (Halted (Some e.cause))) refl))

@@ -21,10 +21,10 @@ use Rattle.mm_model.specs.Ask.{Ask, ask}
 use Rattle.mm_model.specs.Ask.Ask.{Reach, UnmapPage}
 use Rattle.mm_model.specs.Effect.{Effect, delivered}
 use Rattle.mm_model.specs.Effect.Effect.{Fault, Block, Deliver, Does}
+use Rattle.mm_model.specs.Fits.{IsCore}
 use Rattle.mm_model.specs.Turn.{Turned, removal_use, asked_use, touch_of, faulted, blocked, ended, executed, issued, decoded, instr_in, fetched, aimed, started, idle, arrives, port_of, taken_by, taken_by_port, is_running, turn}
 use Rattle.mm_model.specs.declared.step.Step.{Step}
 use Rattle.mm_model.proofs.Causes.{EndsExactly, core_orderly, ends_exactly}
-use Rattle.mm_thread.specs.Places.{IsSound}
 use Rattle.mm_thread.specs.Told.{accesses_in, access_told, accesses_told}
 
 pub record IsTold (t : Turned) : Type 0 where
@@ -137,6 +137,6 @@ unfolding turn
 turn_told core m n = told_taken core m n (slot_at core n)
 
 -- What comes of an item is exactly what the model says, of the core that contracts see.
-pub turn_ends : (core seen : Core) (places : List ℕ) (m : Memory) (n : ℕ) (step : Step) → IsSound core places → core ≡ seen → step ≡ (turn core m n).step → EndsExactly seen m n step.tick
-turn_ends core seen places m n step sound same is =
-    subst (λ k. EndsExactly k m n step.tick) same (subst (λ (x : Step). EndsExactly core m n x.tick) (sym is) (ends_exactly core m n (core_orderly core sound.whole)))
+pub turn_ends : (core seen : Core) (m : Memory) (n : ℕ) (step : Step) → IsCore core → core ≡ seen → step ≡ (turn core m n).step → EndsExactly seen m n step.tick
+turn_ends core seen m n step whole same is =
+    subst (λ k. EndsExactly k m n step.tick) same (subst (λ (x : Step). EndsExactly core m n x.tick) (sym is) (ends_exactly core m n (core_orderly core whole)))

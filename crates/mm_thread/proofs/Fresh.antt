@@ -6,8 +6,7 @@ use Rattle.mm_model.specs.Slot.{Slot}
 use Rattle.mm_model.specs.State.{Row, Core}
 use Rattle.mm_model.specs.Image.{Image, start}
 use Rattle.mm_model.specs.Spelling.{numbers_of, IsFresh}
-use Rattle.mm_model.specs.Fits.{slots_of, IsSlot, IsCore}
-use Rattle.mm_model.proofs.CoreRows.{each_map}
+use Rattle.mm_model.specs.Fits.{slots_of, IsCore}
 use Rattle.mm_model.proofs.Starts.{start_core}
 use Rattle.mm_thread.specs.Places.{row_alone}
 use Rattle.mm_thread.proofs.Sound.{version_whole}
@@ -27,7 +26,3 @@ fresh_core slots rising fresh rows outputs core is rows_are outputs_are =
     ∙ ap (λ (x : List (List ℕ)). record { rows = map row_alone slots; outputs = x; version = 1; split = false }) outputs_are
     in
     subst IsCore (sym same) (version_whole (start i).core 1 (each_nothing 64) (start_core i rising fresh))
-
--- its numbers are below 64
-pub small_numbers : (core : Core) → IsCore core → AllByRecursion (λ (s : Slot). s.number < 64) (slots_of core)
-small_numbers core whole = each_map IsSlot (λ (s : Slot). s.number < 64) (λ s is. is.number) (slots_of core) whole.formed.slots

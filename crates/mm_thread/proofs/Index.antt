@@ -1,4 +1,4 @@
--- Slots found by their numbers through the table of places.
+-- Slots found by their numbers, where each row has a number of its own.
 use Rattle.std.proofs.Common.{◌≡◌, ◌≢◌, ℕ, zero, suc, ◌<◌, ◌≤◌, true, false, eqb, List, [], ◌∷◌, length, map, get_or, set, slice_index, Some, None, refl, sym, ap, ◌∙◌, arith}
 use Rattle.std.proofs.lemmas.Bool.Decides.{nat_tests}
 use Rattle.std.proofs.lemmas.List.{length-map, get_or-map, map-set, set-get_or}
@@ -6,7 +6,8 @@ use Rattle.mm_model.specs.declared.event.Event.{Event}
 use Rattle.mm_model.specs.Slot.{Slot}
 use Rattle.mm_model.specs.State.{Row, Core, row_in, slot_of, queue_of, slot_at, queue_at, at_number, put_slot, put_queue}
 use Rattle.mm_model.specs.Fits.{slots_of}
-use Rattle.mm_thread.specs.Places.{no_row, row_at, slot_in, queue_in, with_row, with_slot, with_queue_in, numbers_in, IsIndex}
+use Rattle.mm_thread.specs.Places.{no_row, row_at, slot_in, queue_in, with_row, with_slot, with_queue_in, numbers_in}
+use Rattle.mm_thread.specs.Tables.{AreNumbered, IsIndex}
 
 abbrev number_at : List Row → ℕ → ℕ
 number_at rows k = (get_or rows k no_row).slot.number
@@ -53,7 +54,7 @@ map-alone (row ∷ rows) (suc p) n change within here alone =
     let first : row.slot.number ≢ n = λ e. omega (arith, alone 0 (omega arith) e) in
     rw (other_number row.slot.number n first) (ap (λ (rs : List Row). row ∷ rs) (map-alone rows p n change (omega arith) here (λ k below e. omega (arith, alone (suc k) (omega arith) e))))
 
--- 2. The same of a core with its table of places.
+-- 2. Slots of a core, and their places.
 
 pub length-numbers : (core : Core) → length (numbers_in core) ≡ length core.rows
 length-numbers core = length-map (slots_of core) (λ (s : Slot). s.number) ∙ length-map core.rows (λ (row : Row). row.slot)
@@ -63,12 +64,9 @@ number-get core k within =
     let slots : k < length (slots_of core) = omega (arith, length-map core.rows (λ (row : Row). row.slot)) in
     get_or-map (λ (s : Slot). s.number) (slots_of core) k no_row.slot 0 slots ∙ ap (λ (s : Slot). s.number) (get_or-map (λ (row : Row). row.slot) core.rows k no_row no_row.slot within)
 
-module _ (core : Core) (places : List ℕ) (index : IsIndex (numbers_in core) places) where
-  back_at : (k : ℕ) → k < length core.rows → slice_index places (slot_in core k).number ≡ k
-  back_at k within = ap (slice_index places) (sym (number-get core k within)) ∙ index.back k (omega (arith, length-numbers core))
-
+module _ (core : Core) (apart : AreNumbered core.rows) where
   alone_at : (p : ℕ) → p < length core.rows → HasAlone core.rows p (slot_in core p).number
-  alone_at p within k below same = sym (back_at k below) ∙ ap (slice_index places) same ∙ back_at p within
+  alone_at p within k below same = apart.own k p below within same
 
   module _ (p : ℕ) (within : p < length core.rows) where
     pub row_found : row_in core.rows (slot_in core p).number ≡ Some (row_at core p)
@@ -100,14 +98,19 @@ module _ (core : Core) (places : List ℕ) (index : IsIndex (numbers_in core) pl
         ∙ ap (λ (n : ℕ). set (numbers_in core) p n) (same ∙ sym (number-get core p within))
         ∙ set-get_or (numbers_in core) p 0
 
-  -- a number that leads to a place is that of the slot there
-  pub number_there : (n : ℕ) → n < 64 → slice_index places n < length core.rows → (slot_in core (slice_index places n)).number ≡ n
-  number_there n small within = sym (number-get core (slice_index places n) within) ∙ index.there n small (omega (arith, length-numbers core))
+-- no row has a number that leads to no place
+pub none_past : (rows : List Row) (index : List ℕ) → IsIndex rows index → (n : ℕ) → length rows ≤ slice_index index n → HasNone rows n
+none_past rows index h n past = λ k within same. omega (arith, ap (slice_index index) same, h.back k within)
 
-  -- no row has a number that leads to no place
-  pub none_past : (n : ℕ) → length core.rows ≤ slice_index places n → HasNone core.rows n
-  none_past n past = λ k within same. omega (arith, ap (slice_index places) same, back_at k within)
+-- cores with the same numbers
+pub apart_by : (core k : Core) → numbers_in k ≡ numbers_in core → AreNumbered core.rows → AreNumbered k.rows
+apart_by core k same apart = record {
+  small = λ j within. omega (arith, number j within, apart.small j (omega (arith, many)));
+  own = λ i j first second e. apart.own i j (omega (arith, many)) (omega (arith, many)) (sym (number i first) ∙ e ∙ number j second);
+}
+  where
+    many : length k.rows ≡ length core.rows
+    many = sym (length-numbers k) ∙ ap length same ∙ length-numbers core
 
-  -- a number that leads to no place is no slot's
-  pub row_missing : (n : ℕ) → length core.rows ≤ slice_index places n → row_in core.rows n ≡ None
-  row_missing n past = row_in-none core.rows n (λ k within same. omega (arith, ap (slice_index places) same, back_at k within))
+    number : (j : ℕ) → j < length k.rows → (slot_in k j).number ≡ (slot_in core j).number
+    number j within = sym (number-get k j within) ∙ ap (λ (ns : List ℕ). slice_index ns j) same ∙ number-get core j (omega (arith, many))

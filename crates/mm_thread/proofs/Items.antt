@@ -17,8 +17,10 @@ use Rattle.mm_model.specs.Turn.{Turned, idle, arrives, port_of, taken_by, taken_
 use Rattle.mm_model.specs.Fits.{IsCore, slots_of}
 use Rattle.mm_model.proofs.CoreRows.{slot_has}
 use Rattle.mm_model.proofs.SlotSteps.{delivered_from}
-use Rattle.mm_thread.specs.Places.{no_row, slot_in, with_slot, numbers_in, IsIndex, first_register}
-use Rattle.mm_thread.specs.Left.{CanTurn, Gives, AsksNothing}
+use Rattle.mm_thread.specs.Places.{no_row, slot_in, with_slot, first_register}
+use Rattle.mm_thread.specs.Execution.{CanTurn, Gives, AsksNothing}
+use Rattle.mm_thread.specs.Tables.{AreNumbered}
+use Rattle.mm_thread.proofs.Placing.{apart_in}
 use Rattle.mm_thread.proofs.Index.{slot_found, put_slot-place}
 
 abbrev pub step_of : Tick → ℕ → Step
@@ -43,7 +45,7 @@ abbrev pub arrival : Option ℕ → Tick
 arrival None = Idle
 arrival (Some register) = Delivered register
 
-module _ (core : Core) (places : List ℕ) (index : IsIndex (numbers_in core) places) (p : ℕ) (within : p < length core.rows) where
+module _ (core : Core) (apart : AreNumbered core.rows) (p : ℕ) (within : p < length core.rows) where
   abbrev s : Slot
   s = slot_in core p
 
@@ -56,7 +58,7 @@ module _ (core : Core) (places : List ℕ) (index : IsIndex (numbers_in core) pl
       idles_at : core' ≡ core → AsksNothing (idle core m s.number) m core step → AsksNothing (idle core m s.number) m core' step
       idles_at same h = record { core_is = same ∙ h.core_is; memory_is = h.memory_is; step_is = h.step_is; uses_are = h.uses_are }
   port_arrives m core' step core_is (q ∷ qs) some step_is = record {
-    core_is = core_is ∙ sym (put_slot-place core places index p within (delivered s) (delivered_from s).number);
+    core_is = core_is ∙ sym (put_slot-place core apart p within (delivered s) (delivered_from s).number);
     memory_is = refl;
     step_is = step_is;
     uses_are = refl;
@@ -82,11 +84,11 @@ module _ {M : Type 0} (meaning : M → Memory) (uses : M → ℕ) (stands : M �
       }
 
 -- a running slot can take its turn
-pub can_turn : (core : Core) (places : List ℕ) → IsCore core → IsIndex (numbers_in core) places → AllByRecursion (λ (t : Slot). t.turns < 2 ^ 61) (slots_of core)
-    → (p : ℕ) → p < length core.rows → is_running (slot_in core p).state ≡ true → CanTurn core places p
-can_turn core places whole index turns p within runs =
-    let few = slot_has (λ (t : Slot). t.turns < 2 ^ 61) core (slot_in core p).number (slot_in core p) turns (slot_found core places index p within) in
-    record { whole = whole; index = index; within = within; turns = omega (arith, few); runs = runs }
+pub can_turn : (core : Core) → IsCore core → AllByRecursion (λ (t : Slot). t.turns < 2 ^ 61) (slots_of core)
+    → (p : ℕ) → p < length core.rows → is_running (slot_in core p).state ≡ true → CanTurn core p
+can_turn core whole turns p within runs =
+    let few = slot_has (λ (t : Slot). t.turns < 2 ^ 61) core (slot_in core p).number (slot_in core p) turns (slot_found core (apart_in core whole) p within) in
+    record { whole = whole; within = within; turns = omega (arith, few); runs = runs }
 
 pub turn-none : (core : Core) (m : Memory) (n : ℕ) → slot_at core n ≡ None → turn core m n ≡ taken_by_port core m n (port_of core n)
 unfolding turn

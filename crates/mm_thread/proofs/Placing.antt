@@ -1,4 +1,4 @@
--- The table of places as it is made.
+-- The index of places as it is made.
 use Rattle.std.proofs.Common.{◌≡◌, ◌≢◌, ℕ, zero, suc, ◌+◌, ◌<◌, ◌≤◌, ◌⊎◌, inl, inr, List, length, set, replicate, slice_index, sym, ap, ◌∙◌, arith}
 use Rattle.std.specs.List.{AllByRecursion}
 use Rattle.std.specs.List.Sorted.{IsStrictlyIncreasing}
@@ -6,10 +6,10 @@ use Rattle.std.proofs.lemmas.Bool.{cases_eq}
 use Rattle.std.proofs.lemmas.List.{get_or-set_same, get_or-set_other, get_or-replicate, get_or-map, length-set, length-map, length-replicate}
 use Rattle.mm_model.specs.Slot.{Slot}
 use Rattle.mm_model.specs.State.{Row, Core}
-use Rattle.mm_model.specs.Fits.{slots_of}
-use Rattle.mm_model.proofs.CoreRows.{each_get}
-use Rattle.mm_thread.specs.Runners.{AreNumbered}
-use Rattle.mm_thread.specs.Places.{no_row, slot_in, numbers_in, IsIndex}
+use Rattle.mm_model.specs.Fits.{slots_of, IsSlot, IsCore}
+use Rattle.mm_model.proofs.CoreRows.{each_get, each_map}
+use Rattle.mm_thread.specs.Tables.{slot_of_row, AreNumbered, IsIndex}
+use Rattle.mm_thread.specs.Places.{no_row, slot_in, numbers_in}
 use Rattle.mm_thread.proofs.Index.{length-numbers, number-get}
 
 -- where numbers rise, an earlier one is less than a later one
@@ -34,46 +34,45 @@ differs_between xs h j k other first second same = elim (Rattle.std.proofs.lemma
   | inr more ↦ omega (arith, rises_between xs h k j (omega arith) first)
 ]
 
--- the numbers of the first slots lead to their places, and no other number leads to a place
-pub record IsIndexBelow (numbers places : List ℕ) (i : ℕ) : Type 0 where
-  pub long : length places ≡ 64
-  pub each : (n : ℕ) → n < 64 → (slice_index places n ≡ 64) ⊎ ((slice_index places n < i) × (slice_index numbers (slice_index places n) ≡ n))
-  pub back : (k : ℕ) → k < i → slice_index places (slice_index numbers k) ≡ k
+-- the numbers of the first rows lead to their places, and no other number leads to a place
+pub record IsIndexBelow (rows : List Row) (index : List ℕ) (i : ℕ) : Type 0 where
+  pub long : length index ≡ 64
+  pub each : (n : ℕ) → n < 64 → (slice_index index n ≡ 64) ⊎ ((slice_index index n < i) × ((slot_of_row rows (slice_index index n)).number ≡ n))
+  pub back : (k : ℕ) → k < i → slice_index index (slot_of_row rows k).number ≡ k
 
-pub index_none : (numbers : List ℕ) → IsIndexBelow numbers (replicate 64 64) 0
-index_none numbers = record {
+pub index_none : (rows : List Row) → IsIndexBelow rows (replicate 64 64) 0
+index_none rows = record {
   long = length-replicate {A = ℕ} 64 64;
   each = λ n small. inl (get_or-replicate {A = ℕ} 64 n 64 0 small);
   back = λ k none. absurd (omega arith);
 }
 
-pub index_more : (numbers places : List ℕ) (i : ℕ) → IsStrictlyIncreasing numbers → i < length numbers → slice_index numbers i < 64 → IsIndexBelow numbers places i
-    → IsIndexBelow numbers (set places (slice_index numbers i) i) (i + 1)
-index_more numbers places i rising within small h =
-    let n : ℕ = slice_index numbers i in
-    let inside : n < length places = let long = h.long in omega arith in
+pub index_more : (rows : List Row) (index : List ℕ) (i : ℕ) → AreNumbered rows → i < length rows → IsIndexBelow rows index i → IsIndexBelow rows (set index (slot_of_row rows i).number i) (i + 1)
+index_more rows index i apart within h =
+    let n : ℕ = (slot_of_row rows i).number in
+    let inside : n < length index = let long = h.long in let small = apart.small i within in omega arith in
     record {
-      long = length-set places n i ∙ h.long;
-      each = λ k low. elim (cases_eq k n) as (λ _. (slice_index (set places n i) k ≡ 64) ⊎ ((slice_index (set places n i) k < i + 1) × (slice_index numbers (slice_index (set places n i) k) ≡ k))) [
+      long = length-set index n i ∙ h.long;
+      each = λ k low. elim (cases_eq k n) as (λ _. (slice_index (set index n i) k ≡ 64) ⊎ ((slice_index (set index n i) k < i + 1) × ((slot_of_row rows (slice_index (set index n i) k)).number ≡ k))) [
         | inl same ↦
-            let at : slice_index (set places n i) k ≡ i = ap (slice_index (set places n i)) same ∙ get_or-set_same places n i 0 inside in
-            inr (omega (arith, at), ap (slice_index numbers) at ∙ sym same)
+            let at : slice_index (set index n i) k ≡ i = ap (slice_index (set index n i)) same ∙ get_or-set_same index n i 0 inside in
+            inr (omega (arith, at), ap (λ (j : ℕ). (slot_of_row rows j).number) at ∙ sym same)
         | inr other ↦
-            let at : slice_index (set places n i) k ≡ slice_index places k = get_or-set_other places n k i 0 other in
-            elim (h.each k low) as (λ _. (slice_index (set places n i) k ≡ 64) ⊎ ((slice_index (set places n i) k < i + 1) × (slice_index numbers (slice_index (set places n i) k) ≡ k))) [
+            let at : slice_index (set index n i) k ≡ slice_index index k = get_or-set_other index n k i 0 other in
+            elim (h.each k low) as (λ _. (slice_index (set index n i) k ≡ 64) ⊎ ((slice_index (set index n i) k < i + 1) × ((slot_of_row rows (slice_index (set index n i) k)).number ≡ k))) [
               | inl none ↦ inl (at ∙ none)
-              | inr some ↦ inr (omega (arith, at, some.0), ap (slice_index numbers) at ∙ some.1)
+              | inr some ↦ inr (omega (arith, at, some.0), ap (λ (j : ℕ). (slot_of_row rows j).number) at ∙ some.1)
             ]
       ];
-      back = λ k below. elim (cases_eq k i) as (λ _. slice_index (set places n i) (slice_index numbers k) ≡ k) [
-        | inl same ↦ ap (λ (j : ℕ). slice_index (set places n i) (slice_index numbers j)) same ∙ get_or-set_same places n i 0 inside ∙ sym same
-        | inr other ↦ get_or-set_other places n (slice_index numbers k) i 0 (differs_between numbers rising k i other (omega arith) within) ∙ h.back k (omega arith)
+      back = λ k below. elim (cases_eq k i) as (λ _. slice_index (set index n i) (slot_of_row rows k).number ≡ k) [
+        | inl same ↦ ap (λ (j : ℕ). slice_index (set index n i) (slot_of_row rows j).number) same ∙ get_or-set_same index n i 0 inside ∙ sym same
+        | inr other ↦ get_or-set_other index n (slot_of_row rows k).number i 0 (λ same. other (apart.own k i (omega arith) within same)) ∙ h.back k (omega arith)
       ];
     }
 
-pub index_all : (numbers places : List ℕ) (i : ℕ) → length numbers ≤ 64 → length numbers ≡ i → IsIndexBelow numbers places i → IsIndex numbers places
-index_all numbers places i few all h = record {
-  there = λ n small within. elim (h.each n small) as (λ _. slice_index numbers (slice_index places n) ≡ n) [
+pub index_all : (rows : List Row) (index : List ℕ) (i : ℕ) → length rows ≤ 64 → length rows ≡ i → IsIndexBelow rows index i → IsIndex rows index
+index_all rows index i few all h = record {
+  there = λ n small within. elim (h.each n small) as (λ _. (slot_of_row rows (slice_index index n)).number ≡ n) [
     | inl none ↦ absurd (omega (arith, none))
     | inr some ↦ some.1
   ];
@@ -103,3 +102,10 @@ core_numbered core rising small = record {
     | inr other ↦ absurd (differs_between (numbers_in core) rising j k other (omega (arith, length-numbers core)) (omega (arith, length-numbers core)) (number-get core j first ∙ e ∙ sym (number-get core k second)))
   ];
 }
+
+-- the numbers of a core's slots are below 64
+pub small_numbers : (core : Core) → IsCore core → AllByRecursion (λ (s : Slot). s.number < 64) (slots_of core)
+small_numbers core whole = each_map IsSlot (λ (s : Slot). s.number < 64) (λ s is. is.number) (slots_of core) whole.formed.slots
+
+pub apart_in : (core : Core) → IsCore core → AreNumbered core.rows
+apart_in core whole = core_numbered core whole.formed.rising (small_numbers core whole)

@@ -1,6 +1,6 @@
 -- The running slots as bits.
 use Rattle.std.proofs.Common.{◌≡◌, ◌≢◌, ℕ, zero, suc, ◌*◌, ◌%◌, ◌^◌, ◌<◌, ◌↔◌, ◌⊎◌, Bool, true, false, List, [], ◌∷◌, length, get_or, set, bit_or, bit_and, Option, Some, None, Result, refl, sym, ap, ◌∙◌, arith, inl, inr}
-use Rattle.std.specs.Prelude.{IsSomeAnd}
+use Rattle.std.specs.Prelude.{IsSomeAnd, slice_index}
 use Rattle.std.specs.Int.{IsBitSet, bit_at, bit_not, w64}
 use Rattle.std.proofs.lemmas.Bool.{cases_eq, cases_lt}
 use Rattle.std.proofs.lemmas.List.{get_or-set_same, get_or-set_other, get_or_default, length-set}
@@ -21,7 +21,7 @@ use Rattle.mm_model.specs.Flags.{one_if}
 use Rattle.mm_model.proofs.TurnKeeps.{changed_from}
 use Rattle.mm_thread.specs.Ends.{EndsAlone}
 use Rattle.mm_thread.specs.Places.{no_row}
-use Rattle.mm_thread.specs.Runners.{slot_of_row, AreNumbered, HasRunners, IsNoted}
+use Rattle.mm_thread.specs.Tables.{slot_of_row, AreNumbered, HasRunners, IsNoted, IsIndex, AreKnown}
 use Rattle.mm_thread.proofs.Index.{row_in-none, row_in-alone}
 
 -- 1. One bit.
@@ -55,14 +55,14 @@ module _ (rows : List Row) (p : ℕ) (within : p < length rows) (row : Row) (sam
     | inr other ↦ ap (λ (s : Slot). s.number) (slot-other k other)
   ]
 
-  numbered_set : AreNumbered rows → AreNumbered (set rows p row)
+  pub numbered_set : AreNumbered rows → AreNumbered (set rows p row)
   numbered_set h = record {
     small = λ k inside. omega (arith, number-set k, h.small k (omega (arith, length-set rows p row)));
     own = λ j k first second e. h.own j k (omega (arith, length-set rows p row)) (omega (arith, length-set rows p row)) (sym (number-set j) ∙ e ∙ number-set k);
   }
 
   -- its bit is noted
-  pub runners_set : (before after : ℕ) → HasRunners rows before → IsNoted before after row.slot → HasRunners (set rows p row) after
+  runners_set : (before after : ℕ) → HasRunners rows before → IsNoted before after row.slot → HasRunners (set rows p row) after
   runners_set before after h noted = record {
     numbered = numbered_set h.numbered;
     bits = record {
@@ -82,11 +82,23 @@ module _ (rows : List Row) (p : ℕ) (within : p < length rows) (row : Row) (sam
   }
 
   -- it runs where it ran
-  pub runners_kept : (runners : ℕ) → HasRunners rows runners → row.slot.state ≡ (slot_of_row rows p).state → HasRunners (set rows p row) runners
+  runners_kept : (runners : ℕ) → HasRunners rows runners → row.slot.state ≡ (slot_of_row rows p).state → HasRunners (set rows p row) runners
   runners_kept runners h state = runners_set runners runners h (record {
     here = ap (bit_at runners) same ∙ h.bits.each p within ∙ sym (ap (λ (st : SlotState). one_if (is_running st)) state);
     others = λ n low other. refl;
   })
+
+  index_set : (index : List ℕ) → IsIndex rows index → IsIndex (set rows p row) index
+  index_set index h = record {
+    there = λ n small inside. number-set (slice_index index n) ∙ h.there n small (omega (arith, length-set rows p row));
+    back = λ k inside. ap (slice_index index) (number-set k) ∙ h.back k (omega (arith, length-set rows p row));
+  }
+
+  pub known_set : (index : List ℕ) (before after : ℕ) → AreKnown rows index before → IsNoted before after row.slot → AreKnown (set rows p row) index after
+  known_set index before after h noted = record { places = index_set index h.places; running = runners_set before after h.running noted }
+
+  pub known_kept : (index : List ℕ) (runners : ℕ) → AreKnown rows index runners → row.slot.state ≡ (slot_of_row rows p).state → AreKnown (set rows p row) index runners
+  known_kept index runners h state = record { places = index_set index h.places; running = runners_kept runners h.running state }
 
 -- the slot that is taken from a place
 pub slot_there : (rows : List Row) (p : ℕ) → p < length rows → (row d : Row) → row ≡ get_or rows p d → row.slot ≡ slot_of_row rows p

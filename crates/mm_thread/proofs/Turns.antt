@@ -27,10 +27,12 @@ use Rattle.mm_model.proofs.SlotSteps.{delivered_from}
 use Rattle.mm_mem.specs.Answers.{fetched as fetched_answer}
 use Rattle.mm_thread.specs.declared.outcome.Outcome.{Outcome}
 use Rattle.mm_thread.specs.declared.outcome.Outcome.TheVariants.{Waits, Fails}
-use Rattle.mm_thread.specs.declared.outcome.Told.{Told}
-use Rattle.mm_thread.specs.Places.{row_at, slot_in, with_row, with_slot, numbers_in, IsIndex}
-use Rattle.mm_thread.specs.Left.{CanTurn, CanEnd, Leaves, effect_in, Executes, Gives, core_ended, step_ended}
-use Rattle.mm_thread.proofs.Index.{slot_found, put_slot-place, number-get}
+use Rattle.mm_thread.specs.declared.outcome.Retired.{Retired}
+use Rattle.mm_thread.specs.Places.{row_at, slot_in, with_row, with_slot, numbers_in}
+use Rattle.mm_thread.specs.Execution.{CanTurn, CanEnd, Leaves, effect_in, Executes, Gives, core_ended, step_ended}
+use Rattle.mm_thread.specs.Tables.{AreNumbered}
+use Rattle.mm_thread.proofs.Placing.{apart_in}
+use Rattle.mm_thread.proofs.Index.{slot_found, put_slot-place, number-get, apart_by}
 use Rattle.mm_thread.proofs.Cores.{queue_in-slot, slot_in-same}
 
 -- 1. A slot that is put in a core.
@@ -60,14 +62,13 @@ with_slot-twice core p a b within =
     ∙ ap (λ (rows : List Row). record core { rows = rows }) (set-set core.rows p (record (row_at core p) { slot = a }) (record (row_at core p) { slot = b }))
 
 -- the slot of a place whose number is found elsewhere too
-same_slot : (core k : Core) (places : List ℕ) → IsIndex (numbers_in core) places → (p : ℕ) → p < length core.rows → numbers_in k ≡ numbers_in core → p < length k.rows
+same_slot : (core k : Core) → AreNumbered core.rows → (p : ℕ) → p < length core.rows → numbers_in k ≡ numbers_in core → p < length k.rows
     → slot_at k (slot_in core p).number ≡ slot_at core (slot_in core p).number → slot_in k p ≡ slot_in core p
-same_slot core k places index p within numbers inside stays =
-    let P : List ℕ → Type 0 = λ ns. IsIndex ns places in
-    let indexed : IsIndex (numbers_in k) places = subst P (sym numbers) index in
+same_slot core k apart p within numbers inside stays =
+    let indexed : AreNumbered k.rows = apart_by core k numbers apart in
     let number : (slot_in k p).number ≡ (slot_in core p).number = sym (number-get k p inside) ∙ ap (λ (ns : List ℕ). slice_index ns p) numbers ∙ number-get core p within in
     let is : ◌≡◌ {A = Option Slot} (Some (slot_in k p)) (Some (slot_in core p)) =
-    sym (slot_found k places indexed p inside) ∙ ap (slot_at k) number ∙ stays ∙ slot_found core places index p within
+    sym (slot_found k indexed p inside) ∙ ap (slot_at k) number ∙ stays ∙ slot_found core apart p within
     in
     cc
 
@@ -79,7 +80,7 @@ pub record EndsSo (t : Turned) (core : Core) (memory : Memory) (step : Step) : T
   pub memory_is : memory ≡ t.memory
   pub step_is : step ≡ t.step
 
-module _ (core : Core) (places : List ℕ) (p : ℕ) (can : CanTurn core places p) (m : Memory) where
+module _ (core : Core) (p : ℕ) (can : CanTurn core p) (m : Memory) where
   abbrev s : Slot
   s = slot_in core p
 
@@ -91,62 +92,61 @@ module _ (core : Core) (places : List ℕ) (p : ℕ) (can : CanTurn core places 
     still = let n = can.within in omega (arith, ap (λ (k : Core). length k.rows) is, length-put_slot core other)
 
     slot_stays : slot_in core1 p ≡ s
-    slot_stays = same_slot core core1 places can.index p can.within numbers_stay still stays
+    slot_stays = same_slot core core1 (apart_in core can.whole) p can.within numbers_stay still stays
 
     waits_on : with_slot core1 p (stood (slot_in core1 p) Running) ≡ put_slot core1 (stood s Running)
     waits_on =
-        let P : List ℕ → Type 0 = λ ns. IsIndex ns places in
-        let indexed : IsIndex (numbers_in core1) places = subst P (sym numbers_stay) can.index in
+        let indexed : AreNumbered core1.rows = apart_by core core1 numbers_stay (apart_in core can.whole) in
         ap (λ (x : Slot). with_slot core1 p (stood x Running)) slot_stays
-        ∙ sym (put_slot-place core1 places indexed p still (stood s Running) (ap (λ (x : Slot). x.number) (sym slot_stays)))
+        ∙ sym (put_slot-place core1 indexed p still (stood s Running) (ap (λ (x : Slot). x.number) (sym slot_stays)))
 
   -- what the end of a turn needs
-  pub can_end : (e : Effect) (core1 : Core) (m1 : Memory) (o : Outcome) → Leaves core m s e core1 m1 o → CanEnd o core1 places p
+  pub can_end : (e : Effect) (core1 : Core) (m1 : Memory) (o : Outcome) → Leaves core m s e core1 m1 o → CanEnd o core1 p
   can_end e core1 m1 o h = by e o h.core_is h.outcome_is h.stays
     where
-      waiting : (k : Core) → p < length k.rows → slot_in k p ≡ s → CanEnd Waits k places p
+      waiting : (k : Core) → p < length k.rows → slot_in k p ≡ s → CanEnd Waits k p
       waiting k inside same = (inside, let t = can.turns in omega (arith, ap (λ (x : Slot). x.turns) same))
 
-      by : (e : Effect) (o : Outcome) → core1 ≡ Rattle.mm_thread.specs.Left.core_left core s e → o ≡ Rattle.mm_thread.specs.Left.outcome_of e
-          → (o ≡ Waits → slot_at core1 s.number ≡ slot_at core s.number) → CanEnd o core1 places p
-      by (Does c) o core_is outcome_is stays = let P : Outcome → Type 0 = λ x. CanEnd x core1 places p in subst P (sym outcome_is) tt
+      by : (e : Effect) (o : Outcome) → core1 ≡ Rattle.mm_thread.specs.Execution.core_left core s e → o ≡ Rattle.mm_thread.specs.Execution.outcome_of e
+          → (o ≡ Waits → slot_at core1 s.number ≡ slot_at core s.number) → CanEnd o core1 p
+      by (Does c) o core_is outcome_is stays = let P : Outcome → Type 0 = λ x. CanEnd x core1 p in subst P (sym outcome_is) tt
       by (Fault c) o core_is outcome_is stays =
-          let P : Outcome → Type 0 = λ x. CanEnd x core1 places p in
-          let C : Core → Type 0 = λ k. CanTurn k places p in
+          let P : Outcome → Type 0 = λ x. CanEnd x core1 p in
+          let C : Core → Type 0 = λ k. CanTurn k p in
           subst P (sym outcome_is) (subst C (sym core_is) can)
       by Block o core_is outcome_is stays =
-          let P : Outcome → Type 0 = λ x. CanEnd x core1 places p in
-          let C : Core → Type 0 = λ k. CanEnd Waits k places p in
+          let P : Outcome → Type 0 = λ x. CanEnd x core1 p in
+          let C : Core → Type 0 = λ k. CanEnd Waits k p in
           subst P (sym outcome_is) (subst C (sym core_is) (waiting core can.within refl))
       by (Deliver other) o core_is outcome_is stays =
-          let P : Outcome → Type 0 = λ x. CanEnd x core1 places p in
+          let P : Outcome → Type 0 = λ x. CanEnd x core1 p in
           subst P (sym outcome_is) (waiting core1 (still other core1 core_is (stays outcome_is)) (slot_stays other core1 core_is (stays outcome_is)))
 
   module _ (i : Instr) (f : Touch) (touched : Option Touch) (us : List Use) (core1 : Core) (m1 : Memory) (o : Outcome) (core2 : Core) (step : Step)
-      (core_is : core2 ≡ core_ended i core1 (slot_in core1 p) p o) (step_is : step ≡ step_ended s.number (slot_in core1 p) f touched o) where
+      (core_is : core2 ≡ core_ended i core1 (slot_in core1 p) p o) (step_is : step ≡ step_ended s.number (slot_in core1 p) (Some f) touched o) where
     pub ended_so : (e : Effect) → Leaves core m s e core1 m1 o → EndsSo (ended core m s i f touched us e) core2 m1 step
     unfolding ended faulted blocked
     ended_so (Does c) h = record {
       core_is = core_is ∙ ap (core_ended i core1 (slot_in core1 p) p) h.outcome_is ∙ h.core_is;
       memory_is = h.memory_is;
-      step_is = step_is ∙ ap (step_ended s.number (slot_in core1 p) f touched) h.outcome_is;
+      step_is = step_is ∙ ap (step_ended s.number (slot_in core1 p) (Some f) touched) h.outcome_is;
     }
     ended_so (Fault c) h = record {
       core_is = core_is ∙ ap (core_ended i core1 (slot_in core1 p) p) h.outcome_is
           ∙ ap (λ (k : Core). core_faulted k (slot_in k p) (event_of (slot_in k p) c (addr_operand i (slot_in k p)) (value_operand i (slot_in k p))) (slot_in k p).handler) h.core_is;
       memory_is = h.memory_is;
-      step_is = step_is ∙ ap (step_ended s.number (slot_in core1 p) f touched) h.outcome_is ∙ ap (λ (k : Core). step_ended s.number (slot_in k p) f touched (Fails c)) h.core_is;
+      step_is = step_is ∙ ap (step_ended s.number (slot_in core1 p) (Some f) touched) h.outcome_is ∙ ap (λ (k : Core). step_ended s.number (slot_in k p) (Some f) touched (Fails c)) h.core_is;
     }
     ended_so Block h = record {
       core_is = core_is ∙ ap (core_ended i core1 (slot_in core1 p) p) h.outcome_is ∙ ap (λ (k : Core). with_slot k p (stood (slot_in k p) Running)) h.core_is
-          ∙ sym (put_slot-place core places can.index p can.within (stood s Running) refl);
+          ∙ sym (put_slot-place core (apart_in core can.whole) p can.within (stood s Running) refl);
       memory_is = h.memory_is;
-      step_is = step_is ∙ ap (step_ended s.number (slot_in core1 p) f touched) h.outcome_is;
+      step_is = step_is ∙ ap (step_ended s.number (slot_in core1 p) (Some f) touched) h.outcome_is;
     }
     ended_so (Deliver other) h = record {
       core_is = core_is ∙ ap (core_ended i core1 (slot_in core1 p) p) h.outcome_is ∙ waits_on other core1 h.core_is (h.stays h.outcome_is) ∙ ap (λ (k : Core). put_slot k (stood s Running)) h.core_is;
       memory_is = h.memory_is;
-      step_is = step_is ∙ ap (step_ended s.number (slot_in core1 p) f touched) h.outcome_is;
+      step_is = step_is ∙ ap (step_ended s.number (slot_in core1 p) (Some f) touched) h.outcome_is;
     }
 
 pub ended_uses : (core : Core) (m : Memory) (s : Slot) (i : Instr) (f : Touch) (touched : Option Touch) (us : List Use) (e : Effect) → (ended core m s i f touched us e).uses ≡ us
@@ -159,24 +159,19 @@ ended_uses core m s i f touched us (Does c) = refl
 -- 3. The same with what is asked of a memory.
 
 module _ {M : Type 0} (meaning : M → Memory) (uses : M → ℕ) (stands : M → List Use → Type 0) where
-  pub faults_give : (core : Core) (m : Memory) (s : Slot) (c : Cause) (a v : Word) (f : Option Touch) (us : List Use) (old new : M) (core' : Core) (step : Step) (tick : Tick) (n : ℕ)
-      → core' ≡ core_faulted core s (event_of s c a v) s.handler → meaning new ≡ m → tick ≡ tick_faulted c s.handler → n ≡ s.number
-      → step ≡ record { tick = tick; slot = n; fetched = f; touched = None; entered = None } → TakesUses stands old new us → uses new ≡ uses old + accesses us
-      → Gives meaning uses stands (faulted core m s c a v f None us) old new core' step
+  pub faults_give : (core : Core) (m : Memory) (s : Slot) (c : Cause) (f : Option Touch) (us : List Use) (old new : M) (core' : Core) (step : Step)
+      → core' ≡ core_faulted core s (event_of s c (Int 0) (Int 0)) s.handler → meaning new ≡ m
+      → step ≡ record { tick = tick_faulted c s.handler; slot = s.number; fetched = f; touched = None; entered = None } → TakesUses stands old new us → uses new ≡ uses old + accesses us
+      → Gives meaning uses stands (faulted core m s c (Int 0) (Int 0) f None us) old new core' step
   unfolding faulted
-  faults_give core m s c a v f us old new core' step tick n core_is memory_is tick_is number_is step_is takes count = record {
-    core_is = core_is;
-    memory_is = memory_is;
-    step_is = step_is ∙ ap (λ (t : Tick). record { tick = t; slot = n; fetched = f; touched = None; entered = None }) tick_is ∙ ap (λ (k : ℕ). record { tick = tick_faulted c s.handler; slot = k; fetched = f; touched = None; entered = None }) number_is;
-    takes = takes;
-    count = count;
-  }
+  faults_give core m s c f us old new core' step core_is memory_is step_is takes count =
+      record { core_is = core_is; memory_is = memory_is; step_is = step_is; takes = takes; count = count }
 
-  module _ (core : Core) (places : List ℕ) (p : ℕ) (can : CanTurn core places p) (f : Touch) (u : Use) (i : Instr) (before mid : M)
+  module _ (core : Core) (p : ℕ) (can : CanTurn core p) (f : Touch) (u : Use) (i : Instr) (before mid : M)
       (first : TakesUses stands before mid (u ∷ [])) (same : meaning mid ≡ meaning before) (counted : uses mid ≡ uses before + accesses (u ∷ [])) where
     -- the instruction is carried out
-    pub issued_gives : (core.split && lacks i (slot_in core p)) ≡ false → (new : M) (core1 core2 : Core) (told : Told) (step : Step) → Executes meaning uses stands core (slot_in core p) i mid new core1 told
-        → core2 ≡ core_ended i core1 (slot_in core1 p) p told.outcome → step ≡ step_ended (slot_in core p).number (slot_in core1 p) f told.touched told.outcome
+    pub issued_gives : (core.split && lacks i (slot_in core p)) ≡ false → (new : M) (core1 core2 : Core) (told : Retired) (step : Step) → Executes meaning uses stands core (slot_in core p) i mid new core1 told
+        → core2 ≡ core_ended i core1 (slot_in core1 p) p told.outcome → step ≡ step_ended (slot_in core p).number (slot_in core1 p) (Some f) told.touched told.outcome
         → Gives meaning uses stands (issued core (meaning before) (slot_in core p) f u i) before new core2 step
     unfolding issued executed
     issued_gives free new core1 core2 told step ex core_is step_is =
@@ -186,8 +181,8 @@ module _ {M : Type 0} (meaning : M → Memory) (uses : M → ℕ) (stands : M �
         let TakesAt : Memory → Type 0 = λ x. TakesUses stands mid new (asked_use x (ask i s)) in
         let CountAt : Memory → Type 0 = λ x. uses new ≡ uses mid + accesses (asked_use x (ask i s)) in
         let us : List Use = u ∷ asked_use m (ask i s) in
-        let so = ended_so core places p can m i f (touch_of (ask i s)) us core1 (meaning new) told.outcome core2 step core_is
-        (step_is ∙ ap (λ t. step_ended s.number (slot_in core1 p) f t told.outcome) ex.touched) (effect_in core m s i) (subst LeavesAt same ex.leaves) in
+        let so = ended_so core p can m i f (touch_of (ask i s)) us core1 (meaning new) told.outcome core2 step core_is
+        (step_is ∙ ap (λ t. step_ended s.number (slot_in core1 p) (Some f) t told.outcome) ex.touched) (effect_in core m s i) (subst LeavesAt same ex.leaves) in
         let listed = ended_uses core m s i f (touch_of (ask i s)) us (effect_in core m s i) in
         let Takes : List Use → Type 0 = λ ws. TakesUses stands before new ws in
         let Count : List Use → Type 0 = λ ws. uses new ≡ uses before + accesses ws in
@@ -212,7 +207,7 @@ module _ {M : Type 0} (meaning : M → Memory) (uses : M → ℕ) (stands : M �
           core_is = core_is ∙ ap (λ (k : Core). with_slot k p (stood (slot_in k p) Running)) first_is
               ∙ ap (λ (x : Slot). with_slot (with_slot core p (delivered s)) p (stood x Running)) (slot_in-same core p (delivered s) can.within)
               ∙ with_slot-twice core p (delivered s) (stood (delivered s) Running) can.within
-              ∙ sym (put_slot-place core places can.index p can.within (stood (delivered s) Running) from.number);
+              ∙ sym (put_slot-place core (apart_in core can.whole) p can.within (stood (delivered s) Running) from.number);
           memory_is = same;
           step_is = step_is ∙ ap (λ (k : ℕ). record { tick = Blocked; slot = k; fetched = Some f; touched = None; entered = None }) (number_is ∙ sym from.number);
           takes = first;
@@ -232,8 +227,8 @@ fetched-some (Some c) w e =
     (c, refl, same)
 
 -- a delivery is no turn
-pub turns-delivered : (core : Core) (places : List ℕ) (p : ℕ) → CanTurn core places p → (core1 : Core) → core1 ≡ with_slot core p (delivered (slot_in core p)) → (slot_in core1 p).turns < 2 ^ 62
-turns-delivered core places p can core1 is =
+pub turns-delivered : (core : Core) (p : ℕ) → CanTurn core p → (core1 : Core) → core1 ≡ with_slot core p (delivered (slot_in core p)) → (slot_in core1 p).turns < 2 ^ 62
+turns-delivered core p can core1 is =
     let turns = can.turns in
     let same = ap (λ (k : Core). (slot_in k p).turns) is ∙ ap (λ (x : Slot). x.turns) (slot_in-same core p (delivered (slot_in core p)) can.within) ∙ (delivered_from (slot_in core p)).turns in
     omega arith

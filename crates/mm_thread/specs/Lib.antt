@@ -1,8 +1,8 @@
 pub mod Ends
 pub mod Places
-pub mod Left
+pub mod Execution
 pub mod Told
 pub mod Output
 pub mod Parts
-pub mod Runners
+pub mod Tables
 pub mod Named

@@ -58,11 +58,6 @@ with_queue_in core place q = with_row core place (record (row_at core place) { q
 abbrev pub numbers_in : Core → List ℕ
 numbers_in core = numbers_of (slots_of core)
 
--- the table of places: each number that a slot has leads to its place, and each other number to no place
-pub record IsIndex (numbers places : List ℕ) : Type 0 where
-  pub there : (n : ℕ) → n < 64 → slice_index places n < length numbers → slice_index numbers (slice_index places n) ≡ n
-  pub back : (k : ℕ) → k < length numbers → slice_index places (slice_index numbers k) ≡ k
-
 -- the register of the oldest pending load
 abbrev pub first_register : List Pending → Option ℕ
 first_register [] = None
@@ -71,8 +66,3 @@ first_register (p ∷ ps) = Some p.reg
 -- the words of an event in four registers from rd on
 abbrev pub event_writes : ℕ → Event → List (ℕ × Word)
 event_writes rd e = (rd, Int (number_of e.cause + 256 * e.slot)) ∷ (rd + 1, Ptr e.ip) ∷ (rd + 2, e.addr_op) ∷ (rd + 3, e.value_op) ∷ []
-
--- a core whose table of places is right
-pub record IsSound (core : Core) (places : List ℕ) : Type 0 where
-  pub whole : IsCore core
-  pub index : IsIndex (numbers_in core) places

@@ -5,8 +5,8 @@ ghost use Rattle.mm_model.specs.Effect.{effect};
 ghost use Rattle.mm_model.specs.Effect.Reply.{Fine};
 ghost use Rattle.mm_thread.specs.Ends.{EndsAlone, is_alone};
 
-use crate::alone;
-use crate::alone::Entered;
+use crate::local_ops;
+use crate::local_ops::Entered;
 use mm_isa::Instr;
 use mm_model::Slot;
 use mm_word::Cause;
@@ -18,29 +18,29 @@ pub(crate) fn carry_out(slot: &mut Slot, instr: Instr) -> Entered
     ensures { (split : Bool) → EndsAlone (effect split instr slot.old Fine) slot.old slot.new result }
 {
     match instr {
-        Instr::Halt => alone::halt(slot),
-        Instr::Nop => alone::nop(slot),
-        Instr::Ldi { rd, imm } => alone::ldi(slot, rd, imm),
-        Instr::Ldhi { rd, imm } => alone::ldhi(slot, rd, imm),
-        Instr::Mov { rd, ra } => alone::mov(slot, rd, ra),
-        Instr::Isptr { rd, ra } => alone::isptr(slot, rd, ra),
-        Instr::Eqw { rd, ra, rb } => alone::eqw(slot, rd, ra, rb),
-        Instr::SelfSlot { rd } => alone::self_slot(slot, rd),
-        Instr::Alu { op, rd, ra, rb } => alone::operate(slot, op, rd, ra, rb),
-        Instr::Addi { rd, ra, imm } => alone::addi(slot, rd, ra, imm),
-        Instr::Lea { rd, ra, rb } => alone::lea_by(slot, rd, ra, rb),
-        Instr::Leai { rd, ra, imm } => alone::leai(slot, rd, ra, imm),
-        Instr::Leab { rd, ra, rb } => alone::leab_by(slot, rd, ra, rb),
-        Instr::Restrict { rd, ra, rb } => alone::restrict_to(slot, rd, ra, rb),
-        Instr::Subseg { rd, ra, rb } => alone::subseg_to(slot, rd, ra, rb),
-        Instr::Setptr { rd, ra } => alone::set_pointer(slot, rd, ra),
-        Instr::Br { imm } => alone::br(slot, imm),
-        Instr::Bz { ra, imm } => alone::bz(slot, ra, imm),
-        Instr::Bnz { ra, imm } => alone::bnz(slot, ra, imm),
-        Instr::Jmp { ra } => alone::jmp(slot, ra),
-        Instr::Jal { rd, ra } => alone::jal(slot, rd, ra),
-        Instr::Lip { rd, imm } => alone::lip(slot, rd, imm),
-        Instr::Trap { imm } => alone::trap(slot, imm),
+        Instr::Halt => local_ops::halt(slot),
+        Instr::Nop => local_ops::nop(slot),
+        Instr::Ldi { rd, imm } => local_ops::ldi(slot, rd, imm),
+        Instr::Ldhi { rd, imm } => local_ops::ldhi(slot, rd, imm),
+        Instr::Mov { rd, ra } => local_ops::mov(slot, rd, ra),
+        Instr::Isptr { rd, ra } => local_ops::isptr(slot, rd, ra),
+        Instr::Eqw { rd, ra, rb } => local_ops::eqw(slot, rd, ra, rb),
+        Instr::SelfSlot { rd } => local_ops::self_slot(slot, rd),
+        Instr::Alu { op, rd, ra, rb } => local_ops::operate(slot, op, rd, ra, rb),
+        Instr::Addi { rd, ra, imm } => local_ops::addi(slot, rd, ra, imm),
+        Instr::Lea { rd, ra, rb } => local_ops::lea_by(slot, rd, ra, rb),
+        Instr::Leai { rd, ra, imm } => local_ops::leai(slot, rd, ra, imm),
+        Instr::Leab { rd, ra, rb } => local_ops::leab_by(slot, rd, ra, rb),
+        Instr::Restrict { rd, ra, rb } => local_ops::restrict_to(slot, rd, ra, rb),
+        Instr::Subseg { rd, ra, rb } => local_ops::subseg_to(slot, rd, ra, rb),
+        Instr::Setptr { rd, ra } => local_ops::set_pointer(slot, rd, ra),
+        Instr::Br { imm } => local_ops::br(slot, imm),
+        Instr::Bz { ra, imm } => local_ops::bz(slot, ra, imm),
+        Instr::Bnz { ra, imm } => local_ops::bnz(slot, ra, imm),
+        Instr::Jmp { ra } => local_ops::jmp(slot, ra),
+        Instr::Jal { rd, ra } => local_ops::jal(slot, rd, ra),
+        Instr::Lip { rd, imm } => local_ops::lip(slot, rd, imm),
+        Instr::Trap { imm } => local_ops::trap(slot, imm),
         Instr::Out { .. }
         | Instr::Ld { .. }
         | Instr::St { .. }

@@ -1,49 +1,24 @@
-//! Slots found by their numbers, and faults.
+//! Faults.
 
-ghost use Rattle.std.specs.Prelude.{◌≡◌, ◌<◌, ◌^◌, Some, None, IfSome, IfNone, length};
+ghost use Rattle.std.specs.Prelude.{◌≡◌, Some, None};
 ghost use Rattle.mm_model.specs.declared.event.Event.{Event};
-ghost use Rattle.mm_model.specs.State.{slot_at};
-ghost use Rattle.mm_model.specs.Fits.{IsCore};
 ghost use Rattle.mm_model.specs.Turn.{core_faulted, event_of, tick_faulted, is_sync};
-ghost use Rattle.mm_thread.specs.Places.{slot_in, numbers_in, IsIndex};
-ghost use Rattle.mm_thread.specs.Left.{CanTurn};
+ghost use Rattle.mm_thread.specs.Places.{slot_in};
+ghost use Rattle.mm_thread.specs.Execution.{CanTurn};
 
 use crate::tables::Tables;
 use mm_model::{Event, SlotState, Tick};
 use mm_word::{Cause, Word};
 
-/// The place of each number's slot, and one past all places where there is none.
-pub(crate) type Places = [u8; 64];
-
-/// The place of the slot of a number.
-pub(crate) fn place_of(places: &Places, tables: &Tables, number: u64) -> Option<usize>
-    requires whole { IsCore tables.now }
-    requires index { IsIndex (numbers_in tables.now) places.now }
-    ensures within { IfSome result (λ p. p < length tables.now.rows) }
-    ensures number { IfSome result (λ p. (slot_in tables.now p).number ≡ number) }
-    ensures missing { IfNone result (slot_at tables.now number ≡ None) }
-{
-    if number >= 64 {
-        return None;
-    }
-    let place = places[number as usize] as usize;
-    if place < tables.len() {
-        Some(place)
-    } else {
-        None
-    }
-}
-
 /// The slot at a place faults: it waits for its handler, or is halted, or waits in its place for a synchronisation bit.
 pub(crate) fn fault(
     tables: &mut Tables,
-    places: &Places,
     place: usize,
     cause: Cause,
     addr_op: Word,
     value_op: Word,
 ) -> Tick
-    requires can { CanTurn tables.old places.now place }
+    requires can { CanTurn tables.old place }
     ensures core { let s = slot_in tables.old place in
         tables.new ≡ core_faulted tables.old s (event_of s cause addr_op value_op) s.handler }
     ensures tick { result ≡ tick_faulted cause (slot_in tables.old place).handler }
@@ -58,16 +33,16 @@ pub(crate) fn fault(
     };
     match slot.handler {
         Some(handler) => {
-            wait_for(tables, places, place, handler, event);
+            wait_for(tables, place, handler, event);
             Tick::Faulted(cause)
         }
-        None => end_alone(tables, places, place, cause),
+        None => end_alone(tables, place, cause),
     }
 }
 
 // A slot without a handler waits in its place for a synchronisation bit, and is halted by each other cause.
-fn end_alone(tables: &mut Tables, places: &Places, place: usize, cause: Cause) -> Tick
-    requires can { CanTurn tables.old places.now place }
+fn end_alone(tables: &mut Tables, place: usize, cause: Cause) -> Tick
+    requires can { CanTurn tables.old place }
     ensures core { let s = slot_in tables.old place in
         (e : Event) → e.cause ≡ cause → tables.new ≡ core_faulted tables.old s e None }
     ensures tick { result ≡ tick_faulted cause None }
@@ -88,12 +63,12 @@ fn is_sync(cause: Cause) -> bool
 }
 
 // The slot waits, and its event goes to its handler's queue.
-fn wait_for(tables: &mut Tables, places: &Places, place: usize, handler: u8, event: Event)
-    requires can { CanTurn tables.old places.now place }
+fn wait_for(tables: &mut Tables, place: usize, handler: u8, event: Event)
+    requires can { CanTurn tables.old place }
     requires handler { (slot_in tables.old place).handler ≡ Some handler }
     ensures { let s = slot_in tables.old place in tables.new ≡ core_faulted tables.old s event (Some handler) }
 {
-    let Some(at) = place_of(places, tables, u64::from(handler)) else {
+    let Some(at) = tables.place_of(u64::from(handler)) else {
         unreachable!();
     };
     tables.stand(place, SlotState::Waiting);

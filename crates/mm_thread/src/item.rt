@@ -6,34 +6,26 @@ ghost use Rattle.mm_model.specs.Slot.{Slot as SlotValue};
 ghost use Rattle.mm_model.specs.Fits.{IsCore, slots_of};
 ghost use Rattle.mm_model.specs.Turn.{turn, taken_by_port, port_of, is_running};
 ghost use Rattle.mm_model.specs.Memory.{Memory as MemoryValue};
-ghost use Rattle.mm_thread.specs.Places.{slot_in, numbers_in, IsIndex};
-ghost use Rattle.mm_thread.specs.Left.{Gives, AsksNothing};
+ghost use Rattle.mm_thread.specs.Places.{slot_in};
+ghost use Rattle.mm_thread.specs.Execution.{Gives, AsksNothing};
 
-use crate::fault::{Places, place_of};
-use crate::running::{start, tell};
+use crate::slot_turn::{start, tell};
 use crate::tables::Tables;
 use mm_mem::Memory;
 use mm_model::{Slot, SlotState, Step, Tick};
 
 /// The turn of an item, and its step.
-pub(crate) fn take_item<M: Memory>(
-    tables: &mut Tables,
-    places: &Places,
-    mem: &mut M,
-    item: u8,
-    step: &mut Step,
-)
+pub(crate) fn take_item<M: Memory>(tables: &mut Tables, mem: &mut M, item: u8, step: &mut Step)
     requires whole { IsCore tables.old }
-    requires index { IsIndex (numbers_in tables.old) places.now }
     requires turns { AllByRecursion (λ (s : SlotValue). s.turns < 2 ^ 61) (slots_of tables.old) }
     requires room { M.uses mem.old < 2 ^ 61 }
     ensures { Gives M.meaning M.uses M.stands (turn tables.old (M.meaning mem.old) item) mem.old mem.new tables.new step.new }
 {
-    match place_of(places, tables, u64::from(item)) {
-        None => take_port(tables, places, item, step),
+    match tables.place_of(u64::from(item)) {
+        None => take_port(tables, item, step),
         Some(place) => {
             if is_running(tables.slot(place)) {
-                start(tables, places, place, mem, step);
+                start(tables, place, mem, step);
             } else {
                 tell(step, Tick::Idle, item, None, None);
             }
@@ -49,12 +41,11 @@ pub(crate) fn is_running(slot: &Slot) -> bool
 }
 
 // The turn of an item that is no slot's number.
-fn take_port(tables: &mut Tables, places: &Places, item: u8, step: &mut Step)
+fn take_port(tables: &mut Tables, item: u8, step: &mut Step)
     requires whole { IsCore tables.old }
-    requires index { IsIndex (numbers_in tables.old) places.now }
     ensures { (m : MemoryValue) → AsksNothing (taken_by_port tables.old m item (port_of tables.old item)) m tables.new step.new }
 {
-    let Some(place) = port_of(tables, places, item) else {
+    let Some(place) = port_of(tables, item) else {
         tell(step, Tick::Idle, item, None, None);
         return;
     };
@@ -67,15 +58,14 @@ fn take_port(tables: &mut Tables, places: &Places, item: u8, step: &mut Step)
 }
 
 // The place of the slot whose port the item is: in a split machine the items from 128 on are ports.
-fn port_of(tables: &Tables, places: &Places, item: u8) -> Option<usize>
+fn port_of(tables: &Tables, item: u8) -> Option<usize>
     requires whole { IsCore tables.now }
-    requires index { IsIndex (numbers_in tables.now) places.now }
     ensures within { IfSome result (λ p. p < length tables.now.rows) }
     ensures port { IfSome result (λ p. port_of tables.now item ≡ Some (slot_in tables.now p)) }
     ensures none { IfNone result (port_of tables.now item ≡ None) }
 {
     if tables.split() && item >= 128 {
-        place_of(places, tables, u64::from(item - 128))
+        tables.place_of(u64::from(item - 128))
     } else {
         None
     }

@@ -1,24 +1,24 @@
 //! One turn of a machine over any memory.
 #![tactic(auto)]
 
-mod alone;
-mod asking;
-mod assigning;
+mod build;
 mod carry_out;
 mod execute;
 mod fault;
 mod group_output;
 mod item;
-mod making;
+mod local_ops;
+mod memory_ops;
 mod operands;
 mod outcome;
 mod output;
 mod queue;
-mod reaching;
+mod restore;
 mod row;
-mod runners;
-mod running;
+mod run_mask;
 mod slot;
+mod slot_ops;
+mod slot_turn;
 mod state;
 mod tables;
 

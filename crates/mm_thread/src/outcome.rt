@@ -13,7 +13,7 @@ pub(crate) enum Outcome {
 
 /// What an instruction tells of itself.
 #[derive(Clone, Copy, Debug, PartialEq, Eq)]
-pub(crate) struct Told {
+pub(crate) struct Retired {
     pub(crate) outcome: Outcome,
     /// Its access to a cell.
     pub(crate) touched: Option<Access>,

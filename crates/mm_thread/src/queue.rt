@@ -44,7 +44,7 @@ impl Queue {
         requires { length self.old < 64 }
         ensures { self.new ≡ self.old ++ event ∷ [] }
     {
-        // Taken apart, since the prover cannot carry an event as a whole into the list: it is not told of the words in it.
+        // Taken apart, since the prover cannot carry a whole event into the list: it is not told of the words in it.
         let Event {
             slot,
             cause,

@@ -1,3 +1,5 @@
+ghost use Rattle.std.specs.Prelude.{◌≡◌};
+
 use crate::queue::Queue;
 use mm_model::Slot;
 use std::marker::Model;
@@ -15,4 +17,13 @@ impl Model for Row {
     ghost Value = { RowValue };
 
     ghost view = { λ r. record { slot = r.slot; queue = r.queue } };
+}
+
+impl Row {
+    /// The number of its slot.
+    pub(crate) fn number(&self) -> u8
+        ensures { result ≡ self.now.slot.number }
+    {
+        self.slot.number
+    }
 }

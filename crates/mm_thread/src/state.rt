@@ -17,11 +17,10 @@ ghost use Rattle.mm_model.specs.declared.step.Tick.{Tick};
 ghost use Rattle.mm_thread.specs.Places.{row_alone};
 ghost use Rattle.mm_thread.specs.Told.{accesses_in, accesses_told};
 
-use crate::assigning::{put_events, put_outputs, put_slots};
-use crate::fault::place_of;
+use crate::build::{no_outputs, rows_of};
 use crate::item::take_item;
-use crate::making::{no_outputs, places_of, rows_of};
 use crate::output::Output;
+use crate::restore::{put_events, put_outputs, put_slots};
 use crate::tables::Tables;
 use mm_mem::Memory;
 use mm_model::{Event, Slot, Step, Tick};
@@ -33,18 +32,17 @@ use std::marker::Model;
 #[derive(Drop)]
 pub struct Core {
     tables: Tables,
-    places: [u8; 64],
 }
 
 impl Model for Core {
     ghost use Rattle.mm_model.specs.State.{Core as CoreValue};
-    ghost use Rattle.mm_thread.specs.Places.{IsSound};
+    ghost use Rattle.mm_model.specs.Fits.{IsCore};
 
     ghost Value = { CoreValue };
 
     ghost view = { λ c. c.tables };
 
-    ghost invariant = { λ c. IsSound c.tables c.places };
+    ghost invariant = { λ c. IsCore c.tables };
 }
 
 /// Takes the turn of an item: a running slot's turn, the delivery of a port of a split machine, or nothing.
@@ -79,16 +77,16 @@ pub fn turn<M: Memory>(core: &mut Core, mem: &mut M, item: u8) -> Step
         touched: None,
         entered: None,
     };
-    take_item(&mut core.tables, &core.places, mem, item, &mut step);
+    take_item(&mut core.tables, mem, item, &mut step);
     step
 }
 
 impl Core {
     ghost use Rattle.mm_thread.specs.Parts.{AreParts, core_of};
 
-    /// The core of an image's slots, before its first turn: each queue is empty and nothing was put out. It has the output limit
-    /// of version 1 until [`Core::set_version`] sets another, and is not split. The room for outputs is all that it takes beside its
-    /// slots; no later call takes memory.
+    /// The core of an image's slots, before its first turn: each queue is empty and nothing was put out. It has the
+    /// output limit of version 1 until [`Core::set_version`] sets another, and is not split. The room for outputs is
+    /// all that it takes beside its slots; no later call takes memory.
     pub fn new(alloc: Global, slots: &[Slot]) -> Result<Core, NoMemory>
         requires rising { IsStrictlyIncreasing (numbers_of slots.now) }
         requires fresh { AllByRecursion (IsFresh 64 slots.now) slots.now }
@@ -100,18 +98,17 @@ impl Core {
         let rows = rows_of(alloc, slots)?;
         let outputs = no_outputs(alloc)?;
         let tables = Tables::new(rows, outputs);
-        let places = places_of(&tables);
-        Ok(Core { tables, places })
+        Ok(Core { tables })
     }
 
-    /// Puts the core back to these parts: the slots, their events in order, each with the number of the slot that is to handle
-    /// it, and what groups have put out. Version and mode stay. Takes no memory.
+    /// Puts the core back to these parts: the slots, their events in order, each with the number of the slot that is to
+    /// handle it, and what groups have put out. Version and mode stay. Takes no memory.
     pub fn assign(&mut self, slots: &[Slot], events: &[(u8, Event)], outputs: &[Output])
         requires { AreParts self.old slots.now events.now outputs.now }
         ensures { self.new ≡ core_of self.old.version self.old.split slots.now events.now outputs.now }
     {
         put_slots(&mut self.tables, slots);
-        put_events(&mut self.tables, &self.places, events);
+        put_events(&mut self.tables, events);
         put_outputs(&mut self.tables, outputs);
     }
 
@@ -137,7 +134,7 @@ impl Core {
     pub fn slot(&self, n: u8) -> Option<&Slot>
         ensures { option_copied result ≡ slot_at self.now n }
     {
-        match place_of(&self.places, &self.tables, u64::from(n)) {
+        match self.tables.place_of(u64::from(n)) {
             Some(place) => Some(self.tables.slot(place)),
             None => None,
         }
@@ -154,7 +151,7 @@ impl Core {
     pub fn queue(&self, n: u8) -> &[Event]
         ensures { result.now ≡ queue_at self.now n }
     {
-        match place_of(&self.places, &self.tables, u64::from(n)) {
+        match self.tables.place_of(u64::from(n)) {
             Some(place) => self.tables.queue(place),
             None => &[],
         }

@@ -1,4 +1,4 @@
-ghost use Rattle.std.specs.Prelude.{◌≡◌, ◌↔◌, ℕ, IsSomeAnd, ◌<◌, ◌≤◌, ◌^◌, ◌++◌, ◌&&◌, [], ◌∷◌, nat_lt, None, Some, Bool, true, false, length, drop, slice_set};
+ghost use Rattle.std.specs.Prelude.{◌≡◌, ◌↔◌, ℕ, IsSomeAnd, IfSome, IfNone, ◌<◌, ◌≤◌, ◌^◌, ◌++◌, ◌&&◌, [], ◌∷◌, nat_lt, None, Some, Bool, true, false, length, drop, slice_set};
 ghost use Rattle.std.specs.List.{AllByRecursion};
 ghost use Rattle.std.specs.Int.{IsBitSet};
 ghost use Rattle.mm_word.specs.declared.word.Word.TheVariants.{Int};
@@ -11,24 +11,27 @@ ghost use Rattle.mm_model.specs.Effect.{effect, plain, delivered, resumed_by};
 ghost use Rattle.mm_model.specs.Effect.Reply.{Fine};
 ghost use Rattle.mm_model.specs.Turn.{slot_after, stood, is_running};
 ghost use Rattle.mm_thread.specs.Ends.{EndsAlone, is_alone};
-ghost use Rattle.mm_thread.specs.Runners.{AreNumbered};
+ghost use Rattle.mm_thread.specs.Tables.{AreNumbered};
 ghost use Rattle.mm_thread.specs.Places.{row_alone, slot_in, queue_in, with_row, with_slot, with_queue_in, first_register, event_writes};
 
-use crate::alone::Entered;
+use crate::build::index_of;
 use crate::carry_out::carry_out;
 use crate::group_output::GroupOutput;
+use crate::local_ops::Entered;
 use crate::row::Row;
-use crate::runners::{kept, noted, runners_of};
+use crate::run_mask::{kept, noted, runners_of};
 use crate::slot::{advance, deliver, issue, resume, set_register, sets, stand, take_event};
 use mm_isa::{EvtReg, How, Instr, Reg};
 use mm_model::{Event, Slot, SlotState};
 use mm_word::Word;
 use std::marker::Model;
 
-/// The slots by ascending number, each beside its queue, and what each group has put out.
+/// The slots by ascending number, each with its queue, where each number's slot is, and what each group has put out.
 #[derive(Drop)]
 pub(crate) struct Tables {
     rows: Vec<Row>,
+    /// The place of each number's row, and 64 where there is none.
+    index: [u8; 64],
     /// The running slots: bit n is set exactly where slot n runs.
     runners: u64,
     outputs: Vec<GroupOutput>,
@@ -38,24 +41,27 @@ pub(crate) struct Tables {
 
 impl Model for Tables {
     ghost use Rattle.mm_model.specs.State.{Core};
-    ghost use Rattle.mm_thread.specs.Runners.{HasRunners};
+    ghost use Rattle.mm_thread.specs.Tables.{AreKnown};
 
     ghost Value = { Core };
 
     ghost view = { λ t. record { rows = t.rows.items; outputs = t.outputs.items; version = t.version; split = t.split } };
 
-    ghost invariant = { λ t. HasRunners t.rows.items t.runners };
+    ghost invariant = { λ t. AreKnown t.rows.items t.index t.runners };
 }
 
 impl Tables {
     /// Tables of these rows, of version 1 and not split.
     pub(crate) fn new(rows: Vec<Row>, outputs: Vec<GroupOutput>) -> Tables
-        requires { AreNumbered rows.items }
+        requires apart { AreNumbered rows.items }
+        requires few { length rows.items ≤ 64 }
         ensures { result ≡ record { rows = rows.items; outputs = outputs.items; version = 1; split = false } }
     {
+        let index = index_of(&rows);
         let runners = runners_of(&rows);
         Tables {
             rows,
+            index,
             runners,
             outputs,
             version: 1,
@@ -83,6 +89,20 @@ impl Tables {
         ensures { result ≡ length self.now.rows }
     {
         self.rows.len()
+    }
+
+    /// The place of the slot of a number.
+    pub(crate) fn place_of(&self, number: u64) -> Option<usize>
+        ensures within { IfSome result (λ p. p < length self.now.rows) }
+        ensures number { IfSome result (λ p. (slot_in self.now p).number ≡ number) }
+        ensures missing { IfNone result (slot_at self.now number ≡ None) }
+    {
+        let count = self.rows.len();
+        if number >= 64 {
+            return None;
+        }
+        let place = self.index[number as usize] as usize;
+        if place < count { Some(place) } else { None }
     }
 
     /// The slot at a place.

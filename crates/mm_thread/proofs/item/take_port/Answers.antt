@@ -1,6 +1,7 @@
 use Rattle.std.proofs.Common.{◌≡◌, ap, sym, ◌∙◌}
 use Rattle.mm_model.specs.Slot.{Slot}
 use Rattle.mm_thread.proofs.Cores.{registers_small}
+use Rattle.mm_thread.proofs.Placing.{apart_in}
 use Rattle.mm_thread.proofs.Items.{port_idles, port_delivers, arrival, step_of}
 use Rattle.mm_thread.proofs.item.take_port.Goals as goal
 use Rattle.mm_thread.proofs.item.take_port.Goals.{in-Some-deliver, in-None}
@@ -11,8 +12,7 @@ returns-in_default c = λ m. port_idles c.args.tables.now m c.args.item c.tell.n
 pub deliver-requires-clause-registers : goal.deliver-requires-clause-registers
 deliver-requires-clause-registers c =
     let t = c.args.tables.now in
-    let r = c.requires in
-    registers_small t r.whole c.args.places.now r.index c.in-Some.place c.in-Some.ensures.within
+    registers_small t c.requires.whole c.in-Some.place c.in-Some.ensures.within
 
 pub returns : goal.returns
 returns c = λ m.
@@ -23,5 +23,5 @@ returns c = λ m.
       | in-Some-deliver w ↦ w.tick-is ∙ ap arrival (sym w.in-Some-deliver.is)
       | in-None w ↦ w.tick-is ∙ ap arrival (sym w.in-None.is)
     ] in
-    port_delivers t c.args.places.now c.requires.index p c.in-Some.ensures.within m c.args.item c.deliver.new.self c.tell-2.new.step c.match-deliver.tick
+    port_delivers t (apart_in t c.requires.whole) p c.in-Some.ensures.within m c.args.item c.deliver.new.self c.tell-2.new.step c.match-deliver.tick
     c.in-Some.ensures.port c.deliver.ensures.slot (told ∙ ap arrival c.deliver.ensures.register) (c.tell-2.ensures ∙ ap (step_of c.match-deliver.tick) number)

@@ -1,7 +1,7 @@
 use Rattle.std.proofs.Common.{List, subst}
 use Rattle.mm_model.specs.Slot.{Slot}
 use Rattle.mm_machine.specs.Machine.{state_of}
-use Rattle.mm_machine.specs.Taking.{OutputsBelow}
+use Rattle.mm_machine.specs.Capture.{OutputsBelow}
 use Rattle.mm_machine.proofs.Keeping.{memory_paged}
 use Rattle.mm_machine.proofs.Copied.{copied_rules, copied_typed}
 use Rattle.mm_machine.proofs.machine.Machine.copied.Goals as goal

@@ -3,11 +3,13 @@ use Rattle.std.specs.List.{AllByRecursion}
 use Rattle.mm_model.specs.Slot.{Slot}
 use Rattle.mm_model.specs.State.{Core}
 use Rattle.mm_model.specs.Spelling.{numbers_of}
-use Rattle.mm_model.specs.Fits.{slots_of}
-use Rattle.mm_thread.specs.Places.{row_alone, numbers_in, IsIndex}
+use Rattle.mm_model.specs.Fits.{slots_of, IsCore}
+use Rattle.mm_thread.specs.Places.{row_alone, numbers_in}
 use Rattle.mm_thread.specs.Parts.{events_for, row_with, outputs_with, core_of, AreParts}
 use Rattle.mm_thread.proofs.Sound.{numbers-same}
-use Rattle.mm_thread.proofs.Assigned.{slots-alone, parts_small, parts_room, parts_short, parts_sound}
+use Rattle.mm_thread.proofs.Assigned.{slots-alone, parts_room, parts_short}
+use Rattle.mm_thread.proofs.Index.{apart_by}
+use Rattle.mm_thread.proofs.Placing.{apart_in}
 use Rattle.mm_thread.proofs.state.Core.assign.Goals as goal
 
 pub put_slots-requires-clause-numbers : goal.put_slots-requires-clause-numbers
@@ -16,18 +18,11 @@ put_slots-requires-clause-numbers c =
     let parts : AreParts t c.args.slots.now c.args.events.now c.args.outputs.now = rw (← c.self.view_is) at c.requires in
     numbers-same c.args.slots.now (slots_of t) parts.same
 
-pub put_events-requires-clause-index : goal.put_events-requires-clause-index
-put_events-requires-clause-index c =
+pub put_events-requires-clause-apart : goal.put_events-requires-clause-apart
+put_events-requires-clause-apart c =
     let t = c.self.inside.tables in
     let parts : AreParts t c.args.slots.now c.args.events.now c.args.outputs.now = rw (← c.self.view_is) at c.requires in
-    let Index : List ℕ → Type 0 = λ ns. IsIndex ns c.self.inside.places in
-    subst Index (sym (ap numbers_in c.put_slots.ensures ∙ ap numbers_of (slots-alone c.args.slots.now) ∙ numbers-same c.args.slots.now (slots_of t) parts.same)) c.self.invariant.index
-
-pub put_events-requires-clause-small : goal.put_events-requires-clause-small
-put_events-requires-clause-small c =
-    let t = c.self.inside.tables in
-    let parts : AreParts t c.args.slots.now c.args.events.now c.args.outputs.now = rw (← c.self.view_is) at c.requires in
-    subst (AllByRecursion (λ (s : Slot). s.number < 64)) (sym (ap slots_of c.put_slots.ensures ∙ slots-alone c.args.slots.now)) (parts_small t.version t.split c.args.slots.now c.args.events.now c.args.outputs.now parts.whole)
+    apart_by t c.put_slots.new.tables (ap numbers_in c.put_slots.ensures ∙ ap numbers_of (slots-alone c.args.slots.now) ∙ numbers-same c.args.slots.now (slots_of t) parts.same) (apart_in t c.self.invariant)
 
 pub put_events-requires-clause-empty : goal.put_events-requires-clause-empty
 put_events-requires-clause-empty c =
@@ -51,7 +46,7 @@ invariant_of-self c =
     let t = c.self.inside.tables in
     let parts : AreParts t c.args.slots.now c.args.events.now c.args.outputs.now = rw (← c.self.view_is) at c.requires in
     let is = c.put_outputs.ensures ∙ ap (λ (k : Core). record k { outputs = outputs_with c.args.outputs.now (replicate 64 []) }) (c.put_events.ensures ∙ ap (λ (k : Core). record k { rows = map (row_with c.args.events.now) (slots_of k) }) c.put_slots.ensures ∙ ap (λ (ss : List Slot). record t { rows = map (row_with c.args.events.now) ss }) (slots-alone c.args.slots.now)) in
-    parts_sound t.version t.split c.args.slots.now c.args.events.now c.args.outputs.now parts.whole t c.self.inside.places c.self.invariant parts.same c.put_outputs.new.tables is
+    subst IsCore (sym is) parts.whole
 
 pub returns : goal.returns
 returns c =

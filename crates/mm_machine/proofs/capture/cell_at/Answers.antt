@@ -1,0 +1,12 @@
+use Rattle.std.proofs.Common.{◌∙◌, ap, Option}
+use Rattle.std.specs.Option.{unwrap_or}
+use Rattle.mm_word.specs.declared.word.Cell.{Cell}
+use Rattle.mm_model.specs.Memory.{zero_cell}
+use Rattle.mm_machine.proofs.Collecting.{cell_there}
+use Rattle.mm_machine.proofs.capture.cell_at.Goals as goal
+
+pub returns : goal.returns
+returns g c =
+    c.unwrap_or.ensures
+    ∙ ap (λ (o : Option Cell). unwrap_or o zero_cell)
+    (c.peek.ensures ∙ cell_there (g.M.Memory.meaning c.args.mem.now) c.args.number c.args.place c.requires.paged c.requires.mapped c.requires.place)

@@ -1,6 +1,0 @@
-use Rattle.mm_machine.specs.Snapshot.{queues_of}
-use Rattle.mm_machine.proofs.Rising.{NoneFallsBelow}
-use Rattle.mm_machine.proofs.standing.queues_ascend.Given as goal
-
-abbrev pub invariant-loop-k : goal.invariant-loop-k
-invariant-loop-k l = NoneFallsBelow (queues_of l.events) l.k

@@ -1,6 +1,0 @@
-use Rattle.std.proofs.Common.{◌≡◌, take}
-use Rattle.mm_machine.specs.Taking.{cells_of}
-use Rattle.mm_machine.proofs.taking.page_copy.Given as goal
-
-abbrev pub invariant-loop-place : goal.invariant-loop-place
-invariant-loop-place g l = l.cells.items ≡ take l.place (cells_of (g.M.Memory.meaning l.mem) l.number)

@@ -1,0 +1,115 @@
+//! What a snapshot copies of a machine.
+
+ghost use Rattle.std.specs.Prelude.{◌≡◌, ◌<◌, ◌^◌, ◌++◌, ℕ, true, IfOk, map, Some, slice_index_or};
+ghost use Rattle.mm_model.specs.Memory.{IsPaged, is_mapped, zero_cell};
+ghost use Rattle.mm_model.specs.State.{output_of};
+ghost use Rattle.mm_model.specs.Fits.{slots_of};
+ghost use Rattle.mm_machine.specs.Snapshot.{queued, queued_at};
+ghost use Rattle.mm_machine.specs.Capture.{OutputsBelow, cells_of};
+
+use crate::validate::is_group_of;
+use mm_mem::Inspect;
+use mm_model::{CELLS, Event, Page, Slot};
+use mm_thread::{Core, Output};
+use mm_word::{Cell, Word};
+use std::alloc::{AllocError, Global};
+
+/// What stands for a cell of a page that is not mapped.
+const ZERO: Cell = Cell {
+    word: Word::Int(0),
+    full: true,
+};
+
+/// The slots of a core, by ascending number.
+pub(crate) fn slots_of(alloc: Global, core: &Core) -> Result<Vec<Slot>, AllocError>
+    ensures { IfOk result (λ slots. slots.items ≡ slots_of core.now) }
+{
+    let mut slots = Vec::with_capacity(alloc, core.count())?;
+    for i in 0..core.count() {
+        slots.push(core.nth(i).copy())?;
+    }
+    Ok(slots)
+}
+
+/// The events of the queues of a core, each beside the number of the slot in whose queue it is.
+pub(crate) fn events_of(alloc: Global, core: &Core) -> Result<Vec<(u8, Event)>, AllocError>
+    ensures { IfOk result (λ events. events.items ≡ queued core.now) }
+{
+    let mut events = Vec::new(alloc);
+    for i in 0..core.count() {
+        let slot = core.nth(i);
+        put_queue(&mut events, slot.number, core.queue(slot.number))?;
+    }
+    Ok(events)
+}
+
+fn put_queue(events: &mut Vec<(u8, Event)>, number: u8, queue: &[Event]) -> Result<(), AllocError>
+    ensures { IfOk result (λ _. events.new.items ≡ events.old.items ++ map (λ e. (number, e)) queue.now) }
+{
+    for event in queue {
+        events.push((number, *event))?;
+    }
+    Ok(())
+}
+
+/// What each group that has a slot has put out, by ascending group.
+pub(crate) fn outputs_of(
+    alloc: Global,
+    core: &Core,
+    slots: &[Slot],
+) -> Result<Vec<Output>, AllocError>
+    ensures { IfOk result (λ outputs. OutputsBelow core.now slots.now 64 outputs.items) }
+{
+    let mut outputs = Vec::new(alloc);
+    for group in 0..64u8 {
+        if is_group_of(slots, group) {
+            outputs.push(output_copy(alloc, core, group)?)?;
+        }
+    }
+    Ok(outputs)
+}
+
+fn output_copy(alloc: Global, core: &Core, group: u8) -> Result<Output, AllocError>
+    ensures group { IfOk result (λ o. o.group ≡ group) }
+    ensures bytes { IfOk result (λ o. o.bytes ≡ output_of core.now group) }
+{
+    let bytes = core.output(group).to_vec(alloc)?;
+    Ok(Output { group, bytes })
+}
+
+/// The mapped pages of a memory, by ascending number.
+pub(crate) fn pages_of<M: Inspect>(alloc: Global, mem: &M) -> Result<Vec<Page>, AllocError>
+    requires { IsPaged (M.meaning mem.now) }
+    ensures { IfOk result (λ pages. pages.items ≡ (M.meaning mem.now).pages) }
+{
+    let mut pages = Vec::with_capacity(alloc, mem.pages() as usize)?;
+    for i in 0..mem.pages() {
+        let number = mem.page_at(i);
+        pages.push(page_copy(alloc, mem, number)?)?;
+    }
+    Ok(pages)
+}
+
+fn page_copy<M: Inspect>(alloc: Global, mem: &M, number: u64) -> Result<Page, AllocError>
+    requires paged { IsPaged (M.meaning mem.now) }
+    requires number { number < 2 ^ 42 }
+    requires mapped { is_mapped (M.meaning mem.now) number ≡ true }
+    ensures { IfOk result (λ page. page ≡ (number, cells_of (M.meaning mem.now) number)) }
+{
+    let mut cells = Vec::with_capacity(alloc, CELLS)?;
+    for place in 0..CELLS {
+        cells.push(cell_at(mem, number, place))?;
+    }
+    Ok(Page::new(number, cells).unwrap())
+}
+
+// A cell of a mapped page.
+fn cell_at<M: Inspect>(mem: &M, number: u64, place: usize) -> Cell
+    requires paged { IsPaged (M.meaning mem.now) }
+    requires number { number < 2 ^ 42 }
+    requires mapped { is_mapped (M.meaning mem.now) number ≡ true }
+    requires place { place < 512 }
+    ensures { result ≡ slice_index_or (cells_of (M.meaning mem.now) number) place zero_cell }
+{
+    mem.peek(number * 4096 + 8 * place as u64).unwrap_or(ZERO)
+}

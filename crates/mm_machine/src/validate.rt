@@ -1,0 +1,279 @@
+//! Whether parts make a snapshot.
+
+ghost use Rattle.std.specs.Prelude.{◌≡◌, ◌≢◌, ◌+◌, ◌≤◌, ◌<◌, ◌↔◌, ℕ, ◌==◌, true, IsTrue, Some, None, length};
+ghost use Rattle.std.specs.List.{AllByRecursion, count_by};
+ghost use Rattle.std.specs.List.Sorted.{IsStrictlyIncreasing};
+ghost use Rattle.std.specs.Option.{option_copied};
+ghost use Rattle.mm_model.specs.declared.slot.SlotState.TheVariants.{Taken};
+ghost use Rattle.mm_model.specs.declared.slot.Pending.{Pending as PendingValue};
+ghost use Rattle.mm_model.specs.Slot.{Slot as SlotValue};
+ghost use Rattle.mm_model.specs.Groups.{has_group};
+ghost use Rattle.mm_model.specs.Spelling.{numbers_of};
+ghost use Rattle.mm_model.specs.Flags.{one_if};
+ghost use Rattle.mm_model.specs.Fits.{is_waiting, waits_for, EventHoldsWords};
+ghost use Rattle.mm_thread.specs.Output.{Output as OutputValue};
+ghost use Rattle.mm_machine.specs.Snapshot.{IsSnapshot, IsTypedEvent, IsAwaited, IsEventOf, HasOneEvent, IsPending, RegisterStands, DoesNotFall, parts_of, numbered, queues_of, groups_of, page_numbers, has_output};
+
+use mm_model::{Event, Page, Pending, Slot, SlotState};
+use mm_thread::Output;
+use mm_word::{GuardedPtr, Word};
+
+/// How many bytes a group may have put out.
+const OUTPUT_LIMIT: usize = 65536;
+
+/// Whether these parts make a snapshot.
+pub(crate) fn is_snapshot(
+    slots: &[Slot],
+    events: &[(u8, Event)],
+    outputs: &[Output],
+    pages: &[Page],
+    cycles: u64,
+) -> bool
+    ensures rules { IsTrue result ↔ IsSnapshot (parts_of slots.now events.now outputs.now pages.now cycles) }
+    ensures words { IsTrue result → AllByRecursion IsTypedEvent events.now }
+{
+    slots_ascend(slots)
+        && groups_ascend(outputs)
+        && pages_ascend(pages)
+        && are_used(outputs, slots)
+        && are_shown(slots, outputs)
+        && queues_ascend(events)
+        && are_awaited(events, slots)
+        && have_one_event(slots, events)
+        && are_taken_by_handlers(slots)
+        && are_short(outputs)
+        && are_pending(slots)
+        && turns_within(slots, cycles)
+}
+
+fn slots_ascend(slots: &[Slot]) -> bool
+    ensures { IsTrue result ↔ IsStrictlyIncreasing (numbers_of slots.now) }
+{
+    for k in 1..slots.len() {
+        let before = &slots[k - 1];
+        let slot = &slots[k];
+        if slot.number <= before.number {
+            return false;
+        }
+    }
+    true
+}
+
+fn groups_ascend(outputs: &[Output]) -> bool
+    ensures { IsTrue result ↔ IsStrictlyIncreasing (groups_of outputs.now) }
+{
+    for k in 1..outputs.len() {
+        let before = &outputs[k - 1];
+        let output = &outputs[k];
+        if output.group <= before.group {
+            return false;
+        }
+    }
+    true
+}
+
+fn pages_ascend(pages: &[Page]) -> bool
+    ensures { IsTrue result ↔ IsStrictlyIncreasing (page_numbers pages.now) }
+{
+    for k in 1..pages.len() {
+        let before = pages[k - 1].number();
+        let number = pages[k].number();
+        if number <= before {
+            return false;
+        }
+    }
+    true
+}
+
+// Whether no event stands beside a lesser number than the event before it.
+fn queues_ascend(events: &[(u8, Event)]) -> bool
+    ensures { IsTrue result ↔ DoesNotFall (queues_of events.now) }
+{
+    for k in 1..events.len() {
+        let before = &events[k - 1];
+        let event = &events[k];
+        if event.0 < before.0 {
+            return false;
+        }
+    }
+    true
+}
+
+// Whether the group of each output is that of a slot.
+fn are_used(outputs: &[Output], slots: &[Slot]) -> bool
+    ensures { IsTrue result ↔ AllByRecursion (λ (o : OutputValue). has_group slots.now o.group ≡ true) outputs.now }
+{
+    outputs.iter().all(|o| is_group_of(slots, o.group))
+}
+
+// Whether each slot's group has an output.
+fn are_shown(slots: &[Slot], outputs: &[Output]) -> bool
+    ensures { IsTrue result ↔ AllByRecursion (λ (s : SlotValue). has_output outputs.now s.group ≡ true) slots.now }
+{
+    slots.iter().all(|s| has_output_of(outputs, s.group))
+}
+
+pub(crate) fn is_group_of(slots: &[Slot], group: u8) -> bool
+    ensures { result ≡ has_group slots.now group }
+{
+    slots.iter().any(|s| s.group == group)
+}
+
+fn has_output_of(outputs: &[Output], group: u8) -> bool
+    ensures { result ≡ has_output outputs.now group }
+{
+    outputs.iter().any(|o| o.group == group)
+}
+
+// Whether each event is that of a slot that waits for the handler beside which it stands.
+fn are_awaited(events: &[(u8, Event)], slots: &[Slot]) -> bool
+    ensures awaited { IsTrue result ↔ AllByRecursion (IsAwaited slots.now) events.now }
+    ensures words { IsTrue result → AllByRecursion IsTypedEvent events.now }
+{
+    for (queue, event) in events {
+        if !is_awaited(slots, *queue, *event) {
+            return false;
+        }
+    }
+    true
+}
+
+fn is_awaited(slots: &[Slot], queue: u8, event: Event) -> bool
+    ensures awaited { IsTrue result ↔ IsAwaited slots.now (queue, event) }
+
+    // What the type of an event says.
+    ensures words { EventHoldsWords event }
+{
+    match slot_of(slots, event.slot) {
+        Some(slot) => is_event_of(queue, &event, slot),
+        None => false,
+    }
+}
+
+fn is_event_of(queue: u8, event: &Event, slot: &Slot) -> bool
+    ensures { IsTrue result ↔ IsEventOf queue event.now slot.now }
+{
+    waits_for(slot, queue) && same_pointer(event.ip, slot.ip)
+}
+
+fn same_pointer(a: GuardedPtr, b: GuardedPtr) -> bool
+    ensures { IsTrue result ↔ (a ≡ b) }
+{
+    a.bits() == b.bits()
+}
+
+fn waits_for(slot: &Slot, queue: u8) -> bool
+    ensures { result ≡ waits_for queue (Some slot.now) }
+{
+    match slot.handler {
+        Some(handler) => is_waiting(slot.state) && handler == queue,
+        None => false,
+    }
+}
+
+fn is_waiting(state: SlotState) -> bool
+    ensures { result ≡ is_waiting state }
+{
+    matches!(state, SlotState::Waiting)
+}
+
+fn slot_of(slots: &[Slot], number: u8) -> Option<&Slot>
+    ensures { option_copied result ≡ numbered slots.now number }
+{
+    slots.iter().find(|s| s.number == number)
+}
+
+// Whether each waiting slot has one event, and no other slot has one.
+fn have_one_event(slots: &[Slot], events: &[(u8, Event)]) -> bool
+    ensures { IsTrue result ↔ AllByRecursion (HasOneEvent events.now) slots.now }
+{
+    for slot in slots {
+        if !has_one_event(slot, events) {
+            return false;
+        }
+    }
+    true
+}
+
+fn has_one_event(slot: &Slot, events: &[(u8, Event)]) -> bool
+    ensures { IsTrue result ↔ HasOneEvent events.now slot.now }
+{
+    let wanted = if is_waiting(slot.state) { 1 } else { 0 };
+    count_of(events, slot.number) == wanted
+}
+
+fn count_of(events: &[(u8, Event)], number: u8) -> usize
+    ensures { result ≡ count_by (λ x. x.1.slot == number) events.now }
+{
+    events.iter().filter(|x| x.1.slot == number).count()
+}
+
+fn are_taken_by_handlers(slots: &[Slot]) -> bool
+    ensures { IsTrue result ↔ AllByRecursion (λ (s : SlotValue). s.state ≡ Taken → s.handler ≢ None) slots.now }
+{
+    slots
+        .iter()
+        .all(|s| s.state != SlotState::Taken || s.handler.is_some())
+}
+
+fn are_short(outputs: &[Output]) -> bool
+    ensures { IsTrue result ↔ AllByRecursion (λ (o : OutputValue). length o.bytes ≤ 65536) outputs.now }
+{
+    outputs.iter().all(|o| o.bytes.len() <= OUTPUT_LIMIT)
+}
+
+fn turns_within(slots: &[Slot], cycles: u64) -> bool
+    ensures { IsTrue result ↔ AllByRecursion (λ (s : SlotValue). s.turns ≤ cycles) slots.now }
+{
+    slots.iter().all(|s| s.turns <= cycles)
+}
+
+fn are_pending(slots: &[Slot]) -> bool
+    ensures { IsTrue result ↔ AllByRecursion IsPending slots.now }
+{
+    slots.iter().all(is_pending)
+}
+
+// Whether the pending entries of a slot match its empty registers, which hold 0.
+fn is_pending(slot: &Slot) -> bool
+    ensures { IsTrue result ↔ IsPending slot.now }
+{
+    are_registers(&slot.pending) && registers_stand(slot)
+}
+
+fn registers_stand(slot: &Slot) -> bool
+    ensures { IsTrue result ↔ ((r : ℕ) → r < 16 → RegisterStands slot.now r) }
+{
+    for r in 0..16u8 {
+        if !register_stands(slot, r) {
+            return false;
+        }
+    }
+    true
+}
+
+fn register_stands(slot: &Slot, r: u8) -> bool
+    requires { r < 16 }
+    ensures { IsTrue result ↔ RegisterStands slot.now r }
+{
+    let empty = slot.is_empty(r);
+    loads_of(&slot.pending, r) == usize::from(empty) && (!empty || is_zero(slot.register(r)))
+}
+
+fn is_zero(word: Word) -> bool
+    ensures { IsTrue result ↔ (word ≡ Word.Int 0) }
+{
+    matches!(word, Word::Int(0))
+}
+
+fn are_registers(pending: &[Pending]) -> bool
+    ensures { IsTrue result ↔ AllByRecursion (λ (p : PendingValue). p.reg < 16) pending.now }
+{
+    pending.iter().all(|p| p.reg < 16)
+}
+
+fn loads_of(pending: &[Pending], r: u8) -> usize
+    ensures { result ≡ count_by (λ p. p.reg == r) pending.now }
+{
+    pending.iter().filter(|p| p.reg == r).count()
+}

@@ -1,6 +1,0 @@
-use Rattle.std.proofs.Common.{◌≡◌, ◌++◌, map, take, drop}
-use Rattle.mm_thread.specs.Places.{row_alone}
-use Rattle.mm_thread.proofs.assigning.put_slots.Given as goal
-
-abbrev pub invariant-loop-i : goal.invariant-loop-i
-invariant-loop-i l = l.tables ≡ record l.initial.tables { rows = map row_alone (take l.i l.slots) ++ drop l.i l.initial.tables.rows }

@@ -1,0 +1,17 @@
+use Rattle.std.proofs.Common.{◌≡◌, pos, ap, ◌∙◌, arith, rules}
+use Rattle.std.specs.Prelude.{◌*ℤ◌, FitsSigned}
+use Rattle.std.specs.Int.{w32, w64}
+use Rattle.std.proofs.lemmas.Int.{to_z-of_z, ints}
+use Rattle.mm_model.specs.Slot.{Slot}
+use Rattle.mm_model.specs.Effect.{at_distance}
+use Rattle.mm_thread.proofs.Pointers.{lea_result-code}
+use Rattle.mm_thread.proofs.local_ops.at_distance.Goals as goal
+
+pub returns-clause-place : goal.returns-clause-place
+returns-clause-place c =
+    let fits : FitsSigned w32 c.args.imm = search rules in
+    let same : c.from.result ≡ c.args.imm = c.from.ensures ∙ to_z-of_z w32 c.args.imm fits in
+    let wide : FitsSigned w64 c.from.result = search rules in
+    let far : FitsSigned w64 (pos 8 *ℤ c.from.result) = omega (arith, ints) in
+    let moved = rw (to_z-of_z w64 c.from.result wide, to_z-of_z w64 (pos 8 *ℤ c.from.result) far, same) at c.lea.ensures.value in
+    moved ∙ lea_result-code c.slot.inside.ip (pos 8 *ℤ c.args.imm) c.slot.invariant.executable ∙ ap (λ (s : Slot). at_distance s c.args.imm) c.slot.view_is

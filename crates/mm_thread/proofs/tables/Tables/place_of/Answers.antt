@@ -1,0 +1,18 @@
+use Rattle.std.proofs.Common.{◌≡◌, ◌≤◌, ℕ, None, length, ap, ◌∙◌, subst, sym, arith}
+use Rattle.mm_model.specs.State.{Core, slot_at, slot_of}
+use Rattle.mm_thread.specs.Places.{slot_in}
+use Rattle.mm_thread.proofs.Index.{row_in-none, none_past}
+use Rattle.mm_thread.proofs.tables.Tables.place_of.Goals as goal
+
+pub returns-then-number-ge64-clause-missing : goal.returns-then-number-ge64-clause-missing
+unfolding slot_at
+returns-then-number-ge64-clause-missing c = rw (← c.self.view_is)
+    (ap slot_of (row_in-none c.self.inside.rows.items c.args.number (λ k within same. let small = c.self.invariant.running.numbered.small k within in omega (arith, same))))
+
+pub returns-then-place-count-clause-number : goal.returns-then-place-count-clause-number
+returns-then-place-count-clause-number c = rw (← c.self.view_is) (c.self.invariant.places.there c.args.number (omega arith) (omega arith))
+
+pub returns-else-place-count-clause-missing : goal.returns-else-place-count-clause-missing
+unfolding slot_at
+returns-else-place-count-clause-missing c = rw (← c.self.view_is)
+    (ap slot_of (row_in-none c.self.inside.rows.items c.args.number (none_past c.self.inside.rows.items c.self.inside.index c.self.invariant.places c.args.number (omega arith))))

@@ -1,0 +1,61 @@
+//! A core is made.
+
+ghost use Rattle.std.specs.Prelude.{◌≡◌, ◌≤◌, [], length, map, replicate, IfOk};
+ghost use Rattle.mm_thread.specs.Places.{row_alone};
+ghost use Rattle.mm_thread.specs.Tables.{AreNumbered, IsIndex};
+
+use crate::group_output::GroupOutput;
+use crate::queue::Queue;
+use crate::row::Row;
+use mm_model::Slot;
+use mm_word::NoMemory;
+use std::alloc::Global;
+
+/// The rows of slots without events.
+pub(crate) fn rows_of(alloc: Global, slots: &[Slot]) -> Result<Vec<Row>, NoMemory>
+    ensures { IfOk result (λ rows. rows.items ≡ map row_alone slots.now) }
+{
+    let Ok(mut rows) = Vec::with_capacity(alloc, slots.len()) else {
+        return Err(NoMemory);
+    };
+    for slot in slots {
+        let row = Row {
+            slot: slot.copy(),
+            queue: Queue::new(),
+        };
+        let Ok(()) = rows.push(row) else {
+            return Err(NoMemory);
+        };
+    }
+    Ok(rows)
+}
+
+/// The outputs of 64 groups, with nothing put out.
+pub(crate) fn no_outputs(alloc: Global) -> Result<Vec<GroupOutput>, NoMemory>
+    ensures { IfOk result (λ outputs. outputs.items ≡ replicate 64 []) }
+{
+    let Ok(mut outputs) = Vec::with_capacity(alloc, 64) else {
+        return Err(NoMemory);
+    };
+    for _group in 0..64u32 {
+        let output = GroupOutput::new(alloc)?;
+        let Ok(()) = outputs.push(output) else {
+            return Err(NoMemory);
+        };
+    }
+    Ok(outputs)
+}
+
+/// The place of each number's row, and 64 where there is none.
+pub(crate) fn index_of(rows: &[Row]) -> [u8; 64]
+    requires apart { AreNumbered rows.now }
+    requires few { length rows.now ≤ 64 }
+    ensures { IsIndex rows.now result }
+{
+    let mut index = [64u8; 64];
+    for i in 0..rows.len() {
+        let number = rows[i].number();
+        index[number as usize] = i as u8;
+    }
+    index
+}

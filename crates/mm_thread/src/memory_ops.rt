@@ -1,0 +1,211 @@
+//! The rows of the table that ask something of memory.
+
+ghost use Rattle.std.specs.Prelude.{◌≡◌, ◌<◌, ◌^◌, ◌&&◌, true, false, None, Some, IfOk, length};
+ghost use Rattle.mm_word.specs.Access.{check_result};
+ghost use Rattle.mm_model.specs.Slot.{register};
+ghost use Rattle.mm_model.specs.Operands.{lacks};
+ghost use Rattle.mm_model.specs.Ask.{load_kind};
+ghost use Rattle.mm_model.specs.Turn.{is_running};
+ghost use Rattle.mm_thread.specs.Places.{slot_in};
+ghost use Rattle.mm_thread.specs.Execution.{CanTurn, Executes, core_loaded, outcome_loaded, core_stored, outcome_stored, page_named};
+
+use crate::local_ops::{flag, is_privileged};
+use crate::outcome::{Outcome, Retired};
+use crate::slot::word_of;
+use crate::tables::Tables;
+use mm_isa::{Instr, Reg};
+use mm_mem::{Loaded, Memory, Stored};
+use mm_model::Slot;
+use mm_word::{Access, Cause, Kind, Post, Pre, Word, check};
+
+/// How an instruction names a cell, and what it asks of the cell's synchronisation bit.
+#[derive(Clone, Copy)]
+pub(crate) struct MemoryOperand {
+    /// The register that holds the pointer.
+    pub(crate) base: Reg,
+    /// How many bytes the cell is from the pointer's address.
+    pub(crate) offset: i32,
+    pub(crate) pre: Pre,
+    pub(crate) post: Post,
+}
+
+/// `ld`: a cell's word goes to a register, in a split machine later.
+pub(crate) fn load<M: Memory>(
+    tables: &mut Tables,
+    place: usize,
+    mem: &mut M,
+    rd: Reg,
+    at: MemoryOperand,
+) -> Retired
+    requires can { CanTurn tables.old place }
+    requires free { (tables.old.split && lacks (Instr.Ld rd at.base at.pre at.post at.offset) (slot_in tables.old place)) ≡ false }
+    requires room { M.uses mem.old < 2 ^ 62 }
+    ensures { Executes M.meaning M.uses M.stands tables.old (slot_in tables.old place) (Instr.Ld rd at.base at.pre at.post at.offset) mem.old mem.new tables.new result }
+{
+    match reach(tables.slot(place), at.base, at.offset, load_kind(at.post)) {
+        Err(cause) => untouched(Outcome::Fails(cause)),
+        Ok(access) => {
+            let loaded = mem.load(&access, at.pre, at.post);
+            let outcome = receive(tables, place, rd, loaded);
+            touching(outcome, access)
+        }
+    }
+}
+
+/// `st`: a register's word goes to a cell.
+pub(crate) fn store<M: Memory>(
+    tables: &mut Tables,
+    place: usize,
+    mem: &mut M,
+    rb: Reg,
+    at: MemoryOperand,
+) -> Retired
+    requires can { CanTurn tables.old place }
+    requires room { M.uses mem.old < 2 ^ 62 }
+    ensures { Executes M.meaning M.uses M.stands tables.old (slot_in tables.old place) (Instr.St at.base rb at.pre at.post at.offset) mem.old mem.new tables.new result }
+{
+    match reach(tables.slot(place), at.base, at.offset, Kind::Store) {
+        Err(cause) => untouched(Outcome::Fails(cause)),
+        Ok(access) => {
+            let word = word_of(tables.slot(place), rb);
+            let stored = mem.store(&access, word, at.pre, at.post);
+            let outcome = finish_store(tables, place, stored);
+            touching(outcome, access)
+        }
+    }
+}
+
+/// `map`: a page is mapped, and a register tells whether.
+pub(crate) fn map<M: Memory>(
+    tables: &mut Tables,
+    place: usize,
+    mem: &mut M,
+    rd: Reg,
+    ra: Reg,
+) -> Retired
+    requires can { CanTurn tables.old place }
+    ensures { Executes M.meaning M.uses M.stands tables.old (slot_in tables.old place) (Instr.Map rd ra) mem.old mem.new tables.new result }
+{
+    match page_named(tables.slot(place), ra) {
+        Err(cause) => untouched(Outcome::Fails(cause)),
+        Ok(page) => {
+            let mapped = mem.map(page);
+            tables.sets(place, rd, Word::Int(flag(mapped)));
+            untouched(Outcome::Goes(None))
+        }
+    }
+}
+
+/// `unmap`: a page is removed, and a register tells whether.
+pub(crate) fn unmap<M: Memory>(
+    tables: &mut Tables,
+    place: usize,
+    mem: &mut M,
+    rd: Reg,
+    ra: Reg,
+) -> Retired
+    requires can { CanTurn tables.old place }
+    ensures { Executes M.meaning M.uses M.stands tables.old (slot_in tables.old place) (Instr.Unmap rd ra) mem.old mem.new tables.new result }
+{
+    match page_named(tables.slot(place), ra) {
+        Err(cause) => untouched(Outcome::Fails(cause)),
+        Ok(page) => {
+            let removed = mem.unmap(page);
+            tables.sets(place, rd, Word::Int(flag(removed)));
+            untouched(Outcome::Goes(None))
+        }
+    }
+}
+
+/// An instruction that reached no cell.
+pub(crate) fn untouched(outcome: Outcome) -> Retired
+    ensures { result ≡ record { outcome = outcome; touched = None } }
+{
+    Retired {
+        outcome,
+        touched: None,
+    }
+}
+
+fn touching(outcome: Outcome, access: Access) -> Retired
+    ensures { result ≡ record { outcome = outcome; touched = Some access } }
+{
+    Retired {
+        outcome,
+        touched: Some(access),
+    }
+}
+
+// A load that sets the bit is an access of its own kind.
+fn load_kind(post: Post) -> Kind
+    ensures { result ≡ load_kind post }
+{
+    match post {
+        Post::Keep => Kind::Load,
+        Post::Full | Post::Empty => Kind::LoadSet,
+    }
+}
+
+// The access through a register's word.
+fn reach(slot: &Slot, ra: Reg, imm: i32, kind: Kind) -> Result<Access, Cause>
+    ensures value { result ≡ check_result (register slot.now ra) imm kind }
+    ensures kind { IfOk result (λ a. a.kind ≡ kind) }
+{
+    check(word_of(slot, ra), i64::from(imm), kind)
+}
+
+// The word that a load brought goes to a register.
+fn receive(tables: &mut Tables, place: usize, rd: Reg, loaded: Loaded) -> Outcome
+    requires place { place < length tables.old.rows }
+    requires runs { is_running (slot_in tables.old place).state ≡ true }
+    requires turns { (slot_in tables.old place).turns < 2 ^ 62 }
+    requires room { tables.old.split ≡ true → length (slot_in tables.old place).pending < 16 }
+    ensures core { tables.new ≡ core_loaded tables.old place rd loaded }
+    ensures outcome { result ≡ outcome_loaded loaded }
+{
+    match loaded {
+        Loaded::Value(word) => {
+            if tables.split() {
+                tables.issue(place, rd, word);
+            } else {
+                tables.sets(place, rd, word);
+            }
+            Outcome::Goes(None)
+        }
+        Loaded::NoPage => Outcome::Fails(Cause::NoPage),
+        Loaded::NotReady => Outcome::Fails(Cause::Sync),
+    }
+}
+
+fn finish_store(tables: &mut Tables, place: usize, stored: Stored) -> Outcome
+    requires place { place < length tables.old.rows }
+    requires runs { is_running (slot_in tables.old place).state ≡ true }
+    requires turns { (slot_in tables.old place).turns < 2 ^ 62 }
+    ensures core { tables.new ≡ core_stored tables.old place stored }
+    ensures outcome { result ≡ outcome_stored stored }
+{
+    match stored {
+        Stored::Done => {
+            tables.advance(place);
+            Outcome::Goes(None)
+        }
+        Stored::NoPage => Outcome::Fails(Cause::NoPage),
+        Stored::NotReady => Outcome::Fails(Cause::Sync),
+    }
+}
+
+// The page that a register names, for privileged code.
+fn page_named(slot: &Slot, ra: Reg) -> Result<u64, Cause>
+    ensures value { result ≡ page_named slot.now ra }
+    ensures small { IfOk result (λ page. page < 2 ^ 42) }
+{
+    if !is_privileged(slot) {
+        return Err(Cause::Priv);
+    }
+    let page = word_of(slot, ra).bits();
+    if page < (1 << 42) {
+        Ok(page)
+    } else {
+        Err(Cause::Bounds)
+    }
+}

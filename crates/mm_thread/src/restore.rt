@@ -1,0 +1,73 @@
+//! A core is put back to given parts, without memory from the system.
+
+ghost use Rattle.std.specs.Prelude.{◌≡◌, ◌<◌, ◌≤◌, ◌++◌, [], ◌∷◌, IfSome, length, map, replicate};
+ghost use Rattle.std.specs.List.{AllByRecursion};
+ghost use Rattle.mm_model.specs.Slot.{Slot as SlotValue};
+ghost use Rattle.mm_model.specs.State.{row_in, queue_at, put_queue};
+ghost use Rattle.mm_model.specs.Spelling.{numbers_of};
+ghost use Rattle.mm_model.specs.Fits.{slots_of};
+ghost use Rattle.mm_thread.specs.Output.{Output as OutputValue};
+ghost use Rattle.mm_thread.specs.Places.{row_alone, numbers_in};
+ghost use Rattle.mm_thread.specs.Tables.{AreNumbered};
+ghost use Rattle.mm_thread.specs.Parts.{events_for, row_with, outputs_with};
+
+use crate::output::Output;
+use crate::tables::Tables;
+use mm_model::{Event, Slot};
+
+/// Puts these slots, without events, in the place of those of their numbers.
+pub(crate) fn put_slots(tables: &mut Tables, slots: &[Slot])
+    requires length { length slots.now ≡ length tables.old.rows }
+    requires numbers { numbers_of slots.now ≡ numbers_in tables.old }
+    ensures { tables.new ≡ record tables.old { rows = map row_alone slots.now } }
+{
+    for i in 0..slots.len() {
+        tables.set_row(i, &slots[i]);
+    }
+}
+
+/// Puts each event after those of the slot that is to handle it.
+pub(crate) fn put_events(tables: &mut Tables, events: &[(u8, Event)])
+    requires apart { AreNumbered tables.old.rows }
+    requires empty { tables.old.rows ≡ map row_alone (slots_of tables.old) }
+    requires room { AllByRecursion (λ (s : SlotValue). length (events_for s.number events.now) ≤ 64) (slots_of tables.old) }
+    ensures { tables.new ≡ record tables.old { rows = map (row_with events.now) (slots_of tables.old) } }
+{
+    for (number, event) in events {
+        put_event(tables, *number, *event);
+    }
+}
+
+// Puts an event after those of the slot of a number, where there is one.
+fn put_event(tables: &mut Tables, number: u8, event: Event)
+    requires apart { AreNumbered tables.old.rows }
+    requires room { IfSome (row_in tables.old.rows number) (λ row. length row.queue < 64) }
+    ensures { tables.new ≡ put_queue tables.old number (queue_at tables.old number ++ event ∷ []) }
+{
+    if let Some(place) = tables.place_of(u64::from(number)) {
+        tables.push_event(place, event);
+    }
+}
+
+/// Makes these outputs the outputs of their groups, and those of the other groups empty.
+pub(crate) fn put_outputs(tables: &mut Tables, outputs: &[Output])
+    requires groups { length tables.old.outputs ≡ 64 }
+    requires short { AllByRecursion (λ (o : OutputValue). length o.bytes ≤ 65536) outputs.now }
+    ensures { tables.new ≡ record tables.old { outputs = outputs_with outputs.now (replicate 64 []) } }
+{
+    clear_outputs(tables);
+    for output in outputs {
+        if output.group < 64 {
+            tables.set_output(output.group, &output.bytes);
+        }
+    }
+}
+
+fn clear_outputs(tables: &mut Tables)
+    requires { length tables.old.outputs ≡ 64 }
+    ensures { tables.new ≡ record tables.old { outputs = replicate 64 [] } }
+{
+    for group in 0..64u8 {
+        tables.set_output(group, &[]);
+    }
+}

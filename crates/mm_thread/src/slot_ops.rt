@@ -1,0 +1,170 @@
+//! The rows of the table that ask something of the slots and outputs around their slot.
+
+ghost use Rattle.std.specs.Prelude.{◌≡◌, ◌≢◌, ◌<◌, ◌^◌, true, IfSome, IfNone, length};
+ghost use Rattle.mm_word.specs.Word.{word_bits};
+ghost use Rattle.mm_word.specs.declared.cause.Cause.TheVariants.{NoSlot};
+ghost use Rattle.mm_model.specs.Memory.{Memory};
+ghost use Rattle.mm_model.specs.Slot.{register};
+ghost use Rattle.mm_model.specs.State.{slot_at};
+ghost use Rattle.mm_model.specs.Effect.Reply.{Refused, Served};
+ghost use Rattle.mm_model.specs.Turn.{served, is_handler, is_taken};
+ghost use Rattle.mm_thread.specs.Places.{slot_in};
+ghost use Rattle.mm_thread.specs.Ends.{is_alone};
+ghost use Rattle.mm_thread.specs.Execution.{CanTurn, Leaves, effect_in};
+
+use crate::outcome::Outcome;
+use crate::slot::word_of;
+use crate::tables::Tables;
+use mm_isa::{EvtReg, How, Instr, Reg};
+use mm_model::{Slot, SlotState};
+use mm_word::{Cause, Word};
+
+/// An instruction that asks nothing.
+pub(crate) fn go_alone(tables: &mut Tables, place: usize, instr: Instr) -> Outcome
+    requires can { CanTurn tables.old place }
+    requires alone { is_alone instr ≡ true }
+    ensures { (m : Memory) → let s = slot_in tables.old place in
+        Leaves tables.old m s (effect_in tables.old m s instr) tables.new m result }
+{
+    match tables.carry_out(place, instr) {
+        Ok(entered) => Outcome::Goes(entered),
+        Err(cause) => Outcome::Fails(cause),
+    }
+}
+
+/// `out`: the lowest byte of a word goes to the group's output.
+pub(crate) fn put_out(tables: &mut Tables, place: usize, ra: Reg) -> Outcome
+    requires { CanTurn tables.old place }
+    ensures { (m : Memory) → let s = slot_in tables.old place in
+        Leaves tables.old m s (effect_in tables.old m s (Instr.Out ra)) tables.new m result }
+{
+    let slot = tables.slot(place);
+    let group = slot.group;
+    let byte = (word_of(slot, ra).bits() % 256) as u8;
+    if tables.has_room(group) {
+        tables.advance(place);
+        tables.put_byte(group, byte);
+        Outcome::Goes(None)
+    } else {
+        Outcome::Fails(Cause::OutFull)
+    }
+}
+
+/// `evt`: the oldest event of the slot's own queue goes to four registers, and its slot is taken.
+pub(crate) fn next_event(tables: &mut Tables, place: usize, rd: EvtReg) -> Outcome
+    requires { CanTurn tables.old place }
+    ensures { (m : Memory) → let s = slot_in tables.old place in
+        Leaves tables.old m s (effect_in tables.old m s (Instr.Evt rd)) tables.new m result }
+{
+    let Some(event) = tables.queue(place).first().copied() else {
+        return Outcome::Waits;
+    };
+    let Some(of) = tables.place_of(u64::from(event.slot)) else {
+        return Outcome::Waits;
+    };
+    tables.set_taken(of);
+    tables.take_event(place, rd, &event);
+    tables.remove_event(place);
+    Outcome::Goes(None)
+}
+
+// The place of the slot that a register names, where this slot is its handler and has read its event.
+fn served(tables: &Tables, place: usize, ra: Reg) -> Option<usize>
+    requires { CanTurn tables.now place }
+    ensures within { IfSome result (λ p. p < length tables.now.rows) }
+    ensures served { IfSome result (λ p. let s = slot_in tables.now place in
+        served s.number (slot_at tables.now (word_bits (register s ra))) ≡ Served (slot_in tables.now p)) }
+    ensures other { IfSome result (λ p. p ≢ place) }
+    ensures none { IfNone result (let s = slot_in tables.now place in
+        served s.number (slot_at tables.now (word_bits (register s ra))) ≡ Refused NoSlot) }
+{
+    let slot = tables.slot(place);
+    let number = slot.number;
+    let of = tables.place_of(word_of(slot, ra).bits())?;
+    let other = tables.slot(of);
+    if is_handled_by(other, number) && is_taken(other) {
+        Some(of)
+    } else {
+        None
+    }
+}
+
+// Whether the slot of this number is the slot's handler.
+fn is_handled_by(slot: &Slot, number: u8) -> bool
+    ensures { result ≡ is_handler number slot.now.handler }
+{
+    match slot.handler {
+        Some(handler) => handler == number,
+        None => false,
+    }
+}
+
+// Whether its handler has read the slot's event.
+fn is_taken(slot: &Slot) -> bool
+    ensures { result ≡ is_taken slot.now.state }
+{
+    matches!(slot.state, SlotState::Taken)
+}
+
+/// `resume`: the slot that a register names goes on, or is halted.
+pub(crate) fn resume(tables: &mut Tables, place: usize, ra: Reg, how: How) -> Outcome
+    requires { CanTurn tables.old place }
+    ensures { (m : Memory) → let s = slot_in tables.old place in
+        Leaves tables.old m s (effect_in tables.old m s (Instr.Resume ra how)) tables.new m result }
+{
+    let Some(of) = served(tables, place, ra) else {
+        return Outcome::Fails(Cause::NoSlot);
+    };
+    tables.resume(of, how);
+    tables.advance(place);
+    Outcome::Goes(None)
+}
+
+/// `rreg`: a register of the slot that a register names is read.
+pub(crate) fn read_register(
+    tables: &mut Tables,
+    place: usize,
+    rd: Reg,
+    ra: Reg,
+    reg: Reg,
+) -> Outcome
+    requires { CanTurn tables.old place }
+    ensures { (m : Memory) → let s = slot_in tables.old place in
+        Leaves tables.old m s (effect_in tables.old m s (Instr.Rreg rd ra reg)) tables.new m result }
+{
+    let Some(of) = served(tables, place, ra) else {
+        return Outcome::Fails(Cause::NoSlot);
+    };
+    if tables.lacks(of, reg) {
+        let _register = tables.deliver(of);
+        return Outcome::Waits;
+    }
+    let word = word_of(tables.slot(of), reg);
+    tables.sets(place, rd, word);
+    Outcome::Goes(None)
+}
+
+/// `wreg`: a register of the slot that a register names is written.
+pub(crate) fn write_register(
+    tables: &mut Tables,
+    place: usize,
+    ra: Reg,
+    rb: Reg,
+    reg: Reg,
+) -> Outcome
+    requires { CanTurn tables.old place }
+    ensures { (m : Memory) → let s = slot_in tables.old place in
+        Leaves tables.old m s (effect_in tables.old m s (Instr.Wreg ra rb reg)) tables.new m result }
+{
+    let Some(of) = served(tables, place, ra) else {
+        return Outcome::Fails(Cause::NoSlot);
+    };
+    if tables.lacks(of, reg) {
+        let _register = tables.deliver(of);
+        return Outcome::Waits;
+    }
+    let word = word_of(tables.slot(place), rb);
+    tables.set_register(of, reg, word);
+    tables.advance(place);
+    Outcome::Goes(None)
+}

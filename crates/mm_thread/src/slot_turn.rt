@@ -1,0 +1,165 @@
+//! The turn of a slot, from its fetch to its end.
+
+ghost use Rattle.std.specs.Prelude.{◌≡◌, ◌+◌, ◌<◌, ◌^◌, ◌&&◌, length, None, Some, [], ◌∷◌};
+ghost use Rattle.mm_model.specs.Memory.{cell_at};
+ghost use Rattle.mm_model.specs.Uses.{Use, accesses, TakesUses};
+ghost use Rattle.mm_model.specs.Operands.{lacks};
+ghost use Rattle.mm_model.specs.Turn.{issued, fetched, started, instr_in, core_faulted, event_of, tick_faulted};
+ghost use Rattle.mm_thread.specs.Places.{slot_in};
+ghost use Rattle.mm_thread.specs.Execution.{CanTurn, CanEnd, Gives, core_ended, step_ended};
+
+use crate::execute::execute;
+use crate::fault::fault;
+use crate::operands::{addr_operand, lacks, value_operand};
+use crate::outcome::{Outcome, Retired};
+use crate::tables::Tables;
+use mm_isa::{Instr, read};
+use mm_mem::Memory;
+use mm_model::{SlotState, Step, Tick};
+use mm_word::{Access, Cause, Kind, Word, check};
+
+/// The turn of the running slot at a place, and its step.
+pub(crate) fn start<M: Memory>(tables: &mut Tables, place: usize, mem: &mut M, step: &mut Step)
+    requires can { CanTurn tables.old place }
+    requires room { M.uses mem.old < 2 ^ 61 }
+    ensures { Gives M.meaning M.uses M.stands (started tables.old (M.meaning mem.old) (slot_in tables.old place)) mem.old mem.new tables.new step.new }
+{
+    let slot = tables.slot(place);
+    let past = slot.past;
+    let ip = slot.ip;
+    if past {
+        fail_fetch(tables, place, Cause::Bounds, None, step);
+        return;
+    }
+    match check(Word::Ptr(ip), 0, Kind::Fetch) {
+        Err(cause) => fail_fetch(tables, place, cause, None, step),
+        Ok(access) => fetch(tables, place, mem, access, step),
+    }
+}
+
+// A fault before an instruction is known: it has no operands.
+fn fail_fetch(
+    tables: &mut Tables,
+    place: usize,
+    cause: Cause,
+    fetched: Option<Access>,
+    step: &mut Step,
+)
+    requires can { CanTurn tables.old place }
+    ensures core { let s = slot_in tables.old place in
+        tables.new ≡ core_faulted tables.old s (event_of s cause (Word.Int 0) (Word.Int 0)) s.handler }
+    ensures step { let s = slot_in tables.old place in
+        step.new ≡ record { tick = tick_faulted cause s.handler; slot = s.number; fetched = fetched; touched = None; entered = None } }
+{
+    let number = tables.slot(place).number;
+    let tick = fault(tables, place, cause, Word::Int(0), Word::Int(0));
+    tell(step, tick, number, fetched, None);
+}
+
+// From the fetch on.
+fn fetch<M: Memory>(tables: &mut Tables, place: usize, mem: &mut M, access: Access, step: &mut Step)
+    requires can { CanTurn tables.old place }
+    requires room { M.uses mem.old < 2 ^ 61 }
+    requires kind { access.kind ≡ Kind.Fetch }
+    ensures { Gives M.meaning M.uses M.stands (fetched tables.old (M.meaning mem.old) (slot_in tables.old place) access (cell_at (M.meaning mem.old) access.addr)) mem.old mem.new tables.new step.new }
+{
+    let Some(word) = mem.fetch(&access) else {
+        fail_fetch(tables, place, Cause::NoPage, Some(access), step);
+        return;
+    };
+    match instr_in(word) {
+        None => fail_fetch(tables, place, Cause::Illegal, Some(access), step),
+        Some(instr) => issue(tables, place, mem, access, instr, step),
+    }
+}
+
+// The instruction that a word spells.
+fn instr_in(word: Word) -> Option<Instr>
+    ensures { result ≡ instr_in word }
+{
+    match word {
+        Word::Int(bits) => read(bits),
+        Word::Ptr(_) => None,
+    }
+}
+
+// From the instruction on.
+fn issue<M: Memory>(
+    tables: &mut Tables,
+    place: usize,
+    mem: &mut M,
+    access: Access,
+    instr: Instr,
+    step: &mut Step,
+)
+    requires can { CanTurn tables.old place }
+    requires room { M.uses mem.old < 2 ^ 62 }
+    ensures { (before : M) (u : Use) → TakesUses M.stands before mem.old (u ∷ []) → M.meaning mem.old ≡ M.meaning before → M.uses mem.old ≡ M.uses before + accesses (u ∷ []) →
+        Gives M.meaning M.uses M.stands (issued tables.old (M.meaning before) (slot_in tables.old place) access u instr) before mem.new tables.new step.new }
+{
+    let number = tables.slot(place).number;
+    if must_wait(tables, place, &instr) {
+        let _register = tables.deliver(place);
+        tables.stand(place, SlotState::Running);
+        tell(step, Tick::Blocked, number, Some(access), None);
+        return;
+    }
+    let told = execute(tables, place, mem, &instr);
+    step.slot = number;
+    step.fetched = Some(access);
+    end(tables, place, &instr, told, step);
+}
+
+// Whether a register that the instruction names waits for a load, in a split machine.
+fn must_wait(tables: &Tables, place: usize, instr: &Instr) -> bool
+    requires { place < length tables.now.rows }
+    ensures { result ≡ (tables.now.split && lacks instr.now (slot_in tables.now place)) }
+{
+    tables.split() && lacks(instr, tables.slot(place))
+}
+
+// The end of a turn, whose step has the slot and the fetch: a slot that waits stays where it is, and one that faults
+// goes to its handler.
+fn end(tables: &mut Tables, place: usize, instr: &Instr, told: Retired, step: &mut Step)
+    requires { CanEnd told.outcome tables.old place }
+    ensures core { tables.new ≡ core_ended instr.now tables.old (slot_in tables.old place) place told.outcome }
+    ensures step { step.new ≡ step_ended step.old.slot (slot_in tables.old place) step.old.fetched told.touched told.outcome }
+{
+    let Retired { outcome, touched } = told;
+    step.touched = touched;
+    step.entered = None;
+    match outcome {
+        Outcome::Goes(entered) => {
+            step.tick = Tick::Did;
+            step.entered = entered;
+        }
+        Outcome::Waits => {
+            tables.stand(place, SlotState::Running);
+            step.tick = Tick::Blocked;
+        }
+        Outcome::Fails(cause) => {
+            let slot = tables.slot(place);
+            let (addr_op, value_op) = (addr_operand(instr, slot), value_operand(instr, slot));
+            step.tick = fault(tables, place, cause, addr_op, value_op);
+        }
+    }
+}
+
+/// Tells the step of a turn that enters nothing. It is written part by part where its caller keeps it, since a step
+/// that is handed up from function to function is copied at each of them.
+#[inline(always)]
+pub(crate) fn tell(
+    step: &mut Step,
+    tick: Tick,
+    slot: u8,
+    fetched: Option<Access>,
+    touched: Option<Access>,
+)
+    ensures { step.new ≡ record { tick = tick; slot = slot; fetched = fetched; touched = touched; entered = None } }
+{
+    step.tick = tick;
+    step.slot = slot;
+    step.fetched = fetched;
+    step.touched = touched;
+    step.entered = None;
+}
