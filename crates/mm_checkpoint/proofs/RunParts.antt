@@ -1,17 +1,16 @@
 -- The parts of a run's state, which are a snapshot of it.
-use Rattle.std.proofs.Common.{◌≡◌, ℕ, ◌<◌, ◌≤◌, true, List, [], ◌∷◌, length, map, Option, None, refl, sym, ap, ◌∙◌, subst, arith}
+use Rattle.std.proofs.Common.{◌≡◌, ℕ, ◌<◌, true, List, map, Option, None, refl, sym, ap, ◌∙◌, subst}
 use Rattle.std.specs.Prelude.{◌==◌}
 use Rattle.std.specs.List.{AllByRecursion, list_any}
 use Rattle.std.specs.List.Sorted.{IsStrictlyIncreasing}
 use Rattle.mm_model.specs.Slot.{Slot}
-use Rattle.mm_model.specs.State.{Core, State, output_of}
+use Rattle.mm_model.specs.State.{State}
 use Rattle.mm_model.specs.Image.{start}
 use Rattle.mm_model.specs.Groups.{has_group}
 use Rattle.mm_model.specs.Run.{run}
 use Rattle.mm_model.specs.Fits.{slots_of, IsOfVersion}
-use Rattle.mm_model.proofs.CoreRows.{each_map, slot_limit-few}
+use Rattle.mm_model.proofs.CoreRows.{each_map}
 use Rattle.mm_thread.specs.Output.{Output}
-use Rattle.mm_thread.proofs.Cores.{output_short}
 use Rattle.mm_machine.specs.Kept.{Kept}
 use Rattle.mm_machine.specs.Snapshot.{Parts, IsSnapshotOf, IsTyped}
 use Rattle.mm_machine.specs.Capture.{OutputsBelow}
@@ -23,7 +22,7 @@ use Rattle.mm_checkpoint.specs.Reading.{groups_of}
 use Rattle.mm_checkpoint.specs.States.{outputs_of, saved_form}
 use Rattle.mm_checkpoint.specs.Laws.{RunsHaveSnapshots}
 use Rattle.mm_checkpoint.proofs.Reached.{reached}
-use Rattle.mm_checkpoint.proofs.Forms.{told, kept as kept_of, said_back, groups_back}
+use Rattle.mm_checkpoint.proofs.Forms.{kept as kept_of, said_back, groups_back}
 use Rattle.mm_checkpoint.proofs.Made.{made_outputs, made_parts, made_saved}
 use Rattle.mm_checkpoint.proofs.CleanGroups.{groups_rise, groups_used, among_groups, any_map, each_unmap}
 

@@ -22,7 +22,7 @@ use Rattle.mm_model.specs.Spelling.{numbers_of}
 use Rattle.mm_model.specs.Flags.{one_if}
 use Rattle.mm_model.specs.Turn.{is_taken}
 use Rattle.mm_model.specs.Fits.{is_waiting, waits_for, events_of, slots_of, IsSlot, LoadsMatch, WaitsForSome, IsAtSlot, LoadsAreKept, TakenBySome, IsOfVersion, IsCore, SlotHoldsWords, EventHoldsWords, RowHoldsWords}
-use Rattle.mm_model.proofs.CoreRows.{each_map, each_both, slot_limit-few, rest_rises, above_first, Rises, slot_has, slots_found}
+use Rattle.mm_model.proofs.CoreRows.{each_map, each_both, rest_rises, above_first, Rises, slot_has, slots_found}
 use Rattle.mm_model.proofs.CoreSteps.{some_true, events_of-here, waits_for-rests, waits_for-at}
 use Rattle.mm_image.proofs.SortedEntries.{rises}
 use Rattle.mm_thread.specs.Output.{Output}

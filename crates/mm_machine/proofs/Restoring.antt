@@ -22,7 +22,7 @@ use Rattle.mm_model.specs.Groups.{has_group}
 use Rattle.mm_model.specs.Spelling.{numbers_of, IsOther}
 use Rattle.mm_model.specs.Fits.{waits_for, events_of, identity_of, slots_of, IsSlot, IsFormed, LoadsMatch, WaitsForSome, Matches, IsAtSlot, LoadsAreKept, TakenBySome, IsKept, IsOfVersion, HandlersAreOthers, IsCore, EventHoldsWords, RowHoldsWords}
 use Rattle.mm_model.proofs.Causes.{some_of}
-use Rattle.mm_model.proofs.CoreRows.{each_map, each_both, slot_limit-few, of_version_by, rest_rises, above_first, Rises, each_slot, slot_has, other_at, other_in, identities_of, stays_by}
+use Rattle.mm_model.proofs.CoreRows.{each_map, each_both, of_version_by, rest_rises, above_first, Rises, each_slot, slot_has, other_at, other_in, identities_of, stays_by}
 use Rattle.mm_model.proofs.CoreSteps.{waits_for-says}
 use Rattle.mm_model.proofs.ImageBytes.Rising.{AreRisingFrom, sorted_from}
 use Rattle.mm_thread.specs.Output.{Output}

@@ -9,7 +9,7 @@ use Rattle.mm_model.specs.State.{Row, Core, State, row_in, queue_of, queue_at, o
 use Rattle.mm_model.specs.Groups.{has_group}
 use Rattle.mm_model.specs.Spelling.{numbers_of}
 use Rattle.mm_model.specs.Fits.{slots_of, IsOfVersion}
-use Rattle.mm_model.proofs.CoreRows.{each_map, each_both, slot_limit-few, rest_rises, above_first}
+use Rattle.mm_model.proofs.CoreRows.{each_map, each_both, rest_rises, above_first}
 use Rattle.mm_thread.specs.Output.{Output}
 use Rattle.mm_thread.specs.Parts.{events_for, row_with, outputs_with}
 use Rattle.mm_machine.specs.Snapshot.{Parts, has_output, IsOutputOf, IsSnapshotOf, IsAlike, queued, restored}

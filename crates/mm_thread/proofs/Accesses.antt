@@ -12,14 +12,14 @@ use Rattle.mm_word.specs.Access.{Touch}
 use Rattle.mm_isa.specs.declared.instr.Instr.{Instr}
 use Rattle.mm_isa.specs.declared.instr.Instr.TheVariants.{Out, Ld, St, Evt, Resume, Rreg, Wreg, Map, Unmap}
 use Rattle.mm_isa.specs.declared.instr.How.{How}
-use Rattle.mm_model.specs.Memory.{Memory, passes, can_map, is_mapped}
+use Rattle.mm_model.specs.Memory.{Memory, passes}
 use Rattle.mm_model.specs.Slot.{Slot, register, is_empty}
 use Rattle.mm_model.specs.Operands.{lacks}
 use Rattle.mm_model.specs.State.{Core, slot_at}
 use Rattle.mm_model.specs.Uses.{Use, use_at, accesses, TakesUses, takes_none}
 use Rattle.mm_model.specs.Ask.{Ask, ask, is_privileged, page_asked}
 use Rattle.mm_model.specs.Ask.Ask.{Refuse}
-use Rattle.mm_model.specs.Effect.{Change, Effect, effect, plain, loads, loaded, stored, maps, unmaps, set_by, test}
+use Rattle.mm_model.specs.Effect.{Effect, effect, plain, loads, loaded, stored, maps, unmaps, set_by, test}
 use Rattle.mm_model.specs.Effect.Reply.{Refused, Paged}
 use Rattle.mm_model.specs.Turn.{reply, reached, removal_use, touch_of, asked_use, slot_after, core_after, memory_after}
 use Rattle.mm_mem.specs.Answers.{loaded as loaded_answer, stored as stored_answer, set_where, put_where}

@@ -5,12 +5,11 @@ use Rattle.std.specs.List.{AllByRecursion}
 use Rattle.std.proofs.Math.Seq.{get_or-append_seam}
 use Rattle.std.proofs.lemmas.Bool.{cases_eq}
 use Rattle.std.proofs.lemmas.Bool.Decides.{nat_tests}
-use Rattle.std.proofs.lemmas.List.{set_at, drop_more, take_more, length-append, length-map, length-take-le, map_push, append_assoc, take-append-drop, set_past, replicate_more, length-replicate}
+use Rattle.std.proofs.lemmas.List.{set_at, drop_more, take_more, length-append, length-map, length-take-le, map_push, append_assoc, replicate_more, length-replicate}
 use Rattle.mm_model.specs.declared.event.Event.{Event}
 use Rattle.mm_model.specs.Slot.{Slot}
 use Rattle.mm_model.specs.State.{Row, Core, row_in, slot_of, queue_of, slot_at, queue_at, output_of, at_number, put_queue}
-use Rattle.mm_model.specs.Spelling.{numbers_of}
-use Rattle.mm_model.specs.Fits.{identity_of, slots_of, IsSlot, IsCore}
+use Rattle.mm_model.specs.Fits.{slots_of, IsSlot, IsCore}
 use Rattle.mm_model.proofs.CoreRows.{each_map, slots_found}
 use Rattle.mm_model.proofs.Shortness.{queue_short}
 use Rattle.mm_thread.specs.Output.{Output}
@@ -18,7 +17,6 @@ use Rattle.mm_thread.specs.Places.{row_alone, slot_in, queue_in, with_queue_in}
 use Rattle.mm_thread.specs.Tables.{AreNumbered}
 use Rattle.mm_thread.specs.Parts.{events_for, row_with, core_of}
 use Rattle.mm_thread.proofs.Cores.{output_short}
-use Rattle.mm_thread.proofs.Sound.{numbers-same}
 use Rattle.mm_thread.proofs.Index.{row_found, queue_found, put_queue-place}
 
 -- 1. One event.

@@ -13,11 +13,11 @@ use Rattle.mm_model.specs.State.{Row, Core, slot_at, queue_at, output_of, put_qu
 use Rattle.mm_model.specs.Turn.{stood, core_faulted, is_running, is_sync}
 use Rattle.mm_model.specs.Fits.{waits_for, slots_of, IsSlot, LoadsMatch, IsOfVersion, IsCore}
 use Rattle.mm_model.specs.Spelling.{IsOther}
-use Rattle.mm_model.proofs.CoreRows.{each_get, slot_limit-few, slot_has, slot_at-number, other_at}
+use Rattle.mm_model.proofs.CoreRows.{each_get, slot_has, slot_at-number, other_at}
 use Rattle.mm_model.proofs.CoreSteps.{waits_for-rests}
 use Rattle.mm_model.proofs.EffectSteps.{running_waits_not}
 use Rattle.mm_model.proofs.Shortness as short
-use Rattle.mm_thread.specs.Places.{no_row, row_at, slot_in, queue_in, with_row, with_slot, with_queue_in, numbers_in}
+use Rattle.mm_thread.specs.Places.{no_row, row_at, slot_in, queue_in, with_row, with_slot, with_queue_in}
 use Rattle.mm_thread.specs.Tables.{AreNumbered}
 use Rattle.mm_thread.proofs.Index.{slot_found, queue_found, put_slot-place, put_queue-place, numbers-with_row, number-get}
 use Rattle.mm_thread.proofs.Placing.{apart_in}

@@ -1,12 +1,12 @@
 -- A core whose slots are an image's.
-use Rattle.std.proofs.Common.{◌≡◌, ℕ, zero, suc, ◌<◌, false, List, [], map, replicate, refl, sym, ap, ◌∙◌, subst}
+use Rattle.std.proofs.Common.{◌≡◌, ℕ, zero, suc, false, List, [], map, replicate, refl, sym, ap, ◌∙◌, subst}
 use Rattle.std.specs.List.{AllByRecursion}
 use Rattle.std.specs.List.Sorted.{IsStrictlyIncreasing}
 use Rattle.mm_model.specs.Slot.{Slot}
 use Rattle.mm_model.specs.State.{Row, Core}
 use Rattle.mm_model.specs.Image.{Image, start}
 use Rattle.mm_model.specs.Spelling.{numbers_of, IsFresh}
-use Rattle.mm_model.specs.Fits.{slots_of, IsCore}
+use Rattle.mm_model.specs.Fits.{IsCore}
 use Rattle.mm_model.proofs.Starts.{start_core}
 use Rattle.mm_thread.specs.Places.{row_alone}
 use Rattle.mm_thread.proofs.Sound.{version_whole}

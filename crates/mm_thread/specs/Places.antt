@@ -1,5 +1,5 @@
 -- Slots by their places in the table of rows.
-use Rattle.std.specs.Prelude.{◌≡◌, ℕ, ◌+◌, ◌*◌, ◌<◌, false, List, [], ◌∷◌, length, slice_set, slice_index_or, slice_index, Option, None, Some}
+use Rattle.std.specs.Prelude.{ℕ, ◌+◌, ◌*◌, false, List, [], ◌∷◌, slice_set, slice_index_or, Option, None, Some}
 use Rattle.mm_word.specs.declared.perm.Perm.TheVariants.{Xu}
 use Rattle.mm_word.specs.Cause.{number_of}
 use Rattle.mm_word.specs.declared.word.Word.{Word}
@@ -10,7 +10,7 @@ use Rattle.mm_model.specs.declared.slot.Pending.{Pending}
 use Rattle.mm_model.specs.Slot.{Slot}
 use Rattle.mm_model.specs.State.{Row, Core}
 use Rattle.mm_model.specs.Spelling.{numbers_of}
-use Rattle.mm_model.specs.Fits.{slots_of, IsCore}
+use Rattle.mm_model.specs.Fits.{slots_of}
 
 -- what stands for a row where there is none
 abbrev pub no_slot : Slot

@@ -1,6 +1,5 @@
-use Rattle.std.proofs.Common.{◌≡◌, ◌≤◌, ℕ, None, length, ap, ◌∙◌, subst, sym, arith}
-use Rattle.mm_model.specs.State.{Core, slot_at, slot_of}
-use Rattle.mm_thread.specs.Places.{slot_in}
+use Rattle.std.proofs.Common.{ap, arith}
+use Rattle.mm_model.specs.State.{slot_at, slot_of}
 use Rattle.mm_thread.proofs.Index.{row_in-none, none_past}
 use Rattle.mm_thread.proofs.tables.Tables.place_of.Goals as goal
 
