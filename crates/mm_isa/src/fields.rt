@@ -1,3 +1,5 @@
+//! The fields of an instruction word.
+
 ghost use Rattle.std.specs.Prelude.{◌≡◌, ◌<◌};
 ghost use Rattle.mm_isa.specs.Table.{put, packed, FitInWord, unused};
 ghost use Rattle.mm_isa.specs.Decode.{fields_in};
@@ -6,7 +8,7 @@ use crate::operand::Operand;
 use crate::reg::Reg;
 use crate::table::Visitor;
 
-/// The fields of an instruction word. One that the operation does not use is zero.
+/// The fields of an instruction word. A field that the operation does not use is zero.
 #[derive(Clone, Copy)]
 pub struct Fields {
     /// Bits 63 to 56.
@@ -52,7 +54,7 @@ impl Fields {
         }
     }
 
-    /// The fields with an operand in its place, whatever stood there.
+    /// The fields with an operand in its place, whatever was there.
     pub fn put(self, operand: Operand) -> Fields
         ensures value { result ≡ put self operand }
         ensures narrow { self.c < 16 → result.c < 16 }
