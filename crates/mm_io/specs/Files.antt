@@ -9,36 +9,35 @@ use Rattle.mm_word.specs.Adding.{Adds}
 abbrev pub raised : ℕ → ℕ
 raised count = min (count + 1) (2 ^ 64 - 1)
 
--- A count of faults rose, or stands at the last value of a counter of 64 bits. A call fails only where its count did
--- so.
+-- A count of faults rose, or is at the last value of a counter of 64 bits. A call fails only if its count did so.
 abbrev pub Rose : ℕ → ℕ → Type 0
 Rose before now = raised before ≤ now
 
--- no count of a name fell
+-- no name's count fell
 abbrev pub NoneFell : (List ℕ → ℕ) → (List ℕ → ℕ) → Type 0
 NoneFell before now = (name : List ℕ) → before name ≤ now name
 
--- A file holds these bytes, as far as it is told what it holds.
+-- A file holds these bytes. Any bytes will do if it is not known what the file holds.
 abbrev pub Holds : Option (List ℕ) → List ℕ → Type 0
 Holds None bytes = ⊤
 Holds (Some told) bytes = bytes ≡ told
 
--- the n bytes at the front of buf are those of the file from the offset on, and there is none only where the file
--- ends
+-- the n bytes at the front of buf are those of the file from the offset on, and n is 0 for a nonempty buf only if the
+-- file ends there
 abbrev pub ReadsAt : Option (List ℕ) → ℕ → ℕ → List ℕ → Type 0
 ReadsAt None offset n buf = ⊤
 ReadsAt (Some told) offset n buf =
     (take n buf ≡ take n (drop offset told)) × (n ≡ 0 → 0 < length buf → length told ≤ offset)
 
--- the file is longer than the limit: some longer bytes are what it holds
+-- the file is longer than the limit: it holds some bytes, and they are more
 abbrev pub IsLonger : Option (List ℕ) → ℕ → Type 0
 IsLonger told limit = (bytes : List ℕ) × Holds told bytes × (limit < length bytes)
 
--- some bytes went from the front of what a source has left
+-- a prefix of what a source had left is gone
 abbrev pub DrawnFrom : Option (List ℕ) → Option (List ℕ) → Type 0
 DrawnFrom old new = (front : List ℕ) × (old ≡ prepend_known front new)
 
--- A read of a piece of a file: the file's name, where the piece begins, and how many bytes came, if the read did not
+-- A read of a piece of a file: the file's name, where the piece begins, and the count of bytes, if the read did not
 -- fail.
 pub record PieceRead : Type 0 where
   pub name : List ℕ
@@ -49,7 +48,7 @@ abbrev pub count_of : {E : Type 0} → Result ℕ E → Option ℕ
 count_of (Ok n) = Some n
 count_of (Err e) = None
 
--- a read that answered so
+-- the read with this answer
 abbrev pub piece_read : {E : Type 0} → (name : List ℕ) → (offset : ℕ) → Result ℕ E → PieceRead
 piece_read name offset result = record { name = name; offset = offset; count = count_of result }
 
@@ -71,14 +70,14 @@ pub record FrontToEnd (name : List ℕ) (len : ℕ) (reads : List PieceRead) : T
   pub all : sum counts ≡ len
   pub in_order : reads ≡ reads_from name 0 (counts ++ 0 ∷ [])
 
--- the file of one name was read, any number of times, and no other
+-- the file of this name was read, any number of times, and no other file
 pub record AsksOnly {F : Type 0} (asked : F → List PieceRead → Type 0) (old new : F) (name : List ℕ)
     : Type 0 where
   pub reads : List PieceRead
   pub of_name : AreOf name reads
   pub asks : Adds asked old new reads
 
--- the file of a name, of `len` bytes, was read from its front to its end, and no other
+-- the file of a name, of `len` bytes, was read from its front to its end, and no other file
 pub record AsksWhole {F : Type 0} (asked : F → List PieceRead → Type 0) (old new : F) (name : List ℕ) (len : ℕ)
     : Type 0 where
   pub reads : List PieceRead
