@@ -11,7 +11,8 @@ use crate::{Failed, Files};
 use std::marker::Model;
 
 /// Files in memory that fail on chosen calls.
-/// || If two files have one name, the first counts. A call moves at most `piece` bytes. The calls that `fails` lists,
+///
+/// If two files have one name, the first counts. A call moves at most `piece` bytes. The calls that `fails` lists,
 /// counted from 1, fail, and so does a call for an absent name. Each failed call raises the count of faults, which all
 /// names share.
 #[derive(Drop)]

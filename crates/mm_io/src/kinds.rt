@@ -14,9 +14,10 @@ pub struct Failed;
 ///
 /// Each name has a count of faults of its own. No count ever falls, and a read answers [`Failed`]
 /// only if the count of its own name rose in this call, or is at the counter's last value.
-/// || Lists of reads belong to files: the reads that were made of them, in order. If a list belongs
-/// to them before a read, that list with the read appended belongs to them after it, whatever the
-/// read answers.
+///
+/// Lists of reads belong to files: the reads that were made of them, in order. If a list belongs to
+/// them before a read, that list with the read appended belongs to them after it, whatever the read
+/// answers.
 pub trait Files {
     /// The bytes of the file of a name, if they are known.
     ghost held: { Self → List ℕ → Option (List ℕ) };

@@ -12,7 +12,8 @@ use std::alloc::Global;
 use std::marker::Model;
 
 /// A sink that keeps what it takes, and fails on chosen calls.
-/// || It has room for `room` bytes, and a call moves at most `piece` bytes. The calls that `fails`
+///
+/// It has room for `room` bytes, and a call moves at most `piece` bytes. The calls that `fails`
 /// lists, counted from 1, fail, and so does a call whose bytes go past the room. Each failed call
 /// raises the count of faults.
 #[derive(Drop)]

@@ -43,8 +43,9 @@ impl From<AllocError> for ReadError {
 const PIECE: usize = 65_536;
 
 /// All bytes of a file, at most `limit`. The file is read to its end.
-/// || `TooLong` comes if more than `limit` bytes were read, `ReadFault` if a read failed, and
-/// `NoMemory` if memory ran out.
+///
+/// `TooLong` comes if more than `limit` bytes were read, `ReadFault` if a read failed, and `NoMemory` if memory ran
+/// out.
 #[tactic(auto, using(crate::proofs::Asking::asks_nothing))]
 pub fn read_all<F: Files>(
     alloc: Global,
@@ -102,8 +103,9 @@ fn read_pieces<F: Files>(
 }
 
 /// All bytes that a source has left, at most `limit`. The source is read to its end.
-/// || `TooLong` comes if more than `limit` bytes were read, `ReadFault` if a read failed, and
-/// `NoMemory` if memory ran out. After an error a prefix of the source's bytes is gone.
+///
+/// `TooLong` comes if more than `limit` bytes were read, `ReadFault` if a read failed, and `NoMemory` if memory ran
+/// out. After an error a prefix of the source's bytes is gone.
 pub fn read_input<I: Source>(alloc: Global, input: &mut I, limit: u64) -> Result<Vec<u8>, ReadError>
     requires { limit < 2 ^ 31 }
     ensures bytes { IfOk result (λ bytes. Holds (I.left input.old) bytes.items) }

@@ -10,8 +10,9 @@ use crate::{Failed, Source};
 use std::marker::Model;
 
 /// A source in memory that fails on chosen calls.
-/// || A call moves at most `piece` bytes. The calls that `fails` lists, counted from 1, fail. A
-/// failed call loses nothing, and raises the count of faults.
+///
+/// A call moves at most `piece` bytes. The calls that `fails` lists, counted from 1, fail. A failed
+/// call loses nothing, and raises the count of faults.
 #[derive(Drop)]
 pub struct MemSource {
     bytes: Vec<u8>,

@@ -1,6 +1,7 @@
 //! Real files and streams: the trusted edge, where what the system does is not proved.
-//! || As files, sinks and sources they do not say their content. If std knows what a stream holds or has left, the
-//! stream took or gave what a call says.
+//!
+//! As files, sinks and sources they do not say their content. If std knows what a stream holds or has left, the stream
+//! took or gave what a call says.
 
 ghost use Rattle.std.specs.Prelude.{◌≡◌, ℕ, ◌<◌, ◌≤◌, None, length, take, IfOk, OnOk, OnErr, ⊤};
 ghost use Rattle.std.specs.Io.KnownBytes.{Keeps, Appends, Consumes, IsAtEnd};

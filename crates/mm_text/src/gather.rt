@@ -17,7 +17,8 @@ use std::marker::Model;
 const ROOM: usize = 4096;
 
 /// Text on its way to a sink. The sink gets up to 4,096 bytes at a time, and a longer text at once.
-/// || Contracts see the bytes that are kept, and whether a write has failed. Each call is given the
+///
+/// Contracts see the bytes that are kept, and whether a write has failed. Each call is given the
 /// same sink. After a write that failed nothing more is handed over, and [`Gather::finish`], which
 /// ends the text, says so.
 #[derive(Drop)]

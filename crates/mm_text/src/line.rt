@@ -10,7 +10,8 @@ use std::marker::Model;
 const ROOM: usize = 64;
 
 /// A short text that is put together from its end, in at most 64 bytes. Contracts see its bytes.
-/// || Each call puts its text before the text so far.
+///
+/// Each call puts its text before the text so far.
 #[derive(Drop)]
 pub struct Line {
     bytes: [u8; ROOM],
