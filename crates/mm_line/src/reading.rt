@@ -1,3 +1,5 @@
+//! What a token says in its place.
+
 ghost use Rattle.std.specs.Prelude.{◌≡◌, ◌≤◌, IfOk};
 ghost use Rattle.mm_line.specs.Seen.{seen};
 ghost use Rattle.mm_line.specs.Reading.{at, wrong, name_of, known, word_of, register_of, ranged, between, number_of};
@@ -19,7 +21,7 @@ impl Next<'_> {
         }
     }
 
-    /// The token is of the wrong kind for its place, or missing.
+    /// The fault of a token that is of the wrong kind for its place, or missing.
     pub(crate) fn wrong(self) -> Problem
         ensures { result ≡ wrong (seen self.entry) }
     {
@@ -44,7 +46,7 @@ pub(crate) fn name_of<'a>(next: Next<'a>) -> Result<Mark<'a>, Problem>
     }
 }
 
-/// What a name says, where it is known.
+/// What a name says, if it is known.
 pub(crate) fn known<T: Drop>(value: Option<T>, next: Next) -> Result<T, Problem>
     ensures { result ≡ known value (seen next.entry) }
 {
