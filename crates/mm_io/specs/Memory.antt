@@ -5,8 +5,8 @@ use Rattle.std.specs.Str.{bytes_eq}
 use Rattle.std.specs.declared.alloc.Global.{Global}
 use Rattle.mm_io.specs.Files.{raised}
 
--- A sink in memory: the bytes that it took, how many it has room for, the numbers of the calls that fail, the most
--- bytes that one call moves, and the counts of calls and faults.
+-- A sink in memory: the bytes that it took, the count of bytes for which it has room, the numbers of the calls that
+-- fail, the most bytes that one call moves, and the counts of calls and faults.
 pub record MemorySink : Type 0 where
   pub taken : List ℕ
   pub room : ℕ

@@ -25,7 +25,7 @@ pub trait Files {
     /// How often reads of a name have failed.
     ghost faults: { Self → List ℕ → ℕ };
 
-    /// These reads were made, one after the other.
+    /// The list of reads belongs to the files: these reads were made, one after the other.
     ghost asked: { Self → List PieceRead → Type 0 };
 
     /// Writes bytes of the named file, from the offset in bytes on, to the front of `buf`, and
@@ -43,7 +43,7 @@ pub trait Files {
 
 /// A place where bytes go.
 ///
-/// Its count of faults never falls, and a write answers [`Failed`] only if the count rose in this
+/// The sink's count of faults never falls, and a write answers [`Failed`] only if the count rose in this
 /// call, or is at the counter's last value.
 pub trait Sink {
     /// The bytes that the sink has taken, if they are known.
@@ -65,7 +65,7 @@ pub trait Sink {
 
 /// Bytes that come one after the other.
 ///
-/// Its count of faults never falls, and a read answers [`Failed`] only if the count rose in this
+/// The source's count of faults never falls, and a read answers [`Failed`] only if the count rose in this
 /// call, or is at the counter's last value.
 pub trait Source {
     /// The bytes that are left, if they are known.

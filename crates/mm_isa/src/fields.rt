@@ -11,17 +11,17 @@ use crate::table::Visitor;
 /// The fields of an instruction word. A field that the operation does not use is zero.
 #[derive(Clone, Copy)]
 pub struct Fields {
-    /// Bits 63 to 56.
+    /// The operation's number, in bits 63 to 56.
     pub operation: u8,
-    /// Bits 55 to 52.
+    /// The register `rd`, in bits 55 to 52.
     pub rd: Reg,
-    /// Bits 51 to 48.
+    /// The register `ra`, in bits 51 to 48.
     pub ra: Reg,
-    /// Bits 47 to 44.
+    /// The register `rb`, in bits 47 to 44.
     pub rb: Reg,
-    /// Bits 43 to 40.
+    /// The conditions or the way to resume, in bits 43 to 40.
     pub c: u8,
-    /// Bits 31 to 0.
+    /// The constant, in bits 31 to 0.
     pub imm: i32,
 }
 

@@ -98,12 +98,12 @@ pub trait Inspect: Memory {
         requires { i < length (Self.meaning self.now).pages }
         ensures { slice_get (map (λ e. e.0) (Self.meaning self.now).pages) i ≡ Some result };
 
-    /// The memory's counts, for each list of uses that belongs to it.
+    /// What the memory counted: the counts of each list of uses that belongs to it. `None` if it does not count.
     fn counts(&self) -> Option<Counts>
         ensures { (us : List Use) → Self.stands self.now us → result ≡ tells us };
 }
 
-/// A memory that can be made.
+/// A memory that can be made of pages.
 pub trait Boot: Inspect + Sized {
     /// The memory of these pages, with this many frames.
     fn new(alloc: Global, pages: &[Page], frames: u32) -> Result<Self, NoMemory>

@@ -64,7 +64,7 @@ impl Page {
         self.cells.as_slice()
     }
 
-    /// Says what the type of each page keeps. The call does nothing.
+    /// Says, for proofs, what the type of each page keeps. The call does nothing.
     pub fn typed(pages: &[Page])
         ensures whole { AllByRecursion IsPage pages.now }
         ensures words { AllByRecursion HoldsWords pages.now }
@@ -100,7 +100,7 @@ ghost use Rattle.std.specs.List.{AllByRecursion};
 ghost use Rattle.mm_word.specs.declared.word.Cell.{Cell as CellValue};
 ghost use Rattle.mm_word.specs.Word.{IsWord};
 
-// Says what the type of each word keeps. The call does nothing.
+// Says, for proofs, what the type of each word keeps. The call does nothing.
 fn hold_words(cells: &[Cell])
     ensures { AllByRecursion (λ (c : CellValue). IsWord c.word) cells.now }
 {

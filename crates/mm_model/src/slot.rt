@@ -48,7 +48,7 @@ pub struct Slot {
     pub number: u8,
     /// The slot's protection domain, 0 to 63.
     pub group: u8,
-    /// The number of the slot that handles this one's faults.
+    /// The number of the slot that handles this one's faults, if there is one.
     pub handler: Option<u8>,
     pub regs: [Word; 16],
     /// The instruction pointer, which has an execute permission.
@@ -120,7 +120,7 @@ impl Slot {
         self.regs[usize::from(number)] = word;
     }
 
-    /// Says what the type of each slot keeps. The call does nothing.
+    /// Says, for proofs, what the type of each slot keeps. The call does nothing.
     pub fn typed(slots: &[Slot])
         ensures { AllByRecursion IsTypedSlot slots.now }
     {

@@ -18,7 +18,7 @@ pub fn every_right_includes_load()
     ensures store { StoringLoads }
 {}
 
-/// The relation below is a preorder, so a chain of steps that each go below ends below its start.
+/// `IsBelow` is a preorder, so a chain of steps that each go below ends below its start.
 pub fn below_is_a_preorder()
     ensures reflexive { BelowIsReflexive }
     ensures transitive { BelowIsTransitive }
