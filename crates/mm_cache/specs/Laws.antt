@@ -23,7 +23,7 @@ pub record ReadsAreOver : Type 0 where
   pub miss : (m : Memory) (ls : List (Option CacheLine)) (w : ℕ) → Cover ls m → hits ls (block_of w) ≡ false
       → cell_at (over m ls) w ≡ cell_at m w
 
--- a cell that is written in its line is written in the memory under the lines
+-- a cell that is written in its line is written in the memory that is read through the lines
 pub record WritesAreOver : Type 0 where
   pub map : (m : Memory) (ls : List (Option CacheLine)) (w : ℕ) (c : Cell) → Cover ls m → hits ls (block_of w) ≡ true
       → over m (with_cell ls w c) ≡ put_cell (over m ls) w c
@@ -50,7 +50,7 @@ pub record LinesAreWrittenBack : Type 0 where
   pub cover : (m : Memory) (ls : List (Option CacheLine)) (i : ℕ) (l : CacheLine) → Cover ls m → line_in ls i ≡ Some l
       → Cover (emptied ls i) (put_block m l.block l.cells)
 
--- a page that is mapped, or removed with its lines, is mapped or removed in the memory under the lines
+-- a page that is mapped, or removed with its lines, is mapped or removed in the memory that is read through the lines
 pub record PagesAreOver : Type 0 where
   pub map : (m : Memory) (ls : List (Option CacheLine)) (p : ℕ) → Cover ls m → is_mapped m p ≡ false
       → over (map_page m p) ls ≡ map_page (over m ls) p

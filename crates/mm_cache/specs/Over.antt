@@ -9,17 +9,17 @@ use Rattle.mm_mem.specs.Blocks.{block_at}
 use Rattle.mm_cache.specs.declared.line.CacheLine.{CacheLine}
 use Rattle.mm_cache.specs.Lines.{line_in}
 
--- the cell at a place of a page, under a line
+-- the cell at a place of a page, as it is read through a line
 abbrev pub over_cell : Option CacheLine → ℕ → ℕ → Cell → Cell
 over_cell None page place c = c
 over_cell (Some l) page place c = if page_of_block l.block == page then slice_index_or l.cells (place % 8) c else c
 
--- the cells of a page from a place on, under the lines
+-- the cells of a page from a place on, as they are read through the lines
 abbrev pub lay : List (Option CacheLine) → ℕ → ℕ → List Cell → List Cell
 lay lines page place [] = []
 lay lines page place (c ∷ cells) = over_cell (line_in lines (place / 8)) page place c ∷ lay lines page (suc place) cells
 
--- the memory under the lines
+-- the memory that is read through the lines
 unfoldable pub over : Memory → List (Option CacheLine) → Memory
 over m lines = record m { pages = map (λ e. (e.0, lay lines e.0 0 e.1)) m.pages }
 

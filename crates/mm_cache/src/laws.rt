@@ -19,7 +19,7 @@ pub fn lines_come_and_go()
     ensures back { LinesAreWrittenBack }
 {}
 
-/// A page is mapped under the lines as in the memory, and removed with its lines.
+/// A page that is mapped, or removed with its lines, is mapped or removed in the memory that is read through the lines.
 pub fn pages_are_over()
     ensures { PagesAreOver }
 {}

@@ -1,3 +1,4 @@
+-- The value of a plain memory.
 use Rattle.std.specs.Prelude.{ℕ}
 use Rattle.mm_model.specs.Memory.{Memory}
 

@@ -24,7 +24,7 @@ writes Load = false
 writes LoadSet = true
 writes Store = true
 
--- the block that stays when a page is removed: none of that page
+-- the block that a line keeps when a page is removed: none if it is of that page
 abbrev pub kept : ℕ → Option ℕ → Option ℕ
 kept page None = None
 kept page (Some block) = if page_of_block block == page then None else Some block

@@ -85,7 +85,7 @@ module _ (bytes : List ℕ) where
 
   -- 4. The whole.
 
-  -- the image that the bytes spell
+  -- the image that the bytes say
   unfoldable pub image_of : Image
   image_of = record {
     version = version_of;

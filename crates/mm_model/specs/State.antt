@@ -46,7 +46,7 @@ queue_at core n = queue_of (row_in core.rows n)
 abbrev pub at_number : ℕ → (Row → Row) → Row → Row
 at_number n change row = if row.slot.number == n then change row else row
 
--- the core with this slot in the place of the slot of its number
+-- the core with this slot in place of the slot of its number
 unfoldable pub put_slot : Core → Slot → Core
 put_slot core s = record core { rows = map (at_number s.number (λ row. record row { slot = s })) core.rows }
 

@@ -80,12 +80,12 @@ group_of (Some s) = s.group
 abbrev pub group_in : Turned → ℕ
 group_in t = group_of (slot_at t.core t.step.slot)
 
--- the group and the enter pointer of an entry that a turn did
+-- the group and the enter pointer of an entry that a turn made
 abbrev pub done_entry : Turned → Option Pointer → List (ℕ × Pointer)
 done_entry t None = []
 done_entry t (Some e) = (group_in t, e) ∷ []
 
--- the entries that a run did, in order
+-- the entries that a run made, in order
 unfoldable pub entries : State → List ℕ → List (ℕ × Pointer)
 entries s [] = []
 entries s (n ∷ items) = done_entry (turn_of s n) (turn_of s n).step.entered ++ entries (after s n) items

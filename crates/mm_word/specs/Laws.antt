@@ -1,3 +1,4 @@
+-- What holds of every pointer, permission and segment.
 use Rattle.std.specs.Prelude.{◌≡◌, ℕ, ◌≤◌, ◌<◌, true, ℤ, Ok, Some}
 use Rattle.mm_word.specs.declared.perm.Perm.{Perm}
 use Rattle.mm_word.specs.declared.perm.Kind.{Kind}
