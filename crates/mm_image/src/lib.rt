@@ -14,7 +14,8 @@
 //! | 2 | count of frames, 1 to 256, in version 2 to 4,096 |
 //! | 2 | count of pages, no more than frames |
 //! | 4 | mode: 0, or 1 for a split image of version 2 |
-//! | 142 a slot | number, group, handler or 255, and state, a byte each; instruction pointer (8); which registers hold pointers (2); 16 registers (128) |
+//! | 142 a slot | number, group, handler or 255, and state, a byte each; instruction pointer (8); |
+//! | | which registers hold pointers (2); 16 registers (128) |
 //! | 4,232 a page | number (8); which cells hold pointers (64); which are full (64); 512 words (4,096) |
 //!
 //! The fields are read in order, and each is tested when it is read, but the handlers are tested after the last slot.
