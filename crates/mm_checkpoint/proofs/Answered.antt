@@ -15,8 +15,8 @@ use Rattle.mm_checkpoint.specs.Reading.{saved_at}
 use Rattle.mm_checkpoint.specs.Faults.{first_fault, save_fault}
 use Rattle.mm_checkpoint.specs.Laws.{SomeSaved}
 use Rattle.mm_checkpoint.specs.Steps.{told}
-use Rattle.mm_checkpoint.proofs.CleanWhole.{clean_spelled, clean_checkpoint, clean_short}
-use Rattle.mm_checkpoint.proofs.Made.{made_parts, made_saved, short_within}
+use Rattle.mm_checkpoint.proofs.CleanWhole.{clean_spelled, clean_checkpoint}
+use Rattle.mm_checkpoint.proofs.Made.{made_parts, made_saved}
 use Rattle.mm_checkpoint.proofs.SpelledWhole.{spelled_same}
 
 module _ (i : Image) (bytes : List ℕ) where
@@ -55,6 +55,5 @@ fault_none (Some f) e = absurd cc
 pub some_saved : (i : Image) (bytes : List ℕ) → IsImage i → IsBytes bytes → save_fault i bytes ≡ None → SomeSaved i bytes
 some_saved i bytes img fits e =
     let none = fault_none (first_fault i bytes) e in
-    let short = short_within i.version (saved_at i bytes).outputs (clean_short i bytes img fits none) in
-    let p : Parts = made_parts (saved_at i bytes) short in
-    record { parts = p; last = (saved_at i bytes).last; saves = are_saved i bytes img fits p (saved_at i bytes).last none (made_saved (saved_at i bytes) short) }
+    let p : Parts = made_parts (saved_at i bytes) in
+    record { parts = p; last = (saved_at i bytes).last; saves = are_saved i bytes img fits p (saved_at i bytes).last none (made_saved (saved_at i bytes)) }

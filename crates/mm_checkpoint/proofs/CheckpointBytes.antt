@@ -27,7 +27,7 @@ use Rattle.mm_model.specs.Spelling.{IsImage, words_spelling, bitmap, page_record
 use Rattle.mm_model.specs.Typed.{IsTypedSlot}
 use Rattle.mm_model.proofs.CoreRows.{slot_limit-few}
 use Rattle.mm_model.proofs.ImageBytes.Apart.{number_of_flags-below}
-use Rattle.mm_thread.specs.declared.output.Output.{Output}
+use Rattle.mm_thread.specs.Output.{Output}
 use Rattle.mm_machine.specs.Snapshot.{Parts, IsPending}
 use Rattle.mm_checkpoint.specs.Checkpoints.{Saved, saved_of, IsCheckpoint, last_byte, state_byte, cause_byte, place_in, place_byte, event_of, tagged_word, operands, pending_record, slot_record, output_record, header, spelling}
 use Rattle.mm_checkpoint.specs.Laws.{CheckpointsAreShort}
@@ -200,14 +200,14 @@ outputs_bytes [] h = tt
 outputs_bytes (o ∷ outputs) h = joined (output_record o) (flat_map output_record outputs) (joined (to_be_bytes w32 (length o.1)) o.1 (number_bytes 4 (length o.1)) h.0) (outputs_bytes outputs h.1)
 
 abbrev pair_of : Output → ℕ × List ℕ
-pair_of o = (o.group, o.bytes.items)
+pair_of o = (o.group, o.bytes)
 
-outputs_length : (outputs : List Output) → AllByRecursion (λ (o : Output). length o.bytes.items ≤ 65536) outputs → length (flat_map output_record (map pair_of outputs)) ≤ 65540 * length outputs
+outputs_length : (outputs : List Output) → AllByRecursion (λ (o : Output). length o.bytes ≤ 65536) outputs → length (flat_map output_record (map pair_of outputs)) ≤ 65540 * length outputs
 outputs_length [] h = omega arith
 outputs_length (o ∷ outputs) h =
     let both = length-append (output_record (pair_of o)) (flat_map output_record (map pair_of outputs)) in
-    let own = length-append (to_be_bytes w32 (length o.bytes.items)) o.bytes.items in
-    let four : length (to_be_bytes w32 (length o.bytes.items)) ≡ 4 = refl in
+    let own = length-append (to_be_bytes w32 (length o.bytes)) o.bytes in
+    let four : length (to_be_bytes w32 (length o.bytes)) ≡ 4 = refl in
     let few = h.0 in
     let rest = outputs_length outputs h.1 in
     omega (arith, both, own, four, few, rest)

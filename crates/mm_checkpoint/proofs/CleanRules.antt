@@ -13,7 +13,7 @@ use Rattle.mm_model.specs.Fits.{identity_of}
 use Rattle.mm_model.specs.Typed.{IsTypedSlot}
 use Rattle.mm_model.proofs.CoreRows.{each_map}
 use Rattle.mm_model.proofs.ImageBytes.Ranges.{map-map}
-use Rattle.mm_thread.specs.declared.output.Output.{Output}
+use Rattle.mm_thread.specs.Output.{Output}
 use Rattle.mm_machine.specs.Snapshot.{Parts, IsSnapshot, IsTyped, DoesNotFall, queues_of, page_numbers, has_output, IsAwaited, HasOneEvent, IsPending, IsTypedEvent}
 use Rattle.mm_checkpoint.specs.Checkpoints.{Saved, saved_of, IsCheckpoint}
 use Rattle.mm_checkpoint.proofs.CleanGroups.{any_map, each_unmap}
@@ -49,10 +49,10 @@ limit_small version = by (version == 1)
     by false = omega arith
 
 abbrev pair : Output → ℕ × List ℕ
-pair o = (o.group, o.bytes.items)
+pair o = (o.group, o.bytes)
 
 module _ (i : Image) (p : Parts) (last : Option ℕ) (r : IsRight i (saved_of p last)) where
-  short_outputs : AllByRecursion (λ (o : Output). length o.bytes.items ≤ output_limit i.version) p.outputs
+  short_outputs : AllByRecursion (λ (o : Output). length o.bytes ≤ output_limit i.version) p.outputs
   short_outputs = each_unmap (λ (o : ℕ × List ℕ). length o.1 ≤ output_limit i.version) pair p.outputs r.short
 
   all_shown : AllByRecursion (λ (s : Slot). has_output p.outputs s.group ≡ true) p.slots
@@ -71,7 +71,7 @@ module _ (i : Image) (p : Parts) (last : Option ℕ) (r : IsRight i (saved_of p 
     awaited = r.awaited;
     one_event = r.one_event;
     taken = r.taken;
-    outputs = each_map (λ (o : Output). length o.bytes.items ≤ output_limit i.version) (λ (o : Output). length o.bytes.items ≤ 65536) (λ o le. let most = limit_small i.version in omega (arith, le, most)) p.outputs short_outputs;
+    outputs = each_map (λ (o : Output). length o.bytes ≤ output_limit i.version) (λ (o : Output). length o.bytes ≤ 65536) (λ o le. let most = limit_small i.version in omega (arith, le, most)) p.outputs short_outputs;
     pending = r.pending;
     turns = r.turns;
   }

@@ -165,6 +165,3 @@ clean_spelled i bytes img fits none = spelled i bytes img fits (parts_clean i by
 
 pub clean_checkpoint : (i : Image) (bytes : List ℕ) (p : Parts) (last : Option ℕ) → IsImage i → IsBytes bytes → first_fault i bytes ≡ None → saved_of p last ≡ saved_at i bytes → IsCheckpoint i p last
 clean_checkpoint i bytes p last img fits none same = is_checkpoint i p last (subst (IsRight i) (sym same) (right i bytes img fits (parts_clean i bytes img fits none)))
-
-pub clean_short : (i : Image) (bytes : List ℕ) → IsImage i → IsBytes bytes → first_fault i bytes ≡ None → AllByRecursion (λ (o : ℕ × List ℕ). length o.1 ≤ output_limit i.version) (saved_at i bytes).outputs
-clean_short i bytes img fits none = (right i bytes img fits (parts_clean i bytes img fits none)).short

@@ -9,7 +9,7 @@ use Rattle.mm_model.specs.Groups.{has_group}
 use Rattle.mm_model.specs.Spelling.{IsImage, IsFresh}
 use Rattle.mm_model.specs.Fits.{identity_of, IsOfVersion}
 use Rattle.mm_model.proofs.CoreRows.{each_map, rest_rises, above_first, of_version_by, slot_limit-few}
-use Rattle.mm_thread.specs.declared.output.Output.{Output}
+use Rattle.mm_thread.specs.Output.{Output}
 use Rattle.mm_machine.specs.Snapshot.{Parts, IsSnapshot, groups_of}
 use Rattle.mm_machine.proofs.Outputs.{group_has}
 

@@ -10,7 +10,7 @@ use Rattle.mm_model.specs.Groups.{has_group}
 use Rattle.mm_model.specs.Run.{run}
 use Rattle.mm_model.specs.Spelling.{IsImage}
 use Rattle.mm_model.specs.Fits.{identity_of, slots_of}
-use Rattle.mm_thread.specs.declared.output.Output.{Output}
+use Rattle.mm_thread.specs.Output.{Output}
 use Rattle.mm_machine.specs.Snapshot.{Parts, IsSnapshot, IsSnapshotOf, IsOutputOf}
 use Rattle.mm_checkpoint.specs.Checkpoints.{Saved, saved_of}
 use Rattle.mm_checkpoint.specs.Reading.{groups_of}
@@ -34,7 +34,7 @@ beside g bytes = (g, bytes)
 
 -- what is saved of an output
 abbrev pub kept : Output → ℕ × List ℕ
-kept o = (o.group, o.bytes.items)
+kept o = (o.group, o.bytes)
 
 -- a group beside what a core says of it
 abbrev pub told : Core → ℕ → ℕ × List ℕ

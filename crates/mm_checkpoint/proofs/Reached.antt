@@ -9,7 +9,7 @@ use Rattle.mm_model.specs.Spelling.{IsImage}
 use Rattle.mm_model.specs.Fits.{Fits}
 use Rattle.mm_model.proofs.Starts.{start_fits}
 use Rattle.mm_model.proofs.StateKeeps.{after_fits}
-use Rattle.mm_thread.specs.declared.output.Output.{Output}
+use Rattle.mm_thread.specs.Output.{Output}
 use Rattle.mm_machine.specs.Kept.{Kept}
 use Rattle.mm_machine.specs.Snapshot.{Parts, IsTyped, IsSnapshotOf}
 use Rattle.mm_machine.proofs.Keeping.{kept_start, kept_after}
@@ -54,7 +54,7 @@ checkpoint_of i cycles s p last r few is typed issued =
       slots = own.slots ∙ r.fits.same_slots;
       cycles = let counted = r.counted in let same = is.cycles in omega arith;
       pages = subst (λ (n : ℕ). length p.pages ≤ n) r.fits.frames own.pages;
-      outputs = subst (λ (v : ℕ). AllByRecursion (λ (o : Output). length o.bytes.items ≤ output_limit v) p.outputs) r.fits.version own.outputs;
+      outputs = subst (λ (v : ℕ). AllByRecursion (λ (o : Output). length o.bytes ≤ output_limit v) p.outputs) r.fits.version own.outputs;
       mode = λ off. own.mode (r.fits.split ∙ off);
       issued = issued;
     }

@@ -10,7 +10,7 @@ use Rattle.mm_model.specs.Groups.{has_group}
 use Rattle.mm_model.specs.Run.{run}
 use Rattle.mm_model.specs.Fits.{slots_of, IsOfVersion}
 use Rattle.mm_model.proofs.CoreRows.{each_map, slot_limit-few}
-use Rattle.mm_thread.specs.declared.output.Output.{Output}
+use Rattle.mm_thread.specs.Output.{Output}
 use Rattle.mm_thread.proofs.Cores.{output_short}
 use Rattle.mm_machine.specs.Kept.{Kept}
 use Rattle.mm_machine.specs.Snapshot.{Parts, IsSnapshotOf, IsTyped}
@@ -24,12 +24,8 @@ use Rattle.mm_checkpoint.specs.States.{outputs_of, saved_form}
 use Rattle.mm_checkpoint.specs.Laws.{RunsHaveSnapshots}
 use Rattle.mm_checkpoint.proofs.Reached.{reached}
 use Rattle.mm_checkpoint.proofs.Forms.{told, kept as kept_of, said_back, groups_back}
-use Rattle.mm_checkpoint.proofs.Made.{AreShort, made_outputs, made_parts, made_saved}
+use Rattle.mm_checkpoint.proofs.Made.{made_outputs, made_parts, made_saved}
 use Rattle.mm_checkpoint.proofs.CleanGroups.{groups_rise, groups_used, among_groups, any_map, each_unmap}
-
-short_of : (core : Core) → ((g : ℕ) → length (output_of core g) ≤ 65536) → (groups : List ℕ) → AreShort (map (told core) groups)
-short_of core few [] = tt
-short_of core few (g ∷ groups) = (few g, short_of core few groups)
 
 each_group : (P : ℕ → Type 0) (outputs : List Output) (groups : List ℕ) → map (λ (o : Output). o.group) outputs ≡ groups → AllByRecursion P groups → AllByRecursion (λ (o : Output). P o.group) outputs
 each_group P outputs groups same h = each_unmap P (λ (o : Output). o.group) outputs (subst (AllByRecursion P) (sym same) h)
@@ -38,14 +34,11 @@ module _ (s : State) (kept : Kept s) where
   abbrev slots : List Slot
   slots = slots_of s.core
 
-  pub short : AreShort (outputs_of s.core)
-  short = short_of s.core (output_short s.core (kept_core s kept)) (groups_of slots)
-
   abbrev outputs : List Output
-  outputs = made_outputs (outputs_of s.core) short
+  outputs = made_outputs (outputs_of s.core)
 
   they_are : map kept_of outputs ≡ outputs_of s.core
-  they_are = ap (λ (c : Saved). c.outputs) (made_saved (saved_form s None) short)
+  they_are = ap (λ (c : Saved). c.outputs) (made_saved (saved_form s None))
 
   same_groups : map (λ (o : Output). o.group) outputs ≡ groups_of slots
   same_groups = groups_back s.core outputs (groups_of slots) they_are
@@ -53,7 +46,7 @@ module _ (s : State) (kept : Kept s) where
   low_group : (g : ℕ) → has_group slots g ≡ true → g < 64
   low_group g has =
       group_has (λ n. n < 64) slots g
-      (each_map (IsOfVersion s.core.version) (λ (x : Slot). x.group < 64) (λ x is. omega (arith, is.group, slot_limit-few s.core.version)) slots (kept_core s kept).numbers) has
+      (each_map (IsOfVersion 2) (λ (x : Slot). x.group < 64) (λ x is. is.group) slots (kept_core s kept).numbers) has
 
   below : OutputsBelow s.core (slots_of s.core) 64 outputs
   below = record {
@@ -66,10 +59,10 @@ module _ (s : State) (kept : Kept s) where
 
   -- beside any last slot
   abbrev pub parts : Parts
-  parts = made_parts (saved_form s None) short
+  parts = made_parts (saved_form s None)
 
   pub have_form : (last : Option ℕ) → saved_of parts last ≡ saved_form s last
-  have_form last = made_saved (saved_form s last) short
+  have_form last = made_saved (saved_form s last)
 
   pub are_snapshot : IsSnapshotOf s parts
   are_snapshot = record { rules = snapshot_taken s outputs below kept; slots = refl; events = refl; outputs = below.said; pages = refl; cycles = refl }

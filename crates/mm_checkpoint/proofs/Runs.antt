@@ -10,7 +10,7 @@ use Rattle.mm_model.proofs.Places.{Found, first_bad-append}
 use Rattle.mm_image.specs.declared.fault.ImageError.{ImageError}
 use Rattle.mm_image.specs.Faults.{Fails}
 use Rattle.mm_image.proofs.Over.{fails}
-use Rattle.mm_thread.specs.declared.output.Output.{Output}
+use Rattle.mm_thread.specs.Output.{Output}
 use Rattle.mm_checkpoint.specs.declared.waiting.Waiter.{Waiter}
 use Rattle.mm_checkpoint.specs.Reading.{slot_at, waiter_at, slot_end, slots_at, waiters_at, slots_end, slots_start, output_at, output_end, outputs_at, outputs_end}
 use Rattle.mm_checkpoint.specs.Faults.{slot_places, slots_places, output_places, outputs_places, is_bad_place, queue_places}

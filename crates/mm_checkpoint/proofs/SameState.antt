@@ -3,7 +3,7 @@ use Rattle.std.proofs.Common.{◌≡◌, ℕ, List, [], ◌∷◌, map, replicat
 use Rattle.std.specs.Prelude.{slice_set}
 use Rattle.std.specs.List.{AllByRecursion}
 use Rattle.mm_model.specs.State.{Core, output_of}
-use Rattle.mm_thread.specs.declared.output.Output.{Output}
+use Rattle.mm_thread.specs.Output.{Output}
 use Rattle.mm_thread.specs.Parts.{row_with, outputs_with}
 use Rattle.mm_machine.specs.Snapshot.{IsOutputOf}
 use Rattle.mm_checkpoint.specs.Checkpoints.{Saved}
@@ -11,7 +11,7 @@ use Rattle.mm_checkpoint.specs.Laws.{SameStates, SavedFormsAreStates}
 
 -- what is saved of an output
 abbrev kept : Output → ℕ × List ℕ
-kept o = (o.group, o.bytes.items)
+kept o = (o.group, o.bytes)
 
 -- outputs of one saved form put the same bytes in each group's place
 outputs_alike : (os ps : List Output) (all : List (List ℕ)) → map kept os ≡ map kept ps → outputs_with os all ≡ outputs_with ps all
@@ -21,7 +21,7 @@ outputs_alike (o ∷ os) [] all e = cc
 outputs_alike (o ∷ os) (p ∷ ps) all e =
     let head : kept o ≡ kept p = cc in
     let tail : map kept os ≡ map kept ps = cc in
-    ap (λ (x : ℕ × List ℕ). outputs_with os (slice_set all x.0 x.1)) head ∙ outputs_alike os ps (slice_set all p.group p.bytes.items) tail
+    ap (λ (x : ℕ × List ℕ). outputs_with os (slice_set all x.0 x.1)) head ∙ outputs_alike os ps (slice_set all p.group p.bytes) tail
 
 -- .. and the one are what a core says where the other are
 outputs_said : (core : Core) (os ps : List Output) → map kept os ≡ map kept ps → AllByRecursion (IsOutputOf core) os → AllByRecursion (IsOutputOf core) ps
@@ -31,7 +31,7 @@ outputs_said core (o ∷ os) [] e said = cc
 outputs_said core (o ∷ os) (p ∷ ps) e said =
     let head : kept o ≡ kept p = cc in
     let tail : map kept os ≡ map kept ps = cc in
-    let bytes : p.bytes.items ≡ o.bytes.items = sym (ap (λ (x : ℕ × List ℕ). x.1) head) in
+    let bytes : p.bytes ≡ o.bytes = sym (ap (λ (x : ℕ × List ℕ). x.1) head) in
     (bytes ∙ said.0 ∙ ap (λ (x : ℕ × List ℕ). output_of core x.0) head, outputs_said core os ps tail said.1)
 
 pub same_states : SavedFormsAreStates

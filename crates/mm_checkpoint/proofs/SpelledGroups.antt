@@ -9,7 +9,7 @@ use Rattle.mm_model.specs.Groups.{has_group}
 use Rattle.mm_model.specs.Fits.{identity_of}
 use Rattle.mm_model.specs.Spelling.{IsFresh, IsImage}
 use Rattle.mm_model.proofs.CoreRows.{each_map, rest_rises, above_first, slot_limit-few}
-use Rattle.mm_thread.specs.declared.output.Output.{Output}
+use Rattle.mm_thread.specs.Output.{Output}
 use Rattle.mm_machine.specs.Snapshot.{Parts, has_output, IsSnapshot}
 use Rattle.mm_checkpoint.specs.Reading.{groups_of}
 

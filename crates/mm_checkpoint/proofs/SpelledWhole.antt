@@ -13,7 +13,7 @@ use Rattle.mm_model.specs.Typed.{IsTypedSlot}
 use Rattle.mm_model.specs.Places.{Place, first_bad, end_places}
 use Rattle.mm_model.proofs.Places.{first_bad-append, clean_both, right}
 use Rattle.mm_model.proofs.ImageBytes.SpelledRecords.{not_lt}
-use Rattle.mm_thread.specs.declared.output.Output.{Output}
+use Rattle.mm_thread.specs.Output.{Output}
 use Rattle.mm_machine.specs.Snapshot.{Parts, IsPending}
 use Rattle.mm_checkpoint.specs.Checkpoints.{Saved, saved_of, slot_record, output_record, header, spelling, Saves}
 use Rattle.mm_checkpoint.specs.Reading.{last_of, cycles_of, pages_of, page_offset, slots_at, waiters_at, outputs_at, outputs_end, pages_at, in_order, events_of, slots_start, groups_of, outputs_start, pages_start, saved_at}
@@ -47,9 +47,9 @@ outputs_small version = by (version == 1)
     by false = omega arith
 
 abbrev pair_of : Output → ℕ × List ℕ
-pair_of o = (o.group, o.bytes.items)
+pair_of o = (o.group, o.bytes)
 
-pairs_small : (limit : ℕ) (outputs : List Output) → AllByRecursion (λ (o : Output). length o.bytes.items ≤ limit) outputs → AllByRecursion (λ (o : ℕ × List ℕ). length o.1 ≤ limit) (map pair_of outputs)
+pairs_small : (limit : ℕ) (outputs : List Output) → AllByRecursion (λ (o : Output). length o.bytes ≤ limit) outputs → AllByRecursion (λ (o : ℕ × List ℕ). length o.1 ≤ limit) (map pair_of outputs)
 pairs_small limit [] h = tt
 pairs_small limit (o ∷ outputs) h = (h.0, pairs_small limit outputs h.1)
 

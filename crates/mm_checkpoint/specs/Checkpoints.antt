@@ -18,7 +18,7 @@ use Rattle.mm_model.specs.Slot.{Slot}
 use Rattle.mm_model.specs.Image.{Image, output_limit}
 use Rattle.mm_model.specs.Fits.{identity_of}
 use Rattle.mm_model.specs.Spelling.{words_spelling, page_record}
-use Rattle.mm_thread.specs.declared.output.Output.{Output}
+use Rattle.mm_thread.specs.Output.{Output}
 use Rattle.mm_machine.specs.Snapshot.{Parts, IsSnapshot, IsTyped}
 
 -- 1. What a checkpoint is.
@@ -37,7 +37,7 @@ abbrev pub saved_of : Parts → Option ℕ → Saved
 saved_of p last = record {
   slots = p.slots;
   events = p.events;
-  outputs = map (λ (o : Output). (o.group, o.bytes.items)) p.outputs;
+  outputs = map (λ (o : Output). (o.group, o.bytes)) p.outputs;
   pages = p.pages;
   cycles = p.cycles;
   last = last;
@@ -52,7 +52,7 @@ pub record IsCheckpoint (i : Image) (p : Parts) (last : Option ℕ) : Type 0 whe
   pub slots : map identity_of p.slots ≡ map identity_of i.slots
   pub cycles : p.cycles ≤ 1000000
   pub pages : length p.pages ≤ i.memory.frames
-  pub outputs : AllByRecursion (λ (o : Output). length o.bytes.items ≤ output_limit i.version) p.outputs
+  pub outputs : AllByRecursion (λ (o : Output). length o.bytes ≤ output_limit i.version) p.outputs
   -- no load is pending unless the image is split
   pub mode : i.split ≡ false → AllByRecursion (λ (s : Slot). s.pending ≡ []) p.slots
   -- it need not be a slot of the image

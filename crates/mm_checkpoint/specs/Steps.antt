@@ -8,7 +8,7 @@ use Rattle.mm_model.specs.declared.slot.Pending.{Pending}
 use Rattle.mm_model.specs.Slot.{Slot}
 use Rattle.mm_model.specs.Places.{Place, number_at, word_places}
 use Rattle.mm_model.specs.Places.Place.{Field, Test}
-use Rattle.mm_thread.specs.declared.output.Output.{Output}
+use Rattle.mm_thread.specs.Output.{Output}
 use Rattle.mm_image.specs.declared.fault.ImageError.{ImageError}
 use Rattle.mm_image.specs.declared.fault.ImageError.TheVariants as images
 use Rattle.mm_checkpoint.specs.declared.fault.SaveError.{SaveError}
@@ -27,7 +27,7 @@ told images.NoMemory = NoMemory
 
 -- a group beside what it has put out
 abbrev pub put_out : Output → ℕ × List ℕ
-put_out output = (output.group, output.bytes.items)
+put_out output = (output.group, output.bytes)
 
 -- bit r of a mask
 abbrev pub bit_of : (mask r : ℕ) → Bool

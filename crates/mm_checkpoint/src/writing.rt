@@ -7,7 +7,7 @@ ghost use Rattle.mm_word.specs.Word.{is_pointer};
 ghost use Rattle.mm_model.specs.Flags.{one_if, number_of_flags};
 ghost use Rattle.mm_model.specs.Fits.{WaitsForSome};
 ghost use Rattle.mm_model.specs.Spelling.{words_spelling, page_record};
-ghost use Rattle.mm_thread.specs.declared.output.Output.{Output as OutputValue};
+ghost use Rattle.mm_thread.specs.Output.{Output as OutputValue};
 ghost use Rattle.mm_machine.specs.Snapshot.{HasOneEvent};
 ghost use Rattle.mm_checkpoint.specs.Checkpoints.{IsCheckpoint, Saves, saved_of, spelling, header, slot_record, state_byte, cause_byte, place_in, event_of, operands, tagged_word, pending_record, output_record};
 
@@ -78,8 +78,8 @@ fn spelled(
 // How long the records of the outputs are.
 fn length_of(outputs: &[Output]) -> usize
     requires few { length outputs.now ≤ 64 }
-    requires short { AllByRecursion (λ (o : OutputValue). length o.bytes.items ≤ 65536) outputs.now }
-    ensures length { result ≡ length (flat_map output_record (map (λ (o : OutputValue). (o.group, o.bytes.items)) outputs.now)) }
+    requires short { AllByRecursion (λ (o : OutputValue). length o.bytes ≤ 65536) outputs.now }
+    ensures length { result ≡ length (flat_map output_record (map (λ (o : OutputValue). (o.group, o.bytes)) outputs.now)) }
     ensures bound { result ≤ 65540 * length outputs.now }
 {
     let mut total = 0;
@@ -244,8 +244,8 @@ fn put_load(out: &mut Vec<u8>, load: &Pending) -> Result<(), AllocError>
 }
 
 fn put_outputs(out: &mut Vec<u8>, outputs: &[Output]) -> Result<(), AllocError>
-    requires { AllByRecursion (λ (o : OutputValue). length o.bytes.items ≤ 65536) outputs.now }
-    ensures { OnOk result (out.new.items ≡ out.old.items ++ flat_map output_record (map (λ (o : OutputValue). (o.group, o.bytes.items)) outputs.now)) }
+    requires { AllByRecursion (λ (o : OutputValue). length o.bytes ≤ 65536) outputs.now }
+    ensures { OnOk result (out.new.items ≡ out.old.items ++ flat_map output_record (map (λ (o : OutputValue). (o.group, o.bytes)) outputs.now)) }
 {
     for output in outputs {
         put_output(out, output)?;
@@ -254,8 +254,8 @@ fn put_outputs(out: &mut Vec<u8>, outputs: &[Output]) -> Result<(), AllocError>
 }
 
 fn put_output(out: &mut Vec<u8>, output: &Output) -> Result<(), AllocError>
-    requires { length output.now.bytes.items ≤ 65536 }
-    ensures { OnOk result (out.new.items ≡ out.old.items ++ output_record (output.now.group, output.now.bytes.items)) }
+    requires { length output.now.bytes ≤ 65536 }
+    ensures { OnOk result (out.new.items ≡ out.old.items ++ output_record (output.now.group, output.now.bytes)) }
 {
     out.extend_from_slice(&(output.bytes.len() as u32).to_be_bytes())?;
     out.extend_from_slice(&output.bytes)?;

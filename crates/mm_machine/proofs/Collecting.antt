@@ -18,7 +18,7 @@ use Rattle.mm_model.proofs.CoreRows.{each_map, each_push, rest_rises, above_firs
 use Rattle.mm_model.proofs.Memories.{page_whole, cell_at-aligned}
 use Rattle.mm_mem.specs.Places.{IsAt}
 use Rattle.mm_mem.proofs.Flats.{mapped_here, page_here}
-use Rattle.mm_thread.specs.declared.output.Output.{Output}
+use Rattle.mm_thread.specs.Output.{Output}
 use Rattle.mm_machine.specs.Snapshot.{groups_of, has_output, IsOutputOf, queued_at}
 use Rattle.mm_machine.specs.Taking.{cells_of, OutputsBelow}
 use Rattle.mm_machine.proofs.Steps.{same_test, or_true}
@@ -48,7 +48,7 @@ module _ (core : Core) (slots : List Slot) (n : ℕ) (os : List Output) (so_far 
   higher : AllByRecursion (λ (o : Output). o.group < n + 1) os
   higher = each_map (λ (o : Output). o.group < n) (λ (o : Output). o.group < n + 1) (λ o lt. omega arith) os so_far.low
 
-  pub output_more : (o : Output) → o.group ≡ n → o.bytes.items ≡ output_of core n → has_group slots n ≡ true → OutputsBelow core slots (n + 1) (os ++ o ∷ [])
+  pub output_more : (o : Output) → o.group ≡ n → o.bytes ≡ output_of core n → has_group slots n ≡ true → OutputsBelow core slots (n + 1) (os ++ o ∷ [])
   output_more o is said has = record {
     rising = subst IsStrictlyIncreasing (sym (map-append (λ (x : Output). x.group) os (o ∷ [])))
         (rising_push (groups_of os) o.group so_far.rising (subst (λ (k : ℕ). AllByRecursion (λ x. x < k) (groups_of os)) (sym is) (low_groups n os so_far.low)));

@@ -25,7 +25,7 @@ use Rattle.mm_model.specs.Fits.{is_waiting, waits_for, events_of, slots_of, IsSl
 use Rattle.mm_model.proofs.CoreRows.{each_map, each_both, slot_limit-few, rest_rises, above_first, Rises, slot_has, slots_found}
 use Rattle.mm_model.proofs.CoreSteps.{some_true, events_of-here, waits_for-rests, waits_for-at}
 use Rattle.mm_image.proofs.SortedEntries.{rises}
-use Rattle.mm_thread.specs.declared.output.Output.{Output}
+use Rattle.mm_thread.specs.Output.{Output}
 use Rattle.mm_thread.specs.Parts.{events_for}
 use Rattle.mm_thread.proofs.Cores.{output_short}
 use Rattle.mm_thread.proofs.Sound.{queue-none}
@@ -235,12 +235,12 @@ snapshot_taken s outputs out k =
       pages = pages_rise s.memory.pages k.state.pages.rising;
       used = out.used;
       shown = each_both (λ (x : Slot). x.group < 64) (λ (x : Slot). has_group (slots_of s.core) x.group ≡ true) (λ (x : Slot). has_output outputs x.group ≡ true) (λ x small has. out.shown x.group small has)
-          (slots_of s.core) (each_map (IsOfVersion s.core.version) (λ (x : Slot). x.group < 64) (λ x is. omega (arith, is.group, slot_limit-few s.core.version)) (slots_of s.core) whole.numbers) (own_group (slots_of s.core));
+          (slots_of s.core) (each_map (IsOfVersion 2) (λ (x : Slot). x.group < 64) (λ x is. is.group) (slots_of s.core) whole.numbers) (own_group (slots_of s.core));
       events = (queues_rise s.core 0 (slots_of s.core) whole.formed.rising (from_zero (numbers_of (slots_of s.core)))).0;
       awaited = queued_awaited s.core whole;
       one_event = queued_once s.core whole;
       taken = each_map TakenBySome (λ (x : Slot). x.state ≡ Taken → x.handler ≢ None) (λ x is taken. is (ap is_taken taken)) (slots_of s.core) whole.kept.taken;
-      outputs = each_map (IsOutputOf s.core) (λ (o : Output). length o.bytes.items ≤ 65536) (λ o is. omega (arith, ap length is, output_short s.core whole o.group)) outputs out.said;
+      outputs = each_map (IsOutputOf s.core) (λ (o : Output). length o.bytes ≤ 65536) (λ o is. omega (arith, ap length is, output_short s.core whole o.group)) outputs out.said;
       pending = each_both LoadsMatch (LoadsAreKept s.core.split) IsPending (λ x match kept r. record { loads = sym (loads_counted r x.pending) ∙ match.each r; zero = kept.zero r }) (slots_of s.core) whole.matched.loads whole.kept.loads;
       turns = k.turns;
     }

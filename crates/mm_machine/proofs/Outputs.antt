@@ -7,20 +7,20 @@ use Rattle.std.proofs.lemmas.Bool.{cases_eq}
 use Rattle.mm_model.specs.Slot.{Slot}
 use Rattle.mm_model.specs.Groups.{has_group}
 use Rattle.mm_model.proofs.CoreRows.{each_set, rest_rises, above_first}
-use Rattle.mm_thread.specs.declared.output.Output.{Output}
+use Rattle.mm_thread.specs.Output.{Output}
 use Rattle.mm_thread.specs.Parts.{outputs_with}
 use Rattle.mm_machine.specs.Snapshot.{groups_of, has_output}
 use Rattle.mm_machine.proofs.Steps.{same_test, other_test}
 
 pub outputs_count : (os : List Output) (all : List (List ℕ)) → length (outputs_with os all) ≡ length all
 outputs_count [] all = refl
-outputs_count (o ∷ os) all = outputs_count os (slice_set all o.group o.bytes.items) ∙ length-set all o.group o.bytes.items
+outputs_count (o ∷ os) all = outputs_count os (slice_set all o.group o.bytes) ∙ length-set all o.group o.bytes
 
-pub outputs_within : (limit : ℕ) (os : List Output) (all : List (List ℕ)) → AllByRecursion (λ (o : Output). length o.bytes.items ≤ limit) os → AllByRecursion (λ (bytes : List ℕ). length bytes ≤ limit) all
+pub outputs_within : (limit : ℕ) (os : List Output) (all : List (List ℕ)) → AllByRecursion (λ (o : Output). length o.bytes ≤ limit) os → AllByRecursion (λ (bytes : List ℕ). length bytes ≤ limit) all
     → AllByRecursion (λ (bytes : List ℕ). length bytes ≤ limit) (outputs_with os all)
 outputs_within limit [] all short within = within
 outputs_within limit (o ∷ os) all short within =
-    outputs_within limit os (slice_set all o.group o.bytes.items) short.1 (each_set (λ (bytes : List ℕ). length bytes ≤ limit) all o.group o.bytes.items within short.0)
+    outputs_within limit os (slice_set all o.group o.bytes) short.1 (each_set (λ (bytes : List ℕ). length bytes ≤ limit) all o.group o.bytes within short.0)
 
 pub nothing_within : (limit n : ℕ) → AllByRecursion (λ (bytes : List ℕ). length bytes ≤ limit) (replicate n [])
 nothing_within limit zero = tt
@@ -30,19 +30,19 @@ nothing_within limit (suc n) = (omega arith, nothing_within limit n)
 pub output_untouched : (os : List Output) (all : List (List ℕ)) (g : ℕ) → AllByRecursion (λ (o : Output). o.group ≢ g) os → slice_index_or (outputs_with os all) g [] ≡ slice_index_or all g []
 output_untouched [] all g other = refl
 output_untouched (o ∷ os) all g other =
-    output_untouched os (slice_set all o.group o.bytes.items) g other.1 ∙ get_or-set_other all o.group g o.bytes.items [] (λ is. other.0 (sym is))
+    output_untouched os (slice_set all o.group o.bytes) g other.1 ∙ get_or-set_other all o.group g o.bytes [] (λ is. other.0 (sym is))
 
 of_groups : (g : ℕ) (os : List Output) → AllByRecursion (λ y. g < y) (groups_of os) → AllByRecursion (λ (o : Output). o.group ≢ g) os
 of_groups g [] above = tt
 of_groups g (o ∷ os) above = (λ is. omega (arith, is, above.0), of_groups g os above.1)
 
 pub outputs_given : (os : List Output) (all : List (List ℕ)) → IsStrictlyIncreasing (groups_of os) → AllByRecursion (λ (o : Output). o.group < length all) os
-    → AllByRecursion (λ (o : Output). slice_index_or (outputs_with os all) o.group [] ≡ o.bytes.items) os
+    → AllByRecursion (λ (o : Output). slice_index_or (outputs_with os all) o.group [] ≡ o.bytes) os
 outputs_given [] all rising small = tt
 outputs_given (o ∷ os) all rising small =
-    let put : List (List ℕ) = slice_set all o.group o.bytes.items in (
-      output_untouched os put o.group (of_groups o.group os (above_first o.group (groups_of os) rising)) ∙ get_or-set_same all o.group o.bytes.items [] small.0,
-      outputs_given os put (rest_rises o.group (groups_of os) rising) (subst (λ (n : ℕ). AllByRecursion (λ (x : Output). x.group < n) os) (sym (length-set all o.group o.bytes.items)) small.1),
+    let put : List (List ℕ) = slice_set all o.group o.bytes in (
+      output_untouched os put o.group (of_groups o.group os (above_first o.group (groups_of os) rising)) ∙ get_or-set_same all o.group o.bytes [] small.0,
+      outputs_given os put (rest_rises o.group (groups_of os) rising) (subst (λ (n : ℕ). AllByRecursion (λ (x : Output). x.group < n) os) (sym (length-set all o.group o.bytes)) small.1),
     )
 
 -- what holds of the group of each slot holds of a group that has a slot

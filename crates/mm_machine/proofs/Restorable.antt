@@ -12,7 +12,7 @@ use Rattle.mm_model.specs.Run.{after}
 use Rattle.mm_model.specs.Fits.{identity_of, slots_of, LoadsAreKept, IsCore}
 use Rattle.mm_model.proofs.CoreRows.{each_map, each_get}
 use Rattle.mm_model.proofs.StateKeeps.{after_fits}
-use Rattle.mm_thread.specs.declared.output.Output.{Output}
+use Rattle.mm_thread.specs.Output.{Output}
 use Rattle.mm_thread.proofs.Assigned.{slots-with}
 use Rattle.mm_machine.specs.Kept.{Kept}
 use Rattle.mm_machine.proofs.Keeping.{kept_core}
@@ -29,7 +29,7 @@ pub can_too : (s t : State) (p : Parts) → IsSameMachine s t → CanRestore s p
 can_too s t p same can = record {
   slots = can.slots ∙ same.slots;
   mode = λ off. can.mode (same.split ∙ off);
-  outputs = subst (λ (v : ℕ). AllByRecursion (λ (o : Output). length o.bytes.items ≤ output_limit v) p.outputs) same.version can.outputs;
+  outputs = subst (λ (v : ℕ). AllByRecursion (λ (o : Output). length o.bytes ≤ output_limit v) p.outputs) same.version can.outputs;
   pages = subst (λ (n : ℕ). length p.pages ≤ n) same.frames can.pages;
 }
 
@@ -59,9 +59,9 @@ can_restored s t p q is first second =
     subst (λ (u : State). CanRestore u q) (sym is) (can_too s (restored s p) q same second)
 
 -- and to its own state
-own_limit : (s : State) (o : Output) → IsCore s.core → IsOutputOf s.core o → length o.bytes.items ≤ output_limit s.core.version
+own_limit : (s : State) (o : Output) → IsCore s.core → IsOutputOf s.core o → length o.bytes ≤ output_limit s.core.version
 unfolding output_of
-own_limit s o whole is = elim (cases_lt o.group 64) as (λ _. length o.bytes.items ≤ output_limit s.core.version) [
+own_limit s o whole is = elim (cases_lt o.group 64) as (λ _. length o.bytes ≤ output_limit s.core.version) [
   | inl inside ↦
       let one = each_get (λ (bytes : List ℕ). length bytes ≤ output_limit s.core.version) s.core.outputs o.group [] whole.kept.within (omega (arith, whole.formed.outputs)) in
       omega (arith, one, ap length is)
@@ -73,7 +73,7 @@ own s p is k = record {
   slots = ap (map identity_of) is.slots;
   mode = λ off. subst (AllByRecursion (λ (x : Slot). x.pending ≡ [])) (sym is.slots)
       (each_map (LoadsAreKept s.core.split) (λ (x : Slot). x.pending ≡ []) (λ x one. one.mode off) (slots_of s.core) k.types.loads);
-  outputs = each_map (IsOutputOf s.core) (λ (o : Output). length o.bytes.items ≤ output_limit s.core.version) (λ o said. own_limit s o (kept_core s k) said) p.outputs is.outputs;
+  outputs = each_map (IsOutputOf s.core) (λ (o : Output). length o.bytes ≤ output_limit s.core.version) (λ o said. own_limit s o (kept_core s k) said) p.outputs is.outputs;
   pages = let few = k.fits.mapped in let same = ap length is.pages in omega arith;
 }
 

@@ -25,7 +25,7 @@ use Rattle.mm_model.proofs.Causes.{some_of}
 use Rattle.mm_model.proofs.CoreRows.{each_map, each_both, slot_limit-few, of_version_by, rest_rises, above_first, Rises, each_slot, slot_has, other_at, other_in, identities_of, stays_by}
 use Rattle.mm_model.proofs.CoreSteps.{waits_for-says}
 use Rattle.mm_model.proofs.ImageBytes.Rising.{AreRisingFrom, sorted_from}
-use Rattle.mm_thread.specs.declared.output.Output.{Output}
+use Rattle.mm_thread.specs.Output.{Output}
 use Rattle.mm_thread.specs.Parts.{events_for, row_with, core_of, AreParts}
 use Rattle.mm_thread.proofs.Assigned.{queue-with, slots-with}
 use Rattle.mm_thread.proofs.Sound.{queue-none}
@@ -69,7 +69,7 @@ pages_sorted pages rising = sorted_from 0 pages (rising_from 0 pages rising (fro
 -- what is kept of the core that is put back
 pub record IsHost (core : Core) : Type 0 where
   pub rising : Rises core
-  pub numbers : AllByRecursion (IsOfVersion core.version) (slots_of core)
+  pub numbers : AllByRecursion (IsOfVersion 2) (slots_of core)
   pub handlers : AllByRecursion (λ (s : Slot). IfSome s.handler (λ h. (h ≢ s.number) × (is_some (slot_at core h) ≡ true))) (slots_of core)
   pub outputs : length core.outputs ≡ 64
   pub silent : (g : ℕ) → has_group (slots_of core) g ≡ false → output_of core g ≡ []
@@ -110,13 +110,13 @@ module _ (old : Core) (p : Parts) (was : IsHost old) (rules : IsSnapshot p) (typ
   pub at : (n : ℕ) → numbered p.slots n ≡ slot_at core n
   at n = sym (ap (λ (slots : List Slot). numbered slots n) slots_are) ∙ slot_numbered core n
 
-  numbers : AllByRecursion (IsOfVersion old.version) p.slots
-  numbers = of_version_by old.version p.slots (slots_of old) same was.numbers
+  numbers : AllByRecursion (IsOfVersion 2) p.slots
+  numbers = of_version_by 2 p.slots (slots_of old) same was.numbers
 
   groups_small : AllByRecursion (λ (o : Output). o.group < 64) p.outputs
   groups_small =
       each_map (λ (o : Output). has_group p.slots o.group ≡ true) (λ (o : Output). o.group < 64)
-      (λ o has. group_has (λ g. g < 64) p.slots o.group (each_map (IsOfVersion old.version) (λ (s : Slot). s.group < 64) (λ s is. let least = is.group in omega (arith, least, slot_limit-few old.version)) p.slots numbers) has) p.outputs rules.used
+      (λ o has. group_has (λ g. g < 64) p.slots o.group (each_map (IsOfVersion 2) (λ (s : Slot). s.group < 64) (λ s is. is.group) p.slots numbers) has) p.outputs rules.used
 
   handlers : HandlersAreOthers core
   handlers =
@@ -183,11 +183,11 @@ module _ (old : Core) (p : Parts) (was : IsHost old) (rules : IsSnapshot p) (typ
       (each_map (λ (o : Output). has_group p.slots o.group ≡ true) (λ (o : Output). o.group ≢ g) (λ o yes is. let both = ap (has_group p.slots) is in cc) p.outputs rules.used)
       ∙ nothing_at 64 g
 
-  pub core_given : AllByRecursion (λ (o : Output). output_of core o.group ≡ o.bytes.items) p.outputs
+  pub core_given : AllByRecursion (λ (o : Output). output_of core o.group ≡ o.bytes) p.outputs
   unfolding output_of
   core_given = outputs_given p.outputs (replicate 64 []) rules.groups groups_small
 
-  module _ (mode : old.split ≡ false → AllByRecursion (λ (s : Slot). s.pending ≡ []) p.slots) (short : AllByRecursion (λ (o : Output). length o.bytes.items ≤ output_limit old.version) p.outputs) where
+  module _ (mode : old.split ≡ false → AllByRecursion (λ (s : Slot). s.pending ≡ []) p.slots) (short : AllByRecursion (λ (o : Output). length o.bytes ≤ output_limit old.version) p.outputs) where
     on_slots : (P : Slot → Type 0) → AllByRecursion P p.slots → AllByRecursion P (slots_of core)
     on_slots P h = subst (AllByRecursion P) (sym slots_are) h
 
@@ -211,8 +211,8 @@ module _ (old : Core) (p : Parts) (was : IsHost old) (rules : IsSnapshot p) (typ
     core_formed = record {
       rising = rising;
       slots = on_slots IsSlot
-          (each_both (IsOfVersion old.version) IsTypedSlot IsSlot
-          (λ s low typed. record { number = let least = low.number in omega (arith, least, slot_limit-few old.version); executable = typed.executable; registers = typed.registers; flags = typed.flags }) p.slots numbers typed.slots);
+          (each_both (IsOfVersion 2) IsTypedSlot IsSlot
+          (λ s low typed. record { number = low.number; executable = typed.executable; registers = typed.registers; flags = typed.flags }) p.slots numbers typed.slots);
       outputs = outputs_count p.outputs (replicate 64 []);
     }
 
@@ -234,7 +234,7 @@ module _ (old : Core) (p : Parts) (was : IsHost old) (rules : IsSnapshot p) (typ
     }
 
     pub core_whole : IsCore core
-    core_whole = record { formed = core_formed; numbers = on_slots (IsOfVersion old.version) numbers; handlers = handlers; matched = core_matches; kept = core_kept }
+    core_whole = record { formed = core_formed; numbers = on_slots (IsOfVersion 2) numbers; handlers = handlers; matched = core_matches; kept = core_kept }
 
     pub are_parts : AreParts old p.slots p.events p.outputs
     are_parts = record { whole = core_whole; same = same; given = core_given }

@@ -10,7 +10,7 @@ use Rattle.mm_model.specs.Groups.{has_group}
 use Rattle.mm_model.specs.Spelling.{numbers_of}
 use Rattle.mm_model.specs.Fits.{slots_of, IsOfVersion}
 use Rattle.mm_model.proofs.CoreRows.{each_map, each_both, slot_limit-few, rest_rises, above_first}
-use Rattle.mm_thread.specs.declared.output.Output.{Output}
+use Rattle.mm_thread.specs.Output.{Output}
 use Rattle.mm_thread.specs.Parts.{events_for, row_with, outputs_with}
 use Rattle.mm_machine.specs.Snapshot.{Parts, has_output, IsOutputOf, IsSnapshotOf, IsAlike, queued, restored}
 use Rattle.mm_machine.proofs.Outputs.{outputs_count, output_untouched, outputs_given, group_has, output_has, no_output_at}
@@ -59,14 +59,14 @@ module _ (t : State) (p : Parts) (host : IsHost t.core) (is : IsSnapshotOf t p) 
   small =
       each_map (λ (o : Output). has_group p.slots o.group ≡ true) (λ (o : Output). o.group < 64)
       (λ o has. group_has (λ g. g < 64) (slots_of t.core) o.group
-      (each_map (IsOfVersion t.core.version) (λ (s : Slot). s.group < 64) (λ s low. let least = low.group in omega (arith, least, slot_limit-few t.core.version)) (slots_of t.core) host.numbers)
+      (each_map (IsOfVersion 2) (λ (s : Slot). s.group < 64) (λ s low. low.group) (slots_of t.core) host.numbers)
       (sym (ap (λ (slots : List Slot). has_group slots o.group) is.slots) ∙ has)) p.outputs is.rules.used
 
   there : (g : ℕ) → has_output p.outputs g ≡ true → get_or all g [] ≡ get_or t.core.outputs g []
   unfolding output_of
   there g has =
       output_has (λ n. get_or all n [] ≡ get_or t.core.outputs n []) p.outputs g
-      (each_both (λ (o : Output). get_or all o.group [] ≡ o.bytes.items) (IsOutputOf t.core) (λ (o : Output). get_or all o.group [] ≡ get_or t.core.outputs o.group []) (λ o given said. given ∙ said) p.outputs
+      (each_both (λ (o : Output). get_or all o.group [] ≡ o.bytes) (IsOutputOf t.core) (λ (o : Output). get_or all o.group [] ≡ get_or t.core.outputs o.group []) (λ o given said. given ∙ said) p.outputs
       (outputs_given p.outputs (replicate 64 []) is.rules.groups small) is.outputs) has
 
   nowhere : (g : ℕ) → has_output p.outputs g ≡ false → get_or all g [] ≡ get_or t.core.outputs g []

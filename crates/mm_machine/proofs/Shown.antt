@@ -12,7 +12,7 @@ use Rattle.mm_model.specs.Spelling.{numbers_of}
 use Rattle.mm_model.specs.Fits.{waits_for, slots_of}
 use Rattle.mm_model.proofs.Causes.{some_of}
 use Rattle.mm_model.proofs.CoreRows.{each_map, rest_rises, above_first, slots_found}
-use Rattle.mm_thread.specs.declared.output.Output.{Output}
+use Rattle.mm_thread.specs.Output.{Output}
 use Rattle.mm_thread.specs.Parts.{events_for, core_of}
 use Rattle.mm_thread.proofs.Assigned.{queue-with}
 use Rattle.mm_machine.specs.Kept.{Kept}
@@ -118,7 +118,7 @@ module _ (s : State) (p : Parts) (rules : IsSnapshot p) (typed : IsTyped p) (can
     events = in_blocks p.events p.slots rules.slots rules.events queues_there
         ∙ ap (blocks p.events) (sym (slots_are s.core p host rules typed can.slots))
         ∙ same_pieces (block p.events) (queued_at core) (slots_of core) own_blocks;
-    outputs = each_map (λ (o : Output). Rattle.mm_model.specs.State.output_of core o.group ≡ o.bytes.items) (IsOutputOf core) (λ o is. sym is) p.outputs (core_given s.core p host rules typed can.slots);
+    outputs = each_map (λ (o : Output). Rattle.mm_model.specs.State.output_of core o.group ≡ o.bytes) (IsOutputOf core) (λ o is. sym is) p.outputs (core_given s.core p host rules typed can.slots);
     pages = refl;
     cycles = refl;
   }

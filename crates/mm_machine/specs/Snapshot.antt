@@ -15,7 +15,7 @@ use Rattle.mm_model.specs.Spelling.{numbers_of, HoldsWords}
 use Rattle.mm_model.specs.Flags.{one_if}
 use Rattle.mm_model.specs.Fits.{is_waiting, waits_for, identity_of, slots_of, IsCore, EventHoldsWords}
 use Rattle.mm_model.specs.Typed.{IsTypedSlot}
-use Rattle.mm_thread.specs.declared.output.Output.{Output}
+use Rattle.mm_thread.specs.Output.{Output}
 use Rattle.mm_thread.specs.Parts.{core_of}
 
 -- the parts of a state
@@ -86,7 +86,7 @@ pub record IsSnapshot (p : Parts) : Type 0 where
   pub one_event : AllByRecursion (HasOneEvent p.events) p.slots
   -- a taken slot has a handler
   pub taken : AllByRecursion (λ (s : Slot). s.state ≡ Taken → s.handler ≢ None) p.slots
-  pub outputs : AllByRecursion (λ (o : Output). length o.bytes.items ≤ 65536) p.outputs
+  pub outputs : AllByRecursion (λ (o : Output). length o.bytes ≤ 65536) p.outputs
   pub pending : AllByRecursion IsPending p.slots
   -- no count of turns is above the count of cycles
   pub turns : AllByRecursion (λ (s : Slot). s.turns ≤ p.cycles) p.slots
@@ -114,7 +114,7 @@ queued core = flat_map (queued_at core) (slots_of core)
 
 -- the output of a group is what the core says
 abbrev pub IsOutputOf : Core → Output → Type 0
-IsOutputOf core o = o.bytes.items ≡ output_of core o.group
+IsOutputOf core o = o.bytes ≡ output_of core o.group
 
 -- a snapshot of this state: all of it but for the frames
 pub record IsSnapshotOf (s : State) (p : Parts) : Type 0 where
@@ -133,7 +133,7 @@ pub record CanRestore (s : State) (p : Parts) : Type 0 where
   -- no load is pending unless the machine is split
   pub mode : s.core.split ≡ false → AllByRecursion (λ (x : Slot). x.pending ≡ []) p.slots
   -- no output is above the machine's limit
-  pub outputs : AllByRecursion (λ (o : Output). length o.bytes.items ≤ output_limit s.core.version) p.outputs
+  pub outputs : AllByRecursion (λ (o : Output). length o.bytes ≤ output_limit s.core.version) p.outputs
   -- there are no more pages than frames
   pub pages : length p.pages ≤ s.memory.frames
 

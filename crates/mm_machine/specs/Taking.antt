@@ -8,7 +8,7 @@ use Rattle.mm_model.specs.Slot.{Slot}
 use Rattle.mm_model.specs.State.{Core}
 use Rattle.mm_model.specs.Groups.{has_group}
 use Rattle.mm_model.specs.Report.{cells_or_zero}
-use Rattle.mm_thread.specs.declared.output.Output.{Output}
+use Rattle.mm_thread.specs.Output.{Output}
 use Rattle.mm_machine.specs.Snapshot.{groups_of, has_output, IsOutputOf}
 
 -- the cells of a page; zeros where it is not mapped

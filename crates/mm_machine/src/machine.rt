@@ -25,8 +25,9 @@ pub struct Machine<M: Memory> {
 }
 
 impl<M: Memory> Machine<M> {
-    ghost use Rattle.std.specs.Prelude.{◌≡◌, ◌↔◌, ℕ, ◌+◌, ◌<◌, ◌≤◌, ◌^◌, [], ◌∷◌, ◌++◌, List, length, slice_get, slice_index, IfOk, IfSome, IsSomeAnd, Some};
+    ghost use Rattle.std.specs.Prelude.{◌≡◌, ◌↔◌, ℕ, ◌+◌, ◌<◌, ◌≤◌, ◌^◌, false, [], ◌∷◌, ◌++◌, List, length, slice_get, slice_index, IfOk, IfSome, IsSomeAnd, Some};
     ghost use Rattle.mm_model.specs.Fits.{slots_of};
+    ghost use Rattle.mm_model.specs.Groups.{has_group};
     ghost use Rattle.std.specs.Option.{option_copied};
     ghost use Rattle.std.specs.Int.{IsBitSet};
     ghost use Rattle.mm_model.specs.declared.slot.SlotState.TheVariants.{Running};
@@ -206,7 +207,8 @@ impl<M: Memory> Machine<M> {
 
     /// What a group has put out. A group without a slot has put out nothing.
     pub fn output(&self, group: u8) -> &[u8]
-        ensures { result.now ≡ output_of (state_of self.now).core group }
+        ensures bytes { result.now ≡ output_of (state_of self.now).core group }
+        ensures silent { has_group (slots_of (state_of self.now).core) group ≡ false → result.now ≡ [] }
     {
         self.core.output(group)
     }

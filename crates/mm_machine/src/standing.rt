@@ -11,7 +11,7 @@ ghost use Rattle.mm_model.specs.Groups.{has_group};
 ghost use Rattle.mm_model.specs.Spelling.{numbers_of};
 ghost use Rattle.mm_model.specs.Flags.{one_if};
 ghost use Rattle.mm_model.specs.Fits.{is_waiting, waits_for, EventHoldsWords};
-ghost use Rattle.mm_thread.specs.declared.output.Output.{Output as OutputValue};
+ghost use Rattle.mm_thread.specs.Output.{Output as OutputValue};
 ghost use Rattle.mm_machine.specs.Snapshot.{IsSnapshot, IsTypedEvent, IsAwaited, IsEventOf, HasOneEvent, IsPending, RegisterStands, DoesNotFall, parts_of, numbered, queues_of, groups_of, page_numbers, has_output};
 
 use mm_model::{Event, Page, Pending, Slot, SlotState};
@@ -220,7 +220,7 @@ fn are_taken_by_handlers(slots: &[Slot]) -> bool
 }
 
 fn are_short(outputs: &[Output]) -> bool
-    ensures { IsTrue result ↔ AllByRecursion (λ (o : OutputValue). length o.bytes.items ≤ 65536) outputs.now }
+    ensures { IsTrue result ↔ AllByRecursion (λ (o : OutputValue). length o.bytes ≤ 65536) outputs.now }
 {
     outputs.iter().all(|o| o.bytes.len() <= OUTPUT_LIMIT)
 }

@@ -71,7 +71,7 @@ pub(crate) fn outputs_of(
 
 fn output_copy(alloc: Global, core: &Core, group: u8) -> Result<Output, AllocError>
     ensures group { IfOk result (λ o. o.group ≡ group) }
-    ensures bytes { IfOk result (λ o. o.bytes.items ≡ output_of core.now group) }
+    ensures bytes { IfOk result (λ o. o.bytes ≡ output_of core.now group) }
 {
     let bytes = core.output(group).to_vec(alloc)?;
     Ok(Output { group, bytes })

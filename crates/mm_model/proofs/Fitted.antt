@@ -23,15 +23,14 @@ fitting_of i s img fits = record { handlers = image_handlers i s.core img fits.s
 pub paged_of : (i : Image) (s : State) → IsState s → Fits i s → IsPaged s.memory
 paged_of i s h fits = record { pages = h.pages; fitting = fits.mapped }
 
--- the numbers and groups of its slots are those of its version
-image_numbers : (i : Image) (core : Core) → IsImage i → identities_of core ≡ map identity_of i.slots → core.version ≡ i.version → AllByRecursion (IsOfVersion core.version) (slots_of core)
+-- the numbers and groups of its slots are below 64
+image_numbers : (i : Image) (core : Core) → IsImage i → identities_of core ≡ map identity_of i.slots → AllByRecursion (IsOfVersion 2) (slots_of core)
 unfolding start
-image_numbers i core img same version =
-    subst (λ v. AllByRecursion (IsOfVersion v) (slots_of core)) (sym version)
-    (of_version_by i.version (slots_of core) (slots_of (start i).core) (same ∙ sym (ap (map identity_of) (start_slots i))) (start_core i img.rising img.fresh).numbers)
+image_numbers i core img same =
+    of_version_by 2 (slots_of core) (slots_of (start i).core) (same ∙ sym (ap (map identity_of) (start_slots i))) (start_core i img.rising img.fresh).numbers
 
 -- its core is one of a machine, where what the types keep is kept
 pub core_of : (i : Image) (s : State) → IsImage i → IsState s → Fits i s → IsKept s.core → IsCore s.core
 core_of i s img h fits kept =
     let fit = fitting_of i s img fits in
-    record { formed = h.core; numbers = image_numbers i s.core img fits.same_slots fits.version; handlers = fit.handlers; matched = fit.matched; kept = kept }
+    record { formed = h.core; numbers = image_numbers i s.core img fits.same_slots; handlers = fit.handlers; matched = fit.matched; kept = kept }

@@ -139,7 +139,10 @@ module _ (i : Image) (rising : IsStrictlyIncreasing (numbers_of i.slots)) (fresh
   unfolding start
   start_core = record {
     formed = start_formed;
-    numbers = each_start (IsOfVersion i.version) (λ s k. record { number = k.number; group = k.group });
+    numbers = each_start (IsOfVersion 2) (λ s k. record {
+      number = let low = k.number in let few = slot_limit-few i.version in omega arith;
+      group = let low = k.group in let few = slot_limit-few i.version in omega arith;
+    });
     handlers = start_handlers;
     matched = start_matches;
     kept = start_kept;

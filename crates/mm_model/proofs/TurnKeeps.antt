@@ -331,7 +331,7 @@ core_keeps core m n h =
     let fit : Fitting core = record { handlers = h.handlers; matched = h.matched } in
     record {
       formed = keeps.formed;
-      numbers = subst (λ v. AllByRecursion (IsOfVersion v) (slots_of later)) (sym keeps.version) (of_version_by core.version (slots_of later) (slots_of core) keeps.identities h.numbers);
+      numbers = of_version_by 2 (slots_of later) (slots_of core) keeps.identities h.numbers;
       handlers = (keeps.fitting fit).handlers;
       matched = (keeps.fitting fit).matched;
       kept = keeps.kept fit h.kept;

@@ -152,8 +152,8 @@ HandlersAreOthers core =
 -- what the slots, queues and outputs of a machine always are
 pub record IsCore (core : Core) : Type 0 where
   pub formed : IsFormed core
-  -- what an image says of its slots
-  pub numbers : AllByRecursion (IsOfVersion core.version) (slots_of core)
+  -- what an image of version 2, which has the greater limits, says of its slots
+  pub numbers : AllByRecursion (IsOfVersion 2) (slots_of core)
   pub handlers : HandlersAreOthers core
   pub matched : Matches core
   pub kept : IsKept core

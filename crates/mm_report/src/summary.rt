@@ -1,6 +1,7 @@
 // The report of a machine against its image.
-ghost use Rattle.std.specs.Prelude.{List};
+ghost use Rattle.std.specs.Prelude.{List, Option};
 ghost use Rattle.mm_io.specs.Sinks.{Writes};
+ghost use Rattle.mm_model.specs.declared.counts.Counts.{Counts};
 ghost use Rattle.mm_model.specs.Uses.{Use};
 ghost use Rattle.mm_model.specs.Report.{report as report_of};
 ghost use Rattle.mm_machine.specs.Machine.{state_of, StandsTo};
@@ -17,13 +18,18 @@ use mm_text::{Gather, put_cycles};
 
 /// Writes the report of a machine against an image: the number of cycles; for each group that has a slot its output and its slots;
 /// the pages that were mapped or removed; the cells that changed; and what the memory counted, where it counts. At a [`WriteFault`]
-/// the sink took a front part.
+/// the sink took a prefix.
 pub fn report<M: Inspect, O: Sink>(
     m: &Machine<M>,
     img: &Image,
     out: &mut O,
 ) -> Result<(), WriteFault>
-    ensures { (us : List Use) → StandsTo m.now us → Writes O.taken O.faults out.old out.new (report_of (state_of m.now) img.now (M.tells us)) result }
+
+    // Of every machine: all of the text but for what the line of counts tells, and when a `WriteFault` comes.
+    ensures text { (counts : Option Counts) × Writes O.taken O.faults out.old out.new (report_of (state_of m.now) img.now counts) result }
+
+    // What the line of counts tells.
+    ensures counts { (us : List Use) → StandsTo m.now us → Writes O.taken O.faults out.old out.new (report_of (state_of m.now) img.now (M.tells us)) result }
 {
     let mem = m.memory();
     let pages = img.pages();

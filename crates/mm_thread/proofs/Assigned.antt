@@ -13,7 +13,7 @@ use Rattle.mm_model.specs.Spelling.{numbers_of}
 use Rattle.mm_model.specs.Fits.{identity_of, slots_of, IsSlot, IsCore}
 use Rattle.mm_model.proofs.CoreRows.{each_map, slots_found}
 use Rattle.mm_model.proofs.Shortness.{queue_short}
-use Rattle.mm_thread.specs.declared.output.Output.{Output}
+use Rattle.mm_thread.specs.Output.{Output}
 use Rattle.mm_thread.specs.Places.{row_alone, slot_in, queue_in, with_queue_in, numbers_in, IsIndex, IsSound}
 use Rattle.mm_thread.specs.Parts.{events_for, row_with, core_of}
 use Rattle.mm_thread.proofs.Cores.{output_short}
@@ -173,8 +173,8 @@ module _ (version : ℕ) (split : Bool) (slots : List Slot) (events : List (ℕ 
       (λ s found. omega (arith, queue_short core whole.matched s.number whole.formed, ap length (queue-with events s.number slots s found)))
       (slots_of core) (slots_found core whole.formed.rising))
 
-  pub parts_short : AllByRecursion (λ (o : Output). output_of core o.group ≡ o.bytes.items) outputs → AllByRecursion (λ (o : Output). length o.bytes.items ≤ 65536) outputs
-  parts_short given = each_map (λ (o : Output). output_of core o.group ≡ o.bytes.items) (λ (o : Output). length o.bytes.items ≤ 65536) (λ o is. omega (arith, output_short core whole o.group, ap length is)) outputs given
+  pub parts_short : AllByRecursion (λ (o : Output). output_of core o.group ≡ o.bytes) outputs → AllByRecursion (λ (o : Output). length o.bytes ≤ 65536) outputs
+  parts_short given = each_map (λ (o : Output). output_of core o.group ≡ o.bytes) (λ (o : Output). length o.bytes ≤ 65536) (λ o is. omega (arith, output_short core whole o.group, ap length is)) outputs given
 
   pub parts_sound : (old : Core) (places : List ℕ) → IsSound old places → map identity_of slots ≡ map identity_of (slots_of old) → (new : Core) → new ≡ core → IsSound new places
   parts_sound old places sound same new is =

@@ -81,7 +81,7 @@ module _ (core : Core) (whole : IsCore core) where
     own_loads = slot_has LoadsMatch core (slot_in core p).number (slot_in core p) whole.matched.loads there
 
     pub group_small : (slot_in core p).group < 64
-    group_small = omega (arith, (slot_has (IsOfVersion core.version) core (slot_in core p).number (slot_in core p) whole.numbers there).group, slot_limit-few core.version)
+    group_small = (slot_has (IsOfVersion 2) core (slot_in core p).number (slot_in core p) whole.numbers there).group
 
     pub number_small : (slot_in core p).number < 64
     number_small = own.number

@@ -55,27 +55,24 @@ split_sound core places on none sound =
     }
 
 -- another version, where nothing was put out
-pub version_sound : (core : Core) (places : List ℕ) (version : ℕ) → AllByRecursion (IsOfVersion version) (slots_of core) → AllByRecursion (λ (bytes : List ℕ). bytes ≡ []) core.outputs → IsSound core places
-    → IsSound (record core { version = version }) places
+pub version_whole : (core : Core) (version : ℕ) → AllByRecursion (λ (bytes : List ℕ). bytes ≡ []) core.outputs → IsCore core → IsCore (record core { version = version })
 unfolding slot_at queue_at output_of
-version_sound core places version small silent sound =
-    let old = sound.whole in
-    record {
-      whole = record {
-        formed = record { rising = old.formed.rising; slots = old.formed.slots; outputs = old.formed.outputs };
-        numbers = small;
-        handlers = old.handlers;
-        matched = record { events = old.matched.events; waiting = old.matched.waiting; loads = old.matched.loads };
-        kept = record {
-          in_place = old.kept.in_place;
-          loads = old.kept.loads;
-          taken = old.kept.taken;
-          within = each_map (λ (bytes : List ℕ). bytes ≡ []) (λ (bytes : List ℕ). length bytes ≤ output_limit version) (λ bytes none. omega (arith, ap length none)) core.outputs silent;
-          silent = old.kept.silent;
-        };
-      };
-      index = sound.index;
-    }
+version_whole core version silent old = record {
+  formed = record { rising = old.formed.rising; slots = old.formed.slots; outputs = old.formed.outputs };
+  numbers = old.numbers;
+  handlers = old.handlers;
+  matched = record { events = old.matched.events; waiting = old.matched.waiting; loads = old.matched.loads };
+  kept = record {
+    in_place = old.kept.in_place;
+    loads = old.kept.loads;
+    taken = old.kept.taken;
+    within = each_map (λ (bytes : List ℕ). bytes ≡ []) (λ (bytes : List ℕ). length bytes ≤ output_limit version) (λ bytes none. omega (arith, ap length none)) core.outputs silent;
+    silent = old.kept.silent;
+  };
+}
+
+pub version_sound : (core : Core) (places : List ℕ) (version : ℕ) → AllByRecursion (λ (bytes : List ℕ). bytes ≡ []) core.outputs → IsSound core places → IsSound (record core { version = version }) places
+version_sound core places version silent sound = record { whole = version_whole core version silent sound.whole; index = sound.index }
 
 -- what a number without a slot has
 pub queue-none : (core : Core) (n : ℕ) → slot_at core n ≡ None → queue_at core n ≡ []

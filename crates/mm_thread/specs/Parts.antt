@@ -5,7 +5,7 @@ use Rattle.mm_model.specs.declared.event.Event.{Event}
 use Rattle.mm_model.specs.Slot.{Slot}
 use Rattle.mm_model.specs.State.{Row, Core, output_of}
 use Rattle.mm_model.specs.Fits.{identity_of, slots_of, IsCore}
-use Rattle.mm_thread.specs.declared.output.Output.{Output}
+use Rattle.mm_thread.specs.Output.{Output}
 
 -- of events, each with the number of the slot that is to handle it, those of one number, in order
 abbrev pub events_for : ℕ → List (ℕ × Event) → List Event
@@ -18,7 +18,7 @@ row_with events s = record { slot = s; queue = events_for s.number events }
 -- each output in its group's place
 abbrev pub outputs_with : List Output → List (List ℕ) → List (List ℕ)
 outputs_with [] outputs = outputs
-outputs_with (o ∷ os) outputs = outputs_with os (slice_set outputs o.group o.bytes.items)
+outputs_with (o ∷ os) outputs = outputs_with os (slice_set outputs o.group o.bytes)
 
 -- the core of these parts
 abbrev pub core_of : ℕ → Bool → List Slot → List (ℕ × Event) → List Output → Core
@@ -33,4 +33,4 @@ core_of version split slots events outputs = record {
 pub record AreParts (core : Core) (slots : List Slot) (events : List (ℕ × Event)) (outputs : List Output) : Type 0 where
   pub whole : IsCore (core_of core.version core.split slots events outputs)
   pub same : map identity_of slots ≡ map identity_of (slots_of core)
-  pub given : AllByRecursion (λ (o : Output). output_of (core_of core.version core.split slots events outputs) o.group ≡ o.bytes.items) outputs
+  pub given : AllByRecursion (λ (o : Output). output_of (core_of core.version core.split slots events outputs) o.group ≡ o.bytes) outputs

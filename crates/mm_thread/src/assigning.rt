@@ -6,7 +6,7 @@ ghost use Rattle.mm_model.specs.Slot.{Slot as SlotValue};
 ghost use Rattle.mm_model.specs.State.{row_in, queue_at, put_queue};
 ghost use Rattle.mm_model.specs.Spelling.{numbers_of};
 ghost use Rattle.mm_model.specs.Fits.{slots_of};
-ghost use Rattle.mm_thread.specs.declared.output.Output.{Output as OutputValue};
+ghost use Rattle.mm_thread.specs.Output.{Output as OutputValue};
 ghost use Rattle.mm_thread.specs.Places.{row_alone, numbers_in, IsIndex};
 ghost use Rattle.mm_thread.specs.Parts.{events_for, row_with, outputs_with};
 
@@ -57,7 +57,7 @@ fn put_event(tables: &mut Tables, places: &Places, number: u8, event: Event)
 /// Makes these outputs the outputs of their groups, and those of the other groups empty.
 pub(crate) fn put_outputs(tables: &mut Tables, outputs: &[Output])
     requires groups { length tables.old.outputs ≡ 64 }
-    requires short { AllByRecursion (λ (o : OutputValue). length o.bytes.items ≤ 65536) outputs.now }
+    requires short { AllByRecursion (λ (o : OutputValue). length o.bytes ≤ 65536) outputs.now }
     ensures { tables.new ≡ record tables.old { outputs = outputs_with outputs.now (replicate 64 []) } }
 {
     clear_outputs(tables);

@@ -26,7 +26,7 @@ pub(crate) fn rows_of(alloc: Global, slots: &[Slot]) -> Result<Vec<Row>, NoMemor
     for slot in slots {
         let row = Row {
             slot: slot.copy(),
-            queue: Queue::new(alloc)?,
+            queue: Queue::new(),
         };
         let Ok(()) = rows.push(row) else {
             return Err(NoMemory);

@@ -1,3 +1,5 @@
+use std::marker::Model;
+
 /// What a group has put out.
 #[derive(Drop)]
 pub struct Output {
@@ -5,4 +7,12 @@ pub struct Output {
     pub group: u8,
     /// The bytes, oldest first.
     pub bytes: Vec<u8>,
+}
+
+impl Model for Output {
+    ghost use Rattle.mm_thread.specs.Output.{Output as OutputValue};
+
+    ghost Value = { OutputValue };
+
+    ghost view = { λ o. record { group = o.group; bytes = o.bytes.items } };
 }

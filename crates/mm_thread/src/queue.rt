@@ -1,38 +1,34 @@
-ghost use Rattle.std.specs.Prelude.{◌≡◌, ◌<◌, ◌≤◌, ◌++◌, [], ◌∷◌, drop, length, IfOk};
+ghost use Rattle.std.specs.Prelude.{◌≡◌, ◌<◌, ◌++◌, [], ◌∷◌, drop, length};
 
+use arrayvec::ArrayVec;
 use mm_model::Event;
-use mm_word::NoMemory;
-use std::alloc::Global;
 use std::marker::Model;
 
 /// How many events a queue has room for: one of each slot.
 const ROOM: usize = 64;
 
-/// The events that a slot has still to handle, oldest first. Its room is taken whole when it is made.
+/// The events that a slot has still to handle, oldest first.
 #[derive(Drop)]
 pub(crate) struct Queue {
-    events: Vec<Event>,
+    events: ArrayVec<Event, ROOM>,
 }
 
 impl Model for Queue {
-    ghost use Rattle.std.specs.Prelude.{List, ◌≤◌, vec_capacity};
+    ghost use Rattle.std.specs.Prelude.{List};
     ghost use Rattle.mm_model.specs.declared.event.Event.{Event};
 
     ghost Value = { List Event };
 
     ghost view = { λ q. q.events.items };
-
-    ghost invariant = { λ q. 64 ≤ vec_capacity q.events };
 }
 
 impl Queue {
     /// An empty queue.
-    pub(crate) fn new(alloc: Global) -> Result<Queue, NoMemory>
-        ensures { IfOk result (λ queue. queue ≡ []) }
+    pub(crate) fn new() -> Queue
+        ensures { result ≡ [] }
     {
-        match Vec::with_capacity(alloc, ROOM) {
-            Ok(events) => Ok(Queue { events }),
-            Err(_) => Err(NoMemory),
+        Queue {
+            events: ArrayVec::new(),
         }
     }
 
@@ -40,7 +36,7 @@ impl Queue {
     pub(crate) fn events(&self) -> &[Event]
         ensures { result.now ≡ self.now }
     {
-        &self.events
+        self.events.as_slice()
     }
 
     /// Adds the newest event.
@@ -48,7 +44,21 @@ impl Queue {
         requires { length self.old < 64 }
         ensures { self.new ≡ self.old ++ event ∷ [] }
     {
-        self.events.extend_from_slice(&[event]).unwrap();
+        // Taken apart, since the prover cannot carry an event as a whole into the list: it is not told of the words in it.
+        let Event {
+            slot,
+            cause,
+            ip,
+            addr_op,
+            value_op,
+        } = event;
+        self.events.push(Event {
+            slot,
+            cause,
+            ip,
+            addr_op,
+            value_op,
+        });
     }
 
     /// Takes the oldest event away.
@@ -56,7 +66,7 @@ impl Queue {
         requires { 0 < length self.old }
         ensures { self.new ≡ drop 1 self.old }
     {
-        let _event = self.events.remove(0);
+        self.events.remove(0);
     }
 
     /// Takes all events away.

@@ -8,6 +8,7 @@ ghost use Rattle.mm_model.specs.Spelling.{numbers_of, IsFresh};
 ghost use Rattle.mm_model.specs.Slot.{Slot as SlotValue};
 ghost use Rattle.mm_model.specs.State.{slot_at, queue_at, output_of};
 ghost use Rattle.mm_model.specs.Fits.{slots_of, IsOfVersion};
+ghost use Rattle.mm_model.specs.Groups.{has_group};
 ghost use Rattle.mm_model.specs.Uses.{accesses, TakesUses};
 ghost use Rattle.mm_model.specs.Turn.{turn as turn_of};
 ghost use Rattle.mm_model.specs.Outcomes.{IsIdle, Delivers, Blocks, Faults, Completes};
@@ -85,14 +86,15 @@ pub fn turn<M: Memory>(core: &mut Core, mem: &mut M, item: u8) -> Step
 impl Core {
     ghost use Rattle.mm_thread.specs.Parts.{AreParts, core_of};
 
-    /// The core of an image's slots, before its first turn: each queue is empty and nothing was put out. It is of version 2 and
-    /// not split. No later call takes memory.
+    /// The core of an image's slots, before its first turn: each queue is empty and nothing was put out. It has the output limit
+    /// of version 1 until [`Core::set_version`] sets another, and is not split. The room for outputs is all that it takes beside its
+    /// slots; no later call takes memory.
     pub fn new(alloc: Global, slots: &[Slot]) -> Result<Core, NoMemory>
         requires rising { IsStrictlyIncreasing (numbers_of slots.now) }
         requires fresh { AllByRecursion (IsFresh 64 slots.now) slots.now }
         ensures rows { IfOk result (λ core. core.rows ≡ map row_alone slots.now) }
         ensures outputs { IfOk result (λ core. core.outputs ≡ replicate 64 []) }
-        ensures version { IfOk result (λ core. core.version ≡ 2) }
+        ensures version { IfOk result (λ core. core.version ≡ 1) }
         ensures plain { IfOk result (λ core. core.split ≡ false) }
     {
         let rows = rows_of(alloc, slots)?;
@@ -121,7 +123,7 @@ impl Core {
         self.tables.set_split(on);
     }
 
-    /// Makes it a machine of this version.
+    /// Makes it a machine of this version, which says how many bytes a group may put out.
     pub fn set_version(&mut self, version: u16)
         requires known { (version ≡ 1) ⊎ (version ≡ 2) }
         requires slots { AllByRecursion (IsOfVersion version) (slots_of self.old) }
@@ -160,7 +162,10 @@ impl Core {
 
     /// The bytes that a group has put out, oldest first.
     pub fn output(&self, group: u8) -> &[u8]
-        ensures { result.now ≡ output_of self.now group }
+        ensures bytes { result.now ≡ output_of self.now group }
+
+        // A group without a slot has put out nothing.
+        ensures silent { has_group (slots_of self.now) group ≡ false → result.now ≡ [] }
     {
         if group < 64 {
             self.tables.output(group)

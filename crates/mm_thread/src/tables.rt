@@ -48,17 +48,17 @@ impl Model for Tables {
 }
 
 impl Tables {
-    /// Tables of these rows, of version 2 and not split.
+    /// Tables of these rows, of version 1 and not split.
     pub(crate) fn new(rows: Vec<Row>, outputs: Vec<GroupOutput>) -> Tables
         requires { AreNumbered rows.items }
-        ensures { result ≡ record { rows = rows.items; outputs = outputs.items; version = 2; split = false } }
+        ensures { result ≡ record { rows = rows.items; outputs = outputs.items; version = 1; split = false } }
     {
         let runners = runners_of(&rows);
         Tables {
             rows,
             runners,
             outputs,
-            version: 2,
+            version: 1,
             split: false,
         }
     }

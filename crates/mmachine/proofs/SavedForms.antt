@@ -5,7 +5,7 @@ use Rattle.std.specs.List.{AllByRecursion}
 use Rattle.mm_model.specs.Image.{Image, start, output_limit}
 use Rattle.mm_model.specs.Spelling.{IsImage}
 use Rattle.mm_model.proofs.Starts.{start_fits}
-use Rattle.mm_thread.specs.declared.output.Output.{Output}
+use Rattle.mm_thread.specs.Output.{Output}
 use Rattle.mm_machine.specs.Snapshot.{Parts, CanRestore}
 use Rattle.mm_checkpoint.specs.Checkpoints.{IsCheckpoint}
 
@@ -15,6 +15,6 @@ can_begin i p last image checkpoint =
     record {
       slots = checkpoint.slots ∙ sym fits.same_slots;
       mode = λ off. checkpoint.mode (sym fits.split ∙ off);
-      outputs = subst (λ (v : ℕ). AllByRecursion (λ (o : Output). length o.bytes.items ≤ output_limit v) p.outputs) (sym fits.version) checkpoint.outputs;
+      outputs = subst (λ (v : ℕ). AllByRecursion (λ (o : Output). length o.bytes ≤ output_limit v) p.outputs) (sym fits.version) checkpoint.outputs;
       pages = subst (λ (n : ℕ). length p.pages ≤ n) (sym fits.frames) checkpoint.pages;
     }

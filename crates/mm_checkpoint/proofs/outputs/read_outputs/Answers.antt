@@ -1,6 +1,6 @@
 use Rattle.std.proofs.Common.{◌≡◌, ℕ, ◌+◌, List, [], ◌∷◌, ◌++◌, map, get_or, refl, ap, ◌∙◌, arith}
 use Rattle.std.proofs.lemmas.Result.{err_from_is_err_and}
-use Rattle.mm_thread.specs.declared.output.Output.{Output}
+use Rattle.mm_thread.specs.Output.{Output}
 use Rattle.mm_checkpoint.specs.Reading.{output_at, output_length, output_end}
 use Rattle.mm_checkpoint.specs.Steps.{put_out}
 use Rattle.mm_checkpoint.proofs.Runs.{outputs_stop, outputs_go_on, outputs_done, held_outputs, all_outputs, put_more}
@@ -20,7 +20,7 @@ loop-group-preserved c =
     let groups = c.args.groups.now in
     let g : ℕ = get_or groups l.group-index 0 in
     let items = map put_out l.outputs.items in
-    let output : Output = record { group = g; bytes = c.in_ok-bytes.bytes } in
+    let output : Output = record { group = g; bytes = c.in_ok-bytes.bytes.items } in
     let next = outputs_go_on bytes c.args.limit groups c.args.start l.group-index l.at items l.invariant.read g c.loop-group-test.true refl c.in_ok-bytes.ensures.output.0 in
     let size : c.len.result ≡ output_length bytes l.at = omega (arith, c.len.ensures, c.in_ok-bytes.bytes.ok.0, c.in_ok-bytes.ensures.length) in
     let end : l.at + (4 + c.len.result) ≡ output_end bytes l.at = omega (arith, size) in

@@ -8,7 +8,7 @@ use Rattle.mm_model.specs.Image.{frame_limit}
 use Rattle.mm_model.specs.Fits.{identity_of, WaitsForSome}
 use Rattle.mm_model.specs.Spelling.{page_record}
 use Rattle.mm_model.proofs.CoreRows.{slot_limit-few}
-use Rattle.mm_thread.specs.declared.output.Output.{Output}
+use Rattle.mm_thread.specs.Output.{Output}
 use Rattle.mm_checkpoint.specs.Checkpoints.{saved_of, header, slot_record, output_record, spelling}
 use Rattle.mm_checkpoint.proofs.FewOutputs.{few_outputs}
 use Rattle.mm_checkpoint.proofs.Waits.{few_events, all_handled}
@@ -79,7 +79,7 @@ returns c =
     ∙ ap (λ (xs : List (ℕ × Event)). header saved ++ flat_map (slot_record xs) c.slots-2.result.now) c.events.ensures.events
     ∙ ap (λ (xs : List Slot). header saved ++ flat_map (slot_record s.events) xs) c.slots-2.ensures.slots in
     let e3 : n3 ≡ header saved ++ slots ++ flat_map output_record saved.outputs =
-    c.in_ok-put_outputs.ensures ∙ ap (λ (t : List ℕ). t ++ flat_map output_record (map (λ (o : Output). (o.group, o.bytes.items)) c.outputs-2.result.now)) e2
-    ∙ ap (λ (xs : List Output). header saved ++ slots ++ flat_map output_record (map (λ (o : Output). (o.group, o.bytes.items)) xs)) c.outputs-2.ensures.outputs in
+    c.in_ok-put_outputs.ensures ∙ ap (λ (t : List ℕ). t ++ flat_map output_record (map (λ (o : Output). (o.group, o.bytes)) c.outputs-2.result.now)) e2
+    ∙ ap (λ (xs : List Output). header saved ++ slots ++ flat_map output_record (map (λ (o : Output). (o.group, o.bytes)) xs)) c.outputs-2.ensures.outputs in
     c.in_ok-put_pages.ensures ∙ ap (λ (t : List ℕ). t ++ flat_map page_record c.pages-2.result.now) e3
     ∙ ap (λ (xs : List (ℕ × List Cell)). header saved ++ slots ++ flat_map output_record saved.outputs ++ flat_map page_record xs) c.pages-2.ensures.pages

@@ -14,4 +14,4 @@ returns-in_err-write_pieces g c us stands =
     c.from_residual.result (is_an_error _ c.from_residual.result c.from_residual.ensures.1)
 
 pub returns : goal.returns
-returns g c us stands = writes_then c.in_ok-write_pieces.ensures (c.report.ensures us stands)
+returns g c us stands = writes_then c.in_ok-write_pieces.ensures (c.report.ensures.counts us stands)

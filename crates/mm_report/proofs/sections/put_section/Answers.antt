@@ -9,5 +9,5 @@ unfolding section
 returns g c =
     gathers_then
     (gathers_same (gathers_then c.put_group.ensures c.put_output.ensures)
-    (ap (λ (bytes : List ℕ). group_line c.args.group (length bytes) ++ output_lines bytes) c.output-output.ensures))
+    (ap (λ (bytes : List ℕ). group_line c.args.group (length bytes) ++ output_lines bytes) c.output-output.ensures.bytes))
     c.put_members.ensures

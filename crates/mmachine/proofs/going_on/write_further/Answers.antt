@@ -45,4 +45,4 @@ returns g c =
     } in
     let went = c.issue.ensures.goes in
     ends_written _ _ _ _ (s, has, (items, further c.args.order.now s last c.args.cycles, refl)) _ _ c.ended.ensures
-    (writes_same (c.report.ensures (uses s items) (went.takes.each [] c.restore.ensures.stands)) (ap (λ (x : State). report x i (g.M.Inspect.tells (uses s items))) went.state))
+    (writes_same (c.report.ensures.counts (uses s items) (went.takes.each [] c.restore.ensures.stands)) (ap (λ (x : State). report x i (g.M.Inspect.tells (uses s items))) went.state))

@@ -14,4 +14,4 @@ returns g c =
     let i = c.args.image.now in
     let items = items_of c.args.order.now (start i) c.args.cycles in
     let stands : StandsFor i items c.issue.new.machine = issued_from_start i c.args.order.now c.args.cycles c.in_ok-machine.machine c.issue.new.machine c.in_ok-machine.ensures.stands c.issue.ensures.goes in
-    ends_written _ _ _ _ refl _ _ c.ended.ensures (reported g.M.Inspect.tells i items c.issue.new.machine stands c.report.ensures)
+    ends_written _ _ _ _ refl _ _ c.ended.ensures (reported g.M.Inspect.tells i items c.issue.new.machine stands c.report.ensures.counts)

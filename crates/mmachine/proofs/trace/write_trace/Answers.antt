@@ -30,4 +30,4 @@ returns g c =
     let stands : StandsFor i items c.write_lines.new.machine = subst P begun (c.write_lines.ensures.goes i [] c.in_ok-machine.ensures.stands) in
     ends_written _ _ _ _ refl _ _ c.ended.ensures
     (writes_then (writes_same c.in_ok-write_lines.ensures.lines (ap (λ (s : State). lines.trace s (items_of c.args.order.now s c.args.cycles)) begun))
-    (reported g.M.Inspect.tells i items c.write_lines.new.machine stands c.report.ensures))
+    (reported g.M.Inspect.tells i items c.write_lines.new.machine stands c.report.ensures.counts))

@@ -7,7 +7,7 @@ use Rattle.mm_thread.proofs.state.Core.new.Goals as goal
 
 pub new-tables-requires : goal.new-tables-requires
 new-tables-requires c =
-    let t : Core = record { rows = c.in_ok-rows.rows.items; outputs = c.in_ok-outputs.outputs.items; version = 2; split = false } in
+    let t : Core = record { rows = c.in_ok-rows.rows.items; outputs = c.in_ok-outputs.outputs.items; version = 1; split = false } in
     let whole : IsCore t = fresh_core c.args.slots.now c.requires.rising c.requires.fresh _ _ t refl c.in_ok-rows.ensures c.in_ok-outputs.ensures in
     core_numbered t whole.formed.rising (small_numbers t whole)
 
