@@ -10,7 +10,8 @@ use Rattle.mm_draft.specs.Faults.{fault_if}
 use Rattle.mm_object.specs.Objects.{is_among, same_name, external_limit}
 use Rattle.mm_asm.specs.Names.{Use, is_external, name_of, insert_name, with_use, externals_with}
 use Rattle.mm_asm.specs.Faults.{in_source, is_too_many, limit_failures}
-use Rattle.mm_asm.proofs.Lists.{In, none_both, none_map}
+use Rattle.mm_asm.proofs.Lists.{none_both, none_map}
+use Rattle.mm_object.proofs.Members.{In}
 use Rattle.mm_asm.proofs.Order.{Rising, insert_rising, insert_each, insert_among, insert_length, insert_again, same_itself}
 
 pub fault_none : (bad : Bool) (fault : Fault) (left : ℕ) → fault_if bad fault left ≡ [] → bad ≡ false

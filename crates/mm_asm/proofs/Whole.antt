@@ -17,7 +17,8 @@ use Rattle.mm_asm.specs.Meaning.{segment_of, target_by, target_of, segments_relo
 use Rattle.mm_asm.specs.Faults.{late_failures}
 use Rattle.mm_asm.specs.Bounds as bounds
 use Rattle.mm_asm.specs.Bounds.{IsPlaced, IsDraft}
-use Rattle.mm_asm.proofs.Lists.{In, in_left, in_right, in_map, in_flat, from_flat, each_in, each_from, each_map, passes, any_found, none_found}
+use Rattle.mm_asm.proofs.Lists.{passes, any_found, none_found}
+use Rattle.mm_object.proofs.Members.{In, in_left, in_right, in_map, in_flat, from_flat, each_in, each_from, each_map}
 use Rattle.mm_asm.proofs.Order.{rising_ascends, each_among, position_at}
 use Rattle.mm_asm.proofs.ExternalNames.{externals_each}
 use Rattle.mm_asm.proofs.Uses.{in_merge, from_merge, uses_placed}

@@ -6,7 +6,7 @@ ghost use Rattle.mm_io.specs.Files.{Rose, NoneFell, Holds, AsksOnly};
 ghost use Rattle.mm_model.specs.Spelling.{IsImage};
 ghost use Rattle.mm_machine.specs.Machine.{StandsFor};
 ghost use Rattle.mm_net.specs.Net.{IsUnused};
-ghost use Rattle.mm_save.specs.Checkpoints.{saved_of, IsCheckpoint};
+ghost use Rattle.mm_checkpoint.specs.Checkpoints.{saved_of, IsCheckpoint};
 ghost use Rattle.mmachine.specs.Kinds.{Value, image_file, schedule_file, source_file, object_file, checkpoint_file, links_file, events_file, text_input, an_image, a_list, an_object, a_checkpoint, a_links, an_events, a_text};
 ghost use Rattle.mmachine.specs.Files.{Stops, IsTooLong, FilesRead, InputRead, reading, drawing};
 ghost use Rattle.mmachine.specs.Table.{files_named, files_in, file_word, perhaps};

@@ -1,6 +1,6 @@
 use Rattle.std.proofs.Common.{[], ◌∷◌, Ok, refl, sym, ◌∙◌, arith, append-nil}
 use Rattle.mm_word.specs.Adding.{adds_both}
-use Rattle.mm_save.specs.Checkpoints.{saved_of}
+use Rattle.mm_checkpoint.specs.Checkpoints.{saved_of}
 use Rattle.mmachine.specs.Kinds.{an_image, a_checkpoint, image_file, checkpoint_file}
 use Rattle.mmachine.specs.Files.{FilesRead, reading}
 use Rattle.mmachine.proofs.Reading.{files_then}
