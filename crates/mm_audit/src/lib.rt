@@ -1,4 +1,14 @@
 //! The audit of an image: what each group can touch and write, exactly; and the image of some groups alone.
+//!
+//! | rule | part | made in |
+//! |---|---|---|
+//! | what a group is granted | the marks of the image's graph | `mm_graph`, `surveying` |
+//! | it touches and writes what lies in the segment of a granted pointer with the right | spans: segments with the groups that use them | `span`, `spans` |
+//! | its maximal segments | the outermost of its spans, one by one or as a set for each group | `walk`, `sets`, `group_sets` |
+//! | two groups share the words that the one writes and the other touches | for each two groups the least such word | `opening`, `meets`, `least` |
+//! | groups stand apart unless a handler or a writer is across | the slots with their handlers, and the least writer | `served`, `writers`, `judge` |
+//! | what a finished audit answers | a set for each group, or one list for all | `reach`, `surveys` |
+//! | groups that stand alone have an image of their own | their slots, and the pages and cells that they can touch | `refusing`, `touched`, `own`, `extracting`, `solo` |
 #![tactic(auto)]
 
 mod extracting;

@@ -5,7 +5,7 @@ ghost use Rattle.mm_audit.specs.Marks.{kept_mask, node_span, span_of, IsUsed, wh
 
 use crate::span::Span;
 use mm_flow::Node;
-use mm_graph::Key;
+use mm_graph::CanonicalPtr;
 use mm_word::NoMemory;
 use std::alloc::Global;
 
@@ -17,7 +17,7 @@ fn kept(keep: bool, mask: u64) -> u64
 }
 
 /// The span of a node that is marked for these groups.
-fn node_span(key: Key, node: Node, mark: u64) -> Span
+fn node_span(key: CanonicalPtr, node: Node, mark: u64) -> Span
     requires { IsKey key }
     ensures { result ≡ node_span key node mark }
 {
@@ -61,7 +61,7 @@ fn whole_span(groups: u64) -> Span
 /// The whole memory for the privileged groups, and then the span of each marked node, in their order.
 pub fn spans_of(
     alloc: Global,
-    keys: &[Key],
+    keys: &[CanonicalPtr],
     nodes: &[Node],
     marks: &[u64],
     privileged: u64,

@@ -1,6 +1,6 @@
 -- Segments in the order of their bases, and for each the nearest one above it.
 use Rattle.std.specs.Prelude.{◌≡◌, ℕ, ◌+◌, ◌*◌, ◌/◌, ◌^◌, ◌<◌, ◌≤◌, List, length, slice_index}
-use Rattle.mm_flow.specs.Gifts.{Up}
+use Rattle.mm_flow.specs.Sharing.{Up}
 
 -- ascending bases; what begins within an earlier segment ends within it
 pub record IsNested (bases ends : List ℕ) : Type 0 where

@@ -1,6 +1,6 @@
-// The nearest segment above each.
+//! The nearest segment above each.
 ghost use Rattle.std.specs.Prelude.{◌≡◌, ℕ, ◌<◌, ◌≤◌, IfOk, length, slice_index, max};
-ghost use Rattle.mm_flow.specs.Flow.{IsAhead};
+ghost use Rattle.mm_flow.specs.Work.{IsAhead};
 ghost use Rattle.mm_flow.specs.Forest.{IsNested, IsForest, Climbed};
 
 use std::alloc::{AllocError, Global};
@@ -60,8 +60,8 @@ pub fn greater(a: usize, b: usize) -> usize
     if a < b { b } else { a }
 }
 
-/// Makes each node's number at least that of each node whose parent it is. How far they get is a matter of speed alone; proved is that
-/// each is behind its node.
+/// Makes each node's number at least that of each node whose parent it is. How far they get is a matter of speed alone;
+/// proved is that each is after its node.
 fn join_up(next: &mut [usize], parents: &[usize])
     requires { IsAhead next.old (length parents.now) }
     ensures { IsAhead next.new (length parents.now) }
@@ -75,7 +75,8 @@ fn join_up(next: &mut [usize], parents: &[usize])
     }
 }
 
-/// For each node the first one behind all that it is above. What is proved is that it is behind the node; the rest is speed alone.
+/// For each node the first one after all that it is above. What is proved is that it is after the node; the rest is speed
+/// alone.
 pub fn after(alloc: Global, parents: &[usize]) -> Result<Vec<usize>, AllocError>
     ensures { IfOk result (λ v. IsAhead v.items (length parents.now)) }
 {

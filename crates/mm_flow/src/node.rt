@@ -1,7 +1,7 @@
 ghost use Rattle.std.specs.Prelude.{◌≡◌};
-ghost use Rattle.mm_flow.specs.Net.{has_right};
+ghost use Rattle.mm_flow.specs.Edges.{has_right};
 
-/// A node of a net.
+/// A node of a graph.
 #[derive(Clone, Copy, Debug)]
 pub struct Node {
     /// It leads to the targets at places from here

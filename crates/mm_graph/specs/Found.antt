@@ -5,12 +5,12 @@ use Rattle.mm_word.specs.declared.word.Word.{Word}
 use Rattle.mm_word.specs.declared.word.Word.TheVariants.{Ptr}
 use Rattle.mm_word.specs.declared.word.Cell.{Cell}
 use Rattle.mm_model.specs.Slot.{Slot}
-use Rattle.mm_graph.specs.declared.key.Key.{Key}
+use Rattle.mm_graph.specs.declared.canonical_ptr.CanonicalPtr.{CanonicalPtr}
 use Rattle.mm_graph.specs.declared.found.Found.{Found}
 use Rattle.mm_graph.specs.declared.seed.Seed.{Seed}
 use Rattle.mm_graph.specs.Key.{word_key}
 
-abbrev pub found_at : ℕ → Option Key → List Found
+abbrev pub found_at : ℕ → Option CanonicalPtr → List Found
 found_at w None = []
 found_at w (Some k) = record { word = w; key = k } ∷ []
 
@@ -22,7 +22,7 @@ cell_keys w (c ∷ cells) = found_at w (word_key c.word) ++ cell_keys (w + 8) ce
 abbrev pub page_keys : List (ℕ × List Cell) → List Found
 page_keys pages = flat_map (λ page. cell_keys (page.0 * 4096) page.1) pages
 
-abbrev pub seed_at : ℕ → Option Key → List Seed
+abbrev pub seed_at : ℕ → Option CanonicalPtr → List Seed
 seed_at g None = []
 seed_at g (Some k) = record { group = g; key = k } ∷ []
 

@@ -3,12 +3,12 @@ ghost use Rattle.std.specs.Prelude.{◌≡◌, ◌+◌, ◌-◌, ◌^◌, All, I
 ghost use Rattle.mm_graph.specs.Key.{IsKey, IsRising};
 ghost use Rattle.mm_graph.specs.Forest.{IsBases, IsEnds, HasForest};
 
-use crate::key::Key;
+use crate::canonical_ptr::CanonicalPtr;
 use mm_flow::parents;
 use std::alloc::{AllocError, Global};
 
 /// The bases of the keys' segments.
-fn bases_of(alloc: Global, keys: &[Key]) -> Result<Vec<u64>, AllocError>
+fn bases_of(alloc: Global, keys: &[CanonicalPtr]) -> Result<Vec<u64>, AllocError>
     ensures { IfOk result (λ bases. IsBases keys.now bases.items) }
 {
     let mut bases = Vec::new(alloc);
@@ -19,7 +19,7 @@ fn bases_of(alloc: Global, keys: &[Key]) -> Result<Vec<u64>, AllocError>
 }
 
 /// Where a key's segment ends.
-fn end(key: Key) -> u64
+fn end(key: CanonicalPtr) -> u64
     requires { IsKey key }
     ensures { result ≡ key.base + 2 ^ (54 - key.narrow) }
 {
@@ -28,7 +28,7 @@ fn end(key: Key) -> u64
 }
 
 /// The ends of the keys' segments.
-fn ends_of(alloc: Global, keys: &[Key]) -> Result<Vec<u64>, AllocError>
+fn ends_of(alloc: Global, keys: &[CanonicalPtr]) -> Result<Vec<u64>, AllocError>
     requires { All IsKey keys.now }
     ensures { IfOk result (λ ends. IsEnds keys.now ends.items) }
 {
@@ -40,7 +40,7 @@ fn ends_of(alloc: Global, keys: &[Key]) -> Result<Vec<u64>, AllocError>
 }
 
 /// For each key the nearest whose segment holds its own.
-pub fn parents_of(alloc: Global, keys: &[Key]) -> Result<Vec<usize>, AllocError>
+pub fn parents_of(alloc: Global, keys: &[CanonicalPtr]) -> Result<Vec<usize>, AllocError>
     requires rising { IsRising keys.now }
     requires keys { All IsKey keys.now }
     ensures { IfOk result (λ parents. HasForest keys.now parents.items) }

@@ -4,7 +4,7 @@ ghost use Rattle.std.specs.List.{AllZip};
 ghost use Rattle.mm_graph.specs.Key.{IsKey, IsRising};
 ghost use Rattle.mm_graph.specs.Masks.{meaning, IsEntryMasks, IsEntrySeed};
 
-use crate::key::Key;
+use crate::canonical_ptr::CanonicalPtr;
 use crate::mark::marks_of;
 use crate::seed::Seed;
 use mm_word::GuardedPtr;
@@ -23,7 +23,7 @@ fn seeds_of(alloc: Global, list: &[(u8, GuardedPtr)]) -> Result<Vec<Seed>, Alloc
 {
     let mut seeds = Vec::new(alloc);
     for entry in list {
-        let key = Key::of(entry.1);
+        let key = CanonicalPtr::of(entry.1);
         seeds.push(Seed {
             group: entry.0,
             key,
@@ -33,7 +33,11 @@ fn seeds_of(alloc: Global, list: &[(u8, GuardedPtr)]) -> Result<Vec<Seed>, Alloc
 }
 
 /// For each key the groups that may enter by its pointer.
-pub fn entry_masks(alloc: Global, entries: &Entries, keys: &[Key]) -> Result<Vec<u64>, AllocError>
+pub fn entry_masks(
+    alloc: Global,
+    entries: &Entries,
+    keys: &[CanonicalPtr],
+) -> Result<Vec<u64>, AllocError>
     requires rising { IsRising keys.now }
     requires keys { Each IsKey keys.now }
     ensures { IfOk result (λ masks. IsEntryMasks (meaning entries.now) keys.now masks.items) }

@@ -3,7 +3,7 @@ ghost use Rattle.std.specs.Prelude.{◌≡◌, ◌++◌, ◌*◌, All, OnOk, IfO
 ghost use Rattle.mm_graph.specs.Key.{IsKey, word_key};
 ghost use Rattle.mm_graph.specs.Found.{found_at, cell_keys, page_keys};
 
-use crate::key::{Key, standing_in};
+use crate::canonical_ptr::{CanonicalPtr, standing_in};
 use mm_model::Page;
 use mm_word::Cell;
 use std::alloc::{AllocError, Global};
@@ -14,7 +14,7 @@ pub struct Found {
     /// The cell's word.
     pub word: u64,
     /// The key of the pointer that stands for it.
-    pub key: Key,
+    pub key: CanonicalPtr,
 }
 
 /// Adds the pointer of a cell.

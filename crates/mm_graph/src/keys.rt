@@ -1,17 +1,17 @@
-// The keys of a net.
+// The keys of a graph.
 ghost use Rattle.std.specs.Prelude.{◌≡◌, ◌++◌, ◌↔◌, All, Contains, OnOk, IfOk, map};
 ghost use Rattle.std.specs.List.{filter_map};
 ghost use Rattle.std.specs.Option.{option_to_list};
 ghost use Rattle.mm_graph.specs.declared.found.Found.{Found as FoundType};
 ghost use Rattle.mm_graph.specs.declared.seed.Seed.{Seed as SeedType};
-ghost use Rattle.mm_graph.specs.declared.key.Key.{Key as KeyType};
+ghost use Rattle.mm_graph.specs.declared.canonical_ptr.CanonicalPtr.{CanonicalPtr as KeyType};
 ghost use Rattle.mm_graph.specs.declared.placed.Placed.{Placed as PlacedType};
 ghost use Rattle.mm_graph.specs.Key.{IsKey, IsRising, entry_key};
 ghost use Rattle.mm_graph.specs.Placed.{all_keys_of, IsPlaced};
 ghost use Rattle.mm_graph.specs.Nodes.{IsKeysOf, IsTargets};
 
+use crate::canonical_ptr::CanonicalPtr;
 use crate::found::Found;
-use crate::key::Key;
 use crate::order::put_in_order;
 use crate::placed::{Placed, in_order, keys_in};
 use crate::seed::Seed;
@@ -19,7 +19,7 @@ use crate::targets::targets_of;
 use std::alloc::{AllocError, Global};
 
 /// Adds the keys of what was found.
-fn add_found(keys: &mut Vec<Key>, found: &[Found]) -> Result<(), AllocError>
+fn add_found(keys: &mut Vec<CanonicalPtr>, found: &[Found]) -> Result<(), AllocError>
     ensures { OnOk result (keys.new.items ≡ keys.old.items ++ map (λ (f : FoundType). f.key) found.now) }
 {
     for f in found {
@@ -29,7 +29,7 @@ fn add_found(keys: &mut Vec<Key>, found: &[Found]) -> Result<(), AllocError>
 }
 
 /// Adds the keys of seeds.
-fn add_seeds(keys: &mut Vec<Key>, seeds: &[Seed]) -> Result<(), AllocError>
+fn add_seeds(keys: &mut Vec<CanonicalPtr>, seeds: &[Seed]) -> Result<(), AllocError>
     ensures { OnOk result (keys.new.items ≡ keys.old.items ++ map (λ (s : SeedType). s.key) seeds.now) }
 {
     for s in seeds {
@@ -39,7 +39,7 @@ fn add_seeds(keys: &mut Vec<Key>, seeds: &[Seed]) -> Result<(), AllocError>
 }
 
 /// Adds the key that an entry by a pointer gives.
-fn add_entry(keys: &mut Vec<Key>, key: Key) -> Result<(), AllocError>
+fn add_entry(keys: &mut Vec<CanonicalPtr>, key: CanonicalPtr) -> Result<(), AllocError>
     requires { IsKey key }
     ensures { OnOk result (keys.new.items ≡ keys.old.items ++ option_to_list (entry_key key)) }
 {
@@ -50,7 +50,7 @@ fn add_entry(keys: &mut Vec<Key>, key: Key) -> Result<(), AllocError>
 }
 
 /// Adds the keys that entries give.
-fn add_entries(keys: &mut Vec<Key>) -> Result<(), AllocError>
+fn add_entries(keys: &mut Vec<CanonicalPtr>) -> Result<(), AllocError>
     requires { All IsKey keys.old.items }
     ensures { OnOk result (keys.new.items ≡ keys.old.items ++ filter_map entry_key keys.old.items) }
 {
@@ -63,7 +63,7 @@ fn add_entries(keys: &mut Vec<Key>) -> Result<(), AllocError>
 }
 
 /// The keys of what was found and of seeds, and of what entries by them give, those of what was found first.
-fn all_keys(alloc: Global, found: &[Found], seeds: &[Seed]) -> Result<Vec<Key>, AllocError>
+fn all_keys(alloc: Global, found: &[Found], seeds: &[Seed]) -> Result<Vec<CanonicalPtr>, AllocError>
     requires found { All (λ f. IsKey f.key) found.now }
     requires seeds { All (λ s. IsKey s.key) seeds.now }
     ensures { IfOk result (λ keys. keys.items ≡ all_keys_of found.now seeds.now) }
@@ -87,7 +87,7 @@ fn ordered(alloc: Global, found: &[Found], seeds: &[Seed]) -> Result<Vec<Placed>
 }
 
 /// The keys of a list with their places, in their order, each once.
-fn keys_of(alloc: Global, placed: &[Placed]) -> Result<Vec<Key>, AllocError>
+fn keys_of(alloc: Global, placed: &[Placed]) -> Result<Vec<CanonicalPtr>, AllocError>
     ensures rising { IfOk result (λ keys. IsRising keys.items) }
     ensures same { IfOk result (λ keys. (x : KeyType) → Contains keys.items x ↔ Contains (map (λ (p : PlacedType). p.key) placed.now) x) }
 {
@@ -102,7 +102,7 @@ pub fn keys_and_targets(
     alloc: Global,
     found: &[Found],
     seeds: &[Seed],
-) -> Result<(Vec<Key>, Vec<usize>), AllocError>
+) -> Result<(Vec<CanonicalPtr>, Vec<usize>), AllocError>
     requires found { All (λ f. IsKey f.key) found.now }
     requires seeds { All (λ s. IsKey s.key) seeds.now }
     ensures keys { IfOk result (λ r. IsKeysOf found.now seeds.now r.0.items) }

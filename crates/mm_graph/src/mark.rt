@@ -4,13 +4,13 @@ ghost use Rattle.mm_graph.specs.Key.{IsRising};
 ghost use Rattle.mm_graph.specs.Nodes.{IsMarks};
 ghost use Rattle.mm_graph.specs.Marking.{IsMark};
 
-use crate::key::Key;
+use crate::canonical_ptr::CanonicalPtr;
 use crate::order::find;
 use crate::seed::Seed;
 use std::alloc::{AllocError, Global};
 
 /// Marks the key of a seed, if it is there.
-fn mark(marks: &mut [u64], keys: &[Key], seed: Seed)
+fn mark(marks: &mut [u64], keys: &[CanonicalPtr], seed: Seed)
     requires rising { IsRising keys.now }
     requires len { length marks.old ≡ length keys.now }
     ensures { IsMark keys.now seed marks.old marks.new }
@@ -24,7 +24,7 @@ fn mark(marks: &mut [u64], keys: &[Key], seed: Seed)
 }
 
 /// Marks the keys of seeds.
-fn mark_all(marks: &mut [u64], keys: &[Key], seeds: &[Seed])
+fn mark_all(marks: &mut [u64], keys: &[CanonicalPtr], seeds: &[Seed])
     requires rising { IsRising keys.now }
     requires none { IsMarks keys.now [] marks.old }
     ensures { IsMarks keys.now seeds.now marks.new }
@@ -35,7 +35,11 @@ fn mark_all(marks: &mut [u64], keys: &[Key], seeds: &[Seed])
 }
 
 /// The groups of the seeds at each key.
-pub fn marks_of(alloc: Global, keys: &[Key], seeds: &[Seed]) -> Result<Vec<u64>, AllocError>
+pub fn marks_of(
+    alloc: Global,
+    keys: &[CanonicalPtr],
+    seeds: &[Seed],
+) -> Result<Vec<u64>, AllocError>
     requires { IsRising keys.now }
     ensures { IfOk result (λ marks. IsMarks keys.now seeds.now marks.items) }
 {

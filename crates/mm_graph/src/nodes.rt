@@ -1,12 +1,12 @@
-// The nodes of a net.
+// The nodes of a graph.
 ghost use Rattle.std.specs.Prelude.{◌≡◌, ◌<◌, ◌≤◌, ◌^◌, ◌+◌, ◌⊎◌, ℕ, All, IfOk, IfSome, MatchOption, Contains, None, Some, true, false, length, slice_index};
 ghost use Rattle.mm_word.specs.Pointer.{base_of};
-ghost use Rattle.mm_graph.specs.declared.key.Key.{Key as KeyType};
+ghost use Rattle.mm_graph.specs.declared.canonical_ptr.CanonicalPtr.{CanonicalPtr as KeyType};
 ghost use Rattle.mm_graph.specs.Key.{IsKey, IsRising, key_at, pointer_at, entry_key, loads_words, stores_words, makes_pointers, is_entry};
 ghost use Rattle.mm_graph.specs.Nodes.{found_word, IsAscending, IsBefore, IsBounds, IsRange, IsNode, IsNodes};
 
+use crate::canonical_ptr::CanonicalPtr;
 use crate::found::Found;
-use crate::key::Key;
 use crate::order::near;
 use mm_flow::Node;
 use mm_word::{GuardedPtr, Perm};
@@ -121,7 +121,7 @@ fn range(found: &[Found], hint: usize, p: GuardedPtr) -> (usize, usize)
 }
 
 /// The place of what an entry by a pointer gives, which is found quickly where it is the hint or the next one.
-fn entry_of(keys: &[Key], hint: usize, key: Key) -> Option<usize>
+fn entry_of(keys: &[CanonicalPtr], hint: usize, key: CanonicalPtr) -> Option<usize>
     requires rising { IsRising keys.now }
     requires key { IsKey key }
     requires there { (x : KeyType) → entry_key key ≡ Some x → Contains keys.now x }
@@ -138,7 +138,7 @@ fn entry_of(keys: &[Key], hint: usize, key: Key) -> Option<usize>
 }
 
 /// The node of the key at a place.
-fn node_for(keys: &[Key], found: &[Found], hint: usize, mask: u64, k: usize) -> Node
+fn node_for(keys: &[CanonicalPtr], found: &[Found], hint: usize, mask: u64, k: usize) -> Node
     requires rising { IsRising keys.now }
     requires keys { All IsKey keys.now }
     requires entries { (y x : KeyType) → Contains keys.now y → entry_key y ≡ Some x → Contains keys.now x }
@@ -167,7 +167,7 @@ fn node_for(keys: &[Key], found: &[Found], hint: usize, mask: u64, k: usize) -> 
 /// The nodes of the keys, where the groups of each mask may enter by its pointer.
 pub fn nodes_of(
     alloc: Global,
-    keys: &[Key],
+    keys: &[CanonicalPtr],
     found: &[Found],
     masks: &[u64],
 ) -> Result<Vec<Node>, AllocError>

@@ -3,18 +3,18 @@ ghost use Rattle.std.specs.Prelude.{◌≡◌, IfOk, map};
 ghost use Rattle.mm_graph.specs.declared.placed.Placed.{Placed as PlacedType};
 ghost use Rattle.mm_graph.specs.Placed.{IsPlacing, IsPlaced};
 
-use crate::key::Key;
+use crate::canonical_ptr::CanonicalPtr;
 use std::alloc::{AllocError, Global};
 
 /// A key and its place in a list.
 #[derive(Clone, Copy, PartialEq, Eq, PartialOrd, Ord, Debug)]
 pub struct Placed {
-    pub key: Key,
+    pub key: CanonicalPtr,
     pub place: usize,
 }
 
 /// Each key of a list with its place.
-fn places_of(alloc: Global, keys: &[Key]) -> Result<Vec<Placed>, AllocError>
+fn places_of(alloc: Global, keys: &[CanonicalPtr]) -> Result<Vec<Placed>, AllocError>
     ensures { IfOk result (λ placed. IsPlacing keys.now placed.items) }
 {
     let mut placed = Vec::new(alloc);
@@ -28,7 +28,7 @@ fn places_of(alloc: Global, keys: &[Key]) -> Result<Vec<Placed>, AllocError>
 }
 
 /// Each key of a list with its place, by ascending keys. What comes of them is the same in any order; this one is fast.
-pub fn in_order(alloc: Global, keys: &[Key]) -> Result<Vec<Placed>, AllocError>
+pub fn in_order(alloc: Global, keys: &[CanonicalPtr]) -> Result<Vec<Placed>, AllocError>
     ensures { IfOk result (λ placed. IsPlaced keys.now placed.items) }
 {
     let mut placed = places_of(alloc, keys)?;
@@ -37,7 +37,7 @@ pub fn in_order(alloc: Global, keys: &[Key]) -> Result<Vec<Placed>, AllocError>
 }
 
 /// The keys alone.
-pub fn keys_in(alloc: Global, placed: &[Placed]) -> Result<Vec<Key>, AllocError>
+pub fn keys_in(alloc: Global, placed: &[Placed]) -> Result<Vec<CanonicalPtr>, AllocError>
     ensures { IfOk result (λ keys. keys.items ≡ map (λ (p : PlacedType). p.key) placed.now) }
 {
     let mut keys = Vec::new(alloc);

@@ -5,7 +5,7 @@ ghost use Rattle.mm_graph.specs.Key.{IsKey};
 ghost use Rattle.mm_graph.specs.Found.{seeds_of, slot_seeds, word_seeds, seed_at};
 ghost use Rattle.mm_graph.specs.Key.{word_key};
 
-use crate::key::{Key, standing_in};
+use crate::canonical_ptr::{CanonicalPtr, standing_in};
 use mm_model::Slot;
 use mm_word::Word;
 use std::alloc::{AllocError, Global};
@@ -15,7 +15,7 @@ use std::alloc::{AllocError, Global};
 pub struct Seed {
     pub group: u8,
     /// The key of the pointer that stands for it.
-    pub key: Key,
+    pub key: CanonicalPtr,
 }
 
 /// Adds the pointer of a word.

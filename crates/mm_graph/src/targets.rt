@@ -4,13 +4,13 @@ ghost use Rattle.mm_graph.specs.declared.placed.Placed.{Placed as PlacedType};
 ghost use Rattle.mm_graph.specs.Key.{IsRising};
 ghost use Rattle.mm_graph.specs.Placed.{HasTargets};
 
-use crate::key::Key;
+use crate::canonical_ptr::CanonicalPtr;
 use crate::order::near;
 use crate::placed::Placed;
 use std::alloc::{AllocError, Global};
 
 /// Sets for each of the first keys where it stands among others.
-fn fill_targets(targets: &mut [usize], keys: &[Key], placed: &[Placed])
+fn fill_targets(targets: &mut [usize], keys: &[CanonicalPtr], placed: &[Placed])
     requires rising { IsRising keys.now }
     requires there { (p : PlacedType) → Contains placed.now p → Contains keys.now p.key }
     ensures each { HasTargets keys.now placed.now targets.new }
@@ -29,7 +29,7 @@ fn fill_targets(targets: &mut [usize], keys: &[Key], placed: &[Placed])
 /// Where the first keys stand among others.
 pub fn targets_of(
     alloc: Global,
-    keys: &[Key],
+    keys: &[CanonicalPtr],
     placed: &[Placed],
     count: usize,
 ) -> Result<Vec<usize>, AllocError>
