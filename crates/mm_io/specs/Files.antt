@@ -37,11 +37,12 @@ IsLonger told limit = (bytes : List ℕ) × Holds told bytes × (limit < length 
 abbrev pub DrawnFrom : Option (List ℕ) → Option (List ℕ) → Type 0
 DrawnFrom old new = (front : List ℕ) × (old ≡ prepend_known front new)
 
--- A read of a piece of a file: the file's name, where the piece begins, and the count of bytes, if the read did not
--- fail.
+-- A read of a piece of a file: the file's name, where the piece begins, the bytes that the buffer has room for, and the
+-- count of bytes that came, if the read did not fail.
 pub record PieceRead : Type 0 where
   pub name : List ℕ
   pub offset : ℕ
+  pub room : ℕ
   pub count : Option ℕ
 
 abbrev pub count_of : {E : Type 0} → Result ℕ E → Option ℕ
@@ -49,26 +50,30 @@ count_of (Ok n) = Some n
 count_of (Err e) = None
 
 -- the read with this answer
-abbrev pub piece_read : {E : Type 0} → (name : List ℕ) → (offset : ℕ) → Result ℕ E → PieceRead
-piece_read name offset result = record { name = name; offset = offset; count = count_of result }
+abbrev pub piece_read : {E : Type 0} → (name : List ℕ) → (offset room : ℕ) → Result ℕ E → PieceRead
+piece_read name offset room result = record { name = name; offset = offset; room = room; count = count_of result }
 
 -- each read is of the file of this name
 abbrev pub AreOf : (name : List ℕ) → List PieceRead → Type 0
 AreOf name reads = AllByRecursion (λ (read : PieceRead). read.name ≡ name) reads
 
--- reads of one file from an offset on, each from where the one before it ended, that give these numbers of bytes
-abbrev pub reads_from : (name : List ℕ) → (offset : ℕ) → (counts : List ℕ) → List PieceRead
-reads_from name offset [] = []
-reads_from name offset (n ∷ counts) =
-    record { name = name; offset = offset; count = Some n } ∷ reads_from name (offset + n) counts
+-- reads of one file through a buffer from an offset on, each from where the one before it ended, that give these
+-- numbers of bytes
+abbrev pub reads_from : (name : List ℕ) → (room offset : ℕ) → (counts : List ℕ) → List PieceRead
+reads_from name room offset [] = []
+reads_from name room offset (n ∷ counts) =
+    record { name = name; offset = offset; room = room; count = Some n } ∷ reads_from name room (offset + n) counts
 
--- These reads went through a file from its front to its end, `len` bytes in all: the first began at 0, each other
--- where the one before it ended, and each gave some bytes but the last, which found none.
+-- These reads went through a file from its front to its end, `len` bytes in all, through a buffer with room for a byte
+-- or more: the first began at 0, each other where the one before it ended, and each gave some bytes but the last, which
+-- found none.
 pub record FrontToEnd (name : List ℕ) (len : ℕ) (reads : List PieceRead) : Type 0 where
+  pub room : ℕ
+  pub has_room : 0 < room
   pub counts : List ℕ
   pub some : AllByRecursion (λ n. 0 < n) counts
   pub all : sum counts ≡ len
-  pub in_order : reads ≡ reads_from name 0 (counts ++ 0 ∷ [])
+  pub in_order : reads ≡ reads_from name room 0 (counts ++ 0 ∷ [])
 
 -- the file of this name was read, any number of times, and no other file
 pub record AsksOnly {F : Type 0} (asked : F → List PieceRead → Type 0) (old new : F) (name : List ℕ)

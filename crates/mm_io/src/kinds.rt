@@ -38,7 +38,7 @@ pub trait Files {
         ensures kept { held self.new ≡ held self.old }
         ensures cause { OnErr result (Rose (faults self.old name.now) (faults self.new name.now)) }
         ensures later { NoneFell (faults self.old) (faults self.new) }
-        ensures asks { Adds asked self.old self.new (piece_read name.now offset result ∷ []) };
+        ensures asks { Adds asked self.old self.new (piece_read name.now offset (length buf.old) result ∷ []) };
 }
 
 /// A place where bytes go.
