@@ -29,6 +29,7 @@ StaysIdle links s item = IdleStep s (net_step links s item)
 abbrev pub IsFull : Memory → ℕ → Word → Type 0
 IsFull m w word = cell_at m w ≡ Some (record { word = word; full = true })
 
+-- a word has an empty cell that holds this
 abbrev pub IsEmpty : Memory → ℕ → Word → Type 0
 IsEmpty m w word = cell_at m w ≡ Some (record { word = word; full = false })
 

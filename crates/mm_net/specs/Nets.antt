@@ -49,7 +49,7 @@ with_node s n state = record s { nodes = slice_set s.nodes n state }
 abbrev pub with_both : NetState → ℕ → State → ℕ → Carried → NetState
 with_both s n state l carried = record { nodes = slice_set s.nodes n state; links = slice_set s.links l carried }
 
--- what an item leaves, what comes of it, and what it asks of which node's memory
+-- the step of an item: the net after it, what comes of it, and what it asks of the memory of which node
 pub record NetStep : Type 0 where
   pub net : NetState
   pub tick : NetTick

@@ -24,10 +24,10 @@ pub fn links_carry_integers()
     ensures { LinksCarryIntegers }
 {}
 
-/// Take two nets with the same links, whose images agree on some groups and have equal cells at the ends of these
-/// groups' links, and in both of which the groups stand apart. After any two lists with the same items of the groups,
-/// the slots, queues and outputs of the groups are the same in both, and so are the cells at the words that they can
-/// touch, and what their links sent and what arrived.
+/// Two nets have the same links, their images agree on some groups and have equal cells at the ends of these groups'
+/// links, and in both the groups stand apart. After any two lists with the same items of the groups, the slots, queues
+/// and outputs of the groups are the same in both nets, and so are the cells at the words that the groups can touch,
+/// the integers that their links sent, and those that arrived.
 pub fn net_worlds()
     ensures { NetWorlds }
 {}
