@@ -74,7 +74,7 @@ is_address a = nat_lt a (2 ^ 54)
 abbrev pub is_word : ℕ → Bool
 is_word a = is_address a && (a % 8 == 0)
 
--- 1 to 64 words from this one on, none of them past the address space
+-- 1 to 64 words from this address on, none of them past the address space
 abbrev pub are_words : ℕ → ℕ → Bool
 are_words a n = is_word a && nat_le 1 n && nat_le n 64 && nat_le (a + 8 * n) (2 ^ 54)
 

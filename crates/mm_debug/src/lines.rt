@@ -8,7 +8,7 @@ use crate::session::Go;
 use mm_io::Sink;
 use mm_text::Gather;
 
-/// Carries out lines, and replies to each.
+/// A handler of lines, which carries them out and replies to each.
 pub trait LineHandler {
     ghost use Rattle.std.specs.Prelude.{List, ℕ};
     ghost use Rattle.mm_debug.specs.Dialogues.{GathersSome};

@@ -24,10 +24,10 @@ pub fn links_carry_integers()
     ensures { LinksCarryIntegers }
 {}
 
-/// Two nets have the same links, their images agree on some groups and have equal cells at the ends of these groups'
-/// links, and in both the groups stand apart. After any two lists with the same items of the groups, the slots, queues
-/// and outputs of the groups are the same in both nets, and so are the cells at the words that the groups can touch,
-/// the integers that their links sent, and those that arrived.
+/// If two nets have the same links, their images agree on some groups and have equal cells at the ends of these groups'
+/// links, and in both the groups stand apart, then after any two lists with the same items of the groups, the slots,
+/// queues and outputs of the groups are the same in both nets, and so are the cells at the words that the groups can
+/// touch, the integers that their links sent, and those that arrived.
 pub fn net_worlds()
     ensures { NetWorlds }
 {}
