@@ -11,7 +11,7 @@
 //! | `break S A`, S 0 to 63, A below 2^54 | `break set`, or `break full` if 64 others are kept |
 //! | `watch A`, A a multiple of 8 below 2^54 | `watch set`, or `watch full` if 64 others are kept |
 //! | `regs S`, S 0 to 63 | the lines of the slot, or `no slot` |
-//! | `mem A N`, A a multiple of 8, N 1 to 64, | N lines: `cell A WORD full` or `cell A WORD empty`,
+//! | `mem A N`, A a multiple of 8, N 1 to 64, | N lines: `cell A WORD full` or `cell A WORD empty`, |
 //! | A + 8N at most 2^54 | or `none A` if no mapped page has the word |
 //! | `quit` | `bye` |
 //! | anything else | `bad command` |

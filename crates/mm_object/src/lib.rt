@@ -17,11 +17,11 @@
 //! | 2 | count of relocations |
 //! | 2 | count of threads, 0 to 16 |
 //! | 2 | spare frames, 0 to 256 |
-//! | a segment | length of the name (1), name, logarithm of the length in bytes, 3 to 20 (1), count of words (4),
+//! | a segment | length of the name (1), name, logarithm of the length in bytes, 3 to 20 (1), count of words (4), |
 //! | | which words are full (a bit each), the words (8 each) |
 //! | an external | length of the name (1), name |
 //! | 13 a relocation | segment (2), word (4), permission (1), target (2), addend (4) |
-//! | 140 a thread | slot, group, handler or 255, and permission, a byte each; target (2), addend (4);
+//! | 140 a thread | slot, group, handler or 255, and permission, a byte each; target (2), addend (4); |
 //! | | which registers become pointers (2); 16 registers (128) |
 //!
 //! A register that becomes a pointer has permission (1), zero (1), target (2) and addend (4); any other is an integer.
