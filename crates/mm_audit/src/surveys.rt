@@ -1,4 +1,5 @@
-// What groups can reach, in one list for all of them.
+//! A finished audit with one list of segments for all groups.
+
 ghost use Rattle.std.specs.Prelude.{◌<◌, ◌↔◌, IfOk, IsTrue};
 ghost use Rattle.mm_word.specs.Perm.{can_load, can_store};
 ghost use Rattle.mm_model.specs.Image.{Image as ImageValue};
@@ -72,8 +73,8 @@ impl Survey {
         Segments::new(&self.spans, Access::Write, 1u64 << group)
     }
 
-    /// Whether groups stand apart from all others: the least slot whose handler is on the other side, else the least
-    /// group outside that can write a word that one inside can touch, with the least such word.
+    /// Whether groups stand apart from all others. If not, the answer is the least slot with a handler on the other
+    /// side; or else the least group outside that can write a word that one inside can touch, with the least such word.
     pub fn apart(&self, groups: &[u8]) -> Apart
         ensures { (i : ImageValue) (e : EntriesValue)
             → Surveys i e self.now
