@@ -1,4 +1,5 @@
-// What a group can do with the words of a segment.
+//! What a group can do with the words of a segment.
+
 ghost use Rattle.std.specs.Prelude.{◌≡◌};
 ghost use Rattle.mm_audit_text.specs.Rights.{right_text};
 
@@ -9,7 +10,7 @@ pub enum Right {
     Write,
 }
 
-/// The word of a right.
+/// The name of a right.
 pub fn right_name(right: Right) -> &'static str
     ensures { result.now ≡ right_text right }
 {
