@@ -42,12 +42,12 @@ pub record NotesWord (groups word : ℕ) (old new : Meets) : Type 0 where
   pub keeps : (g : ℕ) → g < 64 → bit_at old.groups g ≡ 1 → slice_index new.words g ≡ slice_index old.words g
   pub notes : (g : ℕ) → g < 64 → bit_at groups g ≡ 1 → (bit_at old.groups g ≡ 1 → ⊥) → slice_index new.words g ≡ word
 
--- a row for each group
+-- the table has a row for each group
 pub record AreRows (table : List Meets) : Type 0 where
   pub len : length table ≡ 64
   pub rows : (h : ℕ) → h < 64 → length (row_at table h).words ≡ 64
 
--- a count of rows without a word
+-- the table has `top` rows, all without a word
 pub record AreNoRows (top : ℕ) (table : List Meets) : Type 0 where
   pub len : length table ≡ top
   pub rows : (h : ℕ) → h < top → row_at table h ≡ no_meets

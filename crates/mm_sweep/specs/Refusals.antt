@@ -24,7 +24,7 @@ pub record FirstHeld (range : ℕ × ℕ) (i : Image) (n : ℕ) : Type 0 where
 abbrev pub NoneHeld : ℕ × ℕ → Image → Type 0
 NoneHeld range i = (n : ℕ) → ¬ IsHeld range i n
 
--- the least group that is privileged, whatever is entered
+-- the least group that is privileged if anything may be entered
 pub record FirstPrivileged (i : Image) (g : ℕ) : Type 0 where
   pub privileged : Privileged i All g
   pub least : (h : ℕ) → Privileged i All h → g ≤ h

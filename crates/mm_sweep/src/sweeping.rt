@@ -20,8 +20,8 @@ use std::alloc::Global;
 pub enum SweepError {
     /// The segment of the instruction pointer of `slot`, the least such slot, meets the range.
     Held { slot: u8 },
-    /// No instruction pointer's segment meets the range, but `group`, the least such group, is privileged under some
-    /// entries. Privileged code can make any pointer.
+    /// No instruction pointer's segment meets the range, but `group`, the least such group, is privileged if anything
+    /// may be entered. Privileged code can make any pointer.
     Privileged { group: u8 },
     NoMemory,
 }
