@@ -9,12 +9,12 @@ pub record IsBases (keys : List CanonicalPtr) (bases : List ℕ) : Type 0 where
   pub len : length bases ≡ length keys
   pub at : (k : ℕ) → k < length keys → slice_index bases k ≡ (key_at keys k).base
 
--- and its end
+-- the end of each key's segment
 pub record IsEnds (keys : List CanonicalPtr) (ends : List ℕ) : Type 0 where
   pub len : length ends ≡ length keys
   pub at : (k : ℕ) → k < length keys → slice_index ends k ≡ (key_at keys k).base + 2 ^ (54 - (key_at keys k).narrow)
 
--- the parent of each is the nearest whose segment holds its own
+-- the parent of each key is the nearest one whose segment holds its own
 pub record HasForest (keys : List CanonicalPtr) (parents : List ℕ) : Type 0 where
   pub bases : List ℕ
   pub logs : List ℕ

@@ -14,7 +14,7 @@ abbrev pub found_at : ℕ → Option CanonicalPtr → List Found
 found_at w None = []
 found_at w (Some k) = record { word = w; key = k } ∷ []
 
--- in cells, from a word on
+-- the pointers in cells, from an address on
 abbrev pub cell_keys : ℕ → List Cell → List Found
 cell_keys w [] = []
 cell_keys w (c ∷ cells) = found_at w (word_key c.word) ++ cell_keys (w + 8) cells
@@ -26,7 +26,7 @@ abbrev pub seed_at : ℕ → Option CanonicalPtr → List Seed
 seed_at g None = []
 seed_at g (Some k) = record { group = g; key = k } ∷ []
 
--- of words that a group has
+-- the seeds of words that a group has
 abbrev pub word_seeds : ℕ → List Word → List Seed
 word_seeds g [] = []
 word_seeds g (w ∷ ws) = seed_at g (word_key w) ++ word_seeds g ws

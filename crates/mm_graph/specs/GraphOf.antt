@@ -1,4 +1,4 @@
--- A graph of nodes that stands for an image: each node is a pointer.
+-- A graph that stands for an image: each node is a pointer.
 use Rattle.std.specs.Prelude.{◌≡◌, ℕ, ◌<◌, ◌≤◌, ◌^◌, ◌⊎◌, true, List, length, slice_index, Contains, Some}
 use Rattle.std.specs.Int.{bit_at}
 use Rattle.mm_word.specs.declared.perm.Perm.TheVariants.{Xp, Eu, Ep}
@@ -15,14 +15,14 @@ use Rattle.mm_flow.specs.Flow.{Has}
 use Rattle.mm_flow.specs.Sharing.{Up}
 use Rattle.mm_graph.specs.Summary.{IsPowerless}
 
--- a node that the group starts with has the pointer below it
+-- a node where a mark of the group starts has the pointer below it
 pub record Started (node : ℕ → Pointer) (start : List ℕ) (g : ℕ) (q : Pointer) : Type 0 where
   pub at : ℕ
   pub small : at < length start
   pub below : IsBelow q (node at)
   pub marked : Has start at g
 
--- a cell of the image that the first pointer loads holds one that the second is below
+-- the first pointer loads a cell of the image that holds a pointer that the second is below
 pub record CellOf (i : Image) (p r : Pointer) : Type 0 where
   pub word : ℕ
   pub cell : Cell
@@ -40,7 +40,7 @@ pub record TargetOf (node : ℕ → Pointer) (n : Edges) (a : ℕ) (size : ℕ) 
   pub small : slice_index n.targets at < size
   pub below : IsBelow q (node (slice_index n.targets at))
 
--- the group may enter by the first pointer, and gets one that the second is below
+-- the group may enter by the first pointer, and gets a pointer that the second is below
 pub record EntryOf (e : Entries) (g : ℕ) (p r : Pointer) : Type 0 where
   pub may : MayEnter e g p
   pub perm : (p.perm ≡ Eu) ⊎ (p.perm ≡ Ep)
@@ -53,7 +53,7 @@ pub record CommonWord (p r : Pointer) : Type 0 where
   pub stores : StoresAt p word
   pub loads : LoadsAt r word
 
--- a node that both are, or are above
+-- a node that is at or above both nodes
 pub record Meet (n : SharingEdges) (size a b : ℕ) : Type 0 where
   pub at : ℕ
   pub small : at < size
@@ -65,7 +65,7 @@ pub record LoadedWord (r : Pointer) : Type 0 where
   pub small : word < 2 ^ 54
   pub loads : LoadsAt r word
 
--- where a group enters by the node, its entry has the pointer below it
+-- if a group enters by the node, the node of its entry has the pointer below it
 pub record Entered (node : ℕ → Pointer) (n : Edges) (a g size : ℕ) (q : Pointer) : Type 0 where
   pub kept : bit_at (enters_at n a) g ≡ 1
   pub small : entry_at n a < size
@@ -91,7 +91,7 @@ pub record IsGraphOf (i : Image) (e : Entries) (node : ℕ → Pointer) (n : Edg
   pub serves : (g h : ℕ) → Serves i g h → Has t.links h g
   pub served : (g h : ℕ) → Has t.links h g → Serves i g h
 
--- the group has a node for the pointer
+-- the group marks a node whose pointer this is
 pub record Marked (node : ℕ → Pointer) (marks : List ℕ) (g : ℕ) (p : Pointer) : Type 0 where
   pub at : ℕ
   pub small : at < length marks

@@ -30,14 +30,14 @@ key_cmp x y = ordering_then (nat_cmp x.base y.base) (ordering_then (nat_cmp x.na
 abbrev pub key_eq : CanonicalPtr → CanonicalPtr → Bool
 key_eq x y = (x.base == y.base) && ((x.narrow == y.narrow) && (x.bits == y.bits))
 
--- what stands past the end of a list of keys
+-- the key past the end of a list of keys
 abbrev pub no_key : CanonicalPtr
 no_key = record { base = 0; narrow = 0; bits = 0 }
 
 abbrev pub key_at : List CanonicalPtr → ℕ → CanonicalPtr
 key_at keys k = slice_index_or keys k no_key
 
--- keys that ascend
+-- the keys ascend
 pub record IsRising (keys : List CanonicalPtr) : Type 0 where
   pub rise : (i j : ℕ) → i < j → j < length keys → key_cmp (key_at keys i) (key_at keys j) ≡ Less
 
@@ -51,7 +51,7 @@ is_powerless_at _ log = nat_lt log 3
 abbrev pub is_powerless : Pointer → Bool
 is_powerless p = is_powerless_at p.perm p.log
 
--- the pointer that stands for all that can be made of it: at its segment's base, where it can be moved
+-- the pointer that stands for all that can be made of this one: at its segment's base if it can be moved
 abbrev pub standing_for : Pointer → Pointer
 standing_for p = if can_move p.perm then record p { addr = base_of p } else p
 
@@ -62,11 +62,11 @@ abbrev pub word_key : Word → Option CanonicalPtr
 word_key (Int n) = None
 word_key (Ptr p) = standing_key p
 
--- the key of what an entry by the pointer gives
+-- the key of the pointer that an entry by this one gives
 abbrev pub entry_key : CanonicalPtr → Option CanonicalPtr
 entry_key k = option_and_then standing_key (enter_result (pointer_at k))
 
--- the pointer loads at least a word
+-- the pointer loads at least one word
 abbrev pub loads_words : Pointer → Bool
 loads_words p = can_load p.perm && nat_le 3 p.log
 

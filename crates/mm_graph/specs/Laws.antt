@@ -11,7 +11,7 @@ use Rattle.mm_model.specs.Groups.{in_mask}
 use Rattle.mm_model.specs.Reach.{Entries}
 use Rattle.mm_graph.specs.Summary.{IsClosed, IsSound, IsExact}
 
--- a summary of granted pointers that no rule adds to is exact
+-- a summary of granted pointers to which no rule adds is exact
 abbrev pub SummariesDecide : Type 0
 SummariesDecide = (i : Image) (e : Entries) (privileged : ℕ → Bool) (known : ℕ → List Pointer)
     → IsSound i e privileged (λ g p. Contains (known g) p) → IsClosed i e privileged (λ g p. Contains (known g) p) → IsExact i e privileged (λ g p. Contains (known g) p)

@@ -9,7 +9,7 @@ use Rattle.mm_graph.specs.Nodes.{IsKeysOf, IsNodes, IsTargets, IsMarks, IsLinks}
 use Rattle.mm_graph.specs.Masks.{IsEntryMasks}
 use Rattle.mm_graph.specs.Forest.{HasForest}
 
--- the nodes of keys, where these entries may be made
+-- the nodes of keys, if these entries may be made
 pub record HasNodes (i : Image) (e : Entries) (keys : List CanonicalPtr) (nodes : List Node) : Type 0 where
   pub masks : List ℕ
   pub is_masks : IsEntryMasks e keys masks

@@ -1,4 +1,4 @@
--- What a summary says of each group's pointers, and what makes it exact.
+-- Summaries of each group's pointers, and when they are exact.
 use Rattle.std.specs.Prelude.{◌≡◌, ◌≢◌, ℕ, ◌<◌, ◌⊎◌, ◌↔◌, Bool, IsTrue, Contains, Some}
 use Rattle.mm_word.specs.declared.perm.Perm.TheVariants.{Xp, Eu, Ep, Key}
 use Rattle.mm_word.specs.declared.word.Word.TheVariants.{Ptr}
@@ -9,7 +9,7 @@ use Rattle.mm_model.specs.Slot.{Slot}
 use Rattle.mm_model.specs.Image.{Image}
 use Rattle.mm_model.specs.Reach.{Entries, Grants, MayEnter, Serves, LoadsAt, StoresAt, CanTouch, CanWrite, Privileged}
 
--- the pointer permits nothing, and neither does what is made of it: a key, or one whose segment is shorter than a word
+-- the pointer permits nothing, and nothing made of it does: a key, or a pointer to a segment shorter than a word
 abbrev pub IsPowerless : Pointer → Type 0
 IsPowerless q = (q.perm ≡ CanonicalPtr) ⊎ ((q.log < 3) × (q.perm ≢ Xp) × (q.perm ≢ Ep))
 
@@ -19,11 +19,11 @@ pub record SomeAbove (known : Pointer → Type 0) (q : Pointer) : Type 0 where
   pub knows : known by
   pub below : IsBelow q by
 
--- what the summary says that the group is granted
+-- by the summary the group is granted the pointer
 abbrev pub Holds : (ℕ → Bool) → (ℕ → Pointer → Type 0) → ℕ → Pointer → Type 0
 Holds privileged known g q = IsTrue (privileged g) ⊎ (IsPowerless q ⊎ SomeAbove (known g) q)
 
--- what the summary says of the second group it says of the first
+-- the first group holds all that the summary says of the second
 pub record Includes (privileged : ℕ → Bool) (known : ℕ → Pointer → Type 0) (g h : ℕ) : Type 0 where
   pub rights : IsTrue (privileged h) → IsTrue (privileged g)
   pub pointers : (p : Pointer) → known h p → Holds privileged known g p
@@ -39,7 +39,7 @@ pub record IsClosed (i : Image) (e : Entries) (privileged : ℕ → Bool) (known
   pub enters : (g : ℕ) (p q : Pointer) → known g p → MayEnter e g p → (p.perm ≡ Eu) ⊎ (p.perm ≡ Ep) → enter_result p ≡ Some q → Holds privileged known g q
   pub makes : (g : ℕ) (p : Pointer) → known g p → p.perm ≡ Xp → IsTrue (privileged g)
 
--- what the summary says is granted
+-- all that the summary says is granted
 pub record IsSound (i : Image) (e : Entries) (privileged : ℕ → Bool) (known : ℕ → Pointer → Type 0) : Type 0 where
   pub rights : (g : ℕ) → IsTrue (privileged g) → Privileged i e g
   pub pointers : (g : ℕ) (p : Pointer) → known g p → Grants i e g p
@@ -56,7 +56,7 @@ pub record SomeStores (known : Pointer → Type 0) (w : ℕ) : Type 0 where
   pub knows : known by
   pub stores : StoresAt by w
 
--- the summary decides all that is asked
+-- the summary is exact: what a group is granted, touches and writes is what the summary says
 pub record IsExact (i : Image) (e : Entries) (privileged : ℕ → Bool) (known : ℕ → Pointer → Type 0) : Type 0 where
   pub rights : (g : ℕ) → IsTrue (privileged g) ↔ Privileged i e g
   pub known_granted : (g : ℕ) (p : Pointer) → known g p → Grants i e g p

@@ -1,16 +1,18 @@
+//! The keys of pointers, by which nodes are ordered.
+
 ghost use Rattle.std.specs.Prelude.{◌≡◌, IfSome};
 ghost use Rattle.mm_graph.specs.Key.{key_of, pointer_at, IsKey, is_powerless, standing_for, standing_key, word_key, entry_key};
 
 use mm_word::{GuardedPtr, Perm, Word, enter, leab};
 
-/// A pointer in the order of the nodes: by the base of its segment, the longer segment first.
+/// A pointer in the order of the nodes: by the base of its segment, the longer segment first. It is the key of a node.
 #[derive(Clone, Copy, PartialEq, Eq, PartialOrd, Ord, Debug)]
 pub struct CanonicalPtr {
     /// The least address of the segment.
     pub base: u64,
-    /// How much shorter than the whole memory the segment is, as logarithms.
+    /// 54 less the base-2 logarithm of the segment's length in bytes.
     pub narrow: u8,
-    /// The pointer's bits.
+    /// The bits of the pointer.
     pub bits: u64,
 }
 
@@ -28,7 +30,7 @@ impl CanonicalPtr {
         }
     }
 
-    /// The pointer.
+    /// The pointer of a key.
     pub fn pointer(self) -> GuardedPtr
         requires { IsKey self }
         ensures { result ≡ pointer_at self }
@@ -39,7 +41,7 @@ impl CanonicalPtr {
         }
     }
 
-    /// The key of what an entry by the pointer gives.
+    /// The key of the pointer that an entry by this one gives; `None` if there is none or it is powerless.
     pub fn entry(self) -> Option<CanonicalPtr>
         requires { IsKey self }
         ensures value { result ≡ entry_key self }
@@ -52,7 +54,7 @@ impl CanonicalPtr {
     }
 }
 
-/// Whether a pointer permits nothing, and nothing that can be made of it does.
+/// Whether a pointer permits nothing, and nothing can be made of it that permits something.
 fn is_powerless(p: GuardedPtr) -> bool
     ensures { result ≡ is_powerless p }
 {
@@ -63,7 +65,7 @@ fn is_powerless(p: GuardedPtr) -> bool
     }
 }
 
-/// The pointer at its segment's base, where it can be moved.
+/// The pointer at its segment's base, if it can be moved; otherwise the pointer itself.
 fn standing_for(p: GuardedPtr) -> GuardedPtr
     ensures { result ≡ standing_for p }
 {
@@ -73,7 +75,7 @@ fn standing_for(p: GuardedPtr) -> GuardedPtr
     }
 }
 
-/// The key of the pointer that stands for all that can be made of this one; none where that permits nothing.
+/// The key of the pointer that stands for all that can be made of this one; `None` if that permits nothing.
 pub fn standing(p: GuardedPtr) -> Option<CanonicalPtr>
     ensures value { result ≡ standing_key p }
     ensures key { IfSome result IsKey }
@@ -85,7 +87,7 @@ pub fn standing(p: GuardedPtr) -> Option<CanonicalPtr>
     }
 }
 
-/// The same of a word.
+/// The key of the pointer that stands for all that can be made of a word; `None` for an integer or a powerless pointer.
 pub fn standing_in(word: Word) -> Option<CanonicalPtr>
     ensures value { result ≡ word_key word }
     ensures key { IfSome result IsKey }

@@ -1,4 +1,5 @@
-// Who may enter where.
+//! The groups that may enter by each pointer.
+
 ghost use Rattle.std.specs.Prelude.{◌≡◌, All as Each, IfOk};
 ghost use Rattle.std.specs.List.{AllZip};
 ghost use Rattle.mm_graph.specs.Key.{IsKey, IsRising};
@@ -10,7 +11,7 @@ use crate::seed::Seed;
 use mm_word::GuardedPtr;
 use std::alloc::{AllocError, Global};
 
-/// What was entered: anything, or these enter pointers, each by this group.
+/// The entries that may be made: any, or one by each of these enter pointers, made by the group that stands with it.
 #[derive(Drop)]
 pub enum Entries {
     All,
@@ -32,7 +33,7 @@ fn seeds_of(alloc: Global, list: &[(u8, GuardedPtr)]) -> Result<Vec<Seed>, Alloc
     Ok(seeds)
 }
 
-/// For each key the groups that may enter by its pointer.
+/// For each key the mask of the groups that may enter by its pointer.
 pub fn entry_masks(
     alloc: Global,
     entries: &Entries,

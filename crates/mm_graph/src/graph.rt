@@ -1,4 +1,5 @@
-// The graph of an image, and its marks.
+//! The graph of an image, and its marks.
+
 ghost use Rattle.std.specs.Prelude.{◌≡◌, IfOk};
 ghost use Rattle.mm_graph.specs.Found.{page_keys, seeds_of};
 ghost use Rattle.mm_graph.specs.Nodes.{IsKeysOf, IsTargets};
@@ -21,13 +22,13 @@ use mm_flow::{Node, saturate};
 use mm_image::Image;
 use std::alloc::{AllocError, Global};
 
-/// The nodes of an image's graph, and which groups reach each.
+/// The nodes of an image's graph, and the groups that reach each of them.
 #[derive(Drop)]
 pub struct Marks {
     /// The pointers of the nodes, in their order.
     pub keys: Vec<CanonicalPtr>,
     pub nodes: Vec<Node>,
-    /// The groups that each node's pointer is granted to.
+    /// For each node the mask of the groups that are granted its pointer.
     pub marks: Vec<u64>,
 }
 
@@ -42,14 +43,14 @@ struct Graph {
     start: Vec<u64>,
 }
 
-/// Where an image holds pointers: in its cells, and in its slots.
+/// The pointers that an image holds: in its cells, and in its slots.
 #[derive(Drop)]
 struct Held {
     found: Vec<Found>,
     seeds: Vec<Seed>,
 }
 
-/// The nodes of the keys of an image.
+/// The nodes for the keys of an image.
 fn nodes_in(
     alloc: Global,
     img: &Image,
@@ -67,7 +68,7 @@ fn nodes_in(
     Ok(nodes)
 }
 
-/// The parts of the graph for these keys.
+/// The graph for these keys.
 fn graph_of(
     alloc: Global,
     img: &Image,
@@ -110,7 +111,7 @@ fn built(alloc: Global, img: &Image, entries: &Entries) -> Result<Graph, AllocEr
     Ok(graph)
 }
 
-/// What each group is granted.
+/// The marks of an image's graph: what each group is granted, if these entries may be made.
 pub fn marked(alloc: Global, img: &Image, entries: &Entries) -> Result<Marks, AllocError>
     requires { IsImage img.now }
     ensures { IfOk result (λ m. IsMarked img.now (meaning entries.now) m.keys.items m.nodes.items m.marks.items) }

@@ -1,4 +1,5 @@
-// The keys of a graph.
+//! The keys of a graph.
+
 ghost use Rattle.std.specs.Prelude.{◌≡◌, ◌++◌, ◌↔◌, All, Contains, OnOk, IfOk, map};
 ghost use Rattle.std.specs.List.{filter_map};
 ghost use Rattle.std.specs.Option.{option_to_list};
@@ -18,7 +19,7 @@ use crate::seed::Seed;
 use crate::targets::targets_of;
 use std::alloc::{AllocError, Global};
 
-/// Adds the keys of what was found.
+/// Adds the keys of pointers in cells.
 fn add_found(keys: &mut Vec<CanonicalPtr>, found: &[Found]) -> Result<(), AllocError>
     ensures { OnOk result (keys.new.items ≡ keys.old.items ++ map (λ (f : FoundType). f.key) found.now) }
 {
@@ -38,7 +39,7 @@ fn add_seeds(keys: &mut Vec<CanonicalPtr>, seeds: &[Seed]) -> Result<(), AllocEr
     Ok(())
 }
 
-/// Adds the key that an entry by a pointer gives.
+/// Adds the key of the pointer that an entry gives, if there is one.
 fn add_entry(keys: &mut Vec<CanonicalPtr>, key: CanonicalPtr) -> Result<(), AllocError>
     requires { IsKey key }
     ensures { OnOk result (keys.new.items ≡ keys.old.items ++ option_to_list (entry_key key)) }
@@ -49,7 +50,7 @@ fn add_entry(keys: &mut Vec<CanonicalPtr>, key: CanonicalPtr) -> Result<(), Allo
     Ok(())
 }
 
-/// Adds the keys that entries give.
+/// Adds the keys of the pointers that entries by these give.
 fn add_entries(keys: &mut Vec<CanonicalPtr>) -> Result<(), AllocError>
     requires { All IsKey keys.old.items }
     ensures { OnOk result (keys.new.items ≡ keys.old.items ++ filter_map entry_key keys.old.items) }
@@ -62,7 +63,7 @@ fn add_entries(keys: &mut Vec<CanonicalPtr>) -> Result<(), AllocError>
     Ok(())
 }
 
-/// The keys of what was found and of seeds, and of what entries by them give, those of what was found first.
+/// The keys of pointers in cells and of seeds, and of what entries by them give; those of pointers in cells come first.
 fn all_keys(alloc: Global, found: &[Found], seeds: &[Seed]) -> Result<Vec<CanonicalPtr>, AllocError>
     requires found { All (λ f. IsKey f.key) found.now }
     requires seeds { All (λ s. IsKey s.key) seeds.now }
@@ -75,7 +76,7 @@ fn all_keys(alloc: Global, found: &[Found], seeds: &[Seed]) -> Result<Vec<Canoni
     Ok(keys)
 }
 
-/// All these keys with their places.
+/// All these keys with their indices, in the order of the keys.
 fn ordered(alloc: Global, found: &[Found], seeds: &[Seed]) -> Result<Vec<Placed>, AllocError>
     requires found { All (λ f. IsKey f.key) found.now }
     requires seeds { All (λ s. IsKey s.key) seeds.now }
@@ -86,7 +87,7 @@ fn ordered(alloc: Global, found: &[Found], seeds: &[Seed]) -> Result<Vec<Placed>
     Ok(order)
 }
 
-/// The keys of a list with their places, in their order, each once.
+/// The keys of a list of keys with indices, in their order, each once.
 fn keys_of(alloc: Global, placed: &[Placed]) -> Result<Vec<CanonicalPtr>, AllocError>
     ensures rising { IfOk result (λ keys. IsRising keys.items) }
     ensures same { IfOk result (λ keys. (x : KeyType) → Contains keys.items x ↔ Contains (map (λ (p : PlacedType). p.key) placed.now) x) }
@@ -96,8 +97,8 @@ fn keys_of(alloc: Global, placed: &[Placed]) -> Result<Vec<CanonicalPtr>, AllocE
     Ok(keys)
 }
 
-/// The keys of what was found and of seeds, and of what entries by them give, in their order; and the places of what was found
-/// among them.
+/// The keys of pointers in cells and of seeds, and of what entries by them give, in their order, each once; and the
+/// index among them of the key of each pointer in a cell.
 pub fn keys_and_targets(
     alloc: Global,
     found: &[Found],

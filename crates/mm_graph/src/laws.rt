@@ -1,11 +1,11 @@
 //! What makes a summary of each group's pointers exact.
 //!
-//! A summary says which groups are privileged, and which pointers each group knows. Where all that it says is granted, and
-//! no rule of reach adds to it, it tells exactly what is granted: all that is below a known pointer, and everything to a
-//! privileged group. The marks of a graph that stands for an image are such a summary.
+//! A summary says which groups are privileged, and which pointers each group knows. If all that it says is granted, and
+//! no rule of reach adds to it, it is exact: a group is granted just what is below a pointer that it knows, and
+//! everything if it is privileged. The marks of a graph that stands for an image are such a summary.
 ghost use Rattle.mm_graph.specs.Laws.{SummariesDecide, GraphsDecide};
 
-/// A summary of granted pointers that no rule adds to is exact.
+/// A summary of granted pointers to which no rule adds is exact.
 pub fn summaries_decide()
     ensures { SummariesDecide }
 {}

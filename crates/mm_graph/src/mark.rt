@@ -1,4 +1,5 @@
-// Marks of groups at keys.
+//! Marks of groups at keys.
+
 ghost use Rattle.std.specs.Prelude.{◌≡◌, [], IfOk, length};
 ghost use Rattle.mm_graph.specs.Key.{IsRising};
 ghost use Rattle.mm_graph.specs.Nodes.{IsMarks};
@@ -9,7 +10,7 @@ use crate::order::find;
 use crate::seed::Seed;
 use std::alloc::{AllocError, Global};
 
-/// Marks the key of a seed, if it is there.
+/// Marks the key of a seed for its group, if the key is there.
 fn mark(marks: &mut [u64], keys: &[CanonicalPtr], seed: Seed)
     requires rising { IsRising keys.now }
     requires len { length marks.old ≡ length keys.now }
@@ -23,7 +24,7 @@ fn mark(marks: &mut [u64], keys: &[CanonicalPtr], seed: Seed)
     }
 }
 
-/// Marks the keys of seeds.
+/// Marks the keys of seeds for their groups.
 fn mark_all(marks: &mut [u64], keys: &[CanonicalPtr], seeds: &[Seed])
     requires rising { IsRising keys.now }
     requires none { IsMarks keys.now [] marks.old }
@@ -34,7 +35,7 @@ fn mark_all(marks: &mut [u64], keys: &[CanonicalPtr], seeds: &[Seed])
     }
 }
 
-/// The groups of the seeds at each key.
+/// For each key the mask of the groups of its seeds.
 pub fn marks_of(
     alloc: Global,
     keys: &[CanonicalPtr],

@@ -1,4 +1,5 @@
-// Keys in their order, each once.
+//! Keys in their order, each once.
+
 ghost use Rattle.std.specs.Prelude.{◌≡◌, ◌<◌, ◌↔◌, length, Contains, MatchOption};
 ghost use Rattle.mm_graph.specs.declared.canonical_ptr.CanonicalPtr.{CanonicalPtr as KeyType};
 ghost use Rattle.mm_graph.specs.Key.{IsRising, key_at};
@@ -14,7 +15,7 @@ pub fn put_in_order(keys: &mut Vec<CanonicalPtr>)
     keys.dedup();
 }
 
-/// Where the key stands, if it is there.
+/// The index of a key, if it is there.
 pub fn find(keys: &[CanonicalPtr], key: CanonicalPtr) -> Option<usize>
     requires { IsRising keys.now }
     ensures { MatchOption result (¬ Contains keys.now key) (λ k. (k < length keys.now) × (key_at keys.now k ≡ key)) }
@@ -25,7 +26,7 @@ pub fn find(keys: &[CanonicalPtr], key: CanonicalPtr) -> Option<usize>
     }
 }
 
-/// Where a key stands that is there.
+/// The index of a key that is there.
 pub fn place(keys: &[CanonicalPtr], key: CanonicalPtr) -> usize
     requires rising { IsRising keys.now }
     requires there { Contains keys.now key }
@@ -38,7 +39,7 @@ pub fn place(keys: &[CanonicalPtr], key: CanonicalPtr) -> usize
     }
 }
 
-/// The same, where it is likely at this place or the next one.
+/// The index of a key that is there. It is found quickly if it is `at` or the next one.
 pub fn near(keys: &[CanonicalPtr], at: usize, key: CanonicalPtr) -> usize
     requires rising { IsRising keys.now }
     requires there { Contains keys.now key }

@@ -1,4 +1,5 @@
-// The nodes of what was found.
+//! The nodes of the pointers in cells.
+
 ghost use Rattle.std.specs.Prelude.{◌≡◌, IfOk, Contains, length};
 ghost use Rattle.mm_graph.specs.declared.placed.Placed.{Placed as PlacedType};
 ghost use Rattle.mm_graph.specs.Key.{IsRising};
@@ -9,7 +10,7 @@ use crate::order::near;
 use crate::placed::Placed;
 use std::alloc::{AllocError, Global};
 
-/// Sets for each of the first keys where it stands among others.
+/// Sets for each of the first keys of a list its index among `keys`.
 fn fill_targets(targets: &mut [usize], keys: &[CanonicalPtr], placed: &[Placed])
     requires rising { IsRising keys.now }
     requires there { (p : PlacedType) → Contains placed.now p → Contains keys.now p.key }
@@ -26,7 +27,7 @@ fn fill_targets(targets: &mut [usize], keys: &[CanonicalPtr], placed: &[Placed])
     }
 }
 
-/// Where the first keys stand among others.
+/// The indices among `keys` of the first `count` keys of a list.
 pub fn targets_of(
     alloc: Global,
     keys: &[CanonicalPtr],
