@@ -9,7 +9,8 @@ use Rattle.mm_model.specs.Slot.{Slot}
 use Rattle.mm_model.specs.Image.{Image}
 use Rattle.mm_model.specs.Reach.{Entries, Grants, MayEnter, Serves, LoadsAt, StoresAt, CanTouch, CanWrite, Privileged}
 
--- the pointer permits nothing, and nothing made of it does: a key, or a pointer to a segment shorter than a word
+-- the pointer permits nothing, and nothing made of it does: a key, or a pointer to a segment shorter than a word that
+-- is neither execute-privileged nor enter-privileged
 abbrev pub IsPowerless : Pointer → Type 0
 IsPowerless q = (q.perm ≡ CanonicalPtr) ⊎ ((q.log < 3) × (q.perm ≢ Xp) × (q.perm ≢ Ep))
 

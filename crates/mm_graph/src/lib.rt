@@ -7,7 +7,7 @@
 //! | rule | part | made in |
 //! |---|---|---|
 //! | a slot of the group has it in a register, or runs by it | seeds: where marks start | `seed`, `mark` |
-//! | a cell that the group can load holds it | a node's targets: the nodes of the pointers | `found`, `placed`,
+//! | a cell that the group can load holds it | a node's targets: the nodes of the pointers | `found`, `placed`, |
 //! | | in its segment | `targets`, `nodes` |
 //! | it is below one of the group's pointers | parents: the nearest node whose segment holds | `above` |
 //! | | the node's own | |
