@@ -1,10 +1,10 @@
--- A graph: nodes, each with the nodes that it leads to.
+-- A graph: nodes, each with the nodes to which it leads.
 use Rattle.std.specs.Prelude.{ℕ, Bool, false, List, slice_index_or}
 use Rattle.mm_flow.specs.declared.node.Node.{Node}
 use Rattle.mm_flow.specs.declared.node.Right.{Right}
 use Rattle.mm_flow.specs.declared.node.Right.TheVariants.{Load, Store, Make}
 
--- what stands past the end of a list of nodes
+-- the node past the end of a list
 abbrev pub no_node : Node
 no_node = record { low = 0; high = 0; entry = 0; enters = 0; loads = false; stores = false; makes = false }
 
@@ -16,13 +16,14 @@ has_right Load n = n.loads
 has_right Store n = n.stores
 has_right Make n = n.makes
 
--- node k leads to the targets at places from its low up to its high, and for the groups that it enters for to its entry
+-- node k leads to the targets at indices from its `low` up to its `high`, and to its `entry` for the groups that it
+-- enters for
 pub record Edges : Type 0 where
   pub nodes : List Node
   pub targets : List ℕ
 
--- the parent of a node is the nearest one above it, and itself or a later one where none is; by a link a group shares all
--- that it has with the groups of a mask
+-- the parent of a node is the nearest one above it, and the node itself or a later one if there is none; by a link a
+-- group shares all that it has with the groups of a mask
 pub record SharingEdges : Type 0 where
   pub nodes : List Node
   pub parents : List ℕ

@@ -1,4 +1,4 @@
--- A graph of the program as edges.
+-- The edges of the code's graph.
 use Rattle.mm_flow.specs.declared.graph.Graph.{Graph}
 use Rattle.mm_flow.specs.Edges.{Edges}
 

@@ -1,4 +1,4 @@
--- What the groups reach in a graph.
+-- All that groups reach in a graph.
 use Rattle.std.specs.Prelude.{◌≡◌, ℕ, ◌<◌, ◌≤◌, ◌⊎◌, Bool, true, List, length, slice_index}
 use Rattle.std.specs.Int.{bit_at}
 use Rattle.mm_flow.specs.declared.node.Right.TheVariants.{Load, Store, Make}
@@ -18,7 +18,7 @@ pub record HasSome (marks : List ℕ) (keep : ℕ → Bool) (g : ℕ) : Type 0 w
   pub marked : Has marks node g
   pub kept : keep node ≡ true
 
--- a sharing edge: what the first group has, the second gets
+-- a sharing edge: the second group gets all that the first has
 pub data Shares (n : SharingEdges) (marks : List ℕ) (h g : ℕ) : Type 0 where
   linked : Has n.links h g → Shares n marks h g
   shared : (m : ℕ) → m < length marks → MarkedAbove n.parents marks (right_at n.nodes Store) m h → MarkedAbove n.parents marks (right_at n.nodes Load) m g → Shares n marks h g
@@ -29,7 +29,7 @@ pub record AreSharingEdges (n : SharingEdges) (marks sharing : List ℕ) : Type 
   pub only : (h g : ℕ) → Has sharing h g → Shares n marks h g
   pub each : (h g : ℕ) → h < 64 → Shares n marks h g → Has sharing h g
 
--- the sharing edges of the nodes before one
+-- the sharing edges of the links and of the nodes before node k
 pub record SharingSoFar (links writes touches : List ℕ) (k : ℕ) (sharing : List ℕ) : Type 0 where
   pub len : length sharing ≡ 64
   pub only : (h g : ℕ) → Has sharing h g → Has links h g ⊎ ((m : ℕ) × (m < k) × Has writes m h × Has touches m g)
@@ -44,7 +44,7 @@ pub data Reached (e : Edges) (n : SharingEdges) (start : List ℕ) : ℕ → ℕ
   shared : {g k : ℕ} (h m a b : ℕ) → h < 64 → Reached e n start h k → m < length start → Reached e n start h a → (right_at n.nodes Store a ≡ true) → Up n.parents a m → Reached e n start g b → (right_at n.nodes Load b ≡ true) → Up n.parents b m → Reached e n start g k
   by_maker : {g k : ℕ} (h a b : ℕ) → h < 64 → Reached e n start h k → a < length start → Reached e n start h a → (right_at n.nodes Make a ≡ true) → b < length start → Reached e n start g b → (right_at n.nodes Load b ≡ true) → Reached e n start g k
 
--- the marks are those of the nodes that each group reaches
+-- the marks are exactly at the nodes that each group reaches
 pub record IsReach (e : Edges) (n : SharingEdges) (start marks : List ℕ) : Type 0 where
   pub len : length marks ≡ length start
   pub only : (g k : ℕ) → Has marks k g → Reached e n start g k

@@ -1,4 +1,4 @@
--- How marks spread along edges: what holds while nodes are worked off.
+-- Marks that spread along edges: what holds while nodes are worked off.
 use Rattle.std.specs.Prelude.{◌≡◌, ℕ, ◌+◌, ◌*◌, ◌^◌, ◌<◌, ◌≤◌, ◌⊎◌, List, [], ◌∷◌, length, slice_index, bit_and, bit_or}
 use Rattle.std.specs.Int.{bit_at}
 use Rattle.mm_flow.specs.Edges.{Edges, low_at, high_at, entry_at, enters_at}
@@ -27,15 +27,15 @@ pub record IsTaken (k : ℕ) (all rest : List ℕ) : Type 0 where
   pub keeps : (n : ℕ) → IsIn n rest → IsIn n all
   pub len : length rest + 1 ≡ length all
 
--- the node has propagated its mark already, or is pending
+-- the node has already propagated its mark, or is pending
 abbrev pub IsListed : List ℕ → List ℕ → List ℕ → ℕ → Type 0
 IsListed marks propagated pending k = IsIn k pending ⊎ Within (slice_index marks k) (slice_index propagated k)
 
--- each node that was listed stays so
+-- each node that was listed is still listed
 abbrev pub StaysListed : List ℕ → List ℕ → List ℕ → List ℕ → List ℕ → Type 0
 StaysListed propagated old p new q = (k : ℕ) → IsListed old propagated p k → IsListed new propagated q k
 
--- the node is a target at a place from lo up to hi
+-- the node is a target at an index from `lo` up to `hi`
 pub record IsAmong (targets : List ℕ) (lo hi t : ℕ) : Type 0 where
   pub at : ℕ
   pub low : lo ≤ at
@@ -46,22 +46,22 @@ pub record IsAmong (targets : List ℕ) (lo hi t : ℕ) : Type 0 where
 abbrev pub IsTarget : Edges → ℕ → ℕ → Type 0
 IsTarget e k = IsAmong e.targets (low_at e k) (high_at e k)
 
--- what the node has propagated is at its targets
+-- all that the node has propagated is at its targets
 abbrev pub HasPropagated : Edges → List ℕ → List ℕ → ℕ → Type 0
 HasPropagated e marks propagated i = (j : ℕ) → low_at e i ≤ j → j < high_at e i → Within (slice_index propagated i) (slice_index marks (slice_index e.targets j))
 
--- what each node has propagated is at all its targets, and at its entry for the groups that enter
+-- all that each node has propagated is at its targets, and at its entry for the groups that enter
 pub record IsPassed (e : Edges) (marks propagated : List ℕ) : Type 0 where
   pub cells : (i : ℕ) → HasPropagated e marks propagated i
   pub entry : (i : ℕ) → Within (bit_and (slice_index propagated i) (enters_at e i)) (slice_index marks (entry_at e i))
 
--- the nodes have marks, and what they have propagated is where it leads
+-- the nodes have marks, and all that they have propagated is where it leads
 pub record IsReady (e : Edges) (marks propagated : List ℕ) : Type 0 where
   pub nodes : length e.nodes ≡ length marks
   pub len : length propagated ≡ length marks
   pub passed : IsPassed e marks propagated
 
--- besides, each node has propagated its mark, or is pending
+-- the marks are ready, and each node has propagated its mark or is pending
 pub record Working (e : Edges) (marks propagated pending : List ℕ) : Type 0 where
   pub ready : IsReady e marks propagated
   pub listed : (k : ℕ) → IsListed marks propagated pending k
@@ -75,7 +75,7 @@ pub record Flowing (e : Edges) (old marks propagated pending : List ℕ) : Type 
   pub sound : (k g : ℕ) → Has marks k g → Flows e old g k
   pub no_rise : room (2 ^ 64) marks ≤ room (2 ^ 64) old
 
--- for each of n nodes a later one, or the number of nodes
+-- for each of n nodes a later one, or n
 pub record IsAhead (after : List ℕ) (n : ℕ) : Type 0 where
   pub len : length after ≡ n
   pub later : (k : ℕ) → k < n → k < slice_index after k
@@ -85,7 +85,7 @@ pub record IsAhead (after : List ℕ) (n : ℕ) : Type 0 where
 abbrev pub IsInner : Edges → ℕ → ℕ → Type 0
 IsInner e i k = (low_at e k ≤ low_at e i) × (high_at e i ≤ high_at e k)
 
--- what a flow works with: the marks, what each node has propagated to all its targets, and the nodes that are to be worked off
+-- the state of a flow: the marks, the groups that each node has propagated to all its targets, and the pending nodes
 pub record Worklist : Type 0 where
   pub marks : List ℕ
   pub propagated : List ℕ
@@ -103,7 +103,7 @@ pub record Pass : Type 0 where
 abbrev pub pass_of : Edges → ℕ → ℕ → Pass
 pass_of e k mask = record { edges = e; outer = k; mask = mask }
 
--- a place on the way over the nodes within the outer one: the next node, where the outer node's targets at places before
+-- a step on the walk over the nodes within the outer one: the next node; the outer node's targets at indices before
 -- `done` have the mask
 pub record Way : Type 0 where
   pub at : ℕ
@@ -113,7 +113,7 @@ pub record Way : Type 0 where
 abbrev pub way_of : ℕ → ℕ → Worklist → Way
 way_of at done work = record { at = at; done = done; work = work }
 
--- the next node is one of the graph, and its targets have what it has propagated
+-- the next node is one of the graph, and all that it has propagated is at its targets
 pub record IsOnWay (p : Pass) (w : Way) : Type 0 where
   pub nodes : length p.edges.nodes ≡ length w.work.marks
   pub len : length w.work.propagated ≡ length w.work.marks
@@ -122,14 +122,14 @@ pub record IsOnWay (p : Pass) (w : Way) : Type 0 where
   pub end : w.done ≤ high_at p.edges p.outer
   pub passed : HasPropagated p.edges w.work.marks w.work.propagated w.at
 
--- the node has propagated from now on what it has and the mask
+-- the node has from now on propagated the mask too
 abbrev pub AddsMask : Pass → Way → Way → Type 0
 AddsMask p from to =
     (slice_index to.work.propagated from.at ≡ bit_or (slice_index from.work.propagated from.at) p.mask)
     × IsInner p.edges from.at p.outer
     × (enters_at p.edges from.at ≡ 0)
 
--- one step of the way: the next node was passed by, or has propagated the mask from now on
+-- one step of the walk: the next node was skipped, or has propagated the mask from now on
 pub record Walked (p : Pass) (from to : Way) : Type 0 where
   pub forth : from.at < to.at
   pub low : from.done ≤ to.done
@@ -140,11 +140,12 @@ pub record Walked (p : Pass) (from to : Way) : Type 0 where
   pub others : (i : ℕ) → (i ≡ from.at → ⊥) → slice_index to.work.propagated i ≡ slice_index from.work.propagated i
   pub own : (slice_index to.work.propagated from.at ≡ slice_index from.work.propagated from.at) ⊎ AddsMask p from to
 
--- the target of node i at place j has the group, or will have it, since it is of the mask and the target is one of the outer node
+-- the target of node i at index j has the group, or will have it, since the group is in the mask and the target is one
+-- of the outer node
 abbrev pub Will : Pass → List ℕ → (i j g : ℕ) → Type 0
 Will p marks i j g = Has marks (slice_index p.edges.targets j) g ⊎ ((bit_at p.mask g ≡ 1) × IsInner p.edges i p.outer)
 
--- what holds on that way: what a node has propagated is at its targets, or will be
+-- what holds on the walk: all that a node has propagated is at its targets, or will be
 pub record Walking (p : Pass) (start : Worklist) (now : Way) : Type 0 where
   pub nodes : length p.edges.nodes ≡ length start.marks
   pub low : low_at p.edges p.outer ≤ now.done
@@ -156,7 +157,7 @@ pub record Walking (p : Pass) (start : Worklist) (now : Way) : Type 0 where
   pub entry : (i : ℕ) → Within (bit_and (slice_index now.work.propagated i) (enters_at p.edges i)) (slice_index now.work.marks (entry_at p.edges i))
   pub before : (i j g : ℕ) → low_at p.edges i ≤ j → j < high_at p.edges i → Has now.work.propagated i g → Will p now.work.marks i j g
 
--- one node was worked off: its mark is at its entry, for the groups that enter, and then at all its targets
+-- one node was worked off: its mark is at its entry, for the groups that enter, and at all its targets
 pub record Stepped (e : Edges) (k : ℕ) (old new : Worklist) : Type 0 where
   pub marks : List ℕ
   pub pending : List ℕ

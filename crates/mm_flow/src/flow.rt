@@ -13,10 +13,11 @@ use crate::worklist::take;
 use std::alloc::{AllocError, Global};
 use std::collections::VecDeque;
 
-/// Where more than one node in this many is pending, the oldest of them comes first.
+/// If more than one node in `MANY` is pending, the oldest of them comes first.
 const MANY: usize = 16;
 
-/// Adds the groups of the mask to the node's mark. A node that had propagated its mark, or was pending, is so still.
+/// Adds the groups of a mask to a node's mark. A node that had propagated its mark, or was pending, has done so or is
+/// pending afterwards too.
 fn propagate(marks: &mut [u64], work: &mut Work, to: usize, mask: u64) -> Result<(), AllocError>
     requires node { to < length marks.old }
     requires len { length work.old.propagated.items ≡ length marks.old }
@@ -42,7 +43,7 @@ fn propagate(marks: &mut [u64], work: &mut Work, to: usize, mask: u64) -> Result
     Ok(())
 }
 
-/// Propagates the mask to the targets at places from `lo` up to `hi`.
+/// Propagates a mask to the targets at indices from `lo` up to `hi`.
 fn visit(
     marks: &mut [u64],
     work: &mut Work,
@@ -65,7 +66,7 @@ fn visit(
     Ok(())
 }
 
-/// True only where the first node has targets and no entry, and all its targets are targets of the second.
+/// True only if the first node has targets and no entry, and all its targets are targets of the second.
 fn is_within(inner: Node, outer: Node) -> bool
     ensures low { result ≡ true → outer.low ≤ inner.low }
     ensures high { result ≡ true → inner.high ≤ outer.high }
@@ -77,18 +78,18 @@ fn is_within(inner: Node, outer: Node) -> bool
         && inner.high <= outer.high
 }
 
-/// A place on the way over the nodes that lie within one.
+/// A step on the walk over the nodes that lie within an outer node.
 #[derive(Clone, Copy, Debug)]
 struct Walk {
-    /// The next node.
+    /// The index of the next node.
     at: usize,
-    /// The outer node's targets before this place have the mask.
+    /// The outer node's targets before this index have the mask.
     done: usize,
 }
 
-/// Takes one step of the way over the nodes within `k`. A node that has propagated the mask already is passed by, with all
-/// that lie within it, once the outer node's targets before its own have the mask. One that has not counts as having
-/// propagated it from now on, since all its targets get it on this way.
+/// Takes one step of the walk over the nodes within `k`. If the next node has already propagated the mask, it is
+/// skipped with all that lie within it, once the outer node's targets before its own have the mask. Otherwise it counts
+/// as having propagated the mask from now on, since all its targets get it on this walk.
 fn walk_on(
     marks: &mut [u64],
     work: &mut Work,
@@ -122,7 +123,7 @@ fn walk_on(
     })
 }
 
-/// Propagates the mask to all targets of a node, which has propagated it from now on.
+/// Propagates a mask to all targets of a node. The node has propagated it from now on.
 fn pass(
     marks: &mut [u64],
     work: &mut Work,
@@ -183,7 +184,7 @@ fn marked_nodes(alloc: Global, marks: &[u64]) -> Result<VecDeque<usize>, AllocEr
     Ok(all)
 }
 
-/// Propagates each mark along all edges, until no mark lacks a group.
+/// Propagates each mark along all edges, until no mark lacks a group. `AllocError` comes if memory ran out.
 pub fn flow(
     alloc: Global,
     marks: &mut [u64],

@@ -4,12 +4,16 @@
 //!
 //! | rule | part | made in |
 //! |---|---|---|
-//! | a mark flows along the edges of its node | the worklist: nodes whose marks are not yet at all their targets | `flow`, `work`, `worklist` |
-//! | a group that is linked to another shares all that it has with it | links, which the caller hands in | `reach` |
-//! | a group shares with one that touches a node which it writes | marks above a node, of writers and of those who touch | `forest`, `sharing`, `reach` |
-//! | a group that makes pointers shares with one that touches any node | the groups that mark a node with the right | `reach` |
+//! | a mark flows along the edges of its node | the worklist: nodes whose marks are not yet | `flow`, `work`,
+//! | | at all their targets | `worklist` |
+//! | a group that is linked to another shares all | links, which the caller gives | `reach` |
+//! | that it has with it | | |
+//! | a group shares with one that touches a node | marks above a node, of those who write | `forest`, `sharing`, |
+//! | which it writes | and of those who touch | `reach` |
+//! | a group that makes pointers shares with one | the groups that mark a node with the right | `reach` |
+//! | that touches any node | | |
 //!
-//! The last three are sharing edges, from group to group: a mark that has the one group gets the other.
+//! The last three are sharing edges, from group to group: a mark that has the first group gets the second.
 #![tactic(auto)]
 
 mod flow;

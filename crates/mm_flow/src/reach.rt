@@ -1,4 +1,4 @@
-//! What groups reach in a graph.
+//! All that groups reach in a graph.
 ghost use Rattle.std.specs.Prelude.{◌≡◌, ℕ, ◌^◌, ◌<◌, ◌≤◌, ◌↔◌, IfOk, length, slice_index};
 ghost use Rattle.std.specs.Int.{bit_at};
 ghost use Rattle.mm_flow.specs.Edges.{right_at};
@@ -16,7 +16,7 @@ use crate::work::Work;
 use std::alloc::{AllocError, Global};
 use std::collections::VecDeque;
 
-/// The groups that mark a node with the right.
+/// The mask of the groups that mark a node with the right.
 pub fn any(nodes: &[Node], marks: &[u64], right: Right) -> u64
     requires { length nodes.now ≡ length marks.now }
     ensures { (g : ℕ) → (bit_at result g ≡ 1) ↔ HasSome marks.now (right_at nodes.now right) g }
@@ -29,7 +29,7 @@ pub fn any(nodes: &[Node], marks: &[u64], right: Right) -> u64
     all
 }
 
-/// Adds sharing edges, at each node, from the groups of the one mask to those of the other.
+/// Adds sharing edges, at each node, from the groups of one mask to those of the other.
 fn fill(sharing: &mut [u64], writes: &[u64], touches: &[u64])
     requires len { length sharing.old ≡ 64 }
     requires same { length touches.now ≡ length writes.now }
@@ -46,7 +46,7 @@ fn fill(sharing: &mut [u64], writes: &[u64], touches: &[u64])
     }
 }
 
-/// Adds to the links the sharing edges that come of what the groups have marked.
+/// Adds to the links the sharing edges that follow from the marks of the groups.
 fn sharing_edges(
     alloc: Global,
     marks: &[u64],
@@ -92,7 +92,7 @@ fn until_saturated(
     }
 }
 
-/// Marks all that each group reaches.
+/// Marks all that each group reaches. `AllocError` comes if memory ran out.
 pub fn saturate(
     alloc: Global,
     marks: &mut [u64],

@@ -1,4 +1,4 @@
-//! Sharing edges: groups that share all that they have with others.
+//! Sharing edges: groups that share all that they have with other groups.
 ghost use Rattle.std.specs.Prelude.{◌≡◌, ℕ, ◌<◌, ◌≤◌, ◌↔◌, IfOk, length, slice_index};
 ghost use Rattle.std.specs.Int.{bit_at};
 ghost use Rattle.mm_flow.specs.Edges.{right_at, has_right};
@@ -7,14 +7,14 @@ ghost use Rattle.mm_flow.specs.Sharing.{kept_mark, AreMarksAbove, AddsEdges, Sha
 use crate::node::{Node, Right};
 use std::alloc::{AllocError, Global};
 
-/// The node's mark, where the node has the right.
+/// The node's mark if the node has the right, or else 0.
 pub fn kept(node: Node, right: Right, mark: u64) -> u64
     ensures { result ≡ kept_mark (has_right right node) mark }
 {
     if node.has(right) { mark } else { 0 }
 }
 
-/// For each node the groups that mark it or a node above it, counting only nodes with the right.
+/// For each node the groups that mark it or a node above it. Only nodes with the right count.
 pub fn marks_above(
     alloc: Global,
     parents: &[usize],
@@ -50,7 +50,7 @@ pub fn share(sharing: &mut [u64], from: u64, to: u64)
     }
 }
 
-/// The groups with which the groups of the mask share.
+/// The mask of the groups with which the groups of a mask share.
 pub fn shared_by(mask: u64, sharing: &[u64]) -> u64
     requires { length sharing.now ≡ 64 }
     ensures { (g : ℕ) → (bit_at result g ≡ 1) ↔ SharedBy 64 mask sharing.now g }
@@ -64,7 +64,7 @@ pub fn shared_by(mask: u64, sharing: &[u64]) -> u64
     all
 }
 
-/// The groups with which the groups of the mask share, where those of the last mask share with `shared_now`.
+/// The groups with which the groups of `mask` share, if those of the mask `last` share with `shared_now`.
 fn shared_next(last: u64, shared_now: u64, mask: u64, sharing: &[u64]) -> u64
     requires len { length sharing.now ≡ 64 }
     requires shared_now { (g : ℕ) → (bit_at shared_now g ≡ 1) ↔ SharedBy 64 last sharing.now g }
@@ -77,7 +77,7 @@ fn shared_next(last: u64, shared_now: u64, mask: u64, sharing: &[u64]) -> u64
     }
 }
 
-/// Adds to each node's mark the groups with which its groups share; answers whether a mark changed.
+/// Adds to each node's mark the groups with which its groups share, and says whether a mark changed.
 pub fn propagate_shared(marks: &mut [u64], sharing: &[u64]) -> bool
     requires { length sharing.now ≡ 64 }
     ensures { PropagatesShared sharing.now marks.old marks.new result }

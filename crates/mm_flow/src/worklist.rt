@@ -1,4 +1,4 @@
-//! The worklist: nodes that are to be worked off.
+//! The worklist: the nodes that are pending.
 ghost use Rattle.std.specs.Prelude.{◌≡◌, MatchOption, []};
 ghost use Rattle.mm_flow.specs.Work.{IsTaken};
 
@@ -24,8 +24,8 @@ fn newest(pending: &mut VecDeque<usize>) -> Option<usize>
     }
 }
 
-/// Takes a node: where more than `many` wait, the oldest, so that marks of several groups come together at those that still
-/// wait; else the newest, so that a mark which goes along a path takes with it what it meets.
+/// Takes a node. If more than `many` wait, it is the oldest, so that marks of several groups come together at nodes
+/// that still wait; otherwise it is the newest, so that a mark which goes along a path takes along what it meets.
 pub fn take(pending: &mut VecDeque<usize>, many: usize) -> Option<usize>
     ensures { MatchOption result (pending.old.items ≡ []) (λ k. IsTaken k pending.old.items pending.new.items) }
 {
