@@ -4,7 +4,7 @@
 //!
 //! | rule | part | made in |
 //! |---|---|---|
-//! | a mark flows along the edges of its node | the worklist: nodes whose marks are not yet | `flow`, `work`,
+//! | a mark flows along the edges of its node | the worklist: nodes whose marks are not yet | `flow`, `work`, |
 //! | | at all their targets | `worklist` |
 //! | a group that is linked to another shares all | links, which the caller gives | `reach` |
 //! | that it has with it | | |
