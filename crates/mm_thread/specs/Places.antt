@@ -1,4 +1,4 @@
--- Slots by their places in the table of rows.
+-- Slots by their indices in the table of rows.
 use Rattle.std.specs.Prelude.{◌≡◌, ℕ, ◌+◌, ◌*◌, ◌<◌, false, List, [], ◌∷◌, length, slice_set, slice_index_or, slice_index, Option, None, Some}
 use Rattle.mm_word.specs.declared.perm.Perm.TheVariants.{Xu}
 use Rattle.mm_word.specs.Cause.{number_of}
@@ -12,7 +12,7 @@ use Rattle.mm_model.specs.State.{Row, Core}
 use Rattle.mm_model.specs.Spelling.{numbers_of}
 use Rattle.mm_model.specs.Fits.{slots_of, IsCore}
 
--- what stands for a row where there is none
+-- the slot past the end of the table
 abbrev pub no_slot : Slot
 no_slot = record {
   number = 0;
@@ -34,7 +34,7 @@ no_row = record { slot = no_slot; queue = [] }
 abbrev pub row_alone : Slot → Row
 row_alone s = record { slot = s; queue = [] }
 
--- the row at a place
+-- the row at an index
 abbrev pub row_at : Core → ℕ → Row
 row_at core place = slice_index_or core.rows place no_row
 
@@ -44,7 +44,7 @@ slot_in core place = (row_at core place).slot
 abbrev pub queue_in : Core → ℕ → List Event
 queue_in core place = (row_at core place).queue
 
--- the core with this row at a place
+-- the core with this row at an index
 abbrev pub with_row : Core → ℕ → Row → Core
 with_row core place row = record core { rows = slice_set core.rows place row }
 
@@ -58,7 +58,7 @@ with_queue_in core place q = with_row core place (record (row_at core place) { q
 abbrev pub numbers_in : Core → List ℕ
 numbers_in core = numbers_of (slots_of core)
 
--- the table of places: each number that a slot has leads to its place, and each other number to no place
+-- the table of indices: each number that a slot has leads to its index, and each other number to no index of the table
 pub record IsIndex (numbers places : List ℕ) : Type 0 where
   pub there : (n : ℕ) → n < 64 → slice_index places n < length numbers → slice_index numbers (slice_index places n) ≡ n
   pub back : (k : ℕ) → k < length numbers → slice_index places (slice_index numbers k) ≡ k
@@ -72,7 +72,7 @@ first_register (p ∷ ps) = Some p.reg
 abbrev pub event_writes : ℕ → Event → List (ℕ × Word)
 event_writes rd e = (rd, Int (number_of e.cause + 256 * e.slot)) ∷ (rd + 1, Ptr e.ip) ∷ (rd + 2, e.addr_op) ∷ (rd + 3, e.value_op) ∷ []
 
--- a core whose table of places is right
+-- a core whose table of indices is right
 pub record IsSound (core : Core) (places : List ℕ) : Type 0 where
   pub whole : IsCore core
   pub index : IsIndex (numbers_in core) places

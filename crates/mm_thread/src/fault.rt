@@ -1,4 +1,4 @@
-//! Slots found by their numbers, and faults.
+//! Lookup of slots by their numbers, and faults.
 
 ghost use Rattle.std.specs.Prelude.{◌≡◌, ◌<◌, ◌^◌, Some, None, IfSome, IfNone, length};
 ghost use Rattle.mm_model.specs.declared.event.Event.{Event};
@@ -12,10 +12,10 @@ use crate::tables::Tables;
 use mm_model::{Event, SlotState, Tick};
 use mm_word::{Cause, Word};
 
-/// The place of each number's slot, and one past all places where there is none.
+/// For each number the index of its slot; an index past all slots if there is none.
 pub(crate) type Places = [u8; 64];
 
-/// The place of the slot of a number.
+/// The index of the slot of a number, if there is one.
 pub(crate) fn place_of(places: &Places, tables: &Tables, number: u64) -> Option<usize>
     requires whole { IsCore tables.now }
     requires index { IsIndex (numbers_in tables.now) places.now }
@@ -34,7 +34,8 @@ pub(crate) fn place_of(places: &Places, tables: &Tables, number: u64) -> Option<
     }
 }
 
-/// The slot at a place faults: it waits for its handler, or is halted, or waits in its place for a synchronisation bit.
+/// The slot at `place` faults: it waits for its handler, or is halted, or waits without an event for a synchronisation
+/// bit.
 pub(crate) fn fault(
     tables: &mut Tables,
     places: &Places,
@@ -65,7 +66,7 @@ pub(crate) fn fault(
     }
 }
 
-// A slot without a handler waits in its place for a synchronisation bit, and is halted by each other cause.
+// A slot without a handler faults: it waits for a synchronisation bit, and any other cause halts it.
 fn end_alone(tables: &mut Tables, places: &Places, place: usize, cause: Cause) -> Tick
     requires can { CanTurn tables.old places.now place }
     ensures core { let s = slot_in tables.old place in
@@ -87,7 +88,7 @@ fn is_sync(cause: Cause) -> bool
     matches!(cause, Cause::Sync)
 }
 
-// The slot waits, and its event goes to its handler's queue.
+// Lets the slot wait, and appends its event to its handler's queue.
 fn wait_for(tables: &mut Tables, places: &Places, place: usize, handler: u8, event: Event)
     requires can { CanTurn tables.old places.now place }
     requires handler { (slot_in tables.old place).handler ≡ Some handler }

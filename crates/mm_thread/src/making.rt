@@ -1,4 +1,4 @@
-//! A core is made.
+//! Making a core.
 
 ghost use Rattle.std.specs.Prelude.{◌≡◌, ◌<◌, ◌≤◌, [], length, map, replicate, IfOk};
 ghost use Rattle.std.specs.List.{AllByRecursion};
@@ -35,7 +35,7 @@ pub(crate) fn rows_of(alloc: Global, slots: &[Slot]) -> Result<Vec<Row>, NoMemor
     Ok(rows)
 }
 
-/// The outputs of 64 groups, with nothing put out.
+/// The outputs of 64 groups, all empty.
 pub(crate) fn no_outputs(alloc: Global) -> Result<Vec<GroupOutput>, NoMemory>
     ensures { IfOk result (λ outputs. outputs.items ≡ replicate 64 []) }
 {
@@ -51,7 +51,7 @@ pub(crate) fn no_outputs(alloc: Global) -> Result<Vec<GroupOutput>, NoMemory>
     Ok(outputs)
 }
 
-/// The table of the places of slots.
+/// The table that gives for each number the index of its slot.
 pub(crate) fn places_of(tables: &Tables) -> Places
     requires rising { IsStrictlyIncreasing (numbers_in tables.now) }
     requires small { AllByRecursion (λ (s : SlotValue). s.number < 64) (slots_of tables.now) }

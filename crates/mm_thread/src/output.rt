@@ -1,3 +1,5 @@
+//! The outputs of groups, as values of their own.
+
 use std::marker::Model;
 
 /// What a group has put out.

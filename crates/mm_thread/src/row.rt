@@ -1,8 +1,10 @@
+//! Slots with their queues.
+
 use crate::queue::Queue;
 use mm_model::Slot;
 use std::marker::Model;
 
-/// A slot beside the events that it has still to handle.
+/// A slot, and the events that it has still to handle.
 #[derive(Drop)]
 pub(crate) struct Row {
     pub(crate) slot: Slot,

@@ -18,7 +18,7 @@ use mm_mem::Memory;
 use mm_model::{SlotState, Step, Tick};
 use mm_word::{Access, Cause, Kind, Word, check};
 
-/// The turn of the running slot at a place, and its step.
+/// Takes the turn of the running slot at `place`, and writes its step.
 pub(crate) fn start<M: Memory>(
     tables: &mut Tables,
     places: &Places,
@@ -55,7 +55,7 @@ pub(crate) fn start<M: Memory>(
     }
 }
 
-// From the fetch on.
+// Goes on with the turn from the fetch.
 fn fetch<M: Memory>(
     tables: &mut Tables,
     places: &Places,
@@ -108,7 +108,7 @@ fn instr_in(word: Word) -> Option<Instr>
     }
 }
 
-// From the instruction on.
+// Goes on with the turn from the instruction.
 fn issue<M: Memory>(
     tables: &mut Tables,
     places: &Places,
@@ -134,7 +134,7 @@ fn issue<M: Memory>(
     end(tables, places, place, number, &instr, access, told, step);
 }
 
-// Whether a register that the instruction names waits for a load, in a split machine.
+// Whether a register in the instruction waits for a load, in a split machine.
 fn must_wait(tables: &Tables, place: usize, instr: &Instr) -> bool
     requires { place < length tables.now.rows }
     ensures { result ≡ (tables.now.split && lacks instr.now (slot_in tables.now place)) }
@@ -142,7 +142,7 @@ fn must_wait(tables: &Tables, place: usize, instr: &Instr) -> bool
     tables.split() && lacks(instr, tables.slot(place))
 }
 
-// The end of a turn: a slot that waits stands where it is, and one that faults goes to its handler.
+// Ends a turn: a slot that waits stays at its instruction, and a slot that faults goes to its handler.
 fn end(
     tables: &mut Tables,
     places: &Places,
@@ -177,8 +177,8 @@ fn end(
     tell(step, tick, number, Some(access), touched);
 }
 
-/// Tells the step of a turn that enters nothing. It is written part by part where its caller keeps it, since a step that is handed
-/// up from function to function is copied at each of them.
+/// Writes the step of a turn that enters nothing. It is written field by field into the caller's step, since a step
+/// that is returned from function to function is copied at each of them.
 #[inline(always)]
 pub(crate) fn tell(
     step: &mut Step,
