@@ -90,7 +90,7 @@ fn served(tables: &Tables, places: &Places, place: usize, ra: Reg) -> Option<usi
     }
 }
 
-// Whether the slot's handler has read its event.
+// Whether the slot of a number is the handler of a slot.
 fn is_handled_by(slot: &Slot, number: u8) -> bool
     ensures { result ≡ is_handler number slot.now.handler }
 {
@@ -100,7 +100,7 @@ fn is_handled_by(slot: &Slot, number: u8) -> bool
     }
 }
 
-// Whether its handler has read the slot's event.
+// Whether the slot's handler has read its event.
 fn is_taken(slot: &Slot) -> bool
     ensures { result ≡ is_taken slot.now.state }
 {

@@ -1,4 +1,4 @@
-//! The table of instructions: those that need more than their slot, and the others at once.
+//! The table of instructions: a row for each that needs more than its slot, and one row for all others.
 
 ghost use Rattle.std.specs.Prelude.{◌≡◌, ◌<◌, ◌^◌, ◌&&◌, false};
 ghost use Rattle.mm_model.specs.Operands.{lacks};

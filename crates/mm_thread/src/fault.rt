@@ -34,8 +34,8 @@ pub(crate) fn place_of(places: &Places, tables: &Tables, number: u64) -> Option<
     }
 }
 
-/// The slot at `place` faults: it waits for its handler, or is halted, or waits without an event for a synchronisation
-/// bit.
+/// The slot at `place` faults. It waits for its handler. Without a handler it stays running, blocked, if it lacks a
+/// synchronisation bit, and is halted by any other cause.
 pub(crate) fn fault(
     tables: &mut Tables,
     places: &Places,
@@ -66,7 +66,8 @@ pub(crate) fn fault(
     }
 }
 
-// A slot without a handler faults: it waits for a synchronisation bit, and any other cause halts it.
+// A slot without a handler faults: it stays running, blocked, if it lacks a synchronisation bit, and is halted by any
+// other cause.
 fn end_alone(tables: &mut Tables, places: &Places, place: usize, cause: Cause) -> Tick
     requires can { CanTurn tables.old places.now place }
     ensures core { let s = slot_in tables.old place in
