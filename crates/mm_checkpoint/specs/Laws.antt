@@ -61,7 +61,7 @@ SnapshotsAreCheckpoints =
     (i : Image) (items : List ℕ) (p : Parts) (last : Option ℕ) → IsImage i → length items ≤ 1000000 → IsSnapshotOf (run (start i) items) p → IsTyped p
     → IfSome last (λ n. n < 64) → IsCheckpoint i p last
 
--- the first parts are a snapshot of no states but those of the second, and both put the same state back
+-- if the first parts are a snapshot of a state, so are the second; and both put the same state back
 pub record SameStates (p q : Parts) : Type 0 where
   pub of : (t : State) → IsSnapshotOf t p → IsSnapshotOf t q
   pub restored : (s : State) → restored s p ≡ restored s q

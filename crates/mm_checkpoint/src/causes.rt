@@ -59,7 +59,7 @@ pub(crate) fn is_bad_state(has_handler: bool, state: u8) -> bool
     state > HALTED || !has_handler && (state == WAITING || state == TAKEN)
 }
 
-/// Whether a number is no cause that a slot in a state can have. 0 is no cause.
+/// Whether the number of a cause, or 0 for none, is not one that a slot in a state can have.
 pub(crate) fn is_bad_cause(state: u8, cause: u8) -> bool
     ensures { result ≡ is_bad_cause state cause }
 {
