@@ -47,7 +47,7 @@ pub fn mask_of(groups: &[u8]) -> u64
     mask
 }
 
-/// The lesser of two numbers, if there are two.
+/// The lesser of two numbers; `n` if there is no `best`.
 fn lesser(best: Option<u8>, n: u8) -> u8
     ensures { MatchOption best (result ≡ n) (λ v. result ≡ min v n) }
 {

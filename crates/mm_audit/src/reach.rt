@@ -79,7 +79,7 @@ impl Reach {
         is_privileged(self.privileged, group)
     }
 
-    /// The maximal segments of at least a word that a group can touch; none if no slot can have the group's number.
+    /// The maximal segments of at least a word that a group can touch; none for a group that no slot can have.
     pub fn touch_set(&self, group: u8) -> &SegSet
         ensures { (i : ImageValue) (e : EntriesValue)
             → Audits i e self.now
@@ -88,7 +88,7 @@ impl Reach {
         self.touch.of(group as usize)
     }
 
-    /// The maximal segments of at least a word that a group can write; none if no slot can have the group's number.
+    /// The maximal segments of at least a word that a group can write; none for a group that no slot can have.
     pub fn write_set(&self, group: u8) -> &SegSet
         ensures { (i : ImageValue) (e : EntriesValue)
             → Audits i e self.now

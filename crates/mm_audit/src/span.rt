@@ -16,11 +16,11 @@ pub enum Access {
 pub struct Span {
     /// The least address of the segment.
     pub base: u64,
-    /// The mask of the groups that touch it.
+    /// The mask of the groups that touch the segment.
     pub touch: u64,
-    /// The mask of the groups that write it.
+    /// The mask of the groups that write the segment.
     pub write: u64,
-    /// The base-2 logarithm of its length in bytes.
+    /// The base-2 logarithm of the segment's length in bytes.
     pub log: u8,
 }
 

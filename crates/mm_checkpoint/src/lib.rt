@@ -33,7 +33,7 @@
 //! | 2 | which registers wait for a load |
 //! | 128 | 16 registers |
 //! | 9 | tag and word of the address operand of its event, else 0 |
-//! | 9 | tag and word of the value operand of its event, else 0 |
+//! | 9 | tag and word of the data operand of its event, else 0 |
 //! | 1 | count of pending loads |
 //!
 //! The fields are read in order, and each is tested when it is read, but the places in queues are tested after the last

@@ -99,7 +99,7 @@ fn blank_len(line: &[u8]) -> usize
     line.iter().take_while(|b| is_blank(**b)).count()
 }
 
-/// The count of bytes that are no blanks that a line begins with.
+/// The length of the token that a line begins with, in bytes; 0 if it begins with none.
 fn token_len(line: &[u8]) -> usize
     ensures is { result ≡ prefix_len (λ b. not (is_blank b)) line.now }
     ensures within { result ≤ length line.now }

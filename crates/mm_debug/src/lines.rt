@@ -14,8 +14,8 @@ pub trait LineHandler {
     ghost use Rattle.mm_debug.specs.Dialogues.{GathersSome};
     ghost use Rattle.mm_debug.specs.declared.session.Go.{Go};
 
-    /// Holds of the handler before a line, the line, the reply, the handler after it, and whether another line may
-    /// follow.
+    /// The relation between the handler before a line, the line, the reply, the handler after it, and whether another
+    /// line may follow.
     ghost Answers: { Self → List ℕ → List ℕ → Self → Go → Type 0 };
 
     /// Carries out a line, and appends its reply.

@@ -31,11 +31,11 @@ fn propagate(marks: &mut [u64], work: &mut Work, to: usize, mask: u64) -> Result
     if new == old {
         return Ok(());
     }
-    // It has propagated all its groups: nothing new leaves it.
+    // The node has propagated all its groups: nothing new leaves it.
     if work.has_propagated(to, new) {
         return Ok(());
     }
-    // It lacked some before, so it is pending.
+    // The node lacked some groups before, so it is pending.
     if !work.has_propagated(to, old) {
         return Ok(());
     }

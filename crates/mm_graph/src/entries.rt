@@ -11,7 +11,7 @@ use crate::seed::Seed;
 use mm_word::GuardedPtr;
 use std::alloc::{AllocError, Global};
 
-/// The entries that may be made: any, or one by each of these enter pointers, made by the group that stands with it.
+/// The entries that may be made: any, or only these, each an enter pointer with the group that enters by it.
 #[derive(Drop)]
 pub enum Entries {
     All,

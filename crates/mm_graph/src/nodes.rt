@@ -107,7 +107,7 @@ fn end(p: GuardedPtr) -> u64
     p.base() + (1u64 << p.log())
 }
 
-/// The indices, from and up to, of the pointers in the cells that a pointer loads.
+/// The first index of the pointers in the cells that a pointer loads, and the index after the last.
 fn range(found: &[Found], hint: usize, p: GuardedPtr) -> (usize, usize)
     requires { IsAscending found.now }
     ensures { IsRange found.now p result.0 result.1 }

@@ -264,7 +264,8 @@ impl<M: Memory> Machine<M> {
         self.mem.load(a, Pre::Full, Post::Empty)
     }
 
-    /// Stores an integer into an empty cell and leaves the cell full, as a port call. A cell that is not empty stays as it is.
+    /// Stores an integer into an empty cell and leaves the cell full, as a port call. A cell that is not empty stays as
+    /// it is.
     pub fn port_put(&mut self, a: &Access, bits: u64) -> Stored
         requires kind { a.now.kind ≡ Store }
         requires few { ports_used self.old < 2 ^ 32 }

@@ -14,8 +14,8 @@ use mm_word::{Access, GuardedPtr, Kind, Word};
 /// Writes the line of a cycle in a trace:
 ///
 /// - `t S T OUTCOME` for a turn of slot S, its turn number T, then ` fetch A`, one of ` load A`, ` loadset A`,
-///   ` store A`, and ` enter WORD`, each if there was one. The outcome is `did`, `blocked`, or `faulted` with the number
-///   of the fault;
+///   ` store A`, and ` enter WORD`, each if there was one. The outcome is `did`, `blocked`, or `faulted` with the
+///   number of the fault;
 /// - `m S K` if the port of slot S delivered to its register K;
 /// - nothing for an idle cycle.
 ///

@@ -2,7 +2,7 @@
 //!
 //! [`holders`] lists the registers, instruction pointers and cells whose pointers' segments meet a range. [`sweep`]
 //! makes the image in which each such register and cell holds integer 0 instead; it refuses if an instruction pointer
-//! meets the range, or if a group is privileged. Both are this project's profile.
+//! meets the range, or if a group is privileged.
 #![tactic(auto)]
 
 mod holding;

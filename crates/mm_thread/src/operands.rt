@@ -95,7 +95,7 @@ pub(crate) fn addr_operand(instr: &Instr, slot: &Slot) -> Word
     }
 }
 
-/// The value operand of an event: the word of register rb, or the number of imm if the instruction has none.
+/// The data operand of an event: the word of register rb, or the number of imm if the instruction has none.
 pub(crate) fn value_operand(instr: &Instr, slot: &Slot) -> Word
     ensures { result ≡ value_operand instr.now slot.now }
 {
