@@ -11,7 +11,7 @@ use Rattle.mm_model.specs.Reach.{Entries, Grants, MayEnter, Serves, LoadsAt, Sto
 
 -- the pointer permits nothing, and neither does what is made of it: a key, or one whose segment is shorter than a word
 abbrev pub IsPowerless : Pointer → Type 0
-IsPowerless q = (q.perm ≡ CanonicalPtr) ⊎ ((q.log < 3) × (q.perm ≢ Xp) × (q.perm ≢ Ep))
+IsPowerless q = (q.perm ≡ Key) ⊎ ((q.log < 3) × (q.perm ≢ Xp) × (q.perm ≢ Ep))
 
 -- the pointer is below one of the known pointers
 pub record SomeAbove (known : Pointer → Type 0) (q : Pointer) : Type 0 where
