@@ -20,10 +20,10 @@ move-load Xu = refl
 move-load Xp = refl
 move-load Eu = refl
 move-load Ep = refl
-move-load CanonicalPtr = refl
+move-load Key = refl
 
 pub powerless_loads : (p : Pointer) (w : ℕ) → IsPowerless p → LoadsAt p w → ⊥
-powerless_loads p w (inl e) h = let no : can_load CanonicalPtr ≡ true = subst (λ v. can_load v ≡ true) e h.right in cc
+powerless_loads p w (inl e) h = let no : can_load Key ≡ true = subst (λ v. can_load v ≡ true) e h.right in cc
 powerless_loads p w (inr s) h = Covers-short p s.0 w h.covers
 
 pub below-loads : (p q : Pointer) (w : ℕ) → IsBelow q p → LoadsAt q w → LoadsAt p w
@@ -37,7 +37,7 @@ stores_loads Xu h = refl
 stores_loads Xp h = refl
 stores_loads Eu h = h
 stores_loads Ep h = h
-stores_loads CanonicalPtr h = h
+stores_loads Key h = h
 
 pub stores-loads : (p : Pointer) (w : ℕ) → StoresAt p w → LoadsAt p w
 stores-loads p w h = record { word = h.word; right = stores_loads p.perm h.right; covers = h.covers }
@@ -50,12 +50,12 @@ becomes_stores Xu Rw h k = cc
 becomes_stores Xp Rw h k = cc
 becomes_stores Eu Rw h k = cc
 becomes_stores Ep Rw h k = cc
-becomes_stores CanonicalPtr Rw h k = cc
+becomes_stores Key Rw h k = cc
 becomes_stores p Xu h k = cc
 becomes_stores p Xp h k = cc
 becomes_stores p Eu h k = cc
 becomes_stores p Ep h k = cc
-becomes_stores p CanonicalPtr h k = cc
+becomes_stores p Key h k = cc
 
 -- a pointer that stores is below pointers that store alone
 pub below-can_store : (p q : Pointer) → IsBelow q p → can_store q.perm ≡ true → can_store p.perm ≡ true
@@ -77,7 +77,7 @@ never_xp Xu h = cc
 never_xp Xp h = cc
 never_xp Eu h = cc
 never_xp Ep h = cc
-never_xp CanonicalPtr h = cc
+never_xp Key h = cc
 
 pub only_xp : (p : Perm) → can_become p Ep ≡ true → p ≡ Xp
 only_xp Ro h = cc
@@ -86,7 +86,7 @@ only_xp Xu h = cc
 only_xp Xp h = refl
 only_xp Eu h = cc
 only_xp Ep h = cc
-only_xp CanonicalPtr h = cc
+only_xp Key h = cc
 
 pub only_x : (p : Perm) → can_become p Eu ≡ true → (p ≡ Xu) ⊎ (p ≡ Xp)
 only_x Ro h = cc
@@ -95,10 +95,10 @@ only_x Xu h = inl refl
 only_x Xp h = inr refl
 only_x Eu h = cc
 only_x Ep h = cc
-only_x CanonicalPtr h = cc
+only_x Key h = cc
 
-key_moves : (p : Perm) → p ≡ CanonicalPtr → can_move p ≡ true → ⊥
-key_moves p e h = let no : can_move CanonicalPtr ≡ true = subst (λ v. can_move v ≡ true) e h in cc
+key_moves : (p : Perm) → p ≡ Key → can_move p ≡ true → ⊥
+key_moves p e h = let no : can_move Key ≡ true = subst (λ v. can_move v ≡ true) e h in cc
 
 -- what is below a powerless pointer is powerless
 pub below-powerless : (p q : Pointer) → IsPowerless p → IsBelow q p → IsPowerless q

@@ -40,7 +40,7 @@ module _ (i : Image) (e : Entries) (privileged : ℕ → Bool) (known : ℕ → 
   module _ (closed : IsClosed i e privileged known) where
     makes_all : (g : ℕ) (p : Pointer) → Has g p → p.perm ≡ Xp → IsTrue (privileged g)
     makes_all g p (inl t) x = t
-    makes_all g p (inr (inl (inl k))) x = let no : ◌≡◌ {A = Perm} CanonicalPtr Xp = sym k ∙ x in cc
+    makes_all g p (inr (inl (inl k))) x = let no : ◌≡◌ {A = Perm} Key Xp = sym k ∙ x in cc
     makes_all g p (inr (inl (inr s))) x = absurd (s.1 x)
     makes_all g p (inr (inr t)) x = from t.below
       where
@@ -72,8 +72,8 @@ module _ (i : Image) (e : Entries) (privileged : ℕ → Bool) (known : ℕ → 
 
     enters_in : (g : ℕ) (p q : Pointer) → Has g p → MayEnter e g p → (p.perm ≡ Eu) ⊎ (p.perm ≡ Ep) → enter_result p ≡ Some q → Has g q
     enters_in g p q (inl t) may perm is = inl t
-    enters_in g p q (inr (inl (inl k))) may (inl x) is = let no : ◌≡◌ {A = Perm} CanonicalPtr Eu = sym k ∙ x in cc
-    enters_in g p q (inr (inl (inl k))) may (inr x) is = let no : ◌≡◌ {A = Perm} CanonicalPtr Ep = sym k ∙ x in cc
+    enters_in g p q (inr (inl (inl k))) may (inl x) is = let no : ◌≡◌ {A = Perm} Key Eu = sym k ∙ x in cc
+    enters_in g p q (inr (inl (inl k))) may (inr x) is = let no : ◌≡◌ {A = Perm} Key Ep = sym k ∙ x in cc
     enters_in g p q (inr (inl (inr s))) may (inr x) is = absurd (s.2 x)
     enters_in g p q (inr (inl (inr s))) may (inl x) is = inr (inl (subst IsPowerless (same_some (sym (ap (form_of p) x) ∙ is)) (inr (s.0, λ no. cc, λ no. cc))))
     enters_in g p q (inr (inr t)) may (inl x) is = from t.below

@@ -12,7 +12,7 @@ use Rattle.mm_model.specs.Reach.{Entries, Grants, MayEnter, Serves, LoadsAt, Sto
 -- the pointer permits nothing, and nothing made of it does: a key, or a pointer to a segment shorter than a word that
 -- is neither execute-privileged nor enter-privileged
 abbrev pub IsPowerless : Pointer → Type 0
-IsPowerless q = (q.perm ≡ CanonicalPtr) ⊎ ((q.log < 3) × (q.perm ≢ Xp) × (q.perm ≢ Ep))
+IsPowerless q = (q.perm ≡ Key) ⊎ ((q.log < 3) × (q.perm ≢ Xp) × (q.perm ≢ Ep))
 
 -- the pointer is below one of the known pointers
 pub record SomeAbove (known : Pointer → Type 0) (q : Pointer) : Type 0 where

@@ -1,10 +1,10 @@
 -- What reads of one file are, one after the other.
-use Rattle.std.proofs.Common.{◌≡◌, ℕ, ◌+◌, ◌<◌, List, [], ◌∷◌, ◌++◌, Some, refl, sym, ap, ◌∙◌, subst}
+use Rattle.std.proofs.Common.{◌≡◌, ℕ, ◌+◌, ◌<◌, List, [], ◌∷◌, ◌++◌, Some, refl, sym, ap, ◌∙◌, subst, arith}
 use Rattle.std.specs.List.{fold}
 use Rattle.std.proofs.lemmas.List.Sums.{fold-append}
 use Rattle.std.specs.List.{sum, AllByRecursion}
 use Rattle.mm_word.specs.Adding.{Adds, adds_none, adds_both}
-use Rattle.mm_io.specs.Files.{PieceRead, AreOf, reads_from, FrontToEnd, AsksOnly, AsksWhole}
+use Rattle.mm_io.specs.Files.{PieceRead, AreOf, reads_from, FrontToEnd, AsksOnly, AsksWhole, AsksBeyond}
 
 sum_push : (counts : List ℕ) (n : ℕ) → sum (counts ++ n ∷ []) ≡ sum counts + n
 sum_push counts n = fold-append (λ a x. a + x) 0 counts (n ∷ [])
@@ -86,6 +86,16 @@ module _ {F : Type 0} {asked : F → List PieceRead → Type 0} where
     some = some_push before.counts n before.some some;
     all = sum_push before.counts n ∙ ap (λ k. k + n) before.all ∙ sym total;
     asks = front_read n before same more;
+  }
+
+  -- the read that brings more bytes than the limit
+  pub front_beyond : {old middle new : F} {name : List ℕ} {room len at limit : ℕ} (n : ℕ) → AsksFront asked old middle name room len
+      → at ≡ len → limit < len + n → Gave asked middle new name at room n → AsksBeyond asked old new name limit
+  front_beyond {room = room} n before same more read = record {
+    room = room;
+    counts = before.counts ++ n ∷ [];
+    beyond = let total = sum_push before.counts n in let all = before.all in omega (arith, more);
+    asks = front_read n before same read;
   }
 
   -- the read that finds the end

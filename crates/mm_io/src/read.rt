@@ -3,7 +3,7 @@
 ghost use Rattle.std.specs.Prelude.{◌≡◌, ◌^◌, ◌<◌, ◌≤◌, length, IfOk, OnOk, IsErrOf};
 ghost use Rattle.std.specs.Io.KnownBytes.{IsAtEnd};
 ghost use Rattle.mm_io.specs.declared.read.ReadError.TheVariants.{ReadFault, NoMemory};
-ghost use Rattle.mm_io.specs.Files.{Rose, NoneFell, Holds, IsLonger, DrawnFrom, AsksOnly, AsksWhole};
+ghost use Rattle.mm_io.specs.Files.{Rose, NoneFell, Holds, IsLonger, DrawnFrom, AsksOnly, AsksWhole, AsksBeyond};
 
 use crate::{Failed, Files, Source};
 use std::alloc::{AllocError, Global};
@@ -63,6 +63,7 @@ pub fn read_all<F: Files>(
     ensures later { NoneFell (F.faults files.old) (F.faults files.new) }
     ensures asks { AsksOnly F.asked files.old files.new name.now }
     ensures whole { IfOk result (λ bytes. AsksWhole F.asked files.old files.new name.now (length bytes.items)) }
+    ensures beyond { IsErrOf result ReadError.TooLong → AsksBeyond F.asked files.old files.new name.now limit }
 {
     let mut buffer = vec![in alloc; 0u8; PIECE]?;
     read_pieces(alloc, files, name, limit, &mut buffer)
@@ -88,6 +89,7 @@ fn read_pieces<F: Files>(
     ensures later { NoneFell (F.faults files.old) (F.faults files.new) }
     ensures asks { AsksOnly F.asked files.old files.new name.now }
     ensures whole { IfOk result (λ bytes. AsksWhole F.asked files.old files.new name.now (length bytes.items)) }
+    ensures beyond { IsErrOf result ReadError.TooLong → AsksBeyond F.asked files.old files.new name.now limit }
 {
     let mut bytes = Vec::new(alloc);
     loop {

@@ -1,7 +1,7 @@
 use Rattle.std.proofs.Common.{rules, ◌≡◌, length, arith, ◌∙◌, refl}
 use Rattle.std.proofs.lemmas.Grind.{common_steps}
 use Rattle.mm_io.specs.Files.{ReadsAt}
-use Rattle.mm_io.proofs.Asking.{front_again, front_only, front_ends, same_room}
+use Rattle.mm_io.proofs.Asking.{front_again, front_only, front_ends, front_beyond, same_room}
 use Rattle.mm_io.proofs.Reading.{Begins-++, Begins-longer, reads_same}
 use Rattle.mm_io.proofs.read.read_pieces.Goals as goal
 
@@ -48,3 +48,10 @@ returns-then-len-count-clause-asks g c = front_only _ c.loop-bytes.invariant.ask
 
 pub returns-in_err-extend_from_slice-clause-asks : goal.returns-in_err-extend_from_slice-clause-asks
 returns-in_err-extend_from_slice-clause-asks g c = front_only _ c.loop-bytes.invariant.asks refl c.in_ok-count.ensures.asks
+
+pub returns-then-len-count-clause-beyond : goal.returns-then-len-count-clause-beyond
+returns-then-len-count-clause-beyond g c _ =
+    let at : c.len.result ≡ length c.loop-bytes.bytes.items = search rules in
+    let len : c.len-in-loop-bytes.result ≡ length c.loop-bytes.bytes.items = search rules in
+    front_beyond c.in_ok-count.count c.loop-bytes.invariant.asks at (omega arith)
+      (same_room c.loop-bytes.invariant.room c.in_ok-count.ensures.asks)
