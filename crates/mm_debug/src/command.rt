@@ -6,7 +6,7 @@ ghost use Rattle.mm_debug.specs.Commands.{command_of, lines_of, is_blank, tokens
 
 use mm_line::{Token, next_token};
 
-/// What a line asks for.
+/// The command that a line gives.
 #[derive(Clone, Copy, Debug, PartialEq, Eq)]
 pub enum Command {
     /// Nothing: the line has no token.

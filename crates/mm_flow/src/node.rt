@@ -22,7 +22,7 @@ pub struct Node {
     pub makes: bool,
 }
 
-/// What a node can permit.
+/// A right that a node may have: to load, to store, or to make pointers.
 #[derive(Clone, Copy, Debug, PartialEq, Eq)]
 pub enum Right {
     Load,

@@ -40,7 +40,7 @@ module _ {M : Type 0} {memory : Ghosts M} where
   abbrev pub node_in : Net M memory → ℕ → Option (Machine M memory)
   node_in net n = slice_get net.nodes.items n
 
-  -- what the link of a number carried, if there is one
+  -- the integers that the link of a number carried, if there is one
   abbrev pub carried_in : Net M memory → ℕ → Option Carried
   carried_in net l = slice_get (net_of net).links l
 

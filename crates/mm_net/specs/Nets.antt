@@ -173,7 +173,7 @@ unfoldable pub net_run : List Link → NetState → List NetItem → NetState
 net_run links s [] = s
 net_run links s (item ∷ items) = net_run links (net_after links s item) items
 
--- what a step asks of the memory of a node
+-- the uses that a step asks of the memory of a node
 abbrev pub asked_of : ℕ → NetStep → List Use
 asked_of n t = if n == t.node then t.uses else []
 

@@ -15,7 +15,7 @@ use Rattle.mm_object.specs.Reading.{segment_place, segments_at, external_place, 
 use Rattle.mm_object.specs.Reading.{relocs_of, threads_of, spare_of, reloc_record_at, reloc_place, thread_record_at}
 use Rattle.mm_object.specs.Reading.{thread_place}
 
--- what the header says
+-- the fields of the header
 abbrev pub header_of : List ℕ → Header
 header_of bytes =
     record {

@@ -14,7 +14,7 @@ use crate::limits::{EXTERNAL_LIMIT, SEGMENT_LIMIT, SPARE_LIMIT, THREAD_LIMIT};
 /// The length of the header in bytes, which is where the segments begin.
 pub(crate) const HEADER_BYTES: usize = 16;
 
-/// What the header says.
+/// The fields of the header.
 #[derive(Clone, Copy)]
 pub(crate) struct Header {
     pub segments: u16,

@@ -3,7 +3,7 @@
 use crate::target::Target;
 use mm_word::Perm;
 
-/// What a register begins with.
+/// The value that a register begins with.
 #[derive(Clone, Copy, Debug, PartialEq, Eq)]
 pub enum Value {
     Int(u64),

@@ -2,7 +2,7 @@
 
 use std::marker::Model;
 
-/// What a group has put out.
+/// The output of a group.
 #[derive(Drop)]
 pub struct Output {
     /// The group, 0 to 63.
