@@ -54,7 +54,7 @@ pub fn turn<M: Memory>(core: &mut Core, mem: &mut M, item: u8) -> Step
     requires turns { AllByRecursion (λ (s : SlotValue). s.turns < 2 ^ 61) (slots_of core.old) }
     requires room { M.uses mem.old < 2 ^ 61 }
 
-    // The turn of the model decides what is left and told.
+    // The core, the memory and the step are those of the turn of the model.
     ensures core { core.new ≡ (turn_of core.old (M.meaning mem.old) item).core }
     ensures memory { M.meaning mem.new ≡ (turn_of core.old (M.meaning mem.old) item).memory }
     ensures step { result ≡ (turn_of core.old (M.meaning mem.old) item).step }

@@ -313,7 +313,7 @@ impl Tables {
         output.push(byte);
     }
 
-    /// Puts a slot without events at a place.
+    /// Replaces the slot at `place` by one of the same number, without events.
     pub(crate) fn set_row(&mut self, place: usize, slot: &Slot)
         requires place { place < length self.old.rows }
         requires number { slot.now.number ≡ (slot_in self.old place).number }
