@@ -39,5 +39,5 @@ module _ (i : Image) (e : Entries) (image : IsImage i) (spans : List Span) (are 
         by_mask (2 ^ g) (ap (λ b. if b then 2 ^ g else 0) is) (are_maximal i e spans are access g)
     | inr le ↦ let no : nat_lt g 64 ≡ false = grind (arith, nat_tests) in
         by_mask 0 (ap (λ b. if b then 2 ^ g else 0) no)
-          (subst (MaximalSegments i e g (can access)) (sym (none_outermost access spans)) (none_maximal i e image access g le))
+        (subst (MaximalSegments i e g (can access)) (sym (none_outermost access spans)) (none_maximal i e image access g le))
   ]

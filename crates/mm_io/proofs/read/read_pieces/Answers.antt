@@ -28,7 +28,7 @@ loop-bytes-preserved g c =
       kept = c.in_ok-count.ensures.kept ∙ c.loop-bytes.invariant.kept;
       later = λ name. omega (arith, c.in_ok-count.ensures.later name, c.loop-bytes.invariant.later name);
       asks = front_again c.in_ok-count.count c.loop-bytes.invariant.asks at (omega arith) (search rules)
-        (same_room c.loop-bytes.invariant.room c.in_ok-count.ensures.asks);
+          (same_room c.loop-bytes.invariant.room c.in_ok-count.ensures.asks);
     }
 
 pub returns-in_err-count-clause-asks : goal.returns-in_err-count-clause-asks
@@ -41,7 +41,7 @@ pub returns-then-count-eq0-clause-whole : goal.returns-then-count-eq0-clause-who
 returns-then-count-eq0-clause-whole g c =
     let at : c.len.result ≡ length c.loop-bytes.bytes.items = search rules in
     front_ends c.in_ok-count.count c.loop-bytes.invariant.asks c.requires.room at (search rules)
-      (same_room (search rules) c.in_ok-count.ensures.asks)
+    (same_room (search rules) c.in_ok-count.ensures.asks)
 
 pub returns-then-len-count-clause-asks : goal.returns-then-len-count-clause-asks
 returns-then-len-count-clause-asks g c = front_only _ c.loop-bytes.invariant.asks refl c.in_ok-count.ensures.asks
@@ -54,4 +54,4 @@ returns-then-len-count-clause-beyond g c _ =
     let at : c.len.result ≡ length c.loop-bytes.bytes.items = search rules in
     let len : c.len-in-loop-bytes.result ≡ length c.loop-bytes.bytes.items = search rules in
     front_beyond c.in_ok-count.count c.loop-bytes.invariant.asks at (omega arith)
-      (same_room c.loop-bytes.invariant.room c.in_ok-count.ensures.asks)
+    (same_room c.loop-bytes.invariant.room c.in_ok-count.ensures.asks)

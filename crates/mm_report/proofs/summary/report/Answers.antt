@@ -17,13 +17,15 @@ pub put_pages-requires-clause-whole : goal.put_pages-requires-clause-whole
 put_pages-requires-clause-whole g c = subst (λ (ps : List (ℕ × List Cell)). AllByRecursion IsPage ps) (sym c.pages-pages.ensures.pages) c.pages-pages.ensures.image.paged.pages.whole
 
 pub returns-clause-text : goal.returns-clause-text
-returns-clause-text g c =
-    (c.counts.result, gathered_writes c.new-text.ensures
-    (gathers_same
-    (gathers_then (gathers_then (gathers_then (gathers_then c.put_cycles.ensures c.put_sections.ensures) c.put_pages.ensures) c.put_cells.ensures) c.put_counts.ensures)
-    (report_text (state_of c.args.m.now) c.args.img.now c.counts.result c.counts.result c.cycles.result (g.M.Memory.meaning c.memory-mem.result.now) c.pages-pages.result.now
-    c.cycles.ensures c.memory-mem.ensures.memory c.pages-pages.ensures.pages refl))
-    c.finish.ensures)
+returns-clause-text g c = (
+  c.counts.result,
+  gathered_writes c.new-text.ensures
+      (gathers_same
+      (gathers_then (gathers_then (gathers_then (gathers_then c.put_cycles.ensures c.put_sections.ensures) c.put_pages.ensures) c.put_cells.ensures) c.put_counts.ensures)
+      (report_text (state_of c.args.m.now) c.args.img.now c.counts.result c.counts.result c.cycles.result (g.M.Memory.meaning c.memory-mem.result.now) c.pages-pages.result.now
+      c.cycles.ensures c.memory-mem.ensures.memory c.pages-pages.ensures.pages refl))
+      c.finish.ensures,
+)
 
 pub returns-clause-counts : goal.returns-clause-counts
 returns-clause-counts g c us stands =
