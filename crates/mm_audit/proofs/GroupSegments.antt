@@ -1,5 +1,5 @@
 -- The outermost spans of any group, also of one that no slot can have.
-use Rattle.std.proofs.Common.{◌≡◌, ℕ, ◌+◌, ◌^◌, ◌<◌, ◌≤◌, inl, inr, Bool, true, false, nat_lt, nat_le, not, ◌==◌, ◌&&◌, bit_and, if◌then◌else◌, List, [], ◌∷◌, refl, sym, ap, ◌∙◌, subst, arith}
+use Rattle.std.proofs.Common.{◌≡◌, ℕ, ◌^◌, inl, inr, Bool, true, false, nat_lt, nat_le, not, ◌==◌, ◌&&◌, if◌then◌else◌, List, [], ◌∷◌, refl, sym, ap, ◌∙◌, subst, arith}
 use Rattle.std.specs.Int.Bits.{and_zero_r}
 use Rattle.std.proofs.lemmas.Bool.{cases_lt}
 use Rattle.std.proofs.lemmas.Bool.Decides.{nat_tests}
@@ -39,5 +39,5 @@ module _ (i : Image) (e : Entries) (image : IsImage i) (spans : List Span) (are 
         by_mask (2 ^ g) (ap (λ b. if b then 2 ^ g else 0) is) (are_maximal i e spans are access g)
     | inr le ↦ let no : nat_lt g 64 ≡ false = grind (arith, nat_tests) in
         by_mask 0 (ap (λ b. if b then 2 ^ g else 0) no)
-          (subst (MaximalSegments i e g (can access)) (sym (none_outermost access spans)) (none_maximal i e image access g le))
+        (subst (MaximalSegments i e g (can access)) (sym (none_outermost access spans)) (none_maximal i e image access g le))
   ]
