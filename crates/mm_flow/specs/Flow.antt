@@ -1,5 +1,5 @@
 -- Marks that flow along edges: a node's mark is a mask of groups.
-use Rattle.std.specs.Prelude.{◌≡◌, ℕ, ◌+◌, ◌-◌, ◌*◌, ◌^◌, ◌<◌, ◌≤◌, ◌⊎◌, List, [], ◌∷◌, length, slice_index, bit_and, bit_or}
+use Rattle.std.specs.Prelude.{◌≡◌, ℕ, ◌+◌, ◌-◌, ◌^◌, ◌<◌, ◌≤◌, List, [], ◌∷◌, length, slice_index, bit_and}
 use Rattle.std.specs.Int.{bit_at}
 use Rattle.mm_flow.specs.Edges.{Edges, low_at, high_at, entry_at, enters_at}
 
