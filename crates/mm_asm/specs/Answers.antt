@@ -1,4 +1,4 @@
--- What the assembler answers, and the first of the faults that it meets.
+-- The answers of the assembler, and the first of the faults that it meets.
 use Rattle.std.specs.Prelude.{◌≡◌, ℕ, List, map, Option, Some, None, Result, Ok, Err}
 use Rattle.std.specs.Option.{option_map}
 use denote.Ref.{Bor}
@@ -23,7 +23,7 @@ abbrev pub Gives : {X : Type 0} → Option Pair → X → Result X AsmError → 
 Gives fault value (Ok x) = (fault ≡ None) × (x ≡ value)
 Gives fault value (Err e) = Fails fault e
 
--- the answer is an object, unless memory ran out
+-- the answer is this value, unless memory ran out
 abbrev pub IsUnlessNoMemory : {X : Type 0} → X → Result X AsmError → Type 0
 IsUnlessNoMemory value (Ok x) = x ≡ value
 IsUnlessNoMemory value (Err e) = e ≡ errors.NoMemory
@@ -33,7 +33,7 @@ abbrev pub FailsUnlessNoMemory : {X : Type 0} → Pair → Result X AsmError →
 FailsUnlessNoMemory fault (Ok x) = ⊥
 FailsUnlessNoMemory fault (Err e) = Fails (Some fault) e
 
--- nothing but want of memory stopped it
+-- the function fails only for want of memory
 abbrev pub IsNoMemory : {X : Type 0} → Result X AsmError → Type 0
 IsNoMemory (Ok x) = Unit {0}
 IsNoMemory (Err e) = e ≡ errors.NoMemory
@@ -52,7 +52,7 @@ either (Some p) q = sooner p q
 abbrev pub pair_of_first : Option Failure → Option Pair
 pair_of_first first = option_map failure_pair first
 
--- these failures were met between two times: the later first one is the least of the earlier one and of them
+-- these failures were met between two times: the later first fault is the least of the earlier first one and of them
 pub record Meets (old new : Option Failure) (failures : List Failure) : Type 0 where
   pub least : pair_of_first new ≡ either (pair_of_first old) (least (map failure_pair failures))
 

@@ -13,7 +13,7 @@ use Rattle.mm_draft.specs.Faults.{segment_limit, word_limit, pointer_limit, room
 use Rattle.mm_object.specs.Names.{is_name}
 use Rattle.mm_object.specs.Objects.{are_apart}
 
--- a word, a register's value and a target that some line can say
+-- a word that some line can say
 abbrev pub IsWord : Word → Type 0
 IsWord w = (most : ℕ) × IsContent most w.content
 
@@ -26,7 +26,7 @@ IsPlaced t = (most : ℕ) × IsTarget most t
 abbrev pub IsRegister : Register → Type 0
 IsRegister r = (r.number < 16) × IsValue r.value
 
--- each number is another one
+-- the numbers are all different
 abbrev pub AreApart : List ℕ → Type 0
 AreApart [] = Unit {0}
 AreApart (n ∷ numbers) = (list_any (λ m. m == n) numbers ≡ false) × AreApart numbers

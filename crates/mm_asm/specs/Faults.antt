@@ -1,4 +1,4 @@
--- The faults that are seen once a whole text was read, and its first fault.
+-- The faults that are found once a whole text was read, and the first fault of a text.
 use Rattle.std.specs.Prelude.{◌≡◌, ℕ, ◌+◌, ◌^◌, ◌==◌, nat_le, Bool, true, false, not, ◌&&◌, List, [], ◌∷◌, ◌++◌, map, length, slice_get, Option, Some, None, Result, Ok, Err}
 use Rattle.std.specs.List.{flat_map}
 use Rattle.mm_line.specs.declared.fault.Fault.TheVariants.{Label, Range, Limit}
@@ -23,7 +23,7 @@ abbrev pub is_label_in : Option Place → ℕ → Bool
 is_label_in None segment = false
 is_label_in (Some p) segment = p.is_label && p.segment == segment
 
--- a branch to what is no label of its segment
+-- a branch to a mark that is no label of its segment
 abbrev pub goal_faults : Draft → ℕ → Option Mark → List Problem
 goal_faults d segment None = []
 goal_faults d segment (Some mark) = fault_if (not (is_label_in (place_of d mark.name) segment)) Label mark.left
@@ -38,7 +38,7 @@ in_source source problems = map (λ problem. record { source = source; problem =
 abbrev pub word_failures : Draft → ℕ → Word → List Failure
 word_failures d segment w = in_source w.source (content_faults d segment w.content)
 
--- of the segments from a number on
+-- the failures of branches in the segments from a number on
 abbrev pub goal_failures : Draft → ℕ → List Segment → List Failure
 goal_failures d segment [] = []
 goal_failures d segment (s ∷ segments) =
@@ -57,7 +57,7 @@ meant_faults d left (Elsewhere name addend) = []
 abbrev pub use_failures : Draft → Use → List Failure
 use_failures d u = in_source u.source (meant_faults d u.target.mark.left (meant d u.target))
 
--- a name that is none of these externals, of which there are as many as an object may have
+-- a name that is none of these externals, which are as many as an object may have
 abbrev pub is_too_many : List (List ℕ) → List ℕ → Bool
 is_too_many names name = nat_le external_limit (length names) && not (is_among name names)
 
@@ -78,7 +78,7 @@ abbrev pub late_of : Result Draft Failure → List Pair
 late_of (Ok d) = map failure_pair (late_failures d)
 late_of (Err failure) = []
 
--- the late faults of a text; where there are early ones, none is looked for
+-- the late faults of a text; a text with an early fault has none
 abbrev pub late_faults : List ℕ → List Pair
 late_faults text = late_of (draft_of text)
 
@@ -86,11 +86,11 @@ abbrev pub or_else : Option Pair → Option Pair → Option Pair
 or_else (Some p) q = Some p
 or_else None q = q
 
--- the first fault of a text: the least of the early ones or, where there is none, the least of the late ones
+-- the first fault of a text: the least of the early ones or, if there is none, the least of the late ones
 unfoldable pub first_fault : List ℕ → Option Pair
 first_fault text = or_else (least (early_faults text)) (least (late_faults text))
 
--- a text means an object: it has a draft without late faults, which comes to the object
+-- a text means an object: the text has a draft without late faults, and the object is the draft's
 pub record Means (text : List ℕ) (o : Object) : Type 0 where
   pub draft : Draft
   pub early : draft_of text ≡ Ok draft

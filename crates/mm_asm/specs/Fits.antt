@@ -1,4 +1,4 @@
--- What of a draft has its place in an object.
+-- Drafts whose parts fit into an object.
 use Rattle.std.specs.Prelude.{◌≡◌, ℕ, ◌+◌, ◌^◌, ◌<◌, true, List, [], ◌∷◌, length, None}
 use Rattle.std.specs.List.{AllByRecursion}
 use Rattle.mm_line.specs.declared.statement.Target as text
@@ -15,12 +15,12 @@ use Rattle.mm_object.specs.Names.{is_name}
 use Rattle.mm_asm.specs.Meaning.{with_goal, target_of}
 use Rattle.mm_asm.specs.Names.{externals_of}
 
--- the fields of a word, with the distance of its label, have their places in it
+-- the fields of a word, with the distance of its label, fit into the word
 abbrev pub FitsContent : Draft → ℕ → Content → Type 0
 FitsContent d k (content.Constant c) = Unit {0}
 FitsContent d k (content.Code code) = FitInWord (with_goal d k code.goal code.fields)
 
--- those of words from word k on
+-- the contents of words from word k on fit into their words
 abbrev pub FitsWords : Draft → ℕ → List Word → Type 0
 FitsWords d k [] = Unit {0}
 FitsWords d k (w ∷ words) = FitsContent d k w.content × FitsWords d (k + 1) words
@@ -30,8 +30,8 @@ pub record FitsSegment (d : Draft) (s : Segment) : Type 0 where
   pub name : is_name s.name ≡ true
   pub words : FitsWords d 0 s.words
 
--- what a target of a draft comes to has a place of 16 and one of 32 bits, and a name that the draft does not have is
--- among its externals
+-- the object's target for a target of a draft has an index of 16 and an addend of 32 bits, and a name that the draft
+-- does not define is among its externals
 pub record FitsTarget (d : Draft) (t : text.Target) : Type 0 where
   pub index : (target_of d t).index < 2 ^ 16
   pub addend : (target_of d t).addend < 2 ^ 32
@@ -45,7 +45,7 @@ abbrev pub FitsPointer : Draft → Content → Type 0
 FitsPointer d (content.Constant c) = FitsConstant d c
 FitsPointer d (content.Code c) = Unit {0}
 
--- so do all targets of words, of which there are fewer than 2^32, and of a thread
+-- the targets of all words, of which there are fewer than 2^32, fit into an object
 abbrev pub FitsPointers : Draft → List Word → Type 0
 FitsPointers d words = (length words < 2 ^ 32) × AllByRecursion (λ (w : Word). FitsPointer d w.content) words
 

@@ -12,7 +12,7 @@ use Rattle.mm_asm.specs.Bounds.{IsDraft}
 abbrev pub DraftsAreBounded : Type 0
 DraftsAreBounded = (text : List ℕ) (d : Draft) → draft_of text ≡ Ok d → IsDraft d
 
--- its targets stand in the order of the text, one on a line at most
+-- the targets of a draft are in the order of the text, at most one on a line
 abbrev pub TargetsStandInOrder : Type 0
 TargetsStandInOrder =
     (text : List ℕ) (d : Draft) → draft_of text ≡ Ok d → IsStrictlyIncreasing (map (λ (u : Use). u.source.line) (uses_of d))
@@ -21,10 +21,10 @@ TargetsStandInOrder =
 abbrev pub MeaningsAreObjects : Type 0
 MeaningsAreObjects = (text : List ℕ) (o : Object) → Means text o → IsObject o
 
--- a text means one object at most
+-- a text means at most one object
 abbrev pub MeaningsAreOne : Type 0
 MeaningsAreOne = (text : List ℕ) (a b : Object) → Means text a → Means text b → a ≡ b
 
--- a text means an object exactly where it has no fault
+-- a text means an object exactly if it has no fault
 abbrev pub TextsMeanOrFail : Type 0
 TextsMeanOrFail = (text : List ℕ) → (first_fault text ≡ None) ↔ ((o : Object) × Means text o)

@@ -1,4 +1,4 @@
--- The object that a draft comes to.
+-- The object of a draft.
 use Rattle.std.specs.Prelude.{ℕ, ◌+◌, ◌==◌, if◌then◌else◌, List, [], ◌∷◌, ◌++◌, map, length, Option, Some, None, ℤ, pos, ◌-ℤ◌, unwrap_or, nat_lt}
 use Rattle.std.specs.List.{range_with_len}
 use Rattle.mm_isa.specs.declared.fields.Fields.{Fields}
@@ -25,7 +25,7 @@ use Rattle.mm_asm.specs.Names.{Meant, Here, Elsewhere, meant, position_of, exter
 
 -- 1. Words.
 
--- how many words a label is ahead of word k, which may come after it
+-- the distance in words from word k to a label, which may come before it
 abbrev pub distance_to : Option Place → ℕ → ℤ
 distance_to None k = pos 0
 distance_to (Some p) k = pos p.word -ℤ pos k
@@ -34,7 +34,7 @@ abbrev pub with_goal : Draft → ℕ → Option Mark → Fields → Fields
 with_goal d k None fields = fields
 with_goal d k (Some mark) fields = record fields { imm = distance_to (place_of d mark.name) k }
 
--- the bits of word k of a segment; a pointer's are 0 until the object is placed
+-- the bits of word k of a segment; the bits of a pointer are 0 until the object is placed
 abbrev pub bits_of : Draft → ℕ → Content → ℕ
 bits_of d k (content.Constant (Integer n)) = n
 bits_of d k (content.Constant (Pointer perm target)) = 0
@@ -65,12 +65,12 @@ content_relocs d segment k (content.Constant (Pointer perm target)) =
     record { segment = segment; word = k; perm = perm; target = target_of d target } ∷ []
 content_relocs d segment k _ = []
 
--- of the words of a segment from word k on
+-- the relocations of the words of a segment from word k on
 abbrev pub words_relocs : Draft → (segment k : ℕ) → List Word → List Reloc
 words_relocs d segment k [] = []
 words_relocs d segment k (w ∷ words) = content_relocs d segment k w.content ++ words_relocs d segment (k + 1) words
 
--- of the segments from a number on
+-- the relocations of the segments from a number on
 abbrev pub segments_relocs : Draft → ℕ → List draft.Segment → List Reloc
 segments_relocs d segment [] = []
 segments_relocs d segment (s ∷ segments) = words_relocs d segment 0 s.words ++ segments_relocs d (segment + 1) segments
@@ -81,7 +81,7 @@ abbrev pub value_of : Draft → Constant → Value
 value_of d (Integer n) = Int n
 value_of d (Pointer perm target) = Ptr perm (target_of d target)
 
--- what a register begins with; one that the text does not set with integer 0
+-- the value that a register begins with: integer 0 if the text does not set it
 abbrev pub register_value : Draft → List Register → ℕ → Value
 register_value d [] k = Int 0
 register_value d (r ∷ registers) k = if r.number == k then value_of d r.value else register_value d registers k
@@ -96,7 +96,7 @@ thread_of d t = record {
   regs = map (register_value d t.registers) (range_with_len 0 16);
 }
 
--- a thread among those by rising slot
+-- a thread inserted among threads by rising slot
 abbrev pub insert_thread : Thread → List Thread → List Thread
 insert_thread t [] = t ∷ []
 insert_thread t (x ∷ threads) = if nat_lt t.slot x.slot then t ∷ x ∷ threads else x ∷ insert_thread t threads

@@ -29,15 +29,16 @@ use mm_draft::{Draft, DraftError, read_draft};
 use mm_object::{Name, Object};
 use std::alloc::Global;
 
-/// The object that a text means, or the first of its faults.
+/// The object that a text means, or the first of its faults. The text has fewer than 2^32 - 1 bytes. `NoMemory` comes
+/// if memory ran out.
 pub fn assemble(alloc: Global, text: &[u8]) -> Result<Object, AsmError>
     requires { length text.now < 2 ^ 32 - 1 }
 
-    // What is answered is meant, and what is meant is answered.
+    // The object that is answered is meant by the text, and an object that the text means is answered.
     ensures means { IfOk result (λ o. Means text.now o) }
     ensures again { (o : ObjectValue) → Means text.now o → IsUnlessNoMemory o result }
 
-    // A fault that is answered is the first one, and where there is one it is answered.
+    // A fault that is answered is the first one, and if there is one it is answered.
     ensures fault { (kind : FaultValue) (line column : ℕ)
         → result ≡ Err (AsmError.Fault kind line column)
         → first_fault text.now ≡ Some (record { line = line; column = column; number = number_of kind }) }
@@ -49,7 +50,7 @@ pub fn assemble(alloc: Global, text: &[u8]) -> Result<Object, AsmError>
     }
 }
 
-// The error that a text without a draft has.
+// The error of a text that has no draft.
 fn early(error: DraftError) -> AsmError
     requires { IsSmallError error }
     ensures { Fails (pair_of_error error) result }
@@ -60,7 +61,7 @@ fn early(error: DraftError) -> AsmError
     }
 }
 
-// The object that a draft comes to, or the first of its faults.
+// The object of a draft, or the first of its faults.
 fn assemble_draft(alloc: Global, draft: &Draft<'_>) -> Result<Object, AsmError>
     requires bounded { IsDraft draft.now }
     requires small { IsFromSmall draft.now }
@@ -78,7 +79,7 @@ fn assemble_draft(alloc: Global, draft: &Draft<'_>) -> Result<Object, AsmError>
     object_of(alloc, draft, names)
 }
 
-// The object that a draft comes to, with these externals.
+// The object of a draft, with these externals.
 #[tactic(auto, unfolding(crate::specs::Meaning::object_of))]
 fn object_of(alloc: Global, draft: &Draft<'_>, externals: Vec<Name>) -> Result<Object, AsmError>
     requires names { externals.items ≡ externals_of draft.now }

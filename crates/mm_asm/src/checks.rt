@@ -1,4 +1,4 @@
-//! The faults that are seen once a whole text was read.
+//! The faults that are found once a whole text was read.
 
 ghost use Rattle.std.specs.Prelude.{◌≡◌, Option, List};
 ghost use Rattle.std.specs.Option.{option_map};
@@ -22,7 +22,7 @@ fn is_label_in(place: Option<Place>, segment: usize) -> bool
     }
 }
 
-// Whether a segment, if there is one, ends at or before an offset.
+// Whether an offset is at or past the end of a segment, or there is no segment.
 fn is_outside(segment: Option<&Segment<'_>>, offset: u128) -> bool
     ensures { result ≡ is_outside (option_map (λ s. s.now) segment.entry) offset }
 {
@@ -32,7 +32,7 @@ fn is_outside(segment: Option<&Segment<'_>>, offset: u128) -> bool
     }
 }
 
-/// Meets the branches to what is no label of their segment.
+/// Meets the branches to marks that are no labels of their segments.
 pub(crate) fn meet_goals(first: &mut Option<Failure>, draft: &Draft<'_>)
     ensures { Meets first.old first.new (goal_failures draft.now 0 draft.now.segments) }
 {
@@ -41,7 +41,7 @@ pub(crate) fn meet_goals(first: &mut Option<Failure>, draft: &Draft<'_>)
     }
 }
 
-// Meets the branches of a segment to what is no label of it.
+// Meets the branches of a segment to marks that are no labels of it.
 fn meet_goals_in(first: &mut Option<Failure>, draft: &Draft<'_>, segment: usize, words: &[Word<'_>])
     ensures { Meets first.old first.new (flat_map (word_failures draft.now segment) words.now) }
 {
@@ -50,7 +50,7 @@ fn meet_goals_in(first: &mut Option<Failure>, draft: &Draft<'_>, segment: usize,
     }
 }
 
-// Meets the branch of a word to what is no label of its segment.
+// Meets the branch of a word, if it is to a mark that is no label of its segment.
 fn meet_goal(first: &mut Option<Failure>, draft: &Draft<'_>, segment: usize, word: &Word<'_>)
     ensures { Meets first.old first.new (word_failures draft.now segment word.now) }
 {
@@ -79,7 +79,7 @@ pub(crate) fn meet_targets(first: &mut Option<Failure>, draft: &Draft<'_>, uses:
     }
 }
 
-// Meets a target that is outside its segment.
+// Meets a target, if it is outside its segment.
 fn meet_target(first: &mut Option<Failure>, draft: &Draft<'_>, u: &Use<'_, '_>)
     ensures { Meets first.old first.new (use_failures draft.now u.now) }
 {

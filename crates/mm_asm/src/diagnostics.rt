@@ -11,7 +11,7 @@ use crate::AsmError;
 use mm_draft::{Failure, Source};
 use mm_line::{Fault, Problem};
 
-// Whether a fault comes before another one in the text or, at the same place, has the lesser number.
+// Whether a fault comes before another one in the text or, at the same place, has the smaller number.
 fn precedes(a: &Failure, b: &Failure) -> bool
     ensures { result ≡ precedes (failure_pair a.now) (failure_pair b.now) }
 {
@@ -23,7 +23,7 @@ fn precedes(a: &Failure, b: &Failure) -> bool
                 || a_place.1 == b_place.1 && a.problem.fault.number() < b.problem.fault.number())
 }
 
-/// Keeps the first of the fault so far and another one.
+/// Keeps the earlier of the first fault so far and another one.
 pub(crate) fn meet(first: &mut Option<Failure>, failure: Failure)
     ensures { Meets first.old first.new (failure ∷ []) }
 {
@@ -33,7 +33,7 @@ pub(crate) fn meet(first: &mut Option<Failure>, failure: Failure)
     }
 }
 
-/// Keeps the first of the fault so far and another one, if something is wrong.
+/// Keeps the earlier of the first fault so far and another one, if something is wrong.
 pub(crate) fn meet_if(first: &mut Option<Failure>, wrong: bool, source: Source, problem: Problem)
     ensures { Meets first.old first.new (in_source source (fault_if wrong problem.fault problem.left)) }
 {

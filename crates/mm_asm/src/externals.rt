@@ -1,4 +1,4 @@
-//! The names that a draft uses and does not have.
+//! The names that a draft uses and does not define.
 
 ghost use Rattle.std.specs.Prelude.{◌≡◌, true, [], IfOk, OnOk};
 ghost use Rattle.std.specs.List.{list_all};
@@ -17,10 +17,10 @@ use mm_line::{Fault, Problem};
 use mm_object::Name;
 use std::alloc::Global;
 
-/// How many names an object may have that it does not have itself.
+/// The most externals of an object.
 const EXTERNALS: usize = 1024;
 
-/// The names that some of the targets have and the draft does not, in the order of their bytes. One name too many is a
+/// The names that some targets have and the draft does not define, in the order of their bytes. One name too many is a
 /// fault.
 pub(crate) fn externals<'a>(
     alloc: Global,
@@ -37,7 +37,7 @@ pub(crate) fn externals<'a>(
     Ok(names)
 }
 
-// The names that some of the targets have and the draft does not, in the order in which they are first seen.
+// The names that some targets have and the draft does not define, in the order in which they are first seen.
 fn first_seen<'a>(
     alloc: Global,
     first: &mut Option<Failure>,
@@ -55,7 +55,7 @@ fn first_seen<'a>(
     Ok(names)
 }
 
-// Adds the name of a target, if the draft does not have it.
+// Adds the name of a target, if the draft does not define it.
 fn add_use<'a>(
     names: &mut IndexSet<&'a [u8]>,
     first: &mut Option<Failure>,
@@ -80,14 +80,14 @@ fn add_use<'a>(
     Ok(())
 }
 
-// Whether a name is none of these, of which there are as many as an object may have.
+// Whether a name is none of these names, and they are as many as an object may have.
 fn is_too_many(names: &IndexSet<&[u8]>, name: &[u8]) -> bool
     ensures { result ≡ is_too_many (bytes_of names.now.keys) name.now }
 {
     names.len() >= EXTERNALS && !names.contains(name)
 }
 
-/// These names, as an object has them.
+/// The names that an object has, made of names of a text.
 pub(crate) fn names_of(alloc: Global, names: &IndexSet<&[u8]>) -> Result<Vec<Name>, AsmError>
     requires { list_all is_name (bytes_of names.now.keys) ≡ true }
     ensures names { IfOk result (λ v. v.items ≡ bytes_of names.now.keys) }
@@ -100,7 +100,7 @@ pub(crate) fn names_of(alloc: Global, names: &IndexSet<&[u8]>) -> Result<Vec<Nam
     Ok(made)
 }
 
-/// The name of these bytes.
+/// The name of bytes that are known to be one.
 pub(crate) fn name_of(bytes: &[u8]) -> Name
     requires { is_name bytes.now ≡ true }
     ensures { result ≡ bytes.now }

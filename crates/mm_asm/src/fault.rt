@@ -1,3 +1,5 @@
+//! Why a text means no object.
+
 ghost use Rattle.std.specs.Prelude.{◌≡◌, Some};
 ghost use Rattle.mm_asm.specs.declared.fault.AsmError.TheVariants.{NoMemory};
 
@@ -8,7 +10,7 @@ use thiserror::Error;
 /// Why a text means no object.
 #[derive(Clone, Copy, Debug, PartialEq, Eq, Error)]
 pub enum AsmError {
-    /// The first fault of the text, and its place: a line and a byte of it, both counted from 1.
+    /// The first fault of the text, and its place: the line, and the byte in the line, both counted from 1.
     #[error("source fault {} at {line}:{column}", .fault.number())]
     Fault {
         fault: AsmFault,

@@ -8,7 +8,7 @@ pub fn drafts_are_bounded()
     ensures { DraftsAreBounded }
 {}
 
-/// The targets of a text stand in its order, one on a line at most.
+/// The targets of a text are in its order, at most one on a line.
 pub fn targets_stand_in_order()
     ensures { TargetsStandInOrder }
 {}
@@ -18,7 +18,7 @@ pub fn meanings_are_objects()
     ensures { MeaningsAreObjects }
 {}
 
-/// A text means one object at most, and it means one exactly where it has no fault.
+/// A text means at most one object, and it means one exactly if it has no fault.
 pub fn texts_mean_or_fail()
     ensures one { MeaningsAreOne }
     ensures exactly { TextsMeanOrFail }

@@ -1,4 +1,4 @@
-//! What targets come to.
+//! The targets and registers of an object.
 
 ghost use Rattle.std.specs.Prelude.{◌≡◌, ◌+◌, ◌*◌, ◌^◌, ◌<◌, true};
 ghost use Rattle.mm_asm.specs.Fits.{FitsTarget, FitsConstant};
@@ -20,7 +20,7 @@ fn compare(name: &Name, bytes: &[u8]) -> Ordering
     name.bytes().cmp(&bytes)
 }
 
-// The place of a name among those that ascend.
+// The index of a name among names that ascend.
 fn position_of(names: &[Name], name: &[u8]) -> usize
     requires up { ascend names.now ≡ true }
     requires among { is_among name.now names.now ≡ true }
@@ -44,7 +44,7 @@ fn here(place: Place, addend: u32) -> Target
     }
 }
 
-// The target that is `addend` bytes after an external, in an object with this many segments.
+// The target that is `addend` bytes after an external, in an object with `segments` segments.
 fn elsewhere(segments: usize, external: usize, addend: u32) -> Target
     requires { segments + external < 2 ^ 16 }
     ensures { result ≡ record { index = segments + external; addend = addend } }
@@ -55,7 +55,7 @@ fn elsewhere(segments: usize, external: usize, addend: u32) -> Target
     }
 }
 
-/// What a target comes to, among the externals of the draft.
+/// The object's target for a target of the draft, among the externals of the draft.
 pub(crate) fn target_of(draft: &Draft<'_>, externals: &[Name], target: &Named<'_>) -> Target
     requires names { externals.now ≡ externals_of draft.now }
     requires fits { FitsTarget draft.now target.now }
@@ -71,7 +71,7 @@ pub(crate) fn target_of(draft: &Draft<'_>, externals: &[Name], target: &Named<'_
     }
 }
 
-/// What a register begins with.
+/// The value that a register begins with.
 pub(crate) fn value_of(draft: &Draft<'_>, externals: &[Name], constant: &Constant<'_>) -> Value
     requires names { externals.now ≡ externals_of draft.now }
     requires fits { FitsConstant draft.now constant.now }

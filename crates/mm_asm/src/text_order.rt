@@ -11,7 +11,7 @@ use mm_line::{Constant, Content, Target};
 use std::alloc::Global;
 use std::marker::Model;
 
-/// A target, and the line that it is in.
+/// A target, and the line that it is on.
 #[derive(Drop)]
 pub(crate) struct Use<'d, 'a> {
     pub target: &'d Target<'a>,
@@ -29,7 +29,7 @@ impl<'d, 'a> Model for Use<'d, 'a> {
 impl<'d, 'a> Use<'d, 'a> {
     ghost use Rattle.std.specs.Prelude.{◌≡◌};
 
-    // The same use once more.
+    // A copy of the use.
     fn again(&self) -> Use<'d, 'a>
         ensures { result ≡ self.now }
     {
@@ -150,7 +150,7 @@ fn push_registers<'d, 'a>(
     Ok(())
 }
 
-// Two lists, each in the order of its lines, in the order of their lines together.
+// Two lists, each in the order of its lines, merged in that order.
 fn merge<'d, 'a>(
     alloc: Global,
     xs: &[Use<'d, 'a>],

@@ -1,4 +1,4 @@
-//! The segments of an object, with the bits of their words.
+//! The segments of an object, and the bits of their words.
 
 ghost use Rattle.std.specs.Prelude.{◌≡◌, map, IfOk, FitsSigned};
 ghost use Rattle.std.specs.Int.{w32};
@@ -17,7 +17,7 @@ use mm_line::{Code, Constant, Content, Mark};
 use mm_object::{Item, Segment};
 use std::alloc::Global;
 
-// How many words a label is ahead of a word, which may come after it.
+// The distance in words from a word to a label, which may come before it.
 fn distance_to(draft: &Draft<'_>, mark: &Mark<'_>, word: usize) -> i32
     requires { FitsSigned w32 (distance_to (place_of draft.now mark.now.name) word) }
     ensures { result ≡ distance_to (place_of draft.now mark.now.name) word }
@@ -42,7 +42,7 @@ fn with_goal(draft: &Draft<'_>, word: usize, code: &Code<'_>) -> Fields
     }
 }
 
-// The bits of a word of a segment. A pointer's are 0 until the object is placed.
+// The bits of a word of a segment. The bits of a pointer are 0 until the object is placed.
 fn bits_of(draft: &Draft<'_>, word: usize, content: &Content<'_>) -> u64
     requires { FitsContent draft.now word content.now }
     ensures { result ≡ bits_of draft.now word content.now }

@@ -1,7 +1,8 @@
 -- The sets of a survey are its audit.
-use Rattle.std.proofs.Common.{◌≡◌, ℕ, ◌%◌, ◌^◌, ◌<◌, ◌≤◌, ◌↔◌, inl, inr, List, [], sym, subst, arith}
+use Rattle.std.proofs.Common.{◌≡◌, ℕ, ◌%◌, ◌^◌, ◌≤◌, ◌↔◌, inl, inr, List, [], sym, subst, arith}
 use Rattle.std.proofs.lemmas.Bool.{cases_lt}
 use Rattle.mm_model.specs.Image.{Image}
+use Rattle.mm_model.specs.Spelling.{IsImage}
 use Rattle.mm_model.specs.Reach.{Entries}
 use Rattle.mm_model.specs.Audit.{MaximalSegments}
 use Rattle.mm_seg.specs.Segments.{IsSet, Covered}
@@ -19,25 +20,27 @@ use Rattle.mm_audit.proofs.Reading.{empty_past, past}
 empty_set : IsSet []
 empty_set = record { segments = λ k lt. absurd (omega arith); rise = λ m n up lt. absurd (omega arith) }
 
+-- a group that no slot can have is granted nothing
+pub none_maximal : (i : Image) (e : Entries) → IsImage i → (access : Access) (g : ℕ) → 64 ≤ g
+    → MaximalSegments i e g (can access) []
+none_maximal i e image access g le = record {
+  ascending = tt;
+  each = λ t. (
+    λ m. absurd (omega (arith, m.1)),
+    λ m. absurd (let lt = granted-small i e image g m.granted.by m.granted.granted in omega arith),
+  );
+}
+
 module _ (i : Image) (e : Entries) (s : SurveyValue) (h : Surveys i e s) where
   module _ (access : Access) (sets : List (List (ℕ × ℕ))) (own : AreGroupSets s.spans access 64 sets) where
     empty : (g : ℕ) → 64 ≤ g → set_of sets g ≡ []
     empty g le = empty_past sets g (let len = own.len in omega arith)
 
-    -- a group of 64 or more is granted nothing
-    none_maximal : (g : ℕ) → 64 ≤ g → MaximalSegments i e g (can access) []
-    none_maximal g le = record {
-      ascending = tt;
-      each = λ t. (
-        λ m. absurd (omega (arith, m.1)),
-        λ m. absurd (let lt = granted-small i e h.image g m.granted.by m.granted.granted in omega arith),
-      );
-    }
-
     maximal : (g : ℕ) → MaximalSegments i e g (can access) (set_of sets g)
     maximal g = elim (cases_lt g 64) [
       | inl lt ↦ subst (MaximalSegments i e g (can access)) (sym (own.each g lt)) (are_maximal i e s.spans h.spans access g)
-      | inr le ↦ subst (MaximalSegments i e g (can access)) (sym (empty g le)) (none_maximal g le)
+      | inr le ↦ subst (MaximalSegments i e g (can access)) (sym (empty g le))
+          (none_maximal i e h.image access g le)
     ]
 
     set_is : (g : ℕ) → IsSet (set_of sets g)

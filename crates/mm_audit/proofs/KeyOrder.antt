@@ -4,15 +4,15 @@ use Rattle.std.specs.declared.cmp.Ordering.TheVariants.{Less}
 use Rattle.std.proofs.Math.Pow.{pow_mono}
 use Rattle.mm_seg.specs.Segments.{IsSegment, end_of}
 use Rattle.mm_seg.proofs.Inserts.{nested_aligned}
-use Rattle.mm_graph.specs.declared.key.Key.{Key}
+use Rattle.mm_graph.specs.declared.canonical_ptr.CanonicalPtr.{CanonicalPtr}
 use Rattle.mm_graph.specs.Key.{IsKey, key_cmp, pointer_at}
 use Rattle.mm_graph.proofs.Standing.{base_below}
 use Rattle.mm_graph.proofs.Nesting.{log_is, aligned_key, base_rises, length_falls}
 
-abbrev pub key_segment : Key → ℕ × ℕ
+abbrev pub key_segment : CanonicalPtr → ℕ × ℕ
 key_segment k = (k.base, 54 - k.narrow)
 
-pub key_is_segment : (k : Key) → IsKey k → 3 ≤ (pointer_at k).log → IsSegment (key_segment k)
+pub key_is_segment : (k : CanonicalPtr) → IsKey k → 3 ≤ (pointer_at k).log → IsSegment (key_segment k)
 key_is_segment k h long =
     let log : 54 - k.narrow ≡ (pointer_at k).log = log_is k h in
     let w = h.well_formed in
@@ -22,7 +22,7 @@ key_is_segment k h long =
     let base = h.base in
     record { low = omega arith; high = omega arith; aligned = aligned_key k h; below = omega arith }
 
-module _ (x y : Key) (less : key_cmp x y ≡ Less) where
+module _ (x y : CanonicalPtr) (less : key_cmp x y ≡ Less) where
   pub end_nests : IsKey x → IsKey y → y.base < end_of (key_segment x) → end_of (key_segment y) ≤ end_of (key_segment x)
   end_nests kx ky inside =
       let up = base_rises x y less in

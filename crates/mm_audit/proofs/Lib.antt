@@ -22,3 +22,4 @@ pub mod Exactly
 mod LeastTable
 pub mod AuditSets
 mod Rows
+mod GroupSegments

@@ -17,13 +17,13 @@ use Rattle.mm_model.specs.Audit.{GrantedSegment}
 use Rattle.mm_flow.specs.declared.node.Node.{Node}
 use Rattle.mm_flow.specs.declared.node.Right.{Right}
 use Rattle.mm_flow.specs.declared.node.Right.TheVariants.{Load, Store, Make}
-use Rattle.mm_flow.specs.Net.{right_at}
+use Rattle.mm_flow.specs.Edges.{right_at}
 use Rattle.mm_flow.specs.Reached.{HasSome}
-use Rattle.mm_summary.specs.Summary.{IsIdle, IsExact, Holds}
-use Rattle.mm_summary.specs.NetOf.{Marked}
-use Rattle.mm_summary.proofs.Segments.{below-can_load, below-can_store}
+use Rattle.mm_graph.specs.Summary.{IsPowerless, IsExact, Holds}
+use Rattle.mm_graph.specs.GraphOf.{Marked}
+use Rattle.mm_graph.proofs.Segments.{below-can_load, below-can_store}
 use Rattle.mm_seg.specs.Segments.{LiesIn}
-use Rattle.mm_graph.specs.declared.key.Key.{Key}
+use Rattle.mm_graph.specs.declared.canonical_ptr.CanonicalPtr.{CanonicalPtr}
 use Rattle.mm_graph.specs.Key.{key_at, no_key, pointer_at}
 use Rattle.mm_graph.specs.Marked.{IsMarked, node_pointer}
 use Rattle.mm_graph.proofs.Nesting.{log_is}
@@ -59,7 +59,7 @@ used_words false true m p l s u = three p.log (and_parts (can_store p.perm) (nat
 used_words false false m p l s (inl u) = absurd (u refl)
 used_words false false m p l s (inr u) = absurd (u refl)
 
-module _ (i : Image) (e : Entries) (image : IsImage i) (keys : List Key) (nodes : List Node) (marks : List ℕ) (m : IsMarked i e keys nodes marks) where
+module _ (i : Image) (e : Entries) (image : IsImage i) (keys : List CanonicalPtr) (nodes : List Node) (marks : List ℕ) (m : IsMarked i e keys nodes marks) where
   pub used_nodes : (k : ℕ) → k < length keys → IsUsed (span_of keys nodes marks k) → 3 ≤ (pointer_at (key_at keys k)).log
   used_nodes k lt u = used_words _ _ (slice_index marks k) (node_pointer keys k) (m.loads k lt) (m.stores k lt) u
 
@@ -106,9 +106,9 @@ module _ (i : Image) (e : Entries) (image : IsImage i) (keys : List Key) (nodes 
               (granted_node o.node o.small (subst (λ v. bit_at v g ≡ 1) (node_mask o.node) (subst (λ v. bit_at (mask access v) g ≡ 1) o.is uses)))
         ]
 
-        not_idle : (q : Pointer) → can access q.perm ≡ true → 3 ≤ q.log → IsIdle q → ⊥
-        not_idle q c long (inl e2) = no_key_right (ap (can access) (sym e2) ∙ c)
-        not_idle q c long (inr short) = let lt = short.0 in omega arith
+        not_powerless : (q : Pointer) → can access q.perm ≡ true → 3 ≤ q.log → IsPowerless q → ⊥
+        not_powerless q c long (inl e2) = no_key_right (ap (can access) (sym e2) ∙ c)
+        not_powerless q c long (inr short) = let lt = short.0 in omega arith
 
         held_by : (t : Span) (q : ℕ × ℕ) → bit_at (mask access t) g ≡ 1 → LiesIn q (span_segment t) → Stands spans t → IsHeld spans access g q
         held_by t q bit within st = record { at = st.at; small = st.small; uses = subst (λ v. bit_at (mask access v) g ≡ 1) (sym st.is) bit; within = subst (λ v. LiesIn q (span_segment v)) (sym st.is) within }
@@ -121,7 +121,7 @@ module _ (i : Image) (e : Entries) (image : IsImage i) (keys : List Key) (nodes 
                 let bit : bit_at (mask access (whole_span privileged)) g ≡ 1 = subst (λ v. bit_at v g ≡ 1) (sym whole_mask) (eqb-true _ _ t) in
                 let top = in_memory (segment_of q) (pointer_segment q (granted-well_formed i e image g q h) long) in
                 held_by (whole_span privileged) (segment_of q) bit (omega arith, top) (s.whole (used (whole_span privileged) (some_bit _ g bit)))
-            from (inr (inl t)) = absurd (not_idle q c long t)
+            from (inr (inl t)) = absurd (not_powerless q c long t)
             from (inr (inr t)) =
                 let k = t.knows in
                 let lt : k.at < length keys = (let l = m.marks_len in let u = k.small in omega arith) in

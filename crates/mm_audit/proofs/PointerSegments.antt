@@ -4,7 +4,7 @@ use Rattle.std.proofs.Math.Nat.{div-mul-le_self, lt-div-mul-add, div-eq_of_lt-le
 use Rattle.std.proofs.lemmas.Bool.{cases_lt}
 use Rattle.std.proofs.lemmas.Nat.{pow_below, shr_high}
 use Rattle.mm_word.specs.Pointer.{Pointer, InSegment, IsBelow, IsWellFormed, base_of}
-use Rattle.mm_summary.proofs.Segments.{inside-log}
+use Rattle.mm_graph.proofs.Segments.{inside-log}
 use Rattle.mm_seg.specs.Segments.{IsSegment, LiesIn, end_of}
 use Rattle.mm_graph.proofs.Standing.{base-block, base_below}
 

@@ -5,7 +5,7 @@ use Rattle.std.proofs.lemmas.List.{get_or_append_left, get_or_push}
 use Rattle.mm_flow.specs.declared.node.Node.{Node}
 use Rattle.mm_seg.specs.Segments.{IsSegment, end_of}
 use Rattle.mm_seg.proofs.Searches.{same_or_below}
-use Rattle.mm_graph.specs.declared.key.Key.{Key}
+use Rattle.mm_graph.specs.declared.canonical_ptr.CanonicalPtr.{CanonicalPtr}
 use Rattle.mm_graph.specs.Key.{IsKey, IsRising, key_at, no_key, pointer_at}
 use Rattle.mm_audit.specs.declared.span.Span.{Span}
 use Rattle.mm_audit.specs.Spans.{AreInOrder, segment_of, span_at, no_span, base_at, end_at}
@@ -59,7 +59,7 @@ module _ (spans : List Span) (s : Span) where
 none_in_order : AreInOrder []
 none_in_order = record { segments = λ n lt. absurd (omega arith); rise = λ m n lt small. absurd (omega arith); nested = λ m n lt small. absurd (omega arith) }
 
-module _ (keys : List Key) (nodes : List Node) (marks : List ℕ) (privileged : ℕ) where
+module _ (keys : List CanonicalPtr) (nodes : List Node) (marks : List ℕ) (privileged : ℕ) where
   -- the whole memory, before any node
   pub spans_first : (new : List Span) → Added (whole_span privileged) [] new → SpansOf keys nodes marks privileged 0 new
   spans_first new (inl a) = subst (SpansOf keys nodes marks privileged 0) (sym a.1) (record {

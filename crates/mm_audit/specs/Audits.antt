@@ -1,4 +1,4 @@
--- What an audit is.
+-- The value of a finished audit, and what it says of an image.
 use Rattle.std.specs.Prelude.{◌≡◌, ℕ, ◌%◌, ◌^◌, ◌<◌, ◌↔◌, List, [], slice_index_or, length}
 use Rattle.std.specs.Int.{bit_at}
 use Rattle.mm_word.specs.Perm.{can_load, can_store}
@@ -12,8 +12,8 @@ use Rattle.mm_audit.specs.declared.meets.Meets.{Meets}
 use Rattle.mm_audit.specs.Serving.{served_of}
 use Rattle.mm_audit.specs.Surveys.{IsLeastTable}
 
--- an audit as contracts see it: the mask of the privileged groups, each group's segments, who serves whom,
--- and of each two groups the least word that the one writes and the other touches
+-- an audit as contracts see it: the mask of the privileged groups, each group's segments, the slots with the groups of
+-- their handlers, and for each two groups the least word that the one writes and the other touches
 pub record ReachValue : Type 0 where
   pub privileged : ℕ
   pub touch : List (List (ℕ × ℕ))
@@ -24,7 +24,7 @@ pub record ReachValue : Type 0 where
 abbrev pub set_of : List (List (ℕ × ℕ)) → ℕ → List (ℕ × ℕ)
 set_of sets g = slice_index_or sets g []
 
--- it is the audit of an image, where these entries may be made
+-- the value is the audit of an image, if these entries may be made
 pub record Audits (i : Image) (e : Entries) (r : ReachValue) : Type 0 where
   pub image : IsImage i
   pub served : r.served ≡ served_of i.slots

@@ -1,4 +1,4 @@
--- Who uses an address, of the spans that begin before or at it.
+-- The groups that use an address, by the spans that begin before or at it.
 use Rattle.std.specs.Prelude.{◌≡◌, ℕ, ◌+◌, ◌-◌, ◌<◌, ◌≤◌, ◌↔◌, List, length, take, slice_index_or}
 use Rattle.std.specs.Int.{bit_at}
 use Rattle.mm_audit.specs.declared.span.Access.{Access}
@@ -20,14 +20,14 @@ abbrev pub users : Access → Open → ℕ
 users Touch o = o.touch
 users Write o = o.write
 
--- the group uses one of the first spans, which ends after the address
+-- the group uses one of the first `top` spans that ends after the address
 pub record IsLive (spans : List Span) (access : Access) (top a g : ℕ) : Type 0 where
   pub span : ℕ
   pub small : span < top
   pub uses : Uses spans access span g
   pub live : a < end_at spans span
 
--- those at the end that end at or before the address are gone
+-- the spans at the top of the stack that end at or before the address are gone
 pub record Closed (base : ℕ) (old new : List Open) : Type 0 where
   pub fits : length new ≤ length old
   pub front : new ≡ take (length new) old
@@ -44,7 +44,7 @@ pub record IsInnermost (stack : List Open) (n a : ℕ) : Type 0 where
   pub holds : a < open_end stack n
   pub last : n + 1 < length stack → open_end stack (n + 1) ≤ a
 
--- Of each address from one on, the innermost open span tells who uses it, of the first spans.
+-- At each address from `from` on, the innermost open span says which groups use it, of the first `top` spans.
 pub record AreOpen (spans : List Span) (top from : ℕ) (stack : List Open) : Type 0 where
   pub fall : (m n : ℕ) → m < n → n < length stack → open_end stack n ≤ open_end stack m
   pub ends : (n : ℕ) → n < length stack → (j : ℕ) × (j < top) × (open_end stack n ≡ end_at spans j)
@@ -53,7 +53,7 @@ pub record AreOpen (spans : List Span) (top from : ℕ) (stack : List Open) : Ty
   pub outside : (access : Access) (a g : ℕ) → from ≤ a → (0 < length stack → open_end stack 0 ≤ a)
       → ¬ IsLive spans access top a g
 
--- it tells who uses the first address of the span at a place
+-- the open span says which groups use the first address of the span at an index
 abbrev pub IsOpenAt : List Span → ℕ → Open → Type 0
 IsOpenAt spans k o =
     (access : Access) (g : ℕ) → (bit_at (users access o) g ≡ 1) ↔ IsLive spans access (k + 1) (base_at spans k) g

@@ -13,7 +13,7 @@ pub record CrossesOut (i : Image) (c : ℕ → Bool) (n : ℕ) : Type 0 where
   pub crosses : Crosses i c n
   pub inside : c crosses.served.group ≡ true
 
--- the least such slot
+-- the least slot of the groups with a handler of another group
 pub record FirstCrossing (i : Image) (c : ℕ → Bool) (n : ℕ) : Type 0 where
   pub crosses : CrossesOut i c n
   pub least : (m : ℕ) → CrossesOut i c m → n ≤ m
@@ -23,12 +23,12 @@ pub record StandAlone (i : Image) (c : ℕ → Bool) : Type 0 where
   pub some : HasSlot i c
   pub closed : HandlersStayInside i c
 
--- why they cannot
+-- why the slots of the groups cannot stand alone
 abbrev pub IsRefused : Image → (ℕ → Bool) → Refused → Type 0
 IsRefused i c refused.NoGroup = HasNoGroup i c
 IsRefused i c (refused.Crosses n) = HasSlot i c × FirstCrossing i c n
 
--- the same of an error; memory is asked for only where they can
+-- why there is no image of the groups alone; memory is asked for only if their slots can stand alone
 abbrev pub IsExtractError : Image → (ℕ → Bool) → ExtractError → Type 0
 IsExtractError i c errors.NoGroup = HasNoGroup i c
 IsExtractError i c (errors.Crosses n) = HasSlot i c × FirstCrossing i c n

@@ -5,7 +5,7 @@ use Rattle.mm_model.specs.Slot.{Slot}
 use Rattle.mm_model.specs.Turn.{is_handler}
 use Rattle.mm_audit.specs.declared.served.Served.{Served}
 
--- a slot with its group and the other's, where the other is its handler
+-- the slot `s` with its group and that of `t`, if `t` is its handler
 abbrev pub served_by : Slot → Slot → List Served
 served_by s t =
     if is_handler t.number s.handler then record { slot = s.number; group = s.group; by = t.group } ∷ [] else []

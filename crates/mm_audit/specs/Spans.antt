@@ -20,12 +20,12 @@ abbrev pub mask : Access → Span → ℕ
 mask Touch s = s.touch
 mask Write s = s.write
 
--- what a permission must be able to
+-- the permission that a use of a word needs
 abbrev pub can : Access → Perm → Bool
 can Touch p = can_load p
 can Write p = can_store p
 
--- what is past the end of a list of spans
+-- the span past the end of a list
 abbrev pub no_span : Span
 no_span = record { base = 0; touch = 0; write = 0; log = 0 }
 
@@ -38,11 +38,11 @@ base_at spans n = (span_at spans n).base
 abbrev pub end_at : List Span → ℕ → ℕ
 end_at spans n = end_of (segment_of (span_at spans n))
 
--- the group uses the span at a place
+-- the group uses the span at an index
 abbrev pub Uses : List Span → Access → ℕ → ℕ → Type 0
 Uses spans access n g = bit_at (mask access (span_at spans n)) g ≡ 1
 
--- segments, ascending by base; what begins within an earlier one ends within it
+-- the spans are segments, ascending by base; a span that begins within an earlier one ends within it
 pub record AreInOrder (spans : List Span) : Type 0 where
   pub segments : (n : ℕ) → n < length spans → IsSegment (segment_of (span_at spans n))
   pub rise : (m n : ℕ) → m < n → n < length spans → base_at spans m ≤ base_at spans n
@@ -55,8 +55,8 @@ pub record IsHeld (spans : List Span) (access : Access) (g : ℕ) (s : ℕ × �
   pub uses : Uses spans access at g
   pub within : LiesIn s (segment_of (span_at spans at))
 
--- the spans of an image: each is the segment of a pointer that the groups are granted, and each such segment lies in one
--- of them
+-- the spans of an image: each is the segment of a pointer that its groups are granted, and the segment of each such
+-- pointer lies in one of them
 pub record AreSpans (i : Image) (e : Entries) (spans : List Span) : Type 0 where
   pub order : AreInOrder spans
   pub granted : (access : Access) (g n : ℕ) → n < length spans → Uses spans access n g

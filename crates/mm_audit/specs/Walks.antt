@@ -5,11 +5,11 @@ use Rattle.mm_audit.specs.declared.span.Span.{Span}
 use Rattle.mm_seg.specs.Segments.{end_of}
 use Rattle.mm_audit.specs.Spans.{mask, segment_of}
 
--- one of the groups uses the span, and it does not begin before the address
+-- one of the groups uses the span, and the span does not begin before the address
 abbrev pub is_next : Access → ℕ → ℕ → Span → Bool
 is_next access groups from s = not (bit_and (mask access s) groups == 0) && nat_le from s.base
 
--- the segments of such spans from an address on, each from the end of the one before
+-- the segments of such spans from an address on, each from the end of the segment before
 abbrev pub outermost : Access → ℕ → ℕ → List Span → List (ℕ × ℕ)
 outermost access groups from [] = []
 outermost access groups from (s ∷ spans) =

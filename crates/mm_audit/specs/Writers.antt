@@ -1,10 +1,10 @@
--- The least word that a group outside writes and one inside touches.
+-- The least word that a group outside writes and a group inside touches.
 use Rattle.std.specs.Prelude.{◌≡◌, ℕ, ◌<◌, ◌≤◌, List, slice_index}
 use Rattle.std.specs.Int.{bit_at}
 use Rattle.mm_audit.specs.declared.meets.Meets.{Meets}
 use Rattle.mm_audit.specs.Meeting.{row_at}
 
--- the row has a word with a group of the mask, below the limit
+-- the row has a word with a group of the mask, whose number is below `top`
 pub record IsWord (row : Meets) (inside top g : ℕ) : Type 0 where
   pub small : g < top
   pub is_in : bit_at inside g ≡ 1
@@ -22,7 +22,7 @@ pub record LeastWith (row : Meets) (inside top w : ℕ) : Type 0 where
 abbrev pub IsOutside : ℕ → ℕ → Type 0
 IsOutside inside g = bit_at inside g ≡ 1 → ⊥
 
--- the least group outside that has a word with one inside, and the least such word
+-- the least group outside that has a word with a group inside, and the least such word
 pub record IsWriter (table : List Meets) (inside h w : ℕ) : Type 0 where
   pub small : h < 64
   pub outside : IsOutside inside h

@@ -1,4 +1,5 @@
-// The image of some groups alone.
+//! The image of some groups alone.
+
 ghost use Rattle.std.specs.Prelude.{IfErr, IfOk};
 ghost use Rattle.mm_model.specs.Groups.{among};
 ghost use Rattle.mm_model.specs.Worlds.{Extracts};
@@ -15,9 +16,9 @@ use std::alloc::Global;
 /// Why there is no image of some groups alone.
 #[derive(Clone, Copy, Debug, PartialEq, Eq)]
 pub enum ExtractError {
-    /// No slot is of one of them.
+    /// No slot is of one of the groups.
     NoGroup,
-    /// The least slot of one of them whose handler is of another group.
+    /// `slot` is the least slot of one of the groups whose handler is of another group.
     Crosses { slot: u8 },
     NoMemory,
 }
@@ -41,7 +42,7 @@ fn own_image(alloc: Global, img: &Image, groups: &[u8]) -> Result<Image, NoMemor
 }
 
 /// The image of these groups alone: their slots, the version, the mode and the frames, and each page with a word that
-/// one of them can touch, whatever is entered. Cells that none of them can touch are integer 0, full.
+/// one of them can touch if anything may be entered. Cells that none of them can touch are integer 0, full.
 pub fn extract(alloc: Global, img: &Image, groups: &[u8]) -> Result<Image, ExtractError>
     ensures alone { IfOk result (λ own. StandAlone img.now (among groups.now)) }
     ensures extracted { IfOk result (λ own. Extracts img.now (among groups.now) own) }

@@ -1,4 +1,5 @@
-// The sets of the groups, where groups that follow one another with the same set share one.
+//! The sets of the groups. Groups that follow one another with the same set share one.
+
 ghost use Rattle.std.specs.Prelude.{◌≡◌, ◌<◌, [], ◌∷◌, ◌++◌, OnOk, length};
 
 use mm_seg::SegSet;
@@ -6,7 +7,7 @@ use mm_word::NoMemory;
 use std::alloc::Global;
 use std::marker::Model;
 
-/// A set of segments for each group from 0 on, and the empty set of all others. Contracts see the set of each group.
+/// A set of segments for each group from 0 on; each further group has the empty set. Contracts see the list of sets.
 #[derive(Drop)]
 pub struct GroupSets {
     pub(crate) sets: Vec<SegSet>,
@@ -28,7 +29,7 @@ impl Model for GroupSets {
 impl GroupSets {
     ghost use Rattle.mm_audit.specs.Audits.{set_of};
 
-    /// The sets of no group.
+    /// No sets.
     pub fn new(alloc: Global) -> GroupSets
         ensures { result ≡ [] }
     {
@@ -39,14 +40,14 @@ impl GroupSets {
         }
     }
 
-    /// How many groups have a set.
+    /// The count of groups that have a set.
     pub fn len(&self) -> usize
         ensures { result ≡ length self.now }
     {
         self.places.len()
     }
 
-    /// The set of a group: empty where none was given.
+    /// The set of a group; empty if none was given.
     pub fn of(&self, group: usize) -> &SegSet
         ensures { result.now ≡ set_of self.now group }
     {
@@ -57,7 +58,7 @@ impl GroupSets {
         }
     }
 
-    /// Gives the next group a set of its own.
+    /// Gives the next group a set of its own. `NoMemory` comes if memory ran out.
     pub fn push(&mut self, set: SegSet) -> Result<(), NoMemory>
         ensures { OnOk result (self.new ≡ self.old ++ set ∷ []) }
     {
@@ -68,7 +69,7 @@ impl GroupSets {
         Ok(())
     }
 
-    /// Gives the next group the set of another.
+    /// Gives the next group the set of another group. `NoMemory` comes if memory ran out.
     pub fn push_same(&mut self, group: usize) -> Result<(), NoMemory>
         requires { group < length self.old }
         ensures { OnOk result (self.new ≡ self.old ++ set_of self.old group ∷ []) }

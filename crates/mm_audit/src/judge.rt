@@ -1,4 +1,5 @@
-// Whether groups stand apart.
+//! Whether groups stand apart.
+
 ghost use Rattle.std.specs.Prelude.{◌≡◌, ◌≢◌, ◌<◌, ◌↔◌, ℕ, min, true, MatchOption, length};
 ghost use Rattle.std.specs.Int.{bit_at};
 ghost use Rattle.mm_model.specs.Groups.{among};
@@ -19,13 +20,14 @@ use crate::writers::writer;
 #[derive(Clone, Copy, Debug, PartialEq, Eq)]
 pub enum Apart {
     Yes,
-    /// The least group outside that can write a word that one inside can touch, and the least such word.
+    /// `group` is the least group outside that can write a word that one inside can touch, and `word` the least such
+    /// word.
     Writer { group: u8, word: u64 },
-    /// The least slot whose handler is on the other side.
+    /// `slot` is the least slot with a handler on the other side.
     Handler { slot: u8 },
 }
 
-/// Whether the group is one of these.
+/// Whether a group is one of these groups.
 pub fn is_inside(groups: &[u8], g: u8) -> bool
     ensures { result ≡ among groups.now g }
 {
@@ -45,7 +47,7 @@ pub fn mask_of(groups: &[u8]) -> u64
     mask
 }
 
-/// The lesser number, or the one that is there.
+/// The lesser of two numbers; `n` if there is no `best`.
 fn lesser(best: Option<u8>, n: u8) -> u8
     ensures { MatchOption best (result ≡ n) (λ v. result ≡ min v n) }
 {
@@ -55,14 +57,14 @@ fn lesser(best: Option<u8>, n: u8) -> u8
     }
 }
 
-/// Whether a slot and its handler are on two sides.
+/// Whether a slot and its handler are on different sides.
 fn crosses(one: Served, groups: &[u8]) -> bool
     ensures { (result ≡ true) ↔ (among groups.now one.group ≢ among groups.now one.by) }
 {
     is_inside(groups, one.group) != is_inside(groups, one.by)
 }
 
-/// The least slot whose handler is on the other side.
+/// The least slot with a handler on the other side.
 pub fn crossing(served: &[Served], groups: &[u8]) -> Option<u8>
     ensures { MatchOption
         result
@@ -79,8 +81,8 @@ pub fn crossing(served: &[Served], groups: &[u8]) -> Option<u8>
     best
 }
 
-/// Whether groups stand apart from all others: the least slot whose handler is on the other side, else the least
-/// group outside that can write a word that one inside can touch, with the least such word.
+/// Whether groups stand apart from all others. If not, the answer is the least slot with a handler on the other side;
+/// or else the least group outside that can write a word that one inside can touch, with the least such word.
 pub fn judge(served: &[Served], least: &[Meets], groups: &[u8]) -> Apart
     requires { AreRows least.now }
     ensures { (i : ImageValue) (e : EntriesValue)

@@ -1,4 +1,5 @@
-// For each two groups the least word that the one writes and the other touches.
+//! For each two groups the least word that the one writes and the other touches.
+
 ghost use Rattle.std.specs.Prelude.{◌≡◌, ◌+◌, IfOk, length};
 ghost use Rattle.mm_audit.specs.Spans.{AreInOrder};
 ghost use Rattle.mm_audit.specs.Meeting.{AreRows, NotesAll, AreNoRows, HaveMet};
@@ -9,7 +10,7 @@ use crate::span::Span;
 use mm_word::NoMemory;
 use std::alloc::Global;
 
-/// A row for each group, in which it meets no other.
+/// A row for each group, in which it meets no other group.
 fn no_rows(alloc: Global) -> Result<Vec<Meets>, NoMemory>
     ensures { IfOk result (λ table. AreNoRows 64 table.items) }
 {
@@ -22,7 +23,7 @@ fn no_rows(alloc: Global) -> Result<Vec<Meets>, NoMemory>
     Ok(table)
 }
 
-/// Notes the word for the groups that write it and those that touch it.
+/// Notes a word for the groups that write it and those that touch it.
 fn note_all(table: &mut [Meets], now: Open, word: u64)
     requires { AreRows table.old }
     ensures { NotesAll now.write now.touch word 64 table.old table.new }
@@ -34,7 +35,7 @@ fn note_all(table: &mut [Meets], now: Open, word: u64)
     }
 }
 
-/// For each group that writes the groups that touch a word that it writes, and the least such word of each.
+/// A row for each group that writes: the groups that touch a word that it writes, and the least such word of each.
 pub fn least_words(alloc: Global, spans: &[Span]) -> Result<Vec<Meets>, NoMemory>
     requires { AreInOrder spans.now }
     ensures { IfOk result (λ table. HaveMet spans.now (length spans.now) table.items) }

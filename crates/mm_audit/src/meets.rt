@@ -1,15 +1,17 @@
-// The words that one group writes and others touch.
+//! The words that one group writes and others touch.
+
 ghost use Rattle.std.specs.Prelude.{◌≡◌, length};
 ghost use Rattle.mm_audit.specs.Meeting.{FillsWords, IsWithout, NotesWord, no_meets};
 
-/// Of one group that writes: which groups touch a word that it can write, and the least such word of each.
+/// The row of one group that writes: a mask of the groups that touch a word that it can write, and the least such word
+/// of each.
 #[derive(Clone, Copy, Debug)]
 pub struct Meets {
     pub groups: u64,
     pub words: [u64; 64],
 }
 
-/// Puts the word at each of these groups.
+/// Puts a word at each of these groups.
 fn fill(words: &mut [u64], groups: u64, word: u64)
     requires { length words.old ≡ 64 }
     ensures { FillsWords groups word 64 words.old words.new }
@@ -21,7 +23,7 @@ fn fill(words: &mut [u64], groups: u64, word: u64)
     }
 }
 
-/// The groups of the one mask that are not of the other.
+/// The groups of one mask that are not in the other.
 fn without(groups: u64, others: u64) -> u64
     ensures { IsWithout groups others result }
 {
@@ -29,7 +31,7 @@ fn without(groups: u64, others: u64) -> u64
 }
 
 impl Meets {
-    /// No group touches a word.
+    /// A row in which no group touches a word.
     pub fn none() -> Meets
         ensures { result ≡ no_meets }
     {
@@ -39,7 +41,7 @@ impl Meets {
         }
     }
 
-    /// Notes the word for each of these groups that has none yet.
+    /// Notes a word for each of these groups that has none yet.
     pub fn note(&mut self, groups: u64, word: u64)
         requires { length self.old.words ≡ 64 }
         ensures { NotesWord groups word self.old self.new }

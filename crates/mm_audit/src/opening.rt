@@ -1,4 +1,5 @@
-// The spans that hold an address, and who uses them.
+//! The spans that hold an address, and the groups that use them.
+
 ghost use Rattle.std.specs.Prelude.{◌≡◌, ◌+◌, ◌<◌, IfOk, length};
 ghost use Rattle.mm_audit.specs.Spans.{AreInOrder, base_at};
 ghost use Rattle.mm_audit.specs.Opening.{Closed, IsLast, AreOpen, IsOpenAt};
@@ -6,7 +7,7 @@ ghost use Rattle.mm_audit.specs.Opening.{Closed, IsLast, AreOpen, IsOpenAt};
 use crate::span::Span;
 use mm_word::NoMemory;
 
-/// A span that is open at an address: where it ends, and who uses it or one around it.
+/// A span that is open at an address: its end, and the groups that use it or a span around it.
 #[derive(Clone, Copy, Debug)]
 pub struct Open {
     pub end: u64,
@@ -14,7 +15,7 @@ pub struct Open {
     pub write: u64,
 }
 
-/// Removes from the end the spans that end at or before the address.
+/// Removes from the top of the stack the spans that end at or before an address.
 fn close(stack: &mut Vec<Open>, base: u64)
     ensures { Closed base stack.old.items stack.new.items }
 {
@@ -23,7 +24,7 @@ fn close(stack: &mut Vec<Open>, base: u64)
     }
 }
 
-/// The innermost open span; one that nobody uses where none is open.
+/// The innermost open span; a span that nobody uses if none is open.
 fn innermost(stack: &[Open]) -> Open
     ensures { IsLast stack.now result }
 {
@@ -37,7 +38,7 @@ fn innermost(stack: &[Open]) -> Open
     }
 }
 
-/// Opens the span at a place, and answers who uses its first address.
+/// Opens the span at an index, and gives the groups that use its first address.
 pub fn enter(stack: &mut Vec<Open>, spans: &[Span], k: usize) -> Result<Open, NoMemory>
     requires order { AreInOrder spans.now }
     requires place { k < length spans.now }

@@ -1,4 +1,5 @@
-// The slots and pages that groups keep.
+//! The slots and pages that groups keep.
+
 ghost use Rattle.std.specs.Prelude.{◌≡◌, ◌*◌, ◌<◌, ◌^◌, IfOk, length};
 ghost use Rattle.mm_model.specs.Groups.{among, own_slots};
 ghost use Rattle.mm_audit.specs.Own.{is_covered, kept_cell, kept_cells, has_word, kept_pages};
@@ -22,14 +23,14 @@ pub fn slots_of(alloc: Global, slots: &[Slot], groups: &[u8]) -> Result<Vec<Slot
     Ok(kept)
 }
 
-/// Whether the set covers the address.
+/// Whether a set covers an address.
 fn covers(set: &SegSet, word: u64) -> bool
     ensures { result ≡ is_covered set.now word }
 {
     set.covers(word)
 }
 
-/// Whether the set covers a word of the page.
+/// Whether a set covers a word of a page.
 fn has_word(set: &SegSet, page: u64) -> bool
     requires { page < 2 ^ 42 }
     ensures { result ≡ has_word (is_covered set.now) page }
@@ -42,7 +43,7 @@ fn has_word(set: &SegSet, page: u64) -> bool
     false
 }
 
-/// The cell, or integer 0, full, in the place of one that is not kept.
+/// The cell, or integer 0, full, if it is not kept.
 fn kept_cell(keep: bool, cell: Cell) -> Cell
     ensures { result ≡ kept_cell keep cell }
 {
@@ -68,7 +69,7 @@ fn cells_of(alloc: Global, set: &SegSet, page: &Page) -> Result<Vec<Cell>, Alloc
     Ok(kept)
 }
 
-/// The page with these cells.
+/// The page with integer 0, full, at the words that the set does not cover.
 fn page_of(alloc: Global, set: &SegSet, page: &Page) -> Result<Page, AllocError>
     ensures { IfOk result (λ kept. kept ≡ (page.now.0, kept_cells (is_covered set.now) (page.now.0 * 4096) page.now.1)) }
 {
@@ -79,7 +80,7 @@ fn page_of(alloc: Global, set: &SegSet, page: &Page) -> Result<Page, AllocError>
     }
 }
 
-/// The pages with a word that the set covers, each with these cells.
+/// The pages with a word that the set covers, each with integer 0, full, at its other words.
 pub fn pages_of(alloc: Global, set: &SegSet, pages: &[Page]) -> Result<Vec<Page>, AllocError>
     ensures { IfOk result (λ kept. kept.items ≡ kept_pages (is_covered set.now) pages.now) }
 {

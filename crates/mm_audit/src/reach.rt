@@ -1,3 +1,5 @@
+//! A finished audit with a set of segments for each group.
+
 ghost use Rattle.std.specs.Prelude.{◌≡◌, ◌<◌, ◌%◌, ◌^◌, ◌↔◌, ℕ, IsTrue};
 ghost use Rattle.std.specs.Int.{bit_at};
 ghost use Rattle.mm_word.specs.Perm.{can_load, can_store};
@@ -13,14 +15,14 @@ use crate::served::Served;
 use mm_seg::SegSet;
 use std::marker::Model;
 
-/// Whether the group is of the mask.
+/// Whether a group is in a mask.
 pub fn is_privileged(mask: u64, group: u8) -> bool
     ensures { IsTrue result ↔ (bit_at mask group ≡ 1) }
 {
     group < 64 && (mask >> group) & 1 == 1
 }
 
-/// A finished audit.
+/// A finished audit: for each group the segments that it can touch and write.
 #[derive(Drop)]
 pub struct Reach {
     pub(crate) privileged: u64,
@@ -77,7 +79,7 @@ impl Reach {
         is_privileged(self.privileged, group)
     }
 
-    /// The maximal segments of at least a word that a group can touch: none where no slot can be of the group.
+    /// The maximal segments of at least a word that a group can touch; none for a group that no slot can have.
     pub fn touch_set(&self, group: u8) -> &SegSet
         ensures { (i : ImageValue) (e : EntriesValue)
             → Audits i e self.now
@@ -86,7 +88,7 @@ impl Reach {
         self.touch.of(group as usize)
     }
 
-    /// The maximal segments of at least a word that a group can write: none where no slot can be of the group.
+    /// The maximal segments of at least a word that a group can write; none for a group that no slot can have.
     pub fn write_set(&self, group: u8) -> &SegSet
         ensures { (i : ImageValue) (e : EntriesValue)
             → Audits i e self.now
@@ -95,8 +97,8 @@ impl Reach {
         self.write.of(group as usize)
     }
 
-    /// Whether groups stand apart from all others: the least slot whose handler is on the other side, else the least
-    /// group outside that can write a word that one inside can touch, with the least such word.
+    /// Whether groups stand apart from all others. If not, the answer is the least slot with a handler on the other
+    /// side; or else the least group outside that can write a word that one inside can touch, with the least such word.
     pub fn apart(&self, groups: &[u8]) -> Apart
         ensures { (i : ImageValue) (e : EntriesValue)
             → Audits i e self.now

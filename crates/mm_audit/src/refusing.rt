@@ -1,4 +1,5 @@
-// Whether the slots of some groups can stand alone.
+//! Whether the slots of some groups can stand alone.
+
 ghost use Rattle.std.specs.Prelude.{◌≡◌, ◌<◌, ◌↔◌, ℕ, true, false, All, IfSome, MatchOption};
 ghost use Rattle.std.specs.List.{list_any};
 ghost use Rattle.std.specs.Int.{bit_at};
@@ -14,9 +15,9 @@ use mm_model::Slot;
 /// Why the slots of some groups cannot stand alone.
 #[derive(Clone, Copy, Debug, PartialEq, Eq)]
 pub enum Refused {
-    /// No slot is of one of them.
+    /// No slot is of one of the groups.
     NoGroup,
-    /// The least slot of one of them whose handler is of another group.
+    /// `slot` is the least slot of one of the groups whose handler is of another group.
     Crosses { slot: u8 },
 }
 
@@ -41,7 +42,7 @@ fn numbers_inside(slots: &[Slot], groups: &[u8]) -> u64
     inside
 }
 
-/// Whether the handler is none of these numbers.
+/// Whether a handler is not one of these numbers.
 fn is_out(inside: u64, handler: Option<u8>) -> bool
     requires { IfSome handler (λ h. h < 64) }
     ensures { result ≡ is_out inside handler }
@@ -52,7 +53,7 @@ fn is_out(inside: u64, handler: Option<u8>) -> bool
     }
 }
 
-/// Whether the slot is one of these numbers, and its handler is none.
+/// Whether a slot is one of these numbers, and its handler is not.
 fn leaves(inside: u64, slot: &Slot) -> bool
     requires number { slot.now.number < 64 }
     requires handler { IfSome slot.now.handler (λ h. h < 64) }
@@ -61,7 +62,7 @@ fn leaves(inside: u64, slot: &Slot) -> bool
     (inside >> slot.number) & 1 == 1 && is_out(inside, slot.handler)
 }
 
-/// The first slot that is one of these numbers and whose handler is none.
+/// The first slot that is one of these numbers and whose handler is not.
 fn first_leaving(inside: u64, slots: &[Slot]) -> Option<u8>
     requires numbers { All (λ (s : SlotValue). s.number < 64) slots.now }
     requires handlers { All (λ (s : SlotValue). IfSome s.handler (λ h. h < 64)) slots.now }
@@ -75,7 +76,7 @@ fn first_leaving(inside: u64, slots: &[Slot]) -> Option<u8>
     None
 }
 
-/// Why the slots of these groups cannot stand alone; none where they can. That there is none of them comes first.
+/// Why the slots of these groups cannot stand alone; `None` if they can. That the groups have no slot comes first.
 pub fn refusal(img: &Image, groups: &[u8]) -> Option<Refused>
     ensures { MatchOption result (StandAlone img.now (among groups.now)) (λ r. IsRefused img.now (among groups.now) r) }
 {

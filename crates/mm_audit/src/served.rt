@@ -1,4 +1,5 @@
-// Who serves whom.
+//! Slots and the groups of their handlers.
+
 ghost use Rattle.std.specs.Prelude.{◌≡◌, ◌++◌, IfOk, OnOk};
 ghost use Rattle.std.specs.List.{flat_map};
 ghost use Rattle.mm_model.specs.Turn.{is_handler};
@@ -13,13 +14,13 @@ use std::alloc::Global;
 pub struct Served {
     /// The slot's number.
     pub slot: u8,
-    /// Its group.
+    /// The group of the slot.
     pub group: u8,
-    /// The group of its handler.
+    /// The group of the slot's handler.
     pub by: u8,
 }
 
-/// Whether the handler is the slot of this number.
+/// Whether a handler is the slot of this number.
 fn is_handler(handler: Option<u8>, number: u8) -> bool
     ensures { result ≡ is_handler number handler }
 {
@@ -29,7 +30,7 @@ fn is_handler(handler: Option<u8>, number: u8) -> bool
     }
 }
 
-/// Adds a slot, if the other is its handler.
+/// Adds the slot `s` with the group of `t`, if `t` is its handler.
 fn add_server(served: &mut Vec<Served>, s: &Slot, t: &Slot) -> Result<(), NoMemory>
     ensures { OnOk result (served.new.items ≡ served.old.items ++ served_by s.now t.now) }
 {

@@ -1,4 +1,5 @@
-// The sets of all groups.
+//! The sets of all groups.
+
 ghost use Rattle.std.specs.Prelude.{◌≡◌, ◌+◌, ◌<◌, ℕ, ◌^◌, IfOk, length};
 ghost use Rattle.std.specs.Int.{bit_at};
 ghost use Rattle.mm_audit.specs.Audits.{set_of};
@@ -31,7 +32,7 @@ pub fn set_of(
     Ok(set)
 }
 
-/// The groups that do not use the same spans as the next one.
+/// The mask of the groups that do not use the same spans as the next group.
 fn changes(spans: &[Span], access: Access) -> u64
     ensures { (g : ℕ) → (bit_at result g ≡ 1 → ⊥) → SameUsers spans.now access g (g + 1) (length spans.now) }
 {

@@ -1,4 +1,5 @@
-// An image without the slots of other groups.
+//! An image without the slots of other groups.
+
 ghost use Rattle.std.specs.Prelude.{◌≡◌, IfErr, IfOk};
 ghost use Rattle.mm_model.specs.Groups.{among};
 ghost use Rattle.mm_model.specs.Worlds.{alone};
@@ -29,8 +30,7 @@ fn with_slots(alloc: Global, img: &Image, groups: &[u8]) -> Result<Image, NoMemo
     }
 }
 
-/// The image without the slots of other groups: the slots of these groups, and the version, the mode, the frames and
-/// all pages as they were.
+/// The image with the slots of these groups only. Version, mode, frames and all pages stay as they were.
 pub fn alone(alloc: Global, img: &Image, groups: &[u8]) -> Result<Image, ExtractError>
     ensures stand { IfOk result (λ own. StandAlone img.now (among groups.now)) }
     ensures own { IfOk result (λ own. own ≡ alone img.now (among groups.now)) }

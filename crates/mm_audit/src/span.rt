@@ -1,9 +1,10 @@
-// Segments with the groups that reach them.
+//! Segments with the groups that use them.
+
 ghost use Rattle.std.specs.Prelude.{◌≡◌};
 ghost use Rattle.mm_seg.specs.Segments.{IsSegment, end_of};
 ghost use Rattle.mm_audit.specs.Spans.{mask, segment_of};
 
-/// How a group uses a word.
+/// How a group uses a word: it touches or writes it.
 #[derive(Clone, Copy, Debug, PartialEq, Eq)]
 pub enum Access {
     Touch,
@@ -15,16 +16,16 @@ pub enum Access {
 pub struct Span {
     /// The least address of the segment.
     pub base: u64,
-    /// The groups that touch it.
+    /// The mask of the groups that touch the segment.
     pub touch: u64,
-    /// The groups that write it.
+    /// The mask of the groups that write the segment.
     pub write: u64,
-    /// The base-2 logarithm of its length.
+    /// The base-2 logarithm of the segment's length in bytes.
     pub log: u8,
 }
 
 impl Span {
-    /// Where it ends.
+    /// The address after the last one of the span.
     pub fn end(self) -> u64
         requires { IsSegment (segment_of self) }
         ensures { result ≡ end_of (segment_of self) }
@@ -32,7 +33,7 @@ impl Span {
         self.base + (1u64 << self.log)
     }
 
-    /// The groups that use it in this way.
+    /// The mask of the groups that use the span in this way.
     pub fn mask(self, access: Access) -> u64
         ensures { result ≡ mask access self }
     {

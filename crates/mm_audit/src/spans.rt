@@ -1,15 +1,16 @@
-// The spans of an image's marks.
+//! The spans of an image's marks.
+
 ghost use Rattle.std.specs.Prelude.{◌≡◌, ◌<◌, ◌≤◌, ℕ, ◌↔◌, All, IfOk, IsTrue, OnOk, length};
 ghost use Rattle.mm_graph.specs.Key.{IsKey, IsRising, key_at, pointer_at};
 ghost use Rattle.mm_audit.specs.Marks.{kept_mask, node_span, span_of, IsUsed, whole_span, SpansOf, Added};
 
 use crate::span::Span;
 use mm_flow::Node;
-use mm_graph::Key;
+use mm_graph::CanonicalPtr;
 use mm_word::NoMemory;
 use std::alloc::Global;
 
-/// The mask, where it is kept.
+/// The mask if it is kept, or else 0.
 fn kept(keep: bool, mask: u64) -> u64
     ensures { result ≡ kept_mask keep mask }
 {
@@ -17,7 +18,7 @@ fn kept(keep: bool, mask: u64) -> u64
 }
 
 /// The span of a node that is marked for these groups.
-fn node_span(key: Key, node: Node, mark: u64) -> Span
+fn node_span(key: CanonicalPtr, node: Node, mark: u64) -> Span
     requires { IsKey key }
     ensures { result ≡ node_span key node mark }
 {
@@ -29,14 +30,14 @@ fn node_span(key: Key, node: Node, mark: u64) -> Span
     }
 }
 
-/// Whether a group uses the span.
+/// Whether a group uses a span.
 fn is_used(span: Span) -> bool
     ensures { IsTrue result ↔ IsUsed span }
 {
     span.touch != 0 || span.write != 0
 }
 
-/// Adds the span, if a group uses it.
+/// Adds a span, if a group uses it.
 fn add(spans: &mut Vec<Span>, span: Span) -> Result<(), NoMemory>
     ensures { OnOk result (Added span spans.old.items spans.new.items) }
 {
@@ -46,7 +47,7 @@ fn add(spans: &mut Vec<Span>, span: Span) -> Result<(), NoMemory>
     Ok(())
 }
 
-/// The whole memory, for these groups.
+/// The span of the whole memory, for these groups.
 fn whole_span(groups: u64) -> Span
     ensures { result ≡ whole_span groups }
 {
@@ -58,10 +59,10 @@ fn whole_span(groups: u64) -> Span
     }
 }
 
-/// The whole memory for the privileged groups, and then the span of each marked node, in their order.
+/// The span of the whole memory for the privileged groups, and then the span of each marked node, in their order.
 pub fn spans_of(
     alloc: Global,
-    keys: &[Key],
+    keys: &[CanonicalPtr],
     nodes: &[Node],
     marks: &[u64],
     privileged: u64,

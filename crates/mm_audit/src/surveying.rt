@@ -1,4 +1,5 @@
-// The survey and the audit.
+//! The survey and the audit of an image.
+
 ghost use Rattle.std.specs.Prelude.{IfOk};
 ghost use Rattle.mm_graph.specs.Masks.{meaning};
 ghost use Rattle.mm_model.specs.Spelling.{IsImage};
@@ -19,15 +20,15 @@ use mm_image::Image;
 use mm_word::NoMemory;
 use std::alloc::Global;
 
-/// The segments of pointers that groups are granted.
+/// The segments of the pointers that groups are granted.
 #[derive(Drop)]
 pub struct Granted {
-    /// The privileged groups.
+    /// The mask of the privileged groups.
     pub privileged: u64,
     pub spans: Vec<Span>,
 }
 
-/// What groups are granted, where these entries may be made.
+/// The segments of the pointers that groups are granted, if these entries may be made.
 pub fn granted_in(alloc: Global, img: &Image, entries: &Entries) -> Result<Granted, NoMemory>
     requires { IsImage img.now }
     ensures privileged { IfOk result (λ g. ArePrivileged img.now (meaning entries.now) g.privileged) }
@@ -41,7 +42,8 @@ pub fn granted_in(alloc: Global, img: &Image, entries: &Entries) -> Result<Grant
     Ok(Granted { privileged, spans })
 }
 
-/// What each group can touch and write, where these entries may be made, in one list for all groups.
+/// The survey of an image, if these entries may be made: what each group can touch and write, in one list for all
+/// groups. `NoMemory` comes if memory ran out.
 pub fn survey(alloc: Global, img: &Image, entries: &Entries) -> Result<Survey, NoMemory>
     ensures { IfOk result (λ s. Surveys img.now (meaning entries.now) s) }
 {
@@ -57,7 +59,8 @@ pub fn survey(alloc: Global, img: &Image, entries: &Entries) -> Result<Survey, N
     })
 }
 
-/// What each group can touch and write, where these entries may be made.
+/// The audit of an image, if these entries may be made: what each group can touch and write, as a set for each.
+/// `NoMemory` comes if memory ran out.
 pub fn audit(alloc: Global, img: &Image, entries: &Entries) -> Result<Reach, NoMemory>
     ensures { IfOk result (λ r. Audits img.now (meaning entries.now) r) }
 {

@@ -1,5 +1,6 @@
-// What groups can reach, in one list for all of them.
-ghost use Rattle.std.specs.Prelude.{◌<◌, ◌↔◌, IfOk, IsTrue};
+//! A finished audit with one list of segments for all groups.
+
+ghost use Rattle.std.specs.Prelude.{◌≡◌, ◌^◌, ◌↔◌, nat_lt, if◌then◌else◌, IsTrue};
 ghost use Rattle.mm_word.specs.Perm.{can_load, can_store};
 ghost use Rattle.mm_model.specs.Image.{Image as ImageValue};
 ghost use Rattle.mm_model.specs.Groups.{among};
@@ -41,6 +42,13 @@ impl Model for Survey {
     ghost invariant = { λ s. AreInOrder s.spans.items × AreRows s.least.items };
 }
 
+/// The mask of a group; it is empty for a group that no slot can have.
+fn mask_of(group: u8) -> u64
+    ensures { result ≡ (if nat_lt group 64 then 2 ^ group else 0) }
+{
+    if group < 64 { 1 << group } else { 0 }
+}
+
 impl Survey {
     ghost use Rattle.mm_audit.specs.Surveys.{Surveys};
     ghost use Rattle.mm_audit.specs.Crossing.{verdict_of};
@@ -52,28 +60,26 @@ impl Survey {
         is_privileged(self.privileged, group)
     }
 
-    /// The maximal segments of at least a word that a group can touch.
+    /// The maximal segments of at least a word that a group can touch: none for a group that no slot can have.
     pub fn touched(&self, group: u8) -> Segments<'_>
-        requires { group < 64 }
         ensures { (i : ImageValue) (e : EntriesValue)
             → Surveys i e self.now
             → MaximalSegments i e group can_load result }
     {
-        Segments::new(&self.spans, Access::Touch, 1u64 << group)
+        Segments::new(&self.spans, Access::Touch, mask_of(group))
     }
 
-    /// The maximal segments of at least a word that a group can write.
+    /// The maximal segments of at least a word that a group can write: none for a group that no slot can have.
     pub fn written(&self, group: u8) -> Segments<'_>
-        requires { group < 64 }
         ensures { (i : ImageValue) (e : EntriesValue)
             → Surveys i e self.now
             → MaximalSegments i e group can_store result }
     {
-        Segments::new(&self.spans, Access::Write, 1u64 << group)
+        Segments::new(&self.spans, Access::Write, mask_of(group))
     }
 
-    /// Whether groups stand apart from all others: the least slot whose handler is on the other side, else the least
-    /// group outside that can write a word that one inside can touch, with the least such word.
+    /// Whether groups stand apart from all others. If not, the answer is the least slot with a handler on the other
+    /// side; or else the least group outside that can write a word that one inside can touch, with the least such word.
     pub fn apart(&self, groups: &[u8]) -> Apart
         ensures { (i : ImageValue) (e : EntriesValue)
             → Surveys i e self.now

@@ -1,4 +1,5 @@
-// The words that groups can touch.
+//! The words that groups can touch.
+
 ghost use Rattle.std.specs.Prelude.{IfOk};
 ghost use Rattle.mm_audit.specs.Own.{CoversTouched};
 
@@ -11,7 +12,7 @@ use mm_seg::SegSet;
 use mm_word::NoMemory;
 use std::alloc::Global;
 
-/// The words that a group of the mask can touch, whatever is entered.
+/// The words that a group of the mask can touch if anything may be entered.
 pub fn touched_by(alloc: Global, img: &Image, groups: u64) -> Result<SegSet, NoMemory>
     ensures { IfOk result (λ set. CoversTouched img.now groups set) }
 {

@@ -1,4 +1,5 @@
-// The outermost spans of groups, one after the other.
+//! The outermost spans of groups, one after the other.
+
 ghost use Rattle.std.specs.Prelude.{◌≡◌, ◌<◌, ◌≤◌, drop, length, IsTrue};
 ghost use Rattle.mm_audit.specs.Spans.{span_at};
 ghost use Rattle.mm_audit.specs.Walks.{is_next, outermost};
@@ -6,16 +7,16 @@ ghost use Rattle.mm_audit.specs.Walks.{is_next, outermost};
 use crate::span::{Access, Span};
 use std::marker::Model;
 
-/// The maximal segments that groups reach, ascending: each a base, and the base-2 logarithm of the length. Contracts
-/// see those that are still to come.
+/// The maximal segments that groups reach, ascending: of each the base, and the base-2 logarithm of the length in
+/// bytes. Contracts see the segments that are still to come.
 #[derive(Drop)]
 pub struct Segments<'a> {
     spans: &'a [Span],
     access: Access,
     groups: u64,
-    /// The place from which the next span is looked for,
+    /// The index at which the search for the next span begins.
     at: usize,
-    /// and where the last segment ended.
+    /// The end of the last segment.
     from: u64,
 }
 
@@ -31,14 +32,14 @@ impl<'a> Model for Segments<'a> {
     ghost invariant = { λ s. AreInOrder s.spans.now × (s.at ≤ length s.spans.now) };
 }
 
-/// Whether one of the groups uses the span in this way, and it does not begin before the address.
+/// Whether one of the groups uses the span in this way, and the span does not begin before the address.
 fn is_next(span: Span, access: Access, groups: u64, from: u64) -> bool
     ensures { result ≡ is_next access groups from span }
 {
     span.mask(access) & groups != 0 && from <= span.base
 }
 
-/// The place of the next such span; the number of spans where there is none.
+/// The index of the next such span; the count of spans if there is none.
 fn next_place(spans: &[Span], access: Access, groups: u64, from: u64, at: usize) -> usize
     requires { at ≤ length spans.now }
     ensures fits { result ≤ length spans.now }
@@ -57,7 +58,7 @@ impl<'a> Segments<'a> {
     ghost use Rattle.std.specs.Prelude.{[], ◌∷◌, MatchOption};
     ghost use Rattle.mm_audit.specs.Spans.{AreInOrder};
 
-    /// Those of these groups.
+    /// The segments of these groups.
     pub(crate) fn new(spans: &'a [Span], access: Access, groups: u64) -> Segments<'a>
         requires { AreInOrder spans.now }
         ensures { result ≡ outermost access groups 0 spans.now }
@@ -71,7 +72,7 @@ impl<'a> Segments<'a> {
         }
     }
 
-    /// The next one.
+    /// The next segment; `None` after the last.
     pub fn next(&mut self) -> Option<(u64, u8)>
         ensures { MatchOption result ((self.old ≡ []) × (self.new ≡ [])) (λ s. self.old ≡ s ∷ self.new) }
     {

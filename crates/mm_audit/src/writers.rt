@@ -1,4 +1,5 @@
-// The least word that a group outside writes and one inside touches.
+//! The least word that a group outside writes and a group inside touches.
+
 ghost use Rattle.std.specs.Prelude.{◌≡◌, ◌<◌, min, MatchOption, length};
 ghost use Rattle.mm_audit.specs.Meeting.{AreRows};
 ghost use Rattle.mm_audit.specs.Writers.{NoneWith, LeastWith, NoWriter, IsWriter};
@@ -14,7 +15,7 @@ fn lesser(a: Option<u64>, b: u64) -> u64
     }
 }
 
-/// The least word of the row with the groups inside.
+/// The least word of a row with the groups inside.
 fn least_with(row: &Meets, inside: u64) -> Option<u64>
     requires { length row.now.words ≡ 64 }
     ensures { MatchOption result (NoneWith row.now inside 64) (λ w. LeastWith row.now inside 64 w) }
@@ -29,7 +30,7 @@ fn least_with(row: &Meets, inside: u64) -> Option<u64>
     best
 }
 
-/// The least group outside that writes what a group inside touches, with the least such word.
+/// The least group outside that writes a word that a group inside touches, with the least such word.
 pub fn writer(table: &[Meets], inside: u64) -> Option<(u8, u64)>
     requires { AreRows table.now }
     ensures { MatchOption result (NoWriter table.now inside) (λ p. IsWriter table.now inside p.0 p.1) }

@@ -1,4 +1,4 @@
--- The words of rights.
+-- The names of rights.
 use Rattle.std.specs.Prelude.{ℕ, List, codes}
 use Rattle.mm_audit_text.specs.declared.right.Right.{Right}
 use Rattle.mm_audit_text.specs.declared.right.Right.TheVariants.{Touch, Write}

@@ -1,4 +1,5 @@
-// The whole text.
+//! The text of an audit.
+
 ghost use Rattle.std.specs.Prelude.{List, ℕ, None, Some};
 ghost use Rattle.mm_io.specs.Sinks.{Writes};
 ghost use Rattle.mm_model.specs.Audit.{IsAudit};
@@ -12,9 +13,9 @@ use mm_image::Image;
 use mm_io::{Sink, WriteFault};
 use mm_text::Gather;
 
-/// Writes the audit of an image by its survey under all entries: for each group that has a slot, ascending, whether it is privileged, the maximal
-/// segments of at least a word that it can touch and that it can write, and whether it stands apart from all others. At a
-/// [`WriteFault`] the sink took a front part.
+/// Writes the audit of an image, given its survey with all entries: for each group that has a slot, ascending, whether
+/// it is privileged, the maximal segments of at least a word that it can touch and that it can write, and whether it
+/// stands apart from all others. After a [`WriteFault`] the sink has taken a prefix of the text.
 pub fn write_audit<O: Sink>(survey: &Survey, img: &Image, out: &mut O) -> Result<(), WriteFault>
     ensures { (text : List ℕ) × Writes O.taken O.faults out.old out.new text result
         × (Surveys img.now All survey.now → IsAudit img.now None text) }
@@ -24,7 +25,8 @@ pub fn write_audit<O: Sink>(survey: &Survey, img: &Image, out: &mut O) -> Result
     text.finish(out)
 }
 
-/// The same without the groups' own answers, and at its end whether these groups together stand apart from all others.
+/// Writes the audit of an image as [`write_audit`] does, but without the groups' own answers; the last line says
+/// whether `groups` together stand apart from all others.
 pub fn write_audit_of<O: Sink>(
     survey: &Survey,
     img: &Image,

@@ -1,4 +1,5 @@
-// What is written of each group.
+//! The lines of each group.
+
 ghost use Rattle.std.specs.Prelude.{◌≡◌, ◌<◌, List, ℕ};
 ghost use Rattle.mm_model.specs.Image.{Image as ImageValue, start};
 ghost use Rattle.mm_model.specs.Groups.{has_group};
@@ -17,7 +18,7 @@ use mm_io::Sink;
 use mm_model::Slot;
 use mm_text::Gather;
 
-/// How many groups there can be.
+/// The count of groups that there can be.
 const GROUPS: u8 = 64;
 
 /// Whether a group has a slot.
@@ -38,7 +39,7 @@ fn put_group<O: Sink>(text: &mut Gather, out: &mut O, survey: &Survey, group: u8
     put_segments(text, out, Right::Write, &mut survey.written(group));
 }
 
-/// Appends what is written of a group where it has a slot, and maybe whether it stands apart.
+/// Appends the lines of a group if it has a slot; with `apart`, also whether it stands apart.
 fn put_present<O: Sink>(
     text: &mut Gather,
     out: &mut O,
@@ -59,7 +60,7 @@ fn put_present<O: Sink>(
     }
 }
 
-/// Appends what is written of each group that has a slot, ascending, each maybe with whether it stands apart.
+/// Appends the lines of each group that has a slot, ascending; with `apart`, each also says whether it stands apart.
 pub fn put_groups<O: Sink>(
     text: &mut Gather,
     out: &mut O,

@@ -1,4 +1,5 @@
-// The lines of an audit.
+//! The lines of an audit.
+
 ghost use Rattle.std.specs.Prelude.{List, ℕ};
 ghost use Rattle.std.specs.List.{flat_map};
 ghost use Rattle.mm_model.specs.Audit.{ApartLine, apart_line, groups_text, kind_line, segment_line, verdict_text};
@@ -62,7 +63,7 @@ pub fn put_segments<O: Sink>(
     }
 }
 
-/// Appends the numbers of groups, with commas between.
+/// Appends the numbers of groups, with commas between them.
 fn put_numbers<O: Sink>(text: &mut Gather, out: &mut O, groups: &[u8])
     ensures { Gathers O.taken O.faults out.old out.new text.old text.new (groups_text groups.now) }
 {
@@ -75,7 +76,7 @@ fn put_numbers<O: Sink>(text: &mut Gather, out: &mut O, groups: &[u8])
     }
 }
 
-/// Appends an answer.
+/// Appends the answer whether groups stand apart.
 fn put_verdict<O: Sink>(text: &mut Gather, out: &mut O, apart: Apart)
     ensures { Gathers O.taken O.faults out.old out.new text.old text.new (verdict_text (verdict_of apart)) }
 {
@@ -98,7 +99,7 @@ fn put_verdict<O: Sink>(text: &mut Gather, out: &mut O, apart: Apart)
     }
 }
 
-/// Appends the line that says whether groups stand apart.
+/// Appends the line that says whether groups stand apart, given the answer.
 fn put_answer<O: Sink>(text: &mut Gather, out: &mut O, groups: &[u8], apart: Apart)
     ensures { Gathers O.taken O.faults out.old out.new text.old text.new (apart_line groups.now (verdict_of apart)) }
 {
@@ -109,7 +110,7 @@ fn put_answer<O: Sink>(text: &mut Gather, out: &mut O, groups: &[u8], apart: Apa
     text.put(out, &[Piece::Text("\n")]);
 }
 
-/// Appends whether groups stand apart from all others.
+/// Appends the line that says whether groups stand apart from all others, by a survey.
 pub fn put_apart<O: Sink>(text: &mut Gather, out: &mut O, survey: &Survey, groups: &[u8])
     ensures { (line : List ℕ) × Gathers O.taken O.faults out.old out.new text.old text.new line
         × ((i : ImageValue) → Surveys i All survey.now → ApartLine i groups.now line) }

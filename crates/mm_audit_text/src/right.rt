@@ -1,15 +1,16 @@
-// What a group can do with the words of a segment.
+//! The rights of groups over the words of a segment.
+
 ghost use Rattle.std.specs.Prelude.{◌≡◌};
 ghost use Rattle.mm_audit_text.specs.Rights.{right_text};
 
-/// What a group can do with the words of a segment.
+/// A right of a group over the words of a segment: to touch or to write them.
 #[derive(Clone, Copy)]
 pub enum Right {
     Touch,
     Write,
 }
 
-/// The word of a right.
+/// The name of a right.
 pub fn right_name(right: Right) -> &'static str
     ensures { result.now ≡ right_text right }
 {

@@ -16,41 +16,41 @@ pub record Cover (ls : List (Option CacheLine)) (m : Memory) : Type 0 where
   pub paged : IsPaged m
   pub lie : LieOver ls m
 
--- a word is read in the line that has its block, and else in the memory
+-- a word is read in the line that has its block, else in the memory
 pub record ReadsAreOver : Type 0 where
   pub hit : (m : Memory) (ls : List (Option CacheLine)) (w : ℕ) (c : Cell) → Cover ls m → cell_at m w ≡ Some c
       → hits ls (block_of w) ≡ true → cell_at (over m ls) w ≡ cell_of ls w
   pub miss : (m : Memory) (ls : List (Option CacheLine)) (w : ℕ) → Cover ls m → hits ls (block_of w) ≡ false
       → cell_at (over m ls) w ≡ cell_at m w
 
--- a cell that is written in its line is written
+-- a cell that is written in its line is written in the memory that is read through the lines
 pub record WritesAreOver : Type 0 where
   pub map : (m : Memory) (ls : List (Option CacheLine)) (w : ℕ) (c : Cell) → Cover ls m → hits ls (block_of w) ≡ true
       → over m (with_cell ls w c) ≡ put_cell (over m ls) w c
   pub cover : (m : Memory) (ls : List (Option CacheLine)) (w : ℕ) (c : Cell) → Cover ls m → hits ls (block_of w) ≡ true
       → Cover (with_cell ls w c) m
 
--- a block that is filled from the memory, into an empty line
+-- an empty line that is filled with its block from the memory changes nothing that is read
 pub record FillsAreOver : Type 0 where
   pub map : (m : Memory) (ls : List (Option CacheLine)) (block : ℕ) (cells : List Cell) → Cover ls m
       → line_in ls (line_of block) ≡ None → block_at m block ≡ Some cells → over m (filled ls block cells) ≡ over m ls
   pub cover : (m : Memory) (ls : List (Option CacheLine)) (block : ℕ) (cells : List Cell) → Cover ls m
       → line_in ls (line_of block) ≡ None → block_at m block ≡ Some cells → Cover (filled ls block cells) m
 
--- a clean line that is emptied
+-- a clean line that is emptied changes nothing that is read
 pub record CleanLinesGo : Type 0 where
   pub map : (m : Memory) (ls : List (Option CacheLine)) (i : ℕ) (l : CacheLine) → Cover ls m → line_in ls i ≡ Some l
       → l.dirty ≡ false → over m (emptied ls i) ≡ over m ls
   pub cover : (m : Memory) (ls : List (Option CacheLine)) (i : ℕ) → Cover ls m → Cover (emptied ls i) m
 
--- a line that is emptied and written back
+-- a line that is emptied and written back changes nothing that is read
 pub record LinesAreWrittenBack : Type 0 where
   pub map : (m : Memory) (ls : List (Option CacheLine)) (i : ℕ) (l : CacheLine) → Cover ls m → line_in ls i ≡ Some l
       → over (put_block m l.block l.cells) (emptied ls i) ≡ over m ls
   pub cover : (m : Memory) (ls : List (Option CacheLine)) (i : ℕ) (l : CacheLine) → Cover ls m → line_in ls i ≡ Some l
       → Cover (emptied ls i) (put_block m l.block l.cells)
 
--- a page that is mapped, or removed with its lines, is so under the lines
+-- a page that is mapped, or removed with its lines, is mapped or removed in the memory that is read through the lines
 pub record PagesAreOver : Type 0 where
   pub map : (m : Memory) (ls : List (Option CacheLine)) (p : ℕ) → Cover ls m → is_mapped m p ≡ false
       → over (map_page m p) ls ≡ map_page (over m ls) p
@@ -63,7 +63,7 @@ pub record PagesAreOver : Type 0 where
   pub mapped : (m : Memory) (ls : List (Option CacheLine)) (p : ℕ) → is_mapped (over m ls) p ≡ is_mapped m p
   pub can_map : (m : Memory) (ls : List (Option CacheLine)) (p : ℕ) → can_map (over m ls) p ≡ can_map m p
 
--- no line yet
+-- empty lines change nothing that is read
 pub record EmptyLinesAreOver : Type 0 where
   pub map : (m : Memory) → over m (replicate 64 None) ≡ m
   pub cover : (m : Memory) → IsPaged m → Cover (replicate 64 None) m

@@ -6,7 +6,7 @@ use Rattle.mm_model.specs.Counted.{block_of, line_of, page_of_block}
 use Rattle.mm_cache.specs.declared.line.CacheLine.{CacheLine}
 use Rattle.mm_cache.specs.declared.line.Victim.{Victim}
 
--- the place of a word's cell in its block
+-- the index of a word's cell in its block
 abbrev pub place_in_block : ℕ → ℕ
 place_in_block word = word % 64 / 8
 
@@ -35,12 +35,12 @@ cell_in_line (Some l) word = if l.block == block_of word then slice_get l.cells 
 abbrev pub cell_of : List (Option CacheLine) → ℕ → Option Cell
 cell_of lines word = cell_in_line (line_in lines (line_of (block_of word))) word
 
--- the block of a line, where it has to be written back
+-- the block of a line, if it has to be written back
 abbrev pub victim_of : Option CacheLine → Option Victim
 victim_of None = None
 victim_of (Some l) = if l.dirty then Some (record { block = l.block; cells = l.cells }) else None
 
--- the line itself, where its block has to be written back
+-- the line itself, if its block has to be written back
 abbrev pub dirty_in : Option CacheLine → Option CacheLine
 dirty_in None = None
 dirty_in (Some l) = if l.dirty then Some l else None
@@ -55,7 +55,7 @@ abbrev pub with_cell : List (Option CacheLine) → ℕ → Cell → List (Option
 with_cell lines word c = slice_set lines (line_of (block_of word))
     (line_with (line_in lines (line_of (block_of word))) word c)
 
--- a block in its line, clean
+-- the lines with a block in its line, clean
 abbrev pub filled : List (Option CacheLine) → ℕ → List Cell → List (Option CacheLine)
 filled lines block cells = slice_set lines (line_of block)
     (Some (record { block = block; dirty = false; cells = cells }))
@@ -67,7 +67,7 @@ abbrev pub line_without : ℕ → Option CacheLine → Option CacheLine
 line_without page None = None
 line_without page (Some l) = if page_of_block l.block == page then None else Some l
 
--- each line without the blocks of a page
+-- the lines without the blocks of a page
 abbrev pub without_page : ℕ → List (Option CacheLine) → List (Option CacheLine)
 without_page page lines = map (line_without page) lines
 

@@ -4,14 +4,14 @@
 ghost use Rattle.mm_cache.specs.Laws.{ReadsAreOver, WritesAreOver, FillsAreOver, CleanLinesGo, LinesAreWrittenBack};
 ghost use Rattle.mm_cache.specs.Laws.{PagesAreOver, EmptyLinesAreOver};
 
-/// A word is read in the line that has its block, and else in the memory; what is written in its line is written.
+/// A word is read in the line that has its block, else in the memory. A write in its line writes the word.
 pub fn cells_are_over()
     ensures reads { ReadsAreOver }
     ensures writes { WritesAreOver }
 {}
 
-/// Lines come and go without a change of what is read: a block that is filled, a clean one that is dropped, one that is
-/// written back.
+/// Lines come and go without a change of what is read: when a block is filled, when a clean one is dropped, and when
+/// one is written back.
 pub fn lines_come_and_go()
     ensures none { EmptyLinesAreOver }
     ensures fills { FillsAreOver }
@@ -19,7 +19,7 @@ pub fn lines_come_and_go()
     ensures back { LinesAreWrittenBack }
 {}
 
-/// A page is mapped under the lines as in the memory, and removed with its lines.
+/// A page that is mapped, or removed with its lines, is mapped or removed in the memory that is read through the lines.
 pub fn pages_are_over()
     ensures { PagesAreOver }
 {}

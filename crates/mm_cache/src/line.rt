@@ -1,3 +1,5 @@
+//! Lines with a block, and blocks to be written back.
+
 ghost use Rattle.std.specs.Prelude.{◌≡◌};
 
 use mm_mem::{BLOCK, Block};

@@ -1,3 +1,5 @@
+//! The lines of the cache.
+
 ghost use Rattle.std.specs.Prelude.{◌≡◌, ◌^◌, ◌<◌, None, length, replicate, true, false};
 ghost use Rattle.mm_model.specs.Counted.{block_of, line_of};
 ghost use Rattle.mm_cache.specs.Lines.{place_in_block, is_in, line_with, line_without};
@@ -7,7 +9,7 @@ use mm_mem::{BLOCK, Block};
 use mm_word::Cell;
 use std::marker::Model;
 
-/// How many lines there are.
+/// The count of lines.
 pub const LINES: usize = 64;
 
 // The block of a word.
@@ -25,7 +27,7 @@ fn line_of(block: u64) -> usize
     (block % 64) as usize
 }
 
-// The place of a word's cell in its block.
+// The index of a word's cell in its block.
 fn place_of(word: u64) -> usize
     ensures place { result ≡ place_in_block word }
     ensures within { result < 8 }
@@ -33,8 +35,8 @@ fn place_of(word: u64) -> usize
     (word % 64 / 8) as usize
 }
 
-// Writes the cell of a word in a line and marks the line as dirty. False exactly where the line does not have the
-// word's block.
+// Writes the cell of a word in a line and marks the line as dirty. `false` exactly if the line does not have the word's
+// block.
 fn write(line: &mut Option<CacheLine>, word: u64, cell: Cell) -> bool
     ensures answer { result ≡ is_in line.old (block_of word) }
     ensures after { line.new ≡ line_with line.old word cell }
@@ -60,7 +62,8 @@ fn has_page(line: &Option<CacheLine>, page: u64) -> bool
     }
 }
 
-/// 64 lines, each empty or with a block, a flag and eight cells. A block is only in the line of its number modulo 64.
+/// 64 lines, each empty or with a block, a flag and eight cells. A block is only in the line whose index is its number
+/// modulo 64.
 #[derive(Drop)]
 pub struct Lines {
     lines: [Option<CacheLine>; LINES],
@@ -82,7 +85,7 @@ impl Lines {
     ghost use Rattle.mm_cache.specs.Lines.{AreLines, line_in, hits, cell_of, victim_of, dirty_in, with_cell, filled};
     ghost use Rattle.mm_cache.specs.Lines.{emptied, without_page};
 
-    /// Empty lines.
+    /// 64 empty lines.
     pub fn new() -> Lines
         ensures { result ≡ replicate 64 None }
     {
@@ -98,7 +101,7 @@ impl Lines {
         *self = Lines::new();
     }
 
-    /// Whether a block is in its line. There are 64 lines, each block is in its own, and has eight cells.
+    /// Whether a block is in its line. Each block of the 64 lines is in its own line, and has eight cells.
     pub fn hit(&self, block: u64) -> bool
         ensures answer { result ≡ hits self.now block }
         ensures placed { AreLines self.now }
@@ -119,7 +122,7 @@ impl Lines {
         }
     }
 
-    /// Writes the cell of a word and marks its line as dirty. False exactly where the word's block is not in its line.
+    /// Writes the cell of a word and marks its line as dirty. `false` exactly if the word's block is not in its line.
     pub fn put(&mut self, word: u64, cell: Cell) -> bool
         ensures answer { result ≡ hits self.old (block_of word) }
         ensures after { self.new ≡ with_cell self.old word cell }
@@ -127,7 +130,7 @@ impl Lines {
         write(&mut self.lines[line_of(block_of(word))], word, cell)
     }
 
-    /// Empties a line, and gives its block exactly where the line was dirty.
+    /// Empties a line, and gives its block exactly if the line was dirty.
     pub fn evict(&mut self, line: u8) -> Option<Victim>
         requires { line < 64 }
         ensures answer { result ≡ victim_of (line_in self.old line) }
@@ -139,7 +142,7 @@ impl Lines {
         }
     }
 
-    /// Empties a line as `evict` does, and gives the line, its cells packed.
+    /// Empties a line as `evict` does, and gives the whole line, its cells packed.
     pub fn evict_packed(&mut self, line: u8) -> Option<CacheLine>
         requires { line < 64 }
         ensures answer { result ≡ dirty_in (line_in self.old line) }

@@ -1,4 +1,4 @@
--- Checkpoints: a state of an image's machine beside the slot that round robin issued last, and the bytes that spell it.
+-- Checkpoints: a state of an image's machine with the slot that round robin issued last, and the bytes that spell it.
 use Rattle.std.specs.Prelude.{◌≡◌, ℕ, suc, ◌<◌, ◌≤◌, false, ◌==◌, if◌then◌else◌, List, [], ◌∷◌, ◌++◌, map, length, codes, Option, Some, None, IfSome}
 use Rattle.std.specs.List.{flat_map, find, AllByRecursion}
 use Rattle.std.specs.Int.{w16, w32, w64, to_be_bytes}
@@ -21,12 +21,13 @@ use Rattle.mm_model.specs.Spelling.{words_spelling, page_record}
 use Rattle.mm_thread.specs.Output.{Output}
 use Rattle.mm_machine.specs.Snapshot.{Parts, IsSnapshot, IsTyped}
 
--- 1. What a checkpoint is.
+-- 1. The parts of a checkpoint.
 
--- what a checkpoint has: the parts of a state, the bytes of each output beside its group, and the slot that round robin issued last
+-- the parts of a checkpoint: those of a state, each group with the bytes of its output, and the slot that was issued
+-- last
 pub record Saved : Type 0 where
   pub slots : List Slot
-  -- each beside the number of the slot in whose queue it is, in the order of its queue
+  -- each event with the number of the slot in whose queue it is, in the order of the queue
   pub events : List (ℕ × Event)
   pub outputs : List (ℕ × List ℕ)
   pub pages : List (ℕ × List Cell)
@@ -43,8 +44,8 @@ saved_of p last = record {
   last = last;
 }
 
--- the rules that the parts of a state keep for an image's checkpoint; those of a machine of the image keep them after at most 1,000,000
--- cycles
+-- the rules that the parts of a state keep for an image's checkpoint; a snapshot of a machine of the image keeps them
+-- after at most 1,000,000 cycles
 pub record IsCheckpoint (i : Image) (p : Parts) (last : Option ℕ) : Type 0 where
   pub rules : IsSnapshot p
   pub typed : IsTyped p
@@ -55,10 +56,10 @@ pub record IsCheckpoint (i : Image) (p : Parts) (last : Option ℕ) : Type 0 whe
   pub outputs : AllByRecursion (λ (o : Output). length o.bytes ≤ output_limit i.version) p.outputs
   -- no load is pending unless the image is split
   pub mode : i.split ≡ false → AllByRecursion (λ (s : Slot). s.pending ≡ []) p.slots
-  -- it need not be a slot of the image
+  -- the last slot need not be one of the image
   pub issued : IfSome last (λ n. n < 64)
 
--- 2. How it is spelled.
+-- 2. The spelling of a checkpoint.
 
 abbrev pub last_byte : Option ℕ → ℕ
 last_byte None = 255
@@ -70,17 +71,17 @@ state_byte Waiting = 1
 state_byte Taken = 2
 state_byte (Halted cause) = 3
 
--- the event of a slot, where it waits
+-- the event of a slot, if it waits
 abbrev pub event_of : List (ℕ × Event) → ℕ → Option Event
 event_of events n = option_map (λ x. x.1) (find (λ x. x.1.slot == n) events)
 
--- why a slot waits, or was halted
+-- the number of the cause for which a slot waits or was halted, else 0
 abbrev pub cause_byte : SlotState → Option Event → ℕ
 cause_byte Waiting (Some event) = number_of event.cause
 cause_byte (Halted (Some cause)) event = number_of cause
 cause_byte _ _ = 0
 
--- how many events stand in a queue before that of a slot
+-- the count of events in a queue before that of a slot
 abbrev pub place_in : List (ℕ × Event) → (queue slot : ℕ) → ℕ
 place_in [] queue slot = 0
 place_in (x ∷ events) queue slot =
@@ -90,11 +91,11 @@ place_in (x ∷ events) queue slot =
 abbrev pub place_byte : List (ℕ × Event) → Slot → ℕ
 place_byte events s = if state_byte s.state == 1 then place_in events (elim s.handler [ None ↦ 0 | Some handler ↦ handler ]) s.number else 0
 
--- a word behind its tag
+-- a tag, and then the word
 abbrev pub tagged_word : Word → List ℕ
 tagged_word word = one_if (is_pointer word) ∷ to_be_bytes w64 (word_bits word)
 
--- the operands of a waiting slot's event, and untagged zeros of others
+-- the operands of a waiting slot's event; untagged zeros if there is no event
 abbrev pub operands : Option Event → List ℕ
 operands None = tagged_word (Int 0) ++ tagged_word (Int 0)
 operands (Some event) = tagged_word event.addr_op ++ tagged_word event.value_op
@@ -102,8 +103,8 @@ operands (Some event) = tagged_word event.addr_op ++ tagged_word event.value_op
 abbrev pub pending_record : Pending → List ℕ
 pending_record p = p.reg ∷ tagged_word p.word
 
--- state, cause, place and past; turns, instruction pointer; which registers hold pointers, which are empty, and the 16 registers; the
--- operands; how many loads are pending, and these, oldest first
+-- the bytes of a slot: state, cause, place and past; turns, instruction pointer; which registers hold pointers, which
+-- are empty, and the 16 registers; the operands; the count of pending loads, and these, oldest first
 unfoldable pub slot_record : List (ℕ × Event) → Slot → List ℕ
 slot_record events s =
     (state_byte s.state ∷ cause_byte s.state (event_of events s.number) ∷ place_byte events s ∷ one_if s.past ∷ [])
@@ -111,11 +112,11 @@ slot_record events s =
     ++ to_be_bytes w16 (number_of_flags (map is_pointer s.regs)) ++ to_be_bytes w16 (number_of_flags s.empty) ++ words_spelling s.regs
     ++ operands (event_of events s.number) ++ (length s.pending ∷ []) ++ flat_map pending_record s.pending
 
--- how many bytes a group has put out, and these
+-- the bytes of an output: the count of bytes that a group has put out, and these bytes
 abbrev pub output_record : ℕ × List ℕ → List ℕ
 output_record output = to_be_bytes w32 (length output.1) ++ output.1
 
--- magic, version, the slot that was issued last, zero, cycles, and how many pages
+-- the header: magic, version, the slot that was issued last, zero, the count of cycles, and the count of pages
 abbrev pub header : Saved → List ℕ
 header c = codes "MMS1" ++ to_be_bytes w16 1 ++ (last_byte c.last ∷ 0 ∷ []) ++ to_be_bytes w64 c.cycles ++ to_be_bytes w16 (length c.pages)
 

@@ -12,17 +12,17 @@ use Rattle.mm_checkpoint.specs.States.{saved_form}
 
 -- 1. Bytes and checkpoints.
 
--- some parts of a state, and a last slot, that bytes spell as a checkpoint of the image
+-- the bytes spell some parts of a state, and a last slot, as a checkpoint of the image
 pub record SomeSaved (i : Image) (bytes : List ℕ) : Type 0 where
   pub parts : Parts
   pub last : Option ℕ
   pub saves : Saves bytes i parts last
 
--- bytes either are a checkpoint of the image or have a first fault
+-- bytes have no fault exactly if they are a checkpoint of the image
 abbrev pub CheckpointsHaveNoFault : Type 0
 CheckpointsHaveNoFault = (i : Image) (bytes : List ℕ) → IsImage i → IsBytes bytes → (save_fault i bytes ≡ None) ↔ SomeSaved i bytes
 
--- bytes are one checkpoint of the image at most
+-- bytes are at most one checkpoint of the image
 abbrev pub CheckpointsAreOne : Type 0
 CheckpointsAreOne = (i : Image) (bytes : List ℕ) (p q : Parts) (last also : Option ℕ) → IsImage i → Saves bytes i p last → Saves bytes i q also → saved_of p last ≡ saved_of q also
 
@@ -32,36 +32,36 @@ CheckpointsAreShort = (i : Image) (bytes : List ℕ) (p : Parts) (last : Option 
 
 -- 2. Checkpoints of runs.
 
--- a snapshot of a state, whose parts keep what their types keep
+-- a snapshot of a state, whose parts keep the invariants of their types
 pub record SomeSnapshot (s : State) : Type 0 where
   pub parts : Parts
   pub of : IsSnapshotOf s parts
   pub typed : IsTyped parts
 
--- there is one of the state of each run of an image
+-- the state of each run of an image has a snapshot
 abbrev pub RunsHaveSnapshots : Type 0
 RunsHaveSnapshots = (i : Image) (items : List ℕ) → IsImage i → SomeSnapshot (run (start i) items)
 
--- what spells a state's saved form is a checkpoint of the image, of a snapshot of the state, and each of it is a byte
+-- the spelling of a state's saved form is a checkpoint of the image, of a snapshot of the state, and consists of bytes
 pub record IsSavedState (i : Image) (s : State) (last : Option ℕ) : Type 0 where
   pub parts : Parts
   pub of : IsSnapshotOf s parts
   pub saves : Saves (spelling (saved_form s last)) i parts last
   pub bytes : IsBytes (spelling (saved_form s last))
 
--- so it is of the state of each run of an image under at most 1,000,000 items, with no last slot, or any below 64
+-- the state of each run of an image under at most 1,000,000 items has such a checkpoint, with no last slot or any below
+-- 64
 abbrev pub RunsHaveCheckpoints : Type 0
 RunsHaveCheckpoints =
     (i : Image) (items : List ℕ) (last : Option ℕ) → IsImage i → length items ≤ 1000000 → IfSome last (λ n. n < 64) → IsSavedState i (run (start i) items) last
 
--- a snapshot of a machine of an image, after at most 1,000,000 items, keeps the rules of its checkpoints
+-- a snapshot of a machine of an image, after at most 1,000,000 items, keeps the rules of the image's checkpoints
 abbrev pub SnapshotsAreCheckpoints : Type 0
 SnapshotsAreCheckpoints =
     (i : Image) (items : List ℕ) (p : Parts) (last : Option ℕ) → IsImage i → length items ≤ 1000000 → IsSnapshotOf (run (start i) items) p → IsTyped p
     → IfSome last (λ n. n < 64) → IsCheckpoint i p last
 
--- parts with one saved form, of which the second keep the rules of snapshots: they are snapshots of the same states, put the same state
--- back, and have the same last slot
+-- if the first parts are a snapshot of a state, so are the second; and both put the same state back
 pub record SameStates (p q : Parts) : Type 0 where
   pub of : (t : State) → IsSnapshotOf t p → IsSnapshotOf t q
   pub restored : (s : State) → restored s p ≡ restored s q
@@ -69,8 +69,8 @@ pub record SameStates (p q : Parts) : Type 0 where
 abbrev pub SavedFormsAreStates : Type 0
 SavedFormsAreStates = (p q : Parts) (last also : Option ℕ) → IsSnapshot q → saved_of p last ≡ saved_of q also → SameStates p q × (last ≡ also)
 
--- the snapshot of a machine of an image, after any list of items, brings the run's state back to a machine at the image's start, and so
--- further items lead where the whole list leads
+-- the snapshot of a machine of an image, after any list of items, brings the run's state back to a machine at the
+-- image's start, and further items then lead where the whole list leads
 abbrev pub RestoredRunsGoOn : Type 0
 RestoredRunsGoOn =
     (i : Image) (items more : List ℕ) (p : Parts) → IsImage i → IsSnapshotOf (run (start i) items) p
@@ -81,7 +81,7 @@ abbrev pub SnapshotsHaveSavedForms : Type 0
 SnapshotsHaveSavedForms =
     (i : Image) (items : List ℕ) (p : Parts) (last : Option ℕ) → IsImage i → IsSnapshotOf (run (start i) items) p → saved_of p last ≡ saved_form (run (start i) items) last
 
--- round robin of so many cycles and then so many more is one round robin, which goes on from the state and the last item
+-- round robin of some cycles, and then of more from the state and the last item after them, is one round robin of all
 abbrev pub RoundRobinGoesOn : Type 0
 RoundRobinGoesOn =
     (s : State) (last : Option ℕ) (first more : ℕ)

@@ -1,4 +1,4 @@
--- What a checkpoint has of a state.
+-- The parts of a state that a checkpoint has.
 use Rattle.std.specs.Prelude.{ℕ, List, map, Option}
 use Rattle.mm_model.specs.Fits.{slots_of}
 use Rattle.mm_model.specs.State.{Core, State, output_of}
@@ -6,7 +6,7 @@ use Rattle.mm_machine.specs.Snapshot.{queued}
 use Rattle.mm_checkpoint.specs.Checkpoints.{Saved}
 use Rattle.mm_checkpoint.specs.Reading.{groups_of}
 
--- each group of a slot, ascending, beside what it has put out
+-- each group of a slot, ascending, with its output
 abbrev pub outputs_of : Core → List (ℕ × List ℕ)
 outputs_of core = map (λ g. (g, output_of core g)) (groups_of (slots_of core))
 

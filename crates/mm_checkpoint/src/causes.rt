@@ -1,4 +1,4 @@
-//! States and causes, by the numbers that a file has for them.
+//! States and causes, by their numbers in a file.
 
 ghost use Rattle.std.specs.Prelude.{◌≡◌};
 ghost use Rattle.mm_checkpoint.specs.Reading.{cause_of, state_of};
@@ -18,7 +18,7 @@ pub(crate) const HALTED: u8 = 3;
 /// The greatest number of a cause.
 const LAST_CAUSE: u8 = 13;
 
-/// The cause of a number, none of 0.
+/// The cause of a number; `None` for a number that is none.
 pub(crate) fn cause_of(number: u8) -> Option<Cause>
     ensures { result ≡ cause_of number }
 {
@@ -40,7 +40,7 @@ pub(crate) fn cause_of(number: u8) -> Option<Cause>
     }
 }
 
-/// The state of a number, with why the slot was halted.
+/// The state of a number, with the cause for which the slot was halted.
 pub(crate) fn state_of(state: u8, cause: u8) -> SlotState
     ensures { result ≡ state_of state cause }
 {
@@ -52,14 +52,14 @@ pub(crate) fn state_of(state: u8, cause: u8) -> SlotState
     }
 }
 
-/// Whether a number is that of no state, or of one that a slot without a handler cannot have.
+/// Whether a number is no state, or a state that a slot without a handler cannot have.
 pub(crate) fn is_bad_state(has_handler: bool, state: u8) -> bool
     ensures { result ≡ is_bad_state has_handler state }
 {
     state > HALTED || !has_handler && (state == WAITING || state == TAKEN)
 }
 
-/// Whether a slot in a state cannot have the cause of a number.
+/// Whether the number of a cause, or 0 for none, is not one that a slot in a state can have.
 pub(crate) fn is_bad_cause(state: u8, cause: u8) -> bool
     ensures { result ≡ is_bad_cause state cause }
 {

@@ -1,4 +1,4 @@
-//! Pending entries of slots in a checkpoint's file.
+//! Pending loads of slots in a checkpoint's file.
 
 ghost use Rattle.std.specs.Prelude.{◌≡◌, ◌+◌, ◌^◌, ◌<◌, IfOk, length};
 ghost use Rattle.std.specs.List.{AllByRecursion};
@@ -16,7 +16,7 @@ use arrayvec::ArrayVec;
 use mm_image::{ImageError, ImageFault, Reader};
 use mm_model::Pending;
 
-// How many registers a mask names.
+// The count of registers in a mask.
 #[tactic(auto, unfolding(crate::specs::Steps::bit_count))]
 fn bit_count(mask: u16) -> usize
     ensures count { result ≡ bit_count mask }
@@ -25,14 +25,14 @@ fn bit_count(mask: u16) -> usize
     (0..16usize).filter(|r| is_set(mask, *r)).count()
 }
 
-// Whether an entry is for a register.
+// Whether one of the pending loads is for a register.
 fn has_entry(entries: &[Pending], register: u8) -> bool
     ensures { result ≡ has_entry entries.now register }
 {
     entries.iter().any(|entry| entry.reg == register)
 }
 
-// Whether an entry behind those for a slot with this mask of empty registers cannot have a number.
+// Whether a pending load cannot be for a register, given the mask of empty registers and the loads before it.
 fn is_bad_entry(empty: u16, earlier: &[Pending], register: u8) -> bool
     ensures { result ≡ is_bad_entry empty earlier.now register }
 {
@@ -42,7 +42,7 @@ fn is_bad_entry(empty: u16, earlier: &[Pending], register: u8) -> bool
     !is_set(empty, usize::from(register)) || has_entry(earlier, register)
 }
 
-// An entry that stands behind those for a slot with this mask of empty registers.
+// The pending load at an offset, given the mask of empty registers and the loads before it.
 fn read_entry(
     reader: &Reader<'_>,
     empty: u16,
@@ -63,7 +63,7 @@ fn read_entry(
     })
 }
 
-/// The pending entries of the slot whose record begins here, with this mask of empty registers.
+/// The pending loads of the slot whose record begins at an offset, given its mask of empty registers.
 #[tactic(auto, unfolding(crate::specs::Reading::entries_at))]
 pub(crate) fn read_entries(
     reader: &Reader<'_>,

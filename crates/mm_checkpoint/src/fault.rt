@@ -7,7 +7,7 @@ use mm_image::ImageError;
 /// Why no checkpoint was read.
 #[derive(Clone, Copy, Debug, PartialEq, Eq)]
 pub enum SaveError {
-    /// The bytes are no checkpoint of the image: where the first fault stands.
+    /// The bytes are no checkpoint of the image: the offset of the first fault, in bytes.
     Fault { offset: u64 },
     NoMemory,
 }

@@ -11,16 +11,16 @@ use mm_image::{ImageError, ImageFault, Reader};
 /// The only version.
 const VERSION: u16 = 1;
 
-/// How many numbers of slots there are.
+/// The numbers of slots are below this one.
 const SLOT_NUMBERS: u8 = 64;
 
-/// What stands for no slot where the last one that was issued is named.
+/// The byte for no slot, in the field of the slot that was issued last.
 const NO_SLOT: u8 = 255;
 
-/// After how many cycles a state can be saved.
+/// The most cycles of a state that is saved.
 const CYCLE_LIMIT: u64 = 1_000_000;
 
-/// What the header says.
+/// The fields of the header.
 #[derive(Clone, Copy)]
 pub(crate) struct Header {
     pub last: Option<u8>,
@@ -28,7 +28,7 @@ pub(crate) struct Header {
     pub pages: u16,
 }
 
-/// The header of a checkpoint of an image with so many frames.
+/// The header of a checkpoint of an image with this count of frames.
 pub(crate) fn read_header(reader: &Reader<'_>, frames: u32) -> Result<Header, ImageError>
     ensures { let bytes = reader.now.bytes.now in Gives (λ h. h) (first_bad (length bytes) (header_places bytes frames)) (header_of bytes) result }
 {

@@ -1,4 +1,4 @@
-//! What stands before the registers in the record of a slot.
+//! The head of a slot's record: the fields before its registers.
 
 ghost use Rattle.std.specs.Prelude.{◌≡◌, ◌^◌, ◌<◌, true, IfOk, length};
 ghost use Rattle.mm_word.specs.Perm.{can_fetch};
@@ -13,25 +13,25 @@ use mm_image::{ImageError, ImageFault, Reader};
 use mm_model::{Slot, SlotState};
 use mm_word::{Cause, GuardedPtr};
 
-/// What stands before the registers.
+/// The head of a slot's record: the fields before its registers.
 #[derive(Clone, Copy)]
 pub(crate) struct Head {
     pub waits: bool,
     pub state: SlotState,
-    /// Why the slot waits or was halted.
+    /// The cause for which the slot waits or was halted.
     pub cause: Option<Cause>,
-    /// Where it waits in its handler's queue.
+    /// The place of the slot's event in its handler's queue.
     pub place: u8,
     pub past: bool,
     pub turns: u64,
     pub ip: GuardedPtr,
-    /// Which registers hold pointers.
+    /// The mask of the registers that hold pointers.
     pub tags: u16,
-    /// Which registers wait for a pending load.
+    /// The mask of the registers that wait for a pending load.
     pub empty: u16,
 }
 
-/// The head of the record that begins here, of a slot of an image of this mode after so many cycles.
+/// The head of the record at an offset, of a slot of an image of this mode after this count of cycles.
 pub(crate) fn read_head(
     reader: &Reader<'_>,
     split: bool,

@@ -1,18 +1,18 @@
-//! Where the fields of a checkpoint's file stand.
+//! The lengths and offsets of the fields of a checkpoint's file.
 
-/// How long the header is, and where the records of slots begin.
+/// The length of the header in bytes, which is where the records of slots begin.
 pub(crate) const HEADER_BYTES: usize = 18;
 
-/// How long the record of a slot is without its pending entries.
+/// The length in bytes of the record of a slot without its pending loads.
 pub(crate) const SLOT_BYTES: usize = 171;
 
-/// How long a pending entry is.
+/// The length in bytes of a pending load.
 pub(crate) const ENTRY_BYTES: usize = 10;
 
-/// How long the record of a page is.
+/// The length in bytes of the record of a page.
 pub(crate) const PAGE_BYTES: usize = 4232;
 
-/// The offsets of the parts of a slot's record behind its instruction pointer.
+/// The offsets in a slot's record of the parts after its instruction pointer.
 pub(crate) const REGISTERS: usize = 24;
 
 pub(crate) const ADDRESS: usize = 152;

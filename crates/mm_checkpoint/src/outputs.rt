@@ -15,13 +15,13 @@ use mm_model::Slot;
 use mm_thread::Output;
 use std::alloc::{AllocError, Global};
 
-/// How long the length of an output is.
+/// The length in bytes of the field for the length of an output.
 const LENGTH_BYTES: usize = 4;
 
-/// How many groups there are at most.
+/// The count of groups that there can be.
 const GROUPS: u8 = 64;
 
-/// How many bytes a group may put out.
+/// The most bytes that a group may put out, by the version of the image.
 pub(crate) fn output_limit(version: u16) -> u32
     ensures limit { result ≡ output_limit version }
     ensures small { result ≤ 65536 }
@@ -46,14 +46,14 @@ pub(crate) fn groups_of(alloc: Global, slots: &[Slot]) -> Result<Vec<u8>, AllocE
         .collect(alloc)
 }
 
-/// What groups have put out, and where that ends.
+/// The outputs of groups, and the offset of their end.
 #[derive(Drop)]
 pub(crate) struct Outputs {
     pub outputs: Vec<Output>,
     pub end: usize,
 }
 
-/// The outputs of groups, which begin here, each of at most so many bytes.
+/// The outputs of groups from an offset on, each of at most `limit` bytes.
 pub(crate) fn read_outputs(
     alloc: Global,
     reader: &Reader<'_>,
@@ -80,7 +80,7 @@ pub(crate) fn read_outputs(
     Ok(Outputs { outputs, end: at })
 }
 
-// The bytes of the output that begins here.
+// The bytes of the output at an offset.
 fn read_output(
     alloc: Global,
     reader: &Reader<'_>,

@@ -11,7 +11,7 @@ use mm_image::{ImageError, ImageFault, Reader};
 use mm_model::Page;
 use std::alloc::Global;
 
-/// So many pages, with ascending numbers, the first of which begins here.
+/// The `count` pages, with ascending numbers, of which the first begins at an offset.
 #[tactic(auto, unfolding(crate::specs::Reading::pages_at))]
 pub(crate) fn read_pages(
     alloc: Global,
@@ -32,7 +32,7 @@ pub(crate) fn read_pages(
     Ok(pages)
 }
 
-/// Whether the file ends behind the last of so many pages, the first of which begins here.
+/// Refuses a file that goes on after the last of its pages, of which the first begins at an offset.
 pub(crate) fn nothing_follows(
     reader: &Reader<'_>,
     first: usize,

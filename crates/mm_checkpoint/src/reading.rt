@@ -21,14 +21,14 @@ use mm_model::{Event, Page, Slot};
 use mm_thread::Output;
 use std::alloc::Global;
 
-/// The state and the last slot that the bytes of a file spell as a checkpoint of an image, or the place of the first fault that is met
-/// when its fields are read from the front.
+/// The state and the last slot that the bytes of a file spell as a checkpoint of an image, or the offset of the first
+/// fault of the fields in their order. `NoMemory` comes if memory ran out.
 pub fn read(alloc: Global, img: &Image, bytes: &[u8]) -> Result<(Snapshot, Option<u8>), SaveError>
-    // What is read is spelled so, and what is spelled so is read.
+    // The checkpoint that is read is spelled by the bytes, and a checkpoint that the bytes spell is read.
     ensures saves { IfOk result (λ read. Saves bytes.now img.now read.0 read.1) }
     ensures again { (p : Parts) (last : Option ℕ) → Saves bytes.now img.now p last → IsUnlessNoMemory (saved_of p last) result }
 
-    // A fault that is answered is the first one, and where there is one it is answered.
+    // A fault that is answered is the first one, and if there is one it is answered.
     ensures fault { (offset : ℕ) → result ≡ Err (SaveError.Fault offset) → save_fault img.now bytes.now ≡ Some offset }
     ensures first { (offset : ℕ) → save_fault img.now bytes.now ≡ Some offset → FailsUnlessNoMemory offset result }
 {
@@ -46,7 +46,7 @@ pub fn read(alloc: Global, img: &Image, bytes: &[u8]) -> Result<(Snapshot, Optio
     }
 }
 
-/// What a checkpoint has.
+/// The parts of a checkpoint.
 #[derive(Drop)]
 struct Checkpoint {
     slots: Vec<Slot>,
@@ -57,7 +57,7 @@ struct Checkpoint {
     last: Option<u8>,
 }
 
-// `read`, part by part.
+// The checkpoint of a file, read part by part.
 fn read_parts(alloc: Global, img: &Image, bytes: &[u8]) -> Result<Checkpoint, ImageError>
     ensures parts { Gives (λ c. saved_of (parts_of c.slots.items c.events.items c.outputs.items c.pages.items c.cycles) c.last) (first_fault img.now bytes.now) (saved_at img.now bytes.now) result }
     ensures image { IsImage img.now }

@@ -20,15 +20,15 @@ use mm_model::{Event, Slot};
 use mm_word::{Cause, Word};
 use std::alloc::{AllocError, Global};
 
-/// What the record of a slot says, and where the next one begins.
+/// The slot of a record, and the offset of the next record.
 #[derive(Drop)]
 pub(crate) struct Record {
     pub slot: Slot,
     pub end: usize,
 }
 
-/// The record that begins here, of a slot of an image of this mode after so many cycles. Where the slot waits, it is added to
-/// those that wait.
+/// The slot of the record at an offset, of a slot of an image of this mode after this count of cycles. If the slot
+/// waits, it is added to those that wait.
 fn read_record(
     reader: &Reader<'_>,
     split: bool,
@@ -64,7 +64,7 @@ fn read_record(
     Ok(Record { slot, end })
 }
 
-// Adds a slot to those that wait, where it waits.
+// Adds a slot to those that wait, if it waits.
 fn push_waiter(
     waiting: &mut Vec<Waiter>,
     known: &Slot,
@@ -94,7 +94,7 @@ fn push_waiter(
     Ok(())
 }
 
-/// What the records of slots say: the slots, those that wait, and where the records end.
+/// The slots of records, those of them that wait, and the offset of the records' end.
 #[derive(Drop)]
 pub(crate) struct Records {
     pub slots: Vec<Slot>,
@@ -102,7 +102,7 @@ pub(crate) struct Records {
     pub end: usize,
 }
 
-/// The records of the slots of an image of this mode after so many cycles.
+/// The slots of the records of an image of this mode after this count of cycles.
 pub(crate) fn read_slots(
     alloc: Global,
     reader: &Reader<'_>,

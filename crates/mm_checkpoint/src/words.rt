@@ -15,7 +15,7 @@ use crate::layout::REGISTERS;
 use mm_image::{ImageError, ImageFault, Reader};
 use mm_word::Word;
 
-/// A bit of a mask, the lowest at place 0.
+/// Whether a bit of a mask is set, the lowest at place 0.
 pub(crate) fn is_set(mask: u16, place: usize) -> bool
     requires { place < 16 }
     ensures { result ≡ bit_of mask place }
@@ -29,7 +29,7 @@ fn is_zero(word: &Word) -> bool
     matches!(word, Word::Int(0))
 }
 
-/// The registers of the slot whose record begins here, with these masks of pointers and of empty registers.
+/// The registers of the slot whose record begins at an offset, given the masks of pointers and of empty registers.
 #[tactic(auto, unfolding(crate::specs::Reading::registers_at))]
 pub(crate) fn read_registers(
     reader: &Reader<'_>,
@@ -53,7 +53,7 @@ pub(crate) fn read_registers(
     Ok(regs)
 }
 
-// The word of a register, integer 0 where it is empty.
+// The word of a register, which is integer 0 if the register is empty.
 #[tactic(auto, using(crate::proofs::Parts::not_zero))]
 fn read_register(
     reader: &Reader<'_>,
@@ -71,7 +71,7 @@ fn read_register(
     Ok(word)
 }
 
-/// A word behind its tag, which is at most a limit: 1, or 0 where no pointer may stand.
+/// The word after its tag. The tag is at most `limit`: 1, or 0 if no pointer is allowed.
 pub(crate) fn read_tagged(reader: &Reader<'_>, limit: u8, at: usize) -> Result<Word, ImageError>
     requires { at < 2 ^ 39 }
     ensures word { let bytes = reader.now.bytes.now in Gives (λ w. w) (first_bad (length bytes) (tagged_places bytes limit at)) (tagged_at bytes at) result }
@@ -90,14 +90,14 @@ fn tag_limit(waits: bool) -> u8
     if waits { 1 } else { 0 }
 }
 
-// Whether a word is no operand, where the slot waits or not.
+// Whether a word is no operand: that of a slot that does not wait is integer 0.
 fn is_bad_operand(waits: bool, word: &Word) -> bool
     ensures { result ≡ (not waits && not (is_zero word.now)) }
 {
     !waits && !is_zero(word)
 }
 
-/// An operand of the event of a slot that waits, and integer 0 where the slot does not.
+/// An operand of the event of a slot that waits; integer 0 if the slot does not wait.
 pub(crate) fn read_operand(reader: &Reader<'_>, waits: bool, at: usize) -> Result<Word, ImageError>
     requires { at < 2 ^ 39 }
     ensures operand { let bytes = reader.now.bytes.now in Gives (λ w. w) (first_bad (length bytes) (operand_places bytes waits at)) (tagged_at bytes at) result }

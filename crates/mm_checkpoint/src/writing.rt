@@ -19,26 +19,27 @@ use mm_thread::Output;
 use mm_word::{NoMemory, Word};
 use std::alloc::{AllocError, Global};
 
-/// How long the record of a slot is at most, with 16 pending loads.
+/// The most bytes of the record of a slot, with 16 pending loads.
 const MOST_SLOT_BYTES: usize = SLOT_BYTES + 16 * ENTRY_BYTES;
 
-/// How long the length of an output is.
+/// The length in bytes of the field for the length of an output.
 const LENGTH_BYTES: usize = 4;
 
 const VERSION: u16 = 1;
 
-/// What stands for the slot that was issued last where none was.
+/// The byte for the slot that was issued last, if none was.
 const NONE_ISSUED: u8 = 255;
 
-/// The event of a waiting slot, and how many events stand before it in the queue of the slot's handler.
+/// The event of a waiting slot, and the count of events before it in the queue of the slot's handler.
 #[derive(Clone, Copy)]
 struct QueuedEvent {
     event: Event,
     place: u8,
 }
 
-/// The bytes of a checkpoint: the state of a snapshot, and the slot that round robin issued last. The snapshot has the slots of the
-/// image and keeps the rules of its checkpoints, as one of a machine of the image does after at most 1,000,000 cycles.
+/// The bytes of a checkpoint: the state of a snapshot, and the slot that round robin issued last. The snapshot has the
+/// slots of the image and keeps the rules of its checkpoints, as a snapshot of a machine of the image does after at
+/// most 1,000,000 cycles. `NoMemory` comes if memory ran out.
 pub fn write(
     alloc: Global,
     img: &Image,
@@ -75,7 +76,7 @@ fn spelled(
     Ok(out)
 }
 
-// How long the records of the outputs are.
+// The length in bytes of the records of outputs.
 fn length_of(outputs: &[Output]) -> usize
     requires few { length outputs.now ≤ 64 }
     requires short { AllByRecursion (λ (o : OutputValue). length o.bytes ≤ 65536) outputs.now }
@@ -129,7 +130,7 @@ fn put_slot(out: &mut Vec<u8>, slot: &Slot, events: &[(u8, Event)]) -> Result<()
     Ok(())
 }
 
-// The event of a slot, where it waits, and its place in the queue of the slot's handler.
+// The event of a slot, if it waits, with its place in the queue of the slot's handler.
 fn event_of(events: &[(u8, Event)], number: u8, handler: Option<u8>) -> Option<QueuedEvent>
     requires { length events.now ≤ 64 }
     ensures event { option_map (λ q. q.event) result ≡ event_of events.now number }
@@ -150,7 +151,7 @@ fn event_of(events: &[(u8, Event)], number: u8, handler: Option<u8>) -> Option<Q
     None
 }
 
-// Whether a slot takes turns and why it does not, the place of its event, and whether it is past its segment.
+// Appends the state of a slot, its cause, the place of its event, and whether it is past its segment.
 fn put_state(out: &mut Vec<u8>, slot: &Slot, queued: Option<&QueuedEvent>) -> Result<(), AllocError>
     ensures { OnOk result (out.new.items ≡ out.old.items ++ (state_byte slot.now.state ∷ cause_byte slot.now.state (option_map (λ q. q.now.event) queued.entry) ∷ unwrap_or (option_map (λ q. q.now.place) queued.entry) 0 ∷ one_if slot.now.past ∷ [])) }
 {
@@ -175,7 +176,7 @@ fn state_byte(state: SlotState) -> u8
     }
 }
 
-// Why a slot waits, or was halted.
+// The number of the cause for which a slot waits or was halted, else 0.
 fn cause_byte(state: SlotState, queued: Option<&QueuedEvent>) -> u8
     ensures { result ≡ cause_byte state (option_map (λ q. q.now.event) queued.entry) }
 {
@@ -189,7 +190,7 @@ fn cause_byte(state: SlotState, queued: Option<&QueuedEvent>) -> u8
     }
 }
 
-// Which registers hold pointers, which wait for a load, and their words.
+// Appends the masks of the registers that hold pointers and of those that wait for a load, and the registers' words.
 fn put_registers(out: &mut Vec<u8>, slot: &Slot) -> Result<(), AllocError>
     ensures { OnOk result (out.new.items ≡ out.old.items ++ (to_be_bytes w16 (number_of_flags (map is_pointer slot.now.regs)) ++ to_be_bytes w16 (number_of_flags slot.now.empty) ++ words_spelling slot.now.regs)) }
 {
@@ -215,7 +216,7 @@ fn put_operands(out: &mut Vec<u8>, queued: Option<&QueuedEvent>) -> Result<(), A
     Ok(())
 }
 
-// A word behind its tag.
+// Appends a word after its tag.
 fn put_tagged(out: &mut Vec<u8>, word: &Word) -> Result<(), AllocError>
     ensures { OnOk result (out.new.items ≡ out.old.items ++ tagged_word word.now) }
 {

@@ -1,4 +1,4 @@
--- Breaks and watches: lists in rising order, no two entries the same, of at most 64.
+-- Breaks and watches: lists of up to 64 entries in rising order, all different.
 use Rattle.std.specs.Prelude.{◌≡◌, ℕ, ◌/◌, ◌%◌, ◌≤◌, Bool, true, false, ◌&&◌, ◌==◌, nat_lt, if◌then◌else◌, List, [], ◌∷◌, length, slice_index_or}
 use Rattle.std.specs.List.{list_any, AllByRecursion}
 use Rattle.std.specs.List.Sorted.{IsStrictlySortedBy}
@@ -7,16 +7,16 @@ use Rattle.std.specs.declared.cmp.Ordering.TheVariants.{Less, Equal, Greater}
 use Rattle.std.specs.Ordering.{nat_cmp, ordering_then}
 use Rattle.mm_debug.specs.declared.breakpoints.Break.{Break}
 
--- the most that are kept of each
+-- the most breaks, and the most watches, that are kept
 abbrev pub entry_limit : ℕ
 entry_limit = 64
 
--- Entries in rising order, no two the same, of which there are not too many.
+-- The entries are in rising order, all different, and not too many.
 pub record AreEntries {A : Type 0} (cmp : A → A → Ordering) (entries : List A) : Type 0 where
   pub rise : IsStrictlySortedBy cmp entries
   pub few : length entries ≤ entry_limit
 
--- a break by its slot, and then by its address
+-- the order of breaks: by slot, and then by address
 abbrev pub break_cmp : Break → Break → Ordering
 break_cmp x y = ordering_then (nat_cmp x.slot y.slot) (nat_cmp x.address y.address)
 
@@ -27,7 +27,7 @@ is_break slot address b = (b.slot == slot) && (b.address == address)
 abbrev pub has_break : List Break → ℕ → ℕ → Bool
 has_break breaks slot address = list_any (is_break slot address) breaks
 
--- one of 1,024 spots, those of neighbouring words not the same
+-- one of 1,024 spots; neighbouring words have different ones
 abbrev pub spot_of : ℕ → ℕ
 spot_of address = address / 8 % 1024
 
@@ -45,25 +45,25 @@ module _ {A : Type 0} (cmp : A → A → Ordering) where
   before Equal x y ys more = y ∷ ys
   before Greater x y ys more = y ∷ more
 
-  -- the list with this entry in its place; as it is where it has the entry already
+  -- the list with this entry in its place; the same list if it has the entry already
   unfoldable pub placed : A → List A → List A
   placed x [] = x ∷ []
   placed x (y ∷ ys) = before (cmp x y) x y ys (placed x ys)
 
--- there is room for one entry more, or it is there already
+-- there is room for one entry more, or the list has the entry already
 abbrev pub fits : {A : Type 0} → (there : Bool) → List A → Bool
 fits true entries = true
 fits false entries = nat_lt (length entries) entry_limit
 
--- a list after an entry is set: as it is where the entry is there already, or where there is no room for it
+-- a list after an entry is set; the same list if it has the entry already, or has no room for it
 abbrev pub entered : {A : Type 0} → (there : Bool) → (entries with_it : List A) → List A
 entered true entries with_it = entries
 entered false entries with_it = if nat_lt (length entries) entry_limit then with_it else entries
 
--- the breaks after one is set
+-- the breaks after a break is set
 abbrev pub with_break : List Break → Break → List Break
 with_break breaks b = entered (has_break breaks b.slot b.address) breaks (placed break_cmp b breaks)
 
--- the watches after one is set
+-- the watches after a watch is set
 abbrev pub with_watch : List ℕ → ℕ → List ℕ
 with_watch watches word = entered (has_watch watches word) watches (placed nat_cmp word watches)

@@ -1,4 +1,4 @@
--- The lines of an input, and what a line asks for.
+-- The lines of an input, and the command of a line.
 use Rattle.std.specs.Prelude.{ℕ, ◌+◌, ◌*◌, ◌%◌, ◌^◌, Bool, true, false, not, ◌&&◌, ◌||◌, ◌==◌, nat_lt, nat_le, if◌then◌else◌, List, [], ◌∷◌, codes, Option, Some, None}
 use Rattle.std.specs.Str.{bytes_eq}
 use Prim.Native.Char.{code}
@@ -10,17 +10,17 @@ use Rattle.mm_debug.specs.declared.command.Command.TheVariants.{Nothing, Step, R
 
 -- 1. Lines and their tokens.
 
--- a byte in front of the first of some pieces, or as a piece by itself
+-- a byte before the first of some pieces, or as a piece by itself
 abbrev pub led_by : ℕ → List (List ℕ) → List (List ℕ)
 led_by b [] = (b ∷ []) ∷ []
 led_by b (piece ∷ pieces) = (b ∷ piece) ∷ pieces
 
--- the lines of an input, which is cut at newlines; a last one without a newline is a line where it is not empty
+-- the lines of an input, which is cut at newlines; a last part without a newline is a line if it is not empty
 abbrev pub lines_of : List ℕ → List (List ℕ)
 lines_of [] = []
 lines_of (b ∷ bytes) = if b == code "\n" then [] ∷ lines_of bytes else led_by b (lines_of bytes)
 
--- space, tab and carriage return
+-- a blank: space, tab or carriage return
 abbrev pub is_blank : ℕ → Bool
 is_blank b = b == code " " || b == code "\t" || b == code "\r"
 
@@ -37,7 +37,7 @@ tokens (b ∷ bytes) =
     else if goes_on bytes then led_by b (tokens bytes)
     else (b ∷ []) ∷ tokens bytes
 
--- a token in front of others, where it is one
+-- a token before others, if it is not empty
 abbrev pub with_token : List ℕ → List (List ℕ) → List (List ℕ)
 with_token [] tokens = tokens
 with_token (b ∷ bytes) tokens = (b ∷ bytes) ∷ tokens
@@ -49,7 +49,7 @@ abbrev pub unsigned : Token → (rest : List ℕ) → Option ℕ
 unsigned (Number false n) [] = Some n
 unsigned _ _ = None
 
--- the number that a token writes, as in a source: decimal digits, or `0x` and hexadecimal digits, below 2^64
+-- the number that a token is, as in a source: decimal digits, or `0x` and hexadecimal digits, below 2^64
 abbrev pub number_of : List ℕ → Option ℕ
 number_of token = unsigned (next_token token).token (next_token token).rest
 
@@ -59,33 +59,33 @@ abbrev pub if_in_range : Bool → Command → Command
 if_in_range true command = command
 if_in_range false command = Bad
 
--- 1 to 1,000,000 cycles
+-- a count of cycles that a `step` may have: 1 to 1,000,000
 abbrev pub is_count : ℕ → Bool
 is_count n = nat_le 1 n && nat_le n 1000000
 
--- one of 64 numbers
+-- a number that a slot may have: 0 to 63
 abbrev pub is_slot : ℕ → Bool
 is_slot n = nat_lt n 64
 
 abbrev pub is_address : ℕ → Bool
 is_address a = nat_lt a (2 ^ 54)
 
--- a multiple of 8
+-- the address of a word: a multiple of 8
 abbrev pub is_word : ℕ → Bool
 is_word a = is_address a && (a % 8 == 0)
 
--- 1 to 64 words from this one on, none of them past the address space
+-- 1 to 64 words from this address on, none of them past the address space
 abbrev pub are_words : ℕ → ℕ → Bool
 are_words a n = is_word a && nat_le 1 n && nat_le n 64 && nat_le (a + 8 * n) (2 ^ 54)
 
--- one token
+-- the command of one token
 abbrev pub alone : List ℕ → Command
 alone word =
     if bytes_eq word (codes "run") then Run
     else if bytes_eq word (codes "quit") then Quit
     else Bad
 
--- a word and a number after it
+-- the command of a word and a number after it
 abbrev pub with_one : List ℕ → Option ℕ → Command
 with_one word None = Bad
 with_one word (Some n) =
@@ -94,7 +94,7 @@ with_one word (Some n) =
     else if bytes_eq word (codes "regs") then if_in_range (is_slot n) (Regs n)
     else Bad
 
--- a word and two numbers after it
+-- the command of a word and two numbers after it
 abbrev pub with_two : List ℕ → Option ℕ → Option ℕ → Command
 with_two word (Some n) (Some m) =
     if bytes_eq word (codes "break") then if_in_range (is_slot n && is_address m) (Break n m)
@@ -109,6 +109,6 @@ by_tokens (word ∷ first ∷ []) = with_one word (number_of first)
 by_tokens (word ∷ first ∷ second ∷ []) = with_two word (number_of first) (number_of second)
 by_tokens _ = Bad
 
--- what a line asks for
+-- the command of a line
 unfoldable pub command_of : List ℕ → Command
 command_of line = by_tokens (tokens line)

@@ -1,4 +1,4 @@
--- What a session answers to a line, and what it is afterwards.
+-- The answer of a session to a line, and the session after it.
 use Rattle.std.specs.Prelude.{ℕ, zero, suc, ◌+◌, ◌-◌, ◌*◌, Bool, true, false, not, ◌&&◌, nat_lt, if◌then◌else◌, List, [], ◌∷◌, ◌++◌, slice_get, codes, decimal, Option, Some, None}
 use Rattle.std.specs.List.{flat_map, range_with_len}
 use Rattle.mm_word.specs.declared.perm.Kind.{Kind}
@@ -29,7 +29,7 @@ use Rattle.mm_debug.specs.Breakpoints.{has_break, has_watch, fits, with_break, w
 
 -- 1. Sessions.
 
--- In which order cycles are issued, the last item that round robin issued, the state of the machine, and what is kept.
+-- The order of cycles, the last item that round robin issued, the state of the machine, and the breaks and watches.
 pub record Session : Type 0 where
   pub order : Order
   pub last : Option ℕ
@@ -37,11 +37,11 @@ pub record Session : Type 0 where
   pub breaks : List Breakpoint
   pub watches : List ℕ
 
--- how many cycles were issued
+-- the count of cycles that were issued
 abbrev pub total_of : Session → ℕ
 total_of s = s.state.cycles
 
--- a session of a state, in which nothing was issued and nothing is kept
+-- a session of a state, in which nothing was issued, without breaks and watches
 abbrev pub begun : Order → State → Session
 begun order state = record { order = order; last = None; state = state; breaks = []; watches = [] }
 
@@ -51,12 +51,12 @@ cycle_limit = 1000000
 
 -- 2. Cycles.
 
--- the item that an order has next; none where it has ended
+-- the item that an order has next; none if the order has ended
 abbrev pub item_in : Order → Option ℕ → State → Option ℕ
 item_in order.Robin last state = next_running state.core.rows last
 item_in (order.List items) last state = slice_get items state.cycles
 
--- the next item; none where the order or the limit has ended
+-- the next item; none if the order or the limit has ended
 unfoldable pub next_item : Session → Option ℕ
 next_item s = if nat_lt (total_of s) cycle_limit then item_in s.order s.last s.state else None
 
@@ -73,19 +73,19 @@ abbrev pub then_stepped : Session → Option ℕ → (ℕ → Session) → Sessi
 then_stepped s None rest = s
 then_stepped s (Some item) rest = rest item
 
--- the session after so many cycles, fewer where the order or the limit ends
+-- the session after up to `count` cycles: fewer if the order or the limit ends
 unfoldable pub stepped : Session → ℕ → Session
 stepped s zero = s
 stepped s (suc count) = then_stepped s (next_item s) (λ item. stepped (issued s item) count)
 
 -- 3. Stops.
 
--- a slot that runs and is not past has a break where its instruction pointer is
+-- a slot that runs and is not past has a break at the address of its instruction pointer
 abbrev pub breaks_for : List Breakpoint → ℕ → Option Slot → Bool
 breaks_for breaks n None = false
 breaks_for breaks n (Some x) = is_running x.state && not x.past && has_break breaks n x.ip.addr
 
--- the item names such a slot
+-- the item names a slot that a break stops
 abbrev pub stops_before : Session → ℕ → Bool
 stops_before s item = breaks_for s.breaks item (slot_at s.state.core item)
 
@@ -96,7 +96,7 @@ is_done Blocked = false
 is_done (Faulted cause) = false
 is_done (Delivered reg) = false
 
--- these accesses set the bit of a cell
+-- accesses of this kind set the bit of a cell
 abbrev pub sets_bit : Kind → Bool
 sets_bit Store = true
 sets_bit LoadSet = true
@@ -115,7 +115,7 @@ watched watches step = if is_done step.tick then watched_by watches step.touched
 abbrev pub stops_after : Session → ℕ → Option ℕ
 stops_after s item = watched s.watches (turn_of s.state item).step
 
--- Where a run stops, and why.
+-- The session when a run stops, and why it stops.
 pub record Ran : Type 0 where
   pub session : Session
   pub stop : Stop
@@ -123,24 +123,24 @@ pub record Ran : Type 0 where
 abbrev pub stopped : Session → Stop → Ran
 stopped s why = record { session = s; stop = why }
 
--- once a cycle is issued, where a watched word stops the run
+-- the run after a cycle was issued: it stops if a watched word stops it
 abbrev pub after_cycle : Session → Option ℕ → Ran → Ran
 after_cycle s (Some word) rest = stopped s (stop.Watch word)
 after_cycle s None rest = rest
 
--- before the cycle of an item, which a break stops where the run has issued one already
+-- the run before the cycle of an item: a break stops it if the run has already issued a cycle
 abbrev pub before_cycle : (begun : Bool) → Session → Option ℕ → (ℕ → Ran) → Ran
 before_cycle begun s None rest = stopped s stop.End
 before_cycle begun s (Some item) rest = if begun && stops_before s item then stopped s (stop.Break item) else rest item
 
--- a run that has so many cycles left below the limit, and has begun or not
+-- the run of a session with `left` cycles left below the limit; `begun` says whether it has issued one
 unfoldable pub run_from : (begun : Bool) → Session → (left : ℕ) → Ran
 run_from begun s zero = stopped s stop.End
 run_from begun s (suc left) =
     before_cycle begun s (next_item s)
     (λ item. after_cycle (issued s item) (stops_after s item) (run_from true (issued s item) left))
 
--- a run to its first stop
+-- the run of a session to its first stop
 unfoldable pub ran : Session → Ran
 ran s = run_from false s (cycle_limit - total_of s)
 
@@ -170,11 +170,11 @@ abbrev pub word_line : ℕ → Option Cell → List ℕ
 word_line word None = codes "none " ++ hex 14 word ++ newline
 word_line word (Some c) = cell_line word c
 
--- a line for each of so many words from a word on
+-- a line for each of `count` words from a word on
 abbrev pub memory_text : Memory → ℕ → ℕ → List ℕ
 memory_text m word count = flat_map (λ k. word_line (word + 8 * k) (cell_at m (word + 8 * k))) (range_with_len 0 count)
 
--- What is replied, the session afterwards, and whether a line may follow.
+-- The reply, the session afterwards, and whether another line may follow.
 pub record Answer : Type 0 where
   pub reply : List ℕ
   pub session : Session
@@ -204,7 +204,7 @@ answer_to s line = answer s (command_of line)
 
 -- 5. Many lines.
 
--- What is replied to lines, and the session afterwards.
+-- The replies to lines, and the session afterwards.
 pub record Dialogue : Type 0 where
   pub text : List ℕ
   pub session : Session
@@ -213,16 +213,16 @@ abbrev pub after_answer : Answer → Go → (Session → Dialogue) → Dialogue
 after_answer a go.Quit rest = record { text = a.reply; session = a.session }
 after_answer a go.More rest = record { text = a.reply ++ (rest a.session).text; session = (rest a.session).session }
 
--- what is replied to lines, to each of which this is the answer: no line after a `quit` is carried out
+-- the replies to lines, of which each has this answer; no line after a `quit` is carried out
 unfoldable pub dialogue_by : (Session → List ℕ → Answer) → Session → List (List ℕ) → Dialogue
 dialogue_by answers s [] = record { text = []; session = s }
 dialogue_by answers s (line ∷ lines) =
     after_answer (answers s line) (answers s line).go (λ t. dialogue_by answers t lines)
 
--- what a session replies to lines
+-- the replies of a session to lines
 abbrev pub dialogue : Session → List (List ℕ) → Dialogue
 dialogue s lines = dialogue_by answer_to s lines
 
--- what is replied to an input
+-- the replies of a session to an input
 abbrev pub debugged : Session → List ℕ → Dialogue
 debugged s input = dialogue s (lines_of input)

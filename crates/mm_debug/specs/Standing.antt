@@ -1,4 +1,4 @@
--- When a session or a point stands for an image under an order.
+-- Sessions and points that stand for an image under an order.
 use Rattle.std.specs.Prelude.{◌≡◌, ℕ, ◌≤◌, List, Option, None, ⊤}
 use Rattle.mm_model.specs.Image.{Image, start}
 use Rattle.mm_model.specs.Run.{run, last_item}
@@ -12,17 +12,17 @@ use Rattle.mm_debug.specs.Session.{Session, total_of, cycle_limit}
 abbrev pub run_items : Image → Order → ℕ → List ℕ
 run_items i order total = items_of order (start i) total
 
--- round robin goes on after the last of these items, or begins with the least where there is none
+-- round robin goes on after the last of these items, or begins with the least if there is none
 abbrev pub GoesOnAfter : Order → (last : Option ℕ) → List ℕ → Type 0
 GoesOnAfter order.Robin last items = last ≡ last_item None items
 GoesOnAfter (order.List list) last items = ⊤
 
--- The session is where the image's run is after as many items of its order as the session has issued.
+-- The session is in the state of the image's run after as many items of its order as it has issued.
 pub record StandsFor (i : Image) (s : Session) : Type 0 where
   pub state : s.state ≡ run (start i) (run_items i s.order (total_of s))
   pub place : GoesOnAfter s.order s.last (run_items i s.order (total_of s))
 
--- A point: a state kept apart from its machine, and the last item of round robin.
+-- A point: a state that is kept apart from its machine, and the last item of round robin.
 pub record Point : Type 0 where
   pub snapshot : Parts
   pub last : Option ℕ
@@ -30,12 +30,12 @@ pub record Point : Type 0 where
 abbrev pub total_at : Point → ℕ
 total_at p = p.snapshot.cycles
 
--- The point is where the image's run is after as many items of the order as its total says.
+-- The point is in the state of the image's run after as many items of the order as its total says.
 pub record PointStandsFor (i : Image) (order : Order) (p : Point) : Type 0 where
   pub state : IsSnapshotOf (run (start i) (run_items i order (total_at p))) p.snapshot
   pub place : GoesOnAfter order p.last (run_items i order (total_at p))
 
--- a point of this session
+-- a point of the session
 pub record IsPointOf (s : Session) (p : Point) : Type 0 where
   pub state : IsSnapshotOf s.state p.snapshot
   pub last : p.last ≡ s.last

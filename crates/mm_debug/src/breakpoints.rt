@@ -1,17 +1,18 @@
-// Breaks and watches.
+//! Breaks and watches.
+
 ghost use Rattle.std.specs.Prelude.{◌≡◌, ◌<◌, []};
 ghost use Rattle.mm_debug.specs.Breakpoints.{has_break, has_watch, fits, with_break, with_watch, spot_of};
 
 use arrayvec::ArrayVec;
 use std::marker::Model;
 
-/// The most that are kept of each.
+/// The most breaks, and the most watches, that are kept.
 const ENTRIES: usize = 64;
 
-/// How many spots of addresses are told apart without a search.
+/// The count of spots that addresses are sorted into, so that most need no search.
 const SPOTS: usize = 1024;
 
-/// A place in a slot's code. Breaks are ordered by their slots, and then by their addresses.
+/// A break: a byte address in the code of a slot. Breaks are ordered by slot, and then by address.
 #[derive(Clone, Copy, PartialEq, Eq, PartialOrd, Ord, Debug, Default)]
 pub struct Break {
     pub slot: u8,
@@ -19,11 +20,11 @@ pub struct Break {
     pub address: u64,
 }
 
-/// At most 64 breaks in rising order, no two the same. Contracts see the list.
+/// Up to 64 breaks in rising order, all different. Contracts see the list.
 #[derive(Drop)]
 pub struct Breaks {
     kept: ArrayVec<Break, ENTRIES>,
-    /// The spots at which there may be a break: most addresses are none of them, and need no search.
+    /// Marks the spots at which there may be a break. Most addresses are at none of them, and need no search.
     spots: [bool; SPOTS],
 }
 
@@ -48,7 +49,7 @@ impl Model for Breaks {
 }
 
 impl Breaks {
-    /// No break.
+    /// A list without breaks.
     pub fn new() -> Breaks
         ensures { result ≡ [] }
     {
@@ -68,7 +69,7 @@ impl Breaks {
         self.kept.binary_search(&Break { slot, address }).is_ok()
     }
 
-    /// Keeps a break, and answers whether it is kept: not where 64 others are.
+    /// Adds a break, and says whether the list has it: not if 64 others are kept.
     pub fn insert(&mut self, slot: u8, address: u64) -> bool
         ensures fits { result ≡ fits (has_break self.old slot address) self.old }
         ensures after { self.new ≡ with_break self.old (record { slot = slot; address = address }) }
@@ -84,7 +85,7 @@ impl Breaks {
     }
 }
 
-/// At most 64 watched words in rising order, no two the same. Contracts see the list.
+/// Up to 64 addresses of watched words in rising order, all different. Contracts see the list.
 #[derive(Drop)]
 pub struct Watches {
     kept: ArrayVec<u64, ENTRIES>,
@@ -103,7 +104,7 @@ impl Model for Watches {
 }
 
 impl Watches {
-    /// No watch.
+    /// A list without watches.
     pub fn new() -> Watches
         ensures { result ≡ [] }
     {
@@ -119,7 +120,7 @@ impl Watches {
         self.kept.binary_search(&word).is_ok()
     }
 
-    /// Keeps a watch, and answers whether it is kept: not where 64 others are.
+    /// Adds a watch, and says whether the list has it: not if 64 others are kept.
     pub fn insert(&mut self, word: u64) -> bool
         ensures fits { result ≡ fits (has_watch self.old word) self.old }
         ensures after { self.new ≡ with_watch self.old word }

@@ -1,11 +1,12 @@
-// The lines of an input, and what a line asks for.
+//! The lines of an input, and the command of a line.
+
 ghost use Rattle.std.specs.Prelude.{◌≡◌, [], ◌∷◌, ◌<◌, ◌≤◌, length, not, MatchOption, IfSome};
 ghost use Rattle.std.specs.List.{prefix_len};
 ghost use Rattle.mm_debug.specs.Commands.{command_of, lines_of, is_blank, tokens, with_token, number_of, alone, with_one, with_two, is_count, is_slot, is_address, is_word, are_words};
 
 use mm_line::{Token, next_token};
 
-/// What a line asks for.
+/// The command that a line gives.
 #[derive(Clone, Copy, Debug, PartialEq, Eq)]
 pub enum Command {
     /// Nothing: the line has no token.
@@ -24,7 +25,7 @@ pub enum Command {
     Mem(u64, u64),
     /// `quit`
     Quit,
-    /// No command.
+    /// Anything else.
     Bad,
 }
 
@@ -40,7 +41,7 @@ const ADDRESS_END: u64 = 1 << 54;
 /// The most words of one `mem`.
 const MAX_WORDS: u64 = 64;
 
-/// The first line of an input that is not empty, and what is after it.
+/// The first line of an input that is not empty, and the input after it.
 pub(crate) fn first_line(input: &[u8]) -> (&[u8], &[u8])
     requires { 0 < length input.now }
     ensures lines { lines_of input.now ≡ result.0.now ∷ lines_of result.1.now }
@@ -52,7 +53,7 @@ pub(crate) fn first_line(input: &[u8]) -> (&[u8], &[u8])
     }
 }
 
-/// Reads what a line asks for.
+/// The command of a line.
 pub fn read_command(line: &[u8]) -> Command
     ensures { result ≡ command_of line.now }
 {
@@ -73,14 +74,14 @@ pub fn read_command(line: &[u8]) -> Command
     }
 }
 
-/// Whether a byte stands between tokens.
+/// Whether a byte separates tokens.
 fn is_blank(byte: u8) -> bool
     ensures { result ≡ is_blank byte }
 {
     byte == b' ' || byte == b'\t' || byte == b'\r'
 }
 
-/// The first token of a line and what is after it; an empty one where there is none.
+/// The first token of a line, and the line after it. The token is empty if there is none.
 pub fn take_token(line: &[u8]) -> (&[u8], &[u8])
     ensures token { tokens line.now ≡ with_token result.0.now (tokens result.1.now) }
     ensures end { result.0.now ≡ [] → result.1.now ≡ [] }
@@ -90,7 +91,7 @@ pub fn take_token(line: &[u8]) -> (&[u8], &[u8])
     (token, rest)
 }
 
-/// How many blanks a line begins with.
+/// The count of blanks that a line begins with.
 fn blank_len(line: &[u8]) -> usize
     ensures is { result ≡ prefix_len (λ b. is_blank b) line.now }
     ensures within { result ≤ length line.now }
@@ -98,7 +99,7 @@ fn blank_len(line: &[u8]) -> usize
     line.iter().take_while(|b| is_blank(**b)).count()
 }
 
-/// How many bytes of a token a line begins with.
+/// The length of the token that a line begins with, in bytes; 0 if it begins with none.
 fn token_len(line: &[u8]) -> usize
     ensures is { result ≡ prefix_len (λ b. not (is_blank b)) line.now }
     ensures within { result ≤ length line.now }
@@ -106,7 +107,7 @@ fn token_len(line: &[u8]) -> usize
     line.iter().take_while(|b| !is_blank(**b)).count()
 }
 
-/// The number that a token writes.
+/// The number that a token is: decimal digits, or `0x` and hexadecimal digits, below 2^64. `None` if it is none.
 pub fn number(token: &[u8]) -> Option<u64>
     ensures { result ≡ number_of token.now }
 {
@@ -154,7 +155,7 @@ fn with_two(word: &[u8], first: Option<u64>, second: Option<u64>) -> Command
     }
 }
 
-/// Whether a `step` may issue so many cycles.
+/// Whether a `step` may issue this count of cycles.
 fn is_count(count: u64) -> bool
     ensures { result ≡ is_count count }
 {
@@ -182,7 +183,7 @@ fn is_word(address: u64) -> bool
     is_address(address) && address % 8 == 0
 }
 
-/// Whether so many words from one on are words, at least one of them and at most 64.
+/// Whether `count` words from an address on are words of memory, at least one and at most 64.
 fn are_words(address: u64, count: u64) -> bool
     ensures { result ≡ are_words address count }
 {

@@ -1,4 +1,5 @@
-// Cycles of a session, and where a run stops.
+//! The cycles of a session, and the stops of a run.
+
 ghost use Rattle.std.specs.Prelude.{◌≡◌, Some};
 ghost use Rattle.mm_model.specs.Run.{turn_of};
 ghost use Rattle.mm_debug.specs.Session.{next_item, issued, stepped, stops_before, watched, ran};
@@ -13,7 +14,7 @@ use mm_sched::{Order, Robin};
 use mm_word::Kind;
 
 impl<M: Memory> Session<M> {
-    /// Issues up to so many cycles, fewer where the order or the limit ends.
+    /// Issues up to `count` cycles: fewer if the order or the limit ends before.
     pub fn step(&mut self, count: u64)
         ensures { session_of self.new ≡ stepped (session_of self.old) count }
     {
@@ -25,8 +26,8 @@ impl<M: Memory> Session<M> {
         }
     }
 
-    /// Issues cycles up to a stop. The loop has as many turns as there can be cycles; where they are over, the limit
-    /// has ended.
+    /// Issues cycles up to a stop. The loop has as many rounds as cycles are left below the limit; after the last of
+    /// them the limit has ended.
     pub(crate) fn run(&mut self) -> Stop
         ensures { ran (session_of self.old) ≡ record { session = session_of self.new; stop = result } }
     {
@@ -47,7 +48,7 @@ impl<M: Memory> Session<M> {
         Stop::End
     }
 
-    /// The next item; none where the order or the limit has ended.
+    /// The next item; `None` if the order or the limit has ended.
     fn next_item(&self) -> Option<u8>
         ensures { result ≡ next_item (session_of self.now) }
     {
@@ -61,7 +62,7 @@ impl<M: Memory> Session<M> {
         }
     }
 
-    /// The cycle of the next item.
+    /// Issues the cycle of the next item.
     fn issue(&mut self, item: u8) -> Step
         requires { next_item (session_of self.old) ≡ Some item }
         ensures session { session_of self.new ≡ issued (session_of self.old) item }
@@ -88,7 +89,7 @@ impl<M: Memory> Session<M> {
     }
 }
 
-/// The watched word on which a cycle did a store or a setting load.
+/// The watched word on which a cycle did a store or a load that sets the bit.
 fn watched(watches: &Watches, step: &Step) -> Option<u64>
     ensures { result ≡ watched watches.now step.now }
 {

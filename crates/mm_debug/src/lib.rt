@@ -1,30 +1,31 @@
 //! Debugging: a session that runs an image by the lines of an input, one reply each.
 //!
 //! A [`Session`] holds a machine and an order in which cycles are issued. Its lines step, run to a break or a watch,
-//! and show slots and memory. Of a session that began at the start of an image's run, the machine is where that run is
-//! after as many items of the order as were issued, whatever the lines say.
+//! and show slots and memory. If a session began at the start of an image's run, its machine is in the state of that
+//! run after as many items of the order as were issued, whatever the lines say.
 //!
 //! | line | reply |
 //! |---|---|
-//! | `step N`, N 1 to 1,000,000 | issues up to N cycles, fewer where the order or the limit ends: `stepped K total C` |
+//! | `step N`, N 1 to 1,000,000 | issues up to N cycles, fewer if the order or the limit ends: `stepped K total C` |
 //! | `run` | issues cycles up to a stop: `stopped end C`, `stopped break S C` or `stopped watch A C` |
-//! | `break S A`, S 0 to 63, A below 2^54 | `break set`, or `break full` where 64 others are kept |
-//! | `watch A`, A a multiple of 8 below 2^54 | `watch set`, or `watch full` where 64 others are kept |
+//! | `break S A`, S 0 to 63, A below 2^54 | `break set`, or `break full` if 64 others are kept |
+//! | `watch A`, A a multiple of 8 below 2^54 | `watch set`, or `watch full` if 64 others are kept |
 //! | `regs S`, S 0 to 63 | the lines of the slot, or `no slot` |
-//! | `mem A N`, A a multiple of 8, N 1 to 64, A + 8N at most 2^54 | N lines, each `cell A WORD full` or `empty`, or `none A` where no mapped page has the word |
+//! | `mem A N`, A a multiple of 8, N 1 to 64, | N lines: `cell A WORD full` or `cell A WORD empty`, |
+//! | A + 8N at most 2^54 | or `none A` if no mapped page has the word |
 //! | `quit` | `bye` |
 //! | anything else | `bad command` |
 //!
-//! Tokens stand between spaces, tabs and carriage returns, and a line without any has no reply. A number is decimal
+//! Tokens are separated by spaces, tabs and carriage returns, and a line without any has no reply. A number is decimal
 //! digits, or `0x` and hexadecimal digits, below 2^64. C is the total of cycles, at most 1,000,000.
 //!
-//! A `run` stops after a cycle that did a store or a setting load on a watched word; else where the order or the limit
-//! has ended; else, once it has issued a cycle, where the next item is a running slot that is not past its segment and
-//! has a break at its instruction pointer's address. So a run that begins at a break goes on from it.
+//! A `run` stops after a cycle that did a store or a setting load on a watched word; otherwise if the order or the
+//! limit has ended; otherwise, once it has issued a cycle, if the next item is a running slot that is not past its
+//! segment and has a break at its instruction pointer's address. So a run that begins at a break goes on from it.
 //!
-//! What takes lines of its own beside those of a session has the same parts for them: [`handle_lines`] cuts an input
-//! into lines that a [`LineHandler`] carries out, [`take_token`] cuts a line into tokens, [`number`] reads one,
-//! [`Session::put_line`] carries out a line, and [`Session::step`] issues cycles.
+//! A crate that adds lines to those of a session uses the same parts: [`handle_lines`] cuts an input into lines that a
+//! [`LineHandler`] carries out, [`take_token`] cuts a line into tokens, [`number`] reads one, [`Session::put_line`]
+//! carries out a line, and [`Session::step`] issues cycles.
 #![tactic(auto)]
 
 mod breakpoints;

@@ -8,14 +8,14 @@ use crate::session::Go;
 use mm_io::Sink;
 use mm_text::Gather;
 
-/// What carries out lines and replies to each.
+/// A handler of lines, which carries them out and replies to each.
 pub trait LineHandler {
     ghost use Rattle.std.specs.Prelude.{List, ℕ};
     ghost use Rattle.mm_debug.specs.Dialogues.{GathersSome};
     ghost use Rattle.mm_debug.specs.declared.session.Go.{Go};
 
-    /// What a line leads to: the handler before it, the line, the reply, the handler afterwards, and whether a line may
-    /// follow.
+    /// The relation between the handler before a line, the line, the reply, the handler after it, and whether another
+    /// line may follow.
     ghost Answers: { Self → List ℕ → List ℕ → Self → Go → Type 0 };
 
     /// Carries out a line, and appends its reply.

@@ -1,4 +1,4 @@
-//! Points: states of a session that are kept apart from it.
+//! Points: states of a session that are kept apart from the session.
 
 ghost use Rattle.std.specs.Prelude.{◌≡◌, IfOk};
 ghost use Rattle.mm_model.specs.Image.{Image};
@@ -14,7 +14,7 @@ use mm_word::NoMemory;
 use std::alloc::Global;
 use std::marker::Model;
 
-/// The state of a session's machine, and where its round robin goes on. Breaks and watches are not part of it.
+/// The state of a session's machine, and the place of its round robin. Breaks and watches are not part of it.
 #[derive(Drop)]
 pub struct Point {
     snapshot: Snapshot,
@@ -30,14 +30,14 @@ impl Model for Point {
 }
 
 impl Point {
-    /// How many cycles the session had issued.
+    /// The count of cycles that the session had issued.
     pub fn total(&self) -> u64
         ensures { result ≡ total_at self.now }
     {
         self.snapshot.cycles()
     }
 
-    /// The state of its machine.
+    /// The state of the session's machine.
     pub fn snapshot(&self) -> &Snapshot
         ensures { result.now ≡ self.now.snapshot }
     {
@@ -46,14 +46,14 @@ impl Point {
 }
 
 impl<M: Inspect> Session<M> {
-    /// The session as it is now, but for its order, breaks and watches.
+    /// The session as it is now, without its order, breaks and watches. `NoMemory` comes if memory ran out.
     pub fn point(&self, alloc: Global) -> Result<Point, NoMemory>
         ensures point { IfOk result (IsPointOf (session_of self.now)) }
 
-        // The session can go to it.
+        // The session can go to the point.
         ensures fits { IfOk result (CanGo (session_of self.now)) }
 
-        // It stands for every image for which the session does.
+        // The point stands for every image for which the session does.
         ensures stands { (i : Image) → StandsFor i (session_of self.now)
             → IfOk result (PointStandsFor i (session_of self.now).order) }
     {
@@ -66,17 +66,17 @@ impl<M: Inspect> Session<M> {
 }
 
 impl<M: Reset> Session<M> {
-    /// Goes to a point. State, total and the place of round robin are then the point's, and breaks and watches stay.
-    /// Takes no memory.
+    /// Goes to a point. State, total and the place of round robin are then those of the point. Order, breaks and
+    /// watches stay. Takes no memory.
     pub fn go(&mut self, p: &Point)
         requires { CanGo (session_of self.old) p.now }
         ensures session { session_of self.new ≡ gone (session_of self.old) p.now }
 
-        // It stands for every image for which both the session stood and the point does.
+        // The session stands for every image for which it stood and the point stands.
         ensures stands { (i : Image) → StandsFor i (session_of self.old)
             → PointStandsFor i (session_of self.old).order p.now → StandsFor i (session_of self.new) }
 
-        // Where it could go before, it still can.
+        // The session can still go to each point to which it could go.
         ensures fits { (q : PointValue) → CanGo (session_of self.old) q → CanGo (session_of self.new) q }
     {
         self.machine.restore(&p.snapshot);

@@ -1,4 +1,5 @@
-// The texts of replies.
+//! The texts of replies.
+
 ghost use Rattle.std.specs.Prelude.{◌≡◌, ◌≤◌, ◌<◌, ◌+◌, ◌*◌, ◌%◌, ◌^◌};
 ghost use Rattle.mm_text.specs.Gathers.{Gathers};
 ghost use Rattle.mm_model.specs.Memory.{cell_at};
@@ -12,7 +13,7 @@ use mm_machine::Machine;
 use mm_mem::{Inspect, Memory};
 use mm_text::{Gather, Piece, put_cell, put_slot};
 
-/// How many cycles a `step` issued, and how many there were in all.
+/// Appends the reply of a `step`: the count of cycles that it issued, and the total.
 pub(crate) fn put_stepped<O: Sink>(reply: &mut Gather, out: &mut O, count: u64, total: u64)
     ensures { Gathers O.taken O.faults out.old out.new reply.old reply.new (stepped_text count total) }
 {
@@ -28,7 +29,7 @@ pub(crate) fn put_stepped<O: Sink>(reply: &mut Gather, out: &mut O, count: u64, 
     );
 }
 
-/// Why a `run` stopped, and how many cycles there were in all.
+/// Appends the reply of a `run`: why it stopped, and the total of cycles.
 pub(crate) fn put_stop<O: Sink>(reply: &mut Gather, out: &mut O, stop: Stop, total: u64)
     ensures { Gathers O.taken O.faults out.old out.new reply.old reply.new (stop_text stop total) }
 {
@@ -64,7 +65,7 @@ pub(crate) fn put_stop<O: Sink>(reply: &mut Gather, out: &mut O, stop: Stop, tot
     }
 }
 
-/// Whether a break is kept.
+/// Appends the reply of a `break`: whether it is kept.
 pub(crate) fn put_break<O: Sink>(reply: &mut Gather, out: &mut O, kept: bool)
     ensures { Gathers O.taken O.faults out.old out.new reply.old reply.new (break_text kept) }
 {
@@ -74,7 +75,7 @@ pub(crate) fn put_break<O: Sink>(reply: &mut Gather, out: &mut O, kept: bool)
     );
 }
 
-/// Whether a watch is kept.
+/// Appends the reply of a `watch`: whether it is kept.
 pub(crate) fn put_watch<O: Sink>(reply: &mut Gather, out: &mut O, kept: bool)
     ensures { Gathers O.taken O.faults out.old out.new reply.old reply.new (watch_text kept) }
 {
@@ -84,7 +85,7 @@ pub(crate) fn put_watch<O: Sink>(reply: &mut Gather, out: &mut O, kept: bool)
     );
 }
 
-/// The lines of a slot, or that there is none of this number.
+/// Appends the lines of a slot, or says that there is none of this number.
 pub(crate) fn put_slot_at<M: Memory, O: Sink>(
     reply: &mut Gather,
     out: &mut O,
@@ -100,7 +101,7 @@ pub(crate) fn put_slot_at<M: Memory, O: Sink>(
     }
 }
 
-/// A line for each of so many words from a word on.
+/// Appends a line for each of `count` words from a word on.
 pub(crate) fn put_words<M: Inspect, O: Sink>(
     reply: &mut Gather,
     out: &mut O,
@@ -118,7 +119,7 @@ pub(crate) fn put_words<M: Inspect, O: Sink>(
     }
 }
 
-/// The line of a word: its cell, or that no mapped page has it.
+/// Appends the line of a word: its cell, or that no mapped page has it.
 fn put_word_line<M: Inspect, O: Sink>(reply: &mut Gather, out: &mut O, memory: &M, word: u64)
     requires aligned { word % 8 ≡ 0 }
     requires within { word < 2 ^ 54 }

@@ -1,4 +1,4 @@
-//! Sessions.
+//! Sessions that carry out lines.
 
 ghost use Rattle.std.specs.Prelude.{◌≤◌};
 ghost use Rattle.mm_machine.specs.Machine.{state_of};
@@ -16,16 +16,16 @@ use mm_text::{Gather, Piece};
 /// The most cycles of a session.
 pub(crate) const CYCLE_LIMIT: u64 = 1_000_000;
 
-/// Whether a line may follow.
+/// Whether another line may follow.
 #[derive(Clone, Copy, Debug, PartialEq, Eq)]
 pub enum Go {
-    /// One may.
+    /// Another line may follow.
     More,
     /// The line was `quit`. The session does not remember it.
     Quit,
 }
 
-/// A machine, the order of its cycles, and the breaks and watches that are kept.
+/// A machine, the order of its cycles, and breaks and watches.
 ///
 /// A session has issued at most 1,000,000 cycles, and its machine has done as many.
 #[derive(Drop)]
@@ -48,12 +48,12 @@ impl<M: Inspect> Session<M> {
     ghost use Rattle.mm_debug.specs.Shown.{session_of};
     ghost use Rattle.mm_debug.specs.Standing.{Point, StandsFor, CanGo};
 
-    /// A session of a machine that has done no cycle yet. Nothing is kept.
+    /// A session of a machine that has done no cycle. It has no breaks and no watches.
     pub fn new(machine: Machine<M>, order: Order) -> Session<M>
         requires { (state_of machine).cycles ≡ 0 }
         ensures session { session_of result ≡ begun order (state_of machine) }
 
-        // A machine that stands at the start of an image makes a session that stands for that image.
+        // A session of a machine at the start of an image stands for that image.
         ensures stands { (i : Image) → state_of machine ≡ start i → StandsFor i (session_of result) }
     {
         Session {
@@ -65,7 +65,7 @@ impl<M: Inspect> Session<M> {
         }
     }
 
-    /// How many cycles the session has issued.
+    /// The count of cycles that the session has issued.
     pub fn total(&self) -> u64
         ensures total { result ≡ total_of (session_of self.now) }
         ensures most { result ≤ 1000000 }
@@ -73,15 +73,15 @@ impl<M: Inspect> Session<M> {
         self.machine.cycles()
     }
 
-    /// Carries out a line, which is handed over without its newline, and writes its reply. At a [`WriteFault`] the sink
-    /// took a front part of the reply; the session goes on as after any line.
+    /// Carries out a line, which is given without its newline, and writes its reply. After a [`WriteFault`] the sink
+    /// has taken a prefix of the reply; the session goes on as after any line.
     pub fn line<O: Sink>(&mut self, text: &[u8], out: &mut O) -> Result<Go, WriteFault>
         ensures session { session_of self.new ≡ (answer_to (session_of self.old) text.now).session }
         ensures reply { Writes O.taken O.faults out.old out.new
             (answer_to (session_of self.old) text.now).reply result }
         ensures go { IfOk result (λ go. go ≡ (answer_to (session_of self.old) text.now).go) }
 
-        // It stands for every image for which it stood, and can go where it could.
+        // The session stands for every image for which it stood, and can go where it could.
         ensures stands { (i : Image) → StandsFor i (session_of self.old) → StandsFor i (session_of self.new) }
         ensures fits { (p : Point) → CanGo (session_of self.old) p → CanGo (session_of self.new) p }
     {
@@ -91,8 +91,8 @@ impl<M: Inspect> Session<M> {
         Ok(go)
     }
 
-    /// Carries out the lines of an input up to its end or a `quit`, and writes their replies. At a [`WriteFault`] all
-    /// lines are carried out too, and the sink took a front part of the replies.
+    /// Carries out the lines of an input up to its end or a `quit`, and writes their replies. Also if a [`WriteFault`]
+    /// comes, all lines are carried out, and the sink has taken a prefix of the replies.
     pub fn lines<O: Sink>(&mut self, input: &[u8], out: &mut O) -> Result<(), WriteFault>
         ensures session { session_of self.new ≡ (debugged (session_of self.old) input.now).session }
         ensures replies { Writes O.taken O.faults out.old out.new

@@ -1,4 +1,4 @@
-// Why a run stops.
+//! Why a run stops.
 
 /// Why a run stops.
 #[derive(Clone, Copy, Debug, PartialEq, Eq)]

@@ -26,7 +26,7 @@ use Rattle.mm_object.specs.declared.thread.Thread.{Thread}
 use Rattle.mm_object.specs.Lookups.{name_of_target, reloc_at}
 use Rattle.mm_object.specs.Objects.{Segment, Object}
 
--- 1. Words of the language.
+-- 1. Names of the language.
 
 abbrev pub perm_text : Perm → List ℕ
 perm_text Ro = codes "ro"
@@ -55,21 +55,21 @@ how_text Kill = codes "kill"
 abbrev pub register_text : ℕ → List ℕ
 register_text r = codes "r" ++ decimal r
 
--- decimal, with a `-` where it is negative
+-- a number in decimal, with a `-` if it is negative
 abbrev pub signed_text : ℤ → List ℕ
 signed_text (pos n) = decimal n
 signed_text (negsuc n) = codes "-" ++ decimal (n + 1)
 
--- how many hexadecimal digits a number below 2^20 needs
+-- the count of hexadecimal digits that a number below 2^20 needs
 abbrev pub digits_of : ℕ → ℕ
 digits_of n =
     if nat_lt n 0x10 then 1 else if nat_lt n 0x100 then 2 else if nat_lt n 0x1000 then 3 else if nat_lt n 0x10000 then 4 else 5
 
--- hexadecimal, in as few digits as it needs
+-- a number below 2^20 in hexadecimal, in as few digits as it needs
 abbrev pub short_hex : ℕ → List ℕ
 short_hex n = codes "0x" ++ hex (digits_of n) n
 
--- hexadecimal, in 16 digits
+-- a number in hexadecimal, in 16 digits
 abbrev pub long_hex : ℕ → List ℕ
 long_hex n = codes "0x" ++ hex 16 n
 
@@ -90,7 +90,7 @@ operand_text (operand.How h) = how_text h
 abbrev pub further_text : Operand → List ℕ
 further_text x = codes ", " ++ operand_text x
 
--- a blank before the first, and commas between them
+-- operands: a blank before the first, and a comma and a blank before each further one
 abbrev pub operands_text : List Operand → List ℕ
 operands_text [] = []
 operands_text (x ∷ xs) = codes " " ++ operand_text x ++ flat_map further_text xs
@@ -124,7 +124,7 @@ mark_text false = codes ".empty "
 unfoldable pub word_line : Object → (segment k : ℕ) → Item → List ℕ
 word_line o segment k item = mark_text item.full ++ word_by o (reloc_at o segment k) item.bits ++ newline
 
--- those of the words from word k on
+-- the lines of words from word k on
 abbrev pub words_text : Object → (segment k : ℕ) → List Item → List ℕ
 words_text o segment k [] = []
 words_text o segment k (item ∷ items) = word_line o segment k item ++ words_text o segment (k + 1) items
@@ -137,7 +137,7 @@ segment_line s = codes ".segment " ++ s.name ++ codes " " ++ decimal s.log ++ ne
 unfoldable pub segment_text : Object → (number : ℕ) → Segment → List ℕ
 segment_text o number s = segment_line s ++ words_text o number 0 s.items
 
--- those of the segments from a number on
+-- the lines of segments from a number on
 abbrev pub segments_text : Object → (number : ℕ) → List Segment → List ℕ
 segments_text o number [] = []
 segments_text o number (s ∷ segments) = segment_text o number s ++ segments_text o (number + 1) segments
@@ -159,11 +159,11 @@ abbrev pub is_zero : Value → Bool
 is_zero (value.Int n) = n == 0
 is_zero (value.Ptr perm target) = false
 
--- the line of a register; none where it is integer 0
+-- the line of a register; integer 0 has none
 unfoldable pub register_line : Object → (k : ℕ) → Value → List ℕ
 register_line o k v = if is_zero v then [] else codes ".reg " ++ decimal k ++ codes " " ++ value_text o v ++ newline
 
--- those of the registers from register k on
+-- the lines of registers from register k on
 abbrev pub registers_text : Object → (k : ℕ) → List Value → List ℕ
 registers_text o k [] = []
 registers_text o k (v ∷ values) = register_line o k v ++ registers_text o (k + 1) values

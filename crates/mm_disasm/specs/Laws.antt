@@ -8,7 +8,7 @@ use Rattle.mm_disasm.specs.Canonical.{canonical}
 abbrev pub CanonicalTextsMeanTheirObjects : Type 0
 CanonicalTextsMeanTheirObjects = (o : Object) → IsObject o → Means (canonical o) o
 
--- no two objects have the same canonical text
+-- different objects have different canonical texts
 abbrev pub CanonicalTextsDiffer : Type 0
 CanonicalTextsDiffer = (a b : Object) → IsObject a → IsObject b → canonical a ≡ canonical b → a ≡ b
 

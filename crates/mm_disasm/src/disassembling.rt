@@ -10,7 +10,7 @@ use mm_io::{Sink, WriteFault};
 use mm_object::Object;
 use mm_text::{Gather, Piece};
 
-/// Writes the canonical text of an object. At a [`WriteFault`] the sink took a front part.
+/// Writes the canonical text of an object. After a [`WriteFault`] the sink has taken a prefix of it.
 pub fn disassemble<O: Sink>(o: &Object, out: &mut O) -> Result<(), WriteFault>
     ensures { Writes O.taken O.faults out.old out.new (canonical o.now) result }
 {

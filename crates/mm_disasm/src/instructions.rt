@@ -1,4 +1,4 @@
-//! Instructions.
+//! The texts of instructions.
 
 ghost use Rattle.mm_text.specs.Gathers.{Gathers};
 ghost use Rattle.mm_disasm.specs.Canonical.{further_text, integer_text, operand_text, operands_text, operation_text, register_text};
@@ -28,7 +28,7 @@ fn put_operation<O: Sink>(text: &mut Gather, out: &mut O, operation: &Operation)
     put_operands(text, out, &operation.operands);
 }
 
-// Appends operands: a blank before the first, and commas between them.
+// Appends operands: a blank before the first, and a comma and a blank before each further one.
 fn put_operands<O: Sink>(text: &mut Gather, out: &mut O, operands: &[Operand])
     ensures { Gathers O.taken O.faults out.old out.new text.old text.new (operands_text operands.now) }
 {

@@ -1,7 +1,7 @@
 //! The disassembler: the canonical text of an object.
 //!
-//! [`disassemble`] writes the canonical text of an object: a line for each word, and no label. It assembles
-//! to the same object ([`laws`]).
+//! [`disassemble`] writes the canonical text of an object: a line for each word, and no label. The text assembles to
+//! the same object ([`laws`]).
 #![tactic(auto)]
 
 mod disassembling;

@@ -1,4 +1,4 @@
-//! Words of the language.
+//! Names of the language.
 
 ghost use Rattle.std.specs.Prelude.{◌≡◌};
 ghost use Rattle.mm_disasm.specs.Canonical.{how_text, perm_text, post_text, pre_text};
@@ -6,7 +6,7 @@ ghost use Rattle.mm_disasm.specs.Canonical.{how_text, perm_text, post_text, pre_
 use mm_isa::How;
 use mm_word::{Perm, Post, Pre};
 
-/// The word of a permission.
+/// The name of a permission.
 pub(crate) fn perm_name(perm: Perm) -> &'static str
     ensures { result.now ≡ perm_text perm }
 {
@@ -21,7 +21,7 @@ pub(crate) fn perm_name(perm: Perm) -> &'static str
     }
 }
 
-/// The word for what a synchronisation bit must be.
+/// The name of what a synchronisation bit must be.
 pub(crate) fn pre_name(pre: Pre) -> &'static str
     ensures { result.now ≡ pre_text pre }
 {
@@ -32,7 +32,7 @@ pub(crate) fn pre_name(pre: Pre) -> &'static str
     }
 }
 
-/// The word for what a synchronisation bit becomes.
+/// The name of what a synchronisation bit becomes.
 pub(crate) fn post_name(post: Post) -> &'static str
     ensures { result.now ≡ post_text post }
 {
@@ -43,7 +43,7 @@ pub(crate) fn post_name(post: Post) -> &'static str
     }
 }
 
-/// The word of a way to resume.
+/// The name of a way to resume.
 pub(crate) fn how_name(how: How) -> &'static str
     ensures { result.now ≡ how_text how }
 {

@@ -1,4 +1,4 @@
-//! Numbers, written as the language has them.
+//! Numbers as the language writes them.
 
 ghost use Rattle.std.specs.Prelude.{◌≡◌, ◌≤◌};
 ghost use Rattle.mm_text.specs.Gathers.{Gathers};
@@ -8,7 +8,7 @@ use itoa::Buffer;
 use mm_io::Sink;
 use mm_text::{Gather, Piece};
 
-/// Appends a number in decimal, with a `-` where it is negative.
+/// Appends a number in decimal, with a `-` if it is negative.
 pub(crate) fn put_signed<O: Sink>(text: &mut Gather, out: &mut O, number: i32)
     ensures { Gathers O.taken O.faults out.old out.new text.old text.new (signed_text number) }
 {
@@ -16,7 +16,7 @@ pub(crate) fn put_signed<O: Sink>(text: &mut Gather, out: &mut O, number: i32)
     text.put_bytes(out, buffer.format(number).as_bytes());
 }
 
-/// Appends a number in hexadecimal, in as few digits as it needs.
+/// Appends a number below 2^20 in hexadecimal, in as few digits as it needs.
 pub(crate) fn put_short_hex<O: Sink>(text: &mut Gather, out: &mut O, number: u32)
     ensures { Gathers O.taken O.faults out.old out.new text.old text.new (short_hex number) }
 {
@@ -24,7 +24,7 @@ pub(crate) fn put_short_hex<O: Sink>(text: &mut Gather, out: &mut O, number: u32
     text.put_hex(out, number as u64, digits_of(number));
 }
 
-// How many hexadecimal digits a number below 2^20 needs.
+// The count of hexadecimal digits that a number below 2^20 needs.
 fn digits_of(number: u32) -> usize
     ensures digits { result ≡ digits_of number }
     ensures few { result ≤ 5 }

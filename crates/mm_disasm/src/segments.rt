@@ -1,4 +1,4 @@
-//! Segments.
+//! The lines of segments.
 
 ghost use Rattle.std.specs.Prelude.{◌≤◌, length};
 ghost use Rattle.std.specs.List.{AllByRecursion};

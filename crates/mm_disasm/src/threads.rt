@@ -1,4 +1,4 @@
-//! Threads and their registers.
+//! The lines of threads and their registers.
 
 ghost use Rattle.std.specs.Prelude.{◌≡◌, length, true};
 ghost use Rattle.std.specs.List.{flat_map, list_all};
@@ -11,7 +11,7 @@ use mm_io::Sink;
 use mm_object::{Object, Thread, Value};
 use mm_text::{Gather, Piece};
 
-/// Appends the lines of threads, each with those of its registers.
+/// Appends the lines of threads, each with the lines of its registers.
 pub(crate) fn put_threads<O: Sink>(text: &mut Gather, out: &mut O, o: &Object, threads: &[Thread])
     requires { list_all (is_thread o.now.segments (length o.now.externals)) threads.now ≡ true }
     ensures { Gathers O.taken O.faults out.old out.new text.old text.new (flat_map (thread_text o.now) threads.now) }
@@ -59,7 +59,7 @@ fn put_handler<O: Sink>(text: &mut Gather, out: &mut O, handler: Option<u8>)
     }
 }
 
-// Appends the lines of registers; none for those of integer 0.
+// Appends the lines of registers; integer 0 has no line.
 fn put_registers<O: Sink>(text: &mut Gather, out: &mut O, o: &Object, values: &[Value])
     requires { list_all (is_value o.now.segments (length o.now.externals)) values.now ≡ true }
     ensures { Gathers O.taken O.faults out.old out.new text.old text.new (registers_text o.now 0 values.now) }

@@ -1,4 +1,4 @@
-//! Words of a segment.
+//! The lines of a segment's words.
 
 ghost use Rattle.std.specs.Prelude.{◌≡◌, ◌≤◌, length, true};
 ghost use Rattle.mm_object.specs.Lookups.{reloc_at};
@@ -67,7 +67,7 @@ fn put_word<O: Sink>(
     text.put_piece(out, &Piece::Text("\n"));
 }
 
-// Begins the line of a word whose cell is empty.
+// Appends the mark of a word whose cell is empty.
 fn put_mark<O: Sink>(text: &mut Gather, out: &mut O, full: bool)
     ensures { Gathers O.taken O.faults out.old out.new text.old text.new (mark_text full) }
 {
@@ -76,7 +76,7 @@ fn put_mark<O: Sink>(text: &mut Gather, out: &mut O, full: bool)
     }
 }
 
-// Appends a word: the pointer that it becomes, or else what its bits say.
+// Appends a word: the pointer that it becomes, or else the text of its bits.
 fn put_content<O: Sink>(
     text: &mut Gather,
     out: &mut O,

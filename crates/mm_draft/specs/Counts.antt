@@ -1,4 +1,4 @@
--- What a draft keeps beside its segments, and what may be added to it.
+-- The counts that a draft keeps of its segments, and what may be added to it.
 use Rattle.std.specs.Prelude.{◌≡◌, ℕ, ◌+◌, ◌≤◌, List, map, None, Result, Ok, Err}
 use denote.Ref.{Bor}
 use Rattle.mm_line.specs.declared.fault.Problem.{Problem}
@@ -12,19 +12,20 @@ use Rattle.mm_draft.specs.Faults.{word_limit, pointer_limit, one_if_pointer}
 abbrev pub entries_of : List (Bor (List ℕ) × Place) → List Entry
 entries_of es = map (λ e. record { name = e.0.now; place = e.1 }) es
 
--- how many words and pointers the segments have, within the limits
+-- the counts of words and pointers in the segments, within the limits
 pub record Counts (segments : List Segment) (words pointers : ℕ) : Type 0 where
   pub words_are : words ≡ words_of segments
   pub pointers_are : pointers ≡ pointers_of segments
   pub words_fit : words ≤ word_limit
   pub pointers_fit : pointers ≤ pointer_limit
 
--- so many words more, of which so many are pointers, are within the limits
+-- this count of further words, and of pointers among them, is within the limits
 pub record HasRoom (d : Draft) (words pointers : ℕ) : Type 0 where
   pub words_fit : words_of d.segments + words ≤ word_limit
   pub pointers_fit : pointers_of d.segments + pointers ≤ pointer_limit
 
--- a segment's size is one of a segment and its name is new, and words are within the limits
+-- a statement may be added: a segment has a permitted size and a new name, and words are within the
+-- limits
 abbrev pub MayAdd : Draft → Statement → Type 0
 MayAdd d (statement.Begin mark log) = (log ≤ 20) × (place_of d mark.name ≡ None)
 MayAdd d (statement.Fill words) = HasRoom d words 0

@@ -1,5 +1,5 @@
--- A draft: what the lines of a text say together, before names are looked up: segments with their words, names, threads and spare frames. Each line adds
--- its own items to the segment, or the thread, that came last.
+-- A draft: what the lines of a text say together, before names are looked up: segments with their words, names, threads
+-- and spare frames. Each line adds its own items to the segment, or the thread, that came last.
 use Rattle.std.specs.Prelude.{ℕ, ◌-◌, ◌+◌, Bool, true, false, if◌then◌else◌, List, [], ◌∷◌, ◌++◌, length, replicate, Option, Some, None, Result, Ok, Err}
 use Rattle.std.specs.Str.{bytes_eq}
 use Rattle.mm_word.specs.declared.perm.Perm.{Perm}
@@ -20,7 +20,7 @@ use Rattle.mm_draft.specs.declared.thread.Register.{Register}
 
 pub record Segment : Type 0 where
   pub name : List ℕ
-  -- the logarithm of its length in bytes
+  -- the logarithm of the segment's length in bytes
   pub log : ℕ
   pub words : List Word
 
@@ -64,12 +64,12 @@ last [] = None
 last (x ∷ []) = Some x
 last (x ∷ y ∷ rest) = last (y ∷ rest)
 
--- how many words the last segment has so far
+-- the count of words that the last segment has so far
 abbrev pub words_so_far : Option Segment → ℕ
 words_so_far None = 0
 words_so_far (Some s) = length s.words
 
--- how many words all segments have
+-- the count of words in all segments
 abbrev pub words_of : List Segment → ℕ
 words_of [] = 0
 words_of (s ∷ segments) = length s.words + words_of segments
@@ -82,7 +82,7 @@ abbrev pub pointers_among : List Word → ℕ
 pointers_among [] = 0
 pointers_among (w ∷ words) = (if is_pointer w.content then 1 else 0) + pointers_among words
 
--- how many of them become pointers when the segments are placed
+-- the count of words in all segments that become pointers when the segments are placed
 abbrev pub pointers_of : List Segment → ℕ
 pointers_of [] = 0
 pointers_of (s ∷ segments) = pointers_among s.words + pointers_of segments
@@ -105,11 +105,11 @@ add_words words d = record d { segments = change_last (with_words words) d.segme
 abbrev pub add_name : List ℕ → Place → Draft → Draft
 add_name name place d = record d { names = d.names ++ record { name = name; place = place } ∷ [] }
 
--- a label names the next word of the last segment
+-- the draft with this label, which names the next word of the last segment
 abbrev pub add_label : Mark → Draft → Draft
 add_label mark d = add_name mark.name (record { segment = length d.segments - 1; word = words_so_far (last d.segments); is_label = true }) d
 
--- a segment begins, whose name is that of its first word
+-- the draft with this segment, whose name is also that of its first word
 abbrev pub add_segment : Mark → ℕ → Draft → Draft
 add_segment mark log d =
     add_name mark.name (record { segment = length d.segments; word = 0; is_label = false }) (record d { segments = d.segments ++ record { name = mark.name; log = log; words = [] } ∷ [] })
@@ -143,7 +143,7 @@ abbrev pub add_body : Source → Option Body → Draft → Draft
 add_body source None d = d
 add_body source (Some body) d = add_reading source body.reading d
 
--- a label that is too long names nothing
+-- the draft with the label of a line; a label that is too long names nothing
 abbrev pub add_maybe_label : Option (Result Mark Problem) → Draft → Draft
 add_maybe_label None d = d
 add_maybe_label (Some (Ok mark)) d = add_label mark d

@@ -30,11 +30,11 @@ word_limit = 131072
 abbrev pub pointer_limit : ℕ
 pointer_limit = 65535
 
--- how many words a segment of this size has room for
+-- the count of words that a segment of this size has room for
 abbrev pub room_of : Segment → ℕ
 room_of s = 2 ^ (s.log - 3)
 
--- 2. The faults of a line behind a draft.
+-- 2. The faults of a line after a draft.
 
 abbrev pub fault_if : Bool → Fault → ℕ → List Problem
 fault_if bad fault left = if bad then record { fault = fault; left = left } ∷ [] else []
@@ -52,11 +52,11 @@ has_register (Some t) number = list_any (λ r. r.number == number) t.registers
 abbrev pub is_none : {A : Type 0} → Option A → Bool
 is_none o = not (is_some o)
 
--- a label before the first segment, or one that is there already
+-- the faults of a label: it is before the first segment, or there already
 abbrev pub label_faults : Draft → Mark → List Problem
 label_faults d mark = fault_if (is_none (last d.segments)) Place mark.left ++ fault_if (is_named d mark.name) Twice mark.left
 
--- what a statement names is there already
+-- the fault of a claim: what it names is there already
 abbrev pub claim_faults : Draft → Option Claim → List Problem
 claim_faults d None = []
 claim_faults d (Some (claims.Spare left)) = fault_if (is_some d.spare) Twice left
@@ -64,7 +64,8 @@ claim_faults d (Some (claims.Segment mark)) = fault_if (is_named d mark.name) Tw
 claim_faults d (Some (claims.Slot slot left)) = fault_if (has_slot d slot) Twice left
 claim_faults d (Some (claims.Register number left)) = fault_if (has_register (last d.threads) number) Twice left
 
--- so many words more, of which so many become pointers: before the first segment, past the segment's size, or past a limit
+-- the faults of further words, of which some become pointers: they are before the first segment, past the segment's
+-- size, or past a limit
 abbrev pub words_faults : Draft → ℕ → ℕ → ℕ → Option Segment → List Problem
 words_faults d words pointers left None = fault_if true Place left
 words_faults d words pointers left (Some s) =
@@ -74,7 +75,7 @@ words_faults d words pointers left (Some s) =
 abbrev pub one_if_pointer : Content → ℕ
 one_if_pointer what = if is_pointer what then 1 else 0
 
--- a statement without a fault of its own, at its first token
+-- the faults of a statement that has none of its own, at its first token
 unfoldable pub statement_faults : Draft → ℕ → Statement → List Problem
 statement_faults d left (statement.Spare frames) = []
 statement_faults d left (statement.Begin mark log) = fault_if (nat_le segment_limit (length d.segments)) Limit left
@@ -96,14 +97,14 @@ maybe_label_faults d None = []
 maybe_label_faults d (Some (Ok mark)) = label_faults d mark
 maybe_label_faults d (Some (Err problem)) = problem ∷ []
 
--- all faults of a line: those of its label, and those of its statement behind the label
+-- all faults of a line: those of its label, and those of the statement after the label
 unfoldable pub line_faults : Draft → Line → List Problem
 line_faults d line = maybe_label_faults d line.label ++ body_faults (add_maybe_label line.label d) line.body
 
 -- 3. The first fault.
 
--- a fault stands before another in its line: at a lesser place or, at the same place, with the lesser number. A place is how many bytes of the line begin
--- there, so the lesser place is the greater number
+-- a fault is before another in its line: at an earlier place or, at the same place, with the lesser number. A place is
+-- the count of bytes of the line from there on, so the earlier place is the greater count
 abbrev pub is_before : Problem → Problem → Bool
 is_before p q = nat_lt q.left p.left || p.left == q.left && nat_lt (number_of p.fault) (number_of q.fault)
 
@@ -122,7 +123,7 @@ abbrev pub step_by : Option Problem → Source → Line → Draft → Result Dra
 step_by None source line d = Ok (add_line source line d)
 step_by (Some problem) source line d = Err (record { source = source; problem = problem })
 
--- a line behind a draft: the draft with it, or its first fault
+-- the draft with this line, or the first fault of the line after the draft
 unfoldable pub step : ℕ → List ℕ → Draft → Result Draft Failure
 step number bytes d = step_by (first_of (line_faults d (line_of bytes))) (source_of number bytes) (line_of bytes) d
 
@@ -131,7 +132,7 @@ abbrev pub ◌then◌ : Result Draft Failure → (Draft → Result Draft Failure
 (Ok d) then f = f d
 (Err failure) then f = Err failure
 
--- the lines from a number on behind a draft, up to the first fault
+-- the draft with the lines from a number on, up to the first fault
 unfoldable pub lines_from : ℕ → Draft → List (List ℕ) → Result Draft Failure
 lines_from number d [] = Ok d
 lines_from number d (bytes ∷ more) = step number bytes d then λ e. lines_from (number + 1) e more

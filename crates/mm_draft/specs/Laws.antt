@@ -1,4 +1,4 @@
--- The first fault of a text is the least of all.
+-- The first fault of a text is the least of all its faults.
 use Rattle.std.specs.Prelude.{◌≡◌, ℕ, ◌+◌, ◌-◌, ◌==◌, nat_lt, Bool, ◌&&◌, ◌||◌, if◌then◌else◌, List, [], ◌∷◌, ◌++◌, map, length, Option, Some, None, Result, Ok, Err}
 use Rattle.mm_line.specs.declared.fault.Problem.{Problem}
 use Rattle.mm_line.specs.Faults.{number_of}
@@ -13,7 +13,7 @@ pub record Pair : Type 0 where
   pub column : ℕ
   pub number : ℕ
 
--- a missing token is at the column behind the line's last byte
+-- the position and the number of a fault; a missing token is at the column after the line's last byte
 abbrev pub pair_of : ℕ → ℕ → Problem → Pair
 pair_of line size problem = record { line = line + 1; column = size - problem.left + 1; number = number_of problem.fault }
 
@@ -30,7 +30,7 @@ all_from number d (bytes ∷ more) =
 abbrev pub early_faults : List ℕ → List Pair
 early_faults text = all_from 0 nothing (lines_of text)
 
--- at a lesser position or, at the same one, of a lesser number
+-- a fault is at a lesser position or, at the same one, of a lesser number
 abbrev pub precedes : Pair → Pair → Bool
 precedes p q = nat_lt p.line q.line || p.line == q.line && (nat_lt p.column q.column || p.column == q.column && nat_lt p.number q.number)
 
@@ -46,6 +46,6 @@ abbrev pub fault_of : Result Draft Failure → Option Pair
 fault_of (Ok d) = None
 fault_of (Err failure) = Some (failure_pair failure)
 
--- what stops the reading is the least of all faults of the text, and where there is none nothing stops it
+-- what stops the reading is the least of all faults of the text; if there is none, nothing stops it
 abbrev pub TheFirstIsTheLeast : Type 0
 TheFirstIsTheLeast = (text : List ℕ) → fault_of (draft_of text) ≡ least (early_faults text)

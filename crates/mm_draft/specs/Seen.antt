@@ -1,4 +1,4 @@
--- What calls give, in the words of the faults.
+-- The answers of calls, as the specification says them.
 use Rattle.std.specs.Prelude.{◌≡◌, Result, Ok, Err, Option, Some, None}
 use Rattle.mm_line.specs.declared.fault.Problem.{Problem}
 use Rattle.mm_draft.specs.declared.source.Source.{Source}
@@ -8,13 +8,13 @@ use Rattle.mm_draft.specs.declared.fault.DraftError.TheVariants.{Fault, NoMemory
 use Rattle.mm_draft.specs.Drafts.{Draft}
 use Rattle.mm_draft.specs.Faults.{lesser}
 
--- a draft that was read, or its fault, is the one that is said. Nothing is said of want of memory
+-- the draft that was read, or its fault, is the specified one. Nothing is said if memory ran out
 abbrev pub Reads : Result Draft DraftError → Result Draft Failure → Type 0
 Reads (Ok d) said = said ≡ Ok d
 Reads (Err (Fault failure)) said = said ≡ Err failure
 Reads (Err NoMemory) said = Unit {0}
 
--- the same where a call left the draft
+-- the draft that a call left, or its fault, is the specified one. Nothing is said if memory ran out
 abbrev pub Leaves : {X : Type 0} → Result X DraftError → Draft → Result Draft Failure → Type 0
 Leaves (Ok x) new said = said ≡ Ok new
 Leaves (Err (Fault failure)) new said = said ≡ Err failure

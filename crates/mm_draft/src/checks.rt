@@ -1,4 +1,4 @@
-//! The first fault of a line behind a draft.
+//! The first fault of a line, against the draft of the lines before it.
 
 ghost use Rattle.std.specs.Prelude.{◌≡◌, is_some, Some, ◌≤◌, ◌+◌, ◌||◌, nat_lt};
 ghost use Rattle.mm_draft.specs.Drafts.{last, words_of, pointers_of};
@@ -20,7 +20,7 @@ fn fault_if(bad: bool, fault: Fault, left: usize) -> Option<Problem>
     }
 }
 
-// Whether a fault stands before another in their line. A place is how many bytes of the line begin there.
+// Whether a fault is before another in their line. A place is the count of bytes of the line from there on.
 fn is_before(p: Problem, q: Problem) -> bool
     ensures { result ≡ is_before p q }
 {
@@ -38,7 +38,7 @@ fn first(p: Option<Problem>, q: Option<Problem>) -> Option<Problem>
     }
 }
 
-// One, where the content becomes a pointer when the segments are placed.
+// 1 if the content becomes a pointer when the segments are placed, else 0.
 pub(crate) fn one_if_pointer(content: &Content<'_>) -> usize
     ensures { result ≡ one_if_pointer content.now }
 {
@@ -95,7 +95,7 @@ impl<'a> Draft<'a> {
         )
     }
 
-    // Its fault, if a statement names what is there already.
+    // The fault of a statement that names what is there already.
     fn claim_fault(&self, claim: &Option<Claim<'_>>) -> Option<Problem>
         ensures { result ≡ first_of (claim_faults self.now claim.now) }
     {
@@ -114,7 +114,7 @@ impl<'a> Draft<'a> {
         }
     }
 
-    // Whether so many words more, of which so many are pointers, are past a limit.
+    // Whether this count of further words, and of pointers among them, is past a limit.
     fn is_past_limit(&self, words: u32, pointers: usize) -> bool
         requires { pointers ≤ 1 }
         ensures { result ≡ (nat_lt word_limit (words_of self.now.segments + words) || nat_lt pointer_limit (pointers_of self.now.segments + pointers)) }
@@ -122,7 +122,7 @@ impl<'a> Draft<'a> {
         self.words + words as usize > WORDS || self.pointers + pointers > POINTERS
     }
 
-    // The first fault of so many words more, of which so many are pointers.
+    // The first fault of this count of further words, and of pointers among them.
     fn words_fault(&self, words: u32, pointers: usize, left: usize) -> Option<Problem>
         requires { pointers ≤ 1 }
         ensures { result ≡ first_of (words_faults self.now words pointers left (last self.now.segments)) }

@@ -1,3 +1,5 @@
+//! Drafts: what the lines of a text say together.
+
 ghost use Rattle.std.specs.Prelude.{◌≡◌};
 ghost use Rattle.mm_draft.specs.Drafts.{place_of, nothing};
 
@@ -6,13 +8,13 @@ use indexmap::IndexMap;
 use std::alloc::Global;
 use std::marker::Model;
 
-/// How many segments an object holds.
+/// The most segments that an object holds.
 pub(crate) const SEGMENTS: usize = 256;
 
-/// How many words an object holds.
+/// The most words that an object holds.
 pub(crate) const WORDS: usize = 131_072;
 
-/// How many pointers an object holds that are set when its segments are placed.
+/// The most pointers of an object that are set when its segments are placed.
 pub(crate) const POINTERS: usize = 65_535;
 
 /// What the lines of a text say together, before names are looked up.
@@ -23,7 +25,7 @@ pub struct Draft<'a> {
     pub(crate) names: IndexMap<&'a [u8], Place>,
     pub(crate) threads: Vec<Thread<'a>>,
     pub(crate) spare: Option<u16>,
-    // How many words the segments have, and how many of them are pointers.
+    // The count of words in the segments, and of pointers among them.
     pub(crate) words: usize,
     pub(crate) pointers: usize,
 }
@@ -40,7 +42,7 @@ impl<'a> Model for Draft<'a> {
 }
 
 impl<'a> Draft<'a> {
-    // What no line says.
+    // The draft of no line.
     pub(crate) fn new(alloc: Global) -> Draft<'a>
         ensures { result ≡ nothing }
     {
@@ -68,14 +70,14 @@ impl<'a> Draft<'a> {
         &self.threads
     }
 
-    /// How many spare frames the object has, if the text says so.
+    /// The object's count of spare frames, if the text says it.
     pub fn spare(&self) -> Option<u16>
         ensures { result ≡ self.now.spare }
     {
         self.spare
     }
 
-    /// What a name stands for, if the text has it.
+    /// The place that a name stands for, if the text has the name.
     pub fn place_of(&self, name: &[u8]) -> Option<Place>
         ensures { result ≡ place_of self.now name.now }
     {

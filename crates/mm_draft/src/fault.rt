@@ -1,3 +1,5 @@
+//! The faults that leave a text without a draft.
+
 ghost use Rattle.std.specs.Prelude.{◌≡◌};
 ghost use Rattle.mm_draft.specs.declared.fault.DraftError.TheVariants.{NoMemory};
 
@@ -5,7 +7,7 @@ use crate::Source;
 use mm_line::Problem;
 use std::alloc::{AllocError, AllocFailed};
 
-/// A fault, and the line that it is in.
+/// A fault, and the line that has it.
 #[derive(Clone, Copy, Debug, PartialEq, Eq)]
 pub struct Failure {
     pub source: Source,
@@ -15,7 +17,7 @@ pub struct Failure {
 /// Why a text has no draft.
 #[derive(Clone, Copy, Debug, PartialEq, Eq)]
 pub enum DraftError {
-    /// The first fault that is seen when its lines are read.
+    /// The first fault that is seen when the lines are read.
     Fault(Failure),
     /// Memory ran out.
     NoMemory,

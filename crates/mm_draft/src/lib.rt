@@ -1,7 +1,7 @@
 //! What the lines of an assembler text say together: segments with their words, names, threads and spare frames.
 //!
-//! [`read_draft`] gives the draft of a text, or the first fault that is seen when its lines are read in their order. A crate above
-//! looks names up, which may have faults of their own.
+//! [`read_draft`] gives the draft of a text, or the first fault that is seen when its lines are read in their order. A
+//! crate above looks names up, which may have faults of their own.
 #![tactic(auto)]
 
 mod changes;

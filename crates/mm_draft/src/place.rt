@@ -1,9 +1,11 @@
-/// What a name stands for: a segment, or a word of one.
+//! The places that names stand for.
+
+/// The place that a name stands for: a segment, or a word of one.
 #[derive(Clone, Copy, Debug, PartialEq, Eq)]
 pub struct Place {
     /// The number of the segment, from 0.
     pub segment: usize,
-    /// How many words of the segment stand before it.
+    /// The count of words of the segment before the place.
     pub word: usize,
     pub is_label: bool,
 }

@@ -1,3 +1,5 @@
+//! Segments and their words.
+
 ghost use Rattle.std.specs.Prelude.{◌≡◌, OnOk, OnErr, [], ◌∷◌};
 ghost use Rattle.mm_draft.specs.Drafts.{with_words, zero_word};
 
@@ -9,7 +11,7 @@ use std::marker::Model;
 /// A word, and the line that it is from.
 #[derive(Drop)]
 pub struct Word<'a> {
-    /// Whether its cell is full.
+    /// Whether the word's cell is full.
     pub full: bool,
     pub content: Content<'a>,
     pub source: Source,
@@ -32,7 +34,7 @@ impl<'a> Word<'a> {
 #[derive(Drop)]
 pub struct Segment<'a> {
     pub name: Name<'a>,
-    /// The logarithm of its length in bytes, at most 20.
+    /// The logarithm of the segment's length in bytes, at most 20.
     pub log: u8,
     pub words: Vec<Word<'a>>,
 }
@@ -51,14 +53,14 @@ impl<'a> Model for Segment<'a> {
 impl<'a> Segment<'a> {
     ghost use Rattle.mm_draft.specs.Faults.{room_of};
 
-    /// How many words it has room for.
+    /// The count of words that the segment has room for.
     pub fn room(&self) -> usize
         ensures { result ≡ room_of self.now }
     {
         1 << self.log.saturating_sub(3)
     }
 
-    // One word more.
+    // Appends a word.
     pub(crate) fn push(&mut self, word: Word<'a>) -> Result<(), AllocError>
         ensures done { OnOk result (self.new ≡ with_words (word.entry ∷ []) self.old) }
         ensures unchanged { OnErr result (self.new ≡ self.old) }

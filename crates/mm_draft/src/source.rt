@@ -1,4 +1,6 @@
-/// The line that something is from: its number, from 0, and how many bytes it has.
+//! The lines that the parts of a draft are from.
+
+/// The line that a part of a draft is from: its number, from 0, and its length in bytes.
 #[derive(Clone, Copy, Debug, PartialEq, Eq)]
 pub struct Source {
     pub line: usize,

@@ -1,3 +1,5 @@
+//! Threads and their registers.
+
 ghost use Rattle.std.specs.Prelude.{◌≡◌, ◌==◌, ◌++◌, ◌∷◌, [], OnOk};
 ghost use Rattle.std.specs.List.{list_any};
 
@@ -16,7 +18,8 @@ pub struct Register<'a> {
     pub source: Source,
 }
 
-/// A thread: its slot, its protection domain, the slot that handles its faults, its instruction pointer and its registers.
+/// A thread: its slot, its protection domain, the slot that handles its faults, its instruction pointer and its
+/// registers.
 #[derive(Drop)]
 pub struct Thread<'a> {
     pub slot: u8,
@@ -48,7 +51,7 @@ impl<'a> Thread<'a> {
             .any(|r| r.number.number() == number.number())
     }
 
-    // One register more.
+    // Appends a register.
     pub(crate) fn push(&mut self, register: Register<'a>) -> Result<(), AllocError>
         ensures { OnOk result (self.new ≡ with_register register.entry self.old) }
     {

@@ -28,11 +28,11 @@ page number cells = (number, cells ++ replicate (512 - length cells) zero_cell)
 abbrev pub code_page : List ℕ → ℕ × List Cell
 code_page words = page 0x100 (map full_int words)
 
--- the registers, where all others are integer 0
+-- these registers; all others are integer 0
 abbrev pub registers : List (ℕ × Word) → List Word
 registers list = fold (λ regs r. slice_set regs r.0 r.1) (replicate 16 (Int 0)) list
 
--- where user code begins
+-- the pointer at which user code begins
 abbrev pub code : Pointer
 code = pointer Xu 12 0x100000
 
@@ -57,21 +57,21 @@ memory frames pages = record { pages = pages; frames = frames }
 abbrev pub image : List Slot → Memory → Image
 image slots m = record { version = 1; split = false; slots = slots; memory = m }
 
--- one slot whose code page has these words
+-- an image of one slot whose code page has these words
 abbrev pub one : List ℕ → List (ℕ × Word) → Image
 one words list = image (slot 0 0 code list ∷ []) (memory 1 (code_page words ∷ []))
 
 -- 2. Images.
 
--- it loads 65, puts it out and halts
+-- an image of a slot that loads 65, puts it out and halts
 abbrev pub hello : Image
 hello = one (0x0210000000000041 ∷ 0x0701000000000000 ∷ []) []
 
--- no page at all
+-- an image without pages
 abbrev pub smallest : Image
 smallest = image (slot 0 0 code [] ∷ []) (memory 1 [])
 
--- a segment of one word, which is a nop
+-- an image whose code segment has one word, a nop
 abbrev pub one_word : Image
 one_word = image (slot 0 0 (pointer Xu 3 0x100000) [] ∷ []) (memory 1 (code_page (0x0100000000000000 ∷ []) ∷ []))
 
@@ -79,7 +79,7 @@ one_word = image (slot 0 0 (pointer Xu 3 0x100000) [] ∷ []) (memory 1 (code_pa
 abbrev pub gate : Pointer
 gate = pointer Eu 12 0x20010
 
--- `jmp r1`, `lea r2, r1, r3` and `ld r2, r1, 0, any, keep`, each with the gate in r1
+-- images of one instruction, `jmp r1`, `lea r2, r1, r3` or `ld r2, r1, 0, any, keep`, with the gate in r1
 abbrev pub jumps : Image
 jumps = one (0x4301000000000000 ∷ []) ((1, Ptr gate) ∷ [])
 
@@ -89,7 +89,7 @@ moves_a_gate = one (0x2021300000000000 ∷ []) ((1, Ptr gate) ∷ [])
 abbrev pub loads_a_gate : Image
 loads_a_gate = one (0x3021000000000000 ∷ []) ((1, Ptr gate) ∷ [])
 
--- slot 0 loads from a cell once it is full, `ld r2, r1, 0, full, keep`, and slot 1 fills it, `st r1, r3, 0, any, full`
+-- slot 0 loads from a cell once it is full, `ld r2, r1, 0, full, keep`; slot 1 fills it, `st r1, r3, 0, any, full`
 abbrev pub box : Pointer
 box = pointer Rw 3 0x100100
 
@@ -99,11 +99,11 @@ exchange = image
     (memory 1 (page 0x100 (map full_int (0x3021040000000000 ∷ 0 ∷ 0x3101310000000000 ∷ []) ++ replicate 29 zero_cell
     ++ record { word = Int 0; full = false } ∷ []) ∷ []))
 
--- `ld r2, r1, 0, any, empty` through a read-only pointer
+-- an image with `ld r2, r1, 0, any, empty` through a read-only pointer
 abbrev pub signals_by_reading : Image
 signals_by_reading = one (0x3021020000000000 ∷ []) ((1, Ptr (pointer Ro 3 0x100100)) ∷ [])
 
--- slots 0 and 1 trap, and slot 2 takes their events, `evt r0`, `evt r4`, `resume r8, skip`, with 1 in r8
+-- slots 0 and 1 trap; slot 2 takes their events, `evt r0`, `evt r4`, `resume r8, skip`, with 1 in r8
 abbrev pub served : ℕ → ℕ → ℕ → Slot
 served number group at = record (slot number group (pointer Xu 12 at) []) { handler = Some 2 }
 
@@ -112,28 +112,28 @@ traps handler = image
     (served 0 0 0x100000 ∷ served 1 1 0x100000 ∷ slot 2 2 (pointer Xu 12 0x101000) ((8, Int 1) ∷ []) ∷ [])
     (memory 2 (code_page (0x5000000000000005 ∷ []) ∷ page 0x101 (map full_int handler) ∷ []))
 
--- `addi r2, r1, 8`, `isptr r3, r2`, `ld r4, r2, 0, any, keep`
+-- an image with `addi r2, r1, 8`, `isptr r3, r2`, `ld r4, r2, 0, any, keep`
 abbrev pub forges : Image
 forges = one (0x1e21000000000008 ∷ 0x0532000000000000 ∷ 0x3042000000000000 ∷ []) ((1, Ptr (pointer Rw 12 0x10000)) ∷ [])
 
--- two slots of two groups run `out r1`, `br -1`
+-- an image in which two slots of two groups run `out r1`, `br -1`
 abbrev pub two_groups : Image
 two_groups = image (slot 0 0 code ((1, Int 0x41) ∷ []) ∷ slot 1 1 code ((1, Int 0x42) ∷ []) ∷ [])
     (memory 1 (code_page (0x0701000000000000 ∷ 0x40000000ffffffff ∷ []) ∷ []))
 
--- the second group may store into the first one's code page
+-- an image in which the second group may also store into the first one's code page
 abbrev pub one_pointer_too_many : Image
 one_pointer_too_many = image
     (slot 0 0 code [] ∷ slot 1 1 (pointer Xu 12 0x101000) ((1, Ptr (pointer Rw 3 0x100018)) ∷ []) ∷ [])
     (memory 2 (code_page [] ∷ page 0x101 [] ∷ []))
 
--- privileged code: `map r2, r1`, `unmap r3, r4`, `ld r5, r6, 0, any, keep`
+-- an image of privileged code: `map r2, r1`, `unmap r3, r4`, `ld r5, r6, 0, any, keep`
 abbrev pub maps : Pointer → Image
 maps ip = image
     (slot 0 0 ip ((1, Int 0x200) ∷ (4, Int 0x101) ∷ (6, Ptr (pointer Rw 12 0x101000)) ∷ []) ∷ [])
     (memory 2 (code_page (0x6021000000000000 ∷ 0x6134000000000000 ∷ 0x3056000000000000 ∷ []) ∷ page 0x101 [] ∷ []))
 
--- a load whose value is used: `ld r2, r1, 0, any, keep`, `addi r3, r2, 1`
+-- an image with a load whose value is used: `ld r2, r1, 0, any, keep`, `addi r3, r2, 1`
 abbrev pub splits : ℕ → Bool → Image
 splits version split = record {
   version = version;
@@ -142,20 +142,21 @@ splits version split = record {
   memory = memory 2 (code_page (0x3021000000000000 ∷ 0x1e32000000000001 ∷ []) ∷ page 0x101 (full_int 7 ∷ []) ∷ []);
 }
 
--- A consumer takes what a producer leaves in a box, and counts behind a gate.
+-- A consumer takes what a producer leaves in a box, and counts through a gate.
 
--- `ld r2, r1, 0, full, empty`, `addi r2, r2, 64`, `out r2`, `jal r6, r5`, `addi r3, r3, -1`, `bnz r3, -5`, `halt`
+-- the consumer: `ld r2, r1, 0, full, empty`, `addi r2, r2, 64`, `out r2`, `jal r6, r5`, `addi r3, r3, -1`, `bnz r3,
+-- -5`, `halt`
 abbrev pub consumer : List ℕ
 consumer =
     0x3021060000000000 ∷ 0x1e22000000000040 ∷ 0x0702000000000000 ∷ 0x4465000000000000 ∷ 0x1e330000ffffffff
     ∷ 0x42030000fffffffb ∷ 0 ∷ []
 
--- `st r1, r2, 0, empty, full`, `addi r2, r2, 1`, `addi r3, r3, -1`, `bnz r3, -3`, `halt`
+-- the producer: `st r1, r2, 0, empty, full`, `addi r2, r2, 1`, `addi r3, r3, -1`, `bnz r3, -3`, `halt`
 abbrev pub producer : List ℕ
 producer = 0x3101290000000000 ∷ 0x1e22000000000001 ∷ 0x1e330000ffffffff ∷ 0x42030000fffffffd ∷ 0 ∷ []
 
--- `lip r7, -1`, `ld r7, r7, 0, any, keep`, `ld r8, r7, 0, any, keep`, `addi r8, r8, 1`, `st r7, r8, 0, any, keep`, `ldi
--- r7, 0`, `jmp r6`
+-- the counter: `lip r7, -1`, `ld r7, r7, 0, any, keep`, `ld r8, r7, 0, any, keep`, `addi r8, r8, 1`, `st r7, r8, 0,
+-- any, keep`, `ldi r7, 0`, `jmp r6`
 abbrev pub counter : List ℕ
 counter =
     0x45700000ffffffff ∷ 0x3077000000000000 ∷ 0x3087000000000000 ∷ 0x1e88000000000001 ∷ 0x3107800000000000
@@ -179,8 +180,8 @@ gated = image
     ∷ slot 1 1 (pointer Xu 7 0x100000) ((1, Ptr box) ∷ (3, Int 2) ∷ (5, Ptr door) ∷ []) ∷ [])
     (memory 1 (page 0x100 gated_page ∷ []))
 
--- it stores into 18 pages, one behind the other, and loads from two of them: `st r1, r2, 0, any, keep`, `leai r1, r1,
--- 4096`, `addi r3, r3, -1`, `bnz r3, -3`, `ld r5, r4, 0, any, keep`, `ld r6, r7, 0, any, keep`, `halt`
+-- an image that stores into 18 pages, one after the other, and loads from two of them: `st r1, r2, 0, any, keep`, `leai
+-- r1, r1, 4096`, `addi r3, r3, -1`, `bnz r3, -3`, `ld r5, r4, 0, any, keep`, `ld r6, r7, 0, any, keep`, `halt`
 abbrev pub sweeper : Image
 sweeper = image
     (slot 0 0 code ((1, Ptr (pointer Rw 17 0x120040)) ∷ (2, Int 7) ∷ (3, Int 18) ∷ (4, Ptr (pointer Ro 17 0x121040))

@@ -1,4 +1,4 @@
--- What worked examples say of runs.
+-- Worked examples of runs.
 use Rattle.std.specs.Prelude.{◌≡◌, ℕ, true, false, List, [], ◌∷◌, ◌++◌, length, take, slice_set, map, replicate, codes}
 use Rattle.std.specs.Prelude.{Option, Some, None, option_map}
 use Rattle.mm_word.specs.declared.word.Word.{Word}
@@ -30,15 +30,15 @@ use Rattle.mm_examples.specs.Images.{two_groups, maps, splits, gated, sweeper}
 abbrev pub then : Image → List ℕ → State
 then i items = run (start i) items
 
--- the report, without what a memory counts
+-- the report after a list of items, without what a memory counts
 abbrev pub reported : Image → List ℕ → List ℕ
 reported i items = report (then i items) i None
 
--- how each cycle ended
+-- the outcome of each cycle of a list of items
 abbrev pub outcomes : Image → List ℕ → List Tick
 outcomes i items = map (λ (s : Step). s.tick) (steps (start i) items)
 
--- a register of a slot, at the end
+-- a register of a slot, integer 0 if there is no slot
 abbrev pub register_of : Option Slot → ℕ → Word
 register_of None r = Int 0
 register_of (Some s) r = register s r
@@ -51,27 +51,27 @@ state_then i items n = option_map (λ (s : Slot). s.state) (slot_at (then i item
 
 -- 1. Runs of one slot.
 
--- one byte is put out, and round robin ends where no slot runs
+-- one byte is put out, and round robin ends when no slot runs
 abbrev pub SaysA : Type 0
 SaysA = reported hello (robin_from (start hello) None 10)
     ≡ codes "cycles 3\ngroup 0 output 1\no 41\nslot 0 turns 3 halted ip p3300000000100010\nr 1 i0000000000000041\n"
 
--- nothing is mapped
+-- the fetch faults, since no page is mapped
 abbrev pub FetchesNoPage : Type 0
 FetchesNoPage = reported smallest (robin_from (start smallest) None 5)
     ≡ codes "cycles 1\ngroup 0 output 0\nslot 0 turns 1 faulted 5 ip p3300000000100000\n"
 
--- the fetch behind the last word of the segment faults
+-- the fetch past the last word of the segment faults
 abbrev pub RunsPastTheEnd : Type 0
 RunsPastTheEnd = reported one_word (0 ∷ 0 ∷ [])
     ≡ codes "cycles 2\ngroup 0 output 0\nslot 0 turns 2 faulted 3 ip p30c0000000100000 past\n"
 
--- a jump through an enter pointer goes to its own address
+-- a jump through an enter pointer goes to the pointer's own address
 abbrev pub Enters : Type 0
 Enters = reported jumps (0 ∷ [])
     ≡ codes "cycles 1\ngroup 0 output 0\nslot 0 turns 1 running ip p3300000000020010\nr 1 p5300000000020010\n"
 
--- which can be neither moved nor loaded from
+-- an enter pointer can be neither moved nor loaded from
 abbrev pub GatesStandStill : Type 0
 GatesStandStill =
     (outcomes moves_a_gate (0 ∷ []) ≡ Faulted Perm ∷ []) × (outcomes loads_a_gate (0 ∷ []) ≡ Faulted Perm ∷ [])
@@ -82,13 +82,13 @@ ReadingIsNoSignal =
     (outcomes signals_by_reading (0 ∷ []) ≡ Faulted Perm ∷ [])
     × (cell_at (then signals_by_reading (0 ∷ [])).memory 0x100100 ≡ Some (record { word = Int 0; full = true }))
 
--- integer arithmetic takes the tag
+-- integer arithmetic takes the tag away
 abbrev pub NoForgery : Type 0
 NoForgery =
     reported forges (0 ∷ 0 ∷ 0 ∷ [])
     ≡ codes "cycles 3\ngroup 0 output 0\nslot 0 turns 3 faulted 1 ip p3300000000100010\nr 1 p2300000000010000\nr 2 i2300000000010008\n"
 
--- no third page fits into two frames, and a page that is gone is not found
+-- no third page fits into two frames, and a page that was removed is not found
 abbrev pub MapsFrames : Type 0
 MapsFrames =
     reported (maps (pointer Xp 12 0x100000)) (0 ∷ 0 ∷ 0 ∷ [])
@@ -106,7 +106,7 @@ smallest_bytes =
 abbrev pub SpelledInBytes : Type 0
 SpelledInBytes = (spelling smallest ≡ smallest_bytes) × (length (spelling hello) ≡ 4390)
 
--- a register that is tagged and malformed
+-- the bytes of the smallest image with a register that is tagged and malformed
 abbrev pub malformed_bytes : List ℕ
 malformed_bytes = slice_set (slice_set smallest_bytes 29 8) 54 0x80
 
@@ -127,7 +127,8 @@ abbrev pub Exchanges : Type 0
 Exchanges = (outcomes exchange (0 ∷ 0 ∷ 1 ∷ 0 ∷ []) ≡ Blocked ∷ Blocked ∷ Did ∷ Did ∷ [])
     × (register_then exchange (0 ∷ 0 ∷ 1 ∷ 0 ∷ []) 0 2 ≡ Int 7)
 
--- `evt r0`, `evt r4`, `resume r8, skip`: two events come in their order, and one slot goes on
+-- an image whose handler takes two events, in their order, and lets one slot go on: `evt r0`, `evt r4`, `resume r8,
+-- skip`
 abbrev pub handles : Image
 handles = traps (0x5100000000000000 ∷ 0x5140000000000000 ∷ 0x5208010000000000 ∷ [])
 
@@ -143,7 +144,7 @@ TakesEvents =
 abbrev pub ResumesTakenAlone : Type 0
 ResumesTakenAlone = outcomes (traps (0x5208010000000000 ∷ [])) (1 ∷ 2 ∷ []) ≡ Faulted Trap ∷ Faulted NoSlot ∷ []
 
--- two groups under a schedule
+-- two groups run under a schedule
 abbrev pub TwoGroups : Type 0
 TwoGroups =
     reported two_groups (0 ∷ 0 ∷ 0 ∷ 1 ∷ 0 ∷ 1 ∷ 1 ∷ [])
@@ -154,7 +155,7 @@ TwoGroups =
 abbrev pub AbsentSlotsIdle : Type 0
 AbsentSlotsIdle = outcomes two_groups (9 ∷ 9 ∷ []) ≡ Idle ∷ Idle ∷ []
 
--- the gate in the trace
+-- a jump through the gate is in the trace
 abbrev pub TracesTheGate : Type 0
 TracesTheGate =
     trace (start gated) (0 ∷ 1 ∷ 1 ∷ 1 ∷ 1 ∷ 1 ∷ [])
@@ -177,13 +178,13 @@ CountsBehindTheGate =
 
 -- 3. Split machines.
 
--- a load is issued
+-- a load is issued, and its register is empty
 abbrev pub Issues : Type 0
 Issues =
     reported (splits 2 true) (0 ∷ [])
     ≡ codes "cycles 1\ngroup 0 output 0\nslot 0 turns 1 running ip p3300000000100008\nr 1 p10c0000000101000\nr 2 empty\npending 2 i0000000000000007\n"
 
--- it is delivered by a turn that needs its register, or by the slot's port
+-- an issued load is delivered by a turn that needs its register, or by the slot's port
 abbrev pub Delivers : Type 0
 Delivers =
     (outcomes (splits 2 true) (0 ∷ 0 ∷ 0 ∷ 0 ∷ []) ≡ Did ∷ Blocked ∷ Did ∷ Did ∷ [])
@@ -197,7 +198,7 @@ LoadsAtOnce =
     (outcomes (splits 1 false) (0 ∷ 128 ∷ []) ≡ Did ∷ Idle ∷ [])
     × (register_then (splits 1 false) (0 ∷ 128 ∷ []) 0 2 ≡ Int 7)
 
--- a register that is only written is needed too: `ld r2, r1, 0, any, keep`, `ldi r2, 1`
+-- an image with a load whose register is only written afterwards: `ld r2, r1, 0, any, keep`, `ldi r2, 1`
 abbrev pub overwrites : Image
 overwrites = record (splits 2 true)
     { memory = memory 2 (code_page (0x3021000000000000 ∷ 0x0220000000000001 ∷ []) ∷ page 0x101 (full_int 7 ∷ []) ∷ []) }
@@ -206,9 +207,9 @@ abbrev pub WaitsToWrite : Type 0
 WaitsToWrite = (outcomes overwrites (0 ∷ 0 ∷ 0 ∷ []) ≡ Did ∷ Blocked ∷ Did ∷ [])
     × (register_then overwrites (0 ∷ 0 ∷ 0 ∷ []) 0 2 ≡ Int 1)
 
--- 4. What a cache counts.
+-- 4. The counts of a cache.
 
--- a store that was not done makes no block dirty, and one that was done does
+-- a store that was not done makes no block dirty, and a store that was done does
 abbrev pub CountsDoneStores : Type 0
 CountsDoneStores =
     (counts_of (Accessed Store 0x1000 true false ∷ Accessed Load 0x2000 true true ∷ [])
@@ -230,7 +231,7 @@ abbrev pub CountsGated : Type 0
 CountsGated = counted gated
     ≡ record { hits = 42; misses = 4; writebacks = 0; tlb_hits = 3; tlb_misses = 1; reads = 4; writes = 0 }
 
--- the first page that it loads from is no longer in the buffer, the second still is
+-- the first page that is loaded from is no longer in the buffer, the second still is
 abbrev pub CountsSweeper : Type 0
 CountsSweeper = counted sweeper
     ≡ record { hits = 74; misses = 21; writebacks = 18; tlb_hits = 19; tlb_misses = 20; reads = 21; writes = 18 }

@@ -1,4 +1,4 @@
--- What groups of worked examples can touch and write.
+-- Worked examples of what groups can touch and write.
 use Rattle.std.specs.Prelude.{ℕ, ◌==◌}
 use Rattle.mm_model.specs.Reach.{CanTouch, CanWrite}
 use Rattle.mm_model.specs.Reach.Entries.{All}
@@ -15,7 +15,7 @@ TouchesItsCode = CanTouch two_groups All 0 0x100000
 abbrev pub NoGroupWrites : Type 0
 NoGroupWrites = (g w : ℕ) → ¬ CanWrite two_groups All g w
 
--- so the first group cannot write the code
+-- the first group cannot write the code
 abbrev pub WritesNoCode : Type 0
 WritesNoCode = ¬ CanWrite two_groups All 0 0x100000
 
@@ -25,10 +25,10 @@ TwoGroupsStandApart = Apart two_groups All (λ g. g == 0)
 
 -- 2. The second group may store where the first one can load.
 
--- what lets the second group write lets the first one write, since the second may pass it on
+-- the first group can write all that the second can, since the second may pass its pointer on
 abbrev pub BothCanWrite : Type 0
 BothCanWrite = CanWrite one_pointer_too_many All 0 0x100018 × CanWrite one_pointer_too_many All 1 0x100018
 
--- so neither group stands apart from the other
+-- neither group stands apart from the other
 abbrev pub NeitherStandsApart : Type 0
 NeitherStandsApart = (¬ Apart one_pointer_too_many All (λ g. g == 0)) × (¬ Apart one_pointer_too_many All (λ g. g == 1))

@@ -1,4 +1,4 @@
--- What worked examples say of schedules.
+-- Worked examples of schedules.
 use Rattle.std.specs.Prelude.{◌≡◌, ◌==◌, true, [], ◌∷◌, codes, None}
 use Rattle.mm_model.specs.declared.slot.SlotState.TheVariants.{Halted}
 use Rattle.mm_model.specs.Schedule.{Means, FaultsAt, only}
@@ -6,7 +6,7 @@ use Rattle.mm_model.specs.Image.{Image, start}
 use Rattle.mm_model.specs.Run.{robin_from}
 use Rattle.mm_examples.specs.Images.{code, slot, memory, image, code_page, two_groups, splits}
 
--- items, counts and comments
+-- a text of items and counts, and its meaning
 abbrev pub MeansItems : Type 0
 MeansItems = Means (codes "0*3 1 0 1*2") (0 ∷ 0 ∷ 0 ∷ 1 ∷ 0 ∷ 1 ∷ 1 ∷ [])
 
@@ -35,11 +35,11 @@ CountsNone = FaultsAt (codes "0*0") 0
 abbrev pub LeadsWithZero : Type 0
 LeadsWithZero = FaultsAt (codes "07") 0
 
--- the items of one group
+-- the items of one group are kept for it
 abbrev pub KeepsOneGroup : Type 0
 KeepsOneGroup = only two_groups (0 ∷ 0 ∷ 0 ∷ 1 ∷ 0 ∷ 1 ∷ 1 ∷ 9 ∷ []) (λ g. g == 0) ≡ 0 ∷ 0 ∷ 0 ∷ 0 ∷ []
 
--- those of a slot that does not run are kept
+-- an image with a slot that does not run; its items are kept too
 abbrev pub halted : Image
 halted = image (record (slot 0 0 code []) { state = Halted None } ∷ slot 1 1 code [] ∷ [])
     (memory 1 (code_page [] ∷ []))
@@ -47,13 +47,13 @@ halted = image (record (slot 0 0 code []) { state = Halted None } ∷ slot 1 1 c
 abbrev pub KeepsIdleItems : Type 0
 KeepsIdleItems = only halted (0 ∷ 1 ∷ 0 ∷ []) (λ g. g == 0) ≡ 0 ∷ 0 ∷ []
 
--- and so are a split image's ports, but no other image's
+-- the ports of a split image's slots are kept, but no other image's
 abbrev pub KeepsPorts : Type 0
 KeepsPorts =
     (only (splits 2 true) (0 ∷ 128 ∷ 1 ∷ 129 ∷ []) (λ g. g == 0) ≡ 0 ∷ 128 ∷ [])
     × (only two_groups (0 ∷ 128 ∷ 1 ∷ 129 ∷ []) (λ g. g == 0) ≡ 0 ∷ [])
 
--- round robin begins with the least running slot
+-- an image whose least running slot is 5, with which round robin begins
 abbrev pub late : Image
 late = image (slot 5 0 code [] ∷ slot 9 0 code [] ∷ []) (memory 1 (code_page [] ∷ []))
 

@@ -1,4 +1,4 @@
--- What worked examples say of words: pointers, accesses, instructions and arithmetic.
+-- Worked examples of words: pointers, accesses, instructions and arithmetic.
 use Rattle.std.specs.Prelude.{◌≡◌, ℕ, ◌^◌, ◌-◌, ℤ, pos, negsuc, List, [], ◌∷◌, map, replicate, Option, Some, None}
 use Rattle.std.specs.Prelude.{option_map, Result, Ok, Err}
 use Rattle.mm_word.specs.declared.cause.Cause.{Cause}
@@ -25,26 +25,26 @@ use Rattle.mm_isa.specs.Decode.{instr_of}
 
 -- 1. Pointers.
 
--- read/write, 2^12 bytes from 0x10000 on, at their first byte and at their last
+-- read-write pointers to the 2^12 bytes from 0x10000 on, at the first byte and at the last
 abbrev pub data_page : ℕ
 data_page = 0x2300000000010000
 
 abbrev pub data_end : ℕ
 data_end = 0x2300000000010fff
 
--- read/write, the whole address space, at its last word
+-- a read-write pointer to the whole address space, at its last word
 abbrev pub last_word : ℕ
 last_word = 0x2dbffffffffffff8
 
--- read/write, four bytes
+-- a read-write pointer to four bytes
 abbrev pub half_word : ℕ
 half_word = 0x2080000000010000
 
--- execute-user, 2^12 bytes from 0x100000 on
+-- an execute-user pointer to the 2^12 bytes from 0x100000 on
 abbrev pub code_start : ℕ
 code_start = 0x3300000000100000
 
--- enter-user, and a key
+-- an enter-user pointer, and a key
 abbrev pub door : ℕ
 door = 0x5300000000020010
 
@@ -67,7 +67,7 @@ MakesNone =
     ∷ 0x7fffffffffffffff ∷ [])
     ≡ replicate 5 (Err cause.Malformed)
 
--- moved from its own address
+-- pointers moved from their own addresses
 abbrev pub Moves : Type 0
 Moves =
     map (λ (x : ℕ × ℤ). bits (lea_result (pointer_of x.0) x.1))
@@ -77,14 +77,14 @@ Moves =
     ≡ Ok data_end ∷ Err cause.Bounds ∷ Err cause.Bounds ∷ Ok data_page ∷ Ok 0x2dbfffffffffffff ∷ Err cause.Bounds
     ∷ Err cause.Bounds ∷ Err cause.Perm ∷ Err cause.Perm ∷ []
 
--- moved from its segment's base
+-- pointers moved from their segments' bases
 abbrev pub MovesFromTheBase : Type 0
 MovesFromTheBase =
     map (λ (x : ℕ × ℤ). bits (leab_result (pointer_of x.0) x.1))
     ((data_end, pos 8) ∷ (data_end, negsuc 0) ∷ (last_word, pos 8) ∷ (door, pos 0) ∷ [])
     ≡ Ok 0x2300000000010008 ∷ Err cause.Bounds ∷ Ok 0x2d80000000000008 ∷ Err cause.Perm ∷ []
 
--- with another permission
+-- pointers with another permission
 abbrev pub Restricts : Type 0
 Restricts =
     map (λ (x : ℕ × ℕ). bits (restrict_result (pointer_of x.0) x.1))
@@ -92,14 +92,14 @@ Restricts =
     ≡ Ok 0x1300000000010000 ∷ Err cause.Perm ∷ Err cause.Malformed ∷ Err cause.Malformed ∷ Ok 0x1080000000010000
     ∷ Err cause.Perm ∷ []
 
--- with a shorter segment
+-- pointers with a shorter segment
 abbrev pub Shortens : Type 0
 Shortens =
     map (λ (x : ℕ × ℕ). bits (subseg_result (pointer_of x.0) x.1))
     ((data_page, 12) ∷ (data_page, 3) ∷ (data_end, 2) ∷ (half_word, 0) ∷ (door, 3) ∷ [])
     ≡ Err cause.Bounds ∷ Ok 0x20c0000000010000 ∷ Ok 0x2080000000010fff ∷ Ok 0x2000000000010000 ∷ Err cause.Perm ∷ []
 
--- the next word, and the instruction pointer after a jump
+-- the pointer at the next word, and the instruction pointer after a jump
 abbrev pub Advances : Type 0
 Advances =
     map (λ n. option_map bits_of (next_result (pointer_of n)))
@@ -128,7 +128,7 @@ Accesses =
 abbrev pub IntegersAreNoPointers : Type 0
 IntegersAreNoPointers = first_fault (Int data_page) (pos 0) Load ≡ Some cause.NotPointer
 
--- 3. Instructions: one word of each operation, and words that are none.
+-- 3. Instructions: one word of each operation, and words that are no instruction.
 
 abbrev pub ReadsWords : Type 0
 ReadsWords =
@@ -164,8 +164,8 @@ ReadsArithmetic =
     ≡ map (λ op. Some (Alu op 1 2 3))
     (Add ∷ Sub ∷ Mul ∷ Divu ∷ Remu ∷ And ∷ Or ∷ Xor ∷ Shl ∷ Shr ∷ Sar ∷ Eq ∷ Ltu ∷ Lts ∷ [])
 
--- no such operation; a field that is not used; bits 39 to 32; a condition and a way that are none; registers past the
--- last one
+-- words that are no instruction: no such operation, a field that is not used, bits 39 to 32, a condition and a way that
+-- do not exist, registers past the last one
 abbrev pub ReadsNone : Type 0
 ReadsNone =
     map instr_of

@@ -18,7 +18,7 @@ ghost use Rattle.mm_examples.specs.WorkedWords.{MakesPointers, MakesNone, Moves,
 ghost use Rattle.mm_examples.specs.WorkedWords.{Advances, JumpsTo, Accesses, IntegersAreNoPointers, ReadsWords};
 ghost use Rattle.mm_examples.specs.WorkedWords.{ReadsArithmetic, ReadsNone, Calculates};
 
-/// Pointers, accesses, instruction words and arithmetic.
+/// Examples of pointers, accesses, instruction words and arithmetic.
 #[tactic(auto, using(crate::proofs::OfWords::makes_pointers, crate::proofs::OfWords::makes_none, crate::proofs::OfWords::moves, crate::proofs::OfWords::moves_from_the_base, crate::proofs::OfWords::restricts, crate::proofs::OfWords::shortens, crate::proofs::OfWords::advances, crate::proofs::OfWords::jumps_to, crate::proofs::OfWords::accesses, crate::proofs::OfWords::integers_are_no_pointers, crate::proofs::OfWords::reads_words, crate::proofs::OfWords::reads_arithmetic, crate::proofs::OfWords::reads_none, crate::proofs::OfWords::calculates))]
 pub fn words()
     ensures makes_pointers { MakesPointers }
@@ -37,7 +37,7 @@ pub fn words()
     ensures calculates { Calculates }
 {}
 
-/// Runs of one slot.
+/// Examples of runs of one slot.
 #[tactic(auto, using(crate::proofs::OneSlot::says_a, crate::proofs::OneSlot::fetches_no_page, crate::proofs::OneSlot::runs_past_the_end, crate::proofs::OneSlot::enters, crate::proofs::OneSlot::gates_stand_still, crate::proofs::OneSlot::reading_is_no_signal, crate::proofs::OneSlot::no_forgery, crate::proofs::OneSlot::maps_frames, crate::proofs::OneSlot::map_is_privileged))]
 pub fn runs_of_one_slot()
     ensures says_a { SaysA }
@@ -51,7 +51,7 @@ pub fn runs_of_one_slot()
     ensures map_is_privileged { MapIsPrivileged }
 {}
 
-/// Runs of several slots.
+/// Examples of runs of several slots.
 #[tactic(auto, using(crate::proofs::ManySlots::exchanges, crate::proofs::ManySlots::counts_behind_the_gate, crate::proofs::ManySlots::takes_events, crate::proofs::ManySlots::resumes_taken_alone, crate::proofs::ManySlots::two_groups, crate::proofs::ManySlots::absent_slots_idle, crate::proofs::ManySlots::traces_the_gate, crate::proofs::ManySlots::waits_in_the_trace))]
 pub fn runs_of_several_slots()
     ensures exchanges { Exchanges }
@@ -64,7 +64,7 @@ pub fn runs_of_several_slots()
     ensures waits_in_the_trace { WaitsInTheTrace }
 {}
 
-/// Runs of split machines.
+/// Examples of runs of split machines.
 #[tactic(auto, using(crate::proofs::Split::issues, crate::proofs::Split::delivers, crate::proofs::Split::loads_at_once, crate::proofs::Split::waits_to_write))]
 pub fn runs_of_split_machines()
     ensures issues { Issues }
@@ -73,7 +73,7 @@ pub fn runs_of_split_machines()
     ensures waits_to_write { WaitsToWrite }
 {}
 
-/// What a cache counts of runs.
+/// Examples of what a cache counts of runs.
 #[tactic(auto, using(crate::proofs::CountsOf::counts_hello, crate::proofs::CountsOf::counts_gated, crate::proofs::CountsOf::counts_sweeper, crate::proofs::CountsOf::counts_done_stores))]
 pub fn counts_of_runs()
     ensures counts_hello { CountsHello }
@@ -82,14 +82,14 @@ pub fn counts_of_runs()
     ensures counts_done_stores { CountsDoneStores }
 {}
 
-/// The bytes of images, and their first faults.
+/// Examples of the bytes of images, and of their first faults.
 #[tactic(auto, using(crate::proofs::Spelled::spelled_in_bytes, crate::proofs::Spelled::first_faults))]
 pub fn bytes_of_images()
     ensures spelled_in_bytes { SpelledInBytes }
     ensures first_faults { FirstFaults }
 {}
 
-/// What schedules mean, where their faults are, and what of them is kept for a group.
+/// Examples of schedules: their meanings and faults, and what is kept of them for a group.
 #[tactic(auto, using(crate::proofs::Listed::means_items, crate::proofs::Listed::means_nothing, crate::proofs::Listed::means_absent_slots, crate::proofs::Listed::skips_comments, crate::proofs::Listed::counts_too_many, crate::proofs::Listed::lists_too_many, crate::proofs::Listed::counts_none, crate::proofs::Listed::leads_with_zero, crate::proofs::Listed::keeps_one_group, crate::proofs::Listed::keeps_idle_items, crate::proofs::Listed::keeps_ports, crate::proofs::ManySlots::robin_begins_late))]
 pub fn schedules()
     ensures means_items { MeansItems }
@@ -106,7 +106,7 @@ pub fn schedules()
     ensures robin_begins_late { RobinBeginsLate }
 {}
 
-/// What groups can touch and write, and which stand apart.
+/// Examples of what groups can touch and write, and of groups that stand apart.
 #[tactic(auto, using(crate::proofs::Reach::touches_its_code, crate::proofs::Reach::no_group_writes, crate::proofs::Reach::writes_no_code, crate::proofs::Reach::two_groups_stand_apart, crate::proofs::Reach::both_can_write, crate::proofs::Reach::neither_stands_apart))]
 pub fn reach_of_images()
     ensures touches_its_code { TouchesItsCode }

@@ -1,8 +1,8 @@
 -- A later node for each.
 use Rattle.std.proofs.Common.{◌≡◌, ℕ, ◌+◌, ◌<◌, ◌≤◌, List, [], ◌∷◌, ◌++◌, length, slice_index, slice_set, sym, ap, ◌∙◌, arith}
-use Rattle.mm_flow.specs.Flow.{IsAhead}
-use Rattle.mm_flow.proofs.Giving.{push_cases, push_length}
-use Rattle.mm_flow.proofs.Giving.Pushed.{last, before}
+use Rattle.mm_flow.specs.Work.{IsAhead}
+use Rattle.mm_flow.proofs.SharedMarks.{push_cases, push_length}
+use Rattle.mm_flow.proofs.SharedMarks.Pushed.{last, before}
 use Rattle.mm_flow.proofs.Masks.{set_cases, length_set}
 use Rattle.mm_flow.proofs.Masks.Set.{here, there}
 

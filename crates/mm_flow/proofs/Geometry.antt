@@ -1,7 +1,7 @@
 -- Ordered segments nest, and share an address where both are above one.
 use Rattle.std.proofs.Common.{◌≡◌, ℕ, ◌+◌, ◌<◌, ◌≤◌, inl, inr, List, length, slice_index, refl, subst, arith, pow_pos}
-use Rattle.mm_flow.specs.Gifts.{Up}
-use Rattle.mm_flow.specs.Gifts.Up.{here}
+use Rattle.mm_flow.specs.Sharing.{Up}
+use Rattle.mm_flow.specs.Sharing.Up.{here}
 use Rattle.mm_seg.proofs.Searches.{compare, same_or_below}
 use Rattle.mm_seg.proofs.Inserts.{nested_aligned}
 use Rattle.mm_flow.specs.Forest.{IsNested, IsForest, IsOrdered, In, SharesOf}

@@ -4,8 +4,8 @@ use Rattle.std.specs.Int.{bit_at}
 use Rattle.mm_flow.specs.Flow.{Has}
 use Rattle.mm_flow.proofs.Bits.{or_left, or_right, or_cases, zero_bit}
 use Rattle.mm_flow.proofs.Masks.{below_cases}
-use Rattle.mm_flow.proofs.Giving.{kept_then, then_kept}
-use Rattle.mm_flow.specs.Gifts.{kept_mark}
+use Rattle.mm_flow.proofs.SharedMarks.{kept_then, then_kept}
+use Rattle.mm_flow.specs.Sharing.{kept_mark}
 use Rattle.mm_flow.specs.Reached.{HasSome}
 
 pub record SomeBefore (k : ℕ) (marks : List ℕ) (keep : ℕ → Bool) (g : ℕ) : Type 0 where

@@ -3,7 +3,7 @@ pub mod Masks
 pub mod Takes
 pub mod Walks
 pub mod Steps
-pub mod Giving
+pub mod SharedMarks
 pub mod Kept
 pub mod Saturation
 pub mod Ups

@@ -1,9 +1,9 @@
 -- Climbing, and one segment more.
 use Rattle.std.proofs.Common.{◌≡◌, ℕ, ◌-◌, ◌<◌, ◌≤◌, inl, inr, List, [], ◌∷◌, ◌++◌, length, slice_index, refl, sym, subst, arith}
-use Rattle.mm_flow.specs.Gifts.{Up}
-use Rattle.mm_flow.specs.Gifts.Up.{here, over}
-use Rattle.mm_flow.proofs.Giving.{push_cases, push_length}
-use Rattle.mm_flow.proofs.Giving.Pushed.{last, before}
+use Rattle.mm_flow.specs.Sharing.{Up}
+use Rattle.mm_flow.specs.Sharing.Up.{here, over}
+use Rattle.mm_flow.proofs.SharedMarks.{push_cases, push_length}
+use Rattle.mm_flow.proofs.SharedMarks.Pushed.{last, before}
 use Rattle.mm_flow.proofs.Masks.{below_cases}
 use Rattle.mm_flow.specs.Forest.{IsNested, IsForest, Climbed}
 use Rattle.mm_flow.specs.Forest.Climbed.{found, missed}

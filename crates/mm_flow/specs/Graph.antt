@@ -1,6 +1,6 @@
--- A graph of the program as edges.
+-- The edges of the code's graph.
 use Rattle.mm_flow.specs.declared.graph.Graph.{Graph}
-use Rattle.mm_flow.specs.Net.{Edges}
+use Rattle.mm_flow.specs.Edges.{Edges}
 
 abbrev pub edges_of : Graph → Edges
 edges_of g = record { nodes = g.nodes.now; targets = g.targets.now }

@@ -1,6 +1,7 @@
-pub mod Net
+pub mod Edges
 pub mod Flow
+pub mod Work
 pub mod Graph
-pub mod Gifts
+pub mod Sharing
 pub mod Reached
 pub mod Forest

@@ -1,27 +1,29 @@
-// Marks that flow along edges.
+//! Marks that flow along edges.
 ghost use Rattle.std.specs.Prelude.{◌≡◌, ℕ, ◌+◌, ◌<◌, ◌≤◌, ◌⊎◌, ◌∷◌, IfOk, length, slice_index, true};
-ghost use Rattle.mm_flow.specs.Net.{low_at};
-ghost use Rattle.mm_flow.specs.Flow.{Carried, IsAmong, IsTarget, IsFlow, Stepped, IsIn, StaysListed, IsReady, Working, IsOnWay, Walked, Walking};
+ghost use Rattle.mm_flow.specs.Edges.{low_at};
+ghost use Rattle.mm_flow.specs.Flow.{IsFlow};
+ghost use Rattle.mm_flow.specs.Work.{Propagated, IsAmong, IsTarget, Stepped, IsIn, StaysListed, IsReady, Working, IsOnWay, Walked, Walking, pass_of, way_of, worklist_of};
 ghost use Rattle.mm_flow.specs.Graph.{edges_of};
 
 use crate::forest::greater;
 use crate::graph::Graph;
 use crate::node::Node;
-use crate::pending::take;
 use crate::work::Work;
+use crate::worklist::take;
 use std::alloc::{AllocError, Global};
 use std::collections::VecDeque;
 
-/// Where more than one node in so many is pending, the oldest of them comes first.
+/// If more than one node in `MANY` is pending, the oldest of them comes first.
 const MANY: usize = 16;
 
-/// Adds the groups of the mask to the node's mark. A node that carried its mark or was pending does so still.
-fn carry(marks: &mut [u64], work: &mut Work, to: usize, mask: u64) -> Result<(), AllocError>
+/// Adds the groups of a mask to a node's mark. A node that had propagated its mark, or was pending, has done so or is
+/// pending afterwards too.
+fn propagate(marks: &mut [u64], work: &mut Work, to: usize, mask: u64) -> Result<(), AllocError>
     requires node { to < length marks.old }
-    requires len { length work.old.carried.items ≡ length marks.old }
-    ensures marks { IfOk result (λ _. Carried (λ t. t ≡ to) marks.old work.old.pending.items mask marks.new work.new.pending.items) }
-    ensures stays { IfOk result (λ _. StaysListed work.old.carried.items marks.old work.old.pending.items marks.new work.new.pending.items) }
-    ensures same { IfOk result (λ _. work.new.carried ≡ work.old.carried) }
+    requires len { length work.old.propagated.items ≡ length marks.old }
+    ensures marks { IfOk result (λ _. Propagated (λ t. t ≡ to) marks.old work.old.pending.items mask marks.new work.new.pending.items) }
+    ensures stays { IfOk result (λ _. StaysListed work.old.propagated.items marks.old work.old.pending.items marks.new work.new.pending.items) }
+    ensures same { IfOk result (λ _. work.new.propagated ≡ work.old.propagated) }
 {
     let old = marks[to];
     let new = old | mask;
@@ -29,19 +31,19 @@ fn carry(marks: &mut [u64], work: &mut Work, to: usize, mask: u64) -> Result<(),
     if new == old {
         return Ok(());
     }
-    // It carries all its groups: nothing new leaves it.
-    if work.carries(to, new) {
+    // The node has propagated all its groups: nothing new leaves it.
+    if work.has_propagated(to, new) {
         return Ok(());
     }
-    // It lacked some before, so it is pending.
-    if !work.carries(to, old) {
+    // The node lacked some groups before, so it is pending.
+    if !work.has_propagated(to, old) {
         return Ok(());
     }
     work.pending.push_back(to)?;
     Ok(())
 }
 
-/// Carries the mask to the targets at places from `lo` up to `hi`.
+/// Propagates a mask to the targets at indices from `lo` up to `hi`.
 fn visit(
     marks: &mut [u64],
     work: &mut Work,
@@ -52,19 +54,19 @@ fn visit(
 ) -> Result<(), AllocError>
     requires ends { hi ≤ length targets.now }
     requires order { lo ≤ hi }
-    requires len { length work.old.carried.items ≡ length marks.old }
+    requires len { length work.old.propagated.items ≡ length marks.old }
     requires targets { (j : ℕ) → j < length targets.now → slice_index targets.now j < length marks.old }
-    ensures marks { IfOk result (λ _. Carried (IsAmong targets.now lo hi) marks.old work.old.pending.items mask marks.new work.new.pending.items) }
-    ensures stays { IfOk result (λ _. StaysListed work.old.carried.items marks.old work.old.pending.items marks.new work.new.pending.items) }
-    ensures same { IfOk result (λ _. work.new.carried ≡ work.old.carried) }
+    ensures marks { IfOk result (λ _. Propagated (IsAmong targets.now lo hi) marks.old work.old.pending.items mask marks.new work.new.pending.items) }
+    ensures stays { IfOk result (λ _. StaysListed work.old.propagated.items marks.old work.old.pending.items marks.new work.new.pending.items) }
+    ensures same { IfOk result (λ _. work.new.propagated ≡ work.old.propagated) }
 {
     for j in lo..hi {
-        carry(marks, work, targets[j], mask)?;
+        propagate(marks, work, targets[j], mask)?;
     }
     Ok(())
 }
 
-/// True only where the first node has targets and no entry, and all its targets are targets of the second.
+/// True only if the first node has targets and no entry, and all its targets are targets of the second.
 fn is_within(inner: Node, outer: Node) -> bool
     ensures low { result ≡ true → outer.low ≤ inner.low }
     ensures high { result ≡ true → inner.high ≤ outer.high }
@@ -76,18 +78,18 @@ fn is_within(inner: Node, outer: Node) -> bool
         && inner.high <= outer.high
 }
 
-/// A place on the way over the nodes that lie within one.
+/// A step on the walk over the nodes that lie within an outer node.
 #[derive(Clone, Copy, Debug)]
 struct Walk {
-    /// The next node.
+    /// The index of the next node.
     at: usize,
-    /// The outer node's targets before this place have the mask.
+    /// The outer node's targets before this index have the mask.
     done: usize,
 }
 
-/// Takes one step of the way over the nodes within `k`. A node that carries the mask already is passed by, with all that lie within
-/// it, once the outer node's targets before its own have the mask. One that does not carries it from now on, since all its targets
-/// get it on this way.
+/// Takes one step of the walk over the nodes within `k`. If the next node has already propagated the mask, it is
+/// skipped with all that lie within it, once the outer node's targets before its own have the mask. Otherwise it counts
+/// as having propagated the mask from now on, since all its targets get it on this walk.
 fn walk_on(
     marks: &mut [u64],
     work: &mut Work,
@@ -96,15 +98,20 @@ fn walk_on(
     mask: u64,
     walk: Walk,
 ) -> Result<Walk, AllocError>
-    requires { IsOnWay (edges_of graph.now) k walk.at walk.done marks.old work.old.carried.items }
-    ensures { IfOk result (λ w. Walked (edges_of graph.now) k mask walk.at walk.done marks.old work.old.pending.items work.old.carried.items w.at w.done marks.new work.new.pending.items work.new.carried.items) }
+    requires { IsOnWay (pass_of (edges_of graph.now) k mask) (way_of walk.at walk.done (worklist_of marks.old work.old)) }
+    ensures { IfOk
+        result
+        (λ w. Walked
+        (pass_of (edges_of graph.now) k mask)
+        (way_of walk.at walk.done (worklist_of marks.old work.old))
+        (way_of w.at w.done (worklist_of marks.new work.new))) }
 {
     let at = walk.at;
     let inner = graph.nodes[at];
     if !is_within(inner, graph.nodes[k]) {
         return Ok(Walk { at: at + 1, ..walk });
     }
-    if !work.carries(at, mask) {
+    if !work.has_propagated(at, mask) {
         work.add(at, mask);
         return Ok(Walk { at: at + 1, ..walk });
     }
@@ -116,7 +123,7 @@ fn walk_on(
     })
 }
 
-/// Carries the mask to all targets of a node that carries it from now on.
+/// Propagates a mask to all targets of a node. The node has propagated it from now on.
 fn pass(
     marks: &mut [u64],
     work: &mut Work,
@@ -125,9 +132,12 @@ fn pass(
     mask: u64,
 ) -> Result<(), AllocError>
     requires node { k < length marks.old }
-    requires start { Walking (edges_of graph.now) k mask (k + 1) (low_at (edges_of graph.now) k) marks.old work.old.pending.items marks.old work.old.pending.items work.old.carried.items }
-    ensures marks { IfOk result (λ _. Carried (IsTarget (edges_of graph.now) k) marks.old work.old.pending.items mask marks.new work.new.pending.items) }
-    ensures working { IfOk result (λ _. Working (edges_of graph.now) marks.new work.new.carried.items work.new.pending.items) }
+    requires start { Walking
+        (pass_of (edges_of graph.now) k mask)
+        (worklist_of marks.old work.old)
+        (way_of (k + 1) (low_at (edges_of graph.now) k) (worklist_of marks.old work.old)) }
+    ensures marks { IfOk result (λ _. Propagated (IsTarget (edges_of graph.now) k) marks.old work.old.pending.items mask marks.new work.new.pending.items) }
+    ensures working { IfOk result (λ _. Working (edges_of graph.now) marks.new work.new.propagated.items work.new.pending.items) }
 {
     let node = graph.nodes[k];
     if node.low >= node.high {
@@ -148,13 +158,13 @@ fn pass(
 /// Works off one node that was pending.
 fn step(marks: &mut [u64], work: &mut Work, graph: &Graph<'_>, k: usize) -> Result<(), AllocError>
     requires node { k < length marks.old }
-    requires working { Working (edges_of graph.now) marks.old work.old.carried.items (k ∷ work.old.pending.items) }
-    ensures step { IfOk result (λ _. Stepped (edges_of graph.now) k marks.old work.old.pending.items marks.new work.new.pending.items) }
-    ensures working { IfOk result (λ _. Working (edges_of graph.now) marks.new work.new.carried.items work.new.pending.items) }
+    requires working { Working (edges_of graph.now) marks.old work.old.propagated.items (k ∷ work.old.pending.items) }
+    ensures step { IfOk result (λ _. Stepped (edges_of graph.now) k (worklist_of marks.old work.old) (worklist_of marks.new work.new)) }
+    ensures working { IfOk result (λ _. Working (edges_of graph.now) marks.new work.new.propagated.items work.new.pending.items) }
 {
     let mask = marks[k];
     let node = graph.nodes[k];
-    carry(marks, work, node.entry, mask & node.enters)?;
+    propagate(marks, work, node.entry, mask & node.enters)?;
     work.add(k, mask);
     pass(marks, work, graph, k, mask)?;
     Ok(())
@@ -174,16 +184,16 @@ fn marked_nodes(alloc: Global, marks: &[u64]) -> Result<VecDeque<usize>, AllocEr
     Ok(all)
 }
 
-/// Carries each mark along all edges, until no mark lacks a group.
+/// Propagates each mark along all edges, until no mark lacks a group. `AllocError` comes if memory ran out.
 pub fn flow(
     alloc: Global,
     marks: &mut [u64],
     work: &mut Work,
     graph: &Graph<'_>,
 ) -> Result<(), AllocError>
-    requires { IsReady (edges_of graph.now) marks.old work.old.carried.items }
+    requires { IsReady (edges_of graph.now) marks.old work.old.propagated.items }
     ensures flow { IfOk result (λ _. IsFlow (edges_of graph.now) marks.old marks.new) }
-    ensures ready { IfOk result (λ _. IsReady (edges_of graph.now) marks.new work.new.carried.items) }
+    ensures ready { IfOk result (λ _. IsReady (edges_of graph.now) marks.new work.new.propagated.items) }
 {
     work.pending = marked_nodes(alloc, marks)?;
     let many = marks.len() / MANY;

@@ -1,11 +1,11 @@
-// The nearest segment above each.
+//! For each segment the nearest one above it.
 ghost use Rattle.std.specs.Prelude.{◌≡◌, ℕ, ◌<◌, ◌≤◌, IfOk, length, slice_index, max};
-ghost use Rattle.mm_flow.specs.Flow.{IsAhead};
+ghost use Rattle.mm_flow.specs.Work.{IsAhead};
 ghost use Rattle.mm_flow.specs.Forest.{IsNested, IsForest, Climbed};
 
 use std::alloc::{AllocError, Global};
 
-/// The nearest segment that holds the address, from the given one up; `none` where no such segment is there.
+/// The nearest segment that holds the address `x`, from a given one up; `none` if there is none.
 fn climb(bases: &[u64], ends: &[u64], par: &[usize], from: usize, x: u64, none: usize) -> usize
     requires forest { IsForest bases.now ends.now par.now }
     requires start { from < length par.now }
@@ -24,7 +24,7 @@ fn climb(bases: &[u64], ends: &[u64], par: &[usize], from: usize, x: u64, none: 
     at
 }
 
-/// For each segment the nearest one above it, or itself.
+/// For each segment the index of the nearest one above it, or its own if there is none.
 pub fn parents(alloc: Global, bases: &[u64], ends: &[u64]) -> Result<Vec<usize>, AllocError>
     requires { IsNested bases.now ends.now }
     ensures forest { IfOk result (λ v. IsForest bases.now ends.now v.items) }
@@ -42,7 +42,7 @@ pub fn parents(alloc: Global, bases: &[u64], ends: &[u64]) -> Result<Vec<usize>,
     Ok(par)
 }
 
-/// For each of `n` nodes the next one.
+/// For each of `n` nodes the index of the next.
 fn next_ones(alloc: Global, n: usize) -> Result<Vec<usize>, AllocError>
     ensures { IfOk result (λ v. IsAhead v.items n) }
 {
@@ -60,8 +60,8 @@ pub fn greater(a: usize, b: usize) -> usize
     if a < b { b } else { a }
 }
 
-/// Makes each node's number at least that of each node whose parent it is. How far they get is a matter of speed alone; proved is that
-/// each is behind its node.
+/// Makes each node's number at least that of each node whose parent it is. Proved is only that each number is above its
+/// node's; how large the numbers are matters for speed alone.
 fn join_up(next: &mut [usize], parents: &[usize])
     requires { IsAhead next.old (length parents.now) }
     ensures { IsAhead next.new (length parents.now) }
@@ -75,7 +75,8 @@ fn join_up(next: &mut [usize], parents: &[usize])
     }
 }
 
-/// For each node the first one behind all that it is above. What is proved is that it is behind the node; the rest is speed alone.
+/// For each node the first one after all that it is above. Proved is only that it is after the node; the rest matters
+/// for speed alone.
 pub fn after(alloc: Global, parents: &[usize]) -> Result<Vec<usize>, AllocError>
     ensures { IfOk result (λ v. IsAhead v.items (length parents.now)) }
 {

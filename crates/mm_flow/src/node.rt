@@ -1,26 +1,28 @@
-ghost use Rattle.std.specs.Prelude.{◌≡◌};
-ghost use Rattle.mm_flow.specs.Net.{has_right};
+//! The nodes of a graph.
 
-/// A node of a net.
+ghost use Rattle.std.specs.Prelude.{◌≡◌};
+ghost use Rattle.mm_flow.specs.Edges.{has_right};
+
+/// A node of a graph: the nodes to which it leads, and what it permits.
 #[derive(Clone, Copy, Debug)]
 pub struct Node {
-    /// It leads to the targets at places from here
+    /// The node leads to the targets at indices from this one on.
     pub low: usize,
-    /// up to here,
+    /// The index after that of its last target.
     pub high: usize,
-    /// and to this node,
+    /// The node to which an entry leads.
     pub entry: usize,
-    /// for the groups of this mask.
+    /// The mask of the groups that may enter.
     pub enters: u64,
-    /// Whether it loads,
+    /// Whether the node loads.
     pub loads: bool,
-    /// stores,
+    /// Whether the node stores.
     pub stores: bool,
-    /// and makes pointers.
+    /// Whether the node makes pointers.
     pub makes: bool,
 }
 
-/// What a node can permit.
+/// A right that a node may have: to load, to store, or to make pointers.
 #[derive(Clone, Copy, Debug, PartialEq, Eq)]
 pub enum Right {
     Load,
@@ -29,7 +31,7 @@ pub enum Right {
 }
 
 impl Node {
-    /// Whether it has the right.
+    /// Whether the node has a right.
     pub fn has(self, right: Right) -> bool
         ensures { result ≡ has_right right self }
     {

@@ -1,21 +1,22 @@
-// What groups reach in a net of nodes.
+//! All that groups reach in a graph.
 ghost use Rattle.std.specs.Prelude.{◌≡◌, ℕ, ◌^◌, ◌<◌, ◌≤◌, ◌↔◌, IfOk, length, slice_index};
 ghost use Rattle.std.specs.Int.{bit_at};
-ghost use Rattle.mm_flow.specs.Net.{right_at};
-ghost use Rattle.mm_flow.specs.Flow.{Fits, IsReady};
+ghost use Rattle.mm_flow.specs.Edges.{right_at};
+ghost use Rattle.mm_flow.specs.Flow.{Fits};
+ghost use Rattle.mm_flow.specs.Work.{IsReady};
 ghost use Rattle.mm_flow.specs.Graph.{edges_of};
-ghost use Rattle.mm_flow.specs.Reached.{TiesFit, HasSome, IsGifts, Gifting, IsReach};
+ghost use Rattle.mm_flow.specs.Reached.{SharingEdgesFit, HasSome, AreSharingEdges, SharingSoFar, IsReach};
 
 use crate::flow::flow;
 use crate::forest::after;
-use crate::gifts::{give, kept, lift, spread};
 use crate::graph::Graph;
 use crate::node::{Node, Right};
+use crate::sharing::{kept, marks_above, propagate_shared, share};
 use crate::work::Work;
 use std::alloc::{AllocError, Global};
 use std::collections::VecDeque;
 
-/// The groups that mark a node with the right.
+/// The mask of the groups that mark a node with the right.
 pub fn any(nodes: &[Node], marks: &[u64], right: Right) -> u64
     requires { length nodes.now ≡ length marks.now }
     ensures { (g : ℕ) → (bit_at result g ≡ 1) ↔ HasSome marks.now (right_at nodes.now right) g }
@@ -28,11 +29,11 @@ pub fn any(nodes: &[Node], marks: &[u64], right: Right) -> u64
     all
 }
 
-/// For each node the groups of the one mask give to those of the other.
-fn fill(gives: &mut [u64], writes: &[u64], touches: &[u64])
-    requires len { length gives.old ≡ 64 }
+/// Adds sharing edges, at each node, from the groups of one mask to those of the other.
+fn fill(sharing: &mut [u64], writes: &[u64], touches: &[u64])
+    requires len { length sharing.old ≡ 64 }
     requires same { length touches.now ≡ length writes.now }
-    ensures { Gifting gives.old writes.now touches.now (length writes.now) gives.new }
+    ensures { SharingSoFar sharing.old writes.now touches.now (length writes.now) sharing.new }
 {
     let mut from = 0;
     let mut to = 0;
@@ -40,33 +41,33 @@ fn fill(gives: &mut [u64], writes: &[u64], touches: &[u64])
         if writes[m] != from || touches[m] != to {
             from = writes[m];
             to = touches[m];
-            give(gives, from, to);
+            share(sharing, from, to);
         }
     }
 }
 
-/// Adds to the links which groups give to which, by what they have marked.
-fn gifts(
+/// Adds to the links the sharing edges that follow from the marks of the groups.
+fn sharing_edges(
     alloc: Global,
     marks: &[u64],
     nodes: &[Node],
     parents: &[usize],
-    gives: &mut [u64],
+    sharing: &mut [u64],
 ) -> Result<(), AllocError>
-    requires { TiesFit (record { nodes = nodes.now; parents = parents.now; links = gives.old }) (length marks.now) }
-    ensures { IfOk result (λ _. IsGifts (record { nodes = nodes.now; parents = parents.now; links = gives.old }) marks.now gives.new) }
+    requires { SharingEdgesFit (record { nodes = nodes.now; parents = parents.now; links = sharing.old }) (length marks.now) }
+    ensures { IfOk result (λ _. AreSharingEdges (record { nodes = nodes.now; parents = parents.now; links = sharing.old }) marks.now sharing.new) }
 {
-    let touches = lift(alloc, parents, nodes, marks, Right::Load)?;
-    let writes = lift(alloc, parents, nodes, marks, Right::Store)?;
-    fill(gives, &writes, &touches);
+    let touches = marks_above(alloc, parents, nodes, marks, Right::Load)?;
+    let writes = marks_above(alloc, parents, nodes, marks, Right::Store)?;
+    fill(sharing, &writes, &touches);
     let makers = any(nodes, marks, Right::Make);
     let readers = any(nodes, marks, Right::Load);
-    give(gives, makers, readers);
+    share(sharing, makers, readers);
     Ok(())
 }
 
-/// Spreads marks along edges and by gifts, until nothing changes.
-fn settle(
+/// Propagates marks along edges and along sharing edges, until nothing changes.
+fn until_saturated(
     alloc: Global,
     marks: &mut [u64],
     work: &mut Work,
@@ -74,8 +75,8 @@ fn settle(
     parents: &[usize],
     links: [u64; 64],
 ) -> Result<(), AllocError>
-    requires ready { IsReady (edges_of graph.now) marks.old work.old.carried.items }
-    requires ties { TiesFit (record { nodes = graph.now.nodes.now; parents = parents.now; links = links }) (length marks.old) }
+    requires ready { IsReady (edges_of graph.now) marks.old work.old.propagated.items }
+    requires sharing { SharingEdgesFit (record { nodes = graph.now.nodes.now; parents = parents.now; links = links }) (length marks.old) }
     ensures reach { IfOk
         result
         (λ _. IsReach (edges_of graph.now) (record { nodes = graph.now.nodes.now; parents = parents.now; links = links }) marks.old marks.new) }
@@ -83,15 +84,15 @@ fn settle(
 {
     loop {
         flow(alloc, marks, work, graph)?;
-        let mut gives = links;
-        gifts(alloc, marks, graph.nodes, parents, &mut gives)?;
-        if !spread(marks, &gives) {
+        let mut sharing = links;
+        sharing_edges(alloc, marks, graph.nodes, parents, &mut sharing)?;
+        if !propagate_shared(marks, &sharing) {
             return Ok(());
         }
     }
 }
 
-/// Marks all that each group reaches.
+/// Marks all that each group reaches. `AllocError` comes if memory ran out.
 pub fn saturate(
     alloc: Global,
     marks: &mut [u64],
@@ -101,7 +102,7 @@ pub fn saturate(
     links: [u64; 64],
 ) -> Result<(), AllocError>
     requires edges { Fits (record { nodes = nodes.now; targets = targets.now }) (length marks.old) }
-    requires ties { TiesFit (record { nodes = nodes.now; parents = parents.now; links = links }) (length marks.old) }
+    requires sharing { SharingEdgesFit (record { nodes = nodes.now; parents = parents.now; links = links }) (length marks.old) }
     ensures reach { IfOk
         result
         (λ _. IsReach (record { nodes = nodes.now; targets = targets.now }) (record { nodes = nodes.now; parents = parents.now; links = links }) marks.old marks.new) }
@@ -114,9 +115,9 @@ pub fn saturate(
         after: &after,
     };
     let mut work = Work {
-        carried: vec![in alloc; 0u64; marks.len()]?,
+        propagated: vec![in alloc; 0u64; marks.len()]?,
         pending: VecDeque::new(alloc),
     };
-    settle(alloc, marks, &mut work, &graph, parents, links)?;
+    until_saturated(alloc, marks, &mut work, &graph, parents, links)?;
     Ok(())
 }

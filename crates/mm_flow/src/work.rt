@@ -1,33 +1,33 @@
-// What is still to be done for marks that flow.
+//! The work that is left while marks flow.
 ghost use Rattle.std.specs.Prelude.{◌≡◌, ◌<◌, ◌↔◌, IsTrue, length, slice_index, slice_set, bit_or};
 
 use std::collections::VecDeque;
 
-/// What a flow keeps of its nodes beside their marks.
+/// The state of a flow, without the marks of its nodes.
 #[derive(Drop)]
 pub struct Work {
-    /// For each node groups whose marks its targets have already.
-    pub carried: Vec<u64>,
-    /// The nodes that are to be worked off.
+    /// For each node the mask of the groups that it has propagated: all its targets have them.
+    pub propagated: Vec<u64>,
+    /// The nodes that are pending.
     pub pending: VecDeque<usize>,
 }
 
 impl Work {
-    /// Whether the node carries all groups of the mask.
-    pub fn carries(&self, node: usize, mask: u64) -> bool
-        requires { node < length self.now.carried.items }
-        ensures { IsTrue result ↔ (bit_or mask (slice_index self.now.carried.items node) ≡ slice_index self.now.carried.items node) }
+    /// Whether a node has propagated all groups of a mask.
+    pub fn has_propagated(&self, node: usize, mask: u64) -> bool
+        requires { node < length self.now.propagated.items }
+        ensures { IsTrue result ↔ (bit_or mask (slice_index self.now.propagated.items node) ≡ slice_index self.now.propagated.items node) }
     {
-        let done = self.carried[node];
+        let done = self.propagated[node];
         mask | done == done
     }
 
-    /// The node carries the groups of the mask from now on.
+    /// Notes that a node has propagated the groups of a mask.
     pub fn add(&mut self, node: usize, mask: u64)
-        requires { node < length self.old.carried.items }
-        ensures carried { self.new.carried.items ≡ slice_set self.old.carried.items node (bit_or (slice_index self.old.carried.items node) mask) }
+        requires { node < length self.old.propagated.items }
+        ensures propagated { self.new.propagated.items ≡ slice_set self.old.propagated.items node (bit_or (slice_index self.old.propagated.items node) mask) }
         ensures pending { self.new.pending ≡ self.old.pending }
     {
-        self.carried[node] |= mask;
+        self.propagated[node] |= mask;
     }
 }

@@ -15,7 +15,7 @@ pub record Framed : Type 0 where
   pub rows : List (ℕ × ℕ)
   -- the cells of each frame
   pub cells : List (List Cell)
-  -- how many blocks were read, and how many written
+  -- the counts of blocks that were read and written
   pub reads : ℕ
   pub writes : ℕ
 
@@ -40,31 +40,31 @@ pub record IsFree (f : Framed) (frame : ℕ) : Type 0 where
   pub in_range : frame < length f.cells
   pub no_page : (page : ℕ) → frame_of f page ≡ Some frame → ⊥
 
--- what the frames are after each call that changes them
+-- The frames after each call that changes them.
 
--- a page was mapped to a frame, which holds integer zeros, full
+-- the frames after a page was mapped to a frame, which then holds integer zeros, full
 abbrev pub seated : Framed → ℕ → ℕ → Framed
 seated f page frame = record f { rows = put nat_cmp page frame f.rows; cells = slice_set f.cells frame zero_page }
 
--- a page was removed
+-- the frames after a page was removed
 abbrev pub without : Framed → ℕ → Framed
 without f page = record f { rows = filter (λ row. not (row.0 == page)) f.rows }
 
--- a block of a frame was written
+-- the frames after a block of a frame was written
 abbrev pub written : Framed → ℕ → ℕ → List Cell → Framed
 written f frame place new = record f {
   cells = slice_set f.cells frame (with_block (cells_in f frame) place new);
   writes = f.writes + 1;
 }
 
--- what is kept of frames and of the list of those that are free
+-- What holds of frames and of the list of free ones.
 
 -- how often a number is in a list
 abbrev pub times : ℕ → List ℕ → ℕ
 times n [] = 0
 times n (m ∷ ms) = one_if (n == m) + times n ms
 
--- how many rows have this frame
+-- the count of rows with this frame
 abbrev pub rows_with : ℕ → List (ℕ × ℕ) → ℕ
 rows_with frame [] = 0
 rows_with frame (row ∷ rows) = one_if (frame == row.1) + rows_with frame rows

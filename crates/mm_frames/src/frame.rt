@@ -1,3 +1,5 @@
+//! The cells of a frame, as packed blocks.
+
 ghost use Rattle.std.specs.Prelude.{◌≡◌, ◌<◌, IfOk, Some, length, replicate, slice_get};
 ghost use Rattle.mm_model.specs.Memory.{zero_cell, zero_page};
 ghost use Rattle.mm_mem.specs.Blocks.{block_in, with_block};
@@ -11,7 +13,7 @@ use std::marker::Model;
 // The blocks in a frame.
 const BLOCKS: usize = 64;
 
-// The cells of a frame, by blocks. The memory is taken once, and kept for as long as the frame.
+// The cells of a frame, by blocks. They are allocated once, and kept as long as the frame.
 #[derive(Drop)]
 pub(crate) struct Frame {
     blocks: Vec<Block>,
@@ -74,14 +76,14 @@ impl Frame {
         self.blocks[place] = *block;
     }
 
-    // Makes each cell zero.
+    // Makes each cell integer 0, full.
     pub(crate) fn clear(&mut self)
         ensures { self.new ≡ zero_page }
     {
         self.blocks.fill(zeros());
     }
 
-    // Makes the cells those of a page.
+    // Copies the cells of a page.
     pub(crate) fn copy(&mut self, page: &Page)
         ensures { self.new ≡ page.now.1 }
     {

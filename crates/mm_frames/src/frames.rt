@@ -1,3 +1,5 @@
+//! The frames, and the pages in them.
+
 ghost use Rattle.std.specs.Prelude.{◌≡◌, ℕ, ◌+◌, ◌-◌, ◌*◌, ◌^◌, ◌<◌, ◌≤◌, nat_lt, IsTrue, IfOk, IfSome, IfNone, Some};
 ghost use Rattle.std.specs.Prelude.{is_some, length, map, slice_get, vec_len};
 ghost use Rattle.std.specs.List.{AllByRecursion};
@@ -17,7 +19,7 @@ use mm_word::{Cell, NoMemory};
 use std::alloc::Global;
 use std::marker::Model;
 
-// Frames of zeros, as many as asked for.
+// `count` frames of zeros.
 fn zeros(alloc: Global, count: u32) -> Result<Vec<Frame>, NoMemory>
     ensures { IfOk result (λ v. vec_len v ≡ count) }
 {
@@ -58,7 +60,7 @@ fn seat(rows: &mut Vec<Row>, frames: &mut Vec<Frame>, pages: &[Page])
     }
 }
 
-// Makes the frames from a number on free, the lowest the first to be taken.
+// Makes the frames from `from` up to `count` free. The lowest is the first to be taken.
 fn release(free: &mut Vec<u32>, from: u32, count: u32)
     requires none { vec_len free.old ≡ 0 }
     requires order { from ≤ count }
@@ -74,10 +76,10 @@ fn release(free: &mut Vec<u32>, from: u32, count: u32)
     }
 }
 
-/// Frames of 512 cells, the pages that occupy them, and how many blocks were read and written.
+/// Frames of 512 cells, the pages that occupy them, and the counts of blocks that were read and written.
 ///
-/// `new` takes all frames; no later call takes memory, and a page keeps its frame until it is removed or the frames are
-/// reset. The frame of a page is found by a binary search over the mapped pages.
+/// `new` allocates all frames; no later call allocates, and a page keeps its frame until it is removed or the frames
+/// are reset. The frame of a page is found by a binary search over the mapped pages.
 #[derive(Drop)]
 pub struct Frames {
     rows: Vec<Row>,
@@ -110,7 +112,7 @@ impl Frames {
     ghost use Rattle.mm_mem.specs.Blocks.{block_in, block_at, put_block};
     ghost use Rattle.mm_frames.specs.Framed.{Framed, IsOccupied, IsFree, frame_of, cells_in, seated, without, written};
 
-    /// Frames with these pages in them. It takes all their memory.
+    /// Frames with these pages in them. All memory is allocated here.
     pub fn new(alloc: Global, pages: &[Page], frames: u32) -> Result<Frames, NoMemory>
         requires ascend { IsTrue (is_sorted nat_cmp pages.now) }
         requires fit { length pages.now ≤ frames }
@@ -146,7 +148,7 @@ impl Frames {
         Some(self.rows[i].frame)
     }
 
-    /// Maps a page to a free frame, which then holds integer zeros, full. None exactly where the page is mapped already
+    /// Maps a page to a free frame, which then holds integer zeros, full. `None` exactly if the page is mapped already
     /// or no frame is free.
     pub fn take(&mut self, page: u64) -> Option<u32>
         requires { page < 2 ^ 42 }
@@ -165,7 +167,7 @@ impl Frames {
         Some(frame)
     }
 
-    /// Removes a page. False exactly where the page is not mapped.
+    /// Removes a page. `false` exactly if the page is not mapped.
     pub fn give(&mut self, page: u64) -> bool
         ensures answer { result ≡ is_mapped (memory_of self.old) page }
         ensures after { self.new ≡ without self.old page }
@@ -183,7 +185,7 @@ impl Frames {
         }
     }
 
-    /// How many pages are mapped. The mapped pages rise, each is whole, and no more are mapped than there are frames.
+    /// The count of mapped pages. They rise by number, each is whole, and there are no more than frames.
     pub fn pages(&self) -> u32
         ensures count { result ≡ length (memory_of self.now).pages }
         ensures paged { IsPaged (memory_of self.now) }
@@ -218,7 +220,7 @@ impl Frames {
         self.writes = 0;
     }
 
-    /// Reads a block of a frame, which is counted. `block` is its place in the frame.
+    /// Reads a block of a frame, which is counted. `block` is its place in the frame, 0 to 63.
     pub fn read_block(&mut self, frame: u32, block: u8) -> [Cell; BLOCK]
         requires occupied { IsOccupied self.old frame }
         requires place { block < 64 }
@@ -231,7 +233,7 @@ impl Frames {
         self.read_packed(frame, block).cells()
     }
 
-    /// Writes a block of a frame, which is counted. `block` is its place in the frame.
+    /// Writes a block of a frame, which is counted. `block` is its place in the frame, 0 to 63.
     pub fn write_block(&mut self, frame: u32, block: u8, cells: &[Cell; BLOCK])
         requires occupied { IsOccupied self.old frame }
         requires place { block < 64 }
@@ -270,7 +272,7 @@ impl Frames {
         self.frames[frame as usize].put(block as usize, cells);
     }
 
-    /// A cell of a frame. It is not counted.
+    /// The cell of a frame at an index, 0 to 511. It is not counted.
     pub fn peek_cell(&self, frame: u32, index: u16) -> Cell
         requires occupied { IsOccupied self.now frame }
         requires place { index < 512 }
@@ -281,14 +283,14 @@ impl Frames {
         self.frames[frame as usize].cell(index as usize)
     }
 
-    /// How many blocks were read.
+    /// The count of blocks that were read.
     pub fn reads(&self) -> u64
         ensures { result ≡ self.now.reads }
     {
         self.reads
     }
 
-    /// How many blocks were written.
+    /// The count of blocks that were written.
     pub fn writes(&self) -> u64
         ensures { result ≡ self.now.writes }
     {

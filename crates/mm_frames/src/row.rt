@@ -1,3 +1,5 @@
+//! Mapped pages with their frames.
+
 use std::marker::Model;
 
 // A mapped page and the frame that it occupies.

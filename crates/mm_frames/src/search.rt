@@ -1,3 +1,5 @@
+//! The search for a page by its number.
+
 ghost use Rattle.std.specs.Prelude.{IsTrue, IfOk, IfErr};
 ghost use Rattle.std.specs.Ordering.{nat_cmp};
 ghost use Rattle.std.specs.FinMap.{is_sorted};
@@ -5,7 +7,7 @@ ghost use Rattle.mm_mem.specs.Places.{IsAt, IsGap};
 
 use crate::row::Row;
 
-// The index of the row of a page, or the index where it would go.
+// The index of the row of a page, or as an error the index at which it would go.
 pub(crate) fn search(rows: &[Row], page: u64) -> Result<usize, usize>
     requires { IsTrue (is_sorted nat_cmp rows.now) }
     ensures found { IfOk result (IsAt page rows.now) }

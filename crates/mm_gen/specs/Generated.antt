@@ -1,4 +1,4 @@
--- Images that are made from a number.
+-- Images that are generated of a number.
 use Rattle.std.specs.Prelude.{ℕ, zero, suc, ◌+◌, ◌*◌, ◌%◌, ◌^◌, true, false, List, [], ◌∷◌, ◌++◌, map, replicate, None}
 use Rattle.std.specs.Prelude.{pos, negsuc}
 use Rattle.std.specs.List.{flat_map, range_with_len}
@@ -20,18 +20,18 @@ use Rattle.mm_model.specs.Image.{Image, none_empty}
 
 -- 1. Numbers.
 
--- the number behind a number
+-- the number after a number in the series
 abbrev pub next_number : ℕ → ℕ
 next_number x = (x * 0x5851f42d4c957f2d + 0x14057b7ef767814f) % 2 ^ 64
 
--- number k of those that a number begins
+-- number k of the series that begins with a number
 unfoldable pub nth_number : (number k : ℕ) → ℕ
 nth_number number zero = number
 nth_number number (suc k) = next_number (nth_number number k)
 
 -- 2. Pages.
 
--- the page of a slot's code, and that of its data behind it
+-- the page of a slot's code; the page of its data is the next
 abbrev pub code_page : ℕ → ℕ
 code_page slot = 256 + 2 * slot
 
@@ -41,11 +41,11 @@ data_page slot = 257 + 2 * slot
 abbrev pub full_cell : ℕ → Cell
 full_cell bits = record { word = Int bits; full = true }
 
--- a loop that goes over the data: each word is taken into the exclusive or of all so far, whose low byte is put out
+-- a loop over the data: register 3 becomes the exclusive or of all words so far, and its low byte is put out
 abbrev pub loop : List Instr
 loop = Ld 2 1 pre.Any post.Keep (pos 0) ∷ Alu Xor 3 3 2 ∷ Out 3 ∷ Leai 1 1 (pos 8) ∷ Br (negsuc 3) ∷ []
 
--- the loop, and zeros behind it
+-- the cells of the loop, and zeros after it
 unfoldable pub code_cells : List Cell
 code_cells = map (λ i. full_cell (spelling i)) loop ++ replicate 507 zero_cell
 
@@ -64,7 +64,7 @@ slot_pages number slot = (code_page slot, code_cells) ∷ (data_page slot, data_
 abbrev pub page_pointer : Perm → ℕ → Pointer
 page_pointer perm page = record { perm = perm; log = 12; addr = page * 4096 }
 
--- a slot in a group of its own: it begins at its code, and register 1 points to its data
+-- the slot of a number: in a group of its own, it begins at its code, and its register 1 points to its data
 unfoldable pub slot_at : ℕ → Slot
 slot_at slot = record {
   number = slot;
@@ -79,7 +79,7 @@ slot_at slot = record {
   pending = [];
 }
 
--- 4. The image of a number, with so many slots.
+-- 4. The image of a number, with `size` slots.
 
 unfoldable pub generated : (number size : ℕ) → Image
 generated number size = record {

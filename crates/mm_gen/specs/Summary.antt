@@ -6,12 +6,12 @@ use Rattle.mm_model.specs.Slot.{Slot, register}
 use Rattle.mm_model.specs.State.{Row, Core, State, output_of}
 use Rattle.mm_model.specs.Report.{cycles_line}
 
--- a slot: its turns and state, how many bytes its group has put out, and its register 3
+-- the line of a slot: its turns and state, the count of bytes that its group has put out, and its register 3
 abbrev pub slot_summary : Core → Slot → List ℕ
 slot_summary core s =
     numbers_text s.number s.turns ++ state_text s.state ++ codes " out " ++ decimal (length (output_of core s.group))
     ++ codes " xor " ++ word_text (register s 3) ++ newline
 
--- how many cycles, and each slot
+-- the summary: the total of cycles, and a line for each slot
 unfoldable pub summary : State → List ℕ
 summary s = cycles_line s.cycles ++ flat_map (λ (row : Row). slot_summary s.core row.slot) s.core.rows

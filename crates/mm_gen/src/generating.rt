@@ -1,4 +1,4 @@
-//! The image of a number.
+//! The image that is generated of a number.
 
 ghost use Rattle.std.specs.Prelude.{◌≡◌, ◌≤◌, IfOk};
 ghost use Rattle.mm_gen.specs.Generated.{generated};
@@ -9,7 +9,7 @@ use mm_image::Image;
 use mm_word::NoMemory;
 use std::alloc::{AllocError, Global};
 
-/// The image of a number, with 1 to 16 slots.
+/// The image that is generated of a number, with `size` slots, 1 to 16. `NoMemory` comes if memory ran out.
 pub fn image(alloc: Global, number: u64, size: u8) -> Result<Image, NoMemory>
     requires some { 1 ≤ size }
     requires few { size ≤ 16 }

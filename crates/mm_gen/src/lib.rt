@@ -1,6 +1,7 @@
-//! Generated images: load that is the same at each run, for measuring.
+//! Generated images: a load that is the same at each run, for measuring.
 //!
-//! [`image`] makes an image of a number and a size. [`summary`] writes what its slots have come to.
+//! [`image`] makes an image of a number and a size. [`summary`] writes a line for each slot of a machine, with its
+//! turns and what it put out. The load is this project's profile.
 #![tactic(auto)]
 
 mod generating;

@@ -1,4 +1,4 @@
-//! The pages of generated images: the code of each slot, and its data behind it.
+//! The pages of generated images: the code of each slot, and its data after it.
 ghost use Rattle.std.specs.Prelude.{◌≡◌, true, ◌+◌, ◌*◌, ◌≤◌, ◌<◌, ◌^◌, ◌++◌, length, replicate, IfOk, OnOk};
 ghost use Rattle.std.specs.List.{flat_map, range_with_len};
 ghost use Rattle.mm_model.specs.Memory.{zero_cell};
@@ -14,10 +14,10 @@ use std::alloc::{AllocError, Global};
 /// The page of the first slot's code.
 const FIRST_PAGE: u64 = 256;
 
-/// How many instructions the code of a slot has.
+/// The count of instructions in the code of a slot.
 const LENGTH: usize = 5;
 
-/// The number behind a number.
+/// The number after a number in the series of pseudo-random numbers.
 fn next_number(number: u64) -> u64
     ensures { result ≡ next_number number }
 {
@@ -50,8 +50,8 @@ fn register(number: u8) -> Reg
     }
 }
 
-/// The code of a slot, a loop that goes over its data: each word is taken into the exclusive or of all so far, whose
-/// low byte is put out.
+/// The code of a slot, a loop over its data: register 3 becomes the exclusive or of all words so far, and its low byte
+/// is put out.
 fn code() -> [Instr; LENGTH]
     ensures { result ≡ loop_of }
 {
@@ -88,7 +88,7 @@ fn full_cell(word: Word) -> Cell
     Cell { word, full: true }
 }
 
-/// Appends so many zeros.
+/// Appends `count` cells of zero.
 fn push_zeros(cells: &mut Vec<Cell>, count: usize) -> Result<(), AllocError>
     ensures { OnOk result (cells.new.items ≡ cells.old.items ++ replicate count zero_cell) }
 {
@@ -98,7 +98,7 @@ fn push_zeros(cells: &mut Vec<Cell>, count: usize) -> Result<(), AllocError>
     Ok(())
 }
 
-/// The cells of a slot's code, and zeros behind it.
+/// The cells of a slot's code, and zeros after it.
 fn code_cells(alloc: Global) -> Result<Vec<Cell>, AllocError>
     ensures { IfOk result (λ cells. cells.items ≡ code_cells) }
 {
@@ -110,7 +110,7 @@ fn code_cells(alloc: Global) -> Result<Vec<Cell>, AllocError>
     Ok(cells)
 }
 
-/// The cells of a slot's data, the numbers behind a number, which becomes the last of them.
+/// The cells of a slot's data: the 512 numbers after a number, which becomes the last of them.
 fn data_cells(alloc: Global, number: &mut u64) -> Result<Vec<Cell>, AllocError>
     ensures last { OnOk result (number.new ≡ nth_number number.old 512) }
     ensures cells { IfOk result (λ cells. cells.items ≡ cells_behind number.old 512) }
@@ -134,7 +134,7 @@ fn page(number: u64, cells: Vec<Cell>) -> Page
     }
 }
 
-/// Appends the pages of a slot. Its data are the numbers behind a number, which becomes the last of them.
+/// Appends the pages of a slot. Its data are the 512 numbers after a number, which becomes the last of them.
 fn push_pages(
     alloc: Global,
     pages: &mut Vec<Page>,
@@ -149,7 +149,7 @@ fn push_pages(
     Ok(())
 }
 
-/// The pages of so many slots, whose data are the numbers that a number begins.
+/// The pages of `size` slots, whose data are the series after a number.
 pub(crate) fn pages(alloc: Global, number: u64, size: u8) -> Result<Vec<Page>, AllocError>
     ensures { IfOk result (λ pages. pages.items ≡ flat_map (slot_pages number) (range_with_len 0 size)) }
 {

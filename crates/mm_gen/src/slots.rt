@@ -23,7 +23,7 @@ fn page_pointer(perm: Perm, page: u64) -> GuardedPtr
     }
 }
 
-/// The slot of a number: in a group of its own, it begins at its code, and register 1 points to its data.
+/// The slot of a number. It is in a group of its own and begins at its code, and its register 1 points to its data.
 fn slot(number: u8) -> Slot
     ensures { result ≡ slot_at number }
 {
@@ -43,7 +43,7 @@ fn slot(number: u8) -> Slot
     }
 }
 
-/// So many slots.
+/// The slots 0 to `size` - 1.
 pub(crate) fn slots(alloc: Global, size: u8) -> Result<Vec<Slot>, AllocError>
     ensures { IfOk result (λ slots. slots.items ≡ map slot_at (range_with_len 0 size)) }
 {

@@ -12,11 +12,11 @@ use mm_mem::Memory;
 use mm_model::Slot;
 use mm_text::{Gather, Piece, put_cycles, put_numbers, put_state, put_word};
 
-/// The register of which a summary speaks.
+/// The register that a summary shows.
 const REGISTER: u8 = 3;
 
-/// Writes the summary of a machine: the number of cycles, and of each slot its turns and state, how many bytes its
-/// group has put out, and its register 3. At a [`WriteFault`] the sink took a front part.
+/// Writes the summary of a machine: the total of cycles, and of each slot its turns and state, the count of bytes that
+/// its group has put out, and its register 3. After a [`WriteFault`] the sink has taken a prefix of it.
 pub fn summary<M: Memory, O: Sink>(m: &Machine<M>, out: &mut O) -> Result<(), WriteFault>
     ensures { Writes O.taken O.faults out.old out.new (summary_of (state_of m.now)) result }
 {

@@ -1,4 +1,4 @@
--- The parts of a net stand for their image.
+-- The parts of a graph stand for their image.
 use Rattle.std.proofs.Common.{◌≡◌, ℕ, ◌+◌, ◌-◌, ◌*◌, ◌/◌, ◌%◌, ◌^◌, ◌<◌, ◌≤◌, ◌⊎◌, inl, inr, Bool, true, false, List, length, slice_index, get_or, Option, Some, None, option_and_then, refl, sym, ap, ◌∙◌, subst, arith, pow_pos}
 use Rattle.std.specs.Int.{bit_at}
 use Rattle.std.specs.List.{Contains}
@@ -18,15 +18,15 @@ use Rattle.mm_model.specs.Reach.{Entries, Grants, MayEnter, LoadsAt, StoresAt}
 use Rattle.mm_model.specs.Reach.Grants.{in_register, runs_by, below}
 use Rattle.mm_flow.specs.declared.node.Node.{Node}
 use Rattle.mm_flow.specs.declared.node.Right.TheVariants.{Load, Store}
-use Rattle.mm_flow.specs.Net.{Edges, Ties, node_at, low_at, high_at, entry_at, enters_at, right_at}
+use Rattle.mm_flow.specs.Edges.{Edges, SharingEdges, node_at, low_at, high_at, entry_at, enters_at, right_at}
 use Rattle.mm_flow.specs.Flow.{Has}
-use Rattle.mm_flow.specs.Gifts.{Up}
+use Rattle.mm_flow.specs.Sharing.{Up}
 use Rattle.mm_flow.specs.Forest.{In}
 use Rattle.mm_flow.proofs.Geometry.{share, shared_base}
 use Rattle.mm_flow.proofs.Bits.{zero_bit}
-use Rattle.mm_summary.specs.Summary.{IsIdle}
-use Rattle.mm_summary.specs.NetOf.{IsNetOf, Started, TargetOf, CellOf, EntryOf, CommonWord, Meet, LoadedWord, Entered}
-use Rattle.mm_graph.specs.declared.key.Key.{Key}
+use Rattle.mm_graph.specs.Summary.{IsPowerless}
+use Rattle.mm_graph.specs.GraphOf.{IsGraphOf, Started, TargetOf, CellOf, EntryOf, CommonWord, Meet, LoadedWord, Entered}
+use Rattle.mm_graph.specs.declared.canonical_ptr.CanonicalPtr.{CanonicalPtr}
 use Rattle.mm_graph.specs.declared.found.Found.{Found}
 use Rattle.mm_graph.specs.Key.{IsKey, key_at, no_key, pointer_at, standing_key, word_key, entry_key, loads_words, is_entry}
 use Rattle.mm_graph.specs.Found.{page_keys, seeds_of}
@@ -41,7 +41,7 @@ use Rattle.mm_graph.proofs.CellWords.{well_formed}
 use Rattle.mm_graph.proofs.Slots.{held_seed, run_seed, seed_from}
 use Rattle.mm_graph.proofs.Bounds.{covers_in, in_covers, of_words, loads_then, stores_then, loads_test, stores_test, makes_test, makes_then, entry_test, entry_then}
 
-module _ (i : Image) (e : Entries) (image : IsImage i) (keys : List Key) (nodes : List Node) (targets parents links start masks : List ℕ)
+module _ (i : Image) (e : Entries) (image : IsImage i) (keys : List CanonicalPtr) (nodes : List Node) (targets parents links start masks : List ℕ)
     (k : IsKeysOf (page_keys i.memory.pages) (seeds_of i.slots) keys) (n : IsNodes keys (page_keys i.memory.pages) masks nodes) (t : IsTargets keys (page_keys i.memory.pages) targets)
     (f : HasForest keys parents) (l : IsLinks i.slots links) (s : IsMarks keys (seeds_of i.slots) start) (m : IsEntryMasks e keys masks) where
   abbrev node : ℕ → Pointer
@@ -50,8 +50,8 @@ module _ (i : Image) (e : Entries) (image : IsImage i) (keys : List Key) (nodes 
   abbrev edges : Edges
   edges = record { nodes = nodes; targets = targets }
 
-  abbrev ties : Ties
-  ties = record { nodes = nodes; parents = parents; links = links }
+  abbrev sharing : SharingEdges
+  sharing = record { nodes = nodes; parents = parents; links = links }
 
   abbrev found : List Found
   found = page_keys i.memory.pages
@@ -91,10 +91,10 @@ module _ (i : Image) (e : Entries) (image : IsImage i) (keys : List Key) (nodes 
   word_of q o is w = subst IsWord is w
 
   -- a key at its place
-  place_of_key : (x : Key) → Contains keys x → (a : ℕ) × (a < length keys) × (key_at keys a ≡ x)
+  place_of_key : (x : CanonicalPtr) → Contains keys x → (a : ℕ) × (a < length keys) × (key_at keys a ≡ x)
   place_of_key x h = (h.0, h.1, get_or_default keys h.0 no_key x h.1 ∙ h.2)
 
-  begins : (g : ℕ) (q : Pointer) (x : Key) → g < 64 → IsWellFormed q → standing_key q ≡ Some x → Contains (seeds_of i.slots) (record { group = g; key = x }) → Started node start g q
+  begins : (g : ℕ) (q : Pointer) (x : CanonicalPtr) → g < 64 → IsWellFormed q → standing_key q ≡ Some x → Contains (seeds_of i.slots) (record { group = g; key = x }) → Started node start g q
   begins g q x lt w e2 c =
       let p = place_of_key x (k.of_seeds _ c) in
       let st = stands_from q x e2 in
@@ -105,17 +105,17 @@ module _ (i : Image) (e : Entries) (image : IsImage i) (keys : List Key) (nodes 
         marked = s.each p.0 g p.1 lt (subst (λ v. Contains (seeds_of i.slots) (record { group = g; key = v })) (sym p.2) c);
       }
 
-  holds_at : (x : Slot) (q : Pointer) → Contains i.slots x → Contains x.regs (Ptr q) → IsIdle q ⊎ Started node start x.group q
+  holds_at : (x : Slot) (q : Pointer) → Contains i.slots x → Contains x.regs (Ptr q) → IsPowerless q ⊎ Started node start x.group q
   holds_at x q h r = at (standing_key q) refl
     where
-      at : (o : Option Key) → standing_key q ≡ o → IsIdle q ⊎ Started node start x.group q
+      at : (o : Option CanonicalPtr) → standing_key q ≡ o → IsPowerless q ⊎ Started node start x.group q
       at None e2 = inl (standing_none q e2)
       at (Some y) e2 = inr (begins x.group q y (groups x h) (held_well_formed x q h r) e2 (held_seed i.slots x q y h r e2))
 
-  runs_at : (x : Slot) → Contains i.slots x → IsIdle x.ip ⊎ Started node start x.group x.ip
+  runs_at : (x : Slot) → Contains i.slots x → IsPowerless x.ip ⊎ Started node start x.group x.ip
   runs_at x h = at (standing_key x.ip) refl
     where
-      at : (o : Option Key) → standing_key x.ip ≡ o → IsIdle x.ip ⊎ Started node start x.group x.ip
+      at : (o : Option CanonicalPtr) → standing_key x.ip ≡ o → IsPowerless x.ip ⊎ Started node start x.group x.ip
       at None e2 = inl (standing_none x.ip e2)
       at (Some y) e2 = inr (begins x.group x.ip y (groups x h) (fresh x h).ip e2 (run_seed i.slots x y h e2))
 
@@ -141,10 +141,10 @@ module _ (i : Image) (e : Entries) (image : IsImage i) (keys : List Key) (nodes 
   load_right : (a : ℕ) → a < length start → right_at nodes Load a ≡ loads_words (node a)
   load_right a lt = (each_node a lt).loads
 
-  in_cell_of : (a w : ℕ) (c : Cell) (q : Pointer) → a < length start → LoadsAt (node a) w → cell_at i.memory w ≡ Some c → c.word ≡ Ptr q → IsIdle q ⊎ TargetOf node edges a (length start) q
+  in_cell_of : (a w : ℕ) (c : Cell) (q : Pointer) → a < length start → LoadsAt (node a) w → cell_at i.memory w ≡ Some c → c.word ≡ Ptr q → IsPowerless q ⊎ TargetOf node edges a (length start) q
   in_cell_of a w c q lt ld at is = go (standing_key q) refl
     where
-      go : (o : Option Key) → standing_key q ≡ o → IsIdle q ⊎ TargetOf node edges a (length start) q
+      go : (o : Option CanonicalPtr) → standing_key q ≡ o → IsPowerless q ⊎ TargetOf node edges a (length start) q
       go None e2 = inl (standing_none q e2)
       go (Some y) e2 =
           let mem = there i.memory image.paged w c y at (ap word_key is ∙ e2) in
@@ -164,7 +164,7 @@ module _ (i : Image) (e : Entries) (image : IsImage i) (keys : List Key) (nodes 
           })
 
   -- the pointer that a found cell holds
-  cell_pointer : (o : Word) (x : Key) → word_key o ≡ Some x → (q : Pointer) × (o ≡ Ptr q) × (standing_key q ≡ Some x)
+  cell_pointer : (o : Word) (x : CanonicalPtr) → word_key o ≡ Some x → (q : Pointer) × (o ≡ Ptr q) × (standing_key q ≡ Some x)
   cell_pointer (Int v) x h = cc
   cell_pointer (Ptr q) x h = (q, refl, h)
 
@@ -194,13 +194,13 @@ module _ (i : Image) (e : Entries) (image : IsImage i) (keys : List Key) (nodes 
 
   -- entries
 
-  entry_key_at : (a : ℕ) (q : Pointer) (o : Option Key) → enter_result (node a) ≡ Some q → standing_key q ≡ o → entry_key (key_at keys a) ≡ o
+  entry_key_at : (a : ℕ) (q : Pointer) (o : Option CanonicalPtr) → enter_result (node a) ≡ Some q → standing_key q ≡ o → entry_key (key_at keys a) ≡ o
   entry_key_at a q o h e2 = ap (option_and_then standing_key) h ∙ e2
 
-  enters_at_node : (a g : ℕ) (q : Pointer) → a < length start → g < 64 → MayEnter e g (node a) → ((node a).perm ≡ Eu) ⊎ ((node a).perm ≡ Ep) → enter_result (node a) ≡ Some q → IsIdle q ⊎ Entered node edges a g (length start) q
+  enters_at_node : (a g : ℕ) (q : Pointer) → a < length start → g < 64 → MayEnter e g (node a) → ((node a).perm ≡ Eu) ⊎ ((node a).perm ≡ Ep) → enter_result (node a) ≡ Some q → IsPowerless q ⊎ Entered node edges a g (length start) q
   enters_at_node a g q lt small may perm h = go (standing_key q) refl
     where
-      go : (o : Option Key) → standing_key q ≡ o → IsIdle q ⊎ Entered node edges a g (length start) q
+      go : (o : Option CanonicalPtr) → standing_key q ≡ o → IsPowerless q ⊎ Entered node edges a g (length start) q
       go None e2 = inl (standing_none q e2)
       go (Some y) e2 =
           let enter = (each_node a lt).enters y (entry_test (node a).perm perm) (entry_key_at a q (Some y) h e2) in
@@ -215,7 +215,7 @@ module _ (i : Image) (e : Entries) (image : IsImage i) (keys : List Key) (nodes 
   entered_from : (a g : ℕ) → a < length start → bit_at (enters_at edges a) g ≡ 1 → EntryOf e g (node a) (node (entry_at edges a))
   entered_from a g lt h = at (is_entry (node a).perm) refl (entry_key (key_at keys a)) refl
     where
-      at : (b : Bool) → is_entry (node a).perm ≡ b → (o : Option Key) → entry_key (key_at keys a) ≡ o → EntryOf e g (node a) (node (entry_at edges a))
+      at : (b : Bool) → is_entry (node a).perm ≡ b → (o : Option CanonicalPtr) → entry_key (key_at keys a) ≡ o → EntryOf e g (node a) (node (entry_at edges a))
       at false no_entry o e2 = absurd (zero_bit g (ap (λ v. bit_at v g) (sym ((each_node a lt).no_entry (inl no_entry))) ∙ h))
       at true yes_entry None e2 = absurd (zero_bit g (ap (λ v. bit_at v g) (sym ((each_node a lt).no_entry (inr e2))) ∙ h))
       at true yes_entry (Some x) e2 =
@@ -248,7 +248,7 @@ module _ (i : Image) (e : Entries) (image : IsImage i) (keys : List Key) (nodes 
   par_len : length parents ≡ length f.bases
   par_len = f.len ∙ sym f.is_bases.len
 
-  meets_at : (a b w : ℕ) → a < length start → b < length start → StoresAt (node a) w → LoadsAt (node b) w → Meet ties (length start) a b
+  meets_at : (a b w : ℕ) → a < length start → b < length start → StoresAt (node a) w → LoadsAt (node b) w → Meet sharing (length start) a b
   meets_at a b w la lb st ld =
       let x = share f.bases f.logs f.ends parents f.ordered f.forest par_len a b w (in_base a la) (in_base b lb) (in_segment a w la (covers_in (node a) w st.covers)) (in_segment b w lb (covers_in (node b) w ld.covers)) in
       record { at = x.at; small = unfit x.at (let lt = x.small in let q = f.is_bases.len in omega arith); left = x.left; right = x.right }
@@ -295,8 +295,8 @@ module _ (i : Image) (e : Entries) (image : IsImage i) (keys : List Key) (nodes 
         loads = record { word = aligned; right = ld.0; covers = in_covers (node b) (base_of (node b)) ld.1 aligned (omega arith) (omega arith) };
       }
 
-  pub net : IsNetOf i e node edges ties start
-  net = record {
+  pub graph : IsGraphOf i e node edges sharing start
+  graph = record {
     groups = groups;
     held = holds_at;
     runs = runs_at;

@@ -9,7 +9,7 @@ use Rattle.mm_word.specs.declared.word.Cell.{Cell}
 use Rattle.mm_model.specs.Memory.{Memory, cell_at, cell_in, page_at, page_of, place_of, IsPage, IsPaged}
 use Rattle.mm_model.proofs.Memories.{cell_at-aligned, cell_at-unaligned, word_or_none}
 use Rattle.mm_image.proofs.SortedEntries.{rises, find-at}
-use Rattle.mm_graph.specs.declared.key.Key.{Key}
+use Rattle.mm_graph.specs.declared.canonical_ptr.CanonicalPtr.{CanonicalPtr}
 use Rattle.mm_graph.specs.declared.found.Found.{Found}
 use Rattle.mm_graph.specs.Key.{word_key}
 use Rattle.mm_graph.specs.Found.{found_at, cell_keys, page_keys}
@@ -18,10 +18,10 @@ use Rattle.mm_graph.proofs.KeyLists.{contains_here, contains_rest, contains_case
 
 -- one page's cells
 
-at_found : (w : ℕ) (o : Option Key) (key : Key) → o ≡ Some key → Contains (found_at w o) (record { word = w; key = key })
+at_found : (w : ℕ) (o : Option CanonicalPtr) (key : CanonicalPtr) → o ≡ Some key → Contains (found_at w o) (record { word = w; key = key })
 at_found w o key e = subst (λ v. Contains (found_at w v) (record { word = w; key = key })) (sym e) (contains_here _ [])
 
-pub in_cells : (w : ℕ) (cells : List Cell) (k : ℕ) (c : Cell) (key : Key) → slice_get cells k ≡ Some c → word_key c.word ≡ Some key → Contains (cell_keys w cells) (record { word = w + 8 * k; key = key })
+pub in_cells : (w : ℕ) (cells : List Cell) (k : ℕ) (c : Cell) (key : CanonicalPtr) → slice_get cells k ≡ Some c → word_key c.word ≡ Some key → Contains (cell_keys w cells) (record { word = w + 8 * k; key = key })
 in_cells w [] k c key at is = cc
 in_cells w (x ∷ xs) zero c key at is =
     let same : x ≡ c = cc in
@@ -39,7 +39,7 @@ pub record CellAt (w : ℕ) (cells : List Cell) (f : Found) : Type 0 where
   pub holds : word_key cell.word ≡ Some f.key
   pub word : f.word ≡ w + 8 * place
 
-from_found : (w : ℕ) (o : Option Key) (f : Found) → Contains (found_at w o) f → (o ≡ Some f.key) × (f.word ≡ w)
+from_found : (w : ℕ) (o : Option CanonicalPtr) (f : Found) → Contains (found_at w o) f → (o ≡ Some f.key) × (f.word ≡ w)
 from_found w None f m = absurd (let lt = m.1 in omega arith)
 from_found w (Some key) f m = elim (contains_cases (record { word = w; key = key }) f [] m) [
   | inl e ↦ (ap (λ (v : Found). Some v.key) e, ap (λ (v : Found). v.word) (sym e))
@@ -94,7 +94,7 @@ module _ (m : Memory) (paged : IsPaged m) where
   page_whole : (p : ℕ × List Cell) → Contains m.pages p → IsPage p
   page_whole p h = All-contains IsPage m.pages p (All-from_recursion IsPage m.pages paged.pages.whole) h
 
-  pub there : (w : ℕ) (c : Cell) (key : Key) → cell_at m w ≡ Some c → word_key c.word ≡ Some key → Contains (page_keys m.pages) (record { word = w; key = key })
+  pub there : (w : ℕ) (c : Cell) (key : CanonicalPtr) → cell_at m w ≡ Some c → word_key c.word ≡ Some key → Contains (page_keys m.pages) (record { word = w; key = key })
   there w c key at is = elim (word_or_none w) [
     | inr no_word ↦ let none = cell_at-unaligned m w no_word in cc
     | inl aligned ↦ go aligned (page_at m (page_of w)) refl (sym (cell_at-aligned m w aligned) ∙ at)
@@ -161,7 +161,7 @@ rises_cells w lo [] rest le h = rises_higher lo (w + 8 * 0) rest (omega arith) h
 rises_cells w lo (x ∷ xs) rest le h =
     at (λ l small. rises_cells (w + 8) l xs rest small (subst (λ v. Rises v rest) (let e : w + 8 * length (x ∷ xs) ≡ w + 8 + 8 * length xs = omega arith in e) h)) (word_key x.word)
   where
-    at : ((l : ℕ) → l ≤ w + 8 → Rises l (cell_keys (w + 8) xs ++ rest)) → (o : Option Key) → Rises lo (found_at w o ++ cell_keys (w + 8) xs ++ rest)
+    at : ((l : ℕ) → l ≤ w + 8 → Rises l (cell_keys (w + 8) xs ++ rest)) → (o : Option CanonicalPtr) → Rises lo (found_at w o ++ cell_keys (w + 8) xs ++ rest)
     at tail None = tail lo (omega arith)
     at tail (Some key) = (le, tail (w + 1) (omega arith))
 

@@ -1,4 +1,4 @@
--- The marks of a net that has spread are exact.
+-- The marks of a graph that has spread are exact.
 use Rattle.std.proofs.Common.{◌≡◌, ℕ, ◌^◌, ◌<◌, List, ◌++◌, length, take, slice_index, ◌∙◌}
 use Rattle.std.proofs.lemmas.List.{take_at}
 use Rattle.mm_model.specs.Image.{Image}
@@ -6,13 +6,13 @@ use Rattle.mm_model.specs.Reach.{Entries}
 use Rattle.mm_model.specs.Spelling.{IsImage}
 use Rattle.mm_flow.specs.declared.node.Node.{Node}
 use Rattle.mm_flow.specs.Reached.{IsReach}
-use Rattle.mm_summary.proofs.Nets.{exact_marks}
-use Rattle.mm_graph.specs.declared.key.Key.{Key}
+use Rattle.mm_graph.proofs.Graphs.{exact_marks}
+use Rattle.mm_graph.specs.declared.canonical_ptr.CanonicalPtr.{CanonicalPtr}
 use Rattle.mm_graph.specs.Parts.{IsBuilt}
 use Rattle.mm_graph.specs.Marked.{IsMarked, node_pointer}
-use Rattle.mm_graph.proofs.Assembly.{net}
+use Rattle.mm_graph.proofs.Assembly.{graph}
 
-pub marked_all : (i : Image) (e : Entries) (keys : List Key) (nodes : List Node) (targets parents links start marks : List ℕ) → IsImage i → IsBuilt i e keys nodes targets parents links start
+pub marked_all : (i : Image) (e : Entries) (keys : List CanonicalPtr) (nodes : List Node) (targets parents links start marks : List ℕ) → IsImage i → IsBuilt i e keys nodes targets parents links start
     → IsReach (record { nodes = nodes; targets = targets }) (record { nodes = nodes; parents = parents; links = links }) start marks → ((k : ℕ) → slice_index marks k < 2 ^ 64) → IsMarked i e keys nodes marks
 marked_all i e keys nodes targets parents links start marks image b r fits =
     let n = b.has_nodes.is_nodes in
@@ -25,7 +25,7 @@ marked_all i e keys nodes targets parents links start marks image b r fits =
       loads = λ k lt. (n.each k lt).loads;
       stores = λ k lt. (n.each k lt).stores;
       exact = λ rights right. exact_marks i e (node_pointer keys) (record { nodes = nodes; targets = targets }) (record { nodes = nodes; parents = parents; links = links }) start
-          (net i e image keys nodes targets parents links start b.has_nodes.masks b.is_keys n b.is_targets b.has_forest b.is_links b.is_start b.has_nodes.is_masks) marks r fits rights right;
+          (graph i e image keys nodes targets parents links start b.has_nodes.masks b.is_keys n b.is_targets b.has_forest b.is_links b.is_start b.has_nodes.is_masks) marks r fits rights right;
     }
 
 pub whole : (marks old : List ℕ) (n : ℕ) → length marks ≡ n → take n (marks ++ old) ≡ marks

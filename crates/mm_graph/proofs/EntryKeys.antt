@@ -2,7 +2,7 @@
 use Rattle.std.proofs.Common.{◌≡◌, ◌+◌, ◌-◌, Some, sym, ap, subst, arith}
 use Rattle.mm_word.specs.Pointer.{Pointer, IsWellFormed, base_of}
 use Rattle.mm_word.proofs.Packing.{SpellsPointer-bits_of}
-use Rattle.mm_graph.specs.declared.key.Key.{Key}
+use Rattle.mm_graph.specs.declared.canonical_ptr.CanonicalPtr.{CanonicalPtr}
 use Rattle.mm_graph.specs.Key.{IsKey, key_of, pointer_at, standing_for, entry_key}
 use Rattle.mm_graph.proofs.Standing.{pointer_at-key_of, standing-well_formed, stands_from, entry_from, enters-well_formed}
 
@@ -16,7 +16,7 @@ key_of-is_key p w =
       narrow = subst (λ (v : Pointer). 54 - p.log + v.log ≡ 54) (sym is) (let le = w.log_in_range in omega arith);
     }
 
-pub entry_is_key : (k x : Key) → IsKey k → entry_key k ≡ Some x → IsKey x
+pub entry_is_key : (k x : CanonicalPtr) → IsKey k → entry_key k ≡ Some x → IsKey x
 entry_is_key k x h e =
     let f = entry_from (pointer_at k) x e in
     let w = enters-well_formed (pointer_at k) f.to h.well_formed f.enters in

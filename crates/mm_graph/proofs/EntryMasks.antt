@@ -6,7 +6,7 @@ use Rattle.std.specs.Int.{bit_at}
 use Rattle.std.specs.List.{Contains, All, AllZip}
 use Rattle.mm_word.specs.Pointer.{Pointer, pointer_of, bits_of, SpellsPointer}
 use Rattle.mm_model.specs.Reach.Entries.{All as AnyEntry, These as TheseEntries}
-use Rattle.mm_graph.specs.declared.key.Key.{Key}
+use Rattle.mm_graph.specs.declared.canonical_ptr.CanonicalPtr.{CanonicalPtr}
 use Rattle.mm_graph.specs.declared.seed.Seed.{Seed}
 use Rattle.mm_graph.specs.Key.{IsKey, key_at, key_of, pointer_at, no_key}
 use Rattle.mm_graph.specs.Nodes.{IsMarks}
@@ -15,7 +15,7 @@ use Rattle.mm_graph.proofs.KeyLists.{contains_here, contains_rest, contains_case
 use Rattle.mm_graph.proofs.Rising.{same_fields}
 use Rattle.mm_graph.proofs.Marking.{same_seed}
 
-pub any_masks : (keys : List Key) → IsEntryMasks AnyEntry keys (replicate (length keys) (2 ^ 64 - 1))
+pub any_masks : (keys : List CanonicalPtr) → IsEntryMasks AnyEntry keys (replicate (length keys) (2 ^ 64 - 1))
 any_masks keys = record {
   len = length-replicate (length keys) (2 ^ 64 - 1);
   only = λ k g lt h. tt;
@@ -23,7 +23,7 @@ any_masks keys = record {
 }
 
 -- a key is that of its pointer
-pub key_of-pointer_at : (k : Key) → IsKey k → bits_of (pointer_of k.bits) ≡ k.bits → key_of (pointer_at k) ≡ k
+pub key_of-pointer_at : (k : CanonicalPtr) → IsKey k → bits_of (pointer_of k.bits) ≡ k.bits → key_of (pointer_at k) ≡ k
 key_of-pointer_at k h same = same_fields (key_of (pointer_at k)) k (sym h.base) (let e = h.narrow in omega arith) same
 
 record EntryOf (list : List (ℕ × Pointer)) (s : Seed) : Type 0 where
@@ -54,7 +54,7 @@ entry_to_seed (x ∷ xs) (y ∷ ys) p z m = elim (contains_cases x p xs m) [
   | inr old ↦ let f = entry_to_seed xs ys p z.1 old in record { seed = f.seed; is_in = contains_rest y f.seed ys f.is_in; is = f.is }
 ]
 
-pub list_masks : (list : List (ℕ × Pointer)) (seeds : List Seed) (keys : List Key) (masks : List ℕ) → ((k : Key) → SpellsPointer k.bits → bits_of (pointer_of k.bits) ≡ k.bits) → AllZip IsEntrySeed list seeds → All IsKey keys → IsMarks keys seeds masks → IsEntryMasks (TheseEntries list) keys masks
+pub list_masks : (list : List (ℕ × Pointer)) (seeds : List Seed) (keys : List CanonicalPtr) (masks : List ℕ) → ((k : CanonicalPtr) → SpellsPointer k.bits → bits_of (pointer_of k.bits) ≡ k.bits) → AllZip IsEntrySeed list seeds → All IsKey keys → IsMarks keys seeds masks → IsEntryMasks (TheseEntries list) keys masks
 list_masks list seeds keys masks bits z all m = record {
   len = m.len;
   only = λ k g lt h.

@@ -4,7 +4,7 @@ use Rattle.std.specs.List.{Contains, All, filter_map, cons_option}
 use Rattle.std.specs.Option.{option_to_list}
 use Rattle.std.proofs.lemmas.List.{take_more, get_or_append_left, get_or-map, length-map}
 use Rattle.std.proofs.lemmas.List.Elements.{filter_map-append, All-append, All-map, All-contains, Contains-get_or, Contains-append_left, Contains-append_right, Contains-append_cases}
-use Rattle.mm_graph.specs.declared.key.Key.{Key}
+use Rattle.mm_graph.specs.declared.canonical_ptr.CanonicalPtr.{CanonicalPtr}
 use Rattle.mm_graph.specs.declared.found.Found.{Found}
 use Rattle.mm_graph.specs.declared.seed.Seed.{Seed}
 use Rattle.mm_graph.specs.declared.placed.Placed.{Placed}
@@ -76,13 +76,13 @@ all_from_contains P xs f = λ k d lt. f (get_or xs k d) (Contains-get_or xs k d 
 
 -- the keys of what was found and of seeds
 module _ (found : List Found) (seeds : List Seed) where
-  pub held_is : (xs ys zs : List Key) → xs ≡ [] → ys ≡ xs ++ map (λ (f : Found). f.key) found → zs ≡ ys ++ map (λ (s : Seed). s.key) seeds → zs ≡ held_keys found seeds
+  pub held_is : (xs ys zs : List CanonicalPtr) → xs ≡ [] → ys ≡ xs ++ map (λ (f : Found). f.key) found → zs ≡ ys ++ map (λ (s : Seed). s.key) seeds → zs ≡ held_keys found seeds
   held_is xs ys zs none first second = second ∙ ap (λ v. v ++ map (λ (s : Seed). s.key) seeds) (first ∙ ap (λ v. v ++ map (λ (f : Found). f.key) found) none)
 
-  pub all_is : (zs ws : List Key) → zs ≡ held_keys found seeds → ws ≡ zs ++ filter_map entry_key zs → ws ≡ all_keys_of found seeds
+  pub all_is : (zs ws : List CanonicalPtr) → zs ≡ held_keys found seeds → ws ≡ zs ++ filter_map entry_key zs → ws ≡ all_keys_of found seeds
   all_is zs ws is third = third ∙ ap (λ v. v ++ filter_map entry_key v) is
 
-  pub held_are_keys : (zs : List Key) → zs ≡ held_keys found seeds → All (λ (f : Found). IsKey f.key) found → All (λ (s : Seed). IsKey s.key) seeds → All IsKey zs
+  pub held_are_keys : (zs : List CanonicalPtr) → zs ≡ held_keys found seeds → All (λ (f : Found). IsKey f.key) found → All (λ (s : Seed). IsKey s.key) seeds → All IsKey zs
   held_are_keys zs is of_found of_seeds = subst (All IsKey) (sym is) (All-append IsKey _ _ (All-map IsKey (λ (f : Found). f.key) found of_found) (All-map IsKey (λ (s : Seed). s.key) seeds of_seeds))
 
   pub key_of_found : (j : ℕ) → j < length found → key_at (all_keys_of found seeds) j ≡ (slice_index_or found j nothing).key
@@ -100,37 +100,37 @@ module _ (found : List Found) (seeds : List Seed) where
       let two = length-append (held_keys found seeds) (filter_map entry_key (held_keys found seeds)) in
       omega arith
 
-  pub targets_made : (keys : List Key) (placed : List Placed) (targets : List ℕ) → length targets ≡ length found → IsPlaced (all_keys_of found seeds) placed → HasTargets keys placed targets → IsTargets keys found targets
+  pub targets_made : (keys : List CanonicalPtr) (placed : List Placed) (targets : List ℕ) → length targets ≡ length found → IsPlaced (all_keys_of found seeds) placed → HasTargets keys placed targets → IsTargets keys found targets
   targets_made keys placed targets len is has = record {
     len = len;
     small = λ j lt. (has (all_keys_of found seeds) is j (found_fits j lt) (omega arith)).0;
     at = λ j lt. (has (all_keys_of found seeds) is j (found_fits j lt) (omega arith)).1 ∙ key_of_found j lt;
   }
 
-  module _ (of_found : All (λ (f : Found). IsKey f.key) found) (of_seeds : All (λ (s : Seed). IsKey s.key) seeds) (new : List Key) (rising : IsRising new) (same : (x : Key) → Contains new x ↔ Contains (all_keys_of found seeds) x) where
-    abbrev zs : List Key
+  module _ (of_found : All (λ (f : Found). IsKey f.key) found) (of_seeds : All (λ (s : Seed). IsKey s.key) seeds) (new : List CanonicalPtr) (rising : IsRising new) (same : (x : CanonicalPtr) → Contains new x ↔ Contains (all_keys_of found seeds) x) where
+    abbrev zs : List CanonicalPtr
     zs = held_keys found seeds
 
-    into : (x : Key) → Contains zs x → Contains new x
+    into : (x : CanonicalPtr) → Contains zs x → Contains new x
     into x m = (same x).1 (Contains-append_left zs (filter_map entry_key zs) x m)
 
-    data Origin (x : Key) : Type 0 where
+    data Origin (x : CanonicalPtr) : Type 0 where
       direct : Contains zs x → Origin x
       entry : Gives entry_key zs x → Origin x
 
-    origin : (x : Key) → Contains new x → Origin x
+    origin : (x : CanonicalPtr) → Contains new x → Origin x
     origin x m = elim (Contains-append_cases zs (filter_map entry_key zs) x ((same x).0 m)) [
       | inl a ↦ direct a
       | inr b ↦ entry (from_filter_map entry_key zs x b)
     ]
 
-    entry_in : (k x : Key) → Contains zs k → entry_key k ≡ Some x → Contains new x
+    entry_in : (k x : CanonicalPtr) → Contains zs k → entry_key k ≡ Some x → Contains new x
     entry_in k x m e = (same x).1 (Contains-append_right zs (filter_map entry_key zs) x (in_filter_map entry_key zs k x m e))
 
-    same_some : {x y : Key} → ◌≡◌ {A = Option Key} (Some x) (Some y) → x ≡ y
+    same_some : {x y : CanonicalPtr} → ◌≡◌ {A = Option CanonicalPtr} (Some x) (Some y) → x ≡ y
     same_some h = cc
 
-    pub keys_made : ((k x : Key) → IsKey k → entry_key k ≡ Some x → IsKey x) → IsKeysOf found seeds new
+    pub keys_made : ((k x : CanonicalPtr) → IsKey k → entry_key k ≡ Some x → IsKey x) → IsKeysOf found seeds new
     keys_made keys =
         let all_keys = held_are_keys zs refl of_found of_seeds in
         record {

@@ -1,3 +1,6 @@
+pub mod Segments
+pub mod Summaries
+pub mod Graphs
 pub mod Rising
 pub mod Lists
 pub mod OneBits

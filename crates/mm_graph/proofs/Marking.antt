@@ -6,7 +6,7 @@ use Rattle.std.proofs.lemmas.List.Elements.{Contains-append_left, Contains-push,
 use Rattle.mm_flow.specs.Flow.{Has}
 use Rattle.mm_flow.proofs.Bits.{zero_bit}
 use Rattle.std.specs.Int.{bit_at}
-use Rattle.mm_graph.specs.declared.key.Key.{Key}
+use Rattle.mm_graph.specs.declared.canonical_ptr.CanonicalPtr.{CanonicalPtr}
 use Rattle.mm_graph.specs.declared.seed.Seed.{Seed}
 use Rattle.mm_graph.specs.Key.{IsRising, key_at}
 use Rattle.mm_graph.specs.Marking.{IsMark}
@@ -22,10 +22,10 @@ zero_at (suc n) (suc k) = zero_at n k
 pub no_mark : (n k g : ℕ) → Has (replicate n 0) k g → ⊥
 no_mark n k g h = zero_bit g (ap (λ v. bit_at v g) (sym (zero_at n k)) ∙ h)
 
-pub same_seed : (s : Seed) (g : ℕ) (key : Key) → s.group ≡ g → s.key ≡ key → s ≡ record { group = g; key = key }
+pub same_seed : (s : Seed) (g : ℕ) (key : CanonicalPtr) → s.group ≡ g → s.key ≡ key → s ≡ record { group = g; key = key }
 same_seed s g key e f = λ i. record { group = e i; key = f i }
 
-pub one_mark : (keys : List Key) (s : Seed) (old : List ℕ) (k : ℕ) → IsRising keys → length old ≡ length keys → k < length keys → key_at keys k ≡ s.key → s.group < 64 → IsMark keys s old (with_bit old k s.group)
+pub one_mark : (keys : List CanonicalPtr) (s : Seed) (old : List ℕ) (k : ℕ) → IsRising keys → length old ≡ length keys → k < length keys → key_at keys k ≡ s.key → s.group < 64 → IsMark keys s old (with_bit old k s.group)
 one_mark keys s old k rising len lt is small =
     let fit : k < length old = omega arith in
     record {
@@ -38,14 +38,14 @@ one_mark keys s old k rising len lt is small =
       each = λ n ln sg e. subst (λ v. Has (with_bit old k s.group) v s.group) (same_place keys k n rising lt ln (is ∙ sym e)) (with_bit-there old k s.group fit small);
     }
 
-pub marks_start : (keys : List Key) (n : ℕ) → n ≡ length keys → IsMarks keys [] (replicate n 0)
+pub marks_start : (keys : List CanonicalPtr) (n : ℕ) → n ≡ length keys → IsMarks keys [] (replicate n 0)
 marks_start keys n e = record {
   len = length-replicate n 0 ∙ e;
   only = λ k g h. absurd (no_mark n k g h);
   each = λ k g lt small m. absurd (let l = m.1 in omega arith);
 }
 
-pub marks_more : (keys : List Key) (seeds : List Seed) (k : ℕ) (d : Seed) (a b : List ℕ) → k < length seeds → IsMarks keys (take k seeds) a → IsMark keys (get_or seeds k d) a b → IsMarks keys (take (k + 1) seeds) b
+pub marks_more : (keys : List CanonicalPtr) (seeds : List Seed) (k : ℕ) (d : Seed) (a b : List ℕ) → k < length seeds → IsMarks keys (take k seeds) a → IsMark keys (get_or seeds k d) a b → IsMarks keys (take (k + 1) seeds) b
 marks_more keys seeds k d a b lt x y = rw (take_more seeds k d lt) (record {
   len = y.len ∙ x.len;
   only = λ n g h. elim (y.only n g h) [

@@ -7,7 +7,7 @@ use Rattle.std.proofs.Common.{◌≡◌, ℕ, ◌+◌, ◌<◌, ◌≤◌, ◌�
 use Rattle.std.specs.List.{Contains}
 use Rattle.mm_flow.proofs.Masks.{below_cases, set_cases, length_set}
 use Rattle.mm_flow.proofs.Masks.Set.{here, there}
-use Rattle.mm_graph.specs.declared.key.Key.{Key}
+use Rattle.mm_graph.specs.declared.canonical_ptr.CanonicalPtr.{CanonicalPtr}
 use Rattle.mm_graph.specs.declared.placed.Placed.{Placed}
 use Rattle.mm_graph.specs.Key.{key_at, no_key}
 use Rattle.mm_graph.specs.Placed.{placed_at, IsPlacing, IsPlaced, HasTargets}
@@ -17,7 +17,7 @@ abbrev pub nowhere : Placed
 nowhere = record { key = no_key; place = 0 }
 
 -- one more key with its place
-pub places_more : (keys : List Key) (placed : List Placed) (k : ℕ) (p : Placed) → length placed ≡ k → ((j : ℕ) → j < k → placed_at placed j ≡ record { key = key_at keys j; place = j })
+pub places_more : (keys : List CanonicalPtr) (placed : List Placed) (k : ℕ) (p : Placed) → length placed ≡ k → ((j : ℕ) → j < k → placed_at placed j ≡ record { key = key_at keys j; place = j })
     → p ≡ record { key = key_at keys k; place = k } → (length (placed ++ p ∷ []) ≡ k + 1) × ((j : ℕ) → j < k + 1 → placed_at (placed ++ p ∷ []) j ≡ record { key = key_at keys j; place = j })
 places_more keys placed k p len old is = (
   length_push placed p ∙ ap (λ v. v + 1) len,
@@ -27,7 +27,7 @@ places_more keys placed k p len old is = (
   ],
 )
 
-placed_in : (keys : List Key) (placed : List Placed) → IsPlacing keys placed → IsPlaced keys placed
+placed_in : (keys : List CanonicalPtr) (placed : List Placed) → IsPlacing keys placed → IsPlaced keys placed
 placed_in keys placed h = record {
   only = λ p m. from p m.0 m.1 m.2;
   each = λ k lt. let lt2 : k < length placed = (let e = h.len in omega arith) in subst (Contains placed) (h.at k lt) (Contains-get_or placed k nowhere lt2);
@@ -40,7 +40,7 @@ placed_in keys placed h = record {
         let there : p.place ≡ k = ap (λ v. v.place) is in
         (omega arith, ap (λ v. v.key) is ∙ ap (key_at keys) (sym there))
 
-pub placed_all : (keys : List Key) (placed sorted : List Placed) → IsPlacing keys placed → IsPermutation placed sorted → IsPlaced keys sorted
+pub placed_all : (keys : List CanonicalPtr) (placed sorted : List Placed) → IsPlacing keys placed → IsPermutation placed sorted → IsPlaced keys sorted
 placed_all keys placed sorted h moved =
     let all = placed_in keys placed h in
     record {
@@ -49,12 +49,12 @@ placed_all keys placed sorted h moved =
     }
 
 -- one of which the value is taken
-record From (placed : List Placed) (x : Key) : Type 0 where
+record From (placed : List Placed) (x : CanonicalPtr) : Type 0 where
   pub from : Placed
   pub is_in : Contains placed from
   pub is : from.key ≡ x
 
-from_map : (placed : List Placed) (x : Key) → Contains (map (λ (p : Placed). p.key) placed) x → From placed x
+from_map : (placed : List Placed) (x : CanonicalPtr) → Contains (map (λ (p : Placed). p.key) placed) x → From placed x
 from_map [] x m = absurd (let lt = m.1 in omega arith)
 from_map (p ∷ ps) x m = elim (contains_cases p.key x (map (λ (q : Placed). q.key) ps) m) [
   | inl same ↦ record { from = p; is_in = contains_here p ps; is = same }
@@ -62,7 +62,7 @@ from_map (p ∷ ps) x m = elim (contains_cases p.key x (map (λ (q : Placed). q.
 ]
 
 -- the keys that were placed are those of the list
-pub same_keys : (keys : List Key) (placed : List Placed) (x : Key) → IsPlaced keys placed → Contains (map (λ (p : Placed). p.key) placed) x ↔ Contains keys x
+pub same_keys : (keys : List CanonicalPtr) (placed : List Placed) (x : CanonicalPtr) → IsPlaced keys placed → Contains (map (λ (p : Placed). p.key) placed) x ↔ Contains keys x
 same_keys keys placed x h = (
   λ m.
       let f = from_map placed x m in
@@ -75,11 +75,11 @@ same_keys keys placed x h = (
     at k lt e = subst (Contains (map (λ (p : Placed). p.key) placed)) (get_or_default keys k no_key x lt ∙ e) (in_map (λ (p : Placed). p.key) placed _ (h.each k lt))
 
 -- the targets of the first ones that were placed
-abbrev pub Filled : List Key → List Placed → List ℕ → ℕ → Type 0
-Filled keys placed targets k = (all : List Key) → IsPlaced all placed → (i : ℕ) → i < k → (placed_at placed i).place < length targets
+abbrev pub Filled : List CanonicalPtr → List Placed → List ℕ → ℕ → Type 0
+Filled keys placed targets k = (all : List CanonicalPtr) → IsPlaced all placed → (i : ℕ) → i < k → (placed_at placed i).place < length targets
     → (slice_index targets (placed_at placed i).place < length keys) × (key_at keys (slice_index targets (placed_at placed i).place) ≡ key_at all (placed_at placed i).place)
 
-module _ (keys : List Key) (placed : List Placed) (targets : List ℕ) (k : ℕ) (h : Filled keys placed targets k) where
+module _ (keys : List CanonicalPtr) (placed : List Placed) (targets : List ℕ) (k : ℕ) (h : Filled keys placed targets k) where
   pub filled_end : k ≡ length placed → HasTargets keys placed targets
   filled_end e all is j lt small = at (is.each j lt).0 (is.each j lt).1 (is.each j lt).2
     where
@@ -89,7 +89,7 @@ module _ (keys : List Key) (placed : List Placed) (targets : List ℕ) (k : ℕ)
           subst (λ v. (slice_index targets v < length keys) × (key_at keys (slice_index targets v) ≡ key_at all v)) there (h all is i (omega arith) (omega arith))
 
   module _ (at : ℕ) (small : k < length placed) (fits : at < length keys) (is : key_at keys at ≡ (placed_at placed k).key) where
-    own : (all : List Key) → IsPlaced all placed → key_at keys at ≡ key_at all (placed_at placed k).place
+    own : (all : List CanonicalPtr) → IsPlaced all placed → key_at keys at ≡ key_at all (placed_at placed k).place
     own all p = is ∙ (p.only (placed_at placed k) (Contains-get_or placed k nowhere small)).1
 
     pub filled_write : (placed_at placed k).place < length targets → Filled keys placed (slice_set targets (placed_at placed k).place at) (k + 1)
@@ -108,8 +108,8 @@ module _ (keys : List Key) (placed : List Placed) (targets : List ℕ) (k : ℕ)
   ]
 
 -- the same of a list of these keys in another order
-module _ (keys new : List Key) (placed : List Placed) (is : IsPlaced keys placed) (same : (x : Key) → Contains new x ↔ Contains (map (λ (p : Placed). p.key) placed) x) where
-  pub same_through : (x : Key) → Contains new x ↔ Contains keys x
+module _ (keys new : List CanonicalPtr) (placed : List Placed) (is : IsPlaced keys placed) (same : (x : CanonicalPtr) → Contains new x ↔ Contains (map (λ (p : Placed). p.key) placed) x) where
+  pub same_through : (x : CanonicalPtr) → Contains new x ↔ Contains keys x
   same_through x = (λ m. (same_keys keys placed x is).0 ((same x).0 m), λ m. (same x).1 ((same_keys keys placed x is).1 m))
 
   pub placed_there : (p : Placed) → Contains placed p → Contains new p.key

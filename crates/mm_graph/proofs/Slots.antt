@@ -6,17 +6,17 @@ use Rattle.mm_word.specs.declared.word.Word.{Word}
 use Rattle.mm_word.specs.declared.word.Word.TheVariants.{Int, Ptr}
 use Rattle.mm_word.specs.Pointer.{Pointer}
 use Rattle.mm_model.specs.Slot.{Slot}
-use Rattle.mm_graph.specs.declared.key.Key.{Key}
+use Rattle.mm_graph.specs.declared.canonical_ptr.CanonicalPtr.{CanonicalPtr}
 use Rattle.mm_graph.specs.declared.seed.Seed.{Seed}
 use Rattle.mm_graph.specs.Key.{word_key, standing_key}
 use Rattle.mm_graph.specs.Found.{seed_at, word_seeds, slot_seeds, seeds_of}
 use Rattle.mm_graph.proofs.KeyLists.{contains_here, contains_rest, contains_cases}
 use Rattle.mm_graph.proofs.Cells.{in_flat_map, from_flat_map}
 
-at_seed : (g : ℕ) (o : Option Key) (key : Key) → o ≡ Some key → Contains (seed_at g o) (record { group = g; key = key })
+at_seed : (g : ℕ) (o : Option CanonicalPtr) (key : CanonicalPtr) → o ≡ Some key → Contains (seed_at g o) (record { group = g; key = key })
 at_seed g o key e = subst (λ v. Contains (seed_at g v) (record { group = g; key = key })) (sym e) (contains_here _ [])
 
-in_words : (g : ℕ) (ws : List Word) (w : Word) (key : Key) → Contains ws w → word_key w ≡ Some key → Contains (word_seeds g ws) (record { group = g; key = key })
+in_words : (g : ℕ) (ws : List Word) (w : Word) (key : CanonicalPtr) → Contains ws w → word_key w ≡ Some key → Contains (word_seeds g ws) (record { group = g; key = key })
 in_words g [] w key m e = absurd (let lt = m.1 in omega arith)
 in_words g (x ∷ xs) w key m e = elim (contains_cases x w xs m) [
   | inl same ↦ Contains-append_left (seed_at g (word_key x)) (word_seeds g xs) _ (at_seed g (word_key x) key (ap word_key same ∙ e))
@@ -30,7 +30,7 @@ pub record WordOf (g : ℕ) (ws : List Word) (s : Seed) : Type 0 where
   pub holds : word_key word ≡ Some s.key
   pub group : s.group ≡ g
 
-from_seed : (g : ℕ) (o : Option Key) (s : Seed) → Contains (seed_at g o) s → (o ≡ Some s.key) × (s.group ≡ g)
+from_seed : (g : ℕ) (o : Option CanonicalPtr) (s : Seed) → Contains (seed_at g o) s → (o ≡ Some s.key) × (s.group ≡ g)
 from_seed g None s m = absurd (let lt = m.1 in omega arith)
 from_seed g (Some key) s m = elim (contains_cases (record { group = g; key = key }) s [] m) [
   | inl e ↦ (ap (λ (v : Seed). Some v.key) e, ap (λ (v : Seed). v.group) (sym e))
@@ -44,10 +44,10 @@ from_words g (x ∷ xs) s m = elim (Contains-append_cases (seed_at g (word_key x
   | inr later ↦ let r = from_words g xs s later in record { word = r.word; is_in = contains_rest x r.word xs r.is_in; holds = r.holds; group = r.group }
 ]
 
-pub held_seed : (slots : List Slot) (s : Slot) (q : Pointer) (key : Key) → Contains slots s → Contains s.regs (Ptr q) → standing_key q ≡ Some key → Contains (seeds_of slots) (record { group = s.group; key = key })
+pub held_seed : (slots : List Slot) (s : Slot) (q : Pointer) (key : CanonicalPtr) → Contains slots s → Contains s.regs (Ptr q) → standing_key q ≡ Some key → Contains (seeds_of slots) (record { group = s.group; key = key })
 held_seed slots s q key m r e = in_flat_map slot_seeds slots s _ m (in_words s.group (Ptr s.ip ∷ s.regs) (Ptr q) key (contains_rest (Ptr s.ip) (Ptr q) s.regs r) e)
 
-pub run_seed : (slots : List Slot) (s : Slot) (key : Key) → Contains slots s → standing_key s.ip ≡ Some key → Contains (seeds_of slots) (record { group = s.group; key = key })
+pub run_seed : (slots : List Slot) (s : Slot) (key : CanonicalPtr) → Contains slots s → standing_key s.ip ≡ Some key → Contains (seeds_of slots) (record { group = s.group; key = key })
 run_seed slots s key m e = in_flat_map slot_seeds slots s _ m (in_words s.group (Ptr s.ip ∷ s.regs) (Ptr s.ip) key (contains_here (Ptr s.ip) s.regs) e)
 
 -- the slot and the pointer of a seed

@@ -7,20 +7,20 @@ use Rattle.mm_word.specs.declared.perm.Perm.TheVariants.{Ro, Rw, Xu, Xp, Eu, Ep,
 use Rattle.mm_word.specs.Perm.{can_move, execute_form}
 use Rattle.mm_word.specs.Pointer.{Pointer, IsWellFormed, IsBelow, base_of, enter_result}
 use Rattle.mm_word.proofs.Packing.{pointer_of-bits_of}
-use Rattle.mm_summary.specs.Summary.{IsIdle}
-use Rattle.mm_graph.specs.declared.key.Key.{Key}
-use Rattle.mm_graph.specs.Key.{key_of, pointer_at, is_idle_at, is_idle, standing_for, standing_key, entry_key}
+use Rattle.mm_graph.specs.Summary.{IsPowerless}
+use Rattle.mm_graph.specs.declared.canonical_ptr.CanonicalPtr.{CanonicalPtr}
+use Rattle.mm_graph.specs.Key.{key_of, pointer_at, is_powerless_at, is_powerless, standing_for, standing_key, entry_key}
 
--- the test of idle pointers
+-- the test of powerless pointers
 
-pub idle_then : (p : Perm) (log : ℕ) → is_idle_at p log ≡ true → (p ≡ KeyPerm) ⊎ ((log < 3) × (p ≢ Xp) × (p ≢ Ep))
-idle_then KeyPerm log h = inl refl
-idle_then Xp log h = cc
-idle_then Ep log h = cc
-idle_then Ro log h = inr (grind (arith, nat_tests), λ e. cc, λ e. cc)
-idle_then Rw log h = inr (grind (arith, nat_tests), λ e. cc, λ e. cc)
-idle_then Xu log h = inr (grind (arith, nat_tests), λ e. cc, λ e. cc)
-idle_then Eu log h = inr (grind (arith, nat_tests), λ e. cc, λ e. cc)
+pub powerless_then : (p : Perm) (log : ℕ) → is_powerless_at p log ≡ true → (p ≡ KeyPerm) ⊎ ((log < 3) × (p ≢ Xp) × (p ≢ Ep))
+powerless_then KeyPerm log h = inl refl
+powerless_then Xp log h = cc
+powerless_then Ep log h = cc
+powerless_then Ro log h = inr (grind (arith, nat_tests), λ e. cc, λ e. cc)
+powerless_then Rw log h = inr (grind (arith, nat_tests), λ e. cc, λ e. cc)
+powerless_then Xu log h = inr (grind (arith, nat_tests), λ e. cc, λ e. cc)
+powerless_then Eu log h = inr (grind (arith, nat_tests), λ e. cc, λ e. cc)
 
 -- the base of the segment
 
@@ -53,34 +53,34 @@ pub pointer_at-key_of : (p : Pointer) → IsWellFormed p → pointer_at (key_of 
 pointer_at-key_of p w = pointer_of-bits_of p w
 
 -- what a key stands for
-pub record Stands (p : Pointer) (k : Key) : Type 0 where
-  pub idle : is_idle p ≡ false
+pub record Stands (p : Pointer) (k : CanonicalPtr) : Type 0 where
+  pub powerless : is_powerless p ≡ false
   pub is : k ≡ key_of (standing_for p)
 
-same_some : {x y : Key} → ◌≡◌ {A = Option Key} (Some x) (Some y) → x ≡ y
+same_some : {x y : CanonicalPtr} → ◌≡◌ {A = Option CanonicalPtr} (Some x) (Some y) → x ≡ y
 same_some h = cc
 
-pub stands_from : (p : Pointer) (k : Key) → standing_key p ≡ Some k → Stands p k
-stands_from p k = at (is_idle p) refl
+pub stands_from : (p : Pointer) (k : CanonicalPtr) → standing_key p ≡ Some k → Stands p k
+stands_from p k = at (is_powerless p) refl
   where
-    at : (b : Bool) → is_idle p ≡ b → (if b then None else Some (key_of (standing_for p))) ≡ Some k → Stands p k
+    at : (b : Bool) → is_powerless p ≡ b → (if b then None else Some (key_of (standing_for p))) ≡ Some k → Stands p k
     at true e h = cc
-    at false e h = record { idle = e; is = sym (same_some h) }
+    at false e h = record { powerless = e; is = sym (same_some h) }
 
-pub standing_none : (p : Pointer) → standing_key p ≡ None → IsIdle p
-standing_none p = at (is_idle p) refl
+pub standing_none : (p : Pointer) → standing_key p ≡ None → IsPowerless p
+standing_none p = at (is_powerless p) refl
   where
-    at : (b : Bool) → is_idle p ≡ b → (if b then None else Some (key_of (standing_for p))) ≡ None → IsIdle p
-    at true e h = idle_then p.perm p.log e
+    at : (b : Bool) → is_powerless p ≡ b → (if b then None else Some (key_of (standing_for p))) ≡ None → IsPowerless p
+    at true e h = powerless_then p.perm p.log e
     at false e h = cc
 
-pub stands-pointer : (p : Pointer) (k : Key) → IsWellFormed p → Stands p k → pointer_at k ≡ standing_for p
+pub stands-pointer : (p : Pointer) (k : CanonicalPtr) → IsWellFormed p → Stands p k → pointer_at k ≡ standing_for p
 stands-pointer p k w s = ap pointer_at s.is ∙ pointer_at-key_of (standing_for p) (standing-well_formed p w)
 
-pub stands_above : (p : Pointer) (k : Key) → IsWellFormed p → Stands p k → IsBelow p (pointer_at k)
+pub stands_above : (p : Pointer) (k : CanonicalPtr) → IsWellFormed p → Stands p k → IsBelow p (pointer_at k)
 stands_above p k w s = subst (IsBelow p) (sym (stands-pointer p k w s)) (below_standing p)
 
-pub stands_below : (p : Pointer) (k : Key) → IsWellFormed p → Stands p k → IsBelow (pointer_at k) p
+pub stands_below : (p : Pointer) (k : CanonicalPtr) → IsWellFormed p → Stands p k → IsBelow (pointer_at k) p
 stands_below p k w s = subst (λ v. IsBelow v p) (sym (stands-pointer p k w s)) (standing_below p)
 
 -- a pointer that stands stands for itself, and an entry by what an entry gives gives it again
@@ -95,11 +95,11 @@ standing_again : (p : Pointer) → standing_for (standing_for p) ≡ standing_fo
 standing_again p = move_cases (can_move p.perm) p (λ q. standing_for q ≡ q)
     (λ e. ap (λ b. if b then at_base (at_base p) else at_base p) e ∙ ap (λ a. record p { addr = a * 2 ^ p.log }) (base-block p.log p.addr)) (λ e. ap (λ b. if b then at_base p else p) e)
 
-pub stands_again : (p : Pointer) (k : Key) → IsWellFormed p → Stands p k → standing_key (pointer_at k) ≡ Some k
+pub stands_again : (p : Pointer) (k : CanonicalPtr) → IsWellFormed p → Stands p k → standing_key (pointer_at k) ≡ Some k
 stands_again p k w s =
     let is = stands-pointer p k w s in
-    let idle : is_idle (standing_for p) ≡ false = ap (λ v. is_idle_at v (standing_for p).log) (same_perm p) ∙ ap (is_idle_at p.perm) (same_log p) ∙ s.idle in
-    ap standing_key is ∙ ap (λ b. if b then None else Some (key_of (standing_for (standing_for p)))) idle ∙ ap (λ q. Some (key_of q)) (standing_again p) ∙ ap Some (sym s.is)
+    let powerless : is_powerless (standing_for p) ≡ false = ap (λ v. is_powerless_at v (standing_for p).log) (same_perm p) ∙ ap (is_powerless_at p.perm) (same_log p) ∙ s.powerless in
+    ap standing_key is ∙ ap (λ b. if b then None else Some (key_of (standing_for (standing_for p)))) powerless ∙ ap (λ q. Some (key_of q)) (standing_again p) ∙ ap Some (sym s.is)
 
 form_again : (p q : Perm) → execute_form p ≡ Some q → execute_form q ≡ Some q
 form_again Xu q h = let e : Xu ≡ q = cc in subst (λ v. execute_form v ≡ Some v) e refl
@@ -124,12 +124,12 @@ enters_from p q = at (execute_form p.perm) refl
     at (Some x) e h = record { perm = x; form = e; is = cc }
 
 -- the entry of a key, taken apart
-pub record EntryFrom (p : Pointer) (x : Key) : Type 0 where
+pub record EntryFrom (p : Pointer) (x : CanonicalPtr) : Type 0 where
   pub to : Pointer
   pub enters : enter_result p ≡ Some to
   pub stands : standing_key to ≡ Some x
 
-pub entry_from : (p : Pointer) (x : Key) → option_and_then standing_key (enter_result p) ≡ Some x → EntryFrom p x
+pub entry_from : (p : Pointer) (x : CanonicalPtr) → option_and_then standing_key (enter_result p) ≡ Some x → EntryFrom p x
 entry_from p x = at (enter_result p) refl
   where
     at : (o : Option Pointer) → enter_result p ≡ o → option_and_then standing_key o ≡ Some x → EntryFrom p x
@@ -139,7 +139,7 @@ entry_from p x = at (enter_result p) refl
 pub enters-well_formed : (p q : Pointer) → IsWellFormed p → enter_result p ≡ Some q → IsWellFormed q
 enters-well_formed p q w h = let e = enters_from p q h in subst IsWellFormed (sym e.is) (record { log_in_range = w.log_in_range; addr_in_range = w.addr_in_range })
 
-pub entry_again : (k x : Key) → IsWellFormed (pointer_at k) → entry_key k ≡ Some x → entry_key x ≡ Some x
+pub entry_again : (k x : CanonicalPtr) → IsWellFormed (pointer_at k) → entry_key k ≡ Some x → entry_key x ≡ Some x
 entry_again k x w h =
     let f = entry_from (pointer_at k) x h in
     let wq = enters-well_formed (pointer_at k) f.to w f.enters in

@@ -5,16 +5,16 @@ use Rattle.mm_word.specs.declared.word.Word.{Word}
 use Rattle.mm_word.specs.declared.word.Word.TheVariants.{Ptr}
 use Rattle.mm_word.specs.declared.word.Cell.{Cell}
 use Rattle.mm_model.specs.Slot.{Slot}
-use Rattle.mm_graph.specs.declared.key.Key.{Key}
+use Rattle.mm_graph.specs.declared.canonical_ptr.CanonicalPtr.{CanonicalPtr}
 use Rattle.mm_graph.specs.declared.found.Found.{Found}
 use Rattle.mm_graph.specs.declared.seed.Seed.{Seed}
 use Rattle.mm_graph.specs.Key.{word_key}
 
-abbrev pub found_at : ℕ → Option Key → List Found
+abbrev pub found_at : ℕ → Option CanonicalPtr → List Found
 found_at w None = []
 found_at w (Some k) = record { word = w; key = k } ∷ []
 
--- in cells, from a word on
+-- the pointers in cells, from an address on
 abbrev pub cell_keys : ℕ → List Cell → List Found
 cell_keys w [] = []
 cell_keys w (c ∷ cells) = found_at w (word_key c.word) ++ cell_keys (w + 8) cells
@@ -22,11 +22,11 @@ cell_keys w (c ∷ cells) = found_at w (word_key c.word) ++ cell_keys (w + 8) ce
 abbrev pub page_keys : List (ℕ × List Cell) → List Found
 page_keys pages = flat_map (λ page. cell_keys (page.0 * 4096) page.1) pages
 
-abbrev pub seed_at : ℕ → Option Key → List Seed
+abbrev pub seed_at : ℕ → Option CanonicalPtr → List Seed
 seed_at g None = []
 seed_at g (Some k) = record { group = g; key = k } ∷ []
 
--- of words that a group has
+-- the seeds of words that a group has
 abbrev pub word_seeds : ℕ → List Word → List Seed
 word_seeds g [] = []
 word_seeds g (w ∷ ws) = seed_at g (word_key w) ++ word_seeds g ws

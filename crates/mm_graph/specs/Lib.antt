@@ -1,3 +1,6 @@
+pub mod Summary
+pub mod GraphOf
+pub mod Laws
 pub mod Key
 pub mod Found
 pub mod Placed

@@ -1,4 +1,4 @@
--- One link, and those of one slot.
+-- The links of one slot.
 use Rattle.std.specs.Prelude.{◌≡◌, ℕ, ◌<◌, ◌⊎◌, List, length, slice_index_or, Some}
 use Rattle.mm_flow.specs.Flow.{Has}
 use Rattle.mm_model.specs.Slot.{Slot}
@@ -21,7 +21,7 @@ pub record LinksTo (served server : Slot) (old new : List ℕ) : Type 0 where
   pub keeps : (h g : ℕ) → Has old h g → Has new h g
   pub each : (h g : ℕ) → h < 64 → g < 64 → Handles served server h g → Has new h g
 
--- one of the first slots has the number of the slot's handler, and their groups are these
+-- one of the first `count` slots is the handler of the slot, and their groups are these
 pub record ServedBy (slots : List Slot) (served : Slot) (count h g : ℕ) : Type 0 where
   pub at : ℕ
   pub small : at < count

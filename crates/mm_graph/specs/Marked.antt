@@ -1,4 +1,4 @@
--- The marks of an image's net.
+-- The marks of an image's graph.
 use Rattle.std.specs.Prelude.{◌≡◌, ℕ, ◌^◌, ◌<◌, ◌↔◌, List, length, slice_index, All}
 use Rattle.std.specs.Int.{bit_at}
 use Rattle.mm_word.specs.Pointer.{Pointer}
@@ -7,19 +7,19 @@ use Rattle.mm_model.specs.Groups.{in_mask}
 use Rattle.mm_model.specs.Reach.{Entries}
 use Rattle.mm_flow.specs.declared.node.Node.{Node}
 use Rattle.mm_flow.specs.declared.node.Right.TheVariants.{Load, Store, Make}
-use Rattle.mm_flow.specs.Net.{right_at}
+use Rattle.mm_flow.specs.Edges.{right_at}
 use Rattle.mm_flow.specs.Reached.{HasSome}
-use Rattle.mm_summary.specs.Summary.{IsExact}
-use Rattle.mm_summary.specs.NetOf.{Marked}
-use Rattle.mm_graph.specs.declared.key.Key.{Key}
+use Rattle.mm_graph.specs.Summary.{IsExact}
+use Rattle.mm_graph.specs.GraphOf.{Marked}
+use Rattle.mm_graph.specs.declared.canonical_ptr.CanonicalPtr.{CanonicalPtr}
 use Rattle.mm_graph.specs.Key.{IsKey, IsRising, key_at, pointer_at, loads_words, stores_words}
 
 -- the pointer of a node
-abbrev pub node_pointer : List Key → ℕ → Pointer
+abbrev pub node_pointer : List CanonicalPtr → ℕ → Pointer
 node_pointer keys k = pointer_at (key_at keys k)
 
 -- each group's marks are an exact summary of what it is granted
-pub record IsMarked (i : Image) (e : Entries) (keys : List Key) (nodes : List Node) (marks : List ℕ) : Type 0 where
+pub record IsMarked (i : Image) (e : Entries) (keys : List CanonicalPtr) (nodes : List Node) (marks : List ℕ) : Type 0 where
   pub rising : IsRising keys
   pub all : All IsKey keys
   pub nodes_len : length nodes ≡ length keys

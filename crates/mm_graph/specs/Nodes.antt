@@ -1,22 +1,22 @@
--- What the parts of a net are, for keys and what was found.
+-- The parts of a graph, for keys and pointers in cells.
 use Rattle.std.specs.Prelude.{◌≡◌, ℕ, ◌+◌, ◌^◌, ◌<◌, ◌≤◌, true, false, ◌⊎◌, List, length, slice_index, slice_index_or, Contains, All, Some, None}
 use Rattle.mm_word.specs.Pointer.{Pointer, base_of}
 use Rattle.mm_model.specs.Slot.{Slot}
 use Rattle.mm_flow.specs.declared.node.Node.{Node}
-use Rattle.mm_flow.specs.Net.{node_at}
+use Rattle.mm_flow.specs.Edges.{node_at}
 use Rattle.mm_flow.specs.Flow.{Has}
-use Rattle.mm_graph.specs.declared.key.Key.{Key}
+use Rattle.mm_graph.specs.declared.canonical_ptr.CanonicalPtr.{CanonicalPtr}
 use Rattle.mm_graph.specs.declared.found.Found.{Found}
 use Rattle.mm_graph.specs.declared.seed.Seed.{Seed}
 use Rattle.mm_graph.specs.Key.{IsKey, IsRising, key_at, no_key, pointer_at, entry_key, loads_words, stores_words, makes_pointers, is_entry}
 
--- the keys of what was found and of seeds, with those of entries
-pub record IsKeysOf (found : List Found) (seeds : List Seed) (keys : List Key) : Type 0 where
+-- the keys of pointers in cells and of seeds, with those of entries
+pub record IsKeysOf (found : List Found) (seeds : List Seed) (keys : List CanonicalPtr) : Type 0 where
   pub rising : IsRising keys
   pub all : All IsKey keys
   pub of_found : (f : Found) → Contains found f → Contains keys f.key
   pub of_seeds : (s : Seed) → Contains seeds s → Contains keys s.key
-  pub of_entries : (k x : Key) → Contains keys k → entry_key k ≡ Some x → Contains keys x
+  pub of_entries : (k x : CanonicalPtr) → Contains keys k → entry_key k ≡ Some x → Contains keys x
 
 abbrev pub nothing : Found
 nothing = record { word = 0; key = no_key }
@@ -24,24 +24,24 @@ nothing = record { word = 0; key = no_key }
 abbrev pub found_word : List Found → ℕ → ℕ
 found_word found j = (slice_index_or found j nothing).word
 
--- by ascending words
+-- the pointers in cells ascend by address
 pub record IsAscending (found : List Found) : Type 0 where
   pub rise : (i j : ℕ) → i < j → j < length found → found_word found i < found_word found j
 
--- how many are at words before an address
+-- the count of pointers at addresses below `a`
 pub record IsBefore (found : List Found) (a r : ℕ) : Type 0 where
   pub fits : r ≤ length found
   pub before : (j : ℕ) → j < r → found_word found j < a
   pub after : (j : ℕ) → r ≤ j → j < length found → a ≤ found_word found j
 
--- and bounds of this number
+-- bounds of the count of pointers at addresses below `a`
 pub record IsBounds (found : List Found) (a low high : ℕ) : Type 0 where
   pub order : low ≤ high
   pub fits : high ≤ length found
   pub before : (j : ℕ) → j < low → found_word found j < a
   pub after : (j : ℕ) → high ≤ j → j < length found → a ≤ found_word found j
 
--- the places from one up to another are those of the words that a pointer loads
+-- the indices from `low` up to `high` are those of the pointers in cells that a pointer loads
 pub record IsRange (found : List Found) (p : Pointer) (low high : ℕ) : Type 0 where
   pub order : low ≤ high
   pub fits : high ≤ length found
@@ -49,33 +49,33 @@ pub record IsRange (found : List Found) (p : Pointer) (low high : ℕ) : Type 0 
   pub inside : loads_words p ≡ true → (j : ℕ) → low ≤ j → j < high → (base_of p ≤ found_word found j) × (found_word found j < base_of p + 2 ^ p.log)
   pub each : loads_words p ≡ true → (j : ℕ) → j < length found → base_of p ≤ found_word found j → found_word found j < base_of p + 2 ^ p.log → (low ≤ j) × (j < high)
 
--- a mark for each seed
-pub record IsMarks (keys : List Key) (seeds : List Seed) (marks : List ℕ) : Type 0 where
+-- the marks are those of the seeds
+pub record IsMarks (keys : List CanonicalPtr) (seeds : List Seed) (marks : List ℕ) : Type 0 where
   pub len : length marks ≡ length keys
   pub only : (k g : ℕ) → Has marks k g → (g < 64) × Contains seeds (record { group = g; key = key_at keys k })
   pub each : (k g : ℕ) → k < length keys → g < 64 → Contains seeds (record { group = g; key = key_at keys k }) → Has marks k g
 
--- the node of the key at a place, where the groups of a mask may enter
-pub record IsNode (keys : List Key) (found : List Found) (mask k : ℕ) (n : Node) : Type 0 where
+-- the node of the key at an index, by which the groups of a mask may enter
+pub record IsNode (keys : List CanonicalPtr) (found : List Found) (mask k : ℕ) (n : Node) : Type 0 where
   pub range : IsRange found (pointer_at (key_at keys k)) n.low n.high
   pub small : n.entry < length keys
   pub loads : n.loads ≡ loads_words (pointer_at (key_at keys k))
   pub stores : n.stores ≡ stores_words (pointer_at (key_at keys k))
   pub makes : n.makes ≡ makes_pointers (pointer_at (key_at keys k)).perm
-  pub enters : (x : Key) → is_entry (pointer_at (key_at keys k)).perm ≡ true → entry_key (key_at keys k) ≡ Some x → (n.enters ≡ mask) × (key_at keys n.entry ≡ x)
+  pub enters : (x : CanonicalPtr) → is_entry (pointer_at (key_at keys k)).perm ≡ true → entry_key (key_at keys k) ≡ Some x → (n.enters ≡ mask) × (key_at keys n.entry ≡ x)
   pub no_entry : (is_entry (pointer_at (key_at keys k)).perm ≡ false) ⊎ (entry_key (key_at keys k) ≡ None) → n.enters ≡ 0
 
-pub record IsNodes (keys : List Key) (found : List Found) (masks : List ℕ) (nodes : List Node) : Type 0 where
+pub record IsNodes (keys : List CanonicalPtr) (found : List Found) (masks : List ℕ) (nodes : List Node) : Type 0 where
   pub len : length nodes ≡ length keys
   pub each : (k : ℕ) → k < length keys → IsNode keys found (slice_index masks k) k (node_at nodes k)
 
--- each target is the place of a found key
-pub record IsTargets (keys : List Key) (found : List Found) (targets : List ℕ) : Type 0 where
+-- each target is the index of the key of a pointer in a cell
+pub record IsTargets (keys : List CanonicalPtr) (found : List Found) (targets : List ℕ) : Type 0 where
   pub len : length targets ≡ length found
   pub small : (j : ℕ) → j < length found → slice_index targets j < length keys
   pub at : (j : ℕ) → j < length found → key_at keys (slice_index targets j) ≡ (slice_index_or found j nothing).key
 
--- a slot and its handler are of these groups, the one way or the other
+-- of a slot and its handler, the one is of one of these groups and the other of the other
 pub record AreLinked (slots : List Slot) (g h : ℕ) : Type 0 where
   pub served : Slot
   pub server : Slot

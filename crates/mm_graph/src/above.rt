@@ -1,14 +1,15 @@
-// The segments above others.
+//! The nearest segment above each segment.
+
 ghost use Rattle.std.specs.Prelude.{◌≡◌, ◌+◌, ◌-◌, ◌^◌, All, IfOk};
 ghost use Rattle.mm_graph.specs.Key.{IsKey, IsRising};
 ghost use Rattle.mm_graph.specs.Forest.{IsBases, IsEnds, HasForest};
 
-use crate::key::Key;
+use crate::canonical_ptr::CanonicalPtr;
 use mm_flow::parents;
 use std::alloc::{AllocError, Global};
 
-/// The bases of the keys' segments.
-fn bases_of(alloc: Global, keys: &[Key]) -> Result<Vec<u64>, AllocError>
+/// The base of each key's segment.
+fn bases_of(alloc: Global, keys: &[CanonicalPtr]) -> Result<Vec<u64>, AllocError>
     ensures { IfOk result (λ bases. IsBases keys.now bases.items) }
 {
     let mut bases = Vec::new(alloc);
@@ -18,8 +19,8 @@ fn bases_of(alloc: Global, keys: &[Key]) -> Result<Vec<u64>, AllocError>
     Ok(bases)
 }
 
-/// Where a key's segment ends.
-fn end(key: Key) -> u64
+/// The address after the last one of a key's segment.
+fn end(key: CanonicalPtr) -> u64
     requires { IsKey key }
     ensures { result ≡ key.base + 2 ^ (54 - key.narrow) }
 {
@@ -27,8 +28,8 @@ fn end(key: Key) -> u64
     p.base() + (1u64 << p.log())
 }
 
-/// The ends of the keys' segments.
-fn ends_of(alloc: Global, keys: &[Key]) -> Result<Vec<u64>, AllocError>
+/// The end of each key's segment.
+fn ends_of(alloc: Global, keys: &[CanonicalPtr]) -> Result<Vec<u64>, AllocError>
     requires { All IsKey keys.now }
     ensures { IfOk result (λ ends. IsEnds keys.now ends.items) }
 {
@@ -39,8 +40,8 @@ fn ends_of(alloc: Global, keys: &[Key]) -> Result<Vec<u64>, AllocError>
     Ok(ends)
 }
 
-/// For each key the nearest whose segment holds its own.
-pub fn parents_of(alloc: Global, keys: &[Key]) -> Result<Vec<usize>, AllocError>
+/// For each key the index of the nearest one whose segment holds its own.
+pub fn parents_of(alloc: Global, keys: &[CanonicalPtr]) -> Result<Vec<usize>, AllocError>
     requires rising { IsRising keys.now }
     requires keys { All IsKey keys.now }
     ensures { IfOk result (λ parents. HasForest keys.now parents.items) }

@@ -1,16 +1,17 @@
-// Who may enter where.
+//! The groups that may enter by each pointer.
+
 ghost use Rattle.std.specs.Prelude.{◌≡◌, All as Each, IfOk};
 ghost use Rattle.std.specs.List.{AllZip};
 ghost use Rattle.mm_graph.specs.Key.{IsKey, IsRising};
 ghost use Rattle.mm_graph.specs.Masks.{meaning, IsEntryMasks, IsEntrySeed};
 
-use crate::key::Key;
+use crate::canonical_ptr::CanonicalPtr;
 use crate::mark::marks_of;
 use crate::seed::Seed;
 use mm_word::GuardedPtr;
 use std::alloc::{AllocError, Global};
 
-/// What was entered: anything, or these enter pointers, each by this group.
+/// The entries that may be made: any, or only these, each an enter pointer with the group that enters by it.
 #[derive(Drop)]
 pub enum Entries {
     All,
@@ -23,7 +24,7 @@ fn seeds_of(alloc: Global, list: &[(u8, GuardedPtr)]) -> Result<Vec<Seed>, Alloc
 {
     let mut seeds = Vec::new(alloc);
     for entry in list {
-        let key = Key::of(entry.1);
+        let key = CanonicalPtr::of(entry.1);
         seeds.push(Seed {
             group: entry.0,
             key,
@@ -32,8 +33,12 @@ fn seeds_of(alloc: Global, list: &[(u8, GuardedPtr)]) -> Result<Vec<Seed>, Alloc
     Ok(seeds)
 }
 
-/// For each key the groups that may enter by its pointer.
-pub fn entry_masks(alloc: Global, entries: &Entries, keys: &[Key]) -> Result<Vec<u64>, AllocError>
+/// For each key the mask of the groups that may enter by its pointer.
+pub fn entry_masks(
+    alloc: Global,
+    entries: &Entries,
+    keys: &[CanonicalPtr],
+) -> Result<Vec<u64>, AllocError>
     requires rising { IsRising keys.now }
     requires keys { Each IsKey keys.now }
     ensures { IfOk result (λ masks. IsEntryMasks (meaning entries.now) keys.now masks.items) }

@@ -1,9 +1,10 @@
-// The pointers in memory.
+//! The pointers in memory.
+
 ghost use Rattle.std.specs.Prelude.{◌≡◌, ◌++◌, ◌*◌, All, OnOk, IfOk};
 ghost use Rattle.mm_graph.specs.Key.{IsKey, word_key};
 ghost use Rattle.mm_graph.specs.Found.{found_at, cell_keys, page_keys};
 
-use crate::key::{Key, standing_in};
+use crate::canonical_ptr::{CanonicalPtr, standing_in};
 use mm_model::Page;
 use mm_word::Cell;
 use std::alloc::{AllocError, Global};
@@ -11,13 +12,13 @@ use std::alloc::{AllocError, Global};
 /// A pointer that a cell holds.
 #[derive(Clone, Copy, Debug)]
 pub struct Found {
-    /// The cell's word.
+    /// The address of the cell.
     pub word: u64,
-    /// The key of the pointer that stands for it.
-    pub key: Key,
+    /// The key of the pointer that stands for the cell's pointer.
+    pub key: CanonicalPtr,
 }
 
-/// Adds the pointer of a cell.
+/// Adds the pointer of a cell, if it holds one that permits something.
 fn add_cell(found: &mut Vec<Found>, word: u64, cell: Cell) -> Result<(), AllocError>
     requires { All (λ f. IsKey f.key) found.old.items }
     ensures items { OnOk result (found.new.items ≡ found.old.items ++ found_at word (word_key cell.word)) }
@@ -29,7 +30,7 @@ fn add_cell(found: &mut Vec<Found>, word: u64, cell: Cell) -> Result<(), AllocEr
     Ok(())
 }
 
-/// Adds the pointers of a page.
+/// Adds the pointers of a page's cells.
 fn add_page(found: &mut Vec<Found>, page: &Page) -> Result<(), AllocError>
     requires { All (λ f. IsKey f.key) found.old.items }
     ensures items { OnOk result (found.new.items ≡ found.old.items ++ cell_keys (page.now.0 * 4096) page.now.1) }
@@ -44,7 +45,7 @@ fn add_page(found: &mut Vec<Found>, page: &Page) -> Result<(), AllocError>
     Ok(())
 }
 
-/// The pointers of pages, in the order of their words.
+/// The pointers in the cells of pages, in the order of their addresses.
 pub fn found_in(alloc: Global, pages: &[Page]) -> Result<Vec<Found>, AllocError>
     ensures items { IfOk result (λ found. found.items ≡ page_keys pages.now) }
     ensures keys { IfOk result (λ found. All (λ f. IsKey f.key) found.items) }

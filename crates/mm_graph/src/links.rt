@@ -1,4 +1,5 @@
-// Which groups serve which.
+//! Links between groups of which one serves the other.
+
 ghost use Rattle.std.specs.Prelude.{◌≡◌, length};
 ghost use Rattle.mm_graph.specs.Nodes.{IsLinks};
 ghost use Rattle.mm_graph.specs.Linking.{IsLink, LinksTo, LinksOne};
@@ -16,7 +17,7 @@ fn link(links: &mut [u64], g: u8, h: u8)
     }
 }
 
-/// Links the groups of a slot and of another, if that is its handler.
+/// Links the groups of two slots, if the second is the handler of the first.
 fn link_to(links: &mut [u64], served: &Slot, server: &Slot)
     requires { length links.old ≡ 64 }
     ensures { LinksTo served.now server.now links.old links.new }
@@ -26,7 +27,7 @@ fn link_to(links: &mut [u64], served: &Slot, server: &Slot)
     }
 }
 
-/// Links the group of a slot to that of its handler.
+/// Links the group of a slot with that of its handler.
 fn link_slot(links: &mut [u64], slots: &[Slot], served: &Slot)
     requires { length links.old ≡ 64 }
     ensures { LinksOne slots.now served.now (length slots.now) links.old links.new }
@@ -36,7 +37,7 @@ fn link_slot(links: &mut [u64], slots: &[Slot], served: &Slot)
     }
 }
 
-/// The groups to which each group gives all that it has, since one serves the other.
+/// For each group the mask of the groups that serve it or that it serves: they share all that they have.
 pub fn links_of(slots: &[Slot]) -> [u64; 64]
     ensures { IsLinks slots.now result }
 {

@@ -1,18 +1,19 @@
-// The nodes of a net.
+//! The nodes of a graph.
+
 ghost use Rattle.std.specs.Prelude.{◌≡◌, ◌<◌, ◌≤◌, ◌^◌, ◌+◌, ◌⊎◌, ℕ, All, IfOk, IfSome, MatchOption, Contains, None, Some, true, false, length, slice_index};
 ghost use Rattle.mm_word.specs.Pointer.{base_of};
-ghost use Rattle.mm_graph.specs.declared.key.Key.{Key as KeyType};
+ghost use Rattle.mm_graph.specs.declared.canonical_ptr.CanonicalPtr.{CanonicalPtr as KeyType};
 ghost use Rattle.mm_graph.specs.Key.{IsKey, IsRising, key_at, pointer_at, entry_key, loads_words, stores_words, makes_pointers, is_entry};
 ghost use Rattle.mm_graph.specs.Nodes.{found_word, IsAscending, IsBefore, IsBounds, IsRange, IsNode, IsNodes};
 
+use crate::canonical_ptr::CanonicalPtr;
 use crate::found::Found;
-use crate::key::Key;
 use crate::order::near;
 use mm_flow::Node;
 use mm_word::{GuardedPtr, Perm};
 use std::alloc::{AllocError, Global};
 
-/// Whether all that were found before a place are at words before an address.
+/// True only if all pointers before the index `hint` are at addresses below `a`.
 fn is_hint(found: &[Found], hint: usize, a: u64) -> bool
     requires { IsAscending found.now }
     ensures { result ≡ true → (hint ≤ length found.now) × ((j : ℕ) → j < hint → found_word found.now j < a) }
@@ -20,7 +21,7 @@ fn is_hint(found: &[Found], hint: usize, a: u64) -> bool
     hint == 0 || hint <= found.len() && found[hint - 1].word < a
 }
 
-/// Bounds of how many were found before an address, by ever longer steps from a number of these.
+/// Bounds of the count of pointers at addresses below `a`, found by ever longer steps from the index `from`.
 fn bounds(found: &[Found], from: usize, a: u64) -> (usize, usize)
     requires ascending { IsAscending found.now }
     requires fits { from ≤ length found.now }
@@ -40,7 +41,7 @@ fn bounds(found: &[Found], from: usize, a: u64) -> (usize, usize)
     (low, found.len())
 }
 
-/// How many were found before an address, between two bounds.
+/// The count of pointers at addresses below `a`, between two bounds.
 fn between(found: &[Found], low: usize, high: usize, a: u64) -> usize
     requires ascending { IsAscending found.now }
     requires bounds { IsBounds found.now a low high }
@@ -59,7 +60,7 @@ fn between(found: &[Found], low: usize, high: usize, a: u64) -> usize
     lo
 }
 
-/// How many were found before an address. It is found quickly where it is not far above the hint.
+/// The count of pointers at addresses below `a`. It is found quickly if it is not far above the hint.
 fn before(found: &[Found], hint: usize, a: u64) -> usize
     requires { IsAscending found.now }
     ensures { IsBefore found.now a result }
@@ -99,14 +100,14 @@ fn is_entry(p: GuardedPtr) -> bool
     matches!(p.perm(), Perm::Eu | Perm::Ep)
 }
 
-/// Where the segment of a pointer ends.
+/// The address after the last one of a pointer's segment.
 fn end(p: GuardedPtr) -> u64
     ensures { result ≡ base_of p + 2 ^ p.log }
 {
     p.base() + (1u64 << p.log())
 }
 
-/// The places of the words that a pointer loads.
+/// The first index of the pointers in the cells that a pointer loads, and the index after the last.
 fn range(found: &[Found], hint: usize, p: GuardedPtr) -> (usize, usize)
     requires { IsAscending found.now }
     ensures { IsRange found.now p result.0 result.1 }
@@ -120,8 +121,8 @@ fn range(found: &[Found], hint: usize, p: GuardedPtr) -> (usize, usize)
     }
 }
 
-/// The place of what an entry by a pointer gives, which is found quickly where it is the hint or the next one.
-fn entry_of(keys: &[Key], hint: usize, key: Key) -> Option<usize>
+/// The index of the key of what an entry by a pointer gives. It is found quickly if it is the hint or the next one.
+fn entry_of(keys: &[CanonicalPtr], hint: usize, key: CanonicalPtr) -> Option<usize>
     requires rising { IsRising keys.now }
     requires key { IsKey key }
     requires there { (x : KeyType) → entry_key key ≡ Some x → Contains keys.now x }
@@ -137,8 +138,8 @@ fn entry_of(keys: &[Key], hint: usize, key: Key) -> Option<usize>
     }
 }
 
-/// The node of the key at a place.
-fn node_for(keys: &[Key], found: &[Found], hint: usize, mask: u64, k: usize) -> Node
+/// The node of the key at an index.
+fn node_for(keys: &[CanonicalPtr], found: &[Found], hint: usize, mask: u64, k: usize) -> Node
     requires rising { IsRising keys.now }
     requires keys { All IsKey keys.now }
     requires entries { (y x : KeyType) → Contains keys.now y → entry_key y ≡ Some x → Contains keys.now x }
@@ -164,10 +165,10 @@ fn node_for(keys: &[Key], found: &[Found], hint: usize, mask: u64, k: usize) -> 
     }
 }
 
-/// The nodes of the keys, where the groups of each mask may enter by its pointer.
+/// The nodes of the keys. `masks` has for each key the groups that may enter by its pointer.
 pub fn nodes_of(
     alloc: Global,
-    keys: &[Key],
+    keys: &[CanonicalPtr],
     found: &[Found],
     masks: &[u64],
 ) -> Result<Vec<Node>, AllocError>

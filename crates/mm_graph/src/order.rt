@@ -1,12 +1,13 @@
-// Keys in their order, each once.
+//! Keys in their order, each once.
+
 ghost use Rattle.std.specs.Prelude.{◌≡◌, ◌<◌, ◌↔◌, length, Contains, MatchOption};
-ghost use Rattle.mm_graph.specs.declared.key.Key.{Key as KeyType};
+ghost use Rattle.mm_graph.specs.declared.canonical_ptr.CanonicalPtr.{CanonicalPtr as KeyType};
 ghost use Rattle.mm_graph.specs.Key.{IsRising, key_at};
 
-use crate::key::Key;
+use crate::canonical_ptr::CanonicalPtr;
 
 /// Puts the keys into their order, each once.
-pub fn put_in_order(keys: &mut Vec<Key>)
+pub fn put_in_order(keys: &mut Vec<CanonicalPtr>)
     ensures rising { IsRising keys.new.items }
     ensures same { (x : KeyType) → Contains keys.new.items x ↔ Contains keys.old.items x }
 {
@@ -14,8 +15,8 @@ pub fn put_in_order(keys: &mut Vec<Key>)
     keys.dedup();
 }
 
-/// Where the key stands, if it is there.
-pub fn find(keys: &[Key], key: Key) -> Option<usize>
+/// The index of a key, if it is there.
+pub fn find(keys: &[CanonicalPtr], key: CanonicalPtr) -> Option<usize>
     requires { IsRising keys.now }
     ensures { MatchOption result (¬ Contains keys.now key) (λ k. (k < length keys.now) × (key_at keys.now k ≡ key)) }
 {
@@ -25,8 +26,8 @@ pub fn find(keys: &[Key], key: Key) -> Option<usize>
     }
 }
 
-/// Where a key stands that is there.
-pub fn place(keys: &[Key], key: Key) -> usize
+/// The index of a key that is there.
+pub fn place(keys: &[CanonicalPtr], key: CanonicalPtr) -> usize
     requires rising { IsRising keys.now }
     requires there { Contains keys.now key }
     ensures small { result < length keys.now }
@@ -38,8 +39,8 @@ pub fn place(keys: &[Key], key: Key) -> usize
     }
 }
 
-/// The same, where it is likely at this place or the next one.
-pub fn near(keys: &[Key], at: usize, key: Key) -> usize
+/// The index of a key that is there. It is found quickly if it is `at` or the next one.
+pub fn near(keys: &[CanonicalPtr], at: usize, key: CanonicalPtr) -> usize
     requires rising { IsRising keys.now }
     requires there { Contains keys.now key }
     ensures small { result < length keys.now }

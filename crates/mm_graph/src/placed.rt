@@ -1,20 +1,21 @@
-// Keys with their places, in the order of the keys.
+//! Keys with their indices, in the order of the keys.
+
 ghost use Rattle.std.specs.Prelude.{◌≡◌, IfOk, map};
 ghost use Rattle.mm_graph.specs.declared.placed.Placed.{Placed as PlacedType};
 ghost use Rattle.mm_graph.specs.Placed.{IsPlacing, IsPlaced};
 
-use crate::key::Key;
+use crate::canonical_ptr::CanonicalPtr;
 use std::alloc::{AllocError, Global};
 
-/// A key and its place in a list.
+/// A key and its index in a list.
 #[derive(Clone, Copy, PartialEq, Eq, PartialOrd, Ord, Debug)]
 pub struct Placed {
-    pub key: Key,
+    pub key: CanonicalPtr,
     pub place: usize,
 }
 
-/// Each key of a list with its place.
-fn places_of(alloc: Global, keys: &[Key]) -> Result<Vec<Placed>, AllocError>
+/// Each key of a list with its index.
+fn places_of(alloc: Global, keys: &[CanonicalPtr]) -> Result<Vec<Placed>, AllocError>
     ensures { IfOk result (λ placed. IsPlacing keys.now placed.items) }
 {
     let mut placed = Vec::new(alloc);
@@ -27,8 +28,8 @@ fn places_of(alloc: Global, keys: &[Key]) -> Result<Vec<Placed>, AllocError>
     Ok(placed)
 }
 
-/// Each key of a list with its place, by ascending keys. What comes of them is the same in any order; this one is fast.
-pub fn in_order(alloc: Global, keys: &[Key]) -> Result<Vec<Placed>, AllocError>
+/// Each key of a list with its index, by ascending keys. The contract allows any order; this one is fast.
+pub fn in_order(alloc: Global, keys: &[CanonicalPtr]) -> Result<Vec<Placed>, AllocError>
     ensures { IfOk result (λ placed. IsPlaced keys.now placed.items) }
 {
     let mut placed = places_of(alloc, keys)?;
@@ -36,8 +37,8 @@ pub fn in_order(alloc: Global, keys: &[Key]) -> Result<Vec<Placed>, AllocError>
     Ok(placed)
 }
 
-/// The keys alone.
-pub fn keys_in(alloc: Global, placed: &[Placed]) -> Result<Vec<Key>, AllocError>
+/// The keys without their indices.
+pub fn keys_in(alloc: Global, placed: &[Placed]) -> Result<Vec<CanonicalPtr>, AllocError>
     ensures { IfOk result (λ keys. keys.items ≡ map (λ (p : PlacedType). p.key) placed.now) }
 {
     let mut keys = Vec::new(alloc);

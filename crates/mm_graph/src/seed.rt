@@ -1,24 +1,25 @@
-// The pointers in slots.
+//! The pointers in slots.
+
 ghost use Rattle.std.specs.Prelude.{◌≡◌, ◌++◌, ◌∷◌, All, OnOk, IfOk};
 ghost use Rattle.mm_word.specs.declared.word.Word.TheVariants.{Ptr};
 ghost use Rattle.mm_graph.specs.Key.{IsKey};
 ghost use Rattle.mm_graph.specs.Found.{seeds_of, slot_seeds, word_seeds, seed_at};
 ghost use Rattle.mm_graph.specs.Key.{word_key};
 
-use crate::key::{Key, standing_in};
+use crate::canonical_ptr::{CanonicalPtr, standing_in};
 use mm_model::Slot;
 use mm_word::Word;
 use std::alloc::{AllocError, Global};
 
-/// A pointer that a group has.
+/// A pointer that a group has, where a mark starts.
 #[derive(Clone, Copy, Debug)]
 pub struct Seed {
     pub group: u8,
     /// The key of the pointer that stands for it.
-    pub key: Key,
+    pub key: CanonicalPtr,
 }
 
-/// Adds the pointer of a word.
+/// Adds the pointer of a word, if it is one that permits something.
 fn add_word(seeds: &mut Vec<Seed>, group: u8, word: Word) -> Result<(), AllocError>
     requires { All (λ s. IsKey s.key) seeds.old.items }
     ensures items { OnOk result (seeds.new.items ≡ seeds.old.items ++ seed_at group (word_key word)) }
@@ -43,7 +44,7 @@ fn add_words(seeds: &mut Vec<Seed>, group: u8, words: &[Word]) -> Result<(), All
     Ok(())
 }
 
-/// Adds the pointers of a slot.
+/// Adds the pointers of a slot: its instruction pointer, and those in its registers.
 fn add_slot(seeds: &mut Vec<Seed>, slot: &Slot) -> Result<(), AllocError>
     requires { All (λ s. IsKey s.key) seeds.old.items }
     ensures items { OnOk result (seeds.new.items ≡ seeds.old.items ++ slot_seeds slot.now) }

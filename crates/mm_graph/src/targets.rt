@@ -1,16 +1,17 @@
-// The nodes of what was found.
+//! The nodes of the pointers in cells.
+
 ghost use Rattle.std.specs.Prelude.{◌≡◌, IfOk, Contains, length};
 ghost use Rattle.mm_graph.specs.declared.placed.Placed.{Placed as PlacedType};
 ghost use Rattle.mm_graph.specs.Key.{IsRising};
 ghost use Rattle.mm_graph.specs.Placed.{HasTargets};
 
-use crate::key::Key;
+use crate::canonical_ptr::CanonicalPtr;
 use crate::order::near;
 use crate::placed::Placed;
 use std::alloc::{AllocError, Global};
 
-/// Sets for each of the first keys where it stands among others.
-fn fill_targets(targets: &mut [usize], keys: &[Key], placed: &[Placed])
+/// Sets for each of the first keys of a list its index among `keys`.
+fn fill_targets(targets: &mut [usize], keys: &[CanonicalPtr], placed: &[Placed])
     requires rising { IsRising keys.now }
     requires there { (p : PlacedType) → Contains placed.now p → Contains keys.now p.key }
     ensures each { HasTargets keys.now placed.now targets.new }
@@ -26,10 +27,10 @@ fn fill_targets(targets: &mut [usize], keys: &[Key], placed: &[Placed])
     }
 }
 
-/// Where the first keys stand among others.
+/// The indices among `keys` of the first `count` keys of a list.
 pub fn targets_of(
     alloc: Global,
-    keys: &[Key],
+    keys: &[CanonicalPtr],
     placed: &[Placed],
     count: usize,
 ) -> Result<Vec<usize>, AllocError>

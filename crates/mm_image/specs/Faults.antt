@@ -25,17 +25,17 @@ abbrev pub Fails : Option (ℕ × ℕ) → ImageError → Type 0
 Fails fault (errors.Fault kind offset) = fault ≡ Some (number_of kind, offset)
 Fails fault errors.NoMemory = Unit {0}
 
--- a function found no fault and this value, or it found this fault, unless memory ran out
+-- a function found no fault and gives this value, or it gives this fault, unless memory ran out
 abbrev pub Gives : {X Y : Type 0} → (X → Y) → Option (ℕ × ℕ) → Y → Result X ImageError → Type 0
 Gives view fault value (Ok x) = (fault ≡ None) × (view x ≡ value)
 Gives view fault value (Err e) = Fails fault e
 
--- the answer is an image, unless memory ran out
+-- the answer is this value, unless memory ran out
 abbrev pub IsUnlessNoMemory : {X : Type 0} → X → Result X ImageError → Type 0
 IsUnlessNoMemory value (Ok x) = x ≡ value
 IsUnlessNoMemory value (Err e) = e ≡ errors.NoMemory
 
--- the answer is a fault of this number at this place, unless memory ran out
+-- the answer is a fault of this number at this offset, unless memory ran out
 abbrev pub FailsUnlessNoMemory : {X : Type 0} → ℕ × ℕ → Result X ImageError → Type 0
 FailsUnlessNoMemory fault (Ok x) = ⊥
 FailsUnlessNoMemory fault (Err e) = Fails (Some fault) e

@@ -1,4 +1,4 @@
--- An image, as its parts make it.
+-- An image from its parts.
 use Rattle.std.specs.Prelude.{ℕ, ◌≤◌, Bool, List, length}
 use Rattle.std.specs.List.{AllByRecursion}
 use Rattle.std.specs.List.Sorted.{IsStrictlyIncreasing}
@@ -13,14 +13,14 @@ abbrev pub image_from : ℕ → Bool → List Slot → List (ℕ × List Cell) �
 image_from version split slots pages frames =
     record { version = version; split = split; slots = slots; memory = record { pages = pages; frames = frames } }
 
--- the slots of an image of this version
+-- the slots fit an image of this version
 pub record SlotsFit (version : ℕ) (slots : List Slot) : Type 0 where
   pub some : 1 ≤ length slots
   pub few : length slots ≤ slot_limit version
   pub rising : IsStrictlyIncreasing (numbers_of slots)
   pub fresh : AllByRecursion (IsFresh (slot_limit version) slots) slots
 
--- the pages and frames of an image of this version
+-- the pages and frames fit an image of this version
 pub record MemoryFits (version : ℕ) (pages : List (ℕ × List Cell)) (frames : ℕ) : Type 0 where
   pub some : 1 ≤ frames
   pub few : frames ≤ frame_limit version

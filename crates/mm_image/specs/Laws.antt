@@ -1,15 +1,17 @@
 -- Laws of image files.
-use Rattle.std.specs.Prelude.{◌≡◌, ◌↔◌, ℕ, List, None}
+use Rattle.std.specs.Prelude.{◌≡◌, ℕ, List, None}
 use Rattle.mm_model.specs.Image.{Image}
 use Rattle.mm_model.specs.ImageFaults.{image_fault}
 use Rattle.mm_model.specs.Spelling.{IsImage, spelling, Spells}
 use Rattle.mm_model.specs.Places.{IsBytes}
 
--- bytes either spell an image or have a first fault
+-- bytes that spell an image have no fault, and bytes without a fault spell one
 abbrev pub ImagesHaveNoFault : Type 0
-ImagesHaveNoFault = (bytes : List ℕ) → IsBytes bytes → (image_fault bytes ≡ None) ↔ ((i : Image) × Spells bytes i)
+ImagesHaveNoFault =
+    (bytes : List ℕ) → ((i : Image) → Spells bytes i → image_fault bytes ≡ None)
+    × (IsBytes bytes → image_fault bytes ≡ None → (i : Image) × Spells bytes i)
 
--- each image has a spelling, and no other
+-- each image has exactly one spelling
 abbrev pub ImagesAreSpelled : Type 0
 ImagesAreSpelled =
     (i : Image) → IsImage i → Spells (spelling i) i × ((bytes : List ℕ) → Spells bytes i → bytes ≡ spelling i)
@@ -18,6 +20,6 @@ ImagesAreSpelled =
 abbrev pub SpelledImagesAreOne : Type 0
 SpelledImagesAreOne = (bytes : List ℕ) (i j : Image) → Spells bytes i → Spells bytes j → i ≡ j
 
--- two images have two spellings
+-- different images have different spellings
 abbrev pub SpellingIsInjective : Type 0
 SpellingIsInjective = (i j : Image) → IsImage i → IsImage j → spelling i ≡ spelling j → i ≡ j

@@ -1,11 +1,13 @@
+//! The faults of image files.
+
 ghost use Rattle.std.specs.Prelude.{◌≡◌};
 ghost use Rattle.mm_image.specs.declared.fault.ImageError.TheVariants.{NoMemory};
 
 use std::alloc::{AllocError, AllocFailed};
 use thiserror::Error;
 
-/// What is wrong with the bytes of an image file. The fields are read from the front, and the first fault is given with
-/// the offset of its field.
+/// The kind of a fault in an image file. The fields are read from the front, and the first fault is reported with the
+/// offset of its field.
 #[derive(Clone, Copy, Debug, PartialEq, Eq)]
 pub enum ImageFault {
     /// The next field is not whole. The offset is the length of the file.
@@ -20,26 +22,26 @@ pub enum ImageFault {
     SlotOrder,
     /// The group of a slot is above 15, in version 2 above 63.
     Group,
-    /// A handler is neither 255 nor the number of another slot. The handlers are tested behind all records of slots.
+    /// A handler is neither 255 nor the number of another slot. The handlers are tested after all records of slots.
     Handler,
     /// The state of a slot is above 1.
     State,
-    /// A word is tagged and is no pointer.
+    /// A word is tagged and spells no pointer.
     Pointer,
-    /// An instruction pointer is no pointer, or one that nothing may be fetched through.
+    /// An instruction pointer spells no pointer, or one that nothing may be fetched through.
     Ip,
     /// The number of a page is 2^42 or more, or not above that of the page before.
     PageOrder,
     /// The count of frames is not 1 to 256, in version 2 not 1 to 4,096, or there are more pages than frames.
     Frames,
-    /// The file goes on behind the last page.
+    /// The file goes on after the last page.
     Trailing,
 }
 
 impl ImageFault {
     ghost use Rattle.mm_image.specs.Faults.{number_of};
 
-    /// Its number, 1 to 13.
+    /// The fault's number, 1 to 13.
     pub fn number(self) -> u8
         ensures { result ≡ number_of self }
     {
@@ -50,7 +52,7 @@ impl ImageFault {
 /// Why no image was read.
 #[derive(Clone, Copy, Debug, PartialEq, Eq, Error)]
 pub enum ImageError {
-    /// The bytes spell no image: the first fault, and its place in the file.
+    /// The bytes spell no image: the first fault, and its offset in the file.
     #[error("image fault {} at {offset}", .fault.number())]
     Fault { fault: ImageFault, offset: u64 },
     /// Memory ran out.

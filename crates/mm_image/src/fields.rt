@@ -1,4 +1,4 @@
-//! Fields of an image file, at their places.
+//! The fields of an image file, read at their offsets.
 
 ghost use Rattle.std.specs.Prelude.{◌≡◌, ◌+◌, ◌^◌, ◌<◌, ◌≤◌, true, false, OnOk, length};
 ghost use Rattle.mm_image.specs.Faults.{Gives, number_of};
@@ -13,7 +13,7 @@ pub struct Reader<'a> {
     pub bytes: &'a [u8],
 }
 
-/// A fault at a place.
+/// The error of a fault at an offset.
 pub(crate) fn fault(fault: ImageFault, offset: usize) -> ImageError
     ensures { result ≡ ImageError.Fault fault offset }
 {
@@ -23,9 +23,9 @@ pub(crate) fn fault(fault: ImageFault, offset: usize) -> ImageError
     }
 }
 
-// Fields at their places, and tests of what they say.
+// Fields at their offsets, and tests of what they say.
 impl Reader<'_> {
-    /// Refuses where the test holds.
+    /// Fails with the fault `kind` at the offset `at` if `wrong`.
     #[tactic(auto, unfolding(mm_model::specs::Places::place_fault))]
     pub fn refuse_if(&self, wrong: bool, kind: ImageFault, at: usize) -> Result<(), ImageError>
         ensures fault { Gives (λ _. true) (place_fault (length self.now.bytes.now) (Test (number_of kind) at wrong))
@@ -38,7 +38,7 @@ impl Reader<'_> {
         Ok(())
     }
 
-    /// Whether the field of so many bytes is whole.
+    /// Fails with `Short`, at the end of the file, if the field of `size` bytes is not whole.
     #[tactic(auto, unfolding(mm_model::specs::Places::place_fault))]
     pub fn whole(&self, at: usize, size: usize) -> Result<(), ImageError>
         requires { at + size < 2 ^ 64 }
@@ -52,7 +52,7 @@ impl Reader<'_> {
         Ok(())
     }
 
-    /// The number of one byte.
+    /// The number in the byte at an offset; `Short` if the file ends before.
     #[tactic(auto, using(mm_model::proofs::ImageBytes::Numbers::byte_is))]
     pub fn u8_at(&self, at: usize) -> Result<u8, ImageError>
         requires { at < 2 ^ 40 }
@@ -63,7 +63,8 @@ impl Reader<'_> {
         Ok(self.bytes[at])
     }
 
-    /// The number of two bytes.
+    /// The number in the two bytes at an offset, most significant first; `Short` if the file ends
+    /// before.
     #[tactic(auto, using(mm_model::proofs::ImageBytes::Numbers::field_2))]
     pub fn u16_at(&self, at: usize) -> Result<u16, ImageError>
         requires { at < 2 ^ 40 }
@@ -74,7 +75,8 @@ impl Reader<'_> {
         Ok(u16::from_be_bytes([self.bytes[at], self.bytes[at + 1]]))
     }
 
-    /// The number of four bytes.
+    /// The number in the four bytes at an offset, most significant first; `Short` if the file ends
+    /// before.
     #[tactic(auto, using(mm_model::proofs::ImageBytes::Numbers::field_4))]
     pub fn u32_at(&self, at: usize) -> Result<u32, ImageError>
         requires { at < 2 ^ 40 }
@@ -86,7 +88,8 @@ impl Reader<'_> {
         Ok(u32::from_be_bytes([field[0], field[1], field[2], field[3]]))
     }
 
-    /// The number of eight bytes.
+    /// The number in the eight bytes at an offset, most significant first; `Short` if the file ends
+    /// before.
     #[tactic(auto, using(mm_model::proofs::ImageBytes::Numbers::field_8))]
     pub fn u64_at(&self, at: usize) -> Result<u64, ImageError>
         requires { at < 2 ^ 40 }

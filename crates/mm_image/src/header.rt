@@ -10,21 +10,21 @@ ghost use Rattle.mm_model.specs.ImageFaults.{header_places};
 use crate::fault::{ImageError, ImageFault};
 use crate::fields::Reader;
 
-/// How many slots a version has at most, and how many numbers of slots and groups there are.
+/// The most slots that a version has, and the limit of its numbers of slots and groups.
 pub(crate) fn slot_limit(version: u16) -> u8
     ensures { result ≡ slot_limit version }
 {
     if version == 1 { 16 } else { 64 }
 }
 
-/// How many frames a version has at most.
+/// The most frames that a version has.
 pub(crate) fn frame_limit(version: u16) -> u16
     ensures { result ≡ frame_limit version }
 {
     if version == 1 { 256 } else { 4096 }
 }
 
-/// What the header says.
+/// The fields of the header.
 #[derive(Clone, Copy)]
 pub(crate) struct Header {
     pub version: u16,
@@ -35,7 +35,7 @@ pub(crate) struct Header {
 }
 
 impl Reader<'_> {
-    /// The header of the file.
+    /// The header of the file, or its first fault.
     pub(crate) fn header(&self) -> Result<Header, ImageError>
         ensures { let bytes = self.now.bytes.now in Gives (λ h. h) (first_bad (length bytes) (header_places bytes))
             (header_of bytes) result }

@@ -7,8 +7,8 @@ use mm_model::{Page, Slot};
 use mm_word::Cell;
 use std::marker::Model;
 
-/// What a machine starts from: slots with ascending numbers, pages with ascending numbers, and how many frames pages
-/// may stand in, within the limits of its version. In a split image the value of a load arrives later than the load.
+/// What a machine starts from: slots with ascending numbers, pages with ascending numbers, and the number of frames for
+/// pages, within the limits of the image's version. In a split image the value of a load arrives later than the load.
 #[derive(Drop)]
 pub struct Image {
     pub(crate) version: u16,
@@ -37,10 +37,10 @@ impl Image {
     ghost use Rattle.mm_model.specs.Spelling.{IsImage};
     ghost use Rattle.mm_image.specs.Images.{image_from};
 
-    /// The image of these parts. None exactly where they make no image: a version that is neither 1 nor 2, a split
-    /// image of version 1, no slot or more slots than the version has, numbers of slots that do not ascend, a slot that
-    /// has run or that a limit or its handler excludes, no frame or more frames than the version has, numbers of pages
-    /// that do not ascend, more pages than frames.
+    /// The image of these parts. `None` exactly if they make no image: a version that is neither 1 nor 2, a split image
+    /// of version 1, no slot or more slots than the version has, numbers of slots that do not ascend, a slot that has
+    /// run or that a limit or its handler excludes, no frame or more frames than the version has, numbers of pages that
+    /// do not ascend, more pages than frames.
     pub fn new(
         version: u16,
         split: bool,
@@ -63,7 +63,7 @@ impl Image {
         })
     }
 
-    /// The version of its file, 1 or 2.
+    /// The version of the image's file, 1 or 2.
     pub fn version(&self) -> u16
         ensures version { result ≡ self.now.version }
         ensures image { IsImage self.now }
@@ -78,7 +78,7 @@ impl Image {
         self.split
     }
 
-    /// Its slots, by ascending number.
+    /// The slots, by ascending number.
     pub fn slots(&self) -> &[Slot]
         ensures slots { result.now ≡ self.now.slots }
         ensures image { IsImage self.now }
@@ -86,7 +86,7 @@ impl Image {
         self.slots.as_slice()
     }
 
-    /// Its pages, by ascending number.
+    /// The pages, by ascending number.
     pub fn pages(&self) -> &[Page]
         ensures pages { result.now ≡ self.now.memory.pages }
         ensures image { IsImage self.now }
@@ -94,7 +94,7 @@ impl Image {
         self.pages.as_slice()
     }
 
-    /// How many frames its pages may stand in.
+    /// The number of frames for pages.
     pub fn frames(&self) -> u32
         ensures frames { result ≡ self.now.memory.frames }
         ensures image { IsImage self.now }
@@ -102,7 +102,7 @@ impl Image {
         self.frames
     }
 
-    /// The cell of a word, if its page is there.
+    /// The cell of a word, if the image has its page.
     #[tactic(auto, unfolding(mm_model::specs::Memory::cell_at))]
     pub fn cell(&self, word: u64) -> Option<Cell>
         requires { word % 8 ≡ 0 }
@@ -118,7 +118,7 @@ ghost use Rattle.std.specs.Option.{option_map};
 ghost use Rattle.std.specs.Ordering.{nat_cmp};
 ghost use Rattle.std.specs.FinMap.{find, is_sorted};
 
-// The page of a number, found by halving.
+// The page of a number, found by binary search.
 fn page_of(pages: &[Page], number: u64) -> Option<&Page>
     requires { IsTrue (is_sorted nat_cmp pages.now) }
     ensures { option_map (λ page. page.now.1) result ≡ find nat_cmp number pages.now }

@@ -3,7 +3,7 @@
 //! These functions do nothing when they run: the contract of each is the law.
 ghost use Rattle.mm_image.specs.Laws.{ImagesAreSpelled, ImagesHaveNoFault, SpelledImagesAreOne, SpellingIsInjective};
 
-/// The list of places of a file has no fault exactly where its bytes spell an image.
+/// The list of places of a file has no fault exactly if its bytes spell an image.
 pub fn images_have_no_fault()
     ensures { ImagesHaveNoFault }
 {}
@@ -13,7 +13,7 @@ pub fn images_are_spelled()
     ensures { ImagesAreSpelled }
 {}
 
-/// An image has one spelling, and no two images have the same.
+/// Bytes spell at most one image, and no two images have the same spelling.
 pub fn spelling_is_one_to_one()
     ensures one { SpelledImagesAreOne }
     ensures injective { SpellingIsInjective }

@@ -1,10 +1,10 @@
-//! Where the records of an image file stand.
+//! The lengths of the parts of an image file.
 
-/// How long the header is, and where the records of slots begin.
+/// The length of the header in bytes, which is the offset of the first slot's record.
 pub(crate) const HEADER_BYTES: usize = 16;
 
-/// How long the record of a slot is.
+/// The length of a slot's record in bytes.
 pub(crate) const SLOT_BYTES: usize = 142;
 
-/// How long the record of a page is.
+/// The length of a page's record in bytes.
 pub(crate) const PAGE_BYTES: usize = 4232;

@@ -18,14 +18,16 @@ use std::alloc::Global;
 /// One more than the greatest number of a page.
 const PAGE_LIMIT: u64 = 1 << 42;
 
-/// How long the tags and the full bits of a page are each.
+/// The length in bytes of a page's tags, and of its full bits.
 const BITMAP_BYTES: usize = CELLS / 8;
 
-/// The offsets of a page's tags, full bits and words in its record.
+/// The offset of a page's tags in its record.
 const TAGS: usize = 8;
 
+/// The offset of a page's full bits in its record.
 const FULL: usize = TAGS + BITMAP_BYTES;
 
+/// The offset of a page's words in its record.
 const WORDS: usize = FULL + BITMAP_BYTES;
 
 impl Reader<'_> {
@@ -49,7 +51,7 @@ impl Reader<'_> {
         Ok(cells)
     }
 
-    /// The page whose record begins here. Its number is no less than the least.
+    /// The page whose record begins here. Its number has to be at least `least`.
     pub fn page(&self, alloc: Global, least: u64, at: usize) -> Result<Page, ImageError>
         requires { at < 2 ^ 39 }
         ensures { let bytes = self.now.bytes.now in Gives (λ p. p)
@@ -70,7 +72,7 @@ impl Reader<'_> {
         }
     }
 
-    /// So many pages, with ascending numbers, from a place on.
+    /// The first `count` pages, after this count of slots. Their numbers have to ascend.
     pub(crate) fn pages(
         &self,
         alloc: Global,
@@ -91,7 +93,7 @@ impl Reader<'_> {
         Ok(pages)
     }
 
-    /// Whether the file ends behind the last of so many slots and pages.
+    /// Fails with `Trailing` if the file goes on after these counts of slots and pages.
     pub(crate) fn nothing_follows(&self, slots: u16, pages: u16) -> Result<(), ImageError>
         ensures { let bytes = self.now.bytes.now in Gives (λ _. true)
             (first_bad (length bytes) (end_places bytes 13 (page_offset slots pages))) true result }

@@ -15,11 +15,11 @@ use std::alloc::Global;
 
 /// The image that the bytes of a file spell, or the first fault that is met when its fields are read from the front.
 pub fn read(alloc: Global, bytes: &[u8]) -> Result<Image, ImageError>
-    // What is read is spelled so, and what is spelled so is read.
+    // The bytes spell the image that is read, and an image that they spell is read.
     ensures spelled { IfOk result (λ i. Spells bytes.now i) }
     ensures again { (i : ImageValue) → Spells bytes.now i → IsUnlessNoMemory i result }
 
-    // A fault that is answered is the first one, and where there is one it is answered.
+    // A fault that is answered is the first one, and if there is one, it is answered.
     ensures fault { (kind : ImageFault) (offset : ℕ) → result ≡ Err (ImageError.Fault kind offset)
         → image_fault bytes.now ≡ Some (number_of kind, offset) }
     ensures first { (number offset : ℕ) → image_fault bytes.now ≡ Some (number, offset)

@@ -22,7 +22,7 @@ pub(crate) const NO_HANDLER: u8 = 255;
 /// The offset of a slot's handler byte in its record.
 const HANDLER: usize = 2;
 
-/// Of each number whether a slot has it.
+/// For each number, whether a slot has it.
 pub(crate) fn numbers(slots: &[Slot]) -> [bool; 256]
     ensures { HoldsNumbers result slots.now }
 {
@@ -33,7 +33,7 @@ pub(crate) fn numbers(slots: &[Slot]) -> [bool; 256]
     present
 }
 
-/// Whether a slot's handler is the slot itself, or no slot of those with these numbers.
+/// Whether a slot's handler is the slot itself, or none of the numbers `present`.
 pub(crate) fn is_bad_handler(present: &[bool; 256], slot: &Slot) -> bool
     ensures { (slots : List Slot) → HoldsNumbers present.now slots → result ≡ is_bad_handler slots slot.now }
 {
@@ -44,8 +44,8 @@ pub(crate) fn is_bad_handler(present: &[bool; 256], slot: &Slot) -> bool
 }
 
 impl Reader<'_> {
-    /// The slot whose record begins here. Its number and group are below the limit, and its number is no less than the
-    /// least.
+    /// The slot whose record begins here. Its number and group have to be below the limit, and its number at least
+    /// `least`.
     pub(crate) fn slot(&self, limit: u8, least: u8, at: usize) -> Result<Slot, ImageError>
         requires { at < 2 ^ 39 }
         ensures slot { let bytes = self.now.bytes.now in Gives (λ s. s)
@@ -84,7 +84,7 @@ impl Reader<'_> {
         })
     }
 
-    /// So many slots, with ascending numbers.
+    /// The first `count` slots. Their numbers have to ascend.
     pub(crate) fn slots(
         &self,
         alloc: Global,
@@ -106,7 +106,7 @@ impl Reader<'_> {
         Ok(slots)
     }
 
-    /// Tests the handlers of the slots.
+    /// Fails with `Handler` at the first slot whose handler is bad.
     pub(crate) fn handlers(&self, slots: &[Slot]) -> Result<(), ImageError>
         requires count { length slots.now < 2 ^ 16 }
         requires slots { slots.now ≡ slots_at self.now.bytes.now (length slots.now) }

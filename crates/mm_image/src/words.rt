@@ -24,7 +24,7 @@ pub(crate) fn is_set(bits: u16, place: usize) -> bool
 }
 
 impl Reader<'_> {
-    /// A bit of those from a place on, the lowest of each byte first.
+    /// The bit at a place of the bits from an offset on, the lowest of each byte first.
     pub fn bit(&self, at: usize, place: usize) -> bool
         requires small { at < 2 ^ 40 }
         requires place { place < 512 }
@@ -34,7 +34,7 @@ impl Reader<'_> {
         is_set(u16::from(self.bytes[at + place / 8]), place % 8)
     }
 
-    /// A word: a pointer where it is tagged.
+    /// The word at an offset: a pointer if it is tagged.
     #[tactic(auto, unfolding(mm_model::specs::Places::place_fault))]
     pub fn word(&self, tagged: bool, at: usize) -> Result<Word, ImageError>
         requires { at < 2 ^ 40 }
@@ -52,7 +52,7 @@ impl Reader<'_> {
         }
     }
 
-    /// An instruction pointer.
+    /// The instruction pointer at an offset.
     #[tactic(auto, unfolding(mm_model::specs::Places::place_fault))]
     pub fn ip(&self, at: usize) -> Result<GuardedPtr, ImageError>
         requires { at < 2 ^ 40 }

@@ -5,8 +5,8 @@ use Rattle.std.specs.Str.{bytes_eq}
 use Rattle.std.specs.declared.alloc.Global.{Global}
 use Rattle.mm_io.specs.Files.{raised}
 
--- A sink in memory: the bytes that it took, how many it has room for, the numbers of the calls that fail, the most
--- bytes that one call moves, and how many calls and faults there were.
+-- A sink in memory: the bytes that it took, the count of bytes for which it has room, the numbers of the calls that
+-- fail, the most bytes that one call moves, and the counts of calls and faults.
 pub record MemorySink : Type 0 where
   pub taken : List ℕ
   pub room : ℕ
@@ -15,7 +15,7 @@ pub record MemorySink : Type 0 where
   pub calls : ℕ
   pub faults : ℕ
 
--- a write of so many bytes fails: its number is listed, or the bytes that it would move are past the room
+-- a write of this count of bytes fails: the call's number is listed, or the bytes that it would move are past the room
 abbrev pub Refuses : MemorySink → ℕ → Type 0
 Refuses s bytes = Contains s.fails (raised s.calls) ⊎ (s.room < length s.taken + min bytes s.piece)
 
@@ -28,12 +28,12 @@ abbrev pub file_in : List (List ℕ × List ℕ) → List ℕ → Option (List �
 file_in [] name = None
 file_in (file ∷ files) name = if bytes_eq file.0 name then Some file.1 else file_in files name
 
--- the same, and no bytes where there is no such file
+-- the bytes of the first file of the name, or no bytes if there is no such file
 abbrev pub file_of : List (List ℕ × List ℕ) → List ℕ → List ℕ
 file_of files name = unwrap_or (file_in files name) []
 
 -- Files in memory: their names and bytes, the numbers of the calls that fail, the most bytes that one call moves, and
--- how many calls and faults there were.
+-- the counts of calls and faults.
 pub record MemoryFiles : Type 0 where
   pub files : List (List ℕ × List ℕ)
   pub fails : List ℕ
@@ -41,16 +41,16 @@ pub record MemoryFiles : Type 0 where
   pub calls : ℕ
   pub faults : ℕ
 
--- a read of a name fails: its number is listed, or there is no such file
+-- a read of a name fails: the call's number is listed, or there is no such file
 abbrev pub RefusesRead : MemoryFiles → List ℕ → Type 0
 RefusesRead s name = Contains s.fails (raised s.calls) ⊎ (file_in s.files name ≡ None)
 
--- how many bytes a read from an offset moves into a buffer of a length
+-- the count of bytes that a read from an offset moves into a buffer of length `room`
 abbrev pub moved : MemoryFiles → List ℕ → ℕ → ℕ → ℕ
 moved s name offset room = min (length (file_of s.files name) - offset) (min room s.piece)
 
--- A source in memory: the bytes that are left, the numbers of the calls that fail, the most bytes that one call
--- moves, and how many calls and faults there were.
+-- A source in memory: the bytes that are left, the numbers of the calls that fail, the most bytes that one call moves,
+-- and the counts of calls and faults.
 pub record MemorySource : Type 0 where
   pub left : List ℕ
   pub fails : List ℕ

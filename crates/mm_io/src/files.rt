@@ -1,4 +1,5 @@
-// Files in memory that fail where they are told to.
+//! Files in memory that fail on chosen calls.
+
 ghost use Rattle.std.specs.Prelude.{◌≡◌, ◌↔◌, ℕ, ◌-◌, ◌<◌, ◌≤◌, ◌^◌, min, [], ◌∷◌, length, map, IsErr, IfOk, OnOk};
 ghost use Rattle.std.specs.Prelude.{OnErr};
 ghost use Rattle.mm_word.specs.Adding.{Adds};
@@ -9,11 +10,11 @@ use crate::named::find;
 use crate::{Failed, Files};
 use std::marker::Model;
 
-/// Files that fail where they are told to.
+/// Files in memory that fail on chosen calls.
 ///
-/// Of two files of one name the first counts. A call moves at most `piece` bytes, and the calls of `fails`, counted
-/// from 1, fail. A call for a name that is absent fails too. Each failed call raises the count of faults, which is
-/// one for every name.
+/// If two files have one name, the first counts. A call moves at most `piece` bytes. The calls that `fails` lists,
+/// counted from 1, fail, and so does a call for an absent name. Each failed call raises the count of faults, which all
+/// names share.
 #[derive(Drop)]
 pub struct MemFiles {
     held: Vec<(String, Vec<u8>)>,
@@ -38,7 +39,7 @@ impl Model for MemFiles {
 }
 
 impl MemFiles {
-    /// The files with these names and bytes. `piece` is the most bytes that one call moves.
+    /// The files with these names and bytes. `fails` lists the calls that fail; one call moves at most `piece` bytes.
     pub fn new(files: Vec<(String, Vec<u8>)>, fails: Vec<u64>, piece: usize) -> MemFiles
         requires { 0 < piece }
         ensures { result ≡ record {
@@ -64,7 +65,7 @@ impl Files for MemFiles {
 
     ghost faults = { λ s _. s.faults };
 
-    // they count the calls
+    // the calls are counted
     ghost asked = { λ s reads. s.calls ≡ min (length reads) (2 ^ 64 - 1) };
 
     fn read_at(&mut self, name: &str, offset: u64, buf: &mut [u8]) -> Result<usize, Failed>
@@ -74,7 +75,7 @@ impl Files for MemFiles {
         ensures cause { OnErr result (Rose self.old.faults self.new.faults) }
         ensures later { self.old.faults ≤ self.new.faults }
 
-        // what these files say beyond the trait
+        // what these files promise beyond the trait
         ensures refused { IsErr result ↔ RefusesRead self.old name.now }
         ensures moved { IfOk result (λ n. n ≡ moved self.old name.now offset (length buf.new)) }
         ensures ok { OnOk result (self.new ≡ record self.old { calls = raised self.old.calls }) }

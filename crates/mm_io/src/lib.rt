@@ -1,9 +1,9 @@
 //! Files, sources and sinks that count their faults.
 //!
 //! A tool that reads and writes through these traits can say why it failed: a call answers
-//! [`Failed`] only where its count of faults rose in this call, or stands at the counter's last
-//! value. So an error that a caller reports is one that really happened. What a file holds, what a
-//! source has left and what a sink took is told where the type tells it: those in memory do, those
+//! [`Failed`] only if its count of faults rose in this call, or is at the counter's last value. So
+//! an error that a caller reports is one that really happened. Contracts know what a file holds,
+//! what a source has left and what a sink took if the type says it: the types in memory do, those
 //! of the system do not.
 #![tactic(auto)]
 

@@ -1,4 +1,5 @@
-// Sinks in memory, for tests and for callers that need no text.
+//! Sinks in memory, for tests and for callers that need no text.
+
 ghost use Rattle.std.specs.Prelude.{◌≡◌, ℕ, ◌+◌, ◌-◌, ◌^◌, ◌<◌, ◌≤◌, ◌↔◌, [], ◌++◌, Ok, Some, None, length, take};
 ghost use Rattle.std.specs.Prelude.{min, vec_capacity, IsErr, IfOk, OnErr};
 ghost use Rattle.std.specs.Io.KnownBytes.{append_known};
@@ -10,10 +11,10 @@ use mm_word::NoMemory;
 use std::alloc::Global;
 use std::marker::Model;
 
-/// A sink that keeps what it takes, and fails where it is told to.
+/// A sink that keeps what it takes, and fails on chosen calls.
 ///
-/// It has room for so many bytes, moves at most `piece` of them in a call, and the calls of
-/// `fails`, counted from 1, fail. A call whose bytes go past the room fails too. Each failed call
+/// It has room for `room` bytes, and a call moves at most `piece` bytes. The calls that `fails`
+/// lists, counted from 1, fail, and so does a call whose bytes go past the room. Each failed call
 /// raises the count of faults.
 #[derive(Drop)]
 pub struct MemSink {
@@ -41,7 +42,8 @@ impl Model for MemSink {
 }
 
 impl MemSink {
-    /// An empty sink with room for `room` bytes. `piece` is the most bytes that one call moves.
+    /// An empty sink with room for `room` bytes. `fails` lists the calls that fail; one call moves
+    /// at most `piece` bytes.
     pub fn new(
         alloc: Global,
         room: usize,
@@ -71,7 +73,7 @@ impl MemSink {
         })
     }
 
-    /// The bytes that it took.
+    /// The bytes that the sink took.
     pub fn taken(&self) -> &[u8]
         ensures { result.now ≡ self.now.taken }
     {
@@ -92,7 +94,7 @@ impl Sink for MemSink {
         ensures cause { OnErr result (Rose self.old.faults self.new.faults) }
         ensures later { self.old.faults ≤ self.new.faults }
 
-        // what this sink says beyond the trait
+        // what this sink promises beyond the trait
         ensures refused { IsErr result ↔ Refuses self.old (length piece.now) }
         ensures moved { IfOk result (λ n. n ≡ min (length piece.now) self.old.piece) }
         ensures ok { IfOk result (λ n. self.new ≡ record self.old {
@@ -115,7 +117,7 @@ impl Sink for MemSink {
     }
 }
 
-/// A sink that takes everything and keeps only the number of bytes, up to the greatest number.
+/// A sink that takes everything and keeps only the count of bytes, up to `u64::MAX`.
 #[derive(Drop)]
 pub struct NullSink {
     count: u64,
@@ -136,7 +138,7 @@ impl NullSink {
         NullSink { count: 0 }
     }
 
-    /// How many bytes it took. The number stays at `u64::MAX` once it is there.
+    /// The count of bytes that the sink took. It stays at `u64::MAX` once it is there.
     pub fn taken(&self) -> u64
         ensures { result ≡ self.now }
     {

@@ -1,8 +1,9 @@
-// Whole files and inputs.
+//! Reads of whole files and inputs.
+
 ghost use Rattle.std.specs.Prelude.{◌≡◌, ◌^◌, ◌<◌, ◌≤◌, length, IfOk, OnOk, IsErrOf};
 ghost use Rattle.std.specs.Io.KnownBytes.{IsAtEnd};
 ghost use Rattle.mm_io.specs.declared.read.ReadError.TheVariants.{ReadFault, NoMemory};
-ghost use Rattle.mm_io.specs.Files.{Rose, NoneFell, Holds, IsLonger, DrawnFrom, AsksOnly, AsksWhole};
+ghost use Rattle.mm_io.specs.Files.{Rose, NoneFell, Holds, IsLonger, DrawnFrom, AsksOnly, AsksWhole, AsksBeyond};
 
 use crate::{Failed, Files, Source};
 use std::alloc::{AllocError, Global};
@@ -11,10 +12,10 @@ use thiserror::Error;
 /// Why a file or an input was not read whole.
 #[derive(Clone, Copy, Debug, PartialEq, Eq, Error)]
 pub enum ReadError {
-    /// A read failed, and the count of faults rose or stands at its last value.
+    /// A read failed, and the count of faults rose or is at its last value.
     #[error("read fault")]
     ReadFault,
-    /// One byte more than the limit was read.
+    /// More bytes than the limit were read.
     #[error("too long")]
     TooLong,
     /// Memory ran out.
@@ -38,13 +39,13 @@ impl From<AllocError> for ReadError {
     }
 }
 
-/// How many bytes one read asks for. A read of a real file is several system calls.
+/// The most bytes that one read asks for. A read of a real file is several system calls.
 const PIECE: usize = 65_536;
 
-/// All bytes of a file, which is read to its end and has no more than `limit`.
+/// All bytes of a file, at most `limit`. The file is read to its end.
 ///
-/// `TooLong` comes where `limit + 1` bytes were read, `ReadFault` where a read failed, and
-/// `NoMemory` where memory ran out.
+/// `TooLong` comes if more than `limit` bytes were read, `ReadFault` if a read failed, and `NoMemory` if memory ran
+/// out.
 #[tactic(auto, using(crate::proofs::Asking::asks_nothing))]
 pub fn read_all<F: Files>(
     alloc: Global,
@@ -62,12 +63,13 @@ pub fn read_all<F: Files>(
     ensures later { NoneFell (F.faults files.old) (F.faults files.new) }
     ensures asks { AsksOnly F.asked files.old files.new name.now }
     ensures whole { IfOk result (λ bytes. AsksWhole F.asked files.old files.new name.now (length bytes.items)) }
+    ensures beyond { IsErrOf result ReadError.TooLong → AsksBeyond F.asked files.old files.new name.now limit }
 {
     let mut buffer = vec![in alloc; 0u8; PIECE]?;
     read_pieces(alloc, files, name, limit, &mut buffer)
 }
 
-// `read_all` through a buffer.
+// [`read_all`] through a given buffer.
 #[tactic(auto, using(crate::proofs::Asking::front_nothing))]
 fn read_pieces<F: Files>(
     alloc: Global,
@@ -87,6 +89,7 @@ fn read_pieces<F: Files>(
     ensures later { NoneFell (F.faults files.old) (F.faults files.new) }
     ensures asks { AsksOnly F.asked files.old files.new name.now }
     ensures whole { IfOk result (λ bytes. AsksWhole F.asked files.old files.new name.now (length bytes.items)) }
+    ensures beyond { IsErrOf result ReadError.TooLong → AsksBeyond F.asked files.old files.new name.now limit }
 {
     let mut bytes = Vec::new(alloc);
     loop {
@@ -101,10 +104,10 @@ fn read_pieces<F: Files>(
     }
 }
 
-/// All bytes that a source has left, which is read to its end and has no more than `limit`.
+/// All bytes that a source has left, at most `limit`. The source is read to its end.
 ///
-/// `TooLong` comes where `limit + 1` bytes were read, `ReadFault` where a read failed, and
-/// `NoMemory` where memory ran out. After an error some bytes are gone from the source's front.
+/// `TooLong` comes if more than `limit` bytes were read, `ReadFault` if a read failed, and `NoMemory` if memory ran
+/// out. After an error a prefix of the source's bytes is gone.
 pub fn read_input<I: Source>(alloc: Global, input: &mut I, limit: u64) -> Result<Vec<u8>, ReadError>
     requires { limit < 2 ^ 31 }
     ensures bytes { IfOk result (λ bytes. Holds (I.left input.old) bytes.items) }
@@ -119,7 +122,7 @@ pub fn read_input<I: Source>(alloc: Global, input: &mut I, limit: u64) -> Result
     read_input_pieces(alloc, input, limit, &mut buffer)
 }
 
-// `read_input` through a buffer.
+// [`read_input`] through a given buffer.
 fn read_input_pieces<I: Source>(
     alloc: Global,
     input: &mut I,

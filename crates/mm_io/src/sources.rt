@@ -1,4 +1,5 @@
-// Sources in memory that fail where they are told to.
+//! Sources in memory that fail on chosen calls.
+
 ghost use Rattle.std.specs.Prelude.{◌≡◌, ℕ, ◌^◌, ◌<◌, ◌≤◌, ◌↔◌, Some, [], length, take, drop, min, Contains, IsErr};
 ghost use Rattle.std.specs.Prelude.{IfOk, OnErr};
 ghost use Rattle.std.specs.Io.KnownBytes.{prepend_known, IsAtEnd};
@@ -8,9 +9,9 @@ ghost use Rattle.mm_io.specs.Memory.{MemorySource};
 use crate::{Failed, Source};
 use std::marker::Model;
 
-/// A source that fails where it is told to.
+/// A source in memory that fails on chosen calls.
 ///
-/// A call moves at most `piece` bytes, and the calls of `fails`, counted from 1, fail. A failed
+/// A call moves at most `piece` bytes. The calls that `fails` lists, counted from 1, fail. A failed
 /// call loses nothing, and raises the count of faults.
 #[derive(Drop)]
 pub struct MemSource {
@@ -37,7 +38,8 @@ impl Model for MemSource {
 }
 
 impl MemSource {
-    /// A source of these bytes. `piece` is the most bytes that one call moves.
+    /// A source of these bytes. `fails` lists the calls that fail; one call moves at most `piece`
+    /// bytes.
     pub fn new(bytes: Vec<u8>, fails: Vec<u64>, piece: usize) -> MemSource
         requires { 0 < piece }
         ensures { result ≡ record {
@@ -72,7 +74,7 @@ impl Source for MemSource {
         ensures cause { OnErr result (Rose self.old.faults self.new.faults) }
         ensures later { self.old.faults ≤ self.new.faults }
 
-        // what this source says beyond the trait
+        // what this source promises beyond the trait
         ensures refused { IsErr result ↔ Contains self.old.fails (raised self.old.calls) }
         ensures moved { IfOk result (λ n. n ≡ min (length self.old.left) (min (length buf.new) self.old.piece)) }
         ensures ok { IfOk result (λ n. self.new ≡ record self.old {

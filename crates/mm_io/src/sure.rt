@@ -1,4 +1,5 @@
-// Files and sources in memory that never fail.
+//! Files and sources in memory that never fail.
+
 ghost use Rattle.std.specs.Prelude.{◌≡◌, ℕ, ◌≤◌, List, Some, length, drop, map, ⊤};
 ghost use Rattle.mm_io.specs.Memory.{file_of, named};
 
@@ -6,8 +7,8 @@ use crate::named::find;
 use crate::{Failed, Files, Source};
 use std::marker::Model;
 
-/// Files that never fail. A name that is absent is an empty file, and of two with one name the
-/// first counts.
+/// Files that never fail. An absent name is an empty file; if two files have one name, the first
+/// counts.
 #[derive(Drop)]
 pub struct SureFiles {
     files: Vec<(String, Vec<u8>)>,
@@ -33,7 +34,7 @@ impl Files for SureFiles {
 
     ghost faults = { λ _ _. 0 };
 
-    // they keep nothing of the reads
+    // the reads are not kept
     ghost asked = { λ _ _. ⊤ };
 
     fn read_at(&mut self, name: &str, offset: u64, buf: &mut [u8]) -> Result<usize, Failed> {

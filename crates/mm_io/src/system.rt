@@ -1,6 +1,8 @@
-// Real files and streams. As files, sinks and sources they tell no content. A stream that tells std
-// what it holds or has left was handed what a call says, and gave it. They are the trusted edge:
-// what the system does is not proved.
+//! Real files and streams: the trusted edge, where what the system does is not proved.
+//!
+//! As files, sinks and sources they do not say their content. If std knows what a stream holds or has left, the stream
+//! took or gave what a call says.
+
 ghost use Rattle.std.specs.Prelude.{◌≡◌, ℕ, ◌<◌, ◌≤◌, None, length, take, IfOk, OnOk, OnErr, ⊤};
 ghost use Rattle.std.specs.Io.KnownBytes.{Keeps, Appends, Consumes, IsAtEnd};
 ghost use Rattle.mm_io.specs.Files.{Rose, raised};
@@ -11,8 +13,8 @@ use std::io::{Read, Seek, SeekFrom, Write};
 use std::marker::Model;
 use std::{fs, io, rt};
 
-/// The files of the system. An absent file is a failure, as any error of the system is. One count
-/// stands for every name, and each error raises it.
+/// The files of the system. An absent file is a failure, as any error of the system is. All names share one count of
+/// faults, which each error raises.
 #[derive(Drop)]
 pub struct StdFiles<R: rt::Files + Drop> {
     rt: R,
@@ -34,7 +36,7 @@ impl<R: rt::Files + Drop> StdFiles<R> {
     }
 }
 
-// Bytes of a stream from an offset on.
+// Reads bytes of a stream from an offset on.
 fn read_placed<S: Read + Seek>(stream: &mut S, offset: u64, buf: &mut [u8]) -> io::Result<usize>
     ensures bound { IfOk result (λ n. n ≤ length buf.new) }
     ensures placed { IfOk result (λ n. ReadsPlaced S.stream_position S.remaining stream.old stream.new offset n buf.new) }
@@ -43,7 +45,7 @@ fn read_placed<S: Read + Seek>(stream: &mut S, offset: u64, buf: &mut [u8]) -> i
     stream.read(buf)
 }
 
-// Bytes of the file of a name, which is opened anew.
+// Reads bytes of the named file, which is opened anew.
 fn read_from<R: rt::Files>(rt: &R, name: &str, offset: u64, buf: &mut [u8]) -> io::Result<usize>
     ensures { IfOk result (λ n. n ≤ length buf.new) }
 {
@@ -56,7 +58,7 @@ impl<R: rt::Files + Drop> Files for StdFiles<R> {
 
     ghost faults = { λ s _. s };
 
-    // they keep nothing of the reads
+    // the reads are not kept
     ghost asked = { λ _ _. ⊤ };
 
     fn read_at(&mut self, name: &str, offset: u64, buf: &mut [u8]) -> Result<usize, Failed>
@@ -162,7 +164,7 @@ impl<R: Read + Drop> Source for StdSource<R> {
         ensures cause { OnErr result (Rose self.old.faults self.new.faults) }
         ensures later { self.old.faults ≤ self.new.faults }
 
-        // the stream gave what is answered, is at its end where it gave nothing, and keeps all at an error
+        // the stream gave what is answered, is at its end if it gave nothing, and keeps all at an error
         ensures handed { IfOk result (λ n. Consumes self.old.remaining self.new.remaining (take n buf.new)) }
         ensures ends { IfOk result (λ n. n ≡ 0 → 0 < length buf.new → IsAtEnd self.new.remaining) }
         ensures nothing { OnErr result (Keeps self.old.remaining self.new.remaining) }

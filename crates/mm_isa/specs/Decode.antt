@@ -32,7 +32,7 @@ fields_in w = record {
   imm = cast_signed w32 (w % 2 ^ 32);
 }
 
--- A narrow field is read as a value in its range, whatever its bits are: the condition of an access
+-- the condition of an access. A narrow field is read as a value in its range, whatever its bits are
 abbrev pub pre_in : ℕ → Pre
 pre_in c = if c / 4 == 0 then pre.Any else (if c / 4 == 1 then pre.Full else pre.Empty)
 
@@ -102,11 +102,11 @@ rows f =
 unfoldable pub row_of : Fields → Option Instr
 row_of f = find (λ i. (operation_of i).code == f.operation) (rows f)
 
--- the instruction that a word spells: the row of its operation, where the word is the row's spelling
+-- the instruction that a word spells: the row of its operation, if the word is the row's spelling
 unfoldable pub instr_of : ℕ → Option Instr
 instr_of w = option_and_then (λ i. then_some (spelling i == w) i) (row_of (fields_in w))
 
--- a row of the table without the values of an instruction: what text goes by
+-- an operation of the table without the values of its operands
 pub record Form : Type 0 where
   pub name : List ℕ
   pub code : ℕ

@@ -31,7 +31,7 @@ pub record Operation : Type 0 where
   pub code : ℕ
   pub operands : List Operand
 
--- a row of the table
+-- a row of the table: the operation's name, number and operands
 abbrev pub row : String → ℕ → List Operand → Operation
 row name code operands = record { name = codes name; code = code; operands = operands }
 
@@ -52,7 +52,7 @@ integer Eq = (codes "eq", 0x1b)
 integer Ltu = (codes "ltu", 0x1c)
 integer Lts = (codes "lts", 0x1d)
 
--- the table, by rising numbers. Operands stand in the order rd, ra, rb, imm, c, and the c of ld and st is two of them
+-- the table, by rising numbers. Operands are in the order rd, ra, rb, imm, c; the c of ld and st is two operands
 abbrev pub operation_of : Instr → Operation
 operation_of Halt = row "halt" 0x00 []
 operation_of Nop = row "nop" 0x01 []
@@ -115,13 +115,13 @@ kinds_of i = map kind_of (operation_of i).operands
 abbrev pub unused : ℕ → Fields
 unused n = record { operation = n; rd = 0; ra = 0; rb = 0; c = 0; imm = pos 0 }
 
--- the two parts of the field c of ld and st: what the synchronisation bit must be
+-- the upper part of the field c of ld and st: what the synchronisation bit must be
 abbrev pub pre_code : Pre → ℕ
 pre_code pre.Any = 0
 pre_code pre.Full = 1
 pre_code pre.Empty = 2
 
--- and what it becomes
+-- the lower part of the field c of ld and st: what the synchronisation bit becomes
 abbrev pub post_code : Post → ℕ
 post_code post.Keep = 0
 post_code post.Full = 1
@@ -174,7 +174,7 @@ pub record FitInWord (f : Fields) : Type 0 where
   pub c : f.c < 16
   pub imm : FitsSigned w32 f.imm
 
--- fields side by side: the operation from bit 56 on, rd from 52, ra from 48, rb from 44, c from 40, imm from 0
+-- the word of these fields: the operation from bit 56 on, rd from 52, ra from 48, rb from 44, c from 40, imm from 0
 unfoldable pub packed : Fields → ℕ
 packed f =
     f.operation * 2 ^ 56 + f.rd * 2 ^ 52 + f.ra * 2 ^ 48 + f.rb * 2 ^ 44 + f.c * 2 ^ 40 + cast_unsigned w32 f.imm

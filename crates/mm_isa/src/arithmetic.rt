@@ -1,9 +1,12 @@
+//! The integer operations.
+
 ghost use Rattle.std.specs.Prelude.{◌≡◌, ◌<◌, ◌^◌, ◌↔◌, true, Err, IfOk};
 ghost use Rattle.mm_isa.specs.Alu.{alu_result, div_zero, divides};
 
 use crate::instr::{AluOp, DivZero};
 
 /// The result of an operation on two integers. Shifts are by `b` modulo 64; a test gives 1 or 0.
+/// [`DivZero`] comes exactly if the operation divides and `b` is 0.
 pub fn alu(op: AluOp, a: u64, b: u64) -> Result<u64, DivZero>
     ensures value { result ≡ alu_result op a b }
     ensures zero { (result ≡ Err div_zero) ↔ ((divides op ≡ true) × (b ≡ 0)) }

@@ -1,3 +1,5 @@
+//! Instructions read from their words.
+
 ghost use Rattle.std.specs.Prelude.{◌≡◌, ◌≢◌, ◌≤◌, IfSome, IfNone};
 ghost use Rattle.mm_isa.specs.declared.instr.Instr.{Instr};
 ghost use Rattle.mm_isa.specs.Table.{number_of, spelling, IsInstr};
@@ -10,7 +12,7 @@ use crate::reg::{EvtReg, Reg};
 use crate::sum::summed;
 use mm_word::{Post, Pre};
 
-/// The instruction that a word spells.
+/// The instruction that a word spells; `None` if it spells none.
 pub fn decode(w: u64) -> Option<Instr>
     ensures value { result ≡ instr_of w }
     ensures spelled { IfSome result (λ i. IsInstr i × (spelling i ≡ w)) }
@@ -20,7 +22,7 @@ pub fn decode(w: u64) -> Option<Instr>
     if encode(&i) == w { Some(i) } else { None }
 }
 
-/// The same, for the turn of a slot: it becomes a part of its caller, and tests a word by one mask and one number for
+/// [`decode`] for the turn of a slot: it becomes a part of its caller, and tests a word by one mask and one number for
 /// each row.
 #[inline(always)]
 pub fn read(w: u64) -> Option<Instr>
@@ -32,7 +34,7 @@ pub fn read(w: u64) -> Option<Instr>
     if summed(&i) == w { Some(i) } else { None }
 }
 
-// The row of the operation, with the used fields read off. Unused fields are not looked at.
+// The instruction of the fields' operation, with the fields that it uses. The other fields are ignored.
 #[inline(always)]
 #[tactic(auto, unfolding(crate::specs::Decode::row_of, crate::specs::Decode::rows))]
 pub(crate) fn row(f: Fields) -> Option<Instr>

@@ -1,3 +1,5 @@
+//! The words of instructions.
+
 ghost use Rattle.std.specs.Prelude.{◌≡◌, Some};
 ghost use Rattle.mm_isa.specs.Table.{spelling, IsInstr};
 ghost use Rattle.mm_isa.specs.Decode.{instr_of};

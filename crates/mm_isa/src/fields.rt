@@ -1,3 +1,5 @@
+//! The fields of an instruction word.
+
 ghost use Rattle.std.specs.Prelude.{◌≡◌, ◌<◌};
 ghost use Rattle.mm_isa.specs.Table.{put, packed, FitInWord, unused};
 ghost use Rattle.mm_isa.specs.Decode.{fields_in};
@@ -6,20 +8,20 @@ use crate::operand::Operand;
 use crate::reg::Reg;
 use crate::table::Visitor;
 
-/// The fields of an instruction word. One that the operation does not use is zero.
+/// The fields of an instruction word. A field that the operation does not use is zero.
 #[derive(Clone, Copy)]
 pub struct Fields {
-    /// Bits 63 to 56.
+    /// The operation's number, in bits 63 to 56.
     pub operation: u8,
-    /// Bits 55 to 52.
+    /// The register `rd`, in bits 55 to 52.
     pub rd: Reg,
-    /// Bits 51 to 48.
+    /// The register `ra`, in bits 51 to 48.
     pub ra: Reg,
-    /// Bits 47 to 44.
+    /// The register `rb`, in bits 47 to 44.
     pub rb: Reg,
-    /// Bits 43 to 40.
+    /// The conditions or the way to resume, in bits 43 to 40.
     pub c: u8,
-    /// Bits 31 to 0.
+    /// The constant, in bits 31 to 0.
     pub imm: i32,
 }
 
@@ -52,7 +54,7 @@ impl Fields {
         }
     }
 
-    /// The fields with an operand in its place, whatever stood there.
+    /// The fields with an operand in its place, whatever was there.
     pub fn put(self, operand: Operand) -> Fields
         ensures value { result ≡ put self operand }
         ensures narrow { self.c < 16 → result.c < 16 }

@@ -1,3 +1,5 @@
+//! Operations without the values of their operands, found by name.
+
 ghost use Rattle.std.specs.Prelude.{◌≡◌, ◌≢◌, IfSome, IfNone};
 ghost use Rattle.mm_isa.specs.declared.instr.Instr.{Instr};
 ghost use Rattle.std.specs.Str.{bytes_eq};
@@ -12,13 +14,13 @@ use crate::table::Visitor;
 use arrayvec::ArrayVec;
 use std::marker::Model;
 
-/// A row of the table of operations without the values of an instruction: what text goes by.
+/// An operation of the table without the values of its operands, as a reader of text needs it.
 #[derive(Drop)]
 pub struct Form {
     pub name: &'static str,
     /// The operation's number in an instruction word.
     pub code: u8,
-    /// The kinds of its operands, in the order of text.
+    /// The kinds of the operands, in the order of text.
     pub kinds: ArrayVec<OperandKind, 5>,
 }
 
@@ -90,7 +92,7 @@ impl Visitor for Name {
 }
 
 impl Instr {
-    // Whether text names the instruction's operation so.
+    // Whether this is the name of the instruction's operation.
     fn is_named(&self, name: &[u8]) -> bool
         ensures { result ≡ bytes_eq (operation_of self.now).name name.now }
     {
@@ -109,14 +111,13 @@ impl Instr {
     }
 }
 
-// Each operation's number is below this.
+// A bound on the numbers of operations: each is less.
 const NUMBERS: u8 = 0x62;
 
-/// The operation that text names so.
+/// The operation with this name; `None` if there is none.
 ///
-/// Text becomes an instruction by it: each operand that is read, of the kind that stands next in the
-/// form, goes by `put` into `Fields::unused(form.code)`. Then `word` is the instruction's word, and
-/// `decode` gives the instruction.
+/// To make an instruction from text, put each operand, of the kind that the form has next, into
+/// `Fields::unused(form.code)` by `put`. Then `word` is the instruction's word, and `decode` gives the instruction.
 pub fn operation_named(name: &[u8]) -> Option<Form>
     ensures value { result ≡ operation_named name.now }
     ensures row { IfSome result (λ form. (i : Instr) × (form_of i ≡ form) × (form.name ≡ name.now)) }

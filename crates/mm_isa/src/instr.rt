@@ -1,3 +1,5 @@
+//! Instructions with their operands.
+
 use crate::reg::{EvtReg, Reg};
 use mm_word::{Post, Pre};
 

@@ -19,7 +19,7 @@ pub fn words_fit()
     ensures { (i : Instr) → IsInstr i → spelling i < 2 ^ 64 }
 {}
 
-/// The fields of an instruction stand in its word, each at its bits.
+/// Each field of an instruction is at its bits in the instruction's word.
 pub fn fields_stand_at_their_bits()
     ensures { (i : Instr) → IsInstr i → fields_in (spelling i) ≡ fields_of i }
 {}
@@ -29,12 +29,12 @@ pub fn words_differ()
     ensures { (i j : Instr) → IsInstr i → IsInstr j → spelling i ≡ spelling j → i ≡ j }
 {}
 
-/// Each instruction is read again from its word.
+/// An instruction's word is read as that instruction.
 pub fn instructions_are_read_again()
     ensures { (i : Instr) → IsInstr i → instr_of (spelling i) ≡ Some i }
 {}
 
-/// A word is read as exactly the instruction that is spelled by it.
+/// A word is read as an instruction exactly if it spells that instruction.
 pub fn words_are_read_exactly()
     ensures { (w : ℕ) (i : Instr) → (instr_of w ≡ Some i) ↔ (IsInstr i × (spelling i ≡ w)) }
 {}
@@ -65,7 +65,7 @@ pub fn numbers_differ()
     ensures { AllPairs (λ x y. x ≢ y) (map (λ form. form.code) forms) }
 {}
 
-/// The rows of the table are these operations, whatever the fields are.
+/// The rows of the table have these operations, whatever the fields are.
 pub fn rows_are_the_operations()
     ensures { (f : Fields) → map form_of (rows f) ≡ forms }
 {}
@@ -81,8 +81,8 @@ pub fn operands_determine_the_instruction()
         → (operation_of i).operands ≡ (operation_of j).operands → i ≡ j }
 {}
 
-/// Operands in their ranges, of the kinds of a row, are those of an instruction. The word with them in
-/// their places is read as it.
+/// Operands in their ranges and of a row's kinds are those of an instruction. The word with these operands in their
+/// places is read as that instruction.
 pub fn operands_make_an_instruction()
     ensures { (i : Instr) (operands : List Operand) → map kind_of operands ≡ kinds_of i
         → AllByRecursion IsInRange operands

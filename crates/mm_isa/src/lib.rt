@@ -1,4 +1,4 @@
-//! Instructions of the machine: their words, both ways, and the integer operations.
+//! The machine's instructions, to and from their words, and the integer operations.
 //!
 //! An instruction word is an integer with six fields. Contracts see a register as its number.
 #![tactic(auto)]

@@ -1,3 +1,5 @@
+//! Operands of instructions, and their kinds.
+
 ghost use Rattle.std.specs.Prelude.{◌≡◌};
 ghost use Rattle.mm_isa.specs.Table.{kind_of};
 
@@ -5,7 +7,7 @@ use crate::instr::How;
 use crate::reg::{EvtReg, Reg};
 use mm_word::{Post, Pre};
 
-/// An operand of an instruction: the field that it stands in, and what it is.
+/// An operand of an instruction: its field and its value.
 #[derive(Clone, Copy)]
 pub enum Operand {
     /// The register of `rd`.
@@ -18,19 +20,19 @@ pub enum Operand {
     Rb(Reg),
     /// A 32-bit number, in `imm`.
     Imm(i32),
-    /// A distance in words, in `imm`. Text may write a label there.
+    /// A distance in words, in `imm`. Text may have a label in its place.
     Distance(i32),
     /// The number of a register, in `imm`.
     RegisterNumber(Reg),
     /// What the synchronisation bit must be, in the upper two bits of `c`.
     Pre(Pre),
-    /// What it becomes, in the lower two bits of `c`.
+    /// What the synchronisation bit becomes, in the lower two bits of `c`.
     Post(Post),
     /// The way to resume, in `c`.
     How(How),
 }
 
-/// What kind of operand an operation has at a place: an [`Operand`] without its value.
+/// The kind of an operand: an [`Operand`] without its value.
 #[derive(Clone, Copy, Debug, Default, PartialEq, Eq)]
 pub enum OperandKind {
     #[default]
@@ -46,7 +48,7 @@ pub enum OperandKind {
     How,
 }
 
-/// What stands in an unused place of a list of operands.
+/// The filler of unused places in a list of operands.
 impl Default for Operand {
     ghost use Rattle.std.specs.Prelude.{◌≡◌, pos};
     ghost use Rattle.mm_isa.specs.declared.operand.Operand.TheVariants.{Imm};

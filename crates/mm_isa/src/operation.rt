@@ -1,3 +1,5 @@
+//! Instructions as text writes them.
+
 ghost use Rattle.std.specs.Prelude.{◌≡◌};
 ghost use Rattle.mm_isa.specs.Table.{operation_of};
 
@@ -7,7 +9,7 @@ use crate::table::Visitor;
 use arrayvec::ArrayVec;
 use std::marker::Model;
 
-/// An instruction as text writes it.
+/// An instruction as text writes it: its operation's name and number, and its operands.
 #[derive(Drop)]
 pub struct Operation {
     pub name: &'static str,

@@ -1,3 +1,5 @@
+//! The numbers of registers.
+
 ghost use Rattle.std.specs.Prelude.{◌≡◌, ◌<◌, ◌≤◌, ◌%◌, min};
 ghost use Rattle.std.specs.Option.{SomeIff};
 
@@ -24,7 +26,7 @@ impl Model for Reg {
 impl Reg {
     pub(crate) const ZERO: Reg = Reg { number: 0 };
 
-    /// The register with this number, and None where it is above 15.
+    /// The register with this number; `None` if the number is above 15.
     pub fn new(n: u8) -> Option<Reg>
         ensures { SomeIff result (n < 16) n }
     {
@@ -53,7 +55,7 @@ impl Reg {
     }
 }
 
-/// The number of a register that three more follow, 0 to 12: the first of the four that an event fills.
+/// The first of the four registers that an event fills: the number of a register that three more follow, 0 to 12.
 #[derive(Clone, Copy, Debug, PartialEq, Eq)]
 pub struct EvtReg {
     number: u8,
@@ -72,7 +74,7 @@ impl Model for EvtReg {
 }
 
 impl EvtReg {
-    /// The register with this number, and None where it is above 12.
+    /// The register with this number; `None` if the number is above 12.
     pub fn new(n: u8) -> Option<EvtReg>
         ensures { SomeIff result (n ≤ 12) n }
     {
@@ -91,7 +93,7 @@ impl EvtReg {
         self.number
     }
 
-    // The register with this number, or the last one where there is none.
+    // The register with this number, or register 12 if the number is above 12.
     pub(crate) fn clamped(rd: Reg) -> EvtReg
         ensures { result ≡ min rd 12 }
     {
@@ -100,7 +102,7 @@ impl EvtReg {
         }
     }
 
-    // The same register as a general one.
+    // The register as a general one.
     pub(crate) fn reg(self) -> Reg
         ensures value { result ≡ self }
         ensures small { result ≤ 12 }

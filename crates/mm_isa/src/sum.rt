@@ -1,3 +1,5 @@
+//! The word of an instruction, summed operand by operand.
+
 ghost use Rattle.std.specs.Prelude.{◌≡◌, Some};
 ghost use Rattle.mm_isa.specs.Table.{spelling, IsInstr};
 ghost use Rattle.mm_isa.specs.Decode.{instr_of};
@@ -7,8 +9,8 @@ use crate::instr::Instr;
 use crate::operand::Operand;
 use crate::table::Visitor;
 
-/// A word that is put together operand by operand: the fields so far, each in its place. No fields stand beside it, so
-/// that a compiler makes one mask and one number of each row.
+/// A word that is put together operand by operand: the fields so far, each in its place. It keeps no separate fields,
+/// so that a compiler makes one mask and one number of each row.
 #[derive(Clone, Copy)]
 struct Sum {
     word: u64,

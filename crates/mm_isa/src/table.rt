@@ -1,3 +1,5 @@
+//! The table of operations.
+
 ghost use Rattle.std.specs.Prelude.{◌≡◌, fold};
 ghost use Rattle.mm_isa.specs.Table.{integer, operation_of, IsInstr};
 
@@ -6,16 +8,16 @@ use crate::operand::Operand::{
     self, Distance, EvtRd, How, Imm, Post, Pre, Ra, Rb, Rd, RegisterNumber,
 };
 
-/// What is made from an instruction's row of the table. It is told the operation and then each
-/// operand, in the order of text.
+/// A value that is made from an instruction's row of the table. It is given the operation and then
+/// each operand, in the order of text.
 pub trait Visitor {
     ghost use Rattle.std.specs.Prelude.{ℕ, List};
     ghost use Rattle.mm_isa.specs.declared.operand.Operand.{Operand};
 
-    /// What it is with this name and number of an operation.
+    /// The visitor after this name and number of an operation.
     ghost told: { Self → List ℕ → ℕ → Self };
 
-    /// What it is with one operand more.
+    /// The visitor after one operand more.
     ghost given: { Self → Operand → Self };
 
     fn operation(self, name: &'static str, code: u8) -> Self
@@ -25,7 +27,7 @@ pub trait Visitor {
         ensures { result ≡ given self operand };
 }
 
-// A visitor that was told a row.
+// The visitor after a row.
 #[inline(always)]
 fn row<V: Visitor, const N: usize>(
     visitor: V,
@@ -66,7 +68,7 @@ impl AluOp {
 }
 
 impl Instr {
-    /// Tells the visitor the instruction's row of the table.
+    /// Gives the visitor the instruction's row of the table.
     pub fn visit<V: Visitor>(self, v: V) -> V
         ensures value { let told = V.told v (operation_of self).name (operation_of self).code in
             result ≡ fold V.given told (operation_of self).operands }

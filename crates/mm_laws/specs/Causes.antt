@@ -1,4 +1,4 @@
--- What each cycle comes to, exactly, and what a fault changes.
+-- The outcome of each cycle, exactly, and what a fault changes.
 use Rattle.std.specs.Prelude.{◌≡◌, ◌↔◌, ℕ}
 use Rattle.mm_word.specs.declared.cause.Cause.{Cause}
 use Rattle.mm_model.specs.declared.step.Tick.TheVariants.{Idle, Blocked, Did, Faulted, Delivered}
@@ -10,27 +10,27 @@ use Rattle.mm_model.specs.Fits.{IsState, Fits}
 use Rattle.mm_model.specs.Outcomes.{IsIdle, Delivers, StopsAt, Blocks, Faults, Completes, FaultChanges}
 use Rattle.mm_model.specs.Run.{turn_of, after}
 
--- a cycle is idle exactly where its item is neither the number of a slot that runs nor a port where a load is pending
+-- a cycle is idle exactly if its item is neither the number of a slot that runs nor a port where a load is pending
 abbrev pub IdleExactly : Type 0
 IdleExactly = (i : Image) (s : State) (n : ℕ) → IsImage i → IsState s → Fits i s → ((turn_of s n).step.tick ≡ Idle)
     ↔ IsIdle s.core n
 
--- it delivers to a register exactly where its item is a port, and the oldest load that is pending there is for this
+-- a cycle delivers to a register exactly if its item is a port, and the oldest load that is pending there is for this
 -- register
 abbrev pub DeliveredExactly : Type 0
 DeliveredExactly = (i : Image) (s : State) (n reg : ℕ) → IsImage i → IsState s → Fits i s
     → ((turn_of s n).step.tick ≡ Delivered reg) ↔ Delivers s.core n reg
 
--- it is blocked exactly where a running slot is named whose turn waits
+-- a cycle is blocked exactly if its item names a running slot whose turn waits
 abbrev pub BlockedExactly : Type 0
 BlockedExactly = (i : Image) (s : State) (n : ℕ) → IsImage i → IsState s → Fits i s
     → ((turn_of s n).step.tick ≡ Blocked) ↔ Blocks s.core s.memory n
 
--- it faults exactly where a running slot is named whose turn stops at this fault and does not wait
+-- a cycle faults exactly if its item names a running slot whose turn stops at this fault and does not wait
 abbrev pub FaultedExactly : Type 0
 FaultedExactly = (s : State) (n : ℕ) (c : Cause) → ((turn_of s n).step.tick ≡ Faulted c) ↔ Faults s.core s.memory n c
 
--- it is carried out exactly where a running slot is named whose turn stops nowhere
+-- a cycle is carried out exactly if its item names a running slot whose turn stops nowhere
 abbrev pub DidExactly : Type 0
 DidExactly = (i : Image) (s : State) (n : ℕ) → IsImage i → IsState s → Fits i s → ((turn_of s n).step.tick ≡ Did)
     ↔ Completes s.core s.memory n

@@ -25,22 +25,22 @@ pub data LinesOf (Passes : ℕ → Type 0) : List (ℕ × Cell) → List ℕ →
 abbrev pub CellLinesOf : Image → (ℕ → Bool) → State → List ℕ → Type 0
 CellLinesOf i c s text = LinesOf (Touchable i All c) (changes s.memory i.memory) text
 
--- there is one such text at most
+-- there is at most one such text
 abbrev pub CellLinesAreOne : Type 0
 CellLinesAreOne = (i : Image) (c : ℕ → Bool) (s : State) (one other : List ℕ) → CellLinesOf i c s one
     → CellLinesOf i c s other → one ≡ other
 
--- there is one
+-- it is impossible that there is no such text
 abbrev pub CellLinesAreSome : Type 0
 CellLinesAreSome = (i : Image) (c : ℕ → Bool) (s : State) → ¬ (¬ ((text : List ℕ) × CellLinesOf i c s text))
 
--- it is the same after two lists whose items of the groups are the same
+-- the text is the same after two lists with the same items of the groups
 abbrev pub CellLinesAreSame : Type 0
 CellLinesAreSame =
     (i j : Image) (c : ℕ → Bool) (s t : List ℕ) → AgreeApart i j c → only i s c ≡ only j t c
     → (text : List ℕ) → CellLinesOf i c (run (start i) s) text ↔ CellLinesOf j c (run (start j) t) text
 
--- its lines are lines of the report, in their order
+-- the lines of the text are lines of the report, in their order
 abbrev pub CellLinesAreWritten : Type 0
 CellLinesAreWritten = (i : Image) (c : ℕ → Bool) (s : State) (counts : Option Counts) (text : List ℕ)
     → CellLinesOf i c s text → AreLinesOf text (report s i counts)

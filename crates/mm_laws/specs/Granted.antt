@@ -1,4 +1,4 @@
--- What a run reaches is granted.
+-- All that a run reaches is granted.
 use Rattle.std.specs.Prelude.{◌≡◌, ◌⊎◌, ℕ, ◌%◌, ◌^◌, ◌<◌, true, List, ◌++◌, Some, IfSome}
 use Rattle.std.specs.List.{AllByRecursion}
 use Rattle.mm_word.specs.declared.perm.Perm.TheVariants.{Eu, Ep}
@@ -71,7 +71,7 @@ pub record WordsGranted (i : Image) (e : Entries) (s : State) : Type 0 where
   pub rows : AllByRecursion (RowGranted i e) s.core.rows
   pub cells : CellsGranted i e s.memory
 
--- 2. What a turn touches, enters and changes.
+-- 2. The accesses, entries and changes of a turn.
 
 -- a pointer that is granted to the group covers the word of an access, with the rights of its kind
 pub record TouchGranted (i : Image) (e : Entries) (g : ℕ) (t : Touch) : Type 0 where
@@ -95,8 +95,8 @@ abbrev pub with_entries : Entries → List (ℕ × Pointer) → Entries
 with_entries All new = All
 with_entries (These list) new = These (list ++ new)
 
--- what is granted of one turn: all words after it, with its entry, in a state that fits again; what it touches and
--- enters; and each word at which it changes, adds or removes a cell
+-- what is granted of one turn: all words after it, with its entry, in a state that fits again; its accesses and its
+-- entry; and each word at which it changes, adds or removes a cell
 pub record StepGranted (i : Image) (e : Entries) (s : State) (n : ℕ) : Type 0 where
   pub state : IsState (after s n)
   pub fits : Fits i (after s n)
@@ -107,23 +107,23 @@ pub record StepGranted (i : Image) (e : Entries) (s : State) (n : ℕ) : Type 0 
 
 -- 3. The laws.
 
--- one turn, of any item, in any state that fits the image and whose words are granted, whatever was entered
+-- one turn, of any item, in any state that fits the image and whose words are granted under any entries, is granted
 abbrev pub GrantsStep : Type 0
 GrantsStep = (i : Image) (e : Entries) (s : State) (n : ℕ) → IsImage i → IsState s → Fits i s → WordsGranted i e s
     → StepGranted i e s n
 
--- what holds of a run's state after a list of items, under the entries that were done in them, whichever item is next
+-- what holds of the state after a list of items, under the entries that were done in them, for any next item
 pub record RunGranted (i : Image) (e : Entries) (s : State) : Type 0 where
   pub words : WordsGranted i e s
   pub next : (n : ℕ) → StepGranted i e s n
 
--- after every list of items
+-- after every list of items the run is granted
 abbrev pub GrantsHold : Type 0
 GrantsHold = (i : Image) (items : List ℕ) → IsImage i
     → RunGranted i (These (entries (start i) items)) (run (start i) items)
 
--- in a state that fits its image and whose words are granted, an event is granted to the group of the slot that it is
--- of too
+-- in a state that fits its image and whose words are granted, an event is granted also to the group of the slot whose
+-- event it is
 abbrev pub EventsGranted : Type 0
 EventsGranted =
     (i : Image) (e : Entries) (s : State) → IsImage i → IsState s → Fits i s → WordsGranted i e s → (h : ℕ)

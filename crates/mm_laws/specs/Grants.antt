@@ -1,11 +1,11 @@
--- What is granted, whatever was entered.
+-- What is granted under any entries.
 use Rattle.std.specs.Prelude.{ℕ, List}
 use Rattle.mm_word.specs.Pointer.{Pointer, IsWellFormed}
 use Rattle.mm_model.specs.Image.{Image}
 use Rattle.mm_model.specs.Reach.{Entries, MayEnter, Grants, CanTouch, CanWrite, Privileged}
 use Rattle.mm_model.specs.Reach.Entries.{All, These}
 
--- what was entered before was entered later
+-- the first entries are among the second
 abbrev pub Grow : Entries → Entries → Type 0
 Grow e f = (g : ℕ) (p : Pointer) → MayEnter e g p → MayEnter f g p
 
@@ -23,6 +23,6 @@ abbrev pub PrivilegedIsGrantedAll : Type 0
 PrivilegedIsGrantedAll =
     (i : Image) (e : Entries) (g : ℕ) (q : Pointer) → Privileged i e g → IsWellFormed q → Grants i e g q
 
--- what can write can touch
+-- a group can touch every word that it can write
 abbrev pub WritingTouches : Type 0
 WritingTouches = (i : Image) (e : Entries) (g w : ℕ) → CanWrite i e g w → CanTouch i e g w

@@ -1,4 +1,4 @@
--- Groups that stand apart see nothing of the others.
+-- Groups that stand apart cannot tell what the others do.
 use Rattle.std.specs.Prelude.{◌≡◌, ℕ, Bool, true, false, List}
 use Rattle.std.specs.List.{filter}
 use Rattle.mm_model.specs.Memory.{cell_at}
@@ -34,7 +34,8 @@ pub record AgreeApart (i j : Image) (c : ℕ → Bool) : Type 0 where
   pub one_apart : Apart i All c
   pub other_apart : Apart j All c
 
--- a state that fits each image, whose words are granted whatever was entered, and which are alike to the groups
+-- two states that each fit their image, with words that are granted if anything may be entered, and that are alike to
+-- the groups
 pub record Worlds (i j : Image) (c : ℕ → Bool) (s t : State) : Type 0 where
   pub one_state : IsState s
   pub one : Fits i s
@@ -46,8 +47,8 @@ pub record Worlds (i j : Image) (c : ℕ → Bool) (s t : State) : Type 0 where
 
 -- 2. The laws.
 
--- The same turn of the groups, which may be one of a port, goes on in both worlds, and tells the same. A turn outside
--- the groups goes on in one of them alone.
+-- The same turn of the groups, which may be one of a port, goes on in both worlds, and has the same step. A turn
+-- outside the groups goes on in one of them alone.
 pub record WorldsGoOn (i j : Image) (c : ℕ → Bool) (s t : State) (n : ℕ) : Type 0 where
   pub both : is_kept i c n ≡ true → Worlds i j c (after s n) (after t n)
   pub step : is_kept i c n ≡ true → (turn_of s n).step ≡ (turn_of t n).step
@@ -58,7 +59,7 @@ abbrev pub WorldsStep : Type 0
 WorldsStep = (i j : Image) (c : ℕ → Bool) (s t : State) (n : ℕ) → AgreeApart i j c → Worlds i j c s t
     → WorldsGoOn i j c s t n
 
--- after two lists whose items of the groups are the same, the groups see the same
+-- after two lists with the same items of the groups, the groups see the same
 pub record SameWorlds (i j : Image) (c : ℕ → Bool) (s t : List ℕ) : Type 0 where
   pub alike : Alike i c (run (start i) s) (run (start j) t)
   pub view : SameView i s j t c
@@ -67,17 +68,18 @@ abbrev pub TwoWorlds : Type 0
 TwoWorlds = (i j : Image) (c : ℕ → Bool) (s t : List ℕ) → AgreeApart i j c → only i s c ≡ only j t c
     → SameWorlds i j c s t
 
--- where groups with a slot stand apart, their slots alone are an image that agrees with the whole on them, and they
--- stand apart in it
+-- if groups with a slot stand apart, the image of their slots alone agrees with the whole image on them, and they stand
+-- apart in it
 abbrev pub AloneAgrees : Type 0
 AloneAgrees = (i : Image) (c : ℕ → Bool) → IsImage i → HasSlot i c → Apart i All c → AgreeApart i (alone i c) c
 
--- and so is each image that extracts them
+-- if groups with a slot stand apart, each image that extracts them agrees with the whole image on them, and they stand
+-- apart in it
 abbrev pub ExtractsAgree : Type 0
 ExtractsAgree = (i : Image) (c : ℕ → Bool) (j : Image) → IsImage i → HasSlot i c → Apart i All c → Extracts i c j
     → AgreeApart i j c
 
--- so what the groups see of a run is what they see alone, of their own items
+-- what the groups see of a run is what they see alone, with their own items
 abbrev pub AloneSeesTheSame : Type 0
 AloneSeesTheSame = (i : Image) (c : ℕ → Bool) (s : List ℕ) → IsImage i → HasSlot i c → Apart i All c
     → SameWorlds i (alone i c) c s (only i s c)

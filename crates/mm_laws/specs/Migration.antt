@@ -1,4 +1,4 @@
--- What a plain image keeps that is migrated to version 2.
+-- A plain image that is migrated to version 2.
 use Rattle.std.specs.Prelude.{◌≡◌, ◌≢◌, ◌↔◌, ℕ, Bool, false, List, Option}
 use Rattle.std.specs.List.{AllByRecursion}
 use Rattle.mm_word.specs.declared.cause.Cause.TheVariants.{OutFull}
@@ -13,7 +13,7 @@ use Rattle.mm_model.specs.Trace.{trace}
 use Rattle.mm_model.specs.Reach.{Entries, CanTouch, CanWrite}
 use Rattle.mm_model.specs.Worlds.{Apart, migrated}
 
--- the report of a run over a memory that tells this of what it was asked for
+-- the report of a run over a memory that tells these counts of its uses
 abbrev pub report_over : (List Use → Option Counts) → Image → List ℕ → List ℕ
 report_over tells i items = report (run (start i) items) i (tells (uses (start i) items))
 
@@ -23,15 +23,15 @@ NoOutputIsFull i items = AllByRecursion (λ (step : Step). step.tick ≢ Faulted
 
 -- two images show the same of their runs, and the same groups reach the same words in both
 pub record ShowsTheSame (i j : Image) (items : List ℕ) : Type 0 where
-  -- over every memory
+  -- the reports are the same over every memory
   pub report : (tells : List Use → Option Counts) → report_over tells i items ≡ report_over tells j items
   pub trace : trace (start i) items ≡ trace (start j) items
   pub can_touch : (e : Entries) (g w : ℕ) → CanTouch i e g w ↔ CanTouch j e g w
   pub can_write : (e : Entries) (g w : ℕ) → CanWrite i e g w ↔ CanWrite j e g w
   pub apart : (e : Entries) (c : ℕ → Bool) → Apart i e c ↔ Apart j e c
 
--- A plain image that is migrated to version 2, and stays plain, shows the same of each list in whose run no output is
--- full. Only an image of version 1 has to meet that: its groups may put out less than those of version 2.
+-- A plain image that is migrated to version 2, and stays plain, shows the same for each list in whose run no output is
+-- full. This condition is only for an image of version 1: its groups may put out less than those of version 2.
 abbrev pub MigrationKeeps : Type 0
 MigrationKeeps = (i : Image) (items : List ℕ) → i.split ≡ false → (i.version ≡ 1 → NoOutputIsFull i items)
     → ShowsTheSame i (migrated i false) items

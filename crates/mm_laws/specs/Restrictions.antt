@@ -1,4 +1,4 @@
--- What stays of a list of items for groups.
+-- The items of a list that stay for groups.
 use Rattle.std.specs.Prelude.{◌≡◌, ℕ, ◌+◌, ◌↔◌, ◌⊎◌, Bool, true, false, List, [], ◌∷◌, ◌++◌, Some}
 use Rattle.mm_model.specs.Slot.{Slot}
 use Rattle.mm_model.specs.State.{slot_at}
@@ -8,15 +8,15 @@ use Rattle.mm_model.specs.Spelling.{IsImage}
 use Rattle.mm_model.specs.Schedule.{only}
 use Rattle.mm_model.specs.Run.{run}
 
--- the item names a slot of the groups or, in a split machine, the port of one
+-- the item names a slot of the groups or, in a split machine, the port of such a slot
 abbrev pub Belongs : Image → (ℕ → Bool) → ℕ → Type 0
 Belongs i c n = HasSlotAt i.slots c n ⊎ ((i.split ≡ true) × ((k : ℕ) × (n ≡ 128 + k) × HasSlotAt i.slots c k))
 
--- an item stays exactly where it belongs to the groups
+-- an item stays exactly if it belongs to the groups
 abbrev pub RestrictionIsExact : Type 0
 RestrictionIsExact = (i : Image) (c : ℕ → Bool) (n : ℕ) → IsImage i → (only i (n ∷ []) c ≡ n ∷ []) ↔ Belongs i c n
 
--- where it does not, nothing takes its place
+-- an item that does not belong to the groups goes, and nothing takes its place
 abbrev pub RestrictionDrops : Type 0
 RestrictionDrops = (i : Image) (c : ℕ → Bool) (n : ℕ) → IsImage i → (only i (n ∷ []) c ≡ []) ↔ (¬ Belongs i c n)
 
@@ -24,11 +24,11 @@ RestrictionDrops = (i : Image) (c : ℕ → Bool) (n : ℕ) → IsImage i → (o
 abbrev pub RestrictionGoesByParts : Type 0
 RestrictionGoesByParts = (i : Image) (c : ℕ → Bool) (a b : List ℕ) → only i (a ++ b) c ≡ only i a c ++ only i b c
 
--- nothing stays for no group
+-- no item stays for no group
 abbrev pub NoGroupKeepsNone : Type 0
 NoGroupKeepsNone = (i : Image) (items : List ℕ) → only i items (λ g. false) ≡ []
 
--- restrictions commute
+-- the order of two restrictions does not matter
 abbrev pub RestrictionsCommute : Type 0
 RestrictionsCommute =
     (i : Image) (items : List ℕ) (c d : ℕ → Bool) → only i (only i items c) d ≡ only i (only i items d) c

@@ -1,4 +1,4 @@
--- What is promised of a whole run: what it touches is granted, and groups that stand apart see what they see alone.
+-- The promises for a whole run: what it touches is granted, and groups that stand apart see what they see alone.
 use Rattle.std.specs.Prelude.{◌≡◌, ◌⊎◌, ℕ, Bool, List, [], ◌∷◌, ◌++◌, Contains, Option, IfSome}
 use Rattle.std.specs.List.{AllByRecursion}
 use Rattle.mm_word.specs.declared.word.Cell.{Cell}
@@ -20,14 +20,14 @@ use Rattle.mm_laws.specs.Granted.{TouchGranted, EntryGranted}
 
 -- 1. Reach.
 
--- Each access of a turn lies in the segment of a pointer that is granted to the slot's group, with the rights of the
+-- Each access of a turn is in the segment of a pointer that is granted to the slot's group, with the rights of the
 -- access's kind. A done entry leaves the slot at the execute form of its enter pointer, with its address, and that
 -- pointer was granted before.
 pub record TurnReaches (i : Image) (e : Entries) (t : Turned) : Type 0 where
   pub touched : AllByRecursion (TouchGranted i e (group_in t)) (touches t.step)
   pub entered : IfSome t.step.entered (EntryGranted i e t)
 
--- so it is for every cycle of a run, under the entries that were done before that cycle
+-- every cycle of a run reaches what is granted, under the entries that were done before that cycle
 abbrev pub Reaches : Image → List ℕ → Type 0
 Reaches i items =
     (before behind : List ℕ) (n : ℕ) → items ≡ before ++ n ∷ behind
@@ -39,14 +39,14 @@ Reaches i items =
 abbrev pub EndsALine : List ℕ → Type 0
 EndsALine text = (text ≡ []) ⊎ ((rest : List ℕ) × (text ≡ rest ++ newline))
 
--- The lines of one text are lines of another, in their order: these are the other's lines with some of them left out.
+-- The lines of one text are lines of another, in their order: the other's lines with some of them left out.
 pub data AreLinesOf : List ℕ → List ℕ → Type 0 where
   no_line : AreLinesOf [] []
   kept : {text lines whole : List ℕ} → EndsALine text → AreLinesOf lines whole
       → AreLinesOf (text ++ lines) (text ++ whole)
   left_out : {text lines whole : List ℕ} → EndsALine text → AreLinesOf lines whole → AreLinesOf lines (text ++ whole)
 
--- The line, which has its newline, is one of the text's: it begins where the text does, or behind a newline.
+-- The line, with its newline, is one of the text's: it begins at the text's beginning or after a newline.
 pub record IsLineOf (line text : List ℕ) : Type 0 where
   pub before : List ℕ
   pub behind : List ℕ
@@ -55,8 +55,8 @@ pub record IsLineOf (line text : List ℕ) : Type 0 where
 
 -- 3. Isolation.
 
--- The groups see of a run what they see of a run without the others, under their own items; and their sections of the
--- report, and the line of each changed cell that they can touch, are lines of what was written.
+-- The groups see of a run what they see of a run without the others, with their own items; their sections of the
+-- report, and the line of each changed cell that they can touch, are lines of the written text.
 pub record Isolates (i : Image) (items : List ℕ) (written : List ℕ) (c : ℕ → Bool) : Type 0 where
   pub view : SameView i items (alone i c) (only i items c) c
   pub sections : AreLinesOf (sections_of c (run (start i) items).core) written
@@ -68,7 +68,7 @@ pub record Isolates (i : Image) (items : List ℕ) (written : List ℕ) (c : ℕ
 abbrev pub RunsReach : Type 0
 RunsReach = (i : Image) (items : List ℕ) → IsImage i → Reaches i items
 
--- whatever the memory counted
+-- runs isolate groups that have a slot and stand apart, whatever the memory counted
 abbrev pub RunsIsolate : Type 0
 RunsIsolate =
     (i : Image) (items : List ℕ) (counts : Option Counts) (c : ℕ → Bool) → IsImage i → HasSlot i c → Apart i All c

@@ -1,4 +1,4 @@
--- What schedules mean, and what round robin issues.
+-- The meaning of schedules, and the items that round robin issues.
 use Rattle.std.specs.Prelude.{◌≡◌, ℕ, ◌<◌, ◌≤◌, ◌⊎◌, true, List, ◌∷◌, ◌++◌, length, Option, Some, None}
 use Rattle.mm_model.specs.Slot.{Slot}
 use Rattle.mm_model.specs.State.{Core, State, slot_at}
@@ -9,19 +9,19 @@ use Rattle.mm_model.specs.Fits.{IsState}
 
 -- 1. Texts.
 
--- a text means one list at most
+-- a text means at most one list
 abbrev pub MeanOneList : Type 0
 MeanOneList = (text a b : List ℕ) → Means text a → Means text b → a ≡ b
 
--- its fault is at one place at most
+-- the fault of a text is at one place at most
 abbrev pub FaultOnce : Type 0
 FaultOnce = (text : List ℕ) (p q : ℕ) → FaultsAt text p → FaultsAt text q → p ≡ q
 
--- it never has both
+-- a text never has both a meaning and a fault
 abbrev pub NeverBoth : Type 0
 NeverBoth = (text items : List ℕ) (p : ℕ) → Means text items → ¬ FaultsAt text p
 
--- and always one of the two
+-- a text always has a meaning or a fault
 abbrev pub AlwaysOne : Type 0
 AlwaysOne = (text : List ℕ) → ((items : List ℕ) × Means text items) ⊎ ((p : ℕ) × FaultsAt text p)
 
@@ -40,7 +40,7 @@ NoneRuns core Passes = (n : ℕ) → Passes n → ¬ RunsAt core n
 abbrev pub AnyNumber : ℕ → Type 0
 AnyNumber n = Unit {0}
 
--- the least running slot of those whose number passes
+-- the least running slot among those whose number passes
 pub record IsLeast (core : Core) (Passes : ℕ → Type 0) (n : ℕ) : Type 0 where
   pub runs : RunsAt core n
   pub passes : Passes n
@@ -55,13 +55,13 @@ IsNext core (Some last) n = IsLeast core (λ m. last < m) n ⊎ (NoneRuns core (
 abbrev pub RobinIsShort : Type 0
 RobinIsShort = (s : State) (last : Option ℕ) (count : ℕ) → length (robin_from s last count) ≤ count
 
--- it issues fewer only where no slot runs any more
+-- round robin issues fewer items only if no slot runs any more
 abbrev pub RobinEndsWhereNoneRuns : Type 0
 RobinEndsWhereNoneRuns =
     (s : State) (last : Option ℕ) (count : ℕ) → length (robin_from s last count) < count
     → NoneRuns (run s (robin_from s last count)).core AnyNumber
 
--- each of its items names the next running slot when its turn comes
+-- each item of round robin names the next running slot when its turn comes
 abbrev pub RobinIssuesTheNext : Type 0
 RobinIssuesTheNext =
     (s : State) (last : Option ℕ) (count : ℕ) → IsState s → (before : List ℕ) (n : ℕ) (behind : List ℕ)

@@ -1,4 +1,4 @@
--- What each state of a run is.
+-- The states of a run.
 use Rattle.std.specs.Prelude.{◌≡◌, ℕ, ◌+◌, ◌≤◌, ◌⊎◌, true, List, length, Some}
 use Rattle.std.specs.List.{AllByRecursion}
 use Rattle.mm_model.specs.declared.event.Event.{Event}
@@ -16,29 +16,28 @@ use Rattle.mm_model.specs.Fits.{is_waiting, events_of, IsState, Fits, EventsAreA
 abbrev pub StartsFit : Type 0
 StartsFit = (i : Image) → IsImage i → IsState (start i) × Fits i (start i) × TurnsWithin (start i)
 
--- it keeps what the types of a machine keep besides
+-- the machine's start keeps the invariants of a machine's types
 abbrev pub StartsAreKept : Type 0
 StartsAreKept = (i : Image) → IsImage i → IsKept (start i).core
 
--- one turn, of any item, leaves a state, whatever there was to fit
+-- a turn, of any item, leaves a state, also if that does not fit an image
 abbrev pub TurnsKeepStates : Type 0
 TurnsKeepStates = (s : State) (n : ℕ) → IsState s → IsState (after s n)
 
--- it keeps a state that fits an image
+-- a turn keeps a state that fits an image
 abbrev pub TurnsKeepFit : Type 0
 TurnsKeepFit = (i : Image) (s : State) (n : ℕ) → IsImage i → IsState s → Fits i s → Fits i (after s n)
 
--- and of such a state what the types keep besides
+-- a turn keeps the invariants of the types, in a state that fits an image
 abbrev pub TurnsKeepTypes : Type 0
 TurnsKeepTypes =
     (i : Image) (s : State) (n : ℕ) → IsImage i → IsState s → Fits i s → IsKept s.core → IsKept (after s n).core
 
--- and no slot takes more turns than there are cycles
+-- a turn keeps the bound: no slot has taken more turns than there were cycles
 abbrev pub TurnsKeepBound : Type 0
 TurnsKeepBound = (i : Image) (s : State) (n : ℕ) → IsState s → Fits i s → TurnsWithin s → TurnsWithin (after s n)
 
--- what a cycle does to the turns of a slot: they stay, or they rise by one where it is the running slot that the item
--- names
+-- the turns of a slot after a cycle: they stay, or they rise by one if it is the running slot that the item names
 pub record TakesTurn (s : State) (n k : ℕ) (now : Slot) : Type 0 where
   pub was : Slot
   pub stands : slot_at s.core k ≡ Some was
@@ -49,15 +48,15 @@ abbrev pub OneSlotTakesTurns : Type 0
 OneSlotTakesTurns = (i : Image) (s : State) (n k : ℕ) (now : Slot) → IsState s → Fits i s
     → slot_at (after s n).core k ≡ Some now → TakesTurn s n k now
 
--- after any list of items there is a state that fits its image
+-- the state after any list of items fits the image
 abbrev pub RunsFit : Type 0
 RunsFit = (i : Image) (items : List ℕ) → IsImage i → IsState (run (start i) items) × Fits i (run (start i) items)
 
--- it keeps what the types of a machine keep besides
+-- the state after any list of items keeps the invariants of a machine's types
 abbrev pub RunsAreKept : Type 0
 RunsAreKept = (i : Image) (items : List ℕ) → IsImage i → IsKept (run (start i) items).core
 
--- and no slot has taken more turns than there were cycles
+-- after any list of items no slot has taken more turns than there were cycles
 abbrev pub RunsKeepBound : Type 0
 RunsKeepBound = (i : Image) (items : List ℕ) → IsImage i → TurnsWithin (run (start i) items)
 
@@ -74,12 +73,12 @@ pub record WaitsFor (s : State) (h : ℕ) (e : Event) : Type 0 where
 abbrev pub QueuedSlotsWait : Type 0
 QueuedSlotsWait = (i : Image) (s : State) → Fits i s → (h : ℕ) → AllByRecursion (WaitsFor s h) (queue_at s.core h)
 
--- the slot stands where the event says
+-- the slot's instruction pointer is that of the event
 pub record WaitsAt (s : State) (h : ℕ) (e : Event) : Type 0 where
   pub waits : WaitsFor s h e
   pub ip : e.ip ≡ waits.of.ip
 
--- it does so where events have the instruction pointers of their slots
+-- queued slots have the instruction pointers of their events, if all events have those of their slots
 abbrev pub QueuedSlotsStand : Type 0
 QueuedSlotsStand = (i : Image) (s : State) → Fits i s → EventsAreAtSlots s.core → (h : ℕ)
     → AllByRecursion (WaitsAt s h) (queue_at s.core h)
@@ -97,7 +96,7 @@ WaitingSlotsAreQueued = (i : Image) (s : State) → Fits i s → (n : ℕ) (x : 
 
 -- 3. Short lists.
 
--- no queue is longer than there can be slots
+-- no queue is longer than the count of slots that there can be
 abbrev pub QueuesAreShort : Type 0
 QueuesAreShort = (i : Image) (s : State) → IsState s → Fits i s → (h : ℕ) → length (queue_at s.core h) ≤ 64
 

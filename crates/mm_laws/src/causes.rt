@@ -1,8 +1,8 @@
-//! What each cycle comes to, exactly, and what a fault changes.
+//! The outcome of each cycle, exactly, and what a fault changes.
 ghost use Rattle.mm_laws.specs.Causes.{IdleExactly, DeliveredExactly, BlockedExactly, FaultedExactly, DidExactly};
 ghost use Rattle.mm_laws.specs.Causes.{FaultsChangeNothingElse};
 
-/// The item of a cycle, and the first test of the turn that fails, decide what the cycle comes to.
+/// The item of a cycle, and the first test of the turn that fails, decide the outcome of the cycle.
 pub fn cycles_end_exactly()
     ensures idle { IdleExactly }
     ensures delivered { DeliveredExactly }

@@ -1,8 +1,8 @@
 //! The lines of the cells that groups can touch, as one text.
 ghost use Rattle.mm_laws.specs.CellLines.{CellLinesAreOne, CellLinesAreSome, CellLinesAreSame, CellLinesAreWritten};
 
-/// The lines of the changed cells that groups can touch are one text, and there is one; two runs whose items of the
-/// groups are the same have the same; and its lines are lines of the report.
+/// At most one text has the lines of the changed cells that groups can touch, and it is impossible that there is none.
+/// Two runs with the same items of the groups have the same text. Its lines are lines of the report.
 pub fn cell_lines_are_texts()
     ensures one { CellLinesAreOne }
     ensures some { CellLinesAreSome }

@@ -1,8 +1,8 @@
-//! What the counts of a list of uses sum to, and what is counted.
+//! The sums of the counts of a list of uses, and what is counted.
 ghost use Rattle.mm_laws.specs.Counts.{HitsAndMisses, WritebacksAreFew, LookUpsAreMissesAndWritebacks, HitsAreExact};
 ghost use Rattle.mm_laws.specs.Counts.{WrittenIsExact};
 
-/// Hits and misses sum to the counted accesses; write-backs are no more than misses; look-ups are misses and
+/// Hits and misses sum to the counted accesses; write-backs are no more than misses; page look-ups sum to misses and
 /// write-backs.
 pub fn counts_sum()
     ensures accesses { HitsAndMisses }
@@ -10,7 +10,7 @@ pub fn counts_sum()
     ensures look_ups { LookUpsAreMissesAndWritebacks }
 {}
 
-/// A hit and a written block are what the list of uses says they are.
+/// An access is counted as a hit, and a block as written, exactly if the list of uses says so.
 pub fn counts_are_exact()
     ensures hits { HitsAreExact }
     ensures written { WrittenIsExact }

@@ -1,7 +1,7 @@
-//! What a run reaches is granted.
+//! All that a run reaches is granted.
 ghost use Rattle.mm_laws.specs.Granted.{GrantsStep, GrantsHold, EventsGranted};
 
-/// One turn, of any item and in any state whose words are granted, keeps them granted with the entry that it does, and
+/// A turn, of any item and in any state whose words are granted, keeps them granted with the entry that it does, and
 /// touches, enters and changes only what is granted.
 pub fn grants_step()
     ensures { GrantsStep }
@@ -13,7 +13,7 @@ pub fn grants_hold()
     ensures { GrantsHold }
 {}
 
-/// A queued event is granted to the group of its own slot as well as to the group of the slot whose queue it is in.
+/// A queued event is granted to the group of its own slot, and to the group of the slot whose queue it is in.
 pub fn events_granted()
     ensures { EventsGranted }
 {}

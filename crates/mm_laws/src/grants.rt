@@ -1,7 +1,7 @@
-//! What is granted, whatever was entered.
+//! What is granted under any entries.
 ghost use Rattle.mm_laws.specs.Grants.{GrantsGrow, AllGrantMost, PrivilegedIsGrantedAll, WritingTouches};
 
-/// Grants grow with entries, and those under all entries contain those under every list.
+/// Grants grow with entries, and the grants under all entries contain those under every list.
 pub fn grants_grow()
     ensures grow { GrantsGrow }
     ensures most { AllGrantMost }
@@ -12,7 +12,7 @@ pub fn privileged_is_granted_all()
     ensures { PrivilegedIsGrantedAll }
 {}
 
-/// What a group can write it can touch.
+/// A group can touch every word that it can write.
 pub fn writing_touches()
     ensures { WritingTouches }
 {}

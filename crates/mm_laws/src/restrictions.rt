@@ -1,8 +1,8 @@
-//! What stays of a list of items for groups.
+//! The items of a list that stay for groups.
 ghost use Rattle.mm_laws.specs.Restrictions.{RestrictionIsExact, RestrictionDrops, RestrictionGoesByParts};
 ghost use Rattle.mm_laws.specs.Restrictions.{NoGroupKeepsNone, RestrictionsCommute, OthersTakeNoTurn};
 
-/// An item stays exactly where it belongs to the groups; order and repeats stay.
+/// An item stays exactly if it belongs to the groups. Order and repeats stay.
 pub fn restrictions_are_exact()
     ensures stays { RestrictionIsExact }
     ensures goes { RestrictionDrops }
@@ -10,7 +10,7 @@ pub fn restrictions_are_exact()
     ensures to_none { NoGroupKeepsNone }
 {}
 
-/// Restrictions commute.
+/// The order in which a list is restricted to two sets of groups does not matter.
 pub fn restrictions_commute()
     ensures { RestrictionsCommute }
 {}

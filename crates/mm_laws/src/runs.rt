@@ -1,4 +1,4 @@
-//! What is promised of a whole run.
+//! The promises for a whole run.
 ghost use Rattle.mm_laws.specs.Runs.{RunsReach, RunsIsolate};
 
 /// Each access of every cycle is granted to the slot's group under the entries so far, with the rights of its kind, and

@@ -1,17 +1,17 @@
-//! What each state of a run is.
+//! The states of a run.
 ghost use Rattle.mm_laws.specs.States.{StartsFit, StartsAreKept, TurnsKeepStates, TurnsKeepFit, TurnsKeepTypes};
 ghost use Rattle.mm_laws.specs.States.{TurnsKeepBound, OneSlotTakesTurns, RunsFit, RunsAreKept, RunsKeepBound};
 ghost use Rattle.mm_laws.specs.States.{QueuedSlotsWait, QueuedSlotsStand, WaitingSlotsAreQueued, QueuesAreShort};
 ghost use Rattle.mm_laws.specs.States.{PendingIsShort};
 
-/// The machine's start is a state that fits its image, and keeps what the types keep.
+/// The machine's start is a state that fits its image, and keeps the invariants of the types.
 pub fn starts_fit()
     ensures fit { StartsFit }
     ensures kept { StartsAreKept }
 {}
 
-/// One turn leaves a state, keeps one that fits an image, then keeps what the types keep, and the bound of turns by
-/// cycles; only the running slot that it names takes it.
+/// A turn leaves a state. It keeps a state that fits an image, then also the invariants of the types, and the bound of
+/// turns by cycles. Only the running slot that the item names takes a turn.
 pub fn turns_keep_fit()
     ensures states { TurnsKeepStates }
     ensures fit { TurnsKeepFit }
@@ -20,23 +20,23 @@ pub fn turns_keep_fit()
     ensures one_slot { OneSlotTakesTurns }
 {}
 
-/// After any list of items there is a state that fits its image and keeps what the types keep, and no slot has taken
-/// more turns than there were cycles.
+/// After any list of items the state fits its image and keeps the invariants of the types, and no slot has taken more
+/// turns than there were cycles.
 pub fn runs_fit()
     ensures fit { RunsFit }
     ensures kept { RunsAreKept }
     ensures bound { RunsKeepBound }
 {}
 
-/// Where a state fits an image, waiting slots and queued events match one to one.
+/// If a state fits an image, waiting slots and queued events match one to one.
 pub fn waiting_slots_match_events()
     ensures queued { QueuedSlotsWait }
     ensures stand { QueuedSlotsStand }
     ensures waiting { WaitingSlotsAreQueued }
 {}
 
-/// Where a state fits an image, no queue is longer than there can be slots, and no list of pending loads than there are
-/// registers.
+/// If a state fits an image, no queue is longer than the count of slots that there can be, and no list of pending loads
+/// longer than the count of registers.
 pub fn lists_are_short()
     ensures queues { QueuesAreShort }
     ensures pending { PendingIsShort }

@@ -44,7 +44,7 @@ says text claim statement = (
   },
 )
 
--- a text that begins with its statement, which claims this and has this fault, so many bytes before the end
+-- a text that begins with its statement, which claims this and has this fault, `left` bytes before the end
 abbrev pub fails : String → Option Claim → Fault → ℕ → Example
 fails text claim fault left = (
   codes text,

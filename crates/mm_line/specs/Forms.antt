@@ -52,7 +52,7 @@ has_form Plus bytes = is_sign (code "+") bytes
 has_form Bad bytes = true
 has_form End bytes = true
 
--- a token has its form, and none that begins at its place is longer; where a bad byte is, none begins
+-- a token has its form, and none that begins at its place is longer; none begins at a bad byte
 pub record IsLongest (n : Next) : Type 0 where
   pub form : has_form n.token n.text ≡ true
   pub longest : n.token ≢ End → (k : ℕ) → length n.text < k → k ≤ length (n.text ++ n.rest)

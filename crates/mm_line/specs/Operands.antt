@@ -33,7 +33,7 @@ operand_of kind.Pre n = word_of pres n >>= λ p. Ok (operand.Pre p)
 operand_of kind.Post n = word_of posts n >>= λ p. Ok (operand.Post p)
 operand_of kind.How n = word_of hows n >>= λ h. Ok (operand.How h)
 
--- a name in the place of a distance is a label, whose distance is 0 until it is known
+-- a name in place of a distance is a label, whose distance is 0 until it is known
 abbrev pub is_goal : OperandKind → Token → Bool
 is_goal kind.Distance Name = true
 is_goal _ _ = false
@@ -45,7 +45,7 @@ with_operand kind code n =
     then (name_of n >>= λ mark. Ok (record { fields = put code.fields (operand.Distance (pos 0)); goal = Some mark }))
     else (operand_of kind n >>= λ operand. Ok (record code { fields = put code.fields operand }))
 
--- an operand, and the line behind it
+-- an operand, and the line after it
 unfoldable pub operand_at : OperandKind → Code → List ℕ → Result (Code × List ℕ) Problem
 operand_at kind code line = do
   code ← with_operand kind code (next_token line)
@@ -54,7 +54,7 @@ operand_at kind code line = do
 abbrev pub comma_of : Next → Result (List ℕ) Problem
 comma_of n = elim n.token [ Comma ↦ Ok n.rest | _ ↦ Err (wrong n) ]
 
--- further operands, each behind a comma
+-- further operands, each after a comma
 unfoldable pub more_at : List OperandKind → Code → List ℕ → Result (Code × List ℕ) Problem
 more_at [] code line = Ok (code, line)
 more_at (kind ∷ kinds) code line = do
@@ -73,6 +73,6 @@ operands_at (kind ∷ kinds) code line = do
 abbrev pub bare : Form → Code
 bare form = record { fields = unused form.code; goal = None }
 
--- the operands of an operation
+-- the operation of a form with its operands, and the line after them
 unfoldable pub code_at : Form → List ℕ → Result (Code × List ℕ) Problem
 code_at form line = operands_at form.kinds (bare form) line

@@ -1,4 +1,4 @@
--- In which ranges the values of a line are, and where its places lie: at most so many bytes before the line's end.
+-- The ranges of a line's values, and of its places: at most `most` bytes before the line's end.
 use Rattle.std.specs.Prelude.{◌≡◌, ◌≢◌, ℕ, ◌^◌, ◌<◌, ◌≤◌, true, length, Option, Some, None, Result, Ok, Err}
 use Rattle.mm_word.specs.Perm.{can_fetch}
 use Rattle.mm_isa.specs.declared.instr.Instr.{Instr}
@@ -65,7 +65,7 @@ pub record IsProblem (most : ℕ) (p : Problem) : Type 0 where
   pub number : number_of p.fault ≤ 4
   pub place : p.left ≤ most
 
--- what was read, or its fault
+-- what was read is as P says, or its fault is one that a line has by itself
 pub record Reads {A : Type 0} (most : ℕ) (P : A → Type 0) (r : Result A Problem) : Type 0 where
   pub ok : (x : A) → r ≡ Ok x → P x
   pub err : (p : Problem) → r ≡ Err p → IsProblem most p
@@ -77,7 +77,7 @@ IsClaim most (Some (claims.Segment name)) = IsMark most name
 IsClaim most (Some (claims.Slot slot left)) = (slot < 16) × (left ≤ most)
 IsClaim most (Some (claims.Register number left)) = (number < 16) × (left ≤ most)
 
--- all of a statement stands at its first token or behind it
+-- all places of a statement are at its first token or after it
 pub record IsBody (most : ℕ) (b : Body) : Type 0 where
   pub place : b.left ≤ most
   pub claim : IsClaim b.left b.claim

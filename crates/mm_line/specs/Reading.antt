@@ -13,7 +13,7 @@ use Rattle.mm_line.specs.Tokens.{Next}
 use Rattle.mm_line.specs.Words.{Table, look_up, register_named}
 
 infixl 10 ◌>>=◌
--- what is read next, where no fault came before
+-- what is read next, if no fault came before
 abbrev pub ◌>>=◌ : {A B : Type 0} → Result A Problem → (A → Result B Problem) → Result B Problem
 (Ok x) >>= f = f x
 (Err e) >>= f = Err e
@@ -38,11 +38,11 @@ name_of n = elim n.token [
   | _ ↦ Err (wrong n)
 ]
 
--- what a name says, where it is known
+-- what a name says, if it is known
 abbrev pub known : {A : Type 0} → Option A → Next → Result A Problem
 known value n = elim n.token [ Name ↦ ok_or value (at faults.Name n) | _ ↦ Err (wrong n) ]
 
--- a word of a table
+-- what a word of a table says
 abbrev pub word_of : {A : Type 0} → Table A → Next → Result A Problem
 word_of table n = known (look_up table n.text) n
 
@@ -66,7 +66,7 @@ between low high negative m = if nat_le low m && nat_le m high && (not negative 
 abbrev pub number_of : ℕ → ℕ → Next → Result ℕ Problem
 number_of low high n = ranged (between low high) n
 
--- m or, where that is negative, -m, modulo a number that is not below m
+-- m or, if it is negative, -m, modulo a number that is not below m
 abbrev pub modulo : ℕ → Bool → ℕ → ℕ
 modulo n true m = (n - m) % n
 modulo n false m = m % n

@@ -1,4 +1,4 @@
--- Where a token stands in its line.
+-- The place of a token in its line.
 use Rattle.std.specs.Prelude.{◌≡◌, ◌≢◌, ℕ, ◌-◌, ◌<◌, ◌≤◌, true, List, ◌++◌, length, take, drop}
 use Rattle.std.specs.List.{list_all}
 use Rattle.mm_line.specs.declared.class.Class.TheVariants.{Blank}
@@ -6,11 +6,11 @@ use Rattle.mm_line.specs.declared.token.Token.{Token}
 use Rattle.mm_line.specs.declared.token.Token.TheVariants.{End}
 use Rattle.mm_line.specs.Tokens.{Next, is_in}
 
--- a token that stands first, with these bytes and this line behind it
+-- a token at the front of a line, with these bytes and this line after it
 abbrev pub written : Token → List ℕ → List ℕ → Next
 written token text rest = record { token = token; text = text; left = length (text ++ rest); rest = rest }
 
--- a token with the line behind it is what is left of its line at its place, and only blanks are before it
+-- a token and the line after it are what is left of the line at its place, and only blanks are before it
 pub record StandsIn (line : List ℕ) (n : Next) : Type 0 where
   pub place : n.left ≤ length line
   pub bytes : n.text ++ n.rest ≡ drop (length line - n.left) line

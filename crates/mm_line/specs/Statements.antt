@@ -27,7 +27,7 @@ use Rattle.mm_line.specs.Words.{look_up, directives, perms, ip_perms}
 use Rattle.mm_line.specs.Reading.{◌>>=◌, at, wrong, name_of, word_of, number_of, integer_of, handler_of}
 use Rattle.mm_line.specs.Operands.{code_at}
 
--- what is added to a target's name, and the line behind it: nothing of it, or `+` and a number
+-- the addend of a target and the line after it: 0 and the whole line, or the number after `+`
 unfoldable pub addend_at : List ℕ → Result (ℕ × List ℕ) Problem
 addend_at line =
     let plus = next_token line in
@@ -54,7 +54,7 @@ pointer_at line = do
   target ← target_at (next_token line).rest
   Ok (Pointer perm target.0, target.1)
 
--- a constant behind the word that says which it is
+-- a constant after the word that says its kind, and the line after it
 unfoldable pub constant_at : List ℕ → Result (Constant × List ℕ) Problem
 constant_at line =
     let kind = next_token line in
@@ -62,7 +62,7 @@ constant_at line =
     else if bytes_eq kind.text (codes "ptr") then pointer_at kind.rest
     else Err (wrong kind)
 
--- the content of a word whose directive this is. Another directive is this fault
+-- the content of a word that begins with this directive. A directive that begins none is the given fault
 unfoldable pub content_by_directive : Fault → Option Directive → Next → Result (Content × List ℕ) Problem
 content_by_directive fault (Some directive.Int) n = integer_at n.rest >>= λ x. Ok (content.Constant x.0, x.1)
 content_by_directive fault (Some directive.Ptr) n = pointer_at n.rest >>= λ x. Ok (content.Constant x.0, x.1)
@@ -122,7 +122,7 @@ register_at line = do
   value ← constant_at (next_token line).rest
   Ok (Register number value.0, value.1)
 
--- the statement that begins with this token, which is this directive or of a word, and the line behind it
+-- the statement that begins with this token, of this directive or of a word, and the line after it
 unfoldable pub front_by : Option Directive → Next → Result (Statement × List ℕ) Problem
 front_by (Some directive.Spare) n = spare_at n.rest
 front_by (Some directive.Segment) n = segment_at n.rest
@@ -132,18 +132,18 @@ front_by (Some directive.Thread) n = thread_at n.rest
 front_by (Some directive.Reg) n = register_at n.rest
 front_by _ n = word true (content_of faults.Name n)
 
--- nothing more is in the line
+-- the line ends at this token
 abbrev pub end_of : Next → Result (Unit {0}) Problem
 end_of n = elim n.token [ tokens.End ↦ Ok tt | _ ↦ Err (wrong n) ]
 
--- the statement that begins with this token, with nothing behind it in the line
+-- the statement that begins with this token, with nothing after it in the line
 unfoldable pub statement_of : Next → Result Statement Problem
 statement_of n = do
   front ← front_by (look_up directives n.text) n
   end ← end_of (next_token front.1)
   Ok front.0
 
--- what the statement of this directive names that may be there already, wherever its own token is good
+-- what the statement of this directive names that may be there already, if its own token is good
 abbrev pub claim_by : Option Directive → Next → Next → Option Claim
 claim_by (Some directive.Spare) first second = Some (claims.Spare first.left)
 claim_by (Some directive.Segment) first second = option_map claims.Segment (result_ok (name_of second))

@@ -10,7 +10,7 @@ use Rattle.mm_line.specs.declared.class.Class.TheVariants.{Blank, Letter, NameBy
 use Rattle.mm_line.specs.declared.token.Token.{Token}
 use Rattle.mm_line.specs.declared.token.Token.TheVariants.{Name, Directive, Number, Wide, Comma, Colon, Plus, Bad, End}
 
--- the kinds of bytes
+-- a byte is of this kind
 abbrev pub is_in : Class → ℕ → Bool
 is_in Blank b = b == code " " || b == code "\t" || b == code "\r"
 is_in Letter b = is_ascii_alphabetic b || b == code "_"
@@ -18,7 +18,7 @@ is_in NameByte b = is_ascii_alphabetic b || b == code "_" || is_digit b 10
 is_in Decimal b = is_digit b 10
 is_in Hexadecimal b = is_digit b 16
 
--- how many bytes at the front are of this kind
+-- the count of bytes of this kind at the front
 abbrev pub run : Class → List ℕ → ℕ
 run c bytes = prefix_len (is_in c) bytes
 
@@ -27,12 +27,12 @@ abbrev pub starts : Class → List ℕ → Bool
 starts c [] = false
 starts c (b ∷ bytes) = is_in c b
 
--- this byte stands first, and what is behind it passes a test
+-- this byte is first, and what follows it passes a test
 abbrev pub behind : ℕ → (List ℕ → Bool) → List ℕ → Bool
 behind byte test [] = false
 behind byte test (b ∷ bytes) = b == byte && test bytes
 
--- `0x` and a hexadecimal digit stand first
+-- `0x` and a hexadecimal digit come first
 abbrev pub starts_hexadecimal : List ℕ → Bool
 starts_hexadecimal bytes = behind (code "0") (behind (code "x") (starts Hexadecimal)) bytes
 
@@ -49,18 +49,18 @@ decimal negative bytes = number negative (digits_value 10 (take (run Decimal byt
 abbrev pub hexadecimal : List ℕ → Token
 hexadecimal bytes = number false (digits_value 16 (take (run Hexadecimal bytes) bytes))
 
--- a token, its bytes, its place, which is how many bytes of the line begin with it, and the line behind it
+-- a token, its bytes, its place, which is the count of bytes of the line from the token on, and the line after it
 pub record Next : Type 0 where
   pub token : Token
   pub text : List ℕ
   pub left : ℕ
   pub rest : List ℕ
 
--- a token of so many bytes at the front of what is left of a line
+-- a token of `size` bytes at the front of what is left of a line
 abbrev pub front : Token → ℕ → List ℕ → Next
 front token size at = record { token = token; text = take size at; left = length at; rest = drop size at }
 
--- no token is left. A missing one has its place at the line's end
+-- no token is left. A missing token has its place at the line's end
 abbrev pub end : Next
 end = record { token = End; text = []; left = 0; rest = [] }
 
@@ -80,6 +80,6 @@ token_at (b ∷ bytes) =
     else if is_in Decimal b then front (decimal false at) (run Decimal at) at
     else front Bad 1 at
 
--- the next token of a line, behind any blanks
+-- the next token of a line, after any blanks
 unfoldable pub next_token : List ℕ → Next
 next_token line = token_at (drop (run Blank line) line)

@@ -14,7 +14,7 @@ use Rattle.mm_isa.specs.declared.instr.How.TheVariants.{Retry, Skip, Kill}
 use Rattle.mm_line.specs.declared.words.Directive.{Directive}
 use Rattle.mm_line.specs.declared.words.Directive.TheVariants.{Spare, Segment, Int, Ptr, Fill, Empty, Thread, Reg}
 
--- words, each beside what it says
+-- words, each with what it says
 abbrev pub Table : Type 0 → Type 0
 Table A = List (List ℕ × A)
 
@@ -50,15 +50,15 @@ perms =
 abbrev pub ip_perms : Table Perm
 ip_perms = (codes "xu", Xu) ∷ (codes "xp", Xp) ∷ []
 
--- what the synchronisation bit must be
+-- the words for what the synchronisation bit must be
 abbrev pub pres : Table Pre
 pres = (codes "any", pre.Any) ∷ (codes "full", pre.Full) ∷ (codes "empty", pre.Empty) ∷ []
 
--- and what it becomes
+-- the words for what the synchronisation bit becomes
 abbrev pub posts : Table Post
 posts = (codes "keep", post.Keep) ∷ (codes "full", post.Full) ∷ (codes "empty", post.Empty) ∷ []
 
--- the ways to resume
+-- the words for the ways to resume
 abbrev pub hows : Table How
 hows = (codes "retry", Retry) ∷ (codes "skip", Skip) ∷ (codes "kill", Kill) ∷ []
 

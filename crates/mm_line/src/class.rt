@@ -1,14 +1,16 @@
+//! The kinds of bytes in a line.
+
 ghost use Rattle.std.specs.Prelude.{◌≡◌, ◌≤◌, length};
 ghost use Rattle.mm_line.specs.Tokens.{is_in, run, starts, behind};
 
-/// A kind of byte that a run is made of.
+/// A kind of byte, of which a run is made.
 #[derive(Clone, Copy)]
 pub(crate) enum Class {
     /// A space, a tab or a carriage return.
     Blank,
-    /// What a name begins with: a letter or `_`.
+    /// The first byte of a name: a letter or `_`.
     Letter,
-    /// What it goes on with: a letter, `_` or a digit.
+    /// A further byte of a name: a letter, `_` or a digit.
     NameByte,
     Decimal,
     Hexadecimal,
@@ -30,7 +32,7 @@ impl Class {
         }
     }
 
-    /// How many bytes at the front are of this kind.
+    /// The count of bytes of this kind at the front.
     pub(crate) fn run(self, bytes: &[u8]) -> usize
         ensures is { result ≡ run self bytes.now }
         ensures within { result ≤ length bytes.now }
@@ -48,7 +50,7 @@ impl Class {
         }
     }
 
-    /// Whether this byte stands first, and behind it one of this kind.
+    /// Whether `byte` is first, and one of this kind follows it.
     pub(crate) fn follows(self, byte: u8, bytes: &[u8]) -> bool
         ensures { result ≡ behind byte (starts self) bytes.now }
     {

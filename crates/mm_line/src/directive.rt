@@ -1,3 +1,5 @@
+//! The statements of directives.
+
 ghost use Rattle.std.specs.Prelude.{◌≡◌};
 ghost use Rattle.mm_line.specs.Seen.{seen, Gives};
 ghost use Rattle.mm_line.specs.Tokens.{next_token};
@@ -80,7 +82,7 @@ fn register(line: &[u8]) -> Result<(Statement<'_>, &[u8]), Problem>
     Ok((Statement::Register { number, value }, rest))
 }
 
-/// A word in a full or an empty cell.
+/// The statement of a word in a full or an empty cell.
 fn word<'a>(full: bool, fault: Fault, next: Next<'a>) -> Result<(Statement<'a>, &'a [u8]), Problem>
     ensures { Gives (λ x. (x.0, x.1.now)) result (word full (content_of fault (seen next.entry))) }
 {
@@ -88,7 +90,7 @@ fn word<'a>(full: bool, fault: Fault, next: Next<'a>) -> Result<(Statement<'a>, 
     Ok((Statement::Word { full, content }, rest))
 }
 
-/// The statement of a directive that begins with this token, or of a word.
+/// The statement that begins with this token: that of the directive, or of a word.
 #[tactic(auto, unfolding(crate::specs::Statements::front_by))]
 fn front_by<'a>(
     directive: Option<Directive>,
@@ -107,7 +109,7 @@ fn front_by<'a>(
     }
 }
 
-/// Nothing more is in the line.
+/// Fails at a further token of the line.
 fn end(line: &[u8]) -> Result<(), Problem>
     ensures { result ≡ end_of (next_token line.now) }
 {

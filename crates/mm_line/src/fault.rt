@@ -1,7 +1,9 @@
+//! The faults of a line, and their places.
+
 ghost use Rattle.std.specs.Prelude.{◌≡◌};
 ghost use Rattle.mm_line.specs.Faults.{number_of};
 
-/// What is wrong with a text at a place.
+/// The kind of a fault in a text.
 #[derive(Clone, Copy, Debug, PartialEq, Eq)]
 pub enum Fault {
     /// A byte that begins no token.
@@ -14,7 +16,7 @@ pub enum Fault {
     Range,
     /// A branch to what is no label of its segment.
     Label,
-    /// What is there already.
+    /// A name, slot, register or count of spare frames that is there already.
     Twice,
     /// A statement before the one that it belongs to.
     Place,
@@ -33,7 +35,7 @@ impl Fault {
     }
 }
 
-/// A fault and its place: how many bytes of the line begin there, none where something is missing.
+/// A fault and its place: the count of bytes of the line from there on, 0 if something is missing.
 #[derive(Clone, Copy, Debug, PartialEq, Eq)]
 pub struct Problem {
     pub fault: Fault,

@@ -22,23 +22,22 @@ pub fn worked_directives()
     ensures { AllByRecursion IsRead directives }
 {}
 
-/// Operations with each kind of operand.
+/// Operations with each kind of operand, read by the definition.
 pub fn worked_operations()
     ensures { AllByRecursion IsRead operations }
 {}
 
-/// Faults with their places: a missing token stands at the line's end.
+/// Faults with their places, read by the definition: a missing token is at the line's end.
 pub fn worked_faults()
     ensures { AllByRecursion IsRead faulty }
 {}
 
-/// Labels.
+/// Labels, read by the definition.
 pub fn worked_labels()
     ensures { AllByRecursion IsRead labels }
 {}
 
-/// Each token stands in its line: behind blanks, and with what is left of the line behind it. What is left grows
-/// shorter.
+/// Each token is in its line, after blanks and before what is left of the line. What is left gets shorter.
 pub fn tokens_stand_in_their_line()
     ensures { (line : List ℕ) → StandsIn line (next_token line) }
 {}
@@ -64,7 +63,7 @@ pub fn registers_are_named_by_their_numbers()
     ensures only { (name : List ℕ) (r : ℕ) → register_named name ≡ Some r → (r < 16) × (name ≡ codes "r" ++ decimal r) }
 {}
 
-/// What is written as a token is read as it, where the byte behind does not go on with it.
+/// What is written as a token is read as that token, if the byte after it does not continue it.
 pub fn written_tokens_are_read()
     ensures blank { (b : ℕ) (line : List ℕ) → is_in Blank b ≡ true → next_token (b ∷ line) ≡ next_token line }
     ensures comma { (rest : List ℕ) → next_token (codes "," ++ rest) ≡ written Comma (codes ",") rest }

@@ -1,8 +1,8 @@
 //! One line of an assembler text: its tokens, its label and its statement.
 //!
-//! A line says what [`read_line`] gives, or where its first fault stands. What the text around a line decides, as
-//! whether a label is there already, is left to the reader of the whole text, who finds the places for that here. No
-//! call allocates.
+//! [`read_line`] gives what a line says, or its first fault and the fault's place. What the text around a line decides,
+//! such as whether a label is there already, is left to the reader of the whole text, which finds the places for that
+//! here. No call allocates.
 #![tactic(auto)]
 
 mod class;

@@ -1,3 +1,5 @@
+//! Lines: an optional label and an optional statement.
+
 ghost use Rattle.std.specs.Prelude.{◌≡◌};
 ghost use Rattle.mm_line.specs.Seen.{seen};
 ghost use Rattle.mm_line.specs.Statements.{claim_by, claim_of, body_of, line_of};
@@ -12,7 +14,7 @@ use mm_isa::Reg;
 /// What a statement names that may be there already, and its place.
 #[derive(Drop)]
 pub enum Claim<'a> {
-    /// The number of spare frames. The place is that of the directive.
+    /// The count of spare frames. The place is that of the directive.
     Spare { left: usize },
     /// The name of a segment.
     Segment(Mark<'a>),
@@ -25,18 +27,18 @@ pub enum Claim<'a> {
 /// A statement of a line.
 #[derive(Drop)]
 pub struct Body<'a> {
-    /// The place of its first token: how many bytes of the line begin there.
+    /// The place of the statement's first token: the count of bytes of the line from there on.
     pub left: usize,
-    /// What it claims, also where it has a fault behind that.
+    /// What the statement claims, also if it has a fault after that.
     pub claim: Option<Claim<'a>>,
-    /// What it says, or its first fault.
+    /// What the statement says, or its first fault.
     pub reading: Result<Statement<'a>, Problem>,
 }
 
 /// What a line says.
 #[derive(Drop)]
 pub struct Line<'a> {
-    /// Its label, or the fault of one that is too long.
+    /// The line's label, or the fault of a label that is too long.
     pub label: Option<Result<Mark<'a>, Problem>>,
     pub body: Option<Body<'a>>,
 }

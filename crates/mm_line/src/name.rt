@@ -1,3 +1,5 @@
+//! Names in a line.
+
 use std::marker::Model;
 
 /// A name in a line. Contracts see its bytes.
@@ -24,7 +26,7 @@ impl<'a> Name<'a> {
         Name { bytes }
     }
 
-    /// Its bytes.
+    /// The bytes of the name.
     pub fn bytes(&self) -> &'a [u8]
         ensures { result.now ≡ self.now }
     {
@@ -32,7 +34,7 @@ impl<'a> Name<'a> {
     }
 }
 
-/// A name and its place: how many bytes of the line begin with it.
+/// A name and its place: the count of bytes of the line from the name on.
 #[derive(Drop)]
 pub struct Mark<'a> {
     pub name: Name<'a>,

@@ -1,8 +1,10 @@
+//! Numbers from their digits.
+
 ghost use Rattle.std.specs.Prelude.{◌≡◌, ◌≤◌, ◌^◌, ◌<◌, nat_lt, if◌then◌else◌, Some, None};
 ghost use Rattle.std.specs.Str.Parse.{AllDigits, digits_value};
 ghost use Rattle.mm_line.specs.Seen.{limited};
 
-/// The number that the digits write, where 64 bits hold it.
+/// The number that the digits write, if 64 bits hold it.
 pub(crate) fn value_of(radix: u32, digits: &[u8]) -> Option<u64>
     requires low { 2 ≤ radix }
     requires high { radix ≤ 16 }

@@ -1,3 +1,5 @@
+//! The operands of an operation.
+
 ghost use Rattle.std.specs.Prelude.{◌≡◌};
 ghost use Rattle.mm_line.specs.Seen.{seen, Gives};
 ghost use Rattle.mm_line.specs.Tokens.{next_token};
@@ -26,7 +28,7 @@ pub(crate) fn register_number_of(next: Next) -> Result<Reg, Problem>
     Reg::new(number).ok_or(next.fault(Fault::Range))
 }
 
-/// The value of an operand of this kind.
+/// The operand of this kind that a token says.
 fn operand_of(kind: OperandKind, next: Next) -> Result<Operand, Problem>
     ensures { result ≡ operand_of kind (seen next.entry) }
 {
@@ -44,7 +46,7 @@ fn operand_of(kind: OperandKind, next: Next) -> Result<Operand, Problem>
     }
 }
 
-/// Puts an operand of this kind in its place. A name in the place of a distance is a label.
+/// Puts an operand of this kind in its place. A name in place of a distance is a label.
 fn put_operand<'a>(kind: OperandKind, code: &mut Code<'a>, next: Next<'a>) -> Result<(), Problem>
     ensures { Gives (λ _. code.new) result (with_operand kind code.old (seen next.entry)) }
 {
@@ -58,7 +60,7 @@ fn put_operand<'a>(kind: OperandKind, code: &mut Code<'a>, next: Next<'a>) -> Re
     Ok(())
 }
 
-/// Puts the operand that is next in a line in its place, and gives the line behind it.
+/// Puts the operand that is next in a line in its place, and gives the line after it.
 #[tactic(auto, unfolding(crate::specs::Operands::operand_at))]
 fn operand<'a>(kind: OperandKind, code: &mut Code<'a>, line: &'a [u8]) -> Result<&'a [u8], Problem>
     ensures { Gives (λ rest. (code.new, rest.now)) result (operand_at kind code.old line.now) }
@@ -78,7 +80,7 @@ fn comma(line: &[u8]) -> Result<&[u8], Problem>
     }
 }
 
-/// Further operands, each behind a comma.
+/// Puts further operands, each after a comma, in their places, and gives the line after them.
 #[tactic(auto, unfolding(crate::specs::Operands::more_at))]
 fn more<'a>(kinds: &[OperandKind], code: &mut Code<'a>, line: &'a [u8]) -> Result<&'a [u8], Problem>
     ensures { Gives (λ rest. (code.new, rest.now)) result (more_at kinds.now code.old line.now) }
@@ -93,7 +95,8 @@ fn more<'a>(kinds: &[OperandKind], code: &mut Code<'a>, line: &'a [u8]) -> Resul
     }
 }
 
-/// Operands of these kinds, with commas between.
+/// Puts operands of these kinds, with commas between, in their places, and gives the line after
+/// them.
 #[tactic(auto, unfolding(crate::specs::Operands::operands_at))]
 fn operands<'a>(
     kinds: &[OperandKind],
@@ -111,7 +114,7 @@ fn operands<'a>(
     }
 }
 
-/// The operands of an operation.
+/// The operation of a form with its operands from a line, and the line after them.
 #[tactic(auto, unfolding(crate::specs::Operands::code_at))]
 pub(crate) fn read_code<'a>(form: &Form, line: &'a [u8]) -> Result<(Code<'a>, &'a [u8]), Problem>
     ensures { Gives (λ x. (x.0, x.1.now)) result (code_at form.now line.now) }

@@ -1,3 +1,5 @@
+//! What a token says in its place.
+
 ghost use Rattle.std.specs.Prelude.{◌≡◌, ◌≤◌, IfOk};
 ghost use Rattle.mm_line.specs.Seen.{seen};
 ghost use Rattle.mm_line.specs.Reading.{at, wrong, name_of, known, word_of, register_of, ranged, between, number_of};
@@ -19,7 +21,7 @@ impl Next<'_> {
         }
     }
 
-    /// The token is of the wrong kind for its place, or missing.
+    /// The fault of a token that is of the wrong kind for its place, or missing.
     pub(crate) fn wrong(self) -> Problem
         ensures { result ≡ wrong (seen self.entry) }
     {
@@ -30,7 +32,7 @@ impl Next<'_> {
     }
 }
 
-/// A name, of at most 31 bytes.
+/// The name that a token is, of at most 31 bytes.
 pub(crate) fn name_of<'a>(next: Next<'a>) -> Result<Mark<'a>, Problem>
     ensures { result ≡ name_of (seen next.entry) }
 {
@@ -44,7 +46,7 @@ pub(crate) fn name_of<'a>(next: Next<'a>) -> Result<Mark<'a>, Problem>
     }
 }
 
-/// What a name says, where it is known.
+/// What a name says, if it is known.
 pub(crate) fn known<T: Drop>(value: Option<T>, next: Next) -> Result<T, Problem>
     ensures { result ≡ known value (seen next.entry) }
 {
@@ -60,7 +62,7 @@ pub(crate) fn register_of(next: Next) -> Result<Reg, Problem>
     register_named(next.text).ok_or(next.wrong())
 }
 
-/// A number from `low` to `high`.
+/// The number from `low` to `high` that a token is.
 pub(crate) fn number_of(low: u32, high: u32, next: Next) -> Result<u32, Problem>
     ensures value { result ≡ number_of low high (seen next.entry) }
     ensures within { IfOk result (λ n. n ≤ high) }
@@ -77,7 +79,7 @@ pub(crate) fn number_of(low: u32, high: u32, next: Next) -> Result<u32, Problem>
     }
 }
 
-/// The number of a slot, a group or a register: 0 to 15.
+/// The number of a slot, a group or a register that a token is: 0 to 15.
 pub(crate) fn small_of(next: Next) -> Result<u8, Problem>
     ensures value { result ≡ number_of 0 15 (seen next.entry) }
     ensures within { IfOk result (λ n. n ≤ 15) }
@@ -86,7 +88,7 @@ pub(crate) fn small_of(next: Next) -> Result<u8, Problem>
     Ok(number as u8)
 }
 
-/// A number modulo 2^64.
+/// The number that a token is, modulo 2^64.
 pub(crate) fn integer_of(next: Next) -> Result<u64, Problem>
     ensures { result ≡ integer_of (seen next.entry) }
 {
@@ -104,7 +106,7 @@ pub(crate) fn integer_of(next: Next) -> Result<u64, Problem>
     }
 }
 
-/// A number from -2^31 to 2^32 - 1, modulo 2^32.
+/// The number from -2^31 to 2^32 - 1 that a token is, modulo 2^32.
 pub(crate) fn immediate_of(next: Next) -> Result<i32, Problem>
     ensures { result ≡ immediate_of (seen next.entry) }
 {
@@ -132,7 +134,7 @@ fn immediate(negative: bool, magnitude: u64) -> Option<i32>
     }
 }
 
-/// A handler of this slot: `none`, or the number of another slot.
+/// The handler of a slot that a token says: `none`, or the number of another slot.
 pub(crate) fn handler_of(slot: u8, next: Next) -> Result<Option<u8>, Problem>
     ensures { result ≡ handler_of slot (seen next.entry) }
 {

@@ -1,12 +1,14 @@
+//! What the statements of a line say.
+
 use crate::Mark;
 use mm_isa::{Fields, Reg};
 use mm_word::Perm;
 
-/// A place in a segment or label of this name: so many bytes behind it.
+/// A place in memory: `addend` bytes after the segment or label of this name.
 #[derive(Drop)]
 pub struct Target<'a> {
     pub mark: Mark<'a>,
-    /// Below 2^20.
+    /// The distance in bytes, below 2^20.
     pub addend: u32,
 }
 
@@ -20,30 +22,30 @@ pub enum Constant<'a> {
 /// An operation with its operands.
 #[derive(Drop)]
 pub struct Code<'a> {
-    /// The fields of its word.
+    /// The fields of the operation's word.
     pub fields: Fields,
-    /// The label whose distance stands in `imm`, which is 0 until that is known.
+    /// The label whose distance goes into `imm`, which is 0 until the distance is known.
     pub goal: Option<Mark<'a>>,
 }
 
-/// What a word is.
+/// The content of a word: a constant or an operation.
 #[derive(Drop)]
 pub enum Content<'a> {
     Constant(Constant<'a>),
     Code(Code<'a>),
 }
 
-/// What a line says behind its label.
+/// What a line says after its label.
 #[derive(Drop)]
 pub enum Statement<'a> {
-    /// The object has so many spare frames.
+    /// The object has this count of spare frames.
     Spare(u16),
     /// A segment of this name begins, of 2 to the power of `log` bytes.
     Begin {
         name: Mark<'a>,
         log: u8,
     },
-    /// So many integer zeros, in full cells.
+    /// This count of integer zeros, in full cells.
     Fill(u32),
     /// A word, in a full or an empty cell.
     Word {

@@ -1,3 +1,5 @@
+//! The tokens of a line.
+
 ghost use Rattle.std.specs.Prelude.{◌≡◌, ◌≤◌, ℕ, IsTrue, length};
 ghost use Rattle.mm_line.specs.Tokens.{next_token, token_at, front, starts_hexadecimal, decimal, hexadecimal, number};
 ghost use Rattle.mm_line.specs.Seen.{seen, limited};
@@ -5,7 +7,7 @@ ghost use Rattle.mm_line.specs.Seen.{seen, limited};
 use crate::class::Class;
 use crate::number::value_of;
 
-/// What a token is.
+/// The kind of a token, and the value of a number.
 #[derive(Clone, Copy, Debug, PartialEq, Eq)]
 pub enum Token {
     /// A letter or `_`, then letters, digits or `_`.
@@ -15,14 +17,14 @@ pub enum Token {
     /// A number of this sign and size, from -2^63 to 2^64 - 1: an optional `-` and decimal digits, or `0x` and
     /// hexadecimal ones.
     Number { negative: bool, magnitude: u64 },
-    /// A number out of this range.
+    /// A number out of the range of `Number`.
     Wide,
     Comma,
     Colon,
     Plus,
     /// A byte that begins no token.
     Bad,
-    /// None: the line has ended.
+    /// No token: the line has ended.
     End,
 }
 
@@ -30,15 +32,15 @@ pub enum Token {
 #[derive(Clone, Copy, Debug)]
 pub struct Next<'a> {
     pub token: Token,
-    /// Its bytes.
+    /// The token's bytes.
     pub text: &'a [u8],
-    /// Its place: how many bytes of the line begin with it, none where there is no token.
+    /// The token's place: the count of bytes of the line from the token on, 0 if there is no token.
     pub left: usize,
-    /// The line behind it.
+    /// The line after the token.
     pub rest: &'a [u8],
 }
 
-/// The next token of a line: the longest one that begins at its place, behind blanks.
+/// The next token of a line, after blanks: the longest one that begins at its place.
 #[tactic(auto, unfolding(crate::specs::Tokens::next_token))]
 pub fn next_token(line: &[u8]) -> Next<'_>
     ensures { seen result ≡ next_token line.now }
@@ -83,7 +85,7 @@ fn token_at(at: &[u8]) -> Next<'_>
     }
 }
 
-/// A token of so many bytes at the front of what is left of a line.
+/// A token of `size` bytes at the front of what is left of a line.
 fn front(token: Token, size: usize, at: &[u8]) -> Next<'_>
     requires { size ≤ length at.now }
     ensures { seen result ≡ front token size at.now }
@@ -97,7 +99,7 @@ fn front(token: Token, size: usize, at: &[u8]) -> Next<'_>
     }
 }
 
-/// Whether `0x` and a hexadecimal digit stand first.
+/// Whether `0x` and a hexadecimal digit come first.
 fn starts_hexadecimal(bytes: &[u8]) -> bool
     ensures is { result ≡ starts_hexadecimal bytes.now }
     ensures long { IsTrue result → 2 ≤ length bytes.now }

@@ -1,3 +1,5 @@
+//! The content of words: constants and operations.
+
 ghost use Rattle.std.specs.Prelude.{◌≡◌};
 ghost use Rattle.mm_line.specs.Seen.{seen, Gives};
 ghost use Rattle.mm_line.specs.Statements.{addend_at, target_at, integer_at, pointer_at, constant_at};
@@ -9,7 +11,7 @@ use crate::words::{Directive, directive_named, perm_named};
 use crate::{Constant, Content, Fault, Next, Problem, Target, Token, next_token};
 use mm_isa::{Form, operation_named};
 
-/// What is added to a target's name.
+/// The addend of a target, 0 if there is none, and the line after it.
 #[tactic(auto, unfolding(crate::specs::Statements::addend_at))]
 fn addend(line: &[u8]) -> Result<(u32, &[u8]), Problem>
     ensures { Gives (λ x. (x.0, x.1.now)) result (addend_at line.now) }
@@ -54,7 +56,7 @@ fn pointer(line: &[u8]) -> Result<(Constant<'_>, &[u8]), Problem>
     Ok((Constant::Pointer { perm, target }, rest))
 }
 
-/// A constant behind the word that says which it is.
+/// A constant, after the word that says its kind, and the line after it.
 #[tactic(auto, unfolding(crate::specs::Statements::constant_at))]
 pub(crate) fn read_constant(line: &[u8]) -> Result<(Constant<'_>, &[u8]), Problem>
     ensures { Gives (λ x. (x.0, x.1.now)) result (constant_at line.now) }
@@ -69,7 +71,8 @@ pub(crate) fn read_constant(line: &[u8]) -> Result<(Constant<'_>, &[u8]), Proble
     }
 }
 
-/// The content of a word whose directive this is. Another directive is this fault.
+/// The content of a word that begins with this directive. A directive that begins none is the given
+/// fault.
 #[tactic(auto, unfolding(crate::specs::Statements::content_by_directive))]
 fn content_by_directive<'a>(
     fault: Fault,
@@ -86,7 +89,7 @@ fn content_by_directive<'a>(
     Ok((Content::Constant(constant), rest))
 }
 
-/// The content of a word that is this operation.
+/// The content of a word that is this operation; an unknown operation is a fault.
 #[tactic(auto, unfolding(crate::specs::Statements::content_by_operation))]
 fn content_by_operation<'a>(
     form: Option<Form>,

@@ -1,10 +1,12 @@
+//! The names of directives, permissions, conditions and registers.
+
 ghost use Rattle.std.specs.Prelude.{◌≡◌};
 ghost use Rattle.mm_line.specs.Words.{look_up, directives, perms, ip_perms, pres, posts, hows, register_named};
 
 use mm_isa::{How, Reg};
 use mm_word::{Perm, Post, Pre};
 
-/// What a directive begins.
+/// A directive, by the word that begins it.
 #[derive(Clone, Copy)]
 pub(crate) enum Directive {
     Spare,
@@ -56,7 +58,7 @@ pub(crate) fn perm_named(word: &[u8]) -> Option<Perm>
     }
 }
 
-/// A permission of an instruction pointer.
+/// The permission with this name, if an instruction pointer may have it.
 pub(crate) fn ip_perm_named(word: &[u8]) -> Option<Perm>
     ensures { result ≡ look_up ip_perms word.now }
 {
@@ -100,7 +102,7 @@ pub(crate) fn how_named(word: &[u8]) -> Option<How>
     }
 }
 
-/// `r0` to `r9`, and `r10` to `r15`.
+/// The register with this name: `r0` to `r9`, or `r10` to `r15`.
 pub(crate) fn register_named(word: &[u8]) -> Option<Reg>
     ensures { result ≡ register_named word.now }
 {

@@ -1,4 +1,4 @@
--- What the linker answers.
+-- The answers of the linker.
 use Rattle.std.specs.Prelude.{◌≡◌, Option, Some, None, Result, Ok, Err}
 use Rattle.mm_link.specs.declared.fault.LinkFault.{LinkFault}
 use Rattle.mm_link.specs.declared.fault.LinkError.{LinkError}

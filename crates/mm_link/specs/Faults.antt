@@ -18,7 +18,7 @@ use Rattle.mm_link.specs.Placing.{Part, Site, parts_of, sites_of, site_in, site_
 abbrev pub names_of : List Object → List (List ℕ)
 names_of objects = map (λ (p : Part). p.segment.name) (parts_of objects)
 
--- the first name that is among those before it
+-- the first name that is also among the names before it
 abbrev pub first_again : (before : List (List ℕ)) → List (List ℕ) → Option (List ℕ)
 first_again before [] = None
 first_again before (name ∷ names) = if is_among name before then Some name else first_again (name ∷ before) names
@@ -39,8 +39,8 @@ abbrev pub is_outside : List Site → Object → Target → Bool
 is_outside sites o t =
     nat_le (length o.segments) t.index && nat_le (2 ^ (site_named sites (name_of_target o t)).log) t.addend
 
--- the names of such uses of an object: relocations first, and then threads, each with its instruction pointer and its
--- registers
+-- the names of such uses of an object: those of relocations first, and then those of threads, each with its instruction
+-- pointer and its registers
 abbrev pub names_outside : List Site → Object → List (List ℕ)
 names_outside sites o = map (name_of_target o) (filter (is_outside sites o) (targets_of o.relocs o.threads))
 
@@ -72,7 +72,7 @@ abbrev pub no_thread_of : List Thread → Option LinkFault
 no_thread_of [] = Some NoThread
 no_thread_of (t ∷ threads) = None
 
--- 5: no thread at all
+-- 5: there is no thread
 abbrev pub no_thread : List Object → Option LinkFault
 no_thread objects = no_thread_of (threads_of objects)
 
@@ -81,7 +81,7 @@ abbrev pub is_absent : List Thread → Option ℕ → Bool
 is_absent threads None = false
 is_absent threads (Some handler) = not (list_any (λ (t : Thread). t.slot == handler) threads)
 
--- 6: the least slot with such a handler
+-- 6: the least slot of a thread whose handler is no thread's slot
 abbrev pub handler : List Object → Option LinkFault
 handler objects =
     option_map Handler
@@ -90,7 +90,7 @@ handler objects =
 
 -- 4. Frames.
 
--- how many pages there are, up to that of the last placed byte
+-- the count of pages, up to that of the last placed byte
 abbrev pub page_count : List Object → ℕ
 page_count objects = (bytes_of (parts_of objects) + 4095) / 4096
 
@@ -98,7 +98,7 @@ abbrev pub spares_of : List Object → ℕ
 spares_of [] = 0
 spares_of (o ∷ objects) = o.spare + spares_of objects
 
--- those of the pages and the spare ones, and one at least
+-- the count of frames: those of the pages and the spare ones, at least one
 abbrev pub frames_of : List Object → ℕ
 frames_of objects = max 1 (page_count objects + spares_of objects)
 
@@ -110,14 +110,14 @@ frame_limit = 256
 abbrev pub too_large : List Object → Option LinkFault
 too_large objects = if nat_lt frame_limit (frames_of objects) then Some TooLarge else None
 
--- 5. The first of them.
+-- 5. The first of the faults.
 
 abbrev pub first_of : {A : Type 0} → List (Option A) → Option A
 first_of [] = None
 first_of (None ∷ rest) = first_of rest
 first_of (Some x ∷ rest) = Some x
 
--- the first of the seven, in their order
+-- the first of the seven faults, in their order
 unfoldable pub link_fault : List Object → Option LinkFault
 link_fault objects =
     first_of (twice objects ∷ undefined objects ∷ offset objects ∷ slot_twice objects ∷ no_thread objects

@@ -18,41 +18,41 @@ use Rattle.mm_link.specs.Placing.{Part, Site, parts_of, has_log, by_length, site
 use Rattle.mm_link.specs.Faults.{names_of, threads_of, page_count, frames_of}
 use Rattle.mm_link.specs.Linked.{Linked, cell_of, first_page, object_slots}
 
--- 1. Where segments stand.
+-- 1. The places of segments.
 
 -- each segment has its place
 abbrev pub AllSegmentsArePlaced : Type 0
 AllSegmentsArePlaced = (objects : List Object) → AllByRecursion IsObject objects
     → IsPermutation (parts_of objects) (by_length (parts_of objects))
 
--- those of one length as they are given
+-- segments of the same length are placed as they are given
 abbrev pub TiesStandAsGiven : Type 0
 TiesStandAsGiven = (objects : List Object) → AllByRecursion IsObject objects → (log : ℕ)
     → filter (has_log log) (by_length (parts_of objects)) ≡ filter (has_log log) (parts_of objects)
 
--- a longer one before a shorter one
+-- a longer segment is placed before a shorter one
 abbrev pub LengthsFall : Type 0
 LengthsFall =
     (objects : List Object) → AllPairs (λ (a b : Part). b.segment.log ≤ a.segment.log) (by_length (parts_of objects))
 
--- each stands at a multiple of its length
+-- each segment begins at a multiple of its length
 abbrev pub SegmentsAreAligned : Type 0
 SegmentsAreAligned = (objects : List Object) (s : Site) → Contains (sites_of objects) s → s.base % 2 ^ s.log ≡ 0
 
--- each ends before the next begins, so that no two meet
+-- each segment ends before the next begins, so that no two overlap
 abbrev pub SegmentsAreDisjoint : Type 0
 SegmentsAreDisjoint =
     (objects : List Object) → AllPairs (λ (a b : Site). a.base + 2 ^ a.log ≤ b.base) (sites_of objects)
 
--- where objects link, each segment is found by its name
+-- when objects link, each segment is found by its name
 abbrev pub SegmentsAreFound : Type 0
 SegmentsAreFound = (objects : List Object) (i : Image) → AllByRecursion IsObject objects → Linked objects i
     → (p : Part) → Contains (parts_of objects) p → (s : Site) × (site_in (sites_of objects) p.segment.name ≡ Some s)
     × (s.log ≡ p.segment.log)
 
--- 2. What stands there.
+-- 2. The words at these places.
 
--- Where word k of a segment stands: in the segment that has its name.
+-- Word k of a segment is at this address, in the segment's place.
 pub record StandsAt (objects : List Object) (p : Part) (k : ℕ) (item : Item) (w : ℕ) : Type 0 where
   pub part : Contains (parts_of objects) p
   pub word : slice_get p.segment.items k ≡ Some item
@@ -66,7 +66,7 @@ WordsStandInTheirCells = (objects : List Object) (i : Image) → AllByRecursion 
     → (p : Part) (k : ℕ) (item : Item) (w : ℕ) → StandsAt objects p k item w
     → cell_at i.memory w ≡ Some (cell_of (sites_of objects) p.object p.number k item)
 
--- each other cell is integer 0, full
+-- each cell that holds no word of a segment is integer 0, full
 abbrev pub OtherCellsAreZero : Type 0
 OtherCellsAreZero = (objects : List Object) (i : Image) → AllByRecursion IsObject objects → Linked objects i
     → (w : ℕ) (cell : Cell) → cell_at i.memory w ≡ Some cell
@@ -79,19 +79,20 @@ abbrev pub PagesAreThoseOfSegments : Type 0
 PagesAreThoseOfSegments = (objects : List Object) (i : Image) → AllByRecursion IsObject objects → Linked objects i
     → (page : ℕ) → (is_mapped i.memory page ≡ true) ↔ ((first_page ≤ page) × (page < first_page + page_count objects))
 
--- so that each byte of each segment has its page
+-- each byte of each segment is in a page that is mapped
 abbrev pub SegmentsAreMapped : Type 0
 SegmentsAreMapped = (objects : List Object) (i : Image) → AllByRecursion IsObject objects → Linked objects i
     → (s : Site) → Contains (sites_of objects) s → (a : ℕ) → s.base ≤ a → a < s.base + 2 ^ s.log
     → is_mapped i.memory (page_of a) ≡ true
 
--- and each page has a byte of a segment
+-- each page that is mapped has a byte of a segment
 abbrev pub PagesHoldSegments : Type 0
 PagesHoldSegments = (objects : List Object) (i : Image) → AllByRecursion IsObject objects → Linked objects i
     → (page : ℕ) → is_mapped i.memory page ≡ true → (s : Site) × Contains (sites_of objects) s × (a : ℕ) × (s.base ≤ a)
     × (a < s.base + 2 ^ s.log) × (page_of a ≡ page)
 
--- A pointer is into a segment, by a permission and at an offset: it has the segment's length and base, and lies in it.
+-- A pointer is into a segment, with a permission and at an offset: its segment has the site's length and base, and its
+-- address is in it.
 pub record IsInto (s : Site) (by : Perm) (at : ℕ) (p : Pointer) : Type 0 where
   pub perm : p.perm ≡ by
   pub address : p.addr ≡ s.base + at
@@ -99,15 +100,15 @@ pub record IsInto (s : Site) (by : Perm) (at : ℕ) (p : Pointer) : Type 0 where
   pub base : base_of p ≡ s.base
   pub inside : p.addr < s.base + 2 ^ s.log
 
--- the pointers that targets of relocations, registers and instruction pointers become are into the segments that have
--- the targets' names, and each such segment is there
+-- the pointers that the targets of relocations, registers and instruction pointers become are into the segments that
+-- have the targets' names, and each such segment is there
 abbrev pub PointersAreIntoTheirSegments : Type 0
 PointersAreIntoTheirSegments = (objects : List Object) (i : Image) → AllByRecursion IsObject objects → Linked objects i
     → (o : Object) → Contains objects o → (t : Target) → Contains (targets_of o.relocs o.threads) t → (perm : Perm)
     → (s : Site) × Contains (sites_of objects) s × (s.name ≡ name_of_target o t)
     × IsInto s perm t.addend (pointer_to (sites_of objects) o perm t)
 
--- each thread is a slot, and each slot a thread
+-- the slots of the image are those of the threads, each once
 abbrev pub SlotsAreThreads : Type 0
 SlotsAreThreads = (objects : List Object) (i : Image) → AllByRecursion IsObject objects → Linked objects i
     → IsPermutation (flat_map (object_slots (sites_of objects)) objects) i.slots
@@ -119,7 +120,7 @@ abbrev pub LinkedObjectsAreImages : Type 0
 LinkedObjectsAreImages =
     (objects : List Object) (i : Image) → AllByRecursion IsObject objects → Linked objects i → IsImage i
 
--- What objects have to be to link.
+-- The conditions under which objects link.
 pub record LinkWell (objects : List Object) : Type 0 where
   -- no two segments have the same name
   pub apart : are_apart (names_of objects) ≡ true
@@ -138,7 +139,7 @@ pub record LinkWell (objects : List Object) : Type 0 where
       × Contains (threads_of objects) s × (s.slot ≡ h)
   pub frames : frames_of objects ≤ 256
 
--- objects have no fault, and link to an image, exactly where they are so
+-- objects link to an image exactly under these conditions
 abbrev pub ObjectsLinkExactly : Type 0
 ObjectsLinkExactly =
     (objects : List Object) → AllByRecursion IsObject objects → ((i : Image) × Linked objects i) ↔ LinkWell objects

@@ -30,16 +30,16 @@ word_by sites o None bits = Int bits
 abbrev pub cell_of : List Site → Object → (segment k : ℕ) → Item → Cell
 cell_of sites o segment k item = record { word = word_by sites o (reloc_at o segment k) item.bits; full = item.full }
 
--- those of the words from word k on
+-- the cells of the words from word k on
 abbrev pub cells_from : List Site → Object → (segment k : ℕ) → List Item → List Cell
 cells_from sites o segment k [] = []
 cells_from sites o segment k (item ∷ items) = cell_of sites o segment k item ∷ cells_from sites o segment (k + 1) items
 
--- how many cells of a segment are behind its words
+-- the count of a segment's cells after its words
 abbrev pub unused : Segment → ℕ
 unused s = 2 ^ (s.log - 3) - length s.items
 
--- all cells of a segment: those of its words, and behind them integer 0, full
+-- all cells of a segment: those of its words, and after them integer 0, full
 unfoldable pub part_cells : List Site → Part → List Cell
 part_cells sites p = cells_from sites p.object p.number 0 p.segment.items ++ replicate (unused p.segment) zero_cell
 
@@ -47,7 +47,7 @@ part_cells sites p = cells_from sites p.object p.number 0 p.segment.items ++ rep
 unfoldable pub cells_of : List Object → List Cell
 cells_of objects = flat_map (part_cells (sites_of objects)) (by_length (parts_of objects))
 
--- so many pages from a number on, with these cells and behind them integer 0, full
+-- `count` pages from a number on, with these cells and after them integer 0, full
 abbrev pub pages_from : (count number : ℕ) → List Cell → List (ℕ × List Cell)
 pages_from zero number cells = []
 pages_from (suc count) number cells =
@@ -62,12 +62,12 @@ pages_of objects = pages_from (page_count objects) first_page (cells_of objects)
 
 -- 2. Slots.
 
--- what a register begins with
+-- the word that a register begins with
 abbrev pub word_of : List Site → Object → Value → Word
 word_of sites o (value.Int n) = Int n
 word_of sites o (value.Ptr perm target) = Ptr (pointer_to sites o perm target)
 
--- a thread, which runs and has taken no turn
+-- the slot of a thread, which runs and has taken no turn
 unfoldable pub slot_of : List Site → Object → Thread → Slot
 slot_of sites o t = record {
   number = t.slot;
@@ -103,7 +103,7 @@ image_of objects =
       memory = record { pages = pages_of objects; frames = frames_of objects };
     }
 
--- objects link to an image: they have no fault, and it is theirs
+-- objects link to an image: they have no fault, and it is their image
 pub record Linked (objects : List Object) (i : Image) : Type 0 where
   pub clean : link_fault objects ≡ None
   pub image : i ≡ image_of objects

@@ -1,4 +1,4 @@
--- What the steps of linking answer.
+-- The answers of the steps of linking.
 use Rattle.std.specs.Prelude.{◌≡◌, ℕ, ◌+◌, ◌<◌, ◌≤◌, ◌^◌, Bool, not, ◌==◌, List, ◌∷◌, map, length, Option, None}
 use Rattle.std.specs.Prelude.{is_some, find, Result, Ok, Err}
 use Rattle.std.specs.List.{filter, flat_map, list_any}
@@ -21,12 +21,12 @@ use Rattle.mm_link.specs.Faults.{is_outside, names_outside, first, threads_of, w
 
 -- 1. Answers.
 
--- a test found no fault, or it found this one, unless memory ran out
+-- a test found no fault, or it found this fault, unless memory ran out
 abbrev pub Passes : {X : Type 0} → Option LinkFault → Result X LinkError → Type 0
 Passes fault (Ok x) = fault ≡ None
 Passes fault (Err e) = Fails fault e
 
--- nothing but want of memory stopped it
+-- the function fails only for want of memory
 abbrev pub IsNoMemory : {X : Type 0} → Result X LinkError → Type 0
 IsNoMemory (Ok x) = Unit {0}
 IsNoMemory (Err e) = e ≡ errors.NoMemory
@@ -51,7 +51,7 @@ unknown sites name = not (is_some (site_in sites name))
 abbrev pub unknown_among : List Site → List (List ℕ) → Option LinkFault
 unknown_among sites names = option_map Undefined (find (unknown sites) names)
 
--- the first such name that an object needs
+-- the first name that an object needs and no segment has
 abbrev pub unknown_names : List Site → List Object → Option LinkFault
 unknown_names sites objects = unknown_among sites (flat_map (λ (o : Object). o.externals) objects)
 
@@ -61,7 +61,7 @@ unknown_names sites objects = unknown_among sites (flat_map (λ (o : Object). o.
 abbrev pub entries_of : List (Bor (List ℕ) × Place) → List Site
 entries_of es = map (λ e. record { name = e.0.now; log = e.1.log; base = e.1.base }) es
 
--- where a site stands
+-- the place of a site
 abbrev pub place_of : Site → Place
 place_of s = record { log = s.log; base = s.base }
 
@@ -87,7 +87,7 @@ outside sites o targets = option_map Offset (first (map (name_of_target o) (filt
 abbrev pub reloc_targets : List Reloc → List Target
 reloc_targets relocs = map (λ (r : Reloc). r.target) relocs
 
--- what a thread points to
+-- the targets of a thread
 abbrev pub thread_targets : Thread → List Target
 thread_targets t = t.target ∷ flat_map value_targets t.regs
 
@@ -107,6 +107,6 @@ is_unhandled objects slot = is_unhandled_in objects slot (threads_of objects)
 
 -- 6. Slots.
 
--- those of a number
+-- the slots of a number
 abbrev pub numbered : ℕ → List Slot → List Slot
 numbered n slots = filter (λ (s : Slot). s.number == n) slots

@@ -1,3 +1,5 @@
+//! Why objects do not link.
+
 ghost use Rattle.std.specs.Prelude.{◌≡◌};
 ghost use Rattle.mm_link.specs.Faults.{number_of};
 ghost use Rattle.mm_link.specs.declared.fault.LinkError.TheVariants.{NoMemory};
@@ -5,10 +7,10 @@ ghost use Rattle.mm_link.specs.declared.fault.LinkError.TheVariants.{NoMemory};
 use mm_object::Name;
 use std::alloc::{AllocError, AllocFailed};
 
-/// Why objects do not link. Each fault has its number, and the first of them in this order is the one that is told.
+/// Why objects do not link. The numbers 1 to 7 are the order in which faults are tested: the error has the first.
 #[derive(Drop)]
 pub enum LinkFault {
-    /// 1: a segment has this name, and so has one that is given before it.
+    /// 1: this is the name of a segment, and also of one that is given before it.
     Twice(Name),
     /// 2: an object needs this name, and no segment has it.
     Undefined(Name),

@@ -1,4 +1,4 @@
-//! How many pages segments take, and how many frames a machine has for them.
+//! The count of pages of segments, and the count of frames of the machine.
 
 ghost use Rattle.std.specs.Prelude.{◌≡◌, ◌+◌, ◌*◌, ◌/◌, ◌≤◌, ◌^◌, length};
 ghost use Rattle.mm_link.specs.Placing.{bytes_of, parts_of};
@@ -12,10 +12,10 @@ use mm_object::Object;
 /// The most frames that an image has.
 const FRAMES: u32 = 256;
 
-/// How many bytes a page has.
+/// The length of a page in bytes.
 const PAGE_BYTES: u64 = 4096;
 
-// How many bytes segments have together.
+// The length in bytes of all segments together.
 fn bytes_of(parts: &[Part<'_>]) -> u64
     requires { length parts.now ≤ 4096 }
     ensures bytes { result ≡ bytes_of parts.now }
@@ -28,7 +28,7 @@ fn bytes_of(parts: &[Part<'_>]) -> u64
     bytes
 }
 
-/// How many pages they take.
+/// The count of pages of segments, placed one after another.
 pub(crate) fn page_count(parts: &[Part<'_>]) -> u32
     requires { length parts.now ≤ 4096 }
     ensures count { result ≡ (bytes_of parts.now + 4095) / 4096 }
@@ -37,7 +37,7 @@ pub(crate) fn page_count(parts: &[Part<'_>]) -> u32
     bytes_of(parts).div_ceil(PAGE_BYTES) as u32
 }
 
-// How many spare frames objects ask for.
+// The count of spare frames that objects ask for.
 fn spares_of(objects: &[Object]) -> u32
     requires { length objects.now ≤ 16 }
     ensures spares { result ≡ spares_of objects.now }
@@ -50,7 +50,7 @@ fn spares_of(objects: &[Object]) -> u32
     spares
 }
 
-/// The frames of the pages and the spare ones, and one at least.
+/// The count of frames: those of the pages and the spare ones, at least one.
 pub(crate) fn frames_of(parts: &[Part<'_>], objects: &[Object]) -> u32
     requires parts { parts.now ≡ parts_of objects.now }
     requires few_parts { length parts.now ≤ 4096 }
@@ -60,7 +60,7 @@ pub(crate) fn frames_of(parts: &[Part<'_>], objects: &[Object]) -> u32
     (page_count(parts) + spares_of(objects)).max(1)
 }
 
-/// Whether an image has so many frames.
+/// Refuses objects that need more frames than an image has.
 pub(crate) fn check_frames(parts: &[Part<'_>], objects: &[Object]) -> Result<(), LinkError>
     requires parts { parts.now ≡ parts_of objects.now }
     requires few_parts { length parts.now ≤ 4096 }

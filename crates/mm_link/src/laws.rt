@@ -7,8 +7,8 @@ ghost use Rattle.mm_link.specs.Laws.{PointersAreIntoTheirSegments, SegmentsAreAl
 ghost use Rattle.mm_link.specs.Laws.{SegmentsAreFound, SegmentsAreMapped, SlotsAreThreads, TiesStandAsGiven};
 ghost use Rattle.mm_link.specs.Laws.{WordsStandInTheirCells};
 
-/// Each segment has its place: a longer one before a shorter one, those of one length as they are given, each at a
-/// multiple of its length, and no two meet. Where objects link, it is found by its name.
+/// Each segment has its place: a longer one before a shorter one, segments of the same length as they are given, each
+/// at a multiple of its length, and no two overlap. When objects link, each segment is found by its name.
 pub fn segments_are_placed()
     ensures all { AllSegmentsArePlaced }
     ensures ties { TiesStandAsGiven }
@@ -24,25 +24,26 @@ pub fn words_stand_in_their_cells()
     ensures others { OtherCellsAreZero }
 {}
 
-/// The pages are those of the segments: each byte of a segment has its page, and each page a byte of a segment.
+/// The pages are those of the segments: each byte of a segment is in a page, and each page has a byte of a segment.
 pub fn pages_are_those_of_segments()
     ensures exactly { PagesAreThoseOfSegments }
     ensures mapped { SegmentsAreMapped }
     ensures held { PagesHoldSegments }
 {}
 
-/// Each pointer is into the segment that its target goes by.
+/// Each pointer is into the segment that its target names.
 pub fn pointers_are_into_their_segments()
     ensures { PointersAreIntoTheirSegments }
 {}
 
-/// Each thread is a slot of the image, and each slot a thread.
+/// The slots of the image are those of the threads, each once.
 pub fn slots_are_threads()
     ensures { SlotsAreThreads }
 {}
 
-/// What objects link to is an image. They link to one exactly where names and slots differ, externals are names and
-/// their uses within the segments, there is a thread, handlers are slots, and there are frames enough.
+/// What objects link to is an image. They link to one exactly if names and slots differ, externals are names of
+/// segments and their uses are within the segments, there is a thread, handlers are slots, and the frames are at most
+/// 256.
 pub fn objects_link_exactly()
     ensures images { LinkedObjectsAreImages }
     ensures exactly { ObjectsLinkExactly }

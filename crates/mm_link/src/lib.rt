@@ -1,8 +1,8 @@
-//! The linker: the image of objects.
+//! The linker: the image that objects link to.
 //!
-//! [`link`] places the segments of all objects one after another, from 0x100000 on, the longest first and those of one
-//! length as they are given; makes each relocated word, register and instruction pointer the pointer into its target's
-//! segment; and gives each thread its slot. Or it answers the first fault of the objects.
+//! [`link`] places the segments of all objects one after another, from 0x100000 on, the longest first and segments of
+//! the same length as they are given. Each relocated word, register and instruction pointer becomes the pointer into
+//! its target's segment, and each thread gets its slot. If the objects have a fault, the answer is the first one.
 #![tactic(auto)]
 
 mod fault;

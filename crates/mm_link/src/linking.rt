@@ -24,16 +24,16 @@ use mm_image::Image;
 use mm_object::Object;
 use std::alloc::Global;
 
-/// The image that 1 to 16 objects link to, or the first of their faults.
+/// The image that 1 to 16 objects link to, or the first of their faults. `NoMemory` comes if memory ran out.
 pub fn link(alloc: Global, objects: &[Object]) -> Result<Image, LinkError>
     requires some { 1 ≤ length objects.now }
     requires few { length objects.now ≤ 16 }
 
-    // What is answered is what they link to, and what they link to is answered.
+    // The image that is answered is the one that the objects link to, and an image that they link to is answered.
     ensures linked { IfOk result (λ i. Linked objects.now i) }
     ensures again { (i : ImageValue) → Linked objects.now i → IsUnlessNoMemory i result }
 
-    // A fault that is answered is the first one, and where there is one it is answered.
+    // A fault that is answered is the first one, and if there is one it is answered.
     ensures fault { (f : FaultValue) → result ≡ Err (LinkError.Fault f) → link_fault objects.now ≡ Some f }
     ensures first { (f : FaultValue) → link_fault objects.now ≡ Some f → FailsUnlessNoMemory f result }
 {
@@ -57,8 +57,8 @@ fn image_or_fault(alloc: Global, objects: &[Object]) -> Result<Image, LinkError>
     image_of(alloc, objects, &sites, &placed, pages, frames)
 }
 
-// Whether each name is known, each target within its segment, and each thread in a slot of its own with a handler that
-// is another's.
+// Tests that each name is known, that each target is within its segment, that there is a thread, that each thread has a
+// slot of its own, and that each handler is a thread's slot.
 fn check_objects(sites: &Sites<'_>, objects: &[Object]) -> Result<(), LinkError>
     requires sites { sites.now ≡ sites_of objects.now }
     requires few { length objects.now ≤ 16 }
@@ -73,8 +73,8 @@ fn check_objects(sites: &Sites<'_>, objects: &[Object]) -> Result<(), LinkError>
     check_handlers(objects)
 }
 
-// The image of objects without a fault: the segments in their order, where they stand, and how many pages and frames
-// there are.
+// The image of objects without a fault, given the segments in their order, their places, and the counts of pages and
+// frames.
 #[tactic(auto, unfolding(crate::specs::Linked::image_of))]
 fn image_of(
     alloc: Global,

@@ -19,16 +19,16 @@ use std::alloc::Global;
 /// The page of the first segment.
 const FIRST_PAGE: u64 = 0x100;
 
-/// How many cells a page has.
+/// The count of cells of a page.
 const PAGE_CELLS: usize = 512;
 
-/// What a cell holds that no word stands in.
+/// A cell that holds no word of a segment: integer 0, full.
 const ZERO: Cell = Cell {
     word: Word::Int(0),
     full: true,
 };
 
-/// The pages of segments that stand one after another.
+/// The `count` pages of segments that are placed one after another.
 pub(crate) fn pages_of(
     alloc: Global,
     sites: &Sites<'_>,
@@ -44,7 +44,7 @@ pub(crate) fn pages_of(
     pages_from(alloc, &cells, count)
 }
 
-// Their cells, for so many of which there is room.
+// The cells of segments. There is room for `room` cells at first.
 fn cells_of(
     alloc: Global,
     sites: &Sites<'_>,
@@ -71,7 +71,7 @@ fn push_part(cells: &mut Vec<Cell>, sites: &Sites<'_>, part: &Part<'_>) -> Resul
     push_zeros(cells, (1 << (part.log() - 3)) - items.len())
 }
 
-// The words that a segment begins with.
+// Appends the words that a segment begins with.
 fn push_items(
     cells: &mut Vec<Cell>,
     sites: &Sites<'_>,
@@ -95,8 +95,8 @@ fn push_items(
     Ok(())
 }
 
-// A word of a segment: the pointer of its relocation, or the integer that it is. The relocation is looked for near a
-// place first, and the place behind it is kept.
+// A word of a segment: the pointer of its relocation, or the integer that it is. The relocation at the index `near` is
+// tried first; `near` becomes the index after the one that was found.
 fn word_of(
     sites: &Sites<'_>,
     object: &Object,
@@ -127,7 +127,7 @@ fn push_zeros(cells: &mut Vec<Cell>, count: usize) -> Result<(), LinkError>
     Ok(())
 }
 
-// So many pages of cells, the last of them filled with cells that no word stands in.
+// The first `count` pages of cells. Full cells of integer 0 follow the last cell.
 fn pages_from(alloc: Global, cells: &[Cell], count: u32) -> Result<Vec<Page>, LinkError>
     requires { count ≤ 256 }
     ensures pages { IfOk result (λ v. v.items ≡ pages_from count first_page cells.now) }

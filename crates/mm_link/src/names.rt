@@ -1,4 +1,4 @@
-//! Tests of names: each segment has one of its own, and each name that an object needs is a segment's.
+//! Tests of names: segments have different names, and each name that an object needs is a segment's.
 
 ghost use Rattle.std.specs.Prelude.{[]};
 ghost use Rattle.std.specs.Option.{option_map};
@@ -13,7 +13,7 @@ use indexmap::IndexSet;
 use mm_object::{Name, Object};
 use std::alloc::Global;
 
-/// Whether each segment has a name of its own.
+/// Refuses two segments of the same name.
 pub(crate) fn check_apart(alloc: Global, parts: &[Part<'_>]) -> Result<(), LinkError>
     ensures { Passes (option_map Twice (first_again [] (part_names parts.now))) result }
 {
@@ -26,7 +26,7 @@ pub(crate) fn check_apart(alloc: Global, parts: &[Part<'_>]) -> Result<(), LinkE
     Ok(())
 }
 
-/// Whether each name that an object needs is a segment's.
+/// Refuses a name that an object needs and no segment has.
 pub(crate) fn check_known(sites: &Sites<'_>, objects: &[Object]) -> Result<(), LinkError>
     ensures { Passes (unknown_names sites.now objects.now) result }
 {

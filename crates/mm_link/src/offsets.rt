@@ -1,4 +1,4 @@
-//! Tests of offsets: what objects point to is within its segment.
+//! Tests of offsets: each target is within its segment.
 
 ghost use Rattle.std.specs.Prelude.{◌≡◌, ◌∷◌, [], true, length};
 ghost use Rattle.std.specs.List.{flat_map, list_all};
@@ -10,7 +10,7 @@ use crate::fault::{LinkError, LinkFault};
 use crate::sites::Sites;
 use mm_object::{Object, Target, Thread, Value};
 
-/// Whether all that objects point to is within its segment.
+/// Refuses the first target of objects that is outside its segment.
 pub(crate) fn check_offsets(sites: &Sites<'_>, objects: &[Object]) -> Result<(), LinkError>
     ensures { Passes (outsides sites.now objects.now) result }
 {
@@ -45,7 +45,7 @@ fn check_threads(sites: &Sites<'_>, object: &Object) -> Result<(), LinkError>
     Ok(())
 }
 
-// Where a thread begins, and what its registers point to.
+// Tests where a thread begins, and what its registers point to.
 fn check_thread(sites: &Sites<'_>, object: &Object, thread: &Thread) -> Result<(), LinkError>
     requires { is_thread object.now.segments (length object.now.externals) thread.now ≡ true }
     ensures { Passes (outside sites.now object.now (thread_targets thread.now)) result }
@@ -74,7 +74,7 @@ fn check_value(sites: &Sites<'_>, object: &Object, value: Value) -> Result<(), L
     }
 }
 
-// Whether a target is within its segment. Those within the object itself are.
+// Tests that a target is within its segment. Targets in segments of the object itself always are.
 fn check_target(sites: &Sites<'_>, object: &Object, target: Target) -> Result<(), LinkError>
     requires { IsTargetOf object.now target }
     ensures { Passes (outside sites.now object.now (target ∷ [])) result }

@@ -1,4 +1,4 @@
-//! Where segments stand once they are linked, by their names.
+//! The places of segments once they are linked, by their names.
 
 ghost use Rattle.std.specs.Prelude.{◌≡◌, ◌≤◌, ◌<◌, length, IfOk};
 ghost use Rattle.std.specs.List.{IsDistinct};
@@ -13,17 +13,17 @@ use mm_word::{GuardedPtr, Perm};
 use std::alloc::Global;
 use std::marker::Model;
 
-/// Where the first segment stands.
+/// The address of the first segment.
 const ORIGIN: u64 = 0x10_0000;
 
-/// Where a segment stands: the logarithm of its length, and its first address.
+/// The place of a segment: the logarithm of its length in bytes, and its first address.
 #[derive(Clone, Copy, Debug, PartialEq, Eq)]
 pub(crate) struct Place {
     pub log: u8,
     pub base: u64,
 }
 
-/// Where segments stand, by their names. Contracts see a list of names and places, in the order of addresses.
+/// The places of segments, by their names. Contracts see a list of names and places, in the order of addresses.
 #[derive(Drop)]
 pub(crate) struct Sites<'a> {
     by_name: IndexMap<&'a [u8], Place>,
@@ -59,7 +59,7 @@ impl<'a> Sites<'a> {
         })
     }
 
-    // A name more, with its place.
+    // Adds a name with its place.
     fn push(&mut self, name: &'a [u8], place: Place) -> Result<(), LinkError>
         requires new { site_in self.old name.now ≡ None }
         requires length_fits { place.log ≤ 20 }
@@ -72,7 +72,7 @@ impl<'a> Sites<'a> {
         Ok(())
     }
 
-    /// Where the segment of a name stands, if there is one.
+    /// The place of the segment of a name, if there is one.
     pub(crate) fn get(&self, name: &[u8]) -> Option<Place>
         ensures place { result ≡ option_map place_of (site_in self.now name.now) }
         ensures fit { AllByRecursion FitsSite self.now }
@@ -80,7 +80,7 @@ impl<'a> Sites<'a> {
         self.by_name.get(&name).copied()
     }
 
-    /// Where the segment of a name stands.
+    /// The place of the segment of a name that is known.
     pub(crate) fn named(&self, name: &[u8]) -> Place
         ensures place { result ≡ place_of (site_named self.now name.now) }
         ensures fits { FitsSite (site_named self.now name.now) }
@@ -88,7 +88,7 @@ impl<'a> Sites<'a> {
         self.get(name).unwrap_or(Place { log: 0, base: 0 })
     }
 
-    /// The pointer into the segment that a target of an object goes by.
+    /// The pointer into the segment that a target of an object names.
     #[tactic(auto, unfolding(crate::specs::Placing::pointer_to))]
     pub(crate) fn pointer_to(&self, object: &Object, perm: Perm, target: Target) -> GuardedPtr
         requires { IsTargetOf object.now target }
@@ -103,7 +103,7 @@ impl<'a> Sites<'a> {
     }
 }
 
-/// One segment after another, none of them of the name of another.
+/// The places of segments of different names, one after another.
 pub(crate) fn sites_of<'a>(alloc: Global, parts: &[Part<'a>]) -> Result<Sites<'a>, LinkError>
     requires few { length parts.now ≤ 4096 }
     requires apart { IsDistinct same_part parts.now }

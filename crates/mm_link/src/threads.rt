@@ -1,4 +1,4 @@
-//! Tests of threads: each has a slot of its own, there is one, and the handler of each is the slot of another.
+//! Tests of threads: there is one, each has a slot of its own, and each handler is a thread's slot.
 
 ghost use Rattle.std.specs.Prelude.{◌≡◌, ◌≤◌, length};
 ghost use Rattle.mm_link.specs.Faults.{threads_of, with_slot, slot_twice, no_thread, handler, is_absent};
@@ -7,10 +7,10 @@ ghost use Rattle.mm_link.specs.Steps.{Passes, has_slot, is_unhandled, is_unhandl
 use crate::fault::{LinkError, LinkFault};
 use mm_object::{Object, Thread};
 
-/// How many slots there are.
+/// The count of slots of an image.
 pub(crate) const SLOTS: u8 = 16;
 
-/// Whether no two threads have one slot.
+/// Refuses two threads that have the same slot.
 pub(crate) fn check_slots(objects: &[Object]) -> Result<(), LinkError>
     requires { length objects.now ≤ 16 }
     ensures { Passes (slot_twice objects.now) result }
@@ -23,7 +23,7 @@ pub(crate) fn check_slots(objects: &[Object]) -> Result<(), LinkError>
     Ok(())
 }
 
-// How many threads have a slot.
+// The count of threads that have a slot.
 fn count_in_slot(objects: &[Object], slot: u8) -> usize
     requires { length objects.now ≤ 16 }
     ensures { result ≡ length (with_slot slot (threads_of objects.now)) }
@@ -46,7 +46,7 @@ fn count_of_object(object: &Object, slot: u8) -> usize
         .count()
 }
 
-/// Whether there is a thread.
+/// Refuses objects without a thread.
 pub(crate) fn check_some(objects: &[Object]) -> Result<(), LinkError>
     ensures { Passes (no_thread objects.now) result }
 {
@@ -58,7 +58,7 @@ pub(crate) fn check_some(objects: &[Object]) -> Result<(), LinkError>
     Err(LinkError::Fault(LinkFault::NoThread))
 }
 
-/// Whether each handler is a thread's slot.
+/// Refuses a handler that is no thread's slot.
 pub(crate) fn check_handlers(objects: &[Object]) -> Result<(), LinkError>
     ensures { Passes (handler objects.now) result }
 {

@@ -1,4 +1,4 @@
--- What is copied of a state, part by part.
+-- The parts that are copied of a state.
 use Rattle.std.specs.Prelude.{◌≡◌, ℕ, ◌<◌, true, List}
 use Rattle.std.specs.List.{AllByRecursion}
 use Rattle.std.specs.List.Sorted.{IsStrictlyIncreasing}
@@ -11,11 +11,11 @@ use Rattle.mm_model.specs.Report.{cells_or_zero}
 use Rattle.mm_thread.specs.Output.{Output}
 use Rattle.mm_machine.specs.Snapshot.{groups_of, has_output, IsOutputOf}
 
--- the cells of a page; zeros where it is not mapped
+-- the cells of a page; zeros if it is not mapped
 abbrev pub cells_of : Memory → ℕ → List Cell
 cells_of m number = cells_or_zero (page_at m number)
 
--- the outputs of the groups below a number that have a slot
+-- the outputs of the groups below `n` that have a slot
 pub record OutputsBelow (core : Core) (slots : List Slot) (n : ℕ) (outputs : List Output) : Type 0 where
   pub rising : IsStrictlyIncreasing (groups_of outputs)
   pub low : AllByRecursion (λ (o : Output). o.group < n) outputs

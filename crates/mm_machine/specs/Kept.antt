@@ -4,7 +4,8 @@ use Rattle.mm_model.specs.Image.{Image}
 use Rattle.mm_model.specs.Spelling.{IsImage}
 use Rattle.mm_model.specs.Fits.{IsState, Fits, IsKept, TurnsWithin}
 
--- its state fits an image and keeps what the types keep, and no slot has taken more turns than there were cycles
+-- the state fits an image and keeps the invariants of the types, and no slot has taken more turns than there were
+-- cycles
 pub record Kept (s : State) : Type 0 where
   pub image : Image
   pub is_image : IsImage image

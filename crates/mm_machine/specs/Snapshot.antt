@@ -1,4 +1,4 @@
--- A state of a machine, kept apart from it, but for the frames of its memory.
+-- A state of a machine, kept apart from the machine, without the frames of its memory.
 use Rattle.std.specs.Prelude.{◌≡◌, ◌≢◌, ℕ, ◌+◌, ◌<◌, ◌≤◌, Bool, true, false, ◌==◌, List, [], length, map, slice_index, Option, Some, None, IsSomeAnd}
 use Rattle.std.specs.List.{AllByRecursion, list_any, find, count_by, flat_map}
 use Rattle.std.specs.List.Sorted.{IsStrictlyIncreasing}
@@ -21,7 +21,7 @@ use Rattle.mm_thread.specs.Parts.{core_of}
 -- the parts of a state
 pub record Parts : Type 0 where
   pub slots : List Slot
-  -- each beside the number of the slot in whose queue it is, in the order of its queue
+  -- each event with the number of the slot in whose queue it is, in the order of the queue
   pub events : List (ℕ × Event)
   pub outputs : List Output
   pub pages : List (ℕ × List Cell)
@@ -46,7 +46,7 @@ has_output outputs g = list_any (λ o. o.group == g) outputs
 abbrev pub numbered : List Slot → ℕ → Option Slot
 numbered slots n = find (λ s. s.number == n) slots
 
--- an event is that of a slot that waits for the handler beside which the event stands
+-- the event is that of a slot that waits for the handler in whose queue the event is
 pub record IsEventOf (queue : ℕ) (e : Event) (s : Slot) : Type 0 where
   pub waits : waits_for queue (Some s) ≡ true
   pub ip : e.ip ≡ s.ip
@@ -54,16 +54,16 @@ pub record IsEventOf (queue : ℕ) (e : Event) (s : Slot) : Type 0 where
 abbrev pub IsAwaited : List Slot → ℕ × Event → Type 0
 IsAwaited slots x = IsSomeAnd (numbered slots x.1.slot) (IsEventOf x.0 x.1)
 
--- a waiting slot has one event, and no other slot has one
+-- a waiting slot has one event, and no other slot has any
 pub record HasOneEvent (events : List (ℕ × Event)) (s : Slot) : Type 0 where
   pub count : count_by (λ x. x.1.slot == s.number) events ≡ one_if (is_waiting s.state)
 
--- as many pending entries as a register waits for
+-- an empty register has one pending load and holds integer 0, and any other has none
 pub record RegisterStands (s : Slot) (r : ℕ) : Type 0 where
   pub loads : count_by (λ p. p.reg == r) s.pending ≡ one_if (is_empty s r)
   pub zero : is_empty s r ≡ true → register s r ≡ Int 0
 
--- pending entries match the empty registers one to one, and an empty register holds integer 0
+-- the pending loads match the empty registers one to one, and an empty register holds integer 0
 abbrev pub IsPending : Slot → Type 0
 IsPending s = (r : ℕ) → RegisterStands s r
 
@@ -71,7 +71,7 @@ IsPending s = (r : ℕ) → RegisterStands s r
 abbrev pub DoesNotFall : List ℕ → Type 0
 DoesNotFall xs = (k : ℕ) → k + 1 < length xs → slice_index xs k ≤ slice_index xs (k + 1)
 
--- what parts of a state have to be
+-- the conditions on the parts of a state
 pub record IsSnapshot (p : Parts) : Type 0 where
   -- slots, groups and pages ascend strictly, and the groups are those of the slots
   pub slots : IsStrictlyIncreasing (numbers_of p.slots)
@@ -79,9 +79,10 @@ pub record IsSnapshot (p : Parts) : Type 0 where
   pub pages : IsStrictlyIncreasing (page_numbers p.pages)
   pub used : AllByRecursion (λ (o : Output). has_group p.slots o.group ≡ true) p.outputs
   pub shown : AllByRecursion (λ (s : Slot). has_output p.outputs s.group ≡ true) p.slots
-  -- no event stands beside a lesser slot than the event before it
+  -- no event is in the queue of a lesser slot than the event before it
   pub events : DoesNotFall (queues_of p.events)
-  -- events and waiting slots match one to one, each event beside its slot's handler and with its slot's instruction pointer
+  -- events and waiting slots match one to one, each event in the queue of its slot's handler and with its slot's
+  -- instruction pointer
   pub awaited : AllByRecursion (IsAwaited p.slots) p.events
   pub one_event : AllByRecursion (HasOneEvent p.events) p.slots
   -- a taken slot has a handler
@@ -91,7 +92,7 @@ pub record IsSnapshot (p : Parts) : Type 0 where
   -- no count of turns is above the count of cycles
   pub turns : AllByRecursion (λ (s : Slot). s.turns ≤ p.cycles) p.slots
 
--- What the types of slots, events and pages keep of each one.
+-- What the types of slots, events and pages say of each one.
 
 abbrev pub IsTypedEvent : ℕ × Event → Type 0
 IsTypedEvent x = EventHoldsWords x.1
@@ -104,7 +105,7 @@ pub record IsTyped (p : Parts) : Type 0 where
 
 -- Snapshots and states.
 
--- the events of the queue of one slot, each beside the slot's number
+-- the events of the queue of one slot, each with the slot's number
 abbrev pub queued_at : Core → Slot → List (ℕ × Event)
 queued_at core s = map (λ e. (s.number, e)) (queue_at core s.number)
 
@@ -112,11 +113,11 @@ queued_at core s = map (λ e. (s.number, e)) (queue_at core s.number)
 abbrev pub queued : Core → List (ℕ × Event)
 queued core = flat_map (queued_at core) (slots_of core)
 
--- the output of a group is what the core says
+-- the output of a group is that of the core
 abbrev pub IsOutputOf : Core → Output → Type 0
 IsOutputOf core o = o.bytes ≡ output_of core o.group
 
--- a snapshot of this state: all of it but for the frames
+-- the parts are a snapshot of this state: all of it except the frames
 pub record IsSnapshotOf (s : State) (p : Parts) : Type 0 where
   pub rules : IsSnapshot p
   pub slots : p.slots ≡ slots_of s.core
@@ -126,7 +127,7 @@ pub record IsSnapshotOf (s : State) (p : Parts) : Type 0 where
   pub pages : p.pages ≡ s.memory.pages
   pub cycles : p.cycles ≡ s.cycles
 
--- what a snapshot has to be for a machine in a state
+-- the conditions on a snapshot for a machine in a state
 pub record CanRestore (s : State) (p : Parts) : Type 0 where
   -- the slots have the machine's numbers, groups and handlers
   pub slots : map identity_of p.slots ≡ map identity_of (slots_of s.core)

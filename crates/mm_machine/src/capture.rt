@@ -1,4 +1,4 @@
-//! What a snapshot copies of a machine.
+//! Copying the state of a machine for a snapshot.
 
 ghost use Rattle.std.specs.Prelude.{◌≡◌, ◌<◌, ◌^◌, ◌++◌, ℕ, true, IfOk, map, Some, slice_index_or};
 ghost use Rattle.mm_model.specs.Memory.{IsPaged, is_mapped, zero_cell};
@@ -14,7 +14,7 @@ use mm_thread::{Core, Output};
 use mm_word::{Cell, Word};
 use std::alloc::{AllocError, Global};
 
-/// What stands for a cell of a page that is not mapped.
+/// A cell for a page that is not mapped: integer 0, full.
 const ZERO: Cell = Cell {
     word: Word::Int(0),
     full: true,
@@ -31,7 +31,7 @@ pub(crate) fn slots_of(alloc: Global, core: &Core) -> Result<Vec<Slot>, AllocErr
     Ok(slots)
 }
 
-/// The events of the queues of a core, each beside the number of the slot in whose queue it is.
+/// The events of the queues of a core, each with the number of the slot in whose queue it is.
 pub(crate) fn events_of(alloc: Global, core: &Core) -> Result<Vec<(u8, Event)>, AllocError>
     ensures { IfOk result (λ events. events.items ≡ queued core.now) }
 {
@@ -52,7 +52,7 @@ fn put_queue(events: &mut Vec<(u8, Event)>, number: u8, queue: &[Event]) -> Resu
     Ok(())
 }
 
-/// What each group that has a slot has put out, by ascending group.
+/// The outputs of the groups that have a slot, by ascending group.
 pub(crate) fn outputs_of(
     alloc: Global,
     core: &Core,

@@ -1,4 +1,4 @@
-//! Machines: slots over a memory, cycle by cycle.
+//! Machines: slots over a memory that run cycle by cycle, and snapshots of their states.
 #![tactic(auto)]
 
 mod capture;

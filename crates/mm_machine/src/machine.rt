@@ -1,3 +1,5 @@
+//! Machines, cycle by cycle.
+
 ghost use Rattle.std.specs.Prelude.{◌≡◌, ◌+◌, ◌*◌, ◌≤◌, ◌^◌};
 ghost use Rattle.mm_machine.specs.Kept.{Kept};
 
@@ -10,13 +12,13 @@ use mm_thread::{Core, Slot, Step, Tick, turn};
 use mm_word::{Access, NoMemory, Post, Pre, Word};
 use std::alloc::{AllocError, Global};
 
-/// Slots over a memory, and a count of cycles.
+/// The slots of a machine, the memory that they use, and a count of cycles.
 #[derive(Drop)]
 pub struct Machine<M: Memory> {
     core: Core,
     mem: M,
     cycles: u64,
-    /// How many port calls there were.
+    /// The count of port calls.
     ports: u64,
     ghost kept: { ∥ Kept (record { core = core; memory = M.meaning mem; cycles = cycles }) ∥₁ },
     ghost few_ports: { ports ≤ 2 ^ 32 },
@@ -43,7 +45,8 @@ impl<M: Memory> Machine<M> {
     ghost use Rattle.mm_machine.specs.Machine.{state_of, ports_used, StandsTo, Takes, StandsFor};
     ghost use Rattle.mm_machine.specs.Going.{WentOn};
 
-    /// The machine of an image at its start, over a memory that holds the image's pages and was not used yet.
+    /// The machine of an image at its start, over an unused memory that holds the image's pages. `NoMemory` comes if
+    /// memory ran out.
     pub fn new(alloc: Global, img: &Image, mem: M) -> Result<Machine<M>, NoMemory>
         requires memory { M.meaning mem ≡ img.now.memory }
         requires unused { M.stands mem [] }
@@ -62,16 +65,17 @@ impl<M: Memory> Machine<M> {
         })
     }
 
-    /// One cycle. The item names a slot or, in a split machine, is 128 more than the number of the slot whose port it is.
+    /// Runs one cycle. The item is the number of a slot or, in a split machine, 128 more than the number of the slot
+    /// whose port it is.
     pub fn cycle(&mut self, item: u8) -> Step
         requires { (state_of self.old).cycles < 2 ^ 32 }
 
-        // From every state: the turn of the model, its step and its uses.
+        // From every state, the cycle is the turn of the model, with its step and its uses.
         ensures state { state_of self.new ≡ after (state_of self.old) item }
         ensures step { result ≡ (turn_of (state_of self.old) item).step }
         ensures takes { Takes self.old self.new (turn_of (state_of self.old) item).uses }
 
-        // What comes of the item, exactly, by the first test of the turn that fails.
+        // The outcome of the item, exactly, by the first test of the turn that fails.
         ensures idle { (result.tick ≡ Tick.Idle) ↔ IsIdle (state_of self.old).core item }
         ensures delivered { (reg : ℕ) → (result.tick ≡ Tick.Delivered reg) ↔ Delivers (state_of self.old).core item reg }
         ensures blocked { let s = state_of self.old in (result.tick ≡ Tick.Blocked) ↔ Blocks s.core s.memory item }
@@ -81,7 +85,7 @@ impl<M: Memory> Machine<M> {
         // A turn that stops at a fault changes what a fault changes, and nothing else.
         ensures unchanged { let s = state_of self.old in (x : SlotValue) (c : Cause) → StopsAt s.core s.memory item x c → FaultChanges x c s (state_of self.new) }
 
-        // After any items of an image, one item more.
+        // The machine after one item more, from the machine after any items of an image.
         ensures runs { (i : ImageValue) (items : List ℕ) → StandsFor i items self.old → StandsFor i (items ++ item ∷ []) self.new }
         ensures ports { ports_used self.new ≡ ports_used self.old }
     {
@@ -100,8 +104,8 @@ impl<M: Memory> Machine<M> {
         self.issue(items, None, 0, &mut step);
     }
 
-    /// Issues so many cycles of round robin, fewer only where no slot runs: behind a slot, or from the least where none is named. Gives
-    /// the slot that was issued last, `behind` where none was.
+    /// Issues up to `count` cycles of round robin, fewer only if no slot runs. It begins after the slot `behind`, or
+    /// with the least if none is given. Gives the slot that was issued last, or `behind` if none was.
     pub fn round_robin(&mut self, behind: Option<u8>, count: u64) -> Option<u8>
         requires few { (state_of self.old).cycles + count ≤ 2 ^ 32 }
         requires slot { IfSome behind (λ n. n < 64) }
@@ -114,8 +118,8 @@ impl<M: Memory> Machine<M> {
         self.issue(&[], behind, count, &mut step)
     }
 
-    /// Issues the items of a list, and then so many cycles of round robin as [`Machine::round_robin`] does. Of an item that is issued
-    /// alone the step is told.
+    /// Issues the items of a list, and then up to `count` cycles of round robin as [`Machine::round_robin`] does. If a
+    /// single item is issued, its step is written.
     ///
     /// Every cycle passes here, so that a turn has one caller, into whose loop the compiler puts it.
     fn issue(&mut self, items: &[u8], behind: Option<u8>, count: u64, step: &mut Step) -> Option<u8>
@@ -142,7 +146,8 @@ impl<M: Memory> Machine<M> {
         last
     }
 
-    /// What comes next: the item at a place of a list, and behind its end the next slot of round robin, which is the last from then on.
+    /// The next item: the one at an index of a list or, after the list's end, the next slot of round robin, which
+    /// becomes the last.
     fn next_item(&self, items: &[u8], at: u64, last: &mut Option<u8>) -> Option<u8>
         requires slot { IfSome last.old (λ n. n < 64) }
         ensures listed { at < length items.now → (result ≡ Some (slice_index items.now at)) × (last.new ≡ last.old) }
@@ -157,7 +162,7 @@ impl<M: Memory> Machine<M> {
         Some(next)
     }
 
-    /// One cycle more, the turn of an item.
+    /// Runs one more cycle, the turn of an item.
     fn advance(&mut self, item: u8) -> Step
         requires { (state_of self.old).cycles < 2 ^ 32 }
         ensures state { state_of self.new ≡ after (state_of self.old) item }
@@ -169,7 +174,7 @@ impl<M: Memory> Machine<M> {
         turn(&mut self.core, &mut self.mem, item)
     }
 
-    /// How many cycles there were.
+    /// The count of cycles so far.
     pub fn cycles(&self) -> u64
         ensures { result ≡ (state_of self.now).cycles }
     {
@@ -183,14 +188,14 @@ impl<M: Memory> Machine<M> {
         self.core.slot(n)
     }
 
-    /// The running slots: bit n is set exactly where slot n runs.
+    /// The set of running slots: bit n is set exactly if slot n runs.
     pub fn running(&self) -> u64
         ensures { (n : ℕ) → IsBitSet result n ↔ IsSomeAnd (slot_at (state_of self.now).core n) (λ s. s.state ≡ Running) }
     {
         self.core.running()
     }
 
-    /// How many slots there are.
+    /// The count of slots.
     pub fn slot_count(&self) -> usize
         ensures { result ≡ length (slots_of (state_of self.now).core) }
     {
@@ -205,7 +210,7 @@ impl<M: Memory> Machine<M> {
         self.core.nth(i)
     }
 
-    /// What a group has put out. A group without a slot has put out nothing.
+    /// The bytes that a group has put out, oldest first. A group without a slot has put out nothing.
     pub fn output(&self, group: u8) -> &[u8]
         ensures bytes { result.now ≡ output_of (state_of self.now).core group }
         ensures silent { has_group (slots_of (state_of self.now).core) group ≡ false → result.now ≡ [] }
@@ -213,7 +218,7 @@ impl<M: Memory> Machine<M> {
         self.core.output(group)
     }
 
-    /// Its memory.
+    /// The memory of the machine.
     pub fn memory(&self) -> &M
         ensures memory { M.meaning result.now ≡ (state_of self.now).memory }
         ensures stands { (us : List Use) → StandsTo self.now us → M.stands result.now us }
@@ -223,7 +228,7 @@ impl<M: Memory> Machine<M> {
     }
 }
 
-/// The step of no cycle.
+/// A step that says nothing, for a caller that fills it.
 fn no_step() -> Step {
     Step {
         tick: Tick::Idle,
@@ -234,7 +239,7 @@ fn no_step() -> Step {
     }
 }
 
-/// Port calls: what a link between nodes takes from a cell of this memory, and puts into one.
+/// Port calls: a link between nodes takes from a cell of this memory, or puts into one.
 impl<M: Memory> Machine<M> {
     ghost use Rattle.std.specs.Prelude.{◌≡◌, ◌+◌, ◌<◌, ◌^◌};
     ghost use Rattle.mm_word.specs.declared.perm.Kind.TheVariants.{LoadSet, Store};
@@ -259,7 +264,8 @@ impl<M: Memory> Machine<M> {
         self.mem.load(a, Pre::Full, Post::Empty)
     }
 
-    /// Stores an integer into an empty cell and leaves the cell full, as a port call. A cell that is not empty stays as it is.
+    /// Stores an integer into an empty cell and leaves the cell full, as a port call. A cell that is not empty stays as
+    /// it is.
     pub fn port_put(&mut self, a: &Access, bits: u64) -> Stored
         requires kind { a.now.kind ≡ Store }
         requires few { ports_used self.old < 2 ^ 32 }
@@ -276,7 +282,7 @@ impl<M: Memory> Machine<M> {
         self.mem.store(a, Word::Int(bits), Pre::Empty, Post::Full)
     }
 
-    /// How many port calls there were.
+    /// The count of port calls so far.
     pub fn port_uses(&self) -> u64
         ensures { result ≡ ports_used self.now }
     {
@@ -284,17 +290,17 @@ impl<M: Memory> Machine<M> {
     }
 }
 
-/// States that are kept apart.
+/// Taking snapshots.
 impl<M: Inspect> Machine<M> {
     ghost use Rattle.std.specs.Prelude.{IfOk};
     ghost use Rattle.mm_machine.specs.Machine.{state_of};
     ghost use Rattle.mm_machine.specs.Snapshot.{IsSnapshotOf, CanRestore};
 
-    /// The state as it is now, but for the frames of the memory.
+    /// The state as it is now, without the frames of the memory. `NoMemory` comes if memory ran out.
     pub fn snapshot(&self, alloc: Global) -> Result<Snapshot, NoMemory>
         ensures state { IfOk result (λ s. IsSnapshotOf (state_of self.now) s) }
 
-        // The machine can be put back to it.
+        // The machine can be put back to the snapshot.
         ensures fits { IfOk result (λ s. CanRestore (state_of self.now) s) }
     {
         match self.copied(alloc) {
@@ -314,28 +320,28 @@ impl<M: Inspect> Machine<M> {
     }
 }
 
-/// States that are put back.
+/// Going back to snapshots.
 impl<M: Reset> Machine<M> {
     ghost use Rattle.std.specs.Prelude.{◌≡◌, []};
     ghost use Rattle.mm_model.specs.State.{State};
     ghost use Rattle.mm_machine.specs.Machine.{state_of, ports_used, StandsTo};
     ghost use Rattle.mm_machine.specs.Snapshot.{Parts, IsSnapshotOf, CanRestore, IsAlike, restored};
 
-    /// Makes the state of a snapshot the machine's own. Version, mode, frames and the count of port uses stay, and no use of the
-    /// memory is counted any more. Takes no memory.
+    /// Puts the machine back to the state of a snapshot. Version, mode, frames and the count of port calls stay, and
+    /// the uses of the memory are counted anew. Takes no memory.
     pub fn restore(&mut self, s: &Snapshot)
         requires { CanRestore (state_of self.old) s.now }
         ensures state { state_of self.new ≡ restored (state_of self.old) s.now }
         ensures stands { StandsTo self.new [] }
         ensures ports { ports_used self.new ≡ ports_used self.old }
 
-        // It is the snapshot of the state as it is now.
+        // The snapshot is that of the state as it is now.
         ensures shown { IsSnapshotOf (state_of self.new) s.now }
 
         // The snapshot of a state of such a machine brings that state back.
         ensures back { (t : State) → IsAlike (state_of self.old) t → IsSnapshotOf t s.now → state_of self.new ≡ t }
 
-        // What it could be put back to before, it still can.
+        // The machine can still be put back to each snapshot to which it could be before.
         ensures fits { (p : Parts) → CanRestore (state_of self.old) p → CanRestore (state_of self.new) p }
     {
         self.core.assign(s.slots(), s.events(), s.outputs());

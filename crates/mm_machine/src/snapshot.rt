@@ -1,4 +1,4 @@
-//! Snapshots: states of a machine that are kept apart from it.
+//! Snapshots: states of a machine that are kept apart from the machine.
 
 ghost use Rattle.std.specs.Prelude.{◌≡◌};
 ghost use Rattle.std.specs.Option.{SomeIff};
@@ -8,8 +8,8 @@ use mm_model::{Event, Page, Slot};
 use mm_thread::Output;
 use std::marker::Model;
 
-/// The state of a machine, but for the frames of its memory: the slots, their events, what the groups have put out, the pages
-/// and the count of cycles.
+/// The state of a machine without the frames of its memory: the slots, their events, the outputs of the groups, the
+/// pages and the count of cycles.
 #[derive(Drop)]
 pub struct Snapshot {
     slots: Vec<Slot>,
@@ -32,12 +32,13 @@ impl Model for Snapshot {
 impl Snapshot {
     ghost use Rattle.mm_machine.specs.Snapshot.{IsSnapshot, IsTyped, parts_of};
 
-    /// The snapshot of these parts. An event stands beside the number of the slot in whose queue it is, in the order of its queue.
-    /// None exactly where they are not the parts of a state: slots, groups or pages that do not ascend, groups that are not those
-    /// of the slots, an event beside a lesser slot than the event before it, events and waiting slots that do not match one to
-    /// one by slot and handler, an event whose instruction pointer is not its slot's, a taken slot without a handler, an output
-    /// above 65,536 bytes, pending loads that do not match the empty registers one to one, an empty register that does not hold
-    /// integer 0, a count of turns above the count of cycles.
+    /// The snapshot of these parts. Each event has the number of the slot in whose queue it is, and events of one queue
+    /// are in its order. `None` exactly if the parts are not those of a state: slots, groups or pages that do not
+    /// ascend; groups that are not those of the slots; an event of a lesser slot's queue after one of a greater; events
+    /// and waiting slots that do not match one to one by slot and handler; an event whose instruction pointer is not
+    /// its slot's; a taken slot without a handler; an output above 65,536 bytes; pending loads that do not match the
+    /// empty registers one to one; an empty register that does not hold integer 0; or a count of turns above the count
+    /// of cycles.
     pub fn new(
         slots: Vec<Slot>,
         events: Vec<(u8, Event)>,
@@ -55,7 +56,7 @@ impl Snapshot {
         Some(Snapshot::of(slots, events, outputs, pages, cycles))
     }
 
-    /// The snapshot of parts that are those of a state.
+    /// The snapshot of parts that are known to be those of a state.
     pub(crate) fn of(
         slots: Vec<Slot>,
         events: Vec<(u8, Event)>,
@@ -76,7 +77,7 @@ impl Snapshot {
         }
     }
 
-    /// Its slots, by ascending number.
+    /// The slots of the state, by ascending number.
     pub fn slots(&self) -> &[Slot]
         ensures slots { result.now ≡ self.now.slots }
         ensures snapshot { IsSnapshot self.now }
@@ -85,7 +86,7 @@ impl Snapshot {
         self.slots.as_slice()
     }
 
-    /// The events in its queues, each beside the number of the slot in whose queue it is.
+    /// The events in the queues, each with the number of the slot in whose queue it is.
     pub fn events(&self) -> &[(u8, Event)]
         ensures events { result.now ≡ self.now.events }
         ensures snapshot { IsSnapshot self.now }
@@ -94,7 +95,7 @@ impl Snapshot {
         self.events.as_slice()
     }
 
-    /// What each group has put out, by ascending group.
+    /// The outputs of the groups, by ascending group.
     pub fn outputs(&self) -> &[Output]
         ensures outputs { result.now ≡ self.now.outputs }
         ensures snapshot { IsSnapshot self.now }
@@ -103,7 +104,7 @@ impl Snapshot {
         self.outputs.as_slice()
     }
 
-    /// Its pages, by ascending number.
+    /// The pages of the state, by ascending number.
     pub fn pages(&self) -> &[Page]
         ensures pages { result.now ≡ self.now.pages }
         ensures snapshot { IsSnapshot self.now }
@@ -112,7 +113,7 @@ impl Snapshot {
         self.pages.as_slice()
     }
 
-    /// How many cycles there were.
+    /// The count of cycles so far.
     pub fn cycles(&self) -> u64
         ensures cycles { result ≡ self.now.cycles }
         ensures snapshot { IsSnapshot self.now }

@@ -18,7 +18,7 @@ use mm_model::{Event, Page, Pending, Slot, SlotState};
 use mm_thread::Output;
 use mm_word::{GuardedPtr, Word};
 
-/// How many bytes a group may have put out.
+/// The most bytes that a group may put out.
 const OUTPUT_LIMIT: usize = 65536;
 
 /// Whether these parts make a snapshot.
@@ -85,7 +85,7 @@ fn pages_ascend(pages: &[Page]) -> bool
     true
 }
 
-// Whether no event stands beside a lesser number than the event before it.
+// Whether no event is in the queue of a lesser slot than the event before it.
 fn queues_ascend(events: &[(u8, Event)]) -> bool
     ensures { IsTrue result ↔ DoesNotFall (queues_of events.now) }
 {
@@ -125,7 +125,7 @@ fn has_output_of(outputs: &[Output], group: u8) -> bool
     outputs.iter().any(|o| o.group == group)
 }
 
-// Whether each event is that of a slot that waits for the handler beside which it stands.
+// Whether each event is that of a slot that waits for the handler in whose queue the event is.
 fn are_awaited(events: &[(u8, Event)], slots: &[Slot]) -> bool
     ensures awaited { IsTrue result ↔ AllByRecursion (IsAwaited slots.now) events.now }
     ensures words { IsTrue result → AllByRecursion IsTypedEvent events.now }
@@ -141,7 +141,7 @@ fn are_awaited(events: &[(u8, Event)], slots: &[Slot]) -> bool
 fn is_awaited(slots: &[Slot], queue: u8, event: Event) -> bool
     ensures awaited { IsTrue result ↔ IsAwaited slots.now (queue, event) }
 
-    // What the type of an event says.
+    // The type of an event says that it holds words.
     ensures words { EventHoldsWords event }
 {
     match slot_of(slots, event.slot) {
@@ -234,7 +234,7 @@ fn are_pending(slots: &[Slot]) -> bool
     slots.iter().all(is_pending)
 }
 
-// Whether the pending entries of a slot match its empty registers, which hold 0.
+// Whether the pending loads of a slot match its empty registers, which hold integer 0.
 fn is_pending(slot: &Slot) -> bool
     ensures { IsTrue result ↔ IsPending slot.now }
 {

@@ -30,23 +30,25 @@ abbrev pub stored : Pre → Option Cell → Stored
 stored pre None = stores.NoPage
 stored pre (Some c) = if passes pre c.full then stores.Done else stores.NotReady
 
--- 2. What they leave.
+-- 2. What the calls leave.
 
--- the memory with this cell at a word, where its old cell passes
+-- the memory with the cell of a word changed, if the cell passes the precondition
 abbrev pub put_where : Memory → ℕ → Pre → Option Cell → (Cell → Cell) → Memory
 put_where m w pre None change = m
 put_where m w pre (Some c) change = if passes pre c.full then put_cell m w (change c) else m
 
--- the memory with the bit of a word's cell set, where its old bit passes
+-- the memory with the bit of a word's cell set by the postcondition, if the bit passes the
+-- precondition
 abbrev pub set_where : Memory → ℕ → Pre → Post → Option Cell → Memory
 set_where m w pre post None = m
 set_where m w pre post (Some c) = if passes pre c.full then with_cell m (set_by post w c) else m
 
--- a load sets the bit by its postcondition, and changes no cell where that keeps it
+-- the memory after a load, which sets the bit by its postcondition, and changes no cell if that
+-- keeps the bit
 abbrev pub after_load : Memory → ℕ → Pre → Post → Memory
 after_load m w pre post = set_where m w pre post (cell_at m w)
 
--- a store writes word and bit
+-- the memory after a store, which writes word and bit
 abbrev pub after_store : Memory → ℕ → Word → Pre → Post → Memory
 after_store m w word pre post = put_where m w pre (cell_at m w)
     (λ c. record { word = word; full = full_after post c.full })
@@ -57,7 +59,7 @@ after_map m p = if can_map m p then map_page m p else m
 abbrev pub after_unmap : Memory → ℕ → Memory
 after_unmap m p = if is_mapped m p then unmap_page m p else m
 
--- 3. The uses that they add.
+-- 3. The uses that the calls add.
 
 abbrev pub access_uses : Memory → Touch → Pre → List Use
 access_uses m a pre = use_at a.kind a.addr pre (cell_at m a.addr) ∷ []

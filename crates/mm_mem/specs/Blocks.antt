@@ -1,5 +1,4 @@
--- Blocks of eight cells: in the cells of a page, and in a memory, where they are numbered by their address divided by
--- 64.
+-- Blocks of eight cells, in the cells of a page and in a memory. The number of a block is its address divided by 64.
 use Rattle.std.specs.Prelude.{ℕ, ◌+◌, ◌*◌, ◌%◌, List, ◌++◌, take, drop, Option, None, Some}
 use Rattle.std.specs.Ordering.{nat_cmp}
 use Rattle.std.specs.FinMap.{put}
@@ -7,15 +6,15 @@ use Rattle.mm_word.specs.declared.word.Cell.{Cell}
 use Rattle.mm_model.specs.Memory.{Memory, page_at}
 use Rattle.mm_model.specs.Counted.{page_of_block}
 
--- the place of a block among those of its page
+-- the index of a block among those of its page
 abbrev pub place_of_block : ℕ → ℕ
 place_of_block block = block % 64
 
--- the cells of the block at this place
+-- the cells of the block at this index
 abbrev pub block_in : List Cell → ℕ → List Cell
 block_in cells place = take 8 (drop (place * 8) cells)
 
--- the cells with these in the block at this place
+-- the cells with these in the block at this index
 abbrev pub with_block : List Cell → ℕ → List Cell → List Cell
 with_block cells place new = take (place * 8) cells ++ new ++ drop (place * 8 + 8) cells
 

@@ -41,8 +41,8 @@ pub record AccessesKeepPages : Type 0 where
   pub store : (m : Memory) (w : ℕ) (word : Word) (pre : Pre) (post : Post) (p : ℕ)
       → is_mapped (after_store m w word pre post) p ≡ is_mapped m p
 
--- a page is mapped exactly where it was not mapped and a frame is free; it then holds integer zeros, full, and each
--- other page stays
+-- a page is mapped exactly if it was not mapped and a frame is free; it then holds integer zeros, full, and each other
+-- page stays
 pub record MapsOnePage : Type 0 where
   pub answer : (m : Memory) (p : ℕ) → (can_map m p ≡ true) ↔ ((is_mapped m p ≡ false) × (length m.pages < m.frames))
   pub own : (m : Memory) (p w : ℕ) → can_map m p ≡ true → w % 8 ≡ 0 → page_of w ≡ p

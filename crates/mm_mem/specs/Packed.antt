@@ -1,5 +1,5 @@
--- Packed cells: the 64 bits of each word, and for eight cells a byte of tags, of which each bit, the lowest for the
--- first, says whether a cell holds a pointer, and a byte of which each bit says whether a cell is full.
+-- Packed cells: the 64 bits of each word, and two bytes for eight cells. A bit of the first byte, the tags, says
+-- whether a cell holds a pointer, and a bit of the second whether it is full; the lowest bit is for the first cell.
 use Rattle.std.specs.Prelude.{◌≡◌, ℕ, ◌/◌, ◌%◌, ◌^◌, ◌<◌, ◌==◌, Bool, true, if◌then◌else◌, List, length, map}
 use Rattle.std.specs.Prelude.{slice_index}
 use Rattle.std.specs.List.{range_with_len}
@@ -12,7 +12,7 @@ use Rattle.mm_word.specs.Pointer.{pointer_of, SpellsPointer}
 abbrev pub bit_of : ℕ → ℕ → Bool
 bit_of byte i = byte / 2 ^ i % 2 == 1
 
--- the word of these bits: a pointer where it is tagged
+-- the word of these bits: a pointer if it is tagged
 abbrev pub word_of : ℕ → Bool → Word
 word_of bits tagged = if tagged then Ptr (pointer_of bits) else Int bits
 
@@ -20,15 +20,15 @@ word_of bits tagged = if tagged then Ptr (pointer_of bits) else Int bits
 abbrev pub cell_from : (bits tags fulls i : ℕ) → Cell
 cell_from bits tags fulls i = record { word = word_of bits (bit_of tags i); full = bit_of fulls i }
 
--- the cell at a place
+-- the cell at a place of a block
 abbrev pub cell_of_block : (bits : List ℕ) (tags fulls place : ℕ) → Cell
 cell_of_block bits tags fulls place = cell_from (slice_index bits place) tags fulls place
 
--- the eight cells
+-- the eight cells of a block
 unfoldable pub block_of : (bits : List ℕ) (tags fulls : ℕ) → List Cell
 block_of bits tags fulls = map (cell_of_block bits tags fulls) (range_with_len 0 8)
 
--- eight words and two bytes; what is tagged spells a pointer
+-- a packed block: eight words and two bytes; each tagged word spells a pointer
 pub record IsPackedBlock (bits : List ℕ) (tags fulls : ℕ) : Type 0 where
   pub words : length bits ≡ 8
   pub tag_byte : tags < 256

@@ -1,17 +1,17 @@
--- Where a page is, or would go, in a list of pages whose numbers rise.
+-- The place of a page, or the gap for it, in a list of pages whose numbers rise.
 use Rattle.std.specs.Prelude.{◌≡◌, ℕ, ◌<◌, ◌≤◌, List, length, slice_index_or}
 
 module _ {X : Type 0} where
-  -- the number of the entry at a place; past the end it is that of d
+  -- the number of the entry at a place, or of d past the end
   abbrev pub number_at : List (ℕ × X) → ℕ → ℕ × X → ℕ
   number_at es i d = (slice_index_or es i d).0
 
-  -- this number is at this place
+  -- the entry at this place has this number
   pub record IsAt (number : ℕ) (es : List (ℕ × X)) (i : ℕ) : Type 0 where
     pub in_range : i < length es
     pub has_number : (d : ℕ × X) → number_at es i d ≡ number
 
-  -- this number is nowhere, and would go to this place
+  -- no entry has this number, and one with it would go to this place
   pub record IsGap (number : ℕ) (es : List (ℕ × X)) (i : ℕ) : Type 0 where
     pub in_range : i ≤ length es
     pub smaller_before : (j : ℕ) (d : ℕ × X) → j < i → number_at es j d < number

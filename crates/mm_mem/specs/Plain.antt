@@ -1,8 +1,9 @@
+-- The value of a plain memory.
 use Rattle.std.specs.Prelude.{ℕ}
 use Rattle.mm_model.specs.Memory.{Memory}
 
 -- a plain memory, as contracts see it
 pub record Plain : Type 0 where
   pub memory : Memory
-  -- how many accesses were made
+  -- the count of accesses that were made
   pub uses : ℕ

@@ -1,4 +1,4 @@
--- A packed block is given back by its cells.
+-- A packed block is made again from its cells.
 use Rattle.std.specs.Prelude.{◌≡◌, ℕ, ◌<◌, Bool, true, false, List, length, map, refl}
 use Rattle.std.specs.List.{range_with_len}
 use Rattle.std.proofs.Common.{sym, ap, ◌∙◌, arith, get_or}
@@ -14,7 +14,7 @@ use Rattle.mm_model.proofs.ImageBytes.Ranges.{map-map, map-same}
 use Rattle.mm_mem.specs.declared.block.Block.TheInside.{Inside}
 use Rattle.mm_mem.specs.Packed.{bit_of, word_of, cell_of_block, block_of, IsPackedBlock}
 
--- the 64 bits of each word
+-- the 64 bits of each cell's word
 abbrev pub words_of : List Cell → List ℕ
 words_of cells = map (λ (c : Cell). word_bits c.word) cells
 
@@ -22,7 +22,7 @@ words_of cells = map (λ (c : Cell). word_bits c.word) cells
 abbrev pub tags_of : List Cell → ℕ
 tags_of cells = number_of_flags (map (λ (c : Cell). is_pointer c.word) cells)
 
--- the byte that says which of them are full
+-- the byte that says which of eight cells are full
 abbrev pub fulls_of : List Cell → ℕ
 fulls_of cells = number_of_flags (map (λ (c : Cell). c.full) cells)
 

@@ -1,6 +1,8 @@
+//! The answers of loads and stores.
+
 use mm_word::Word;
 
-/// What a load answers.
+/// The answer of a load.
 #[derive(Clone, Copy, Debug, PartialEq, Eq)]
 pub enum Loaded {
     /// The cell's word.
@@ -11,7 +13,7 @@ pub enum Loaded {
     NotReady,
 }
 
-/// What a store answers.
+/// The answer of a store.
 #[derive(Clone, Copy, Debug, PartialEq, Eq)]
 pub enum Stored {
     Done,

@@ -1,3 +1,5 @@
+//! Synchronisation bits before and after an access.
+
 ghost use Rattle.std.specs.Prelude.{◌≡◌};
 ghost use Rattle.mm_model.specs.Memory.{passes, full_after};
 

@@ -1,3 +1,5 @@
+//! Blocks of eight cells, packed.
+
 ghost use Rattle.std.specs.Prelude.{◌≡◌, ◌<◌, Some, length, slice_get, slice_set};
 
 use crate::packed::{fulls_of, is_set, put_words, tags_of, with_bit, word_of};
@@ -7,14 +9,14 @@ use std::marker::Model;
 /// The cells in a block, 64 bytes.
 pub const BLOCK: usize = 8;
 
-/// What each cell of a page holds that was just mapped: an integer 0, full.
+/// Each cell of a page that was just mapped: integer 0, full.
 pub const ZERO: Cell = Cell {
     word: Word::Int(0),
     full: true,
 };
 
 /// The eight cells of a block, packed: 64 bits for each word, and two bits for each cell in two bytes. Contracts see
-/// the list of the cells.
+/// the list of cells.
 #[derive(Clone, Copy, Debug, PartialEq, Eq)]
 pub struct Block {
     bits: [u64; BLOCK],
@@ -67,7 +69,7 @@ impl Block {
         cells
     }
 
-    /// The cell at a place.
+    /// The cell at a place, 0 to 7.
     pub fn cell(&self, place: usize) -> Cell
         requires { place < 8 }
         ensures cell { slice_get self.now place ≡ Some result }
@@ -79,7 +81,7 @@ impl Block {
         }
     }
 
-    /// Writes the cell at a place.
+    /// Writes the cell at a place, 0 to 7.
     pub fn set(&mut self, place: usize, cell: Cell)
         requires { place < 8 }
         ensures { self.new ≡ slice_set self.old place cell }

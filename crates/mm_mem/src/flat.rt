@@ -1,3 +1,5 @@
+//! A flat memory: pages in ascending order, and the frames without a page.
+
 ghost use Rattle.std.specs.Prelude.{◌≡◌, ◌+◌, ◌%◌, ◌^◌, ◌<◌, ◌≤◌, IsTrue, IfOk, IfSome, IfNone, Some, None, length};
 ghost use Rattle.std.specs.Prelude.{map, slice_get, vec_len};
 ghost use Rattle.std.specs.Vec.{vec_capacity};
@@ -20,7 +22,7 @@ fn page_of(word: u64) -> u64
     word / 4096
 }
 
-// The place of a word's cell in its page.
+// The index of a word's cell in its page.
 fn place_of(word: u64) -> usize
     ensures place { result ≡ place_of word }
     ensures within { result < 512 }
@@ -28,7 +30,7 @@ fn place_of(word: u64) -> usize
     (word % 4096 / 8) as usize
 }
 
-// Frames without a page, as many as asked for.
+// `count` frames without a page.
 fn free_frames(alloc: Global, count: u32) -> Result<Vec<Frame>, NoMemory>
     ensures len { IfOk result (λ v. vec_len v ≡ count) }
     ensures room { IfOk result (λ v. count ≤ vec_capacity v) }
@@ -98,7 +100,7 @@ impl FlatPages {
     ghost use Rattle.mm_mem.specs.Answers.{after_map, after_unmap};
     ghost use Rattle.mm_model.specs.Memory.{IsPaged, is_mapped, cell_at, put_cell, can_map};
 
-    // The memory of these pages. All its frames are taken here.
+    // The memory of these pages. All its frames are allocated here.
     pub(crate) fn new(alloc: Global, pages: &[Page], frames: u32) -> Result<FlatPages, NoMemory>
         requires ascend { IsTrue (is_sorted nat_cmp pages.now) }
         requires fit { length pages.now ≤ frames }
@@ -116,7 +118,7 @@ impl FlatPages {
         })
     }
 
-    // The index of a word's page among the mapped pages.
+    // The index of a word's page among the mapped pages; `None` if it is not mapped.
     pub(crate) fn find(&self, word: u64) -> Option<usize>
         ensures found { IfSome result (IsAt (page_of word) self.now.pages) }
         ensures absent { IfNone result (cell_at self.now word ≡ None) }
@@ -142,7 +144,8 @@ impl FlatPages {
         frame.put(place_of(word), cell);
     }
 
-    // Maps a page of integer zeros, full, where it is not mapped and a frame is free.
+    // Maps a page of integer zeros, full, if it is not mapped and a frame is free; says whether it
+    // did.
     pub(crate) fn map(&mut self, page: u64) -> bool
         requires { page < 2 ^ 42 }
         ensures answer { result ≡ can_map self.old page }
@@ -163,7 +166,7 @@ impl FlatPages {
         }
     }
 
-    // Removes a page, where it is mapped.
+    // Removes a page, if it is mapped; says whether it was.
     pub(crate) fn unmap(&mut self, page: u64) -> bool
         ensures answer { result ≡ is_mapped self.old page }
         ensures after { self.new ≡ after_unmap self.old page }

@@ -1,3 +1,5 @@
+//! Frames, each with the cells of a page.
+
 ghost use Rattle.std.specs.Prelude.{◌≡◌, ◌^◌, ◌<◌, IfOk, Some, slice_get, slice_set};
 ghost use Rattle.mm_model.specs.Memory.{IsPage, zero_page};
 
@@ -7,7 +9,7 @@ use mm_word::{Cell, NoMemory};
 use std::alloc::Global;
 use std::marker::Model;
 
-// A frame, and the page in it. The memory of its cells is taken once, and kept for as long as the frame.
+// A frame, and the page in it. Its cells are allocated once, and kept as long as the frame.
 #[derive(Drop)]
 pub(crate) struct Frame {
     number: u64,

@@ -24,7 +24,7 @@ pub fn one_page_at_a_time()
     ensures unmap { UnmapsOnePage }
 {}
 
-/// Nothing that a page held can be read after it was removed, also where it is mapped again.
+/// Nothing that a page held can be read after it was removed, also if it is mapped again.
 pub fn removed_pages_are_forgotten()
     ensures { RemovedPagesComeBackEmpty }
 {}

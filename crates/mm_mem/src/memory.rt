@@ -1,3 +1,5 @@
+//! The traits of a memory: access, inspection, start and reset.
+
 ghost use Rattle.std.specs.Prelude.{◌≡◌, ℕ, ◌+◌, ◌%◌, ◌^◌, ◌<◌, ◌≤◌, List, [], length, map, slice_get, IfOk, IsTrue};
 ghost use Rattle.std.specs.Ordering.{nat_cmp};
 ghost use Rattle.std.specs.FinMap.{is_sorted};
@@ -12,24 +14,24 @@ use mm_model::{Counts, Page};
 use mm_word::{Access, Cell, Kind, NoMemory, Post, Pre, Word};
 use std::alloc::Global;
 
-/// A memory of whole pages of cells, and the number of its frames: as many pages can be mapped.
+/// A memory of whole pages of cells, and the number of its frames, which is the most pages that can be mapped.
 ///
-/// A memory stands to lists of uses: what was asked of it, in order. Each call takes every list to which the memory
-/// stood to that list with the call's own uses added.
+/// Lists of uses belong to a memory: what was asked of it, in order. If a list belongs to it before a call, that list
+/// with the call's own uses appended belongs to it after the call.
 pub trait Memory: Drop {
     /// The mapped pages with their cells, and the number of frames.
     ghost meaning: { Self → Flat };
 
-    /// How many accesses were made.
+    /// The count of accesses that were made.
     ghost uses: { Self → ℕ };
 
-    /// The memory stands to this list of uses.
+    /// The list of uses belongs to the memory.
     ghost stands: { Self → List Use → Type 0 };
 
-    /// The count of uses is the number of accesses in each list to which the memory stands.
+    /// The count of accesses is that of each list of uses that belongs to the memory.
     ghost counted: { (m : Self) (us : List Use) → stands m us → uses m ≡ accesses us };
 
-    /// Reads an instruction. None is for a word in no mapped page.
+    /// Reads an instruction. `None` exactly if the word is in no mapped page.
     fn fetch(&mut self, a: &Access) -> Option<Word>
         requires kind { a.now.kind ≡ Kind.Fetch }
         requires room { uses self.old < 2 ^ 62 }
@@ -56,7 +58,7 @@ pub trait Memory: Drop {
         ensures count { uses self.new ≡ uses self.old + 1 }
         ensures takes { TakesUses stands self.old self.new (access_uses (meaning self.old) a.now pre) };
 
-    /// Maps a page of integer zeros, full. False exactly where the page is mapped already or no frame is free.
+    /// Maps a page of integer zeros, full. `false` exactly if the page is mapped already or no frame is free.
     fn map(&mut self, page: u64) -> bool
         requires { page < 2 ^ 42 }
         ensures answer { result ≡ can_map (meaning self.old) page }
@@ -64,7 +66,7 @@ pub trait Memory: Drop {
         ensures count { uses self.new ≡ uses self.old }
         ensures takes { TakesUses stands self.old self.new [] };
 
-    /// Removes a page. False exactly where the page is not mapped.
+    /// Removes a page. `false` exactly if the page is not mapped.
     fn unmap(&mut self, page: u64) -> bool
         requires { page < 2 ^ 42 }
         ensures answer { result ≡ is_mapped (meaning self.old) page }
@@ -73,12 +75,12 @@ pub trait Memory: Drop {
         ensures takes { TakesUses stands self.old self.new (unmap_uses (meaning self.old) page) };
 }
 
-/// What a report reads of a memory. No call changes it or counts as a use.
+/// What a report reads of a memory. No call changes the memory or counts as a use.
 pub trait Inspect: Memory {
     ghost use Rattle.std.specs.Prelude.{Option};
     ghost use Rattle.mm_model.specs.declared.counts.Counts.{Counts};
 
-    /// What a memory of this type tells of a list of uses.
+    /// The counts that a memory of this type keeps for a list of uses; `None` if it does not count.
     ghost tells: { List Use → Option Counts };
 
     /// The cell of a word, if the word's page is mapped.
@@ -87,7 +89,7 @@ pub trait Inspect: Memory {
         requires small { word < 2 ^ 54 }
         ensures { result ≡ cell_at (Self.meaning self.now) word };
 
-    /// How many pages are mapped.
+    /// The count of mapped pages.
     fn pages(&self) -> u32
         ensures { result ≡ length (Self.meaning self.now).pages };
 
@@ -96,12 +98,12 @@ pub trait Inspect: Memory {
         requires { i < length (Self.meaning self.now).pages }
         ensures { slice_get (map (λ e. e.0) (Self.meaning self.now).pages) i ≡ Some result };
 
-    /// What the memory counted, for each list of uses to which it stands.
+    /// What the memory counted: the counts of each list of uses that belongs to it. `None` if it does not count.
     fn counts(&self) -> Option<Counts>
         ensures { (us : List Use) → Self.stands self.now us → result ≡ tells us };
 }
 
-/// Makes a memory.
+/// A memory that can be made of pages.
 pub trait Boot: Inspect + Sized {
     /// The memory of these pages, with this many frames.
     fn new(alloc: Global, pages: &[Page], frames: u32) -> Result<Self, NoMemory>
@@ -113,9 +115,9 @@ pub trait Boot: Inspect + Sized {
         ensures stands { IfOk result (λ m. Self.stands m []) };
 }
 
-/// Puts a memory back, without memory from the system.
+/// A memory that can be put back to given pages, without allocation.
 pub trait Reset: Inspect {
-    /// Makes these pages the whole contents. The frames stay, and no use is counted any more.
+    /// Makes these pages the whole contents. The frames stay, and the list of uses begins anew.
     fn reset(&mut self, pages: &[Page])
         requires ascend { IsTrue (is_sorted nat_cmp pages.now) }
         requires fit { length pages.now ≤ (Self.meaning self.old).frames }

@@ -1,4 +1,5 @@
-// Words and bits of packed cells.
+//! Words and bits of packed cells.
+
 ghost use Rattle.std.specs.Prelude.{◌≡◌, ◌≢◌, ℕ, ◌<◌, true, length};
 ghost use Rattle.std.specs.List.{AllByRecursion};
 ghost use Rattle.mm_word.specs.declared.word.Cell.{Cell as CellValue};
@@ -30,7 +31,7 @@ pub(crate) fn with_bit(byte: u8, place: usize, bit: bool) -> u8
     }
 }
 
-// The word of these bits: a pointer where it is tagged.
+// The word of these bits: a pointer if it is tagged.
 pub(crate) fn word_of(bits: u64, tagged: bool) -> Word
     requires { tagged ≡ true → SpellsPointer bits }
     ensures { result ≡ word_of bits tagged }

@@ -1,3 +1,5 @@
+//! The plain memory.
+
 ghost use Rattle.std.specs.Prelude.{◌≡◌, ◌≤◌, [], IsTrue, IfOk, None, length};
 ghost use Rattle.std.specs.Ordering.{nat_cmp};
 ghost use Rattle.std.specs.FinMap.{is_sorted};
@@ -13,7 +15,7 @@ use std::marker::Model;
 
 /// The plain memory, the yardstick of the others: pages in ascending order, and a count of the accesses.
 ///
-/// A look-up is a binary search. `new` takes the frames; no later call takes memory or moves the cells of a page.
+/// A look-up is a binary search. `new` allocates the frames; no later call allocates or moves the cells of a page.
 #[derive(Drop)]
 pub struct PlainMem {
     flat: FlatPages,
@@ -102,7 +104,7 @@ impl Inspect for PlainMem {
         Some(self.flat.cell(i, word))
     }
 
-    // The pages of every plain memory rise, each is whole, and no more are mapped than it has frames.
+    // The pages of every plain memory rise by number, each is whole, and there are no more than frames.
     fn pages(&self) -> u32
         ensures count { result ≡ length self.now.memory.pages }
         ensures paged { IsPaged self.now.memory }

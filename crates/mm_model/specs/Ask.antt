@@ -31,7 +31,7 @@ pub data Ask : Type 0 where
   -- a slot that this one serves and whose event it has read
   Serve : (slot : ℕ) → Ask
 
--- code is privileged where its instruction pointer is one of privileged code
+-- code is privileged if its instruction pointer has the permission of privileged code
 abbrev pub is_privileged : Perm → Bool
 is_privileged Xp = true
 is_privileged _ = false

@@ -29,7 +29,7 @@ pub record GrantedSegment (i : Image) (e : Entries) (g : ℕ) (right : Perm → 
   pub is : segment ≡ (base_of by, by.log)
   pub whole_word : 3 ≤ by.log
 
--- it lies in no longer one of them
+-- a granted segment that lies in no other, longer one
 pub record MaximalSegment (i : Image) (e : Entries) (g : ℕ) (right : Perm → Bool) (segment : Segment) : Type 0 where
   pub granted : GrantedSegment i e g right segment
   pub maximal : (p : Pointer) → Grants i e g p → right p.perm ≡ true → InSegment p segment.0 → p.log ≤ segment.1
@@ -42,7 +42,7 @@ pub record MaximalSegments (i : Image) (e : Entries) (g : ℕ) (right : Perm →
 abbrev pub segment_line : List ℕ → Segment → List ℕ
 segment_line name segment = name ++ codes " " ++ hex 14 segment.0 ++ codes " " ++ decimal segment.1 ++ newline
 
--- 2. Whether groups stand apart.
+-- 2. Whether groups are apart.
 
 pub data Verdict : Type 0 where
   Yes : Verdict
@@ -61,13 +61,13 @@ pub record Crosses (i : Image) (c : ℕ → Bool) (n : ℕ) : Type 0 where
   pub handled : served.handler ≡ Some server.number
   pub sides : ¬ (c served.group ≡ c server.group)
 
--- the group is outside and can write the word, which one inside can touch
+-- the group is outside and can write the word, and a group inside can touch it
 pub record Writes (i : Image) (e : Entries) (c : ℕ → Bool) (g w : ℕ) : Type 0 where
   pub outside : c g ≡ false
   pub writes : CanWrite i e g w
   pub touched : Touchable i e c w
 
--- the verdict on the groups, where these entries may be made
+-- the verdict on the groups, if these entries may be made
 abbrev pub Judged : Image → Entries → (ℕ → Bool) → Verdict → Type 0
 Judged i e c Yes = Apart i e c
 Judged i e c (Handler n) = Crosses i c n × ((m : ℕ) → Crosses i c m → n ≤ m)
@@ -75,7 +75,7 @@ Judged i e c (Writer g w) =
     ((n : ℕ) → ¬ Crosses i c n) × Writes i e c g w × ((h v : ℕ) → Writes i e c h v → g ≤ h)
     × ((v : ℕ) → Writes i e c g v → w ≤ v)
 
--- groups as they are written: their numbers, with commas between
+-- the text of groups: their numbers, with commas between
 abbrev pub groups_text : List ℕ → List ℕ
 groups_text [] = []
 groups_text (g ∷ []) = decimal g
@@ -89,7 +89,7 @@ verdict_text (Writer g w) = codes "writer " ++ decimal g ++ codes " word " ++ he
 abbrev pub apart_line : List ℕ → Verdict → List ℕ
 apart_line groups verdict = codes "apart " ++ groups_text groups ++ codes " " ++ verdict_text verdict ++ newline
 
--- the line says whether these groups stand apart
+-- the line says whether these groups are apart
 pub record ApartLine (i : Image) (groups line : List ℕ) : Type 0 where
   pub verdict : Verdict
   pub judged : Judged i All (among groups) verdict
@@ -101,7 +101,7 @@ abbrev pub kind_line : ℕ → Bool → List ℕ
 kind_line g true = codes "group " ++ decimal g ++ codes " privileged\n"
 kind_line g false = codes "group " ++ decimal g ++ codes " user\n"
 
--- what is written of a group
+-- the text of a group
 pub record AuditOf (i : Image) (g : ℕ) (text : List ℕ) : Type 0 where
   pub privileged : Bool
   pub touch : List Segment
@@ -112,20 +112,20 @@ pub record AuditOf (i : Image) (g : ℕ) (text : List ℕ) : Type 0 where
   pub is : text ≡ kind_line g privileged ++ flat_map (segment_line (codes "touch")) touch
       ++ flat_map (segment_line (codes "write")) write
 
--- each of these groups, with its own apart line
+-- the texts of these groups, each with its own apart line
 pub data AuditEach (i : Image) : List ℕ → List ℕ → Type 0 where
   no_group : AuditEach i [] []
   group : {g : ℕ} {gs own line text : List ℕ} → AuditOf i g own → ApartLine i (g ∷ []) line → AuditEach i gs text
       → AuditEach i (g ∷ gs) (own ++ line ++ text)
 
--- each of these groups alone
+-- the texts of these groups, without apart lines
 pub data AuditGroups (i : Image) : List ℕ → List ℕ → Type 0 where
   no_group : AuditGroups i [] []
   group : {g : ℕ} {gs own text : List ℕ} → AuditOf i g own → AuditGroups i gs text
       → AuditGroups i (g ∷ gs) (own ++ text)
 
--- The text is the audit of the image: each group that has a slot, ascending, and its apart line; or, where groups are
--- given, their apart line at the end.
+-- The text is the audit of the image: each group that has a slot, ascending, with its apart line. If groups are given,
+-- the only apart line is theirs, at the end.
 abbrev pub IsAudit : Image → Option (List ℕ) → List ℕ → Type 0
 IsAudit i None text = AuditEach i (groups_of (start i).core) text
 IsAudit i (Some groups) text = (own : List ℕ) × AuditGroups i (groups_of (start i).core) own

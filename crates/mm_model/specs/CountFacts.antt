@@ -1,4 +1,4 @@
--- The same said as facts about the list, the latest use first.
+-- The counts of a list of uses, said as facts about the list. The latest use is first.
 use Rattle.std.specs.Prelude.{◌≡◌, ℕ, Bool, true, false, List, [], ◌∷◌, ◌++◌}
 use Rattle.std.proofs.Common.{◌≢◌}
 use Rattle.mm_word.specs.declared.perm.Kind.{Kind}
@@ -12,7 +12,7 @@ NoneWithLine line (Accessed kind addr true done ∷ us) = (line_of (block_of add
 NoneWithLine line (Accessed kind addr false done ∷ us) = NoneWithLine line us
 NoneWithLine line (Removed page ∷ us) = NoneWithLine line us
 
--- the page is not removed
+-- no use removes the page
 abbrev pub NotRemoved : ℕ → List Use → Type 0
 NotRemoved page [] = Unit {0}
 NotRemoved page (Accessed kind addr found done ∷ us) = NotRemoved page us
@@ -31,7 +31,7 @@ pub record LatestWas (line block : ℕ) (us : List Use) : Type 0 where
   pub latest : NoneWithLine line later
   pub stays : NotRemoved (page_of_block block) later
 
--- each access to this block in `later`, before which the uses `earlier` came, is a hit
+-- each access to this block in the list is a hit, if the uses `earlier` came before the list
 abbrev pub HitsOnly : ℕ → List Use → List Use → Type 0
 HitsOnly block earlier [] = Unit {0}
 HitsOnly block earlier (Accessed kind addr true done ∷ us) =

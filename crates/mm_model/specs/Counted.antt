@@ -24,7 +24,7 @@ writes Load = false
 writes LoadSet = true
 writes Store = true
 
--- a block of a page that is removed goes
+-- the block that a line keeps when a page is removed: none if it is of that page
 abbrev pub kept : ℕ → Option ℕ → Option ℕ
 kept page None = None
 kept page (Some block) = if page_of_block block == page then None else Some block
@@ -46,8 +46,8 @@ is_block (Some b) block = b == block
 abbrev pub is_hit : ℕ → List Use → Bool
 is_hit block us = is_block (latest (line_of block) us) block
 
--- whether there was a done write from the last miss on the block of the latest counted access with this line index up
--- to that access
+-- whether a write was done to the block of the latest counted access with this line index, from the last miss on that
+-- block up to that access
 abbrev pub written : ℕ → List Use → Bool
 written line [] = false
 written line (Accessed kind addr true done ∷ us) =
@@ -56,7 +56,7 @@ written line (Accessed kind addr true done ∷ us) =
 written line (Accessed kind addr false done ∷ us) = written line us
 written line (Removed page ∷ us) = written line us
 
--- the block that a line with this block, written or not, gives back for another one
+-- the block that a line writes back when this block comes: the old one, if it is another and was written
 abbrev pub given_back : Option ℕ → Bool → ℕ → Option ℕ
 given_back None w block = None
 given_back (Some old) w block = if old == block then None else (if w then Some old else None)
@@ -97,7 +97,7 @@ distinct (p ∷ ps) = p ∷ without p (distinct ps)
 abbrev pub recent : List Use → List ℕ
 recent us = distinct (look_ups us)
 
--- how many of the look-ups `now` are among the first 16 of the distinct ones before them
+-- the count of these look-ups that are among the first 16 of the distinct ones before them
 abbrev pub buffer_hits : List ℕ → List ℕ → ℕ
 buffer_hits [] before = 0
 buffer_hits (p ∷ ps) before = buffer_hits ps before + one_if (has p (take 16 (distinct (ps ++ before))))
@@ -140,6 +140,6 @@ numbers us = record {
   writes = total back_at us;
 }
 
--- those of a list, the earliest first
+-- the numbers of a list of uses, the earliest first
 abbrev pub counts_of : List Use → Counts
 counts_of us = numbers (reverse us)

@@ -42,7 +42,7 @@ pub data Reply : Type 0 where
   Paged : (page : ℕ) (done : Bool) → Reply
   -- no event is there
   NoEvent : Reply
-  -- the oldest event, those behind it, and the slot that it is of
+  -- the oldest event, the events after it, and the slot that it is of
   Took : (event : Event) (rest : List Event) (of : Slot) → Reply
   -- the served slot
   Served : (of : Slot) → Reply
@@ -90,7 +90,7 @@ abbrev pub is_missing : Option Pointer → Bool
 is_missing None = true
 is_missing (Some q) = false
 
--- the next instruction's pointer; at the segment's end it stays
+-- the next instruction's pointer; the same pointer at the segment's end
 unfoldable pub advanced : Pointer → Pointer
 advanced p = moved_on p (next_result p)
 
@@ -98,7 +98,7 @@ advanced p = moved_on p (next_result p)
 unfoldable pub runs_past : Pointer → Bool
 runs_past p = is_missing (next_result p)
 
--- nothing but the step to the next instruction
+-- the change that is only the step to the next instruction
 unfoldable pub plain : Slot → Change
 plain s = record {
   writes = [];
@@ -134,13 +134,13 @@ abbrev pub test : Bool → ℕ
 test true = 1
 test false = 0
 
--- tag and bits are equal
+-- two words are equal in tag and bits
 abbrev pub same_word : Word → Word → Bool
 same_word (Int a) (Int b) = a == b
 same_word (Ptr p) (Ptr q) = word_bits (Ptr p) == word_bits (Ptr q)
 same_word _ _ = false
 
--- the low half of a word moves up, and imm's 32 bits come below
+-- a word whose high half is the low half of `bits`, and whose low half is the 32 bits of imm
 abbrev pub high_and_low : ℕ → ℤ → ℕ
 high_and_low bits imm = bits * 2 ^ 32 % 2 ^ 64 + cast_unsigned w32 imm
 
@@ -149,7 +149,7 @@ puts_out s byte Fine = Does (record (plain s) { out = Some byte })
 puts_out s byte (Refused c) = Fault c
 puts_out s byte _ = Block
 
--- what a load leaves in its cell, where it sets the bit
+-- what a load leaves in its cell, if it sets the bit
 abbrev pub set_by : Post → ℕ → Cell → Option (ℕ × Cell)
 set_by posts.Keep w c = None
 set_by posts.Full w c = Some (w, record c { full = true })
@@ -171,7 +171,7 @@ stored s w post (Got a c) =
 stored s w post (Refused c) = Fault c
 stored s w post _ = Block
 
--- the instruction pointer at so many words from its own address
+-- the instruction pointer moved by a distance in words
 abbrev pub at_distance : Slot → ℤ → Result Pointer Cause
 at_distance s imm = moved_to s.ip (pos s.ip.addr +ℤ (pos 8 *ℤ imm))
 
@@ -192,7 +192,7 @@ abbrev pub jumps : Slot → Pointer → Option Pointer → Effect
 jumps s p None = Fault cause.Perm
 jumps s p (Some to) = Does (record (plain s) { next = to; past = false; entered = entry_of p })
 
--- the jump, and rd holds the pointer behind the instruction
+-- the jump, after which rd holds the pointer to the instruction after this one
 abbrev pub links : Slot → ℕ → Pointer → Option Pointer → Option Pointer → Effect
 links s rd p None behind = Fault cause.Perm
 links s rd p (Some to) None = Fault cause.Bounds

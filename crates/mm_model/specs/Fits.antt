@@ -1,4 +1,4 @@
--- What a state is, when it fits an image, and what the types of a machine keep besides.
+-- What a state is, when it fits an image, and what else the types of a machine keep.
 use Rattle.std.specs.Prelude.{◌≡◌, ◌≢◌, ℕ, ◌+◌, ◌<◌, ◌≤◌, Bool, true, false, ◌==◌, if◌then◌else◌, List, [], ◌∷◌, map}
 use Rattle.std.specs.Prelude.{length, Option, None, Some, IfSome}
 use Rattle.std.specs.List.{AllByRecursion}
@@ -22,7 +22,7 @@ use Rattle.mm_model.specs.Turn.{is_handler, is_taken}
 
 -- 1. What a state is at all, whatever the image.
 
--- one of 64 numbers, an executable instruction pointer, 16 registers and 16 flags
+-- a slot with one of 64 numbers, an executable instruction pointer, 16 registers and 16 flags
 pub record IsSlot (s : Slot) : Type 0 where
   pub number : s.number < 64
   pub executable : can_fetch s.ip.perm ≡ true
@@ -32,7 +32,7 @@ pub record IsSlot (s : Slot) : Type 0 where
 abbrev pub slots_of : Core → List Slot
 slots_of core = map (λ row. row.slot) core.rows
 
--- slots by rising number, and the outputs of 64 groups
+-- a core with its slots by rising number, and with the outputs of 64 groups
 pub record IsFormed (core : Core) : Type 0 where
   pub rising : IsStrictlyIncreasing (numbers_of (slots_of core))
   pub slots : AllByRecursion IsSlot (slots_of core)
@@ -54,16 +54,16 @@ pub record RowHoldsWords (row : Row) : Type 0 where
   pub slot : SlotHoldsWords row.slot
   pub events : AllByRecursion EventHoldsWords row.queue
 
--- slots, outputs and whole pages, which hold words
+-- a state of slots, outputs and whole pages, which hold words
 pub record IsState (s : State) : Type 0 where
   pub core : IsFormed s.core
   pub rows : AllByRecursion RowHoldsWords s.core.rows
   pub pages : ArePages s.memory.pages
   pub cells : AllByRecursion HoldsWords s.memory.pages
 
--- 2. When it fits an image.
+-- 2. When a state fits an image.
 
--- how many of the pending loads are for a register
+-- the count of pending loads for a register
 abbrev pub loads_for : ℕ → List Pending → ℕ
 loads_for r [] = 0
 loads_for r (p ∷ ps) = if p.reg == r then loads_for r ps + 1 else loads_for r ps
@@ -72,7 +72,7 @@ loads_for r (p ∷ ps) = if p.reg == r then loads_for r ps + 1 else loads_for r 
 pub record LoadsMatch (s : Slot) : Type 0 where
   pub each : (r : ℕ) → loads_for r s.pending ≡ one_if (is_empty s r)
 
--- how many of the events are of a slot
+-- the count of events of a slot
 abbrev pub events_of : ℕ → List Event → ℕ
 events_of n [] = 0
 events_of n (e ∷ es) = if e.slot == n then events_of n es + 1 else events_of n es
@@ -102,7 +102,7 @@ abbrev pub identity_of : Slot → ℕ × ℕ × Option ℕ
 identity_of s = (s.number, s.group, s.handler)
 
 -- The numbers, groups and handlers of the slots, the number of frames, the version and the mode are the image's, no
--- more pages are mapped than there are frames, and what has to match matches.
+-- more pages are mapped than there are frames, and slots match their events and loads.
 pub record Fits (i : Image) (s : State) : Type 0 where
   pub same_slots : map identity_of (slots_of s.core) ≡ map identity_of i.slots
   pub version : s.core.version ≡ i.version
@@ -111,7 +111,7 @@ pub record Fits (i : Image) (s : State) : Type 0 where
   pub mapped : length s.memory.pages ≤ s.memory.frames
   pub matched : Matches s.core
 
--- 3. What the types of a machine keep besides.
+-- 3. What else the types of a machine keep.
 
 -- an event has the instruction pointer of its slot
 abbrev pub IsAtSlot : Core → Event → Type 0
@@ -139,7 +139,7 @@ pub record IsKept (core : Core) : Type 0 where
 
 -- 4. A core by itself, with no image to fit.
 
--- a number and a group of this version
+-- the number and the group of a slot are in the limits of this version
 pub record IsOfVersion (version : ℕ) (s : Slot) : Type 0 where
   pub number : s.number < slot_limit version
   pub group : s.group < slot_limit version

@@ -9,7 +9,7 @@ use Rattle.mm_model.specs.Image.{Image}
 abbrev pub among : List ℕ → ℕ → Bool
 among groups g = list_any (λ h. g == h) groups
 
--- the group is one of the mask
+-- the group's bit is set in the mask
 abbrev pub in_mask : ℕ → ℕ → Bool
 in_mask mask g = bit_at mask g == 1
 

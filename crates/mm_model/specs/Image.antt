@@ -16,19 +16,19 @@ abbrev pub slot_in : List Slot → ℕ → Option Slot
 slot_in [] n = None
 slot_in (s ∷ slots) n = if s.number == n then Some s else slot_in slots n
 
--- how many slots, and how many numbers of slots and groups, a version has
+-- the most slots that a version has, and the limit of its numbers of slots and groups
 abbrev pub slot_limit : ℕ → ℕ
 slot_limit version = if version == 1 then 16 else 64
 
--- how many frames
+-- the most frames that a version has
 abbrev pub frame_limit : ℕ → ℕ
 frame_limit version = if version == 1 then 256 else 4096
 
--- how many bytes a group may put out
+-- the most bytes that a group may put out
 abbrev pub output_limit : ℕ → ℕ
 output_limit version = if version == 1 then 4096 else 65536
 
--- no register waits for a load
+-- the flags of a slot in which no register waits for a load
 abbrev pub none_empty : List Bool
 none_empty = replicate 16 false
 

@@ -39,7 +39,7 @@ module _ (bytes : List ℕ) where
   abbrev pub is_magic : Bool
   is_magic = bytes_eq (take 4 bytes) (codes "MMI1")
 
-  -- the header
+  -- the places of the header
   abbrev pub header_places : List Place
   header_places =
       Field 0 4 ∷ Test 2 0 (not is_magic)
@@ -49,15 +49,15 @@ module _ (bytes : List ℕ) where
       ∷ Field 10 2 ∷ Test 12 10 (nat_lt (frames_of bytes) (pages_of bytes))
       ∷ Field 12 4 ∷ Test 4 12 (nat_lt (version_of bytes - 1) (mode_number bytes)) ∷ []
 
-  -- register r of a record
+  -- the places of register r of a slot's record
   abbrev pub register_places : (at r : ℕ) → List Place
   register_places at r = word_places bytes (mask_bit_at bytes (at + 12) r) (at + 14 + 8 * r)
 
-  -- all registers
+  -- the places of all registers of a slot's record
   abbrev pub registers_places : (at : ℕ) → List Place
   registers_places at = in_turn (register_places at) 0 16
 
-  -- the record of a slot whose numbers are below a limit, its own no less than the least that it may be
+  -- the places of a slot's record: its numbers are below a limit, and its own is at least `least`
   abbrev pub slot_record_places : (limit least at : ℕ) → List Place
   slot_record_places limit least at =
       Field at 1 ∷ Test 5 at (nat_le limit (number_at bytes at 1) || nat_lt (number_at bytes at 1) least)
@@ -66,32 +66,32 @@ module _ (bytes : List ℕ) where
       ∷ Field (at + 3) 1 ∷ Test 8 (at + 3) (nat_lt 1 (number_at bytes (at + 3) 1))
       ∷ ip_places bytes (at + 4) ++ Field (at + 12) 2 ∷ registers_places at
 
-  -- slot k
+  -- the places of slot k
   abbrev pub slot_places : (version k : ℕ) → List Place
   slot_places version k = slot_record_places (slot_limit version) (least_number bytes slot_offset 1 k) (slot_offset k)
 
-  -- so many slots
+  -- the places of the first `count` slots
   abbrev pub slots_places : (version count : ℕ) → List Place
   slots_places version count = in_turn (slot_places version) 0 count
 
-  -- the handler of slot k
+  -- the place of the handler of slot k
   abbrev pub handler_places : (slots : List Slot) (k : ℕ) → List Place
   handler_places slots k = Test 7 (slot_offset k + 2) (is_bad_handler slots (slot_at bytes k)) ∷ []
 
-  -- the handlers of all slots
+  -- the places of all handlers
   abbrev pub handlers_places : (slots : List Slot) → List Place
   handlers_places slots = in_turn (handler_places slots) 0 (length slots)
 
-  -- page k, behind so many slots
+  -- the places of page k, after this count of slots
   abbrev pub page_places : (slots k : ℕ) → List Place
   page_places slots k = page_record_places bytes (least_number bytes (page_offset slots) 8 k) (page_offset slots k)
 
-  -- so many pages
+  -- the places of the first `count` pages, after this count of slots
   abbrev pub pages_places : (slots count : ℕ) → List Place
   pages_places slots count = in_turn (page_places slots) 0 count
 
-  -- all places in the order in which they are read: the handlers behind the last slot, since they name slots that may
-  -- follow
+  -- all places in the order in which they are read. The handlers come after the last slot, since they may name later
+  -- slots
   abbrev pub places : List Place
   places =
       header_places

@@ -9,11 +9,11 @@ use Rattle.mm_model.specs.Slot.{Slot}
 use Rattle.mm_model.specs.Image.{Image, none_empty}
 use Rattle.mm_model.specs.Places.{number_at, mask_bit_at, word_at, page_record_at}
 
--- where the record of slot k begins
+-- the offset of the record of slot k
 abbrev pub slot_offset : (k : ℕ) → ℕ
 slot_offset k = 16 + 142 * k
 
--- where the record of page k begins, behind so many slots
+-- the offset of the record of page k, after this count of slots
 abbrev pub page_offset : (slots k : ℕ) → ℕ
 page_offset slots k = 16 + 142 * slots + 4232 * k
 
@@ -24,15 +24,15 @@ module _ (bytes : List ℕ) where
   abbrev pub version_of : ℕ
   version_of = number_at bytes 4 2
 
-  -- how many slots
+  -- the count of slots
   abbrev pub slots_of : ℕ
   slots_of = number_at bytes 6 2
 
-  -- how many frames
+  -- the count of frames
   abbrev pub frames_of : ℕ
   frames_of = number_at bytes 8 2
 
-  -- how many pages
+  -- the count of pages
   abbrev pub pages_of : ℕ
   pages_of = number_at bytes 10 2
 
@@ -40,17 +40,17 @@ module _ (bytes : List ℕ) where
   abbrev pub mode_number : ℕ
   mode_number = number_at bytes 12 4
 
-  -- 2. The record of a slot, at a place.
+  -- 2. The record of a slot at an offset.
 
-  -- register r
+  -- register r of a slot's record
   abbrev pub register_at : (at r : ℕ) → Word
   register_at at r = word_at bytes (mask_bit_at bytes (at + 12) r) (at + 14 + 8 * r)
 
-  -- all registers
+  -- all registers of a slot's record
   unfoldable pub registers_at : (at : ℕ) → List Word
   registers_at at = map (register_at at) (range_with_len 0 16)
 
-  -- a slot that has not run
+  -- the slot of a record, which has not run
   abbrev pub slot_record_at : (at : ℕ) → Slot
   slot_record_at at = record {
     number = number_at bytes at 1;
@@ -71,21 +71,21 @@ module _ (bytes : List ℕ) where
   abbrev pub slot_at : (k : ℕ) → Slot
   slot_at k = slot_record_at (slot_offset k)
 
-  -- so many slots
+  -- the first `count` slots
   unfoldable pub slots_at : (count : ℕ) → List Slot
   slots_at count = map slot_at (range_with_len 0 count)
 
-  -- the page of record k, behind so many slots
+  -- the page of record k, after this count of slots
   abbrev pub page_at : (slots k : ℕ) → ℕ × List Cell
   page_at slots k = page_record_at bytes (page_offset slots k)
 
-  -- so many pages
+  -- the first `count` pages, after this count of slots
   unfoldable pub pages_at : (slots count : ℕ) → List (ℕ × List Cell)
   pages_at slots count = map (page_at slots) (range_with_len 0 count)
 
   -- 4. The whole.
 
-  -- the image that is read
+  -- the image that the bytes say
   unfoldable pub image_of : Image
   image_of = record {
     version = version_of;

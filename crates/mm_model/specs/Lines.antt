@@ -16,7 +16,7 @@ use Rattle.mm_model.specs.Slot.{Slot, register, is_empty}
 abbrev pub newline : List ℕ
 newline = 10 ∷ []
 
--- `i` or `p`, and the 64 bits in 16 digits
+-- the text of a word: `i` or `p`, and the 64 bits in 16 digits
 abbrev pub word_text : Word → List ℕ
 word_text (Int bits) = codes "i" ++ hex 16 bits
 word_text (Ptr p) = codes "p" ++ hex 16 (word_bits (Ptr p))
@@ -29,7 +29,7 @@ state_text Taken = codes "taken"
 state_text (Halted None) = codes "halted"
 state_text (Halted (Some cause)) = codes "faulted " ++ decimal (number_of cause)
 
--- the end of a slot's line, which says where the instruction pointer is past its segment
+-- the end of a slot's line, which says whether the instruction pointer is past its segment
 abbrev pub past_text : Bool → List ℕ
 past_text true = codes " past\n"
 past_text false = newline
@@ -37,7 +37,7 @@ past_text false = newline
 abbrev pub numbers_text : ℕ → ℕ → List ℕ
 numbers_text number turns = codes "slot " ++ decimal number ++ codes " turns " ++ decimal turns ++ codes " "
 
--- number, turns, state and instruction pointer of a slot
+-- the line of a slot: its number, turns, state and instruction pointer
 abbrev pub slot_line : Slot → List ℕ
 slot_line s =
     numbers_text s.number s.turns ++ state_text s.state ++ codes " ip " ++ word_text (Ptr s.ip) ++ past_text s.past
@@ -50,7 +50,7 @@ is_zero (Ptr p) = false
 abbrev pub word_line : ℕ → Word → List ℕ
 word_line r w = if is_zero w then [] else codes "r " ++ decimal r ++ codes " " ++ word_text w ++ newline
 
--- a register that waits for a load has a line that says so
+-- the line of a register; one that waits for a load has a line that says so
 abbrev pub register_line : Slot → ℕ → List ℕ
 register_line s r = if is_empty s r then codes "r " ++ decimal r ++ codes " empty\n" else word_line r (register s r)
 
@@ -60,18 +60,18 @@ pending_line p = codes "pending " ++ decimal p.reg ++ codes " " ++ word_text p.w
 abbrev pub register_lines : Slot → List ℕ
 register_lines s = flat_map (register_line s) (range_with_len 0 16)
 
--- all that is written of a slot
+-- all lines of a slot
 unfoldable pub slot_lines : Slot → List ℕ
 slot_lines s = slot_line s ++ register_lines s ++ flat_map pending_line s.pending
 
--- two digits for each byte
+-- the text of bytes: two digits for each
 abbrev pub bytes_text : List ℕ → List ℕ
 bytes_text bytes = flat_map (hex 2) bytes
 
 abbrev pub output_row : List ℕ → List ℕ
 output_row bytes = codes "o " ++ bytes_text bytes ++ newline
 
--- so many lines of 32 bytes each
+-- `count` lines of up to 32 bytes each
 abbrev pub output_rows : ℕ → List ℕ → List ℕ
 output_rows zero bytes = []
 output_rows (suc count) bytes = output_row (take 32 bytes) ++ output_rows count (drop 32 bytes)
@@ -84,6 +84,6 @@ abbrev pub full_text : Bool → List ℕ
 full_text true = codes " full"
 full_text false = codes " empty"
 
--- a cell at a word's address
+-- the line of a cell at a word's address
 abbrev pub cell_line : ℕ → Cell → List ℕ
 cell_line w c = codes "cell " ++ hex 14 w ++ codes " " ++ word_text c.word ++ full_text c.full ++ newline

@@ -1,4 +1,4 @@
--- A flat memory: whole pages of cells by their numbers, and the number of frames that pages can stand in.
+-- A flat memory: whole pages of cells by their numbers, and the number of frames for pages.
 use Rattle.std.specs.Prelude.{◌≡◌, ℕ, ◌/◌, ◌%◌, ◌^◌, ◌<◌, ◌≤◌, Bool, true, false, not, ◌&&◌, ◌==◌, nat_lt}
 use Rattle.std.specs.Prelude.{if◌then◌else◌, IsTrue, List, length, replicate, slice_get, slice_set, Option, None, Some}
 use Rattle.std.specs.Prelude.{is_some}
@@ -21,7 +21,7 @@ pub record Memory : Type 0 where
 abbrev pub page_of : ℕ → ℕ
 page_of w = w / 4096
 
--- the place of an address's cell in its page
+-- the index of an address's cell in its page
 abbrev pub place_of : ℕ → ℕ
 place_of w = w % 4096 / 8
 
@@ -48,14 +48,14 @@ put_in m (Some cells) w c = record m { pages = put nat_cmp (page_of w) (slice_se
 unfoldable pub put_cell : Memory → ℕ → Cell → Memory
 put_cell m w c = put_in m (page_at m (page_of w)) w c
 
--- what each cell of a page holds that was just mapped: integer 0, full
+-- each cell of a page that was just mapped: integer 0, full
 abbrev pub zero_cell : Cell
 zero_cell = record { word = Int 0; full = true }
 
 abbrev pub zero_page : List Cell
 zero_page = replicate 512 zero_cell
 
--- a page can be mapped where it is not mapped yet and a frame is free
+-- a page can be mapped if it is not mapped yet and a frame is free
 unfoldable pub can_map : Memory → ℕ → Bool
 can_map m p = not (is_mapped m p) && nat_lt (length m.pages) m.frames
 
@@ -82,12 +82,12 @@ pub record IsPage (e : ℕ × List Cell) : Type 0 where
   pub number : e.0 < 2 ^ 42
   pub cells : length e.1 ≡ 512
 
--- pages rise, and each is whole
+-- the pages rise by number, and each is whole
 pub record ArePages (pages : List (ℕ × List Cell)) : Type 0 where
   pub rising : IsTrue (is_sorted nat_cmp pages)
   pub whole : AllByRecursion IsPage pages
 
--- and no more are mapped than there are frames
+-- the pages rise, each is whole, and no more are mapped than there are frames
 pub record IsPaged (m : Memory) : Type 0 where
   pub pages : ArePages m.pages
   pub fitting : length m.pages ≤ m.frames

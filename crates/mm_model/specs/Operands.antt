@@ -11,43 +11,47 @@ use Rattle.mm_isa.specs.declared.operand.Operand.TheVariants.{Rd, EvtRd, Ra, Rb,
 use Rattle.mm_isa.specs.Table.{operation_of}
 use Rattle.mm_model.specs.Slot.{Slot, register, is_empty}
 
--- what is made of the first operand of which something is made
+-- the first value that f gives for an operand of the list
 abbrev pub first : {A : Type 0} → (Operand → Option A) → List Operand → Option A
 first f [] = None
 first f (o ∷ os) = option_or (f o) (first f os)
 
--- the register of ra
+-- the register of ra, if the operand is ra
 abbrev pub ra_in : Operand → Option ℕ
 ra_in (Ra r) = Some r
 ra_in _ = None
 
+-- the register that an instruction names as ra
 abbrev pub field_a : Instr → Option ℕ
 field_a i = first ra_in (operation_of i).operands
 
--- the register of rb
+-- the register of rb, if the operand is rb
 abbrev pub rb_in : Operand → Option ℕ
 rb_in (Rb r) = Some r
 rb_in _ = None
 
+-- the register that an instruction names as rb
 abbrev pub field_b : Instr → Option ℕ
 field_b i = first rb_in (operation_of i).operands
 
--- the number of imm, 0 where the operation has none
+-- the number of imm, if the operand is in imm
 abbrev pub imm_in : Operand → Option ℤ
 imm_in (Imm n) = Some n
 imm_in (Distance n) = Some n
 imm_in (RegisterNumber r) = Some (pos r)
 imm_in _ = None
 
+-- the number of an instruction's imm, 0 if the operation has none
 abbrev pub field_imm : Instr → ℤ
 field_imm i = unwrap_or (first imm_in (operation_of i).operands) (pos 0)
 
--- the registers of rd, which are four for `evt`
+-- the registers of rd, if the operand is rd: one, or four for `evt`
 abbrev pub rd_in : Operand → List ℕ
 rd_in (Rd r) = r ∷ []
 rd_in (EvtRd r) = r ∷ (r + 1) ∷ (r + 2) ∷ (r + 3) ∷ []
 rd_in _ = []
 
+-- the registers that an instruction names as rd
 abbrev pub fields_d : Instr → List ℕ
 fields_d i = flat_map rd_in (operation_of i).operands
 

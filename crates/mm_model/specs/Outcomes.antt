@@ -15,12 +15,12 @@ use Rattle.mm_model.specs.Tests.Stop.{Fails, Lacks, Awaits}
 
 -- 1. The item of a cycle.
 
--- it is the number of a slot that runs
+-- the item is the number of a slot that runs
 pub record Runs (core : Core) (n : ℕ) (s : Slot) : Type 0 where
   pub at : slot_at core n ≡ Some s
   pub running : is_running s.state ≡ true
 
--- in a split machine, it is the port of a slot with a pending load, the oldest of which is p
+-- in a split machine, the item is the port of a slot whose oldest pending load is p
 pub record IsPort (core : Core) (n : ℕ) (s : Slot) (p : Pending) : Type 0 where
   pub split : core.split ≡ true
   pub number : n ≡ 128 + s.number
@@ -29,12 +29,12 @@ pub record IsPort (core : Core) (n : ℕ) (s : Slot) (p : Pending) : Type 0 wher
 
 -- 2. What the cycle comes to.
 
--- idle: the item is neither the number of a slot that runs nor such a port
+-- idle: the item is neither the number of a slot that runs nor the port of a slot with a pending load
 pub record IsIdle (core : Core) (n : ℕ) : Type 0 where
   pub no_slot : (s : Slot) → ¬ (Runs core n s)
   pub no_port : (s : Slot) (p : Pending) → ¬ (IsPort core n s p)
 
--- delivered: the item is such a port, and its slot's oldest pending load is for this register
+-- delivered: the item is the port of a slot whose oldest pending load is for this register
 abbrev pub Delivers : Core → ℕ → ℕ → Type 0
 Delivers core n reg = (s : Slot) × (p : Pending) × IsPort core n s p × (p.reg ≡ reg)
 
@@ -47,7 +47,7 @@ pub record StopsAt (core : Core) (m : Memory) (n : ℕ) (s : Slot) (c : Cause) :
 pub data Waits (core : Core) (m : Memory) (s : Slot) : Type 0 where
   -- a register that the instruction needs waits for a load
   for_load : (of : Slot) → first_stop core m s ≡ Some (Lacks of) → Waits core m s
-  -- the synchronisation bit fails the precondition, and there is no handler to tell
+  -- the synchronisation bit fails the precondition, and the slot has no handler
   for_bit : first_stop core m s ≡ Some (Fails Sync) → s.handler ≡ None → Waits core m s
   -- there is no event to take
   for_event : first_stop core m s ≡ Some Awaits → Waits core m s
@@ -56,26 +56,28 @@ pub data Waits (core : Core) (m : Memory) (s : Slot) : Type 0 where
 abbrev pub Blocks : Core → Memory → ℕ → Type 0
 Blocks core m n = (s : Slot) × Runs core n s × Waits core m s
 
--- faulted: its turn stops at this fault, and does not wait for a synchronisation bit
+-- faulted: the slot's turn stops at this fault, and does not wait for a synchronisation bit
 abbrev pub Faults : Core → Memory → ℕ → Cause → Type 0
 Faults core m n c = (s : Slot) × StopsAt core m n s c × (c ≡ Sync → s.handler ≢ None)
 
--- did: its turn stops nowhere
+-- did: the slot's turn stops nowhere
 abbrev pub Completes : Core → Memory → ℕ → Type 0
 Completes core m n = (s : Slot) × Runs core n s × (first_stop core m s ≡ None)
 
 -- 3. What a fault changes.
 
--- a slot with a handler waits; one without is halted, or runs on where it waits for a synchronisation bit
+-- the state after a fault: a slot with a handler waits; one without a handler is halted, or runs on if it waits for a
+-- synchronisation bit
 abbrev pub state_faulted : Cause → Option ℕ → SlotState
 state_faulted c (Some h) = Waiting
 state_faulted c None = if is_sync c then Running else Halted (Some c)
 
--- what the queue of a number gains of a slot's event: the event where it is the queue of the slot's handler
+-- what a slot's event adds to the queue of a number: the event, if the number is that of the slot's handler
 abbrev pub events_for : ℕ → Slot → Event → List Event
 events_for k s e = if is_handler k s.handler then e ∷ [] else []
 
--- of the slot its count of turns and its state, of the queues its handler's, and nothing else but the number of cycles
+-- a fault changes the slot's count of turns and its state, its handler's queue, and nothing else but the number of
+-- cycles
 pub record FaultChanges (s : Slot) (c : Cause) (old new : State) : Type 0 where
   pub memory : new.memory ≡ old.memory
   pub outputs : new.core.outputs ≡ old.core.outputs

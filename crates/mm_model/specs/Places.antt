@@ -13,12 +13,12 @@ use Rattle.mm_word.specs.Pointer.{pointer_of, spells_pointer}
 -- 1. Places.
 
 pub data Place : Type 0 where
-  -- a field of so many bytes, which has to be whole
+  -- a field of `size` bytes, which has to be whole
   Field : (at size : ℕ) → Place
-  -- a test of what was read: the fault of this number stands there where it is bad
+  -- a test of what was read: if it is bad, the fault of this number is at `at`
   Test : (number at : ℕ) → (bad : Bool) → Place
 
--- the number and the place of a fault: of a field that is not whole it is fault 1 at the end of the file
+-- the number and the offset of a place's fault: a field that is not whole is fault 1 at the end of the file
 unfoldable pub place_fault : (end : ℕ) → Place → Option (ℕ × ℕ)
 place_fault end (Field at size) = if nat_lt end (at + size) then Some (1, end) else None
 place_fault end (Test number at bad) = if bad then Some (number, at) else None
@@ -28,77 +28,77 @@ abbrev pub first_bad : (end : ℕ) → List Place → Option (ℕ × ℕ)
 first_bad end [] = None
 first_bad end (p ∷ places) = option_or (place_fault end p) (first_bad end places)
 
--- the places of n parts, one behind the other, from the part of a number on
+-- the places of n parts, one after the other, from part `from` on
 unfoldable pub in_turn : (part : ℕ → List Place) (from n : ℕ) → List Place
 in_turn part from n = flat_map part (range_with_len from n)
 
 -- 2. Numbers and bits.
 
--- each is a byte
+-- each number of the list is a byte
 abbrev pub IsBytes : List ℕ → Type 0
 IsBytes bytes = (i : ℕ) → slice_index bytes i < 256
 
 module _ (bytes : List ℕ) where
-  -- the number that so many bytes from a place on spell, the greatest part first
+  -- the number that `size` bytes from an offset on spell, the most significant byte first
   unfoldable pub number_at : (at size : ℕ) → ℕ
   number_at at size = fold (λ n b. n * 256 + b) 0 (take size (drop at bytes))
 
-  -- bit k of the bits from a place on, the lowest bit of each byte first
+  -- bit k of the bits from an offset on, the lowest bit of each byte first
   abbrev pub bit_at : (at k : ℕ) → Bool
   bit_at at k = number_at (at + k / 8) 1 / 2 ^ (k % 8) % 2 == 1
 
-  -- bit r of the mask of two bytes at a place
+  -- bit r of the mask of two bytes at an offset
   abbrev pub mask_bit_at : (at r : ℕ) → Bool
   mask_bit_at at r = number_at at 2 / 2 ^ r % 2 == 1
 
-  -- the least number that record k may have, where the records stand there and their first fields, of so many bytes,
-  -- rise
+  -- the least number that record k may have, if the numbers rise and each record begins, at its place, with its number
+  -- of `size` bytes
   abbrev pub least_number : (place : ℕ → ℕ) (size k : ℕ) → ℕ
   least_number place size zero = 0
   least_number place size (suc k) = number_at (place k) size + 1
 
-  -- the file goes on behind its last field
+  -- the test that the file ends after its last field
   abbrev pub end_places : (number at : ℕ) → List Place
   end_places number at = Test number at (nat_lt at (length bytes)) ∷ []
 
   -- 3. Words and instruction pointers.
 
-  -- the word of eight bytes, a pointer where it is tagged
+  -- the word of eight bytes, a pointer if it is tagged
   abbrev pub word_at : (tagged : Bool) (at : ℕ) → Word
   word_at tagged at = if tagged then Ptr (pointer_of (number_at at 8)) else Int (number_at at 8)
 
-  -- 9: tagged and no pointer
+  -- the places of a word. Fault 9: it is tagged and spells no pointer
   abbrev pub word_places : (tagged : Bool) (at : ℕ) → List Place
   word_places tagged at = Field at 8 ∷ Test 9 at (tagged && not (spells_pointer (number_at at 8))) ∷ []
 
-  -- 10: no pointer, or one that nothing may be fetched through
+  -- the places of an instruction pointer. Fault 10: it spells no pointer, or one that nothing may be fetched through
   abbrev pub ip_places : (at : ℕ) → List Place
   ip_places at = Field at 8
       ∷ Test 10 at (not (spells_pointer (number_at at 8)) || not (can_fetch (pointer_of (number_at at 8)).perm)) ∷ []
 
   -- 4. The record of a page: its number, which cells hold pointers, which are full, and the 512 words.
 
-  -- cell k
+  -- cell k of a page's record
   abbrev pub page_cell_at : (at k : ℕ) → Cell
   page_cell_at at k = record { word = word_at (bit_at (at + 8) k) (at + 136 + 8 * k); full = bit_at (at + 72) k }
 
-  -- all cells
+  -- all cells of a page's record
   unfoldable pub cells_at : (at : ℕ) → List Cell
   cells_at at = map (page_cell_at at) (range_with_len 0 512)
 
-  -- the page's number and cells
+  -- the number and the cells of a page's record
   abbrev pub page_record_at : (at : ℕ) → ℕ × List Cell
   page_record_at at = (number_at at 8, cells_at at)
 
-  -- the word of cell k
+  -- the places of the word of cell k
   abbrev pub cell_places : (at k : ℕ) → List Place
   cell_places at k = word_places (bit_at (at + 8) k) (at + 136 + 8 * k)
 
-  -- the words of all cells
+  -- the places of the words of all cells
   abbrev pub cells_places : (at : ℕ) → List Place
   cells_places at = in_turn (cell_places at) 0 512
 
-  -- 11: the number is 2^42 or more, or less than the least that it may be
+  -- the places of a page's record. Fault 11: the number is 2^42 or more, or less than the least that it may be
   abbrev pub page_record_places : (least at : ℕ) → List Place
   page_record_places least at =
       Field at 8 ∷ Test 11 at (nat_le (2 ^ 42) (number_at at 8) || nat_lt (number_at at 8) least)

@@ -9,11 +9,13 @@ use Rattle.mm_model.specs.Memory.{cell_at}
 use Rattle.mm_model.specs.Slot.{Slot}
 use Rattle.mm_model.specs.Image.{Image}
 
--- what was entered: anything, or these enter pointers, each by this group
+-- the entries that may be made: all, or those that a list has, each a group and the enter pointer
+-- that it enters
 pub data Entries : Type 0 where
   All : Entries
   These : (list : List (ℕ × Pointer)) → Entries
 
+-- the group may enter by this enter pointer
 abbrev pub MayEnter : Entries → ℕ → Pointer → Type 0
 MayEnter All g e = Unit {0}
 MayEnter (These list) g e = Contains list (g, e)
@@ -41,23 +43,23 @@ pub record StoresAt (p : Pointer) (w : ℕ) : Type 0 where
 
 -- The pointers that a group is granted.
 pub data Grants (i : Image) (e : Entries) : ℕ → Pointer → Type 0 where
-  -- a slot of the group has it in a register
+  -- a slot of the group has the pointer in a register
   in_register : {g : ℕ} {q : Pointer} (s : Slot) → Contains i.slots s → s.group ≡ g → Contains s.regs (Ptr q)
       → Grants i e g q
-  -- or runs by it
+  -- a slot of the group runs by the pointer
   runs_by : {g : ℕ} {q : Pointer} (s : Slot) → Contains i.slots s → s.group ≡ g → s.ip ≡ q → Grants i e g q
-  -- a cell of the image that the group can load holds it
+  -- a cell of the image that the group can load holds the pointer
   in_cell : {g : ℕ} {q : Pointer} (p : Pointer) (w : ℕ) (c : Cell) → Grants i e g p → LoadsAt p w
       → cell_at i.memory w ≡ Some c → c.word ≡ Ptr q → Grants i e g q
-  -- it is below one of the group's pointers
+  -- the pointer is below one of the group's pointers
   below : {g : ℕ} {q : Pointer} (p : Pointer) → Grants i e g p → IsBelow q p → Grants i e g q
-  -- a group that is granted it can store where this group can load
+  -- a group that is granted the pointer can store where this group can load
   passed : {g : ℕ} {q : Pointer} (h w : ℕ) (p r : Pointer) → Grants i e h q → Grants i e h p → StoresAt p w
       → Grants i e g r → LoadsAt r w → Grants i e g q
-  -- the group entered there
+  -- the pointer is what an enter pointer of the group, by which it may enter, becomes in the jump
   entered : {g : ℕ} {q : Pointer} (p : Pointer) → Grants i e g p → (p.perm ≡ Eu) ⊎ (p.perm ≡ Ep) → MayEnter e g p
       → enter_result p ≡ Some q → Grants i e g q
-  -- a group that serves this one, or that this one serves, is granted it
+  -- a group that serves this one, or that this one serves, is granted the pointer
   served : {g : ℕ} {q : Pointer} (h : ℕ) → Grants i e h q → Serves i g h → Grants i e g q
   -- privileged code makes any pointer
   made : {g : ℕ} {q : Pointer} (p : Pointer) → Grants i e g p → p.perm ≡ Xp → IsWellFormed q → Grants i e g q

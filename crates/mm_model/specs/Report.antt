@@ -13,7 +13,7 @@ use Rattle.mm_model.specs.State.{Row, Core, State, output_of}
 use Rattle.mm_model.specs.Image.{Image}
 use Rattle.mm_model.specs.Lines.{newline, slot_lines, output_lines, cell_line}
 
--- 1. How many cycles.
+-- 1. The count of cycles.
 abbrev pub cycles_line : ℕ → List ℕ
 cycles_line cycles = codes "cycles " ++ decimal cycles ++ newline
 
@@ -22,11 +22,11 @@ cycles_line cycles = codes "cycles " ++ decimal cycles ++ newline
 abbrev pub is_of : ℕ → Row → Bool
 is_of g row = row.slot.group == g
 
--- a group, and how many bytes it has put out
+-- the line of a group, with the count of bytes that it has put out
 abbrev pub group_line : ℕ → ℕ → List ℕ
 group_line g count = codes "group " ++ decimal g ++ codes " output " ++ decimal count ++ newline
 
--- what is written of a group: its output, and its slots
+-- the section of a group: its output, and its slots
 unfoldable pub section : Core → ℕ → List ℕ
 section core g = group_line g (length (output_of core g)) ++ output_lines (output_of core g)
     ++ flat_map (λ row. slot_lines row.slot) (filter (is_of g) core.rows)
@@ -62,7 +62,7 @@ same_bit false b = not b
 abbrev pub same_cell : Cell → Cell → Bool
 same_cell a b = same_word a.word b.word && same_bit a.full b.full
 
--- the cells from a word on, each with its word, that differ from those that they are compared with
+-- the cells from a word on that differ from the cells `was`, each with its word
 abbrev pub changes_from : ℕ → List Cell → List Cell → List (ℕ × Cell)
 changes_from w [] was = []
 changes_from w (c ∷ cells) [] = []
@@ -72,16 +72,16 @@ abbrev pub cells_or_zero : Option (List Cell) → List Cell
 cells_or_zero None = zero_page
 cells_or_zero (Some cells) = cells
 
--- each mapped cell that is not the image's, or not integer 0, full, where the image has no such page
+-- each mapped cell that differs from the image's, or from integer 0, full, if the image has no such page
 abbrev pub changes : Memory → Memory → List (ℕ × Cell)
 changes now image =
     flat_map (λ page. changes_from (page.0 * 4096) page.1 (cells_or_zero (page_at image page.0))) now.pages
 
--- their lines
+-- the lines of the changed cells
 abbrev pub cell_lines : Memory → Memory → List ℕ
 cell_lines now image = flat_map (λ change. cell_line change.0 change.1) (changes now image)
 
--- 6. What the memory counted, where it counts.
+-- 6. What the memory counted, if it counts.
 abbrev pub count_line : Option Counts → List ℕ
 count_line None = []
 count_line (Some c) =

@@ -23,12 +23,12 @@ unfoldable pub run : State → List ℕ → State
 run s [] = s
 run s (n ∷ ns) = run (after s n) ns
 
--- what each cycle of a list tells
+-- the step of each cycle of a list
 unfoldable pub steps : State → List ℕ → List Step
 steps s [] = []
 steps s (n ∷ ns) = (turn_of s n).step ∷ steps (after s n) ns
 
--- what a list of items asks of memory, in order
+-- what the cycles of a list ask of memory, in order
 unfoldable pub uses : State → List ℕ → List Use
 uses s [] = []
 uses s (n ∷ ns) = (turn_of s n).uses ++ uses (after s n) ns
@@ -57,12 +57,12 @@ abbrev pub then_issued : Option ℕ → (ℕ → List ℕ) → List ℕ
 then_issued None rest = []
 then_issued (Some n) rest = n ∷ rest n
 
--- the items of round robin from a state and a last item on: at most so many, and fewer only where no slot runs
+-- the items of round robin from a state and a last item on: at most `count`, and fewer only if no slot runs
 unfoldable pub robin_from : State → Option ℕ → ℕ → List ℕ
 robin_from s last zero = []
 robin_from s last (suc count) = then_issued (next_running s.core.rows last) (λ n. robin_from (after s n) (Some n) count)
 
--- the last item of a list, or the one before it where the list is empty
+-- the last item of a list, or the item before it if the list is empty
 abbrev pub last_item : Option ℕ → List ℕ → Option ℕ
 last_item before [] = before
 last_item before (n ∷ items) = last_item (Some n) items

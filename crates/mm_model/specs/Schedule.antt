@@ -15,7 +15,7 @@ item_limit = 1000000
 abbrev pub is_blank : ℕ → Bool
 is_blank b = b == 9 || b == 10 || b == 13 || b == 32
 
--- the text with blanks in the place of comments, which go from `#` to the end of the line
+-- the text with blanks in place of comments, which go from `#` to the end of the line
 abbrev pub uncommented : (in_comment : Bool) → List ℕ → List ℕ
 uncommented in_comment [] = []
 uncommented in_comment (b ∷ bytes) =
@@ -23,7 +23,7 @@ uncommented in_comment (b ∷ bytes) =
     else if in_comment || b == 35 then 32 ∷ uncommented true bytes
     else b ∷ uncommented false bytes
 
--- a byte at a place joins the run that begins right behind it, or is a run of its own
+-- a byte at a place joins the run that begins right after it, or is a run of its own
 abbrev pub joined : ℕ → ℕ → List (ℕ × List ℕ) → List (ℕ × List ℕ)
 joined at b [] = (at, b ∷ []) ∷ []
 joined at b (run ∷ runs) = if run.0 == at + 1 then (at, b ∷ run.1) ∷ runs else (at, b ∷ []) ∷ run ∷ runs
@@ -54,8 +54,8 @@ pub record Means (text items : List ℕ) : Type 0 where
   pub lists : Lists (runs_of text) items
   pub limit : length items ≤ item_limit
 
--- The text's fault is at a place: the first run that is no item, or that brings the number of items above the limit,
--- begins there.
+-- The text's fault is at a place: there begins the first run that is no item, or that brings the count of items above
+-- the limit.
 pub record FaultsAt (text : List ℕ) (place : ℕ) : Type 0 where
   pub before : List (ℕ × List ℕ)
   pub word : List ℕ
@@ -66,9 +66,9 @@ pub record FaultsAt (text : List ℕ) (place : ℕ) : Type 0 where
   pub limit : length items ≤ item_limit
   pub fault : ((number count : ℕ) → IsItem word number count → item_limit < length items + count)
 
--- 2. What of it is issued.
+-- 2. The items that are issued.
 
--- the first so many items
+-- the first `count` items
 abbrev pub first_items : List ℕ → ℕ → List ℕ
 first_items items count = take count items
 
@@ -76,7 +76,7 @@ abbrev pub in_groups : (ℕ → Bool) → Option Slot → Bool
 in_groups c None = false
 in_groups c (Some s) = c s.group
 
--- an item is a slot of the groups or, where the machine is split, the port of one
+-- an item is a slot of the groups or, if the machine is split, the port of one
 abbrev pub is_kept : Image → (ℕ → Bool) → ℕ → Bool
 is_kept i c n = in_groups c (slot_in i.slots n) || (i.split && nat_le 128 n && in_groups c (slot_in i.slots (n - 128)))
 

@@ -18,7 +18,7 @@ use Rattle.mm_model.specs.Image.{Image, slot_limit, frame_limit, none_empty}
 
 -- 1. What an image has to be.
 
--- a slot begins to run, or is halted without a cause
+-- a slot of an image runs, or is halted without a cause
 abbrev pub Begins : SlotState → Type 0
 Begins Running = Unit {0}
 Begins (Halted None) = Unit {0}
@@ -28,7 +28,7 @@ Begins _ = ⊥
 abbrev pub numbers_of : List Slot → List ℕ
 numbers_of slots = map (λ s. s.number) slots
 
--- another slot of the list
+-- a slot of the list other than n has the number h
 abbrev pub IsOther : List Slot → ℕ → ℕ → Type 0
 IsOther slots n h = (h ≢ n) × ((s : Slot) × Rattle.std.specs.Prelude.Contains slots s × (s.number ≡ h))
 
@@ -63,7 +63,7 @@ pub record IsImage (i : Image) : Type 0 where
   pub paged : IsPaged i.memory
   pub words : AllByRecursion HoldsWords i.memory.pages
 
--- 2. How it is spelled.
+-- 2. How an image is spelled.
 
 abbrev pub mode_of : Bool → ℕ
 mode_of split = if split then 1 else 0
@@ -79,25 +79,26 @@ state_byte _ = 1
 abbrev pub words_spelling : List Word → List ℕ
 words_spelling words = flat_map (λ w. to_be_bytes w64 (word_bits w)) words
 
--- slot, group, handler, state, instruction pointer, which registers hold pointers, and the 16 registers
+-- the record of a slot: its number, group, handler, state and instruction pointer, which registers hold pointers, and
+-- the 16 registers
 unfoldable pub slot_record : Slot → List ℕ
 slot_record s =
     (s.number ∷ s.group ∷ handler_byte s.handler ∷ state_byte s.state ∷ []) ++ to_be_bytes w64 (bits_of s.ip)
     ++ to_be_bytes w16 (number_of_flags (map is_pointer s.regs)) ++ words_spelling s.regs
 
--- so many bytes of eight flags each, the first flag lowest
+-- `count` bytes of eight flags each, the first flag lowest
 abbrev pub bitmap : ℕ → List Bool → List ℕ
 bitmap zero flags = []
 bitmap (suc count) flags = number_of_flags (take 8 flags) ∷ bitmap count (drop 8 flags)
 
--- number, which cells hold pointers, which are full, and the 512 words
+-- the record of a page: its number, which cells hold pointers, which are full, and the 512 words
 unfoldable pub page_record : ℕ × List Cell → List ℕ
 page_record page =
     to_be_bytes w64 page.0 ++ bitmap 64 (map (λ (c : Cell). is_pointer c.word) page.1)
     ++ bitmap 64 (map (λ (c : Cell). c.full) page.1)
     ++ words_spelling (map (λ (c : Cell). c.word) page.1)
 
--- magic, version, how many slots, frames and pages, and the mode
+-- the header: magic, version, the counts of slots, frames and pages, and the mode
 abbrev pub header : Image → List ℕ
 header i =
     codes "MMI1" ++ to_be_bytes w16 i.version ++ to_be_bytes w16 (length i.slots) ++ to_be_bytes w16 i.memory.frames

@@ -5,7 +5,7 @@ use Rattle.mm_model.specs.declared.event.Event.{Event}
 use Rattle.mm_model.specs.Memory.{Memory}
 use Rattle.mm_model.specs.Slot.{Slot}
 
--- a slot beside the events that it has still to handle, oldest first
+-- a slot, and the events that it has still to handle, oldest first
 pub record Row : Type 0 where
   pub slot : Slot
   pub queue : List Event
@@ -46,11 +46,11 @@ queue_at core n = queue_of (row_in core.rows n)
 abbrev pub at_number : ℕ → (Row → Row) → Row → Row
 at_number n change row = if row.slot.number == n then change row else row
 
--- the core with this slot in the place of the slot of its number
+-- the core with this slot in place of the slot of its number
 unfoldable pub put_slot : Core → Slot → Core
 put_slot core s = record core { rows = map (at_number s.number (λ row. record row { slot = s })) core.rows }
 
--- the core with this queue at a slot
+-- the core with this queue at the slot of a number
 unfoldable pub put_queue : Core → ℕ → List Event → Core
 put_queue core n q = record core { rows = map (at_number n (λ row. record row { queue = q })) core.rows }
 

@@ -31,7 +31,7 @@ use Rattle.mm_model.specs.Operands.{lacks}
 use Rattle.mm_model.specs.Ask.{is_privileged, load_kind}
 use Rattle.mm_model.specs.Turn.{is_taken, is_handler, instr_in}
 
--- what a test leads to where it fails
+-- what a failed test leads to
 pub data Stop : Type 0 where
   -- the turn faults
   Fails : (cause : Cause) → Stop
@@ -42,7 +42,7 @@ pub data Stop : Type 0 where
 
 -- 1. The tests of an access.
 
--- a test that leads to a fault where it fails
+-- a test that leads to a fault if it fails
 abbrev pub fault_test : Bool × Cause → Bool × Stop
 fault_test t = (t.0, Fails t.1)
 
@@ -71,7 +71,7 @@ reach_tests m w by kind pre = map fault_test (access_tests w by kind ++ cell_tes
 abbrev pub bits_in : Slot → ℕ → ℕ
 bits_in s r = word_bits (register s r)
 
--- the same, signed
+-- the 64 bits of a register as a signed integer
 abbrev pub signed_in : Slot → ℕ → ℤ
 signed_in s r = cast_signed w64 (bits_in s r)
 
@@ -89,16 +89,16 @@ in_segment_at p (negsuc _) = false
 abbrev pub move_tests : Pointer → ℤ → List (Bool × Stop)
 move_tests p z = (can_move p.perm, Fails cause.Perm) ∷ (in_segment_at p z, Fails cause.Bounds) ∷ []
 
--- the tests of restricting a pointer to the permission of a code, where it is one
+-- the tests of restricting a pointer to the permission of a code, if the code has one
 abbrev pub restrict_tests : Pointer → Option Perm → List (Bool × Stop)
 restrict_tests p None = (false, Fails cause.Malformed) ∷ []
 restrict_tests p (Some to) = (true, Fails cause.Malformed) ∷ (can_become p.perm to, Fails cause.Perm) ∷ []
 
--- the test of an address at so many words from the instruction's own
+-- the test of an address at a distance in words from the instruction's own
 abbrev pub distance_tests : Slot → ℤ → List (Bool × Stop)
 distance_tests s imm = (in_segment_at s.ip (pos s.ip.addr +ℤ (pos 8 *ℤ imm)), Fails cause.Bounds) ∷ []
 
--- there is a jump through the pointer
+-- a jump through the pointer is permitted
 abbrev pub can_jump : Pointer → Bool
 can_jump p = is_some (execute_form p.perm)
 
@@ -158,23 +158,22 @@ tests core m s _ = []
 
 -- 3. The tests of a turn.
 
--- the instruction that a slot stands at, where its cell is there and spells one
+-- the instruction that a slot is at, if its cell is there and spells one
 abbrev pub instr_at : Memory → Slot → Option Instr
 instr_at m s = option_and_then (λ c. instr_in c.word) (cell_through m (Ptr s.ip) (pos 0))
 
--- the tests once the cell is fetched: it spells an instruction, none of the registers that it names is empty, and its
--- own tests hold
+-- the tests after the fetch: the cell spells an instruction, none of the registers that it names is empty, and its own
+-- tests hold
 abbrev pub instr_tests : Core → Memory → Slot → Option Instr → List (Bool × Stop)
 instr_tests core m s None = (false, Fails cause.Illegal) ∷ []
 instr_tests core m s (Some i) =
     (true, Fails cause.Illegal) ∷ (not (core.split && lacks i s), Lacks s) ∷ tests core m s i
 
 -- the tests of a slot's turn: that it is not past its segment's end, those of the fetch, and those of the instruction
--- there
 abbrev pub turn_tests : Core → Memory → Slot → List (Bool × Stop)
 turn_tests core m s = (not s.past, Fails cause.Bounds) ∷ reach_tests m (Ptr s.ip) (pos 0) Fetch Any
     ++ instr_tests core m s (instr_at m s)
 
--- what the first of them leads to that fails; none where all hold
+-- what the first failing test of a slot's turn leads to; none if all hold
 unfoldable pub first_stop : Core → Memory → Slot → Option Stop
 first_stop core m s = first_failing (turn_tests core m s)

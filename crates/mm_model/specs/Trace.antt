@@ -19,7 +19,7 @@ use Rattle.mm_model.specs.Run.{turn_of, after}
 
 -- 1. The lines.
 
--- the kind of an access
+-- the text of the kind of an access
 abbrev pub kind_text : Kind → List ℕ
 kind_text Fetch = codes " fetch "
 kind_text Load = codes " load "
@@ -34,13 +34,14 @@ abbrev pub enter_text : Option Pointer → List ℕ
 enter_text None = []
 enter_text (Some e) = codes " enter " ++ word_text (Ptr e)
 
--- `t`, the slot, the number of its turn, how that ended, and what it touched and entered
+-- the line of a turn: `t`, the slot, the number of its turn, how that ended, and what it touched
+-- and entered
 abbrev pub turn_line : ℕ → Step → List ℕ → List ℕ
 turn_line turns step outcome =
     codes "t " ++ decimal step.slot ++ codes " " ++ decimal turns ++ codes " " ++ outcome ++ touch_text step.fetched
     ++ touch_text step.touched ++ enter_text step.entered ++ newline
 
--- the line of a step after which its slot has taken so many turns; none where the cycle is idle
+-- the line of a step, with its slot's count of turns after it; none if the cycle is idle
 unfoldable pub step_line : ℕ → Step → Tick → List ℕ
 step_line turns step Idle = []
 step_line turns step Did = turn_line turns step (codes "did")
@@ -79,12 +80,12 @@ group_of (Some s) = s.group
 abbrev pub group_in : Turned → ℕ
 group_in t = group_of (slot_at t.core t.step.slot)
 
--- the group and the enter pointer of an entry that a turn did
+-- the group and the enter pointer of an entry that a turn made
 abbrev pub done_entry : Turned → Option Pointer → List (ℕ × Pointer)
 done_entry t None = []
 done_entry t (Some e) = (group_in t, e) ∷ []
 
--- the entries that a run did, in order
+-- the entries that a run made, in order
 unfoldable pub entries : State → List ℕ → List (ℕ × Pointer)
 entries s [] = []
 entries s (n ∷ items) = done_entry (turn_of s n) (turn_of s n).step.entered ++ entries (after s n) items

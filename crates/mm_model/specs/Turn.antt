@@ -31,7 +31,7 @@ use Rattle.mm_model.specs.Effect.Reply.{Fine, Refused, Got, Paged, NoEvent, Took
 use Rattle.mm_model.specs.Effect.Pages.{Keep, Add, Remove}
 use Rattle.mm_model.specs.Effect.Effect.{Fault, Block, Deliver, Does}
 
--- what a turn leaves, what it tells, and what it asks of memory, in order
+-- what a turn leaves, its step, and what it asks of memory, in order
 pub record Turned : Type 0 where
   pub core : Core
   pub memory : Memory
@@ -133,12 +133,12 @@ core_after core s c =
 unfoldable pub memory_after : Memory → Change → Memory
 memory_after m c = with_pages (with_cell m c.cell) c.pages
 
--- the slot after a turn that changes its own standing alone
+-- the slot after a turn that changes only its count of turns and its state
 abbrev pub stood : Slot → SlotState → Slot
 stood s state = record s { turns = s.turns + 1; state = state }
 
--- 3. Faults: a slot with a handler waits and its event goes to the handler's queue; one without is halted, and waits
--- in its place for a synchronisation bit.
+-- 3. Faults: a slot with a handler waits, and its event goes to the handler's queue; one without a handler is halted,
+--    or waits in its place for a synchronisation bit.
 
 abbrev pub is_sync : Cause → Bool
 is_sync Sync = true
@@ -240,7 +240,7 @@ started core m s =
     if s.past then faulted core m s Bounds (Int 0) (Int 0) None None []
     else aimed core m s (check_result (Ptr s.ip) (pos 0) Fetch)
 
--- nothing but the number of cycles changes
+-- the turn that changes nothing but the number of cycles
 unfoldable pub idle : Core → Memory → ℕ → Turned
 idle core m n =
     record {
@@ -259,7 +259,7 @@ arrives core m s (p ∷ rest) = record {
   uses = [];
 }
 
--- in a split machine the items 128 + N are the ports of its slots N
+-- the slot of a port: in a split machine item 128 + N is the port of slot N
 abbrev pub port_of : Core → ℕ → Option Slot
 port_of core n = if core.split && nat_le 128 n then slot_at core (n - 128) else None
 

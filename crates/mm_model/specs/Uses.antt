@@ -12,12 +12,13 @@ pub data Use : Type 0 where
   -- a page that was removed
   Removed : (page : ℕ) → Use
 
--- the use of a word that has a cell or none: the access is done where the cell's bit passes
+-- the use of an access to a word that has a cell or none: the access is done if the cell's bit
+-- passes
 abbrev pub use_at : Kind → ℕ → Pre → Option Cell → Use
 use_at kind word pre None = Accessed kind word false false
 use_at kind word pre (Some c) = Accessed kind word true (passes pre c.full)
 
--- how many of the uses are accesses
+-- the count of accesses in a list of uses
 abbrev pub accesses : List Use → ℕ
 accesses [] = 0
 accesses (Accessed kind word found done ∷ us) = accesses us + 1
@@ -28,7 +29,7 @@ accesses-append [] vs = omega arith
 accesses-append (Accessed kind word found done ∷ us) vs = omega (arith, accesses-append us vs)
 accesses-append (Removed page ∷ us) vs = accesses-append us vs
 
--- each list for which old stood, new stands for with these uses added
+-- whichever list of uses belongs to old, that list with `us` appended belongs to new
 pub record TakesUses {M : Type 0} (stands : M → List Use → Type 0) (old new : M) (us : List Use) : Type 0 where
   pub each : (before : List Use) → stands old before → stands new (before ++ us)
 
@@ -39,7 +40,7 @@ module _ {M : Type 0} {stands : M → List Use → Type 0} where
         → Type 0 = λ us. stands m us in subst P (sym (append-nil before)) h;
   }
 
-  -- one after the other
+  -- two steps, one after the other, append both lists
   pub takes_both : {a b c : M} {us vs : List Use} → TakesUses stands a b us → TakesUses stands b c vs
       → TakesUses stands a c (us ++ vs)
   takes_both {c = c} {us = us} {vs = vs} first second = record {

@@ -1,4 +1,4 @@
--- Groups that stand apart, where some entries may be made, and what groups see of a run.
+-- Groups that are apart if some entries may be made, and what groups see of a run.
 use Rattle.std.specs.Prelude.{◌≡◌, ℕ, Bool, true, false, List, Contains, Some}
 use Rattle.std.specs.List.{flat_map, filter}
 use Rattle.mm_word.specs.declared.word.Cell.{Cell}
@@ -44,18 +44,20 @@ pub record Agree (i j : Image) (c : ℕ → Bool) : Type 0 where
   pub cells : (w : ℕ) → Touchable i All c w → cell_at i.memory w ≡ cell_at j.memory w
   pub frames : IsPrivileged i All c → i.memory.frames ≡ j.memory.frames
 
--- The view of the groups has three parts. Their sections of the report:
+-- the groups' sections of the report: the first part of their view
 unfoldable pub sections_of : (ℕ → Bool) → Core → List ℕ
 sections_of c core = flat_map (section core) (filter c (groups_of core))
 
--- the trace lines of their slots:
+-- the turn is of a slot of the groups
 abbrev pub is_turn_of : (ℕ → Bool) → Turned → Bool
 is_turn_of c t = c (group_in t)
 
+-- the trace lines of the groups' slots: the second part of their view
 unfoldable pub trace_of : (ℕ → Bool) → State → List ℕ → List ℕ
 trace_of c s items = traced (is_turn_of c) s items
 
--- and the changed cells at words that they can touch. The changed cells at words that pass a test:
+-- the changed cells at words that pass a test; those at words that the groups can touch are the third part of their
+-- view
 abbrev pub changes_at : (ℕ → Bool) → Memory → Memory → List (ℕ × Cell)
 changes_at passes now image = filter (λ change. passes change.0) (changes now image)
 
@@ -67,8 +69,8 @@ pub record SameView (i : Image) (s : List ℕ) (j : Image) (t : List ℕ) (c : �
   pub cells : (passes : ℕ → Bool) → ((w : ℕ) → passes w ≡ true → Touchable i All c w)
       → changes_at passes (run (start i) s).memory i.memory ≡ changes_at passes (run (start j) t).memory j.memory
 
--- J is the groups' own image: their slots, and each page with a word that they can touch, where cells that they cannot
--- touch are integer 0, full
+-- j is the groups' own image: their slots, and each page with a word that they can touch, in which cells that they
+-- cannot touch are integer 0, full
 pub record Extracts (i : Image) (c : ℕ → Bool) (j : Image) : Type 0 where
   pub version : j.version ≡ i.version
   pub mode : j.split ≡ i.split

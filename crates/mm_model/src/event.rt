@@ -1,21 +1,24 @@
+//! The event of a fault.
+
 use mm_word::{Cause, GuardedPtr, Perm, Word};
 
-/// What a handler is told of a slot that faulted.
+/// What a handler learns of a slot that faulted.
 #[derive(Clone, Copy, Debug, PartialEq, Eq)]
 pub struct Event {
     /// The slot that faulted.
     pub slot: u8,
-    /// Why it faulted.
+    /// The cause of the fault.
     pub cause: Cause,
-    /// Its instruction pointer.
+    /// The slot's instruction pointer.
     pub ip: GuardedPtr,
     /// The word of the register that the instruction names as `ra`, else integer 0.
     pub addr_op: Word,
-    /// The word of the register that it names as `rb`, else its number, else integer 0.
+    /// The word of the register that the instruction names as `rb`, else the instruction's number,
+    /// else integer 0.
     pub value_op: Word,
 }
 
-/// What is in an unused place of a queue of events.
+/// The event of an unused place in a queue.
 impl Default for Event {
     ghost use Rattle.std.specs.Prelude.{◌≡◌};
     ghost use Rattle.mm_word.specs.declared.cause.Cause.TheVariants.{Trap};

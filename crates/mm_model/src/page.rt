@@ -1,3 +1,5 @@
+//! Pages of memory.
+
 ghost use Rattle.std.specs.Prelude.{◌≡◌, ◌<◌, ◌^◌, ◌↔◌, IsSome, IfSome, IfOk, length};
 
 use mm_word::Cell;
@@ -32,7 +34,7 @@ impl Page {
     ghost use Rattle.mm_model.specs.Spelling.{HoldsWords};
     ghost use Rattle.mm_model.specs.Typed.{IsTypedPage};
 
-    /// The page of these cells: none exactly where the number is 2^42 or more or there are not 512 cells.
+    /// The page of these cells. `None` exactly if the number is 2^42 or more or there are not 512 cells.
     pub fn new(number: u64, cells: Vec<Cell>) -> Option<Page>
         ensures made { IsSome result ↔ IsPage (number, cells.items) }
         ensures value { IfSome result (λ p. p ≡ (number, cells.items)) }
@@ -45,7 +47,7 @@ impl Page {
         }
     }
 
-    /// Its number.
+    /// The page's number.
     pub fn number(&self) -> u64
         ensures number { result ≡ self.now.0 }
         ensures limit { result < 2 ^ 42 }
@@ -54,7 +56,7 @@ impl Page {
         self.number
     }
 
-    /// Its cells, in the order of their addresses.
+    /// The page's cells, in the order of their addresses.
     pub fn cells(&self) -> &[Cell]
         ensures cells { result.now ≡ self.now.1 }
         ensures whole { length result.now ≡ 512 }
@@ -62,7 +64,7 @@ impl Page {
         self.cells.as_slice()
     }
 
-    /// What the type of each page keeps. Nothing is done.
+    /// Says, for proofs, what the type of each page keeps. The call does nothing.
     pub fn typed(pages: &[Page])
         ensures whole { AllByRecursion IsPage pages.now }
         ensures words { AllByRecursion HoldsWords pages.now }
@@ -72,7 +74,7 @@ impl Page {
         }
     }
 
-    /// A page that is the same.
+    /// A copy of the page.
     pub fn copy(&self, alloc: Global) -> Result<Page, AllocError>
         ensures { IfOk result (λ copy. copy ≡ self.now) }
     {
@@ -82,7 +84,7 @@ impl Page {
         })
     }
 
-    /// Pages that are the same.
+    /// Copies of the pages.
     pub fn copies(alloc: Global, pages: &[Page]) -> Result<Vec<Page>, AllocError>
         ensures { IfOk result (λ copies. copies.items ≡ pages.now) }
     {
@@ -98,7 +100,7 @@ ghost use Rattle.std.specs.List.{AllByRecursion};
 ghost use Rattle.mm_word.specs.declared.word.Cell.{Cell as CellValue};
 ghost use Rattle.mm_word.specs.Word.{IsWord};
 
-// What the type of each word says.
+// Says, for proofs, what the type of each word keeps. The call does nothing.
 fn hold_words(cells: &[Cell])
     ensures { AllByRecursion (λ (c : CellValue). IsWord c.word) cells.now }
 {

@@ -1,30 +1,32 @@
+//! Slots: the resident threads.
+
 use arrayvec::ArrayVec;
 use mm_word::{Cause, GuardedPtr, Word};
 use std::alloc::{AllocError, Global};
 use std::marker::Model;
 
-/// Whether a slot takes turns.
+/// The state of a slot. Only a running slot takes turns.
 #[derive(Clone, Copy, Debug, PartialEq, Eq)]
 pub enum SlotState {
     Running,
-    /// Its event is in its handler's queue.
+    /// The slot's event is in its handler's queue.
     Waiting,
-    /// Its event was read by its handler.
+    /// The slot's event was read by its handler.
     Taken,
-    /// It has ended, by a fault where there is a cause.
+    /// The slot has ended, by a fault if there is a cause.
     Halted(Option<Cause>),
 }
 
 /// A load that was issued and whose value has not arrived.
 #[derive(Clone, Copy, Debug, PartialEq, Eq)]
 pub struct Pending {
-    /// The register that waits for it, 0 to 15.
+    /// The register that waits for the load, 0 to 15.
     pub reg: u8,
     /// The word that the cell held when the load was issued.
     pub word: Word,
 }
 
-/// What stands in an unused place of a list of pending loads.
+/// The filler of unused places in a list of pending loads.
 impl Default for Pending {
     ghost use Rattle.std.specs.Prelude.{◌≡◌};
     ghost use Rattle.mm_word.specs.declared.word.Word.TheVariants.{Int};
@@ -42,21 +44,22 @@ impl Default for Pending {
 /// A resident thread.
 #[derive(Drop)]
 pub struct Slot {
-    /// Its number, 0 to 63.
+    /// The slot's number, 0 to 63.
     pub number: u8,
-    /// The protection domain that it belongs to, 0 to 63.
+    /// The slot's protection domain, 0 to 63.
     pub group: u8,
-    /// The slot that is told of its faults.
+    /// The number of the slot that handles this one's faults, if there is one.
     pub handler: Option<u8>,
     pub regs: [Word; 16],
-    /// The instruction pointer, which is one of executable code.
+    /// The instruction pointer, which has an execute permission.
     pub ip: GuardedPtr,
-    /// The instruction before was the last of the segment, so that the next fetch is out of bounds.
+    /// Whether the instruction before was the last of the segment, so that the next fetch is out of
+    /// bounds.
     pub past: bool,
-    /// How many turns it has taken.
+    /// The count of turns that the slot has taken.
     pub turns: u64,
     pub state: SlotState,
-    /// Bit `r` is set where register `r` waits for a pending load.
+    /// Bit `r` is set if register `r` waits for a pending load.
     pub empty: u16,
     /// The pending loads, oldest first.
     pub pending: ArrayVec<Pending, 16>,
@@ -117,7 +120,7 @@ impl Slot {
         self.regs[usize::from(number)] = word;
     }
 
-    /// What the type of each slot keeps. Nothing is done.
+    /// Says, for proofs, what the type of each slot keeps. The call does nothing.
     pub fn typed(slots: &[Slot])
         ensures { AllByRecursion IsTypedSlot slots.now }
     {
@@ -126,7 +129,7 @@ impl Slot {
         }
     }
 
-    /// A slot that is the same.
+    /// A copy of the slot.
     pub fn copy(&self) -> Slot
         ensures { result ≡ self.now }
     {
@@ -150,7 +153,7 @@ impl Slot {
         }
     }
 
-    /// Slots that are the same.
+    /// Copies of the slots.
     pub fn copies(alloc: Global, slots: &[Slot]) -> Result<Vec<Slot>, AllocError>
         ensures { IfOk result (λ copies. copies.items ≡ slots.now) }
     {

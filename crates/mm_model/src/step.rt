@@ -1,9 +1,11 @@
+//! What one cycle does.
+
 use mm_word::{Access, Cause, GuardedPtr};
 
 /// How a cycle ended.
 #[derive(Clone, Copy, Debug, PartialEq, Eq)]
 pub enum Tick {
-    /// The cycle named no running slot, and no port with an entry: nothing changed.
+    /// The cycle named no running slot, and no port with a pending load: nothing but the number of cycles changed.
     Idle,
     /// The slot stays at its instruction: it waits for a cell's synchronisation bit, an event or a register.
     Blocked,
@@ -21,9 +23,9 @@ pub struct Step {
     pub tick: Tick,
     /// The slot that the cycle was about.
     pub slot: u8,
-    /// The access that fetched the instruction, also where it found no page.
+    /// The access that fetched the instruction, also if it found no page.
     pub fetched: Option<Access>,
-    /// The data access, also where it found no page or a failed precondition.
+    /// The data access, also if it found no page or its precondition failed.
     pub touched: Option<Access>,
     /// The enter pointer through which a jump was done.
     pub entered: Option<GuardedPtr>,

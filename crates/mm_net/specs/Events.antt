@@ -1,4 +1,4 @@
--- Events of a net: turns of its nodes, and what its links take and carry; the text of events.
+-- Events of a net, and the text of events.
 use Rattle.std.specs.Prelude.{◌≡◌, ℕ, ◌≤◌, List, ◌∷◌, ◌++◌, length, replicate, decimal}
 use Rattle.std.specs.List.{All}
 use Rattle.mm_model.specs.Schedule.{item_limit, IsItem}
@@ -12,8 +12,8 @@ IsEvent (Turn node slot) = (node ≤ 7) × (slot ≤ 255)
 IsEvent (Send link) = link ≤ 63
 IsEvent (Carry link number) = (link ≤ 63) × (number ≤ 999999)
 
--- The word says the item so many times: a turn is `N:` and an item of a schedule, `S` or `S*K`; a link takes, `+L`, or
--- carries, `L@K`, once.
+-- The word says the item this count of times: a turn is `N:` and an item of a schedule, `S` or `S*K`; a link takes
+-- once, `+L`, or carries once, `L@K`.
 abbrev pub Spells : List ℕ → NetItem → ℕ → Type 0
 Spells word (Turn node slot) count = (turns : List ℕ) × IsItem turns slot count × (word ≡ decimal node ++ 58 ∷ turns)
 Spells word (Send link) count = (count ≡ 1) × (word ≡ 43 ∷ decimal link)
@@ -35,6 +35,6 @@ pub record AreEvents (items : List NetItem) : Type 0 where
 abbrev pub Means : List ℕ → List NetItem → Type 0
 Means text items = TextMeans Says AreEvents text items
 
--- the first word that is no event, or that brings the number of events above the limit, begins at the place
+-- the first word that is no event, or that brings the count of events above the limit, begins at the place
 abbrev pub FaultsAt : List ℕ → ℕ → Type 0
 FaultsAt text place = TextFaultsAt Says AreEvents text place

@@ -1,4 +1,4 @@
--- What the nodes of a net reach is granted by their own images.
+-- All that the nodes of a net reach is granted by their own images.
 use Rattle.std.specs.Prelude.{◌≡◌, ◌⊎◌, ℕ, true, false, ◌==◌, if◌then◌else◌, List, [], ◌∷◌, ◌++◌, slice_get, Option}
 use Rattle.std.specs.Prelude.{Some}
 use Rattle.std.specs.List.{All}
@@ -34,14 +34,14 @@ net_entries links s [] n = []
 net_entries links s (item ∷ items) n =
     entry_at n item (slice_get s.nodes n) ++ net_entries links (net_after links s item) items n
 
--- a node is in a state that fits the image, its words are granted, and so is all that its next turn touches, enters and
+-- a node is in a state that fits the image; its words are granted, and so is all that its next turn touches, enters and
 -- changes
 pub record GrantedNode (i : Image) (e : Entries) (node : State) : Type 0 where
   pub state : IsState node
   pub fits : Fits i node
   pub granted : RunGranted i e node
 
--- So it is at each node after every list of items, by its own image and under the entries of its own turns.
+-- After every list of items each node is granted in this way, by its own image and under the entries of its own turns.
 abbrev pub NodesAreGranted : Type 0
 NodesAreGranted =
     (images : List Image) (links : List Link) (items : List NetItem) (n : ℕ) (i : Image) (node : State)
@@ -69,7 +69,7 @@ pub record IsFilled (before after : Memory) (w : ℕ) : Type 0 where
   pub was : cell_at before w ≡ Some (record { word = word; full = false })
   pub is : cell_at after w ≡ Some (record { word = Int bits; full = true })
 
--- nothing of a node is changed but cells that are emptied, or filled with integers
+-- a node is unchanged but for cells that are emptied, or filled with integers
 pub record OnlyIntegersEnter (before after : State) : Type 0 where
   pub core : after.core ≡ before.core
   pub cycles : after.cycles ≡ before.cycles
@@ -77,7 +77,7 @@ pub record OnlyIntegersEnter (before after : State) : Type 0 where
   pub cells : (w : ℕ) → (cell_at after.memory w ≡ cell_at before.memory w) ⊎ IsEmptied before.memory after.memory w
       ⊎ IsFilled before.memory after.memory w
 
--- whatever a link takes or carries, at each node
+-- whatever a link takes or carries, each node is unchanged but for such cells
 abbrev pub LinksCarryIntegers : Type 0
 LinksCarryIntegers =
     (links : List Link) (s : NetState) (item : NetItem) (n : ℕ) (before after : State) → IsOfALink item

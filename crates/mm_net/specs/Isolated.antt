@@ -1,4 +1,4 @@
--- Groups of a net's nodes that stand apart see nothing of the others.
+-- Groups of a net's nodes that stand apart cannot tell what the others do.
 use Rattle.std.specs.Prelude.{◌≡◌, ◌⊎◌, ℕ, Bool, true, false, List, [], ◌∷◌, Contains, length, slice_get, Option, Some}
 use Rattle.std.specs.Prelude.{IsSomeAnd}
 use Rattle.std.specs.List.{All}
@@ -16,7 +16,7 @@ use Rattle.mm_net.specs.declared.item.NetItem.TheVariants.{Turn, Send, Carry}
 use Rattle.mm_net.specs.Links.{AreLinks}
 use Rattle.mm_net.specs.Nets.{NetState, net_start, net_run}
 
--- A set of groups of nodes is a test `c` of a node and a group; `c n` is its groups at node n.
+-- A set of groups of nodes is a test `c` of a node and a group; `c n` is the set of its groups at node n.
 
 -- 1. Links and items of the groups.
 
@@ -24,11 +24,11 @@ use Rattle.mm_net.specs.Nets.{NetState, net_start, net_run}
 abbrev pub TouchedAt : List Image → (ℕ → ℕ → Bool) → ℕ → ℕ → Type 0
 TouchedAt images c n w = IsSomeAnd (slice_get images n) (λ i. Touchable i entries.All (c n) w)
 
--- a link is the groups' where one of them can touch the word at which it takes, or the one at which it puts
+-- a link is the groups' if one of them can touch the word at which it takes, or the word at which it puts
 abbrev pub IsLinkOf : List Image → (ℕ → ℕ → Bool) → Link → Type 0
 IsLinkOf images c link = TouchedAt images c link.from link.take ⊎ TouchedAt images c link.to link.put
 
--- An item is the groups' where it is a slot of theirs or the port of one, or where a link of theirs takes or carries.
+-- An item is the groups' if it is a slot of theirs or the port of such a slot, or if a link of theirs takes or carries.
 abbrev pub IsItemOf : List Image → List Link → (ℕ → ℕ → Bool) → NetItem → Type 0
 IsItemOf images links c (Turn n item) = IsSomeAnd (slice_get images n) (λ i. is_kept i (c n) item ≡ true)
 IsItemOf images links c (Send l) = IsSomeAnd (slice_get links l) (IsLinkOf images c)
@@ -43,7 +43,7 @@ pub data AreItemsOf (images : List Image) (links : List Link) (c : ℕ → ℕ �
   left_out : {item : NetItem} {all own : List NetItem} → ¬ IsItemOf images links c item
       → AreItemsOf images links c all own → AreItemsOf images links c (item ∷ all) own
 
--- 2. Nets whose groups stand apart, and that agree on them.
+-- 2. Nets whose groups stand apart, and that agree on these groups.
 
 -- no group outside can write the word of the node
 abbrev pub IsUnwritten : List Image → (ℕ → ℕ → Bool) → ℕ → ℕ → Type 0
@@ -56,12 +56,12 @@ pub record NetApart (images : List Image) (links : List Link) (c : ℕ → ℕ �
   pub takes : (link : Link) → Contains links link → IsLinkOf images c link → IsUnwritten images c link.from link.take
   pub puts : (link : Link) → Contains links link → IsLinkOf images c link → IsUnwritten images c link.to link.put
 
--- the images have equal cells at the word of the node, or both none
+-- the images have equal cells at the word of the node, or neither has one
 abbrev pub HaveSameCell : List Image → List Image → ℕ → ℕ → Type 0
 HaveSameCell images others n w =
     (i j : Image) → slice_get images n ≡ Some i → slice_get others n ≡ Some j → cell_at i.memory w ≡ cell_at j.memory w
 
--- as many nodes, whose images agree on the groups and have equal cells at the ends of the groups' links
+-- the nets have as many nodes; their images agree on the groups and have equal cells at the ends of the groups' links
 pub record NetAgree (images others : List Image) (links : List Link) (c : ℕ → ℕ → Bool) : Type 0 where
   pub count : length images ≡ length others
   pub nodes : (n : ℕ) (i j : Image) → slice_get images n ≡ Some i → slice_get others n ≡ Some j → Agree i j (c n)
@@ -69,7 +69,7 @@ pub record NetAgree (images others : List Image) (links : List Link) (c : ℕ �
       → HaveSameCell images others link.from link.take
   pub puts : (link : Link) → Contains links link → IsLinkOf images c link → HaveSameCell images others link.to link.put
 
--- two nets with the same links that agree on groups, which stand apart in both
+-- two nets with the same links that agree on groups, and in both of which the groups stand apart
 pub record NetsAgreeApart (images others : List Image) (links : List Link) (c : ℕ → ℕ → Bool) : Type 0 where
   pub rules : AreLinks links
   pub one : All IsImage images
@@ -85,14 +85,14 @@ AlikeNodes i c (Some s) (Some t) = Alike i c s t
 AlikeNodes i c _ _ = ⊥
 
 -- At each node the slots of the groups with their queues, the outputs of the groups and the cells at the words that
--- they can touch are equal; and so is what each link of the groups sent and what arrived by it.
+-- they can touch are equal; so are the integers that each link of the groups sent, and those that arrived.
 pub record AlikeNets (images : List Image) (links : List Link) (c : ℕ → ℕ → Bool) (s t : NetState) : Type 0 where
   pub nodes : (n : ℕ) (i : Image) → slice_get images n ≡ Some i
       → AlikeNodes i (c n) (slice_get s.nodes n) (slice_get t.nodes n)
   pub carried : (l : ℕ) (link : Link) → slice_get links l ≡ Some link → IsLinkOf images c link
       → slice_get s.links l ≡ slice_get t.links l
 
--- after two lists with the same items of the groups, the groups see the same
+-- after two lists with the same items of the groups, the two nets are alike for the groups
 abbrev pub NetWorlds : Type 0
 NetWorlds =
     (images others : List Image) (links : List Link) (c : ℕ → ℕ → Bool) (items events own : List NetItem)
@@ -101,7 +101,7 @@ NetWorlds =
     → AlikeNets images links c (net_run links (net_start images links) items)
     (net_run links (net_start others links) events)
 
--- each list of items has such a list of the groups' items, for which it is enough that none is impossible, and only one
+-- a list of items has at most one such list of the groups' items, and it is impossible that it has none
 pub record ItemsAreOne : Type 0 where
   pub one : (images : List Image) (links : List Link) (c : ℕ → ℕ → Bool) (all own other : List NetItem)
       → AreItemsOf images links c all own → AreItemsOf images links c all other → own ≡ other

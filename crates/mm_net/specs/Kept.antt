@@ -11,7 +11,7 @@ module _ {M : Type 0} {memory : Ghosts M} where
     pub cycles : (n : ℕ) (m : Machine M memory) → slice_get nodes n ≡ Some m → (state_of m).cycles ≤ steps
     pub ports : (n : ℕ) (m : Machine M memory) → slice_get nodes n ≡ Some m → ports_used m ≤ steps
 
--- the nodes at both ends of each link are there, and it has room for so many integers
+-- the nodes at both ends of each link are there, and each link has room for at least this count of integers
 pub record AreWired (nodes least : ℕ) (wires : List Wired) : Type 0 where
   pub from : (l : ℕ) (w : Wired) → slice_get wires l ≡ Some w → w.link.from < nodes
   pub to : (l : ℕ) (w : Wired) → slice_get wires l ≡ Some w → w.link.to < nodes

@@ -18,11 +18,11 @@ pub record IsLink (link : Link) : Type 0 where
   pub takes : IsEnd link.from link.take
   pub puts : IsEnd link.to link.put
 
--- `A.X`
+-- the text of an end, `A.X`
 abbrev pub end_text : ℕ → ℕ → List ℕ
 end_text node address = decimal node ++ 46 ∷ decimal address
 
--- `A.X>B.Y`
+-- the text of a link, `A.X>B.Y`
 abbrev pub link_text : Link → List ℕ
 link_text link = end_text link.from link.take ++ 62 ∷ end_text link.to link.put
 
@@ -33,12 +33,12 @@ pub record Says (word : List ℕ) (said : List Link) : Type 0 where
   pub spelled : word ≡ link_text link
   pub one : said ≡ link ∷ []
 
--- the ends of the links: of each the one where it takes and the one where it puts
+-- the ends of the links: for each link the end where it takes and the end where it puts
 abbrev pub ends : List Link → List (ℕ × ℕ)
 ends [] = []
 ends (link ∷ links) = (link.from, link.take) ∷ (link.to, link.put) ∷ ends links
 
--- at most 64 links, and no end stands twice
+-- at most 64 links, and no end occurs twice
 pub record AreLinks (links : List Link) : Type 0 where
   pub limit : length links ≤ link_limit
   pub each : All IsLink links

@@ -1,4 +1,4 @@
--- What the readers of the two texts ask of a word and of a link.
+-- Tests of words and links for the readers of texts.
 use Rattle.std.specs.Prelude.{ℕ, Bool, ◌&&◌, ◌||◌, ◌==◌, List}
 use Rattle.std.specs.List.{list_any}
 use Rattle.mm_net.specs.declared.link.Link.{Link}

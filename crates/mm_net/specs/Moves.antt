@@ -1,4 +1,4 @@
--- What the items of a net do, in so many words.
+-- What the items of a net do, said without the model's functions.
 use Rattle.std.specs.Prelude.{◌≡◌, ◌≢◌, ◌↔◌, ℕ, true, false, ◌==◌, if◌then◌else◌, List, [], ◌∷◌, ◌++◌, length}
 use Rattle.std.specs.Prelude.{slice_get, Some}
 use Rattle.mm_word.specs.declared.word.Word.{Word}
@@ -17,7 +17,7 @@ use Rattle.mm_net.specs.Nets.{Carried, NetState, NetStep, net_start, net_step, n
 
 -- 1. Links.
 
--- a step with which nothing comes of the item, and nothing is changed
+-- a step in which nothing comes of the item, and nothing is changed
 pub record IdleStep (s : NetState) (t : NetStep) : Type 0 where
   pub tick : t.tick ≡ Idle
   pub net : t.net ≡ s
@@ -25,26 +25,27 @@ pub record IdleStep (s : NetState) (t : NetStep) : Type 0 where
 abbrev pub StaysIdle : List Link → NetState → NetItem → Type 0
 StaysIdle links s item = IdleStep s (net_step links s item)
 
--- a word has a cell, with this word in it, which is full or empty
+-- a word has a full cell that holds this
 abbrev pub IsFull : Memory → ℕ → Word → Type 0
 IsFull m w word = cell_at m w ≡ Some (record { word = word; full = true })
 
+-- a word has an empty cell that holds this
 abbrev pub IsEmpty : Memory → ℕ → Word → Type 0
 IsEmpty m w word = cell_at m w ≡ Some (record { word = word; full = false })
 
--- the node's cell at one word alone is another afterwards
+-- the node is unchanged but for the cell at one word
 pub record ChangesOneCell (before after : State) (w : ℕ) : Type 0 where
   pub core : after.core ≡ before.core
   pub cycles : after.cycles ≡ before.cycles
   pub frames : after.memory.frames ≡ before.memory.frames
   pub others : (v : ℕ) → v ≢ w → cell_at after.memory v ≡ cell_at before.memory v
 
--- all nodes but one and all links but one are what they were
+-- all nodes but one, and all links but one, are unchanged
 pub record ChangesOneEnd (s t : NetState) (n l : ℕ) : Type 0 where
   pub nodes : (m : ℕ) → m ≢ n → slice_get t.nodes m ≡ slice_get s.nodes m
   pub links : (k : ℕ) → k ≢ l → slice_get t.links k ≡ slice_get s.links k
 
--- A link and its node are there, and the cell at which it takes is full, with a word of these bits.
+-- The link and its node are there, and the cell at which the link takes is full and holds a word of these bits.
 pub record CanTake (links : List Link) (s : NetState) (l bits : ℕ) : Type 0 where
   pub link : Link
   pub there : slice_get links l ≡ Some link
@@ -56,7 +57,7 @@ pub record CanTake (links : List Link) (s : NetState) (l bits : ℕ) : Type 0 wh
   pub full : IsFull node.memory link.take word
   pub spelled : word_bits word ≡ bits
 
--- The cell is then empty, with the same word, and the bits stand behind what the link sent.
+-- The link took: its cell is empty, with the same word, and the bits are the last that the link sent.
 pub record Took (links : List Link) (s t : NetState) (l bits : ℕ) : Type 0 where
   pub can : CanTake links s l bits
   pub node : State
@@ -66,8 +67,8 @@ pub record Took (links : List Link) (s t : NetState) (l bits : ℕ) : Type 0 whe
   pub sent : slice_get t.links l ≡ Some (record { sent = can.carried.sent ++ bits ∷ []; arrived = can.carried.arrived })
   pub one_end : ChangesOneEnd s t can.link.from l
 
--- A link and its node are there, as many integers have arrived by the link as the number says, the integer of that
--- number is this one, and the cell at which the link puts is empty.
+-- The link and its node are there; the number is the count of integers that have arrived by the link, and the integer
+-- of that number is this one; and the cell at which the link puts is empty.
 pub record CanPut (links : List Link) (s : NetState) (l number bits : ℕ) : Type 0 where
   pub link : Link
   pub there : slice_get links l ≡ Some link
@@ -80,7 +81,7 @@ pub record CanPut (links : List Link) (s : NetState) (l number bits : ℕ) : Typ
   pub word : Word
   pub empty : IsEmpty node.memory link.put word
 
--- The cell is then full, with the integer, and the bits stand behind what arrived.
+-- The link put: its cell is full, with the integer, and the bits are the last that arrived.
 pub record Put (links : List Link) (s t : NetState) (l number bits : ℕ) : Type 0 where
   pub can : CanPut links s l number bits
   pub node : State
@@ -91,7 +92,7 @@ pub record Put (links : List Link) (s t : NetState) (l number bits : ℕ) : Type
       ≡ Some (record { sent = can.carried.sent; arrived = can.carried.arrived ++ bits ∷ [] })
   pub one_end : ChangesOneEnd s t can.link.to l
 
--- a link takes and puts exactly where it can, and where it cannot, nothing changes
+-- a link takes and puts exactly if it can, and if it cannot, nothing changes
 pub record LinksActExactly : Type 0 where
   pub takes : (links : List Link) (s : NetState) (l bits : ℕ) → ((net_step links s (Send l)).tick ≡ Sent bits)
       ↔ CanTake links s l bits
@@ -106,7 +107,7 @@ pub record LinksActExactly : Type 0 where
   pub puts_none : (links : List Link) (s : NetState) (l number : ℕ) → ((bits : ℕ) → ¬ CanPut links s l number bits)
       → StaysIdle links s (Carry l number)
 
--- 2. What the items of a link told.
+-- 2. The ticks of the items of a link.
 
 abbrev pub told_sent : ℕ → NetItem → NetTick → List ℕ
 told_sent l (Send link) (Sent bits) = if l == link then bits ∷ [] else []
@@ -116,13 +117,13 @@ abbrev pub told_arrived : ℕ → NetItem → NetTick → List ℕ
 told_arrived l (Carry link number) (Arrived bits) = if l == link then bits ∷ [] else []
 told_arrived l _ _ = []
 
--- the integers that a list of items tells of each item, in order
+-- the integers that the ticks of a list of items tell, in order
 unfoldable pub told : (NetItem → NetTick → List ℕ) → List Link → NetState → List NetItem → List ℕ
 told tells links s [] = []
 told tells links s (item ∷ items) =
     tells item (net_step links s item).tick ++ told tells links (net_after links s item) items
 
--- what a link sent, and what arrived by it, are the integers that its items told, in order
+-- the integers that a link sent, and those that arrived by it, are the ones that its ticks tell, in order
 pub record IsTold (l : ℕ) (links : List Link) (s : NetState) (items : List NetItem) (carried : Carried) : Type 0 where
   pub sent : carried.sent ≡ told (told_sent l) links s items
   pub arrived : carried.arrived ≡ told (told_arrived l) links s items
@@ -144,7 +145,7 @@ abbrev pub items_of : ℕ → List NetItem → List ℕ
 items_of n [] = []
 items_of n (item ∷ items) = item_of n item ++ items_of n items
 
--- a node is where the run of its own items leads, and its memory was asked what that run asks
+-- a node is in the state to which the run of its own items leads, and its memory was asked what that run asks
 pub record RunsAlone (n : ℕ) (i : Image) (images : List Image) (items : List NetItem) : Type 0 where
   pub state : slice_get (net_run [] (net_start images []) items).nodes n ≡ Some (run (start i) (items_of n items))
   pub uses_made : net_uses [] (net_start images []) items n ≡ uses (start i) (items_of n items)

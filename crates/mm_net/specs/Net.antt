@@ -1,4 +1,4 @@
--- What a net is and stands for.
+-- What contracts see of a net, and the runs that it stands for.
 use Rattle.std.specs.Prelude.{◌≡◌, ℕ, ◌+◌, ◌<◌, List, [], map, length, slice_get, Option, Some}
 use Rattle.std.specs.List.{AllZip, sum_by}
 use Rattle.mm_mem.specs.declared.memory.Memory.{Ghosts}
@@ -19,7 +19,7 @@ use Rattle.mm_net.specs.Nets.{asked_of, net_uses}
 use Rattle.mm_net.specs.Wires.{link_list, carried_list}
 
 module _ {M : Type 0} {memory : Ghosts M} where
-  -- 1. What contracts see of a net.
+  -- 1. The value of a net.
 
   -- the state of each node, and what each link carried
   abbrev pub net_of : Net M memory → NetState
@@ -28,11 +28,11 @@ module _ {M : Type 0} {memory : Ghosts M} where
   abbrev pub links_of : Net M memory → List Link
   links_of net = link_list net.wires.items
 
-  -- how many integers its links may take in all
+  -- the most integers that the links may take in all
   abbrev pub room_of : Net M memory → ℕ
   room_of net = net.room
 
-  -- how many steps there were
+  -- the count of steps so far
   abbrev pub steps_of : Net M memory → ℕ
   steps_of net = net.steps
 
@@ -40,13 +40,13 @@ module _ {M : Type 0} {memory : Ghosts M} where
   abbrev pub node_in : Net M memory → ℕ → Option (Machine M memory)
   node_in net n = slice_get net.nodes.items n
 
-  -- what the link of a number carried, if there is one
+  -- the integers that the link of a number carried, if there is one
   abbrev pub carried_in : Net M memory → ℕ → Option Carried
   carried_in net l = slice_get (net_of net).links l
 
   -- 2. Steps.
 
-  -- each node's memory is asked what the step asks of it
+  -- the memory of each node is asked what the step asks of it
   pub record NodesTake (old new : Net M memory) (t : NetStep) : Type 0 where
     pub each : (n : ℕ) (before after : Machine M memory) → node_in old n ≡ Some before → node_in new n ≡ Some after
         → Takes before after (asked_of n t)
@@ -60,44 +60,44 @@ module _ {M : Type 0} {memory : Ghosts M} where
     pub room : room_of new ≡ room_of old
     pub steps : steps_of new ≡ steps_of old + 1
 
-  -- 3. What a net begins with, and what it stands for.
+  -- 3. The beginning of a net, and the runs that it stands for.
 
-  -- a machine did no cycle and no port call yet
+  -- a machine that has done no cycle and no port call
   abbrev pub IsUnused : Machine M memory → Type 0
   IsUnused m = ((state_of m).cycles ≡ 0) × (ports_used m ≡ 0)
 
-  -- the state of these nodes and links where nothing is sent yet
+  -- the state of these nodes and links when nothing has been sent
   abbrev pub begun : List (Machine M memory) → List Link → NetState
   begun nodes links = record { nodes = map state_of nodes; links = map (λ (_ : Link). nothing_carried) links }
 
-  -- there are as many images as machines, and each machine stands at the start of its image
+  -- there are as many images as machines, and each machine is at the start of its image
   abbrev pub AllStart : List Image → List (Machine M memory) → Type 0
   AllStart images nodes = AllZip (λ (i : Image) (m : Machine M memory). machine.StandsFor i [] m) images nodes
 
-  -- the memory of each node was asked so
+  -- the memory of each node was asked these uses
   abbrev pub NodesStandTo : Net M memory → (uses : ℕ → List Use) → Type 0
   NodesStandTo net uses = (n : ℕ) (m : Machine M memory) → node_in net n ≡ Some m → StandsTo m (uses n)
 
-  -- the net is where a run of the images' net under these items leads, and the memory of each node was asked what that
-  -- run asks of it
+  -- the net is in the state to which the items lead from the start of the images' net, and the memory of each node was
+  -- asked what that run asks of it
   pub record StandsFor (images : List Image) (items : List NetItem) (net : Net M memory) : Type 0 where
     pub state : net_of net ≡ net_run (links_of net) (net_start images (links_of net)) items
     pub uses_made : NodesStandTo net (net_uses (links_of net) (net_start images (links_of net)) items)
 
--- both nodes of a link are among so many
+-- the numbers of both nodes of a link are below the count of nodes
 abbrev pub HasNodes : ℕ → Link → Type 0
 HasNodes count link = (link.from < count) × (link.to < count)
 
--- how many integers the links took in all
+-- the count of integers that the links took in all
 abbrev pub sent_count : NetState → ℕ
 sent_count s = sum_by (λ (carried : Carried). length carried.sent) s.links
 
--- there is room for what an item sends
+-- there is room for the integer that an item may send
 abbrev pub HasRoom : ℕ → NetState → NetItem → Type 0
 HasRoom room s (Send l) = sent_count s < room
 HasRoom room s _ = Unit {0}
 
--- Nothing comes of an item: the node's turn is idle, or the node is not there; the link took or put nothing.
+-- Nothing comes of an item: the node's turn is idle or the node is not there, or the link took or put nothing.
 abbrev pub ComesToNothing : (old new : NetState) → NetItem → Type 0
 ComesToNothing old new (Turn n item) = (node : State) → slice_get old.nodes n ≡ Some node → IsIdle node.core item
 ComesToNothing old new (Send l) = new.links ≡ old.links

@@ -24,7 +24,7 @@ use Rattle.mm_net.specs.declared.tick.NetTick.TheVariants.{Idle, Turned, Sent, A
 
 -- 1. States.
 
--- the integers that a link sent, and those of them that have arrived, oldest first
+-- the integers that a link sent, and the oldest of them, which have arrived; both oldest first
 pub record Carried : Type 0 where
   pub sent : List ℕ
   pub arrived : List ℕ
@@ -37,7 +37,7 @@ pub record NetState : Type 0 where
 abbrev pub nothing_carried : Carried
 nothing_carried = record { sent = []; arrived = [] }
 
--- the net of these images at its start: nothing is sent yet
+-- the net of these images at its start, when nothing has been sent
 abbrev pub net_start : List Image → List Link → NetState
 net_start images links = record { nodes = map start images; links = map (λ (_ : Link). nothing_carried) links }
 
@@ -45,25 +45,25 @@ net_start images links = record { nodes = map start images; links = map (λ (_ :
 abbrev pub with_node : NetState → ℕ → State → NetState
 with_node s n state = record s { nodes = slice_set s.nodes n state }
 
--- the net with this state at a node, and with what a link carried now
+-- the net with this state at a node, and with what a link has carried
 abbrev pub with_both : NetState → ℕ → State → ℕ → Carried → NetState
 with_both s n state l carried = record { nodes = slice_set s.nodes n state; links = slice_set s.links l carried }
 
--- what an item leaves, what comes of it, and what it asks of which node's memory
+-- the step of an item: the net after it, what comes of it, and what it asks of the memory of which node
 pub record NetStep : Type 0 where
   pub net : NetState
   pub tick : NetTick
   pub node : ℕ
   pub uses : List Use
 
--- an item whose link is not there, or whose node at the end where it acts, or whose integer is not due: it changes
--- nothing and asks nothing
+-- the step of an item whose link is not there, or the node at which the link acts, or whose integer is not due: it
+-- changes nothing and asks nothing
 abbrev pub idles : NetState → NetStep
 idles s = record { net = s; tick = Idle; node = 0; uses = [] }
 
 -- 2. A turn of a node.
 
--- an idle cycle, or a turn
+-- the tick of an idle cycle, or of a turn
 abbrev pub turn_tick : Step → Tick → NetTick
 turn_tick step ticks.Idle = Idle
 turn_tick step _ = Turned step
@@ -79,7 +79,7 @@ turns s n item (Some node) =
       uses = (turn_of node item).uses;
     }
 
--- 3. A link takes: where the cell is full its 64 bits are sent, without the tag, and the cell is left empty.
+-- 3. A link takes: if the cell is full, its 64 bits are sent without the tag, and the cell is left empty.
 
 -- the bits of a full cell's word
 abbrev pub bits_in : Option Cell → Option ℕ
@@ -113,10 +113,10 @@ abbrev pub takes : NetState → ℕ → Option Link → NetStep
 takes s l None = idles s
 takes s l (Some link) = takes_at s l link (slice_get s.nodes link.from) (slice_get s.links l)
 
--- 4. A link carries the integer of a number of those that it sent, counted from 0. Where that is the next to arrive and
+-- 4. A link carries the integer of a number, counted from 0 among those that it sent. If that is the next to arrive and
 -- the cell is empty, it is put there and the cell is left full.
 
--- the integer of this number, where it is due
+-- the integer of this number, if it is due
 abbrev pub due : Carried → ℕ → Option ℕ
 due carried k = if k == length carried.arrived then slice_get carried.sent k else None
 
@@ -173,13 +173,13 @@ unfoldable pub net_run : List Link → NetState → List NetItem → NetState
 net_run links s [] = s
 net_run links s (item ∷ items) = net_run links (net_after links s item) items
 
--- what a step asks of the memory of a node
+-- the uses that a step asks of the memory of a node
 abbrev pub asked_of : ℕ → NetStep → List Use
 asked_of n t = if n == t.node then t.uses else []
 
--- what a list of items asks of the memory of a node, in order: what its turns ask, a load that sets the bit for each
--- time that a link takes there, and a store for each integer that is carried there when it is due, also where they find
--- no page or the wrong bit
+-- what a list of items asks of the memory of a node, in order: what its turns ask; a load that sets the bit, each time
+-- that a link takes there; and a store for each integer that is carried there when it is due. They are asked also if
+-- they find no page or the wrong bit.
 unfoldable pub net_uses : List Link → NetState → List NetItem → ℕ → List Use
 net_uses links s [] n = []
 net_uses links s (item ∷ items) n =

@@ -1,4 +1,4 @@
--- The text of a net: the report of each node, and what each link carried.
+-- The text of a net: the report of each node, and the counts of each link.
 use Rattle.std.specs.Prelude.{ℕ, List, ◌++◌, length, codes, decimal, Option}
 use Rattle.std.specs.List.{flat_map, enumerate_from, zip}
 use Rattle.mm_model.specs.declared.counts.Counts.{Counts}
@@ -11,21 +11,21 @@ use Rattle.mm_net.specs.declared.link.Link.{Link}
 use Rattle.mm_net.specs.declared.item.NetItem.{NetItem}
 use Rattle.mm_net.specs.Nets.{Carried, net_start, net_run, net_uses}
 
--- a node, and the report of its state against its image
+-- the text of a node: its number, and the report of its state against its image
 abbrev pub node_text : (tells : List Use → Option Counts) → ℕ → Image → State → List Use → List ℕ
 node_text tells n image state uses = codes "node " ++ decimal n ++ newline ++ report state image (tells uses)
 
--- how many integers a link took, and how many of these it put
+-- the line of a link: how many integers it took, and how many of these it put
 abbrev pub link_line : ℕ → Carried → List ℕ
 link_line l carried = codes "link " ++ decimal l ++ codes " sent " ++ decimal (length carried.sent) ++ codes " arrived "
     ++ decimal (length carried.arrived) ++ newline
 
--- the nodes, ascending, each with what was asked of its memory
+-- the texts of nodes, ascending, given what was asked of the memory of each
 abbrev pub nodes_text : (tells : List Use → Option Counts) → List Image → List State → (uses : ℕ → List Use) → List ℕ
 nodes_text tells images nodes uses =
     flat_map (λ x. node_text tells x.0 x.1.0 x.1.1 (uses x.0)) (enumerate_from 0 (zip images nodes))
 
--- the links, ascending
+-- the lines of the links, ascending
 abbrev pub link_lines : List Carried → List ℕ
 link_lines links = flat_map (λ x. link_line x.0 x.1) (enumerate_from 0 links)
 

@@ -1,4 +1,4 @@
--- The links of a net at work: each beside what it carried, and with the accesses by which it takes and puts.
+-- The links of a net with what they carried, and with the accesses by which they take and put.
 use Rattle.std.specs.Prelude.{◌≡◌, ℕ, ◌≤◌, List, map}
 use Rattle.mm_word.specs.declared.perm.Kind.{Kind}
 use Rattle.mm_word.specs.declared.perm.Kind.TheVariants.{LoadSet, Store}
@@ -6,7 +6,7 @@ use Rattle.mm_word.specs.Access.{Touch}
 use Rattle.mm_net.specs.declared.link.Link.{Link}
 use Rattle.mm_net.specs.Nets.{Carried}
 
--- a link, what it carried, and how many integers it has room for
+-- a link, what it carried, and the count of integers that it has room for
 pub record Wired : Type 0 where
   pub link : Link
   pub carried : Carried
@@ -18,7 +18,7 @@ link_list wires = map (λ (w : Wired). w.link) wires
 abbrev pub carried_list : List Wired → List Carried
 carried_list wires = map (λ (w : Wired). w.carried) wires
 
--- the most integers that a link takes
+-- the most integers that a link may take
 abbrev pub send_limit : ℕ
 send_limit = 1000000
 

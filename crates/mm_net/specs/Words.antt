@@ -1,4 +1,4 @@
--- Texts of words: what a text means and where its fault is, by what one word says and by the rules that the items keep.
+-- Texts of words: the meaning and the fault of a text, given what one word says and the rules that items keep.
 use Rattle.std.specs.Prelude.{◌≡◌, ℕ, List, [], ◌∷◌, ◌++◌}
 use Rattle.mm_model.specs.Schedule.{runs_of}
 
@@ -14,7 +14,7 @@ pub record TextMeans {A : Type 0} (Says : List ℕ → List A → Type 0) (Keeps
   pub lists : Lists Says (runs_of text) items
   pub rules : Keeps items
 
--- The text's fault is at a place: the first word that says nothing, or that brings what breaks a rule, begins there.
+-- The fault of the text is at a place: the first word that says nothing, or whose items break a rule, begins there.
 pub record TextFaultsAt {A : Type 0} (Says : List ℕ → List A → Type 0) (Keeps : List A → Type 0) (text : List ℕ)
     (place : ℕ) : Type 0 where
   pub before : List (ℕ × List ℕ)

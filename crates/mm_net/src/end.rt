@@ -1,4 +1,5 @@
-// One word of a text of links.
+//! The words of a text of links.
+
 ghost use Rattle.std.specs.Prelude.{◌≡◌, ◌≢◌, ℕ, IfSome, IsNone, List, ◌∷◌, []};
 ghost use Rattle.mm_net.specs.Links.{IsEnd, IsLink, end_text, link_text};
 
@@ -9,7 +10,7 @@ use mm_sched::number;
 /// The address of the last word of a memory.
 const LAST_WORD: u64 = (1 << 54) - 8;
 
-/// The node and the address of a text `A.X`.
+/// The node and the address that a text `A.X` says; `None` if it is no end of a link.
 fn end(text: &[u8]) -> Option<(u8, u64)>
     ensures some { IfSome result (λ named. IsEnd named.0 named.1 × (text.now ≡ end_text named.0 named.1)) }
     ensures none { IsNone result → (node address : ℕ) → IsEnd node address → text.now ≢ end_text node address }
@@ -24,7 +25,7 @@ fn end(text: &[u8]) -> Option<(u8, u64)>
     }
 }
 
-/// The link of a word `A.X>B.Y`.
+/// The link that a word `A.X>B.Y` says; `None` if the word is no link.
 pub fn link(word: &[u8]) -> Option<Link>
     ensures some { IfSome result (λ link. IsLink link × (word.now ≡ link_text link)) }
     ensures none { IsNone result → (link : Link) → IsLink link → word.now ≢ link_text link }

@@ -1,4 +1,5 @@
-// One word of a text of events.
+//! The words of a text of events.
+
 ghost use Rattle.std.specs.Prelude.{◌≡◌, ℕ, ◌∷◌, ◌++◌, false, IfSome, IsNone};
 ghost use Rattle.mm_net.specs.Marks.{has};
 ghost use Rattle.mm_net.specs.Events.{IsEvent, Spells};
@@ -7,7 +8,7 @@ use crate::NetItem;
 use crate::words::split;
 use mm_sched::{item, number};
 
-/// What a text `N:S` or `N:S*K` says, by its two parts.
+/// The item and the count that a text `N:S` or `N:S*K` says, given its parts before and after the first `:`.
 fn turn(node: &[u8], rest: &[u8]) -> Option<(NetItem, u32)>
     requires { has 58 node.now ≡ false }
     ensures some { IfSome result (λ said. IsEvent said.0 × Spells (node.now ++ 58 ∷ rest.now) said.0 said.1) }
@@ -19,7 +20,7 @@ fn turn(node: &[u8], rest: &[u8]) -> Option<(NetItem, u32)>
     Some((NetItem::Turn { node, slot }, count))
 }
 
-/// What a text `+L` says, by the part behind the `+`.
+/// The item that a text `+L` says, given the part after the `+`.
 fn send(digits: &[u8]) -> Option<(NetItem, u32)>
     ensures some { IfSome result (λ said. IsEvent said.0 × Spells (43 ∷ digits.now) said.0 said.1) }
     ensures none { IsNone result → (item : NetItem) (count : ℕ) → IsEvent item → ¬ Spells (43 ∷ digits.now) item count }
@@ -28,7 +29,7 @@ fn send(digits: &[u8]) -> Option<(NetItem, u32)>
     Some((NetItem::Send { link }, 1))
 }
 
-/// What a text `L@K` says, by its two parts.
+/// The item that a text `L@K` says, given its parts before and after the first `@`.
 fn carry(link: &[u8], integer: &[u8]) -> Option<(NetItem, u32)>
     requires { has 64 link.now ≡ false }
     ensures some { IfSome result (λ said. IsEvent said.0 × Spells (link.now ++ 64 ∷ integer.now) said.0 said.1) }
@@ -40,7 +41,7 @@ fn carry(link: &[u8], integer: &[u8]) -> Option<(NetItem, u32)>
     Some((NetItem::Carry { link, number }, 1))
 }
 
-/// The item of a word, and how many of it the word says.
+/// The item of a word, and its count; `None` if the word is no event.
 pub fn event(word: &[u8]) -> Option<(NetItem, u32)>
     ensures some { IfSome result (λ said. IsEvent said.0 × Spells word.now said.0 said.1) }
     ensures none { IsNone result → (item : NetItem) (count : ℕ) → IsEvent item → ¬ Spells word.now item count }

@@ -1,4 +1,5 @@
-// A text of events.
+//! Events of a net, read from text.
+
 ghost use Rattle.std.specs.Prelude.{◌≡◌, ◌⊎◌, ℕ, List, ◌++◌, replicate, IfOk, OnOk, Ok, Err};
 ghost use Rattle.mm_net.specs.Events.{Means, FaultsAt};
 
@@ -13,8 +14,8 @@ use std::marker::Model;
 /// The most events of a text.
 pub const EVENT_LIMIT: usize = 1_000_000;
 
-/// At most 1,000,000 items of a net: of nodes 0 to 7, links 0 to 63 and numbers below 1,000,000. Contracts see the
-/// list.
+/// At most 1,000,000 items of a net. Numbers of nodes are 0 to 7, of links 0 to 63, and of integers that are carried
+/// below 1,000,000. Contracts see the list.
 #[derive(Drop)]
 pub struct Events {
     items: Vec<NetItem>,
@@ -35,7 +36,7 @@ impl Model for Events {
 impl Events {
     ghost use Rattle.mm_net.specs.Events.{AreEvents};
 
-    /// The items, in order.
+    /// The events, in order.
     pub fn items(&self) -> &[NetItem]
         ensures items { result.now ≡ self.now }
         ensures rules { AreEvents self.now }
@@ -44,7 +45,7 @@ impl Events {
     }
 }
 
-/// Appends so many of an item.
+/// Appends `count` copies of an item.
 fn append(items: &mut Vec<NetItem>, item: NetItem, count: u32) -> Result<(), NoMemory>
     ensures { OnOk result (items.new.items ≡ items.old.items ++ replicate count item) }
 {
@@ -57,13 +58,13 @@ fn append(items: &mut Vec<NetItem>, item: NetItem, count: u32) -> Result<(), NoM
 }
 
 /// The events that a text means: items between blanks, and comments from `#` to the end of the line. `N:S` is a turn or
-/// port item S of node N, and `N:S*K` is K of them; link L takes at `+L`, and carries its integer K at `L@K`. Want of
-/// memory is the one answer that needs no cause.
+/// port item S of node N, and `N:S*K` is K of them; `+L` lets link L take, and `L@K` lets it carry its integer K. A
+/// text that means none has a fault. `NoMemory` comes if memory ran out.
 pub fn read_events(alloc: Global, bytes: &[u8]) -> Result<Events, NetError>
     ensures means { IfOk result (λ events. Means bytes.now events) }
     ensures fault { (offset : ℕ) → result ≡ Err (NetError.Fault offset) → FaultsAt bytes.now offset }
 
-    // Each text that means events is read as these, and each that faults is refused at its fault.
+    // A text that means events is read as these, and a text that faults is refused at its fault.
     ensures reads { (events : List NetItem) → Means bytes.now events → (result ≡ Ok events)
         ⊎ (result ≡ Err NetError.NoMemory) }
     ensures refuses { (offset : ℕ) → FaultsAt bytes.now offset → (result ≡ Err (NetError.Fault offset))

@@ -1,5 +1,7 @@
-/// A link takes integers at a word of the memory of one node and puts them at a word of a node's memory. Words are
-/// named by their addresses in bytes.
+//! The links of a net.
+
+/// A link takes integers at the address `take` of node `from` and puts them at the address `put` of node `to`.
+/// Addresses are those of words, in bytes.
 #[derive(Clone, Copy, Debug, PartialEq, Eq)]
 pub struct Link {
     pub from: u8,

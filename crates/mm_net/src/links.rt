@@ -1,4 +1,5 @@
-// A text of links.
+//! Links of a net, read from text.
+
 ghost use Rattle.std.specs.Prelude.{◌≡◌, ◌⊎◌, ℕ, List, ◌++◌, ◌∷◌, [], IfOk, IsTrue, ◌↔◌, Ok, Err};
 ghost use Rattle.std.specs.List.{list_any};
 ghost use Rattle.mm_net.specs.Links.{IsLink, AreLinks, Means, FaultsAt};
@@ -14,8 +15,8 @@ use std::marker::Model;
 /// The most links of a net.
 pub const LINK_LIMIT: usize = 64;
 
-/// At most 64 links between nodes 0 to 7. The address of each word is a multiple of 8 below 2^54, and no end, a node
-/// and a word, stands twice. Contracts see the list.
+/// At most 64 links between nodes 0 to 7. The address of each word is a multiple of 8 below 2^54, and no end (a node
+/// and an address) occurs twice. Contracts see the list.
 #[derive(Drop)]
 pub struct Links {
     items: Vec<Link>,
@@ -45,7 +46,7 @@ impl Links {
     }
 }
 
-/// Whether one of the links takes or puts at the word of the node.
+/// Whether one of the links takes or puts at this address of the node.
 fn is_end(links: &[Link], node: u8, address: u64) -> bool
     ensures { result ≡ list_any (has_end node address) links.now }
 {
@@ -53,7 +54,7 @@ fn is_end(links: &[Link], node: u8, address: u64) -> bool
         || (link.to == node && link.put == address))
 }
 
-/// Whether the links keep their rules with one more.
+/// Whether the links keep their rules with one link more.
 fn fits(links: &[Link], more: Link) -> bool
     requires links { AreLinks links.now }
     requires more { IsLink more }
@@ -72,12 +73,13 @@ fn fits(links: &[Link], more: Link) -> bool
 }
 
 /// The links that a text means: items `A.X>B.Y` between blanks, and comments from `#` to the end of the line. The link
-/// takes at address X of node A and puts at address Y of node B. Want of memory is the one answer that needs no cause.
+/// takes at address X of node A and puts at address Y of node B. A text that means none has a fault. `NoMemory` comes
+/// if memory ran out.
 pub fn read_links(alloc: Global, bytes: &[u8]) -> Result<Links, NetError>
     ensures means { IfOk result (λ links. Means bytes.now links) }
     ensures fault { (offset : ℕ) → result ≡ Err (NetError.Fault offset) → FaultsAt bytes.now offset }
 
-    // Each text that means links is read as these, and each that faults is refused at its fault.
+    // A text that means links is read as these, and a text that faults is refused at its fault.
     ensures reads { (links : List Link) → Means bytes.now links → (result ≡ Ok links)
         ⊎ (result ≡ Err NetError.NoMemory) }
     ensures refuses { (offset : ℕ) → FaultsAt bytes.now offset → (result ≡ Err (NetError.Fault offset))
@@ -91,7 +93,7 @@ pub fn read_links(alloc: Global, bytes: &[u8]) -> Result<Links, NetError>
             return Err(fault(at)); // no link
         };
         if !fits(&items, more) {
-            return Err(fault(at)); // one too many, or an end that stands twice
+            return Err(fault(at)); // one too many, or an end that occurs twice
         }
         let Ok(()) = items.push(more) else {
             return Err(NetError::NoMemory);

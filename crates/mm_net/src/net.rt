@@ -18,7 +18,7 @@ use std::alloc::Global;
 pub struct Net<M: Memory> {
     nodes: Vec<Machine<M>>,
     wires: Vec<Wire>,
-    /// How many integers the links may take in all.
+    /// The most integers that the links may take in all.
     room: u32,
     steps: u64,
     ghost some: { 1 ≤ length nodes.items },
@@ -39,8 +39,8 @@ impl<M: Memory> Net<M> {
     ghost use Rattle.mm_net.specs.Net.{net_of, links_of, room_of, steps_of, node_in, carried_in, NodesTake, Steps};
     ghost use Rattle.mm_net.specs.Net.{IsUnused, HasNodes, begun, AllStart, StandsFor, HasRoom, ComesToNothing};
 
-    /// A net of these nodes and links that took no step yet. Room for so many integers is taken for each link, and no
-    /// later call takes memory.
+    /// A net of these nodes and links that has taken no step. Each link gets room for `room` integers, so that no later
+    /// call takes memory. `NoMemory` comes if memory ran out.
     pub fn new(
         alloc: Global,
         nodes: Vec<Machine<M>>,
@@ -57,7 +57,7 @@ impl<M: Memory> Net<M> {
         ensures room { IfOk result (λ net. room_of net ≡ room) }
         ensures steps { IfOk result (λ net. steps_of net ≡ 0) }
 
-        // Where each machine stands at the start of its image.
+        // The net if each machine is at the start of its image.
         ensures stands { (images : List Image) → AllStart images nodes.items
             → IfOk result (λ net. StandsFor images [] net) }
     {
@@ -70,9 +70,9 @@ impl<M: Memory> Net<M> {
         })
     }
 
-    /// One step: a turn of a node, or a link that takes, or carries the integer of a number. A link takes where it
-    /// finds a full cell, and leaves it empty. It carries the first integer that has not arrived, where it finds an
-    /// empty cell, and leaves that full; any other number changes nothing. Takes no memory.
+    /// Takes one step: a turn of a node, or a link that takes, or one that carries the integer of a number. A link
+    /// takes if its cell is full, and leaves it empty. It puts the first integer that has not arrived, if its cell is
+    /// empty, and leaves the cell full; any other number changes nothing. Takes no memory.
     pub fn step(&mut self, item: NetItem) -> NetTick
         requires few { steps_of self.old < 2 ^ 32 }
         requires room { HasRoom (room_of self.old) (net_of self.old) item }
@@ -82,14 +82,14 @@ impl<M: Memory> Net<M> {
         ensures tick { result ≡ (net_step (links_of self.old) (net_of self.old) item).tick }
         ensures takes { NodesTake self.old self.new (net_step (links_of self.old) (net_of self.old) item) }
 
-        // The tick is Idle exactly where nothing comes of the item.
+        // The tick is Idle exactly if nothing comes of the item.
         ensures idle { (result ≡ NetTick.Idle) ↔ ComesToNothing (net_of self.old) (net_of self.new) item }
 
         ensures links { links_of self.new ≡ links_of self.old }
         ensures room { room_of self.new ≡ room_of self.old }
         ensures steps { steps_of self.new ≡ steps_of self.old + 1 }
 
-        // After any items of images, one item more.
+        // The net after one item more, from the net after any items of images.
         ensures runs { (images : List Image) (items : List Item) → StandsFor images items self.old
             → StandsFor images (items ++ item ∷ []) self.new }
     {
@@ -100,7 +100,7 @@ impl<M: Memory> Net<M> {
         }
     }
 
-    /// How many steps there were.
+    /// The count of steps so far.
     pub fn steps(&self) -> u64
         ensures { result ≡ steps_of self.now }
     {
@@ -114,7 +114,7 @@ impl<M: Memory> Net<M> {
         self.nodes.get(n as usize)
     }
 
-    /// How many nodes there are.
+    /// The count of nodes.
     pub fn node_count(&self) -> u8
         ensures count { result ≡ length (net_of self.now).nodes }
         ensures some { 1 ≤ result }
@@ -123,7 +123,7 @@ impl<M: Memory> Net<M> {
         self.nodes.len() as u8
     }
 
-    /// How many links there are.
+    /// The count of links.
     pub fn link_count(&self) -> u8
         ensures count { result ≡ length (links_of self.now) }
         ensures most { result ≤ 64 }
@@ -140,7 +140,7 @@ impl<M: Memory> Net<M> {
         wire.sent()
     }
 
-    /// How many of them arrived: the oldest.
+    /// The count of integers that arrived by a link: the oldest that it took.
     pub fn arrived(&self, link: u8) -> u32
         requires { link < length (links_of self.now) }
         ensures { IsSomeAnd (carried_in self.now link) (λ carried. length carried.arrived ≡ result) }
@@ -149,7 +149,7 @@ impl<M: Memory> Net<M> {
         wire.arrived()
     }
 
-    /// A turn of a node.
+    /// Takes a turn of a node.
     fn turn(&mut self, node: u8, slot: u8) -> NetTick
         requires { steps_of self.old < 2 ^ 32 }
         ensures step { Steps self.old self.new (Item.Turn node slot) result }
@@ -167,7 +167,7 @@ impl<M: Memory> Net<M> {
         }
     }
 
-    /// A link takes.
+    /// Lets a link take.
     fn send(&mut self, link: u8) -> NetTick
         requires few { steps_of self.old < 2 ^ 32 }
         requires room { HasRoom (room_of self.old) (net_of self.old) (Item.Send link) }
@@ -188,7 +188,7 @@ impl<M: Memory> Net<M> {
         }
     }
 
-    /// A link carries the integer of a number, where it is due.
+    /// Lets a link carry the integer of a number, if that is due.
     fn carry(&mut self, link: u8, number: u32) -> NetTick
         requires { steps_of self.old < 2 ^ 32 }
         ensures { Steps self.old self.new (Item.Carry link number) result }

@@ -1,4 +1,5 @@
-// The text of a net.
+//! The text of a net.
+
 ghost use Rattle.std.specs.Prelude.{◌≡◌, ◌<◌, ℕ, List, length, Some};
 ghost use Rattle.mm_io.specs.Sinks.{Writes};
 ghost use Rattle.mm_text.specs.Gathers.{Gathers};
@@ -16,9 +17,9 @@ use mm_machine::Machine;
 use mm_mem::{Inspect, Memory};
 use mm_text::{Gather, Piece, write_pieces};
 
-/// Writes the text of a net against the images of its nodes: the report of each node, ascending, behind a line `node
-/// N`; and then for each link, ascending, a line `link L sent N arrived M`. At a [`WriteFault`] the sink took a front
-/// part.
+/// Writes the text of a net against the images of its nodes: for each node, ascending, a line `node N` and the node's
+/// report; then for each link, ascending, a line `link L sent N arrived M`. After a [`WriteFault`] the sink has taken a
+/// prefix of the text.
 pub fn report<M: Inspect, O: Sink>(
     net: &Net<M>,
     images: &[Image],

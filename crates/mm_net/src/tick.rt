@@ -1,6 +1,8 @@
+//! The outcome of an item of a net.
+
 use mm_model::Step;
 
-/// What came of an item of a net.
+/// The outcome of an item of a net.
 #[derive(Clone, Copy, Debug, PartialEq, Eq)]
 pub enum NetTick {
     /// Nothing: the cycle was idle, the node or the link is not there, or the link took or put nothing.

@@ -1,4 +1,5 @@
-// A link of a net at work.
+//! The links of a net with what they carried.
+
 ghost use Rattle.std.specs.Prelude.{◌≡◌, ◌%◌, ◌^◌, ◌<◌, ◌≤◌, ℕ, true, length, map, Some, IfOk};
 ghost use Rattle.std.specs.List.{All};
 ghost use Rattle.mm_word.specs.declared.perm.Perm.TheVariants.{Rw};
@@ -14,19 +15,19 @@ use mm_word::{Access, GuardedPtr, Kind, NoMemory, Perm, Word, check};
 use std::alloc::Global;
 use std::marker::Model;
 
-/// The logarithm of the length of the whole address space.
+/// The logarithm of the length in bytes of the whole address space.
 const ALL_ADDRESSES: u8 = 54;
 
-/// A link beside what it carried. Its room is taken whole when it is made, and so are the accesses by which it takes
-/// and puts.
+/// A link with what it carried, and with the accesses by which it takes and puts. All its room is taken when it is
+/// made.
 #[derive(Drop)]
 pub(crate) struct Wire {
     link: Link,
     taking: Access,
     putting: Access,
-    /// What it took, oldest first.
+    /// The integers that the link took, oldest first.
     sent: Vec<u64>,
-    /// How many of these it put: the oldest.
+    /// The count of these integers that the link put: the oldest.
     arrived: u32,
 }
 
@@ -46,7 +47,7 @@ impl Model for Wire {
 }
 
 impl Wire {
-    /// A link that carried nothing, with room for so many integers.
+    /// A link that has carried nothing, with room for `room` integers.
     pub(crate) fn new(alloc: Global, link: Link, room: u32) -> Result<Wire, NoMemory>
         requires { IsLink link }
         ensures link { IfOk result (λ w. w.link ≡ link) }
@@ -71,35 +72,35 @@ impl Wire {
         self.link
     }
 
-    /// The access by which it takes.
+    /// The access by which the link takes.
     pub(crate) fn taking(&self) -> &Access
         ensures { Reaches result.now LoadSet self.now.link.take }
     {
         &self.taking
     }
 
-    /// The access by which it puts.
+    /// The access by which the link puts.
     pub(crate) fn putting(&self) -> &Access
         ensures { Reaches result.now Store self.now.link.put }
     {
         &self.putting
     }
 
-    /// What it took, oldest first.
+    /// The integers that the link took, oldest first.
     pub(crate) fn sent(&self) -> &[u64]
         ensures { result.now ≡ self.now.carried.sent }
     {
         &self.sent
     }
 
-    /// How many of these it put.
+    /// The count of integers that the link put.
     pub(crate) fn arrived(&self) -> u32
         ensures { result ≡ length self.now.carried.arrived }
     {
         self.arrived
     }
 
-    /// The integer of this number, where it is the first that has not arrived.
+    /// The integer of this number, if it is the first that has not arrived.
     pub(crate) fn due(&self, number: u32) -> Option<u64>
         ensures { result ≡ due self.now.carried number }
     {
@@ -110,7 +111,7 @@ impl Wire {
         }
     }
 
-    /// Keeps an integer that it took.
+    /// Keeps an integer that the link took.
     pub(crate) fn push(&mut self, bits: u64)
         requires room { length self.old.carried.sent < self.old.room }
         requires few { length self.old.carried.sent < 1000000 }
@@ -133,7 +134,7 @@ impl Wire {
     }
 }
 
-/// Links at work, each with room for so many integers.
+/// Links that have carried nothing, each with room for `room` integers.
 pub(crate) fn wires_of(alloc: Global, links: &[Link], room: u32) -> Result<Vec<Wire>, NoMemory>
     requires { All IsLink links.now }
     ensures links { IfOk result (λ wires. link_list wires.items ≡ links.now) }
@@ -152,7 +153,7 @@ pub(crate) fn wires_of(alloc: Global, links: &[Link], room: u32) -> Result<Vec<W
     Ok(wires)
 }
 
-/// The access of a kind to the word at an address, through a pointer to read and write all addresses.
+/// The access of a kind to the word at an address, through a read-write pointer to all addresses.
 fn access(address: u64, kind: Kind) -> Access
     requires aligned { address % 8 ≡ 0 }
     requires below { address < 2 ^ 54 }

@@ -1,4 +1,4 @@
--- The numbers of the faults of object files, and what a reader answers.
+-- The numbers of the faults of object files, and the answers of a reader.
 use Rattle.std.specs.Prelude.{◌≡◌, ℕ, Option, Some, None, Result, Ok, Err}
 use Rattle.mm_object.specs.declared.fault.ObjectFault.{ObjectFault}
 use Rattle.mm_object.specs.declared.fault.ObjectFault.TheVariants as faults

@@ -4,9 +4,9 @@
 -- 1 short, at the end of the file: a field, a bitmap, a name or a record is not whole
 -- 2 magic
 -- 3 version
--- 4 count: a number in the header, or so many words that all together are too many
--- 5 name, at its length: no name, one that is there already, one out of order, or an external that nothing points to
--- 6 segment: its length, its number of words, or a bit of its bitmap, at the last byte, that stands for no word
+-- 4 count: a number in the header, or the words of all segments together
+-- 5 name, at its length: no name, a name that is there already, a name out of order, or an external without a use
+-- 6 segment: its length, its count of words, or a bit of its bitmap, at the last byte, that belongs to no word
 -- 7 relocation
 -- 8 thread
 -- 9 trailing, at the first byte too many
@@ -31,7 +31,7 @@ module _ (bytes : List ℕ) where
   abbrev pub is_magic : Bool
   is_magic = bytes_eq (take 4 bytes) (codes "MMO1")
 
-  -- the header; there are as many relocations as its number can say
+  -- the header; its count of relocations has no test, since two bytes cannot say too many
   abbrev pub header_places : List Place
   header_places =
       Field 0 4 ∷ Test 2 0 (not is_magic)
@@ -52,11 +52,11 @@ module _ (bytes : List ℕ) where
   abbrev pub name_places : (at : ℕ) → (bad : Bool) → List Place
   name_places at bad = form_places at ++ Test 5 at bad ∷ []
 
-  -- whether the last byte of a bitmap of so many bits has one that stands for none
+  -- whether the last byte of a bitmap has a bit set that belongs to none of `count` words
   abbrev pub has_unused_bit : (at count : ℕ) → Bool
   has_unused_bit at count = not (count % 8 == 0) && nat_le (2 ^ (count % 8)) (number_at bytes (at + count / 8) 1)
 
-  -- a segment behind these ones
+  -- a segment after the segments `before`
   abbrev pub segment_record_places : (before : List Segment) (at : ℕ) → List Place
   segment_record_places before at =
       name_places at (is_among (name_at bytes at) (names_of before))
@@ -75,7 +75,7 @@ module _ (bytes : List ℕ) where
   abbrev pub segments_places : (count : ℕ) → List Place
   segments_places count = in_turn segment_places 0 count
 
-  -- whether the external before this one does not stand before it in the order of bytes
+  -- whether the external before this one is not before it in the order of bytes
   abbrev pub is_out_of_order : (k : ℕ) → Bool
   is_out_of_order zero = false
   is_out_of_order (suc k) =
@@ -92,7 +92,7 @@ module _ (bytes : List ℕ) where
   abbrev pub is_perm : (at : ℕ) → Bool
   is_perm at = is_some (perm_of (number_at bytes at 1))
 
-  -- whether a relocation does not stand behind the one before it
+  -- whether a relocation is not after the one before it
   abbrev pub is_misplaced : (k : ℕ) → Bool
   is_misplaced zero = false
   is_misplaced (suc k) = nat_le (place_of (reloc_record_at bytes (reloc_place bytes (suc k))))
@@ -114,7 +114,7 @@ module _ (bytes : List ℕ) where
   has_low_slot (suc k) = nat_le (thread_record_at bytes (thread_place bytes (suc k))).slot
       (thread_record_at bytes (thread_place bytes k)).slot
 
-  -- whether register r is to become a pointer and has no permission, or no zero behind it
+  -- whether register r is to become a pointer and has no permission, or no zero after it
   abbrev pub is_bad_register : (at r : ℕ) → Bool
   is_bad_register at r = mask_bit_at bytes (at + 10)
       r && (not (is_perm (at + 12 + 8 * r)) || not (number_at bytes (at + 12 + 8 * r + 1) 1 == 0))
@@ -136,8 +136,8 @@ module _ (bytes : List ℕ) where
   abbrev pub uses_places : (segments : ℕ) (targets : List Target) (count : ℕ) → List Place
   uses_places segments targets count = in_turn (use_places segments targets) 0 count
 
-  -- all places in the order in which they are read: externals that nothing points to behind the last thread, since a
-  -- thread may point to them
+  -- all places in the order in which they are read; the uses of externals come after the last thread, since a thread
+  -- may use them
   abbrev pub places : List Place
   places =
       let segments = segments_at bytes (segments_of bytes) in

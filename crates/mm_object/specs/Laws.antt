@@ -5,7 +5,7 @@ use Rattle.mm_object.specs.Objects.{Object, IsObject}
 use Rattle.mm_object.specs.Faults.{object_fault}
 use Rattle.mm_object.specs.Spelling.{spelling, Spells}
 
--- bytes either spell an object or have a first fault
+-- bytes have no fault exactly if they spell an object
 abbrev pub ObjectsHaveNoFault : Type 0
 ObjectsHaveNoFault = (bytes : List ℕ) → IsBytes bytes → (object_fault bytes ≡ None) ↔ ((o : Object) × Spells bytes o)
 
@@ -13,6 +13,6 @@ ObjectsHaveNoFault = (bytes : List ℕ) → IsBytes bytes → (object_fault byte
 abbrev pub SpelledObjectsAreOne : Type 0
 SpelledObjectsAreOne = (bytes : List ℕ) (a b : Object) → Spells bytes a → Spells bytes b → a ≡ b
 
--- two objects have two spellings
+-- different objects have different spellings
 abbrev pub SpellingIsInjective : Type 0
 SpellingIsInjective = (a b : Object) → IsObject a → IsObject b → spelling a ≡ spelling b → a ≡ b

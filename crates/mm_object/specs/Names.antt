@@ -1,4 +1,4 @@
--- Names of segments and of what an object does not have itself.
+-- Names of segments and of externals.
 use Rattle.std.specs.Prelude.{ℕ, Bool, true, false, ◌&&◌, ◌||◌, ◌==◌, nat_lt, nat_le, if◌then◌else◌, List, [], ◌∷◌}
 use Rattle.std.specs.Prelude.{length}
 use Rattle.std.specs.List.{list_all}
@@ -6,11 +6,11 @@ use Rattle.std.specs.List.{list_all}
 abbrev pub is_between : ℕ → ℕ → ℕ → Bool
 is_between low high b = nat_le low b && nat_le b high
 
--- a letter or `_`
+-- a byte that a name may begin with: a letter or `_`
 abbrev pub begins_name : ℕ → Bool
 begins_name b = is_between 65 90 b || is_between 97 122 b || b == 95
 
--- a letter, a digit or `_`
+-- a byte that a name may go on with: a letter, a digit or `_`
 abbrev pub goes_on : ℕ → Bool
 goes_on b = begins_name b || is_between 48 57 b
 
@@ -22,7 +22,7 @@ has_form (b ∷ bytes) = begins_name b && list_all goes_on bytes
 abbrev pub is_name : List ℕ → Bool
 is_name bytes = has_form bytes && nat_le (length bytes) 31
 
--- one list of bytes stands before another in their order
+-- one list of bytes is before another in their order
 abbrev pub is_before : List ℕ → List ℕ → Bool
 is_before [] [] = false
 is_before [] (y ∷ ys) = true

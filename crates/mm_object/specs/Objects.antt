@@ -1,4 +1,4 @@
--- What an object is: segments of words, names that it does not have itself, words that become pointers when it is
+-- What an object is: segments of words, names that it uses and does not define, words that become pointers when it is
 -- placed, and threads.
 use Rattle.std.specs.Prelude.{◌≡◌, ℕ, ◌+◌, ◌*◌, ◌-◌, ◌^◌, ◌<◌, ◌≤◌, Bool, true, false, not, ◌&&◌, ◌==◌, nat_lt, List}
 use Rattle.std.specs.Prelude.{[], ◌∷◌, ◌++◌, map, length, slice_get, Option, Some, None}
@@ -15,17 +15,17 @@ use Rattle.mm_object.specs.Names.{is_name, is_before}
 
 pub record Segment : Type 0 where
   pub name : List ℕ
-  -- the logarithm of its length in bytes
+  -- the logarithm of the segment's length in bytes
   pub log : ℕ
   pub items : List Item
 
 pub record Object : Type 0 where
   pub segments : List Segment
-  -- the names that it does not have itself
+  -- the names that the object uses and does not define
   pub externals : List (List ℕ)
   pub relocs : List Reloc
   pub threads : List Thread
-  -- how many frames a machine is to have beside those of its pages
+  -- the count of frames that a machine is to have in addition to those of its pages
   pub spare : ℕ
 
 -- 1. Limits.
@@ -45,7 +45,7 @@ thread_limit = 16
 abbrev pub spare_limit : ℕ
 spare_limit = 256
 
--- how many words all segments may have together
+-- the most words of all segments together
 abbrev pub word_limit : ℕ
 word_limit = 131072
 
@@ -58,7 +58,7 @@ greatest_log = 20
 
 -- 2. Parts.
 
--- how many words segments have together
+-- the count of words of segments together
 abbrev pub words_of : List Segment → ℕ
 words_of [] = 0
 words_of (s ∷ segments) = length s.items + words_of segments
@@ -75,12 +75,12 @@ same_name (x ∷ xs) (y ∷ ys) = x == y && same_name xs ys
 abbrev pub is_among : List ℕ → List (List ℕ) → Bool
 is_among name names = list_any (same_name name) names
 
--- each name is another one
+-- the names are all different
 abbrev pub are_apart : List (List ℕ) → Bool
 are_apart [] = true
 are_apart (name ∷ names) = not (is_among name names) && are_apart names
 
--- each name stands before the next in the order of bytes
+-- each name is before the next in the order of bytes
 abbrev pub ascend : List (List ℕ) → Bool
 ascend [] = true
 ascend (a ∷ []) = true
@@ -90,7 +90,7 @@ abbrev pub is_within : Option Segment → ℕ → ℕ → ℕ → Bool
 is_within (Some s) all index addend = nat_lt addend (2 ^ s.log)
 is_within None all index addend = nat_lt index all && nat_lt addend (2 ^ greatest_log)
 
--- a segment of the object, at an offset within it, or a name that it does not have, with an addend below 2^20
+-- a segment of the object, at an offset within it, or an external, with an addend below 2^20
 abbrev pub is_target : List Segment → ℕ → Target → Bool
 is_target segments externals t = is_within (slice_get segments t.index) (length segments + externals) t.index t.addend
 
@@ -102,12 +102,12 @@ abbrev pub is_zero : Option Item → Bool
 is_zero None = false
 is_zero (Some item) = item.bits == 0
 
--- a relocation replaces a word of the object that is 0
+-- a relocation replaces a word of the object that is 0 by a pointer to a target
 abbrev pub is_reloc : List Segment → ℕ → Reloc → Bool
 is_reloc segments externals r =
     is_zero (item_of (slice_get segments r.segment) r.word) && is_target segments externals r.target
 
--- where it does: its segment, and then its word
+-- the place of a relocation: its segment, and then its word
 abbrev pub place_of : Reloc → ℕ
 place_of r = r.segment * 2 ^ 32 + r.word
 
@@ -115,7 +115,7 @@ abbrev pub is_value : List Segment → ℕ → Value → Bool
 is_value segments externals (Int n) = true
 is_value segments externals (Ptr perm target) = is_target segments externals target
 
--- a handler is a number of a slot, and not the thread's own
+-- a handler is the number of a slot that is not the thread's own
 abbrev pub is_handler : ℕ → Option ℕ → Bool
 is_handler slot None = true
 is_handler slot (Some h) = nat_lt h thread_limit && not (h == slot)
@@ -129,7 +129,7 @@ abbrev pub value_targets : Value → List Target
 value_targets (Int n) = []
 value_targets (Ptr perm target) = target ∷ []
 
--- what an object points to
+-- the targets of an object's relocations and threads
 abbrev pub targets_of : List Reloc → List Thread → List Target
 targets_of relocs threads =
     map (λ r. r.target) relocs ++ flat_map (λ t. t.target ∷ flat_map value_targets t.regs) threads
@@ -157,7 +157,7 @@ pub record IsObject (o : Object) : Type 0 where
   pub externals : list_all is_name o.externals ≡ true
   pub rising : ascend o.externals ≡ true
   pub foreign : list_any (λ name. is_among name (names_of o.segments)) o.externals ≡ false
-  -- each of them is the target of something
+  -- each external is the target of something
   pub used : (i : ℕ) → i < length o.externals
       → list_any (λ (t : Target). t.index == length o.segments + i) (targets_of o.relocs o.threads) ≡ true
   pub few_relocs : length o.relocs ≤ reloc_limit

@@ -1,4 +1,4 @@
--- What the bytes of an object say, field by field. Where a record begins depends on those before it.
+-- What the bytes of an object file say, field by field. The place of a record depends on the records before it.
 use Rattle.std.specs.Prelude.{ℕ, zero, suc, ◌+◌, ◌*◌, ◌/◌, ◌==◌, Bool, if◌then◌else◌, List, map, take, drop, Option}
 use Rattle.std.specs.Prelude.{Some, None}
 use Rattle.std.specs.List.{range_with_len}
@@ -14,7 +14,7 @@ use Rattle.mm_object.specs.declared.thread.Value.TheVariants.{Int, Ptr}
 use Rattle.mm_object.specs.declared.thread.Thread.{Thread}
 use Rattle.mm_object.specs.Objects.{Segment, Object}
 
--- the permission of a code; a code that is none is refused before it is asked for
+-- the permission of a code, if it is one; a reader refuses any other code before
 abbrev pub perm_or_key : Option Perm → Perm
 perm_or_key None = Key
 perm_or_key (Some perm) = perm
@@ -40,7 +40,7 @@ module _ (bytes : List ℕ) where
   abbrev pub spare_of : ℕ
   spare_of = number_at bytes 14 2
 
-  -- 2. A name, whose record begins at a place.
+  -- 2. A name whose record begins at a place.
 
   abbrev pub name_size : (at : ℕ) → ℕ
   name_size at = number_at bytes at 1
@@ -48,11 +48,11 @@ module _ (bytes : List ℕ) where
   abbrev pub name_at : (at : ℕ) → List ℕ
   name_at at = take (name_size at) (drop (at + 1) bytes)
 
-  -- where it ends
+  -- the end of the name
   abbrev pub name_end : (at : ℕ) → ℕ
   name_end at = at + 1 + name_size at
 
-  -- 3. A segment, whose record begins at a place.
+  -- 3. A segment whose record begins at a place.
 
   abbrev pub log_at : (at : ℕ) → ℕ
   log_at at = number_at bytes (name_end at) 1
@@ -60,7 +60,7 @@ module _ (bytes : List ℕ) where
   abbrev pub count_place : (at : ℕ) → ℕ
   count_place at = name_end at + 1
 
-  -- how many words it has
+  -- the count of words of the segment
   abbrev pub count_at : (at : ℕ) → ℕ
   count_at at = number_at bytes (count_place at) 4
 
@@ -76,7 +76,7 @@ module _ (bytes : List ℕ) where
   abbrev pub segment_end : (at : ℕ) → ℕ
   segment_end at = words_place at + 8 * count_at at
 
-  -- word k
+  -- word k of the segment
   abbrev pub item_at : (at k : ℕ) → Item
   item_at at k = record { bits = number_at bytes (words_place at + 8 * k) 8; full = bit_at bytes (bitmap_place at) k }
 
@@ -103,11 +103,11 @@ module _ (bytes : List ℕ) where
         target = target_at (at + 7);
       }
 
-  -- eight bytes of a register
+  -- the value in the eight bytes of a register
   abbrev pub value_at : (tagged : Bool) (at : ℕ) → Value
   value_at tagged at = if tagged then Ptr (perm_at at) (target_at (at + 2)) else Int (number_at bytes at 8)
 
-  -- register r
+  -- register r of the thread
   abbrev pub register_at : (at r : ℕ) → Value
   register_at at r = value_at (mask_bit_at bytes (at + 10) r) (at + 12 + 8 * r)
 
@@ -124,7 +124,7 @@ module _ (bytes : List ℕ) where
     regs = registers_at at;
   }
 
-  -- 5. Where each record begins, and what there is.
+  -- 5. Where each record begins, and the lists of records.
 
   unfoldable pub segment_place : (k : ℕ) → ℕ
   segment_place zero = 16
@@ -133,12 +133,12 @@ module _ (bytes : List ℕ) where
   unfoldable pub segments_at : (count : ℕ) → List Segment
   segments_at count = map (λ k. segment_record_at (segment_place k)) (range_with_len 0 count)
 
-  -- names behind one another, from a place on
+  -- the places of names that follow one another, from a place on
   unfoldable pub name_place : (from k : ℕ) → ℕ
   name_place from zero = from
   name_place from (suc k) = name_end (name_place from k)
 
-  -- the k-th external
+  -- the place of external k
   abbrev pub external_place : (k : ℕ) → ℕ
   external_place k = name_place (segment_place segments_of) k
 
@@ -157,7 +157,7 @@ module _ (bytes : List ℕ) where
   unfoldable pub threads_at : (count : ℕ) → List Thread
   threads_at count = map (λ k. thread_record_at (thread_place k)) (range_with_len 0 count)
 
-  -- the object that is read
+  -- the object that the bytes say
   unfoldable pub object_of : Object
   object_of = record {
     segments = segments_at segments_of;

@@ -13,22 +13,22 @@ use Rattle.mm_object.specs.declared.thread.Value.TheVariants.{Int, Ptr}
 use Rattle.mm_object.specs.declared.thread.Thread.{Thread}
 use Rattle.mm_object.specs.Objects.{Segment, Object, IsObject}
 
--- its length, and its bytes
+-- the bytes of a name: its length, and then the name
 abbrev pub name_record : List ℕ → List ℕ
 name_record name = length name ∷ name
 
--- name, logarithm, how many words, which of them are full, and the words
+-- the bytes of a segment: name, logarithm, count of words, which of them are full, and the words
 unfoldable pub segment_record : Segment → List ℕ
 segment_record s =
     name_record s.name ++ (s.log ∷ []) ++ to_be_bytes w32 (length s.items)
     ++ bitmap ((length s.items + 7) / 8) (map (λ (i : Item). i.full) s.items)
     ++ flat_map (λ (i : Item). to_be_bytes w64 i.bits) s.items
 
--- what it is in, and how far
+-- the bytes of a target: its index, and the offset from there
 abbrev pub target_record : Target → List ℕ
 target_record t = to_be_bytes w16 t.index ++ to_be_bytes w32 t.addend
 
--- segment, word, permission and target
+-- the bytes of a relocation: segment, word, permission and target
 unfoldable pub reloc_record : Reloc → List ℕ
 reloc_record r = to_be_bytes w16 r.segment ++ to_be_bytes w32 r.word ++ (code_of r.perm ∷ []) ++ target_record r.target
 
@@ -41,13 +41,14 @@ abbrev pub value_record : Value → List ℕ
 value_record (Int n) = to_be_bytes w64 n
 value_record (Ptr perm target) = (code_of perm ∷ 0 ∷ []) ++ target_record target
 
--- slot, group, handler or 255, permission, target, which registers become pointers, and the 16 registers
+-- the bytes of a thread: slot, group, handler or 255, permission, target, which registers become pointers, and the 16
+-- registers
 unfoldable pub thread_record : Thread → List ℕ
 thread_record t =
     (t.slot ∷ t.group ∷ handler_byte t.handler ∷ code_of t.perm ∷ []) ++ target_record t.target
     ++ to_be_bytes w16 (number_of_flags (map is_tagged t.regs)) ++ flat_map value_record t.regs
 
--- magic, version, and how many segments, externals, relocations, threads and spare frames
+-- the header: magic, version, and the counts of segments, externals, relocations, threads and spare frames
 abbrev pub header : Object → List ℕ
 header o =
     codes "MMO1" ++ to_be_bytes w16 1 ++ to_be_bytes w16 (length o.segments) ++ to_be_bytes w16 (length o.externals)

@@ -15,7 +15,7 @@ use Rattle.mm_object.specs.Reading.{segment_place, segments_at, external_place, 
 use Rattle.mm_object.specs.Reading.{relocs_of, threads_of, spare_of, reloc_record_at, reloc_place, thread_record_at}
 use Rattle.mm_object.specs.Reading.{thread_place}
 
--- what the header says
+-- the fields of the header
 abbrev pub header_of : List ℕ → Header
 header_of bytes =
     record {
@@ -26,11 +26,11 @@ header_of bytes =
       spare = spare_of bytes;
     }
 
--- how long the record of a segment is
+-- the length of the record of a segment
 abbrev pub segment_size : Segment → ℕ
 segment_size s = 1 + length s.name + 5 + (length s.items + 7) / 8 + 8 * length s.items
 
--- the words of a segment whose bitmap and words stand at these places
+-- the words of a segment whose bitmap and words are at these places
 abbrev pub items_from : (bytes : List ℕ) (bitmap words count : ℕ) → List Item
 items_from bytes bitmap words count = map
     (λ k. record { bits = number_at bytes (words + 8 * k) 8; full = bit_at bytes bitmap k }) (range_with_len 0 count)
@@ -39,11 +39,11 @@ items_from bytes bitmap words count = map
 abbrev pub bytes_of : List (Bor (List ℕ)) → List (List ℕ)
 bytes_of keys = map (λ (k : Bor (List ℕ)). k.now) keys
 
--- a name is one of these exactly where it is one of those
+-- a name is among these exactly if it is among those
 abbrev pub AreTheSame : List (List ℕ) → List (List ℕ) → Type 0
 AreTheSame these those = (name : List ℕ) → is_among name these ≡ is_among name those
 
--- whether the last of the names does not stand before another one
+-- whether a name is not after the last of other names
 abbrev pub is_late : List (List ℕ) → List ℕ → Bool
 is_late [] name = false
 is_late (a ∷ []) name = not (is_before a name)
@@ -59,11 +59,11 @@ abbrev pub least_slot : (bytes : List ℕ) (k : ℕ) → ℕ
 least_slot bytes zero = 0
 least_slot bytes (suc k) = (thread_record_at bytes (thread_place bytes k)).slot + 1
 
--- so many segments, and where they end
+-- the first `count` segments, and where they end
 abbrev pub segments_read : (bytes : List ℕ) (count : ℕ) → List Segment × ℕ
 segments_read bytes count = (segments_at bytes count, segment_place bytes count)
 
--- so many externals, and where they end
+-- the first `count` externals, and where they end
 abbrev pub externals_read : (bytes : List ℕ) (count : ℕ) → List (List ℕ) × ℕ
 externals_read bytes count = (externals_at bytes count, external_place bytes count)
 
@@ -72,28 +72,28 @@ abbrev pub log_places : (bytes : List ℕ) (at : ℕ) → List Place
 log_places bytes at =
     Field at 1 ∷ Test 6 at (nat_lt (number_at bytes at 1) least_log || nat_lt greatest_log (number_at bytes at 1)) ∷ []
 
--- how many words a segment of this length has, behind so many others
+-- the count of words of a segment of this length, after segments of `words` words
 abbrev pub count_places : (bytes : List ℕ) (log words at : ℕ) → List Place
 count_places bytes log words at = Field at 4 ∷ Test 4 at (nat_lt word_limit (words + number_at bytes at 4))
     ∷ Test 6 at (nat_lt (2 ^ (log - 3)) (number_at bytes at 4)) ∷ []
 
--- a bitmap of so many words
+-- the bitmap of `count` words
 abbrev pub bitmap_places : (bytes : List ℕ) (count at : ℕ) → List Place
 bitmap_places bytes count at =
     Field at ((count + 7) / 8) ∷ Test 6 (at + (count + 7) / 8 - 1) (has_unused_bit bytes at count) ∷ []
 
--- a relocation that has to stand no lower than a place
+-- a relocation whose place has to be at least `least`
 abbrev pub reloc_record_places : (bytes : List ℕ) (segments : List Segment) (externals least at : ℕ) → List Place
 reloc_record_places bytes segments externals least at =
     Field at 13 ∷ Test 7 at
     (not (is_perm bytes (at + 6)) || not (is_reloc segments externals (reloc_record_at bytes at)) || nat_lt
     (place_of (reloc_record_at bytes at)) least) ∷ []
 
--- whether one of so many registers may not be as it is
+-- whether one of the first `count` registers is to become a pointer and has no permission, or no zero after it
 unfoldable pub bad_registers : (bytes : List ℕ) (at count : ℕ) → Bool
 bad_registers bytes at count = list_any (is_bad_register bytes at) (range_with_len 0 count)
 
--- a thread whose slot has to be no lower than a number
+-- a thread whose slot has to be at least `least`
 abbrev pub thread_record_places : (bytes : List ℕ) (segments : List Segment) (externals least at : ℕ) → List Place
 thread_record_places bytes segments externals least at =
     Field at 140 ∷ Test 8 at (not (is_perm bytes (at + 3)) || list_any (is_bad_register bytes at) (range_with_len 0 16)

@@ -1,4 +1,4 @@
-//! Fields of an object file, at their places.
+//! The fields of an object file, read at their offsets.
 
 ghost use Rattle.std.specs.Prelude.{◌≡◌, ◌==◌, ◌+◌, ◌/◌, ◌%◌, ◌^◌, ◌<◌, ◌≤◌, true, false, OnOk, length};
 ghost use Rattle.mm_word.specs.Perm.{perm_of};
@@ -17,7 +17,7 @@ pub(crate) struct Reader<'a> {
     pub bytes: &'a [u8],
 }
 
-/// A fault at a place.
+/// The error of a fault at an offset.
 pub(crate) fn fault(fault: ObjectFault, offset: usize) -> ObjectError
     ensures { result ≡ ObjectError.Fault fault offset }
 {
@@ -27,7 +27,7 @@ pub(crate) fn fault(fault: ObjectFault, offset: usize) -> ObjectError
     }
 }
 
-/// A bit of a number, the lowest at place 0.
+/// Whether a bit of a number is set, the lowest at place 0.
 pub(crate) fn is_set(bits: u16, place: usize) -> bool
     requires { place < 16 }
     ensures { result ≡ (bits / 2 ^ place % 2 == 1) }
@@ -35,9 +35,9 @@ pub(crate) fn is_set(bits: u16, place: usize) -> bool
     bits >> place & 1 == 1
 }
 
-// Fields at their places, and tests of what they say.
+// Fields at their offsets, and tests of what they say.
 impl Reader<'_> {
-    /// Refuses where the test holds.
+    /// Refuses with a fault at an offset, if the test `wrong` holds.
     #[tactic(auto, unfolding(mm_model::specs::Places::place_fault))]
     pub fn refuse_if(&self, wrong: bool, kind: ObjectFault, at: usize) -> Result<(), ObjectError>
         ensures fault { Gives (λ _. true) (place_fault (length self.now.bytes.now) (Test (number_of kind) at wrong))
@@ -50,7 +50,7 @@ impl Reader<'_> {
         Ok(())
     }
 
-    /// Whether the field of so many bytes is whole.
+    /// Refuses a field of `size` bytes that the file does not hold whole.
     #[tactic(auto, unfolding(mm_model::specs::Places::place_fault))]
     pub fn whole(&self, at: usize, size: usize) -> Result<(), ObjectError>
         requires { at + size < 2 ^ 64 }
@@ -64,7 +64,7 @@ impl Reader<'_> {
         Ok(())
     }
 
-    /// The number of one byte.
+    /// The number of the byte at an offset.
     pub fn u8_at(&self, at: usize) -> Result<u8, ObjectError>
         requires { at + 1 < 2 ^ 64 }
         ensures number { let bytes = self.now.bytes.now in Gives (λ n. n) (place_fault (length bytes) (Field at 1))
@@ -75,7 +75,7 @@ impl Reader<'_> {
         Ok(self.number_1(at))
     }
 
-    /// The number of two bytes.
+    /// The number of the two bytes at an offset.
     pub fn u16_at(&self, at: usize) -> Result<u16, ObjectError>
         requires { at + 2 < 2 ^ 64 }
         ensures number { let bytes = self.now.bytes.now in Gives (λ n. n) (place_fault (length bytes) (Field at 2))
@@ -86,7 +86,7 @@ impl Reader<'_> {
         Ok(self.number_2(at))
     }
 
-    /// The number of four bytes.
+    /// The number of the four bytes at an offset.
     pub fn u32_at(&self, at: usize) -> Result<u32, ObjectError>
         requires { at + 4 < 2 ^ 64 }
         ensures number { let bytes = self.now.bytes.now in Gives (λ n. n) (place_fault (length bytes) (Field at 4))
@@ -97,7 +97,7 @@ impl Reader<'_> {
         Ok(self.number_4(at))
     }
 
-    /// The number of a byte that is there.
+    /// The number of a byte that the file holds.
     #[tactic(auto, using(crate::proofs::Numbers::byte_1))]
     pub fn number_1(&self, at: usize) -> u8
         requires { at + 1 ≤ length self.now.bytes.now }
@@ -106,7 +106,7 @@ impl Reader<'_> {
         self.bytes[at]
     }
 
-    /// The number of two bytes that are there.
+    /// The number of two bytes that the file holds.
     #[tactic(auto, using(crate::proofs::Numbers::bytes_2))]
     pub fn number_2(&self, at: usize) -> u16
         requires { at + 2 ≤ length self.now.bytes.now }
@@ -115,7 +115,7 @@ impl Reader<'_> {
         u16::from_be_bytes([self.bytes[at], self.bytes[at + 1]])
     }
 
-    /// The number of four bytes that are there.
+    /// The number of four bytes that the file holds.
     #[tactic(auto, using(crate::proofs::Numbers::bytes_4))]
     pub fn number_4(&self, at: usize) -> u32
         requires { at + 4 ≤ length self.now.bytes.now }
@@ -125,7 +125,7 @@ impl Reader<'_> {
         u32::from_be_bytes([field[0], field[1], field[2], field[3]])
     }
 
-    /// The number of eight bytes that are there.
+    /// The number of eight bytes that the file holds.
     #[tactic(auto, using(crate::proofs::Numbers::bytes_8))]
     pub fn number_8(&self, at: usize) -> u64
         requires { at + 8 ≤ length self.now.bytes.now }
@@ -137,7 +137,7 @@ impl Reader<'_> {
         ])
     }
 
-    /// The permission of a byte that is there.
+    /// The permission whose code is a byte that the file holds; `None` if the byte is no code.
     pub fn perm(&self, at: usize) -> Option<Perm>
         requires { at + 1 ≤ length self.now.bytes.now }
         ensures { result ≡ perm_of (number_at self.now.bytes.now at 1) }
@@ -145,7 +145,7 @@ impl Reader<'_> {
         Perm::from_code(u64::from(self.number_1(at)))
     }
 
-    /// The target of six bytes that are there.
+    /// The target in six bytes that the file holds.
     pub fn target(&self, at: usize) -> Target
         requires { at + 6 ≤ length self.now.bytes.now }
         ensures { result ≡ target_at self.now.bytes.now at }

@@ -54,7 +54,7 @@ fn pointers_fit(
         && are_used(segments.len(), externals, relocs, threads)
 }
 
-// Whether each of so many externals, behind so many segments, is a target.
+// Whether each external is a target. The externals are counted after the segments.
 fn are_used(segments: usize, externals: usize, relocs: &[Reloc], threads: &[Thread]) -> bool
     requires { externals ≤ 1024 }
     ensures { IsTrue result ↔ AreUsed segments externals (targets_of relocs.now threads.now) }

@@ -11,10 +11,10 @@ use crate::fault::{ObjectError, ObjectFault};
 use crate::fields::Reader;
 use crate::limits::{EXTERNAL_LIMIT, SEGMENT_LIMIT, SPARE_LIMIT, THREAD_LIMIT};
 
-/// How long the header is, and where the segments begin.
+/// The length of the header in bytes, which is where the segments begin.
 pub(crate) const HEADER_BYTES: usize = 16;
 
-/// What the header says.
+/// The fields of the header.
 #[derive(Clone, Copy)]
 pub(crate) struct Header {
     pub segments: u16,
@@ -51,7 +51,7 @@ impl Reader<'_> {
         })
     }
 
-    // A number of two bytes that is not above a limit.
+    // The number of two bytes at an offset, if it is not above a limit.
     fn count(&self, at: usize, limit: usize) -> Result<u16, ObjectError>
         requires { at ≤ 14 }
         ensures count { let bytes = self.now.bytes.now in Gives (λ n. n)

@@ -1,3 +1,5 @@
+//! The words of segments.
+
 /// A word of a segment, and whether its cell is full.
 #[derive(Clone, Copy, Debug, PartialEq, Eq)]
 pub struct Item {

@@ -1,4 +1,4 @@
-//! The names of segments, found in a few steps.
+//! Lookup of the names of segments.
 
 ghost use Rattle.std.specs.Prelude.{◌≡◌, IfOk};
 ghost use Rattle.mm_object.specs.Objects.{is_among, names_of};
@@ -23,7 +23,7 @@ pub(crate) fn known_names(
     Ok(known)
 }
 
-/// Whether a name is one of these.
+/// Whether a name is among known names.
 pub(crate) fn is_known(known: &BTreeSet<&[u8]>, name: &Name) -> bool
     ensures { result ≡ is_among name.now (bytes_of known.now.keys) }
 {

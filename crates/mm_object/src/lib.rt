@@ -1,26 +1,28 @@
 //! Object files, read and written.
 //!
-//! An object is what an assembler makes and a linker takes: named segments of words, names that it does not have
-//! itself, words that become pointers once the segments are placed, threads, and how many spare frames a machine is to
-//! have. [`read`] gives the object that the bytes of a file spell, or the number and the place of the first fault.
-//! [`write`] gives the one spelling of an object, which is read as the same object again. [`Object::new`] makes an
-//! object of its parts.
+//! An object is what an assembler makes and a linker takes: named segments of words; names that it uses and does not
+//! define; words that become pointers once the segments are placed; threads; and the count of spare frames that a
+//! machine is to have. [`read`] gives the object that the bytes of a file spell, or the number and the offset of the
+//! first fault. [`write`] gives the one spelling of an object, which is read as the same object again. [`Object::new`]
+//! makes an object of its parts.
 //!
-//! The file, whose numbers have their greatest byte first and whose bitmaps have their first bit lowest:
+//! The file, whose numbers have their most significant byte first and whose bitmaps have their first bit lowest:
 //!
 //! | bytes | field |
 //! |---|---|
 //! | 4 | `MMO1` |
 //! | 2 | version, 1 |
-//! | 2 | how many segments, 0 to 256 |
-//! | 2 | how many externals, 0 to 1,024 |
-//! | 2 | how many relocations |
-//! | 2 | how many threads, 0 to 16 |
+//! | 2 | count of segments, 0 to 256 |
+//! | 2 | count of externals, 0 to 1,024 |
+//! | 2 | count of relocations |
+//! | 2 | count of threads, 0 to 16 |
 //! | 2 | spare frames, 0 to 256 |
-//! | a segment | length of the name (1), name, logarithm of the length in bytes, 3 to 20 (1), how many words (4), which are full (a bit each), the words (8 each) |
+//! | a segment | length of the name (1), name, logarithm of the length in bytes, 3 to 20 (1), count of words (4), |
+//! | | which words are full (a bit each), the words (8 each) |
 //! | an external | length of the name (1), name |
 //! | 13 a relocation | segment (2), word (4), permission (1), target (2), addend (4) |
-//! | 140 a thread | slot, group, handler or 255, and permission, a byte each; target (2), addend (4); which registers become pointers (2); 16 registers (128) |
+//! | 140 a thread | slot, group, handler or 255, and permission, a byte each; target (2), addend (4); |
+//! | | which registers become pointers (2); 16 registers (128) |
 //!
 //! A register that becomes a pointer has permission (1), zero (1), target (2) and addend (4); any other is an integer.
 //! The format is this project's profile.

@@ -1,4 +1,4 @@
-//! How much an object may have.
+//! The limits of an object.
 
 pub(crate) const SEGMENT_LIMIT: usize = 256;
 
@@ -10,7 +10,7 @@ pub(crate) const THREAD_LIMIT: usize = 16;
 
 pub(crate) const SPARE_LIMIT: u16 = 256;
 
-/// How many words all segments may have together.
+/// The most words of all segments together.
 pub(crate) const WORD_LIMIT: usize = 131_072;
 
 /// The least and the greatest logarithm of a segment's length in bytes.
@@ -18,5 +18,5 @@ pub(crate) const LEAST_LOG: u8 = 3;
 
 pub(crate) const GREATEST_LOG: u8 = 20;
 
-/// How many numbers of slots and groups there are.
+/// The count of slots, and of groups. Their numbers are below it.
 pub(crate) const SLOT_LIMIT: u8 = 16;

@@ -1,3 +1,5 @@
+//! Names of segments and of externals.
+
 ghost use Rattle.std.specs.Prelude.{◌≡◌, ◌≤◌, true, IsTrue, length};
 ghost use Rattle.std.specs.Option.{SomeIff};
 ghost use Rattle.std.specs.List.{list_all};
@@ -7,7 +9,7 @@ ghost use Rattle.mm_object.specs.Objects.{same_name};
 use arrayvec::ArrayVec;
 use std::marker::Model;
 
-/// How many bytes a name has at most.
+/// The most bytes of a name.
 pub(crate) const NAME_BYTES: usize = 31;
 
 /// A name of 1 to 31 bytes: a letter or `_`, then letters, digits or `_`. Contracts see its bytes.
@@ -28,7 +30,7 @@ impl Model for Name {
 }
 
 impl Name {
-    /// The name of these bytes. None exactly where they are no name.
+    /// The name of these bytes. `None` exactly if they are no name.
     pub fn new(bytes: &[u8]) -> Option<Name>
         ensures { SomeIff result (is_name bytes.now ≡ true) bytes.now }
     {
@@ -40,7 +42,7 @@ impl Name {
         Some(Name { bytes: name })
     }
 
-    /// Its bytes.
+    /// The bytes of the name.
     pub fn bytes(&self) -> &[u8]
         ensures bytes { result.now ≡ self.now }
         ensures name { is_name self.now ≡ true }
@@ -48,7 +50,7 @@ impl Name {
         self.bytes.as_slice()
     }
 
-    /// A name that is the same.
+    /// A copy of the name.
     pub fn copy(&self) -> Name
         ensures { result ≡ self.now }
     {
@@ -93,7 +95,7 @@ pub(crate) fn is_same(a: &Name, b: &Name) -> bool
     a.bytes() == b.bytes()
 }
 
-/// Whether one name stands before another in the order of bytes.
+/// Whether one name is before another in the order of bytes.
 pub(crate) fn is_before(a: &[u8], b: &[u8]) -> bool
     ensures { result ≡ is_before a.now b.now }
 {

@@ -1,4 +1,4 @@
-//! The names of an object file.
+//! The records of names of an object file.
 
 ghost use Rattle.std.specs.Prelude.{◌≡◌, ◌==◌, ◌||◌, nat_lt, ◌+◌, ◌≤◌, IfOk, OnOk, take, drop, length, vec_len, true};
 ghost use Rattle.std.specs.Prelude.{false, MatchOption};
@@ -18,7 +18,7 @@ use crate::segment::Segment;
 use std::alloc::Global;
 use std::collections::BTreeSet;
 
-/// How long the record of a name is.
+/// The length in bytes of the record of a name.
 pub(crate) fn name_size(name: &Name) -> usize
     ensures size { result ≡ 1 + length name.now }
     ensures small { result ≤ 32 }
@@ -26,14 +26,14 @@ pub(crate) fn name_size(name: &Name) -> usize
     1 + name.bytes().len()
 }
 
-// Whether no name has so many bytes.
+// Whether no name has `size` bytes.
 fn is_bad_size(size: usize) -> bool
     ensures { result ≡ (size == 0 || nat_lt 31 size) }
 {
     size == 0 || size > NAME_BYTES
 }
 
-// Whether the last of the names does not stand before another one.
+// Whether a name is not after the last of other names.
 fn is_late(names: &[Name], name: &Name) -> bool
     ensures { result ≡ is_late names.now name.now }
 {
@@ -43,7 +43,7 @@ fn is_late(names: &[Name], name: &Name) -> bool
     }
 }
 
-// Whether a name is that of a segment, or does not stand behind the names before it.
+// Whether a name is that of a segment, or is not after the names before it.
 fn is_bad_external(known: &BTreeSet<&[u8]>, names: &[Name], name: &Name) -> bool
     ensures { result ≡ (is_among name.now (bytes_of known.now.keys) || is_late names.now name.now) }
 {
@@ -51,7 +51,7 @@ fn is_bad_external(known: &BTreeSet<&[u8]>, names: &[Name], name: &Name) -> bool
 }
 
 impl Reader<'_> {
-    /// The name whose record begins here.
+    /// The name whose record begins at an offset.
     #[tactic(auto, unfolding(mm_model::specs::Places::place_fault))]
     pub fn name(&self, at: usize) -> Result<Name, ObjectError>
         requires { at ≤ length self.now.bytes.now }
@@ -70,7 +70,7 @@ impl Reader<'_> {
         }
     }
 
-    // The name of so many bytes that are there.
+    // The name of `size` bytes that the file holds, if they are a name.
     fn form(&self, at: usize, size: usize) -> Option<Name>
         requires whole { at + size ≤ length self.now.bytes.now }
         requires short { size ≤ 31 }
@@ -80,7 +80,7 @@ impl Reader<'_> {
         Name::new(&self.bytes[at..at + size])
     }
 
-    // The name of an external, behind the names before it. The names of segments are known.
+    // The name of an external, after the names before it. `known` has the names of the segments.
     fn external(
         &self,
         known: &BTreeSet<&[u8]>,
@@ -103,7 +103,7 @@ impl Reader<'_> {
 }
 
 impl Reader<'_> {
-    /// So many externals from a place on, and where they end.
+    /// The `count` externals from an offset on, and the offset of their end.
     pub fn externals(
         &self,
         alloc: Global,

@@ -13,8 +13,8 @@ use crate::target::{Reloc, Target};
 use crate::thread::Thread;
 use std::marker::Model;
 
-/// What an assembler makes: segments of words, names that it does not have itself, words that become pointers when it
-/// is placed, threads, and how many frames a machine is to have beside those of its pages.
+/// What an assembler makes: segments of words, names that it uses and does not define, words that become pointers when
+/// it is placed, threads, and the count of frames that a machine is to have in addition to those of its pages.
 #[derive(Drop)]
 pub struct Object {
     pub(crate) segments: Vec<Segment>,
@@ -35,14 +35,14 @@ impl Model for Object {
     ghost invariant = { λ o. IsObject (object_from o.segments.items o.externals.items o.relocs.items o.threads.items o.spare) };
 }
 
-// Where a relocation stands: its segment, and then its word.
+// The place of a relocation: its segment, and then its word.
 fn place(segment: u16, word: u32) -> u64
     ensures { result ≡ segment * 2 ^ 32 + word }
 {
     (u64::from(segment) << 32) + u64::from(word)
 }
 
-// The relocation of a word among those that rise, and its place there, found by halving.
+// The relocation of a word among relocations that rise by place, and its index there, found by binary search.
 fn reloc_in(relocs: &[Reloc], segment: u16, word: u32) -> Option<(usize, Reloc)>
     requires rising { IsStrictlyIncreasing (map place_of relocs.now) }
     requires small { HaveSmallWords relocs.now }
@@ -57,7 +57,7 @@ fn reloc_in(relocs: &[Reloc], segment: u16, word: u32) -> Option<(usize, Reloc)>
     }
 }
 
-// The relocation of a word, if it stands at a place among those that rise.
+// The relocation at an index among relocations that rise by place, if it is that of the word.
 fn reloc_standing(relocs: &[Reloc], at: usize, segment: u16, word: u32) -> Option<Reloc>
     requires { IsStrictlyIncreasing (map place_of relocs.now) }
     ensures reloc { IfSome result (λ reloc. find (is_at segment word) relocs.now ≡ Some reloc) }
@@ -82,11 +82,12 @@ impl Object {
     ghost use Rattle.mm_object.specs.Objects.{IsObject};
     ghost use Rattle.mm_object.specs.Fits.{object_from};
 
-    /// The object of these parts. None exactly where they make no object: more than 256 segments, 1,024 externals,
-    /// 65,535 relocations, 16 threads or 256 spare frames, a segment whose length is not 2^3 to 2^20 bytes or that has
-    /// more words than room, more than 131,072 words, a name that is there twice, externals that do not ascend or that
-    /// nothing points to, relocations or threads that do not ascend, a word that is relocated and is not 0, a target
-    /// that is none, or a thread whose slot, group, handler or permission is none.
+    /// The object of these parts. `None` exactly if they make no object: more than 256 segments, 1,024 externals,
+    /// 65,535 relocations, 16 threads or 256 spare frames; a segment whose length is not 2^3 to 2^20 bytes or that has
+    /// more words than room; more than 131,072 words; a name that two segments have, or a segment and an external;
+    /// externals that do not ascend or that nothing points to; relocations or threads that do not ascend; a word that
+    /// is relocated and is not 0; a target that is none; or a thread whose slot, group, handler or permission is not
+    /// valid.
     pub fn new(
         segments: Vec<Segment>,
         externals: Vec<Name>,
@@ -110,7 +111,7 @@ impl Object {
         })
     }
 
-    /// Its segments.
+    /// The segments of the object.
     pub fn segments(&self) -> &[Segment]
         ensures segments { result.now ≡ self.now.segments }
         ensures object { IsObject self.now }
@@ -118,7 +119,7 @@ impl Object {
         self.segments.as_slice()
     }
 
-    /// The names that it does not have itself, in ascending order.
+    /// The names that the object uses and does not define, in ascending order.
     pub fn externals(&self) -> &[Name]
         ensures externals { result.now ≡ self.now.externals }
         ensures object { IsObject self.now }
@@ -126,7 +127,7 @@ impl Object {
         self.externals.as_slice()
     }
 
-    /// Its words that become pointers, by segment and place.
+    /// The words of the object that become pointers, by segment and place.
     pub fn relocs(&self) -> &[Reloc]
         ensures relocs { result.now ≡ self.now.relocs }
         ensures object { IsObject self.now }
@@ -134,7 +135,7 @@ impl Object {
         self.relocs.as_slice()
     }
 
-    /// Its threads, by slot.
+    /// The threads of the object, by slot.
     pub fn threads(&self) -> &[Thread]
         ensures threads { result.now ≡ self.now.threads }
         ensures object { IsObject self.now }
@@ -142,7 +143,7 @@ impl Object {
         self.threads.as_slice()
     }
 
-    /// How many frames a machine is to have beside those of its pages.
+    /// The count of frames that a machine is to have in addition to those of its pages.
     pub fn spare(&self) -> u16
         ensures spare { result ≡ self.now.spare }
         ensures object { IsObject self.now }
@@ -150,7 +151,7 @@ impl Object {
         self.spare
     }
 
-    /// The name that a target goes by: that of a segment or, behind all segments, an external.
+    /// The name of a target: that of a segment or, after all segments, an external.
     #[tactic(auto, unfolding(crate::specs::Lookups::name_of_target))]
     pub fn target_name(&self, target: Target) -> &Name
         requires { target.index < length self.now.segments + length self.now.externals }
@@ -174,8 +175,8 @@ impl Object {
         Some(reloc)
     }
 
-    /// The relocation of a word, if it has one, with its place among the relocations. The place `near` is looked at
-    /// first, so that words in their order are found at once.
+    /// The relocation of a word, if it has one, with its index among the relocations. The index `near` is tried first,
+    /// so that words in their order are found at once.
     #[tactic(auto, unfolding(crate::specs::Lookups::reloc_at))]
     pub fn reloc_near(&self, near: usize, segment: u16, word: u32) -> Option<(usize, Reloc)>
         ensures reloc { option_map (λ found. found.1) result ≡ reloc_at self.now segment word }
@@ -187,7 +188,7 @@ impl Object {
         }
     }
 
-    /// What the type of each object keeps. Nothing is done.
+    /// Gives the invariant of each object's type to a proof. Nothing is done.
     pub fn typed(objects: &[Object])
         ensures { AllByRecursion IsObject objects.now }
     {

@@ -21,13 +21,14 @@ use crate::thread_records::THREAD_BYTES;
 use crate::uses::uses;
 use std::alloc::Global;
 
-/// The object that the bytes of a file spell, or the first fault that is met when its fields are read from the front.
+/// The object that the bytes of a file spell, or the first fault of its fields in their order. `NoMemory` comes if
+/// memory ran out.
 pub fn read(alloc: Global, bytes: &[u8]) -> Result<Object, ObjectError>
-    // What is read is spelled so, and what is spelled so is read.
+    // The object that is read is spelled by the bytes, and an object that the bytes spell is read.
     ensures spelled { IfOk result (λ o. Spells bytes.now o) }
     ensures again { (o : ObjectValue) → Spells bytes.now o → IsUnlessNoMemory o result }
 
-    // A fault that is answered is the first one, and where there is one it is answered.
+    // A fault that is answered is the first one, and if there is one it is answered.
     ensures fault { (kind : ObjectFault) (offset : ℕ) → result ≡ Err (ObjectError.Fault kind offset)
         → object_fault bytes.now ≡ Some (number_of kind, offset) }
     ensures first { (number offset : ℕ) → object_fault bytes.now ≡ Some (number, offset)
@@ -36,7 +37,7 @@ pub fn read(alloc: Global, bytes: &[u8]) -> Result<Object, ObjectError>
     read_parts(alloc, bytes)
 }
 
-// `read`, part by part.
+// The object of a file, read part by part.
 fn read_parts(alloc: Global, bytes: &[u8]) -> Result<Object, ObjectError>
     ensures { Gives (λ o. o) (object_fault bytes.now) (object_of bytes.now) result }
 {
@@ -82,7 +83,7 @@ fn read_parts(alloc: Global, bytes: &[u8]) -> Result<Object, ObjectError>
 }
 
 impl Reader<'_> {
-    // Tests that each external, whose names begin at a place, is a target.
+    // Tests that each external is a target. The names of the externals begin at an offset.
     fn uses(
         &self,
         segments: usize,
@@ -109,7 +110,7 @@ impl Reader<'_> {
         Ok(())
     }
 
-    // Whether the file ends here.
+    // Tests that the file ends at an offset.
     fn nothing_follows(&self, end: usize) -> Result<(), ObjectError>
         ensures { let bytes = self.now.bytes.now in Gives (λ _. true)
             (first_bad (length bytes) (end_places bytes 9 end)) true result }

@@ -1,4 +1,4 @@
-//! The relocations of an object file.
+//! The records of relocations of an object file.
 
 ghost use Rattle.std.specs.Prelude.{◌≡◌, ◌+◌, ◌*◌, ◌≤◌, true, false, not, nat_lt, ◌||◌, MatchOption, IfOk, OnOk, length};
 ghost use Rattle.std.specs.Prelude.{vec_len};
@@ -16,10 +16,10 @@ use crate::segment::Segment;
 use crate::target::Reloc;
 use std::alloc::Global;
 
-/// How long the record of a relocation is.
+/// The length in bytes of the record of a relocation.
 pub(crate) const RELOC_BYTES: usize = 13;
 
-// Whether a relocation does not replace a word that is 0 by a pointer to a target, or stands lower than a place.
+// Whether a relocation does not replace a word that is 0 by a pointer to a target, or has a place below `least`.
 fn is_bad_reloc(segments: &[Segment], externals: u16, least: u64, reloc: Reloc) -> bool
     ensures { result ≡ (not (is_reloc segments.now externals reloc) || nat_lt (place_of reloc) least) }
 {
@@ -27,7 +27,7 @@ fn is_bad_reloc(segments: &[Segment], externals: u16, least: u64, reloc: Reloc) 
 }
 
 impl Reader<'_> {
-    // What a record that is there says, if it has a permission.
+    // The relocation of a record that the file holds, if the record has a permission.
     fn reloc_record(&self, at: usize) -> Option<Reloc>
         requires { at + 13 ≤ length self.now.bytes.now }
         ensures { MatchOption result (is_perm self.now.bytes.now (at + 6) ≡ false)
@@ -42,7 +42,7 @@ impl Reader<'_> {
         })
     }
 
-    // The relocation whose record begins here. It stands no lower than a place.
+    // The relocation whose record begins at an offset. Its place is at least `least`.
     #[tactic(auto, unfolding(mm_model::specs::Places::place_fault))]
     fn reloc(
         &self,
@@ -64,7 +64,7 @@ impl Reader<'_> {
         }
     }
 
-    /// So many relocations from a place on.
+    /// The `count` relocations from an offset on.
     pub fn relocs(
         &self,
         alloc: Global,

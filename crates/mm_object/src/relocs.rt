@@ -10,7 +10,7 @@ use crate::limits::{GREATEST_LOG, RELOC_LIMIT};
 use crate::segment::Segment;
 use crate::target::{Reloc, Target};
 
-/// Whether relocations are those of an object of these segments and so many externals.
+/// Whether relocations are those of an object of these segments and this count of externals.
 pub(crate) fn relocs_fit(segments: &[Segment], externals: usize, relocs: &[Reloc]) -> bool
     requires { externals < 2 ^ 32 }
     ensures { IsTrue result ↔ RelocsFit segments.now externals relocs.now }
@@ -51,7 +51,7 @@ fn has_zero(segments: &[Segment], segment: u16, word: u32) -> bool
     word < segment.items.len() && segment.items[word].bits == 0
 }
 
-/// Whether a target is a segment, at an offset within it, or one of so many externals.
+/// Whether a target is a segment, at an offset within its length, or an external, at an offset below 2^20.
 pub(crate) fn is_target(segments: &[Segment], externals: usize, target: Target) -> bool
     requires { externals < 2 ^ 32 }
     ensures { result ≡ is_target segments.now externals target }
@@ -71,7 +71,7 @@ fn has_room(log: u8, offset: u32) -> bool
     log >= 32 || offset < 1 << log
 }
 
-/// Where a relocation replaces a word: its segment, and then its word.
+/// The place of a relocation: its segment, and then its word.
 pub(crate) fn place_of(reloc: Reloc) -> u64
     ensures place { result ≡ place_of reloc }
     ensures small { result < 2 ^ 48 }
@@ -79,7 +79,7 @@ pub(crate) fn place_of(reloc: Reloc) -> u64
     (u64::from(reloc.segment) << 32) + u64::from(reloc.word)
 }
 
-// Whether each relocation stands behind the one before.
+// Whether each relocation is after the one before it.
 fn in_order(relocs: &[Reloc]) -> bool
     ensures { IsTrue result ↔ IsStrictlyIncreasing (map place_of relocs.now) }
 {

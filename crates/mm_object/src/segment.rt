@@ -1,3 +1,5 @@
+//! The segments of an object.
+
 use crate::item::Item;
 use crate::name::Name;
 use std::marker::Model;

@@ -20,7 +20,7 @@ use crate::segment::Segment;
 use crate::segments::{has_name, is_log, room};
 use std::alloc::Global;
 
-// How long the record of a segment is.
+// The length in bytes of the record of a segment.
 fn segment_size(segment: &Segment) -> usize
     requires { length segment.now.items ≤ 131072 }
     ensures size { result ≡ segment_size segment.now }
@@ -29,7 +29,7 @@ fn segment_size(segment: &Segment) -> usize
     name_size(&segment.name) + 5 + (count + 7) / 8 + 8 * count
 }
 
-// Whether so many words are more than an object may have, behind so many others.
+// Whether `words` and `count` words together are more than an object may have.
 fn are_many(words: usize, count: u32) -> bool
     requires { words ≤ 131072 }
     ensures { result ≡ nat_lt 131072 (words + count) }
@@ -38,7 +38,7 @@ fn are_many(words: usize, count: u32) -> bool
 }
 
 impl Reader<'_> {
-    // The logarithm of a segment's length.
+    // The logarithm of a segment's length in bytes.
     fn log(&self, at: usize) -> Result<u8, ObjectError>
         requires { at ≤ length self.now.bytes.now }
         ensures log { let bytes = self.now.bytes.now in Gives (λ n. n) (first_bad (length bytes) (log_places bytes at))
@@ -51,7 +51,7 @@ impl Reader<'_> {
         Ok(log)
     }
 
-    // How many words a segment of this length has, behind so many others.
+    // The count of words of a segment of this length, after segments of `words` words.
     fn word_count(&self, log: u8, words: usize, at: usize) -> Result<u32, ObjectError>
         requires place { at ≤ length self.now.bytes.now }
         requires log { log ≤ 20 }
@@ -67,7 +67,7 @@ impl Reader<'_> {
         Ok(count)
     }
 
-    // Tests the bitmap of so many words.
+    // Tests the bitmap of `count` words.
     fn bitmap(&self, count: u32, at: usize) -> Result<(), ObjectError>
         requires place { at ≤ length self.now.bytes.now }
         requires header { 16 ≤ at }
@@ -85,7 +85,7 @@ impl Reader<'_> {
         )
     }
 
-    // Whether the last byte of a bitmap of so many bits has one that stands for none.
+    // Whether the last byte of a bitmap has a bit set that belongs to none of `count` words.
     fn has_unused_bit(&self, count: u32, at: usize) -> bool
         requires { at + (count + 7) / 8 ≤ length self.now.bytes.now }
         ensures { result ≡ has_unused_bit self.now.bytes.now at count }
@@ -93,7 +93,7 @@ impl Reader<'_> {
         count % 8 != 0 && self.number_1(at + count as usize / 8) >= 1 << (count % 8)
     }
 
-    // A bit of those from a place on, the lowest of each byte first.
+    // Whether a bit of a bitmap is set, the lowest bit of each byte first.
     fn bit(&self, at: usize, place: usize) -> bool
         requires { at + place / 8 < length self.now.bytes.now }
         ensures { result ≡ bit_at self.now.bytes.now at place }
@@ -101,7 +101,7 @@ impl Reader<'_> {
         is_set(u16::from(self.number_1(at + place / 8)), place % 8)
     }
 
-    // So many words, and which of them are full.
+    // The `count` words at an offset, with the bits that say which of them are full.
     fn items(
         &self,
         alloc: Global,
@@ -128,7 +128,7 @@ impl Reader<'_> {
         Ok(items)
     }
 
-    /// The segment whose record begins here, behind others of so many words.
+    /// The segment whose record begins at an offset, after segments of `words` words.
     fn segment(
         &self,
         alloc: Global,
@@ -157,7 +157,7 @@ impl Reader<'_> {
         Ok(Segment { name, log, items })
     }
 
-    /// So many segments, and where they end.
+    /// The first `count` segments of the file, and the offset of their end.
     pub fn segments(&self, alloc: Global, count: u16) -> Result<(Vec<Segment>, usize), ObjectError>
         requires { 16 ≤ length self.now.bytes.now }
         ensures segments { let bytes = self.now.bytes.now in Gives (λ r. (r.0.items, r.1))

@@ -22,7 +22,7 @@ pub(crate) fn segments_fit(segments: &[Segment]) -> bool
         && has_few_words(segments)
 }
 
-/// Whether names are those that an object of these segments does not have itself.
+/// Whether names are the externals of an object of these segments.
 pub(crate) fn externals_fit(segments: &[Segment], externals: &[Name]) -> bool
     ensures { IsTrue result ↔ ExternalsFit segments.now externals.now }
 {
@@ -30,7 +30,7 @@ pub(crate) fn externals_fit(segments: &[Segment], externals: &[Name]) -> bool
     externals.len() <= EXTERNAL_LIMIT && ascend(externals) && !has_any(segments, externals)
 }
 
-// What the type of each name says. Nothing is done.
+// Gives the invariant of each name's type to a proof. Nothing is done.
 fn hold_names(names: &[Name])
     ensures { list_all is_name names.now ≡ true }
 {
@@ -65,7 +65,7 @@ pub(crate) fn is_log(log: u8) -> bool
     LEAST_LOG <= log && log <= GREATEST_LOG
 }
 
-// What the type of each word says. Nothing is done.
+// Gives the range of each word to a proof. Nothing is done.
 fn hold_words(items: &[Item])
     ensures { AllByRecursion (λ (item : ItemValue). item.bits < 2 ^ 64) items.now }
 {
@@ -80,7 +80,7 @@ fn bits(item: Item) -> u64
     item.bits
 }
 
-/// How many words a segment has room for.
+/// The count of words that a segment has room for.
 pub(crate) fn room(log: u8) -> usize
     requires { log ≤ 20 }
     ensures { result ≡ 2 ^ (log - 3) }
@@ -88,7 +88,7 @@ pub(crate) fn room(log: u8) -> usize
     1 << log.saturating_sub(LEAST_LOG)
 }
 
-// Whether each segment's name is another one.
+// Whether the names of the segments are all different.
 fn are_apart(segments: &[Segment]) -> bool
     ensures { result ≡ are_apart (names_of segments.now) }
 {
@@ -110,7 +110,7 @@ pub(crate) fn has_name(segments: &[Segment], name: &Name) -> bool
     false
 }
 
-// Whether all segments have no more words than an object may have.
+// Whether all segments together have no more words than an object may have.
 fn has_few_words(segments: &[Segment]) -> bool
     ensures { IsTrue result ↔ (words_of segments.now ≤ 131072) }
 {
@@ -124,7 +124,7 @@ fn has_few_words(segments: &[Segment]) -> bool
     true
 }
 
-// Whether each name stands before the next.
+// Whether each name is before the next.
 fn ascend(names: &[Name]) -> bool
     ensures { result ≡ ascend names.now }
 {

@@ -1,4 +1,4 @@
-//! The threads of an object file.
+//! The records of threads of an object file.
 
 ghost use Rattle.std.specs.Prelude.{◌≡◌, ◌==◌, ◌&&◌, ◌+◌, ◌*◌, ◌<◌, ◌≤◌, true, false, not, nat_lt, ◌||◌, if◌then◌else◌};
 ghost use Rattle.std.specs.Prelude.{None, Some, MatchOption, IfOk, OnOk, length, vec_len};
@@ -20,10 +20,10 @@ use crate::threads::is_thread;
 use crate::writing::NO_HANDLER;
 use std::alloc::Global;
 
-/// How long the record of a thread is.
+/// The length in bytes of the record of a thread.
 pub(crate) const THREAD_BYTES: usize = 140;
 
-// Whether a thread is none of the object, or its slot is lower than a number.
+// Whether a thread is no thread of the object, or its slot is below `least`.
 fn is_bad_thread(segments: &[Segment], externals: u16, least: u8, thread: &Thread) -> bool
     ensures { result ≡ (not (is_thread segments.now externals thread.now) || nat_lt thread.now.slot least) }
 {
@@ -31,7 +31,8 @@ fn is_bad_thread(segments: &[Segment], externals: u16, least: u8, thread: &Threa
 }
 
 impl Reader<'_> {
-    // What eight bytes that are there say of a register, if they may.
+    // The value of a register's eight bytes that the file holds. `None` if they are to become a pointer and have no
+    // permission or no zero after it.
     fn value(&self, tagged: bool, at: usize) -> Option<Value>
         requires { at + 8 ≤ length self.now.bytes.now }
         ensures { let bytes = self.now.bytes.now in let bad = tagged && (not (is_perm bytes at) || not
@@ -51,7 +52,7 @@ impl Reader<'_> {
         })
     }
 
-    // The registers of the thread whose record begins here, if they may be so.
+    // The registers of the thread whose record begins at an offset, if each of them has a value.
     fn registers(&self, at: usize) -> Option<[Value; 16]>
         requires { at + 140 ≤ length self.now.bytes.now }
         ensures { let bytes = self.now.bytes.now in MatchOption result (bad_registers bytes at 16 ≡ true)
@@ -66,7 +67,7 @@ impl Reader<'_> {
         Some(regs)
     }
 
-    // The handler of a byte that is there.
+    // The handler of a byte that the file holds.
     fn handler(&self, at: usize) -> Option<u8>
         requires { at + 1 ≤ length self.now.bytes.now }
         ensures { let n = number_at self.now.bytes.now at 1 in result ≡ (if n == 255 then None else Some n) }
@@ -79,7 +80,7 @@ impl Reader<'_> {
         }
     }
 
-    // What a record that is there says, if it has a permission and its registers may be so.
+    // The thread of a record that the file holds, if it has a permission and each register has a value.
     #[tactic(auto, unfolding(crate::specs::Steps::bad_registers))]
     fn thread_record(&self, at: usize) -> Option<Thread>
         requires { at + 140 ≤ length self.now.bytes.now }
@@ -99,7 +100,7 @@ impl Reader<'_> {
         })
     }
 
-    // The thread whose record begins here. Its slot is no lower than a number.
+    // The thread whose record begins at an offset. Its slot is at least `least`.
     #[tactic(auto, unfolding(mm_model::specs::Places::place_fault))]
     fn thread(
         &self,
@@ -122,7 +123,7 @@ impl Reader<'_> {
         }
     }
 
-    /// So many threads from a place on.
+    /// The `count` threads from an offset on.
     pub fn threads(
         &self,
         alloc: Global,

@@ -13,7 +13,7 @@ use crate::segment::Segment;
 use crate::thread::{Thread, Value};
 use mm_word::Kind;
 
-/// Whether threads are those of an object of these segments and so many externals.
+/// Whether threads are those of an object of these segments and this count of externals.
 pub(crate) fn threads_fit(segments: &[Segment], externals: usize, threads: &[Thread]) -> bool
     requires { externals < 2 ^ 32 }
     ensures { IsTrue result ↔ ThreadsFit segments.now externals threads.now }
@@ -35,7 +35,7 @@ fn are_threads(segments: &[Segment], externals: usize, threads: &[Thread]) -> bo
     true
 }
 
-/// Whether a thread is one of an object of these segments and so many externals.
+/// Whether a thread is one of an object of these segments and this count of externals.
 pub(crate) fn is_thread(segments: &[Segment], externals: usize, thread: &Thread) -> bool
     requires { externals < 2 ^ 32 }
     ensures { result ≡ is_thread segments.now externals thread.now }
@@ -91,7 +91,7 @@ fn slots_ascend(threads: &[Thread]) -> bool
     true
 }
 
-/// What the type of each thread says of its registers. Nothing is done.
+/// Gives the invariant of each thread's registers to a proof. Nothing is done.
 pub(crate) fn hold_values(threads: &[Thread])
     ensures { AreWhole threads.now }
 {

@@ -11,7 +11,8 @@ use crate::limits::EXTERNAL_LIMIT;
 use crate::target::{Reloc, Target};
 use crate::thread::{Thread, Value};
 
-/// Of each external, behind so many segments, whether a relocation, a thread or a register has it as its target.
+/// A table that says of each external whether a relocation, a thread or a register has it as its target. The externals
+/// are counted after the segments.
 pub(crate) fn uses(segments: usize, relocs: &[Reloc], threads: &[Thread]) -> [bool; 1024]
     ensures { HoldsUses result segments (targets_of relocs.now threads.now) }
 {
@@ -58,7 +59,7 @@ fn mark_value(used: &mut [bool; 1024], segments: usize, value: Value)
     }
 }
 
-// One target more.
+// Marks the external of a target, if the target is one.
 fn mark(used: &mut [bool; 1024], segments: usize, target: Target)
     ensures { (before : List Target) → HoldsUses used.old segments before
         → HoldsUses used.new segments (before ++ target ∷ []) }

@@ -23,7 +23,7 @@ use std::alloc::{AllocError, Global};
 /// The byte of a thread that has no handler.
 pub(crate) const NO_HANDLER: u8 = 255;
 
-/// The bytes of an object's file. They spell the object, so that it is read from them again.
+/// The bytes of an object's file. They spell the object, so that [`crate::read`] gives it again.
 pub fn write(alloc: Global, o: &Object) -> Result<Vec<u8>, NoMemory>
     ensures written { IfOk result (λ bytes. bytes.items ≡ spelling o.now) }
     ensures spelled { IfOk result (λ bytes. Spells bytes.items o.now) }
@@ -214,7 +214,7 @@ fn put_value(out: &mut Vec<u8>, value: Value) -> Result<(), AllocError>
     Ok(())
 }
 
-// Which of the values become pointers, the first in the lowest bit.
+// The bits of the values that become pointers, the first value lowest.
 fn tags_of(values: &[Value]) -> u16
     requires { length values.now ≤ 16 }
     ensures value { result ≡ number_of_flags (map is_tagged values.now) }
@@ -232,7 +232,7 @@ fn is_tagged(value: Value) -> bool
     matches!(value, Value::Ptr { .. })
 }
 
-// Which of the words are full, the first in the lowest bit.
+// The bits of the words that are full, the first word lowest.
 fn full_bits(items: &[Item]) -> u16
     requires { length items.now ≤ 8 }
     ensures value { result ≡ number_of_flags (map (λ (i : ItemValue). i.full) items.now) }

@@ -1,4 +1,4 @@
--- What is written of the slots of a group, slot by slot, and of the groups, group by group.
+-- The lines of the slots of a group, and the sections of groups.
 use Rattle.std.specs.Prelude.{ℕ, ◌==◌, if◌then◌else◌, List, []}
 use Rattle.std.specs.List.{list_any}
 use Rattle.mm_model.specs.Slot.{Slot}
@@ -6,10 +6,10 @@ use Rattle.mm_model.specs.State.{Core}
 use Rattle.mm_model.specs.Lines.{slot_lines}
 use Rattle.mm_model.specs.Report.{is_of, section}
 
--- the lines of a slot where it is of the group
+-- the lines of a slot, if it is of the group
 abbrev pub member_text : ℕ → Slot → List ℕ
 member_text g s = if s.group == g then slot_lines s else []
 
--- the section of a group where it has a slot
+-- the section of a group, if it has a slot
 abbrev pub group_text : Core → ℕ → List ℕ
 group_text core g = if list_any (is_of g) core.rows then section core g else []

@@ -9,13 +9,13 @@ abbrev pub first : List ℕ → Option ℕ
 first [] = None
 first (x ∷ xs) = Some x
 
--- the lesser of two numbers, where there are such
+-- the lesser of two numbers, if there are two; otherwise the one that is there
 abbrev pub lesser : Option ℕ → Option ℕ → Option ℕ
 lesser None y = y
 lesser (Some x) None = Some x
 lesser (Some x) (Some y) = Some (min x y)
 
--- the list without its first number where it is this one
+-- the list without its first number, if that is this one
 abbrev pub behind : ℕ → List ℕ → List ℕ
 behind n [] = []
 behind n (x ∷ xs) = if x == n then xs else x ∷ xs

@@ -1,4 +1,5 @@
-// The lines of cells that changed.
+//! The lines of cells that changed.
+
 ghost use Rattle.std.specs.Prelude.{◌≡◌, ◌%◌, ◌<◌, ◌^◌, IsTrue, MatchOption, None, length, slice_index_or, true};
 ghost use Rattle.std.specs.List.{AllByRecursion};
 ghost use Rattle.std.specs.Ordering.{nat_cmp};
@@ -16,27 +17,27 @@ use mm_model::{CELLS, Page};
 use mm_text::{Gather, put_cell};
 use mm_word::{Cell, Word};
 
-/// What a cell is compared with where the image has no such page.
+/// The cell with which another is compared if the image does not have its page: integer 0, full.
 const ZERO: Cell = Cell {
     word: Word::Int(0),
     full: true,
 };
 
-/// Whether tag and bits of two words are equal.
+/// Whether two words are equal, tag and bits.
 fn is_same_word(a: Word, b: Word) -> bool
     ensures { result ≡ same_word a b }
 {
     a == b
 }
 
-/// Whether word and bit of two cells are equal.
+/// Whether two cells are equal, word and synchronisation bit.
 fn is_same_cell(a: &Cell, b: &Cell) -> bool
     ensures { result ≡ same_cell a.now b.now }
 {
     is_same_word(a.word, b.word) && a.full == b.full
 }
 
-/// Appends the line of a cell that is not as it was.
+/// Appends the line of a cell that has changed.
 fn put_change<O: Sink>(text: &mut Gather, out: &mut O, word: u64, cell: &Cell, was: &Cell)
     ensures { Gathers O.taken O.faults out.old out.new text.old text.new (change_line word cell.now was.now) }
 {
@@ -45,7 +46,7 @@ fn put_change<O: Sink>(text: &mut Gather, out: &mut O, word: u64, cell: &Cell, w
     }
 }
 
-/// Where a page stands among pages that rise.
+/// The index of a page among pages that ascend.
 pub(crate) fn find_page(pages: &[Page], number: u64) -> Option<usize>
     requires { IsTrue (is_sorted nat_cmp pages.now) }
     ensures { MatchOption result (page_at (contents pages.now) number ≡ None) (IsAt number pages.now) }
@@ -55,7 +56,7 @@ pub(crate) fn find_page(pages: &[Page], number: u64) -> Option<usize>
         .ok()
 }
 
-/// A cell of the image's page, or integer 0, full, where the image has no such page.
+/// A cell of the image's page, or integer 0, full, if the image does not have the page.
 fn cell_of(pages: &[Page], place: Option<usize>, number: u64, index: usize) -> Cell
     requires rising { IsTrue (is_sorted nat_cmp pages.now) }
     requires place { MatchOption place (page_at (contents pages.now) number ≡ None) (IsAt number pages.now) }
@@ -79,7 +80,7 @@ fn cell_there<M: Inspect>(mem: &M, number: u64, index: usize) -> Cell
     mem.peek(number * 4096 + 8 * index as u64).unwrap_or(ZERO)
 }
 
-/// Appends the lines of a mapped page's cells that are not those of the image's page.
+/// Appends the lines of a mapped page's cells that differ from those of the image's page.
 fn put_page_cells<M: Inspect, O: Sink>(
     text: &mut Gather,
     out: &mut O,
@@ -103,7 +104,7 @@ fn put_page_cells<M: Inspect, O: Sink>(
     }
 }
 
-/// Appends the lines of mapped cells that are not the image's.
+/// Appends the lines of mapped cells that differ from the image's.
 pub fn put_cells<M: Inspect, O: Sink>(text: &mut Gather, out: &mut O, mem: &M, pages: &[Page])
     requires rising { IsTrue (is_sorted nat_cmp pages.now) }
     requires whole { AllByRecursion IsPage pages.now }

@@ -1,4 +1,5 @@
-// The line of what a memory counted.
+//! The line of the counts of a memory.
+
 ghost use Rattle.mm_text.specs.Gathers.{Gathers};
 ghost use Rattle.mm_model.specs.Report.{count_line};
 
@@ -6,7 +7,7 @@ use mm_io::Sink;
 use mm_model::Counts;
 use mm_text::{Gather, Piece};
 
-/// Appends what a memory counted, where it counts.
+/// Appends the line of the counts of a memory, if it counts.
 pub fn put_counts<O: Sink>(text: &mut Gather, out: &mut O, counts: Option<Counts>)
     ensures { Gathers O.taken O.faults out.old out.new text.old text.new (count_line counts) }
 {

@@ -1,15 +1,16 @@
-// What a group has put out.
+//! The lines of a group's output.
+
 ghost use Rattle.mm_text.specs.Gathers.{Gathers};
 ghost use Rattle.mm_model.specs.Lines.{output_lines, output_row, bytes_text};
 
 use mm_io::Sink;
 use mm_text::{Gather, Piece};
 
-/// How many bytes stand on a line.
+/// The most bytes on a line.
 const ROW: usize = 32;
 
-/// Appends the bytes that a group has put out: lines `o HEX` of 32 bytes each, two digits a byte,
-/// and maybe fewer bytes on the last line. No bytes have no line.
+/// Appends the bytes that a group has put out: lines `o HEX` of 32 bytes each, two digits a byte; the last line may
+/// have fewer. No bytes have no line.
 pub fn put_output<O: Sink>(text: &mut Gather, out: &mut O, bytes: &[u8])
     ensures { Gathers O.taken O.faults out.old out.new text.old text.new (output_lines bytes.now) }
 {

@@ -1,4 +1,5 @@
-// The lines of pages that were mapped or removed.
+//! The lines of pages that were mapped or removed.
+
 ghost use Rattle.std.specs.Prelude.{◌≡◌, ◌<◌, ◌≤◌, ◌^◌, ◌+◌, IsTrue, IsSome, drop, length};
 ghost use Rattle.std.specs.List.{AllByRecursion};
 ghost use Rattle.std.specs.Ordering.{nat_cmp};
@@ -15,7 +16,7 @@ use mm_mem::Inspect;
 use mm_model::Page;
 use mm_text::{Gather, Piece};
 
-/// Appends the line of a page that is mapped now and was not, or the other way round.
+/// Appends the line of a page that was mapped or removed.
 fn put_page_change<O: Sink>(text: &mut Gather, out: &mut O, number: u64, now: bool, was: bool)
     ensures { Gathers O.taken O.faults out.old out.new text.old text.new (page_change number now was) }
 {
@@ -63,7 +64,7 @@ fn mapped_at<M: Inspect>(mem: &M, i: u32) -> Option<u64>
     }
 }
 
-/// The number of the image's page at a place.
+/// The number of the image's page at an index.
 fn had_at(pages: &[Page], j: usize) -> Option<u64>
     ensures { result ≡ first (drop j (numbers pages.now)) }
 {
@@ -74,7 +75,7 @@ fn had_at(pages: &[Page], j: usize) -> Option<u64>
     }
 }
 
-/// The lesser of two numbers, where there are such.
+/// The lesser of two numbers, if there are two; otherwise the one that is there.
 fn lesser(now: Option<u64>, was: Option<u64>) -> Option<u64>
     ensures { result ≡ lesser now was }
 {
@@ -85,7 +86,7 @@ fn lesser(now: Option<u64>, was: Option<u64>) -> Option<u64>
     }
 }
 
-/// The place behind a number, where it stands at the place i of the mapped pages.
+/// The index after `i` if the mapped page at `i` has the number, and else `i`.
 fn mapped_behind<M: Inspect>(mem: &M, i: u32, number: u64) -> u32
     requires { i ≤ length (M.meaning mem.now).pages }
     ensures place { result ≤ length (M.meaning mem.now).pages }
@@ -99,7 +100,7 @@ fn mapped_behind<M: Inspect>(mem: &M, i: u32, number: u64) -> u32
     }
 }
 
-/// The same of the image's pages.
+/// The index after `j` if the image's page at `j` has the number, and else `j`.
 fn had_behind(pages: &[Page], j: usize, number: u64) -> usize
     requires { j ≤ length pages.now }
     ensures place { result ≤ length pages.now }

@@ -1,4 +1,5 @@
-// The section of each group: its output and its slots.
+//! The section of each group: its output and its slots.
+
 ghost use Rattle.std.specs.Prelude.{◌≡◌};
 ghost use Rattle.std.specs.List.{flat_map, filter, list_any};
 ghost use Rattle.mm_text.specs.Gathers.{Gathers};
@@ -14,7 +15,7 @@ use mm_mem::Memory;
 use mm_model::Slot;
 use mm_text::{Gather, Piece, put_slot};
 
-/// How many groups there can be.
+/// The count of groups that there can be.
 const GROUPS: u8 = 64;
 
 /// Whether a group has a slot.
@@ -44,7 +45,7 @@ fn put_group<O: Sink>(text: &mut Gather, out: &mut O, group: u8, count: u64)
     );
 }
 
-/// Appends the lines of a slot where it is of the group.
+/// Appends the lines of a slot, if it is of the group.
 fn put_member<O: Sink>(text: &mut Gather, out: &mut O, slot: &Slot, group: u8)
     ensures { Gathers O.taken O.faults out.old out.new text.old text.new (member_text group slot.now) }
 {
@@ -73,7 +74,7 @@ fn put_section<M: Memory, O: Sink>(text: &mut Gather, out: &mut O, m: &Machine<M
     put_members(text, out, m, group);
 }
 
-/// Appends the section of a group where it has a slot.
+/// Appends the section of a group, if it has a slot.
 fn put_group_text<M: Memory, O: Sink>(text: &mut Gather, out: &mut O, m: &Machine<M>, group: u8)
     ensures { Gathers O.taken O.faults out.old out.new text.old text.new (group_text (state_of m.now).core group) }
 {

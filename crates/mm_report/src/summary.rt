@@ -1,4 +1,5 @@
-// The report of a machine against its image.
+//! The report of a machine against its image.
+
 ghost use Rattle.std.specs.Prelude.{List, Option};
 ghost use Rattle.mm_io.specs.Sinks.{Writes};
 ghost use Rattle.mm_model.specs.declared.counts.Counts.{Counts};
@@ -16,19 +17,19 @@ use mm_machine::Machine;
 use mm_mem::Inspect;
 use mm_text::{Gather, put_cycles};
 
-/// Writes the report of a machine against an image: the number of cycles; for each group that has a slot its output and its slots;
-/// the pages that were mapped or removed; the cells that changed; and what the memory counted, where it counts. At a [`WriteFault`]
-/// the sink took a prefix.
+/// Writes the report of a machine against an image: the total of cycles; for each group that has a slot its output and
+/// its slots; the pages that were mapped or removed; the cells that changed; and the counts of the memory, if it
+/// counts. After a [`WriteFault`] the sink has taken a prefix of the report.
 pub fn report<M: Inspect, O: Sink>(
     m: &Machine<M>,
     img: &Image,
     out: &mut O,
 ) -> Result<(), WriteFault>
 
-    // Of every machine: all of the text but for what the line of counts tells, and when a `WriteFault` comes.
+    // For every machine, all of the text except the line of counts, and when a `WriteFault` comes.
     ensures text { (counts : Option Counts) × Writes O.taken O.faults out.old out.new (report_of (state_of m.now) img.now counts) result }
 
-    // What the line of counts tells.
+    // The line of counts.
     ensures counts { (us : List Use) → StandsTo m.now us → Writes O.taken O.faults out.old out.new (report_of (state_of m.now) img.now (M.tells us)) result }
 {
     let mem = m.memory();

@@ -1,4 +1,5 @@
-// The line of a cycle in a trace.
+//! The line of a cycle in a trace.
+
 ghost use Rattle.std.specs.Prelude.{◌++◌, codes, decimal};
 ghost use Rattle.mm_io.specs.Sinks.{Writes};
 ghost use Rattle.mm_text.specs.Gathers.{Gathers};
@@ -12,13 +13,14 @@ use mm_word::{Access, GuardedPtr, Kind, Word};
 
 /// Writes the line of a cycle in a trace:
 ///
-/// - `t S T OUTCOME` for a turn of the slot S, its turn number T, and ` fetch A`, one of ` load A`, ` loadset A`,
-///   ` store A`, and ` enter WORD` where there are such. The outcome is `did`, `blocked`, or `faulted` with the number of
-///   the fault;
-/// - `m S K` where the port of the slot S delivered to its register K;
+/// - `t S T OUTCOME` for a turn of slot S, its turn number T, then ` fetch A`, one of ` load A`, ` loadset A`,
+///   ` store A`, and ` enter WORD`, each if there was one. The outcome is `did`, `blocked`, or `faulted` with the
+///   number of the fault;
+/// - `m S K` if the port of slot S delivered to its register K;
 /// - nothing for an idle cycle.
 ///
-/// `turn` is how many turns the slot has taken, this one included. At a [`WriteFault`] the sink took a front part.
+/// `turn` is the count of turns that the slot has taken, with this one. After a [`WriteFault`] the sink has taken a
+/// prefix of the line.
 pub fn trace_line<O: Sink>(step: &Step, turn: u64, out: &mut O) -> Result<(), WriteFault>
     ensures { Writes O.taken O.faults out.old out.new (step_line turn step.now step.now.tick) result }
 {
@@ -94,7 +96,7 @@ fn put_outcome<O: Sink>(text: &mut Gather, out: &mut O, tick: Tick)
     }
 }
 
-/// Appends an access, where there is one.
+/// Appends an access, if there is one.
 fn put_touch<O: Sink>(text: &mut Gather, out: &mut O, access: Option<Access>)
     ensures { Gathers O.taken O.faults out.old out.new text.old text.new (touch_text access) }
 {
@@ -116,7 +118,7 @@ fn put_kind<O: Sink>(text: &mut Gather, out: &mut O, kind: Kind)
     text.put_piece(out, &Piece::Text(name));
 }
 
-/// Appends the enter pointer that was entered, where one was.
+/// Appends the enter pointer that was entered, if one was.
 fn put_entry<O: Sink>(text: &mut Gather, out: &mut O, entered: Option<GuardedPtr>)
     ensures { Gathers O.taken O.faults out.old out.new text.old text.new (enter_text entered) }
 {

@@ -16,21 +16,21 @@ use mm_text::{Gather, Piece};
 use mm_word::NoMemory;
 use std::alloc::Global;
 
-/// How many states the ring holds.
+/// The most states that the ring holds.
 const RING_SIZE: usize = 8;
 
-/// How far the total has to be from that of the newest state in the ring, for a line to be due.
+/// The least difference between the total and that of the newest state in the ring with which a line is due.
 const FAR: u64 = 1_000;
 
 /// The most cycles that one line goes back.
 const MAX_BACK: u64 = 1_000_000;
 
-/// A session that can go back, with the state at its start and a ring of 8 states on its way.
+/// A session that can go back. It keeps the state at its start, and up to 8 later states in a ring.
 ///
-/// A line is due where the total before it differs by 1,000 or more from that of the newest state in the ring, or from
-/// 0 where the ring is empty. The state before a due line is put into the ring, and the oldest state falls out of a
-/// full one. It may be left out instead: that is meant for want of memory, but no clause ties it to that. No line fails
-/// for want of memory.
+/// A line is due if the total before it differs by 1,000 or more from that of the newest state in the ring, or from 0
+/// if the ring is empty. The state before a due line is put into the ring, and the oldest state falls out of a full
+/// one. The contract also lets the ring stay as it was, which is meant for want of memory; no line fails for want of
+/// memory.
 #[derive(Drop)]
 pub struct Recorder<M: Memory> {
     alloc: Global,
@@ -53,14 +53,14 @@ impl<M: Reset> Recorder<M> {
     ghost use Rattle.mm_save.specs.Recorder.{Recalls, recalled, recorded, bare, IsKept, AreKept, totals_before, gone_back};
     ghost use Rattle.mm_save.specs.Shown.{recording_of};
 
-    /// A recorder of a session that has issued nothing yet. The ring is empty.
+    /// A recorder of a session that has issued nothing. The ring is empty. `NoMemory` comes if memory ran out.
     pub fn new(alloc: Global, session: Session<M>) -> Result<Recorder<M>, NoMemory>
         requires { total_of (session_of session) ≡ 0 }
         ensures session { IfOk result (λ r. (recording_of r).session ≡ session_of session) }
         ensures first { IfOk result (λ r. (recording_of r).first ≡ bare (session_of session)) }
         ensures empty { IfOk result (λ r. (recording_of r).kept ≡ []) }
 
-        // It stands for every image for which the session does.
+        // The recorder stands for every image for which the session does.
         ensures stands { (i : Image) → StandsFor i (session_of session)
             → IfOk result (λ r. Recalls i (recording_of r)) }
     {
@@ -93,10 +93,10 @@ impl<M: Reset> Recorder<M> {
         }
     }
 
-    /// Carries out a line, which is handed over without its newline, and writes its reply: `back N`, with N 1 to
-    /// 1,000,000, goes back K cycles, the least of N and the total, with the reply `back K total C`, C the new total.
-    /// Breaks and watches stay. Each other line is the session's. At a [`WriteFault`] the sink took a front part of the
-    /// reply; the recorder goes on as after any line.
+    /// Carries out a line, which is given without its newline, and writes its reply. The line `back N`, N 1 to
+    /// 1,000,000, goes back K cycles, the lesser of N and the total, and replies `back K total C`, C the new total.
+    /// Breaks and watches stay. Each other line is the session's. After a [`WriteFault`] the sink has taken a prefix of
+    /// the reply; the recorder goes on as after any line.
     pub fn line<O: Sink>(&mut self, text: &[u8], out: &mut O) -> Result<Go, WriteFault>
         ensures session { let r = recording_of self.old in
             (recording_of self.new).session ≡ (recalled r.first r.session text.now).session }
@@ -108,11 +108,11 @@ impl<M: Reset> Recorder<M> {
         ensures go { let r = recording_of self.old in
             IfOk result (λ go. go ≡ (recalled r.first r.session text.now).go) }
 
-        // A line `back N` lowers the total by the least of N and the total.
+        // A line `back N` lowers the total by the lesser of N and the total.
         ensures total { let was = total_of (recording_of self.old).session in (n : ℕ) → back_of text.now ≡ Some n
             → total_of (recording_of self.new).session ≡ was - min n was }
 
-        // It stands for every image for which it stood.
+        // The recorder stands for every image for which it stood.
         ensures stands { (i : Image) → Recalls i (recording_of self.old) → Recalls i (recording_of self.new) }
     {
         let mut reply = Gather::new();
@@ -121,8 +121,8 @@ impl<M: Reset> Recorder<M> {
         Ok(go)
     }
 
-    /// Carries out the lines of an input up to its end or a `quit`, and writes their replies. At a [`WriteFault`] all
-    /// lines are carried out too, and the sink took a front part of the replies.
+    /// Carries out the lines of an input up to its end or a `quit`, and writes their replies. Also if a [`WriteFault`]
+    /// comes, all lines are carried out, and the sink has taken a prefix of the replies.
     pub fn lines<O: Sink>(&mut self, input: &[u8], out: &mut O) -> Result<(), WriteFault>
         ensures session { let r = recording_of self.old in
             (recording_of self.new).session ≡ (recorded r.first r.session input.now).session }
@@ -164,7 +164,7 @@ impl<M: Reset> Recorder<M> {
         }
     }
 
-    /// Where a line is due, keeps the state of the session, or leaves the ring as it was.
+    /// If a line is due, keeps the state of the session, or leaves the ring as it was.
     fn keep(&mut self)
         ensures session { (recording_of self.new).session ≡ (recording_of self.old).session }
         ensures first { (recording_of self.new).first ≡ (recording_of self.old).first }
@@ -182,7 +182,7 @@ impl<M: Reset> Recorder<M> {
         }
     }
 
-    /// Goes back so many cycles: to the latest state that is kept and not later, and from there on.
+    /// Goes back `count` cycles: to the latest kept state that is not later, and forward from there.
     fn go_back(&mut self, count: u64)
         requires { count ≤ total_of (recording_of self.old).session }
         ensures session { let r = recording_of self.old in
@@ -207,7 +207,7 @@ impl<M: Reset> Recorder<M> {
         }
     }
 
-    /// The place in the ring of the latest state that is not later than so many cycles.
+    /// The index in the ring of the latest state whose total is at most `total`.
     fn latest(&self, total: u64) -> Option<usize>
         ensures { IfSome result (λ at. IsSomeAnd (slice_get self.now.ring.items at) (λ p. total_at p ≤ total)) }
     {
@@ -236,7 +236,7 @@ impl<M: Reset> LineHandler for Recorder<M> {
     }
 }
 
-/// How many cycles a line `back N` asks to go back; none of any other line.
+/// The count of cycles that a line `back N` asks to go back; `None` for any other line.
 fn back_of(line: &[u8]) -> Option<u64>
     ensures { result ≡ back_of line.now }
 {
@@ -249,7 +249,7 @@ fn back_of(line: &[u8]) -> Option<u64>
     count_of(word, number(count))
 }
 
-/// How many cycles a word and a number ask to go back.
+/// The count of cycles that a word and a number ask to go back.
 fn count_of(word: &[u8], number: Option<u64>) -> Option<u64>
     ensures { result ≡ (if bytes_eq word.now (codes "back") then count_of number else None) }
 {

@@ -1,4 +1,4 @@
--- The next of a set of numbers, round and round.
+-- The next of a set of numbers, cyclically.
 use Rattle.std.specs.Prelude.{◌≡◌, ◌⊎◌, ℕ, ◌<◌, Bool, true, nat_lt, Option, Some, None}
 use Rattle.std.specs.Int.{bit_at}
 
@@ -16,7 +16,7 @@ any_number n = true
 abbrev pub NoneAbove : ℕ → ℕ → Type 0
 NoneAbove mask last = (m : ℕ) → last < m → bit_at mask m ≡ 1 → ⊥
 
--- n is the next number after the last one whose bit is set, cyclically; at the beginning the least
+-- n is the next number after the last one, cyclically, whose bit is set; at the beginning the least
 abbrev pub IsNext : ℕ → Option ℕ → ℕ → Type 0
 IsNext mask None n = IsLeast mask any_number n
 IsNext mask (Some last) n = IsLeast mask (nat_lt last) n ⊎ (NoneAbove mask last × IsLeast mask any_number n)

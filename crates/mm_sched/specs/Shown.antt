@@ -13,6 +13,6 @@ runs (Some s) = is_running s.state
 abbrev pub runs_at : Core → ℕ → Bool
 runs_at core n = runs (slot_at core n)
 
--- bit n of the mask is set exactly where slot n runs
+-- bit n of the mask is set exactly if slot n runs
 pub record Shows (core : Core) (mask : ℕ) : Type 0 where
   pub each : (n : ℕ) → (bit_at mask n ≡ 1) ↔ (runs_at core n ≡ true)

@@ -1,9 +1,11 @@
+//! Round robin.
+
 ghost use Rattle.std.specs.Prelude.{◌≡◌, ◌≢◌, ◌↔◌, ◌<◌, ◌+◌, ◌^◌, IsSome, IfSome, Some, None};
 ghost use Rattle.mm_sched.specs.Following.{IsNext, IsLeast, NoneAbove};
 
 use std::marker::Model;
 
-/// Round robin: the next running slot after the last one that was issued, cyclically by number, and at first the least.
+/// Round robin: the next running slot after the last one that was issued, cyclically by number; at first the least.
 /// Contracts see the last one.
 #[derive(Clone, Copy, Debug, PartialEq, Eq)]
 pub struct Robin {
@@ -30,7 +32,7 @@ impl Robin {
         Robin { last: None }
     }
 
-    /// One that goes on after this slot, or begins with the least.
+    /// A round robin that goes on after this slot, or begins with the least.
     pub fn after(last: Option<u8>) -> Robin
         requires { IfSome last (λ n. n < 64) }
         ensures { result ≡ last }
@@ -38,8 +40,7 @@ impl Robin {
         Robin { last }
     }
 
-    /// The slot that comes next, where bit `s` of the mask is set for each running slot `s`: none exactly where none is
-    /// set.
+    /// The slot that comes next. Bit `s` of the mask is set for each running slot `s`. `None` exactly if no bit is set.
     pub fn peek(&self, running: u64) -> Option<u8>
         ensures some { IsSome result ↔ (running ≢ 0) }
         ensures next { IfSome result (IsNext running self.now) }
@@ -57,7 +58,7 @@ impl Robin {
         }
     }
 
-    /// The same, and it is issued.
+    /// Issues the slot that comes next, as [`Robin::peek`] gives it.
     pub fn next(&mut self, running: u64) -> Option<u8>
         ensures some { IsSome result ↔ (running ≢ 0) }
         ensures next { IfSome result (λ n. IsNext running self.old n × (self.new ≡ Some n)) }

@@ -1,4 +1,5 @@
-// The runs of bytes between blanks and comments.
+//! The runs of bytes between blanks and comments.
+
 ghost use Rattle.std.specs.Prelude.{◌≡◌, ◌<◌, ◌≤◌, ◌∷◌, length, slice_range, slice_index_or, false, true, IsTrue};
 ghost use Rattle.mm_model.specs.Schedule.{is_blank as blank};
 ghost use Rattle.mm_sched.specs.Places.{runs_at, runs_in, is_word_byte};
@@ -9,7 +10,7 @@ fn is_blank(b: u8) -> bool
     b == b'\t' || b == b'\n' || b == b'\r' || b == b' '
 }
 
-/// Where the first run of bytes begins that are neither blank nor in a comment, from a place on that is in no comment;
+/// The start of the first run of bytes that are neither blank nor in a comment, from a place on that is in no comment;
 /// or the end of the text.
 pub fn run_start(bytes: &[u8], from: usize) -> usize
     requires { from ≤ length bytes.now }
@@ -32,7 +33,7 @@ pub fn run_start(bytes: &[u8], from: usize) -> usize
     at
 }
 
-/// Where the line ends, at its newline or with the text, of a comment that goes on at a place.
+/// The end of the line of a comment that goes on at a place: its newline, or the end of the text.
 fn line_end(bytes: &[u8], from: usize) -> usize
     requires { from ≤ length bytes.now }
     ensures from { from ≤ result }
@@ -47,7 +48,7 @@ fn line_end(bytes: &[u8], from: usize) -> usize
     bytes.len()
 }
 
-/// Where the run ends that begins at a place.
+/// The end of the run that begins at a place.
 pub fn run_end(bytes: &[u8], from: usize) -> usize
     requires inside { from < length bytes.now }
     requires begins { is_word_byte (slice_index_or bytes.now from 0) ≡ true }

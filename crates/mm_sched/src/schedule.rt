@@ -1,3 +1,5 @@
+//! Schedules, and the orders in which cycles are issued.
+
 ghost use Rattle.std.specs.Prelude.{◌≡◌, ◌↔◌, ◌≤◌, IsSome, IfSome, IfOk, length, take, ◌==◌};
 ghost use Rattle.std.specs.List.{filter, list_any};
 
@@ -8,8 +10,8 @@ use std::marker::Model;
 /// The most items of a schedule.
 pub const ITEM_LIMIT: usize = 1_000_000;
 
-/// A list of at most 1,000,000 items. An item names a slot or, in a split machine, is 128 more than the number of the
-/// slot whose port it is. Contracts see the list.
+/// A list of at most 1,000,000 items. An item is the number of a slot or, in a split machine, 128 more than the number
+/// of the slot whose port it is. Contracts see the list.
 #[derive(Drop)]
 pub struct Schedule {
     pub(crate) items: Vec<u8>,
@@ -26,7 +28,7 @@ impl Model for Schedule {
     ghost invariant = { λ s. length s.items.items ≤ item_limit };
 }
 
-/// In which order cycles are issued.
+/// The order in which cycles are issued.
 #[derive(Drop)]
 pub enum Order {
     /// The next running slot after the last one, cyclically by number.
@@ -38,7 +40,7 @@ pub enum Order {
 impl Schedule {
     ghost use Rattle.mm_model.specs.Schedule.{item_limit};
 
-    /// The schedule of these items: none exactly where there are more than 1,000,000.
+    /// The schedule of these items. `None` exactly if there are more than 1,000,000.
     pub fn new(items: Vec<u8>) -> Option<Schedule>
         ensures made { IsSome result ↔ (length items.items ≤ item_limit) }
         ensures value { IfSome result (λ s. s ≡ items.items) }
@@ -50,7 +52,7 @@ impl Schedule {
         }
     }
 
-    /// Its items, in order.
+    /// The schedule's items, in order.
     pub fn items(&self) -> &[u8]
         ensures items { result.now ≡ self.now }
         ensures limit { length result.now ≤ item_limit }
@@ -59,7 +61,7 @@ impl Schedule {
     }
 }
 
-/// Of the first `count` items, those that are among the members. Order and repeats stay.
+/// The schedule of those of the first `count` items that are among the members. Order and repeats stay.
 pub fn only(alloc: Global, s: &Schedule, count: u64, members: &[u8]) -> Result<Schedule, NoMemory>
     ensures { IfOk result
         (λ kept. kept ≡ filter (λ item. list_any (λ member. member == item) members.now) (take count s.now)) }

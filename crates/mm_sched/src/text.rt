@@ -1,4 +1,5 @@
-// A schedule's text.
+//! Schedules read from text.
+
 ghost use Rattle.std.specs.Prelude.{◌≡◌, ◌⊎◌, ℕ, ◌++◌, List, IfOk, OnOk, Ok, Err, replicate};
 ghost use Rattle.mm_model.specs.Schedule.{Means, FaultsAt};
 
@@ -11,7 +12,7 @@ use std::alloc::Global;
 /// Why a text is no schedule.
 #[derive(Clone, Copy, Debug, PartialEq, Eq, thiserror::Error)]
 pub enum SchedError {
-    /// The first run that is no item, or that brings the number of items above 1,000,000, begins here.
+    /// The first run that is no item, or that brings the count of items above 1,000,000, begins at `offset`.
     #[error("schedule fault at {offset}")]
     Fault { offset: u64 },
     #[error("out of memory")]
@@ -25,7 +26,7 @@ fn fault(at: usize) -> SchedError
     SchedError::Fault { offset: at as u64 }
 }
 
-/// Appends so many items of a number.
+/// Appends `count` items of a number.
 fn append(items: &mut Vec<u8>, number: u8, count: u32) -> Result<(), NoMemory>
     ensures { OnOk result (items.new.items ≡ items.old.items ++ replicate count number) }
 {
@@ -37,8 +38,8 @@ fn append(items: &mut Vec<u8>, number: u8, count: u32) -> Result<(), NoMemory>
     Ok(())
 }
 
-/// The schedule that a text means: items `N` or `N*K` between blanks, and comments from `#` to the end of the line.
-/// Want of memory is the one answer that needs no cause.
+/// The schedule that a text means: items `N` or `N*K` between blanks, and comments from `#` to the end of the line. A
+/// text that means none has a fault. `NoMemory` comes if memory ran out.
 pub fn parse(alloc: Global, bytes: &[u8]) -> Result<Schedule, SchedError>
     ensures means { IfOk result (λ s. Means bytes.now s) }
     ensures fault { (offset : ℕ) → result ≡ Err (SchedError.Fault offset) → FaultsAt bytes.now offset }
@@ -49,7 +50,7 @@ pub fn parse(alloc: Global, bytes: &[u8]) -> Result<Schedule, SchedError>
     ensures refuses { (offset : ℕ) → FaultsAt bytes.now offset → (result ≡ Err (SchedError.Fault offset))
         ⊎ (result ≡ Err SchedError.NoMemory) }
 {
-    // Room for one item of each word: a byte at least stands between two words.
+    // Room for one item of each word: at least one byte is between two words.
     let room = bytes.len().div_ceil(2).min(ITEM_LIMIT);
     let Ok(mut items) = Vec::with_capacity(alloc, room) else {
         return Err(SchedError::NoMemory);

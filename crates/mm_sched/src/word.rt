@@ -1,4 +1,5 @@
-// One word of a schedule.
+//! The words of a schedule.
+
 ghost use Rattle.std.specs.Prelude.{◌≡◌, ◌≢◌, ℕ, ◌+◌, ◌-◌, ◌*◌, ◌<◌, ◌≤◌, List, decimal, IfSome, IsNone, MatchOption};
 ghost use Rattle.std.specs.Char.{IsAsciiDigit};
 ghost use Rattle.mm_model.specs.Schedule.{IsItem};
@@ -6,7 +7,7 @@ ghost use Rattle.mm_sched.specs.Numbers.{Begins, IsCount};
 
 use crate::ITEM_LIMIT;
 
-/// A number of at most `most`, in decimal digits without a leading zero.
+/// The number of at most `most` that a text is, in decimal digits without a leading zero.
 pub fn number(digits: &[u8], most: u64) -> Option<u64>
     ensures some { IfSome result (λ n. (digits.now ≡ decimal n) × (n ≤ most)) }
     ensures none { IsNone result → (n : ℕ) → n ≤ most → digits.now ≢ decimal n }
@@ -15,8 +16,8 @@ pub fn number(digits: &[u8], most: u64) -> Option<u64>
     if rest.is_empty() { Some(number) } else { None }
 }
 
-/// The number of at most `most` with which a text begins, in decimal digits without a leading zero, and what stands
-/// behind them.
+/// The number of at most `most` with which a text begins, in decimal digits without a leading zero, and the text after
+/// them.
 fn leading_number(text: &[u8], most: u64) -> Option<(u64, &[u8])>
     ensures some { IfSome result (λ read. Begins text.now read.0 read.1.now × (read.0 ≤ most)) }
     ensures none { IsNone result → (n : ℕ) (rest : List ℕ) → n ≤ most → ¬ (Begins text.now n rest) }
@@ -33,7 +34,7 @@ fn leading_number(text: &[u8], most: u64) -> Option<(u64, &[u8])>
     Some((number, &text[end..]))
 }
 
-/// A number with one digit more, where that is at most `most`.
+/// A number with one digit more, if that is at most `most`.
 fn with_digit(number: u64, digit: u8, most: u64) -> Option<u64>
     requires { IsAsciiDigit digit }
     ensures { MatchOption result (most < number * 10 + (digit - 48)) (λ more. (more ≡ number * 10 + (digit - 48))
@@ -45,7 +46,7 @@ fn with_digit(number: u64, digit: u8, most: u64) -> Option<u64>
     if more <= most { Some(more) } else { None }
 }
 
-/// The number of a word `N` or `N*K`, and how many items of it the word says; none where it is no item.
+/// The number of a word `N` or `N*K`, and its count of items; `None` if the word is no item.
 pub fn item(word: &[u8]) -> Option<(u8, u32)>
     ensures some { IfSome result (λ said. IsItem word.now said.0 said.1) }
     ensures none { IsNone result → (n count : ℕ) → ¬ IsItem word.now n count }
@@ -55,7 +56,7 @@ pub fn item(word: &[u8]) -> Option<(u8, u32)>
     Some((name as u8, count as u32))
 }
 
-/// How many items a word says by what stands behind its number.
+/// The count of items that a word says after its number.
 fn count_behind(rest: &[u8]) -> Option<u64>
     ensures some { IfSome result (λ count. IsCount rest.now count) }
     ensures none { IsNone result → (count : ℕ) → ¬ (IsCount rest.now count) }

@@ -15,7 +15,7 @@ pub record IsSegment (s : ℕ × ℕ) : Type 0 where
   pub aligned : s.0 / 2 ^ s.1 * 2 ^ s.1 ≡ s.0
   pub below : s.0 < 2 ^ 54
 
--- each address of the one is an address of the other
+-- each address of the first segment is an address of the second
 abbrev pub LiesIn : ℕ × ℕ → ℕ × ℕ → Type 0
 LiesIn s t = (t.0 ≤ s.0) × (end_of s ≤ end_of t)
 
@@ -24,11 +24,11 @@ pub record IsSet (xs : List (ℕ × ℕ)) : Type 0 where
   pub segments : (k : ℕ) → k < length xs → IsSegment (segment_at xs k)
   pub rise : (i j : ℕ) → i < j → j < length xs → end_of (segment_at xs i) ≤ (segment_at xs j).0
 
--- all of the segments have ended at the address
+-- all segments end at or before the address
 abbrev pub IsBehind : List (ℕ × ℕ) → ℕ → Type 0
 IsBehind xs a = (k : ℕ) → k < length xs → end_of (segment_at xs k) ≤ a
 
--- the segment lies in one of them
+-- the segment lies in one of the list
 pub record SomeHolds (xs : List (ℕ × ℕ)) (s : ℕ × ℕ) : Type 0 where
   pub at : ℕ
   pub small : at < length xs
@@ -39,19 +39,19 @@ pub record IsMaximal (inserted xs : List (ℕ × ℕ)) : Type 0 where
   pub from : (k : ℕ) → k < length xs → Contains inserted (segment_at xs k)
   pub holds : (s : ℕ × ℕ) → Contains inserted s → SomeHolds xs s
 
--- how many segments end at or before the address
+-- the count of segments that end at or before the address
 pub record EndsBy (xs : List (ℕ × ℕ)) (a r : ℕ) : Type 0 where
   pub fits : r ≤ length xs
   pub before : (k : ℕ) → k < r → end_of (segment_at xs k) ≤ a
   pub after : (k : ℕ) → r ≤ k → k < length xs → a < end_of (segment_at xs k)
 
--- how many segments begin before the address
+-- the count of segments that begin before the address
 pub record BeginsBy (xs : List (ℕ × ℕ)) (a r : ℕ) : Type 0 where
   pub fits : r ≤ length xs
   pub before : (k : ℕ) → k < r → (segment_at xs k).0 < a
   pub after : (k : ℕ) → r ≤ k → k < length xs → a ≤ (segment_at xs k).0
 
--- those from i up to j lie in the segment, and it lies in none
+-- the segments from i up to j lie in the new one, and the new one lies in none
 pub record IsPlace (xs : List (ℕ × ℕ)) (s : ℕ × ℕ) (i j : ℕ) : Type 0 where
   pub ends : EndsBy xs s.0 i
   pub begins : BeginsBy xs (end_of s) j
@@ -66,7 +66,7 @@ pub record Covered (xs : List (ℕ × ℕ)) (a : ℕ) : Type 0 where
   pub by : ℕ
   pub at : At xs by a
 
--- the least address that both cover
+-- the least address that both lists cover
 pub record IsLeast (xs ys : List (ℕ × ℕ)) (a : ℕ) : Type 0 where
   pub left : Covered xs a
   pub right : Covered ys a

@@ -1,4 +1,5 @@
-// One segment more.
+//! Inserts into a set of segments.
+
 ghost use Rattle.std.specs.Prelude.{◌≡◌, ◌<◌, ◌≤◌, ◌∷◌, ◌++◌, take, drop, length, IsTrue, ◌↔◌, MatchOption, OnOk, OnErr};
 ghost use Rattle.mm_seg.specs.Segments.{IsSet, IsSegment, IsMaximal, IsPlace, SomeHolds, LiesIn, segment_at};
 
@@ -15,7 +16,7 @@ fn remove_range(items: &mut Vec<(u64, u8)>, i: usize, j: usize)
     items.truncate(items.len() - (j - i));
 }
 
-/// Puts the segment in place of those from `i` up to `j`.
+/// Replaces the segments from `i` up to `j` by the segment `s`.
 fn replace(items: &mut Vec<(u64, u8)>, i: usize, j: usize, s: (u64, u8)) -> Result<(), NoMemory>
     requires order { i ≤ j }
     requires within { j ≤ length items.old.items }
@@ -33,7 +34,7 @@ fn replace(items: &mut Vec<(u64, u8)>, i: usize, j: usize, s: (u64, u8)) -> Resu
     Ok(())
 }
 
-/// Whether the other segment lies in the one at `i`.
+/// Whether the segment `s` lies in the one at `i`, if there is one.
 fn lies_in(items: &[(u64, u8)], i: usize, s: (u64, u8)) -> bool
     requires set { IsSet items.now }
     requires segment { IsSegment s }
@@ -48,7 +49,7 @@ fn lies_in(items: &[(u64, u8)], i: usize, s: (u64, u8)) -> bool
     }
 }
 
-/// Which segments the new one is put in place of, unless it lies in one of them.
+/// The range of segments that the new one replaces; `None` if it lies in one of the set.
 fn places(items: &[(u64, u8)], s: (u64, u8)) -> Option<(usize, usize)>
     requires set { IsSet items.now }
     requires segment { IsSegment s }

@@ -6,7 +6,7 @@ pub fn holds_all_inserts()
     ensures { HoldsAllInserts }
 {}
 
-/// The set covers an address exactly where an inserted segment has it.
+/// The set covers an address exactly if an inserted segment has it.
 pub fn covers_all_inserts()
     ensures { CoversAllInserts }
 {}

@@ -1,10 +1,11 @@
-// What two sets share.
+//! What two sets of segments share.
+
 ghost use Rattle.std.specs.Prelude.{MatchOption};
 ghost use Rattle.mm_seg.specs.Segments.{IsSet, IsLeast, AreApart};
 
 use crate::search::end;
 
-/// The least address that is in segments of both.
+/// The least address that is in segments of both sets; `None` if there is none.
 pub fn least(xs: &[(u64, u8)], ys: &[(u64, u8)]) -> Option<u64>
     requires left { IsSet xs.now }
     requires right { IsSet ys.now }

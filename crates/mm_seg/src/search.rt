@@ -1,8 +1,9 @@
-// Places in a list of segments, found by halving.
+//! Positions in a list of segments, found by binary search.
+
 ghost use Rattle.std.specs.Prelude.{◌≡◌, ◌<◌, ◌≤◌, ◌↔◌, IsTrue};
 ghost use Rattle.mm_seg.specs.Segments.{IsSet, IsSegment, EndsBy, BeginsBy, end_of, Covered};
 
-/// Where the segment ends.
+/// The end of a segment: the address after its last.
 pub fn end(s: (u64, u8)) -> u64
     requires { IsSegment s }
     ensures { result ≡ end_of s }
@@ -10,7 +11,7 @@ pub fn end(s: (u64, u8)) -> u64
     s.0 + (1u64 << s.1)
 }
 
-/// How many of the segments end at or before the address.
+/// The count of segments that end at or before the address.
 pub fn ends_by(items: &[(u64, u8)], a: u64) -> usize
     requires { IsSet items.now }
     ensures { EndsBy items.now a result }
@@ -28,7 +29,7 @@ pub fn ends_by(items: &[(u64, u8)], a: u64) -> usize
     lo
 }
 
-/// How many of the segments begin before the address.
+/// The count of segments that begin before the address.
 pub fn begins_by(items: &[(u64, u8)], a: u64) -> usize
     requires { IsSet items.now }
     ensures { BeginsBy items.now a result }

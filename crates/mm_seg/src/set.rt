@@ -1,3 +1,5 @@
+//! A set of segments that grows by inserts.
+
 ghost use Rattle.std.specs.Prelude.{◌≡◌, ◌∷◌, ◌++◌, [], ◌↔◌, IsTrue, MatchOption, OnOk, OnErr};
 
 use crate::insert::insert;
@@ -28,7 +30,7 @@ impl Model for SegSet {
 impl SegSet {
     ghost use Rattle.mm_seg.specs.Segments.{IsSet, IsSegment, IsMaximal, IsBehind, Covered, IsLeast, AreApart};
 
-    /// No segment.
+    /// The set without segments.
     pub fn new(alloc: Global) -> SegSet
         ensures { result ≡ [] }
     {
@@ -37,7 +39,7 @@ impl SegSet {
         }
     }
 
-    /// The segments.
+    /// The segments, ascending by base.
     pub fn items(&self) -> &[(u64, u8)]
         ensures items { result.now ≡ self.now }
         ensures set { IsSet self.now }
@@ -45,8 +47,9 @@ impl SegSet {
         self.items.as_slice()
     }
 
-    /// Adds the segment: one that lies in a kept one changes nothing, else those that lie in it go.
-    /// An insert at the end is cheap; one further to the front moves what comes after it.
+    /// Adds a segment. One that lies in a segment of the set changes nothing; otherwise the
+    /// segments that lie in it are removed. An insert at the end is cheap; an earlier one moves the
+    /// segments after it. At an error the set is unchanged.
     pub fn insert(&mut self, base: u64, log: u8) -> Result<(), NoMemory>
         requires { IsSegment (base, log) }
         ensures ok { OnOk result (IsMaximal ((base, log) ∷ self.old) self.new) }
@@ -55,7 +58,8 @@ impl SegSet {
         insert(&mut self.items, (base, log))
     }
 
-    /// Adds a segment that begins at or behind the end of all others.
+    /// Adds a segment that begins at or after the end of all others. At an error the set is
+    /// unchanged.
     pub fn push(&mut self, base: u64, log: u8) -> Result<(), NoMemory>
         requires segment { IsSegment (base, log) }
         requires behind { IsBehind self.old base }
@@ -76,7 +80,7 @@ impl SegSet {
         covered(&self.items, word)
     }
 
-    /// The least word that both sets cover.
+    /// The least word that both sets cover; `None` if there is none.
     pub fn meets(&self, other: &SegSet) -> Option<u64>
         ensures { MatchOption result (AreApart self.now other.now) (IsLeast self.now other.now) }
     {

@@ -1,4 +1,4 @@
--- The text of who holds a pointer whose segment meets a range.
+-- The text of the holders of pointers whose segments meet a range.
 use Rattle.std.specs.Prelude.{ℕ, ◌+◌, ◌*◌, if◌then◌else◌, List, [], ◌∷◌, ◌++◌, codes, decimal}
 use Rattle.std.specs.List.{flat_map}
 use Rattle.mm_word.specs.declared.word.Word.{Word}
@@ -10,7 +10,7 @@ use Rattle.mm_model.specs.Slot.{Slot}
 use Rattle.mm_model.specs.Image.{Image}
 use Rattle.mm_sweep.specs.Swept.{word_meets}
 
--- a line of a place and the pointer there, where its segment meets the range
+-- the line of a place and the pointer there, if its segment meets the range
 abbrev pub holder_line : ℕ × ℕ → (place : List ℕ) → Word → List ℕ
 holder_line range place word = if word_meets range word then place ++ codes " " ++ word_text word ++ newline else []
 
@@ -23,17 +23,17 @@ register_place slot register = codes "reg " ++ decimal slot ++ codes " " ++ deci
 abbrev pub cell_place : ℕ → List ℕ
 cell_place address = codes "cell " ++ hex 14 address
 
--- the lines of a slot's registers, from this one on
+-- the lines of a slot's registers, from a register on
 abbrev pub register_holders : ℕ × ℕ → (slot register : ℕ) → List Word → List ℕ
 register_holders range slot register [] = []
 register_holders range slot register (word ∷ words) =
     holder_line range (register_place slot register) word ++ register_holders range slot (register + 1) words
 
--- the instruction pointer's line stands before the registers'
+-- the lines of a slot: its instruction pointer, and then its registers
 abbrev pub slot_holders : ℕ × ℕ → Slot → List ℕ
 slot_holders range s = holder_line range (ip_place s.number) (Ptr s.ip) ++ register_holders range s.number 0 s.regs
 
--- the lines of cells, from this address on
+-- the lines of cells, from an address on
 abbrev pub cell_holders : ℕ × ℕ → (address : ℕ) → List Cell → List ℕ
 cell_holders range address [] = []
 cell_holders range address (cell ∷ cells) = holder_line range (cell_place address) cell.word ++ cell_holders range (address + 8) cells
@@ -41,6 +41,6 @@ cell_holders range address (cell ∷ cells) = holder_line range (cell_place addr
 abbrev pub page_holders : ℕ × ℕ → ℕ × List Cell → List ℕ
 page_holders range page = cell_holders range (page.0 * 4096) page.1
 
--- who holds a pointer whose segment meets the range: each slot, and then each cell, ascending
+-- the holders of pointers whose segments meet the range: each slot, and then each cell, ascending
 abbrev pub holders : ℕ × ℕ → Image → List ℕ
 holders range i = flat_map (slot_holders range) i.slots ++ flat_map (page_holders range) i.memory.pages

@@ -13,22 +13,22 @@ use Rattle.mm_model.specs.Worlds.{Apart}
 use Rattle.mm_sweep.specs.Swept.{InRange, meets, swept}
 use Rattle.mm_sweep.specs.Refusals.{CanSweep}
 
--- 1. What the words mean.
+-- 1. What it means to meet a range.
 
--- an address that lies both in the pointer's segment and in the range
+-- an address that is both in the pointer's segment and in the range
 pub record SharesAddress (range : ℕ × ℕ) (p : Pointer) : Type 0 where
   pub address : ℕ
   pub in_segment : InSegment p address
   pub in_range : InRange range address
 
--- a pointer's segment meets a range exactly where they share an address
+-- a pointer's segment meets a range exactly if the two share an address
 abbrev pub MeetingIsSharing : Type 0
 MeetingIsSharing = (range : ℕ × ℕ) (p : Pointer) → (meets range p ≡ true) ↔ SharesAddress range p
 
--- 2. What sweeping does to what groups can reach.
+-- 2. What groups can reach in a swept image.
 
--- Of an image and another: in the other nobody reaches the range, nobody reaches more than before, and groups that stood apart stand
--- apart; under every list of entries, and where anything may be entered.
+-- In the image `j` nobody reaches the range, nobody reaches more than in `i`, and groups that stand apart in `i` stand
+-- apart in `j`. This holds under every list of entries, and if anything may be entered.
 pub record Revokes (range : ℕ × ℕ) (i j : Image) : Type 0 where
   pub unreached : (e : Entries) (g w : ℕ) → InRange range w → ¬ CanTouch j e g w
   pub touch : (e : Entries) (g w : ℕ) → CanTouch j e g w → CanTouch i e g w
@@ -38,7 +38,7 @@ pub record Revokes (range : ℕ × ℕ) (i j : Image) : Type 0 where
 abbrev pub SweptImagesAreImages : Type 0
 SweptImagesAreImages = (range : ℕ × ℕ) (i : Image) → IsImage i → IsImage (swept range i)
 
--- so it is of an image and the swept image, where no instruction pointer meets the range and no group is privileged
+-- sweeping revokes the range, if no instruction pointer meets it and no group is privileged
 abbrev pub SweepingRevokes : Type 0
 SweepingRevokes = (range : ℕ × ℕ) (i : Image) → CanSweep range i → Revokes range i (swept range i)
 

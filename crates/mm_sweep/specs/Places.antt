@@ -4,7 +4,7 @@ use Rattle.mm_sweep.specs.declared.holding.Place.{Place}
 use Rattle.mm_sweep.specs.declared.holding.Place.TheVariants as places
 use Rattle.mm_sweep.specs.Holders.{ip_place, register_place, cell_place}
 
--- how the line of a place begins
+-- the beginning of the line of a place
 abbrev pub place_text : Place → List ℕ
 place_text (places.Ip slot) = ip_place slot
 place_text (places.Register slot register) = register_place slot register

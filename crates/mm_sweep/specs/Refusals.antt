@@ -8,14 +8,14 @@ use Rattle.mm_sweep.specs.Swept.{meets}
 use Rattle.mm_sweep.specs.declared.sweeping.SweepError.{SweepError}
 use Rattle.mm_sweep.specs.declared.sweeping.SweepError.TheVariants as errors
 
--- the slot of this number, whether it runs or is halted, has an instruction pointer whose segment meets the range
+-- the slot of this number, also if it is halted, has an instruction pointer whose segment meets the range
 pub record IsHeld (range : ℕ × ℕ) (i : Image) (n : ℕ) : Type 0 where
   pub slot : Slot
   pub stands : Contains i.slots slot
   pub number : slot.number ≡ n
   pub meets : meets range slot.ip ≡ true
 
--- the least such slot
+-- the least slot whose instruction pointer's segment meets the range
 pub record FirstHeld (range : ℕ × ℕ) (i : Image) (n : ℕ) : Type 0 where
   pub held : IsHeld range i n
   pub least : (m : ℕ) → IsHeld range i m → n ≤ m
@@ -24,7 +24,7 @@ pub record FirstHeld (range : ℕ × ℕ) (i : Image) (n : ℕ) : Type 0 where
 abbrev pub NoneHeld : ℕ × ℕ → Image → Type 0
 NoneHeld range i = (n : ℕ) → ¬ IsHeld range i n
 
--- the least group that is privileged, whatever is entered
+-- the least group that is privileged if anything may be entered
 pub record FirstPrivileged (i : Image) (g : ℕ) : Type 0 where
   pub privileged : Privileged i All g
   pub least : (h : ℕ) → Privileged i All h → g ≤ h
@@ -37,7 +37,7 @@ pub record CanSweep (range : ℕ × ℕ) (i : Image) : Type 0 where
   pub held : NoneHeld range i
   pub privileged : NonePrivileged i
 
--- why an image is not swept; want of memory is an answer only where no instruction pointer meets the range
+-- why an image is not swept; want of memory is an answer only if no instruction pointer meets the range
 abbrev pub IsSweepError : ℕ × ℕ → Image → SweepError → Type 0
 IsSweepError range i (errors.Held n) = FirstHeld range i n
 IsSweepError range i (errors.Privileged g) = NoneHeld range i × FirstPrivileged i g

@@ -1,5 +1,5 @@
--- A swept image: none of its registers and cells holds a pointer whose segment meets a range of addresses. A range is a segment of at
--- least a word: its base, and the logarithm of its length.
+-- A swept image: none of its registers and cells holds a pointer whose segment meets a range of addresses. A range is a
+-- segment of at least a word, given by its base and the logarithm of its length.
 use Rattle.std.specs.Prelude.{ℕ, ◌≤◌, ◌<◌, Bool, false, ◌&&◌, nat_lt, if◌then◌else◌, List, map}
 use Rattle.mm_word.specs.declared.word.Word.{Word}
 use Rattle.mm_word.specs.declared.word.Word.TheVariants.{Int, Ptr}
@@ -23,14 +23,14 @@ abbrev pub word_meets : ℕ × ℕ → Word → Bool
 word_meets range (Int bits) = false
 word_meets range (Ptr p) = meets range p
 
--- integer 0 in the place of such a pointer
+-- the word, or integer 0 if it is a pointer whose segment meets the range
 abbrev pub swept_word : ℕ × ℕ → Word → Word
 swept_word range word = if word_meets range word then Int 0 else word
 
 abbrev pub swept_slot : ℕ × ℕ → Slot → Slot
 swept_slot range s = record s { regs = map (swept_word range) s.regs }
 
--- the cell's synchronisation bit stays
+-- the cell with its word swept; its synchronisation bit stays
 abbrev pub swept_cell : ℕ × ℕ → Cell → Cell
 swept_cell range c = record c { word = swept_word range c.word }
 
@@ -40,6 +40,6 @@ swept_page range page = (page.0, map (swept_cell range) page.1)
 abbrev pub swept_memory : ℕ × ℕ → Memory → Memory
 swept_memory range m = record m { pages = map (swept_page range) m.pages }
 
--- the image in which each register and each cell that holds a pointer whose segment meets the range holds integer 0 instead
+-- the image in which each register and each cell that holds a pointer whose segment meets the range holds integer 0
 abbrev pub swept : ℕ × ℕ → Image → Image
 swept range i = record i { slots = map (swept_slot range) i.slots; memory = swept_memory range i.memory }

@@ -1,4 +1,5 @@
-// Who holds a pointer whose segment meets a range.
+//! The holders of pointers whose segments meet a range.
+
 ghost use Rattle.std.specs.List.{flat_map};
 ghost use Rattle.mm_io.specs.Sinks.{Writes};
 ghost use Rattle.mm_text.specs.Gathers.{Gathers};
@@ -13,7 +14,7 @@ use mm_model::{Page, Slot};
 use mm_text::{Gather, Piece, put_word};
 use mm_word::Word;
 
-/// Where a pointer is held.
+/// A place that holds a pointer.
 #[derive(Clone, Copy)]
 pub enum Place {
     /// The instruction pointer of a slot.
@@ -24,8 +25,10 @@ pub enum Place {
     Cell { address: u64 },
 }
 
-/// Writes who holds a pointer whose segment meets a range of `2^log` bytes from `base` on. For each slot `ip S WORD`, where its
-/// instruction pointer does, and `reg S K WORD` for each register; then `cell A WORD` for each cell; all ascending.
+/// Writes the holders of pointers whose segments meet a range of `2^log` bytes from `base` on. `base` is a multiple of
+/// the length, which is at least a word. For each slot there is a line `ip S WORD` if its instruction pointer meets the
+/// range, and `reg S K WORD` for each register that does; then `cell A WORD` for each cell; all ascending. After a
+/// [`WriteFault`] the sink has taken a prefix of the text.
 pub fn holders<O: Sink>(img: &Image, base: u64, log: u8, out: &mut O) -> Result<(), WriteFault>
     requires { IsSegment (base, log) }
     ensures { Writes O.taken O.faults out.old out.new (holders (base, log) img.now) result }
@@ -90,7 +93,7 @@ fn put_cells<O: Sink>(text: &mut Gather, out: &mut O, range: &Range, page: &Page
     }
 }
 
-/// Appends the line of a place, where it holds a pointer whose segment meets the range.
+/// Appends the line of a place, if it holds a pointer whose segment meets the range.
 fn put_holder<O: Sink>(text: &mut Gather, out: &mut O, range: &Range, place: Place, word: Word)
     ensures { Gathers O.taken O.faults out.old out.new text.old text.new (holder_line range.now (place_text place) word) }
 {
@@ -102,7 +105,7 @@ fn put_holder<O: Sink>(text: &mut Gather, out: &mut O, range: &Range, place: Pla
     }
 }
 
-/// Appends the front of the line of a place.
+/// Appends the beginning of the line of a place.
 fn put_place<O: Sink>(text: &mut Gather, out: &mut O, place: Place)
     ensures { Gathers O.taken O.faults out.old out.new text.old text.new (place_text place) }
 {

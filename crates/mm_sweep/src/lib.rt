@@ -1,7 +1,8 @@
-//! Revocation: the image in which nobody reaches a range of addresses, and who holds a pointer whose segment meets one.
+//! Revocation: the image in which nobody reaches a range of addresses, and the holders of pointers into the range.
 //!
-//! [`holders`] lists the registers, instruction pointers and cells whose pointers meet a range. [`sweep`] makes the image in which each
-//! such register and cell holds integer 0 instead; it refuses where an instruction pointer meets the range, or a group is privileged.
+//! [`holders`] lists the registers, instruction pointers and cells whose pointers' segments meet a range. [`sweep`]
+//! makes the image in which each such register and cell holds integer 0 instead; it refuses if an instruction pointer
+//! meets the range, or if a group is privileged.
 #![tactic(auto)]
 
 mod holding;

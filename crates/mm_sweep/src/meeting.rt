@@ -1,11 +1,12 @@
-// The range that is swept, and what meets it.
+//! The range that is swept, and the pointers that meet it.
+
 ghost use Rattle.std.specs.Prelude.{◌≡◌, ◌≤◌, ◌<◌, ◌^◌};
 ghost use Rattle.mm_seg.specs.Segments.{end_of};
 
 use mm_word::{GuardedPtr, Word};
 use std::marker::Model;
 
-/// A range of addresses: a segment of at least a word.
+/// A range of addresses: a segment of at least one word. Contracts see its base and the logarithm of its length.
 #[derive(Drop)]
 pub struct Range {
     base: u64,
@@ -54,7 +55,7 @@ impl Range {
     }
 }
 
-/// The address behind a segment.
+/// The address after the last one of a segment.
 fn end_of(base: u64, log: u8) -> u64
     requires base { base < 2 ^ 54 }
     requires log { log ≤ 54 }

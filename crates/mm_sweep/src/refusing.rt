@@ -1,4 +1,5 @@
-// Why an image cannot be swept.
+//! Why an image cannot be swept.
+
 ghost use Rattle.std.specs.Prelude.{◌≡◌, MatchOption};
 ghost use Rattle.mm_model.specs.Image.{Image as ImageValue};
 ghost use Rattle.mm_model.specs.Reach.Entries.{All};
@@ -11,7 +12,7 @@ use mm_audit::Survey;
 use mm_image::Image;
 use mm_model::Slot;
 
-/// Whether the segment of a slot's instruction pointer meets the range, whether it runs or is halted.
+/// Whether the segment of a slot's instruction pointer meets the range, also if the slot is halted.
 fn is_held(range: &Range, slot: &Slot) -> bool
     ensures { result ≡ meets range.now slot.now.ip }
 {

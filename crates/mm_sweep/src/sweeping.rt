@@ -1,4 +1,5 @@
-// The swept image.
+//! The swept image.
+
 ghost use Rattle.std.specs.Prelude.{◌≡◌, IfErr, IfOk};
 ghost use Rattle.mm_seg.specs.Segments.{IsSegment};
 ghost use Rattle.mm_sweep.specs.Swept.{swept};
@@ -17,17 +18,17 @@ use std::alloc::Global;
 /// Why an image cannot be swept.
 #[derive(Clone, Copy, Debug, PartialEq, Eq)]
 pub enum SweepError {
-    /// The segment of a slot's instruction pointer meets the range: the least such slot.
+    /// The segment of the instruction pointer of `slot`, the least such slot, meets the range.
     Held { slot: u8 },
-    /// No instruction pointer's segment meets it, but a group is privileged, whatever is entered: the least such group. Privileged code
-    /// makes any pointer.
+    /// No instruction pointer's segment meets the range, but `group`, the least such group, is privileged if anything
+    /// may be entered. Privileged code can make any pointer.
     Privileged { group: u8 },
     NoMemory,
 }
 
-/// The image in which each register and each cell that holds a pointer whose segment meets a range holds integer 0 instead. A cell's
-/// synchronisation bit stays, and so do instruction pointers, none of which meets the range. The range begins at `base` and has `2^log`
-/// bytes, at least a word; `base` is a multiple of that.
+/// The image in which each register and each cell that holds a pointer whose segment meets a range holds integer 0
+/// instead. Synchronisation bits stay, and so do instruction pointers, none of which meets the range. The range begins
+/// at `base` and has `2^log` bytes, at least a word; `base` is a multiple of that.
 pub fn sweep(alloc: Global, img: &Image, base: u64, log: u8) -> Result<Image, SweepError>
     requires { IsSegment (base, log) }
     ensures can_sweep { IfOk result (λ j. CanSweep (base, log) img.now) }
@@ -43,7 +44,7 @@ pub fn sweep(alloc: Global, img: &Image, base: u64, log: u8) -> Result<Image, Sw
     }
 }
 
-/// The swept image, where no instruction pointer meets the range.
+/// The swept image, if no instruction pointer meets the range.
 fn sweep_unheld(alloc: Global, range: &Range, img: &Image) -> Result<Image, SweepError>
     requires { NoneHeld range.now img.now }
     ensures can_sweep { IfOk result (λ j. CanSweep range.now img.now) }

@@ -1,4 +1,5 @@
-// Slots and pages without pointers whose segments meet a range.
+//! Slots and pages without pointers whose segments meet a range.
+
 ghost use Rattle.std.specs.Prelude.{◌≡◌, IfOk, map, length};
 ghost use Rattle.mm_sweep.specs.Swept.{swept_word, swept_cell, swept_slot, swept_page};
 
@@ -7,7 +8,7 @@ use mm_model::{Page, Slot};
 use mm_word::{Cell, Word};
 use std::alloc::{AllocError, Global};
 
-/// The word, or integer 0 in the place of a pointer whose segment meets the range.
+/// The word, or integer 0 if it is a pointer whose segment meets the range.
 fn swept_word(range: &Range, word: Word) -> Word
     ensures { result ≡ swept_word range.now word }
 {
@@ -18,7 +19,7 @@ fn swept_word(range: &Range, word: Word) -> Word
     }
 }
 
-/// The cell with such a word. Its synchronisation bit stays.
+/// The cell with its word swept. Its synchronisation bit stays.
 fn swept_cell(range: &Range, cell: &Cell) -> Cell
     ensures { result ≡ swept_cell range.now cell.now }
 {
@@ -28,7 +29,7 @@ fn swept_cell(range: &Range, cell: &Cell) -> Cell
     }
 }
 
-/// The slot with such words in its registers.
+/// The slot with its registers swept.
 fn swept_slot(range: &Range, slot: &Slot) -> Slot
     ensures { result ≡ swept_slot range.now slot.now }
 {
@@ -39,7 +40,7 @@ fn swept_slot(range: &Range, slot: &Slot) -> Slot
     swept
 }
 
-/// The slots, each with such registers.
+/// The slots, each with its registers swept.
 pub fn swept_slots(alloc: Global, range: &Range, slots: &[Slot]) -> Result<Vec<Slot>, AllocError>
     ensures { IfOk result (λ swept. swept.items ≡ map (swept_slot range.now) slots.now) }
 {
@@ -50,7 +51,7 @@ pub fn swept_slots(alloc: Global, range: &Range, slots: &[Slot]) -> Result<Vec<S
     Ok(swept)
 }
 
-/// The cells, each with such a word.
+/// The cells, each with its word swept.
 fn swept_cells(alloc: Global, range: &Range, cells: &[Cell]) -> Result<Vec<Cell>, AllocError>
     ensures { IfOk result (λ swept. swept.items ≡ map (swept_cell range.now) cells.now) }
 {
@@ -60,7 +61,7 @@ fn swept_cells(alloc: Global, range: &Range, cells: &[Cell]) -> Result<Vec<Cell>
         .collect(alloc)
 }
 
-/// The page with such cells.
+/// The page with its cells swept.
 fn swept_page(alloc: Global, range: &Range, page: &Page) -> Result<Page, AllocError>
     ensures { IfOk result (λ swept. swept ≡ swept_page range.now page.now) }
 {
@@ -71,7 +72,7 @@ fn swept_page(alloc: Global, range: &Range, page: &Page) -> Result<Page, AllocEr
     }
 }
 
-/// The pages, each with such cells.
+/// The pages, each with its cells swept.
 pub fn swept_pages(alloc: Global, range: &Range, pages: &[Page]) -> Result<Vec<Page>, AllocError>
     ensures { IfOk result (λ swept. swept.items ≡ map (swept_page range.now) pages.now) }
 {

@@ -1,3 +1,5 @@
+//! A test of the audit that keeps a set of segments for each group.
+
 use mm_audit::{Apart, Entries, audit};
 use mm_image::read;
 use std::test::Fail;

@@ -1,3 +1,5 @@
+//! A test of sessions that go back.
+
 use arrayvec::ArrayVec;
 use mm_debug::Session;
 use mm_image::Image;

@@ -1,3 +1,5 @@
+//! A test of sets of segments.
+
 use mm_seg::SegSet;
 use std::test::Fail;
 

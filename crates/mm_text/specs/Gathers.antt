@@ -4,7 +4,7 @@ use Rattle.std.specs.Io.KnownBytes.{append_known}
 use Rattle.mm_io.specs.Files.{Rose}
 use Rattle.mm_io.specs.Sinks.{TookPart, Writes}
 
--- the bytes that are kept, and whether a write failed
+-- a gatherer: the bytes that are kept, and whether a write has failed
 pub record Gathered : Type 0 where
   pub kept : List ℕ
   pub failed : Bool
@@ -12,13 +12,13 @@ pub record Gathered : Type 0 where
 abbrev pub nothing : Gathered
 nothing = record { kept = []; failed = false }
 
--- Some front part was handed over, and the rest is kept.
+-- A prefix of a text was handed over, and the rest is kept.
 pub record HandsOver (old new : Option (List ℕ)) (text kept : List ℕ) : Type 0 where
   pub part : List ℕ
   pub splits : text ≡ part ++ kept
   pub took : new ≡ append_known old part
 
--- A write failed: the sink took some front part, and its count rose or stands at its last value.
+-- A write failed: the sink took a prefix of the text, and its count rose or is at its last value.
 pub record Breaks {S : Type 0} (taken : S → Option (List ℕ)) (faults : S → ℕ) (old new : S)
     (text : List ℕ) : Type 0 where
   pub part : TookPart (taken old) (taken new) text
@@ -31,7 +31,7 @@ Became taken faults old new false true text kept = Breaks taken faults old new t
 Became taken faults old new true true text kept = taken new ≡ taken old
 Became taken faults old new true false text kept = ⊥
 
--- A text was gathered: behind what was kept before, unless a write had failed.
+-- A text was gathered after what was kept before, unless a write had failed.
 pub record Gathers {S : Type 0} (taken : S → Option (List ℕ)) (faults : S → ℕ) (old_out new_out : S)
     (old new : Gathered) (text : List ℕ) : Type 0 where
   pub later : faults old_out ≤ faults new_out

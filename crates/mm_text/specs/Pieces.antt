@@ -13,6 +13,6 @@ piece_text (HexPage page) = hex 11 page
 piece_text (HexAddress address) = hex 14 address
 piece_text (HexWord word) = hex 16 word
 
--- The texts of pieces, one after the other. Of known pieces it computes to `piece_text p ++ piece_text q ++ ..`.
+-- The texts of pieces, one after the other. For known pieces it computes to `piece_text p ++ piece_text q ++ ..`.
 abbrev pub pieces_text : List Piece → List ℕ
 pieces_text pieces = fold (λ text piece. text ++ piece_text piece) [] pieces

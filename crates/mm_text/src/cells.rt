@@ -1,4 +1,5 @@
-// The line of a cell.
+//! The line of a cell.
+
 ghost use Rattle.std.specs.Prelude.{◌++◌};
 ghost use Rattle.mm_text.specs.Gathers.{Gathers};
 ghost use Rattle.mm_model.specs.Lines.{cell_line, full_text, newline};
@@ -25,7 +26,7 @@ pub fn put_cell<O: Sink>(text: &mut Gather, out: &mut O, word: u64, cell: &Cell)
     put_bit(text, out, cell.full);
 }
 
-/// Ends the line of a cell with its bit.
+/// Appends a cell's synchronisation bit, which ends its line.
 fn put_bit<O: Sink>(text: &mut Gather, out: &mut O, full: bool)
     ensures { Gathers O.taken O.faults out.old out.new text.old text.new (full_text full ++ newline) }
 {

@@ -1,4 +1,5 @@
-// The line of how many cycles a machine has done.
+//! The line with the count of cycles that a machine has done.
+
 ghost use Rattle.mm_text.specs.Gathers.{Gathers};
 ghost use Rattle.mm_model.specs.Report.{cycles_line};
 
@@ -6,7 +7,7 @@ use crate::gather::Gather;
 use crate::piece::Piece;
 use mm_io::Sink;
 
-/// Appends the line of a number of cycles: `cycles N`.
+/// Appends the line of a count of cycles: `cycles N`.
 pub fn put_cycles<O: Sink>(text: &mut Gather, out: &mut O, cycles: u64)
     ensures { Gathers O.taken O.faults out.old out.new text.old text.new (cycles_line cycles) }
 {

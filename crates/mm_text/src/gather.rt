@@ -1,4 +1,5 @@
-// Texts that are gathered before a sink is handed them.
+//! Texts that are gathered before they go to a sink.
+
 ghost use Rattle.std.specs.Prelude.{◌≡◌, ◌≤◌, [], false};
 ghost use Rattle.mm_io.specs.Sinks.{Writes};
 ghost use Rattle.mm_text.specs.Gathers.{Gathers, Finishes, nothing};
@@ -12,15 +13,14 @@ use itoa::Buffer;
 use mm_io::{Sink, WriteFault, write_all};
 use std::marker::Model;
 
-/// How many bytes are kept at most.
+/// The most bytes that are kept.
 const ROOM: usize = 4096;
 
-/// Text on its way to a sink, which is handed up to 4,096 bytes at a time, and a longer text at
-/// once.
+/// Text on its way to a sink. The sink gets up to 4,096 bytes at a time, and a longer text at once.
 ///
-/// Contracts see it as the bytes that are kept, and whether a write has failed. Each call is handed
-/// the same sink. After a write that failed nothing more is handed over, and [`Gather::finish`],
-/// which ends the text, says so.
+/// Contracts see the bytes that are kept, and whether a write has failed. Each call is given the
+/// same sink. After a write that failed nothing more is handed over, and [`Gather::finish`], which
+/// ends the text, says so.
 #[derive(Drop)]
 pub struct Gather {
     kept: ArrayVec<u8, ROOM>,
@@ -63,7 +63,7 @@ impl Gather {
         self.kept.clear();
     }
 
-    /// Appends a text. The sink is handed bytes only where the text has no room.
+    /// Appends a text. The sink gets bytes only if the text has no room.
     pub fn put_bytes<O: Sink>(&mut self, out: &mut O, text: &[u8])
         ensures { Gathers O.taken O.faults out.old out.new self.old self.new text.now }
     {
@@ -74,7 +74,7 @@ impl Gather {
         self.put_rest(out, text);
     }
 
-    // Appends a text where nothing is kept.
+    // Appends a text when nothing is kept.
     fn put_rest<O: Sink>(&mut self, out: &mut O, text: &[u8])
         requires { self.old.kept ≡ [] }
         ensures { Gathers O.taken O.faults out.old out.new self.old self.new text.now }
@@ -85,7 +85,7 @@ impl Gather {
         self.failed = write_all(out, text).is_err();
     }
 
-    /// Appends a piece, as [`Gather::put_bytes`] its text.
+    /// Appends the text of a piece, as [`Gather::put_bytes`] does.
     pub fn put_piece<O: Sink>(&mut self, out: &mut O, piece: &Piece)
         ensures { Gathers O.taken O.faults out.old out.new self.old self.new (piece_text piece.now) }
     {
@@ -121,8 +121,8 @@ impl Gather {
         }
     }
 
-    /// Hands over what is kept. At `Ok` the sink took all of the text; a [`WriteFault`] comes where
-    /// this or an earlier write failed, and the sink took a front part.
+    /// Hands over what is kept. At `Ok` the sink took all of the text; a [`WriteFault`] comes if
+    /// this or an earlier write failed, and then the sink took a prefix.
     pub fn finish<O: Sink>(self, out: &mut O) -> Result<(), WriteFault>
         ensures { Finishes O.taken O.faults out.old out.new self result }
     {
@@ -133,7 +133,7 @@ impl Gather {
     }
 }
 
-/// Writes the pieces, one after the other. At a [`WriteFault`] the sink took a front part.
+/// Writes the pieces, one after the other. At a [`WriteFault`] the sink took a prefix.
 pub fn write_pieces<O: Sink>(out: &mut O, pieces: &[Piece]) -> Result<(), WriteFault>
     ensures { Writes O.taken O.faults out.old out.new (pieces_text pieces.now) result }
 {

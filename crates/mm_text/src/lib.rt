@@ -1,9 +1,9 @@
-//! Texts that are written piece by piece, without memory; and the lines of words, cells and slots, which reports,
+//! Texts that are written piece by piece, without allocation, and the lines of words, cells and slots, which reports,
 //! sessions and summaries share.
 //!
-//! A [`Gather`] hands a sink some kilobytes at a time, so that a stream of the system is not called
-//! for every word. It keeps in mind that a write failed, so that a function that writes many pieces
-//! looks for a fault only at its end. A [`Line`] puts a short text together from its end.
+//! A [`Gather`] hands a sink some kilobytes at a time, so that a stream of the system is not called for every word. It
+//! remembers that a write failed, so that a function that writes many pieces looks for a fault only at its end. A
+//! [`Line`] puts a short text together from its end.
 #![tactic(auto)]
 
 mod cells;

@@ -1,16 +1,17 @@
-// Short texts that are put together from their end.
+//! Short texts that are put together from their end.
+
 ghost use Rattle.std.specs.Prelude.{◌≡◌, ◌+◌, ◌<◌, ◌≤◌, [], ◌∷◌, ◌++◌, decimal, false, length};
 ghost use Rattle.std.specs.Fmt.{digit_glyph};
 ghost use Rattle.mm_model.specs.Digits.{hex};
 
 use std::marker::Model;
 
-/// How many bytes a line has at most.
+/// The most bytes that a line has.
 const ROOM: usize = 64;
 
 /// A short text that is put together from its end, in at most 64 bytes. Contracts see its bytes.
 ///
-/// Each call puts what it adds before what is there.
+/// Each call puts its text before the text so far.
 #[derive(Drop)]
 pub struct Line {
     bytes: [u8; ROOM],
@@ -38,7 +39,7 @@ impl Line {
         }
     }
 
-    /// Puts a byte before what is there.
+    /// Puts a byte before the text so far.
     pub fn put_byte(&mut self, byte: u8)
         requires { length self.old < 64 }
         ensures { self.new ≡ byte ∷ self.old }
@@ -47,7 +48,7 @@ impl Line {
         self.bytes[self.start] = byte;
     }
 
-    /// Puts a text before what is there.
+    /// Puts a text before the text so far.
     pub fn put_text(&mut self, text: &str)
         requires { length text.now + length self.old ≤ 64 }
         ensures { self.new ≡ text.now ++ self.old }
@@ -58,7 +59,7 @@ impl Line {
         self.start = start;
     }
 
-    /// Puts a number before what is there, in decimal digits without leading zeros.
+    /// Puts a number before the text so far, in decimal digits without leading zeros.
     pub fn put_decimal(&mut self, number: u8)
         requires { length self.old + 3 ≤ 64 }
         ensures { self.new ≡ decimal number ++ self.old }
@@ -73,7 +74,7 @@ impl Line {
         }
     }
 
-    /// Puts the last hexadecimal digits of a number before what is there, in lower case and with
+    /// Puts the last hexadecimal digits of a number before the text so far, in lower case and with
     /// leading zeros.
     pub fn put_hex(&mut self, number: u64, digits: usize)
         requires { length self.old + digits ≤ 64 }
@@ -89,7 +90,7 @@ impl Line {
         self.start = start;
     }
 
-    /// The bytes.
+    /// The bytes of the line.
     pub fn as_bytes(&self) -> &[u8]
         ensures { result.now ≡ self.now }
     {

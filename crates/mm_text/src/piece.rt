@@ -1,3 +1,5 @@
+//! Pieces of a text: strings, and numbers with their forms.
+
 /// A piece of a text.
 ///
 /// Numbers in hexadecimal are written in lower case, with leading zeros and without a prefix: the

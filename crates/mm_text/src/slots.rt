@@ -1,4 +1,5 @@
-// The lines of a slot.
+//! The lines of a slot.
+
 ghost use Rattle.std.specs.Prelude.{◌≡◌, ◌<◌, ◌++◌, codes, decimal};
 ghost use Rattle.std.specs.List.{flat_map};
 ghost use Rattle.mm_io.specs.Sinks.{Writes};
@@ -15,15 +16,12 @@ use mm_word::Word;
 
 /// Writes the lines of a slot:
 ///
-/// - `slot S turns T STATE ip WORD`, with ` past` at its end where the instruction pointer is past
-///   its segment. The state is `running`, `waiting`, `taken`, `halted`, or `faulted` with the number
-///   of the fault;
-/// - for each register but those of integer 0, ascending, `r K WORD`, or `r K empty` where it waits
-///   for a load;
+/// - `slot S turns T STATE ip WORD`, with ` past` at its end if the instruction pointer is past its segment. The state
+///   is `running`, `waiting`, `taken`, `halted`, or `faulted` with the number of the fault;
+/// - for each register but those of integer 0, ascending, `r K WORD`, or `r K empty` if it waits for a load;
 /// - for each pending load, oldest first, `pending K WORD`, with its register and the word to come.
 ///
-/// Words are as [`put_word`] writes them, other numbers decimal. At a [`WriteFault`] the sink took a
-/// front part.
+/// Words are as [`put_word`] writes them, other numbers decimal. At a [`WriteFault`] the sink took a prefix.
 pub fn slot_lines<O: Sink>(slot: &Slot, out: &mut O) -> Result<(), WriteFault>
     ensures { Writes O.taken O.faults out.old out.new (slot_lines_of slot.now) result }
 {
@@ -132,7 +130,7 @@ fn is_zero(word: &Word) -> bool
     }
 }
 
-// Appends the front of a register's line.
+// Appends the start of a register's line, up to its word.
 fn put_register_number<O: Sink>(text: &mut Gather, out: &mut O, register: u8)
     ensures { Gathers O.taken O.faults out.old out.new text.old text.new (codes "r " ++ decimal register ++ codes " ") }
 {

@@ -1,4 +1,5 @@
-// The text of a word.
+//! The text of a word.
+
 ghost use Rattle.mm_text.specs.Gathers.{Gathers};
 ghost use Rattle.mm_model.specs.Lines.{word_text};
 

@@ -1,4 +1,4 @@
--- What a row of the table leaves.
+-- What an instruction that concerns its slot alone leaves.
 use Rattle.std.specs.Prelude.{◌≡◌, Bool, true, false, Option, None, Result, Ok, Err}
 use Rattle.mm_word.specs.declared.cause.Cause.{Cause}
 use Rattle.mm_word.specs.declared.cause.Cause.TheVariants.{NotPointer}
@@ -13,7 +13,7 @@ use Rattle.mm_model.specs.Effect.Pages.{Keep}
 use Rattle.mm_model.specs.Effect.Effect.{Fault, Does}
 use Rattle.mm_model.specs.Turn.{slot_after}
 
--- the rows that ask nothing of the machine around their slot
+-- the instructions that concern their slot alone
 abbrev pub is_alone : Instr → Bool
 is_alone (Out ra) = false
 is_alone (Ld rd ra pre post imm) = false
@@ -26,7 +26,7 @@ is_alone (Map rd ra) = false
 is_alone (Unmap rd ra) = false
 is_alone _ = true
 
--- what a change does to its slot and to nothing else
+-- the part of a change that concerns its slot alone
 abbrev pub alone : Change → Change
 alone c = record c { out = None; cell = None; pages = Keep; queue = None; other = None }
 
@@ -41,13 +41,13 @@ pub record FaultsAlone (c : Cause) (old new : Slot) (ending : Result (Option Poi
   pub slot : new ≡ old
   pub told : ending ≡ Err c
 
--- a row that concerns its slot alone leaves what its effect says
+-- an instruction that concerns its slot alone leaves what its effect says
 abbrev pub EndsAlone : Effect → Slot → Slot → Result (Option Pointer) Cause → Type 0
 EndsAlone (Does c) old new told = ChangesAlone c old new told
 EndsAlone (Fault c) old new told = FaultsAlone c old new told
 EndsAlone _ old new told = ⊥
 
--- the pointer that a word is
+-- the pointer that a word is, or the fault that it is none
 abbrev pub pointer_in : Word → Result Pointer Cause
 pointer_in (Int bits) = Err NotPointer
 pointer_in (Ptr p) = Ok p

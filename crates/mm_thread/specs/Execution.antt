@@ -1,4 +1,4 @@
--- What the execution of an instruction leaves of the machine, before its turn is ended.
+-- What the execution of an instruction leaves of the machine before its turn is ended.
 use Rattle.std.specs.Prelude.{◌≡◌, ℕ, ◌+◌, ◌<◌, ◌^◌, true, List, [], length, nat_lt, if◌then◌else◌, Option, None, Result, Ok, Err}
 use Rattle.mm_word.specs.declared.cause.Cause.{Cause}
 use Rattle.mm_word.specs.declared.cause.Cause.TheVariants.{Bounds, NoPage, Sync, Priv}
@@ -29,14 +29,14 @@ use Rattle.mm_thread.specs.Places.{slot_in, with_slot}
 
 -- 1. A slot that takes a turn.
 
--- the slot at a place takes a turn
+-- the slot at `place` can take a turn
 pub record CanTurn (core : Core) (place : ℕ) : Type 0 where
   pub whole : IsCore core
   pub within : place < length core.rows
   pub turns : (slot_in core place).turns < 2 ^ 62
   pub runs : is_running (slot_in core place).state ≡ true
 
--- 2. What an effect leaves, but for the slot's own turn where it waits or faults.
+-- 2. What an effect leaves, without the slot's own turn if it waits or faults.
 
 abbrev pub core_left : Core → Slot → Effect → Core
 core_left core s (Fault c) = core
@@ -58,14 +58,14 @@ pub record Leaves (core : Core) (m : Memory) (s : Slot) (e : Effect) (core' : Co
   pub core_is : core' ≡ core_left core s e
   pub memory_is : m' ≡ memory_left m e
   pub outcome_is : outcome ≡ outcome_of e
-  -- a slot that waits is as it was
+  -- a slot that waits is unchanged
   pub stays : outcome ≡ Waits → slot_at core' s.number ≡ slot_at core s.number
 
 -- the effect of an instruction in this machine
 abbrev pub effect_in : Core → Memory → Slot → Instr → Effect
 effect_in core m s i = effect core.split i s (reply core m s.number (ask i s))
 
--- 3. The same with what is asked of a memory.
+-- 3. What an instruction leaves, and what is asked of a memory.
 
 module _ {M : Type 0} (meaning : M → Memory) (uses : M → ℕ) (stands : M → List Use → Type 0) where
   -- the instruction is carried out
@@ -85,7 +85,7 @@ module _ {M : Type 0} (meaning : M → Memory) (uses : M → ℕ) (stands : M �
 
 -- 4. The end of a turn.
 
--- what the end of a turn needs
+-- the condition for the end of a turn
 abbrev pub CanEnd : Outcome → Core → ℕ → Type 0
 CanEnd (Goes entered) core place = Unit {0}
 CanEnd Waits core place = (place < length core.rows) × ((slot_in core place).turns < 2 ^ 62)
@@ -101,7 +101,7 @@ step_ended n s f touched (Goes entered) = record { tick = Did; slot = n; fetched
 step_ended n s f touched Waits = record { tick = Blocked; slot = n; fetched = f; touched = touched; entered = None }
 step_ended n s f touched (Fails c) = record { tick = tick_faulted c s.handler; slot = n; fetched = f; touched = touched; entered = None }
 
--- 5. What a slot makes of a memory's answers.
+-- 5. The answers of a memory, and what they do to a slot.
 
 abbrev pub core_loaded : Core → ℕ → ℕ → Loaded → Core
 core_loaded core place rd (loads_as.Value w) = with_slot core place (slot_after (slot_in core place) (loads core.split (slot_in core place) rd w))
@@ -121,7 +121,7 @@ outcome_stored stores_as.Done = Goes None
 outcome_stored stores_as.NoPage = Fails NoPage
 outcome_stored stores_as.NotReady = Fails Sync
 
--- the page that a register names, where the code is privileged and the number is below 2^42
+-- the page that a register names, if the code is privileged and the number is below 2^42
 abbrev pub page_named : Slot → ℕ → Result ℕ Cause
 page_named s ra =
     if is_privileged s.ip.perm then (if nat_lt (word_bits (register s ra)) (2 ^ 42) then Ok (word_bits (register s ra)) else Err Bounds) else Err Priv

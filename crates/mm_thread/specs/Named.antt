@@ -1,10 +1,10 @@
--- The registers and the number that the operands name, gathered one operand after the other.
+-- The registers and the number in an instruction's operands, gathered one operand after the other.
 use Rattle.std.specs.Prelude.{ℕ, ◌+◌, List, [], ◌∷◌, Option, Some, None, pos}
 use Rattle.mm_isa.specs.declared.operand.Operand.{Operand}
 use Rattle.mm_isa.specs.declared.operand.Operand.TheVariants.{Rd, EvtRd, Ra, Rb, Imm, Distance, RegisterNumber}
 use Rattle.mm_thread.specs.declared.operands.Named.{Named}
 
--- with one operand more
+-- what was gathered, with one operand more
 abbrev pub named_too : Named → Operand → Named
 named_too n (Rd r) = record n { rd = Some r }
 named_too n (EvtRd r) = record n { evt = Some r }

@@ -1,7 +1,7 @@
--- What a group has put out.
+-- The output of a group.
 use Rattle.std.specs.Prelude.{ℕ, List}
 
 pub record Output : Type 0 where
   pub group : ℕ
-  -- oldest first
+  -- the bytes, oldest first
   pub bytes : List ℕ

@@ -7,7 +7,7 @@ use Rattle.mm_model.specs.State.{Row, Core, output_of}
 use Rattle.mm_model.specs.Fits.{identity_of, slots_of, IsCore}
 use Rattle.mm_thread.specs.Output.{Output}
 
--- of events, each with the number of the slot that is to handle it, those of one number, in order
+-- the events of a list for the slot of a number, in order
 abbrev pub events_for : ℕ → List (ℕ × Event) → List Event
 events_for n [] = []
 events_for n (x ∷ xs) = if x.0 == n then x.1 ∷ events_for n xs else events_for n xs
@@ -15,7 +15,7 @@ events_for n (x ∷ xs) = if x.0 == n then x.1 ∷ events_for n xs else events_f
 abbrev pub row_with : List (ℕ × Event) → Slot → Row
 row_with events s = record { slot = s; queue = events_for s.number events }
 
--- each output in its group's place
+-- the outputs of groups, each replaced by the one in the list, if there is one
 abbrev pub outputs_with : List Output → List (List ℕ) → List (List ℕ)
 outputs_with [] outputs = outputs
 outputs_with (o ∷ os) outputs = outputs_with os (slice_set outputs o.group o.bytes)
@@ -29,7 +29,7 @@ core_of version split slots events outputs = record {
   split = split;
 }
 
--- the parts make a core of this core's slots, and each output stands in it
+-- the parts make a core of this core's slots, and each output in the list is its group's
 pub record AreParts (core : Core) (slots : List Slot) (events : List (ℕ × Event)) (outputs : List Output) : Type 0 where
   pub whole : IsCore (core_of core.version core.split slots events outputs)
   pub same : map identity_of slots ≡ map identity_of (slots_of core)

@@ -1,4 +1,4 @@
--- Slots by their places in the table of rows.
+-- Slots by their indices in the table of rows.
 use Rattle.std.specs.Prelude.{ℕ, ◌+◌, ◌*◌, false, List, [], ◌∷◌, slice_set, slice_index_or, Option, None, Some}
 use Rattle.mm_word.specs.declared.perm.Perm.TheVariants.{Xu}
 use Rattle.mm_word.specs.Cause.{number_of}
@@ -12,7 +12,7 @@ use Rattle.mm_model.specs.State.{Row, Core}
 use Rattle.mm_model.specs.Spelling.{numbers_of}
 use Rattle.mm_model.specs.Fits.{slots_of}
 
--- what stands for a row where there is none
+-- the slot past the end of the table
 abbrev pub no_slot : Slot
 no_slot = record {
   number = 0;
@@ -34,7 +34,7 @@ no_row = record { slot = no_slot; queue = [] }
 abbrev pub row_alone : Slot → Row
 row_alone s = record { slot = s; queue = [] }
 
--- the row at a place
+-- the row at an index
 abbrev pub row_at : Core → ℕ → Row
 row_at core place = slice_index_or core.rows place no_row
 
@@ -44,7 +44,7 @@ slot_in core place = (row_at core place).slot
 abbrev pub queue_in : Core → ℕ → List Event
 queue_in core place = (row_at core place).queue
 
--- the core with this row at a place
+-- the core with this row at an index
 abbrev pub with_row : Core → ℕ → Row → Core
 with_row core place row = record core { rows = slice_set core.rows place row }
 

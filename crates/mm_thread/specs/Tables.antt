@@ -1,4 +1,5 @@
--- What the table of rows keeps beside its rows: the running slots as bits, and the places of the slots, both by number.
+-- What the table of rows keeps beside its rows: the set of running slots as bits, and the indices of slots, both by
+-- number.
 use Rattle.std.specs.Prelude.{◌≡◌, ◌≢◌, ℕ, ◌<◌, List, length, slice_index, slice_index_or}
 use Rattle.std.specs.Int.{bit_at}
 use Rattle.mm_model.specs.Slot.{Slot}
@@ -15,17 +16,17 @@ pub record AreNumbered (rows : List Row) : Type 0 where
   pub small : (k : ℕ) → k < length rows → (slot_of_row rows k).number < 64
   pub own : (j k : ℕ) → j < length rows → k < length rows → (slot_of_row rows j).number ≡ (slot_of_row rows k).number → j ≡ k
 
--- each bit tells whether one of the first rows has its number and runs
+-- each bit says whether one of the first rows has its number and runs
 pub record AreRunners (rows : List Row) (i runners : ℕ) : Type 0 where
   pub each : (k : ℕ) → k < i → bit_at runners (slot_of_row rows k).number ≡ one_if (is_running (slot_of_row rows k).state)
   pub none : (n : ℕ) → n < 64 → ((k : ℕ) → k < i → (slot_of_row rows k).number ≢ n) → bit_at runners n ≡ 0
 
--- the set of the rows that run
+-- the set has exactly the rows that run
 pub record HasRunners (rows : List Row) (runners : ℕ) : Type 0 where
   pub numbered : AreNumbered rows
   pub bits : AreRunners rows (length rows) runners
 
--- the bit of a slot's number tells whether it runs, and each other bit is as it was
+-- the bit of the slot's number says whether it runs, and each other bit is unchanged
 pub record IsNoted (before after : ℕ) (s : Slot) : Type 0 where
   pub here : bit_at after s.number ≡ one_if (is_running s.state)
   pub others : (n : ℕ) → n < 64 → n ≢ s.number → bit_at after n ≡ bit_at before n

@@ -1,4 +1,4 @@
--- What a step tells of the accesses that were made.
+-- The accesses that a step tells, and those that were made.
 use Rattle.std.specs.Prelude.{ℕ, List, [], ◌∷◌, ◌++◌, Option, Some, None}
 use Rattle.mm_word.specs.declared.perm.Kind.{Kind}
 use Rattle.mm_word.specs.Access.{Touch}

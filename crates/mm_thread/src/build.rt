@@ -1,4 +1,4 @@
-//! A core is made.
+//! Making a core.
 
 ghost use Rattle.std.specs.Prelude.{◌≡◌, ◌≤◌, [], length, map, replicate, IfOk};
 ghost use Rattle.mm_thread.specs.Places.{row_alone};
@@ -30,7 +30,7 @@ pub(crate) fn rows_of(alloc: Global, slots: &[Slot]) -> Result<Vec<Row>, NoMemor
     Ok(rows)
 }
 
-/// The outputs of 64 groups, with nothing put out.
+/// The outputs of 64 groups, all empty.
 pub(crate) fn no_outputs(alloc: Global) -> Result<Vec<GroupOutput>, NoMemory>
     ensures { IfOk result (λ outputs. outputs.items ≡ replicate 64 []) }
 {
@@ -46,7 +46,7 @@ pub(crate) fn no_outputs(alloc: Global) -> Result<Vec<GroupOutput>, NoMemory>
     Ok(outputs)
 }
 
-/// The place of each number's row, and 64 where there is none.
+/// The table that gives for each number the index of its row, and 64 if there is none.
 pub(crate) fn index_of(rows: &[Row]) -> [u8; 64]
     requires apart { AreNumbered rows.now }
     requires few { length rows.now ≤ 64 }

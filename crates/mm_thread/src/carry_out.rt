@@ -1,4 +1,4 @@
-//! The table of the rows that concern their slot alone.
+//! The table of the instructions that concern their slot alone.
 
 ghost use Rattle.std.specs.Prelude.{◌≡◌, ◌<◌, ◌^◌, Bool, true};
 ghost use Rattle.mm_model.specs.Effect.{effect};
@@ -11,7 +11,7 @@ use mm_isa::Instr;
 use mm_model::Slot;
 use mm_word::Cause;
 
-/// Carries out an instruction that asks nothing of the machine around its slot.
+/// Carries out an instruction that concerns its slot alone.
 pub(crate) fn carry_out(slot: &mut Slot, instr: Instr) -> Entered
     requires turns { slot.old.turns < 2 ^ 62 }
     requires alone { is_alone instr ≡ true }

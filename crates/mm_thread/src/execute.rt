@@ -1,4 +1,4 @@
-//! The table of instructions, from the rows that ask something of the machine around their slot on.
+//! The table of instructions: a row for each that needs more than its slot, and one row for all others.
 
 ghost use Rattle.std.specs.Prelude.{◌≡◌, ◌<◌, ◌^◌, ◌&&◌, false};
 ghost use Rattle.mm_model.specs.Operands.{lacks};
@@ -12,7 +12,7 @@ use crate::tables::Tables;
 use mm_isa::Instr;
 use mm_mem::Memory;
 
-/// Carries out an instruction of the slot at a place.
+/// Carries out an instruction of the slot at `place`.
 pub(crate) fn execute<M: Memory>(
     tables: &mut Tables,
     place: usize,

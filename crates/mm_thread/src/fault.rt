@@ -10,7 +10,8 @@ use crate::tables::Tables;
 use mm_model::{Event, SlotState, Tick};
 use mm_word::{Cause, Word};
 
-/// The slot at a place faults: it waits for its handler, or is halted, or waits in its place for a synchronisation bit.
+/// The slot at `place` faults. It waits for its handler. Without a handler it stays running, blocked, if it lacks a
+/// synchronisation bit, and is halted by any other cause.
 pub(crate) fn fault(
     tables: &mut Tables,
     place: usize,
@@ -40,7 +41,8 @@ pub(crate) fn fault(
     }
 }
 
-// A slot without a handler waits in its place for a synchronisation bit, and is halted by each other cause.
+// A slot without a handler faults: it stays running, blocked, if it lacks a synchronisation bit, and is halted by any
+// other cause.
 fn end_alone(tables: &mut Tables, place: usize, cause: Cause) -> Tick
     requires can { CanTurn tables.old place }
     ensures core { let s = slot_in tables.old place in
@@ -62,7 +64,7 @@ fn is_sync(cause: Cause) -> bool
     matches!(cause, Cause::Sync)
 }
 
-// The slot waits, and its event goes to its handler's queue.
+// Lets the slot wait, and appends its event to its handler's queue.
 fn wait_for(tables: &mut Tables, place: usize, handler: u8, event: Event)
     requires can { CanTurn tables.old place }
     requires handler { (slot_in tables.old place).handler ≡ Some handler }

@@ -1,13 +1,15 @@
+//! The output of a group.
+
 ghost use Rattle.std.specs.Prelude.{◌≡◌, ◌<◌, ◌≤◌, ◌++◌, [], ◌∷◌, length, IfOk};
 
 use mm_word::NoMemory;
 use std::alloc::Global;
 use std::marker::Model;
 
-/// How many bytes a group may put out in either version.
+/// The most bytes that a group may put out, in any version.
 const ROOM: usize = 65536;
 
-/// What a group has put out. Its room is taken whole when it is made.
+/// The bytes that a group has put out. All room is taken when it is made.
 #[derive(Drop)]
 pub(crate) struct GroupOutput {
     bytes: Vec<u8>,
@@ -24,7 +26,7 @@ impl Model for GroupOutput {
 }
 
 impl GroupOutput {
-    /// Nothing put out.
+    /// An empty output. `NoMemory` comes if memory ran out.
     pub(crate) fn new(alloc: Global) -> Result<GroupOutput, NoMemory>
         ensures { IfOk result (λ output. output ≡ []) }
     {
@@ -41,14 +43,14 @@ impl GroupOutput {
         &self.bytes
     }
 
-    /// How many bytes.
+    /// The count of bytes.
     pub(crate) fn len(&self) -> usize
         ensures { result ≡ length self.now }
     {
         self.bytes.len()
     }
 
-    /// Puts out one more byte.
+    /// Appends a byte.
     pub(crate) fn push(&mut self, byte: u8)
         requires { length self.old < 65536 }
         ensures { self.new ≡ self.old ++ byte ∷ [] }

@@ -14,7 +14,7 @@ use crate::tables::Tables;
 use mm_mem::Memory;
 use mm_model::{Slot, SlotState, Step, Tick};
 
-/// The turn of an item, and its step.
+/// Takes the turn of an item, and writes its step.
 pub(crate) fn take_item<M: Memory>(tables: &mut Tables, mem: &mut M, item: u8, step: &mut Step)
     requires whole { IsCore tables.old }
     requires turns { AllByRecursion (λ (s : SlotValue). s.turns < 2 ^ 61) (slots_of tables.old) }
@@ -40,7 +40,7 @@ pub(crate) fn is_running(slot: &Slot) -> bool
     matches!(slot.state, SlotState::Running)
 }
 
-// The turn of an item that is no slot's number.
+// Takes the turn of an item that is the number of no running slot: a port's delivery, or an idle cycle.
 fn take_port(tables: &mut Tables, item: u8, step: &mut Step)
     requires whole { IsCore tables.old }
     ensures { (m : MemoryValue) → AsksNothing (taken_by_port tables.old m item (port_of tables.old item)) m tables.new step.new }
@@ -57,7 +57,7 @@ fn take_port(tables: &mut Tables, item: u8, step: &mut Step)
     tell(step, tick, number, None, None);
 }
 
-// The place of the slot whose port the item is: in a split machine the items from 128 on are ports.
+// The index of the slot whose port the item is. In a split machine the items from 128 on are ports.
 fn port_of(tables: &Tables, item: u8) -> Option<usize>
     requires whole { IsCore tables.now }
     ensures within { IfSome result (λ p. p < length tables.now.rows) }

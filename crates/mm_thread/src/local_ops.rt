@@ -1,4 +1,4 @@
-//! The rows of the table that concern their slot alone.
+//! The instructions that concern their slot alone.
 #![tactic(auto, unfolding(mm_model::specs::Effect::effect, mm_model::specs::Effect::plain))]
 
 ghost use Rattle.std.specs.Prelude.{◌≡◌, ◌<◌, ◌^◌, Bool, true, IfOk, IfSome};
@@ -16,7 +16,7 @@ use mm_isa::{AluOp, Instr, Reg, alu};
 use mm_model::{Slot, SlotState};
 use mm_word::{Cause, GuardedPtr, Perm, Word, enter, lea, leab, next, restrict, setptr, subseg};
 
-/// The enter pointer that was entered, or why the instruction faults.
+/// The enter pointer that was entered, if any, or why the instruction faults.
 pub(crate) type Entered = Result<Option<GuardedPtr>, Cause>;
 
 #[tactic(auto, unfolding(mm_model::specs::Effect::effect, mm_model::specs::Effect::plain, mm_model::specs::Turn::slot_after))]
@@ -54,7 +54,7 @@ pub(crate) fn ldhi(slot: &mut Slot, rd: Reg, imm: i32) -> Entered
     Ok(None)
 }
 
-// The low half of a word moves up, and the number's 32 bits come below.
+// A word whose high half is the low half of `bits`, and whose low half is `imm`.
 fn high_and_low(bits: u64, imm: i32) -> u64
     ensures { result ≡ high_and_low bits imm }
 {
@@ -135,7 +135,7 @@ pub(crate) fn addi(slot: &mut Slot, rd: Reg, ra: Reg, imm: i32) -> Entered
     Ok(None)
 }
 
-// The register that holds a pointer, or its fault.
+// The pointer in a register, or the fault that there is none.
 fn pointer_of(slot: &Slot, ra: Reg) -> Result<GuardedPtr, Cause>
     ensures { result ≡ pointer_in (register slot.now ra) }
 {
@@ -146,7 +146,7 @@ fn pointer_of(slot: &Slot, ra: Reg) -> Result<GuardedPtr, Cause>
     }
 }
 
-// A register gets a pointer, where there is one.
+// Writes a pointer to a register, if there is one, and goes on.
 fn sets_pointer(slot: &mut Slot, rd: Reg, made: Result<GuardedPtr, Cause>) -> Entered
     requires { slot.old.turns < 2 ^ 62 }
     ensures { EndsAlone (sets_pointer slot.old rd made) slot.old slot.new result }
@@ -232,7 +232,7 @@ pub(crate) fn set_pointer(slot: &mut Slot, rd: Reg, ra: Reg) -> Entered
     sets_pointer(slot, rd, setptr(bits))
 }
 
-// The instruction pointer at so many words from its own address.
+// The instruction pointer moved by `imm` words.
 fn at_distance(slot: &Slot, imm: i32) -> Result<GuardedPtr, Cause>
     ensures place { result ≡ at_distance slot.now imm }
     ensures executable { IfOk result (λ p. can_fetch p.perm ≡ true) }
@@ -276,7 +276,7 @@ pub(crate) fn bnz(slot: &mut Slot, ra: Reg, imm: i32) -> Entered
     }
 }
 
-// The pointer that a jump through p enters by, where p is an enter pointer.
+// The pointer by which a jump through `p` enters, if `p` is an enter pointer.
 fn entry_of(p: GuardedPtr) -> Option<GuardedPtr>
     ensures { result ≡ entry_of p }
 {
@@ -327,7 +327,7 @@ pub(crate) fn jal(slot: &mut Slot, rd: Reg, ra: Reg) -> Entered
     }
 }
 
-// The jump, and the pointer behind the instruction goes to a register.
+// Jumps, and writes the pointer to the next instruction to a register.
 fn jump_and_link(slot: &mut Slot, rd: Reg, p: GuardedPtr) -> Entered
     requires { slot.old.turns < 2 ^ 62 }
     ensures { EndsAlone (links slot.old rd p (enter_result p) (next_result slot.old.ip)) slot.old slot.new result }

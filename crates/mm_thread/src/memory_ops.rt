@@ -1,4 +1,4 @@
-//! The rows of the table that ask something of memory.
+//! The instructions that need memory.
 
 ghost use Rattle.std.specs.Prelude.{◌≡◌, ◌<◌, ◌^◌, ◌&&◌, true, false, None, Some, IfOk, length};
 ghost use Rattle.mm_word.specs.Access.{check_result};
@@ -29,7 +29,7 @@ pub(crate) struct MemoryOperand {
     pub(crate) post: Post,
 }
 
-/// `ld`: a cell's word goes to a register, in a split machine later.
+/// `ld`: writes a cell's word to a register; in a split machine the word arrives later.
 pub(crate) fn load<M: Memory>(
     tables: &mut Tables,
     place: usize,
@@ -52,7 +52,7 @@ pub(crate) fn load<M: Memory>(
     }
 }
 
-/// `st`: a register's word goes to a cell.
+/// `st`: writes a register's word to a cell.
 pub(crate) fn store<M: Memory>(
     tables: &mut Tables,
     place: usize,
@@ -75,7 +75,7 @@ pub(crate) fn store<M: Memory>(
     }
 }
 
-/// `map`: a page is mapped, and a register tells whether.
+/// `map`: maps a page, and writes to a register whether that was done.
 pub(crate) fn map<M: Memory>(
     tables: &mut Tables,
     place: usize,
@@ -96,7 +96,7 @@ pub(crate) fn map<M: Memory>(
     }
 }
 
-/// `unmap`: a page is removed, and a register tells whether.
+/// `unmap`: removes a page, and writes to a register whether that was done.
 pub(crate) fn unmap<M: Memory>(
     tables: &mut Tables,
     place: usize,
@@ -117,7 +117,7 @@ pub(crate) fn unmap<M: Memory>(
     }
 }
 
-/// An instruction that reached no cell.
+/// The outcome of an instruction that reached no cell.
 pub(crate) fn untouched(outcome: Outcome) -> Retired
     ensures { result ≡ record { outcome = outcome; touched = None } }
 {
@@ -136,7 +136,7 @@ fn touching(outcome: Outcome, access: Access) -> Retired
     }
 }
 
-// A load that sets the bit is an access of its own kind.
+// The kind of a load's access. A load that sets the bit has a kind of its own.
 fn load_kind(post: Post) -> Kind
     ensures { result ≡ load_kind post }
 {
@@ -146,7 +146,7 @@ fn load_kind(post: Post) -> Kind
     }
 }
 
-// The access through a register's word.
+// The access through a register's word, or the fault of the access.
 fn reach(slot: &Slot, ra: Reg, imm: i32, kind: Kind) -> Result<Access, Cause>
     ensures value { result ≡ check_result (register slot.now ra) imm kind }
     ensures kind { IfOk result (λ a. a.kind ≡ kind) }
@@ -154,7 +154,7 @@ fn reach(slot: &Slot, ra: Reg, imm: i32, kind: Kind) -> Result<Access, Cause>
     check(word_of(slot, ra), i64::from(imm), kind)
 }
 
-// The word that a load brought goes to a register.
+// Writes the word of a load to a register, if the load was done.
 fn receive(tables: &mut Tables, place: usize, rd: Reg, loaded: Loaded) -> Outcome
     requires place { place < length tables.old.rows }
     requires runs { is_running (slot_in tables.old place).state ≡ true }
@@ -194,7 +194,7 @@ fn finish_store(tables: &mut Tables, place: usize, stored: Stored) -> Outcome
     }
 }
 
-// The page that a register names, for privileged code.
+// The page that a register names, if the code is privileged and the page's number is in range.
 fn page_named(slot: &Slot, ra: Reg) -> Result<u64, Cause>
     ensures value { result ≡ page_named slot.now ra }
     ensures small { IfOk result (λ page. page < 2 ^ 42) }

@@ -1,4 +1,4 @@
-//! The registers and the number that an instruction's operands name.
+//! The registers and the number in an instruction's operands.
 #![tactic(auto, unfolding(mm_model::specs::Operands::addr_operand, mm_model::specs::Operands::value_operand, mm_model::specs::Operands::lacks))]
 
 ghost use Rattle.std.specs.Prelude.{◌≡◌, [], ◌∷◌};
@@ -12,7 +12,7 @@ use mm_isa::{EvtReg, Instr, Operand, Reg, Visitor};
 use mm_model::Slot;
 use mm_word::Word;
 
-// What an instruction names, made from its row.
+// The operands of an instruction, gathered one after the other.
 #[derive(Clone, Copy)]
 struct Named {
     rd: Option<Reg>,
@@ -20,7 +20,7 @@ struct Named {
     evt: Option<EvtReg>,
     ra: Option<Reg>,
     rb: Option<Reg>,
-    // The number of imm, 0 where the operation has none.
+    // The number of imm; 0 if the operation has none.
     imm: i64,
 }
 
@@ -85,7 +85,7 @@ fn names(instr: &Instr) -> Named
     })
 }
 
-/// The address operand of an event: the word of ra, else integer 0.
+/// The address operand of an event: the word of register ra, or integer 0 if the instruction has none.
 pub(crate) fn addr_operand(instr: &Instr, slot: &Slot) -> Word
     ensures { result ≡ addr_operand instr.now slot.now }
 {
@@ -95,7 +95,7 @@ pub(crate) fn addr_operand(instr: &Instr, slot: &Slot) -> Word
     }
 }
 
-/// Its data operand: the word of rb, else the number of imm.
+/// The data operand of an event: the word of register rb, or the number of imm if the instruction has none.
 pub(crate) fn value_operand(instr: &Instr, slot: &Slot) -> Word
     ensures { result ≡ value_operand instr.now slot.now }
 {
@@ -106,7 +106,7 @@ pub(crate) fn value_operand(instr: &Instr, slot: &Slot) -> Word
     }
 }
 
-// The register of a field waits for a pending load.
+// Whether the register of a field waits for a pending load.
 fn field_waits(slot: &Slot, field: Option<Reg>) -> bool
     ensures { result ≡ field_empty slot.now field }
 {
@@ -116,7 +116,7 @@ fn field_waits(slot: &Slot, field: Option<Reg>) -> bool
     }
 }
 
-// One of the registers for results waits for a pending load.
+// Whether one of the registers for results waits for a pending load.
 fn results_wait(slot: &Slot, rd: Option<Reg>, evt: Option<EvtReg>) -> bool
     ensures { result ≡ list_any (is_empty slot.now) (results rd evt) }
 {

@@ -1,20 +1,22 @@
+//! The outcome of an instruction.
+
 use mm_word::{Access, Cause, GuardedPtr};
 
 /// How an instruction ends.
 #[derive(Clone, Copy, Debug, PartialEq, Eq)]
 pub(crate) enum Outcome {
-    /// It is carried out, perhaps through an enter pointer.
+    /// The instruction is carried out, perhaps through an enter pointer.
     Goes(Option<GuardedPtr>),
-    /// The slot stays at it.
+    /// The slot stays at the instruction.
     Waits,
-    /// It faults.
+    /// The instruction faults.
     Fails(Cause),
 }
 
-/// What an instruction tells of itself.
+/// The outcome of an instruction, and its access.
 #[derive(Clone, Copy, Debug, PartialEq, Eq)]
 pub(crate) struct Retired {
     pub(crate) outcome: Outcome,
-    /// Its access to a cell.
+    /// The access to a cell, if the instruction made one.
     pub(crate) touched: Option<Access>,
 }

@@ -1,6 +1,8 @@
+//! The outputs of groups, as values of their own.
+
 use std::marker::Model;
 
-/// What a group has put out.
+/// The output of a group.
 #[derive(Drop)]
 pub struct Output {
     /// The group, 0 to 63.

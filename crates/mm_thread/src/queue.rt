@@ -1,10 +1,12 @@
+//! The queue of events of a slot.
+
 ghost use Rattle.std.specs.Prelude.{◌≡◌, ◌<◌, ◌++◌, [], ◌∷◌, drop, length};
 
 use arrayvec::ArrayVec;
 use mm_model::Event;
 use std::marker::Model;
 
-/// How many events a queue has room for: one of each slot.
+/// The most events of a queue: one of each slot.
 const ROOM: usize = 64;
 
 /// The events that a slot has still to handle, oldest first.
@@ -44,7 +46,7 @@ impl Queue {
         requires { length self.old < 64 }
         ensures { self.new ≡ self.old ++ event ∷ [] }
     {
-        // Taken apart, since the prover cannot carry a whole event into the list: it is not told of the words in it.
+        // Taken apart, since the prover cannot carry a whole event into the list: it does not see the words in it.
         let Event {
             slot,
             cause,
@@ -61,7 +63,7 @@ impl Queue {
         });
     }
 
-    /// Takes the oldest event away.
+    /// Removes the oldest event.
     pub(crate) fn remove_first(&mut self)
         requires { 0 < length self.old }
         ensures { self.new ≡ drop 1 self.old }
@@ -69,7 +71,7 @@ impl Queue {
         self.events.remove(0);
     }
 
-    /// Takes all events away.
+    /// Removes all events.
     pub(crate) fn clear(&mut self)
         ensures { self.new ≡ [] }
     {

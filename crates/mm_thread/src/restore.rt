@@ -1,4 +1,4 @@
-//! A core is put back to given parts, without memory from the system.
+//! Putting a core back to given parts, without memory from the system.
 
 ghost use Rattle.std.specs.Prelude.{◌≡◌, ◌<◌, ◌≤◌, ◌++◌, [], ◌∷◌, IfSome, length, map, replicate};
 ghost use Rattle.std.specs.List.{AllByRecursion};
@@ -15,7 +15,7 @@ use crate::output::Output;
 use crate::tables::Tables;
 use mm_model::{Event, Slot};
 
-/// Puts these slots, without events, in the place of those of their numbers.
+/// Replaces the slots by these slots of the same numbers, without events.
 pub(crate) fn put_slots(tables: &mut Tables, slots: &[Slot])
     requires length { length slots.now ≡ length tables.old.rows }
     requires numbers { numbers_of slots.now ≡ numbers_in tables.old }
@@ -26,7 +26,7 @@ pub(crate) fn put_slots(tables: &mut Tables, slots: &[Slot])
     }
 }
 
-/// Puts each event after those of the slot that is to handle it.
+/// Appends each event to the queue of the slot that is to handle it.
 pub(crate) fn put_events(tables: &mut Tables, events: &[(u8, Event)])
     requires apart { AreNumbered tables.old.rows }
     requires empty { tables.old.rows ≡ map row_alone (slots_of tables.old) }
@@ -38,7 +38,7 @@ pub(crate) fn put_events(tables: &mut Tables, events: &[(u8, Event)])
     }
 }
 
-// Puts an event after those of the slot of a number, where there is one.
+// Appends an event to the queue of the slot of a number, if there is one.
 fn put_event(tables: &mut Tables, number: u8, event: Event)
     requires apart { AreNumbered tables.old.rows }
     requires room { IfSome (row_in tables.old.rows number) (λ row. length row.queue < 64) }
@@ -49,7 +49,7 @@ fn put_event(tables: &mut Tables, number: u8, event: Event)
     }
 }
 
-/// Makes these outputs the outputs of their groups, and those of the other groups empty.
+/// Makes these outputs the outputs of their groups, and empties those of the other groups.
 pub(crate) fn put_outputs(tables: &mut Tables, outputs: &[Output])
     requires groups { length tables.old.outputs ≡ 64 }
     requires short { AllByRecursion (λ (o : OutputValue). length o.bytes ≤ 65536) outputs.now }

@@ -1,10 +1,12 @@
+//! Slots with their queues.
+
 ghost use Rattle.std.specs.Prelude.{◌≡◌};
 
 use crate::queue::Queue;
 use mm_model::Slot;
 use std::marker::Model;
 
-/// A slot beside the events that it has still to handle.
+/// A slot, and the events that it has still to handle.
 #[derive(Drop)]
 pub(crate) struct Row {
     pub(crate) slot: Slot,

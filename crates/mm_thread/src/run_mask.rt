@@ -1,4 +1,4 @@
-//! The running slots as bits, one for each slot's number.
+//! The set of running slots: bit n is set if slot n runs.
 
 ghost use Rattle.std.specs.Prelude.{◌≡◌, ◌<◌, length};
 ghost use Rattle.std.specs.Int.{bit_at};
@@ -8,7 +8,7 @@ use crate::item::is_running;
 use crate::row::Row;
 use mm_model::Slot;
 
-/// The bits with that of the slot as the slot stands: set where it runs, and clear elsewhere.
+/// The set after a change of a slot: its bit is set if it runs, and otherwise clear.
 pub(crate) fn noted(runners: u64, slot: &Slot) -> u64
     requires { slot.now.number < 64 }
     ensures { IsNoted runners result slot.now }
@@ -21,7 +21,7 @@ pub(crate) fn noted(runners: u64, slot: &Slot) -> u64
     }
 }
 
-/// The same behind a turn of a slot that ran: nearly every turn leaves it so, and then no bit is looked at.
+/// The set after a turn of a slot that ran. Nearly every turn leaves the slot running, and then the set stays as it is.
 pub(crate) fn kept(runners: u64, slot: &Slot) -> u64
     requires small { slot.now.number < 64 }
     requires ran { bit_at runners slot.now.number ≡ 1 }
@@ -34,7 +34,7 @@ pub(crate) fn kept(runners: u64, slot: &Slot) -> u64
     }
 }
 
-// The bits without that of a slot that does not run.
+// The set without a slot that does not run.
 #[cold]
 #[inline(never)]
 fn without(runners: u64, slot: &Slot) -> u64
@@ -44,7 +44,7 @@ fn without(runners: u64, slot: &Slot) -> u64
     noted(runners, slot)
 }
 
-/// The bits of rows.
+/// The set of the running slots of rows.
 pub(crate) fn runners_of(rows: &[Row]) -> u64
     requires { AreNumbered rows.now }
     ensures { HasRunners rows.now result }

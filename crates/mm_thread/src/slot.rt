@@ -1,4 +1,4 @@
-//! What a turn does to its slot.
+//! The changes of a turn to its slot.
 
 ghost use Rattle.std.specs.Prelude.{◌≡◌, ◌+◌, ◌<◌, ◌^◌, true, false, None, Some, [], ◌∷◌, length, slice_set};
 ghost use Rattle.std.specs.List.{AllByRecursion};
@@ -29,7 +29,7 @@ pub(crate) fn set_register(slot: &mut Slot, rd: Reg, word: Word)
     slot.set_register(rd.number(), word);
 }
 
-/// The slot has taken a turn and stands so.
+/// Counts a turn of the slot, and sets its state.
 pub(crate) fn stand(slot: &mut Slot, state: SlotState)
     requires { slot.old.turns < 2 ^ 62 }
     ensures { slot.new ≡ stood slot.old state }
@@ -38,7 +38,7 @@ pub(crate) fn stand(slot: &mut Slot, state: SlotState)
     slot.state = state;
 }
 
-/// On to the next instruction.
+/// Goes on to the next instruction.
 #[tactic(auto, unfolding(mm_model::specs::Turn::slot_after, mm_model::specs::Effect::plain, mm_model::specs::Effect::advanced, mm_model::specs::Effect::runs_past))]
 pub(crate) fn advance(slot: &mut Slot)
     requires { slot.old.turns < 2 ^ 62 }
@@ -76,7 +76,7 @@ pub(crate) fn go_to(slot: &mut Slot, next: GuardedPtr)
     stand(slot, SlotState::Running);
 }
 
-/// The same, and a register gets the pointer back.
+/// Goes on at another instruction, and writes the pointer to return to into a register.
 #[tactic(auto, unfolding(mm_model::specs::Turn::slot_after, mm_model::specs::Effect::plain))]
 pub(crate) fn link(slot: &mut Slot, rd: Reg, back: GuardedPtr, next: GuardedPtr)
     requires turns { slot.old.turns < 2 ^ 62 }
@@ -102,7 +102,7 @@ pub(crate) fn issue(slot: &mut Slot, rd: Reg, word: Word)
     sets(slot, rd, Word::Int(0));
 }
 
-/// Delivers the oldest pending load, and tells its register.
+/// Delivers the oldest pending load, and gives its register; `None` if no load is pending.
 #[tactic(auto, using(crate::proofs::FlagSets::flags_clear16), unfolding(mm_model::specs::Effect::delivered))]
 pub(crate) fn deliver(slot: &mut Slot) -> Option<u8>
     requires { AllByRecursion (λ (p : Pending). p.reg < 16) slot.old.pending }
@@ -118,7 +118,7 @@ pub(crate) fn deliver(slot: &mut Slot) -> Option<u8>
     Some(arrived.reg)
 }
 
-/// The words of an event go to four registers.
+/// Writes the words of an event to four registers, and goes on to the next instruction.
 #[tactic(auto, unfolding(mm_model::specs::Turn::slot_after, mm_model::specs::Effect::plain))]
 pub(crate) fn take_event(slot: &mut Slot, rd: EvtReg, event: &Event)
     requires { slot.old.turns < 2 ^ 62 }
@@ -133,7 +133,7 @@ pub(crate) fn take_event(slot: &mut Slot, rd: EvtReg, event: &Event)
     advance(slot);
 }
 
-/// Its handler resumes the slot.
+/// Changes the slot as its handler resumes it.
 #[tactic(auto, unfolding(mm_model::specs::Effect::advanced, mm_model::specs::Effect::runs_past))]
 pub(crate) fn resume(slot: &mut Slot, how: How)
     ensures { slot.new ≡ resumed_by how slot.old }

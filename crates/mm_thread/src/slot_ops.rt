@@ -1,4 +1,4 @@
-//! The rows of the table that ask something of the slots and outputs around their slot.
+//! The instructions that need the slots and outputs around their slot.
 
 ghost use Rattle.std.specs.Prelude.{◌≡◌, ◌≢◌, ◌<◌, ◌^◌, true, IfSome, IfNone, length};
 ghost use Rattle.mm_word.specs.Word.{word_bits};
@@ -19,7 +19,7 @@ use mm_isa::{EvtReg, How, Instr, Reg};
 use mm_model::{Slot, SlotState};
 use mm_word::{Cause, Word};
 
-/// An instruction that asks nothing.
+/// Carries out an instruction that concerns its slot alone.
 pub(crate) fn go_alone(tables: &mut Tables, place: usize, instr: Instr) -> Outcome
     requires can { CanTurn tables.old place }
     requires alone { is_alone instr ≡ true }
@@ -32,7 +32,7 @@ pub(crate) fn go_alone(tables: &mut Tables, place: usize, instr: Instr) -> Outco
     }
 }
 
-/// `out`: the lowest byte of a word goes to the group's output.
+/// `out`: puts out the lowest byte of a word to the group's output.
 pub(crate) fn put_out(tables: &mut Tables, place: usize, ra: Reg) -> Outcome
     requires { CanTurn tables.old place }
     ensures { (m : Memory) → let s = slot_in tables.old place in
@@ -50,7 +50,7 @@ pub(crate) fn put_out(tables: &mut Tables, place: usize, ra: Reg) -> Outcome
     }
 }
 
-/// `evt`: the oldest event of the slot's own queue goes to four registers, and its slot is taken.
+/// `evt`: writes the oldest event of the slot's own queue to four registers; the event's slot is then taken.
 pub(crate) fn next_event(tables: &mut Tables, place: usize, rd: EvtReg) -> Outcome
     requires { CanTurn tables.old place }
     ensures { (m : Memory) → let s = slot_in tables.old place in
@@ -68,7 +68,7 @@ pub(crate) fn next_event(tables: &mut Tables, place: usize, rd: EvtReg) -> Outco
     Outcome::Goes(None)
 }
 
-// The place of the slot that a register names, where this slot is its handler and has read its event.
+// The index of the slot that a register names, if the slot at `place` is its handler and has read its event.
 fn served(tables: &Tables, place: usize, ra: Reg) -> Option<usize>
     requires { CanTurn tables.now place }
     ensures within { IfSome result (λ p. p < length tables.now.rows) }
@@ -89,7 +89,7 @@ fn served(tables: &Tables, place: usize, ra: Reg) -> Option<usize>
     }
 }
 
-// Whether the slot of this number is the slot's handler.
+// Whether the slot of a number is the handler of a slot.
 fn is_handled_by(slot: &Slot, number: u8) -> bool
     ensures { result ≡ is_handler number slot.now.handler }
 {
@@ -99,7 +99,7 @@ fn is_handled_by(slot: &Slot, number: u8) -> bool
     }
 }
 
-// Whether its handler has read the slot's event.
+// Whether the slot's handler has read its event.
 fn is_taken(slot: &Slot) -> bool
     ensures { result ≡ is_taken slot.now.state }
 {

@@ -18,7 +18,7 @@ use mm_mem::Memory;
 use mm_model::{SlotState, Step, Tick};
 use mm_word::{Access, Cause, Kind, Word, check};
 
-/// The turn of the running slot at a place, and its step.
+/// Takes the turn of the running slot at `place`, and writes its step.
 pub(crate) fn start<M: Memory>(tables: &mut Tables, place: usize, mem: &mut M, step: &mut Step)
     requires can { CanTurn tables.old place }
     requires room { M.uses mem.old < 2 ^ 61 }
@@ -37,7 +37,7 @@ pub(crate) fn start<M: Memory>(tables: &mut Tables, place: usize, mem: &mut M, s
     }
 }
 
-// A fault before an instruction is known: it has no operands.
+// Ends a turn by a fault before an instruction is known: it has no operands.
 fn fail_fetch(
     tables: &mut Tables,
     place: usize,
@@ -83,7 +83,7 @@ fn instr_in(word: Word) -> Option<Instr>
     }
 }
 
-// From the instruction on.
+// Goes on with the turn from the instruction.
 fn issue<M: Memory>(
     tables: &mut Tables,
     place: usize,
@@ -110,7 +110,7 @@ fn issue<M: Memory>(
     end(tables, place, &instr, told, step);
 }
 
-// Whether a register that the instruction names waits for a load, in a split machine.
+// Whether a register in the instruction waits for a load, in a split machine.
 fn must_wait(tables: &Tables, place: usize, instr: &Instr) -> bool
     requires { place < length tables.now.rows }
     ensures { result ≡ (tables.now.split && lacks instr.now (slot_in tables.now place)) }
@@ -118,8 +118,8 @@ fn must_wait(tables: &Tables, place: usize, instr: &Instr) -> bool
     tables.split() && lacks(instr, tables.slot(place))
 }
 
-// The end of a turn, whose step has the slot and the fetch: a slot that waits stays where it is, and one that faults
-// goes to its handler.
+// Ends a turn, whose step has the slot and the fetch: a slot that waits stays at its instruction, and a slot that
+// faults goes to its handler.
 fn end(tables: &mut Tables, place: usize, instr: &Instr, told: Retired, step: &mut Step)
     requires { CanEnd told.outcome tables.old place }
     ensures core { tables.new ≡ core_ended instr.now tables.old (slot_in tables.old place) place told.outcome }
@@ -145,8 +145,8 @@ fn end(tables: &mut Tables, place: usize, instr: &Instr, told: Retired, step: &m
     }
 }
 
-/// Tells the step of a turn that enters nothing. It is written part by part where its caller keeps it, since a step
-/// that is handed up from function to function is copied at each of them.
+/// Writes the step of a turn that enters nothing. It is written field by field into the caller's step, since a step
+/// that is returned from function to function is copied at each of them.
 #[inline(always)]
 pub(crate) fn tell(
     step: &mut Step,

@@ -1,3 +1,5 @@
+//! A core: the slots, events and outputs of a machine.
+
 ghost use Rattle.std.specs.Prelude.{◌≡◌, ℕ, ◌+◌, ◌<◌, ◌≤◌, ◌^◌, ◌⊎◌, false, [], length, map, replicate, IfOk, IsSomeAnd, slice_get, ◌↔◌};
 ghost use Rattle.std.specs.Int.{IsBitSet};
 ghost use Rattle.std.specs.Option.{option_copied};
@@ -28,7 +30,7 @@ use mm_word::NoMemory;
 use std::alloc::Global;
 use std::marker::Model;
 
-/// The slots of a machine with their events, and what its groups have put out.
+/// The slots of a machine with their events, and the outputs of its groups.
 #[derive(Drop)]
 pub struct Core {
     tables: Tables,
@@ -50,19 +52,19 @@ pub fn turn<M: Memory>(core: &mut Core, mem: &mut M, item: u8) -> Step
     requires turns { AllByRecursion (λ (s : SlotValue). s.turns < 2 ^ 61) (slots_of core.old) }
     requires room { M.uses mem.old < 2 ^ 61 }
 
-    // What the turn of the model leaves and tells.
+    // The core, the memory and the step are those of the turn of the model.
     ensures core { core.new ≡ (turn_of core.old (M.meaning mem.old) item).core }
     ensures memory { M.meaning mem.new ≡ (turn_of core.old (M.meaning mem.old) item).memory }
     ensures step { result ≡ (turn_of core.old (M.meaning mem.old) item).step }
 
-    // What comes of the item, exactly, by the first test of the turn that fails.
+    // The outcome of the item, exactly, by the first test of the turn that fails.
     ensures idle { (result.tick ≡ Tick.Idle) ↔ IsIdle core.old item }
     ensures delivered { (reg : ℕ) → (result.tick ≡ Tick.Delivered reg) ↔ Delivers core.old item reg }
     ensures blocked { (result.tick ≡ Tick.Blocked) ↔ Blocks core.old (M.meaning mem.old) item }
     ensures faulted { (c : Cause) → (result.tick ≡ Tick.Faulted c) ↔ Faults core.old (M.meaning mem.old) item c }
     ensures did { (result.tick ≡ Tick.Did) ↔ Completes core.old (M.meaning mem.old) item }
 
-    // What was asked of the memory, in order.
+    // The uses of the memory, in order.
     ensures takes { TakesUses M.stands mem.old mem.new (turn_of core.old (M.meaning mem.old) item).uses }
     ensures count { M.uses mem.new ≡ M.uses mem.old + accesses (turn_of core.old (M.meaning mem.old) item).uses }
     ensures few { accesses (turn_of core.old (M.meaning mem.old) item).uses ≤ 2 }
@@ -84,9 +86,9 @@ pub fn turn<M: Memory>(core: &mut Core, mem: &mut M, item: u8) -> Step
 impl Core {
     ghost use Rattle.mm_thread.specs.Parts.{AreParts, core_of};
 
-    /// The core of an image's slots, before its first turn: each queue is empty and nothing was put out. It has the
-    /// output limit of version 1 until [`Core::set_version`] sets another, and is not split. The room for outputs is
-    /// all that it takes beside its slots; no later call takes memory.
+    /// The core of an image's slots before its first turn: each queue and each output is empty. Its output limit is
+    /// that of version 1 until [`Core::set_version`] sets another, and it is not split. Besides its slots it takes only
+    /// the room for outputs; no later call takes memory. `NoMemory` comes if memory ran out.
     pub fn new(alloc: Global, slots: &[Slot]) -> Result<Core, NoMemory>
         requires rising { IsStrictlyIncreasing (numbers_of slots.now) }
         requires fresh { AllByRecursion (IsFresh 64 slots.now) slots.now }
@@ -101,8 +103,8 @@ impl Core {
         Ok(Core { tables })
     }
 
-    /// Puts the core back to these parts: the slots, their events in order, each with the number of the slot that is to
-    /// handle it, and what groups have put out. Version and mode stay. Takes no memory.
+    /// Puts the core back to these parts: the slots; their events in order, each with the number of the slot that is to
+    /// handle it; and the outputs of groups. Version and mode stay. Takes no memory.
     pub fn assign(&mut self, slots: &[Slot], events: &[(u8, Event)], outputs: &[Output])
         requires { AreParts self.old slots.now events.now outputs.now }
         ensures { self.new ≡ core_of self.old.version self.old.split slots.now events.now outputs.now }
@@ -112,7 +114,7 @@ impl Core {
         put_outputs(&mut self.tables, outputs);
     }
 
-    /// Makes it a machine that is split or one that is not.
+    /// Makes the core that of a split machine, or of one that is not split. No load may be pending.
     pub fn set_split(&mut self, on: bool)
         requires { AllByRecursion (λ (s : SlotValue). s.pending ≡ []) (slots_of self.old) }
         ensures { self.new ≡ record self.old { split = on } }
@@ -120,7 +122,7 @@ impl Core {
         self.tables.set_split(on);
     }
 
-    /// Makes it a machine of this version, which says how many bytes a group may put out.
+    /// Sets the version, which says how many bytes a group may put out. Nothing may have been put out.
     pub fn set_version(&mut self, version: u16)
         requires known { (version ≡ 1) ⊎ (version ≡ 2) }
         requires slots { AllByRecursion (IsOfVersion version) (slots_of self.old) }
@@ -140,7 +142,7 @@ impl Core {
         }
     }
 
-    /// The running slots: bit n is set exactly where slot n runs.
+    /// The set of running slots: bit n is set exactly if slot n runs.
     pub fn running(&self) -> u64
         ensures { (n : ℕ) → IsBitSet result n ↔ IsSomeAnd (slot_at self.now n) (λ s. s.state ≡ Running) }
     {
@@ -171,7 +173,7 @@ impl Core {
         }
     }
 
-    /// How many slots there are.
+    /// The count of slots.
     pub fn count(&self) -> usize
         ensures { result ≡ length (slots_of self.now) }
     {
@@ -193,7 +195,7 @@ impl Core {
         self.tables.version()
     }
 
-    /// Whether loads are issued and their values arrive later.
+    /// Whether the machine is split: loads are issued, and their words arrive later.
     pub fn split(&self) -> bool
         ensures { result ≡ self.now.split }
     {

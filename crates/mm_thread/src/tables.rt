@@ -1,3 +1,5 @@
+//! The tables of a core, and the changes to them.
+
 ghost use Rattle.std.specs.Prelude.{◌≡◌, ◌↔◌, ℕ, IsSomeAnd, IfSome, IfNone, ◌<◌, ◌≤◌, ◌^◌, ◌++◌, ◌&&◌, [], ◌∷◌, nat_lt, None, Some, Bool, true, false, length, drop, slice_set};
 ghost use Rattle.std.specs.List.{AllByRecursion};
 ghost use Rattle.std.specs.Int.{IsBitSet};
@@ -26,13 +28,13 @@ use mm_model::{Event, Slot, SlotState};
 use mm_word::Word;
 use std::marker::Model;
 
-/// The slots by ascending number, each with its queue, where each number's slot is, and what each group has put out.
+/// The slots by ascending number, each with its queue, the index of each number's slot, and the output of each group.
 #[derive(Drop)]
 pub(crate) struct Tables {
     rows: Vec<Row>,
-    /// The place of each number's row, and 64 where there is none.
+    /// For each number the index of its row, and 64 if there is none.
     index: [u8; 64],
-    /// The running slots: bit n is set exactly where slot n runs.
+    /// The set of running slots: bit n is set exactly if slot n runs.
     runners: u64,
     outputs: Vec<GroupOutput>,
     version: u16,
@@ -82,16 +84,16 @@ impl Tables {
     }
 }
 
-// What is read.
+// Reading the tables.
 impl Tables {
-    /// How many slots there are.
+    /// The count of slots.
     pub(crate) fn len(&self) -> usize
         ensures { result ≡ length self.now.rows }
     {
         self.rows.len()
     }
 
-    /// The place of the slot of a number.
+    /// The index of the slot of a number, if there is one.
     pub(crate) fn place_of(&self, number: u64) -> Option<usize>
         ensures within { IfSome result (λ p. p < length self.now.rows) }
         ensures number { IfSome result (λ p. (slot_in self.now p).number ≡ number) }
@@ -105,7 +107,7 @@ impl Tables {
         if place < count { Some(place) } else { None }
     }
 
-    /// The slot at a place.
+    /// The slot at `place`.
     pub(crate) fn slot(&self, place: usize) -> &Slot
         requires { place < length self.now.rows }
         ensures { result.now ≡ slot_in self.now place }
@@ -114,14 +116,14 @@ impl Tables {
         &row.slot
     }
 
-    /// The running slots: bit n is set exactly where slot n runs.
+    /// The set of running slots: bit n is set exactly if slot n runs.
     pub(crate) fn running(&self) -> u64
         ensures { (n : ℕ) → IsBitSet result n ↔ IsSomeAnd (slot_at self.now n) (λ s. s.state ≡ Running) }
     {
         self.runners
     }
 
-    /// The events that the slot at a place has still to handle.
+    /// The events that the slot at `place` has still to handle, oldest first.
     pub(crate) fn queue(&self, place: usize) -> &[Event]
         requires { place < length self.now.rows }
         ensures { result.now ≡ queue_in self.now place }
@@ -130,7 +132,7 @@ impl Tables {
         row.queue.events()
     }
 
-    /// What a group has put out.
+    /// The bytes that a group has put out, oldest first.
     #[tactic(auto, unfolding(mm_model::specs::State::output_of))]
     pub(crate) fn output(&self, group: u8) -> &[u8]
         requires { group < length self.now.outputs }
@@ -149,7 +151,7 @@ impl Tables {
         self.outputs[group as usize].len() < limit
     }
 
-    /// Whether a register of the slot at a place waits for a load, in a split machine.
+    /// Whether a register of the slot at `place` waits for a load, in a split machine.
     pub(crate) fn lacks(&self, place: usize, reg: Reg) -> bool
         requires { place < length self.now.rows }
         ensures { result ≡ (self.now.split && is_empty (slot_in self.now place) reg) }
@@ -170,9 +172,9 @@ impl Tables {
     }
 }
 
-// What is done to the slot at a place.
+// Changes to the slot at `place`.
 impl Tables {
-    /// The slot has taken a turn and stands so.
+    /// Counts a turn of the slot, and sets its state.
     pub(crate) fn stand(&mut self, place: usize, state: SlotState)
         requires place { place < length self.old.rows }
         requires turns { (slot_in self.old place).turns < 2 ^ 62 }
@@ -184,7 +186,7 @@ impl Tables {
         self.runners = noted(self.runners, slot);
     }
 
-    /// The slot goes on to its next instruction.
+    /// Lets the slot go on to its next instruction.
     pub(crate) fn advance(&mut self, place: usize)
         requires place { place < length self.old.rows }
         requires runs { is_running (slot_in self.old place).state ≡ true }
@@ -197,7 +199,7 @@ impl Tables {
         self.runners = kept(self.runners, slot);
     }
 
-    /// The same, and a register gets a word.
+    /// Writes a word to a register of the slot, and lets the slot go on.
     pub(crate) fn sets(&mut self, place: usize, rd: Reg, word: Word)
         requires place { place < length self.old.rows }
         requires runs { is_running (slot_in self.old place).state ≡ true }
@@ -210,7 +212,7 @@ impl Tables {
         self.runners = kept(self.runners, slot);
     }
 
-    /// The same, where the word arrives later.
+    /// Issues a load of the slot: the word arrives in the register later. The slot goes on.
     pub(crate) fn issue(&mut self, place: usize, rd: Reg, word: Word)
         requires place { place < length self.old.rows }
         requires runs { is_running (slot_in self.old place).state ≡ true }
@@ -224,7 +226,7 @@ impl Tables {
         self.runners = kept(self.runners, slot);
     }
 
-    /// The slot carries out an instruction that concerns it alone.
+    /// Carries out an instruction of the slot that concerns it alone.
     pub(crate) fn carry_out(&mut self, place: usize, instr: Instr) -> Entered
         requires place { place < length self.old.rows }
         requires runs { is_running (slot_in self.old place).state ≡ true }
@@ -240,7 +242,7 @@ impl Tables {
         entered
     }
 
-    /// The words of an event go to four registers, and the slot goes on.
+    /// Writes the words of an event to four registers of the slot, and lets the slot go on.
     pub(crate) fn take_event(&mut self, place: usize, rd: EvtReg, event: &Event)
         requires place { place < length self.old.rows }
         requires runs { is_running (slot_in self.old place).state ≡ true }
@@ -253,7 +255,7 @@ impl Tables {
         self.runners = kept(self.runners, slot);
     }
 
-    /// The slot's oldest pending load is delivered. Tells its register.
+    /// Delivers the slot's oldest pending load, and gives its register; `None` if no load is pending.
     pub(crate) fn deliver(&mut self, place: usize) -> Option<u8>
         requires place { place < length self.old.rows }
         requires registers { AllByRecursion (λ (p : Pending). p.reg < 16) (slot_in self.old place).pending }
@@ -265,7 +267,7 @@ impl Tables {
         deliver(slot)
     }
 
-    /// The slot's handler resumes it.
+    /// Changes the slot as its handler resumes it.
     pub(crate) fn resume(&mut self, place: usize, how: How)
         requires { place < length self.old.rows }
         ensures { self.new ≡ with_slot self.old place (resumed_by how (slot_in self.old place)) }
@@ -276,7 +278,7 @@ impl Tables {
         self.runners = noted(self.runners, slot);
     }
 
-    /// The slot's handler has read its event.
+    /// Marks that the slot's handler has read its event.
     pub(crate) fn set_taken(&mut self, place: usize)
         requires { place < length self.old.rows }
         ensures { self.new ≡ with_slot self.old place (record (slot_in self.old place) { state = Taken }) }
@@ -287,7 +289,7 @@ impl Tables {
         self.runners = noted(self.runners, slot);
     }
 
-    /// The slot's handler writes one of its registers.
+    /// Writes a register of the slot, for its handler.
     pub(crate) fn set_register(&mut self, place: usize, reg: Reg, word: Word)
         requires { place < length self.old.rows }
         ensures { self.new ≡ with_slot self.old place (record (slot_in self.old place) { regs = slice_set (slot_in self.old place).regs reg word }) }
@@ -298,9 +300,9 @@ impl Tables {
     }
 }
 
-// What is done to queues and outputs.
+// Changes to queues and outputs.
 impl Tables {
-    /// Adds the newest event to the queue at a place.
+    /// Appends an event to the queue at `place`.
     pub(crate) fn push_event(&mut self, place: usize, event: Event)
         requires place { place < length self.old.rows }
         requires room { length (queue_in self.old place) < 64 }
@@ -310,7 +312,7 @@ impl Tables {
         row.queue.push(event);
     }
 
-    /// Takes the oldest event away from the queue at a place.
+    /// Removes the oldest event from the queue at `place`.
     pub(crate) fn remove_event(&mut self, place: usize)
         requires place { place < length self.old.rows }
         requires some { 0 < length (queue_in self.old place) }
@@ -320,7 +322,7 @@ impl Tables {
         row.queue.remove_first();
     }
 
-    /// A group puts out one more byte.
+    /// Appends a byte to the output of a group.
     #[tactic(auto, unfolding(mm_model::specs::State::output_of, mm_model::specs::State::put_output))]
     pub(crate) fn put_byte(&mut self, group: u8, byte: u8)
         requires group { group < length self.old.outputs }
@@ -331,7 +333,7 @@ impl Tables {
         output.push(byte);
     }
 
-    /// Puts a slot without events at a place.
+    /// Replaces the slot at `place` by one of the same number, without events.
     pub(crate) fn set_row(&mut self, place: usize, slot: &Slot)
         requires place { place < length self.old.rows }
         requires number { slot.now.number ≡ (slot_in self.old place).number }

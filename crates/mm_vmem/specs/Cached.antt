@@ -14,7 +14,7 @@ use Rattle.mm_vmem.specs.declared.tlb.Entry.{Entry}
 use Rattle.mm_vmem.specs.Stands.{LineState, Stands, state_at, back_of}
 use Rattle.mm_vmem.specs.Entries.{pages_in}
 
--- 1. What it is.
+-- 1. What a cached memory is.
 
 -- a cached memory, as contracts see it
 pub record Cached : Type 0 where
@@ -22,7 +22,7 @@ pub record Cached : Type 0 where
   pub lines : List (Option CacheLine)
   -- the translation buffer
   pub entries : List Entry
-  -- how many accesses were made
+  -- the count of accesses that were made
   pub uses : ℕ
   pub numbers : Counts
 
@@ -38,11 +38,11 @@ line_state (Some l) = Some (record { block = l.block; dirty = l.dirty })
 abbrev pub line_states : List (Option CacheLine) → List (Option LineState)
 line_states lines = map line_state lines
 
--- a cached memory stands to a list of uses: its lines, its buffer and its numbers are what the list says
+-- a list of uses belongs to a cached memory: its lines, its buffer and its numbers are what the list says
 abbrev pub StandsTo : Cached → List Use → Type 0
 StandsTo c us = Stands c.uses (line_states c.lines) (pages_in c.entries) c.numbers us
 
--- what a cached memory tells of a list of uses
+-- the counts of a cached memory for a list of uses
 abbrev pub tells : List Use → Option Counts
 tells us = Some (counts_of us)
 
@@ -54,7 +54,7 @@ pub record AreFew (n : Counts) (made : ℕ) : Type 0 where
   pub reads : n.reads ≤ made
   pub writes : n.writes ≤ made
 
--- lines that lie over the frames, entries that are right, and numbers of its accesses
+-- a cached memory whose lines lie over its frames, whose entries are right, and whose numbers its accesses can make
 pub record IsCached (c : Cached) : Type 0 where
   pub cover : Cover c.lines (memory_of c.frames)
   pub right : AllByRecursion (λ e. frame_of c.frames e.page ≡ Some e.frame) c.entries

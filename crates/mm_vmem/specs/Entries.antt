@@ -17,7 +17,7 @@ entries_without page [] = []
 entries_without page (e ∷ entries) = if page == e.page then entries_without page entries
     else e ∷ entries_without page entries
 
--- the buffer after a look-up of this entry's page: its entry is the first, and where there were 16 others the last of
+-- the buffer after a look-up of this entry's page: its entry is the first, and if there were 16 others, the last of
 -- them is gone
 abbrev pub after_look_up : Entry → List Entry → List Entry
 after_look_up e entries = take 16 (e ∷ entries_without e.page entries)

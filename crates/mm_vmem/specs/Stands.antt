@@ -20,7 +20,7 @@ state_with (Some block) w = Some (record { block = block; dirty = w })
 abbrev pub line_after : ℕ → List Use → Option LineState
 line_after line us = state_with (latest line us) (written line us)
 
--- a line without a block of this page
+-- the line, if it has no block of this page
 abbrev pub line_without : ℕ → Option LineState → Option LineState
 line_without page None = None
 line_without page (Some t) = if page_of_block t.block == page then None else Some t
@@ -49,7 +49,7 @@ abbrev pub state_has : Option LineState → ℕ → Bool
 state_has None block = false
 state_has (Some t) block = t.block == block
 
--- the block that a line gives back for this one
+-- the block that a line writes back when this one comes
 abbrev pub back_of : Option LineState → ℕ → Option ℕ
 back_of None block = None
 back_of (Some t) block = given_back (Some t.block) t.dirty block

@@ -1,3 +1,5 @@
+//! The translation buffer (TLB).
+
 ghost use Rattle.std.specs.Prelude.{◌≡◌, ◌==◌, ◌↔◌, [], ◌∷◌, ◌++◌, true, position, IfSome, IfNone, IsNone};
 ghost use Rattle.mm_model.specs.Counted.{has};
 ghost use Rattle.mm_vmem.specs.Stands.{IsDistinct};
@@ -6,7 +8,7 @@ ghost use Rattle.mm_vmem.specs.Entries.{pages_in, entries_without};
 use arrayvec::ArrayVec;
 use std::marker::Model;
 
-/// How many entries a TLB has room for.
+/// The most entries that a TLB has.
 pub const ENTRIES: usize = 16;
 
 /// An entry of the TLB: a page that was looked up, and its frame.
@@ -41,7 +43,7 @@ fn place(entries: &[Entry], page: u64) -> Option<usize>
     entries.iter().position(|entry| entry.page == page)
 }
 
-// Puts an entry first, and moves the entries before the old one of its page one place down. Where its page has no entry
+// Puts an entry first, and moves the entries before the old one of its page one place down. If its page has no entry
 // yet, moves all of them, and gives the last, for which there is no place.
 fn move_down(entries: &mut [Entry], first: Entry) -> Option<Entry>
     requires { IsDistinct (pages_in entries.old) }
@@ -82,8 +84,8 @@ impl Tlb {
         Some(entries[i].frame)
     }
 
-    /// Looks up a page with its frame, and tells whether it was there. Its entry becomes the first; where there is no
-    /// room the last one goes.
+    /// Looks up a page with its frame, and says whether it was there. Its entry becomes the first; if there is no room,
+    /// the last one goes.
     pub fn look_up(&mut self, page: u64, frame: u32) -> bool
         ensures found { result ≡ has page (pages_in self.old) }
         ensures after { self.new ≡ after_look_up (record { page = page; frame = frame }) self.old }

@@ -1,3 +1,5 @@
+//! The cached memory.
+
 ghost use Rattle.std.specs.Prelude.{◌≡◌, ℕ, ◌+◌, ◌-◌, ◌*◌, ◌^◌, ◌%◌, ◌<◌, ◌≤◌, ◌&&◌, Bool, true, false, [], ◌∷◌, ◌++◌};
 ghost use Rattle.std.specs.Prelude.{IsTrue, IfOk, IfSome, IfNone, List, length, is_some, slice_set};
 ghost use Rattle.std.specs.Ordering.{nat_cmp};
@@ -44,7 +46,7 @@ const NOTHING: Tally = Tally {
 ///
 /// An access whose block is in its line is a hit, and reads or writes there. A miss first makes room: a dirty block is
 /// written back to its frame, by a look-up of its page. Then its own page is looked up, and its block is read from the
-/// frame. `new` takes all memory; no later call takes any.
+/// frame. `new` allocates all memory; no later call allocates.
 #[derive(Drop)]
 pub struct VMem {
     frames: Frames,
@@ -95,7 +97,7 @@ impl Model for VMem {
 }
 
 impl VMem {
-    // Accesses a word, which is counted: its cell, and its block is then in its line; none where its page is not
+    // The cell of a word, by an access that is counted; the word's block is then in its line. `None` if its page is not
     // mapped.
     #[inline(always)]
     fn touch(&mut self, word: u64) -> Option<Cell>
@@ -107,7 +109,8 @@ impl VMem {
         ensures count { self.new.uses ≡ self.old.uses + 1 }
         ensures there { IfSome result (λ cell. hits self.new.lines (block_of word) ≡ true) }
 
-        // The memory stands to each list to which it stood, with this access of any kind after it that wrote nothing.
+        // Each list of uses that belonged to the memory, with this access appended, belongs to it, if the access wrote
+        // nothing.
         ensures takes { (us : List Use) (kind : Kind) (done : Bool) → (writes_of kind && done) ≡ false
             → StandsTo self.old us
             → StandsTo self.new (us ++ Accessed kind word (is_some result) done ∷ []) }
@@ -124,7 +127,7 @@ impl VMem {
         }
     }
 
-    // Brings the block of a word, which is not there, into its line, where its page is mapped.
+    // Brings the block of a word into its line, which does not have it, if its page is mapped.
     #[inline(never)]
     fn miss(&mut self, word: u64) -> Option<Cell>
         requires aligned { word % 8 ≡ 0 }
@@ -153,7 +156,7 @@ impl VMem {
         self.lines.cell(word)
     }
 
-    // Brings a block, which is not there, into its line from the frame of its page.
+    // Brings a block into its line, which does not have it, from the frame of its page.
     fn bring(&mut self, block: u64, frame: u32)
         requires small { block < 2 ^ 48 }
         requires absent { hits self.old.lines block ≡ false }
@@ -178,7 +181,7 @@ impl VMem {
         self.lines.fill_packed(block, cells);
     }
 
-    // Empties the line of a block that is not there, and writes its old block back where that is dirty.
+    // Empties the line of a block, which does not have it, and writes the line's old block back if that is dirty.
     fn make_room(&mut self, block: u64)
         requires absent { hits self.old.lines block ≡ false }
         requires room { self.old.uses ≤ 2 ^ 62 }
@@ -206,7 +209,7 @@ impl VMem {
         }
     }
 
-    // The frame of a page: that of the TLB's entry, or else found among the mapped pages.
+    // The frame of a page: that of the TLB's entry, or else the one found among the mapped pages.
     fn frame_of(&self, page: u64) -> Option<u32>
         ensures { result ≡ frame_of self.now.frames page }
     {
@@ -240,7 +243,7 @@ impl VMem {
         ensures after { meaning self.new ≡ put_cell (meaning self.old) word cell }
         ensures count { self.new.uses ≡ self.old.uses }
 
-        // An access of this word that wrote nothing yet has written.
+        // The access of this word, which had written nothing, has now written.
         ensures takes { (us : List Use) (kind : Kind) → writes_of kind ≡ true
             → StandsTo self.old (us ++ Accessed kind word true false ∷ [])
             → StandsTo self.new (us ++ Accessed kind word true true ∷ []) }
@@ -326,7 +329,7 @@ impl Inspect for VMem {
         }
     }
 
-    // The pages of every cached memory rise, each is whole, and no more are mapped than it has frames.
+    // The pages of every cached memory rise by number, each is whole, and there are no more than frames.
     fn pages(&self) -> u32
         ensures count { result ≡ length (meaning self.now).pages }
         ensures paged { IsPaged (meaning self.now) }

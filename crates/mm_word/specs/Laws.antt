@@ -1,3 +1,4 @@
+-- What holds of every pointer, permission and segment.
 use Rattle.std.specs.Prelude.{◌≡◌, ℕ, ◌≤◌, ◌<◌, true, ℤ, Ok, Some}
 use Rattle.mm_word.specs.declared.perm.Perm.{Perm}
 use Rattle.mm_word.specs.declared.perm.Kind.{Kind}
@@ -8,7 +9,7 @@ use Rattle.mm_word.specs.Pointer.{restrict_result, subseg_result, setptr_result,
 use Rattle.mm_word.specs.Word.{IsWord}
 use Rattle.mm_word.specs.Access.{Touch, IsGranted, check_result}
 
--- what two restrictions give, one may give
+-- what two restrictions give, one restriction may give
 abbrev pub RestrictionIsTransitive : Type 0
 RestrictionIsTransitive = (p q r : Perm) → can_become p q ≡ true → can_become q r ≡ true → can_become p r ≡ true
 
@@ -53,7 +54,7 @@ abbrev pub PassedIsGranted : Type 0
 PassedIsGranted =
     (w : Word) (by : ℤ) (kind : Kind) (t : Touch) → IsWord w → check_result w by kind ≡ Ok t → IsGranted t
 
--- a segment no longer than another, from an address in that one, lies in that one
+-- a segment that is no longer than another lies in it if its pointer's address does
 abbrev pub ShorterSegmentsNest : Type 0
 ShorterSegmentsNest =
     (p q : Pointer) → q.log ≤ p.log → InSegment p q.addr → (a : ℕ) → InSegment q a → InSegment p a

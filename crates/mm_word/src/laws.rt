@@ -6,7 +6,8 @@ ghost use Rattle.mm_word.specs.Laws.{BelowIsTransitive, BelowIsWellFormed, Resul
 ghost use Rattle.mm_word.specs.Laws.{EnteredIsWellFormed, PassedIsGranted, ShorterSegmentsNest};
 ghost use Rattle.mm_word.specs.Laws.{ShortSegmentsCoverNothing, BitsAreInjective};
 
-/// What a chain of restrictions gives, one restriction may give: the table is transitively closed.
+/// One restriction may give whatever a chain of restrictions gives: the table is transitively
+/// closed.
 pub fn restriction_is_transitive()
     ensures { RestrictionIsTransitive }
 {}
@@ -17,7 +18,7 @@ pub fn every_right_includes_load()
     ensures store { StoringLoads }
 {}
 
-/// Below is a preorder: where a chain of operations of any length can end is below its start.
+/// `IsBelow` is a preorder, so a chain of steps that each go below ends below its start.
 pub fn below_is_a_preorder()
     ensures reflexive { BelowIsReflexive }
     ensures transitive { BelowIsTransitive }
@@ -40,7 +41,7 @@ pub fn passed_accesses_are_granted()
     ensures { PassedIsGranted }
 {}
 
-/// A segment that is no longer than another, from an address in that one, lies in that one.
+/// A segment that is no longer than another lies in it if its pointer's address does.
 pub fn shorter_segments_nest()
     ensures { ShorterSegmentsNest }
 {}

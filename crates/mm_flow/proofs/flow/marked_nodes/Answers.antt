@@ -1,5 +1,5 @@
 use Rattle.std.proofs.Common.{◌≡◌, ℕ, ◌+◌, ◌<◌, ◌⊎◌, List, [], ◌∷◌, ◌++◌, slice_index, arith, inl, inr, sym, ◌∙◌, ap, subst}
-use Rattle.mm_flow.specs.Flow.{IsIn}
+use Rattle.mm_flow.specs.Work.{IsIn}
 use Rattle.mm_flow.proofs.Masks.{in_push_left, in_push_last, in_push_cases, below_cases}
 use Rattle.mm_flow.proofs.flow.marked_nodes.Goals as goal
 use Rattle.mm_flow.proofs.flow.marked_nodes.Goals.{then-marks-k-ne0+in_ok-push_back, else-marks-k-ne0}

@@ -1,5 +1,5 @@
 use Rattle.std.proofs.Common.{◌≡◌, ℕ, ◌<◌, ◌⊎◌, slice_index}
-use Rattle.mm_flow.specs.Flow.{IsIn}
+use Rattle.mm_flow.specs.Work.{IsIn}
 use Rattle.mm_flow.proofs.flow.marked_nodes.Given as goal
 
 abbrev pub invariant-loop-k : goal.invariant-loop-k

@@ -1,16 +1,16 @@
 use Rattle.std.proofs.Common.{◌≤◌, arith, refl, ◌∙◌}
-use Rattle.mm_flow.proofs.Masks.{carried_more}
-use Rattle.mm_flow.proofs.Walks.{carried_none}
+use Rattle.mm_flow.proofs.Masks.{propagated_more}
+use Rattle.mm_flow.proofs.Walks.{propagated_none}
 use Rattle.mm_flow.proofs.flow.visit.Goals as goal
 
 pub loop-j-init : goal.loop-j-init
-loop-j-init c = (carried_none c.args.targets.now c.args.marks.now c.args.work.now.pending.items c.args.mask c.args.lo c.args.lo (omega arith), λ k x. x, refl)
+loop-j-init c = (propagated_none c.args.targets.now c.args.marks.now c.args.work.now.pending.items c.args.mask c.args.lo c.args.lo (omega arith), λ k x. x, refl)
 
 pub loop-j-preserved : goal.loop-j-preserved
 loop-j-preserved c =
     let low : c.args.lo ≤ c.loop-j.j = omega arith in
-    let stays = c.in_ok-carry.ensures.stays in (
-      carried_more c.args.targets.now c.args.marks.now c.args.work.now.pending.items c.loop-j.marks c.loop-j.work.pending.items c.args.mask c.args.lo c.loop-j.j low c.loop-j.invariant.0 c.carry.new.marks c.carry.new.work.pending.items c.in_ok-carry.ensures.marks,
+    let stays = c.in_ok-propagate.ensures.stays in (
+      propagated_more c.args.targets.now c.args.marks.now c.args.work.now.pending.items c.loop-j.marks c.loop-j.work.pending.items c.args.mask c.args.lo c.loop-j.j low c.loop-j.invariant.0 c.propagate.new.marks c.propagate.new.work.pending.items c.in_ok-propagate.ensures.marks,
       λ k x. (rw c.loop-j.invariant.2 at stays) k (c.loop-j.invariant.1 k x),
-      c.in_ok-carry.ensures.same ∙ c.loop-j.invariant.2,
+      c.in_ok-propagate.ensures.same ∙ c.loop-j.invariant.2,
     )

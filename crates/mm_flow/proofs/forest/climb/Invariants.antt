@@ -1,5 +1,5 @@
 use Rattle.std.proofs.Common.{ℕ, ◌<◌, ◌≤◌, slice_index}
-use Rattle.mm_flow.specs.Gifts.{Up}
+use Rattle.mm_flow.specs.Sharing.{Up}
 use Rattle.mm_flow.proofs.forest.climb.Given as goal
 
 abbrev pub invariant-loop-at : goal.invariant-loop-at

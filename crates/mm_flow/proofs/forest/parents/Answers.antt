@@ -1,5 +1,5 @@
 use Rattle.std.proofs.Common.{◌≡◌, ◌++◌, ◌∷◌, [], List, ℕ, arith, subst, sym}
-use Rattle.mm_flow.proofs.Giving.{push_length}
+use Rattle.mm_flow.proofs.SharedMarks.{push_length}
 use Rattle.mm_flow.specs.Forest.{IsForest, Climbed}
 use Rattle.mm_flow.proofs.Ups.{forest_first, forest_climbed}
 use Rattle.mm_flow.proofs.forest.parents.Goals as goal

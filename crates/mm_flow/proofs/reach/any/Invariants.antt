@@ -1,6 +1,6 @@
 use Rattle.std.proofs.Common.{◌≡◌, ℕ, ◌↔◌}
 use Rattle.std.specs.Int.{bit_at}
-use Rattle.mm_flow.specs.Net.{right_at}
+use Rattle.mm_flow.specs.Edges.{right_at}
 use Rattle.mm_flow.proofs.Kept.{SomeBefore}
 use Rattle.mm_flow.proofs.reach.any.Given as goal
 

@@ -1,8 +1,8 @@
 use Rattle.std.proofs.Common.{◌≡◌, ℕ, ◌<◌}
 use Rattle.std.specs.Int.{bit_at}
 use Rattle.mm_flow.specs.Flow.{Has}
-use Rattle.mm_flow.specs.Reached.{Gifting}
+use Rattle.mm_flow.specs.Reached.{SharingSoFar}
 use Rattle.mm_flow.proofs.reach.fill.Given as goal
 
 abbrev pub invariant-loop-m : goal.invariant-loop-m
-invariant-loop-m l = Gifting l.fn.gives l.writes l.touches l.m l.gives × ((h g : ℕ) → h < 64 → bit_at l.from h ≡ 1 → bit_at l.to g ≡ 1 → Has l.gives h g)
+invariant-loop-m l = SharingSoFar l.fn.sharing l.writes l.touches l.m l.sharing × ((h g : ℕ) → h < 64 → bit_at l.from h ≡ 1 → bit_at l.to g ≡ 1 → Has l.sharing h g)

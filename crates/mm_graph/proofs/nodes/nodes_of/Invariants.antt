@@ -1,5 +1,5 @@
 use Rattle.std.proofs.Common.{◌≡◌, ℕ, ◌<◌, length, slice_index}
-use Rattle.mm_flow.specs.Net.{node_at}
+use Rattle.mm_flow.specs.Edges.{node_at}
 use Rattle.mm_graph.specs.Nodes.{IsNode}
 use Rattle.mm_graph.proofs.nodes.nodes_of.Given as goal
 

@@ -4,4 +4,7 @@ use Rattle.mm_model.proofs.ImageBytes.SpelledImage.{spelled_clean}
 use Rattle.mm_image.proofs.laws.images_have_no_fault.Goals as goal
 
 pub returns : goal.returns
-returns c = λ bytes fits. (λ none. (image_of bytes, clean_spells bytes fits none), λ s. spelled_clean bytes s.0 s.1.image s.1.spelled)
+returns c = λ bytes. (
+  λ i s. spelled_clean bytes i s.image s.spelled,
+  λ fits none. (image_of bytes, clean_spells bytes fits none),
+)

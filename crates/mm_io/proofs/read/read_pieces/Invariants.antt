@@ -11,7 +11,7 @@ invariant-loop-bytes g l = record {
   room : length l.buffer ≡ length l.initial.buffer;
   kept : g.F.Files.held l.files ≡ g.F.Files.held l.initial.files;
   later : NoneFell (g.F.Files.faults l.initial.files) (g.F.Files.faults l.files);
-  asks : AsksFront g.F.Files.asked l.initial.files l.files l.name (length l.bytes.items);
+  asks : AsksFront g.F.Files.asked l.initial.files l.files l.name (length l.initial.buffer) (length l.bytes.items);
 }
 
 abbrev pub decreases-loop-bytes : goal.decreases-loop-bytes

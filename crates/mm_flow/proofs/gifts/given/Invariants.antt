@@ -1,7 +1,0 @@
-use Rattle.std.proofs.Common.{◌≡◌, ℕ, ◌↔◌}
-use Rattle.std.specs.Int.{bit_at}
-use Rattle.mm_flow.specs.Gifts.{GivenBy}
-use Rattle.mm_flow.proofs.gifts.given.Given as goal
-
-abbrev pub invariant-loop-h : goal.invariant-loop-h
-invariant-loop-h l = (g : ℕ) → (bit_at l.all g ≡ 1) ↔ GivenBy l.h l.mask l.gives g
