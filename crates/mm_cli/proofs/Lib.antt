@@ -1,0 +1,3 @@
+mod GroupWords
+mod RowWords
+pub mod Rows

@@ -1,0 +1,12 @@
+use Rattle.std.proofs.Common.{◌≡◌}
+use Rattle.arrayvec.specs.ArrayVec.{array_vec_len}
+use Rattle.mm_cli.specs.Words.{spoken, texts}
+use Rattle.mm_cli.proofs.RowWords.{ReadSoFar}
+use Rattle.mm_cli.proofs.reading.read_row.Given as goal
+
+-- the words of the first places were read
+abbrev pub invariant-loop-place : goal.invariant-loop-place
+invariant-loop-place l = record {
+  count : array_vec_len l.read ≡ l.place-index;
+  so_far : ReadSoFar l.places l.last (texts l.words) l.place-index (spoken l.read.items) (texts l.rest);
+}

@@ -1,0 +1,27 @@
+-- Groups as they are written.
+use Rattle.std.specs.Prelude.{ℕ, ◌<◌, ◌≤◌, Bool, ◌==◌, List, [], ◌∷◌, length, ⊤}
+use Rattle.std.specs.List.{AllByRecursion}
+
+-- each is below those behind it
+abbrev pub Ascends : List ℕ → Type 0
+Ascends [] = ⊤
+Ascends (g ∷ groups) = AllByRecursion (λ h. g < h) groups × Ascends groups
+
+-- one or more groups, ascending, each below 64
+pub record AreGroups (groups : List ℕ) : Type 0 where
+  pub some : 1 ≤ length groups
+  pub ascending : Ascends groups
+  pub few : AllByRecursion (λ g. g < 64) groups
+
+-- groups, as far as they were read: ascending, each below 64
+pub record AreSoFar (groups : List ℕ) : Type 0 where
+  pub ascending : Ascends groups
+  pub few : AllByRecursion (λ g. g < 64) groups
+
+-- the group is above each of these, and below 64
+pub record Follows (groups : List ℕ) (g : ℕ) : Type 0 where
+  pub above : AllByRecursion (λ h. h < g) groups
+  pub few : g < 64
+
+abbrev pub is_comma : ℕ → Bool
+is_comma b = b == 44

@@ -1,0 +1,4 @@
+pub mod GroupList
+pub mod Words
+pub mod Table
+pub mod Asked
