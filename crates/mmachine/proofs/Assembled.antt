@@ -6,7 +6,7 @@ use Rattle.mm_link.specs.Linked.{Linked}
 use Rattle.mmachine.specs.Orders.{Issues}
 use Rattle.mmachine.specs.Commands.{report_after}
 use Rattle.mmachine.specs.TextToRun.{AssembleAll, RunsTexts, TextsAreRun}
-use Rattle.mmachine.proofs.KindsOnce.{one_object, one_spelled}
+use Rattle.mm_load.proofs.KindsOnce.{one_object, one_spelled}
 use Rattle.mmachine.proofs.Once.{same_objects}
 
 -- what is read from the files is what was written to them

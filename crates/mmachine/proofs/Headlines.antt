@@ -7,9 +7,9 @@ use Rattle.mm_model.specs.Image as model
 use Rattle.mm_model.specs.Run as machine
 use Rattle.mm_laws.specs.Runs.{Isolates}
 use Rattle.mm_laws.proofs.WholeRuns.{runs_reach, runs_isolate}
-use Rattle.mmachine.specs.declared.status.Status.{Status}
-use Rattle.mmachine.specs.declared.status.Status.TheVariants.{Done}
-use Rattle.mmachine.specs.Kinds.{an_image}
+use Rattle.mm_load.specs.declared.status.Status.{Status}
+use Rattle.mm_load.specs.declared.status.Status.TheVariants.{Done}
+use Rattle.mm_load.specs.Kinds.{an_image}
 use Rattle.mmachine.specs.Table.{Row, run, trace, Asks}
 use Rattle.mmachine.specs.Answers.{Answers, Call, Gives, write}
 use Rattle.mmachine.specs.Headline.{RunIsProved, TraceIsProved}

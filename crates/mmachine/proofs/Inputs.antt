@@ -5,15 +5,16 @@ use Rattle.std.specs.Result.{IsErrAnd, OnOk}
 use Rattle.mm_io.specs.Files.{Rose}
 use Rattle.mm_model.specs.declared.counts.Counts.{Counts}
 use Rattle.mm_model.specs.Uses.{Use}
-use Rattle.mmachine.specs.declared.status.Status.TheVariants.{Done}
-use Rattle.mmachine.specs.declared.status.Stop.{Stop}
-use Rattle.mmachine.specs.declared.status.Stop.TheVariants as stop
-use Rattle.mmachine.specs.Kinds.{Kind, Value}
-use Rattle.mmachine.specs.Files.{Reading, Drawing, DrawnBehind, FilesRead, FilesAccepted, FilesRefused, FilesFailed, InputRead, InputRefused, InputsAccepted, InputsRefused, InputsFailed, Stops}
+use Rattle.mm_load.specs.declared.status.Status.TheVariants.{Done}
+use Rattle.mm_load.specs.declared.status.Stop.{Stop}
+use Rattle.mm_load.specs.declared.status.Stop.TheVariants as stop
+use Rattle.mm_cli.specs.declared.table.Kind.{Kind}
+use Rattle.mm_load.specs.Kinds.{Value}
+use Rattle.mm_load.specs.Files.{Reading, Drawing, DrawnBehind, FilesRead, FilesAccepted, FilesRefused, FilesFailed, InputRead, InputRefused, InputsAccepted, InputsRefused, InputsFailed, Stops}
 use Rattle.mmachine.specs.Table.{Row, Asks, files_of, input_of}
 use Rattle.mmachine.specs.Commands.{Yields}
 use Rattle.mmachine.specs.Answers.{Call, call, Writing, EndsWith, RowEnds, status_of}
-use Rattle.mmachine.proofs.Reading.{stops_first}
+use Rattle.mm_load.proofs.Reading.{stops_first}
 use Rattle.mmachine.proofs.OneRow.{one_row}
 
 -- 1. Files, and standard input behind them.

@@ -13,7 +13,7 @@ use Rattle.mm_machine.specs.Snapshot.{Parts, IsSnapshotOf}
 use Rattle.mm_save.specs.Checkpoints.{saved_of, spelling}
 use Rattle.mm_save.proofs.Forms.{have_forms}
 use Rattle.mm_machine.specs.Going.{WentOn}
-use Rattle.mmachine.specs.Orders.{values_of}
+use Rattle.mm_load.specs.Kinds.{values_of}
 use Rattle.mmachine.specs.Saving.{items_behind, last_behind, last_issued, saved_after, Further}
 use Rattle.mmachine.proofs.Reported.{start_state}
 use Rattle.mm_machine.proofs.Rounds.{robin_length, first_length}

@@ -1,9 +1,6 @@
 pub mod Verdicts
 pub mod OneRow
 pub mod Once
-pub mod KindsOnce
-pub mod Told
-pub mod Reading
 pub mod Rows
 pub mod Inputs
 pub mod Issued
@@ -16,7 +13,7 @@ pub mod GroupWords
 pub mod OwnItems
 pub mod WordsBehind
 pub mod Migrated
-pub mod Several
 pub mod CountsBehind
 pub mod Assembled
 pub mod Joined
+pub mod NamedFiles

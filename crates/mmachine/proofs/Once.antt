@@ -9,22 +9,22 @@ use Rattle.mm_link.specs.Faults.{link_fault}
 use Rattle.mm_model.specs.Groups.{among}
 use Rattle.mm_audit.specs.Refusals.{StandAlone}
 use Rattle.mm_sweep.specs.Refusals.{CanSweep}
-use Rattle.mmachine.specs.declared.status.Refusal.{Refusal}
-use Rattle.mmachine.specs.declared.status.Refusal.TheVariants as refusal
-use Rattle.mmachine.specs.declared.status.Status.{Status}
-use Rattle.mmachine.specs.declared.status.Status.TheVariants.{Done, NoMemory}
-use Rattle.mmachine.specs.declared.status.Stop.{Stop}
-use Rattle.mmachine.specs.declared.status.Stop.TheVariants as stop
+use Rattle.mm_load.specs.declared.status.Refusal.{Refusal}
+use Rattle.mm_load.specs.declared.status.Refusal.TheVariants as refusal
+use Rattle.mm_load.specs.declared.status.Status.{Status}
+use Rattle.mm_load.specs.declared.status.Status.TheVariants.{Done, NoMemory}
+use Rattle.mm_load.specs.declared.status.Stop.{Stop}
+use Rattle.mm_load.specs.declared.status.Stop.TheVariants as stop
 use Rattle.mmachine.specs.Groups.{GroupsRefused}
 use Rattle.mm_net.specs.declared.link.Link.{Link}
-use Rattle.mmachine.specs.Kinds.{Value, an_image, a_list, an_object, a_links, an_events}
+use Rattle.mm_load.specs.Kinds.{Value, an_image, a_list, an_object, a_links, an_events}
 use Rattle.mmachine.specs.Nodes.{LacksNode, NoneLacking, JoinRefused}
 use Rattle.mmachine.specs.Ranges.{SweepRefused}
 use Rattle.mmachine.specs.Table.{Row, solo, extract, link, sweep, net, files_of, input_of}
 use Rattle.mmachine.specs.Commands.{Declines, Yields, LinkRefused, IsLinked}
 use Rattle.mmachine.specs.Answers.{Answers, Call, Gives, HasToRefuse, ToldToRefuse, NothingFails, RefusedUnless, RowEnds, refuse, write, status_of}
 use Rattle.mmachine.proofs.OneRow.{one_row}
-use Rattle.mmachine.proofs.Told.{inputs_values, inputs_once, told_inputs_refusal, told_inputs_once}
+use Rattle.mm_load.proofs.Told.{inputs_values, inputs_once, told_inputs_refusal, told_inputs_once}
 
 -- 1. Groups stand alone, or have one refusal.
 

@@ -18,12 +18,14 @@ use Rattle.mm_sched.specs.declared.schedule.Order.TheVariants as order
 use Rattle.mm_sched.specs.Orders.{items_of}
 use Rattle.mm_debug.specs.Session as session
 use Rattle.mm_save.specs.Recorder.{bare, recorded}
-use Rattle.mmachine.specs.declared.status.Refusal.{Refusal}
-use Rattle.mmachine.specs.declared.status.Stop.{Stop}
-use Rattle.mmachine.specs.declared.status.Stop.TheVariants as stop
-use Rattle.mmachine.specs.Orders.{Issues, values_of}
+use Rattle.mm_load.specs.declared.status.Refusal.{Refusal}
+use Rattle.mm_load.specs.declared.status.Stop.{Stop}
+use Rattle.mm_load.specs.declared.status.Stop.TheVariants as stop
+use Rattle.mm_load.specs.Kinds.{values_of}
+use Rattle.mmachine.specs.Orders.{Issues}
 use Rattle.mmachine.specs.Commands.{report_after, replies_to}
-use Rattle.mmachine.specs.Answers.{Ends, end_of, writing}
+use Rattle.mm_load.specs.Stops.{end_of}
+use Rattle.mmachine.specs.Answers.{Ends, writing}
 
 module _ {M : Type 0} {memory : Ghosts M} where
   -- no cycle so far

@@ -2,12 +2,13 @@
 use Rattle.std.proofs.Common.{◌≡◌, inl, inr, ℕ, List, [], ◌++◌, Option, None, Some, Result, Ok, Err, refl, sym, subst}
 use Rattle.std.specs.Result.{IsErrAnd}
 use Rattle.mm_word.specs.Adding.{adds_none}
-use Rattle.mmachine.specs.declared.status.Refusal.{Refusal}
-use Rattle.mmachine.specs.declared.status.Stop.{Stop}
-use Rattle.mmachine.specs.declared.status.Stop.TheVariants as stop
-use Rattle.mmachine.specs.Kinds.{Kind, Value}
-use Rattle.mmachine.specs.Files.{Reading, reading, FilesAccepted, FilesRefused, FilesFailed, FilesRead, AsksFiles, Stops}
-use Rattle.mmachine.proofs.Reading.{stops_first, asks_of_all}
+use Rattle.mm_load.specs.declared.status.Refusal.{Refusal}
+use Rattle.mm_load.specs.declared.status.Stop.{Stop}
+use Rattle.mm_load.specs.declared.status.Stop.TheVariants as stop
+use Rattle.mm_cli.specs.declared.table.Kind.{Kind}
+use Rattle.mm_load.specs.Kinds.{Value}
+use Rattle.mm_load.specs.Files.{Reading, reading, FilesAccepted, FilesRefused, FilesFailed, FilesRead, AsksFiles, Stops}
+use Rattle.mm_load.proofs.Reading.{stops_first, asks_of_all}
 use Rattle.mmachine.specs.Table.{Row, files_of, files_in, perhaps, groups_word}
 use Rattle.mmachine.specs.Commands.{Declines}
 use Rattle.mmachine.specs.Answers.{CommandEnds, Ends, EndsWith, Writing}

@@ -25,7 +25,8 @@ use Rattle.mm_save.proofs.RunCheckpoints.{runs_have_checkpoints}
 use Rattle.mm_save.proofs.SpelledLaws.{are_one}
 use Rattle.mm_save.proofs.GoesOn as whole
 use Rattle.mm_save.proofs.RobinOn as robin
-use Rattle.mmachine.specs.Kinds.{Value, an_image, a_list, a_checkpoint, checkpoint_file, Accepts}
+use Rattle.mm_cli.specs.declared.table.Kind.TheVariants.{Checkpoint as checkpoint_file}
+use Rattle.mm_load.specs.Kinds.{Value, an_image, a_list, a_checkpoint, Accepts}
 use Rattle.mmachine.specs.Orders.{Issues}
 use Rattle.mmachine.specs.Saving.{last_issued, HasState, Further, Continues}
 use Rattle.mmachine.specs.SaveToRun.{IsOneRun, SavesGoOn}

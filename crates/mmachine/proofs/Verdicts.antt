@@ -4,14 +4,15 @@ use Rattle.std.specs.Io.KnownBytes.{append_known}
 use Rattle.mm_io.specs.Files.{Rose}
 use Rattle.mm_io.specs.Sinks.{TookPart, Writes}
 use Rattle.mm_io.proofs.Known.{writes_none}
-use Rattle.mmachine.specs.declared.status.Refusal.{Refusal}
-use Rattle.mmachine.specs.declared.status.Status.{Status}
-use Rattle.mmachine.specs.declared.status.Status.TheVariants.{Done, Usage, Refused, ReadFault, WriteFault, NoMemory}
-use Rattle.mmachine.specs.declared.status.Stop.{Stop}
-use Rattle.mmachine.specs.declared.status.Stop.TheVariants as stop
-use Rattle.mmachine.specs.Files.{AsksFiles}
+use Rattle.mm_load.specs.declared.status.Refusal.{Refusal}
+use Rattle.mm_load.specs.declared.status.Status.{Status}
+use Rattle.mm_load.specs.declared.status.Status.TheVariants.{Done, Usage, Refused, ReadFault, WriteFault, NoMemory}
+use Rattle.mm_load.specs.declared.status.Stop.{Stop}
+use Rattle.mm_load.specs.declared.status.Stop.TheVariants as stop
+use Rattle.mm_load.specs.Files.{AsksFiles}
 use Rattle.mmachine.specs.Table.{Row, Asks, InNoRow, files_of}
-use Rattle.mmachine.specs.Answers.{Answers, Call, ComesTo, ReadFailed, RowEnds, TookLine, line_of, refuse, write, status_of}
+use Rattle.mm_load.specs.Lines.{line_of}
+use Rattle.mmachine.specs.Answers.{Answers, Call, ComesTo, ReadFailed, RowEnds, TookLine, refuse, write, status_of}
 use Rattle.mmachine.proofs.OneRow.{one_row}
 
 -- 1. A status other than that of usage, and the end of the command that it comes from.

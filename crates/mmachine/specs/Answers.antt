@@ -1,33 +1,17 @@
 -- What a call answers, and why.
-use Rattle.std.specs.Prelude.{◌≡◌, ◌⊎◌, ℕ, List, [], ◌++◌, Option, Result, Ok, Err, codes, decimal, ⊤}
+use Rattle.std.specs.Prelude.{◌≡◌, ◌⊎◌, ℕ, List, [], ◌++◌, Option, Result, Ok, Err, ⊤}
 use Rattle.std.specs.Io.KnownBytes.{append_known}
-use Rattle.mm_io.specs.declared.read.ReadError.{ReadError}
-use Rattle.mm_io.specs.declared.read.ReadError.TheVariants as error
-use Rattle.mm_io.specs.declared.write.WriteFault.{WriteFault as WriteFailed}
 use Rattle.mm_io.specs.Files.{Rose}
 use Rattle.mm_io.specs.Sinks.{TookPart}
-use Rattle.mm_image.specs.Faults.{number_of}
-use Rattle.mm_line.specs.Faults.{number_of as fault_number}
-use Rattle.mm_object.specs.Answers.{number_of as object_number}
-use Rattle.mm_link.specs.declared.fault.LinkError.{LinkError}
-use Rattle.mm_link.specs.declared.fault.LinkError.TheVariants as linking
-use Rattle.mm_link.specs.declared.fault.LinkFault.{LinkFault}
-use Rattle.mm_link.specs.declared.fault.LinkFault.TheVariants.{Twice, Undefined, Offset, SlotTwice, NoThread, Handler, TooLarge}
-use Rattle.mm_link.specs.Faults.{number_of as link_number}
-use Rattle.mm_audit.specs.declared.extracting.ExtractError.{ExtractError}
-use Rattle.mm_audit.specs.declared.extracting.ExtractError.TheVariants as extracting
-use Rattle.mm_sweep.specs.declared.sweeping.SweepError.{SweepError}
-use Rattle.mm_sweep.specs.declared.sweeping.SweepError.TheVariants as sweeping
 use Rattle.mm_model.specs.declared.counts.Counts.{Counts}
 use Rattle.mm_model.specs.Uses.{Use}
-use Rattle.mmachine.specs.declared.status.Refusal.{Refusal}
-use Rattle.mmachine.specs.declared.status.Refusal.TheVariants.{TooLong, Image, Schedule, Object, Asm, Link, NoGroup, Crosses, Held, Privileged, Checkpoint, Links, NoNode}
-use Rattle.mmachine.specs.declared.status.Status.{Status}
-use Rattle.mmachine.specs.declared.status.Status.TheVariants.{Done, Usage, Refused, ReadFault, WriteFault, NoMemory}
-use Rattle.mmachine.specs.declared.status.Stop.{Stop}
-use Rattle.mmachine.specs.declared.status.Stop.TheVariants as stop
-use Rattle.mmachine.specs.Kinds.{Value}
-use Rattle.mmachine.specs.Files.{Reading, Drawing, FilesAccepted, FilesRefused, FilesFailed, AsksFiles, InputsAccepted, InputsRefused, InputsFailed, InputsTold, ToldInputsRefused}
+use Rattle.mm_load.specs.declared.status.Refusal.{Refusal}
+use Rattle.mm_load.specs.declared.status.Status.{Status}
+use Rattle.mm_load.specs.declared.status.Status.TheVariants.{Done, Usage, Refused, ReadFault, WriteFault, NoMemory}
+use Rattle.mm_load.specs.declared.status.Stop.{Stop}
+use Rattle.mm_load.specs.declared.status.Stop.TheVariants as stop
+use Rattle.mm_load.specs.Kinds.{Value}
+use Rattle.mm_load.specs.Files.{Reading, Drawing, FilesAccepted, FilesRefused, FilesFailed, AsksFiles, InputsAccepted, InputsRefused, InputsFailed, InputsTold, ToldInputsRefused}
 use Rattle.mmachine.specs.Table.{Row, files_of, input_of, Asks, InNoRow}
 use Rattle.mmachine.specs.Commands.{Declines, Yields}
 
@@ -84,40 +68,6 @@ abbrev pub WritesNothing : Status → Type 0
 WritesNothing Done = ⊥
 WritesNothing WriteFault = ⊥
 WritesNothing _ = ⊤
-
--- what a fault of linking names: a name, a slot, or nothing
-abbrev pub named_by : LinkFault → List ℕ
-named_by (Twice name) = name
-named_by (Undefined name) = name
-named_by (Offset name) = name
-named_by (SlotTwice slot) = decimal slot
-named_by NoThread = codes "-"
-named_by (Handler slot) = decimal slot
-named_by TooLarge = codes "-"
-
--- the line of an answer
-abbrev pub line_of : Status → List ℕ
-line_of Done = []
-line_of Usage = codes "mmachine: usage\n"
-line_of (Refused (TooLong file)) = codes "mmachine: file " ++ decimal file ++ codes " too long\n"
-line_of (Refused (Image file fault offset)) =
-    codes "mmachine: file " ++ decimal file ++ codes " image fault " ++ decimal (number_of fault) ++ codes " at " ++ decimal offset ++ codes "\n"
-line_of (Refused (Schedule file offset)) = codes "mmachine: file " ++ decimal file ++ codes " schedule fault at " ++ decimal offset ++ codes "\n"
-line_of (Refused (Object file fault offset)) =
-    codes "mmachine: file " ++ decimal file ++ codes " object fault " ++ decimal (object_number fault) ++ codes " at " ++ decimal offset ++ codes "\n"
-line_of (Refused (Link fault)) = codes "mmachine: link fault " ++ decimal (link_number fault) ++ codes " " ++ named_by fault ++ codes "\n"
-line_of (Refused (Asm fault line column)) =
-    codes "mmachine: source fault " ++ decimal (fault_number fault) ++ codes " at " ++ decimal line ++ codes ":" ++ decimal column ++ codes "\n"
-line_of (Refused NoGroup) = codes "mmachine: no group\n"
-line_of (Refused (Crosses slot)) = codes "mmachine: crosses slot " ++ decimal slot ++ codes "\n"
-line_of (Refused (Held slot)) = codes "mmachine: held slot " ++ decimal slot ++ codes "\n"
-line_of (Refused (Privileged group)) = codes "mmachine: privileged group " ++ decimal group ++ codes "\n"
-line_of (Refused (Checkpoint file offset)) = codes "mmachine: file " ++ decimal file ++ codes " checkpoint fault at " ++ decimal offset ++ codes "\n"
-line_of (Refused (Links file offset)) = codes "mmachine: file " ++ decimal file ++ codes " links fault at " ++ decimal offset ++ codes "\n"
-line_of (Refused (NoNode link)) = codes "mmachine: no node link " ++ decimal link ++ codes "\n"
-line_of ReadFault = codes "mmachine: read fault\n"
-line_of WriteFault = codes "mmachine: write fault\n"
-line_of NoMemory = codes "mmachine: out of memory\n"
 
 -- A sink took a front part of a line, and all of it where the count did not rise and does not stand at its last value.
 pub record TookLine (old new : Option (List ℕ)) (before now : ℕ) (line : List ℕ) : Type 0 where
@@ -204,31 +154,3 @@ pub record RowAnswers (c : Call) (words : List (List ℕ)) (status : Status) : T
 -- What an answer to words says.
 pub record Answers (c : Call) (words : List (List ℕ)) (status : Status) : Type 0 where
   pub cases : (InNoRow words × (status ≡ Usage) × (c.out.taken ≡ c.out.taken_before)) ⊎ RowAnswers c words status
-
--- how a command ends whose text was written so
-abbrev pub end_of : Result (Unit {0}) WriteFailed → Result (Unit {0}) Stop
-end_of (Ok done) = Ok done
-end_of (Err fault) = Err stop.WriteFault
-
--- why a command stops where a file cannot be read
-abbrev pub stop_of_error : ReadError → ℕ → Stop
-stop_of_error error.ReadFault file = stop.ReadFault
-stop_of_error error.TooLong file = stop.Refused (TooLong file)
-stop_of_error error.NoMemory file = stop.NoMemory
-
--- and where objects do not link
-abbrev pub stop_of_link : LinkError → Stop
-stop_of_link (linking.Fault fault) = stop.Refused (Link fault)
-stop_of_link linking.NoMemory = stop.NoMemory
-
--- and where groups cannot be extracted
-abbrev pub stop_of_extract : ExtractError → Stop
-stop_of_extract extracting.NoGroup = stop.Refused NoGroup
-stop_of_extract (extracting.Crosses slot) = stop.Refused (Crosses slot)
-stop_of_extract extracting.NoMemory = stop.NoMemory
-
--- and where a range cannot be swept
-abbrev pub stop_of_sweep : SweepError → Stop
-stop_of_sweep (sweeping.Held slot) = stop.Refused (Held slot)
-stop_of_sweep (sweeping.Privileged group) = stop.Refused (Privileged group)
-stop_of_sweep sweeping.NoMemory = stop.NoMemory

@@ -26,11 +26,12 @@ use Rattle.mm_audit.specs.Refusals.{StandAlone}
 use Rattle.mm_sched.specs.declared.schedule.Order.{Order}
 use Rattle.mm_debug.specs.Session as session
 use Rattle.mm_save.specs.Recorder.{recorded}
-use Rattle.mmachine.specs.declared.status.Refusal.{Refusal}
-use Rattle.mmachine.specs.declared.status.Refusal.TheVariants as refusal
+use Rattle.mm_load.specs.declared.status.Refusal.{Refusal}
+use Rattle.mm_load.specs.declared.status.Refusal.TheVariants as refusal
 use Rattle.mm_net.specs.Texts.{net_text}
-use Rattle.mmachine.specs.Kinds.{Value, an_image, a_list, an_object, a_checkpoint, a_links, an_events, a_text}
-use Rattle.mmachine.specs.Orders.{Issues, values_of}
+use Rattle.mm_load.specs.Kinds.{Value, an_image, a_list, an_object, a_checkpoint, a_links, an_events, a_text}
+use Rattle.mm_load.specs.Kinds.{values_of}
+use Rattle.mmachine.specs.Orders.{Issues}
 use Rattle.mmachine.specs.Groups.{GroupsRefused}
 use Rattle.mmachine.specs.Ranges.{SweepRefused}
 use Rattle.mmachine.specs.Nodes.{NoneLacking, JoinRefused}

@@ -4,8 +4,8 @@ use Rattle.mm_model.specs.Slot.{Slot}
 use Rattle.mm_model.specs.Image.{Image}
 use Rattle.mm_audit.specs.declared.refusing.Refused.TheVariants as refused
 use Rattle.mm_audit.specs.Refusals.{IsRefused}
-use Rattle.mmachine.specs.declared.status.Refusal.{Refusal}
-use Rattle.mmachine.specs.declared.status.Refusal.TheVariants.{NoGroup, Crosses}
+use Rattle.mm_load.specs.declared.status.Refusal.{Refusal}
+use Rattle.mm_load.specs.declared.status.Refusal.TheVariants.{NoGroup, Crosses}
 
 -- why the groups are refused: they have no slot, or else one of their slots has its handler outside, and this is the least such slot
 abbrev pub GroupsRefused : Image → (ℕ → Bool) → Refusal → Type 0

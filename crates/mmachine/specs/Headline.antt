@@ -8,8 +8,8 @@ use Rattle.mm_model.specs.Trace.{trace as trace_of}
 use Rattle.mm_model.specs.Reach.Entries.{All}
 use Rattle.mm_model.specs.Worlds.{Apart}
 use Rattle.mm_laws.specs.Runs.{Reaches, Isolates}
-use Rattle.mmachine.specs.Kinds.{Value, an_image}
-use Rattle.mmachine.specs.Files.{FilesAccepted}
+use Rattle.mm_load.specs.Kinds.{Value, an_image}
+use Rattle.mm_load.specs.Files.{FilesAccepted}
 use Rattle.mmachine.specs.Table.{run, trace, files_of}
 use Rattle.mmachine.specs.Orders.{Issues}
 use Rattle.mmachine.specs.Commands.{report_after}

@@ -2,8 +2,6 @@ pub mod GroupList
 pub mod Groups
 pub mod Ranges
 pub mod Nodes
-pub mod Kinds
-pub mod Files
 pub mod Orders
 pub mod Saving
 pub mod Table

@@ -4,8 +4,8 @@ use Rattle.mm_net.specs.declared.link.Link.{Link}
 use Rattle.mm_net.specs.declared.item.NetItem.{NetItem}
 use Rattle.mm_net.specs.declared.item.NetItem.TheVariants.{Send}
 use Rattle.mm_net.specs.Net.{HasNodes}
-use Rattle.mmachine.specs.declared.status.Refusal.{Refusal}
-use Rattle.mmachine.specs.declared.status.Refusal.TheVariants.{NoNode}
+use Rattle.mm_load.specs.declared.status.Refusal.{Refusal}
+use Rattle.mm_load.specs.declared.status.Refusal.TheVariants.{NoNode}
 
 -- the link of this number names a node that is not there, of so many
 abbrev pub LacksNode : List Link → (count : ℕ) → ℕ → Type 0

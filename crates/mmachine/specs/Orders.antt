@@ -3,14 +3,7 @@ use Rattle.std.specs.Prelude.{◌≡◌, ℕ, List, [], ◌∷◌, None}
 use Rattle.mm_model.specs.Image.{Image, start}
 use Rattle.mm_model.specs.Run.{robin_from}
 use Rattle.mm_model.specs.Schedule.{first_items}
-use Rattle.mm_sched.specs.declared.schedule.Order.{Order}
-use Rattle.mm_sched.specs.declared.schedule.Order.TheVariants as order
-use Rattle.mmachine.specs.Kinds.{Value, a_list}
-
--- the values of the files that an order comes from
-abbrev pub values_of : Order → List Value
-values_of order.Robin = []
-values_of (order.List list) = a_list list ∷ []
+use Rattle.mm_load.specs.Kinds.{Value, a_list}
 
 -- the items that are issued: so many cycles of round robin or, where there is a list, its first so many
 abbrev pub Issues : Image → ℕ → (lists : List Value) → List ℕ → Type 0

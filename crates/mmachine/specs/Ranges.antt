@@ -3,8 +3,8 @@ use Rattle.std.specs.Prelude.{◌≡◌, ℕ, ◌%◌, ◌^◌, ◌≤◌}
 use Rattle.mm_model.specs.Image.{Image}
 use Rattle.mm_sweep.specs.Refusals.{IsSweepError}
 use Rattle.mm_sweep.specs.declared.sweeping.SweepError.TheVariants as sweeping
-use Rattle.mmachine.specs.declared.status.Refusal.{Refusal}
-use Rattle.mmachine.specs.declared.status.Refusal.TheVariants.{Held, Privileged}
+use Rattle.mm_load.specs.declared.status.Refusal.{Refusal}
+use Rattle.mm_load.specs.declared.status.Refusal.TheVariants.{Held, Privileged}
 
 -- a range of a power of two of addresses, at least a word, that begins at a multiple of its length
 abbrev pub IsRange : (base log : ℕ) → Type 0

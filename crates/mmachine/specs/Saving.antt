@@ -12,7 +12,7 @@ use Rattle.mm_save.specs.Checkpoints.{Saved, spelling}
 use Rattle.mm_save.specs.States.{saved_form}
 use Rattle.mm_sched.specs.declared.schedule.Order.{Order}
 use Rattle.mm_sched.specs.declared.schedule.Order.TheVariants as order
-use Rattle.mmachine.specs.Kinds.{Value, a_list}
+use Rattle.mm_load.specs.Kinds.{Value, a_list}
 
 -- 1. What is saved.
 

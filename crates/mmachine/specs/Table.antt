@@ -5,7 +5,8 @@ use Rattle.std.specs.Option.{option_map}
 use Rattle.std.specs.declared.alloc.Global.{Global}
 use Rattle.mm_model.specs.Audit.{groups_text}
 use Rattle.mmachine.specs.GroupList.{AreGroups}
-use Rattle.mmachine.specs.Kinds.{Kind, image_file, schedule_file, source_file, object_file, checkpoint_file, links_file, events_file, text_input}
+use Rattle.mm_cli.specs.declared.table.Kind.{Kind}
+use Rattle.mm_cli.specs.declared.table.Kind.TheVariants.{Image as image_file, Schedule as schedule_file, Source as source_file, Object as object_file, Checkpoint as checkpoint_file, Links as links_file, Events as events_file, Text as text_input}
 use Rattle.mmachine.specs.declared.words.Command.{Command}
 use Rattle.mmachine.specs.declared.words.Command.TheVariants.{Run, Trace, Solo, Grants, Extract, Asm, Link, Dis, Debug, Gen, Soak, Migrate, Sweep, Holders, Save, Continue, Net}
 
@@ -191,7 +192,3 @@ row_of (Holders w) = holders w.image.now w.base w.log
 row_of (Save w) = save w.image.now w.cycles (option_map (λ name. name.now) w.schedule)
 row_of (Continue w) = continue w.image.now w.checkpoint.now w.cycles (option_map (λ name. name.now) w.schedule)
 row_of (Net w) = net w.links.now w.events.now w.cycles (texts w.images.now)
-
--- files of a kind with these names
-abbrev pub files_named : Kind → List (String Global) → List (List ℕ × Kind)
-files_named kind names = map (λ (name : String Global). (string_bytes name, kind)) names

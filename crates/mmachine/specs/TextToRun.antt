@@ -5,7 +5,8 @@ use Rattle.mm_model.specs.Uses.{Use}
 use Rattle.mm_model.specs.Image.{Image}
 use Rattle.mm_object.specs.Objects.{Object}
 use Rattle.mm_link.specs.Linked.{Linked, image_of}
-use Rattle.mmachine.specs.Kinds.{Value, an_image, an_object, source_file, object_file, image_file, Accepts}
+use Rattle.mm_cli.specs.declared.table.Kind.TheVariants.{Source as source_file, Object as object_file, Image as image_file}
+use Rattle.mm_load.specs.Kinds.{Value, an_image, an_object, Accepts}
 use Rattle.mmachine.specs.Table.{asm, link, run}
 use Rattle.mmachine.specs.Commands.{Yields, YieldsAlone, report_after}
 use Rattle.mmachine.specs.Orders.{Issues}

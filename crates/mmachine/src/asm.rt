@@ -1,14 +1,13 @@
 // `asm`: the object that a source means.
 ghost use Rattle.mm_object.specs.Spelling.{Spells};
-ghost use Rattle.mmachine.specs.Files.{reading};
+ghost use Rattle.mm_load.specs.Files.{reading};
 ghost use Rattle.mmachine.specs.Table.{row_of};
 ghost use Rattle.mmachine.specs.Commands.{YieldsAlone};
 ghost use Rattle.mmachine.specs.Answers.{CommandEnds, EndsWith, writing};
 
-use crate::load::load_source;
-use crate::status::Stop;
 use crate::words::{AsmWords, Command};
 use mm_io::{Files, Sink, write_all};
+use mm_load::{Stop, load_source};
 use mm_object::Object;
 use std::alloc::Global;
 

@@ -1,17 +1,17 @@
 // `debug`: a session of an image that can go back, and the replies to the lines of standard input.
 ghost use Rattle.std.specs.Prelude.{◌≡◌, [], OnOk};
 ghost use Rattle.std.specs.Io.KnownBytes.{IsAtEnd};
-ghost use Rattle.mmachine.specs.Files.{AsksFiles, DrawnBehind, reading, drawing};
+ghost use Rattle.mm_load.specs.Files.{AsksFiles, DrawnBehind, reading, drawing};
 ghost use Rattle.mmachine.specs.Table.{files_of, row_of};
 ghost use Rattle.mmachine.specs.Commands.{replies_to};
 ghost use Rattle.mmachine.specs.Answers.{RowEnds, EndsWith, call, writing};
 
-use crate::load::{boot, load_image, load_input, load_order};
-use crate::status::{Stop, ended};
+use crate::boot::boot;
 use crate::words::{Command, DebugWords};
 use mm_debug::Session;
 use mm_image::Image;
 use mm_io::{Files, Sink, Source};
+use mm_load::{Stop, ended, load_image, load_input, load_order};
 use mm_machine::Machine;
 use mm_mem::{Boot, Reset};
 use mm_save::Recorder;

@@ -1,14 +1,13 @@
 // `dis`: the text of an object.
-ghost use Rattle.mmachine.specs.Files.{reading};
+ghost use Rattle.mm_load.specs.Files.{reading};
 ghost use Rattle.mmachine.specs.Table.{row_of};
 ghost use Rattle.mmachine.specs.Commands.{YieldsAlone};
 ghost use Rattle.mmachine.specs.Answers.{CommandEnds, writing};
 
-use crate::load::load_object;
-use crate::status::{Stop, ended};
 use crate::words::{Command, DisWords};
 use mm_disasm::disassemble;
 use mm_io::{Files, Sink};
+use mm_load::{Stop, ended, load_object};
 use std::alloc::Global;
 
 /// `dis OBJECT`

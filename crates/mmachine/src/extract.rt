@@ -1,17 +1,16 @@
 // `extract`: the image of some groups alone.
 ghost use Rattle.mm_model.specs.Groups.{among};
 ghost use Rattle.mm_audit.specs.Refusals.{StandAlone};
-ghost use Rattle.mmachine.specs.Files.{reading};
+ghost use Rattle.mm_load.specs.Files.{reading};
 ghost use Rattle.mmachine.specs.Groups.{GroupsRefused};
 ghost use Rattle.mmachine.specs.Table.{row_of};
 ghost use Rattle.mmachine.specs.Commands.{IsExtract, YieldsAlone};
 ghost use Rattle.mmachine.specs.Answers.{CommandEnds, Ends, writing};
 
-use crate::load::load_image;
-use crate::status::Stop;
 use crate::words::{Command, ExtractWords};
 use mm_image::Image;
 use mm_io::{Files, Sink, write_all};
+use mm_load::{Stop, load_image};
 use std::alloc::Global;
 
 /// `extract IMAGE GROUPS`

@@ -4,9 +4,9 @@ ghost use Rattle.mm_gen.specs.Generated.{generated};
 ghost use Rattle.mm_model.specs.Spelling.{Spells};
 ghost use Rattle.mmachine.specs.Answers.{EndsWith, writing};
 
-use crate::status::Stop;
 use crate::words::GenWords;
 use mm_io::{Sink, write_all};
+use mm_load::Stop;
 use std::alloc::Global;
 
 /// `gen NUMBER SIZE`

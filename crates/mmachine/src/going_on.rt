@@ -1,19 +1,19 @@
 // `continue`: the report of an image that goes on from a checkpoint, after so many cycles more.
 ghost use Rattle.std.specs.Prelude.{◌≤◌};
 ghost use Rattle.mm_save.specs.Checkpoints.{IsCheckpoint, saved_of};
-ghost use Rattle.mmachine.specs.Files.{reading};
+ghost use Rattle.mm_load.specs.Files.{reading};
 ghost use Rattle.mmachine.specs.Table.{row_of};
-ghost use Rattle.mmachine.specs.Orders.{values_of};
+ghost use Rattle.mm_load.specs.Kinds.{values_of};
 ghost use Rattle.mmachine.specs.Saving.{Continues};
 ghost use Rattle.mmachine.specs.Commands.{Yields};
 ghost use Rattle.mmachine.specs.Answers.{CommandEnds, EndsWith, writing};
 
+use crate::boot::boot;
 use crate::cycles::issue;
-use crate::load::{Checkpoint, boot, load_checkpoint, load_image, load_order};
-use crate::status::{Stop, ended};
 use crate::words::{Command, ContinueWords};
 use mm_image::Image;
 use mm_io::{Files, Sink};
+use mm_load::{Checkpoint, Stop, ended, load_checkpoint, load_image, load_order};
 use mm_machine::Machine;
 use mm_mem::{Boot, Reset};
 use mm_report::report;

@@ -5,19 +5,18 @@ ghost use Rattle.mm_io.specs.Sinks.{Writes};
 ghost use Rattle.mm_model.specs.Audit.{IsAudit};
 ghost use Rattle.mm_model.specs.Reach.Entries.{All};
 ghost use Rattle.mm_audit.specs.Surveys.{Surveys};
-ghost use Rattle.mmachine.specs.Files.{reading};
+ghost use Rattle.mm_load.specs.Files.{reading};
 ghost use Rattle.mmachine.specs.Table.{row_of};
 ghost use Rattle.mmachine.specs.Commands.{YieldsAlone};
 ghost use Rattle.mmachine.specs.Answers.{CommandEnds, EndsWith, writing};
 
-use crate::load::load_image;
-use crate::status::Stop;
 use crate::words::{Command, GrantsWords};
 use arrayvec::ArrayVec;
 use mm_audit::{Entries, Survey, survey};
 use mm_audit_text::{write_audit, write_audit_of};
 use mm_image::Image;
 use mm_io::{Files, Sink, WriteFault};
+use mm_load::{Stop, load_image};
 use std::alloc::Global;
 
 /// `grants IMAGE [GROUPS]`

@@ -1,14 +1,13 @@
 // `holders`: who holds a pointer whose segment meets a range.
-ghost use Rattle.mmachine.specs.Files.{reading};
+ghost use Rattle.mm_load.specs.Files.{reading};
 ghost use Rattle.mmachine.specs.Ranges.{IsRange};
 ghost use Rattle.mmachine.specs.Table.{row_of};
 ghost use Rattle.mmachine.specs.Commands.{YieldsAlone};
 ghost use Rattle.mmachine.specs.Answers.{CommandEnds, writing};
 
-use crate::load::load_image;
-use crate::status::{Stop, ended};
 use crate::words::{Command, RangeWords};
 use mm_io::{Files, Sink};
+use mm_load::{Stop, ended, load_image};
 use std::alloc::Global;
 
 /// `holders IMAGE BASE LOG`

@@ -1,14 +1,13 @@
 // `link`: the image of objects.
 ghost use Rattle.std.specs.Prelude.{◌≤◌, length};
-ghost use Rattle.mmachine.specs.Files.{reading};
+ghost use Rattle.mm_load.specs.Files.{reading};
 ghost use Rattle.mmachine.specs.Table.{row_of};
 ghost use Rattle.mmachine.specs.Commands.{IsLinked, LinkRefused, YieldsAlone};
 ghost use Rattle.mmachine.specs.Answers.{CommandEnds, Ends, writing};
 
-use crate::load::load_objects;
-use crate::status::Stop;
 use crate::words::{Command, LinkWords};
 use mm_io::{Files, Sink, write_all};
+use mm_load::{Stop, load_objects};
 use mm_object::Object;
 use std::alloc::Global;
 

@@ -8,6 +8,7 @@ ghost use Rattle.std.specs.Prelude.{◌≡◌};
 ghost use Rattle.mmachine.specs.Exit.{exit_code};
 
 mod asm;
+mod boot;
 mod cycles;
 mod debug;
 mod dis;
@@ -18,9 +19,7 @@ mod grants;
 mod group_list;
 mod holders;
 mod laws;
-mod line;
 mod link;
-mod load;
 mod members;
 mod memories;
 mod migrate;
@@ -29,7 +28,6 @@ mod run;
 mod save;
 mod soak;
 mod solo;
-mod status;
 mod sweep;
 #[cfg(test)]
 mod tests;
@@ -38,9 +36,9 @@ mod trace;
 mod traced;
 mod words;
 
-use crate::status::Status;
 use crate::top::mmachine;
 use mm_io::{StdFiles, StdSink, StdSource};
+use mm_load::Status;
 use mm_vmem::VMem;
 use std::env;
 use std::process::ExitCode;

@@ -2,16 +2,15 @@
 ghost use Rattle.std.specs.Prelude.{◌≡◌, IfOk};
 ghost use Rattle.mm_model.specs.Spelling.{Spells};
 ghost use Rattle.mm_model.specs.Worlds.{migrated};
-ghost use Rattle.mmachine.specs.Files.{reading};
+ghost use Rattle.mm_load.specs.Files.{reading};
 ghost use Rattle.mmachine.specs.Table.{row_of};
 ghost use Rattle.mmachine.specs.Commands.{YieldsAlone};
 ghost use Rattle.mmachine.specs.Answers.{CommandEnds, EndsWith, writing};
 
-use crate::load::load_image;
-use crate::status::Stop;
 use crate::words::{Command, MigrateWords};
 use mm_image::Image;
 use mm_io::{Files, Sink, write_all};
+use mm_load::{Stop, load_image};
 use mm_model::{Page, Slot};
 use mm_word::NoMemory;
 use std::alloc::Global;

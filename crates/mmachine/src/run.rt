@@ -2,17 +2,17 @@
 ghost use Rattle.std.specs.Prelude.{◌≡◌, ◌≤◌};
 ghost use Rattle.mm_model.specs.Image.{start};
 ghost use Rattle.mm_sched.specs.Orders.{items_of};
-ghost use Rattle.mmachine.specs.Files.{reading};
+ghost use Rattle.mm_load.specs.Files.{reading};
 ghost use Rattle.mmachine.specs.Table.{row_of};
 ghost use Rattle.mmachine.specs.Commands.{report_after, Yields};
 ghost use Rattle.mmachine.specs.Answers.{CommandEnds, EndsWith, writing};
 
+use crate::boot::boot;
 use crate::cycles::issue;
-use crate::load::{boot, load_image, load_order};
-use crate::status::{Stop, ended};
 use crate::words::{Command, RunWords};
 use mm_image::Image;
 use mm_io::{Files, Sink};
+use mm_load::{Stop, ended, load_image, load_order};
 use mm_machine::Machine;
 use mm_mem::Boot;
 use mm_report::report;

@@ -2,19 +2,19 @@
 ghost use Rattle.std.specs.Prelude.{◌≡◌, ◌≤◌};
 ghost use Rattle.mm_model.specs.Image.{start};
 ghost use Rattle.mm_sched.specs.Orders.{items_of};
-ghost use Rattle.mmachine.specs.Files.{reading};
+ghost use Rattle.mm_load.specs.Files.{reading};
 ghost use Rattle.mmachine.specs.Table.{row_of};
-ghost use Rattle.mmachine.specs.Orders.{values_of};
+ghost use Rattle.mm_load.specs.Kinds.{values_of};
 ghost use Rattle.mmachine.specs.Saving.{last_issued, saved_after};
 ghost use Rattle.mmachine.specs.Commands.{Yields};
 ghost use Rattle.mmachine.specs.Answers.{CommandEnds, EndsWith, writing};
 
+use crate::boot::boot;
 use crate::cycles::issue;
-use crate::load::{boot, load_image, load_order};
-use crate::status::Stop;
 use crate::words::{Command, RunWords};
 use mm_image::Image;
 use mm_io::{Files, Sink, write_all};
+use mm_load::{Stop, load_image, load_order};
 use mm_machine::Machine;
 use mm_mem::Boot;
 use mm_sched::Order;

@@ -3,11 +3,11 @@ ghost use Rattle.std.specs.Prelude.{◌≡◌, ◌≤◌};
 ghost use Rattle.mmachine.specs.Commands.{soaked};
 ghost use Rattle.mmachine.specs.Answers.{EndsWith, writing};
 
-use crate::load::boot;
-use crate::status::{Stop, ended};
+use crate::boot::boot;
 use crate::words::SoakWords;
 use mm_gen::{image, summary};
 use mm_io::Sink;
+use mm_load::{Stop, ended};
 use mm_machine::Machine;
 use mm_mem::Boot;
 use std::alloc::Global;

@@ -2,19 +2,19 @@
 ghost use Rattle.std.specs.Prelude.{◌≡◌};
 ghost use Rattle.mm_model.specs.Groups.{among};
 ghost use Rattle.mm_audit.specs.Refusals.{StandAlone};
-ghost use Rattle.mmachine.specs.Files.{reading};
+ghost use Rattle.mm_load.specs.Files.{reading};
 ghost use Rattle.mmachine.specs.Groups.{GroupsRefused};
 ghost use Rattle.mmachine.specs.Table.{row_of};
 ghost use Rattle.mmachine.specs.Commands.{own_report, Yields};
 ghost use Rattle.mmachine.specs.Answers.{CommandEnds, Ends, writing};
 
-use crate::load::{boot, load_image, load_schedule};
+use crate::boot::boot;
 use crate::members::members;
-use crate::status::{Stop, ended};
 use crate::words::{Command, SoloWords};
 use mm_audit::alone;
 use mm_image::Image;
 use mm_io::{Files, Sink};
+use mm_load::{Stop, ended, load_image, load_schedule};
 use mm_machine::Machine;
 use mm_mem::Boot;
 use mm_report::report;

@@ -3,17 +3,16 @@ ghost use Rattle.mm_model.specs.Spelling.{Spells};
 ghost use Rattle.mm_seg.specs.Segments.{IsSegment};
 ghost use Rattle.mm_sweep.specs.Swept.{swept};
 ghost use Rattle.mm_sweep.specs.Refusals.{CanSweep};
-ghost use Rattle.mmachine.specs.Files.{reading};
+ghost use Rattle.mm_load.specs.Files.{reading};
 ghost use Rattle.mmachine.specs.Ranges.{IsRange, SweepRefused};
 ghost use Rattle.mmachine.specs.Table.{row_of};
 ghost use Rattle.mmachine.specs.Commands.{YieldsAlone};
 ghost use Rattle.mmachine.specs.Answers.{CommandEnds, Ends, writing};
 
-use crate::load::load_image;
-use crate::status::Stop;
 use crate::words::{Command, RangeWords};
 use mm_image::Image;
 use mm_io::{Files, Sink, write_all};
+use mm_load::{Stop, load_image};
 use std::alloc::Global;
 
 /// `sweep IMAGE BASE LOG`

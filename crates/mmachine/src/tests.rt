@@ -1,6 +1,6 @@
-use crate::status::Status;
 use crate::top::mmachine;
 use mm_io::{MemFiles, MemSink, MemSource, Source, StdFiles, StdSink, StdSource, SureSource};
+use mm_load::Status;
 use mm_vmem::VMem;
 use std::fs;
 use std::test::Fail;

@@ -3,10 +3,11 @@ ghost use Rattle.std.specs.Prelude.{◌≡◌, ◌↔◌, ◌⊎◌, List, ℕ, 
 ghost use Rattle.std.specs.Io.KnownBytes.{append_known, IsAtEnd};
 ghost use Rattle.mm_io.specs.Files.{Rose};
 ghost use Rattle.mm_io.specs.Sinks.{TookPart};
-ghost use Rattle.mmachine.specs.declared.status.Refusal.{Refusal};
-ghost use Rattle.mmachine.specs.Files.{AsksFiles, DrawnBehind, drawing, reading};
+ghost use Rattle.mm_load.specs.declared.status.Refusal.{Refusal};
+ghost use Rattle.mm_load.specs.Files.{AsksFiles, DrawnBehind, drawing, reading};
 ghost use Rattle.mmachine.specs.Table.{InNoRow, IsInTable, Asks, LeaveInput, Row, files_of, input_of, row_of, run, trace, texts};
-ghost use Rattle.mmachine.specs.Answers.{ComesTo, ReadFailed, WritesNothing, TookLine, NothingFails, HasToRefuse, RefusedUnless, RowEnds, Answers, call, writing, status_of, line_of, refuse, write};
+ghost use Rattle.mm_load.specs.Lines.{line_of};
+ghost use Rattle.mmachine.specs.Answers.{ComesTo, ReadFailed, WritesNothing, TookLine, NothingFails, HasToRefuse, RefusedUnless, RowEnds, Answers, call, writing, status_of, refuse, write};
 ghost use Rattle.mmachine.specs.Headline.{RunIsProved, TraceIsProved};
 
 use crate::asm::asm;
@@ -17,7 +18,6 @@ use crate::generate::generate;
 use crate::going_on::go_on;
 use crate::grants::grants;
 use crate::holders::holders;
-use crate::line::write_line;
 use crate::link::link;
 use crate::migrate::migrate;
 use crate::nets::run_net;
@@ -25,11 +25,11 @@ use crate::run::run;
 use crate::save::save;
 use crate::soak::soak;
 use crate::solo::solo;
-use crate::status::{Refusal, Status, Stop};
 use crate::sweep::sweep;
 use crate::trace::trace;
 use crate::words::{Command, read_words};
 use mm_io::{Files, Sink, Source};
+use mm_load::{Refusal, Status, Stop, write_line};
 use mm_mem::{Boot, Reset};
 use std::alloc::Global;
 

@@ -1,13 +1,14 @@
 use Rattle.std.proofs.Common.{◌≡◌, ℕ, List, [], ◌∷◌, inr, refl, sym, append-nil, subst}
 use Rattle.mm_word.specs.Adding.{Adds, adds_both}
 use Rattle.mmachine.specs.declared.words.Command.TheVariants.{Debug}
-use Rattle.mmachine.specs.Kinds.{text_input, an_image}
-use Rattle.mmachine.specs.Files.{drawing}
-use Rattle.mmachine.specs.Orders.{values_of}
+use Rattle.mm_cli.specs.declared.table.Kind.TheVariants.{Text as text_input}
+use Rattle.mm_load.specs.Kinds.{an_image}
+use Rattle.mm_load.specs.Files.{drawing}
+use Rattle.mm_load.specs.Kinds.{values_of}
 use Rattle.mmachine.specs.Table.{row_of}
 use Rattle.mmachine.specs.Commands.{replies_to}
 use Rattle.mmachine.specs.Answers.{writing}
-use Rattle.mmachine.proofs.Reading.{files_then, asks_of_all}
+use Rattle.mm_load.proofs.Reading.{files_then, asks_of_all}
 use Rattle.mmachine.proofs.Inputs.{files_stop, input_stops, row_stopped, row_writes, whole_read}
 use Rattle.mmachine.proofs.debug.debug.Goals as goal
 

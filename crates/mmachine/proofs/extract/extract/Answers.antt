@@ -1,5 +1,5 @@
 use Rattle.std.proofs.Common.{ℕ, List, [], ◌∷◌, refl, subst}
-use Rattle.mmachine.specs.Kinds.{an_image}
+use Rattle.mm_load.specs.Kinds.{an_image}
 use Rattle.mmachine.specs.Commands.{Declines, YieldsAlone}
 use Rattle.mmachine.specs.Table.{extract}
 use Rattle.mmachine.proofs.Rows.{row_stops, row_ends}

@@ -1,9 +1,10 @@
 use Rattle.std.proofs.Common.{[], ◌∷◌, Ok, refl, sym, ◌∙◌, arith, append-nil}
 use Rattle.mm_word.specs.Adding.{adds_both}
 use Rattle.mm_save.specs.Checkpoints.{saved_of}
-use Rattle.mmachine.specs.Kinds.{an_image, a_checkpoint, image_file, checkpoint_file}
-use Rattle.mmachine.specs.Files.{FilesRead, reading}
-use Rattle.mmachine.proofs.Reading.{files_then}
+use Rattle.mm_cli.specs.declared.table.Kind.TheVariants.{Image as image_file, Checkpoint as checkpoint_file}
+use Rattle.mm_load.specs.Kinds.{an_image, a_checkpoint}
+use Rattle.mm_load.specs.Files.{FilesRead, reading}
+use Rattle.mm_load.proofs.Reading.{files_then}
 use Rattle.mmachine.proofs.Rows.{row_stops, row_ends}
 use Rattle.mmachine.proofs.going_on.go_on.Goals as goal
 

@@ -1,5 +1,6 @@
 use Rattle.std.proofs.Common.{ℕ, List, [], ◌∷◌, refl, ap}
-use Rattle.mmachine.specs.Kinds.{Kind, image_file}
+use Rattle.mm_cli.specs.declared.table.Kind.{Kind}
+use Rattle.mm_cli.specs.declared.table.Kind.TheVariants.{Image as image_file}
 use Rattle.mmachine.proofs.Rows.{row_stops, row_ends, groups_files}
 use Rattle.mmachine.proofs.grants.grants.Goals as goal
 

@@ -1,9 +1,9 @@
 use Rattle.std.proofs.Common.{List, [], refl, sym, ◌∙◌, append-nil, subst}
 use Rattle.mm_object.specs.Objects.{Object}
-use Rattle.mmachine.specs.Kinds.{object_file}
+use Rattle.mm_cli.specs.declared.table.Kind.TheVariants.{Object as object_file}
 use Rattle.mmachine.specs.Commands.{IsLinked, LinkRefused}
 use Rattle.mmachine.proofs.Rows.{row_stops, row_ends}
-use Rattle.mmachine.proofs.Several.{files_in_words}
+use Rattle.mmachine.proofs.NamedFiles.{files_in_words}
 use Rattle.mmachine.proofs.link.link.Goals as goal
 
 pub returns-in_err-objects : goal.returns-in_err-objects

@@ -3,11 +3,13 @@ use Rattle.mm_word.specs.Adding.{adds_both}
 use Rattle.mm_model.specs.Image.{Image}
 use Rattle.mm_net.specs.Texts.{net_text}
 use Rattle.mmachine.specs.Nodes.{NoneLacking, JoinRefused}
-use Rattle.mmachine.specs.Kinds.{Kind, links_file, events_file, image_file, a_links, an_events}
-use Rattle.mmachine.specs.Files.{FilesRead, reading}
-use Rattle.mmachine.proofs.Reading.{files_then}
+use Rattle.mm_cli.specs.declared.table.Kind.{Kind}
+use Rattle.mm_cli.specs.declared.table.Kind.TheVariants.{Links as links_file, Events as events_file, Image as image_file}
+use Rattle.mm_load.specs.Kinds.{a_links, an_events}
+use Rattle.mm_load.specs.Files.{FilesRead, reading}
+use Rattle.mm_load.proofs.Reading.{files_then}
 use Rattle.mmachine.proofs.Rows.{row_stops, row_ends}
-use Rattle.mmachine.proofs.Several.{files_in_words}
+use Rattle.mmachine.proofs.NamedFiles.{files_in_words}
 use Rattle.mmachine.proofs.nets.run_net.Goals as goal
 
 pub returns-in_err-links : goal.returns-in_err-links

@@ -1,9 +1,9 @@
 use Rattle.std.proofs.Common.{ℕ, List, [], ◌∷◌, refl, subst}
 use Rattle.mm_word.specs.Adding.{adds_both}
-use Rattle.mmachine.specs.Kinds.{an_image, a_list}
+use Rattle.mm_load.specs.Kinds.{an_image, a_list}
 use Rattle.mmachine.specs.Commands.{Declines, Yields}
 use Rattle.mmachine.specs.Table.{solo}
-use Rattle.mmachine.proofs.Reading.{files_then}
+use Rattle.mm_load.proofs.Reading.{files_then}
 use Rattle.mmachine.proofs.Rows.{row_stops, row_ends}
 use Rattle.mmachine.proofs.solo.solo.Goals as goal
 

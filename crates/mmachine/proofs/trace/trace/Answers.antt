@@ -2,8 +2,8 @@ use Rattle.std.proofs.Common.{[], ◌∷◌, refl, sym, append-nil}
 use Rattle.mm_word.specs.Adding.{adds_both}
 use Rattle.mm_model.specs.Image.{start}
 use Rattle.mm_sched.specs.Orders.{items_of}
-use Rattle.mmachine.specs.Kinds.{an_image}
-use Rattle.mmachine.proofs.Reading.{files_then}
+use Rattle.mm_load.specs.Kinds.{an_image}
+use Rattle.mm_load.proofs.Reading.{files_then}
 use Rattle.mmachine.proofs.Reported.{issued}
 use Rattle.mmachine.proofs.Rows.{row_stops, row_ends}
 use Rattle.mmachine.proofs.trace.trace.Goals as goal

@@ -1,7 +1,7 @@
 use Rattle.std.proofs.Common.{String, string_bytes, sym, ◌∙◌, arith}
 use Rattle.std.specs.declared.alloc.Global.{Global}
 use Rattle.std.proofs.lemmas.List.{length-map}
-use Rattle.mmachine.specs.Kinds.{object_file}
+use Rattle.mm_cli.specs.declared.table.Kind.TheVariants.{Object as object_file}
 use Rattle.mmachine.specs.Table.{texts}
 use Rattle.mmachine.proofs.OneRow.{named_texts, named_in_range}
 use Rattle.mmachine.proofs.WordsBehind.{some_names}

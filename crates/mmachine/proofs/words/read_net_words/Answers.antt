@@ -1,7 +1,7 @@
 use Rattle.std.proofs.Common.{◌≡◌, ◌-◌, List, String, string_bytes, decimal, length, take, drop, map, sym, ◌∙◌, arith}
 use Rattle.std.specs.declared.alloc.Global.{Global}
 use Rattle.std.proofs.lemmas.List.{length-map}
-use Rattle.mmachine.specs.Kinds.{image_file}
+use Rattle.mm_cli.specs.declared.table.Kind.TheVariants.{Image as image_file}
 use Rattle.mmachine.specs.Table.{texts, text_of, file_word}
 use Rattle.mmachine.proofs.OneRow.{named_texts, named_in_range}
 use Rattle.mmachine.proofs.WordsBehind.{three_and_rest, some_names}
