@@ -24,7 +24,7 @@ use Rattle.mm_draft.specs.Faults.{fault_if, is_named, has_slot, has_register, is
 use Rattle.mm_asm.specs.Bounds.{IsRegister, IsThread, IsDraft}
 use Rattle.mm_asm.specs.Laws.{DraftsAreBounded}
 use Rattle.mm_asm.proofs.Lists.{none_both}
-use Rattle.mm_asm.proofs.Externals.{fault_none}
+use Rattle.mm_asm.proofs.ExternalNames.{fault_none}
 use Rattle.mm_asm.proofs.Segments.{mark_name}
 use Rattle.mm_asm.proofs.Kept.{label_kept, begin_kept, words_kept, zeros_are, no_pointers, thread_kept, register_kept}
 

@@ -31,40 +31,19 @@ use Rattle.mm_asm.proofs.LateFirsts.{met_both}
 
 -- 1. The order of bytes.
 
-abbrev compared : List ℕ → List ℕ → Ordering
+abbrev pub compared : List ℕ → List ℕ → Ordering
 compared a b = slice_cmp nat_cmp a b
 
-is_less : (a b : List ℕ) → is_lt (compared a b) ≡ is_before a b
+pub is_less : (a b : List ℕ) → is_lt (compared a b) ≡ is_before a b
 is_less a b = same_from_slice_cmp nat_cmp is_lt is_before refl (λ _ _. refl) (λ _ _. refl) (λ x y xs ys o h. grind (arith, nat_tests)) a b (compared a b) refl
 
 is_equal : (a b : List ℕ) → is_eq (compared a b) ≡ same_name a b
 is_equal a b = same_from_slice_cmp nat_cmp is_eq same_name refl (λ _ _. refl) (λ _ _. refl) (λ x y xs ys o h. grind (arith, nat_tests)) a b (compared a b) refl
 
--- 2. A name more.
-
-chosen : {A : Type 0} (o : Ordering) (less same more : A) → match_ordering o less same more ≡ (if is_eq o then same else if is_lt o then less else more)
-chosen Less less same more = refl
-chosen Equal less same more = refl
-chosen Greater less same more = refl
-
-abbrev order_of : Bor (List ℕ) → Bor (List ℕ) → Ordering
+abbrev pub order_of : Bor (List ℕ) → Bor (List ℕ) → Ordering
 order_of a b = slice_cmp nat_cmp a.now b.now
 
-pub inserted : (keys : List (Bor (List ℕ))) (k : Bor (List ℕ)) → bytes_of (insert_key order_of keys k) ≡ insert_name k.now (bytes_of keys)
-inserted [] k = refl
-inserted (x ∷ keys) k =
-    ap bytes_of (chosen (order_of k x) (k ∷ x ∷ keys) (x ∷ keys) (x ∷ insert_key order_of keys k))
-    ∙ by (is_eq (order_of k x)) (is_lt (order_of k x)) (is_equal k.now x.now) (is_less k.now x.now) (inserted keys k)
-  where
-    by : (b c : Bool) → b ≡ same_name k.now x.now → c ≡ is_before k.now x.now → bytes_of (insert_key order_of keys k) ≡ insert_name k.now (bytes_of keys)
-        → bytes_of (if b then x ∷ keys else if c then k ∷ x ∷ keys else x ∷ insert_key order_of keys k) ≡ insert_name k.now (x.now ∷ bytes_of keys)
-    by true c e f later = rw (← e) refl
-    by false true e f later = rw (← e, ← f) refl
-    by false false e f later = rw (← e, ← f) (ap (λ names. x.now ∷ names) later)
-
--- the name of a use that a draft does not have
-pub added : (d : Draft) (u : Use) (old new : List (Bor (List ℕ))) (k : Bor (List ℕ)) → k.now ≡ name_of u → is_external d u ≡ true → new ≡ insert_key order_of old k → bytes_of new ≡ with_use d u (bytes_of old)
-added d u old new k same absent is = ap bytes_of is ∙ inserted old k ∙ ap (λ (n : List ℕ). insert_name n (bytes_of old)) same ∙ ap (λ b. if b then insert_name (name_of u) (bytes_of old) else bytes_of old) (sym absent)
+-- 2. One name too many.
 
 pub as_many : (keys : List (Bor (List ℕ))) → length (bytes_of keys) ≡ length keys
 as_many [] = refl
@@ -81,10 +60,6 @@ absent_is d u name same none = ap (λ n. not (is_some (place_of d n))) (sym same
 
 pub present_is : (d : Draft) (u : Use) (name : List ℕ) → name ≡ name_of u → is_some (place_of d name) ≡ true → is_external d u ≡ false
 present_is d u name same some = ap (λ n. not (is_some (place_of d n))) (sym same) ∙ ap not some
-
-pub contained : (keys : List (Bor (List ℕ))) (name : List ℕ) → list_any (λ (k : Bor (List ℕ)). is_eq (slice_cmp nat_cmp name k.now)) keys ≡ is_among name (bytes_of keys)
-contained [] name = refl
-contained (x ∷ keys) name = ap (λ b. b || list_any (λ (k : Bor (List ℕ)). is_eq (slice_cmp nat_cmp name k.now)) keys) (is_equal name x.now) ∙ ap (λ b. same_name name x.now || b) (contained keys name)
 
 -- 3. One use more.
 
@@ -114,7 +89,7 @@ module _ (d : Draft) where
 
 -- 4. The place of a name.
 
-ascend_rises : (xs : List (List ℕ)) → ascend xs ≡ true → Rising xs
+pub ascend_rises : (xs : List (List ℕ)) → ascend xs ≡ true → Rising xs
 ascend_rises [] h = tt
 ascend_rises (x ∷ []) h = (tt, tt)
 ascend_rises (x ∷ y ∷ xs) h =
@@ -129,14 +104,6 @@ pub place_is : (names : List (List ℕ)) (name : List ℕ) (i : ℕ) → ascend 
 place_is names name i up lt found =
     let e : get_or names i [] ≡ name = same_from_equal (get_or names i []) name (found []) in
     sym (position_at names i (ascend_rises names up) lt) ∙ ap (λ (n : List ℕ). position_of n names) e
-
-pub too_many : (keys : List (Bor (List ℕ))) (name : List ℕ) (n : ℕ) (b : Bool) → n ≡ length keys → 1024 ≤ n → b ≡ list_any (λ (k : Bor (List ℕ)). is_eq (slice_cmp nat_cmp name k.now)) keys → not b ≡ is_too_many (bytes_of keys) name
-too_many keys name n b many le is =
-    let full : nat_le 1024 (length (bytes_of keys)) ≡ true = fits (length (bytes_of keys)) (omega (arith, as_many keys)) in
-    ap not (is ∙ contained keys name) ∙ ap (λ c. c && not (is_among name (bytes_of keys))) (sym full)
-  where
-    fits : (m : ℕ) → 1024 ≤ m → nat_le 1024 m ≡ true
-    fits m h = grind (arith, nat_tests)
 
 -- 5. A name that is there is found.
 

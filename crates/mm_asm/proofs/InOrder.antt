@@ -24,10 +24,11 @@ use Rattle.mm_draft.specs.Drafts.{Segment, Thread, Draft, nothing, last, change_
 use Rattle.mm_draft.specs.Faults.{is_none, claim_faults, maybe_label_faults, one_if_pointer, words_faults, statement_faults, reading_faults, body_faults, line_faults, first_of, source_of, step_by, step, ◌then◌, lines_from, lines_of, draft_of}
 use Rattle.mm_asm.specs.Names.{Use, constant_uses, content_uses, word_uses, segment_uses, register_uses, thread_uses, merge, uses_of}
 use Rattle.mm_asm.specs.Laws.{TargetsStandInOrder}
-use Rattle.mm_asm.proofs.Lists.{each_in, each_from, each_weaker, none_both}
+use Rattle.mm_asm.proofs.Lists.{each_weaker, none_both}
+use Rattle.mm_object.proofs.Members.{each_in, each_from}
 use Rattle.mm_asm.proofs.Uses.{in_merge}
 use Rattle.mm_asm.proofs.Relocs.{RisesWithin, higher, rises, in_turn}
-use Rattle.mm_asm.proofs.Externals.{fault_none}
+use Rattle.mm_asm.proofs.ExternalNames.{fault_none}
 use Rattle.mm_asm.proofs.Bounded.{none_first}
 
 abbrev line_of_use : Use → ℕ

@@ -18,9 +18,10 @@ use Rattle.mm_model.proofs.ImageBytes.Clean.{neither}
 use Rattle.mm_object.proofs.Bools.{any-map, is_false, none_of}
 use Rattle.mm_object.proofs.Apartness.{apart-push}
 use Rattle.mm_asm.specs.Bounds.{IsWord, IsRegister, AreApart, IsSegment, IsThread, HasWord, IsPlace, AreNamed, AreSegments, AreThreads}
-use Rattle.mm_asm.proofs.Lists.{each_more, each_map, each_weaker, each_changed, length_changed, map_changed, total, total_more, total_changed, none_both}
+use Rattle.mm_asm.proofs.Lists.{each_weaker, each_changed, length_changed, map_changed, total, total_more, total_changed, none_both}
+use Rattle.mm_object.proofs.Members.{each_more, each_map}
 use Rattle.mm_asm.proofs.Order.{is_other, each_among}
-use Rattle.mm_asm.proofs.Externals.{fault_none}
+use Rattle.mm_asm.proofs.ExternalNames.{fault_none}
 
 -- 1. Names.
 

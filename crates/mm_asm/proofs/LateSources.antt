@@ -27,7 +27,8 @@ use Rattle.mm_draft.specs.Laws.{Pair, failure_pair, precedes, sooner, least}
 use Rattle.mm_asm.specs.Names.{Use, constant_uses, content_uses, word_uses, segment_uses, register_uses, thread_uses, merge, uses_of, with_use}
 use Rattle.mm_asm.specs.Faults.{in_source, word_failures, goal_failures, use_failures, limit_failures, late_failures}
 use Rattle.mm_asm.specs.Sources.{IsSmall, IsSmallError, HasSmallWords, HasSmallRegisters, IsFromSmall, IsPlace}
-use Rattle.mm_asm.proofs.Lists.{each_in, each_from, each_more, each_weaker, each_changed}
+use Rattle.mm_asm.proofs.Lists.{each_weaker, each_changed}
+use Rattle.mm_object.proofs.Members.{each_in, each_from, each_more}
 use Rattle.mm_asm.proofs.Uses.{from_merge}
 
 -- 1. What a line adds.

@@ -23,10 +23,10 @@ use Rattle.mm_asm.specs.Faults.{late_failures}
 use Rattle.mm_asm.specs.Bounds as bounds
 use Rattle.mm_asm.specs.Bounds.{IsDraft}
 use Rattle.mm_asm.specs.Fits.{FitsTarget, FitsConstant, FitsPointer, FitsPointers, FitsThread}
-use Rattle.mm_asm.proofs.Lists.{In, in_flat, each_in, each_from, each_map}
+use Rattle.mm_object.proofs.Members.{In, in_flat, each_in, each_from, each_map}
 use Rattle.mm_asm.proofs.Uses.{uses_placed}
 use Rattle.mm_asm.proofs.Targets.{segments_of, external_count, targets_are, few_externals}
-use Rattle.mm_asm.proofs.Externals.{used_among}
+use Rattle.mm_asm.proofs.ExternalNames.{used_among}
 use Rattle.mm_asm.proofs.Segments.{words_in}
 use Rattle.mm_asm.proofs.Whole.{in_words, in_threads}
 

@@ -17,7 +17,7 @@ use Rattle.mm_asm.specs.Meaning.{object_of}
 use Rattle.mm_asm.specs.Bounds.{IsDraft, IsWord, IsSegment}
 use Rattle.mm_asm.specs.Answers.{bytes_of}
 use Rattle.mm_asm.specs.Fits.{FitsContent, FitsWords, FitsSegment}
-use Rattle.mm_asm.proofs.Lists.{each_in, each_from}
+use Rattle.mm_object.proofs.Members.{each_in, each_from}
 use Rattle.mm_asm.proofs.Segments.{words_in, fields_fit_with}
 
 module _ (d : Draft) (is_draft : IsDraft d) where

@@ -1,11 +1,11 @@
 pub mod Texts
 pub mod Lists
 pub mod Order
-pub mod Externals
+pub mod ExternalNames
 pub mod Uses
 pub mod Targets
 pub mod Relocs
-pub mod Threads
+pub mod ThreadRows
 pub mod Segments
 pub mod Whole
 pub mod Kept
@@ -15,6 +15,7 @@ pub mod InOrder
 pub mod Built
 pub mod BuiltNumbered
 pub mod BuiltNames
+pub mod FirstSeen
 pub mod BuiltUses
 pub mod LateFirsts
 pub mod LateAnswers

@@ -5,71 +5,9 @@ use Rattle.std.proofs.lemmas.Bool.{cases_lt}
 use Rattle.mm_draft.specs.Drafts.{last, change_last}
 use Rattle.mm_model.proofs.ImageBytes.Rising.{and_true}
 use Rattle.mm_object.proofs.Bools.{is_false}
+use Rattle.mm_object.proofs.Members.{In, found}
 
--- 1. Membership.
-
-abbrev pub In : {A : Type 0} → A → List A → Type 0
-In x [] = ⊥
-In x (y ∷ ys) = (x ≡ y) ⊎ In x ys
-
-pub in_left : {A : Type 0} (x : A) (xs ys : List A) → In x xs → In x (xs ++ ys)
-in_left x [] ys h = absurd h
-in_left x (y ∷ xs) ys (inl e) = inl e
-in_left x (y ∷ xs) ys (inr h) = inr (in_left x xs ys h)
-
-pub in_right : {A : Type 0} (x : A) (xs ys : List A) → In x ys → In x (xs ++ ys)
-in_right x [] ys h = h
-in_right x (y ∷ xs) ys h = inr (in_right x xs ys h)
-
-pub in_either : {A : Type 0} (x : A) (xs ys : List A) → In x (xs ++ ys) → In x xs ⊎ In x ys
-in_either x [] ys h = inr h
-in_either x (y ∷ xs) ys (inl e) = inl (inl e)
-in_either x (y ∷ xs) ys (inr h) = elim (in_either x xs ys h) [ inl l ↦ inl (inr l) | inr r ↦ inr r ]
-
-pub in_map : {A B : Type 0} (f : A → B) (x : A) (xs : List A) → In x xs → In (f x) (map f xs)
-in_map f x [] h = absurd h
-in_map f x (y ∷ xs) (inl e) = inl (ap f e)
-in_map f x (y ∷ xs) (inr h) = inr (in_map f x xs h)
-
-pub in_flat : {A B : Type 0} (f : A → List B) (x : A) (y : B) (xs : List A) → In x xs → In y (f x) → In y (flat_map f xs)
-in_flat f x y [] h k = absurd h
-in_flat f x y (z ∷ xs) (inl e) k = in_left y (f z) (flat_map f xs) (subst (λ w. In y (f w)) e k)
-in_flat f x y (z ∷ xs) (inr h) k = in_right y (f z) (flat_map f xs) (in_flat f x y xs h k)
-
-pub from_flat : {A B : Type 0} (f : A → List B) (y : B) (xs : List A) → In y (flat_map f xs) → (x : A) × In x xs × In y (f x)
-from_flat f y [] h = absurd h
-from_flat f y (z ∷ xs) h =
-    elim (in_either y (f z) (flat_map f xs) h) [
-      | inl here ↦ (z, inl refl, here)
-      | inr later ↦ let r = from_flat f y xs later in (r.0, inr r.1, r.2)
-    ]
-
-pub in_range : (n from k : ℕ) → from ≤ k → k < from + n → In k (range_with_len from n)
-in_range zero from k low high = absurd (omega arith)
-in_range (suc n) from k low high =
-    elim (cases_lt from k) [
-      | inl below ↦ inr (in_range n (from + 1) k (omega arith) (omega arith))
-      | inr above ↦ inl (omega arith)
-    ]
-
--- 2. Each.
-
-pub each_in : {A : Type 0} (P : A → Type 0) (x : A) (xs : List A) → AllByRecursion P xs → In x xs → P x
-each_in P x [] h k = absurd k
-each_in P x (y ∷ xs) h (inl e) = subst P (sym e) h.0
-each_in P x (y ∷ xs) h (inr k) = each_in P x xs h.1 k
-
-pub each_from : {A : Type 0} (P : A → Type 0) (xs : List A) → ((x : A) → In x xs → P x) → AllByRecursion P xs
-each_from P [] h = tt
-each_from P (x ∷ xs) h = (h x (inl refl), each_from P xs (λ y k. h y (inr k)))
-
-pub each_more : {A : Type 0} (P : A → Type 0) (xs ys : List A) → AllByRecursion P xs → AllByRecursion P ys → AllByRecursion P (xs ++ ys)
-each_more P [] ys h k = k
-each_more P (x ∷ xs) ys h k = (h.0, each_more P xs ys h.1 k)
-
-pub each_map : {A B : Type 0} (P : B → Type 0) (f : A → B) (xs : List A) → AllByRecursion (λ x. P (f x)) xs → AllByRecursion P (map f xs)
-each_map P f [] h = tt
-each_map P f (x ∷ xs) h = (h.0, each_map P f xs h.1)
+-- 1. Each.
 
 pub each_weaker : {A : Type 0} (P Q : A → Type 0) (xs : List A) → ((x : A) → P x → Q x) → AllByRecursion P xs → AllByRecursion Q xs
 each_weaker P Q [] w h = tt
@@ -92,14 +30,6 @@ any_found p x (y ∷ xs) (inr h) k = or_right (p y) (list_any p xs) (any_found p
     or_right true b e = refl
     or_right false b e = e
 
-pub found : {A : Type 0} (p : A → Bool) (xs : List A) → list_any p xs ≡ true → (x : A) × In x xs × (p x ≡ true)
-found p [] h = absurd cc
-found {A = A} p (x ∷ xs) h = by (p x) refl h (found p xs)
-  where
-    by : (b : Bool) → p x ≡ b → (b || list_any p xs) ≡ true → (list_any p xs ≡ true → (y : A) × In y xs × (p y ≡ true)) → (y : A) × In y (x ∷ xs) × (p y ≡ true)
-    by true e k later = (x, inl refl, e)
-    by false e k later = let r = later k in (r.0, inr r.1, r.2)
-
 pub none_found : {A : Type 0} (p : A → Bool) (xs : List A) → ((x : A) → In x xs → p x ≡ true → ⊥) → list_any p xs ≡ false
 none_found p xs h = is_false (list_any p xs) (λ k. let r = found p xs k in h r.0 r.1 r.2)
 
@@ -111,7 +41,7 @@ any_filter p q (x ∷ xs) = by (q x) (any_filter p q xs)
     by true e = ap (λ b. p x || b) e
     by false e = e
 
--- 3. Empty lists.
+-- 2. Empty lists.
 
 pub none_both : {A : Type 0} (xs ys : List A) → xs ++ ys ≡ [] → (xs ≡ []) × (ys ≡ [])
 none_both [] ys e = (refl, e)

@@ -16,7 +16,8 @@ use Rattle.mm_object.specs.Objects.{Segment, is_target, item_of, is_zero, is_rel
 use Rattle.mm_model.proofs.ImageBytes.Rising.{and_true}
 use Rattle.mm_asm.specs.Names.{Use, content_uses, word_uses, segment_uses}
 use Rattle.mm_asm.specs.Meaning.{bits_of, items_from, segment_of, target_of, content_relocs, words_relocs, segments_relocs}
-use Rattle.mm_asm.proofs.Lists.{In, in_left, in_right, get_map, each_more}
+use Rattle.mm_asm.proofs.Lists.{get_map}
+use Rattle.mm_object.proofs.Members.{In, in_left, in_right, each_more}
 
 -- 1. Numbers that rise from one bound to another.
 

@@ -26,7 +26,7 @@ use Rattle.mm_object.specs.Objects as object
 use Rattle.mm_model.proofs.ImageBytes.Rising.{both, and_true}
 use Rattle.mm_asm.specs.Meaning.{distance_to, with_goal, bits_of, items_from, segment_of}
 use Rattle.mm_asm.specs.Bounds.{IsWord, IsSegment, HasWord, IsPlace, IsDraft}
-use Rattle.mm_asm.proofs.Lists.{In}
+use Rattle.mm_object.proofs.Members.{In}
 
 -- 1. Names.
 

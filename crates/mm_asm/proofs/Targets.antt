@@ -14,9 +14,10 @@ use Rattle.mm_asm.specs.Names.{Use, Here, meant_by, meant, uses_of, externals_of
 use Rattle.mm_asm.specs.Meaning.{segment_of, target_by, target_of}
 use Rattle.mm_asm.specs.Faults.{is_outside, meant_faults, use_failures, goal_failures, limit_failures, late_failures}
 use Rattle.mm_asm.specs.Bounds.{IsPlaced}
-use Rattle.mm_asm.proofs.Lists.{In, none_both, none_flat, none_map, get_map, get_past}
+use Rattle.mm_asm.proofs.Lists.{none_both, none_flat, none_map, get_map, get_past}
+use Rattle.mm_object.proofs.Members.{In}
 use Rattle.mm_asm.proofs.Order.{Rising, position_below}
-use Rattle.mm_asm.proofs.Externals.{fault_none, externals_rise, externals_few, used_among}
+use Rattle.mm_asm.proofs.ExternalNames.{fault_none, externals_rise, externals_few, used_among}
 
 module _ (d : Draft) where
   pub externals_rising : Rising (externals_of d)

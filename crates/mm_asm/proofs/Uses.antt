@@ -10,7 +10,7 @@ use Rattle.mm_draft.specs.declared.source.Source.{Source}
 use Rattle.mm_draft.specs.Drafts.{Segment, Thread, Draft}
 use Rattle.mm_asm.specs.Names.{Use, constant_uses, content_uses, word_uses, segment_uses, register_uses, thread_uses, merge, uses_of}
 use Rattle.mm_asm.specs.Bounds.{IsWord, IsValue, IsPlaced, IsRegister, IsSegment, IsThread, IsDraft}
-use Rattle.mm_asm.proofs.Lists.{In, from_flat, each_in}
+use Rattle.mm_object.proofs.Members.{In, from_flat, each_in}
 
 -- 1. Two lists merged.
 

@@ -17,13 +17,14 @@ use Rattle.mm_asm.specs.Meaning.{segment_of, target_by, target_of, segments_relo
 use Rattle.mm_asm.specs.Faults.{late_failures}
 use Rattle.mm_asm.specs.Bounds as bounds
 use Rattle.mm_asm.specs.Bounds.{IsPlaced, IsDraft}
-use Rattle.mm_asm.proofs.Lists.{In, in_left, in_right, in_map, in_flat, from_flat, each_in, each_from, each_map, passes, any_found, none_found}
+use Rattle.mm_asm.proofs.Lists.{passes, any_found, none_found}
+use Rattle.mm_object.proofs.Members.{In, in_left, in_right, in_map, in_flat, from_flat, each_in, each_from, each_map}
 use Rattle.mm_asm.proofs.Order.{rising_ascends, each_among, position_at}
-use Rattle.mm_asm.proofs.Externals.{externals_each}
+use Rattle.mm_asm.proofs.ExternalNames.{externals_each}
 use Rattle.mm_asm.proofs.Uses.{in_merge, from_merge, uses_placed}
 use Rattle.mm_asm.proofs.Targets.{externals_rising, segments_of, external_count, few_externals, targets_are}
 use Rattle.mm_asm.proofs.Relocs.{RisesWithin, as_many, rises, segments_rise, segments_count, segments_targets, segments_replace}
-use Rattle.mm_asm.proofs.Threads.{numbers, sixteen, thread_targets, thread_points, thread_is, each_by_slot, in_by_slot, by_slot_rises, slots_same}
+use Rattle.mm_asm.proofs.ThreadRows.{numbers, sixteen, thread_targets, thread_points, thread_is, each_by_slot, in_by_slot, by_slot_rises, slots_same}
 use Rattle.mm_asm.proofs.Kept.{each_stands}
 use Rattle.mm_asm.proofs.Segments.{mark_name, names_same, words_same, words_in, segment_is}
 

@@ -14,7 +14,8 @@ use Rattle.mm_asm.specs.declared.fault.AsmError.TheVariants as errors
 
 -- the error names the fault, unless memory ran out
 abbrev pub Fails : Option Pair → AsmError → Type 0
-Fails fault (errors.Fault kind line column) = fault ≡ Some (record { line = line; column = column; number = number_of kind })
+Fails fault (errors.Fault kind line column) =
+    fault ≡ Some (record { line = line; column = column; number = number_of kind })
 Fails fault errors.NoMemory = Unit {0}
 
 -- a function found no fault and this value, or it found this fault, unless memory ran out

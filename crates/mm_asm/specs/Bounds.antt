@@ -51,14 +51,16 @@ abbrev pub HasWord : Option Segment → ℕ → Type 0
 HasWord None word = ⊥
 HasWord (Some s) word = word ≤ length s.words
 
--- a word of a segment, or the place behind its last one
+-- a word of a segment, or the place after its last one
 abbrev pub IsPlace : List Segment → Place → Type 0
 IsPlace segments p = HasWord (slice_get segments p.segment) p.word
 
 -- the name of each segment, from a number on, stands for its first word
 abbrev pub AreNamed : List Entry → ℕ → List Segment → Type 0
 AreNamed entries k [] = Unit {0}
-AreNamed entries k (s ∷ segments) = (place_in entries s.name ≡ Some (record { segment = k; word = 0; is_label = false })) × AreNamed entries (k + 1) segments
+AreNamed entries k (s ∷ segments) =
+    (place_in entries s.name ≡ Some (record { segment = k; word = 0; is_label = false }))
+    × AreNamed entries (k + 1) segments
 
 -- the segments of a draft, and its names
 pub record AreSegments (segments : List Segment) (entries : List Entry) : Type 0 where

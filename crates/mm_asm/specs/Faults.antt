@@ -41,7 +41,8 @@ word_failures d segment w = in_source w.source (content_faults d segment w.conte
 -- of the segments from a number on
 abbrev pub goal_failures : Draft → ℕ → List Segment → List Failure
 goal_failures d segment [] = []
-goal_failures d segment (s ∷ segments) = flat_map (word_failures d segment) s.words ++ goal_failures d (segment + 1) segments
+goal_failures d segment (s ∷ segments) =
+    flat_map (word_failures d segment) s.words ++ goal_failures d (segment + 1) segments
 
 -- whether a segment ends at or before an offset
 abbrev pub is_outside : Option Segment → ℕ → Bool
@@ -60,7 +61,7 @@ use_failures d u = in_source u.source (meant_faults d u.target.mark.left (meant 
 abbrev pub is_too_many : List (List ℕ) → List ℕ → Bool
 is_too_many names name = nat_le external_limit (length names) && not (is_among name names)
 
--- one external too many, at the name of its first use, behind uses with these externals
+-- one external too many, at the name of its first use, after uses with these externals
 abbrev pub limit_failures : Draft → List (List ℕ) → List Use → List Failure
 limit_failures d names [] = []
 limit_failures d names (u ∷ uses) =
@@ -68,7 +69,8 @@ limit_failures d names (u ∷ uses) =
 
 -- all late faults of a draft
 unfoldable pub late_failures : Draft → List Failure
-late_failures d = goal_failures d 0 d.segments ++ flat_map (use_failures d) (uses_of d) ++ limit_failures d [] (uses_of d)
+late_failures d =
+    goal_failures d 0 d.segments ++ flat_map (use_failures d) (uses_of d) ++ limit_failures d [] (uses_of d)
 
 -- 2. The first fault, and what a text means.
 

@@ -30,7 +30,8 @@ pub record FitsSegment (d : Draft) (s : Segment) : Type 0 where
   pub name : is_name s.name ≡ true
   pub words : FitsWords d 0 s.words
 
--- what a target of a draft comes to has a place of 16 and one of 32 bits, and a name that the draft does not have is among its externals
+-- what a target of a draft comes to has a place of 16 and one of 32 bits, and a name that the draft does not have is
+-- among its externals
 pub record FitsTarget (d : Draft) (t : text.Target) : Type 0 where
   pub index : (target_of d t).index < 2 ^ 16
   pub addend : (target_of d t).addend < 2 ^ 32

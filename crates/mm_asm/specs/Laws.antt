@@ -14,7 +14,8 @@ DraftsAreBounded = (text : List ℕ) (d : Draft) → draft_of text ≡ Ok d → 
 
 -- its targets stand in the order of the text, one on a line at most
 abbrev pub TargetsStandInOrder : Type 0
-TargetsStandInOrder = (text : List ℕ) (d : Draft) → draft_of text ≡ Ok d → IsStrictlyIncreasing (map (λ (u : Use). u.source.line) (uses_of d))
+TargetsStandInOrder =
+    (text : List ℕ) (d : Draft) → draft_of text ≡ Ok d → IsStrictlyIncreasing (map (λ (u : Use). u.source.line) (uses_of d))
 
 -- what a text means is an object
 abbrev pub MeaningsAreObjects : Type 0

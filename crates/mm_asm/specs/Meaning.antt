@@ -25,7 +25,7 @@ use Rattle.mm_asm.specs.Names.{Meant, Here, Elsewhere, meant, position_of, exter
 
 -- 1. Words.
 
--- how many words a label is ahead of word k, which may be behind it
+-- how many words a label is ahead of word k, which may come after it
 abbrev pub distance_to : Option Place → ℕ → ℤ
 distance_to None k = pos 0
 distance_to (Some p) k = pos p.word -ℤ pos k
@@ -52,7 +52,8 @@ segment_of d s = record { name = s.name; log = s.log; items = items_from d 0 s.w
 
 abbrev pub target_by : Draft → Meant → Target
 target_by d (Here segment offset) = record { index = segment; addend = offset }
-target_by d (Elsewhere name addend) = record { index = length d.segments + position_of name (externals_of d); addend = addend }
+target_by d (Elsewhere name addend) =
+    record { index = length d.segments + position_of name (externals_of d); addend = addend }
 
 abbrev pub target_of : Draft → text.Target → Target
 target_of d t = target_by d (meant d t)
@@ -60,7 +61,8 @@ target_of d t = target_by d (meant d t)
 -- 3. Relocations.
 
 abbrev pub content_relocs : Draft → (segment k : ℕ) → Content → List Reloc
-content_relocs d segment k (content.Constant (Pointer perm target)) = record { segment = segment; word = k; perm = perm; target = target_of d target } ∷ []
+content_relocs d segment k (content.Constant (Pointer perm target)) =
+    record { segment = segment; word = k; perm = perm; target = target_of d target } ∷ []
 content_relocs d segment k _ = []
 
 -- of the words of a segment from word k on

@@ -1,5 +1,5 @@
 -- What names stand for in a draft, and those that it does not have.
-use Rattle.std.specs.Prelude.{ℕ, ◌+◌, ◌*◌, nat_lt, Bool, not, if◌then◌else◌, List, [], ◌∷◌, Option, Some, None, is_some}
+use Rattle.std.specs.Prelude.{◌≡◌, ℕ, ◌+◌, ◌*◌, nat_lt, Bool, not, ◌&&◌, if◌then◌else◌, List, [], ◌∷◌, ◌++◌, length, Option, Some, None, is_some}
 use Rattle.std.specs.List.{flat_map}
 use Rattle.mm_line.specs.declared.statement.Target.{Target}
 use Rattle.mm_line.specs.declared.statement.Constant.{Constant}
@@ -7,7 +7,7 @@ use Rattle.mm_line.specs.declared.statement.Constant.TheVariants.{Integer, Point
 use Rattle.mm_line.specs.declared.statement.Content.{Content}
 use Rattle.mm_line.specs.declared.statement.Content.TheVariants as content
 use Rattle.mm_object.specs.Names.{is_before}
-use Rattle.mm_object.specs.Objects.{same_name}
+use Rattle.mm_object.specs.Objects.{same_name, is_among}
 use Rattle.mm_draft.specs.declared.source.Source.{Source}
 use Rattle.mm_draft.specs.declared.segment.Word.{Word}
 use Rattle.mm_draft.specs.declared.place.Place.{Place}
@@ -78,6 +78,15 @@ externals_with d names (u ∷ uses) = externals_with d (with_use d u names) uses
 -- the externals of a draft: each name once, in the order of their bytes
 abbrev pub externals_of : Draft → List (List ℕ)
 externals_of d = externals_with d [] (uses_of d)
+
+-- names as they are first seen, with the name of a use that the draft does not have
+abbrev pub seen_with : Draft → Use → List (List ℕ) → List (List ℕ)
+seen_with d u seen = if is_external d u && not (is_among (name_of u) seen) then seen ++ name_of u ∷ [] else seen
+
+-- a list has each of these names once, in any order
+pub record HasEach (names list : List (List ℕ)) : Type 0 where
+  pub among : (name : List ℕ) → is_among name list ≡ is_among name names
+  pub len : length list ≡ length names
 
 -- the place of a name in a list
 abbrev pub position_of : List ℕ → List (List ℕ) → ℕ

@@ -18,12 +18,12 @@ ghost use Rattle.mm_asm.specs.Meaning.{object_of};
 ghost use Rattle.mm_asm.specs.Names.{externals_of};
 
 use crate::AsmError;
-use crate::first::error_of;
-use crate::foreign::{externals, names_of};
-use crate::late::{meet_goals, meet_targets};
+use crate::checks::{meet_goals, meet_targets};
+use crate::diagnostics::error_of;
+use crate::externals::{externals, names_of};
 use crate::pointers::relocs_of;
-use crate::starts::threads_of;
 use crate::text_order::uses;
+use crate::threads::threads_of;
 use crate::words::segments_of;
 use mm_draft::{Draft, DraftError, read_draft};
 use mm_object::{Name, Object};
@@ -38,7 +38,9 @@ pub fn assemble(alloc: Global, text: &[u8]) -> Result<Object, AsmError>
     ensures again { (o : ObjectValue) → Means text.now o → IsUnlessNoMemory o result }
 
     // A fault that is answered is the first one, and where there is one it is answered.
-    ensures fault { (kind : FaultValue) (line column : ℕ) → result ≡ Err (AsmError.Fault kind line column) → first_fault text.now ≡ Some (record { line = line; column = column; number = number_of kind }) }
+    ensures fault { (kind : FaultValue) (line column : ℕ)
+        → result ≡ Err (AsmError.Fault kind line column)
+        → first_fault text.now ≡ Some (record { line = line; column = column; number = number_of kind }) }
     ensures first { (p : Pair) → first_fault text.now ≡ Some p → FailsUnlessNoMemory p result }
 {
     match read_draft(alloc, text) {

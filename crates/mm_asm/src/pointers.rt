@@ -9,13 +9,13 @@ ghost use Rattle.mm_asm.specs.Names.{externals_of};
 ghost use Rattle.mm_asm.specs.Meaning.{content_relocs, words_relocs, segments_relocs};
 
 use crate::AsmError;
-use crate::linking::target_of;
+use crate::resolve::target_of;
 use mm_draft::{Draft, Word};
 use mm_line::{Constant, Content};
 use mm_object::{Name, Reloc};
 use std::alloc::Global;
 
-/// Those of a draft, by segment and place.
+/// The words of a draft that become pointers, by segment and place.
 pub(crate) fn relocs_of(
     alloc: Global,
     draft: &Draft<'_>,

@@ -10,14 +10,14 @@ ghost use Rattle.mm_asm.specs.Meaning.{distance_to, with_goal, bits_of, items_fr
 ghost use Rattle.mm_draft.specs.Drafts.{place_of};
 
 use crate::AsmError;
-use crate::foreign::name_of;
+use crate::externals::name_of;
 use mm_draft::{Draft, Segment as Said, Word};
 use mm_isa::Fields;
 use mm_line::{Code, Constant, Content, Mark};
 use mm_object::{Item, Segment};
 use std::alloc::Global;
 
-// How many words a label is ahead of a word, which may be behind it.
+// How many words a label is ahead of a word, which may come after it.
 fn distance_to(draft: &Draft<'_>, mark: &Mark<'_>, word: usize) -> i32
     requires { FitsSigned w32 (distance_to (place_of draft.now mark.now.name) word) }
     ensures { result ≡ distance_to (place_of draft.now mark.now.name) word }

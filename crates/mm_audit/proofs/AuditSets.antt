@@ -1,5 +1,5 @@
 -- The sets of a survey are its audit.
-use Rattle.std.proofs.Common.{◌≡◌, ℕ, ◌%◌, ◌^◌, ◌<◌, ◌↔◌, inl, inr, List, sym, subst, arith}
+use Rattle.std.proofs.Common.{◌≡◌, ℕ, ◌%◌, ◌^◌, ◌<◌, ◌≤◌, ◌↔◌, inl, inr, List, [], sym, subst, arith}
 use Rattle.std.proofs.lemmas.Bool.{cases_lt}
 use Rattle.mm_model.specs.Image.{Image}
 use Rattle.mm_model.specs.Reach.{Entries}
@@ -14,20 +14,42 @@ use Rattle.mm_audit.specs.Surveys.{SurveyValue, Surveys}
 use Rattle.mm_audit.proofs.Exactly.{CanUse, touch_use, write_use, are_maximal, group_covers}
 use Rattle.mm_audit.proofs.Granted.{granted-small}
 use Rattle.mm_audit.proofs.Outermost.{outermost_set}
-use Rattle.mm_audit.proofs.Reading.{past}
+use Rattle.mm_audit.proofs.Reading.{empty_past, past}
+
+empty_set : IsSet []
+empty_set = record { segments = λ k lt. absurd (omega arith); rise = λ m n up lt. absurd (omega arith) }
 
 module _ (i : Image) (e : Entries) (s : SurveyValue) (h : Surveys i e s) where
   module _ (access : Access) (sets : List (List (ℕ × ℕ))) (own : AreGroupSets s.spans access 64 sets) where
-    maximal : (g : ℕ) → g < 64 → MaximalSegments i e g (can access) (set_of sets g)
-    maximal g lt = subst (MaximalSegments i e g (can access)) (sym (own.each g lt)) (are_maximal i e s.spans h.spans access g)
+    empty : (g : ℕ) → 64 ≤ g → set_of sets g ≡ []
+    empty g le = empty_past sets g (let len = own.len in omega arith)
 
-    set_is : (g : ℕ) → g < 64 → IsSet (set_of sets g)
-    set_is g lt = subst IsSet (sym (own.each g lt)) (outermost_set access (2 ^ g) s.spans 0 h.spans.order)
+    -- a group of 64 or more is granted nothing
+    none_maximal : (g : ℕ) → 64 ≤ g → MaximalSegments i e g (can access) []
+    none_maximal g le = record {
+      ascending = tt;
+      each = λ t. (
+        λ m. absurd (omega (arith, m.1)),
+        λ m. absurd (let lt = granted-small i e h.image g m.granted.by m.granted.granted in omega arith),
+      );
+    }
+
+    maximal : (g : ℕ) → MaximalSegments i e g (can access) (set_of sets g)
+    maximal g = elim (cases_lt g 64) [
+      | inl lt ↦ subst (MaximalSegments i e g (can access)) (sym (own.each g lt)) (are_maximal i e s.spans h.spans access g)
+      | inr le ↦ subst (MaximalSegments i e g (can access)) (sym (empty g le)) (none_maximal g le)
+    ]
+
+    set_is : (g : ℕ) → IsSet (set_of sets g)
+    set_is g = elim (cases_lt g 64) [
+      | inl lt ↦ subst IsSet (sym (own.each g lt)) (outermost_set access (2 ^ g) s.spans 0 h.spans.order)
+      | inr le ↦ subst IsSet (sym (empty g le)) empty_set
+    ]
 
     covers : (g w : ℕ) → w % 8 ≡ 0 → Covered (set_of sets g) w ↔ CanUse i e access g w
     covers g w aligned = elim (cases_lt g 64) [
       | inl lt ↦ subst (λ v. Covered v w ↔ CanUse i e access g w) (sym (own.each g lt)) (group_covers i e s.spans h.spans access g w aligned)
-      | inr le ↦ (λ c. absurd (past sets g w own.len le c), λ u. absurd (let lt = granted-small i e h.image g u.by u.granted in omega arith))
+      | inr le ↦ (λ c. absurd (past sets g w (let len = own.len in omega arith) c), λ u. absurd (let lt = granted-small i e h.image g u.by u.granted in omega arith))
     ]
 
   pub audits : (touch write : List (List (ℕ × ℕ))) → AreGroupSets s.spans Touch 64 touch → AreGroupSets s.spans Write 64 write

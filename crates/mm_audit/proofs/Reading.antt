@@ -8,8 +8,11 @@ use Rattle.mm_audit.specs.Audits.{set_of}
 none : (w : ℕ) → Covered [] w → ⊥
 none w c = let lt = c.at.0 in omega arith
 
-pub past : (sets : List (List (ℕ × ℕ))) (g w : ℕ) → length sets ≡ 64 → 64 ≤ g → Covered (set_of sets g) w → ⊥
-past sets g w len le c = none w (subst (λ v. Covered v w) (get_or_past sets g [] (omega arith)) c)
+pub empty_past : (sets : List (List (ℕ × ℕ))) (g : ℕ) → length sets ≤ g → set_of sets g ≡ []
+empty_past sets g le = get_or_past sets g [] le
+
+pub past : (sets : List (List (ℕ × ℕ))) (g w : ℕ) → length sets ≤ g → Covered (set_of sets g) w → ⊥
+past sets g w le c = none w (subst (λ v. Covered v w) (empty_past sets g le) c)
 
 not_below : (g : ℕ) → 64 ≤ g → IsTrue (nat_lt g 64) → ⊥
 not_below g le h = grind (arith, nat_tests)

@@ -31,10 +31,10 @@ pub record Audits (i : Image) (e : Entries) (r : ReachValue) : Type 0 where
   pub least : IsLeastTable i e r.least
   pub touch_len : length r.touch ≡ 64
   pub write_len : length r.write ≡ 64
-  pub touch_sets : (g : ℕ) → g < 64 → IsSet (set_of r.touch g)
-  pub write_sets : (g : ℕ) → g < 64 → IsSet (set_of r.write g)
+  pub touch_sets : (g : ℕ) → IsSet (set_of r.touch g)
+  pub write_sets : (g : ℕ) → IsSet (set_of r.write g)
   pub privileged : (g : ℕ) → (bit_at r.privileged g ≡ 1) ↔ Privileged i e g
   pub touch_covers : (g w : ℕ) → w % 8 ≡ 0 → w < 2 ^ 54 → Covered (set_of r.touch g) w ↔ CanTouch i e g w
   pub write_covers : (g w : ℕ) → w % 8 ≡ 0 → w < 2 ^ 54 → Covered (set_of r.write g) w ↔ CanWrite i e g w
-  pub touch_maximal : (g : ℕ) → g < 64 → MaximalSegments i e g can_load (set_of r.touch g)
-  pub write_maximal : (g : ℕ) → g < 64 → MaximalSegments i e g can_store (set_of r.write g)
+  pub touch_maximal : (g : ℕ) → MaximalSegments i e g can_load (set_of r.touch g)
+  pub write_maximal : (g : ℕ) → MaximalSegments i e g can_store (set_of r.write g)

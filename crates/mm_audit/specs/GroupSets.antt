@@ -14,4 +14,5 @@ pub record AreGroupSets (spans : List Span) (access : Access) (top : ℕ) (sets 
 
 -- two groups use the same of the first spans
 abbrev pub SameUsers : List Span → Access → ℕ → ℕ → ℕ → Type 0
-SameUsers spans access one other top = (n : ℕ) → n < top → bit_at (mask access (span_at spans n)) one ≡ bit_at (mask access (span_at spans n)) other
+SameUsers spans access one other top =
+    (n : ℕ) → n < top → bit_at (mask access (span_at spans n)) one ≡ bit_at (mask access (span_at spans n)) other

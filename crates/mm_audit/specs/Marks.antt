@@ -12,7 +12,8 @@ kept_mask keep mask = if keep then mask else 0
 
 -- the segment of a node, with the groups that touch it by the node's pointer and those that write it
 abbrev pub node_span : Key → Node → ℕ → Span
-node_span k n mark = record { base = k.base; touch = kept_mask n.loads mark; write = kept_mask n.stores mark; log = 54 - k.narrow }
+node_span k n mark =
+    record { base = k.base; touch = kept_mask n.loads mark; write = kept_mask n.stores mark; log = 54 - k.narrow }
 
 abbrev pub span_of : List Key → List Node → List ℕ → ℕ → Span
 span_of keys nodes marks k = node_span (key_at keys k) (node_at nodes k) (slice_index marks k)
@@ -36,15 +37,17 @@ pub record OfNode (keys : List Key) (nodes : List Node) (marks : List ℕ) (top 
   pub used : IsUsed s
   pub is : s ≡ span_of keys nodes marks node
 
--- the span stands in the list
+-- the span is in the list
 pub record Stands (spans : List Span) (s : Span) : Type 0 where
   pub at : ℕ
   pub small : at < length spans
   pub is : span_at spans at ≡ s
 
 -- the whole memory for the privileged groups, and the spans of the first nodes, in their order
-pub record SpansOf (keys : List Key) (nodes : List Node) (marks : List ℕ) (privileged top : ℕ) (spans : List Span) : Type 0 where
+pub record SpansOf (keys : List Key) (nodes : List Node) (marks : List ℕ) (privileged top : ℕ)
+    (spans : List Span) : Type 0 where
   pub order : AreInOrder spans
-  pub from : (n : ℕ) → n < length spans → (span_at spans n ≡ whole_span privileged) ⊎ OfNode keys nodes marks top (span_at spans n)
+  pub from : (n : ℕ) → n < length spans
+      → (span_at spans n ≡ whole_span privileged) ⊎ OfNode keys nodes marks top (span_at spans n)
   pub whole : IsUsed (whole_span privileged) → Stands spans (whole_span privileged)
   pub each : (k : ℕ) → k < top → IsUsed (span_of keys nodes marks k) → Stands spans (span_of keys nodes marks k)

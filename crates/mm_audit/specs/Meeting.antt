@@ -10,7 +10,7 @@ use Rattle.mm_audit.specs.Opening.{IsLive}
 abbrev pub no_meets : Meets
 no_meets = record { groups = 0; words = replicate 64 0 }
 
--- what stands past the end of a table
+-- what is past the end of a table
 abbrev pub no_row : Meets
 no_row = record { groups = 0; words = [] }
 
@@ -26,7 +26,8 @@ word_at table h g = slice_index (row_at table h).words g
 
 -- the groups of the one mask that are not of the other
 abbrev pub IsWithout : ℕ → ℕ → ℕ → Type 0
-IsWithout groups others result = (g : ℕ) → g < 64 → (bit_at result g ≡ 1) ↔ ((bit_at groups g ≡ 1) × (bit_at others g ≡ 1 → ⊥))
+IsWithout groups others result =
+    (g : ℕ) → g < 64 → (bit_at result g ≡ 1) ↔ ((bit_at groups g ≡ 1) × (bit_at others g ≡ 1 → ⊥))
 
 -- the word was put at these groups, of those before one
 pub record FillsWords (groups word top : ℕ) (old new : List ℕ) : Type 0 where
@@ -46,7 +47,7 @@ pub record AreRows (table : List Meets) : Type 0 where
   pub len : length table ≡ 64
   pub rows : (h : ℕ) → h < 64 → length (row_at table h).words ≡ 64
 
--- so many rows without a word
+-- this many rows without a word
 pub record AreNoRows (top : ℕ) (table : List Meets) : Type 0 where
   pub len : length table ≡ top
   pub rows : (h : ℕ) → h < top → row_at table h ≡ no_meets
@@ -73,4 +74,5 @@ pub record IsMeeting (spans : List Span) (top h g word : ℕ) : Type 0 where
 pub record HaveMet (spans : List Span) (top : ℕ) (table : List Meets) : Type 0 where
   pub rows : AreRows table
   pub some : (h g : ℕ) → h < 64 → g < 64 → HasWord table h g → IsMeeting spans top h g (word_at table h g)
-  pub each : (k h g : ℕ) → k < top → h < 64 → g < 64 → MeetAt spans k h g → HasWord table h g × (word_at table h g ≤ base_at spans k)
+  pub each : (k h g : ℕ) → k < top → h < 64 → g < 64 → MeetAt spans k h g
+      → HasWord table h g × (word_at table h g ≤ base_at spans k)

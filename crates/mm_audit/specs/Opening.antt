@@ -20,7 +20,7 @@ abbrev pub users : Access → Open → ℕ
 users Touch o = o.touch
 users Write o = o.write
 
--- the group uses one of the first spans, which ends behind the address
+-- the group uses one of the first spans, which ends after the address
 pub record IsLive (spans : List Span) (access : Access) (top a g : ℕ) : Type 0 where
   pub span : ℕ
   pub small : span < top
@@ -38,7 +38,7 @@ pub record IsLast (stack : List Open) (o : Open) : Type 0 where
   pub some : 0 < length stack → o ≡ open_at stack (length stack - 1)
   pub none : length stack ≡ 0 → o ≡ no_open
 
--- the innermost of the open spans that ends behind the address
+-- the innermost of the open spans that ends after the address
 pub record IsInnermost (stack : List Open) (n a : ℕ) : Type 0 where
   pub small : n < length stack
   pub holds : a < open_end stack n
@@ -48,9 +48,12 @@ pub record IsInnermost (stack : List Open) (n a : ℕ) : Type 0 where
 pub record AreOpen (spans : List Span) (top from : ℕ) (stack : List Open) : Type 0 where
   pub fall : (m n : ℕ) → m < n → n < length stack → open_end stack n ≤ open_end stack m
   pub ends : (n : ℕ) → n < length stack → (j : ℕ) × (j < top) × (open_end stack n ≡ end_at spans j)
-  pub inside : (access : Access) (n a g : ℕ) → from ≤ a → IsInnermost stack n a → (bit_at (users access (open_at stack n)) g ≡ 1) ↔ IsLive spans access top a g
-  pub outside : (access : Access) (a g : ℕ) → from ≤ a → (0 < length stack → open_end stack 0 ≤ a) → ¬ IsLive spans access top a g
+  pub inside : (access : Access) (n a g : ℕ) → from ≤ a → IsInnermost stack n a
+      → (bit_at (users access (open_at stack n)) g ≡ 1) ↔ IsLive spans access top a g
+  pub outside : (access : Access) (a g : ℕ) → from ≤ a → (0 < length stack → open_end stack 0 ≤ a)
+      → ¬ IsLive spans access top a g
 
 -- it tells who uses the first address of the span at a place
 abbrev pub IsOpenAt : List Span → ℕ → Open → Type 0
-IsOpenAt spans k o = (access : Access) (g : ℕ) → (bit_at (users access o) g ≡ 1) ↔ IsLive spans access (k + 1) (base_at spans k) g
+IsOpenAt spans k o =
+    (access : Access) (g : ℕ) → (bit_at (users access o) g ≡ 1) ↔ IsLive spans access (k + 1) (base_at spans k) g

@@ -25,7 +25,7 @@ abbrev pub kept_cells : (ℕ → Bool) → ℕ → List Cell → List Cell
 kept_cells passes w [] = []
 kept_cells passes w (cell ∷ cells) = kept_cell (passes w) cell ∷ kept_cells passes (w + 8) cells
 
--- whether one of so many words from a word on passes
+-- whether one of this many words from a word on passes
 abbrev pub some_word : (ℕ → Bool) → ℕ → ℕ → Bool
 some_word passes zero w = false
 some_word passes (suc count) w = passes w || some_word passes count (w + 8)
@@ -36,4 +36,5 @@ has_word passes page = some_word passes 512 (page * 4096)
 
 -- the pages with such a word
 abbrev pub kept_pages : (ℕ → Bool) → List (ℕ × List Cell) → List (ℕ × List Cell)
-kept_pages passes pages = map (λ page. (page.0, kept_cells passes (page.0 * 4096) page.1)) (filter (λ page. has_word passes page.0) pages)
+kept_pages passes pages =
+    map (λ page. (page.0, kept_cells passes (page.0 * 4096) page.1)) (filter (λ page. has_word passes page.0) pages)

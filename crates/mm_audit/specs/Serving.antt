@@ -7,7 +7,8 @@ use Rattle.mm_audit.specs.declared.served.Served.{Served}
 
 -- a slot with its group and the other's, where the other is its handler
 abbrev pub served_by : Slot → Slot → List Served
-served_by s t = if is_handler t.number s.handler then record { slot = s.number; group = s.group; by = t.group } ∷ [] else []
+served_by s t =
+    if is_handler t.number s.handler then record { slot = s.number; group = s.group; by = t.group } ∷ [] else []
 
 -- the slots with their groups and those of their handlers
 abbrev pub served_of : List Slot → List Served

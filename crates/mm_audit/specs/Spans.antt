@@ -25,7 +25,7 @@ abbrev pub can : Access → Perm → Bool
 can Touch p = can_load p
 can Write p = can_store p
 
--- what stands past the end of a list of spans
+-- what is past the end of a list of spans
 abbrev pub no_span : Span
 no_span = record { base = 0; touch = 0; write = 0; log = 0 }
 
@@ -55,8 +55,11 @@ pub record IsHeld (spans : List Span) (access : Access) (g : ℕ) (s : ℕ × �
   pub uses : Uses spans access at g
   pub within : LiesIn s (segment_of (span_at spans at))
 
--- the spans of an image: each is the segment of a pointer that the groups are granted, and each such segment lies in one of them
+-- the spans of an image: each is the segment of a pointer that the groups are granted, and each such segment lies in one
+-- of them
 pub record AreSpans (i : Image) (e : Entries) (spans : List Span) : Type 0 where
   pub order : AreInOrder spans
-  pub granted : (access : Access) (g n : ℕ) → n < length spans → Uses spans access n g → GrantedSegment i e g (can access) (segment_of (span_at spans n))
-  pub held : (access : Access) (g : ℕ) (p : Pointer) → Grants i e g p → can access p.perm ≡ true → 3 ≤ p.log → IsHeld spans access g (base_of p, p.log)
+  pub granted : (access : Access) (g n : ℕ) → n < length spans → Uses spans access n g
+      → GrantedSegment i e g (can access) (segment_of (span_at spans n))
+  pub held : (access : Access) (g : ℕ) (p : Pointer) → Grants i e g p → can access p.perm ≡ true → 3 ≤ p.log
+      → IsHeld spans access g (base_of p, p.log)

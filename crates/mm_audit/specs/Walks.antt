@@ -13,4 +13,6 @@ is_next access groups from s = not (bit_and (mask access s) groups == 0) && nat_
 abbrev pub outermost : Access → ℕ → ℕ → List Span → List (ℕ × ℕ)
 outermost access groups from [] = []
 outermost access groups from (s ∷ spans) =
-    if is_next access groups from s then segment_of s ∷ outermost access groups (end_of (segment_of s)) spans else outermost access groups from spans
+    if is_next access groups from s
+    then segment_of s ∷ outermost access groups (end_of (segment_of s)) spans
+    else outermost access groups from spans

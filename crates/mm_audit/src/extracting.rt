@@ -40,8 +40,8 @@ fn own_image(alloc: Global, img: &Image, groups: &[u8]) -> Result<Image, NoMemor
     }
 }
 
-/// The image of these groups alone: their slots, the version, the mode and the frames, and each page with a word that one
-/// of them can touch, whatever is entered. Cells that none of them can touch are integer 0, full.
+/// The image of these groups alone: their slots, the version, the mode and the frames, and each page with a word that
+/// one of them can touch, whatever is entered. Cells that none of them can touch are integer 0, full.
 pub fn extract(alloc: Global, img: &Image, groups: &[u8]) -> Result<Image, ExtractError>
     ensures alone { IfOk result (λ own. StandAlone img.now (among groups.now)) }
     ensures extracted { IfOk result (λ own. Extracts img.now (among groups.now) own) }

@@ -6,22 +6,23 @@ use mm_word::NoMemory;
 use std::alloc::Global;
 use std::marker::Model;
 
-/// A set of segments for each group from 0 on. Contracts see the set of each group.
+/// A set of segments for each group from 0 on, and the empty set of all others. Contracts see the set of each group.
 #[derive(Drop)]
 pub struct GroupSets {
     pub(crate) sets: Vec<SegSet>,
     places: Vec<usize>,
+    empty: SegSet,
 }
 
 impl Model for GroupSets {
-    ghost use Rattle.std.specs.Prelude.{ℕ, ◌<◌, List, map, length, slice_index_or};
+    ghost use Rattle.std.specs.Prelude.{◌≡◌, ℕ, ◌<◌, List, [], map, length, slice_index_or};
     ghost use Rattle.mm_audit.specs.Audits.{set_of};
 
     ghost Value = { List (List (ℕ × ℕ)) };
 
     ghost view = { λ s. map (set_of s.sets.items) s.places.items };
 
-    ghost invariant = { λ s. (g : ℕ) → g < length s.places.items → slice_index_or s.places.items g 0 < length s.sets.items };
+    ghost invariant = { λ s. ((g : ℕ) → g < length s.places.items → slice_index_or s.places.items g 0 < length s.sets.items) × (s.empty ≡ []) };
 }
 
 impl GroupSets {
@@ -34,6 +35,7 @@ impl GroupSets {
         GroupSets {
             sets: Vec::new(alloc),
             places: Vec::new(alloc),
+            empty: SegSet::new(alloc),
         }
     }
 
@@ -44,12 +46,15 @@ impl GroupSets {
         self.places.len()
     }
 
-    /// The set of a group.
+    /// The set of a group: empty where none was given.
     pub fn of(&self, group: usize) -> &SegSet
-        requires { group < length self.now }
         ensures { result.now ≡ set_of self.now group }
     {
-        &self.sets[self.places[group]]
+        if group < self.places.len() {
+            &self.sets[self.places[group]]
+        } else {
+            &self.empty
+        }
     }
 
     /// Gives the next group a set of its own.

@@ -64,7 +64,10 @@ fn crosses(one: Served, groups: &[u8]) -> bool
 
 /// The least slot whose handler is on the other side.
 pub fn crossing(served: &[Served], groups: &[u8]) -> Option<u8>
-    ensures { MatchOption result (NoCrossing served.now (among groups.now) (length served.now)) (LeastCrossing served.now (among groups.now) (length served.now)) }
+    ensures { MatchOption
+        result
+        (NoCrossing served.now (among groups.now) (length served.now))
+        (LeastCrossing served.now (among groups.now) (length served.now)) }
 {
     let mut best = None;
     for k in 0..served.len() {
@@ -80,7 +83,11 @@ pub fn crossing(served: &[Served], groups: &[u8]) -> Option<u8>
 /// group outside that can write a word that one inside can touch, with the least such word.
 pub fn judge(served: &[Served], least: &[Meets], groups: &[u8]) -> Apart
     requires { AreRows least.now }
-    ensures { (i : ImageValue) (e : EntriesValue) → IsImage i → served.now ≡ served_of i.slots → IsLeastTable i e least.now → Judged i e (among groups.now) (verdict_of result) }
+    ensures { (i : ImageValue) (e : EntriesValue)
+        → IsImage i
+        → served.now ≡ served_of i.slots
+        → IsLeastTable i e least.now
+        → Judged i e (among groups.now) (verdict_of result) }
 {
     if let Some(slot) = crossing(served, groups) {
         return Apart::Handler { slot };

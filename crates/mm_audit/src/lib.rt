@@ -17,8 +17,6 @@ mod span;
 mod spans;
 mod surveying;
 mod surveys;
-#[cfg(test)]
-mod tests;
 mod touched;
 mod walk;
 mod writers;

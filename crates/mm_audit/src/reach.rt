@@ -37,7 +37,13 @@ impl Model for Reach {
 
     ghost Value = { ReachValue };
 
-    ghost view = { λ r. record { privileged = r.privileged; touch = r.touch; write = r.write; served = r.served.items; least = r.least.items } };
+    ghost view = { λ r. record {
+      privileged = r.privileged;
+      touch = r.touch;
+      write = r.write;
+      served = r.served.items;
+      least = r.least.items;
+    } };
 
     ghost invariant = { λ r. (length r.touch ≡ 64) × (length r.write ≡ 64) × AreRows r.least.items };
 }
@@ -52,7 +58,7 @@ impl Reach {
         requires small { word < 2 ^ 54 }
         ensures { (i : ImageValue) (e : EntriesValue) → Audits i e self.now → IsTrue result ↔ CanTouch i e group word }
     {
-        group < 64 && self.touch.of(group as usize).covers(word)
+        self.touch.of(group as usize).covers(word)
     }
 
     /// Whether a group can write a word.
@@ -61,7 +67,7 @@ impl Reach {
         requires small { word < 2 ^ 54 }
         ensures { (i : ImageValue) (e : EntriesValue) → Audits i e self.now → IsTrue result ↔ CanWrite i e group word }
     {
-        group < 64 && self.write.of(group as usize).covers(word)
+        self.write.of(group as usize).covers(word)
     }
 
     /// Whether a group is privileged.
@@ -71,18 +77,20 @@ impl Reach {
         is_privileged(self.privileged, group)
     }
 
-    /// The maximal segments of at least a word that a group can touch.
+    /// The maximal segments of at least a word that a group can touch: none where no slot can be of the group.
     pub fn touch_set(&self, group: u8) -> &SegSet
-        requires { group < 64 }
-        ensures { (i : ImageValue) (e : EntriesValue) → Audits i e self.now → MaximalSegments i e group can_load result.now }
+        ensures { (i : ImageValue) (e : EntriesValue)
+            → Audits i e self.now
+            → MaximalSegments i e group can_load result.now }
     {
         self.touch.of(group as usize)
     }
 
-    /// The maximal segments of at least a word that a group can write.
+    /// The maximal segments of at least a word that a group can write: none where no slot can be of the group.
     pub fn write_set(&self, group: u8) -> &SegSet
-        requires { group < 64 }
-        ensures { (i : ImageValue) (e : EntriesValue) → Audits i e self.now → MaximalSegments i e group can_store result.now }
+        ensures { (i : ImageValue) (e : EntriesValue)
+            → Audits i e self.now
+            → MaximalSegments i e group can_store result.now }
     {
         self.write.of(group as usize)
     }
@@ -90,7 +98,9 @@ impl Reach {
     /// Whether groups stand apart from all others: the least slot whose handler is on the other side, else the least
     /// group outside that can write a word that one inside can touch, with the least such word.
     pub fn apart(&self, groups: &[u8]) -> Apart
-        ensures { (i : ImageValue) (e : EntriesValue) → Audits i e self.now → Judged i e (among groups.now) (verdict_of result) }
+        ensures { (i : ImageValue) (e : EntriesValue)
+            → Audits i e self.now
+            → Judged i e (among groups.now) (verdict_of result) }
     {
         judge(&self.served, &self.least, groups)
     }

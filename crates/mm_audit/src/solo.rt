@@ -29,8 +29,8 @@ fn with_slots(alloc: Global, img: &Image, groups: &[u8]) -> Result<Image, NoMemo
     }
 }
 
-/// The image without the slots of other groups: the slots of these groups, and the version, the mode, the frames and all pages as they
-/// were.
+/// The image without the slots of other groups: the slots of these groups, and the version, the mode, the frames and
+/// all pages as they were.
 pub fn alone(alloc: Global, img: &Image, groups: &[u8]) -> Result<Image, ExtractError>
     ensures stand { IfOk result (λ own. StandAlone img.now (among groups.now)) }
     ensures own { IfOk result (λ own. own ≡ alone img.now (among groups.now)) }

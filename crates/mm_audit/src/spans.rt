@@ -70,7 +70,10 @@ pub fn spans_of(
     requires keys { All IsKey keys.now }
     requires nodes { length nodes.now ≡ length keys.now }
     requires marks { length marks.now ≡ length keys.now }
-    requires words { (k : ℕ) → k < length keys.now → IsUsed (span_of keys.now nodes.now marks.now k) → 3 ≤ (pointer_at (key_at keys.now k)).log }
+    requires words { (k : ℕ)
+        → k < length keys.now
+        → IsUsed (span_of keys.now nodes.now marks.now k)
+        → 3 ≤ (pointer_at (key_at keys.now k)).log }
     ensures { IfOk result (λ spans. SpansOf keys.now nodes.now marks.now privileged (length keys.now) spans.items) }
 {
     let Ok(mut spans) = Vec::with_capacity(alloc, keys.len()) else {

@@ -14,7 +14,8 @@ use crate::span::{Access, Span};
 use crate::walk::Segments;
 use std::marker::Model;
 
-/// A survey of an image: an audit that keeps one list of segments for all groups, and gives each group's own one by one.
+/// A survey of an image: an audit that keeps one list of segments for all groups, and gives each group's own segments
+/// one by one.
 #[derive(Drop)]
 pub struct Survey {
     pub(crate) privileged: u64,
@@ -30,7 +31,12 @@ impl Model for Survey {
 
     ghost Value = { SurveyValue };
 
-    ghost view = { λ s. record { privileged = s.privileged; spans = s.spans.items; served = s.served.items; least = s.least.items } };
+    ghost view = { λ s. record {
+      privileged = s.privileged;
+      spans = s.spans.items;
+      served = s.served.items;
+      least = s.least.items;
+    } };
 
     ghost invariant = { λ s. AreInOrder s.spans.items × AreRows s.least.items };
 }
@@ -49,7 +55,9 @@ impl Survey {
     /// The maximal segments of at least a word that a group can touch.
     pub fn touched(&self, group: u8) -> Segments<'_>
         requires { group < 64 }
-        ensures { (i : ImageValue) (e : EntriesValue) → Surveys i e self.now → MaximalSegments i e group can_load result }
+        ensures { (i : ImageValue) (e : EntriesValue)
+            → Surveys i e self.now
+            → MaximalSegments i e group can_load result }
     {
         Segments::new(&self.spans, Access::Touch, 1u64 << group)
     }
@@ -57,7 +65,9 @@ impl Survey {
     /// The maximal segments of at least a word that a group can write.
     pub fn written(&self, group: u8) -> Segments<'_>
         requires { group < 64 }
-        ensures { (i : ImageValue) (e : EntriesValue) → Surveys i e self.now → MaximalSegments i e group can_store result }
+        ensures { (i : ImageValue) (e : EntriesValue)
+            → Surveys i e self.now
+            → MaximalSegments i e group can_store result }
     {
         Segments::new(&self.spans, Access::Write, 1u64 << group)
     }
@@ -65,7 +75,9 @@ impl Survey {
     /// Whether groups stand apart from all others: the least slot whose handler is on the other side, else the least
     /// group outside that can write a word that one inside can touch, with the least such word.
     pub fn apart(&self, groups: &[u8]) -> Apart
-        ensures { (i : ImageValue) (e : EntriesValue) → Surveys i e self.now → Judged i e (among groups.now) (verdict_of result) }
+        ensures { (i : ImageValue) (e : EntriesValue)
+            → Surveys i e self.now
+            → Judged i e (among groups.now) (verdict_of result) }
     {
         judge(&self.served, &self.least, groups)
     }

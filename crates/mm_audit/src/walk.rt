@@ -6,8 +6,8 @@ ghost use Rattle.mm_audit.specs.Walks.{is_next, outermost};
 use crate::span::{Access, Span};
 use std::marker::Model;
 
-/// The maximal segments that groups reach, ascending: each a base, and the base-2 logarithm of the length. Contracts see
-/// those that are still to come.
+/// The maximal segments that groups reach, ascending: each a base, and the base-2 logarithm of the length. Contracts
+/// see those that are still to come.
 #[derive(Drop)]
 pub struct Segments<'a> {
     spans: &'a [Span],

@@ -1,13 +1,14 @@
 -- The cells of a block: in a page, and in a memory that a block is put into.
-use Rattle.std.proofs.Common.{◌≡◌, ◌≢◌, ℕ, zero, suc, ◌+◌, ◌-◌, ◌*◌, ◌<◌, ◌≤◌, ◌/◌, ◌%◌, is_some, true, List, [], ◌∷◌, ◌++◌, length, take, drop, Option, None, Some, slice_get, refl, sym, ap, arith, ◌∙◌, inl, inr, length-drop, length-append, length-take, append_assoc}
+use Rattle.std.proofs.Common.{◌≡◌, ◌≢◌, ℕ, zero, suc, ◌+◌, ◌-◌, ◌*◌, ◌<◌, ◌≤◌, ◌/◌, ◌%◌, is_some, true, List, [], ◌∷◌, ◌++◌, length, take, drop, Option, None, Some, slice_get, refl, sym, ap, arith}
+use Rattle.std.proofs.Common.{◌∙◌, inl, inr, length-drop, length-append, length-take, append_assoc}
 use Rattle.std.proofs.lemmas.Bool.{cases_lt}
 use Rattle.std.proofs.lemmas.Option.{slice_get_past}
 use Rattle.mm_word.specs.declared.word.Cell.{Cell}
 use Rattle.mm_model.specs.Memory.{Memory, page_at, is_mapped, IsPaged}
 use Rattle.mm_model.specs.Counted.{page_of_block}
 use Rattle.mm_model.proofs.Memories.{page_whole}
-use Rattle.mm_frames.specs.Blocks.{place_of_block, block_in, with_block, block_of_page, block_at, put_block}
-use Rattle.mm_frames.proofs.Blocks.{put_block-mapped, page_at-written, page_at-other, is_mapped-put_block}
+use Rattle.mm_mem.specs.Blocks.{place_of_block, block_in, with_block, block_of_page, block_at, put_block}
+use Rattle.mm_mem.proofs.Blocks.{put_block-mapped, page_at-written, page_at-other, is_mapped-put_block}
 use Rattle.mm_cache.proofs.Laid.{same_list}
 
 -- cells of lists
@@ -79,15 +80,12 @@ module _ (cells : List Cell) (place : ℕ) (new : List Cell) (fits : place * 8 +
       ∙ get_drop (place * 8 + 8) cells rest
       ∙ ap (slice_get cells) back
 
-  -- and elsewhere the page's
+  -- elsewhere the cell is the page's
   pub with_block_there : (j : ℕ) → j / 8 ≢ place → slice_get (with_block cells place new) j ≡ slice_get cells j
   with_block_there j other = elim (cases_lt j (place * 8)) [
     | inl lt ↦ before_block j lt
     | inr le ↦ after_block j (grind (arith, other, le))
   ]
-
-  pub with_block_length : length (with_block cells place new) ≡ length cells
-  with_block_length = omega (arith, before, ap length parts, length-append (take (place * 8) cells) (new ++ drop (place * 8 + 8) cells), length-append new (drop (place * 8 + 8) cells), length-drop (place * 8 + 8) cells)
 
   -- another block stays
   pub with_block_other : (other : ℕ) → other ≢ place → block_in (with_block cells place new) other ≡ block_in cells other
@@ -111,7 +109,8 @@ block_page None block cells h = cc
 block_page (Some page) block cells h = (page, refl, cc)
 
 -- the page of a block that is there
-pub page_of_there : (m : Memory) (block : ℕ) (cells : List Cell) → block_at m block ≡ Some cells → (page : List Cell) × (page_at m (page_of_block block) ≡ Some page) × (block_in page (place_of_block block) ≡ cells)
+pub page_of_there : (m : Memory) (block : ℕ) (cells : List Cell) → block_at m block ≡ Some cells
+    → (page : List Cell) × (page_at m (page_of_block block) ≡ Some page) × (block_in page (place_of_block block) ≡ cells)
 page_of_there m block cells h = block_page (page_at m (page_of_block block)) block cells h
 
 -- a block has room in a whole page

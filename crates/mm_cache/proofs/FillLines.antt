@@ -5,8 +5,8 @@ use Rattle.std.proofs.lemmas.Option.{get_or_from_slice_get}
 use Rattle.mm_word.specs.declared.word.Cell.{Cell}
 use Rattle.mm_model.specs.Memory.{Memory, page_at, is_mapped, cell_in}
 use Rattle.mm_model.specs.Counted.{line_of, page_of_block}
-use Rattle.mm_frames.specs.Blocks.{block_in, block_of_page, block_at, place_of_block}
-use Rattle.mm_cache.specs.declared.line.Line.{Line}
+use Rattle.mm_mem.specs.Blocks.{block_in, block_of_page, block_at, place_of_block}
+use Rattle.mm_cache.specs.declared.line.CacheLine.{CacheLine}
 use Rattle.mm_cache.specs.Lines.{line_in, filled, emptied}
 use Rattle.mm_cache.specs.Over.{over_cell, over, Holds}
 use Rattle.mm_cache.specs.Laws.{Cover, FillsAreOver, CleanLinesGo}
@@ -23,7 +23,7 @@ some_same : (a b : List Cell) → Some a ≡ Some b → a ≡ b
 some_same a b same = cc
 
 -- a line with the cells of the memory shows a cell that the memory has too
-pub clean_cell : (m : Memory) (l : Line) → block_at m l.block ≡ Some l.cells → (k j : ℕ) (c : Cell) → cell_in (page_at m k) j ≡ Some c → j / 8 ≡ line_of l.block → over_cell (Some l) k j c ≡ c
+pub clean_cell : (m : Memory) (l : CacheLine) → block_at m l.block ≡ Some l.cells → (k j : ℕ) (c : Cell) → cell_in (page_at m k) j ≡ Some c → j / 8 ≡ line_of l.block → over_cell (Some l) k j c ≡ c
 clean_cell m l same k j c is at = elim (cases_eq (page_of_block l.block) k) [
   | inl here ↦
       (let found = page_of_place (page_at m k) j c is in
@@ -39,19 +39,19 @@ clean_cell m l same k j c is at = elim (cases_eq (page_of_block l.block) k) [
   | inr other ↦ hidden l k j c other
 ]
 
-module _ (m : Memory) (ls : List (Option Line)) (block : ℕ) (cells : List Cell) (cover : Cover ls m) (empty : line_in ls (line_of block) ≡ None) (there : block_at m block ≡ Some cells) where
-  abbrev new : Line
+module _ (m : Memory) (ls : List (Option CacheLine)) (block : ℕ) (cells : List Cell) (cover : Cover ls m) (empty : line_in ls (line_of block) ≡ None) (there : block_at m block ≡ Some cells) where
+  abbrev new : CacheLine
   new = record { block = block; dirty = false; cells = cells }
 
   pub fill_over : over m (filled ls block cells) ≡ over m ls
   fill_over = over_line m (filled ls block cells) ls (line_of block) cover.paged.pages.rising
       (λ j other. line_set_other ls (line_of block) j (Some new) (λ same. other (sym same)))
       (λ k j c is at.
-      ap (λ (o : Option Line). over_cell o k j c) (line_set_same ls (line_of block) (Some new) (omega (arith, cover.lines.many)))
+      ap (λ (o : Option CacheLine). over_cell o k j c) (line_set_same ls (line_of block) (Some new) (omega (arith, cover.lines.many)))
       ∙ clean_cell m new there k j c is at
-      ∙ sym (ap (λ (o : Option Line). over_cell o k j c) empty))
+      ∙ sym (ap (λ (o : Option CacheLine). over_cell o k j c) empty))
 
-  filled_is : (l : Line) → Some new ≡ Some l → new ≡ l
+  filled_is : (l : CacheLine) → Some new ≡ Some l → new ≡ l
   filled_is l is = cc
 
   filled_mapped : is_mapped m (page_of_block block) ≡ true
@@ -63,11 +63,11 @@ module _ (m : Memory) (ls : List (Option Line)) (block : ℕ) (cells : List Cell
   pub fill_cover : Cover (filled ls block cells) m
   fill_cover = record {
     lines = lines_set ls (line_of block) (Some new) cover.lines
-        (λ l is. ap (λ (x : Line). line_of x.block) (sym (filled_is l is)))
-        (λ l is. ap (λ (x : Line). length x.cells) (sym (filled_is l is)) ∙ block_at_length m block cells cover.paged there);
+        (λ l is. ap (λ (x : CacheLine). line_of x.block) (sym (filled_is l is)))
+        (λ l is. ap (λ (x : CacheLine). length x.cells) (sym (filled_is l is)) ∙ block_at_length m block cells cover.paged there);
     paged = cover.paged;
     lie = λ j l is. elim (line_cases ls (line_of block) j (Some new) l is) [
-      | inl set ↦ subst (λ (x : Line). Holds m x) (filled_is l set.1) filled_holds
+      | inl set ↦ subst (λ (x : CacheLine). Holds m x) (filled_is l set.1) filled_holds
       | inr kept ↦ cover.lie j l kept.1
     ];
   }
@@ -75,14 +75,14 @@ module _ (m : Memory) (ls : List (Option Line)) (block : ℕ) (cells : List Cell
 pub fills_are_over : FillsAreOver
 fills_are_over = record { map = fill_over; cover = fill_cover }
 
-pub clean_over : (m : Memory) (ls : List (Option Line)) (i : ℕ) (l : Line) → Cover ls m → line_in ls i ≡ Some l → l.dirty ≡ false → over m (emptied ls i) ≡ over m ls
+pub clean_over : (m : Memory) (ls : List (Option CacheLine)) (i : ℕ) (l : CacheLine) → Cover ls m → line_in ls i ≡ Some l → l.dirty ≡ false → over m (emptied ls i) ≡ over m ls
 clean_over m ls i l cover is clean = over_line m (emptied ls i) ls i cover.paged.pages.rising
     (λ j other. line_set_other ls i j None (λ same. other (sym same)))
     (λ k j c cell at.
-    ap (λ (o : Option Line). over_cell o k j c) (line_emptied ls i)
-    ∙ sym (ap (λ (o : Option Line). over_cell o k j c) is ∙ clean_cell m l ((cover.lie i l is).clean clean) k j c cell (at ∙ sym (cover.lines.placed i l is))))
+    ap (λ (o : Option CacheLine). over_cell o k j c) (line_emptied ls i)
+    ∙ sym (ap (λ (o : Option CacheLine). over_cell o k j c) is ∙ clean_cell m l ((cover.lie i l is).clean clean) k j c cell (at ∙ sym (cover.lines.placed i l is))))
 
-pub clean_cover : (m : Memory) (ls : List (Option Line)) (i : ℕ) → Cover ls m → Cover (emptied ls i) m
+pub clean_cover : (m : Memory) (ls : List (Option CacheLine)) (i : ℕ) → Cover ls m → Cover (emptied ls i) m
 clean_cover m ls i cover = record {
   lines = lines_emptied ls i cover.lines;
   paged = cover.paged;

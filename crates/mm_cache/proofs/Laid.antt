@@ -1,5 +1,6 @@
 -- The pages and cells of a memory under lines; two such memories are one where their cells are.
-use Rattle.std.proofs.Common.{◌≡◌, ◌≢◌, ℕ, zero, suc, ◌+◌, ◌/◌, ◌%◌, ◌==◌, if◌then◌else◌, get_or, cond, is_some, Bool, true, false, ◌&&◌, T, IsTrue, List, [], ◌∷◌, Option, None, Some, slice_get, option_map, refl, sym, ap, subst, arith, ◌∙◌, ◌⊎◌, inl, inr}
+use Rattle.std.proofs.Common.{◌≡◌, ◌≢◌, ℕ, zero, suc, ◌+◌, ◌/◌, ◌%◌, ◌==◌, if◌then◌else◌, get_or, cond, is_some, Bool, true, false, ◌&&◌, T, IsTrue, List, [], ◌∷◌, Option, None, Some, slice_get}
+use Rattle.std.proofs.Common.{option_map, refl, sym, ap, subst, arith, ◌∙◌, ◌⊎◌, inl, inr}
 use Rattle.std.specs.Prelude.{map, length}
 use Rattle.std.specs.List.{AllByRecursion}
 use Rattle.std.specs.Ordering.{nat_cmp, eq_by_cmp, is_lt}
@@ -11,7 +12,7 @@ use Rattle.std.proofs.lemmas.Bool.Decides.{nat_tests}
 use Rattle.mm_word.specs.declared.word.Cell.{Cell}
 use Rattle.mm_model.specs.Memory.{Memory, page_at, is_mapped, cell_in, IsPage, IsPaged}
 use Rattle.mm_model.specs.Counted.{page_of_block}
-use Rattle.mm_cache.specs.declared.line.Line.{Line}
+use Rattle.mm_cache.specs.declared.line.CacheLine.{CacheLine}
 use Rattle.mm_cache.specs.Lines.{line_in}
 use Rattle.mm_cache.specs.Over.{over_cell, lay, over}
 
@@ -33,7 +34,8 @@ Rises m = IsTrue (is_sorted nat_cmp m.pages)
 
 same_memory : (m n : Memory) → Rises m → Rises n → m.frames ≡ n.frames → ((k : ℕ) → page_at m k ≡ page_at n k) → m ≡ n
 same_memory m n m_rises n_rises frames pages =
-    let same : m.pages ≡ n.pages = same_entries nat_cmp nat_cmp_total nat_cmp-IsAntisymmetric m.pages n.pages (held (is_sorted nat_cmp m.pages) m_rises) (held (is_sorted nat_cmp n.pages) n_rises) pages in
+    let same : m.pages ≡ n.pages = same_entries nat_cmp nat_cmp_total nat_cmp-IsAntisymmetric m.pages n.pages (held (is_sorted nat_cmp m.pages) m_rises)
+    (held (is_sorted nat_cmp n.pages) n_rises) pages in
     λ i. record { pages = same i; frames = frames i }
 
 same_head : {A : Type 0} (x y : A) → Some x ≡ Some y → x ≡ y
@@ -88,42 +90,42 @@ length_mapped : (f : ℕ → List Cell → List Cell) (es : List (ℕ × List Ce
 length_mapped f [] = refl
 length_mapped f (e ∷ es) = ap suc (length_mapped f es)
 
-abbrev laid : List (Option Line) → ℕ → List Cell → List Cell
+abbrev laid : List (Option CacheLine) → ℕ → List Cell → List Cell
 laid ls k cells = lay ls k 0 cells
 
-pub page_over : (m : Memory) (ls : List (Option Line)) (k : ℕ) → page_at (over m ls) k ≡ option_map (λ (cells : List Cell). lay ls k 0 cells) (page_at m k)
+pub page_over : (m : Memory) (ls : List (Option CacheLine)) (k : ℕ) → page_at (over m ls) k ≡ option_map (λ (cells : List Cell). lay ls k 0 cells) (page_at m k)
 unfolding over
 page_over m ls k = find_mapped (laid ls) k m.pages
 
-pub over_frames : (m : Memory) (ls : List (Option Line)) → (over m ls).frames ≡ m.frames
+pub over_frames : (m : Memory) (ls : List (Option CacheLine)) → (over m ls).frames ≡ m.frames
 unfolding over
 over_frames m ls = refl
 
-pub over_rises : (m : Memory) (ls : List (Option Line)) → Rises m → Rises (over m ls)
+pub over_rises : (m : Memory) (ls : List (Option CacheLine)) → Rises m → Rises (over m ls)
 unfolding over
 over_rises m ls rises = sorted_mapped (laid ls) m.pages ∙ rises
 
-pub over_count : (m : Memory) (ls : List (Option Line)) → length (over m ls).pages ≡ length m.pages
+pub over_count : (m : Memory) (ls : List (Option CacheLine)) → length (over m ls).pages ≡ length m.pages
 unfolding over
 over_count m ls = length_mapped (laid ls) m.pages
 
-pub mapped_over : (m : Memory) (ls : List (Option Line)) (k : ℕ) → is_mapped (over m ls) k ≡ is_mapped m k
+pub mapped_over : (m : Memory) (ls : List (Option CacheLine)) (k : ℕ) → is_mapped (over m ls) k ≡ is_mapped m k
 mapped_over m ls k = ap is_some (page_over m ls k) ∙ of_page (page_at m k)
   where
     of_page : (o : Option (List Cell)) → is_some (option_map (λ (cells : List Cell). lay ls k 0 cells) o) ≡ is_some o
     of_page None = refl
     of_page (Some cs) = refl
 
-lay_length : (ls : List (Option Line)) (k n : ℕ) (cells : List Cell) → length (lay ls k n cells) ≡ length cells
+lay_length : (ls : List (Option CacheLine)) (k n : ℕ) (cells : List Cell) → length (lay ls k n cells) ≡ length cells
 lay_length ls k n [] = refl
 lay_length ls k n (c ∷ cells) = ap suc (lay_length ls k (suc n) cells)
 
-whole_mapped : (ls : List (Option Line)) (es : List (ℕ × List Cell)) → AllByRecursion IsPage es → AllByRecursion IsPage (mapped (laid ls) es)
+whole_mapped : (ls : List (Option CacheLine)) (es : List (ℕ × List Cell)) → AllByRecursion IsPage es → AllByRecursion IsPage (mapped (laid ls) es)
 whole_mapped ls [] h = tt
 whole_mapped ls (e ∷ es) h = (record { number = h.0.number; cells = lay_length ls e.0 0 e.1 ∙ h.0.cells }, whole_mapped ls es h.1)
 
 -- a memory of whole pages is one under lines too
-pub over_paged : (m : Memory) (ls : List (Option Line)) → IsPaged m → IsPaged (over m ls)
+pub over_paged : (m : Memory) (ls : List (Option CacheLine)) → IsPaged m → IsPaged (over m ls)
 unfolding over
 over_paged m ls paged = record {
   pages = record { rising = sorted_mapped (laid ls) m.pages ∙ paged.pages.rising; whole = whole_mapped ls m.pages paged.pages.whole };
@@ -133,19 +135,19 @@ over_paged m ls paged = record {
 -- cells under lines
 
 -- a line shows its cells in its page
-pub shown : (l : Line) (k j : ℕ) (c : Cell) → page_of_block l.block ≡ k → over_cell (Some l) k j c ≡ get_or l.cells (j % 8) c
+pub shown : (l : CacheLine) (k j : ℕ) (c : Cell) → page_of_block l.block ≡ k → over_cell (Some l) k j c ≡ get_or l.cells (j % 8) c
 shown l k j c same =
     let test : (page_of_block l.block == k) ≡ true = grind (arith, nat_tests, same) in
     ap (λ (b : Bool). if b then get_or l.cells (j % 8) c else c) test
 
--- and in no other page
-pub hidden : (l : Line) (k j : ℕ) (c : Cell) → page_of_block l.block ≢ k → over_cell (Some l) k j c ≡ c
+-- the line shows in no other page
+pub hidden : (l : CacheLine) (k j : ℕ) (c : Cell) → page_of_block l.block ≢ k → over_cell (Some l) k j c ≡ c
 hidden l k j c other =
     let test : (page_of_block l.block == k) ≡ false = grind (arith, nat_tests, other) in
     ap (λ (b : Bool). if b then get_or l.cells (j % 8) c else c) test
 
 -- a cell under the lines
-abbrev pub cell_over : List (Option Line) → ℕ → ℕ → Option Cell → Option Cell
+abbrev pub cell_over : List (Option CacheLine) → ℕ → ℕ → Option Cell → Option Cell
 cell_over ls k j o = option_map (over_cell (line_in ls (j / 8)) k j) o
 
 add_none : (n : ℕ) → n ≡ n + 0
@@ -154,7 +156,7 @@ add_none n = omega arith
 add_one : (n j : ℕ) → suc n + j ≡ n + suc j
 add_one n j = omega arith
 
-lay_get : (ls : List (Option Line)) (k n : ℕ) (cs : List Cell) (j : ℕ) → slice_get (lay ls k n cs) j ≡ cell_over ls k (n + j) (slice_get cs j)
+lay_get : (ls : List (Option CacheLine)) (k n : ℕ) (cs : List Cell) (j : ℕ) → slice_get (lay ls k n cs) j ≡ cell_over ls k (n + j) (slice_get cs j)
 lay_get ls k n [] j = refl
 lay_get ls k n (c ∷ cs) zero = ap (λ (x : ℕ). Some (over_cell (line_in ls (x / 8)) k x c)) (add_none n)
 lay_get ls k n (c ∷ cs) (suc j) = lay_get ls k (suc n) cs j ∙ ap (λ (x : ℕ). cell_over ls k x (slice_get cs j)) (add_one n j)
@@ -163,7 +165,7 @@ none_and : (j : ℕ) → 0 + j ≡ j
 none_and j = omega arith
 
 -- each cell is over the memory's
-pub seen : (m : Memory) (ls : List (Option Line)) (k j : ℕ) → cell_in (page_at (over m ls) k) j ≡ cell_over ls k j (cell_in (page_at m k) j)
+pub seen : (m : Memory) (ls : List (Option CacheLine)) (k j : ℕ) → cell_in (page_at (over m ls) k) j ≡ cell_over ls k j (cell_in (page_at m k) j)
 seen m ls k j = ap (λ (o : Option (List Cell)). cell_in o j) (page_over m ls k) ∙ of_page (page_at m k)
   where
     of_page : (o : Option (List Cell)) → cell_in (option_map (λ (cells : List Cell). lay ls k 0 cells) o) j ≡ cell_over ls k j (cell_in o j)
@@ -171,18 +173,19 @@ seen m ls k j = ap (λ (o : Option (List Cell)). cell_in o j) (page_over m ls k)
     of_page (Some cs) = lay_get ls k 0 cs j ∙ ap (λ (x : ℕ). cell_over ls k x (slice_get cs j)) (none_and j)
 
 -- two memories under two rows of lines
-pub over_alike : (m n : Memory) (ls ks : List (Option Line)) → Rises m → Rises n → m.frames ≡ n.frames → ((k : ℕ) → is_mapped m k ≡ is_mapped n k) →
+pub over_alike : (m n : Memory) (ls ks : List (Option CacheLine)) → Rises m → Rises n → m.frames ≡ n.frames → ((k : ℕ) → is_mapped m k ≡ is_mapped n k) →
     ((k j : ℕ) → cell_over ls k j (cell_in (page_at m k) j) ≡ cell_over ks k j (cell_in (page_at n k) j)) → over m ls ≡ over n ks
 over_alike m n ls ks m_rises n_rises frames pages cells = same_cells _ _ (over_rises m ls m_rises) (over_rises n ks n_rises) (over_frames m ls ∙ frames ∙ sym (over_frames n ks))
     (λ k. mapped_over m ls k ∙ pages k ∙ sym (mapped_over n ks k))
     (λ k j. seen m ls k j ∙ cells k j ∙ sym (seen n ks k j))
 
 -- lines that differ in one place, and there give the same cells
-pub over_line : (m : Memory) (ls ks : List (Option Line)) (i : ℕ) → Rises m → ((j : ℕ) → i ≢ j → line_in ls j ≡ line_in ks j) →
+pub over_line : (m : Memory) (ls ks : List (Option CacheLine)) (i : ℕ) → Rises m → ((j : ℕ) → i ≢ j → line_in ls j ≡ line_in ks j) →
     ((k j : ℕ) (c : Cell) → cell_in (page_at m k) j ≡ Some c → j / 8 ≡ i → over_cell (line_in ls i) k j c ≡ over_cell (line_in ks i) k j c) → over m ls ≡ over m ks
 over_line m ls ks i rises others here = over_alike m m ls ks rises rises refl (λ k. refl) (λ k j. at k j (cell_in (page_at m k) j) refl (cases_eq i (j / 8)))
   where
     at : (k j : ℕ) (o : Option Cell) → cell_in (page_at m k) j ≡ o → (i ≡ j / 8) ⊎ (i ≢ j / 8) → cell_over ls k j o ≡ cell_over ks k j o
     at k j None is where_ = refl
-    at k j (Some c) is (inl same) = ap (λ (x : Cell). Some x) (ap (λ (n : ℕ). over_cell (line_in ls n) k j c) (sym same) ∙ here k j c is (sym same) ∙ ap (λ (n : ℕ). over_cell (line_in ks n) k j c) same)
-    at k j (Some c) is (inr other) = ap (λ (l : Option Line). Some (over_cell l k j c)) (others (j / 8) other)
+    at k j (Some c) is (inl same) = ap (λ (x : Cell). Some x) (ap (λ (n : ℕ). over_cell (line_in ls n) k j c) (sym same) ∙ here k j c is (sym same)
+        ∙ ap (λ (n : ℕ). over_cell (line_in ks n) k j c) same)
+    at k j (Some c) is (inr other) = ap (λ (l : Option CacheLine). Some (over_cell l k j c)) (others (j / 8) other)

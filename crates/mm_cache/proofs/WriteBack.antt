@@ -5,15 +5,15 @@ use Rattle.std.proofs.lemmas.Option.{slice_get-get_or}
 use Rattle.mm_word.specs.declared.word.Cell.{Cell}
 use Rattle.mm_model.specs.Memory.{Memory, page_at, cell_in, IsPaged}
 use Rattle.mm_model.specs.Counted.{line_of, page_of_block}
-use Rattle.mm_frames.specs.Blocks.{block_of_page, block_at, place_of_block, put_block}
-use Rattle.mm_cache.specs.declared.line.Line.{Line}
+use Rattle.mm_mem.specs.Blocks.{block_of_page, block_at, place_of_block, put_block}
+use Rattle.mm_cache.specs.declared.line.CacheLine.{CacheLine}
 use Rattle.mm_cache.specs.Lines.{line_in, emptied}
 use Rattle.mm_cache.specs.Over.{over_cell, over, Holds}
 use Rattle.mm_cache.specs.Laws.{Cover, LinesAreWrittenBack}
 use Rattle.mm_cache.proofs.Placed.{line_set_other, line_emptied, line_cases, lines_emptied}
 use Rattle.mm_cache.proofs.Laid.{over_alike, cell_over, shown, hidden}
 use Rattle.mm_cache.proofs.Blocks.{with_block_here, with_block_there, with_block_other, page_there, block_fits, put_block_frames, put_block_here, put_block_there, put_block_mapped}
-use Rattle.mm_frames.proofs.Blocks.{put_block_paged}
+use Rattle.mm_mem.proofs.Blocks.{put_block_paged}
 
 get_within : (xs : List Cell) (n : ℕ) → n < length xs → (x : Cell) × (slice_get xs n ≡ Some x)
 get_within [] n lt = absurd (omega arith)
@@ -24,12 +24,12 @@ keep : (o : Option Cell) (k j : ℕ) → option_map (over_cell None k j) o ≡ o
 keep None k j = refl
 keep (Some c) k j = refl
 
-keep_hidden : (l : Line) (o : Option Cell) (k j : ℕ) → page_of_block l.block ≢ k → option_map (over_cell (Some l) k j) o ≡ o
+keep_hidden : (l : CacheLine) (o : Option Cell) (k j : ℕ) → page_of_block l.block ≢ k → option_map (over_cell (Some l) k j) o ≡ o
 keep_hidden l None k j other = refl
 keep_hidden l (Some c) k j other = ap (λ (x : Cell). Some x) (hidden l k j c other)
 
 -- the memory that a line's block is put into
-module _ (m : Memory) (l : Line) (paged : IsPaged m) (eight : length l.cells ≡ 8) (page : List Cell) (is : page_at m (page_of_block l.block) ≡ Some page) where
+module _ (m : Memory) (l : CacheLine) (paged : IsPaged m) (eight : length l.cells ≡ 8) (page : List Cell) (is : page_at m (page_of_block l.block) ≡ Some page) where
   abbrev after : Memory
   after = put_block m l.block l.cells
 
@@ -59,7 +59,7 @@ module _ (m : Memory) (l : Line) (paged : IsPaged m) (eight : length l.cells ≡
         ∙ sym (keep_hidden l (cell_in (page_at m k) j) k j (λ same. other (sym same)))
   ]
 
-  -- and the others the memory's
+  -- the other cells are the memory's
   back_there : (k j : ℕ) → j / 8 ≢ line_of l.block → cell_in (page_at after k) j ≡ cell_in (page_at m k) j
   back_there k j apart = elim (cases_eq k (page_of_block l.block)) [
     | inl same ↦
@@ -83,13 +83,13 @@ module _ (m : Memory) (l : Line) (paged : IsPaged m) (eight : length l.cells ≡
     | inr other ↦ ap (λ (o : Option (List Cell)). block_of_page o block) (put_block_there m l.block l.cells page is (page_of_block block) other)
   ]
 
-  held_after : (x : Line) → line_of x.block ≢ line_of l.block → Holds m x → Holds after x
+  held_after : (x : CacheLine) → line_of x.block ≢ line_of l.block → Holds m x → Holds after x
   held_after x apart holds = record {
     mapped = put_block_mapped m l.block l.cells page is (page_of_block x.block) ∙ holds.mapped;
     clean = λ clean. other_block x.block apart ∙ holds.clean clean;
   }
 
-module _ (m : Memory) (ls : List (Option Line)) (i : ℕ) (l : Line) (cover : Cover ls m) (is : line_in ls i ≡ Some l) where
+module _ (m : Memory) (ls : List (Option CacheLine)) (i : ℕ) (l : CacheLine) (cover : Cover ls m) (is : line_in ls i ≡ Some l) where
   placed : line_of l.block ≡ i
   placed = cover.lines.placed i l is
 
@@ -106,13 +106,13 @@ module _ (m : Memory) (ls : List (Option Line)) (i : ℕ) (l : Line) (cover : Co
   under k j = elim (cases_eq i (j / 8)) [
     | inl same ↦
         ap (λ (x : ℕ). option_map (over_cell (line_in (emptied ls i) x) k j) (cell_in (page_at (put_block m l.block l.cells) k) j)) (sym same)
-        ∙ ap (λ (o : Option Line). option_map (over_cell o k j) (cell_in (page_at (put_block m l.block l.cells) k) j)) (line_emptied ls i)
+        ∙ ap (λ (o : Option CacheLine). option_map (over_cell o k j) (cell_in (page_at (put_block m l.block l.cells) k) j)) (line_emptied ls i)
         ∙ keep (cell_in (page_at (put_block m l.block l.cells) k) j) k j
         ∙ back_here m l cover.paged whole its_page.0 its_page.1 k j (sym same ∙ sym placed)
-        ∙ ap (λ (o : Option Line). option_map (over_cell o k j) (cell_in (page_at m k) j)) (sym is)
+        ∙ ap (λ (o : Option CacheLine). option_map (over_cell o k j) (cell_in (page_at m k) j)) (sym is)
         ∙ ap (λ (x : ℕ). option_map (over_cell (line_in ls x) k j) (cell_in (page_at m k) j)) same
     | inr other ↦
-        ap (λ (o : Option Line). option_map (over_cell o k j) (cell_in (page_at (put_block m l.block l.cells) k) j)) (line_set_other ls i (j / 8) None (λ same. other (sym same)))
+        ap (λ (o : Option CacheLine). option_map (over_cell o k j) (cell_in (page_at (put_block m l.block l.cells) k) j)) (line_set_other ls i (j / 8) None (λ same. other (sym same)))
         ∙ ap (λ (o : Option Cell). cell_over ls k j o) (back_there m l cover.paged whole its_page.0 its_page.1 k j (λ same. other (sym placed ∙ sym same)))
   ]
 

@@ -1,5 +1,6 @@
 -- A cell that is written in its line.
-use Rattle.std.proofs.Common.{◌≡◌, ◌≢◌, ℕ, zero, suc, ◌<◌, ◌/◌, ◌%◌, ◌==◌, Bool, true, false, if◌then◌else◌, List, [], ◌∷◌, length, length-set, get_or, Option, None, Some, slice_get, option_map, refl, sym, ap, subst, arith, ◌∙◌, ◌⊎◌, inl, inr}
+use Rattle.std.proofs.Common.{◌≡◌, ◌≢◌, ℕ, zero, suc, ◌<◌, ◌/◌, ◌%◌, ◌==◌, Bool, true, false, if◌then◌else◌, List, [], ◌∷◌, length, length-set, get_or, Option, None, Some, slice_get, option_map, refl}
+use Rattle.std.proofs.Common.{sym, ap, subst, arith, ◌∙◌, ◌⊎◌, inl, inr}
 use Rattle.std.specs.Prelude.{slice_set}
 use Rattle.std.proofs.lemmas.Bool.{cases_eq}
 use Rattle.std.proofs.lemmas.Bool.Decides.{nat_tests}
@@ -7,7 +8,7 @@ use Rattle.mm_word.specs.declared.word.Cell.{Cell}
 use Rattle.mm_model.specs.Memory.{Memory, page_of, place_of, page_at, is_mapped, cell_in, put_cell}
 use Rattle.mm_model.specs.Counted.{block_of, line_of, page_of_block}
 use Rattle.mm_model.proofs.Memories.{put_cell-unmapped, page_at-put_same, page_at-put_other, is_mapped-put, put_frames, put_paged, get_set_other}
-use Rattle.mm_cache.specs.declared.line.Line.{Line}
+use Rattle.mm_cache.specs.declared.line.CacheLine.{CacheLine}
 use Rattle.mm_cache.specs.Lines.{line_in, hits, line_with, with_cell, place_in_block}
 use Rattle.mm_cache.specs.Over.{over_cell, over, Holds}
 use Rattle.mm_cache.specs.Laws.{Cover, WritesAreOver}
@@ -69,17 +70,17 @@ module _ (f : Memory) (w : ℕ) (c : Cell) where
 
 -- the line that is written
 
-module _ (m : Memory) (ls : List (Option Line)) (w : ℕ) (c : Cell) (l : Line)
+module _ (m : Memory) (ls : List (Option CacheLine)) (w : ℕ) (c : Cell) (l : CacheLine)
     (is : line_in ls (line_of (block_of w)) ≡ Some l) (its : l.block ≡ block_of w) (eight : length l.cells ≡ 8) (room : line_of (block_of w) < length ls) where
-  abbrev new : Line
+  abbrev new : CacheLine
   new = record { block = l.block; dirty = true; cells = slice_set l.cells (place_in_block w) c }
 
   new_line : line_in (with_cell ls w c) (line_of (block_of w)) ≡ Some new
   new_line =
       let test : (l.block == block_of w) ≡ true = grind (arith, nat_tests, its) in
       line_set_same ls (line_of (block_of w)) (line_with (line_in ls (line_of (block_of w))) w c) room
-      ∙ ap (λ (o : Option Line). line_with o w c) is
-      ∙ ap (λ (b : Bool). let o : Option Line = (if b then Some new else Some l) in o) test
+      ∙ ap (λ (o : Option CacheLine). line_with o w c) is
+      ∙ ap (λ (b : Bool). let o : Option CacheLine = (if b then Some new else Some l) in o) test
 
   other_line : (j : ℕ) → line_of (block_of w) ≢ j → line_in (with_cell ls w c) j ≡ line_in ls j
   other_line j other = line_set_other ls (line_of (block_of w)) j (line_with (line_in ls (line_of (block_of w))) w c) (λ same. other (sym same))
@@ -112,15 +113,15 @@ module _ (m : Memory) (ls : List (Option Line)) (w : ℕ) (c : Cell) (l : Line)
   twice (Some d) f g same = ap (λ (x : Cell). Some x) (same d)
 
   under_new : (k j : ℕ) → line_of (block_of w) ≡ j / 8 → cell_over (with_cell ls w c) k j (cell_in (page_at m k) j) ≡ option_map (over_cell (Some new) k j) (cell_in (page_at m k) j)
-  under_new k j same = ap (λ (o : Option Line). option_map (over_cell o k j) (cell_in (page_at m k) j)) (ap (λ (x : ℕ). line_in (with_cell ls w c) x) (sym same) ∙ new_line)
+  under_new k j same = ap (λ (o : Option CacheLine). option_map (over_cell o k j) (cell_in (page_at m k) j)) (ap (λ (x : ℕ). line_in (with_cell ls w c) x) (sym same) ∙ new_line)
 
   under_old : (k j : ℕ) → line_of (block_of w) ≡ j / 8 → option_map (over_cell (Some l) k j) (cell_in (page_at m k) j) ≡ cell_in (page_at (over m ls) k) j
-  under_old k j same = ap (λ (o : Option Line). option_map (over_cell o k j) (cell_in (page_at m k) j)) (sym (ap (λ (x : ℕ). line_in ls x) (sym same) ∙ is)) ∙ sym (seen m ls k j)
+  under_old k j same = ap (λ (o : Option CacheLine). option_map (over_cell o k j) (cell_in (page_at m k) j)) (sym (ap (λ (x : ℕ). line_in ls x) (sym same) ∙ is)) ∙ sym (seen m ls k j)
 
   pub cells_written : (k j : ℕ) → cell_over (with_cell ls w c) k j (cell_in (page_at m k) j) ≡ cell_in (page_at (put_cell (over m ls) w c) k) j
   cells_written k j = elim (cases_eq (line_of (block_of w)) (j / 8)) [
     | inr other ↦
-        ap (λ (o : Option Line). option_map (over_cell o k j) (cell_in (page_at m k) j)) (other_line (j / 8) other)
+        ap (λ (o : Option CacheLine). option_map (over_cell o k j) (cell_in (page_at m k) j)) (other_line (j / 8) other)
         ∙ sym (seen m ls k j)
         ∙ sym (cell_place (over m ls) w c k j (λ at. other (omega (arith, at))))
     | inl same ↦ under_new k j same ∙ elim (cases_eq k (page_of w)) [
@@ -134,7 +135,7 @@ module _ (m : Memory) (ls : List (Option Line)) (w : ℕ) (c : Cell) (l : Line)
     ]
   ]
 
-pub write_over : (m : Memory) (ls : List (Option Line)) (w : ℕ) (c : Cell) → Cover ls m → hits ls (block_of w) ≡ true → over m (with_cell ls w c) ≡ put_cell (over m ls) w c
+pub write_over : (m : Memory) (ls : List (Option CacheLine)) (w : ℕ) (c : Cell) → Cover ls m → hits ls (block_of w) ≡ true → over m (with_cell ls w c) ≡ put_cell (over m ls) w c
 write_over m ls w c cover hit =
     let found = line_hit ls (block_of w) hit in
     let paged = put_paged (over m ls) w c (over_paged m ls cover.paged) in
@@ -145,49 +146,49 @@ write_over m ls w c cover hit =
     ∙ cells_written m ls w c found.0 found.1 found.2 (cover.lines.whole (line_of (block_of w)) found.0 found.1) (omega (arith, cover.lines.many)) k j)
 
 -- what a line was before it was written, if at all
-record Before (x l : Line) : Type 0 where
+record Before (x l : CacheLine) : Type 0 where
   block : x.block ≡ l.block
   many : length x.cells ≡ length l.cells
   kept : (l.dirty ≡ true) ⊎ (x ≡ l)
 
-abbrev dirtied : Line → ℕ → Cell → Line
+abbrev dirtied : CacheLine → ℕ → Cell → CacheLine
 dirtied x w c = record { block = x.block; dirty = true; cells = slice_set x.cells (place_in_block w) c }
 
-inside : (a b : Line) → Some a ≡ Some b → a ≡ b
+inside : (a b : CacheLine) → Some a ≡ Some b → a ≡ b
 inside a b same = cc
 
-before_new : (x l : Line) (w : ℕ) (c : Cell) → dirtied x w c ≡ l → Before x l
+before_new : (x l : CacheLine) (w : ℕ) (c : Cell) → dirtied x w c ≡ l → Before x l
 before_new x l w c same = record {
-  block = ap (λ (y : Line). y.block) same;
-  many = sym (length-set x.cells (place_in_block w) c) ∙ ap (λ (y : Line). length y.cells) same;
-  kept = inl (sym (ap (λ (y : Line). y.dirty) same));
+  block = ap (λ (y : CacheLine). y.block) same;
+  many = sym (length-set x.cells (place_in_block w) c) ∙ ap (λ (y : CacheLine). length y.cells) same;
+  kept = inl (sym (ap (λ (y : CacheLine). y.dirty) same));
 }
 
-before_old : (x l : Line) → x ≡ l → Before x l
-before_old x l same = record { block = ap (λ (y : Line). y.block) same; many = ap (λ (y : Line). length y.cells) same; kept = inr same }
+before_old : (x l : CacheLine) → x ≡ l → Before x l
+before_old x l same = record { block = ap (λ (y : CacheLine). y.block) same; many = ap (λ (y : CacheLine). length y.cells) same; kept = inr same }
 
-before_by : (x l : Line) (w : ℕ) (c : Cell) (b : Bool) → (if b then Some (dirtied x w c) else Some x) ≡ Some l → Before x l
+before_by : (x l : CacheLine) (w : ℕ) (c : Cell) (b : Bool) → (if b then Some (dirtied x w c) else Some x) ≡ Some l → Before x l
 before_by x l w c true same = before_new x l w c (inside (dirtied x w c) l same)
 before_by x l w c false same = before_old x l (inside x l same)
 
-before : (o : Option Line) (w : ℕ) (c : Cell) (l : Line) → line_with o w c ≡ Some l → (x : Line) × (o ≡ Some x) × Before x l
+before : (o : Option CacheLine) (w : ℕ) (c : Cell) (l : CacheLine) → line_with o w c ≡ Some l → (x : CacheLine) × (o ≡ Some x) × Before x l
 before None w c l is = cc
 before (Some x) w c l is = (x, refl, before_by x l w c (x.block == block_of w) is)
 
-held_before : (m : Memory) (x l : Line) → Before x l → Holds m x → Holds m l
+held_before : (m : Memory) (x l : CacheLine) → Before x l → Holds m x → Holds m l
 held_before m x l b holds = record {
   mapped = ap (λ (n : ℕ). is_mapped m (page_of_block n)) (sym b.block) ∙ holds.mapped;
-  clean = λ clean. elim b.kept [ inl dirty ↦ cc | inr same ↦ (subst (λ (y : Line). Holds m y) same holds).clean clean ];
+  clean = λ clean. elim b.kept [ inl dirty ↦ cc | inr same ↦ (subst (λ (y : CacheLine). Holds m y) same holds).clean clean ];
 }
 
-module _ (m : Memory) (ls : List (Option Line)) (w : ℕ) (c : Cell) (cover : Cover ls m) where
+module _ (m : Memory) (ls : List (Option CacheLine)) (w : ℕ) (c : Cell) (cover : Cover ls m) where
   abbrev at : ℕ
   at = line_of (block_of w)
 
-  abbrev written : Option Line
+  abbrev written : Option CacheLine
   written = line_with (line_in ls at) w c
 
-  was : (l : Line) → written ≡ Some l → (x : Line) × (line_in ls at ≡ Some x) × Before x l
+  was : (l : CacheLine) → written ≡ Some l → (x : CacheLine) × (line_in ls at ≡ Some x) × Before x l
   was l is = before (line_in ls at) w c l is
 
   pub write_cover : hits ls (block_of w) ≡ true → Cover (with_cell ls w c) m

@@ -1,32 +1,33 @@
--- Lines laid over a memory: a cell is that of the line that has its block, and else the memory's. A page has as many blocks as there are lines, so
--- the cell at place j of a page can stand only in the line j / 8.
-use Rattle.std.specs.Prelude.{◌≡◌, ℕ, suc, ◌/◌, ◌%◌, ◌==◌, true, false, if◌then◌else◌, List, [], ◌∷◌, Option, None, Some, slice_index_or, map}
+-- Lines laid over a memory: a cell is that of the line that has its block, and else the memory's. A page has as many
+-- blocks as there are lines, so the cell at place j of a page can only be in the line j / 8.
+use Rattle.std.specs.Prelude.{◌≡◌, ℕ, suc, ◌/◌, ◌%◌, ◌==◌, true, false, if◌then◌else◌, List, [], ◌∷◌, Option, None}
+use Rattle.std.specs.Prelude.{Some, slice_index_or, map}
 use Rattle.mm_word.specs.declared.word.Cell.{Cell}
 use Rattle.mm_model.specs.Memory.{Memory, is_mapped}
 use Rattle.mm_model.specs.Counted.{page_of_block}
-use Rattle.mm_frames.specs.Blocks.{block_at}
-use Rattle.mm_cache.specs.declared.line.Line.{Line}
+use Rattle.mm_mem.specs.Blocks.{block_at}
+use Rattle.mm_cache.specs.declared.line.CacheLine.{CacheLine}
 use Rattle.mm_cache.specs.Lines.{line_in}
 
 -- the cell at a place of a page, under a line
-abbrev pub over_cell : Option Line → ℕ → ℕ → Cell → Cell
+abbrev pub over_cell : Option CacheLine → ℕ → ℕ → Cell → Cell
 over_cell None page place c = c
 over_cell (Some l) page place c = if page_of_block l.block == page then slice_index_or l.cells (place % 8) c else c
 
 -- the cells of a page from a place on, under the lines
-abbrev pub lay : List (Option Line) → ℕ → ℕ → List Cell → List Cell
+abbrev pub lay : List (Option CacheLine) → ℕ → ℕ → List Cell → List Cell
 lay lines page place [] = []
 lay lines page place (c ∷ cells) = over_cell (line_in lines (place / 8)) page place c ∷ lay lines page (suc place) cells
 
 -- the memory under the lines
-unfoldable pub over : Memory → List (Option Line) → Memory
+unfoldable pub over : Memory → List (Option CacheLine) → Memory
 over m lines = record m { pages = map (λ e. (e.0, lay lines e.0 0 e.1)) m.pages }
 
 -- a line whose page is mapped, and which has the memory's cells where it is clean
-pub record Holds (m : Memory) (l : Line) : Type 0 where
+pub record Holds (m : Memory) (l : CacheLine) : Type 0 where
   pub mapped : is_mapped m (page_of_block l.block) ≡ true
   pub clean : l.dirty ≡ false → block_at m l.block ≡ Some l.cells
 
--- so has each line
-abbrev pub LieOver : List (Option Line) → Memory → Type 0
-LieOver lines m = (i : ℕ) (l : Line) → line_in lines i ≡ Some l → Holds m l
+-- each line holds what it should of this memory
+abbrev pub LieOver : List (Option CacheLine) → Memory → Type 0
+LieOver lines m = (i : ℕ) (l : CacheLine) → line_in lines i ≡ Some l → Holds m l

@@ -1,7 +1,8 @@
 //! What holds of lines that lie over a memory.
 //!
 //! These functions do nothing when they run: the contract of each is the law.
-ghost use Rattle.mm_cache.specs.Laws.{ReadsAreOver, WritesAreOver, FillsAreOver, CleanLinesGo, LinesAreWrittenBack, PagesAreOver, EmptyLinesAreOver};
+ghost use Rattle.mm_cache.specs.Laws.{ReadsAreOver, WritesAreOver, FillsAreOver, CleanLinesGo, LinesAreWrittenBack};
+ghost use Rattle.mm_cache.specs.Laws.{PagesAreOver, EmptyLinesAreOver};
 
 /// A word is read in the line that has its block, and else in the memory; what is written in its line is written.
 pub fn cells_are_over()
@@ -9,7 +10,8 @@ pub fn cells_are_over()
     ensures writes { WritesAreOver }
 {}
 
-/// Lines come and go without a change of what is read: a block that is filled, a clean one that is dropped, one that is written back.
+/// Lines come and go without a change of what is read: a block that is filled, a clean one that is dropped, one that is
+/// written back.
 pub fn lines_come_and_go()
     ensures none { EmptyLinesAreOver }
     ensures fills { FillsAreOver }

@@ -1,39 +1,36 @@
-ghost use Rattle.std.specs.Prelude.{◌≡◌, Some};
-ghost use Rattle.mm_cache.specs.Lines.{victim_of};
+ghost use Rattle.std.specs.Prelude.{◌≡◌};
 
-use mm_frames::Block;
+use mm_mem::{BLOCK, Block};
+use mm_word::Cell;
 
-/// A line that has a block.
+/// A line with a block.
 #[derive(Clone, Copy, Debug, PartialEq, Eq)]
-pub struct Line {
+pub struct CacheLine {
     /// The number of the block, which is its address divided by 64.
     pub block: u64,
+    /// The cells of the block, packed.
     pub cells: Block,
-    /// Whether it was written since it was filled.
+    /// Whether the line was written since it was filled.
     pub dirty: bool,
 }
 
 /// A block that has to be written back.
 #[derive(Clone, Copy, Debug, PartialEq, Eq)]
 pub struct Victim {
+    /// The number of the block.
     pub block: u64,
-    pub cells: Block,
+    /// The cells of the block.
+    pub cells: [Cell; BLOCK],
 }
 
-impl Line {
-    // The block, where it has to be written back.
-    pub(crate) fn victim(self) -> Option<Victim>
-        ensures { result ≡ victim_of (Some self) }
+impl CacheLine {
+    // The block of the line.
+    pub(crate) fn victim(&self) -> Victim
+        ensures { result ≡ record { block = self.now.block; cells = self.now.cells } }
     {
-        let Line {
-            block,
-            cells,
-            dirty,
-        } = self;
-        if dirty {
-            Some(Victim { block, cells })
-        } else {
-            None
+        Victim {
+            block: self.block,
+            cells: self.cells.cells(),
         }
     }
 }

@@ -1,9 +1,9 @@
-ghost use Rattle.std.specs.Prelude.{◌≡◌, ◌^◌, ◌<◌, None, replicate, true, false};
+ghost use Rattle.std.specs.Prelude.{◌≡◌, ◌^◌, ◌<◌, None, length, replicate, true, false};
 ghost use Rattle.mm_model.specs.Counted.{block_of, line_of};
 ghost use Rattle.mm_cache.specs.Lines.{place_in_block, is_in, line_with, line_without};
 
-use crate::line::{Line, Victim};
-use mm_frames::Block;
+use crate::line::{CacheLine, Victim};
+use mm_mem::{BLOCK, Block};
 use mm_word::Cell;
 use std::marker::Model;
 
@@ -33,8 +33,9 @@ fn place_of(word: u64) -> usize
     (word % 64 / 8) as usize
 }
 
-// Writes the cell of a word in a line and marks it as dirty, where it has the word's block. False exactly where it has not.
-fn write(line: &mut Option<Line>, word: u64, cell: Cell) -> bool
+// Writes the cell of a word in a line and marks the line as dirty. False exactly where the line does not have the
+// word's block.
+fn write(line: &mut Option<CacheLine>, word: u64, cell: Cell) -> bool
     ensures answer { result ≡ is_in line.old (block_of word) }
     ensures after { line.new ≡ line_with line.old word cell }
 {
@@ -49,7 +50,7 @@ fn write(line: &mut Option<Line>, word: u64, cell: Cell) -> bool
 }
 
 // Whether a line has a block of a page.
-fn has_page(line: &Option<Line>, page: u64) -> bool
+fn has_page(line: &Option<CacheLine>, page: u64) -> bool
     ensures gone { result ≡ true → line_without page line.now ≡ None }
     ensures kept { result ≡ false → line_without page line.now ≡ line.now }
 {
@@ -59,18 +60,18 @@ fn has_page(line: &Option<Line>, page: u64) -> bool
     }
 }
 
-/// 64 lines, each empty or with a block, a flag and eight cells. A block stands only in the line of its number modulo 64.
+/// 64 lines, each empty or with a block, a flag and eight cells. A block is only in the line of its number modulo 64.
 #[derive(Drop)]
 pub struct Lines {
-    lines: [Option<Line>; LINES],
+    lines: [Option<CacheLine>; LINES],
 }
 
 impl Model for Lines {
     ghost use Rattle.std.specs.Prelude.{List, Option};
-    ghost use Rattle.mm_cache.specs.declared.line.Line.{Line};
+    ghost use Rattle.mm_cache.specs.declared.line.CacheLine.{CacheLine};
     ghost use Rattle.mm_cache.specs.Lines.{AreLines};
 
-    ghost Value = { List (Option Line) };
+    ghost Value = { List (Option CacheLine) };
 
     ghost view = { λ c. c.lines };
 
@@ -78,7 +79,8 @@ impl Model for Lines {
 }
 
 impl Lines {
-    ghost use Rattle.mm_cache.specs.Lines.{AreLines, line_in, hits, cell_of, victim_of, with_cell, filled, emptied, without_page};
+    ghost use Rattle.mm_cache.specs.Lines.{AreLines, line_in, hits, cell_of, victim_of, dirty_in, with_cell, filled};
+    ghost use Rattle.mm_cache.specs.Lines.{emptied, without_page};
 
     /// Empty lines.
     pub fn new() -> Lines
@@ -96,16 +98,10 @@ impl Lines {
         *self = Lines::new();
     }
 
-    /// What is true of all lines: there are 64, each block stands in its own line, and has eight cells. Nothing is done.
-    pub fn placed(&self)
-        ensures { AreLines self.now }
-    {
-        let _first = &self.lines;
-    }
-
-    /// Whether a block is in its line.
+    /// Whether a block is in its line. There are 64 lines, each block is in its own, and has eight cells.
     pub fn hit(&self, block: u64) -> bool
-        ensures { result ≡ hits self.now block }
+        ensures answer { result ≡ hits self.now block }
+        ensures placed { AreLines self.now }
     {
         match &self.lines[line_of(block)] {
             Some(line) => line.block == block,
@@ -113,7 +109,7 @@ impl Lines {
         }
     }
 
-    /// The cell of a word, if its block is in its line.
+    /// The cell of a word, if the word's block is in its line.
     pub fn cell(&self, word: u64) -> Option<Cell>
         ensures { result ≡ cell_of self.now word }
     {
@@ -123,7 +119,7 @@ impl Lines {
         }
     }
 
-    /// Writes the cell of a word and marks its line as dirty. False exactly where its block is not there.
+    /// Writes the cell of a word and marks its line as dirty. False exactly where the word's block is not in its line.
     pub fn put(&mut self, word: u64, cell: Cell) -> bool
         ensures answer { result ≡ hits self.old (block_of word) }
         ensures after { self.new ≡ with_cell self.old word cell }
@@ -131,32 +127,52 @@ impl Lines {
         write(&mut self.lines[line_of(block_of(word))], word, cell)
     }
 
-    /// Empties a line, and gives its block exactly where it was dirty.
+    /// Empties a line, and gives its block exactly where the line was dirty.
     pub fn evict(&mut self, line: u8) -> Option<Victim>
         requires { line < 64 }
         ensures answer { result ≡ victim_of (line_in self.old line) }
         ensures after { self.new ≡ emptied self.old line }
     {
-        match self.lines[line as usize].take() {
-            Some(line) => line.victim(),
+        match self.evict_packed(line) {
+            Some(line) => Some(line.victim()),
             None => None,
         }
     }
 
-    /// Fills the empty line of a block, which is clean then.
-    pub fn fill(&mut self, block: u64, cells: Block)
+    /// Empties a line as `evict` does, and gives the line, its cells packed.
+    pub fn evict_packed(&mut self, line: u8) -> Option<CacheLine>
+        requires { line < 64 }
+        ensures answer { result ≡ dirty_in (line_in self.old line) }
+        ensures after { self.new ≡ emptied self.old line }
+    {
+        match self.lines[line as usize].take() {
+            Some(line) if line.dirty => Some(line),
+            _ => None,
+        }
+    }
+
+    /// Fills the empty line of a block, which is then clean.
+    pub fn fill(&mut self, block: u64, cells: [Cell; BLOCK])
         requires { line_in self.old (line_of block) ≡ None }
         ensures { self.new ≡ filled self.old block cells }
     {
-        cells.whole();
-        self.lines[line_of(block)] = Some(Line {
+        self.fill_packed(block, Block::of(&cells));
+    }
+
+    /// Fills the empty line of a block as `fill` does, with packed cells.
+    pub fn fill_packed(&mut self, block: u64, cells: Block)
+        requires empty { line_in self.old (line_of block) ≡ None }
+        requires whole { length cells ≡ 8 }
+        ensures { self.new ≡ filled self.old block cells }
+    {
+        self.lines[line_of(block)] = Some(CacheLine {
             block,
             cells,
             dirty: false,
         });
     }
 
-    /// Empties the lines that have a block of a page.
+    /// Empties each line that has a block of a page.
     pub fn drop_page(&mut self, page: u64)
         ensures { self.new ≡ without_page page self.old }
     {

@@ -1,20 +1,19 @@
--- What each cycle and each mark keeps of a session, every answer keeps.
+-- What each cycle and each entry keeps of a session, every answer keeps.
 use Rattle.std.proofs.Common.{◌≡◌, ℕ, zero, suc, ◌-◌, Bool, true, false, ◌&&◌, if◌then◌else◌, List, [], ◌∷◌, Option, Some, None, refl}
 use Rattle.mm_debug.specs.declared.command.Command.{Command}
 use Rattle.mm_debug.specs.declared.command.Command.TheVariants.{Nothing, Step, Run, Break, Watch, Regs, Mem, Quit, Bad}
-use Rattle.mm_debug.specs.declared.marks.Break.{Break as Mark}
+use Rattle.mm_debug.specs.declared.breakpoints.Break.{Break as Breakpoint}
 use Rattle.mm_debug.specs.declared.stop.Stop.{Stop}
 use Rattle.mm_debug.specs.declared.stop.Stop.TheVariants as stop
-use Rattle.mm_debug.specs.declared.session.Go.{Go}
-use Rattle.mm_debug.specs.declared.session.Go.TheVariants as go
 use Rattle.mm_debug.specs.Commands.{command_of}
-use Rattle.mm_debug.specs.Session.{Session, total_of, cycle_limit, next_item, issued, then_stepped, stepped, stops_before, stops_after, Ran, stopped, behind_cycle, before_cycle, run_from, ran, Answer, answer, answer_to, Dialogue, behind_answer, dialogue}
+use Rattle.mm_debug.specs.Session.{Session, total_of, cycle_limit, next_item, issued, then_stepped, stepped, stops_before, stops_after, Ran, stopped, after_cycle, before_cycle, run_from, ran, Answer, answer, answer_to, dialogue}
 use Rattle.mm_debug.specs.Laws.{after_lines}
+use Rattle.mm_debug.proofs.Dialogues.{keeps}
 
 -- the cycle of the next item keeps it, and it does not speak of breaks and watches
 pub record Keeps (P : Session → Type 0) : Type 0 where
   pub issues : (s : Session) (item : ℕ) → next_item s ≡ Some item → P s → P (issued s item)
-  pub breaks : (s : Session) (marks : List Mark) → P s → P (record s { breaks = marks })
+  pub breaks : (s : Session) (entries : List Breakpoint) → P s → P (record s { breaks = entries })
   pub watches : (s : Session) (words : List ℕ) → P s → P (record s { watches = words })
 
 module _ (P : Session → Type 0) (each : Keeps P) where
@@ -37,18 +36,18 @@ module _ (P : Session → Type 0) (each : Keeps P) where
   before_keeps begun s None rest is later h = h
   before_keeps begun s (Some item) rest is later h = break_keeps s (stop.Break item) (begun && stops_before s item) (rest item) h (later item is)
 
-  behind_keeps : (s : Session) (o : Option ℕ) (rest : Ran) → P s → P rest.session → P (behind_cycle s o rest).session
-  behind_keeps s None rest h later = later
-  behind_keeps s (Some word) rest h later = h
+  after_keeps : (s : Session) (o : Option ℕ) (rest : Ran) → P s → P rest.session → P (after_cycle s o rest).session
+  after_keeps s None rest h later = later
+  after_keeps s (Some word) rest h later = h
 
   run_keeps : (begun : Bool) (s : Session) (left : ℕ) → P s → P (run_from begun s left).session
   unfolding run_from
   run_keeps begun s zero h = h
   run_keeps begun s (suc left) h =
-      before_keeps begun s (next_item s) (λ item. behind_cycle (issued s item) (stops_after s item) (run_from true (issued s item) left)) refl
+      before_keeps begun s (next_item s) (λ item. after_cycle (issued s item) (stops_after s item) (run_from true (issued s item) left)) refl
       (λ item is.
       let now = each.issues s item is h in
-      behind_keeps (issued s item) (stops_after s item) (run_from true (issued s item) left) now (run_keeps true (issued s item) left now))
+      after_keeps (issued s item) (stops_after s item) (run_from true (issued s item) left) now (run_keeps true (issued s item) left now))
       h
 
   pub ran_keeps : (s : Session) → P s → P (ran s).session
@@ -67,16 +66,8 @@ module _ (P : Session → Type 0) (each : Keeps P) where
   answer_keeps s Quit h = h
   answer_keeps s Bad h = h
 
-  rest_keeps : (a : Answer) (next : Go) (rest : Session → Dialogue) → P a.session → P (rest a.session).session → P (behind_answer a next rest).session
-  rest_keeps a go.Quit rest h later = h
-  rest_keeps a go.More rest h later = later
-
   pub dialogue_keeps : (s : Session) (lines : List (List ℕ)) → P s → P (dialogue s lines).session
-  unfolding dialogue
-  dialogue_keeps s [] h = h
-  dialogue_keeps s (line ∷ lines) h =
-      let now = answer_keeps s (command_of line) h in
-      rest_keeps (answer_to s line) (answer_to s line).go (λ t. dialogue t lines) now (dialogue_keeps (answer_to s line).session lines now)
+  dialogue_keeps = keeps answer_to P (λ s line h. answer_keeps s (command_of line) h)
 
   pub lines_keep : (s : Session) (lines : List (List ℕ)) → P s → P (after_lines s lines)
   lines_keep s [] h = h

@@ -1,10 +1,12 @@
 -- Lines that are answered one after the other.
-use Rattle.std.proofs.Common.{◌≡◌, ℕ, Bool, true, false, List, [], ◌∷◌, ◌++◌, Option, refl, sym, ap, ◌∙◌, arith, append_assoc, append-nil}
+use Rattle.std.proofs.Common.{◌≡◌, ℕ, Bool, true, false, List, [], ◌∷◌, ◌++◌, Option, refl, sym, ap, ap₂, subst, ◌∙◌, arith, append_assoc, append-nil}
 use Rattle.mm_io.proofs.Known.{append_known-[]}
 use Rattle.mm_text.specs.Gathers.{Gathered, Gathers, Became}
 use Rattle.mm_debug.specs.declared.session.Go.{Go}
 use Rattle.mm_debug.specs.declared.session.Go.TheVariants.{More, Quit}
-use Rattle.mm_debug.specs.Session.{Session, Answer, Dialogue, answer_to, behind_answer, dialogue}
+use Rattle.mm_debug.specs.Session.{Session, Answer, Dialogue, after_answer, dialogue_by}
+use Rattle.mm_debug.specs.Dialogues.{IsAnswer, Carried}
+use Rattle.mm_debug.specs.Dialogues.Carried.{all, quit, more}
 
 -- 1. Texts that are gathered.
 
@@ -16,55 +18,84 @@ no_text {taken = taken} {faults = faults} {out = out} {text = text} = record { l
     by false = record { part = []; splits = append-nil text.kept; took = sym (append_known-[] (taken out)) }
     by true = refl
 
--- 2. Dialogues.
+-- 2. Lines that are carried out.
 
--- A dialogue has said a text, and goes on in a session with the lines that are left.
-pub record GoesOn (whole : Dialogue) (said : List ℕ) (s : Session) (left : List (List ℕ)) : Type 0 where
-  pub text : whole.text ≡ said ++ (dialogue s left).text
-  pub session : whole.session ≡ (dialogue s left).session
+-- whatever is replied to the lines that are left, `said` and it are replied to all lines
+abbrev pub GoesOn : {D : Type 0} (Answers : D → List ℕ → List ℕ → D → Go → Type 0) (first : D) (lines : List (List ℕ)) (said : List ℕ) (here : D)
+    (left : List (List ℕ)) → Type 0
+GoesOn {D} Answers first lines said here left =
+    (text : List ℕ) (last : D) → Carried Answers here left text last → Carried Answers first lines (said ++ text) last
 
--- It has said its text, and ended in a session.
-pub record Ends (whole : Dialogue) (said : List ℕ) (s : Session) : Type 0 where
-  pub text : said ≡ whole.text
-  pub session : s ≡ whole.session
+module _ {D : Type 0} {Answers : D → List ℕ → List ℕ → D → Go → Type 0} where
+  -- a line after which another may follow
+  pub goes_on : {first : D} {lines : List (List ℕ)} (here there : D) (said reply : List ℕ) (next : Go) (left others : List (List ℕ)) (line : List ℕ)
+      → left ≡ line ∷ others → GoesOn Answers first lines said here left → Answers here line reply there next → More ≡ next
+      → GoesOn Answers first lines (said ++ reply) there others
+  goes_on {first} {lines} here there said reply next left others line are so_far answer goes text last later =
+      let answered : Answers here line reply there More = subst (Answers here line reply there) (sym goes) answer in
+      let from_here : Carried Answers here left (reply ++ text) last =
+      subst (λ (ls : List (List ℕ)). Carried Answers here ls (reply ++ text) last) (sym are) (more answered later) in
+      subst (λ (xs : List ℕ). Carried Answers first lines xs last) (sym (append_assoc said reply text)) (so_far (reply ++ text) last from_here)
 
-pub begins : (s : Session) (lines : List (List ℕ)) → GoesOn (dialogue s lines) [] s lines
-begins s lines = record { text = refl; session = refl }
+  -- a line that ends them
+  pub ends_at : {first : D} {lines : List (List ℕ)} (here there : D) (said reply : List ℕ) (next : Go) (left others : List (List ℕ)) (line : List ℕ)
+      → left ≡ line ∷ others → GoesOn Answers first lines said here left → Answers here line reply there next → Quit ≡ next
+      → Carried Answers first lines (said ++ reply) there
+  ends_at {first} {lines} here there said reply next left others line are so_far answer quits =
+      let answered : Answers here line reply there Quit = subst (Answers here line reply there) (sym quits) answer in
+      so_far reply there (subst (λ (ls : List (List ℕ)). Carried Answers here ls reply there) (sym are) (quit answered))
 
-line_first : (s : Session) (lines others : List (List ℕ)) (line : List ℕ) → lines ≡ line ∷ others
-    → dialogue s lines ≡ behind_answer (answer_to s line) (answer_to s line).go (λ t. dialogue t others)
-unfolding dialogue
-line_first s lines others line are = ap (dialogue s) are
+  -- no line is left
+  pub ends : {first here : D} {lines : List (List ℕ)} {said : List ℕ} (left : List (List ℕ)) → left ≡ [] → GoesOn Answers first lines said here left
+      → Carried Answers first lines said here
+  ends {first} {here} {lines} {said} left none so_far =
+      subst (λ (xs : List ℕ). Carried Answers first lines xs here) (append-nil said)
+      (so_far [] here (subst (λ (ls : List (List ℕ)). Carried Answers here ls [] here) (sym none) all))
 
-more : (a : Answer) (go : Go) (rest : Session → Dialogue) (t : Session) → More ≡ go → t ≡ a.session
-    → behind_answer a go rest ≡ record { text = a.reply ++ (rest t).text; session = (rest t).session }
-more a go rest t goes is = ap (λ (g : Go). behind_answer a g rest) (sym goes) ∙ ap (λ (u : Session). record { text = a.reply ++ (rest u).text; session = (rest u).session }) (sym is)
+-- 3. Dialogues.
 
--- a line after which another may follow
-pub goes_on : {whole : Dialogue} {said : List ℕ} {s : Session} (lines others : List (List ℕ)) (line : List ℕ) (go : Go) (t : Session)
-    → lines ≡ line ∷ others → GoesOn whole said s lines → go ≡ (answer_to s line).go → More ≡ go → t ≡ (answer_to s line).session
-    → GoesOn whole (said ++ (answer_to s line).reply) t others
-goes_on {whole} {said} {s} lines others line go t are so_far is goes left =
-    let a = answer_to s line in
-    let e = line_first s lines others line are ∙ more a a.go (λ (u : Session). dialogue u others) t (goes ∙ is) left in
+-- A dialogue's text, and the session in which it ended.
+pub record IsDialogue (d : Dialogue) (said : List ℕ) (s : Session) : Type 0 where
+  pub text : said ≡ d.text
+  pub session : s ≡ d.session
+
+quits : (a : Answer) (rest : Session → Dialogue) (reply : List ℕ) (s : Session) → IsAnswer a reply s Quit → IsDialogue (after_answer a a.go rest) reply s
+quits a rest reply s is =
+    let e : after_answer a Quit rest ≡ after_answer a a.go rest = ap (λ (g : Go). after_answer a g rest) is.go in
+    record { text = is.reply ∙ ap (λ (d : Dialogue). d.text) e; session = is.session ∙ ap (λ (d : Dialogue). d.session) e }
+
+follows : (a : Answer) (rest : Session → Dialogue) (reply text : List ℕ) (s t : Session) → IsAnswer a reply s More → IsDialogue (rest s) text t
+    → IsDialogue (after_answer a a.go rest) (reply ++ text) t
+follows a rest reply text s t is later =
+    let e : after_answer a More rest ≡ after_answer a a.go rest = ap (λ (g : Go). after_answer a g rest) is.go in
+    let there : rest s ≡ rest a.session = ap rest is.session in
     record {
-      text = so_far.text ∙ ap (λ (d : Dialogue). said ++ d.text) e ∙ sym (append_assoc said a.reply (dialogue t others).text);
-      session = so_far.session ∙ ap (λ (d : Dialogue). d.session) e;
+      text = ap₂ (λ (xs ys : List ℕ). xs ++ ys) is.reply (later.text ∙ ap (λ (d : Dialogue). d.text) there) ∙ ap (λ (d : Dialogue). d.text) e;
+      session = later.session ∙ ap (λ (d : Dialogue). d.session) there ∙ ap (λ (d : Dialogue). d.session) e;
     }
 
--- a line that ends it
-pub ends_at : {whole : Dialogue} {said : List ℕ} {s : Session} (lines others : List (List ℕ)) (line : List ℕ) (go : Go) (t : Session)
-    → lines ≡ line ∷ others → GoesOn whole said s lines → go ≡ (answer_to s line).go → Quit ≡ go → t ≡ (answer_to s line).session
-    → Ends whole (said ++ (answer_to s line).reply) t
-ends_at {whole} {said} {s} lines others line go t are so_far is quits left =
-    let a = answer_to s line in
-    let e = line_first s lines others line are ∙ ap (λ (g : Go). behind_answer a g (λ (u : Session). dialogue u others)) (sym (quits ∙ is)) in
-    record {
-      text = sym (so_far.text ∙ ap (λ (d : Dialogue). said ++ d.text) e);
-      session = left ∙ sym (so_far.session ∙ ap (λ (d : Dialogue). d.session) e);
-    }
+then_kept : (P : Session → Type 0) (a : Answer) (next : Go) (rest : Session → Dialogue) → P a.session → P (rest a.session).session → P (after_answer a next rest).session
+then_kept P a Quit rest h later = h
+then_kept P a More rest h later = later
 
--- no line is left
-pub ends : {whole : Dialogue} {said : List ℕ} {s : Session} → GoesOn whole said s [] → Ends whole said s
-unfolding dialogue
-ends {whole} {said} {s} so_far = record { text = sym (so_far.text ∙ append-nil said); session = sym so_far.session }
+-- what each answer keeps, a dialogue keeps
+pub keeps : (answers : Session → List ℕ → Answer) (P : Session → Type 0) → ((s : Session) (line : List ℕ) → P s → P (answers s line).session)
+    → (s : Session) (lines : List (List ℕ)) → P s → P (dialogue_by answers s lines).session
+unfolding dialogue_by
+keeps answers P each s [] h = h
+keeps answers P each s (line ∷ lines) h =
+    let a = answers s line in
+    then_kept P a a.go (λ t. dialogue_by answers t lines) (each s line h) (keeps answers P each a.session lines (each s line h))
+
+-- Each line is answered so where something holds of what answers it, and it goes on to hold.
+module _ {D : Type 0} {Answers : D → List ℕ → List ℕ → D → Go → Type 0} (shown : D → Session) (answers : Session → List ℕ → Answer) (Holds : D → Type 0)
+    (each : (d e : D) (line reply : List ℕ) (next : Go) → Holds d → Answers d line reply e next → IsAnswer (answers (shown d) line) reply (shown e) next × Holds e) where
+  -- what was replied to lines is their dialogue
+  pub is_dialogue : {d e : D} {lines : List (List ℕ)} {text : List ℕ} → Holds d → Carried Answers d lines text e → IsDialogue (dialogue_by answers (shown d) lines) text (shown e)
+  unfolding dialogue_by
+  is_dialogue holds all = record { text = refl; session = refl }
+  is_dialogue {d = d} {e = e} {lines = line ∷ lines} {text = text} holds (quit answer) =
+      quits (answers (shown d) line) (λ t. dialogue_by answers t lines) text (shown e) (each d e line text Quit holds answer).0
+  is_dialogue {d = d} {e = f} {lines = line ∷ lines} holds (more {e = e} {reply = reply} {text = text} answer later) =
+      let now = each d e line reply More holds answer in
+      follows (answers (shown d) line) (λ t. dialogue_by answers t lines) reply text (shown e) (shown f) now.0 (is_dialogue now.1 later)

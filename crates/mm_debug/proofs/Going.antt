@@ -11,9 +11,11 @@ use Rattle.mm_debug.specs.declared.command.Command.{Command}
 use Rattle.mm_debug.specs.declared.session.Session.{Session as Held}
 use Rattle.mm_debug.specs.Commands.{command_of, lines_of}
 use Rattle.mm_debug.specs.Session.{Session, answer, answer_to, dialogue, debugged}
+use Rattle.mm_debug.specs.Dialogues.{IsAnswer, Carried}
 use Rattle.mm_debug.specs.Shown.{session_of}
 use Rattle.mm_debug.specs.Standing.{Point, CanGo}
 use Rattle.mm_debug.proofs.AnswersKeep.{Keeps, answer_keeps, dialogue_keeps}
+use Rattle.mm_debug.proofs.Dialogues.{IsDialogue, is_dialogue}
 
 -- a state of the same machine: it is kept where the first is, and can be put back to what the first can
 record Follows (s t : State) : Type 0 where
@@ -32,7 +34,7 @@ one_more s t item f = record {
 each_follows : (s : State) → Keeps (λ (t : Session). Follows s t.state)
 each_follows s = record {
   issues = λ t item is f. one_more s t.state item f;
-  breaks = λ t marks f. f;
+  breaks = λ t entries f. f;
   watches = λ t words f. f;
 }
 
@@ -69,3 +71,9 @@ module _ {M : Type 0} {memory : Ghosts M} where
 
   pub input_goes : (old new : Held M memory) (input : List ℕ) → session_of new ≡ (debugged (session_of old) input).session → (p : Point) → CanGo (session_of old) p → CanGo (session_of new) p
   input_goes old new input is p can = subst (λ (t : Session). CanGo t p) (sym is) (dialogue_goes (session_of old) (lines_of input) p old.machine.kept can)
+
+  -- what carried out lines, each as a session answers it, is where its dialogue ended
+  pub sessions_said : {old new : Held M memory} {lines : List (List ℕ)} {text : List ℕ}
+      → Carried (λ (s : Held M memory) line reply (t : Held M memory) next. IsAnswer (answer_to (session_of s) line) reply (session_of t) next) old lines text new
+      → IsDialogue (dialogue (session_of old) lines) text (session_of new)
+  sessions_said carried = is_dialogue session_of answer_to (λ s. Unit {0}) (λ s t line reply next holds answer. (answer, tt)) tt carried

@@ -10,8 +10,8 @@ use Rattle.std.specs.declared.cmp.Ordering.{Ordering}
 use Rattle.arrayvec.specs.ArrayVec.{ArrayVec}
 use Rattle.std.proofs.lemmas.Cmp.{nat_cmp_total, on_total, then_total}
 use Rattle.std.proofs.lemmas.Bool.{lt-ltb}
-use Rattle.mm_debug.specs.declared.marks.Break.{Break}
-use Rattle.mm_debug.specs.Marks.{AreMarks, break_cmp, is_break, placed, fits, marked}
+use Rattle.mm_debug.specs.declared.breakpoints.Break.{Break}
+use Rattle.mm_debug.specs.Breakpoints.{AreEntries, break_cmp, is_break, placed, fits, entered}
 use Rattle.mm_debug.proofs.Rising.{rise_placed, placed_new, searchable, any_there, any_new}
 
 pub break_total : IsTotalOrder break_cmp
@@ -25,18 +25,18 @@ room count true small there = sym (lt-ltb count 64 (small refl))
 room count false small there = grind arith
 
 -- a list that a binary search for an entry has looked through
-pub record Searched {A : Type 0} (cmp : A → A → Ordering) (test : A → Bool) (x : A) (marks : List A) (r : Result ℕ ℕ) : Type 0 where
+pub record Searched {A : Type 0} (cmp : A → A → Ordering) (test : A → Bool) (x : A) (entries : List A) (r : Result ℕ ℕ) : Type 0 where
   pub total : IsTotalOrder cmp
   -- only the entry passes the test
   pub tests : (y : A) → test y ≡ is_eq (cmp y x)
-  pub kept : AreMarks cmp marks
-  pub bound : IsSearchInRange r (length marks)
-  pub position : IsBinarySearchResult (λ y. cmp y x) marks r
+  pub kept : AreEntries cmp entries
+  pub bound : IsSearchInRange r (length entries)
+  pub position : IsBinarySearchResult (λ y. cmp y x) entries r
 
 -- a search for a break, and one for a word, through what is seen of the entries
-pub break_searched : (slot address : ℕ) (marks seen : List Break) (r : Result ℕ ℕ) → seen ≡ marks → AreMarks break_cmp marks → IsSearchInRange r (length seen)
-    → IsBinarySearchResult (λ y. break_cmp y (record { slot = slot; address = address })) seen r → Searched break_cmp (is_break slot address) (record { slot = slot; address = address }) marks r
-break_searched slot address marks seen r same kept bound position = record {
+pub break_searched : (slot address : ℕ) (entries seen : List Break) (r : Result ℕ ℕ) → seen ≡ entries → AreEntries break_cmp entries → IsSearchInRange r (length seen)
+    → IsBinarySearchResult (λ y. break_cmp y (record { slot = slot; address = address })) seen r → Searched break_cmp (is_break slot address) (record { slot = slot; address = address }) entries r
+break_searched slot address entries seen r same kept bound position = record {
   total = break_total;
   tests = break_ties slot address;
   kept = kept;
@@ -44,9 +44,9 @@ break_searched slot address marks seen r same kept bound position = record {
   position = subst (λ (ys : List Break). IsBinarySearchResult (λ y. break_cmp y (record { slot = slot; address = address })) ys r) same position;
 }
 
-pub word_searched : (word : ℕ) (marks seen : List ℕ) (r : Result ℕ ℕ) → seen ≡ marks → AreMarks nat_cmp marks → IsSearchInRange r (length seen)
-    → IsBinarySearchResult (λ y. nat_cmp y word) seen r → Searched nat_cmp (λ y. y == word) word marks r
-word_searched word marks seen r same kept bound position = record {
+pub word_searched : (word : ℕ) (entries seen : List ℕ) (r : Result ℕ ℕ) → seen ≡ entries → AreEntries nat_cmp entries → IsSearchInRange r (length seen)
+    → IsBinarySearchResult (λ y. nat_cmp y word) seen r → Searched nat_cmp (λ y. y == word) word entries r
+word_searched word entries seen r same kept bound position = record {
   total = nat_cmp_total;
   tests = λ y. unsigned_ties y word;
   kept = kept;
@@ -54,18 +54,18 @@ word_searched word marks seen r same kept bound position = record {
   position = subst (λ (ys : List ℕ). IsBinarySearchResult (λ y. nat_cmp y word) ys r) same position;
 }
 
-module _ {A : Type 0} {cmp : A → A → Ordering} {test : A → Bool} {x : A} {marks : List A} where
+module _ {A : Type 0} {cmp : A → A → Ordering} {test : A → Bool} {x : A} {entries : List A} where
   -- it says whether the entry is there
-  pub answered : (r : Result ℕ ℕ) → Searched cmp test x marks r → is_ok r ≡ list_any test marks
-  answered (Ok i) s = sym (any_there s.total test x s.tests marks i s.bound s.position)
-  answered (Err i) s = sym (any_new s.total test x s.tests marks i (s.position (searchable s.total x marks s.kept.rise)))
+  pub answered : (r : Result ℕ ℕ) → Searched cmp test x entries r → is_ok r ≡ list_any test entries
+  answered (Ok i) s = sym (any_there s.total test x s.tests entries i s.bound s.position)
+  answered (Err i) s = sym (any_new s.total test x s.tests entries i (s.position (searchable s.total x entries s.kept.rise)))
 
   -- where it is there all stays as it is
-  pub there_fits : (i : ℕ) → Searched cmp test x marks (Ok i) → true ≡ fits (list_any test marks) marks
-  there_fits i s = ap (λ there. fits there marks) (answered (Ok i) s)
+  pub there_fits : (i : ℕ) → Searched cmp test x entries (Ok i) → true ≡ fits (list_any test entries) entries
+  there_fits i s = ap (λ there. fits there entries) (answered (Ok i) s)
 
-  pub there_stays : (i : ℕ) → Searched cmp test x marks (Ok i) → marks ≡ marked (list_any test marks) marks (placed cmp x marks)
-  there_stays i s = ap (λ there. marked there marks (placed cmp x marks)) (answered (Ok i) s)
+  pub there_stays : (i : ℕ) → Searched cmp test x entries (Ok i) → entries ≡ entered (list_any test entries) entries (placed cmp x entries)
+  there_stays i s = ap (λ there. entered there entries (placed cmp x entries)) (answered (Ok i) s)
 
 -- where it is not there it is put in its place, if there is room
 module _ {A : Type 0} {cmp : A → A → Ordering} {test : A → Bool} {x : A} {T E : Type 0} where
@@ -78,17 +78,17 @@ module _ {A : Type 0} {cmp : A → A → Ordering} {test : A → Bool} {x : A} {
   new_fits i old s r variant = room (length old.items) (is_ok r) variant.0 variant.1 ∙ ap (λ there. fits there old.items) (answered (Err i) s)
 
   pub new_placed : (i : ℕ) (old new : ArrayVec A) → Searched cmp test x old.items (Err i) → (r : Result T E) → (IsOk r ↔ (length old.items < 64))
-      → OnOk r (new.items ≡ insert old.items i x) → OnErr r (new ≡ old) → new.items ≡ marked (list_any test old.items) old.items (placed cmp x old.items)
+      → OnOk r (new.items ≡ insert old.items i x) → OnErr r (new ≡ old) → new.items ≡ entered (list_any test old.items) old.items (placed cmp x old.items)
   new_placed i old new s r variant ok err =
       placed_by i old new s r ok err
       ∙ ap (λ (b : Bool). if b then placed cmp x old.items else old.items) (room (length old.items) (is_ok r) variant.0 variant.1)
-      ∙ ap (λ there. marked there old.items (placed cmp x old.items)) (answered (Err i) s)
+      ∙ ap (λ there. entered there old.items (placed cmp x old.items)) (answered (Err i) s)
 
   -- and the entries are still such
   pub new_kept : (i : ℕ) (old new : ArrayVec A) → Searched cmp test x old.items (Err i) → (r : Result T E) → (IsOk r ↔ (length old.items < 64))
-      → OnOk r (new.items ≡ insert old.items i x) → OnOk r (length new.items ≡ length old.items + 1) → OnErr r (new ≡ old) → AreMarks cmp new.items
+      → OnOk r (new.items ≡ insert old.items i x) → OnOk r (length new.items ≡ length old.items + 1) → OnErr r (new ≡ old) → AreEntries cmp new.items
   new_kept i old new s (Ok done) variant ok longer err =
       let few : length old.items < 64 = variant.0 refl in
       let same : new.items ≡ placed cmp x old.items = placed_by i old new s (Ok done) ok err in
       record { rise = rw same (rise_placed s.total x old.items s.kept.rise); few = omega arith }
-  new_kept i old new s (Err e) variant ok longer err = subst (λ (v : ArrayVec A). AreMarks cmp v.items) (sym err) s.kept
+  new_kept i old new s (Err e) variant ok longer err = subst (λ (v : ArrayVec A). AreEntries cmp v.items) (sym err) s.kept

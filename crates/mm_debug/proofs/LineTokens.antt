@@ -47,9 +47,9 @@ dropped_more b bytes e = ap (λ (k : ℕ). drop k (b ∷ bytes)) (letters_more b
 
 -- 2. Blanks in front of a line change no token.
 
-behind_blanks : (line : List ℕ) → tokens (drop (blanks_of line) line) ≡ tokens line
-behind_blanks [] = refl
-behind_blanks (b ∷ bytes) = by (is_blank b) refl (behind_blanks bytes)
+after_blanks : (line : List ℕ) → tokens (drop (blanks_of line) line) ≡ tokens line
+after_blanks [] = refl
+after_blanks (b ∷ bytes) = by (is_blank b) refl (after_blanks bytes)
   where
     by : (t : Bool) → is_blank b ≡ t → tokens (drop (blanks_of bytes) bytes) ≡ tokens bytes → tokens (drop (blanks_of (b ∷ bytes)) (b ∷ bytes)) ≡ tokens (b ∷ bytes)
     by true e later = ap tokens (blanks_more b bytes e) ∙ later ∙ sym (blank_first b bytes e)
@@ -83,14 +83,17 @@ first_token (b ∷ bytes) = by (is_blank b) refl (goes_on bytes) refl (first_tok
         ∙ sym (split_more b bytes e)
 
 token_and_rest : (line : List ℕ) → let at = drop (blanks_of line) line in tokens line ≡ with_token (take (letters_of at) at) (tokens (drop (letters_of at) at))
-token_and_rest line = sym (behind_blanks line) ∙ first_token (drop (blanks_of line) line)
+token_and_rest line = sym (after_blanks line) ∙ first_token (drop (blanks_of line) line)
 
--- where there is no token behind the blanks, nothing is
+-- where there is no token after the blanks, nothing is
 no_token_left : (line : List ℕ) → let at = drop (blanks_of line) line in take (letters_of at) at ≡ [] → drop (letters_of at) at ≡ []
 no_token_left [] none = refl
 no_token_left (b ∷ bytes) none = by (is_blank b) refl (no_token_left bytes)
   where
-    by : (t : Bool) → is_blank b ≡ t → (take (letters_of (drop (blanks_of bytes) bytes)) (drop (blanks_of bytes) bytes) ≡ [] → drop (letters_of (drop (blanks_of bytes) bytes)) (drop (blanks_of bytes) bytes) ≡ []) → drop (letters_of (drop (blanks_of (b ∷ bytes)) (b ∷ bytes))) (drop (blanks_of (b ∷ bytes)) (b ∷ bytes)) ≡ []
+    by : (t : Bool) → is_blank b ≡ t
+        → (take (letters_of (drop (blanks_of bytes) bytes)) (drop (blanks_of bytes) bytes) ≡ []
+        → drop (letters_of (drop (blanks_of bytes) bytes)) (drop (blanks_of bytes) bytes) ≡ [])
+        → drop (letters_of (drop (blanks_of (b ∷ bytes)) (b ∷ bytes))) (drop (blanks_of (b ∷ bytes)) (b ∷ bytes)) ≡ []
     by true e later =
         let same = blanks_more b bytes e in
         ap (λ (at : List ℕ). drop (letters_of at) at) same ∙ later (sym (ap (λ (at : List ℕ). take (letters_of at) at) same) ∙ none)
@@ -98,10 +101,10 @@ no_token_left (b ∷ bytes) none = by (is_blank b) refl (no_token_left bytes)
         let some : b ∷ take (letters_of bytes) bytes ≡ [] = sym (taken_more b bytes e) ∙ sym (ap (λ (at : List ℕ). take (letters_of at) at) (blanks_none b bytes e)) ∙ none in
         cc
 
--- 4. What is cut off a line behind its blanks.
+-- 4. What is cut off a line after its blanks.
 
-pub behind_start : (line : List ℕ) (start : ℕ) → start ≡ blanks_of line → take (length line - start) (drop start line) ≡ drop (blanks_of line) line
-behind_start line start is = take_rest line start ∙ ap (λ (k : ℕ). drop k line) is
+pub after_start : (line : List ℕ) (start : ℕ) → start ≡ blanks_of line → take (length line - start) (drop start line) ≡ drop (blanks_of line) line
+after_start line start is = take_rest line start ∙ ap (λ (k : ℕ). drop k line) is
 
 pub token_cut : (line at token rest : List ℕ) (size : ℕ) → at ≡ drop (blanks_of line) line → size ≡ letters_of at → token ≡ take size at → rest ≡ drop size at
     → tokens line ≡ with_token token (tokens rest)

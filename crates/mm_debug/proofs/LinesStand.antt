@@ -6,13 +6,13 @@ use Rattle.mm_sched.specs.declared.schedule.Order.{Order}
 use Rattle.mm_debug.specs.declared.command.Command.{Command}
 use Rattle.mm_debug.specs.Commands.{command_of}
 use Rattle.mm_debug.specs.Session.{Session, total_of, begun, answer, answer_to}
-use Rattle.mm_debug.specs.Standing.{first_items, StandsFor}
+use Rattle.mm_debug.specs.Standing.{run_items, StandsFor}
 use Rattle.mm_debug.specs.Laws.{after_lines, LinesKeepStanding, DebuggingChangesNoRun}
 use Rattle.mm_debug.proofs.AnswersKeep.{Keeps, answer_keeps, lines_keep}
 use Rattle.mm_debug.proofs.Standing.{answer_stands, begun_stands}
 
 each_order : (o : Order) → Keeps (λ (s : Session). s.order ≡ o)
-each_order o = record { issues = λ s item is same. same; breaks = λ s marks same. same; watches = λ s words same. same }
+each_order o = record { issues = λ s item is same. same; breaks = λ s entries same. same; watches = λ s words same. same }
 
 pub answer_order : (s : Session) (c : Command) → (answer s c).session.order ≡ s.order
 answer_order s c = answer_keeps (λ (t : Session). t.order ≡ s.order) (each_order s.order) s c refl
@@ -31,4 +31,4 @@ pub debugging_changes_no_run : DebuggingChangesNoRun
 debugging_changes_no_run i o lines =
     let first : Session = begun o (start i) in
     let last : Session = after_lines first lines in
-    (lines_stand i first lines (begun_stands i o)).state ∙ ap (λ (x : Order). run (start i) (first_items i x (total_of last))) (lines_order first lines)
+    (lines_stand i first lines (begun_stands i o)).state ∙ ap (λ (x : Order). run (start i) (run_items i x (total_of last))) (lines_order first lines)

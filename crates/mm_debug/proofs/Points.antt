@@ -15,7 +15,7 @@ use Rattle.mm_machine.specs.Snapshot.{IsSnapshotOf, CanRestore, restored}
 use Rattle.mm_machine.proofs.Keeping.{kept_after}
 use Rattle.mm_machine.proofs.Went.{run_both}
 use Rattle.mm_debug.specs.Session.{Session, total_of}
-use Rattle.mm_debug.specs.Standing.{first_items, GoesOnAfter, StandsFor, Point, total_at, PointStandsFor}
+use Rattle.mm_debug.specs.Standing.{run_items, GoesOnAfter, StandsFor, Point, total_at, PointStandsFor}
 use Rattle.mm_debug.proofs.AnyRuns.{run_goes_on}
 use Rattle.mm_debug.proofs.SameStates.{IsQuiet, kept_quiet, AreAlike, same_state}
 
@@ -42,7 +42,7 @@ list_front items (suc few) zero le = absurd (omega arith)
 list_front [] (suc few) (suc many) le = record { rest = []; is = refl }
 list_front (n ∷ items) (suc few) (suc many) le = let front = list_front items few many (omega arith) in record { rest = front.rest; is = ap (λ (xs : List ℕ). n ∷ xs) front.is }
 
-front_of : (i : Image) (o : Order) (few many : ℕ) → few ≤ many → IsFront (first_items i o few) (first_items i o many)
+front_of : (i : Image) (o : Order) (few many : ℕ) → few ≤ many → IsFront (run_items i o few) (run_items i o many)
 front_of i order.Robin few many le = robin_front (start i) None few many le
 front_of i (order.List items) few many le = list_front items few many le
 
@@ -89,20 +89,22 @@ quiet_before t items count same later = record {
 }
 
 abbrev state_at : Image → Order → ℕ → State
-state_at i o total = run (start i) (first_items i o total)
+state_at i o total = run (start i) (run_items i o total)
 
 module _ (i : Image) (s : Session) (p : Point) (kept : ∥ Kept s.state ∥₁) (stands : StandsFor i s) (point : PointStandsFor i s.order p) (can : CanRestore s.state p.snapshot) where
   quiet_later : total_of s ≤ total_at p → IsQuiet (state_at i s.order (total_at p)).core
   quiet_later le =
       let front = front_of i s.order (total_of s) (total_at p) le in
-      let is : state_at i s.order (total_at p) ≡ run s.state front.rest = run_front (start i) (first_items i s.order (total_of s)) (first_items i s.order (total_at p)) front ∙ ap (λ (t : State). run t front.rest) (sym stands.state) in
+      let is : state_at i s.order (total_at p) ≡ run s.state front.rest =
+      run_front (start i) (run_items i s.order (total_of s)) (run_items i s.order (total_at p)) front ∙ ap (λ (t : State). run t front.rest)
+      (sym stands.state) in
       kept_quiet (state_at i s.order (total_at p)) (subst (λ (t : State). ∥ Kept t ∥₁) (sym is) (∥∥₁_map kept (λ k. kept_run s.state front.rest k)))
 
   quiet_earlier : total_at p ≤ total_of s → IsQuiet (state_at i s.order (total_at p)).core
   quiet_earlier le =
       let front = front_of i s.order (total_at p) (total_of s) le in
-      let is : s.state ≡ run (state_at i s.order (total_at p)) front.rest = stands.state ∙ run_front (start i) (first_items i s.order (total_at p)) (first_items i s.order (total_of s)) front in
-      quiet_before (state_at i s.order (total_at p)) front.rest (run_count i (first_items i s.order (total_at p)))
+      let is : s.state ≡ run (state_at i s.order (total_at p)) front.rest = stands.state ∙ run_front (start i) (run_items i s.order (total_at p)) (run_items i s.order (total_of s)) front in
+      quiet_before (state_at i s.order (total_at p)) front.rest (run_count i (run_items i s.order (total_at p)))
       (ap (map identity_of) (sym point.state.slots) ∙ can.slots ∙ ap (λ (t : State). map identity_of (slots_of t.core)) is)
       (subst (λ (t : State). IsQuiet t.core) is (kept_quiet s.state kept))
 
@@ -113,12 +115,15 @@ module _ (i : Image) (s : Session) (p : Point) (kept : ∥ Kept s.state ∥₁) 
   ]
 
   alike_there : AreAlike s.state (state_at i s.order (total_at p))
-  alike_there = subst (λ (t : State). AreAlike t (state_at i s.order (total_at p))) (sym stands.state) (runs_alike i (first_items i s.order (total_of s)) (first_items i s.order (total_at p)))
+  alike_there = subst (λ (t : State). AreAlike t (state_at i s.order (total_at p))) (sym stands.state) (runs_alike i (run_items i s.order (total_of s)) (run_items i s.order (total_at p)))
 
   went : (u : State) → u ≡ restored s.state p.snapshot → IsSnapshotOf u p.snapshot → ∥ Kept u ∥₁ → u ≡ state_at i s.order (total_at p)
   went u made shown kept_now =
       let there : State = state_at i s.order (total_at p) in
-      same_state u there p.snapshot (subst (λ (t : State). AreAlike t there) (sym made) (record { version = alike_there.version; split = alike_there.split; frames = alike_there.frames })) shown point.state (kept_quiet u kept_now)
+      same_state u there p.snapshot
+      (subst (λ (t : State). AreAlike t there) (sym made)
+      (record { version = alike_there.version; split = alike_there.split; frames = alike_there.frames })) shown point.state
+      (kept_quiet u kept_now)
       quiet_there
 
 -- 3. Sessions that go to points.
@@ -129,6 +134,6 @@ at_point s p state = record s { last = p.last; state = state }
 pub gone_stands : (i : Image) (s : Session) (p : Point) (u : State) → u ≡ restored s.state p.snapshot → IsSnapshotOf u p.snapshot → ∥ Kept s.state ∥₁ → ∥ Kept u ∥₁ → CanRestore s.state p.snapshot
     → StandsFor i s → PointStandsFor i s.order p → StandsFor i (at_point s p u)
 gone_stands i s p u made shown before now can stands point = record {
-  state = went i s p before stands point can u made shown now ∙ ap (λ n. run (start i) (first_items i s.order n)) shown.cycles;
-  place = subst (λ (n : ℕ). GoesOnAfter s.order p.last (first_items i s.order n)) shown.cycles point.place;
+  state = went i s p before stands point can u made shown now ∙ ap (λ n. run (start i) (run_items i s.order n)) shown.cycles;
+  place = subst (λ (n : ℕ). GoesOnAfter s.order p.last (run_items i s.order n)) shown.cycles point.place;
 }

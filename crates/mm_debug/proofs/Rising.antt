@@ -8,7 +8,7 @@ use Rattle.std.specs.declared.cmp.Ordering.{Ordering}
 use Rattle.std.specs.declared.cmp.Ordering.TheVariants.{Less, Equal, Greater}
 use Rattle.std.proofs.lemmas.List.Sorted.{searchable_from_sorted}
 use Rattle.std.proofs.lemmas.Map.Keys.{Less-from_sorted}
-use Rattle.mm_debug.specs.Marks.{placed, before}
+use Rattle.mm_debug.specs.Breakpoints.{placed, before}
 
 module _ {A : Type 0} {cmp : A → A → Ordering} (total : IsTotalOrder cmp) where
   above : (x y : A) → cmp y x ≡ Less → cmp x y ≡ Greater
@@ -17,10 +17,10 @@ module _ {A : Type 0} {cmp : A → A → Ordering} (total : IsTotalOrder cmp) wh
   below : (x y : A) → cmp y x ≡ Greater → cmp x y ≡ Less
   below x y h = total.antisymm x y ∙ ap ordering_reverse h
 
-  -- what stands behind a greater entry
-  all_behind : (x y : A) (ys : List A) → cmp x y ≡ Less → AllByRecursion (λ z. cmp y z ≡ Less) ys → AllByRecursion (λ z. cmp x z ≡ Less) ys
-  all_behind x y [] less all = tt
-  all_behind x y (z ∷ zs) less all = (total.trans x y z less all.0, all_behind x y zs less all.1)
+  -- what stands after a greater entry
+  all_after : (x y : A) (ys : List A) → cmp x y ≡ Less → AllByRecursion (λ z. cmp y z ≡ Less) ys → AllByRecursion (λ z. cmp x z ≡ Less) ys
+  all_after x y [] less all = tt
+  all_after x y (z ∷ zs) less all = (total.trans x y z less all.0, all_after x y zs less all.1)
 
   all_placed : (P : A → Type 0) (x : A) (ys : List A) → P x → AllByRecursion P ys → AllByRecursion P (placed cmp x ys)
   unfolding placed
@@ -36,7 +36,7 @@ module _ {A : Type 0} {cmp : A → A → Ordering} (total : IsTotalOrder cmp) wh
   unfolding placed IsStrictlySortedBy
   rise_placed x [] rise = (tt, tt)
   rise_placed x (y ∷ ys) rise = elim (cmp x y) as (λ o. cmp x y ≡ o → IsStrictlySortedBy cmp (before cmp o x y ys (placed cmp x ys))) [
-    | Less ↦ λ e. ((e, all_behind x y ys e rise.0), rise)
+    | Less ↦ λ e. ((e, all_after x y ys e rise.0), rise)
     | Equal ↦ λ e. rise
     | Greater ↦ λ e. (all_placed (λ z. cmp y z ≡ Less) x ys (below y x e) rise.0, rise_placed x ys rise.1)
   ] refl

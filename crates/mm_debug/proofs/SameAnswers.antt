@@ -8,13 +8,13 @@ use Rattle.mm_sched.specs.declared.schedule.Order.{Order}
 use Rattle.mm_sched.specs.declared.schedule.Order.TheVariants as order
 use Rattle.mm_debug.specs.declared.command.Command.{Command}
 use Rattle.mm_debug.specs.declared.command.Command.TheVariants.{Nothing, Step, Run, Break, Watch, Regs, Mem, Quit, Bad}
-use Rattle.mm_debug.specs.declared.marks.Break.{Break as Mark}
+use Rattle.mm_debug.specs.declared.breakpoints.Break.{Break as Breakpoint}
 use Rattle.mm_debug.specs.declared.stop.Stop.{Stop}
 use Rattle.mm_debug.specs.declared.stop.Stop.TheVariants as stop
 use Rattle.mm_debug.specs.Commands.{command_of}
-use Rattle.mm_debug.specs.Marks.{has_break, has_watch, fits, with_break, with_watch}
-use Rattle.mm_debug.specs.Session.{Session, total_of, cycle_limit, item_in, next_item, last_after, issued, then_stepped, stepped, breaks_for, stops_before, watched, stops_after, Ran, stopped, behind_cycle, before_cycle, run_from, ran, stepped_text, stop_text, break_text, watch_text, slot_text, memory_text, Answer, answer}
-use Rattle.mm_debug.specs.Standing.{first_items, GoesOnAfter, StandsFor}
+use Rattle.mm_debug.specs.Breakpoints.{has_break, has_watch, fits, with_break, with_watch}
+use Rattle.mm_debug.specs.Session.{Session, total_of, cycle_limit, item_in, next_item, last_after, issued, then_stepped, stepped, breaks_for, stops_before, watched, stops_after, Ran, stopped, after_cycle, before_cycle, run_from, ran, stepped_text, stop_text, break_text, watch_text, slot_text, memory_text, Answer, answer}
+use Rattle.mm_debug.specs.Standing.{run_items, GoesOnAfter, StandsFor}
 use Rattle.mm_debug.specs.Laws.{AreAlike, AnswersDependOnThese}
 
 -- 1. Sessions that are the same, but for a last item at which nothing looks.
@@ -81,7 +81,7 @@ record SameRan (a b : Ran) : Type 0 where
 
 same_break : (s t : Session) → IsSame s t → (item : ℕ) → stops_before s item ≡ stops_before t item
 same_break s t h item =
-    ap (λ (marks : List Mark). breaks_for marks item (slot_at s.state.core item)) h.breaks ∙ ap (λ (x : State). breaks_for t.breaks item (slot_at x.core item)) h.state
+    ap (λ (entries : List Breakpoint). breaks_for entries item (slot_at s.state.core item)) h.breaks ∙ ap (λ (x : State). breaks_for t.breaks item (slot_at x.core item)) h.state
 
 same_watch : (s t : Session) → IsSame s t → (item : ℕ) → stops_after s item ≡ stops_after t item
 same_watch s t h item =
@@ -98,22 +98,23 @@ same_before begun s t (Some item) f g h later =
     subst (λ (b : Bool). SameRan (if begun && stops_before s item then stopped s why else f item) (if begun && b then stopped t why else g item)) (same_break s t h item)
     (same_or s t why (begun && stops_before s item) (f item) (g item) h (later item))
 
-same_behind : (s t : Session) (o : Option ℕ) (f g : Ran) → IsSame s t → SameRan f g → SameRan (behind_cycle s o f) (behind_cycle t o g)
-same_behind s t None f g h later = later
-same_behind s t (Some word) f g h later = record { session = h; stop = refl }
+same_after : (s t : Session) (o : Option ℕ) (f g : Ran) → IsSame s t → SameRan f g → SameRan (after_cycle s o f) (after_cycle t o g)
+same_after s t None f g h later = later
+same_after s t (Some word) f g h later = record { session = h; stop = refl }
 
 same_run : (begun : Bool) (s t : Session) → IsSame s t → (left : ℕ) → SameRan (run_from begun s left) (run_from begun t left)
 unfolding run_from
 same_run begun s t h zero = record { session = h; stop = refl }
 same_run begun s t h (suc left) =
-    let f : ℕ → Ran = λ item. behind_cycle (issued s item) (stops_after s item) (run_from true (issued s item) left) in
-    let g : ℕ → Ran = λ item. behind_cycle (issued t item) (stops_after t item) (run_from true (issued t item) left) in
+    let f : ℕ → Ran = λ item. after_cycle (issued s item) (stops_after s item) (run_from true (issued s item) left) in
+    let g : ℕ → Ran = λ item. after_cycle (issued t item) (stops_after t item) (run_from true (issued t item) left) in
     subst (λ (o : Option ℕ). SameRan (before_cycle begun s (next_item s) f) (before_cycle begun t o g)) (same_next s t h)
     (same_before begun s t (next_item s) f g h
     (λ item.
     let now = same_issued s t h item in
-    subst (λ (o : Option ℕ). SameRan (f item) (behind_cycle (issued t item) o (run_from true (issued t item) left))) (same_watch s t h item)
-    (same_behind (issued s item) (issued t item) (stops_after s item) (run_from true (issued s item) left) (run_from true (issued t item) left) now (same_run true (issued s item) (issued t item) now left))))
+    subst (λ (o : Option ℕ). SameRan (f item) (after_cycle (issued t item) o (run_from true (issued t item) left))) (same_watch s t h item)
+    (same_after (issued s item) (issued t item) (stops_after s item) (run_from true (issued s item) left) (run_from true (issued t item) left) now
+    (same_run true (issued s item) (issued t item) now left))))
 
 same_ran : (s t : Session) → IsSame s t → SameRan (ran s) (ran t)
 unfolding ran
@@ -144,8 +145,16 @@ same_answer s t h Run =
       go = refl;
     }
 same_answer s t h (Break slot address) = record {
-  reply = ap (λ (marks : List Mark). break_text (fits (has_break marks slot address) marks)) h.breaks;
-  session = record { order = h.order; last = h.last; state = h.state; breaks = ap (λ (marks : List Mark). with_break marks (record { slot = slot; address = address })) h.breaks; watches = h.watches };
+  reply = ap (λ (entries : List Breakpoint). break_text (fits (has_break entries slot address) entries)) h.breaks;
+  session =
+      record {
+        order = h.order;
+        last = h.last;
+        state = h.state;
+        breaks =
+            ap (λ (entries : List Breakpoint). with_break entries (record { slot = slot; address = address })) h.breaks;
+        watches = h.watches;
+      };
   go = refl;
 }
 same_answer s t h (Watch word) = record {
@@ -166,13 +175,13 @@ last_by_place (order.List list) a b items h k = tt
 
 same_sessions : (i : Image) (s t : Session) → StandsFor i s → StandsFor i t → AreAlike s t → IsSame s t
 same_sessions i s t h k alike =
-    let place : GoesOnAfter s.order t.last (first_items i s.order (total_of s)) =
-    subst (λ (o : Order). GoesOnAfter o t.last (first_items i o (total_of s))) (sym alike.order)
-    (subst (λ (n : ℕ). GoesOnAfter t.order t.last (first_items i t.order n)) (sym alike.total) k.place) in
+    let place : GoesOnAfter s.order t.last (run_items i s.order (total_of s)) =
+    subst (λ (o : Order). GoesOnAfter o t.last (run_items i o (total_of s))) (sym alike.order)
+    (subst (λ (n : ℕ). GoesOnAfter t.order t.last (run_items i t.order n)) (sym alike.total) k.place) in
     record {
       order = alike.order;
-      last = last_by_place s.order s.last t.last (first_items i s.order (total_of s)) h.place place;
-      state = h.state ∙ ap (λ (o : Order). run (start i) (first_items i o (total_of s))) alike.order ∙ ap (λ (n : ℕ). run (start i) (first_items i t.order n)) alike.total ∙ sym k.state;
+      last = last_by_place s.order s.last t.last (run_items i s.order (total_of s)) h.place place;
+      state = h.state ∙ ap (λ (o : Order). run (start i) (run_items i o (total_of s))) alike.order ∙ ap (λ (n : ℕ). run (start i) (run_items i t.order n)) alike.total ∙ sym k.state;
       breaks = alike.breaks;
       watches = alike.watches;
     }

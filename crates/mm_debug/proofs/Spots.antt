@@ -4,8 +4,8 @@ use Rattle.std.specs.List.{list_any, insert, AllByRecursion}
 use Rattle.std.proofs.lemmas.Bool.Decides.{nat_tests}
 use Rattle.std.proofs.lemmas.Grind.{get_or-set_at}
 use Rattle.arrayvec.specs.ArrayVec.{ArrayVec}
-use Rattle.mm_debug.specs.declared.marks.Break.{Break}
-use Rattle.mm_debug.specs.Marks.{is_break, has_break, spot_of, AreSpotted}
+use Rattle.mm_debug.specs.declared.breakpoints.Break.{Break}
+use Rattle.mm_debug.specs.Breakpoints.{is_break, has_break, spot_of, AreSpotted}
 
 -- 1. An address whose spot is not set has no break.
 

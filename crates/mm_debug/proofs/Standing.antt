@@ -10,13 +10,12 @@ use Rattle.mm_sched.specs.declared.schedule.Order.TheVariants as order
 use Rattle.mm_machine.proofs.Keeping.{run_more}
 use Rattle.mm_debug.specs.declared.command.Command.{Command}
 use Rattle.mm_debug.specs.declared.command.Command.TheVariants.{Nothing, Step, Run, Break, Watch, Regs, Mem, Quit, Bad}
-use Rattle.mm_debug.specs.declared.marks.Break.{Break as Mark}
+use Rattle.mm_debug.specs.declared.breakpoints.Break.{Break as Breakpoint}
 use Rattle.mm_debug.specs.declared.stop.Stop.TheVariants as stop
-use Rattle.mm_debug.specs.declared.session.Go.{Go}
-use Rattle.mm_debug.specs.declared.session.Go.TheVariants as go
 use Rattle.mm_debug.specs.Commands.{command_of}
-use Rattle.mm_debug.specs.Session.{Session, begun, total_of, cycle_limit, item_in, next_item, last_after, issued, then_stepped, stepped, stops_before, stops_after, Ran, stopped, behind_cycle, before_cycle, run_from, ran, Answer, answer, answer_to, behind_answer, dialogue}
-use Rattle.mm_debug.specs.Standing.{first_items, GoesOnAfter, StandsFor}
+use Rattle.mm_debug.specs.Session.{Session, begun, total_of, cycle_limit, item_in, next_item, last_after, issued, then_stepped, stepped, stops_before, stops_after, Ran, stopped, after_cycle, before_cycle, run_from, ran, Answer, answer, answer_to, dialogue}
+use Rattle.mm_debug.specs.Standing.{run_items, GoesOnAfter, StandsFor}
+use Rattle.mm_debug.proofs.Dialogues.{keeps}
 
 -- 1. An order issues one item more.
 
@@ -24,7 +23,7 @@ pub last_more : (before : Option ℕ) (items : List ℕ) (n : ℕ) → last_item
 last_more before [] n = refl
 last_more before (m ∷ items) n = last_more (Some m) items n
 
--- round robin with one cycle more issues the slot that is next behind the others
+-- round robin with one cycle more issues the slot that is next after the others
 pub robin_more : (s : State) (last : Option ℕ) (count n : ℕ) → next_running (run s (robin_from s last count)).core.rows (last_item last (robin_from s last count)) ≡ Some n
     → robin_from s last (suc count) ≡ robin_from s last count ++ n ∷ []
 unfolding robin_from run
@@ -39,7 +38,7 @@ robin_more s last (suc count) n next = by (next_running s.core.rows last) refl n
     by None is e later = cc
     by (Some k) is e later = ap (λ (items : List ℕ). k ∷ items) (later k e)
 
--- a list with one cycle more issues its next item behind the others
+-- a list with one cycle more issues its next item after the others
 pub list_more : (items : List ℕ) (count n : ℕ) → slice_get items count ≡ Some n → take (count + 1) items ≡ take count items ++ n ∷ []
 list_more items count n is =
     take_more items count 0 (slice_get_within items count n is)
@@ -47,10 +46,10 @@ list_more items count n is =
 
 -- what an order issues with one cycle more, and where it goes on then
 record MoreItems (i : Image) (o : Order) (last : Option ℕ) (count n : ℕ) : Type 0 where
-  items : first_items i o (count + 1) ≡ first_items i o count ++ n ∷ []
-  place : GoesOnAfter o (last_after o last n) (first_items i o (count + 1))
+  items : run_items i o (count + 1) ≡ run_items i o count ++ n ∷ []
+  place : GoesOnAfter o (last_after o last n) (run_items i o (count + 1))
 
-more_items : (i : Image) (o : Order) (last : Option ℕ) (s : State) (n : ℕ) → s ≡ run (start i) (first_items i o s.cycles) → GoesOnAfter o last (first_items i o s.cycles) → item_in o last s ≡ Some n
+more_items : (i : Image) (o : Order) (last : Option ℕ) (s : State) (n : ℕ) → s ≡ run (start i) (run_items i o s.cycles) → GoesOnAfter o last (run_items i o s.cycles) → item_in o last s ≡ Some n
     → MoreItems i o last s.cycles n
 more_items i order.Robin last s n state place next =
     let all : List ℕ = robin_from (start i) None s.cycles in
@@ -84,7 +83,7 @@ pub issued_stands : (i : Image) (s : Session) (item : ℕ) → next_item s ≡ S
 unfolding after
 issued_stands i s item next stands =
     let more = more_items i s.order s.last s.state item stands.state stands.place (item_of s item next) in
-    let items : List ℕ = first_items i s.order (total_of s) in
+    let items : List ℕ = run_items i s.order (total_of s) in
     record {
       state = ap (λ (t : State). after t item) stands.state ∙ sym (run_more (start i) items item) ∙ ap (run (start i)) (sym more.items);
       place = more.place;
@@ -95,7 +94,8 @@ unfolding stepped
 stepped_stands i s zero stands = stands
 stepped_stands i s (suc count) stands = by (next_item s) refl (λ item next. stepped_stands i (issued s item) count (issued_stands i s item next stands))
   where
-    by : (o : Option ℕ) → next_item s ≡ o → ((item : ℕ) → next_item s ≡ Some item → StandsFor i (stepped (issued s item) count)) → StandsFor i (then_stepped s o (λ item. stepped (issued s item) count))
+    by : (o : Option ℕ) → next_item s ≡ o → ((item : ℕ) → next_item s ≡ Some item → StandsFor i (stepped (issued s item) count))
+        → StandsFor i (then_stepped s o (λ item. stepped (issued s item) count))
     by None is later = stands
     by (Some item) is later = later item is
 
@@ -105,7 +105,7 @@ run_from_stands i begun s zero stands = stands
 run_from_stands i begun s (suc left) stands = by (next_item s) refl (λ item next. issued_stands i s item next stands) (λ item there. run_from_stands i true (issued s item) left there)
   where
     watches : (item : ℕ) (o : Option ℕ) → StandsFor i (issued s item) → StandsFor i (run_from true (issued s item) left).session
-        → StandsFor i (behind_cycle (issued s item) o (run_from true (issued s item) left)).session
+        → StandsFor i (after_cycle (issued s item) o (run_from true (issued s item) left)).session
     watches item None there later = later
     watches item (Some word) there later = there
 
@@ -115,19 +115,19 @@ run_from_stands i begun s (suc left) stands = by (next_item s) refl (λ item nex
 
     by : (o : Option ℕ) → next_item s ≡ o → ((item : ℕ) → next_item s ≡ Some item → StandsFor i (issued s item))
         → ((item : ℕ) → StandsFor i (issued s item) → StandsFor i (run_from true (issued s item) left).session)
-        → StandsFor i (before_cycle begun s o (λ item. behind_cycle (issued s item) (stops_after s item) (run_from true (issued s item) left))).session
+        → StandsFor i (before_cycle begun s o (λ item. after_cycle (issued s item) (stops_after s item) (run_from true (issued s item) left))).session
     by None is there later = stands
     by (Some item) is there later =
         let now = there item is in
-        breaks item (begun && stops_before s item) (behind_cycle (issued s item) (stops_after s item) (run_from true (issued s item) left)) (watches item (stops_after s item) now (later item now))
+        breaks item (begun && stops_before s item) (after_cycle (issued s item) (stops_after s item) (run_from true (issued s item) left)) (watches item (stops_after s item) now (later item now))
 
 pub ran_stands : (i : Image) (s : Session) → StandsFor i s → StandsFor i (ran s).session
 unfolding ran
 ran_stands i s stands = run_from_stands i false s (cycle_limit - total_of s) stands
 
 -- breaks and watches are no part of it
-breaks_stand : (i : Image) (s : Session) (marks : List Mark) → StandsFor i s → StandsFor i (record s { breaks = marks })
-breaks_stand i s marks stands = record { state = stands.state; place = stands.place }
+breaks_stand : (i : Image) (s : Session) (entries : List Breakpoint) → StandsFor i s → StandsFor i (record s { breaks = entries })
+breaks_stand i s entries stands = record { state = stands.state; place = stands.place }
 
 watches_stand : (i : Image) (s : Session) (words : List ℕ) → StandsFor i s → StandsFor i (record s { watches = words })
 watches_stand i s words stands = record { state = stands.state; place = stands.place }
@@ -145,10 +145,4 @@ answer_stands i s Quit stands = stands
 answer_stands i s Bad stands = stands
 
 pub dialogue_stands : (i : Image) (s : Session) (lines : List (List ℕ)) → StandsFor i s → StandsFor i (dialogue s lines).session
-unfolding dialogue
-dialogue_stands i s [] stands = stands
-dialogue_stands i s (line ∷ lines) stands = by (answer_to s line) (answer_to s line).go (answer_stands i s (command_of line) stands) (λ t there. dialogue_stands i t lines there)
-  where
-    by : (a : Answer) (next : Go) → StandsFor i a.session → ((t : Session) → StandsFor i t → StandsFor i (dialogue t lines).session) → StandsFor i (behind_answer a next (λ t. dialogue t lines)).session
-    by a go.Quit there later = there
-    by a go.More there later = later a.session there
+dialogue_stands i = keeps answer_to (StandsFor i) (λ s line stands. answer_stands i s (command_of line) stands)

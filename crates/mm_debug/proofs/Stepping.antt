@@ -79,7 +79,7 @@ unfolding stepped
 stepped_ends s zero next = refl
 stepped_ends s (suc count) next = ap (λ o. then_stepped s o (λ item. stepped (issued s item) count)) next
 
--- and else that of the next item, and the others behind it
+-- and else that of the next item, and the others after it
 pub stepped_goes : (s : Session) (item count less : ℕ) → next_item s ≡ Some item → count ≡ suc less → stepped s count ≡ stepped (issued s item) less
 unfolding stepped
 stepped_goes s item count less next more = ap (stepped s) more ∙ ap (λ o. then_stepped s o (λ n. stepped (issued s n) less)) next

@@ -28,7 +28,7 @@ use Rattle.mm_model.specs.Effect.{Reply, Change, Effect, effect, loaded, stored,
 use Rattle.mm_model.specs.Effect.Reply.{Refused, Got}
 use Rattle.mm_model.specs.Effect.Effect.{Fault, Block, Deliver, Does}
 use Rattle.mm_model.specs.Turn.{Turned, reply, reached, removal_use, asked_use, touch_of, is_sync, tick_faulted, faulted, blocked, ended, executed, issued, decoded, instr_in, fetched, aimed, started, idle, arrives, port_of, taken_by_port, taken_by, is_running, turn}
-use Rattle.mm_debug.specs.Marks.{has_watch}
+use Rattle.mm_debug.specs.Breakpoints.{has_watch}
 use Rattle.mm_debug.specs.Session.{is_done, sets_bit, watched_by, watched}
 use Rattle.mm_debug.specs.Laws.{SetsBitAt, WatchesSeeSignals}
 
@@ -74,7 +74,8 @@ sets_bit_from word (u ∷ us) (inr h) =
     let below = later.2.1 in
     (later.0, later.1, (suc later.2.0, omega arith, later.2.2))
 
-signal_at : (word : ℕ) (us : List Use) (kind : Kind) → sets_bit kind ≡ true → (k : ℕ) → k < length us → slice_index_or us k (Accessed kind word true true) ≡ Accessed kind word true true → HasSignal word us
+signal_at : (word : ℕ) (us : List Use) (kind : Kind) → sets_bit kind ≡ true → (k : ℕ) → k < length us
+    → slice_index_or us k (Accessed kind word true true) ≡ Accessed kind word true true → HasSignal word us
 signal_at word [] kind on k lt is = absurd (omega arith)
 signal_at word (u ∷ us) kind on zero lt is = inl (signal_to word u kind on is)
 signal_at word (u ∷ us) kind on (suc k) lt is = inr (signal_at word us kind on k (omega arith) is)
@@ -128,7 +129,8 @@ module _ (watches : List ℕ) where
       by true = refl
       by false = refl
 
-  faulted_sees : (core : Core) (m : Memory) (s : Slot) (c : Cause) (a v : Word) (f touched : Option Touch) (us : List Use) → ((word : ℕ) → ¬ (HasSignal word us)) → Sees (faulted core m s c a v f touched us)
+  faulted_sees : (core : Core) (m : Memory) (s : Slot) (c : Cause) (a v : Word) (f touched : Option Touch) (us : List Use)
+      → ((word : ℕ) → ¬ (HasSignal word us)) → Sees (faulted core m s c a v f touched us)
   unfolding faulted
   faulted_sees core m s c a v f touched us none = undone (faulted core m s c a v f touched us) (fault_undone c s.handler) none
 

@@ -44,7 +44,7 @@ with_token (b ∷ bytes) tokens = (b ∷ bytes) ∷ tokens
 
 -- 2. Numbers.
 
--- an unsigned number behind which nothing is left
+-- an unsigned number after which nothing is left
 abbrev pub unsigned : Token → (rest : List ℕ) → Option ℕ
 unsigned (Number false n) [] = Some n
 unsigned _ _ = None
@@ -85,7 +85,7 @@ alone word =
     else if bytes_eq word (codes "quit") then Quit
     else Bad
 
--- a word and a number behind it
+-- a word and a number after it
 abbrev pub with_one : List ℕ → Option ℕ → Command
 with_one word None = Bad
 with_one word (Some n) =
@@ -94,7 +94,7 @@ with_one word (Some n) =
     else if bytes_eq word (codes "regs") then if_in_range (is_slot n) (Regs n)
     else Bad
 
--- a word and two numbers behind it
+-- a word and two numbers after it
 abbrev pub with_two : List ℕ → Option ℕ → Option ℕ → Command
 with_two word (Some n) (Some m) =
     if bytes_eq word (codes "break") then if_in_range (is_slot n && is_address m) (Break n m)

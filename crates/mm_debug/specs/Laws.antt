@@ -7,9 +7,9 @@ use Rattle.mm_model.specs.Uses.{Use, Accessed}
 use Rattle.mm_sched.specs.declared.schedule.Order.{Order}
 use Rattle.mm_debug.specs.declared.stop.Stop.{Stop}
 use Rattle.mm_debug.specs.declared.stop.Stop.TheVariants as stop
-use Rattle.mm_debug.specs.Marks.{has_watch}
+use Rattle.mm_debug.specs.Breakpoints.{has_watch}
 use Rattle.mm_debug.specs.Session.{Session, total_of, begun, next_item, stepped, sets_bit, stops_before, stops_after, ran, answer_to}
-use Rattle.mm_debug.specs.Standing.{StandsFor, first_items}
+use Rattle.mm_debug.specs.Standing.{StandsFor, run_items}
 
 -- 1. Where a run stops.
 
@@ -17,15 +17,15 @@ abbrev pub watch_of : Option ℕ → Option Stop
 watch_of None = None
 watch_of (Some word) = Some (stop.Watch word)
 
--- a watch behind the cycle of the next item
+-- a watch after the cycle of the next item
 abbrev pub watch_stands : Session → Option ℕ → Option Stop
 watch_stands s None = None
 watch_stands s (Some item) = watch_of (stops_after s item)
 
 -- the end where there is no next item, and else a break before it, which needs a cycle of the run
-abbrev pub end_or_break : (behind_cycle : Bool) → Session → Option ℕ → Option Stop
-end_or_break behind_cycle s None = Some stop.End
-end_or_break behind_cycle s (Some item) = if behind_cycle && stops_before s item then Some (stop.Break item) else None
+abbrev pub end_or_break : (after_cycle : Bool) → Session → Option ℕ → Option Stop
+end_or_break after_cycle s None = Some stop.End
+end_or_break after_cycle s (Some item) = if after_cycle && stops_before s item then Some (stop.Break item) else None
 
 abbrev pub first_of : Option Stop → Option Stop → Option Stop
 first_of None other = other
@@ -70,15 +70,17 @@ after_lines s (line ∷ lines) = after_lines (answer_to s line).session lines
 
 -- After any lines a session has its order, and stands for every image for which it stood.
 abbrev pub LinesKeepStanding : Type 0
-LinesKeepStanding = (i : Image) (s : Session) (lines : List (List ℕ)) → StandsFor i s → ((after_lines s lines).order ≡ s.order) × StandsFor i (after_lines s lines)
+LinesKeepStanding = (i : Image) (s : Session) (lines : List (List ℕ)) → StandsFor i s
+    → ((after_lines s lines).order ≡ s.order) × StandsFor i (after_lines s lines)
 
--- So of a session that began at the start of an image's run the state is, after any lines, where the run is after as many items of the order as the
--- session has issued.
+-- So of a session that began at the start of an image's run the state is, after any lines, where the run is after as
+-- many items of the order as the session has issued.
 abbrev pub DebuggingChangesNoRun : Type 0
 DebuggingChangesNoRun = (i : Image) (order : Order) (lines : List (List ℕ)) →
-    let s = after_lines (begun order (start i)) lines in s.state ≡ run (start i) (first_items i order (total_of s))
+    let s = after_lines (begun order (start i)) lines in s.state ≡ run (start i) (run_items i order (total_of s))
 
--- 4. What an answer depends on: the image, the order, how many cycles were issued, the breaks and watches, and the line.
+-- 4. What an answer depends on: the image, the order, how many cycles were issued, the breaks and watches, and the
+-- line.
 
 -- both have issued as many cycles of one order, and keep the same
 pub record AreAlike (s t : Session) : Type 0 where
@@ -89,7 +91,8 @@ pub record AreAlike (s t : Session) : Type 0 where
 
 abbrev pub AnswersDependOnThese : Type 0
 AnswersDependOnThese = (i : Image) (s t : Session) (line : List ℕ) → StandsFor i s → StandsFor i t → AreAlike s t
-    → ((answer_to s line).reply ≡ (answer_to t line).reply) × ((answer_to s line).go ≡ (answer_to t line).go) × AreAlike (answer_to s line).session (answer_to t line).session
+    → ((answer_to s line).reply ≡ (answer_to t line).reply) × ((answer_to s line).go ≡ (answer_to t line).go)
+    × AreAlike (answer_to s line).session (answer_to t line).session
 
 -- 5. What a watch is.
 
@@ -99,4 +102,7 @@ SetsBitAt word us = (kind : Kind) × (sets_bit kind ≡ true) × Contains us (Ac
 
 -- A cycle stops a run exactly where it did a Store or a LoadSet on a watched word.
 abbrev pub WatchesSeeSignals : Type 0
-WatchesSeeSignals = (s : Session) (item word : ℕ) → (stops_after s item ≡ Some word) ↔ ((has_watch s.watches word ≡ true) × SetsBitAt word (turn_of s.state item).uses)
+WatchesSeeSignals =
+    (s : Session) (item word : ℕ)
+    → (stops_after s item ≡ Some word)
+    ↔ ((has_watch s.watches word ≡ true) × SetsBitAt word (turn_of s.state item).uses)

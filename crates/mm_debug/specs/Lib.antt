@@ -1,6 +1,7 @@
 pub mod Commands
-pub mod Marks
+pub mod Dialogues
+pub mod Laws
+pub mod Breakpoints
 pub mod Session
 pub mod Shown
 pub mod Standing
-pub mod Laws

@@ -19,13 +19,13 @@ use Rattle.mm_sched.specs.declared.schedule.Order.{Order}
 use Rattle.mm_sched.specs.declared.schedule.Order.TheVariants as order
 use Rattle.mm_debug.specs.declared.command.Command.{Command}
 use Rattle.mm_debug.specs.declared.command.Command.TheVariants.{Nothing, Step, Run, Break, Watch, Regs, Mem, Quit, Bad}
-use Rattle.mm_debug.specs.declared.marks.Break.{Break as Mark}
+use Rattle.mm_debug.specs.declared.breakpoints.Break.{Break as Breakpoint}
 use Rattle.mm_debug.specs.declared.stop.Stop.{Stop}
 use Rattle.mm_debug.specs.declared.stop.Stop.TheVariants as stop
 use Rattle.mm_debug.specs.declared.session.Go.{Go}
 use Rattle.mm_debug.specs.declared.session.Go.TheVariants as go
 use Rattle.mm_debug.specs.Commands.{command_of, lines_of}
-use Rattle.mm_debug.specs.Marks.{has_break, has_watch, fits, with_break, with_watch}
+use Rattle.mm_debug.specs.Breakpoints.{has_break, has_watch, fits, with_break, with_watch}
 
 -- 1. Sessions.
 
@@ -34,7 +34,7 @@ pub record Session : Type 0 where
   pub order : Order
   pub last : Option ℕ
   pub state : State
-  pub breaks : List Mark
+  pub breaks : List Breakpoint
   pub watches : List ℕ
 
 -- how many cycles were issued
@@ -81,7 +81,7 @@ stepped s (suc count) = then_stepped s (next_item s) (λ item. stepped (issued s
 -- 3. Stops.
 
 -- a slot that runs and is not past has a break where its instruction pointer is
-abbrev pub breaks_for : List Mark → ℕ → Option Slot → Bool
+abbrev pub breaks_for : List Breakpoint → ℕ → Option Slot → Bool
 breaks_for breaks n None = false
 breaks_for breaks n (Some x) = is_running x.state && not x.past && has_break breaks n x.ip.addr
 
@@ -123,10 +123,10 @@ pub record Ran : Type 0 where
 abbrev pub stopped : Session → Stop → Ran
 stopped s why = record { session = s; stop = why }
 
--- after a cycle, behind which a watched word stops the run
-abbrev pub behind_cycle : Session → Option ℕ → Ran → Ran
-behind_cycle s (Some word) rest = stopped s (stop.Watch word)
-behind_cycle s None rest = rest
+-- once a cycle is issued, where a watched word stops the run
+abbrev pub after_cycle : Session → Option ℕ → Ran → Ran
+after_cycle s (Some word) rest = stopped s (stop.Watch word)
+after_cycle s None rest = rest
 
 -- before the cycle of an item, which a break stops where the run has issued one already
 abbrev pub before_cycle : (begun : Bool) → Session → Option ℕ → (ℕ → Ran) → Ran
@@ -137,7 +137,8 @@ before_cycle begun s (Some item) rest = if begun && stops_before s item then sto
 unfoldable pub run_from : (begun : Bool) → Session → (left : ℕ) → Ran
 run_from begun s zero = stopped s stop.End
 run_from begun s (suc left) =
-    before_cycle begun s (next_item s) (λ item. behind_cycle (issued s item) (stops_after s item) (run_from true (issued s item) left))
+    before_cycle begun s (next_item s)
+    (λ item. after_cycle (issued s item) (stops_after s item) (run_from true (issued s item) left))
 
 -- a run to its first stop
 unfoldable pub ran : Session → Ran
@@ -188,8 +189,10 @@ answer s Nothing = replies [] s
 answer s (Step count) = let t = stepped s count in replies (stepped_text (total_of t - total_of s) (total_of t)) t
 answer s Run = let r = ran s in replies (stop_text r.stop (total_of r.session)) r.session
 answer s (Break slot address) =
-    replies (break_text (fits (has_break s.breaks slot address) s.breaks)) (record s { breaks = with_break s.breaks (record { slot = slot; address = address }) })
-answer s (Watch word) = replies (watch_text (fits (has_watch s.watches word) s.watches)) (record s { watches = with_watch s.watches word })
+    replies (break_text (fits (has_break s.breaks slot address) s.breaks))
+    (record s { breaks = with_break s.breaks (record { slot = slot; address = address }) })
+answer s (Watch word) =
+    replies (watch_text (fits (has_watch s.watches word) s.watches)) (record s { watches = with_watch s.watches word })
 answer s (Regs slot) = replies (slot_text (slot_at s.state.core slot)) s
 answer s (Mem word count) = replies (memory_text s.state.memory word count) s
 answer s Quit = record { reply = codes "bye\n"; session = s; go = go.Quit }
@@ -201,18 +204,24 @@ answer_to s line = answer s (command_of line)
 
 -- 5. Many lines.
 
--- what is replied to lines, and the session afterwards: no line behind a `quit` is carried out
+-- What is replied to lines, and the session afterwards.
 pub record Dialogue : Type 0 where
   pub text : List ℕ
   pub session : Session
 
-abbrev pub behind_answer : Answer → Go → (Session → Dialogue) → Dialogue
-behind_answer a go.Quit rest = record { text = a.reply; session = a.session }
-behind_answer a go.More rest = record { text = a.reply ++ (rest a.session).text; session = (rest a.session).session }
+abbrev pub after_answer : Answer → Go → (Session → Dialogue) → Dialogue
+after_answer a go.Quit rest = record { text = a.reply; session = a.session }
+after_answer a go.More rest = record { text = a.reply ++ (rest a.session).text; session = (rest a.session).session }
 
-unfoldable pub dialogue : Session → List (List ℕ) → Dialogue
-dialogue s [] = record { text = []; session = s }
-dialogue s (line ∷ lines) = behind_answer (answer_to s line) (answer_to s line).go (λ t. dialogue t lines)
+-- what is replied to lines, to each of which this is the answer: no line after a `quit` is carried out
+unfoldable pub dialogue_by : (Session → List ℕ → Answer) → Session → List (List ℕ) → Dialogue
+dialogue_by answers s [] = record { text = []; session = s }
+dialogue_by answers s (line ∷ lines) =
+    after_answer (answers s line) (answers s line).go (λ t. dialogue_by answers t lines)
+
+-- what a session replies to lines
+abbrev pub dialogue : Session → List (List ℕ) → Dialogue
+dialogue s lines = dialogue_by answer_to s lines
 
 -- what is replied to an input
 abbrev pub debugged : Session → List ℕ → Dialogue

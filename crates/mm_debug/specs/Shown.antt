@@ -7,4 +7,5 @@ use Rattle.mm_debug.specs.declared.session.Session.{Session}
 module _ {M : Type 0} {memory : Ghosts M} where
   -- its order, the last item of round robin, the state of its machine, and what it keeps
   abbrev pub session_of : Session M memory → model.Session
-  session_of s = record { order = s.order; last = s.robin; state = state_of s.machine; breaks = s.breaks; watches = s.watches }
+  session_of s =
+      record { order = s.order; last = s.robin; state = state_of s.machine; breaks = s.breaks; watches = s.watches }

@@ -8,9 +8,9 @@ use Rattle.mm_sched.specs.declared.schedule.Order.TheVariants as order
 use Rattle.mm_sched.specs.Orders.{items_of}
 use Rattle.mm_debug.specs.Session.{Session, total_of, cycle_limit}
 
--- the first so many items of an order of an image's run
-abbrev pub first_items : Image → Order → ℕ → List ℕ
-first_items i order total = items_of order (start i) total
+-- the items that an image's run under an order issues, up to a count
+abbrev pub run_items : Image → Order → ℕ → List ℕ
+run_items i order total = items_of order (start i) total
 
 -- round robin goes on after the last of these items, or begins with the least where there is none
 abbrev pub GoesOnAfter : Order → (last : Option ℕ) → List ℕ → Type 0
@@ -19,8 +19,8 @@ GoesOnAfter (order.List list) last items = ⊤
 
 -- The session is where the image's run is after as many items of its order as the session has issued.
 pub record StandsFor (i : Image) (s : Session) : Type 0 where
-  pub state : s.state ≡ run (start i) (first_items i s.order (total_of s))
-  pub place : GoesOnAfter s.order s.last (first_items i s.order (total_of s))
+  pub state : s.state ≡ run (start i) (run_items i s.order (total_of s))
+  pub place : GoesOnAfter s.order s.last (run_items i s.order (total_of s))
 
 -- A point: a state kept apart from its machine, and the last item of round robin.
 pub record Point : Type 0 where
@@ -32,8 +32,8 @@ total_at p = p.snapshot.cycles
 
 -- The point is where the image's run is after as many items of the order as its total says.
 pub record PointStandsFor (i : Image) (order : Order) (p : Point) : Type 0 where
-  pub state : IsSnapshotOf (run (start i) (first_items i order (total_at p))) p.snapshot
-  pub place : GoesOnAfter order p.last (first_items i order (total_at p))
+  pub state : IsSnapshotOf (run (start i) (run_items i order (total_at p))) p.snapshot
+  pub place : GoesOnAfter order p.last (run_items i order (total_at p))
 
 -- a point of this session
 pub record IsPointOf (s : Session) (p : Point) : Type 0 where

@@ -40,8 +40,8 @@ const ADDRESS_END: u64 = 1 << 54;
 /// The most words of one `mem`.
 const MAX_WORDS: u64 = 64;
 
-/// The first line of an input that is not empty, and what is behind it.
-pub fn first_line(input: &[u8]) -> (&[u8], &[u8])
+/// The first line of an input that is not empty, and what is after it.
+pub(crate) fn first_line(input: &[u8]) -> (&[u8], &[u8])
     requires { 0 < length input.now }
     ensures lines { lines_of input.now ≡ result.0.now ∷ lines_of result.1.now }
     ensures shorter { length result.1.now < length input.now }
@@ -80,7 +80,7 @@ fn is_blank(byte: u8) -> bool
     byte == b' ' || byte == b'\t' || byte == b'\r'
 }
 
-/// The first token of a line and what is behind it; an empty one where there is none.
+/// The first token of a line and what is after it; an empty one where there is none.
 pub fn take_token(line: &[u8]) -> (&[u8], &[u8])
     ensures token { tokens line.now ≡ with_token result.0.now (tokens result.1.now) }
     ensures end { result.0.now ≡ [] → result.1.now ≡ [] }

@@ -4,7 +4,7 @@ ghost use Rattle.mm_model.specs.Run.{turn_of};
 ghost use Rattle.mm_debug.specs.Session.{next_item, issued, stepped, stops_before, watched, ran};
 ghost use Rattle.mm_debug.specs.Shown.{session_of};
 
-use crate::marks::Watches;
+use crate::breakpoints::Watches;
 use crate::session::{CYCLE_LIMIT, Session};
 use crate::stop::Stop;
 use mm_mem::Memory;
@@ -25,7 +25,8 @@ impl<M: Memory> Session<M> {
         }
     }
 
-    /// Issues cycles up to a stop. The loop has as many turns as there can be cycles; where they are over, the limit has ended.
+    /// Issues cycles up to a stop. The loop has as many turns as there can be cycles; where they are over, the limit
+    /// has ended.
     pub(crate) fn run(&mut self) -> Stop
         ensures { ran (session_of self.old) ≡ record { session = session_of self.new; stop = result } }
     {

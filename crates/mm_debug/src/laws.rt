@@ -1,8 +1,8 @@
 //! Laws of sessions.
 ghost use Rattle.mm_debug.specs.Laws.{RunsStopFirst, StepsIssueCycles, LinesKeepStanding, DebuggingChangesNoRun, AnswersDependOnThese, WatchesSeeSignals};
 
-/// A `run` issues the least number of cycles after which a stop stands: a watch before the end before a break, and watch and break
-/// only behind a cycle of the run.
+/// A `run` issues the least number of cycles after which a stop stands: a watch before the end before a break, and
+/// watch and break only after a cycle of the run.
 pub fn runs_stop_first()
     ensures { RunsStopFirst }
 {}
@@ -17,8 +17,8 @@ pub fn lines_keep_standing()
     ensures { LinesKeepStanding }
 {}
 
-/// A session that began at the start of an image's run is, after any lines, where that run is after as many items of the order as
-/// the session has issued.
+/// A session that began at the start of an image's run is, after any lines, where that run is after as many items of
+/// the order as the session has issued.
 pub fn debugging_changes_no_run()
     ensures { DebuggingChangesNoRun }
 {}
@@ -28,7 +28,7 @@ pub fn answers_depend_on_these()
     ensures { AnswersDependOnThese }
 {}
 
-/// A watch stops a run exactly behind a cycle that did a store or a setting load on the watched word.
+/// A watch stops a run exactly after a cycle that did a store or a setting load on the watched word.
 pub fn watches_see_signals()
     ensures { WatchesSeeSignals }
 {}

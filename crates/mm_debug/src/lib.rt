@@ -1,8 +1,8 @@
 //! Debugging: a session that runs an image by the lines of an input, one reply each.
 //!
-//! A [`Session`] holds a machine and an order in which cycles are issued. Its lines step, run to a break or a watch, and show slots
-//! and memory. Of a session that began at the start of an image's run, the machine is where that run is after as many items of the
-//! order as were issued, whatever the lines say.
+//! A [`Session`] holds a machine and an order in which cycles are issued. Its lines step, run to a break or a watch,
+//! and show slots and memory. Of a session that began at the start of an image's run, the machine is where that run is
+//! after as many items of the order as were issued, whatever the lines say.
 //!
 //! | line | reply |
 //! |---|---|
@@ -15,28 +15,29 @@
 //! | `quit` | `bye` |
 //! | anything else | `bad command` |
 //!
-//! Tokens stand between spaces, tabs and carriage returns, and a line without any has no reply. A number is decimal digits, or `0x`
-//! and hexadecimal digits, below 2^64. C is the total of cycles, at most 1,000,000.
+//! Tokens stand between spaces, tabs and carriage returns, and a line without any has no reply. A number is decimal
+//! digits, or `0x` and hexadecimal digits, below 2^64. C is the total of cycles, at most 1,000,000.
 //!
-//! A `run` stops behind a cycle that did a store or a setting load on a watched word; else where the order or the limit has ended;
-//! else, once it has issued a cycle, where the next item is a running slot that is not past its segment and has a break at its
-//! instruction pointer's address. So a run that begins at a break goes on from it.
+//! A `run` stops after a cycle that did a store or a setting load on a watched word; else where the order or the limit
+//! has ended; else, once it has issued a cycle, where the next item is a running slot that is not past its segment and
+//! has a break at its instruction pointer's address. So a run that begins at a break goes on from it.
 //!
-//! What takes lines of its own beside a session's has the same parts for them: [`first_line`] and [`take_token`] cut an input into lines
-//! and a line into tokens, [`number`] reads one, [`Session::put_line`] carries out a line, and [`Session::step`] issues cycles.
+//! What takes lines of its own beside those of a session has the same parts for them: [`handle_lines`] cuts an input
+//! into lines that a [`LineHandler`] carries out, [`take_token`] cuts a line into tokens, [`number`] reads one,
+//! [`Session::put_line`] carries out a line, and [`Session::step`] issues cycles.
 #![tactic(auto)]
 
+mod breakpoints;
 mod command;
 mod cycles;
 pub mod laws;
-mod marks;
+mod lines;
 mod point;
 mod replies;
 mod session;
 mod stop;
-#[cfg(test)]
-mod tests;
 
-pub use command::{first_line, number, take_token};
+pub use command::{number, take_token};
+pub use lines::{LineHandler, handle_lines};
 pub use point::Point;
 pub use session::{Go, Session};

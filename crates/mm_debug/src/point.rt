@@ -54,7 +54,8 @@ impl<M: Inspect> Session<M> {
         ensures fits { IfOk result (CanGo (session_of self.now)) }
 
         // It stands for every image for which the session does.
-        ensures stands { (i : Image) → StandsFor i (session_of self.now) → IfOk result (PointStandsFor i (session_of self.now).order) }
+        ensures stands { (i : Image) → StandsFor i (session_of self.now)
+            → IfOk result (PointStandsFor i (session_of self.now).order) }
     {
         let snapshot = self.machine.snapshot(alloc)?;
         Ok(Point {
@@ -65,13 +66,15 @@ impl<M: Inspect> Session<M> {
 }
 
 impl<M: Reset> Session<M> {
-    /// Goes to a point. State, total and the place of round robin are then the point's, and breaks and watches stay. Takes no memory.
+    /// Goes to a point. State, total and the place of round robin are then the point's, and breaks and watches stay.
+    /// Takes no memory.
     pub fn go(&mut self, p: &Point)
         requires { CanGo (session_of self.old) p.now }
         ensures session { session_of self.new ≡ gone (session_of self.old) p.now }
 
         // It stands for every image for which both the session stood and the point does.
-        ensures stands { (i : Image) → StandsFor i (session_of self.old) → PointStandsFor i (session_of self.old).order p.now → StandsFor i (session_of self.new) }
+        ensures stands { (i : Image) → StandsFor i (session_of self.old)
+            → PointStandsFor i (session_of self.old).order p.now → StandsFor i (session_of self.new) }
 
         // Where it could go before, it still can.
         ensures fits { (q : PointValue) → CanGo (session_of self.old) q → CanGo (session_of self.new) q }

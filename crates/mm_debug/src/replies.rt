@@ -10,8 +10,7 @@ use crate::stop::Stop;
 use mm_io::Sink;
 use mm_machine::Machine;
 use mm_mem::{Inspect, Memory};
-use mm_report::{put_cell, put_slot};
-use mm_text::{Gather, Piece};
+use mm_text::{Gather, Piece, put_cell, put_slot};
 
 /// How many cycles a `step` issued, and how many there were in all.
 pub(crate) fn put_stepped<O: Sink>(reply: &mut Gather, out: &mut O, count: u64, total: u64)
@@ -92,7 +91,8 @@ pub(crate) fn put_slot_at<M: Memory, O: Sink>(
     machine: &Machine<M>,
     number: u8,
 )
-    ensures { Gathers O.taken O.faults out.old out.new reply.old reply.new (slot_text (slot_at (state_of machine.now).core number)) }
+    ensures { Gathers O.taken O.faults out.old out.new reply.old reply.new
+        (slot_text (slot_at (state_of machine.now).core number)) }
 {
     match machine.slot(number) {
         Some(slot) => put_slot(reply, out, slot),
@@ -110,7 +110,8 @@ pub(crate) fn put_words<M: Inspect, O: Sink>(
 )
     requires aligned { word % 8 ≡ 0 }
     requires within { word + 8 * count ≤ 2 ^ 54 }
-    ensures { Gathers O.taken O.faults out.old out.new reply.old reply.new (memory_text (M.meaning memory.now) word count) }
+    ensures { Gathers O.taken O.faults out.old out.new reply.old reply.new
+        (memory_text (M.meaning memory.now) word count) }
 {
     for k in 0..count {
         put_word_line(reply, out, memory, word + 8 * k);
@@ -121,7 +122,8 @@ pub(crate) fn put_words<M: Inspect, O: Sink>(
 fn put_word_line<M: Inspect, O: Sink>(reply: &mut Gather, out: &mut O, memory: &M, word: u64)
     requires aligned { word % 8 ≡ 0 }
     requires within { word < 2 ^ 54 }
-    ensures { Gathers O.taken O.faults out.old out.new reply.old reply.new (word_line word (cell_at (M.meaning memory.now) word)) }
+    ensures { Gathers O.taken O.faults out.old out.new reply.old reply.new
+        (word_line word (cell_at (M.meaning memory.now) word)) }
 {
     match memory.peek(word) {
         Some(cell) => put_cell(reply, out, word, &cell),

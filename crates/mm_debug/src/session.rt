@@ -3,8 +3,9 @@
 ghost use Rattle.std.specs.Prelude.{◌≤◌};
 ghost use Rattle.mm_machine.specs.Machine.{state_of};
 
+use crate::breakpoints::{Breaks, Watches};
 use crate::command::{Command, first_line, read_command};
-use crate::marks::{Breaks, Watches};
+use crate::lines::{LineHandler, handle_lines};
 use crate::replies::{put_break, put_slot_at, put_stepped, put_stop, put_watch, put_words};
 use mm_io::{Sink, WriteFault};
 use mm_machine::Machine;
@@ -72,11 +73,12 @@ impl<M: Inspect> Session<M> {
         self.machine.cycles()
     }
 
-    /// Carries out a line, which is handed over without its newline, and writes its reply. At a [`WriteFault`] the sink took a
-    /// front part of the reply; the session goes on as after any line.
+    /// Carries out a line, which is handed over without its newline, and writes its reply. At a [`WriteFault`] the sink
+    /// took a front part of the reply; the session goes on as after any line.
     pub fn line<O: Sink>(&mut self, text: &[u8], out: &mut O) -> Result<Go, WriteFault>
         ensures session { session_of self.new ≡ (answer_to (session_of self.old) text.now).session }
-        ensures reply { Writes O.taken O.faults out.old out.new (answer_to (session_of self.old) text.now).reply result }
+        ensures reply { Writes O.taken O.faults out.old out.new
+            (answer_to (session_of self.old) text.now).reply result }
         ensures go { IfOk result (λ go. go ≡ (answer_to (session_of self.old) text.now).go) }
 
         // It stands for every image for which it stood, and can go where it could.
@@ -89,39 +91,26 @@ impl<M: Inspect> Session<M> {
         Ok(go)
     }
 
-    /// Carries out the lines of an input up to its end or a `quit`, and writes their replies. At a [`WriteFault`] all lines are
-    /// carried out too, and the sink took a front part of the replies.
+    /// Carries out the lines of an input up to its end or a `quit`, and writes their replies. At a [`WriteFault`] all
+    /// lines are carried out too, and the sink took a front part of the replies.
     pub fn lines<O: Sink>(&mut self, input: &[u8], out: &mut O) -> Result<(), WriteFault>
         ensures session { session_of self.new ≡ (debugged (session_of self.old) input.now).session }
-        ensures replies { Writes O.taken O.faults out.old out.new (debugged (session_of self.old) input.now).text result }
+        ensures replies { Writes O.taken O.faults out.old out.new
+            (debugged (session_of self.old) input.now).text result }
         ensures stands { (i : Image) → StandsFor i (session_of self.old) → StandsFor i (session_of self.new) }
         ensures fits { (p : Point) → CanGo (session_of self.old) p → CanGo (session_of self.new) p }
     {
         let mut replies = Gather::new();
-        self.put_lines(&mut replies, out, input);
+        handle_lines(self, &mut replies, out, input);
         replies.finish(out)
-    }
-
-    /// Carries out the lines of an input up to its end or a `quit`, and appends their replies.
-    fn put_lines<O: Sink>(&mut self, replies: &mut Gather, out: &mut O, input: &[u8])
-        ensures session { session_of self.new ≡ (debugged (session_of self.old) input.now).session }
-        ensures replies { Gathers O.taken O.faults out.old out.new replies.old replies.new (debugged (session_of self.old) input.now).text }
-    {
-        let mut rest = input;
-        while !rest.is_empty() {
-            let (line, behind) = first_line(rest);
-            if self.put_line(replies, out, line) == Go::Quit {
-                break;
-            }
-            rest = behind;
-        }
     }
 
     /// Carries out a line, and appends its reply.
     #[tactic(auto, unfolding(crate::specs::Session::answer))]
     pub fn put_line<O: Sink>(&mut self, reply: &mut Gather, out: &mut O, line: &[u8]) -> Go
         ensures session { session_of self.new ≡ (answer_to (session_of self.old) line.now).session }
-        ensures reply { Gathers O.taken O.faults out.old out.new reply.old reply.new (answer_to (session_of self.old) line.now).reply }
+        ensures reply { Gathers O.taken O.faults out.old out.new reply.old reply.new
+            (answer_to (session_of self.old) line.now).reply }
         ensures go { result ≡ (answer_to (session_of self.old) line.now).go }
         ensures stands { (i : Image) → StandsFor i (session_of self.old) → StandsFor i (session_of self.new) }
         ensures fits { (p : Point) → CanGo (session_of self.old) p → CanGo (session_of self.new) p }
@@ -152,5 +141,17 @@ impl<M: Inspect> Session<M> {
             Command::Bad => reply.put_piece(out, &Piece::Text("bad command\n")),
         }
         Go::More
+    }
+}
+
+impl<M: Inspect> LineHandler for Session<M> {
+    ghost use Rattle.mm_debug.specs.Dialogues.{IsAnswer};
+    ghost use Rattle.mm_debug.specs.Session.{answer_to};
+    ghost use Rattle.mm_debug.specs.Shown.{session_of};
+
+    ghost Answers = { λ old line reply new go. IsAnswer (answer_to (session_of old) line) reply (session_of new) go };
+
+    fn handle_line<O: Sink>(&mut self, reply: &mut Gather, out: &mut O, line: &[u8]) -> Go {
+        self.put_line(reply, out, line)
     }
 }

@@ -11,9 +11,9 @@ use Rattle.mm_object.specs.Names.{is_before}
 use Rattle.mm_object.specs.Objects.{Segment, Object, IsObject, same_name, is_among, is_target, targets_of}
 use Rattle.mm_asm.specs.Names.{Use, Here, meant_by, meant, uses_of, is_external, name_of, externals_of, position_of}
 use Rattle.mm_asm.specs.Meaning.{target_by, target_of}
-use Rattle.mm_asm.proofs.Lists.{In, each_in, found}
+use Rattle.mm_object.proofs.Members.{In, each_in, found}
 use Rattle.mm_asm.proofs.Order.{before_all, not_itself, is_same, position_at}
-use Rattle.mm_asm.proofs.Externals.{externals_each, used_among}
+use Rattle.mm_asm.proofs.ExternalNames.{externals_each, used_among}
 use Rattle.mm_asm.proofs.Targets.{externals_rising}
 use Rattle.mm_disasm.proofs.Saying.{IsTargetOf}
 use Rattle.mm_disasm.proofs.DraftedOrder.{same_items, ascend_all}

@@ -17,7 +17,7 @@ use Rattle.mm_object.specs.Names.{is_before}
 use Rattle.mm_object.specs.Objects.{Segment, Object, IsObject, same_name, is_among, external_limit}
 use Rattle.mm_asm.specs.Names.{Use, Meant, meant_by, uses_of, is_external, name_of, insert_name, with_use, externals_with}
 use Rattle.mm_asm.specs.Faults.{goal_faults, content_faults, in_source, word_failures, goal_failures, is_outside, meant_faults, use_failures, is_too_many, limit_failures, late_failures}
-use Rattle.mm_asm.proofs.Lists.{In}
+use Rattle.mm_object.proofs.Members.{In}
 use Rattle.mm_disasm.proofs.Saying.{IsBits, IsContentOf}
 use Rattle.mm_disasm.proofs.DraftedLines.{clear}
 use Rattle.mm_disasm.proofs.DraftedWords.{AreWordsOf}

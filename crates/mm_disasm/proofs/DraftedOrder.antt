@@ -5,7 +5,8 @@ use Rattle.std.specs.List.Sorted.{IsStrictlyIncreasing}
 use Rattle.mm_object.specs.Names.{is_before}
 use Rattle.mm_object.specs.Objects.{ascend}
 use Rattle.mm_model.proofs.ImageBytes.Rising.{both}
-use Rattle.mm_asm.proofs.Lists.{In, each_in, each_weaker}
+use Rattle.mm_asm.proofs.Lists.{each_weaker}
+use Rattle.mm_object.proofs.Members.{In, each_in}
 use Rattle.mm_asm.proofs.Order.{before_all}
 
 -- one item of a list passes what all do

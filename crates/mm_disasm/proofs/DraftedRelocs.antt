@@ -10,7 +10,7 @@ use Rattle.mm_object.specs.declared.target.Reloc.{Reloc}
 use Rattle.mm_object.specs.Lookups.{is_at, reloc_at}
 use Rattle.mm_object.specs.Objects.{Segment, Object, IsObject, words_of, place_of, item_of, is_zero, is_target, is_reloc}
 use Rattle.mm_model.proofs.ImageBytes.Rising.{both}
-use Rattle.mm_asm.proofs.Lists.{In, in_left, in_right, in_either}
+use Rattle.mm_object.proofs.Members.{In, in_left, in_right, in_either}
 use Rattle.mm_asm.proofs.Relocs.{RisesWithin, lower, higher, in_turn, rises}
 use Rattle.mm_disasm.proofs.DraftedOrder.{one_passes, Ascends, ascends_by, same_items, one_item}
 

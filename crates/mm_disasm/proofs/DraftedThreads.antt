@@ -11,7 +11,8 @@ use Rattle.mm_object.specs.declared.thread.Value.{Value}
 use Rattle.mm_object.specs.declared.thread.Thread.{Thread}
 use Rattle.mm_object.specs.Objects.{Object}
 use Rattle.mm_object.proofs.Bools.{none_of}
-use Rattle.mm_asm.proofs.Lists.{each_more, each_weaker}
+use Rattle.mm_asm.proofs.Lists.{each_weaker}
+use Rattle.mm_object.proofs.Members.{each_more}
 use Rattle.mm_disasm.specs.Canonical.{is_zero}
 use Rattle.mm_disasm.proofs.Saying.{IsTargetOf, IsConstantOf, thread_of, register_of, register_lines, thread_lines}
 use Rattle.mm_disasm.proofs.Speaking.{RegistersSpeak, ThreadSpeaks}

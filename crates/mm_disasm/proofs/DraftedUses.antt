@@ -21,7 +21,7 @@ use Rattle.mm_object.specs.Lookups.{reloc_at}
 use Rattle.mm_object.specs.Objects.{Segment, Object, IsObject, is_target, is_value, is_thread, value_targets, targets_of}
 use Rattle.mm_model.proofs.ImageBytes.Rising.{both}
 use Rattle.mm_asm.specs.Names.{Use, constant_uses, content_uses, word_uses, segment_uses, register_uses, thread_uses, uses_of}
-use Rattle.mm_asm.proofs.Lists.{In, in_left, in_right, in_either, in_map, from_flat}
+use Rattle.mm_object.proofs.Members.{In, in_left, in_right, in_either, in_map, from_flat}
 use Rattle.mm_asm.proofs.Uses.{in_merge, from_merge}
 use Rattle.mm_disasm.specs.Canonical.{is_zero}
 use Rattle.mm_disasm.proofs.Saying.{IsTargetOf, IsConstantOf, IsContentOf}

@@ -46,7 +46,3 @@ module _ (o : Object) (is : IsObject o) where
 
 pub canonical_texts_mean_their_objects : CanonicalTextsMeanTheirObjects
 canonical_texts_mean_their_objects o is = drafted_means (canonical o) o is (speaks o is) (lines_are o is)
-
--- what is written of an object means it
-pub text_means : (text : List ℕ) (o : Object) → IsObject o → text ≡ canonical o → Means text o
-text_means text o is same = subst (λ t. Means t o) (sym same) (canonical_texts_mean_their_objects o is)

@@ -62,7 +62,8 @@ signed_text (negsuc n) = codes "-" ++ decimal (n + 1)
 
 -- how many hexadecimal digits a number below 2^20 needs
 abbrev pub digits_of : ℕ → ℕ
-digits_of n = if nat_lt n 0x10 then 1 else if nat_lt n 0x100 then 2 else if nat_lt n 0x1000 then 3 else if nat_lt n 0x10000 then 4 else 5
+digits_of n =
+    if nat_lt n 0x10 then 1 else if nat_lt n 0x100 then 2 else if nat_lt n 0x1000 then 3 else if nat_lt n 0x10000 then 4 else 5
 
 -- hexadecimal, in as few digits as it needs
 abbrev pub short_hex : ℕ → List ℕ
@@ -147,7 +148,8 @@ handler_text (Some slot) = decimal slot
 
 abbrev pub thread_line : Object → Thread → List ℕ
 thread_line o t =
-    codes ".thread " ++ decimal t.slot ++ codes " " ++ decimal t.group ++ codes " " ++ handler_text t.handler ++ codes " " ++ pointer_text o t.perm t.target ++ newline
+    codes ".thread " ++ decimal t.slot ++ codes " " ++ decimal t.group
+    ++ codes " " ++ handler_text t.handler ++ codes " " ++ pointer_text o t.perm t.target ++ newline
 
 abbrev pub value_text : Object → Value → List ℕ
 value_text o (value.Int n) = codes "int " ++ long_hex n

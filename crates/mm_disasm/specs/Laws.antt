@@ -4,14 +4,14 @@ use Rattle.mm_object.specs.Objects.{Object, IsObject}
 use Rattle.mm_asm.specs.Faults.{Means}
 use Rattle.mm_disasm.specs.Canonical.{canonical}
 
--- an object is what its canonical text means
+-- the canonical text of an object means that object
 abbrev pub CanonicalTextsMeanTheirObjects : Type 0
 CanonicalTextsMeanTheirObjects = (o : Object) → IsObject o → Means (canonical o) o
 
--- so that no two objects have the same one
+-- no two objects have the same canonical text
 abbrev pub CanonicalTextsDiffer : Type 0
 CanonicalTextsDiffer = (a b : Object) → IsObject a → IsObject b → canonical a ≡ canonical b → a ≡ b
 
--- and none is longer than a source may be
+-- no canonical text is longer than a source may be
 abbrev pub CanonicalTextsAreSources : Type 0
 CanonicalTextsAreSources = (o : Object) → IsObject o → length (canonical o) ≤ 8388608

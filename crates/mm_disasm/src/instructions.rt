@@ -42,7 +42,7 @@ fn put_operands<O: Sink>(text: &mut Gather, out: &mut O, operands: &[Operand])
     }
 }
 
-// Appends an operand behind another one.
+// Appends an operand after another one.
 fn put_further<O: Sink>(text: &mut Gather, out: &mut O, operand: Operand)
     ensures { Gathers O.taken O.faults out.old out.new text.old text.new (further_text operand) }
 {

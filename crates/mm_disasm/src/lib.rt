@@ -1,6 +1,7 @@
 //! The disassembler: the canonical text of an object.
 //!
-//! [`disassemble`] writes the canonical text of an object: a line for each word, and no label. It assembles to the same object ([`laws`]).
+//! [`disassemble`] writes the canonical text of an object: a line for each word, and no label. It assembles
+//! to the same object ([`laws`]).
 #![tactic(auto)]
 
 mod disassembling;
@@ -9,8 +10,6 @@ pub mod laws;
 mod names;
 mod numbers;
 mod segments;
-#[cfg(test)]
-mod tests;
 mod threads;
 mod words;
 

@@ -1,5 +1,6 @@
 -- Images of worked examples.
-use Rattle.std.specs.Prelude.{ℕ, ◌-◌, Bool, true, false, List, [], ◌∷◌, ◌++◌, map, length, replicate, slice_set, Some, None}
+use Rattle.std.specs.Prelude.{ℕ, ◌-◌, Bool, true, false, List, [], ◌∷◌, ◌++◌, map, length, replicate, slice_set, Some}
+use Rattle.std.specs.Prelude.{None}
 use Rattle.std.specs.List.{fold, range_with_len}
 use Rattle.mm_word.specs.declared.perm.Perm.{Perm}
 use Rattle.mm_word.specs.declared.perm.Perm.TheVariants.{Ro, Rw, Xu, Eu}
@@ -95,7 +96,8 @@ box = pointer Rw 3 0x100100
 abbrev pub exchange : Image
 exchange = image
     (slot 0 0 code ((1, Ptr box) ∷ []) ∷ slot 1 1 (pointer Xu 12 0x100010) ((1, Ptr box) ∷ (3, Int 7) ∷ []) ∷ [])
-    (memory 1 (page 0x100 (map full_int (0x3021040000000000 ∷ 0 ∷ 0x3101310000000000 ∷ []) ++ replicate 29 zero_cell ++ record { word = Int 0; full = false } ∷ []) ∷ []))
+    (memory 1 (page 0x100 (map full_int (0x3021040000000000 ∷ 0 ∷ 0x3101310000000000 ∷ []) ++ replicate 29 zero_cell
+    ++ record { word = Int 0; full = false } ∷ []) ∷ []))
 
 -- `ld r2, r1, 0, any, empty` through a read-only pointer
 abbrev pub signals_by_reading : Image
@@ -116,7 +118,8 @@ forges = one (0x1e21000000000008 ∷ 0x0532000000000000 ∷ 0x3042000000000000 �
 
 -- two slots of two groups run `out r1`, `br -1`
 abbrev pub two_groups : Image
-two_groups = image (slot 0 0 code ((1, Int 0x41) ∷ []) ∷ slot 1 1 code ((1, Int 0x42) ∷ []) ∷ []) (memory 1 (code_page (0x0701000000000000 ∷ 0x40000000ffffffff ∷ []) ∷ []))
+two_groups = image (slot 0 0 code ((1, Int 0x41) ∷ []) ∷ slot 1 1 code ((1, Int 0x42) ∷ []) ∷ [])
+    (memory 1 (code_page (0x0701000000000000 ∷ 0x40000000ffffffff ∷ []) ∷ []))
 
 -- the second group may store into the first one's code page
 abbrev pub one_pointer_too_many : Image
@@ -144,16 +147,19 @@ splits version split = record {
 -- `ld r2, r1, 0, full, empty`, `addi r2, r2, 64`, `out r2`, `jal r6, r5`, `addi r3, r3, -1`, `bnz r3, -5`, `halt`
 abbrev pub consumer : List ℕ
 consumer =
-    0x3021060000000000 ∷ 0x1e22000000000040 ∷ 0x0702000000000000 ∷ 0x4465000000000000 ∷ 0x1e330000ffffffff ∷ 0x42030000fffffffb ∷ 0 ∷ []
+    0x3021060000000000 ∷ 0x1e22000000000040 ∷ 0x0702000000000000 ∷ 0x4465000000000000 ∷ 0x1e330000ffffffff
+    ∷ 0x42030000fffffffb ∷ 0 ∷ []
 
 -- `st r1, r2, 0, empty, full`, `addi r2, r2, 1`, `addi r3, r3, -1`, `bnz r3, -3`, `halt`
 abbrev pub producer : List ℕ
 producer = 0x3101290000000000 ∷ 0x1e22000000000001 ∷ 0x1e330000ffffffff ∷ 0x42030000fffffffd ∷ 0 ∷ []
 
--- `lip r7, -1`, `ld r7, r7, 0, any, keep`, `ld r8, r7, 0, any, keep`, `addi r8, r8, 1`, `st r7, r8, 0, any, keep`, `ldi r7, 0`, `jmp r6`
+-- `lip r7, -1`, `ld r7, r7, 0, any, keep`, `ld r8, r7, 0, any, keep`, `addi r8, r8, 1`, `st r7, r8, 0, any, keep`, `ldi
+-- r7, 0`, `jmp r6`
 abbrev pub counter : List ℕ
 counter =
-    0x45700000ffffffff ∷ 0x3077000000000000 ∷ 0x3087000000000000 ∷ 0x1e88000000000001 ∷ 0x3107800000000000 ∷ 0x0270000000000000 ∷ 0x4306000000000000 ∷ []
+    0x45700000ffffffff ∷ 0x3077000000000000 ∷ 0x3087000000000000 ∷ 0x1e88000000000001 ∷ 0x3107800000000000
+    ∷ 0x0270000000000000 ∷ 0x4306000000000000 ∷ []
 
 abbrev pub count : Pointer
 count = pointer Rw 3 0x100108
@@ -163,19 +169,23 @@ door = pointer Eu 6 0x1000c8
 
 abbrev pub gated_page : List Cell
 gated_page =
-    map full_int consumer ++ replicate 9 zero_cell ++ map full_int producer ++ replicate 3 zero_cell ++ record { word = Ptr count; full = true } ∷ map full_int counter
+    map full_int consumer ++ replicate 9 zero_cell ++ map full_int producer ++ replicate 3 zero_cell
+    ++ record { word = Ptr count; full = true } ∷ map full_int counter
     ++ record { word = Int 0; full = false } ∷ zero_cell ∷ []
 
 abbrev pub gated : Image
 gated = image
-    (slot 0 0 (pointer Xu 6 0x100080) ((1, Ptr box) ∷ (2, Int 1) ∷ (3, Int 2) ∷ []) ∷ slot 1 1 (pointer Xu 7 0x100000) ((1, Ptr box) ∷ (3, Int 2) ∷ (5, Ptr door) ∷ []) ∷ [])
+    (slot 0 0 (pointer Xu 6 0x100080) ((1, Ptr box) ∷ (2, Int 1) ∷ (3, Int 2) ∷ [])
+    ∷ slot 1 1 (pointer Xu 7 0x100000) ((1, Ptr box) ∷ (3, Int 2) ∷ (5, Ptr door) ∷ []) ∷ [])
     (memory 1 (page 0x100 gated_page ∷ []))
 
--- it stores into 18 pages, one behind the other, and loads from two of them:
--- `st r1, r2, 0, any, keep`, `leai r1, r1, 4096`, `addi r3, r3, -1`, `bnz r3, -3`, `ld r5, r4, 0, any, keep`, `ld r6, r7, 0, any, keep`, `halt`
+-- it stores into 18 pages, one behind the other, and loads from two of them: `st r1, r2, 0, any, keep`, `leai r1, r1,
+-- 4096`, `addi r3, r3, -1`, `bnz r3, -3`, `ld r5, r4, 0, any, keep`, `ld r6, r7, 0, any, keep`, `halt`
 abbrev pub sweeper : Image
 sweeper = image
-    (slot 0 0 code ((1, Ptr (pointer Rw 17 0x120040)) ∷ (2, Int 7) ∷ (3, Int 18) ∷ (4, Ptr (pointer Ro 17 0x121040)) ∷ (7, Ptr (pointer Ro 17 0x123040)) ∷ []) ∷ [])
+    (slot 0 0 code ((1, Ptr (pointer Rw 17 0x120040)) ∷ (2, Int 7) ∷ (3, Int 18) ∷ (4, Ptr (pointer Ro 17 0x121040))
+    ∷ (7, Ptr (pointer Ro 17 0x123040)) ∷ []) ∷ [])
     (memory 19
-    (code_page (0x3101200000000000 ∷ 0x2111000000001000 ∷ 0x1e330000ffffffff ∷ 0x42030000fffffffd ∷ 0x3054000000000000 ∷ 0x3067000000000000 ∷ [])
+    (code_page (0x3101200000000000 ∷ 0x2111000000001000 ∷ 0x1e330000ffffffff ∷ 0x42030000fffffffd ∷ 0x3054000000000000
+    ∷ 0x3067000000000000 ∷ [])
     ∷ map (λ n. page n []) (range_with_len 0x120 18)))

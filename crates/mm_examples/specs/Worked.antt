@@ -1,5 +1,6 @@
 -- What worked examples say of runs.
-use Rattle.std.specs.Prelude.{◌≡◌, ℕ, true, false, List, [], ◌∷◌, ◌++◌, length, take, slice_set, map, replicate, codes, Option, Some, None, option_map}
+use Rattle.std.specs.Prelude.{◌≡◌, ℕ, true, false, List, [], ◌∷◌, ◌++◌, length, take, slice_set, map, replicate, codes}
+use Rattle.std.specs.Prelude.{Option, Some, None, option_map}
 use Rattle.mm_word.specs.declared.word.Word.{Word}
 use Rattle.mm_word.specs.declared.word.Word.TheVariants.{Int}
 use Rattle.mm_word.specs.declared.cause.Cause.TheVariants.{Perm, Priv, Trap, NoSlot}
@@ -21,7 +22,9 @@ use Rattle.mm_model.specs.Run.{run, steps, uses, robin_from}
 use Rattle.mm_model.specs.Trace.{trace}
 use Rattle.mm_word.specs.declared.perm.Kind.TheVariants.{Load, Store}
 use Rattle.mm_model.specs.Uses.{Accessed}
-use Rattle.mm_examples.specs.Images.{pointer, page, full_int, memory, code_page, code, hello, smallest, one_word, jumps, moves_a_gate, loads_a_gate, exchange, signals_by_reading, traps, forges, two_groups, maps, splits, gated, sweeper}
+use Rattle.mm_examples.specs.Images.{pointer, page, full_int, memory, code_page, code, hello, smallest, one_word, jumps}
+use Rattle.mm_examples.specs.Images.{moves_a_gate, loads_a_gate, exchange, signals_by_reading, traps, forges}
+use Rattle.mm_examples.specs.Images.{two_groups, maps, splits, gated, sweeper}
 
 -- the state after a list of items
 abbrev pub then : Image → List ℕ → State
@@ -50,28 +53,34 @@ state_then i items n = option_map (λ (s : Slot). s.state) (slot_at (then i item
 
 -- one byte is put out, and round robin ends where no slot runs
 abbrev pub SaysA : Type 0
-SaysA = reported hello (robin_from (start hello) None 10) ≡ codes "cycles 3\ngroup 0 output 1\no 41\nslot 0 turns 3 halted ip p3300000000100010\nr 1 i0000000000000041\n"
+SaysA = reported hello (robin_from (start hello) None 10)
+    ≡ codes "cycles 3\ngroup 0 output 1\no 41\nslot 0 turns 3 halted ip p3300000000100010\nr 1 i0000000000000041\n"
 
 -- nothing is mapped
 abbrev pub FetchesNoPage : Type 0
-FetchesNoPage = reported smallest (robin_from (start smallest) None 5) ≡ codes "cycles 1\ngroup 0 output 0\nslot 0 turns 1 faulted 5 ip p3300000000100000\n"
+FetchesNoPage = reported smallest (robin_from (start smallest) None 5)
+    ≡ codes "cycles 1\ngroup 0 output 0\nslot 0 turns 1 faulted 5 ip p3300000000100000\n"
 
 -- the fetch behind the last word of the segment faults
 abbrev pub RunsPastTheEnd : Type 0
-RunsPastTheEnd = reported one_word (0 ∷ 0 ∷ []) ≡ codes "cycles 2\ngroup 0 output 0\nslot 0 turns 2 faulted 3 ip p30c0000000100000 past\n"
+RunsPastTheEnd = reported one_word (0 ∷ 0 ∷ [])
+    ≡ codes "cycles 2\ngroup 0 output 0\nslot 0 turns 2 faulted 3 ip p30c0000000100000 past\n"
 
 -- a jump through an enter pointer goes to its own address
 abbrev pub Enters : Type 0
-Enters = reported jumps (0 ∷ []) ≡ codes "cycles 1\ngroup 0 output 0\nslot 0 turns 1 running ip p3300000000020010\nr 1 p5300000000020010\n"
+Enters = reported jumps (0 ∷ [])
+    ≡ codes "cycles 1\ngroup 0 output 0\nslot 0 turns 1 running ip p3300000000020010\nr 1 p5300000000020010\n"
 
 -- which can be neither moved nor loaded from
 abbrev pub GatesStandStill : Type 0
-GatesStandStill = (outcomes moves_a_gate (0 ∷ []) ≡ Faulted Perm ∷ []) × (outcomes loads_a_gate (0 ∷ []) ≡ Faulted Perm ∷ [])
+GatesStandStill =
+    (outcomes moves_a_gate (0 ∷ []) ≡ Faulted Perm ∷ []) × (outcomes loads_a_gate (0 ∷ []) ≡ Faulted Perm ∷ [])
 
 -- a load that would set the bit needs the right to store, and the cell stays full
 abbrev pub ReadingIsNoSignal : Type 0
 ReadingIsNoSignal =
-    (outcomes signals_by_reading (0 ∷ []) ≡ Faulted Perm ∷ []) × (cell_at (then signals_by_reading (0 ∷ [])).memory 0x100100 ≡ Some (record { word = Int 0; full = true }))
+    (outcomes signals_by_reading (0 ∷ []) ≡ Faulted Perm ∷ [])
+    × (cell_at (then signals_by_reading (0 ∷ [])).memory 0x100100 ≡ Some (record { word = Int 0; full = true }))
 
 -- integer arithmetic takes the tag
 abbrev pub NoForgery : Type 0
@@ -91,7 +100,8 @@ MapIsPrivileged = outcomes (maps code) (0 ∷ []) ≡ Faulted Priv ∷ []
 -- The bytes of the smallest image, and the first faults of bytes like them.
 abbrev pub smallest_bytes : List ℕ
 smallest_bytes =
-    codes "MMI1" ++ (0 ∷ 1 ∷ 0 ∷ 1 ∷ 0 ∷ 1 ∷ 0 ∷ 0 ∷ 0 ∷ 0 ∷ 0 ∷ 0 ∷ []) ++ (0 ∷ 0 ∷ 255 ∷ 0 ∷ 0x33 ∷ 0 ∷ 0 ∷ 0 ∷ 0 ∷ 0x10 ∷ 0 ∷ 0 ∷ []) ++ replicate 130 0
+    codes "MMI1" ++ (0 ∷ 1 ∷ 0 ∷ 1 ∷ 0 ∷ 1 ∷ 0 ∷ 0 ∷ 0 ∷ 0 ∷ 0 ∷ 0 ∷ [])
+    ++ (0 ∷ 0 ∷ 255 ∷ 0 ∷ 0x33 ∷ 0 ∷ 0 ∷ 0 ∷ 0 ∷ 0x10 ∷ 0 ∷ 0 ∷ []) ++ replicate 130 0
 
 abbrev pub SpelledInBytes : Type 0
 SpelledInBytes = (spelling smallest ≡ smallest_bytes) × (length (spelling hello) ≡ 4390)
@@ -114,7 +124,8 @@ FirstFaults =
 
 -- a load waits until the cell is full
 abbrev pub Exchanges : Type 0
-Exchanges = (outcomes exchange (0 ∷ 0 ∷ 1 ∷ 0 ∷ []) ≡ Blocked ∷ Blocked ∷ Did ∷ Did ∷ []) × (register_then exchange (0 ∷ 0 ∷ 1 ∷ 0 ∷ []) 0 2 ≡ Int 7)
+Exchanges = (outcomes exchange (0 ∷ 0 ∷ 1 ∷ 0 ∷ []) ≡ Blocked ∷ Blocked ∷ Did ∷ Did ∷ [])
+    × (register_then exchange (0 ∷ 0 ∷ 1 ∷ 0 ∷ []) 0 2 ≡ Int 7)
 
 -- `evt r0`, `evt r4`, `resume r8, skip`: two events come in their order, and one slot goes on
 abbrev pub handles : Image
@@ -188,18 +199,22 @@ LoadsAtOnce =
 
 -- a register that is only written is needed too: `ld r2, r1, 0, any, keep`, `ldi r2, 1`
 abbrev pub overwrites : Image
-overwrites = record (splits 2 true) { memory = memory 2 (code_page (0x3021000000000000 ∷ 0x0220000000000001 ∷ []) ∷ page 0x101 (full_int 7 ∷ []) ∷ []) }
+overwrites = record (splits 2 true)
+    { memory = memory 2 (code_page (0x3021000000000000 ∷ 0x0220000000000001 ∷ []) ∷ page 0x101 (full_int 7 ∷ []) ∷ []) }
 
 abbrev pub WaitsToWrite : Type 0
-WaitsToWrite = (outcomes overwrites (0 ∷ 0 ∷ 0 ∷ []) ≡ Did ∷ Blocked ∷ Did ∷ []) × (register_then overwrites (0 ∷ 0 ∷ 0 ∷ []) 0 2 ≡ Int 1)
+WaitsToWrite = (outcomes overwrites (0 ∷ 0 ∷ 0 ∷ []) ≡ Did ∷ Blocked ∷ Did ∷ [])
+    × (register_then overwrites (0 ∷ 0 ∷ 0 ∷ []) 0 2 ≡ Int 1)
 
 -- 4. What a cache counts.
 
 -- a store that was not done makes no block dirty, and one that was done does
 abbrev pub CountsDoneStores : Type 0
 CountsDoneStores =
-    (counts_of (Accessed Store 0x1000 true false ∷ Accessed Load 0x2000 true true ∷ []) ≡ record { hits = 0; misses = 2; writebacks = 0; tlb_hits = 0; tlb_misses = 2; reads = 2; writes = 0 })
-    × (counts_of (Accessed Store 0x1000 true true ∷ Accessed Load 0x2000 true true ∷ []) ≡ record { hits = 0; misses = 2; writebacks = 1; tlb_hits = 1; tlb_misses = 2; reads = 2; writes = 1 })
+    (counts_of (Accessed Store 0x1000 true false ∷ Accessed Load 0x2000 true true ∷ [])
+    ≡ record { hits = 0; misses = 2; writebacks = 0; tlb_hits = 0; tlb_misses = 2; reads = 2; writes = 0 })
+    × (counts_of (Accessed Store 0x1000 true true ∷ Accessed Load 0x2000 true true ∷ [])
+    ≡ record { hits = 0; misses = 2; writebacks = 1; tlb_hits = 1; tlb_misses = 2; reads = 2; writes = 1 })
 
 abbrev pub robin : Image → List ℕ
 robin i = robin_from (start i) None 1000
@@ -208,11 +223,14 @@ abbrev pub counted : Image → Counts
 counted i = counts_of (uses (start i) (robin i))
 
 abbrev pub CountsHello : Type 0
-CountsHello = counted hello ≡ record { hits = 2; misses = 1; writebacks = 0; tlb_hits = 0; tlb_misses = 1; reads = 1; writes = 0 }
+CountsHello = counted hello
+    ≡ record { hits = 2; misses = 1; writebacks = 0; tlb_hits = 0; tlb_misses = 1; reads = 1; writes = 0 }
 
 abbrev pub CountsGated : Type 0
-CountsGated = counted gated ≡ record { hits = 42; misses = 4; writebacks = 0; tlb_hits = 3; tlb_misses = 1; reads = 4; writes = 0 }
+CountsGated = counted gated
+    ≡ record { hits = 42; misses = 4; writebacks = 0; tlb_hits = 3; tlb_misses = 1; reads = 4; writes = 0 }
 
 -- the first page that it loads from is no longer in the buffer, the second still is
 abbrev pub CountsSweeper : Type 0
-CountsSweeper = counted sweeper ≡ record { hits = 74; misses = 21; writebacks = 18; tlb_hits = 19; tlb_misses = 20; reads = 21; writes = 18 }
+CountsSweeper = counted sweeper
+    ≡ record { hits = 74; misses = 21; writebacks = 18; tlb_hits = 19; tlb_misses = 20; reads = 21; writes = 18 }

@@ -41,7 +41,8 @@ KeepsOneGroup = only two_groups (0 ∷ 0 ∷ 0 ∷ 1 ∷ 0 ∷ 1 ∷ 1 ∷ 9 ∷
 
 -- those of a slot that does not run are kept
 abbrev pub halted : Image
-halted = image (record (slot 0 0 code []) { state = Halted None } ∷ slot 1 1 code [] ∷ []) (memory 1 (code_page [] ∷ []))
+halted = image (record (slot 0 0 code []) { state = Halted None } ∷ slot 1 1 code [] ∷ [])
+    (memory 1 (code_page [] ∷ []))
 
 abbrev pub KeepsIdleItems : Type 0
 KeepsIdleItems = only halted (0 ∷ 1 ∷ 0 ∷ []) (λ g. g == 0) ≡ 0 ∷ 0 ∷ []

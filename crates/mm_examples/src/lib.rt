@@ -3,10 +3,20 @@
 //! These functions do nothing when they run: the contract of each says what the model makes of an image.
 #![tactic(auto)]
 
-ghost use Rattle.mm_examples.specs.Worked.{SaysA, FetchesNoPage, RunsPastTheEnd, Enters, GatesStandStill, ReadingIsNoSignal, NoForgery, MapsFrames, MapIsPrivileged, Exchanges, CountsBehindTheGate, TakesEvents, ResumesTakenAlone, TwoGroups, AbsentSlotsIdle, TracesTheGate, WaitsInTheTrace, Issues, Delivers, LoadsAtOnce, WaitsToWrite, CountsDoneStores, SpelledInBytes, FirstFaults, CountsHello, CountsGated, CountsSweeper};
-ghost use Rattle.mm_examples.specs.WorkedSchedules.{MeansItems, MeansNothing, MeansAbsentSlots, SkipsComments, CountsTooMany, ListsTooMany, CountsNone, LeadsWithZero, KeepsOneGroup, KeepsIdleItems, KeepsPorts, RobinBeginsLate};
-ghost use Rattle.mm_examples.specs.WorkedReach.{TouchesItsCode, NoGroupWrites, WritesNoCode, TwoGroupsStandApart, BothCanWrite, NeitherStandsApart};
-ghost use Rattle.mm_examples.specs.WorkedWords.{MakesPointers, MakesNone, Moves, MovesFromTheBase, Restricts, Shortens, Advances, JumpsTo, Accesses, IntegersAreNoPointers, ReadsWords, ReadsArithmetic, ReadsNone, Calculates};
+ghost use Rattle.mm_examples.specs.Worked.{SaysA, FetchesNoPage, RunsPastTheEnd, Enters, GatesStandStill};
+ghost use Rattle.mm_examples.specs.Worked.{ReadingIsNoSignal, NoForgery, MapsFrames, MapIsPrivileged, Exchanges};
+ghost use Rattle.mm_examples.specs.Worked.{CountsBehindTheGate, TakesEvents, ResumesTakenAlone, TwoGroups};
+ghost use Rattle.mm_examples.specs.Worked.{AbsentSlotsIdle, TracesTheGate, WaitsInTheTrace, Issues, Delivers};
+ghost use Rattle.mm_examples.specs.Worked.{LoadsAtOnce, WaitsToWrite, CountsDoneStores, SpelledInBytes, FirstFaults};
+ghost use Rattle.mm_examples.specs.Worked.{CountsHello, CountsGated, CountsSweeper};
+ghost use Rattle.mm_examples.specs.WorkedSchedules.{MeansItems, MeansNothing, MeansAbsentSlots, SkipsComments};
+ghost use Rattle.mm_examples.specs.WorkedSchedules.{CountsTooMany, ListsTooMany, CountsNone, LeadsWithZero};
+ghost use Rattle.mm_examples.specs.WorkedSchedules.{KeepsOneGroup, KeepsIdleItems, KeepsPorts, RobinBeginsLate};
+ghost use Rattle.mm_examples.specs.WorkedReach.{TouchesItsCode, NoGroupWrites, WritesNoCode, TwoGroupsStandApart};
+ghost use Rattle.mm_examples.specs.WorkedReach.{BothCanWrite, NeitherStandsApart};
+ghost use Rattle.mm_examples.specs.WorkedWords.{MakesPointers, MakesNone, Moves, MovesFromTheBase, Restricts, Shortens};
+ghost use Rattle.mm_examples.specs.WorkedWords.{Advances, JumpsTo, Accesses, IntegersAreNoPointers, ReadsWords};
+ghost use Rattle.mm_examples.specs.WorkedWords.{ReadsArithmetic, ReadsNone, Calculates};
 
 /// Pointers, accesses, instruction words and arithmetic.
 #[tactic(auto, using(crate::proofs::OfWords::makes_pointers, crate::proofs::OfWords::makes_none, crate::proofs::OfWords::moves, crate::proofs::OfWords::moves_from_the_base, crate::proofs::OfWords::restricts, crate::proofs::OfWords::shortens, crate::proofs::OfWords::advances, crate::proofs::OfWords::jumps_to, crate::proofs::OfWords::accesses, crate::proofs::OfWords::integers_are_no_pointers, crate::proofs::OfWords::reads_words, crate::proofs::OfWords::reads_arithmetic, crate::proofs::OfWords::reads_none, crate::proofs::OfWords::calculates))]

@@ -1,4 +1,4 @@
--- How often a frame stands among the rows and among the free frames.
+-- How often a frame is among the rows and among the free frames.
 use Rattle.std.proofs.Common.{◌≡◌, ℕ, zero, suc, ◌+◌, ◌<◌, ◌≤◌, Bool, true, false, ◌==◌, nat_lt, List, [], ◌∷◌, ◌++◌, length, get_or, arith}
 use Rattle.std.specs.List.{insert, remove}
 use Rattle.std.proofs.lemmas.Bool.Decides.{nat_tests}
@@ -33,10 +33,7 @@ last_stands n ms = omega (arith, times_push n n ms, one_if_same n)
 pub below_more : (n i : ℕ) → one_if (nat_lt n i) + one_if (n == i) ≡ one_if (nat_lt n (i + 1))
 below_more n i = grind (arith, nat_tests)
 
-pub none_below : (n : ℕ) → one_if (nat_lt n 0) ≡ 0
-none_below n = grind (arith, nat_tests)
-
--- a frame that stands once is one of the frames
+-- a frame that is there once is one of the frames
 pub in_range : (n k : ℕ) → 1 ≤ one_if (nat_lt n k) → n < k
 in_range n k h = grind (arith, nat_tests, h)
 

@@ -1,5 +1,6 @@
 -- What frames and pages are to one another, and the memory of frames after each call.
-use Rattle.std.proofs.Common.{◌≡◌, ℕ, ◌+◌, ◌*◌, slice_get, ◌<◌, ◌≤◌, Bool, true, false, cond, not, ◌==◌, nat_eq, nat_lt, List, [], length, slice_index_or, slice_set, Option, None, Some, is_some, refl, sym, ap, ◌∙◌, arith, eqb-true, eq-eqb, IsTrue}
+use Rattle.std.proofs.Common.{◌≡◌, ℕ, ◌+◌, ◌*◌, slice_get, ◌<◌, ◌≤◌, Bool, true, false, cond, not, ◌==◌, nat_eq, nat_lt, List, [], length, slice_index_or, slice_set, Option, None, Some, is_some, refl}
+use Rattle.std.proofs.Common.{sym, ap, ◌∙◌, arith, eqb-true, eq-eqb, IsTrue}
 use Rattle.std.specs.Option.{option_map}
 use Rattle.std.specs.Ordering.{nat_cmp}
 use Rattle.std.specs.FinMap.{put, is_sorted, nat_cmp-IsAntisymmetric}
@@ -12,11 +13,11 @@ use Rattle.mm_model.specs.Memory.{page_of, place_of, cell_in, cell_at, page_at, 
 use Rattle.mm_model.proofs.Memories.{cell_at-aligned}
 use Rattle.mm_model.specs.Counted.{page_of_block}
 use Rattle.mm_mem.proofs.Places.{held}
-use Rattle.mm_frames.specs.Blocks.{place_of_block, block_in, block_of_page, block_at, with_block, put_block}
+use Rattle.mm_mem.specs.Blocks.{place_of_block, block_in, block_of_page, block_at, with_block, put_block}
 use Rattle.mm_frames.specs.Framed.{Framed, IsFramed, IsOccupied, IsFree, frame_of, cells_in, memory_of, seated, without, written, times, rows_with}
 use Rattle.mm_frames.proofs.Rows.{paired, find_paired, sorted_paired, put_paired, filter_paired, length_paired, paired_apart, paired_but_one, found_is_with}
 use Rattle.mm_frames.proofs.Counts.{in_range, one_at_most}
-use Rattle.mm_frames.proofs.Blocks.{put_block-mapped}
+use Rattle.mm_mem.proofs.Blocks.{put_block-mapped}
 
 -- 1. Pages and frames.
 
@@ -29,7 +30,7 @@ pub frames_are : (f : Framed) → (memory_of f).frames ≡ length f.cells
 unfolding memory_of
 frames_are f = refl
 
--- and as many pages as rows
+-- there are as many pages as rows
 pub pages_length : (f : Framed) → length (memory_of f).pages ≡ length f.rows
 unfolding memory_of
 pages_length f = length_paired (cells_in f) f.rows
@@ -38,11 +39,7 @@ pub page_at_is : (f : Framed) (page : ℕ) → page_at (memory_of f) page ≡ op
 unfolding memory_of
 page_at_is f page = find_paired (cells_in f) page f.rows
 
--- the frame of a page is occupied
-pub frame_is_occupied : (f : Framed) (page frame : ℕ) → frame_of f page ≡ Some frame → IsOccupied f frame
-frame_is_occupied f page frame h = record { page = page; is = h }
-
--- and has the cells of the page
+-- the frame of a page has the cells of the page
 pub page_in_frame : (f : Framed) (page frame : ℕ) → frame_of f page ≡ Some frame → page_at (memory_of f) page ≡ Some (cells_in f frame)
 page_in_frame f page frame h = page_at_is f page ∙ ap (option_map (cells_in f)) h
 
@@ -55,7 +52,7 @@ block_in_frame f page frame place h within =
     ap (λ o. block_of_page o block) (ap (page_at (memory_of f)) its_page ∙ page_in_frame f page frame h)
     ∙ ap (λ n. Some (block_in (cells_in f frame) n)) its_place
 
--- so is a cell
+-- a cell of the page is that of the frame
 pub cell_in_frame : (f : Framed) (page frame index : ℕ) → frame_of f page ≡ Some frame → index < 512 → cell_at (memory_of f) (page * 4096 + index * 8) ≡ slice_get (cells_in f frame) index
 cell_in_frame f page frame index h within =
     let word : ℕ = page * 4096 + index * 8 in
@@ -65,10 +62,6 @@ cell_in_frame f page frame index h within =
     ∙ ap (λ o. cell_in o (place_of word)) (ap (page_at (memory_of f)) its_page ∙ page_in_frame f page frame h)
     ∙ ap (λ n. slice_get (cells_in f frame) n) its_place
 
--- a page without a frame is not mapped
-pub page_in_no_frame : (f : Framed) (page : ℕ) → frame_of f page ≡ None → page_at (memory_of f) page ≡ None
-page_in_no_frame f page h = page_at_is f page ∙ ap (option_map (cells_in f)) h
-
 some_mapped : {X Y : Type 0} (h : X → Y) (o : Option X) → is_some o ≡ is_some (option_map h o)
 some_mapped h None = refl
 some_mapped h (Some x) = refl
@@ -76,14 +69,6 @@ some_mapped h (Some x) = refl
 -- a page is mapped exactly where it has a frame
 pub has_frame_is_mapped : (f : Framed) (page : ℕ) → is_some (frame_of f page) ≡ is_mapped (memory_of f) page
 has_frame_is_mapped f page = some_mapped (cells_in f) (frame_of f page) ∙ sym (ap is_some (page_at_is f page))
-
--- a mapped page has a frame
-pub mapped_has_frame : (f : Framed) (page : ℕ) → is_mapped (memory_of f) page ≡ true → (frame : ℕ) × (frame_of f page ≡ Some frame)
-mapped_has_frame f page h = go (frame_of f page) refl (has_frame_is_mapped f page ∙ h)
-  where
-    go : (o : Option ℕ) → frame_of f page ≡ o → is_some (frame_of f page) ≡ true → (frame : ℕ) × (frame_of f page ≡ Some frame)
-    go None e some = cc
-    go (Some frame) e some = (frame, e)
 
 -- 2. The frame of each page after a call.
 
@@ -97,10 +82,6 @@ differ q k ne = go (nat_eq q k) refl
 frame_of-put : (f : Framed) (page frame q : ℕ) → frame_of (seated f page frame) q ≡ cond (nat_eq q page) (Some frame) (frame_of f q)
 frame_of-put f page frame q = find-put nat_cmp nat_cmp_total q page frame f.rows ∙ ap (λ b. cond b (Some frame) (frame_of f q)) (unsigned_tied q page)
 
--- a page that was mapped has its frame
-pub frame_of-seated : (f : Framed) (page frame : ℕ) → frame_of (seated f page frame) page ≡ Some frame
-frame_of-seated f page frame = frame_of-put f page frame page ∙ ap (λ b. cond b (Some frame) (frame_of f page)) (eq-eqb page page refl)
-
 -- each other page stays in its frame
 pub frame_of-seated_other : (f : Framed) (page frame q : ℕ) → (q ≡ page → ⊥) → frame_of (seated f page frame) q ≡ frame_of f q
 frame_of-seated_other f page frame q ne = frame_of-put f page frame q ∙ ap (λ b. cond b (Some frame) (frame_of f q)) (differ q page ne)
@@ -108,47 +89,12 @@ frame_of-seated_other f page frame q ne = frame_of-put f page frame q ∙ ap (λ
 frame_of-filter : (f : Framed) (page q : ℕ) → frame_of (without f page) q ≡ cond (not (nat_eq q page)) (frame_of f q) None
 frame_of-filter f page q = find-where_key nat_cmp (λ x. not (x == page)) q (λ x e. ap (λ y. not (y == page)) (sym (nat_cmp-IsAntisymmetric q x e))) f.rows
 
--- a page that was removed has none
-pub frame_of-without : (f : Framed) (page : ℕ) → frame_of (without f page) page ≡ None
-frame_of-without f page = frame_of-filter f page page ∙ ap (λ b. cond (not b) (frame_of f page) None) (eq-eqb page page refl)
-
 pub frame_of-without_other : (f : Framed) (page q : ℕ) → (q ≡ page → ⊥) → frame_of (without f page) q ≡ frame_of f q
 frame_of-without_other f page q ne = frame_of-filter f page q ∙ ap (λ b. cond (not b) (frame_of f q) None) (differ q page ne)
 
 -- a write moves no page
 pub frame_of-written : (f : Framed) (frame place : ℕ) (new : List Cell) (q : ℕ) → frame_of (written f frame place new) q ≡ frame_of f q
 frame_of-written f frame place new q = refl
-
--- the frame of a page that was mapped is occupied
-pub seated_is_occupied : (f : Framed) (page frame : ℕ) → IsOccupied (seated f page frame) frame
-seated_is_occupied f page frame = record { page = page; is = frame_of-seated f page frame }
-
--- an occupied frame stays occupied where its page stays
-pub occupied-seated : (f : Framed) (page frame n : ℕ) (h : IsOccupied f n) → (h.page ≡ page → ⊥) → IsOccupied (seated f page frame) n
-occupied-seated f page frame n h ne = record { page = h.page; is = frame_of-seated_other f page frame h.page ne ∙ h.is }
-
-pub occupied-without : (f : Framed) (page n : ℕ) (h : IsOccupied f n) → (h.page ≡ page → ⊥) → IsOccupied (without f page) n
-occupied-without f page n h ne = record { page = h.page; is = frame_of-without_other f page h.page ne ∙ h.is }
-
-pub occupied-written : (f : Framed) (frame place : ℕ) (new : List Cell) (n : ℕ) → IsOccupied f n → IsOccupied (written f frame place new) n
-occupied-written f frame place new n h = record { page = h.page; is = h.is }
-
-pub occupied-read : (f : Framed) (count n : ℕ) → IsOccupied f n → IsOccupied (record f { reads = count }) n
-occupied-read f count n h = record { page = h.page; is = h.is }
-
--- the cells of each frame after a call
-
-pub cells_in-seated : (f : Framed) (page frame : ℕ) → frame < length f.cells → cells_in (seated f page frame) frame ≡ zero_page
-cells_in-seated f page frame lt = get_or-set_same f.cells frame zero_page [] lt
-
-pub cells_in-seated_other : (f : Framed) (page frame n : ℕ) → (n ≡ frame → ⊥) → cells_in (seated f page frame) n ≡ cells_in f n
-cells_in-seated_other f page frame n ne = get_or-set_other f.cells frame n zero_page [] ne
-
-pub cells_in-written : (f : Framed) (frame place : ℕ) (new : List Cell) → frame < length f.cells → cells_in (written f frame place new) frame ≡ with_block (cells_in f frame) place new
-cells_in-written f frame place new lt = get_or-set_same f.cells frame (with_block (cells_in f frame) place new) [] lt
-
-pub cells_in-written_other : (f : Framed) (frame place : ℕ) (new : List Cell) (n : ℕ) → (n ≡ frame → ⊥) → cells_in (written f frame place new) n ≡ cells_in f n
-cells_in-written_other f frame place new n ne = get_or-set_other f.cells frame n (with_block (cells_in f frame) place new) [] ne
 
 -- 3. The memory after a call.
 

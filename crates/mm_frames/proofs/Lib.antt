@@ -1,7 +1,6 @@
 pub mod Rows
 pub mod Counts
-pub mod Blocks
 pub mod Framed
 pub mod Kept
 pub mod Seating
-pub mod PackedCells
+pub mod Cells

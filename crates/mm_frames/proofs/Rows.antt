@@ -45,7 +45,8 @@ module _ {X Y : Type 0} (h : X → Y) where
   pub filter_paired : (p : ℕ → Bool) (rows : List (ℕ × X)) → paired (filter (λ e. p e.0) rows) ≡ filter (λ e. p e.0) (paired rows)
   filter_paired p [] = refl
   filter_paired p (row ∷ rows) =
-      elim (p row.0) as (λ b. paired (cond b (row ∷ filter (λ e. p e.0) rows) (filter (λ e. p e.0) rows)) ≡ cond b ((row.0, h row.1) ∷ filter (λ e. p e.0) (paired rows)) (filter (λ e. p e.0) (paired rows))) [
+      elim (p row.0) as (λ b. paired (cond b (row ∷ filter (λ e. p e.0) rows) (filter (λ e. p e.0) rows)) ≡ cond b ((row.0, h row.1) ∷ filter (λ e. p e.0) (paired rows))
+      (filter (λ e. p e.0) (paired rows))) [
         | true ↦ ap (λ es. (row.0, h row.1) ∷ es) (filter_paired p rows)
         | false ↦ filter_paired p rows
       ]
@@ -87,18 +88,21 @@ found_is_with k frame (row ∷ rows) found = go (found_is_with k frame rows) (na
     go later false n = grind (arith, nat_tests, found, later)
 
 module _ {Y : Type 0} (g h : ℕ → Y) (frame : ℕ) (alike : (n : ℕ) → n ≢ frame → g n ≡ h n) where
-  -- and where the frame is that of one page
+  -- where the frame is that of one page
   pub paired_but_one : (k : ℕ) (rows : List (ℕ × ℕ)) → T (is_sorted nat_cmp rows) → find nat_cmp k rows ≡ Some frame → rows_with frame rows ≤ 1
       → paired g rows ≡ put nat_cmp k (g frame) (paired h rows)
   paired_but_one k [] sorted found once = cc
   paired_but_one k (row ∷ rows) sorted found once = go (λ rest later few. paired_but_one k rows rest later few) (nat_cmp k row.0) refl
     where
-      go : (T (is_sorted nat_cmp rows) → find nat_cmp k rows ≡ Some frame → rows_with frame rows ≤ 1 → paired g rows ≡ put nat_cmp k (g frame) (paired h rows)) → (r : Ordering) → nat_cmp k row.0 ≡ r → paired g (row ∷ rows) ≡ by_order (nat_cmp k row.0) ((k, g frame) ∷ (row.0, h row.1) ∷ paired h rows) ((row.0, g frame) ∷ paired h rows) ((row.0, h row.1) ∷ put nat_cmp k (g frame) (paired h rows))
+      go : (T (is_sorted nat_cmp rows) → find nat_cmp k rows ≡ Some frame → rows_with frame rows ≤ 1 → paired g rows ≡ put nat_cmp k (g frame) (paired h rows)) → (r : Ordering) → nat_cmp k row.0 ≡ r
+          → paired g (row ∷ rows) ≡ by_order (nat_cmp k row.0) ((k, g frame) ∷ (row.0, h row.1) ∷ paired h rows) ((row.0, g frame) ∷ paired h rows)
+          ((row.0, h row.1) ∷ put nat_cmp k (g frame) (paired h rows))
       go again Less e = absurd (grind (arith, nat_tests, found, e, absent_below k row.0 rows))
       go again Equal e =
           let same : row.1 ≡ frame = grind (arith, nat_tests, found, e) in
           let none : rows_with frame rows ≡ 0 = grind (arith, nat_tests, same, once) in
-          ap (λ n. (row.0, g n) ∷ paired g rows) same ∙ ap (λ es. (row.0, g frame) ∷ es) (paired_apart g h frame alike rows none) ∙ sym (ap (λ r. by_order r ((k, g frame) ∷ (row.0, h row.1) ∷ paired h rows) ((row.0, g frame) ∷ paired h rows) ((row.0, h row.1) ∷ put nat_cmp k (g frame) (paired h rows))) e)
+          ap (λ n. (row.0, g n) ∷ paired g rows) same ∙ ap (λ es. (row.0, g frame) ∷ es) (paired_apart g h frame alike rows none)
+          ∙ sym (ap (λ r. by_order r ((k, g frame) ∷ (row.0, h row.1) ∷ paired h rows) ((row.0, g frame) ∷ paired h rows) ((row.0, h row.1) ∷ put nat_cmp k (g frame) (paired h rows))) e)
       go again Greater e =
           let later : find nat_cmp k rows ≡ Some frame = grind (arith, nat_tests, found, e) in
           let other : row.1 ≢ frame = λ (s : row.1 ≡ frame). grind (arith, nat_tests, s, once, found_is_with k frame rows later) in

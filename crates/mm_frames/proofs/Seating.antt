@@ -11,7 +11,8 @@ all_push : (pages : List (ℕ × List Cell)) (page : ℕ × List Cell) → AllBy
 all_push [] page h new = (new, tt)
 all_push (p ∷ pages) page h new = (h.0, all_push pages page h.1 new)
 
-pub whole_more : (pages : List (ℕ × List Cell)) (i : ℕ) (page : ℕ × List Cell) → i < length pages → page ≡ get_or pages i page → AllByRecursion IsPage (take i pages) → IsPage page → AllByRecursion IsPage (take (i + 1) pages)
+pub whole_more : (pages : List (ℕ × List Cell)) (i : ℕ) (page : ℕ × List Cell) → i < length pages → page ≡ get_or pages i page → AllByRecursion IsPage (take i pages) → IsPage page
+    → AllByRecursion IsPage (take (i + 1) pages)
 whole_more pages i page some is h new =
     let all : List (ℕ × List Cell) → Type 0 = λ es. AllByRecursion IsPage es in
     subst all (ap (λ (e : ℕ × List Cell). take i pages ++ e ∷ []) is ∙ sym (take_more pages i page some)) (all_push (take i pages) page h new)

@@ -1,12 +1,13 @@
 -- Pages in frames.
-use Rattle.std.specs.Prelude.{◌≡◌, ℕ, ◌+◌, ◌^◌, ◌==◌, ◌<◌, nat_lt, not, List, [], ◌∷◌, map, length, slice_index_or, slice_set, Option, Some}
+use Rattle.std.specs.Prelude.{◌≡◌, ℕ, ◌+◌, ◌^◌, ◌==◌, ◌<◌, nat_lt, not, List, [], ◌∷◌, map, length, slice_index_or}
+use Rattle.std.specs.Prelude.{slice_set, Option, Some}
 use Rattle.std.specs.List.{filter}
 use Rattle.std.specs.Ordering.{nat_cmp}
 use Rattle.std.specs.FinMap.{find, put}
 use Rattle.mm_word.specs.declared.word.Cell.{Cell}
 use Rattle.mm_model.specs.Flags.{one_if}
 use Rattle.mm_model.specs.Memory.{Memory, IsPaged, zero_page}
-use Rattle.mm_frames.specs.Blocks.{with_block}
+use Rattle.mm_mem.specs.Blocks.{with_block}
 
 -- frames, as contracts see them
 pub record Framed : Type 0 where
@@ -34,7 +35,7 @@ pub record IsOccupied (f : Framed) (frame : ℕ) : Type 0 where
   pub page : ℕ
   pub is : frame_of f page ≡ Some frame
 
--- no page does
+-- no mapped page occupies this frame
 pub record IsFree (f : Framed) (frame : ℕ) : Type 0 where
   pub in_range : frame < length f.cells
   pub no_page : (page : ℕ) → frame_of f page ≡ Some frame → ⊥
@@ -51,11 +52,14 @@ without f page = record f { rows = filter (λ row. not (row.0 == page)) f.rows }
 
 -- a block of a frame was written
 abbrev pub written : Framed → ℕ → ℕ → List Cell → Framed
-written f frame place new = record f { cells = slice_set f.cells frame (with_block (cells_in f frame) place new); writes = f.writes + 1 }
+written f frame place new = record f {
+  cells = slice_set f.cells frame (with_block (cells_in f frame) place new);
+  writes = f.writes + 1;
+}
 
 -- what is kept of frames and of the list of those that are free
 
--- how often a number stands in a list
+-- how often a number is in a list
 abbrev pub times : ℕ → List ℕ → ℕ
 times n [] = 0
 times n (m ∷ ms) = one_if (n == m) + times n ms

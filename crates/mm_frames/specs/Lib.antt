@@ -1,5 +1,3 @@
-pub mod Blocks
+pub mod Cells
 pub mod Framed
-pub mod Packed
-pub mod Unpacked
 pub mod Laws

@@ -1,36 +1,39 @@
-ghost use Rattle.std.specs.Prelude.{◌≡◌, ◌<◌, IfOk, Some, length, slice_get};
-ghost use Rattle.mm_model.specs.Memory.{zero_page};
-ghost use Rattle.mm_frames.specs.Blocks.{block_in, with_block};
+ghost use Rattle.std.specs.Prelude.{◌≡◌, ◌<◌, IfOk, Some, length, replicate, slice_get};
+ghost use Rattle.mm_model.specs.Memory.{zero_cell, zero_page};
+ghost use Rattle.mm_mem.specs.Blocks.{block_in, with_block};
 
-use crate::block::{BLOCK, Block};
-use crate::packed::{is_set, word_of};
-use mm_model::{CELLS, Page};
+use mm_mem::{BLOCK, Block, ZERO};
+use mm_model::Page;
 use mm_word::{Cell, NoMemory};
 use std::alloc::Global;
 use std::marker::Model;
 
-// How many blocks a frame has.
+// The blocks in a frame.
 const BLOCKS: usize = 64;
 
-// The cells of a frame, eight bytes and two bits each. The memory is taken once, and stays for as long as the frame does.
+// The cells of a frame, by blocks. The memory is taken once, and kept for as long as the frame.
 #[derive(Drop)]
 pub(crate) struct Frame {
-    bits: Vec<u64>,
-    // Which cells hold pointers, and which are full: a byte for each block.
-    tags: [u8; BLOCKS],
-    fulls: [u8; BLOCKS],
+    blocks: Vec<Block>,
 }
 
 impl Model for Frame {
     ghost use Rattle.std.specs.Prelude.{List};
     ghost use Rattle.mm_word.specs.declared.word.Cell.{Cell};
-    ghost use Rattle.mm_frames.specs.Packed.{cells_of, IsPackedFrame};
+    ghost use Rattle.mm_frames.specs.Cells.{cells_of, AreBlocks};
 
     ghost Value = { List Cell };
 
-    ghost view = { λ f. cells_of f.bits.items f.tags f.fulls };
+    ghost view = { λ f. cells_of f.blocks.items };
 
-    ghost invariant = { λ f. IsPackedFrame f.bits.items f.tags f.fulls };
+    ghost invariant = { λ f. AreBlocks f.blocks.items };
+}
+
+// A block of zeros.
+fn zeros() -> Block
+    ensures { result ≡ replicate 8 zero_cell }
+{
+    Block::of(&[ZERO; BLOCK])
 }
 
 impl Frame {
@@ -38,62 +41,47 @@ impl Frame {
     pub(crate) fn new(alloc: Global) -> Result<Frame, NoMemory>
         ensures { IfOk result (λ f. f ≡ zero_page) }
     {
-        let Ok(bits) = Vec::from_elem(alloc, 0, CELLS) else {
+        let Ok(blocks) = Vec::from_elem(alloc, zeros(), BLOCKS) else {
             return Err(NoMemory);
         };
-        Ok(Frame {
-            bits,
-            tags: [0; BLOCKS],
-            fulls: [u8::MAX; BLOCKS],
-        })
+        Ok(Frame { blocks })
     }
 
-    // The cell at this place.
+    // The cell at a place of the frame.
     pub(crate) fn cell(&self, place: usize) -> Cell
         requires { place < 512 }
         ensures { slice_get self.now place ≡ Some result }
     {
-        let (block, bit) = (place / BLOCK, place % BLOCK);
-        Cell {
-            word: word_of(self.bits[place], is_set(self.tags[block], bit)),
-            full: is_set(self.fulls[block], bit),
-        }
+        self.blocks[place / BLOCK].cell(place % BLOCK)
     }
 
-    // The block at this place.
+    // The block at a place of the frame.
     pub(crate) fn block(&self, place: usize) -> Block
         requires { place < 64 }
-        ensures { result ≡ block_in self.now place }
+        ensures block { result ≡ block_in self.now place }
+        ensures whole { length result ≡ 8 }
     {
-        let at = place * BLOCK;
-        let mut bits = [0; BLOCK];
-        bits.copy_from_slice(&self.bits[at..at + BLOCK]);
-        Block::from_parts(bits, self.tags[place], self.fulls[place])
+        self.blocks[place]
     }
 
-    // Writes the block at this place.
+    // Writes the block at a place of the frame.
     pub(crate) fn put(&mut self, place: usize, block: &Block)
-        requires { place < 64 }
+        requires place { place < 64 }
+        requires whole { length block.now ≡ 8 }
         ensures cells { self.new ≡ with_block self.old place block.now }
         ensures whole { length self.old ≡ 512 }
-        ensures block { length block.now ≡ 8 }
     {
-        let at = place * BLOCK;
-        self.bits[at..at + BLOCK].copy_from_slice(&block.bits);
-        self.tags[place] = block.tags;
-        self.fulls[place] = block.fulls;
+        self.blocks[place] = *block;
     }
 
     // Makes each cell zero.
     pub(crate) fn clear(&mut self)
         ensures { self.new ≡ zero_page }
     {
-        self.bits.fill(0);
-        self.tags = [0; BLOCKS];
-        self.fulls = [u8::MAX; BLOCKS];
+        self.blocks.fill(zeros());
     }
 
-    // Makes them the cells of this page.
+    // Makes the cells those of a page.
     pub(crate) fn copy(&mut self, page: &Page)
         ensures { self.new ≡ page.now.1 }
     {

@@ -1,4 +1,5 @@
-ghost use Rattle.std.specs.Prelude.{◌≡◌, ℕ, ◌+◌, ◌-◌, ◌*◌, ◌^◌, ◌<◌, ◌≤◌, nat_lt, IsTrue, IfOk, IfSome, IfNone, Some, is_some, length, map, slice_get, vec_len};
+ghost use Rattle.std.specs.Prelude.{◌≡◌, ℕ, ◌+◌, ◌-◌, ◌*◌, ◌^◌, ◌<◌, ◌≤◌, nat_lt, IsTrue, IfOk, IfSome, IfNone, Some};
+ghost use Rattle.std.specs.Prelude.{is_some, length, map, slice_get, vec_len};
 ghost use Rattle.std.specs.List.{AllByRecursion};
 ghost use Rattle.std.specs.Ordering.{nat_cmp};
 ghost use Rattle.std.specs.FinMap.{is_sorted};
@@ -7,16 +8,16 @@ ghost use Rattle.mm_model.specs.Flags.{one_if};
 ghost use Rattle.mm_model.specs.Memory.{IsPage};
 ghost use Rattle.mm_frames.specs.Framed.{memory_of, times, rows_with};
 
-use crate::block::Block;
 use crate::frame::Frame;
 use crate::row::Row;
 use crate::search::search;
+use mm_mem::{BLOCK, Block};
 use mm_model::Page;
 use mm_word::{Cell, NoMemory};
 use std::alloc::Global;
 use std::marker::Model;
 
-// So many frames of zeros.
+// Frames of zeros, as many as asked for.
 fn zeros(alloc: Global, count: u32) -> Result<Vec<Frame>, NoMemory>
     ensures { IfOk result (λ v. vec_len v ≡ count) }
 {
@@ -32,13 +33,14 @@ fn zeros(alloc: Global, count: u32) -> Result<Vec<Frame>, NoMemory>
     Ok(frames)
 }
 
-// Copies each page into the frame of its place, and makes a row for it.
+// Copies each page into the frame with its index, and makes a row for it.
 fn seat(rows: &mut Vec<Row>, frames: &mut Vec<Frame>, pages: &[Page])
     requires none { vec_len rows.old ≡ 0 }
     requires room { length pages.now ≤ vec_capacity rows.old }
     requires enough { length pages.now ≤ vec_len frames.old }
     requires few { vec_len frames.old < 2 ^ 32 }
-    ensures contents { memory_of (record { rows = rows.new.items; cells = frames.new.items; reads = 0; writes = 0 }) ≡ record { pages = pages.now; frames = vec_len frames.old } }
+    ensures contents { memory_of (record { rows = rows.new.items; cells = frames.new.items; reads = 0; writes = 0 })
+        ≡ record { pages = pages.now; frames = vec_len frames.old } }
     ensures whole { AllByRecursion IsPage pages.now }
     ensures once { (n : ℕ) → rows_with n rows.new.items ≡ one_if (nat_lt n (length pages.now)) }
     ensures len { vec_len rows.new ≡ length pages.now }
@@ -56,7 +58,7 @@ fn seat(rows: &mut Vec<Row>, frames: &mut Vec<Frame>, pages: &[Page])
     }
 }
 
-// Makes the frames from one on free, the least the first to be taken.
+// Makes the frames from a number on free, the lowest the first to be taken.
 fn release(free: &mut Vec<u32>, from: u32, count: u32)
     requires none { vec_len free.old ≡ 0 }
     requires order { from ≤ count }
@@ -74,8 +76,8 @@ fn release(free: &mut Vec<u32>, from: u32, count: u32)
 
 /// Frames of 512 cells, the pages that occupy them, and how many blocks were read and written.
 ///
-/// All frames are taken when it is made; no later call takes memory, and a page stays in its frame until it is removed or the frames are reset. The
-/// frame of a page is found by a binary search over the mapped pages.
+/// `new` takes all frames; no later call takes memory, and a page keeps its frame until it is removed or the frames are
+/// reset. The frame of a page is found by a binary search over the mapped pages.
 #[derive(Drop)]
 pub struct Frames {
     rows: Vec<Row>,
@@ -95,7 +97,8 @@ impl Model for Frames {
     ghost view = { λ f. record { rows = f.rows.items; cells = f.frames.items; reads = f.reads; writes = f.writes } };
 
     ghost invariant = { λ f. record {
-      framed : IsFramed (record { rows = f.rows.items; cells = f.frames.items; reads = f.reads; writes = f.writes }) f.free.items;
+      framed : IsFramed (record { rows = f.rows.items; cells = f.frames.items; reads = f.reads; writes = f.writes })
+          f.free.items;
       rows_fit : vec_len f.frames ≤ vec_capacity f.rows;
       free_fit : vec_len f.frames ≤ vec_capacity f.free;
     } };
@@ -104,14 +107,15 @@ impl Model for Frames {
 impl Frames {
     ghost use Rattle.mm_model.specs.Memory.{IsPaged, is_mapped, can_map, cell_at};
     ghost use Rattle.mm_mem.specs.Answers.{after_map, after_unmap};
-    ghost use Rattle.mm_frames.specs.Blocks.{block_in, block_at, put_block};
+    ghost use Rattle.mm_mem.specs.Blocks.{block_in, block_at, put_block};
     ghost use Rattle.mm_frames.specs.Framed.{Framed, IsOccupied, IsFree, frame_of, cells_in, seated, without, written};
 
-    /// Frames with these pages in them. All memory is taken here.
+    /// Frames with these pages in them. It takes all their memory.
     pub fn new(alloc: Global, pages: &[Page], frames: u32) -> Result<Frames, NoMemory>
         requires ascend { IsTrue (is_sorted nat_cmp pages.now) }
         requires fit { length pages.now ≤ frames }
         ensures contents { IfOk result (λ f. memory_of f ≡ record { pages = pages.now; frames = frames }) }
+        ensures paged { IfOk result (λ f. IsPaged (memory_of f)) }
         ensures reads { IfOk result (λ f. f.reads ≡ 0) }
         ensures writes { IfOk result (λ f. f.writes ≡ 0) }
     {
@@ -134,14 +138,7 @@ impl Frames {
         })
     }
 
-    /// What is true of all frames: the pages rise, each is whole, and no more are mapped than there are frames. Nothing is done.
-    pub fn paged(&self)
-        ensures { IsPaged (memory_of self.now) }
-    {
-        let _reads = self.reads;
-    }
-
-    /// The frame of a page, if it is mapped.
+    /// The frame of a page, if the page is mapped.
     pub fn frame_of(&self, page: u64) -> Option<u32>
         ensures { result ≡ frame_of self.now page }
     {
@@ -149,7 +146,8 @@ impl Frames {
         Some(self.rows[i].frame)
     }
 
-    /// Maps a page to a free frame, which holds integer zeros, full. None exactly where it is mapped already or no frame is free.
+    /// Maps a page to a free frame, which then holds integer zeros, full. None exactly where the page is mapped already
+    /// or no frame is free.
     pub fn take(&mut self, page: u64) -> Option<u32>
         requires { page < 2 ^ 42 }
         ensures answer { is_some result ≡ can_map (memory_of self.old) page }
@@ -167,7 +165,7 @@ impl Frames {
         Some(frame)
     }
 
-    /// Removes a page. False exactly where it is not mapped.
+    /// Removes a page. False exactly where the page is not mapped.
     pub fn give(&mut self, page: u64) -> bool
         ensures answer { result ≡ is_mapped (memory_of self.old) page }
         ensures after { self.new ≡ without self.old page }
@@ -185,9 +183,10 @@ impl Frames {
         }
     }
 
-    /// How many pages are mapped.
+    /// How many pages are mapped. The mapped pages rise, each is whole, and no more are mapped than there are frames.
     pub fn pages(&self) -> u32
-        ensures { result ≡ length (memory_of self.now).pages }
+        ensures count { result ≡ length (memory_of self.now).pages }
+        ensures paged { IsPaged (memory_of self.now) }
     {
         self.rows.len() as u32
     }
@@ -200,11 +199,12 @@ impl Frames {
         self.rows[i as usize].page
     }
 
-    /// Makes these pages the whole contents. No block is counted as read or written any more.
+    /// Makes these pages the whole contents, and sets both counts to 0.
     pub fn reset(&mut self, pages: &[Page])
         requires ascend { IsTrue (is_sorted nat_cmp pages.now) }
         requires fit { length pages.now ≤ length self.old.cells }
         ensures contents { memory_of self.new ≡ record { pages = pages.now; frames = length self.old.cells } }
+        ensures paged { IsPaged (memory_of self.new) }
         ensures reads { self.new.reads ≡ 0 }
         ensures writes { self.new.writes ≡ 0 }
     {
@@ -219,25 +219,52 @@ impl Frames {
     }
 
     /// Reads a block of a frame, which is counted. `block` is its place in the frame.
-    pub fn read_block(&mut self, frame: u32, block: u8) -> Block
+    pub fn read_block(&mut self, frame: u32, block: u8) -> [Cell; BLOCK]
         requires occupied { IsOccupied self.old frame }
         requires place { block < 64 }
         requires room { self.old.reads < 2 ^ 64 - 1 }
         ensures cells { result ≡ block_in (cells_in self.old frame) block }
-        ensures memory { (page : ℕ) → frame_of self.old page ≡ Some frame → block_at (memory_of self.old) (page * 64 + block) ≡ Some result }
+        ensures memory { (page : ℕ) → frame_of self.old page ≡ Some frame
+            → block_at (memory_of self.old) (page * 64 + block) ≡ Some result }
+        ensures after { self.new ≡ record self.old { reads = self.old.reads + 1 } }
+    {
+        self.read_packed(frame, block).cells()
+    }
+
+    /// Writes a block of a frame, which is counted. `block` is its place in the frame.
+    pub fn write_block(&mut self, frame: u32, block: u8, cells: &[Cell; BLOCK])
+        requires occupied { IsOccupied self.old frame }
+        requires place { block < 64 }
+        requires room { self.old.writes < 2 ^ 64 - 1 }
+        ensures after { self.new ≡ written self.old frame block cells.now }
+        ensures memory { (page : ℕ) → frame_of self.old page ≡ Some frame
+            → memory_of self.new ≡ put_block (memory_of self.old) (page * 64 + block) cells.now }
+    {
+        self.write_packed(frame, block, &Block::of(cells));
+    }
+
+    /// Reads a block as `read_block` does, and leaves it packed.
+    pub fn read_packed(&mut self, frame: u32, block: u8) -> Block
+        requires occupied { IsOccupied self.old frame }
+        requires place { block < 64 }
+        requires room { self.old.reads < 2 ^ 64 - 1 }
+        ensures cells { result ≡ block_in (cells_in self.old frame) block }
+        ensures whole { length result ≡ 8 }
         ensures after { self.new ≡ record self.old { reads = self.old.reads + 1 } }
     {
         self.reads += 1;
         self.frames[frame as usize].block(block as usize)
     }
 
-    /// Writes a block of a frame, which is counted. `block` is its place in the frame.
-    pub fn write_block(&mut self, frame: u32, block: u8, cells: &Block)
+    /// Writes a block as `write_block` does, from its packed form.
+    pub fn write_packed(&mut self, frame: u32, block: u8, cells: &Block)
         requires occupied { IsOccupied self.old frame }
         requires place { block < 64 }
+        requires whole { length cells.now ≡ 8 }
         requires room { self.old.writes < 2 ^ 64 - 1 }
         ensures after { self.new ≡ written self.old frame block cells.now }
-        ensures memory { (page : ℕ) → frame_of self.old page ≡ Some frame → memory_of self.new ≡ put_block (memory_of self.old) (page * 64 + block) cells.now }
+        ensures memory { (page : ℕ) → frame_of self.old page ≡ Some frame
+            → memory_of self.new ≡ put_block (memory_of self.old) (page * 64 + block) cells.now }
     {
         self.writes += 1;
         self.frames[frame as usize].put(block as usize, cells);
@@ -248,7 +275,8 @@ impl Frames {
         requires occupied { IsOccupied self.now frame }
         requires place { index < 512 }
         ensures cell { slice_get (cells_in self.now frame) index ≡ Some result }
-        ensures memory { (page : ℕ) → frame_of self.now page ≡ Some frame → cell_at (memory_of self.now) (page * 4096 + index * 8) ≡ Some result }
+        ensures memory { (page : ℕ) → frame_of self.now page ≡ Some frame
+            → cell_at (memory_of self.now) (page * 4096 + index * 8) ≡ Some result }
     {
         self.frames[frame as usize].cell(index as usize)
     }

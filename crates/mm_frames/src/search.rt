@@ -5,7 +5,7 @@ ghost use Rattle.mm_mem.specs.Places.{IsAt, IsGap};
 
 use crate::row::Row;
 
-// Where the page with this number stands among the rows, or where it would go.
+// The index of the row of a page, or the index where it would go.
 pub(crate) fn search(rows: &[Row], page: u64) -> Result<usize, usize>
     requires { IsTrue (is_sorted nat_cmp rows.now) }
     ensures found { IfOk result (IsAt page rows.now) }

@@ -9,7 +9,8 @@ use Rattle.mm_model.specs.Report.{cycles_line}
 -- a slot: its turns and state, how many bytes its group has put out, and its register 3
 abbrev pub slot_summary : Core → Slot → List ℕ
 slot_summary core s =
-    numbers_text s.number s.turns ++ state_text s.state ++ codes " out " ++ decimal (length (output_of core s.group)) ++ codes " xor " ++ word_text (register s 3) ++ newline
+    numbers_text s.number s.turns ++ state_text s.state ++ codes " out " ++ decimal (length (output_of core s.group))
+    ++ codes " xor " ++ word_text (register s 3) ++ newline
 
 -- how many cycles, and each slot
 unfoldable pub summary : State → List ℕ

@@ -8,8 +8,6 @@ pub mod laws;
 mod pages;
 mod slots;
 mod summing;
-#[cfg(test)]
-mod tests;
 
 pub use generating::image;
 pub use summing::summary;

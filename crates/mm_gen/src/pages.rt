@@ -2,7 +2,8 @@
 ghost use Rattle.std.specs.Prelude.{◌≡◌, true, ◌+◌, ◌*◌, ◌≤◌, ◌<◌, ◌^◌, ◌++◌, length, replicate, IfOk, OnOk};
 ghost use Rattle.std.specs.List.{flat_map, range_with_len};
 ghost use Rattle.mm_model.specs.Memory.{zero_cell};
-ghost use Rattle.mm_gen.specs.Generated.{next_number, nth_number, code_page, data_page, loop as loop_of, code_cells, slot_pages};
+ghost use Rattle.mm_gen.specs.Generated.{next_number, nth_number, code_page, data_page, loop as loop_of, code_cells};
+ghost use Rattle.mm_gen.specs.Generated.{slot_pages};
 ghost use Rattle.mm_gen.specs.Steps.{cells_behind, pages_behind};
 
 use mm_isa::{AluOp, Instr, Reg, encode};
@@ -49,7 +50,8 @@ fn register(number: u8) -> Reg
     }
 }
 
-/// The code of a slot, a loop that goes over its data: each word is taken into the exclusive or of all so far, whose low byte is put out.
+/// The code of a slot, a loop that goes over its data: each word is taken into the exclusive or of all so far, whose
+/// low byte is put out.
 fn code() -> [Instr; LENGTH]
     ensures { result ≡ loop_of }
 {

@@ -10,14 +10,13 @@ use mm_io::{Sink, WriteFault};
 use mm_machine::Machine;
 use mm_mem::Memory;
 use mm_model::Slot;
-use mm_report::{put_cycles, put_numbers, put_state, put_word};
-use mm_text::{Gather, Piece};
+use mm_text::{Gather, Piece, put_cycles, put_numbers, put_state, put_word};
 
 /// The register of which a summary speaks.
 const REGISTER: u8 = 3;
 
-/// Writes the summary of a machine: the number of cycles, and of each slot its turns and state, how many bytes its group has put out, and its register 3.
-/// At a [`WriteFault`] the sink took a front part.
+/// Writes the summary of a machine: the number of cycles, and of each slot its turns and state, how many bytes its
+/// group has put out, and its register 3. At a [`WriteFault`] the sink took a front part.
 pub fn summary<M: Memory, O: Sink>(m: &Machine<M>, out: &mut O) -> Result<(), WriteFault>
     ensures { Writes O.taken O.faults out.old out.new (summary_of (state_of m.now)) result }
 {

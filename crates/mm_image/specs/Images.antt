@@ -10,7 +10,8 @@ use Rattle.mm_model.specs.Spelling.{numbers_of, IsFresh, HoldsWords}
 
 -- the image of these parts
 abbrev pub image_from : ℕ → Bool → List Slot → List (ℕ × List Cell) → ℕ → Image
-image_from version split slots pages frames = record { version = version; split = split; slots = slots; memory = record { pages = pages; frames = frames } }
+image_from version split slots pages frames =
+    record { version = version; split = split; slots = slots; memory = record { pages = pages; frames = frames } }
 
 -- the slots of an image of this version
 pub record SlotsFit (version : ℕ) (slots : List Slot) : Type 0 where

@@ -9,6 +9,11 @@ use Rattle.mm_model.specs.Places.{IsBytes}
 abbrev pub ImagesHaveNoFault : Type 0
 ImagesHaveNoFault = (bytes : List ℕ) → IsBytes bytes → (image_fault bytes ≡ None) ↔ ((i : Image) × Spells bytes i)
 
+-- each image has a spelling, and no other
+abbrev pub ImagesAreSpelled : Type 0
+ImagesAreSpelled =
+    (i : Image) → IsImage i → Spells (spelling i) i × ((bytes : List ℕ) → Spells bytes i → bytes ≡ spelling i)
+
 -- bytes spell one image at most
 abbrev pub SpelledImagesAreOne : Type 0
 SpelledImagesAreOne = (bytes : List ℕ) (i j : Image) → Spells bytes i → Spells bytes j → i ≡ j

@@ -18,4 +18,11 @@ abbrev pub HoldsNumbers : List Bool → List Slot → Type 0
 HoldsNumbers present slots = (n : ℕ) → n < 256 → slice_index_or present n false ≡ has_number slots n
 
 abbrev pub header_of : List ℕ → Header
-header_of bytes = record { version = version_of bytes; slots = slots_of bytes; frames = frames_of bytes; pages = pages_of bytes; split = mode_number bytes == 1 }
+header_of bytes =
+    record {
+      version = version_of bytes;
+      slots = slots_of bytes;
+      frames = frames_of bytes;
+      pages = pages_of bytes;
+      split = mode_number bytes == 1;
+    }

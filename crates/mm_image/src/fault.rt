@@ -4,8 +4,8 @@ ghost use Rattle.mm_image.specs.declared.fault.ImageError.TheVariants.{NoMemory}
 use std::alloc::{AllocError, AllocFailed};
 use thiserror::Error;
 
-/// What is wrong with the bytes of an image file. The fields are read from the front, and the first fault is given with the
-/// offset of its field.
+/// What is wrong with the bytes of an image file. The fields are read from the front, and the first fault is given with
+/// the offset of its field.
 #[derive(Clone, Copy, Debug, PartialEq, Eq)]
 pub enum ImageFault {
     /// The next field is not whole. The offset is the length of the file.

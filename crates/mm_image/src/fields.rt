@@ -28,7 +28,8 @@ impl Reader<'_> {
     /// Refuses where the test holds.
     #[tactic(auto, unfolding(mm_model::specs::Places::place_fault))]
     pub fn refuse_if(&self, wrong: bool, kind: ImageFault, at: usize) -> Result<(), ImageError>
-        ensures fault { Gives (λ _. true) (place_fault (length self.now.bytes.now) (Test (number_of kind) at wrong)) true result }
+        ensures fault { Gives (λ _. true) (place_fault (length self.now.bytes.now) (Test (number_of kind) at wrong))
+            true result }
         ensures right { OnOk result (wrong ≡ false) }
     {
         if wrong {
@@ -55,7 +56,8 @@ impl Reader<'_> {
     #[tactic(auto, using(mm_model::proofs::ImageBytes::Numbers::byte_is))]
     pub fn u8_at(&self, at: usize) -> Result<u8, ImageError>
         requires { at < 2 ^ 40 }
-        ensures { let bytes = self.now.bytes.now in Gives (λ n. n) (place_fault (length bytes) (Field at 1)) (number_at bytes at 1) result }
+        ensures { let bytes = self.now.bytes.now in Gives (λ n. n) (place_fault (length bytes) (Field at 1))
+            (number_at bytes at 1) result }
     {
         self.whole(at, 1)?;
         Ok(self.bytes[at])
@@ -65,7 +67,8 @@ impl Reader<'_> {
     #[tactic(auto, using(mm_model::proofs::ImageBytes::Numbers::field_2))]
     pub fn u16_at(&self, at: usize) -> Result<u16, ImageError>
         requires { at < 2 ^ 40 }
-        ensures { let bytes = self.now.bytes.now in Gives (λ n. n) (place_fault (length bytes) (Field at 2)) (number_at bytes at 2) result }
+        ensures { let bytes = self.now.bytes.now in Gives (λ n. n) (place_fault (length bytes) (Field at 2))
+            (number_at bytes at 2) result }
     {
         self.whole(at, 2)?;
         Ok(u16::from_be_bytes([self.bytes[at], self.bytes[at + 1]]))
@@ -75,7 +78,8 @@ impl Reader<'_> {
     #[tactic(auto, using(mm_model::proofs::ImageBytes::Numbers::field_4))]
     pub fn u32_at(&self, at: usize) -> Result<u32, ImageError>
         requires { at < 2 ^ 40 }
-        ensures { let bytes = self.now.bytes.now in Gives (λ n. n) (place_fault (length bytes) (Field at 4)) (number_at bytes at 4) result }
+        ensures { let bytes = self.now.bytes.now in Gives (λ n. n) (place_fault (length bytes) (Field at 4))
+            (number_at bytes at 4) result }
     {
         self.whole(at, 4)?;
         let field = &self.bytes[at..at + 4];
@@ -86,7 +90,8 @@ impl Reader<'_> {
     #[tactic(auto, using(mm_model::proofs::ImageBytes::Numbers::field_8))]
     pub fn u64_at(&self, at: usize) -> Result<u64, ImageError>
         requires { at < 2 ^ 40 }
-        ensures { let bytes = self.now.bytes.now in Gives (λ n. n) (place_fault (length bytes) (Field at 8)) (number_at bytes at 8) result }
+        ensures { let bytes = self.now.bytes.now in Gives (λ n. n) (place_fault (length bytes) (Field at 8))
+            (number_at bytes at 8) result }
     {
         self.whole(at, 8)?;
         let field = &self.bytes[at..at + 8];

@@ -37,7 +37,8 @@ pub(crate) struct Header {
 impl Reader<'_> {
     /// The header of the file.
     pub(crate) fn header(&self) -> Result<Header, ImageError>
-        ensures { let bytes = self.now.bytes.now in Gives (λ h. h) (first_bad (length bytes) (header_places bytes)) (header_of bytes) result }
+        ensures { let bytes = self.now.bytes.now in Gives (λ h. h) (first_bad (length bytes) (header_places bytes))
+            (header_of bytes) result }
     {
         self.whole(0, 4)?;
         let magic = &self.bytes[..4];

@@ -7,8 +7,8 @@ use mm_model::{Page, Slot};
 use mm_word::Cell;
 use std::marker::Model;
 
-/// What a machine starts from: slots with ascending numbers, pages with ascending numbers, and how many frames pages may
-/// stand in, within the limits of its version. In a split image the value of a load arrives later than the load.
+/// What a machine starts from: slots with ascending numbers, pages with ascending numbers, and how many frames pages
+/// may stand in, within the limits of its version. In a split image the value of a load arrives later than the load.
 #[derive(Drop)]
 pub struct Image {
     pub(crate) version: u16,
@@ -37,10 +37,10 @@ impl Image {
     ghost use Rattle.mm_model.specs.Spelling.{IsImage};
     ghost use Rattle.mm_image.specs.Images.{image_from};
 
-    /// The image of these parts. None exactly where they make no image: a version that is neither 1 nor 2, a split image of
-    /// version 1, no slot or more slots than the version has, numbers of slots that do not ascend, a slot that has run or
-    /// that a limit or its handler excludes, no frame or more frames than the version has, numbers of pages that do not
-    /// ascend, more pages than frames.
+    /// The image of these parts. None exactly where they make no image: a version that is neither 1 nor 2, a split
+    /// image of version 1, no slot or more slots than the version has, numbers of slots that do not ascend, a slot that
+    /// has run or that a limit or its handler excludes, no frame or more frames than the version has, numbers of pages
+    /// that do not ascend, more pages than frames.
     pub fn new(
         version: u16,
         split: bool,
@@ -48,7 +48,8 @@ impl Image {
         pages: Vec<Page>,
         frames: u32,
     ) -> Option<Image>
-        ensures { SomeIff result (IsImage (image_from version split slots.items pages.items frames)) (image_from version split slots.items pages.items frames) }
+        ensures { SomeIff result (IsImage (image_from version split slots.items pages.items frames))
+            (image_from version split slots.items pages.items frames) }
     {
         if !is_image(version, split, &slots, &pages, frames) {
             return None;

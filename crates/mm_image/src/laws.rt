@@ -1,11 +1,16 @@
 //! What holds of all image files.
 //!
 //! These functions do nothing when they run: the contract of each is the law.
-ghost use Rattle.mm_image.specs.Laws.{ImagesHaveNoFault, SpelledImagesAreOne, SpellingIsInjective};
+ghost use Rattle.mm_image.specs.Laws.{ImagesAreSpelled, ImagesHaveNoFault, SpelledImagesAreOne, SpellingIsInjective};
 
 /// The list of places of a file has no fault exactly where its bytes spell an image.
 pub fn images_have_no_fault()
     ensures { ImagesHaveNoFault }
+{}
+
+/// Each image has exactly one spelling.
+pub fn images_are_spelled()
+    ensures { ImagesAreSpelled }
 {}
 
 /// An image has one spelling, and no two images have the same.

@@ -1,8 +1,8 @@
 //! Image files, read and written.
 //!
-//! An image is what a machine starts from: slots, pages and frames, a version and a mode. [`read`] gives the image that the
-//! bytes of a file spell, or the number and the place of the first fault. [`write`] gives the one spelling of an image, which
-//! is read as the same image again. [`Image::new`] makes an image of its parts.
+//! An image is what a machine starts from: slots, pages and frames, a version and a mode. [`read`] gives the image that
+//! the bytes of a file spell, or the number and the place of the first fault. [`write`] gives the one spelling of an
+//! image, which is read as the same image again. [`Image::new`] makes an image of its parts.
 //!
 //! The file, whose numbers have their greatest byte first and whose bitmaps have their first bit lowest:
 //!
@@ -17,8 +17,8 @@
 //! | 142 a slot | number, group, handler or 255, and state, a byte each; instruction pointer (8); which registers hold pointers (2); 16 registers (128) |
 //! | 4,232 a page | number (8); which cells hold pointers (64); which are full (64); 512 words (4,096) |
 //!
-//! The fields are read in order, each tested when it is read, but that the handlers are tested behind the last slot. How long
-//! a file may be is for the caller to say. The format is this project's profile.
+//! The fields are read in order, each tested when it is read, but that the handlers are tested behind the last slot.
+//! How long a file may be is for the caller to say. The format is this project's profile.
 #![tactic(auto)]
 
 mod fault;
@@ -31,8 +31,6 @@ mod layout;
 mod pages;
 mod reading;
 mod slots;
-#[cfg(test)]
-mod tests;
 mod words;
 mod writing;
 

@@ -2,7 +2,8 @@
 
 ghost use Rattle.std.specs.Prelude.{◌≡◌, ◌+◌, ◌*◌, ◌^◌, ◌<◌, true, IfOk, None, length, vec_len};
 ghost use Rattle.mm_image.specs.Faults.{Gives};
-ghost use Rattle.mm_model.specs.Places.{place_fault, first_bad, cells_at, cells_places, page_record_at, page_record_places, end_places};
+ghost use Rattle.mm_model.specs.Places.{place_fault, first_bad, cells_at, cells_places, page_record_at};
+ghost use Rattle.mm_model.specs.Places.{page_record_places, end_places};
 ghost use Rattle.mm_model.specs.Places.Place.{Field};
 ghost use Rattle.mm_model.specs.ImageReading.{pages_at, page_offset};
 ghost use Rattle.mm_model.specs.ImageFaults.{pages_places};
@@ -34,7 +35,8 @@ impl Reader<'_> {
         requires small { at < 2 ^ 39 }
         requires tags { place_fault (length self.now.bytes.now) (Field (at + 8) 64) ≡ None }
         requires full { place_fault (length self.now.bytes.now) (Field (at + 72) 64) ≡ None }
-        ensures cells { let bytes = self.now.bytes.now in Gives (λ cells. cells.items) (first_bad (length bytes) (cells_places bytes at)) (cells_at bytes at) result }
+        ensures cells { let bytes = self.now.bytes.now in Gives (λ cells. cells.items)
+            (first_bad (length bytes) (cells_places bytes at)) (cells_at bytes at) result }
         ensures count { IfOk result (λ cells. vec_len cells ≡ 512) }
     {
         let mut cells = Vec::with_capacity(alloc, CELLS)?;
@@ -50,7 +52,8 @@ impl Reader<'_> {
     /// The page whose record begins here. Its number is no less than the least.
     pub fn page(&self, alloc: Global, least: u64, at: usize) -> Result<Page, ImageError>
         requires { at < 2 ^ 39 }
-        ensures { let bytes = self.now.bytes.now in Gives (λ p. p) (first_bad (length bytes) (page_record_places bytes least at)) (page_record_at bytes at) result }
+        ensures { let bytes = self.now.bytes.now in Gives (λ p. p)
+            (first_bad (length bytes) (page_record_places bytes least at)) (page_record_at bytes at) result }
     {
         let number = self.u64_at(at)?;
         self.refuse_if(
@@ -74,7 +77,8 @@ impl Reader<'_> {
         slots: u16,
         count: u16,
     ) -> Result<Vec<Page>, ImageError>
-        ensures { let bytes = self.now.bytes.now in Gives (λ pages. pages.items) (first_bad (length bytes) (pages_places bytes slots count)) (pages_at bytes slots count) result }
+        ensures { let bytes = self.now.bytes.now in Gives (λ pages. pages.items)
+            (first_bad (length bytes) (pages_places bytes slots count)) (pages_at bytes slots count) result }
     {
         let start = HEADER_BYTES + SLOT_BYTES * usize::from(slots);
         let mut pages = Vec::with_capacity(alloc, usize::from(count))?;
@@ -89,7 +93,8 @@ impl Reader<'_> {
 
     /// Whether the file ends behind the last of so many slots and pages.
     pub(crate) fn nothing_follows(&self, slots: u16, pages: u16) -> Result<(), ImageError>
-        ensures { let bytes = self.now.bytes.now in Gives (λ _. true) (first_bad (length bytes) (end_places bytes 13 (page_offset slots pages))) true result }
+        ensures { let bytes = self.now.bytes.now in Gives (λ _. true)
+            (first_bad (length bytes) (end_places bytes 13 (page_offset slots pages))) true result }
     {
         let end = HEADER_BYTES + SLOT_BYTES * usize::from(slots) + PAGE_BYTES * usize::from(pages);
         self.refuse_if(self.bytes.len() > end, ImageFault::Trailing, end)

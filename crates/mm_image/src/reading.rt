@@ -20,8 +20,10 @@ pub fn read(alloc: Global, bytes: &[u8]) -> Result<Image, ImageError>
     ensures again { (i : ImageValue) → Spells bytes.now i → IsUnlessNoMemory i result }
 
     // A fault that is answered is the first one, and where there is one it is answered.
-    ensures fault { (kind : ImageFault) (offset : ℕ) → result ≡ Err (ImageError.Fault kind offset) → image_fault bytes.now ≡ Some (number_of kind, offset) }
-    ensures first { (number offset : ℕ) → image_fault bytes.now ≡ Some (number, offset) → FailsUnlessNoMemory (number, offset) result }
+    ensures fault { (kind : ImageFault) (offset : ℕ) → result ≡ Err (ImageError.Fault kind offset)
+        → image_fault bytes.now ≡ Some (number_of kind, offset) }
+    ensures first { (number offset : ℕ) → image_fault bytes.now ≡ Some (number, offset)
+        → FailsUnlessNoMemory (number, offset) result }
 {
     read_parts(alloc, bytes)
 }

@@ -44,10 +44,12 @@ pub(crate) fn is_bad_handler(present: &[bool; 256], slot: &Slot) -> bool
 }
 
 impl Reader<'_> {
-    /// The slot whose record begins here. Its number and group are below the limit, and its number is no less than the least.
+    /// The slot whose record begins here. Its number and group are below the limit, and its number is no less than the
+    /// least.
     pub(crate) fn slot(&self, limit: u8, least: u8, at: usize) -> Result<Slot, ImageError>
         requires { at < 2 ^ 39 }
-        ensures slot { let bytes = self.now.bytes.now in Gives (λ s. s) (first_bad (length bytes) (slot_record_places bytes limit least at)) (slot_record_at bytes at) result }
+        ensures slot { let bytes = self.now.bytes.now in Gives (λ s. s)
+            (first_bad (length bytes) (slot_record_places bytes limit least at)) (slot_record_at bytes at) result }
         ensures number { IfOk result (λ s. s.number < limit) }
     {
         let number = self.u8_at(at)?;
@@ -89,7 +91,8 @@ impl Reader<'_> {
         version: u16,
         count: u16,
     ) -> Result<Vec<Slot>, ImageError>
-        ensures slots { let bytes = self.now.bytes.now in Gives (λ slots. slots.items) (first_bad (length bytes) (slots_places bytes version count)) (slots_at bytes count) result }
+        ensures slots { let bytes = self.now.bytes.now in Gives (λ slots. slots.items)
+            (first_bad (length bytes) (slots_places bytes version count)) (slots_at bytes count) result }
         ensures count { IfOk result (λ slots. vec_len slots ≡ count) }
     {
         let limit = slot_limit(version);
@@ -107,7 +110,8 @@ impl Reader<'_> {
     pub(crate) fn handlers(&self, slots: &[Slot]) -> Result<(), ImageError>
         requires count { length slots.now < 2 ^ 16 }
         requires slots { slots.now ≡ slots_at self.now.bytes.now (length slots.now) }
-        ensures { let bytes = self.now.bytes.now in Gives (λ _. true) (first_bad (length bytes) (handlers_places bytes slots.now)) true result }
+        ensures { let bytes = self.now.bytes.now in Gives (λ _. true)
+            (first_bad (length bytes) (handlers_places bytes slots.now)) true result }
     {
         let present = numbers(slots);
         for (k, slot) in slots.iter().enumerate() {

@@ -38,7 +38,8 @@ impl Reader<'_> {
     #[tactic(auto, unfolding(mm_model::specs::Places::place_fault))]
     pub fn word(&self, tagged: bool, at: usize) -> Result<Word, ImageError>
         requires { at < 2 ^ 40 }
-        ensures word { let bytes = self.now.bytes.now in Gives (λ w. w) (first_bad (length bytes) (word_places bytes tagged at)) (word_at bytes tagged at) result }
+        ensures word { let bytes = self.now.bytes.now in Gives (λ w. w)
+            (first_bad (length bytes) (word_places bytes tagged at)) (word_at bytes tagged at) result }
         ensures holds { IfOk result IsWord }
     {
         let bits = self.u64_at(at)?;
@@ -55,7 +56,8 @@ impl Reader<'_> {
     #[tactic(auto, unfolding(mm_model::specs::Places::place_fault))]
     pub fn ip(&self, at: usize) -> Result<GuardedPtr, ImageError>
         requires { at < 2 ^ 40 }
-        ensures ip { let bytes = self.now.bytes.now in Gives (λ p. p) (first_bad (length bytes) (ip_places bytes at)) (pointer_of (number_at bytes at 8)) result }
+        ensures ip { let bytes = self.now.bytes.now in Gives (λ p. p) (first_bad (length bytes) (ip_places bytes at))
+            (pointer_of (number_at bytes at 8)) result }
         ensures executable { IfOk result (λ p. can_fetch p.perm ≡ true) }
         ensures well_formed { IfOk result IsWellFormed }
     {
@@ -71,7 +73,8 @@ impl Reader<'_> {
     pub fn registers(&self, at: usize, tags: u16) -> Result<[Word; 16], ImageError>
         requires small { at < 2 ^ 39 }
         requires tags { tags ≡ number_at self.now.bytes.now (at + 12) 2 }
-        ensures regs { let bytes = self.now.bytes.now in Gives (λ regs. regs) (first_bad (length bytes) (registers_places bytes at)) (registers_at bytes at) result }
+        ensures regs { let bytes = self.now.bytes.now in Gives (λ regs. regs)
+            (first_bad (length bytes) (registers_places bytes at)) (registers_at bytes at) result }
         ensures count { IfOk result (λ regs. length regs ≡ 16) }
         ensures words { IfOk result (λ regs. AllByRecursion IsWord regs) }
     {

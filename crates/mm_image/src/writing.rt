@@ -6,7 +6,8 @@ ghost use Rattle.std.specs.List.{flat_map};
 ghost use Rattle.mm_word.specs.declared.word.Cell.{Cell};
 ghost use Rattle.mm_word.specs.Word.{is_pointer, word_bits};
 ghost use Rattle.mm_model.specs.Flags.{number_of_flags};
-ghost use Rattle.mm_model.specs.Spelling.{header, handler_byte, state_byte, words_spelling, bitmap, slot_record, page_record, spelling, Spells};
+ghost use Rattle.mm_model.specs.Spelling.{header, handler_byte, state_byte, words_spelling, bitmap, slot_record};
+ghost use Rattle.mm_model.specs.Spelling.{page_record, spelling, Spells};
 
 use crate::image::Image;
 use crate::layout::{HEADER_BYTES, PAGE_BYTES, SLOT_BYTES};
@@ -81,7 +82,8 @@ fn put_slot(out: &mut Vec<u8>, slot: &Slot) -> Result<(), AllocError>
 
 // The bytes of a slot before its instruction pointer.
 fn slot_head(slot: &Slot) -> [u8; 4]
-    ensures { result ≡ slot.now.number ∷ slot.now.group ∷ handler_byte slot.now.handler ∷ state_byte slot.now.state ∷ [] }
+    ensures { result ≡ slot.now.number ∷ slot.now.group ∷ handler_byte slot.now.handler
+        ∷ state_byte slot.now.state ∷ [] }
 {
     let handler = match slot.handler {
         Some(handler) => handler,
@@ -125,7 +127,8 @@ pub fn put_page(out: &mut Vec<u8>, page: &Page) -> Result<(), AllocError>
 
 fn put_tags(out: &mut Vec<u8>, cells: &[Cell]) -> Result<(), AllocError>
     requires { length cells.now ≡ 512 }
-    ensures { OnOk result (out.new.items ≡ out.old.items ++ bitmap 64 (map (λ (c : Cell). is_pointer c.word) cells.now)) }
+    ensures { OnOk result
+        (out.new.items ≡ out.old.items ++ bitmap 64 (map (λ (c : Cell). is_pointer c.word) cells.now)) }
 {
     for k in 0..64 {
         out.push(cell_tags(&cells[8 * k..8 * k + 8]) as u8)?;

@@ -1,5 +1,7 @@
 -- What a read of a file or a source gives, and when a call may fail.
-use Rattle.std.specs.Prelude.{◌≡◌, ℕ, ◌+◌, ◌-◌, ◌^◌, ◌<◌, ◌≤◌, min, List, length, take, drop, replicate, ⊤, None, Some, Option}
+use Rattle.std.specs.Prelude.{◌≡◌, ℕ, ◌+◌, ◌-◌, ◌^◌, ◌<◌, ◌≤◌, min, List, [], ◌∷◌, ◌++◌, length, take, drop, ⊤, None}
+use Rattle.std.specs.Prelude.{Some, Option, Ok, Err, Result}
+use Rattle.std.specs.List.{sum, AllByRecursion}
 use Rattle.std.specs.Io.KnownBytes.{prepend_known}
 use Rattle.mm_word.specs.Adding.{Adds}
 
@@ -7,7 +9,8 @@ use Rattle.mm_word.specs.Adding.{Adds}
 abbrev pub raised : ℕ → ℕ
 raised count = min (count + 1) (2 ^ 64 - 1)
 
--- A count of faults rose, or stands at the last value of a counter of 64 bits. A call fails only where its count did so.
+-- A count of faults rose, or stands at the last value of a counter of 64 bits. A call fails only where its count did
+-- so.
 abbrev pub Rose : ℕ → ℕ → Type 0
 Rose before now = raised before ≤ now
 
@@ -20,10 +23,12 @@ abbrev pub Holds : Option (List ℕ) → List ℕ → Type 0
 Holds None bytes = ⊤
 Holds (Some told) bytes = bytes ≡ told
 
--- the n bytes at the front of buf are those of the file from the offset on, and there is none only where the file ends
+-- the n bytes at the front of buf are those of the file from the offset on, and there is none only where the file
+-- ends
 abbrev pub ReadsAt : Option (List ℕ) → ℕ → ℕ → List ℕ → Type 0
 ReadsAt None offset n buf = ⊤
-ReadsAt (Some told) offset n buf = (take n buf ≡ take n (drop offset told)) × (n ≡ 0 → 0 < length buf → length told ≤ offset)
+ReadsAt (Some told) offset n buf =
+    (take n buf ≡ take n (drop offset told)) × (n ≡ 0 → 0 < length buf → length told ≤ offset)
 
 -- the file is longer than the limit: some longer bytes are what it holds
 abbrev pub IsLonger : Option (List ℕ) → ℕ → Type 0
@@ -33,7 +38,49 @@ IsLonger told limit = (bytes : List ℕ) × Holds told bytes × (limit < length 
 abbrev pub DrawnFrom : Option (List ℕ) → Option (List ℕ) → Type 0
 DrawnFrom old new = (front : List ℕ) × (old ≡ prepend_known front new)
 
--- one name was asked for, so many times, and no other
-pub record AsksOnly {F : Type 0} (asked : F → List (List ℕ) → Type 0) (old new : F) (name : List ℕ) : Type 0 where
-  pub times : ℕ
-  pub asks : Adds asked old new (replicate times name)
+-- A read of a piece of a file: the file's name, where the piece begins, and how many bytes came, if the read did not
+-- fail.
+pub record PieceRead : Type 0 where
+  pub name : List ℕ
+  pub offset : ℕ
+  pub count : Option ℕ
+
+abbrev pub count_of : {E : Type 0} → Result ℕ E → Option ℕ
+count_of (Ok n) = Some n
+count_of (Err e) = None
+
+-- a read that answered so
+abbrev pub piece_read : {E : Type 0} → (name : List ℕ) → (offset : ℕ) → Result ℕ E → PieceRead
+piece_read name offset result = record { name = name; offset = offset; count = count_of result }
+
+-- each read is of the file of this name
+abbrev pub AreOf : (name : List ℕ) → List PieceRead → Type 0
+AreOf name reads = AllByRecursion (λ (read : PieceRead). read.name ≡ name) reads
+
+-- reads of one file from an offset on, each from where the one before it ended, that give these numbers of bytes
+abbrev pub reads_from : (name : List ℕ) → (offset : ℕ) → (counts : List ℕ) → List PieceRead
+reads_from name offset [] = []
+reads_from name offset (n ∷ counts) =
+    record { name = name; offset = offset; count = Some n } ∷ reads_from name (offset + n) counts
+
+-- These reads went through a file from its front to its end, `len` bytes in all: the first began at 0, each other
+-- where the one before it ended, and each gave some bytes but the last, which found none.
+pub record FrontToEnd (name : List ℕ) (len : ℕ) (reads : List PieceRead) : Type 0 where
+  pub counts : List ℕ
+  pub some : AllByRecursion (λ n. 0 < n) counts
+  pub all : sum counts ≡ len
+  pub in_order : reads ≡ reads_from name 0 (counts ++ 0 ∷ [])
+
+-- the file of one name was read, any number of times, and no other
+pub record AsksOnly {F : Type 0} (asked : F → List PieceRead → Type 0) (old new : F) (name : List ℕ)
+    : Type 0 where
+  pub reads : List PieceRead
+  pub of_name : AreOf name reads
+  pub asks : Adds asked old new reads
+
+-- the file of a name, of `len` bytes, was read from its front to its end, and no other
+pub record AsksWhole {F : Type 0} (asked : F → List PieceRead → Type 0) (old new : F) (name : List ℕ) (len : ℕ)
+    : Type 0 where
+  pub reads : List PieceRead
+  pub whole : FrontToEnd name len reads
+  pub asks : Adds asked old new reads

@@ -1,11 +1,12 @@
 -- What sinks and files in memory hold.
-use Rattle.std.specs.Prelude.{◌≡◌, ℕ, ◌+◌, ◌-◌, ◌<◌, ◌⊎◌, min, List, [], ◌∷◌, length, Contains, Vec, String, string_bytes, if◌then◌else◌, Option, Some, None, unwrap_or}
+use Rattle.std.specs.Prelude.{◌≡◌, ℕ, ◌+◌, ◌-◌, ◌<◌, ◌⊎◌, min, List, [], ◌∷◌, length, Contains, Vec, String}
+use Rattle.std.specs.Prelude.{string_bytes, if◌then◌else◌, Option, Some, None, unwrap_or}
 use Rattle.std.specs.Str.{bytes_eq}
 use Rattle.std.specs.declared.alloc.Global.{Global}
 use Rattle.mm_io.specs.Files.{raised}
 
--- A sink in memory: the bytes that it took, how many it has room for, the numbers of the calls that fail, the most bytes that
--- one call moves, and how many calls and faults there were.
+-- A sink in memory: the bytes that it took, how many it has room for, the numbers of the calls that fail, the most
+-- bytes that one call moves, and how many calls and faults there were.
 pub record MemorySink : Type 0 where
   pub taken : List ℕ
   pub room : ℕ
@@ -31,8 +32,8 @@ file_in (file ∷ files) name = if bytes_eq file.0 name then Some file.1 else fi
 abbrev pub file_of : List (List ℕ × List ℕ) → List ℕ → List ℕ
 file_of files name = unwrap_or (file_in files name) []
 
--- Files in memory: their names and bytes, the numbers of the calls that fail, the most bytes that one call moves, and how many calls
--- and faults there were.
+-- Files in memory: their names and bytes, the numbers of the calls that fail, the most bytes that one call moves, and
+-- how many calls and faults there were.
 pub record MemoryFiles : Type 0 where
   pub files : List (List ℕ × List ℕ)
   pub fails : List ℕ
@@ -48,8 +49,8 @@ RefusesRead s name = Contains s.fails (raised s.calls) ⊎ (file_in s.files name
 abbrev pub moved : MemoryFiles → List ℕ → ℕ → ℕ → ℕ
 moved s name offset room = min (length (file_of s.files name) - offset) (min room s.piece)
 
--- A source in memory: the bytes that are left, the numbers of the calls that fail, the most bytes that one call moves, and how many
--- calls and faults there were.
+-- A source in memory: the bytes that are left, the numbers of the calls that fail, the most bytes that one call
+-- moves, and how many calls and faults there were.
 pub record MemorySource : Type 0 where
   pub left : List ℕ
   pub fails : List ℕ

@@ -1,5 +1,6 @@
 // Files in memory that fail where they are told to.
-ghost use Rattle.std.specs.Prelude.{◌≡◌, ◌↔◌, ℕ, ◌-◌, ◌<◌, ◌≤◌, ◌^◌, min, [], ◌∷◌, length, map, IsErr, IfOk, OnOk, OnErr};
+ghost use Rattle.std.specs.Prelude.{◌≡◌, ◌↔◌, ℕ, ◌-◌, ◌<◌, ◌≤◌, ◌^◌, min, [], ◌∷◌, length, map, IsErr, IfOk, OnOk};
+ghost use Rattle.std.specs.Prelude.{OnErr};
 ghost use Rattle.mm_word.specs.Adding.{Adds};
 ghost use Rattle.mm_io.specs.Files.{Rose, ReadsAt, raised};
 ghost use Rattle.mm_io.specs.Memory.{MemoryFiles, RefusesRead, file_in, moved, named};
@@ -10,8 +11,9 @@ use std::marker::Model;
 
 /// Files that fail where they are told to.
 ///
-/// Of two files of one name the first counts. A call moves at most `piece` bytes, and the calls of `fails`, counted from 1, fail. A
-/// call for a name that is absent fails too. Each failed call raises the count of faults, which is one for every name.
+/// Of two files of one name the first counts. A call moves at most `piece` bytes, and the calls of `fails`, counted
+/// from 1, fail. A call for a name that is absent fails too. Each failed call raises the count of faults, which is
+/// one for every name.
 #[derive(Drop)]
 pub struct MemFiles {
     held: Vec<(String, Vec<u8>)>,
@@ -63,7 +65,7 @@ impl Files for MemFiles {
     ghost faults = { λ s _. s.faults };
 
     // they count the calls
-    ghost asked = { λ s names. s.calls ≡ min (length names) (2 ^ 64 - 1) };
+    ghost asked = { λ s reads. s.calls ≡ min (length reads) (2 ^ 64 - 1) };
 
     fn read_at(&mut self, name: &str, offset: u64, buf: &mut [u8]) -> Result<usize, Failed>
         requires { offset < 2 ^ 32 }

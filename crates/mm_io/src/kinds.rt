@@ -2,7 +2,7 @@
 ghost use Rattle.std.specs.Prelude.{◌≡◌, ℕ, ◌+◌, ◌^◌, ◌<◌, ◌≤◌, List, [], ◌∷◌, Option, length, take, IfOk, OnErr};
 ghost use Rattle.std.specs.Io.KnownBytes.{append_known, prepend_known, IsAtEnd};
 ghost use Rattle.mm_word.specs.Adding.{Adds};
-ghost use Rattle.mm_io.specs.Files.{Rose, NoneFell, ReadsAt};
+ghost use Rattle.mm_io.specs.Files.{Rose, NoneFell, ReadsAt, PieceRead, piece_read};
 
 /// A read or a write that failed. It comes only where the count of faults rose in the call, or
 /// stands at the counter's last value.
@@ -14,8 +14,8 @@ pub struct Failed;
 /// Each name has a count of faults of its own. No count ever falls, and a read answers [`Failed`]
 /// only where the count of its own name rose in this call, or stands at the counter's last value.
 ///
-/// Files stand to lists of names: those that reads asked for, in order. Each read takes every list
-/// to which they stood to that list with its own name added, whatever it answers.
+/// Files stand to lists of reads: those that were made of them, in order. Each read takes every
+/// list to which they stood to that list with itself added, whatever it answers.
 pub trait Files {
     /// The bytes of the file of a name, where they are told.
     ghost held: { Self → List ℕ → Option (List ℕ) };
@@ -23,8 +23,8 @@ pub trait Files {
     /// How often reads of a name have failed.
     ghost faults: { Self → List ℕ → ℕ };
 
-    /// Reads asked for these names, one after the other.
-    ghost asked: { Self → List (List ℕ) → Type 0 };
+    /// These reads were made, one after the other.
+    ghost asked: { Self → List PieceRead → Type 0 };
 
     /// Writes bytes of the named file, from the offset in bytes on, to the front of `buf`, and
     /// answers how many. It answers 0 for a nonempty `buf` only where the offset is at the file's
@@ -36,7 +36,7 @@ pub trait Files {
         ensures kept { held self.new ≡ held self.old }
         ensures cause { OnErr result (Rose (faults self.old name.now) (faults self.new name.now)) }
         ensures later { NoneFell (faults self.old) (faults self.new) }
-        ensures asks { Adds asked self.old self.new (name.now ∷ []) };
+        ensures asks { Adds asked self.old self.new (piece_read name.now offset result ∷ []) };
 }
 
 /// A place where bytes go.

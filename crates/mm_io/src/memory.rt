@@ -1,5 +1,6 @@
 // Sinks in memory, for tests and for callers that need no text.
-ghost use Rattle.std.specs.Prelude.{◌≡◌, ℕ, ◌+◌, ◌-◌, ◌^◌, ◌<◌, ◌≤◌, ◌↔◌, [], ◌++◌, Ok, Some, None, length, take, min, vec_capacity, IsErr, IfOk, OnErr};
+ghost use Rattle.std.specs.Prelude.{◌≡◌, ℕ, ◌+◌, ◌-◌, ◌^◌, ◌<◌, ◌≤◌, ◌↔◌, [], ◌++◌, Ok, Some, None, length, take};
+ghost use Rattle.std.specs.Prelude.{min, vec_capacity, IsErr, IfOk, OnErr};
 ghost use Rattle.std.specs.Io.KnownBytes.{append_known};
 ghost use Rattle.mm_io.specs.Files.{Rose, raised};
 ghost use Rattle.mm_io.specs.Memory.{MemorySink, Refuses};

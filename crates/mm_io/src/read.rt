@@ -2,7 +2,7 @@
 ghost use Rattle.std.specs.Prelude.{◌≡◌, ◌^◌, ◌<◌, ◌≤◌, length, IfOk, OnOk, IsErrOf};
 ghost use Rattle.std.specs.Io.KnownBytes.{IsAtEnd};
 ghost use Rattle.mm_io.specs.declared.read.ReadError.TheVariants.{ReadFault, NoMemory};
-ghost use Rattle.mm_io.specs.Files.{Rose, NoneFell, Holds, IsLonger, DrawnFrom, AsksOnly};
+ghost use Rattle.mm_io.specs.Files.{Rose, NoneFell, Holds, IsLonger, DrawnFrom, AsksOnly, AsksWhole};
 
 use crate::{Failed, Files, Source};
 use std::alloc::{AllocError, Global};
@@ -56,17 +56,19 @@ pub fn read_all<F: Files>(
     ensures bytes { IfOk result (λ bytes. Holds (F.held files.old name.now) bytes.items) }
     ensures short { IfOk result (λ bytes. length bytes.items ≤ limit) }
     ensures too_long { IsErrOf result ReadError.TooLong → IsLonger (F.held files.old name.now) limit }
-    ensures fault { IsErrOf result ReadError.ReadFault → Rose (F.faults files.old name.now) (F.faults files.new name.now) }
+    ensures fault { IsErrOf result ReadError.ReadFault
+        → Rose (F.faults files.old name.now) (F.faults files.new name.now) }
     ensures kept { F.held files.new ≡ F.held files.old }
     ensures later { NoneFell (F.faults files.old) (F.faults files.new) }
     ensures asks { AsksOnly F.asked files.old files.new name.now }
+    ensures whole { IfOk result (λ bytes. AsksWhole F.asked files.old files.new name.now (length bytes.items)) }
 {
     let mut buffer = vec![in alloc; 0u8; PIECE]?;
     read_pieces(alloc, files, name, limit, &mut buffer)
 }
 
 // `read_all` through a buffer.
-#[tactic(auto, using(crate::proofs::Asking::asks_nothing, crate::proofs::Asking::asks_again))]
+#[tactic(auto, using(crate::proofs::Asking::front_nothing))]
 fn read_pieces<F: Files>(
     alloc: Global,
     files: &mut F,
@@ -79,10 +81,12 @@ fn read_pieces<F: Files>(
     ensures bytes { IfOk result (λ bytes. Holds (F.held files.old name.now) bytes.items) }
     ensures short { IfOk result (λ bytes. length bytes.items ≤ limit) }
     ensures too_long { IsErrOf result ReadError.TooLong → IsLonger (F.held files.old name.now) limit }
-    ensures fault { IsErrOf result ReadError.ReadFault → Rose (F.faults files.old name.now) (F.faults files.new name.now) }
+    ensures fault { IsErrOf result ReadError.ReadFault
+        → Rose (F.faults files.old name.now) (F.faults files.new name.now) }
     ensures kept { F.held files.new ≡ F.held files.old }
     ensures later { NoneFell (F.faults files.old) (F.faults files.new) }
     ensures asks { AsksOnly F.asked files.old files.new name.now }
+    ensures whole { IfOk result (λ bytes. AsksWhole F.asked files.old files.new name.now (length bytes.items)) }
 {
     let mut bytes = Vec::new(alloc);
     loop {

@@ -33,7 +33,7 @@ impl Files for SureFiles {
 
     ghost faults = { λ _ _. 0 };
 
-    // they keep nothing of the names
+    // they keep nothing of the reads
     ghost asked = { λ _ _. ⊤ };
 
     fn read_at(&mut self, name: &str, offset: u64, buf: &mut [u8]) -> Result<usize, Failed> {

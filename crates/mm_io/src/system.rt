@@ -1,7 +1,10 @@
-// Real files and streams. What they hold, have left and take is not told, so that of them only the
-// counts of faults are known. They are the trusted edge: what the system does is not proved.
-ghost use Rattle.std.specs.Prelude.{◌≡◌, ℕ, ◌<◌, ◌≤◌, None, length, IfOk, OnOk, OnErr, ⊤};
+// Real files and streams. As files, sinks and sources they tell no content. A stream that tells std
+// what it holds or has left was handed what a call says, and gave it. They are the trusted edge:
+// what the system does is not proved.
+ghost use Rattle.std.specs.Prelude.{◌≡◌, ℕ, ◌<◌, ◌≤◌, None, length, take, IfOk, OnOk, OnErr, ⊤};
+ghost use Rattle.std.specs.Io.KnownBytes.{Keeps, Appends, Consumes, IsAtEnd};
 ghost use Rattle.mm_io.specs.Files.{Rose, raised};
+ghost use Rattle.mm_io.specs.Streams.{WrittenStream, ReadStream, ReadsPlaced};
 
 use crate::{Failed, Files, Sink, Source};
 use std::io::{Read, Seek, SeekFrom, Write};
@@ -31,12 +34,21 @@ impl<R: rt::Files + Drop> StdFiles<R> {
     }
 }
 
+// Bytes of a stream from an offset on.
+fn read_placed<S: Read + Seek>(stream: &mut S, offset: u64, buf: &mut [u8]) -> io::Result<usize>
+    ensures bound { IfOk result (λ n. n ≤ length buf.new) }
+    ensures placed { IfOk result (λ n. ReadsPlaced S.stream_position S.remaining stream.old stream.new offset n buf.new) }
+{
+    stream.seek(SeekFrom::Start(offset))?;
+    stream.read(buf)
+}
+
+// Bytes of the file of a name, which is opened anew.
 fn read_from<R: rt::Files>(rt: &R, name: &str, offset: u64, buf: &mut [u8]) -> io::Result<usize>
     ensures { IfOk result (λ n. n ≤ length buf.new) }
 {
     let mut file = fs::open(rt, name)?;
-    file.seek(SeekFrom::Start(offset))?;
-    file.read(buf)
+    read_placed(&mut file, offset, buf)
 }
 
 impl<R: rt::Files + Drop> Files for StdFiles<R> {
@@ -44,7 +56,7 @@ impl<R: rt::Files + Drop> Files for StdFiles<R> {
 
     ghost faults = { λ s _. s };
 
-    // they keep nothing of the names
+    // they keep nothing of the reads
     ghost asked = { λ _ _. ⊤ };
 
     fn read_at(&mut self, name: &str, offset: u64, buf: &mut [u8]) -> Result<usize, Failed>
@@ -75,15 +87,15 @@ pub struct StdSink<W: Write + Drop> {
 }
 
 impl<W: Write + Drop> Model for StdSink<W> {
-    ghost Value = { ℕ };
+    ghost Value = { WrittenStream };
 
-    ghost view = { λ s. s.faults };
+    ghost view = { λ s. record { contents = W.contents s.stream; faults = s.faults } };
 }
 
 impl<W: Write + Drop> StdSink<W> {
     /// A sink over the stream, with no fault so far.
     pub fn new(stream: W) -> Self
-        ensures { result ≡ 0 }
+        ensures { result ≡ record { contents = W.contents stream; faults = 0 } }
     {
         StdSink { stream, faults: 0 }
     }
@@ -92,17 +104,21 @@ impl<W: Write + Drop> StdSink<W> {
 impl<W: Write + Drop> Sink for StdSink<W> {
     ghost taken = { λ _. None };
 
-    ghost faults = { λ s. s };
+    ghost faults = { λ s. s.faults };
 
     fn write(&mut self, piece: &[u8]) -> Result<usize, Failed>
         ensures bound { IfOk result (λ n. n ≤ length piece.now) }
         ensures some { IfOk result (λ n. 0 < length piece.now → 0 < n) }
-        ensures cause { OnErr result (Rose self.old self.new) }
-        ensures later { self.old ≤ self.new }
+        ensures cause { OnErr result (Rose self.old.faults self.new.faults) }
+        ensures later { self.old.faults ≤ self.new.faults }
+
+        // the stream took what is answered, and nothing at an error
+        ensures handed { IfOk result (λ n. Appends self.old.contents self.new.contents (take n piece.now)) }
+        ensures nothing { OnErr result (Keeps self.old.contents self.new.contents) }
 
         // each error raises the count, and nothing else does
-        ensures ok { OnOk result (self.new ≡ self.old) }
-        ensures err { OnErr result (self.new ≡ raised self.old) }
+        ensures ok { OnOk result (self.new.faults ≡ self.old.faults) }
+        ensures err { OnErr result (self.new.faults ≡ raised self.old.faults) }
     {
         match self.stream.write(piece) {
             Ok(count) if count > 0 || piece.is_empty() => Ok(count),
@@ -122,15 +138,15 @@ pub struct StdSource<R: Read + Drop> {
 }
 
 impl<R: Read + Drop> Model for StdSource<R> {
-    ghost Value = { ℕ };
+    ghost Value = { ReadStream };
 
-    ghost view = { λ s. s.faults };
+    ghost view = { λ s. record { remaining = R.remaining s.stream; faults = s.faults } };
 }
 
 impl<R: Read + Drop> StdSource<R> {
     /// A source over the stream, with no fault so far.
     pub fn new(stream: R) -> Self
-        ensures { result ≡ 0 }
+        ensures { result ≡ record { remaining = R.remaining stream; faults = 0 } }
     {
         StdSource { stream, faults: 0 }
     }
@@ -139,16 +155,21 @@ impl<R: Read + Drop> StdSource<R> {
 impl<R: Read + Drop> Source for StdSource<R> {
     ghost left = { λ _. None };
 
-    ghost faults = { λ s. s };
+    ghost faults = { λ s. s.faults };
 
     fn read(&mut self, buf: &mut [u8]) -> Result<usize, Failed>
         ensures bound { IfOk result (λ n. n ≤ length buf.new) }
-        ensures cause { OnErr result (Rose self.old self.new) }
-        ensures later { self.old ≤ self.new }
+        ensures cause { OnErr result (Rose self.old.faults self.new.faults) }
+        ensures later { self.old.faults ≤ self.new.faults }
+
+        // the stream gave what is answered, is at its end where it gave nothing, and keeps all at an error
+        ensures handed { IfOk result (λ n. Consumes self.old.remaining self.new.remaining (take n buf.new)) }
+        ensures ends { IfOk result (λ n. n ≡ 0 → 0 < length buf.new → IsAtEnd self.new.remaining) }
+        ensures nothing { OnErr result (Keeps self.old.remaining self.new.remaining) }
 
         // each error raises the count, and nothing else does
-        ensures ok { OnOk result (self.new ≡ self.old) }
-        ensures err { OnErr result (self.new ≡ raised self.old) }
+        ensures ok { OnOk result (self.new.faults ≡ self.old.faults) }
+        ensures err { OnErr result (self.new.faults ≡ raised self.old.faults) }
     {
         match self.stream.read(buf) {
             Ok(count) => Ok(count),

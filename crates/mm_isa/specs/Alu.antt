@@ -1,9 +1,11 @@
 -- The results of the integer operations, over numbers below 2 ^ 64.
-use Rattle.std.specs.Prelude.{ℕ, ℤ, pos, ◌+◌, ◌-◌, ◌*◌, ◌/◌, ◌%◌, ◌^◌, Bool, true, false, ◌==◌, nat_lt, if◌then◌else◌, int_lt, bit_and, bit_or, bit_xor, Result, Ok, Err}
+use Rattle.std.specs.Prelude.{ℕ, ℤ, pos, ◌+◌, ◌-◌, ◌*◌, ◌/◌, ◌%◌, ◌^◌, Bool, true, false, ◌==◌, nat_lt, if◌then◌else◌}
+use Rattle.std.specs.Prelude.{int_lt, bit_and, bit_or, bit_xor, Result, Ok, Err}
 use Rattle.std.specs.Int.{w64, cast_signed, cast_unsigned, int_div_euclid}
 use Rattle.mm_isa.specs.declared.instr.DivZero.{DivZero}
 use Rattle.mm_isa.specs.declared.instr.AluOp.{AluOp}
-use Rattle.mm_isa.specs.declared.instr.AluOp.TheVariants.{Add, Sub, Mul, Divu, Remu, And, Or, Xor, Shl, Shr, Sar, Eq, Ltu, Lts}
+use Rattle.mm_isa.specs.declared.instr.AluOp.TheVariants.{Add, Sub, Mul, Divu, Remu, And, Or, Xor, Shl, Shr, Sar, Eq}
+use Rattle.mm_isa.specs.declared.instr.AluOp.TheVariants.{Ltu, Lts}
 
 -- the one value of `DivZero`
 abbrev pub div_zero : DivZero
@@ -24,7 +26,8 @@ answer false = 0
 abbrev pub signed : ℕ → ℤ
 signed a = cast_signed w64 a
 
--- the result of an operation. Differences are modulo 2 ^ 64, and an arithmetic shift gives the signed quotient by a power of 2, rounded down
+-- the result of an operation. Differences are modulo 2 ^ 64, and an arithmetic shift gives the signed quotient by a
+-- power of 2, rounded down
 abbrev pub alu_result : AluOp → ℕ → ℕ → Result ℕ DivZero
 alu_result Add a b = Ok ((a + b) % 2 ^ 64)
 alu_result Sub a b = Ok ((a + (2 ^ 64 - b)) % 2 ^ 64)

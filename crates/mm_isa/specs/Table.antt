@@ -1,4 +1,5 @@
--- The table of operations: each with its name, its number and its operands. The fields of an instruction word follow from it.
+-- The table of operations: each with its name, its number and its operands. The fields of an instruction word follow
+-- from it.
 use Rattle.std.specs.Prelude.{ℕ, ◌+◌, ◌*◌, ◌/◌, ◌%◌, ◌^◌, ◌<◌, ◌≤◌, pos, FitsSigned, List, [], ◌∷◌, map, fold, codes}
 use Rattle.std.specs.List.{AllByRecursion}
 use Rattle.std.specs.Int.{w32, cast_unsigned}
@@ -9,11 +10,15 @@ use Rattle.mm_word.specs.declared.word.Post.{Post}
 use Rattle.mm_word.specs.declared.word.Post.TheVariants as post
 use Rattle.mm_isa.specs.declared.fields.Fields.{Fields}
 use Rattle.mm_isa.specs.declared.instr.AluOp.{AluOp}
-use Rattle.mm_isa.specs.declared.instr.AluOp.TheVariants.{Add, Sub, Mul, Divu, Remu, And, Or, Xor, Shl, Shr, Sar, Eq, Ltu, Lts}
+use Rattle.mm_isa.specs.declared.instr.AluOp.TheVariants.{Add, Sub, Mul, Divu, Remu, And, Or, Xor, Shl, Shr, Sar, Eq}
+use Rattle.mm_isa.specs.declared.instr.AluOp.TheVariants.{Ltu, Lts}
 use Rattle.mm_isa.specs.declared.instr.How.{How}
 use Rattle.mm_isa.specs.declared.instr.How.TheVariants.{Retry, Skip, Kill}
 use Rattle.mm_isa.specs.declared.instr.Instr.{Instr}
-use Rattle.mm_isa.specs.declared.instr.Instr.TheVariants.{Halt, Nop, Ldi, Ldhi, Mov, Isptr, Eqw, Out, SelfSlot, Alu, Addi, Lea, Leai, Leab, Restrict, Subseg, Setptr, Ld, St, Br, Bz, Bnz, Jmp, Jal, Lip, Trap, Evt, Resume, Rreg, Wreg, Map, Unmap}
+use Rattle.mm_isa.specs.declared.instr.Instr.TheVariants.{Halt, Nop, Ldi, Ldhi, Mov, Isptr, Eqw, Out, SelfSlot, Alu}
+use Rattle.mm_isa.specs.declared.instr.Instr.TheVariants.{Addi, Lea, Leai, Leab, Restrict, Subseg, Setptr, Ld, St, Br}
+use Rattle.mm_isa.specs.declared.instr.Instr.TheVariants.{Bz, Bnz, Jmp, Jal, Lip, Trap, Evt, Resume, Rreg, Wreg, Map}
+use Rattle.mm_isa.specs.declared.instr.Instr.TheVariants.{Unmap}
 use Rattle.mm_isa.specs.declared.operand.Operand.{Operand}
 use Rattle.mm_isa.specs.declared.operand.Operand.TheVariants as operand
 use Rattle.mm_isa.specs.declared.operand.Operand.TheVariants.{Rd, EvtRd, Ra, Rb, Imm, Distance, RegisterNumber}
@@ -58,7 +63,8 @@ operation_of (Isptr rd ra) = row "isptr" 0x05 (Rd rd ∷ Ra ra ∷ [])
 operation_of (Eqw rd ra rb) = row "eqw" 0x06 (Rd rd ∷ Ra ra ∷ Rb rb ∷ [])
 operation_of (Out ra) = row "out" 0x07 (Ra ra ∷ [])
 operation_of (SelfSlot rd) = row "self" 0x08 (Rd rd ∷ [])
-operation_of (Alu op rd ra rb) = record { name = (integer op).0; code = (integer op).1; operands = Rd rd ∷ Ra ra ∷ Rb rb ∷ [] }
+operation_of (Alu op rd ra rb) =
+    record { name = (integer op).0; code = (integer op).1; operands = Rd rd ∷ Ra ra ∷ Rb rb ∷ [] }
 operation_of (Addi rd ra imm) = row "addi" 0x1e (Rd rd ∷ Ra ra ∷ Imm imm ∷ [])
 operation_of (Lea rd ra rb) = row "lea" 0x20 (Rd rd ∷ Ra ra ∷ Rb rb ∷ [])
 operation_of (Leai rd ra imm) = row "leai" 0x21 (Rd rd ∷ Ra ra ∷ Imm imm ∷ [])
@@ -66,8 +72,10 @@ operation_of (Leab rd ra rb) = row "leab" 0x22 (Rd rd ∷ Ra ra ∷ Rb rb ∷ []
 operation_of (Restrict rd ra rb) = row "restrict" 0x23 (Rd rd ∷ Ra ra ∷ Rb rb ∷ [])
 operation_of (Subseg rd ra rb) = row "subseg" 0x24 (Rd rd ∷ Ra ra ∷ Rb rb ∷ [])
 operation_of (Setptr rd ra) = row "setptr" 0x25 (Rd rd ∷ Ra ra ∷ [])
-operation_of (Ld rd ra pre post imm) = row "ld" 0x30 (Rd rd ∷ Ra ra ∷ Imm imm ∷ operand.Pre pre ∷ operand.Post post ∷ [])
-operation_of (St ra rb pre post imm) = row "st" 0x31 (Ra ra ∷ Rb rb ∷ Imm imm ∷ operand.Pre pre ∷ operand.Post post ∷ [])
+operation_of (Ld rd ra pre post imm) =
+    row "ld" 0x30 (Rd rd ∷ Ra ra ∷ Imm imm ∷ operand.Pre pre ∷ operand.Post post ∷ [])
+operation_of (St ra rb pre post imm) =
+    row "st" 0x31 (Ra ra ∷ Rb rb ∷ Imm imm ∷ operand.Pre pre ∷ operand.Post post ∷ [])
 operation_of (Br imm) = row "br" 0x40 (Distance imm ∷ [])
 operation_of (Bz ra imm) = row "bz" 0x41 (Ra ra ∷ Distance imm ∷ [])
 operation_of (Bnz ra imm) = row "bnz" 0x42 (Ra ra ∷ Distance imm ∷ [])

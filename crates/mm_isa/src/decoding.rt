@@ -20,7 +20,8 @@ pub fn decode(w: u64) -> Option<Instr>
     if encode(&i) == w { Some(i) } else { None }
 }
 
-/// The same, for the turn of a slot: it becomes a part of its caller, and tests a word by one mask and one number for each row.
+/// The same, for the turn of a slot: it becomes a part of its caller, and tests a word by one mask and one number for
+/// each row.
 #[inline(always)]
 pub fn read(w: u64) -> Option<Instr>
     ensures value { result ≡ instr_of w }

@@ -43,7 +43,7 @@ pub enum How {
 }
 
 /// An instruction with its operands: `rd` is written, `ra` and `rb` are read, `imm` is a constant.
-#[derive(Clone, Copy, Debug, PartialEq, Eq)]
+#[derive(Clone, Copy)]
 pub enum Instr {
     Halt,
     Nop,

@@ -1,6 +1,7 @@
 //! What holds of the definitions of instruction words and integer operations. Each function's
 //! contract is the law; the functions do nothing.
-ghost use Rattle.std.specs.Prelude.{◌≡◌, ◌≢◌, ◌<◌, ◌^◌, ◌↔◌, ℕ, pos, negsuc, List, map, fold, AllPairs, Some, None, IfOk};
+ghost use Rattle.std.specs.Prelude.{◌≡◌, ◌≢◌, ◌<◌, ◌^◌, ◌↔◌, ℕ, pos, negsuc, List, map, fold, AllPairs, Some, None};
+ghost use Rattle.std.specs.Prelude.{IfOk};
 ghost use Rattle.std.specs.List.{AllByRecursion};
 ghost use Rattle.mm_word.specs.declared.word.Pre.TheVariants as pre;
 ghost use Rattle.mm_word.specs.declared.word.Post.TheVariants as post;
@@ -8,7 +9,8 @@ ghost use Rattle.mm_isa.specs.declared.fields.Fields.{Fields};
 ghost use Rattle.mm_isa.specs.declared.instr.AluOp.{AluOp};
 ghost use Rattle.mm_isa.specs.declared.instr.Instr.{Instr};
 ghost use Rattle.mm_isa.specs.declared.operand.Operand.{Operand};
-ghost use Rattle.mm_isa.specs.Table.{operation_of, kind_of, kinds_of, unused, put, fields_of, packed, spelling, IsInRange, IsInstr};
+ghost use Rattle.mm_isa.specs.Table.{operation_of, kind_of, kinds_of, unused, put, fields_of, packed, spelling};
+ghost use Rattle.mm_isa.specs.Table.{IsInRange, IsInstr};
 ghost use Rattle.mm_isa.specs.Decode.{fields_in, instr_of, rows, form_of, forms, operation_named};
 ghost use Rattle.mm_isa.specs.Alu.{alu_result};
 
@@ -82,7 +84,8 @@ pub fn operands_determine_the_instruction()
 /// Operands in their ranges, of the kinds of a row, are those of an instruction. The word with them in
 /// their places is read as it.
 pub fn operands_make_an_instruction()
-    ensures { (i : Instr) (operands : List Operand) → map kind_of operands ≡ kinds_of i → AllByRecursion IsInRange operands
+    ensures { (i : Instr) (operands : List Operand) → map kind_of operands ≡ kinds_of i
+        → AllByRecursion IsInRange operands
         → (j : Instr) × (instr_of (packed (fold put (unused (operation_of i).code) operands)) ≡ Some j)
         × (operation_of j ≡ record (operation_of i) { operands = operands }) }
 {}

@@ -6,7 +6,7 @@ use crate::reg::{EvtReg, Reg};
 use mm_word::{Post, Pre};
 
 /// An operand of an instruction: the field that it stands in, and what it is.
-#[derive(Clone, Copy, Debug, PartialEq, Eq)]
+#[derive(Clone, Copy)]
 pub enum Operand {
     /// The register of `rd`.
     Rd(Reg),

@@ -7,8 +7,8 @@ use crate::instr::Instr;
 use crate::operand::Operand;
 use crate::table::Visitor;
 
-/// A word that is put together operand by operand: the fields so far, each in its place. No fields stand beside it, so that a
-/// compiler makes one mask and one number of each row.
+/// A word that is put together operand by operand: the fields so far, each in its place. No fields stand beside it, so
+/// that a compiler makes one mask and one number of each row.
 #[derive(Clone, Copy)]
 struct Sum {
     word: u64,

@@ -4,7 +4,6 @@ mod CountSums
 pub mod Restricting
 mod Robins
 mod Texts
-mod Spellings
 mod CountExact
 pub mod GrantedWords
 pub mod GrantedRows

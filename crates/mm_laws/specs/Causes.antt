@@ -12,15 +12,19 @@ use Rattle.mm_model.specs.Run.{turn_of, after}
 
 -- a cycle is idle exactly where its item is neither the number of a slot that runs nor a port where a load is pending
 abbrev pub IdleExactly : Type 0
-IdleExactly = (i : Image) (s : State) (n : ℕ) → IsImage i → IsState s → Fits i s → ((turn_of s n).step.tick ≡ Idle) ↔ IsIdle s.core n
+IdleExactly = (i : Image) (s : State) (n : ℕ) → IsImage i → IsState s → Fits i s → ((turn_of s n).step.tick ≡ Idle)
+    ↔ IsIdle s.core n
 
--- it delivers to a register exactly where its item is a port, and the oldest load that is pending there is for this register
+-- it delivers to a register exactly where its item is a port, and the oldest load that is pending there is for this
+-- register
 abbrev pub DeliveredExactly : Type 0
-DeliveredExactly = (i : Image) (s : State) (n reg : ℕ) → IsImage i → IsState s → Fits i s → ((turn_of s n).step.tick ≡ Delivered reg) ↔ Delivers s.core n reg
+DeliveredExactly = (i : Image) (s : State) (n reg : ℕ) → IsImage i → IsState s → Fits i s
+    → ((turn_of s n).step.tick ≡ Delivered reg) ↔ Delivers s.core n reg
 
 -- it is blocked exactly where a running slot is named whose turn waits
 abbrev pub BlockedExactly : Type 0
-BlockedExactly = (i : Image) (s : State) (n : ℕ) → IsImage i → IsState s → Fits i s → ((turn_of s n).step.tick ≡ Blocked) ↔ Blocks s.core s.memory n
+BlockedExactly = (i : Image) (s : State) (n : ℕ) → IsImage i → IsState s → Fits i s
+    → ((turn_of s n).step.tick ≡ Blocked) ↔ Blocks s.core s.memory n
 
 -- it faults exactly where a running slot is named whose turn stops at this fault and does not wait
 abbrev pub FaultedExactly : Type 0
@@ -28,8 +32,10 @@ FaultedExactly = (s : State) (n : ℕ) (c : Cause) → ((turn_of s n).step.tick 
 
 -- it is carried out exactly where a running slot is named whose turn stops nowhere
 abbrev pub DidExactly : Type 0
-DidExactly = (i : Image) (s : State) (n : ℕ) → IsImage i → IsState s → Fits i s → ((turn_of s n).step.tick ≡ Did) ↔ Completes s.core s.memory n
+DidExactly = (i : Image) (s : State) (n : ℕ) → IsImage i → IsState s → Fits i s → ((turn_of s n).step.tick ≡ Did)
+    ↔ Completes s.core s.memory n
 
 -- a turn that stops at a fault changes what a fault changes and nothing else
 abbrev pub FaultsChangeNothingElse : Type 0
-FaultsChangeNothingElse = (i : Image) (s : State) (n : ℕ) (x : Slot) (c : Cause) → IsImage i → IsState s → Fits i s → StopsAt s.core s.memory n x c → FaultChanges x c s (after s n)
+FaultsChangeNothingElse = (i : Image) (s : State) (n : ℕ) (x : Slot) (c : Cause) → IsImage i → IsState s → Fits i s
+    → StopsAt s.core s.memory n x c → FaultChanges x c s (after s n)

@@ -16,8 +16,10 @@ use Rattle.mm_laws.specs.Runs.{AreLinesOf}
 -- the text has the lines of the cells that pass
 pub data LinesOf (Passes : ℕ → Type 0) : List (ℕ × Cell) → List ℕ → Type 0 where
   no_cell : LinesOf Passes [] []
-  line : {w : ℕ} {c : Cell} {cells : List (ℕ × Cell)} {text : List ℕ} → Passes w → LinesOf Passes cells text → LinesOf Passes ((w, c) ∷ cells) (cell_line w c ++ text)
-  no_line : {w : ℕ} {c : Cell} {cells : List (ℕ × Cell)} {text : List ℕ} → ¬ Passes w → LinesOf Passes cells text → LinesOf Passes ((w, c) ∷ cells) text
+  line : {w : ℕ} {c : Cell} {cells : List (ℕ × Cell)} {text : List ℕ} → Passes w → LinesOf Passes cells text
+      → LinesOf Passes ((w, c) ∷ cells) (cell_line w c ++ text)
+  no_line : {w : ℕ} {c : Cell} {cells : List (ℕ × Cell)} {text : List ℕ} → ¬ Passes w → LinesOf Passes cells text
+      → LinesOf Passes ((w, c) ∷ cells) text
 
 -- the text has the lines of the changed cells that the groups can touch
 abbrev pub CellLinesOf : Image → (ℕ → Bool) → State → List ℕ → Type 0
@@ -25,7 +27,8 @@ CellLinesOf i c s text = LinesOf (Touchable i All c) (changes s.memory i.memory)
 
 -- there is one such text at most
 abbrev pub CellLinesAreOne : Type 0
-CellLinesAreOne = (i : Image) (c : ℕ → Bool) (s : State) (one other : List ℕ) → CellLinesOf i c s one → CellLinesOf i c s other → one ≡ other
+CellLinesAreOne = (i : Image) (c : ℕ → Bool) (s : State) (one other : List ℕ) → CellLinesOf i c s one
+    → CellLinesOf i c s other → one ≡ other
 
 -- there is one
 abbrev pub CellLinesAreSome : Type 0
@@ -39,4 +42,5 @@ CellLinesAreSame =
 
 -- its lines are lines of the report, in their order
 abbrev pub CellLinesAreWritten : Type 0
-CellLinesAreWritten = (i : Image) (c : ℕ → Bool) (s : State) (counts : Option Counts) (text : List ℕ) → CellLinesOf i c s text → AreLinesOf text (report s i counts)
+CellLinesAreWritten = (i : Image) (c : ℕ → Bool) (s : State) (counts : Option Counts) (text : List ℕ)
+    → CellLinesOf i c s text → AreLinesOf text (report s i counts)

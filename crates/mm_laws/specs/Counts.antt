@@ -22,13 +22,15 @@ WritebacksAreFew = (us : List Use) → (counts_of us).writebacks ≤ (counts_of 
 -- a page is looked up for each miss and for each block that is written back
 abbrev pub LookUpsAreMissesAndWritebacks : Type 0
 LookUpsAreMissesAndWritebacks =
-    (us : List Use) → (counts_of us).tlb_hits + (counts_of us).tlb_misses ≡ (counts_of us).misses + (counts_of us).writebacks
+    (us : List Use) → (counts_of us).tlb_hits + (counts_of us).tlb_misses
+    ≡ (counts_of us).misses + (counts_of us).writebacks
 
--- In these lists the latest use is first. An access to a block is a hit exactly where the latest counted access with its line index
--- was to it, and its page was not removed since.
+-- In these lists the latest use is first. An access to a block is a hit exactly where the latest counted access with
+-- its line index was to it, and its page was not removed since.
 abbrev pub HitsAreExact : Type 0
 HitsAreExact = (block : ℕ) (us : List Use) → (is_hit block us ≡ true) ↔ LatestWas (line_of block) block us
 
 -- the block of a line is written exactly where a store or a set load on it was done, and no access to it missed since
 abbrev pub WrittenIsExact : Type 0
-WrittenIsExact = (line block : ℕ) (us : List Use) → latest line us ≡ Some block → (written line us ≡ true) ↔ WroteSinceMiss block us
+WrittenIsExact =
+    (line block : ℕ) (us : List Use) → latest line us ≡ Some block → (written line us ≡ true) ↔ WroteSinceMiss block us

@@ -95,8 +95,8 @@ abbrev pub with_entries : Entries → List (ℕ × Pointer) → Entries
 with_entries All new = All
 with_entries (These list) new = These (list ++ new)
 
--- what is granted of one turn: all words after it, with its entry, in a state that fits again; what it touches and enters; and each
--- word at which it changes, adds or removes a cell
+-- what is granted of one turn: all words after it, with its entry, in a state that fits again; what it touches and
+-- enters; and each word at which it changes, adds or removes a cell
 pub record StepGranted (i : Image) (e : Entries) (s : State) (n : ℕ) : Type 0 where
   pub state : IsState (after s n)
   pub fits : Fits i (after s n)
@@ -109,7 +109,8 @@ pub record StepGranted (i : Image) (e : Entries) (s : State) (n : ℕ) : Type 0 
 
 -- one turn, of any item, in any state that fits the image and whose words are granted, whatever was entered
 abbrev pub GrantsStep : Type 0
-GrantsStep = (i : Image) (e : Entries) (s : State) (n : ℕ) → IsImage i → IsState s → Fits i s → WordsGranted i e s → StepGranted i e s n
+GrantsStep = (i : Image) (e : Entries) (s : State) (n : ℕ) → IsImage i → IsState s → Fits i s → WordsGranted i e s
+    → StepGranted i e s n
 
 -- what holds of a run's state after a list of items, under the entries that were done in them, whichever item is next
 pub record RunGranted (i : Image) (e : Entries) (s : State) : Type 0 where
@@ -118,10 +119,13 @@ pub record RunGranted (i : Image) (e : Entries) (s : State) : Type 0 where
 
 -- after every list of items
 abbrev pub GrantsHold : Type 0
-GrantsHold = (i : Image) (items : List ℕ) → IsImage i → RunGranted i (These (entries (start i) items)) (run (start i) items)
+GrantsHold = (i : Image) (items : List ℕ) → IsImage i
+    → RunGranted i (These (entries (start i) items)) (run (start i) items)
 
--- in a state that fits its image and whose words are granted, an event is granted to the group of the slot that it is of too
+-- in a state that fits its image and whose words are granted, an event is granted to the group of the slot that it is
+-- of too
 abbrev pub EventsGranted : Type 0
 EventsGranted =
     (i : Image) (e : Entries) (s : State) → IsImage i → IsState s → Fits i s → WordsGranted i e s → (h : ℕ)
-    → AllByRecursion (λ (event : Event). (of : Slot) → slot_at s.core event.slot ≡ Some of → EventGranted i e of.group event) (queue_at s.core h)
+    → AllByRecursion (λ (event : Event). (of : Slot) → slot_at s.core event.slot ≡ Some of
+    → EventGranted i e of.group event) (queue_at s.core h)

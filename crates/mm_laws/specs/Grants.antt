@@ -15,11 +15,13 @@ GrantsGrow = (i : Image) (e f : Entries) → Grow e f → (g : ℕ) (q : Pointer
 
 -- grants under all entries contain those under every list
 abbrev pub AllGrantMost : Type 0
-AllGrantMost = (i : Image) (list : List (ℕ × Pointer)) (g : ℕ) (q : Pointer) → Grants i (These list) g q → Grants i All g q
+AllGrantMost =
+    (i : Image) (list : List (ℕ × Pointer)) (g : ℕ) (q : Pointer) → Grants i (These list) g q → Grants i All g q
 
 -- a privileged group is granted every well-formed pointer
 abbrev pub PrivilegedIsGrantedAll : Type 0
-PrivilegedIsGrantedAll = (i : Image) (e : Entries) (g : ℕ) (q : Pointer) → Privileged i e g → IsWellFormed q → Grants i e g q
+PrivilegedIsGrantedAll =
+    (i : Image) (e : Entries) (g : ℕ) (q : Pointer) → Privileged i e g → IsWellFormed q → Grants i e g q
 
 -- what can write can touch
 abbrev pub WritingTouches : Type 0

@@ -19,7 +19,8 @@ use Rattle.mm_laws.specs.Granted.{WordsGranted}
 abbrev pub is_row_of : (ℕ → Bool) → Row → Bool
 is_row_of c row = c row.slot.group
 
--- the slots of the groups with their queues, the outputs of the groups, and the cells at the words that they can touch are equal
+-- the slots of the groups with their queues, the outputs of the groups, and the cells at the words that they can touch
+-- are equal
 pub record Alike (i : Image) (c : ℕ → Bool) (s t : State) : Type 0 where
   pub rows : filter (is_row_of c) s.core.rows ≡ filter (is_row_of c) t.core.rows
   pub outputs : (g : ℕ) → c g ≡ true → output_of s.core g ≡ output_of t.core g
@@ -45,8 +46,8 @@ pub record Worlds (i j : Image) (c : ℕ → Bool) (s t : State) : Type 0 where
 
 -- 2. The laws.
 
--- The same turn of the groups, which may be one of a port, goes on in both worlds, and tells the same. A turn outside the groups
--- goes on in one of them alone.
+-- The same turn of the groups, which may be one of a port, goes on in both worlds, and tells the same. A turn outside
+-- the groups goes on in one of them alone.
 pub record WorldsGoOn (i j : Image) (c : ℕ → Bool) (s t : State) (n : ℕ) : Type 0 where
   pub both : is_kept i c n ≡ true → Worlds i j c (after s n) (after t n)
   pub step : is_kept i c n ≡ true → (turn_of s n).step ≡ (turn_of t n).step
@@ -54,7 +55,8 @@ pub record WorldsGoOn (i j : Image) (c : ℕ → Bool) (s t : State) (n : ℕ) :
   pub other : is_kept j c n ≡ false → Worlds i j c s (after t n)
 
 abbrev pub WorldsStep : Type 0
-WorldsStep = (i j : Image) (c : ℕ → Bool) (s t : State) (n : ℕ) → AgreeApart i j c → Worlds i j c s t → WorldsGoOn i j c s t n
+WorldsStep = (i j : Image) (c : ℕ → Bool) (s t : State) (n : ℕ) → AgreeApart i j c → Worlds i j c s t
+    → WorldsGoOn i j c s t n
 
 -- after two lists whose items of the groups are the same, the groups see the same
 pub record SameWorlds (i j : Image) (c : ℕ → Bool) (s t : List ℕ) : Type 0 where
@@ -62,19 +64,24 @@ pub record SameWorlds (i j : Image) (c : ℕ → Bool) (s t : List ℕ) : Type 0
   pub view : SameView i s j t c
 
 abbrev pub TwoWorlds : Type 0
-TwoWorlds = (i j : Image) (c : ℕ → Bool) (s t : List ℕ) → AgreeApart i j c → only i s c ≡ only j t c → SameWorlds i j c s t
+TwoWorlds = (i j : Image) (c : ℕ → Bool) (s t : List ℕ) → AgreeApart i j c → only i s c ≡ only j t c
+    → SameWorlds i j c s t
 
--- where groups with a slot stand apart, their slots alone are an image that agrees with the whole on them, and they stand apart in it
+-- where groups with a slot stand apart, their slots alone are an image that agrees with the whole on them, and they
+-- stand apart in it
 abbrev pub AloneAgrees : Type 0
 AloneAgrees = (i : Image) (c : ℕ → Bool) → IsImage i → HasSlot i c → Apart i All c → AgreeApart i (alone i c) c
 
 -- and so is each image that extracts them
 abbrev pub ExtractsAgree : Type 0
-ExtractsAgree = (i : Image) (c : ℕ → Bool) (j : Image) → IsImage i → HasSlot i c → Apart i All c → Extracts i c j → AgreeApart i j c
+ExtractsAgree = (i : Image) (c : ℕ → Bool) (j : Image) → IsImage i → HasSlot i c → Apart i All c → Extracts i c j
+    → AgreeApart i j c
 
 -- so what the groups see of a run is what they see alone, of their own items
 abbrev pub AloneSeesTheSame : Type 0
-AloneSeesTheSame = (i : Image) (c : ℕ → Bool) (s : List ℕ) → IsImage i → HasSlot i c → Apart i All c → SameWorlds i (alone i c) c s (only i s c)
+AloneSeesTheSame = (i : Image) (c : ℕ → Bool) (s : List ℕ) → IsImage i → HasSlot i c → Apart i All c
+    → SameWorlds i (alone i c) c s (only i s c)
 
 abbrev pub ExtractsSeeTheSame : Type 0
-ExtractsSeeTheSame = (i : Image) (c : ℕ → Bool) (j : Image) (s : List ℕ) → IsImage i → HasSlot i c → Apart i All c → Extracts i c j → SameWorlds i j c s (only i s c)
+ExtractsSeeTheSame = (i : Image) (c : ℕ → Bool) (j : Image) (s : List ℕ) → IsImage i → HasSlot i c → Apart i All c
+    → Extracts i c j → SameWorlds i j c s (only i s c)

@@ -1,5 +1,4 @@
 pub mod States
-pub mod Images
 pub mod Schedules
 pub mod Restrictions
 pub mod Grants

@@ -30,7 +30,8 @@ pub record ShowsTheSame (i j : Image) (items : List ℕ) : Type 0 where
   pub can_write : (e : Entries) (g w : ℕ) → CanWrite i e g w ↔ CanWrite j e g w
   pub apart : (e : Entries) (c : ℕ → Bool) → Apart i e c ↔ Apart j e c
 
--- A plain image that is migrated to version 2, and stays plain, shows the same of each list in whose run no output is full. Only
--- an image of version 1 has to meet that: its groups may put out less than those of version 2.
+-- A plain image that is migrated to version 2, and stays plain, shows the same of each list in whose run no output is
+-- full. Only an image of version 1 has to meet that: its groups may put out less than those of version 2.
 abbrev pub MigrationKeeps : Type 0
-MigrationKeeps = (i : Image) (items : List ℕ) → i.split ≡ false → (i.version ≡ 1 → NoOutputIsFull i items) → ShowsTheSame i (migrated i false) items
+MigrationKeeps = (i : Image) (items : List ℕ) → i.split ≡ false → (i.version ≡ 1 → NoOutputIsFull i items)
+    → ShowsTheSame i (migrated i false) items

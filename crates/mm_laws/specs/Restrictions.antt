@@ -30,9 +30,11 @@ NoGroupKeepsNone = (i : Image) (items : List ℕ) → only i items (λ g. false)
 
 -- restrictions commute
 abbrev pub RestrictionsCommute : Type 0
-RestrictionsCommute = (i : Image) (items : List ℕ) (c d : ℕ → Bool) → only i (only i items c) d ≡ only i (only i items d) c
+RestrictionsCommute =
+    (i : Image) (items : List ℕ) (c d : ℕ → Bool) → only i (only i items c) d ≡ only i (only i items d) c
 
 -- in a run of a restricted list no slot outside the groups takes a turn
 abbrev pub OthersTakeNoTurn : Type 0
 OthersTakeNoTurn =
-    (i : Image) (items : List ℕ) (c : ℕ → Bool) → IsImage i → (n : ℕ) (s : Slot) → slot_at (run (start i) (only i items c)).core n ≡ Some s → c s.group ≡ false → s.turns ≡ 0
+    (i : Image) (items : List ℕ) (c : ℕ → Bool) → IsImage i → (n : ℕ) (s : Slot)
+    → slot_at (run (start i) (only i items c)).core n ≡ Some s → c s.group ≡ false → s.turns ≡ 0

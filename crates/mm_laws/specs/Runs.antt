@@ -20,8 +20,9 @@ use Rattle.mm_laws.specs.Granted.{TouchGranted, EntryGranted}
 
 -- 1. Reach.
 
--- Each access of a turn lies in the segment of a pointer that is granted to the slot's group, with the rights of the access's kind.
--- A done entry leaves the slot at the execute form of its enter pointer, with its address, and that pointer was granted before.
+-- Each access of a turn lies in the segment of a pointer that is granted to the slot's group, with the rights of the
+-- access's kind. A done entry leaves the slot at the execute form of its enter pointer, with its address, and that
+-- pointer was granted before.
 pub record TurnReaches (i : Image) (e : Entries) (t : Turned) : Type 0 where
   pub touched : AllByRecursion (TouchGranted i e (group_in t)) (touches t.step)
   pub entered : IfSome t.step.entered (EntryGranted i e t)
@@ -29,7 +30,8 @@ pub record TurnReaches (i : Image) (e : Entries) (t : Turned) : Type 0 where
 -- so it is for every cycle of a run, under the entries that were done before that cycle
 abbrev pub Reaches : Image → List ℕ → Type 0
 Reaches i items =
-    (before behind : List ℕ) (n : ℕ) → items ≡ before ++ n ∷ behind → TurnReaches i (These (entries (start i) before)) (turn_of (run (start i) before) n)
+    (before behind : List ℕ) (n : ℕ) → items ≡ before ++ n ∷ behind
+    → TurnReaches i (These (entries (start i) before)) (turn_of (run (start i) before) n)
 
 -- 2. Lines.
 
@@ -40,7 +42,8 @@ EndsALine text = (text ≡ []) ⊎ ((rest : List ℕ) × (text ≡ rest ++ newli
 -- The lines of one text are lines of another, in their order: these are the other's lines with some of them left out.
 pub data AreLinesOf : List ℕ → List ℕ → Type 0 where
   no_line : AreLinesOf [] []
-  kept : {text lines whole : List ℕ} → EndsALine text → AreLinesOf lines whole → AreLinesOf (text ++ lines) (text ++ whole)
+  kept : {text lines whole : List ℕ} → EndsALine text → AreLinesOf lines whole
+      → AreLinesOf (text ++ lines) (text ++ whole)
   left_out : {text lines whole : List ℕ} → EndsALine text → AreLinesOf lines whole → AreLinesOf lines (text ++ whole)
 
 -- The line, which has its newline, is one of the text's: it begins where the text does, or behind a newline.
@@ -52,12 +55,13 @@ pub record IsLineOf (line text : List ℕ) : Type 0 where
 
 -- 3. Isolation.
 
--- The groups see of a run what they see of a run without the others, under their own items; and their sections of the report,
--- and the line of each changed cell that they can touch, are lines of what was written.
+-- The groups see of a run what they see of a run without the others, under their own items; and their sections of the
+-- report, and the line of each changed cell that they can touch, are lines of what was written.
 pub record Isolates (i : Image) (items : List ℕ) (written : List ℕ) (c : ℕ → Bool) : Type 0 where
   pub view : SameView i items (alone i c) (only i items c) c
   pub sections : AreLinesOf (sections_of c (run (start i) items).core) written
-  pub cells : (w : ℕ) (cell : Cell) → Touchable i All c w → Contains (changes (run (start i) items).memory i.memory) (w, cell) → IsLineOf (cell_line w cell) written
+  pub cells : (w : ℕ) (cell : Cell) → Touchable i All c w
+      → Contains (changes (run (start i) items).memory i.memory) (w, cell) → IsLineOf (cell_line w cell) written
 
 -- 4. The laws.
 

@@ -58,10 +58,12 @@ RobinIsShort = (s : State) (last : Option ℕ) (count : ℕ) → length (robin_f
 -- it issues fewer only where no slot runs any more
 abbrev pub RobinEndsWhereNoneRuns : Type 0
 RobinEndsWhereNoneRuns =
-    (s : State) (last : Option ℕ) (count : ℕ) → length (robin_from s last count) < count → NoneRuns (run s (robin_from s last count)).core AnyNumber
+    (s : State) (last : Option ℕ) (count : ℕ) → length (robin_from s last count) < count
+    → NoneRuns (run s (robin_from s last count)).core AnyNumber
 
 -- each of its items names the next running slot when its turn comes
 abbrev pub RobinIssuesTheNext : Type 0
 RobinIssuesTheNext =
-    (s : State) (last : Option ℕ) (count : ℕ) → IsState s → (before : List ℕ) (n : ℕ) (behind : List ℕ) → robin_from s last count ≡ before ++ n ∷ behind
+    (s : State) (last : Option ℕ) (count : ℕ) → IsState s → (before : List ℕ) (n : ℕ) (behind : List ℕ)
+    → robin_from s last count ≡ before ++ n ∷ behind
     → IsNext (run s before).core (last_item last before) n

@@ -30,13 +30,15 @@ TurnsKeepFit = (i : Image) (s : State) (n : ℕ) → IsImage i → IsState s →
 
 -- and of such a state what the types keep besides
 abbrev pub TurnsKeepTypes : Type 0
-TurnsKeepTypes = (i : Image) (s : State) (n : ℕ) → IsImage i → IsState s → Fits i s → IsKept s.core → IsKept (after s n).core
+TurnsKeepTypes =
+    (i : Image) (s : State) (n : ℕ) → IsImage i → IsState s → Fits i s → IsKept s.core → IsKept (after s n).core
 
 -- and no slot takes more turns than there are cycles
 abbrev pub TurnsKeepBound : Type 0
 TurnsKeepBound = (i : Image) (s : State) (n : ℕ) → IsState s → Fits i s → TurnsWithin s → TurnsWithin (after s n)
 
--- what a cycle does to the turns of a slot: they stay, or they rise by one where it is the running slot that the item names
+-- what a cycle does to the turns of a slot: they stay, or they rise by one where it is the running slot that the item
+-- names
 pub record TakesTurn (s : State) (n k : ℕ) (now : Slot) : Type 0 where
   pub was : Slot
   pub stands : slot_at s.core k ≡ Some was
@@ -44,7 +46,8 @@ pub record TakesTurn (s : State) (n k : ℕ) (now : Slot) : Type 0 where
 
 -- only the running slot that an item names takes a turn
 abbrev pub OneSlotTakesTurns : Type 0
-OneSlotTakesTurns = (i : Image) (s : State) (n k : ℕ) (now : Slot) → IsState s → Fits i s → slot_at (after s n).core k ≡ Some now → TakesTurn s n k now
+OneSlotTakesTurns = (i : Image) (s : State) (n k : ℕ) (now : Slot) → IsState s → Fits i s
+    → slot_at (after s n).core k ≡ Some now → TakesTurn s n k now
 
 -- after any list of items there is a state that fits its image
 abbrev pub RunsFit : Type 0
@@ -78,7 +81,8 @@ pub record WaitsAt (s : State) (h : ℕ) (e : Event) : Type 0 where
 
 -- it does so where events have the instruction pointers of their slots
 abbrev pub QueuedSlotsStand : Type 0
-QueuedSlotsStand = (i : Image) (s : State) → Fits i s → EventsAreAtSlots s.core → (h : ℕ) → AllByRecursion (WaitsAt s h) (queue_at s.core h)
+QueuedSlotsStand = (i : Image) (s : State) → Fits i s → EventsAreAtSlots s.core → (h : ℕ)
+    → AllByRecursion (WaitsAt s h) (queue_at s.core h)
 
 -- the slot has a handler, in whose queue it has exactly one event
 pub record IsQueued (s : State) (x : Slot) : Type 0 where
@@ -88,7 +92,8 @@ pub record IsQueued (s : State) (x : Slot) : Type 0 where
 
 -- each slot that waits is queued
 abbrev pub WaitingSlotsAreQueued : Type 0
-WaitingSlotsAreQueued = (i : Image) (s : State) → Fits i s → (n : ℕ) (x : Slot) → slot_at s.core n ≡ Some x → is_waiting x.state ≡ true → IsQueued s x
+WaitingSlotsAreQueued = (i : Image) (s : State) → Fits i s → (n : ℕ) (x : Slot) → slot_at s.core n ≡ Some x
+    → is_waiting x.state ≡ true → IsQueued s x
 
 -- 3. Short lists.
 
@@ -98,4 +103,5 @@ QueuesAreShort = (i : Image) (s : State) → IsState s → Fits i s → (h : ℕ
 
 -- no more loads are pending than a slot has registers
 abbrev pub PendingIsShort : Type 0
-PendingIsShort = (i : Image) (s : State) → IsState s → Fits i s → (n : ℕ) (x : Slot) → slot_at s.core n ≡ Some x → length x.pending ≤ 16
+PendingIsShort = (i : Image) (s : State) → IsState s → Fits i s → (n : ℕ) (x : Slot) → slot_at s.core n ≡ Some x
+    → length x.pending ≤ 16

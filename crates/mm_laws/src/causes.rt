@@ -1,5 +1,6 @@
 //! What each cycle comes to, exactly, and what a fault changes.
-ghost use Rattle.mm_laws.specs.Causes.{IdleExactly, DeliveredExactly, BlockedExactly, FaultedExactly, DidExactly, FaultsChangeNothingElse};
+ghost use Rattle.mm_laws.specs.Causes.{IdleExactly, DeliveredExactly, BlockedExactly, FaultedExactly, DidExactly};
+ghost use Rattle.mm_laws.specs.Causes.{FaultsChangeNothingElse};
 
 /// The item of a cycle, and the first test of the turn that fails, decide what the cycle comes to.
 pub fn cycles_end_exactly()

@@ -1,7 +1,9 @@
 //! What the counts of a list of uses sum to, and what is counted.
-ghost use Rattle.mm_laws.specs.Counts.{HitsAndMisses, WritebacksAreFew, LookUpsAreMissesAndWritebacks, HitsAreExact, WrittenIsExact};
+ghost use Rattle.mm_laws.specs.Counts.{HitsAndMisses, WritebacksAreFew, LookUpsAreMissesAndWritebacks, HitsAreExact};
+ghost use Rattle.mm_laws.specs.Counts.{WrittenIsExact};
 
-/// Hits and misses sum to the counted accesses; write-backs are no more than misses; look-ups are misses and write-backs.
+/// Hits and misses sum to the counted accesses; write-backs are no more than misses; look-ups are misses and
+/// write-backs.
 pub fn counts_sum()
     ensures accesses { HitsAndMisses }
     ensures few { WritebacksAreFew }

@@ -1,14 +1,14 @@
 //! What a run reaches is granted.
 ghost use Rattle.mm_laws.specs.Granted.{GrantsStep, GrantsHold, EventsGranted};
 
-/// One turn, of any item and in any state whose words are granted, keeps them granted with the entry that it does, and touches,
-/// enters and changes only what is granted.
+/// One turn, of any item and in any state whose words are granted, keeps them granted with the entry that it does, and
+/// touches, enters and changes only what is granted.
 pub fn grants_step()
     ensures { GrantsStep }
 {}
 
-/// After every list of items all words are granted under the entries so far, and so is all that the next turn touches, enters
-/// and changes.
+/// After every list of items all words are granted under the entries so far, and so is all that the next turn touches,
+/// enters and changes.
 pub fn grants_hold()
     ensures { GrantsHold }
 {}

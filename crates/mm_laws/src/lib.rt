@@ -1,7 +1,7 @@
 //! Laws of the machine's definitions.
 //!
-//! These functions do nothing when they run: the contract of each is a law, over every image, state and list that it names. A
-//! definition that is wrong breaks one of them.
+//! These functions do nothing when they run: the contract of each is a law, over every image, state and list that it
+//! names. A definition that is wrong breaks one of them.
 #![tactic(auto)]
 
 pub mod causes;
@@ -9,7 +9,6 @@ pub mod cell_lines;
 pub mod counts;
 pub mod granted;
 pub mod grants;
-pub mod images;
 pub mod isolated;
 pub mod migration;
 pub mod restrictions;

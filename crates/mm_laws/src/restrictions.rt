@@ -1,5 +1,6 @@
 //! What stays of a list of items for groups.
-ghost use Rattle.mm_laws.specs.Restrictions.{RestrictionIsExact, RestrictionDrops, RestrictionGoesByParts, NoGroupKeepsNone, RestrictionsCommute, OthersTakeNoTurn};
+ghost use Rattle.mm_laws.specs.Restrictions.{RestrictionIsExact, RestrictionDrops, RestrictionGoesByParts};
+ghost use Rattle.mm_laws.specs.Restrictions.{NoGroupKeepsNone, RestrictionsCommute, OthersTakeNoTurn};
 
 /// An item stays exactly where it belongs to the groups; order and repeats stay.
 pub fn restrictions_are_exact()

@@ -1,5 +1,8 @@
 //! What each state of a run is.
-ghost use Rattle.mm_laws.specs.States.{StartsFit, StartsAreKept, TurnsKeepStates, TurnsKeepFit, TurnsKeepTypes, TurnsKeepBound, OneSlotTakesTurns, RunsFit, RunsAreKept, RunsKeepBound, QueuedSlotsWait, QueuedSlotsStand, WaitingSlotsAreQueued, QueuesAreShort, PendingIsShort};
+ghost use Rattle.mm_laws.specs.States.{StartsFit, StartsAreKept, TurnsKeepStates, TurnsKeepFit, TurnsKeepTypes};
+ghost use Rattle.mm_laws.specs.States.{TurnsKeepBound, OneSlotTakesTurns, RunsFit, RunsAreKept, RunsKeepBound};
+ghost use Rattle.mm_laws.specs.States.{QueuedSlotsWait, QueuedSlotsStand, WaitingSlotsAreQueued, QueuesAreShort};
+ghost use Rattle.mm_laws.specs.States.{PendingIsShort};
 
 /// The machine's start is a state that fits its image, and keeps what the types keep.
 pub fn starts_fit()
@@ -7,8 +10,8 @@ pub fn starts_fit()
     ensures kept { StartsAreKept }
 {}
 
-/// One turn leaves a state, keeps one that fits an image, then keeps what the types keep, and the bound of turns by cycles; only
-/// the running slot that it names takes it.
+/// One turn leaves a state, keeps one that fits an image, then keeps what the types keep, and the bound of turns by
+/// cycles; only the running slot that it names takes it.
 pub fn turns_keep_fit()
     ensures states { TurnsKeepStates }
     ensures fit { TurnsKeepFit }
@@ -17,8 +20,8 @@ pub fn turns_keep_fit()
     ensures one_slot { OneSlotTakesTurns }
 {}
 
-/// After any list of items there is a state that fits its image and keeps what the types keep, and no slot has taken more turns
-/// than there were cycles.
+/// After any list of items there is a state that fits its image and keeps what the types keep, and no slot has taken
+/// more turns than there were cycles.
 pub fn runs_fit()
     ensures fit { RunsFit }
     ensures kept { RunsAreKept }
@@ -32,7 +35,8 @@ pub fn waiting_slots_match_events()
     ensures waiting { WaitingSlotsAreQueued }
 {}
 
-/// Where a state fits an image, no queue is longer than there can be slots, and no list of pending loads than there are registers.
+/// Where a state fits an image, no queue is longer than there can be slots, and no list of pending loads than there are
+/// registers.
 pub fn lists_are_short()
     ensures queues { QueuesAreShort }
     ensures pending { PendingIsShort }

@@ -1,5 +1,6 @@
 -- Worked lines.
-use Rattle.std.specs.Prelude.{◌≡◌, ℕ, ◌-◌, ◌^◌, true, false, List, [], ◌∷◌, length, codes, Option, Some, None, Ok, Err, pos, negsuc}
+use Rattle.std.specs.Prelude.{◌≡◌, ℕ, ◌-◌, ◌^◌, true, false, List, [], ◌∷◌, length, codes, Option, Some, None, Ok, Err}
+use Rattle.std.specs.Prelude.{pos, negsuc}
 use Prim.Native.String.{String}
 use Rattle.mm_word.specs.declared.perm.Perm.TheVariants as perm
 use Rattle.mm_word.specs.declared.word.Pre.TheVariants as pre
@@ -34,13 +35,25 @@ IsRead e = line_of e.0 ≡ e.1
 
 -- a text that begins with its statement, which claims this and says this
 abbrev pub says : String → Option Claim → Statement → Example
-says text claim statement =
-    (codes text, record { label = None; body = Some (record { left = length (codes text); claim = claim; reading = Ok statement }) })
+says text claim statement = (
+  codes text,
+  record {
+    label = None;
+    body = Some
+        (record { left = length (codes text); claim = claim; reading = Ok statement });
+  },
+)
 
 -- a text that begins with its statement, which claims this and has this fault, so many bytes before the end
 abbrev pub fails : String → Option Claim → Fault → ℕ → Example
-fails text claim fault left =
-    (codes text, record { label = None; body = Some (record { left = length (codes text); claim = claim; reading = Err (record { fault = fault; left = left }) }) })
+fails text claim fault left = (
+  codes text,
+  record {
+    label = None;
+    body = Some
+        (record { left = length (codes text); claim = claim; reading = Err (record { fault = fault; left = left }) });
+  },
+)
 
 abbrev pub mark : String → ℕ → Mark
 mark name left = record { name = codes name; left = left }
@@ -140,7 +153,10 @@ labels =
         body = Some (record { left = 3; claim = None; reading = Ok (word instr.Nop) });
       },
     )
-    ∷ (codes "a2345678901234567890123456789012:", record { label = Some (Err (record { fault = faults.Name; left = 33 })); body = None })
+    ∷ (
+      codes "a2345678901234567890123456789012:",
+      record { label = Some (Err (record { fault = faults.Name; left = 33 })); body = None },
+    )
     ∷ []
 
 abbrev pub IsNext : String × Next → Type 0
@@ -152,8 +168,14 @@ some_tokens =
     ∷ ("0x", record { token = tokens.Number false 0; text = codes "0"; left = 2; rest = codes "x" })
     ∷ ("0X1", record { token = tokens.Number false 0; text = codes "0"; left = 3; rest = codes "X1" })
     ∷ ("0x1g", record { token = tokens.Number false 1; text = codes "0x1"; left = 4; rest = codes "g" })
-    ∷ ("-9223372036854775808", record { token = tokens.Number true (2 ^ 63); text = codes "-9223372036854775808"; left = 20; rest = [] })
-    ∷ ("-9223372036854775809", record { token = tokens.Wide; text = codes "-9223372036854775809"; left = 20; rest = [] })
+    ∷ (
+      "-9223372036854775808",
+      record { token = tokens.Number true (2 ^ 63); text = codes "-9223372036854775808"; left = 20; rest = [] },
+    )
+    ∷ (
+      "-9223372036854775809",
+      record { token = tokens.Wide; text = codes "-9223372036854775809"; left = 20; rest = [] },
+    )
     ∷ (" .5", record { token = tokens.Bad; text = codes "."; left = 2; rest = codes "5" })
     ∷ (".a.b", record { token = tokens.Directive; text = codes ".a"; left = 4; rest = codes ".b" })
     ∷ ("\r", record { token = tokens.End; text = []; left = 0; rest = [] })

@@ -55,5 +55,6 @@ has_form End bytes = true
 -- a token has its form, and none that begins at its place is longer; where a bad byte is, none begins
 pub record IsLongest (n : Next) : Type 0 where
   pub form : has_form n.token n.text ≡ true
-  pub longest : n.token ≢ End → (k : ℕ) → length n.text < k → k ≤ length (n.text ++ n.rest) → is_token (take k (n.text ++ n.rest)) ≡ false
+  pub longest : n.token ≢ End → (k : ℕ) → length n.text < k → k ≤ length (n.text ++ n.rest)
+      → is_token (take k (n.text ++ n.rest)) ≡ false
   pub none : n.token ≡ Bad → (k : ℕ) → is_token (take k (n.text ++ n.rest)) ≡ false

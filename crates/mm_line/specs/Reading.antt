@@ -1,5 +1,6 @@
 -- What a token says in its place, or its fault there.
-use Rattle.std.specs.Prelude.{ℕ, ◌-◌, ◌%◌, ◌^◌, Bool, true, false, ◌&&◌, ◌||◌, not, ◌==◌, nat_le, if◌then◌else◌, length, codes, Option, Some, None, ok_or, Result, Ok, Err, ℤ}
+use Rattle.std.specs.Prelude.{ℕ, ◌-◌, ◌%◌, ◌^◌, Bool, true, false, ◌&&◌, ◌||◌, not, ◌==◌, nat_le, if◌then◌else◌, length}
+use Rattle.std.specs.Prelude.{codes, Option, Some, None, ok_or, Result, Ok, Err, ℤ}
 use Rattle.std.specs.Str.{bytes_eq}
 use Rattle.std.specs.Int.{w32, cast_signed}
 use Rattle.mm_line.specs.declared.fault.Fault.{Fault}
@@ -31,7 +32,11 @@ wrong n = at (wrong_token n.token) n
 
 -- a name, of at most 31 bytes
 abbrev pub name_of : Next → Result Mark Problem
-name_of n = elim n.token [ Name ↦ if nat_le (length n.text) 31 then Ok (record { name = n.text; left = n.left }) else Err (at faults.Name n) | _ ↦ Err (wrong n) ]
+name_of n = elim n.token [
+  | Name ↦ if nat_le (length n.text) 31 then Ok (record { name = n.text; left = n.left })
+      else Err (at faults.Name n)
+  | _ ↦ Err (wrong n)
+]
 
 -- what a name says, where it is known
 abbrev pub known : {A : Type 0} → Option A → Next → Result A Problem
@@ -47,7 +52,12 @@ register_of n = ok_or (register_named n.text) (wrong n)
 
 -- a number, by its sign and its size, in the range in which the rule gives a value
 abbrev pub ranged : {A : Type 0} → (Bool → ℕ → Option A) → Next → Result A Problem
-ranged rule n = elim n.token [ Number negative m ↦ ok_or (rule negative m) (at faults.Range n) | Wide ↦ Err (at faults.Range n) | _ ↦ Err (wrong n) ]
+ranged rule n = elim n.token [
+  | Number negative m ↦ ok_or (rule negative m) (at faults.Range n)
+  | Wide ↦ Err (at faults.Range n)
+  | _ ↦ Err
+      (wrong n)
+]
 
 -- a number from low to high
 abbrev pub between : ℕ → ℕ → Bool → ℕ → Option ℕ
@@ -67,7 +77,8 @@ integer_of n = ranged (λ negative m. Some (modulo (2 ^ 64) negative m)) n
 
 -- a number from -2^31 to 2^32 - 1, modulo 2^32, as the signed number with these 32 bits
 abbrev pub immediate : Bool → ℕ → Option ℤ
-immediate negative m = if nat_le m (if negative then 2 ^ 31 else 2 ^ 32 - 1) then Some (cast_signed w32 (modulo (2 ^ 32) negative m)) else None
+immediate negative m = if nat_le m (if negative then 2 ^ 31 else 2 ^ 32 - 1)
+    then Some (cast_signed w32 (modulo (2 ^ 32) negative m)) else None
 
 abbrev pub immediate_of : Next → Result ℤ Problem
 immediate_of n = ranged immediate n

@@ -1,5 +1,6 @@
 -- A line is an optional label and an optional statement, which is read from left to right up to its first fault.
-use Rattle.std.specs.Prelude.{ℕ, ◌-◌, ◌^◌, Bool, true, false, if◌then◌else◌, List, codes, Option, Some, None, option_map, Result, Ok, Err}
+use Rattle.std.specs.Prelude.{ℕ, ◌-◌, ◌^◌, Bool, true, false, if◌then◌else◌, List, codes, Option, Some, None}
+use Rattle.std.specs.Prelude.{option_map, Result, Ok, Err}
 use Rattle.std.specs.Str.{bytes_eq}
 use Rattle.std.specs.Result.{result_ok}
 use Rattle.mm_isa.specs.Decode.{Form, operation_named}
@@ -146,8 +147,10 @@ statement_of n = do
 abbrev pub claim_by : Option Directive → Next → Next → Option Claim
 claim_by (Some directive.Spare) first second = Some (claims.Spare first.left)
 claim_by (Some directive.Segment) first second = option_map claims.Segment (result_ok (name_of second))
-claim_by (Some directive.Thread) first second = option_map (λ slot. claims.Slot slot second.left) (result_ok (number_of 0 15 second))
-claim_by (Some directive.Reg) first second = option_map (λ number. claims.Register number second.left) (result_ok (number_of 0 15 second))
+claim_by (Some directive.Thread) first second =
+    option_map (λ slot. claims.Slot slot second.left) (result_ok (number_of 0 15 second))
+claim_by (Some directive.Reg) first second =
+    option_map (λ number. claims.Register number second.left) (result_ok (number_of 0 15 second))
 claim_by _ first second = None
 
 -- what the statement that begins with this token claims

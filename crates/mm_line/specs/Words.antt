@@ -65,5 +65,6 @@ hows = (codes "retry", Retry) ∷ (codes "skip", Skip) ∷ (codes "kill", Kill) 
 -- the number of a register: r0 to r9, and r10 to r15
 abbrev pub register_named : List ℕ → Option ℕ
 register_named (a ∷ b ∷ []) = if a == code "r" && is_digit b 10 then Some (digit_value b) else None
-register_named (a ∷ b ∷ c ∷ []) = if a == code "r" && b == code "1" && is_digit c 6 then Some (10 + digit_value c) else None
+register_named (a ∷ b ∷ c ∷ []) =
+    if a == code "r" && b == code "1" && is_digit c 6 then Some (10 + digit_value c) else None
 register_named _ = None

@@ -1,7 +1,8 @@
 ghost use Rattle.std.specs.Prelude.{◌≡◌};
 ghost use Rattle.mm_line.specs.Seen.{seen, Gives};
 ghost use Rattle.mm_line.specs.Tokens.{next_token};
-ghost use Rattle.mm_line.specs.Statements.{content_of, word, spare_at, segment_at, fill_at, thread_at, register_at, front_by, end_of, statement_of};
+ghost use Rattle.mm_line.specs.Statements.{content_of, word, spare_at, segment_at, fill_at, thread_at, register_at};
+ghost use Rattle.mm_line.specs.Statements.{front_by, end_of, statement_of};
 
 use crate::operands::register_number_of;
 use crate::reading::{handler_of, known, name_of, number_of, small_of};

@@ -37,7 +37,8 @@ pub fn worked_labels()
     ensures { AllByRecursion IsRead labels }
 {}
 
-/// Each token stands in its line: behind blanks, and with what is left of the line behind it. What is left grows shorter.
+/// Each token stands in its line: behind blanks, and with what is left of the line behind it. What is left grows
+/// shorter.
 pub fn tokens_stand_in_their_line()
     ensures { (line : List ℕ) → StandsIn line (next_token line) }
 {}
@@ -69,13 +70,16 @@ pub fn written_tokens_are_read()
     ensures comma { (rest : List ℕ) → next_token (codes "," ++ rest) ≡ written Comma (codes ",") rest }
     ensures colon { (rest : List ℕ) → next_token (codes ":" ++ rest) ≡ written Colon (codes ":") rest }
     ensures plus { (rest : List ℕ) → next_token (codes "+" ++ rest) ≡ written Plus (codes "+") rest }
-    ensures name { (name rest : List ℕ) → is_name name ≡ true → starts NameByte rest ≡ false → next_token (name ++ rest) ≡ written Name name rest }
+    ensures name { (name rest : List ℕ) → is_name name ≡ true → starts NameByte rest ≡ false
+        → next_token (name ++ rest) ≡ written Name name rest }
     ensures directive { (name rest : List ℕ) → is_name name ≡ true → starts NameByte rest ≡ false
         → next_token ((codes "." ++ name) ++ rest) ≡ written Directive (codes "." ++ name) rest }
     ensures decimal { (digits rest : List ℕ) → is_digits Decimal digits ≡ true → starts NameByte rest ≡ false
         → next_token (digits ++ rest) ≡ written (number false (digits_value 10 digits)) digits rest }
     ensures negative { (digits rest : List ℕ) → is_digits Decimal digits ≡ true → starts Decimal rest ≡ false
-        → next_token ((codes "-" ++ digits) ++ rest) ≡ written (number true (digits_value 10 digits)) (codes "-" ++ digits) rest }
+        → next_token ((codes "-" ++ digits) ++ rest) ≡ written (number true (digits_value 10 digits))
+        (codes "-" ++ digits) rest }
     ensures hexadecimal { (digits rest : List ℕ) → is_digits Hexadecimal digits ≡ true → starts Hexadecimal rest ≡ false
-        → next_token ((codes "0x" ++ digits) ++ rest) ≡ written (number false (digits_value 16 digits)) (codes "0x" ++ digits) rest }
+        → next_token ((codes "0x" ++ digits) ++ rest) ≡ written (number false (digits_value 16 digits))
+        (codes "0x" ++ digits) rest }
 {}

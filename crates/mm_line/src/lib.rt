@@ -1,7 +1,8 @@
 //! One line of an assembler text: its tokens, its label and its statement.
 //!
-//! A line says what [`read_line`] gives, or where its first fault stands. What the text around a line decides, as whether a label
-//! is there already, is left to the reader of the whole text, who finds the places for that here. No call allocates.
+//! A line says what [`read_line`] gives, or where its first fault stands. What the text around a line decides, as
+//! whether a label is there already, is left to the reader of the whole text, who finds the places for that here. No
+//! call allocates.
 #![tactic(auto)]
 
 mod class;

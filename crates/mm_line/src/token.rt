@@ -12,7 +12,8 @@ pub enum Token {
     Name,
     /// A `.` and a name.
     Directive,
-    /// A number of this sign and size, from -2^63 to 2^64 - 1: an optional `-` and decimal digits, or `0x` and hexadecimal ones.
+    /// A number of this sign and size, from -2^63 to 2^64 - 1: an optional `-` and decimal digits, or `0x` and
+    /// hexadecimal ones.
     Number { negative: bool, magnitude: u64 },
     /// A number out of this range.
     Wide,

@@ -1,6 +1,7 @@
 ghost use Rattle.std.specs.Prelude.{◌≡◌};
 ghost use Rattle.mm_line.specs.Seen.{seen, Gives};
-ghost use Rattle.mm_line.specs.Statements.{addend_at, target_at, integer_at, pointer_at, constant_at, content_by_directive, content_by_operation, content_of};
+ghost use Rattle.mm_line.specs.Statements.{addend_at, target_at, integer_at, pointer_at, constant_at};
+ghost use Rattle.mm_line.specs.Statements.{content_by_directive, content_by_operation, content_of};
 
 use crate::operands::read_code;
 use crate::reading::{integer_of, known, name_of, number_of};

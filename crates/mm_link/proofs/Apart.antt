@@ -8,7 +8,7 @@ use Rattle.mm_object.specs.Objects.{same_name, is_among, are_apart}
 use Rattle.mm_object.proofs.Among.{same_name-Decides}
 use Rattle.mm_object.proofs.Bools.{is_false}
 use Rattle.mm_link.specs.Faults.{first_again}
-use Rattle.mm_link.proofs.Members.{In, none_passes}
+use Rattle.mm_object.proofs.Members.{In, none_passes}
 
 -- 1. Tests that none or one passes.
 

@@ -15,7 +15,7 @@ use Rattle.mm_link.specs.Placing.{Part, Site, parts_of, by_length, sites_from, s
 use Rattle.mm_link.specs.Faults.{names_of, first_again, twice, undefined, is_outside, names_outside, first, offset, threads_of, with_slot, slot_numbers, slot_twice, no_thread_of, no_thread, is_absent, handler, frames_of, too_large, first_of, link_fault}
 use Rattle.mm_link.specs.Linked.{image_of}
 use Rattle.mm_link.specs.Laws.{LinkWell, ObjectsLinkExactly}
-use Rattle.mm_link.proofs.Members.{In, in_right, in_map, from_map, in_flat, from_flat, from_filter, each_in, contained, from_contained, found}
+use Rattle.mm_object.proofs.Members.{In, in_right, in_map, from_map, in_flat, from_flat, from_filter, each_in, contained, from_contained, found}
 use Rattle.mm_link.proofs.Parts.{are_parts, from_by_length, in_by_length}
 use Rattle.mm_link.proofs.Clean.{IsClean, clean, unmapped, one_thread, some_thread, handler_there, few_frames}
 use Rattle.mm_link.proofs.Named.{splits}

@@ -1,5 +1,4 @@
 pub mod Lists
-pub mod Members
 pub mod Buckets
 pub mod Clean
 pub mod Parts

@@ -13,7 +13,7 @@ use Rattle.mm_link.specs.Placing.{Part, Site, parts_of, by_length, sites_from, s
 use Rattle.mm_link.specs.Faults.{page_count}
 use Rattle.mm_link.specs.Linked.{cells_of, pages_of, first_page, image_of}
 use Rattle.mm_link.specs.Laws.{SegmentsAreFound, PagesAreThoseOfSegments, SegmentsAreMapped, PagesHoldSegments}
-use Rattle.mm_link.proofs.Members.{In, each_in, contained, from_contained}
+use Rattle.mm_object.proofs.Members.{In, each_in, contained, from_contained}
 use Rattle.mm_link.proofs.Parts.{are_parts, in_by_length, bytes_placed}
 use Rattle.mm_link.proofs.Clean.{IsClean, clean, few_bytes}
 use Rattle.mm_link.proofs.Named.{named, named_more, named_in, once_named, found_site}

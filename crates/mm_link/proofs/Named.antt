@@ -11,7 +11,7 @@ use Rattle.mm_object.proofs.Among.{same_name-Decides}
 use Rattle.mm_link.specs.declared.fault.LinkFault.TheVariants.{Twice}
 use Rattle.mm_link.specs.Placing.{Part, Site, parts_of, by_length, sites_from, site_in, bytes_of}
 use Rattle.mm_link.specs.Faults.{names_of, first_again}
-use Rattle.mm_link.proofs.Members.{In, in_either}
+use Rattle.mm_object.proofs.Members.{In, in_either}
 use Rattle.mm_link.proofs.Parts.{are_parts, placed}
 use Rattle.mm_link.proofs.Clean.{IsClean, unmapped}
 

@@ -13,7 +13,7 @@ use Rattle.mm_object.specs.Lookups.{is_at, reloc_at}
 use Rattle.mm_object.specs.Objects.{Object, IsObject, is_reloc, is_target}
 use Rattle.mm_link.specs.Placing.{Part, Site, parts_of, by_length, sites_of}
 use Rattle.mm_link.specs.Linked.{word_by, cells_from, unused, part_cells, cells_of, pages_from}
-use Rattle.mm_link.proofs.Members.{each_more, each_take, each_drop, each_replicate, each_passes}
+use Rattle.mm_object.proofs.Members.{each_more, each_take, each_drop, each_replicate, each_passes}
 use Rattle.mm_link.proofs.Parts.{IsPart, are_parts, are_placed_parts}
 use Rattle.mm_link.proofs.Standing.{IsNear, pointer_fits}
 

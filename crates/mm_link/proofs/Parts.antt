@@ -6,7 +6,7 @@ use Rattle.std.proofs.lemmas.List.Sorted.{sum_by-IsPermutation, Contains-permuta
 use Rattle.std.proofs.lemmas.List.Sums.{sum_by-cons}
 use Rattle.mm_object.specs.Objects.{Segment, Object, IsSegment, IsObject}
 use Rattle.mm_link.specs.Placing.{Part, parts_from, parts_of, has_log, falling_logs, by_length, bytes_of}
-use Rattle.mm_link.proofs.Members.{In, from_flat, from_filter, each_in, each_from, each_more, contained, from_contained}
+use Rattle.mm_object.proofs.Members.{In, from_flat, from_filter, each_in, each_from, each_more, contained, from_contained}
 use Rattle.mm_link.proofs.Buckets.{PassesOnce, buckets_shuffle, once_falling}
 
 -- 1. What a part is.

@@ -26,7 +26,7 @@ use Rattle.mm_link.specs.declared.fault.LinkFault.TheVariants.{Undefined, Offset
 use Rattle.mm_link.specs.Placing.{Part, Site, parts_from, parts_of, sites_of, site_in, site_or_none, site_named, pointer_to}
 use Rattle.mm_link.specs.Faults.{is_outside, names_outside, first}
 use Rattle.mm_link.specs.Laws.{IsInto, PointersAreIntoTheirSegments}
-use Rattle.mm_link.proofs.Members.{In, in_either, in_map, from_map, in_flat, from_flat, in_filter, each_in, each_passes, contained, from_contained, not_found}
+use Rattle.mm_object.proofs.Members.{In, in_either, in_map, from_map, in_flat, from_flat, in_filter, each_in, each_passes, contained, from_contained, not_found}
 use Rattle.mm_link.proofs.Clean.{IsClean, clean, unmapped}
 use Rattle.mm_link.proofs.Numbered.{is_start}
 use Rattle.mm_link.proofs.Falling.{segments_are_aligned}

@@ -7,7 +7,7 @@ use Rattle.std.proofs.lemmas.List.Elements.{filter-append}
 use Rattle.mm_model.proofs.Filters.{filter_again}
 use Rattle.mm_link.specs.Placing.{Part, parts_of, has_log, falling_logs, by_length}
 use Rattle.mm_link.specs.Laws.{TiesStandAsGiven}
-use Rattle.mm_link.proofs.Members.{In, from_filter, each_in}
+use Rattle.mm_object.proofs.Members.{In, from_filter, each_in}
 use Rattle.mm_link.proofs.Buckets.{PassesOnce, once_falling}
 use Rattle.mm_link.proofs.Parts.{IsPart, are_parts, are_placed_parts}
 

@@ -15,7 +15,7 @@ use Rattle.mm_link.specs.Placing.{Part, Site, parts_of, by_length, sites_from, s
 use Rattle.mm_link.specs.Faults.{page_count, frames_of}
 use Rattle.mm_link.specs.Linked.{cell_of, cells_from, unused, part_cells, cells_of, pages_of, image_of}
 use Rattle.mm_link.specs.Laws.{StandsAt, WordsStandInTheirCells, OtherCellsAreZero}
-use Rattle.mm_link.proofs.Members.{In, in_right, each_left, contained, from_contained}
+use Rattle.mm_object.proofs.Members.{In, in_right, each_left, contained, from_contained}
 use Rattle.mm_link.proofs.Parts.{IsPart, are_parts, are_placed_parts, bytes_placed, from_by_length, in_by_length}
 use Rattle.mm_link.proofs.Clean.{clean, few_bytes}
 use Rattle.mm_link.proofs.Named.{named, named_more, named_in, once_named, Splits, splits, is_split, found_site}

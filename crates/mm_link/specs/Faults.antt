@@ -1,5 +1,6 @@
 -- The faults of linking, and the first of them.
-use Rattle.std.specs.Prelude.{ℕ, ◌+◌, ◌/◌, ◌^◌, ◌==◌, nat_lt, nat_le, Bool, false, not, ◌&&◌, if◌then◌else◌, List, [], ◌∷◌, map, length, max, Option, Some, None, find, is_some}
+use Rattle.std.specs.Prelude.{ℕ, ◌+◌, ◌/◌, ◌^◌, ◌==◌, nat_lt, nat_le, Bool, false, not, ◌&&◌, if◌then◌else◌, List, []}
+use Rattle.std.specs.Prelude.{◌∷◌, map, length, max, Option, Some, None, find, is_some}
 use Rattle.std.specs.List.{flat_map, filter, list_any, range_with_len}
 use Rattle.std.specs.Option.{option_map}
 use Rattle.mm_object.specs.declared.target.Target.{Target}
@@ -7,7 +8,8 @@ use Rattle.mm_object.specs.declared.thread.Thread.{Thread}
 use Rattle.mm_object.specs.Lookups.{name_of_target}
 use Rattle.mm_object.specs.Objects.{Object, is_among, targets_of, thread_limit}
 use Rattle.mm_link.specs.declared.fault.LinkFault.{LinkFault}
-use Rattle.mm_link.specs.declared.fault.LinkFault.TheVariants.{Twice, Undefined, Offset, SlotTwice, NoThread, Handler, TooLarge}
+use Rattle.mm_link.specs.declared.fault.LinkFault.TheVariants.{Twice, Undefined, Offset, SlotTwice, NoThread, Handler}
+use Rattle.mm_link.specs.declared.fault.LinkFault.TheVariants.{TooLarge}
 use Rattle.mm_link.specs.Placing.{Part, Site, parts_of, sites_of, site_in, site_named, bytes_of}
 
 -- 1. Names.
@@ -27,15 +29,18 @@ twice objects = option_map Twice (first_again [] (names_of objects))
 
 -- 2: an external that is no segment's name, object by object
 abbrev pub undefined : List Object → Option LinkFault
-undefined objects = option_map Undefined (find (λ name. not (is_some (site_in (sites_of objects) name))) (flat_map (λ (o : Object). o.externals) objects))
+undefined objects = option_map Undefined
+    (find (λ name. not (is_some (site_in (sites_of objects) name))) (flat_map (λ (o : Object). o.externals) objects))
 
 -- 2. Offsets.
 
 -- a use of an external whose addend is no offset in its segment
 abbrev pub is_outside : List Site → Object → Target → Bool
-is_outside sites o t = nat_le (length o.segments) t.index && nat_le (2 ^ (site_named sites (name_of_target o t)).log) t.addend
+is_outside sites o t =
+    nat_le (length o.segments) t.index && nat_le (2 ^ (site_named sites (name_of_target o t)).log) t.addend
 
--- the names of such uses of an object: relocations first, and then threads, each with its instruction pointer and its registers
+-- the names of such uses of an object: relocations first, and then threads, each with its instruction pointer and its
+-- registers
 abbrev pub names_outside : List Site → Object → List (List ℕ)
 names_outside sites o = map (name_of_target o) (filter (is_outside sites o) (targets_of o.relocs o.threads))
 
@@ -60,7 +65,8 @@ slot_numbers = range_with_len 0 thread_limit
 
 -- 4: the least slot that two threads have
 abbrev pub slot_twice : List Object → Option LinkFault
-slot_twice objects = option_map SlotTwice (find (λ slot. nat_lt 1 (length (with_slot slot (threads_of objects)))) slot_numbers)
+slot_twice objects =
+    option_map SlotTwice (find (λ slot. nat_lt 1 (length (with_slot slot (threads_of objects)))) slot_numbers)
 
 abbrev pub no_thread_of : List Thread → Option LinkFault
 no_thread_of [] = Some NoThread
@@ -78,7 +84,9 @@ is_absent threads (Some handler) = not (list_any (λ (t : Thread). t.slot == han
 -- 6: the least slot with such a handler
 abbrev pub handler : List Object → Option LinkFault
 handler objects =
-    option_map Handler (find (λ slot. list_any (λ (t : Thread). is_absent (threads_of objects) t.handler) (with_slot slot (threads_of objects))) slot_numbers)
+    option_map Handler
+    (find (λ slot. list_any (λ (t : Thread). is_absent (threads_of objects) t.handler)
+    (with_slot slot (threads_of objects))) slot_numbers)
 
 -- 4. Frames.
 
@@ -112,7 +120,8 @@ first_of (Some x ∷ rest) = Some x
 -- the first of the seven, in their order
 unfoldable pub link_fault : List Object → Option LinkFault
 link_fault objects =
-    first_of (twice objects ∷ undefined objects ∷ offset objects ∷ slot_twice objects ∷ no_thread objects ∷ handler objects ∷ too_large objects ∷ [])
+    first_of (twice objects ∷ undefined objects ∷ offset objects ∷ slot_twice objects ∷ no_thread objects
+    ∷ handler objects ∷ too_large objects ∷ [])
 
 abbrev pub number_of : LinkFault → ℕ
 number_of (Twice name) = 1

@@ -1,5 +1,6 @@
 -- Laws of linked objects.
-use Rattle.std.specs.Prelude.{◌≡◌, ◌≢◌, ◌↔◌, ℕ, ◌+◌, ◌*◌, ◌%◌, ◌^◌, ◌<◌, ◌≤◌, true, List, length, slice_get, Contains, AllPairs, Some}
+use Rattle.std.specs.Prelude.{◌≡◌, ◌≢◌, ◌↔◌, ℕ, ◌+◌, ◌*◌, ◌%◌, ◌^◌, ◌<◌, ◌≤◌, true, List, length, slice_get, Contains}
+use Rattle.std.specs.Prelude.{AllPairs, Some}
 use Rattle.std.specs.List.{filter, flat_map, AllByRecursion}
 use Rattle.std.specs.List.Sorted.{IsPermutation}
 use Rattle.mm_word.specs.declared.perm.Perm.{Perm}
@@ -21,15 +22,18 @@ use Rattle.mm_link.specs.Linked.{Linked, cell_of, first_page, object_slots}
 
 -- each segment has its place
 abbrev pub AllSegmentsArePlaced : Type 0
-AllSegmentsArePlaced = (objects : List Object) → AllByRecursion IsObject objects → IsPermutation (parts_of objects) (by_length (parts_of objects))
+AllSegmentsArePlaced = (objects : List Object) → AllByRecursion IsObject objects
+    → IsPermutation (parts_of objects) (by_length (parts_of objects))
 
 -- those of one length as they are given
 abbrev pub TiesStandAsGiven : Type 0
-TiesStandAsGiven = (objects : List Object) → AllByRecursion IsObject objects → (log : ℕ) → filter (has_log log) (by_length (parts_of objects)) ≡ filter (has_log log) (parts_of objects)
+TiesStandAsGiven = (objects : List Object) → AllByRecursion IsObject objects → (log : ℕ)
+    → filter (has_log log) (by_length (parts_of objects)) ≡ filter (has_log log) (parts_of objects)
 
 -- a longer one before a shorter one
 abbrev pub LengthsFall : Type 0
-LengthsFall = (objects : List Object) → AllPairs (λ (a b : Part). b.segment.log ≤ a.segment.log) (by_length (parts_of objects))
+LengthsFall =
+    (objects : List Object) → AllPairs (λ (a b : Part). b.segment.log ≤ a.segment.log) (by_length (parts_of objects))
 
 -- each stands at a multiple of its length
 abbrev pub SegmentsAreAligned : Type 0
@@ -37,12 +41,14 @@ SegmentsAreAligned = (objects : List Object) (s : Site) → Contains (sites_of o
 
 -- each ends before the next begins, so that no two meet
 abbrev pub SegmentsAreDisjoint : Type 0
-SegmentsAreDisjoint = (objects : List Object) → AllPairs (λ (a b : Site). a.base + 2 ^ a.log ≤ b.base) (sites_of objects)
+SegmentsAreDisjoint =
+    (objects : List Object) → AllPairs (λ (a b : Site). a.base + 2 ^ a.log ≤ b.base) (sites_of objects)
 
 -- where objects link, each segment is found by its name
 abbrev pub SegmentsAreFound : Type 0
 SegmentsAreFound = (objects : List Object) (i : Image) → AllByRecursion IsObject objects → Linked objects i
-    → (p : Part) → Contains (parts_of objects) p → (s : Site) × (site_in (sites_of objects) p.segment.name ≡ Some s) × (s.log ≡ p.segment.log)
+    → (p : Part) → Contains (parts_of objects) p → (s : Site) × (site_in (sites_of objects) p.segment.name ≡ Some s)
+    × (s.log ≡ p.segment.log)
 
 -- 2. What stands there.
 
@@ -57,12 +63,14 @@ pub record StandsAt (objects : List Object) (p : Part) (k : ℕ) (item : Item) (
 -- each word of each segment is in its cell
 abbrev pub WordsStandInTheirCells : Type 0
 WordsStandInTheirCells = (objects : List Object) (i : Image) → AllByRecursion IsObject objects → Linked objects i
-    → (p : Part) (k : ℕ) (item : Item) (w : ℕ) → StandsAt objects p k item w → cell_at i.memory w ≡ Some (cell_of (sites_of objects) p.object p.number k item)
+    → (p : Part) (k : ℕ) (item : Item) (w : ℕ) → StandsAt objects p k item w
+    → cell_at i.memory w ≡ Some (cell_of (sites_of objects) p.object p.number k item)
 
 -- each other cell is integer 0, full
 abbrev pub OtherCellsAreZero : Type 0
 OtherCellsAreZero = (objects : List Object) (i : Image) → AllByRecursion IsObject objects → Linked objects i
-    → (w : ℕ) (cell : Cell) → cell_at i.memory w ≡ Some cell → ((p : Part) (k : ℕ) (item : Item) → StandsAt objects p k item w → ⊥) → cell ≡ zero_cell
+    → (w : ℕ) (cell : Cell) → cell_at i.memory w ≡ Some cell
+    → ((p : Part) (k : ℕ) (item : Item) → StandsAt objects p k item w → ⊥) → cell ≡ zero_cell
 
 -- 3. Pages, pointers, slots.
 
@@ -74,12 +82,14 @@ PagesAreThoseOfSegments = (objects : List Object) (i : Image) → AllByRecursion
 -- so that each byte of each segment has its page
 abbrev pub SegmentsAreMapped : Type 0
 SegmentsAreMapped = (objects : List Object) (i : Image) → AllByRecursion IsObject objects → Linked objects i
-    → (s : Site) → Contains (sites_of objects) s → (a : ℕ) → s.base ≤ a → a < s.base + 2 ^ s.log → is_mapped i.memory (page_of a) ≡ true
+    → (s : Site) → Contains (sites_of objects) s → (a : ℕ) → s.base ≤ a → a < s.base + 2 ^ s.log
+    → is_mapped i.memory (page_of a) ≡ true
 
 -- and each page has a byte of a segment
 abbrev pub PagesHoldSegments : Type 0
 PagesHoldSegments = (objects : List Object) (i : Image) → AllByRecursion IsObject objects → Linked objects i
-    → (page : ℕ) → is_mapped i.memory page ≡ true → (s : Site) × Contains (sites_of objects) s × (a : ℕ) × (s.base ≤ a) × (a < s.base + 2 ^ s.log) × (page_of a ≡ page)
+    → (page : ℕ) → is_mapped i.memory page ≡ true → (s : Site) × Contains (sites_of objects) s × (a : ℕ) × (s.base ≤ a)
+    × (a < s.base + 2 ^ s.log) × (page_of a ≡ page)
 
 -- A pointer is into a segment, by a permission and at an offset: it has the segment's length and base, and lies in it.
 pub record IsInto (s : Site) (by : Perm) (at : ℕ) (p : Pointer) : Type 0 where
@@ -89,11 +99,13 @@ pub record IsInto (s : Site) (by : Perm) (at : ℕ) (p : Pointer) : Type 0 where
   pub base : base_of p ≡ s.base
   pub inside : p.addr < s.base + 2 ^ s.log
 
--- the pointers that targets of relocations, registers and instruction pointers become are into the segments that have the targets' names, and each such segment is there
+-- the pointers that targets of relocations, registers and instruction pointers become are into the segments that have
+-- the targets' names, and each such segment is there
 abbrev pub PointersAreIntoTheirSegments : Type 0
 PointersAreIntoTheirSegments = (objects : List Object) (i : Image) → AllByRecursion IsObject objects → Linked objects i
     → (o : Object) → Contains objects o → (t : Target) → Contains (targets_of o.relocs o.threads) t → (perm : Perm)
-    → (s : Site) × Contains (sites_of objects) s × (s.name ≡ name_of_target o t) × IsInto s perm t.addend (pointer_to (sites_of objects) o perm t)
+    → (s : Site) × Contains (sites_of objects) s × (s.name ≡ name_of_target o t)
+    × IsInto s perm t.addend (pointer_to (sites_of objects) o perm t)
 
 -- each thread is a slot, and each slot a thread
 abbrev pub SlotsAreThreads : Type 0
@@ -104,24 +116,29 @@ SlotsAreThreads = (objects : List Object) (i : Image) → AllByRecursion IsObjec
 
 -- what objects link to is an image
 abbrev pub LinkedObjectsAreImages : Type 0
-LinkedObjectsAreImages = (objects : List Object) (i : Image) → AllByRecursion IsObject objects → Linked objects i → IsImage i
+LinkedObjectsAreImages =
+    (objects : List Object) (i : Image) → AllByRecursion IsObject objects → Linked objects i → IsImage i
 
 -- What objects have to be to link.
 pub record LinkWell (objects : List Object) : Type 0 where
   -- no two segments have the same name
   pub apart : are_apart (names_of objects) ≡ true
   -- each external is a segment's name
-  pub defined : (o : Object) → Contains objects o → (name : List ℕ) → Contains o.externals name → is_among name (names_of objects) ≡ true
+  pub defined : (o : Object) → Contains objects o → (name : List ℕ) → Contains o.externals name
+      → is_among name (names_of objects) ≡ true
   -- each use of an external is at an offset in its segment
-  pub within : (o : Object) → Contains objects o → (t : Target) → Contains (targets_of o.relocs o.threads) t → length o.segments ≤ t.index
+  pub within : (o : Object) → Contains objects o → (t : Target) → Contains (targets_of o.relocs o.threads) t
+      → length o.segments ≤ t.index
       → (s : Site) → Contains (sites_of objects) s → s.name ≡ name_of_target o t → t.addend < 2 ^ s.log
   -- no two threads have the same slot, and there is a thread
   pub slots : AllPairs (λ (a b : Thread). a.slot ≢ b.slot) (threads_of objects)
   pub some : 1 ≤ length (threads_of objects)
   -- each handler is a thread's slot
-  pub handlers : (t : Thread) → Contains (threads_of objects) t → (h : ℕ) → t.handler ≡ Some h → (s : Thread) × Contains (threads_of objects) s × (s.slot ≡ h)
+  pub handlers : (t : Thread) → Contains (threads_of objects) t → (h : ℕ) → t.handler ≡ Some h → (s : Thread)
+      × Contains (threads_of objects) s × (s.slot ≡ h)
   pub frames : frames_of objects ≤ 256
 
 -- objects have no fault, and link to an image, exactly where they are so
 abbrev pub ObjectsLinkExactly : Type 0
-ObjectsLinkExactly = (objects : List Object) → AllByRecursion IsObject objects → ((i : Image) × Linked objects i) ↔ LinkWell objects
+ObjectsLinkExactly =
+    (objects : List Object) → AllByRecursion IsObject objects → ((i : Image) × Linked objects i) ↔ LinkWell objects

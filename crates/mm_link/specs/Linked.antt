@@ -1,5 +1,6 @@
 -- The image of linked objects.
-use Rattle.std.specs.Prelude.{◌≡◌, ℕ, zero, suc, ◌+◌, ◌-◌, ◌^◌, ◌==◌, false, List, [], ◌∷◌, ◌++◌, map, length, take, drop, replicate, Option, Some, None}
+use Rattle.std.specs.Prelude.{◌≡◌, ℕ, zero, suc, ◌+◌, ◌-◌, ◌^◌, ◌==◌, false, List, [], ◌∷◌, ◌++◌, map, length, take}
+use Rattle.std.specs.Prelude.{drop, replicate, Option, Some, None}
 use Rattle.std.specs.List.{flat_map, filter}
 use Rattle.mm_word.specs.declared.word.Word.{Word}
 use Rattle.mm_word.specs.declared.word.Word.TheVariants.{Int, Ptr}
@@ -49,7 +50,8 @@ cells_of objects = flat_map (part_cells (sites_of objects)) (by_length (parts_of
 -- so many pages from a number on, with these cells and behind them integer 0, full
 abbrev pub pages_from : (count number : ℕ) → List Cell → List (ℕ × List Cell)
 pages_from zero number cells = []
-pages_from (suc count) number cells = (number, take 512 (cells ++ zero_page)) ∷ pages_from count (number + 1) (drop 512 cells)
+pages_from (suc count) number cells =
+    (number, take 512 (cells ++ zero_page)) ∷ pages_from count (number + 1) (drop 512 cells)
 
 -- the page of the first segment
 abbrev pub first_page : ℕ
@@ -93,7 +95,13 @@ slots_of objects = by_number (flat_map (object_slots (sites_of objects)) objects
 -- 3. The whole.
 
 unfoldable pub image_of : List Object → Image
-image_of objects = record { version = 1; split = false; slots = slots_of objects; memory = record { pages = pages_of objects; frames = frames_of objects } }
+image_of objects =
+    record {
+      version = 1;
+      split = false;
+      slots = slots_of objects;
+      memory = record { pages = pages_of objects; frames = frames_of objects };
+    }
 
 -- objects link to an image: they have no fault, and it is theirs
 pub record Linked (objects : List Object) (i : Image) : Type 0 where

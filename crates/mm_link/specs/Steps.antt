@@ -1,5 +1,6 @@
 -- What the steps of linking answer.
-use Rattle.std.specs.Prelude.{◌≡◌, ℕ, ◌+◌, ◌<◌, ◌≤◌, ◌^◌, Bool, not, ◌==◌, List, ◌∷◌, map, length, Option, None, is_some, find, Result, Ok, Err}
+use Rattle.std.specs.Prelude.{◌≡◌, ℕ, ◌+◌, ◌<◌, ◌≤◌, ◌^◌, Bool, not, ◌==◌, List, ◌∷◌, map, length, Option, None}
+use Rattle.std.specs.Prelude.{is_some, find, Result, Ok, Err}
 use Rattle.std.specs.List.{filter, flat_map, list_any}
 use Rattle.std.specs.Option.{option_map}
 use denote.Ref.{Bor}
@@ -98,7 +99,8 @@ has_slot slot threads = list_any (λ (t : Thread). t.slot == slot) threads
 
 -- one of these threads has the slot and a handler that is no thread's slot
 abbrev pub is_unhandled_in : List Object → ℕ → List Thread → Bool
-is_unhandled_in objects slot threads = list_any (λ (t : Thread). is_absent (threads_of objects) t.handler) (with_slot slot threads)
+is_unhandled_in objects slot threads =
+    list_any (λ (t : Thread). is_absent (threads_of objects) t.handler) (with_slot slot threads)
 
 abbrev pub is_unhandled : List Object → ℕ → Bool
 is_unhandled objects slot = is_unhandled_in objects slot (threads_of objects)

@@ -1,10 +1,14 @@
 //! What holds of all objects that are linked.
 //!
 //! These functions do nothing when they run: the contract of each is the law.
-ghost use Rattle.mm_link.specs.Laws.{AllSegmentsArePlaced, LengthsFall, LinkedObjectsAreImages, ObjectsLinkExactly, OtherCellsAreZero, PagesAreThoseOfSegments, PagesHoldSegments, PointersAreIntoTheirSegments, SegmentsAreAligned, SegmentsAreDisjoint, SegmentsAreFound, SegmentsAreMapped, SlotsAreThreads, TiesStandAsGiven, WordsStandInTheirCells};
+ghost use Rattle.mm_link.specs.Laws.{AllSegmentsArePlaced, LengthsFall, LinkedObjectsAreImages, ObjectsLinkExactly};
+ghost use Rattle.mm_link.specs.Laws.{OtherCellsAreZero, PagesAreThoseOfSegments, PagesHoldSegments};
+ghost use Rattle.mm_link.specs.Laws.{PointersAreIntoTheirSegments, SegmentsAreAligned, SegmentsAreDisjoint};
+ghost use Rattle.mm_link.specs.Laws.{SegmentsAreFound, SegmentsAreMapped, SlotsAreThreads, TiesStandAsGiven};
+ghost use Rattle.mm_link.specs.Laws.{WordsStandInTheirCells};
 
-/// Each segment has its place: a longer one before a shorter one, those of one length as they are given, each at a multiple of its length, and no two meet. Where
-/// objects link, it is found by its name.
+/// Each segment has its place: a longer one before a shorter one, those of one length as they are given, each at a
+/// multiple of its length, and no two meet. Where objects link, it is found by its name.
 pub fn segments_are_placed()
     ensures all { AllSegmentsArePlaced }
     ensures ties { TiesStandAsGiven }
@@ -37,8 +41,8 @@ pub fn slots_are_threads()
     ensures { SlotsAreThreads }
 {}
 
-/// What objects link to is an image. They link to one exactly where names and slots differ, externals are names and their uses within the segments, there is a thread,
-/// handlers are slots, and there are frames enough.
+/// What objects link to is an image. They link to one exactly where names and slots differ, externals are names and
+/// their uses within the segments, there is a thread, handlers are slots, and there are frames enough.
 pub fn objects_link_exactly()
     ensures images { LinkedObjectsAreImages }
     ensures exactly { ObjectsLinkExactly }

@@ -5,7 +5,8 @@ ghost use Rattle.mm_model.specs.Image.{Image as ImageValue};
 ghost use Rattle.mm_model.specs.Spelling.{IsImage};
 ghost use Rattle.mm_link.specs.declared.fault.LinkFault.{LinkFault as FaultValue};
 ghost use Rattle.mm_link.specs.Placing.{parts_of, by_length, sites_of};
-ghost use Rattle.mm_link.specs.Faults.{undefined, offset, slot_twice, no_thread, handler, page_count, frames_of, first_of, link_fault};
+ghost use Rattle.mm_link.specs.Faults.{undefined, offset, slot_twice, no_thread, handler, page_count, frames_of};
+ghost use Rattle.mm_link.specs.Faults.{first_of, link_fault};
 ghost use Rattle.mm_link.specs.Linked.{Linked, image_of};
 ghost use Rattle.mm_link.specs.Answers.{Gives, IsUnlessNoMemory, FailsUnlessNoMemory};
 ghost use Rattle.mm_link.specs.Steps.{Passes, IsNoMemory};
@@ -56,11 +57,14 @@ fn image_or_fault(alloc: Global, objects: &[Object]) -> Result<Image, LinkError>
     image_of(alloc, objects, &sites, &placed, pages, frames)
 }
 
-// Whether each name is known, each target within its segment, and each thread in a slot of its own with a handler that is another's.
+// Whether each name is known, each target within its segment, and each thread in a slot of its own with a handler that
+// is another's.
 fn check_objects(sites: &Sites<'_>, objects: &[Object]) -> Result<(), LinkError>
     requires sites { sites.now ≡ sites_of objects.now }
     requires few { length objects.now ≤ 16 }
-    ensures { Passes (first_of (undefined objects.now ∷ offset objects.now ∷ slot_twice objects.now ∷ no_thread objects.now ∷ handler objects.now ∷ [])) result }
+    ensures { Passes
+        (first_of (undefined objects.now ∷ offset objects.now ∷ slot_twice objects.now ∷ no_thread objects.now
+        ∷ handler objects.now ∷ [])) result }
 {
     check_known(sites, objects)?;
     check_offsets(sites, objects)?;
@@ -69,7 +73,8 @@ fn check_objects(sites: &Sites<'_>, objects: &[Object]) -> Result<(), LinkError>
     check_handlers(objects)
 }
 
-// The image of objects without a fault: the segments in their order, where they stand, and how many pages and frames there are.
+// The image of objects without a fault: the segments in their order, where they stand, and how many pages and frames
+// there are.
 #[tactic(auto, unfolding(crate::specs::Linked::image_of))]
 fn image_of(
     alloc: Global,

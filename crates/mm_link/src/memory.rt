@@ -36,7 +36,8 @@ pub(crate) fn pages_of(
     count: u32,
 ) -> Result<Vec<Page>, LinkError>
     requires { count ≤ 256 }
-    ensures pages { IfOk result (λ v. v.items ≡ pages_from count first_page (flat_map (part_cells sites.now) parts.now)) }
+    ensures pages { IfOk result
+        (λ v. v.items ≡ pages_from count first_page (flat_map (part_cells sites.now) parts.now)) }
     ensures memory { IsNoMemory result }
 {
     let cells = cells_of(alloc, sites, parts, count as usize * PAGE_CELLS)?;
@@ -80,7 +81,8 @@ fn push_items(
 ) -> Result<(), LinkError>
     requires object { IsObject object.now }
     requires few { length items.now < 2 ^ 32 }
-    ensures cells { OnOk result (cells.new.items ≡ cells.old.items ++ cells_from sites.now object.now segment 0 items.now) }
+    ensures cells { OnOk result
+        (cells.new.items ≡ cells.old.items ++ cells_from sites.now object.now segment 0 items.now) }
     ensures memory { IsNoMemory result }
 {
     let mut near = 0;
@@ -93,7 +95,8 @@ fn push_items(
     Ok(())
 }
 
-// A word of a segment: the pointer of its relocation, or the integer that it is. The relocation is looked for near a place first, and the place behind it is kept.
+// A word of a segment: the pointer of its relocation, or the integer that it is. The relocation is looked for near a
+// place first, and the place behind it is kept.
 fn word_of(
     sites: &Sites<'_>,
     object: &Object,

@@ -64,7 +64,8 @@ impl<'a> Sites<'a> {
         requires new { site_in self.old name.now ≡ None }
         requires length_fits { place.log ≤ 20 }
         requires base_fits { place.base < 2 ^ 40 }
-        ensures sites { OnOk result (self.new ≡ self.old ++ record { name = name.now; log = place.log; base = place.base } ∷ []) }
+        ensures sites { OnOk result
+            (self.new ≡ self.old ++ record { name = name.now; log = place.log; base = place.base } ∷ []) }
         ensures memory { IsNoMemory result }
     {
         self.by_name.insert(name, place)?;

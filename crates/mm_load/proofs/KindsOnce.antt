@@ -21,9 +21,9 @@ use Rattle.mm_object.specs.Faults.{object_fault}
 use Rattle.mm_object.specs.Objects.{Object}
 use Rattle.mm_object.specs.Spelling.{Spells as SpellsObject}
 use Rattle.mm_object.proofs.SpelledWhole as objects
-use Rattle.mm_save.specs.Checkpoints.{Saved}
-use Rattle.mm_save.specs.Faults.{save_fault}
-use Rattle.mm_save.proofs.SpelledLaws as checkpoints
+use Rattle.mm_checkpoint.specs.Checkpoints.{Saved}
+use Rattle.mm_checkpoint.specs.Faults.{save_fault}
+use Rattle.mm_checkpoint.proofs.SpelledLaws as checkpoints
 use Rattle.mm_net.specs.declared.link.Link.{Link}
 use Rattle.mm_net.specs.declared.item.NetItem.{NetItem}
 use Rattle.mm_net.specs.Links as links

@@ -1,7 +1,6 @@
 -- Files that are read one after the other.
 use Rattle.std.proofs.Common.{◌≡◌, ℕ, ◌+◌, ◌≤◌, inl, inr, List, [], ◌∷◌, ◌++◌, length, Option, Result, Ok, Err, refl, sym, ap, ◌∙◌, subst, arith, append_assoc, append-nil}
-use Rattle.std.specs.Prelude.{replicate}
-use Rattle.mm_io.specs.Files.{Rose, NoneFell, Holds}
+use Rattle.mm_io.specs.Files.{Rose, NoneFell, Holds, PieceRead, AreOf}
 use Rattle.mm_load.specs.declared.status.Refusal.{Refusal}
 use Rattle.mm_load.specs.declared.status.Stop.{Stop}
 use Rattle.mm_load.specs.declared.status.Stop.TheVariants as stop
@@ -42,38 +41,42 @@ module _ (held : List ℕ → Option (List ℕ)) (ys : List (List ℕ × Kind)) 
     where
       nothing : (before : List Value) (files : List (List ℕ × Kind)) → AsksInOrder held before files []
       nothing before [] = refl
-      nothing before (file ∷ files) = (0, [], refl, inl refl)
+      nothing before (file ∷ files) = ([], [], refl, tt, inl refl)
 
-  asks_first : (before : List Value) (xs : List (List ℕ × Kind)) (names : List (List ℕ)) → AsksInOrder held before xs names
-      → AsksInOrder held before (xs ++ ys) names
-  asks_first before [] names none = subst (λ (ns : List (List ℕ)). AsksInOrder held before ys ns) (sym none) (asks_none before)
-  asks_first before (x ∷ xs) names (times, later, is, inl none) = (times, later, is, inl none)
-  asks_first before (x ∷ xs) names (times, later, is, inr (v, here, asks)) = (times, later, is, inr (v, here, asks_first (before ++ v ∷ []) xs later asks))
+  asks_first : (before : List Value) (xs : List (List ℕ × Kind)) (reads : List PieceRead) → AsksInOrder held before xs reads
+      → AsksInOrder held before (xs ++ ys) reads
+  asks_first before [] reads none = subst (λ (ns : List PieceRead). AsksInOrder held before ys ns) (sym none) (asks_none before)
+  asks_first before (x ∷ xs) reads (mine, later, is, of, inl none) = (mine, later, is, of, inl none)
+  asks_first before (x ∷ xs) reads (mine, later, is, of, inr (v, here, asks)) =
+      (mine, later, is, of, inr (v, here, asks_first (before ++ v ∷ []) xs later asks))
 
   -- those behind are asked for where all of the first are accepted
-  asks_behind : (before : List Value) (xs : List (List ℕ × Kind)) (vs : List Value) (names : List (List ℕ)) → FilesAccepted held before xs vs
-      → AsksInOrder held (before ++ vs) ys names → AsksInOrder held before (xs ++ ys) names
-  asks_behind before [] [] names front back = subst (λ (b : List Value). AsksInOrder held b ys names) (append-nil before) back
-  asks_behind before [] (v ∷ vs) names front back = absurd front
-  asks_behind before (x ∷ xs) [] names front back = absurd front
-  asks_behind before (x ∷ xs) (v ∷ vs) names (here, rest) back =
-      (0, names, refl, inr (v, here, asks_behind (before ++ v ∷ []) xs vs names rest (subst (λ (b : List Value). AsksInOrder held b ys names) (behind_one before v vs) back)))
+  asks_behind : (before : List Value) (xs : List (List ℕ × Kind)) (vs : List Value) (reads : List PieceRead) → FilesAccepted held before xs vs
+      → AsksInOrder held (before ++ vs) ys reads → AsksInOrder held before (xs ++ ys) reads
+  asks_behind before [] [] reads front back = subst (λ (b : List Value). AsksInOrder held b ys reads) (append-nil before) back
+  asks_behind before [] (v ∷ vs) reads front back = absurd front
+  asks_behind before (x ∷ xs) [] reads front back = absurd front
+  asks_behind before (x ∷ xs) (v ∷ vs) reads (here, rest) back =
+      ([], reads, refl, tt, inr (v, here, asks_behind (before ++ v ∷ []) xs vs reads rest (subst (λ (b : List Value). AsksInOrder held b ys reads) (behind_one before v vs) back)))
 
   -- those of the first may have been asked for behind other values
-  asks_then : (before other : List Value) (xs : List (List ℕ × Kind)) (vs : List Value) (names more : List (List ℕ)) → FilesAccepted held before xs vs
-      → AsksInOrder held other xs names → AsksInOrder held (before ++ vs) ys more → AsksInOrder held before (xs ++ ys) (names ++ more)
-  asks_then before other [] [] names more front none back =
-      subst (λ (ns : List (List ℕ)). AsksInOrder held before ys (ns ++ more)) (sym none) (subst (λ (b : List Value). AsksInOrder held b ys more) (append-nil before) back)
-  asks_then before other [] (v ∷ vs) names more front asks back = absurd front
-  asks_then before other (x ∷ xs) [] names more front asks back = absurd front
-  asks_then before other (x ∷ xs) (v ∷ vs) names more (here, rest) (times, later, is, inl none) back =
-      let all : names ++ more ≡ replicate times x.0 ++ more = ap (λ (ns : List (List ℕ)). ns ++ more) (is ∙ ap (λ (ns : List (List ℕ)). replicate times x.0 ++ ns) none ∙ append-nil (replicate times x.0)) in
-      (times, more, all, inr (v, here, asks_behind (before ++ v ∷ []) xs vs more rest (subst (λ (b : List Value). AsksInOrder held b ys more) (behind_one before v vs) back)))
-  asks_then before other (x ∷ xs) (v ∷ vs) names more (here, rest) (times, later, is, inr (w, also, asks)) back =
-      let all : names ++ more ≡ replicate times x.0 ++ (later ++ more) = ap (λ (ns : List (List ℕ)). ns ++ more) is ∙ append_assoc (replicate times x.0) later more in (
-        times,
+  asks_then : (before other : List Value) (xs : List (List ℕ × Kind)) (vs : List Value) (reads more : List PieceRead) → FilesAccepted held before xs vs
+      → AsksInOrder held other xs reads → AsksInOrder held (before ++ vs) ys more → AsksInOrder held before (xs ++ ys) (reads ++ more)
+  asks_then before other [] [] reads more front none back =
+      subst (λ (ns : List PieceRead). AsksInOrder held before ys (ns ++ more)) (sym none) (subst (λ (b : List Value). AsksInOrder held b ys more) (append-nil before) back)
+  asks_then before other [] (v ∷ vs) reads more front asks back = absurd front
+  asks_then before other (x ∷ xs) [] reads more front asks back = absurd front
+  asks_then before other (x ∷ xs) (v ∷ vs) reads more (here, rest) (mine, later, is, of, inl none) back =
+      let all : reads ++ more ≡ mine ++ more =
+      ap (λ (ns : List PieceRead). ns ++ more) (is ∙ ap (λ (ns : List PieceRead). mine ++ ns) none ∙ append-nil mine) in
+      (mine, more, all, of, inr (v, here, asks_behind (before ++ v ∷ []) xs vs more rest (subst (λ (b : List Value). AsksInOrder held b ys more) (behind_one before v vs) back)))
+  asks_then before other (x ∷ xs) (v ∷ vs) reads more (here, rest) (mine, later, is, of, inr (w, also, asks)) back =
+      let all : reads ++ more ≡ mine ++ (later ++ more) =
+      ap (λ (ns : List PieceRead). ns ++ more) is ∙ append_assoc mine later more in (
+        mine,
         later ++ more,
         all,
+        of,
         inr (
           v,
           here,
@@ -98,20 +101,20 @@ module _ (a : Reading) (ys : List (List ℕ × Kind)) where
 
 -- 2. A reading that goes on from where another ends.
 
--- The second goes on from the first, and both together ask for these names.
-pub record GoesOn (a b : Reading) (asks : List (List ℕ) → Type 0) : Type 0 where
+-- The second goes on from the first, and both together read these.
+pub record GoesOn (a b : Reading) (asks : List PieceRead → Type 0) : Type 0 where
   pub kept : b.held ≡ a.held
   pub counts : b.before ≡ a.now
   pub later : NoneFell a.before a.now
-  pub asked : (names more : List (List ℕ)) → a.asks names → b.asks more → asks (names ++ more)
+  pub asked : (reads more : List PieceRead) → a.asks reads → b.asks more → asks (reads ++ more)
 
-abbrev pub both : Reading → Reading → (asks : List (List ℕ) → Type 0) → Reading
+abbrev pub both : Reading → Reading → (asks : List PieceRead → Type 0) → Reading
 both a b asks = record { held = a.held; before = a.before; now = b.now; asks = asks }
 
 rose_since : (m n k : ℕ) → m ≤ n → Rose n k → Rose m k
 rose_since m n k less rose = omega arith
 
-module _ (a b : Reading) (asks : List (List ℕ) → Type 0) (on : GoesOn a b asks) where
+module _ (a b : Reading) (asks : List PieceRead → Type 0) (on : GoesOn a b asks) where
   since : (name : List ℕ) → Rose (b.before name) (b.now name) → Rose (a.before name) (b.now name)
   since name rose =
       rose_since (a.before name) (a.now name) (b.now name) (on.later name) (subst (λ (f : List ℕ → ℕ). Rose (f name) (b.now name)) on.counts rose)
@@ -131,18 +134,18 @@ module _ (a b : Reading) (asks : List (List ℕ) → Type 0) (on : GoesOn a b as
   stops_then before xs ys vs stop.WriteFault front says = says
   stops_then before xs ys vs stop.NoMemory front says = says
 
--- both ask for their names in order
-asked_then : {T U : Type 0} {a b : Reading} {asks : List (List ℕ) → Type 0} {before : List Value} {xs ys : List (List ℕ × Kind)} {values : T → List Value} {others : U → List Value} {t : T} {result : Result U Stop}
+-- both read their files in order
+asked_then : {T U : Type 0} {a b : Reading} {asks : List PieceRead → Type 0} {before : List Value} {xs ys : List (List ℕ × Kind)} {values : T → List Value} {others : U → List Value} {t : T} {result : Result U Stop}
     → FilesRead a before xs values (Ok t) → FilesRead b (before ++ values t) ys others result → GoesOn a b asks → AsksFiles (both a b asks) before (xs ++ ys)
 asked_then {a = a} {before = before} {xs = xs} {ys = ys} {values = values} {t = t} front back on = record {
-  names = front.asked.names ++ back.asked.names;
-  asked = on.asked front.asked.names back.asked.names front.asked.asked back.asked.asked;
-  in_order = asks_then a.held ys before before xs (values t) front.asked.names back.asked.names front.accepted front.asked.in_order
-      (subst (λ (held : List ℕ → Option (List ℕ)). AsksInOrder held (before ++ values t) ys back.asked.names) on.kept back.asked.in_order);
+  reads = front.asked.reads ++ back.asked.reads;
+  asked = on.asked front.asked.reads back.asked.reads front.asked.asked back.asked.asked;
+  in_order = asks_then a.held ys before before xs (values t) front.asked.reads back.asked.reads front.accepted front.asked.in_order
+      (subst (λ (held : List ℕ → Option (List ℕ)). AsksInOrder held (before ++ values t) ys back.asked.reads) on.kept back.asked.in_order);
 }
 
 -- the files behind were read too, or their reading stopped
-pub files_then : {T U : Type 0} {a b : Reading} {asks : List (List ℕ) → Type 0} {before : List Value} {xs ys : List (List ℕ × Kind)} {values : T → List Value} {others : U → List Value} {t : T} {result : Result U Stop}
+pub files_then : {T U : Type 0} {a b : Reading} {asks : List PieceRead → Type 0} {before : List Value} {xs ys : List (List ℕ × Kind)} {values : T → List Value} {others : U → List Value} {t : T} {result : Result U Stop}
     → FilesRead a before xs values (Ok t) → FilesRead b (before ++ values t) ys others result → GoesOn a b asks
     → FilesRead (both a b asks) before (xs ++ ys) (λ u. values t ++ others u) result
 files_then {a = a} {b = b} {before = before} {xs = xs} {ys = ys} {values = values} {others = others} {t = t} {result = Ok u} front back on = record {
@@ -168,21 +171,24 @@ stops_first a ys before xs stop.NoMemory says = says
 -- what it asks for is asked for of all
 pub asks_of_all : {a : Reading} {before : List Value} {xs : List (List ℕ × Kind)} (ys : List (List ℕ × Kind)) → AsksFiles a before xs → AsksFiles a before (xs ++ ys)
 asks_of_all {a = a} {before = before} {xs = xs} ys asked = record {
-  names = asked.names;
+  reads = asked.reads;
   asked = asked.asked;
-  in_order = asks_first a.held ys before xs asked.names asked.in_order;
+  in_order = asks_first a.held ys before xs asked.reads asked.in_order;
 }
 
--- one file was asked for and no other
-pub asks_one : {a : Reading} {before : List Value} {name : List ℕ} {kind : Kind} (times : ℕ) → a.asks (replicate times name) → AsksFiles a before ((name, kind) ∷ [])
-asks_one {name = name} times asked = record { names = replicate times name; asked = asked; in_order = (times, [], sym (append-nil (replicate times name)), inl refl) }
+-- one file was read and no other
+pub asks_one : {a : Reading} {before : List Value} {name : List ℕ} {kind : Kind} (reads : List PieceRead) → AreOf name reads
+    → a.asks reads → AsksFiles a before ((name, kind) ∷ [])
+asks_one reads of asked = record { reads = reads; asked = asked; in_order = (reads, [], sym (append-nil reads), of, inl refl) }
 
 -- and its bytes mean nothing
-pub refused_file : {T : Type 0} {a : Reading} {before : List Value} {name : List ℕ} {kind : Kind} {values : T → List Value} {r : Refusal} (times : ℕ) (bytes : List ℕ)
-    → Holds (a.held name) bytes → length bytes ≤ limit_of kind → Faults kind before (length before + 1) bytes r → a.asks (replicate times name)
+pub refused_file : {T : Type 0} {a : Reading} {before : List Value} {name : List ℕ} {kind : Kind} {values : T → List Value}
+    {r : Refusal} (reads : List PieceRead) (bytes : List ℕ)
+    → Holds (a.held name) bytes → length bytes ≤ limit_of kind → Faults kind before (length before + 1) bytes r
+    → AreOf name reads → a.asks reads
     → FilesRead a before ((name, kind) ∷ []) values (Err (stop.Refused r))
-refused_file times bytes holds short fault asked = record {
+refused_file reads bytes holds short fault of asked = record {
   accepted = tt;
   stopped = inl (inr (record { bytes = bytes; holds = holds; short = short; fault = fault }));
-  asked = asks_one times asked;
+  asked = asks_one reads of asked;
 }

@@ -3,6 +3,7 @@ use Rattle.std.proofs.Common.{◌≡◌, ℕ, ◌+◌, ◌<◌, List, [], ◌∷
 use Rattle.std.specs.Result.{IsErrAnd}
 use Rattle.std.specs.declared.alloc.Global.{Global}
 use Rattle.std.proofs.lemmas.List.{take_more, map-append, take-append-drop}
+use Rattle.mm_io.specs.Files.{PieceRead}
 use Rattle.mm_load.specs.declared.status.Stop.{Stop}
 use Rattle.mm_cli.specs.declared.table.Kind.{Kind}
 use Rattle.mm_load.specs.Kinds.{Value}
@@ -26,7 +27,7 @@ module _ {A : Type 0} (kind : Kind) (value : A → Value) where
       sym (map-append named (take (at + 1) names) (drop (at + 1) names)) ∙ ap (λ (xs : List (String Global)). files_named kind xs) (take-append-drop (at + 1) names)
 
   -- one value more
-  pub value_more : {a b : Reading} {asks : List (List ℕ) → Type 0} {before : List Value} (names : List (String Global)) (at : ℕ) (name : String Global) (items more : List A) (item : A)
+  pub value_more : {a b : Reading} {asks : List PieceRead → Type 0} {before : List Value} (names : List (String Global)) (at : ℕ) (name : String Global) (items more : List A) (item : A)
       → at < length names → name ≡ get_or names at name → more ≡ items ++ item ∷ []
       → FilesRead {T = Unit {0}} a before (files_named kind (take at names)) (λ t. map value items) (Ok tt)
       → FilesRead b (before ++ map value items) (named name ∷ []) (λ x. value x ∷ []) (Ok item) → GoesOn a b asks
@@ -39,7 +40,7 @@ module _ {A : Type 0} (kind : Kind) (value : A → Value) where
       subst Q values (subst P (sym (next_named names at name lt is)) (record { accepted = whole.accepted; stopped = tt; asked = whole.asked }))
 
   -- what was asked for so far is asked for of all
-  pub values_asked : {T : Type 0} {a b : Reading} {asks : List (List ℕ) → Type 0} {before : List Value} (names : List (String Global)) (at : ℕ) (name : String Global) (items : List A)
+  pub values_asked : {T : Type 0} {a b : Reading} {asks : List PieceRead → Type 0} {before : List Value} (names : List (String Global)) (at : ℕ) (name : String Global) (items : List A)
       (values : T → List Value) (result : Result T Stop) → at < length names → name ≡ get_or names at name
       → FilesRead {T = Unit {0}} a before (files_named kind (take at names)) (λ t. map value items) (Ok tt)
       → FilesRead b (before ++ map value items) (named name ∷ []) values result → GoesOn a b asks → AsksFiles (both a b asks) before (files_named kind names)
@@ -48,7 +49,7 @@ module _ {A : Type 0} (kind : Kind) (value : A → Value) where
       subst P (all_named names at) (asks_of_all (files_named kind (drop (at + 1) names)) (subst P (sym (next_named names at name lt is)) (files_then front back on).asked))
 
   -- the reading of one stops, and none behind it is read
-  pub value_stops : {T : Type 0} {a b : Reading} {asks : List (List ℕ) → Type 0} {before : List Value} (names : List (String Global)) (at : ℕ) (name : String Global) (items : List A)
+  pub value_stops : {T : Type 0} {a b : Reading} {asks : List PieceRead → Type 0} {before : List Value} (names : List (String Global)) (at : ℕ) (name : String Global) (items : List A)
       (values : T → List Value) (s : Stop) (result : Result T Stop) → at < length names → name ≡ get_or names at name
       → FilesRead {T = Unit {0}} a before (files_named kind (take at names)) (λ t. map value items) (Ok tt)
       → FilesRead b (before ++ map value items) (named name ∷ []) (λ x. value x ∷ []) (Err s) → GoesOn a b asks → IsErrAnd result (λ e. e ≡ s)

@@ -1,9 +1,9 @@
 -- The inputs of a command, each read and parsed before the next: its files and, behind them, standard input where it reads that.
-use Rattle.std.specs.Prelude.{◌≡◌, ◌⊎◌, ℕ, ◌+◌, ◌≤◌, List, [], ◌∷◌, ◌++◌, length, map, replicate, String, string_bytes, Option, Some, None, IsSome, Result, IfOk, IfErr, ⊤}
+use Rattle.std.specs.Prelude.{◌≡◌, ◌⊎◌, ℕ, ◌+◌, ◌≤◌, List, [], ◌∷◌, ◌++◌, length, map, String, string_bytes, Option, Some, None, IsSome, Result, IfOk, IfErr, ⊤}
 use Rattle.std.specs.declared.alloc.Global.{Global}
 use Rattle.std.specs.List.{AllByRecursion}
 use Rattle.mm_word.specs.Adding.{Adds}
-use Rattle.mm_io.specs.Files.{Rose, Holds, IsLonger}
+use Rattle.mm_io.specs.Files.{Rose, Holds, IsLonger, PieceRead, AreOf}
 use Rattle.mm_load.specs.declared.status.Refusal.{Refusal}
 use Rattle.mm_load.specs.declared.status.Refusal.TheVariants.{TooLong}
 use Rattle.mm_load.specs.declared.status.Stop.{Stop}
@@ -56,9 +56,10 @@ pub record Reading : Type 1 where
   pub held : List ℕ → Option (List ℕ)
   pub before : List ℕ → ℕ
   pub now : List ℕ → ℕ
-  pub asks : List (List ℕ) → Type 0
+  pub asks : List PieceRead → Type 0
 
-abbrev pub reading : {F : Type 0} → (held : F → List ℕ → Option (List ℕ)) → (faults : F → List ℕ → ℕ) → (asked : F → List (List ℕ) → Type 0) → (old new : F) → Reading
+abbrev pub reading : {F : Type 0} → (held : F → List ℕ → Option (List ℕ)) → (faults : F → List ℕ → ℕ) → (asked : F → List PieceRead → Type 0)
+    → (old new : F) → Reading
 reading held faults asked old new = record { held = held old; before = faults old; now = faults new; asks = Adds asked old new }
 
 -- the count of one of their names rose, or stands at its last value, and the files before it are accepted
@@ -72,19 +73,21 @@ FilesFailed r before (file ∷ files) =
 abbrev pub FilesTold : (List ℕ → Option (List ℕ)) → List (List ℕ × Kind) → Type 0
 FilesTold held files = AllByRecursion (λ (file : List ℕ × Kind). IsSome (held file.0)) files
 
--- These names are asked for: that of the first file any number of times and then, only where that file is accepted, those of the files
--- behind it.
-abbrev pub AsksInOrder : (List ℕ → Option (List ℕ)) → (before : List Value) → List (List ℕ × Kind) → (names : List (List ℕ)) → Type 0
-AsksInOrder held before [] names = names ≡ []
-AsksInOrder held before (file ∷ files) names =
-    (times : ℕ) × (later : List (List ℕ)) × (names ≡ replicate times file.0 ++ later)
-    × ((later ≡ []) ⊎ ((v : Value) × Accepted file.1 before (held file.0) v × AsksInOrder held (before ++ v ∷ []) files later))
+-- These are reads of the files in their order: any number of the first and then, only where that file is accepted, those of
+-- the files after it.
+abbrev pub AsksInOrder : (List ℕ → Option (List ℕ)) → (before : List Value) → List (List ℕ × Kind) → (reads : List PieceRead)
+    → Type 0
+AsksInOrder held before [] reads = reads ≡ []
+AsksInOrder held before (file ∷ files) reads =
+    (mine : List PieceRead) × (later : List PieceRead) × (reads ≡ mine ++ later) × AreOf file.0 mine
+    × ((later ≡ [])
+    ⊎ ((v : Value) × Accepted file.1 before (held file.0) v × AsksInOrder held (before ++ v ∷ []) files later))
 
--- Reads asked for the names of these files in their order, and for no other.
+-- Reads are of these files in their order, and of no other.
 pub record AsksFiles (r : Reading) (before : List Value) (files : List (List ℕ × Kind)) : Type 0 where
-  pub names : List (List ℕ)
-  pub asked : r.asks names
-  pub in_order : AsksInOrder r.held before files names
+  pub reads : List PieceRead
+  pub asked : r.asks reads
+  pub in_order : AsksInOrder r.held before files reads
 
 -- 3. Standard input, behind files by their names, where a command reads it as input of a kind.
 

@@ -17,8 +17,8 @@ use Rattle.mm_object.specs.Spelling.{Spells as SpellsObject}
 use Rattle.mm_asm.specs.Faults as text
 use Rattle.mm_image.specs.Faults.{number_of}
 use Rattle.mm_machine.specs.Snapshot.{Parts}
-use Rattle.mm_save.specs.Checkpoints.{Saved, Saves, saved_of}
-use Rattle.mm_save.specs.Faults.{save_fault}
+use Rattle.mm_checkpoint.specs.Checkpoints.{Saved, Saves, saved_of}
+use Rattle.mm_checkpoint.specs.Faults.{save_fault}
 use Rattle.mm_sched.specs.declared.schedule.Order.{Order}
 use Rattle.mm_sched.specs.declared.schedule.Order.TheVariants as order
 use Rattle.mm_net.specs.declared.link.Link.{Link}

@@ -3,7 +3,7 @@ ghost use Rattle.std.specs.Prelude.{◌≡◌, ◌+◌, ◌<◌, ◌≤◌, ◌^
 ghost use Rattle.std.specs.Option.{option_map};
 ghost use Rattle.std.specs.Io.KnownBytes.{IsAtEnd};
 ghost use Rattle.mm_io.specs.Files.{Rose, NoneFell, Holds, AsksOnly};
-ghost use Rattle.mm_save.specs.Checkpoints.{saved_of, IsCheckpoint};
+ghost use Rattle.mm_checkpoint.specs.Checkpoints.{saved_of, IsCheckpoint};
 ghost use Rattle.mm_cli.specs.declared.table.Kind.TheVariants.{Image as image_file, Schedule as schedule_file, Source as source_file, Object as object_file, Checkpoint as checkpoint_file, Links as links_file, Events as events_file, Text as text_input};
 ghost use Rattle.mm_load.specs.Kinds.{Value, an_image, a_list, an_object, a_checkpoint, a_links, an_events, a_text};
 ghost use Rattle.mm_load.specs.Files.{Stops, IsTooLong, FilesRead, InputRead, reading, drawing};
@@ -13,12 +13,12 @@ ghost use Rattle.mm_load.specs.Stops.{stop_of_error};
 
 use crate::status::{Refusal, Stop};
 use mm_asm::{AsmError, assemble};
+use mm_checkpoint::SaveError;
 use mm_image::{Image, ImageError};
 use mm_io::{Files, ReadError, Source, read_all, read_input};
 use mm_machine::Snapshot;
 use mm_net::{Events, Links, NetError, read_events, read_links};
 use mm_object::{Object, ObjectError};
-use mm_save::SaveError;
 use mm_sched::{Order, SchedError, Schedule};
 use std::alloc::Global;
 
@@ -198,7 +198,7 @@ pub fn load_checkpoint<F: Files>(
     ensures later { NoneFell (F.faults files.old) (F.faults files.new) }
 {
     let bytes = read_file(alloc, files, name, CHECKPOINT_LIMIT, 2)?;
-    match mm_save::read(alloc, image, &bytes) {
+    match mm_checkpoint::read(alloc, image, &bytes) {
         Ok((snapshot, last)) => Ok(Checkpoint { snapshot, last }),
         Err(SaveError::Fault { offset }) => {
             Err(Stop::Refused(Refusal::Checkpoint { file: 2, offset }))

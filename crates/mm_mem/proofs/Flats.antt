@@ -1,5 +1,6 @@
 -- What an edit at a place of the list of pages is of a flat memory.
-use Rattle.std.proofs.Common.{subst, is_some, ◌&&◌, nat_lt, ◌≡◌, ℕ, ◌%◌, ◌<◌, ◌≤◌, Bool, true, false, not, List, length, get_or, set, Option, Some, None, Result, Ok, Err, IfErr, slice_get, slice_set, inl, inr, refl, sym, ap, arith, ◌∙◌, if◌then◌else◌}
+use Rattle.std.proofs.Common.{subst, is_some, ◌&&◌, nat_lt, ◌≡◌, ℕ, ◌%◌, ◌<◌, ◌≤◌, Bool, true, false, not, List, length, get_or, set, Option, Some, None, Result, Ok, Err, IfErr, slice_get, slice_set}
+use Rattle.std.proofs.Common.{inl, inr, refl, sym, ap, arith, ◌∙◌, if◌then◌else◌}
 use Rattle.std.specs.Option.{IfNone}
 use Rattle.std.specs.Result.{result_ok}
 use Rattle.std.specs.List.{insert, remove}
@@ -22,11 +23,13 @@ pub page_here : (m : Memory) (k i : ℕ) (e : ℕ × List Cell) → IsPaged m �
 page_here m k i e paged at is = found_at k m.pages i (held _ paged.pages.rising) at e ∙ ap (λ (x : ℕ × List Cell). Some x.1) (sym is)
 
 -- what is read there
-pub cell_here : (m : Memory) (w i : ℕ) (e : ℕ × List Cell) (c : Cell) → IsPaged m → IsAt (page_of w) m.pages i → e ≡ get_or m.pages i e → w % 8 ≡ 0 → slice_get e.1 (place_of w) ≡ Some c → cell_at m w ≡ Some c
+pub cell_here : (m : Memory) (w i : ℕ) (e : ℕ × List Cell) (c : Cell) → IsPaged m → IsAt (page_of w) m.pages i → e ≡ get_or m.pages i e → w % 8 ≡ 0 → slice_get e.1 (place_of w) ≡ Some c
+    → cell_at m w ≡ Some c
 cell_here m w i e c paged at is aligned read = cell_at-aligned m w aligned ∙ ap (λ o. cell_in o (place_of w)) (page_here m (page_of w) i e paged at is) ∙ read
 
 -- what is written there
-pub put_here : (m : Memory) (w i : ℕ) (e new : ℕ × List Cell) (c : Cell) → IsPaged m → IsAt (page_of w) m.pages i → e ≡ get_or m.pages i e → new ≡ (e.0, slice_set e.1 (place_of w) c) → flat (set m.pages i new) m.frames ≡ put_cell m w c
+pub put_here : (m : Memory) (w i : ℕ) (e new : ℕ × List Cell) (c : Cell) → IsPaged m → IsAt (page_of w) m.pages i → e ≡ get_or m.pages i e → new ≡ (e.0, slice_set e.1 (place_of w) c)
+    → flat (set m.pages i new) m.frames ≡ put_cell m w c
 unfolding put_cell
 put_here m w i e new c paged at is made =
     let cells = slice_set e.1 (place_of w) c in

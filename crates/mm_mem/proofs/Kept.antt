@@ -1,5 +1,6 @@
 -- What an access, a mapped page and a removed page keep of a memory.
-use Rattle.std.proofs.Common.{◌≡◌, ◌≢◌, ℕ, zero, suc, ◌%◌, ◌<◌, ◌≤◌, Bool, true, false, not, nat_eq, nat_lt, ◌&&◌, ◌==◌, T, List, [], ◌∷◌, length, slice_get, get_or, Option, Some, None, is_some, refl, ap, ◌∙◌, if◌then◌else◌, arith}
+use Rattle.std.proofs.Common.{◌≡◌, ◌≢◌, ℕ, zero, suc, ◌%◌, ◌<◌, ◌≤◌, Bool, true, false, not, nat_eq, nat_lt, ◌&&◌, ◌==◌, T, List, [], ◌∷◌, length, slice_get, get_or, Option, Some, None, is_some, refl}
+use Rattle.std.proofs.Common.{ap, ◌∙◌, if◌then◌else◌, arith}
 use Rattle.std.specs.Ordering.{nat_cmp}
 use Rattle.std.specs.List.{filter}
 use Rattle.std.specs.FinMap.{find, is_sorted}
@@ -14,7 +15,8 @@ use Rattle.mm_model.proofs.Memories as cells
 use Rattle.mm_mem.specs.declared.answer.Loaded.TheVariants as loads
 use Rattle.mm_mem.specs.declared.answer.Stored.TheVariants as stores
 use Rattle.mm_mem.specs.Answers.{loaded, stored, put_where, set_where, after_load, after_store, after_map, after_unmap}
-use Rattle.mm_mem.specs.Laws.{RefusalsChangeNothing, LoadsSetOneBit, StoresWriteOneCell, AccessesKeepPages, MapsOnePage, UnmapsOnePage, RemovedPagesComeBackEmpty, FramesStay, CallsKeepPaged, ContentsAreThePages}
+use Rattle.mm_mem.specs.Laws.{RefusalsChangeNothing, LoadsSetOneBit, StoresWriteOneCell, AccessesKeepPages, MapsOnePage, UnmapsOnePage, RemovedPagesComeBackEmpty, FramesStay, CallsKeepPaged}
+use Rattle.mm_mem.specs.Laws.{ContentsAreThePages}
 use Rattle.mm_mem.proofs.Places.{held, found_at}
 use Rattle.mm_mem.specs.Places.{IsAt}
 
@@ -82,7 +84,8 @@ refusals = record {
 pub one_bit : LoadsSetOneBit
 one_bit = record {
   own = λ m w pre post c here passed.
-      set_or (λ n. cell_at n w ≡ Some (record { word = c.word; full = full_after post c.full })) m w pre post (cell_at m w) (own_bit m w post c here) (put_where_own m w pre c (bit_set post) here passed);
+      set_or (λ n. cell_at n w ≡ Some (record { word = c.word; full = full_after post c.full })) m w pre post (cell_at m w) (own_bit m w post c here)
+      (put_where_own m w pre c (bit_set post) here passed);
   other = λ m w pre post v ne. set_or (λ n. cell_at n v ≡ cell_at m v) m w pre post (cell_at m w) (λ e. refl) (put_where_other m w pre (bit_set post) v ne);
 }
 

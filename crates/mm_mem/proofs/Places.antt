@@ -42,7 +42,7 @@ module _ {X : Type 0} where
   first_smaller : (k i : ℕ) (e : ℕ × X) (es : List (ℕ × X)) → T (is_sorted nat_cmp (e ∷ es)) → IsAt k (e ∷ es) (suc i) → e.0 < k
   first_smaller k i e es sorted at = omega (arith, rising (e ∷ es) 0 (suc i) e sorted (omega arith) at.in_range, at.has_number e)
 
-  -- a number that stands at a place is found, with the entry there
+  -- a number that is at a place is found, with the entry there
   pub found_at : (k : ℕ) (es : List (ℕ × X)) (i : ℕ) → T (is_sorted nat_cmp es) → IsAt k es i → (d : ℕ × X) → find nat_cmp k es ≡ Some (get_or es i d).1
   found_at k [] i sorted at d = absurd (omega (arith, at.in_range))
   found_at k (e ∷ es) zero sorted at d = grind (arith, nat_tests, at.has_number e)

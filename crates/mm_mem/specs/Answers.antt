@@ -1,5 +1,5 @@
 -- What the calls of a memory answer, what they leave, and the uses that they add.
-use Rattle.std.specs.Prelude.{ℕ, Bool, true, false, if◌then◌else◌, List, [], ◌∷◌, Option, Some, None}
+use Rattle.std.specs.Prelude.{ℕ, if◌then◌else◌, List, [], ◌∷◌, Option, Some, None}
 use Rattle.mm_word.specs.declared.word.Word.{Word}
 use Rattle.mm_word.specs.declared.word.Cell.{Cell}
 use Rattle.mm_word.specs.declared.word.Pre.{Pre}
@@ -10,7 +10,8 @@ use Rattle.mm_mem.specs.declared.answer.Loaded.{Loaded}
 use Rattle.mm_mem.specs.declared.answer.Loaded.TheVariants as loads
 use Rattle.mm_mem.specs.declared.answer.Stored.{Stored}
 use Rattle.mm_mem.specs.declared.answer.Stored.TheVariants as stores
-use Rattle.mm_model.specs.Memory.{Memory, cell_at, put_cell, is_mapped, can_map, map_page, unmap_page, passes, full_after}
+use Rattle.mm_model.specs.Memory.{Memory, cell_at, put_cell, is_mapped, can_map, map_page, unmap_page, passes}
+use Rattle.mm_model.specs.Memory.{full_after}
 use Rattle.mm_model.specs.Uses.{Use, use_at}
 use Rattle.mm_model.specs.Effect.{set_by}
 use Rattle.mm_model.specs.Turn.{removal_use, with_cell}
@@ -47,7 +48,8 @@ after_load m w pre post = set_where m w pre post (cell_at m w)
 
 -- a store writes word and bit
 abbrev pub after_store : Memory → ℕ → Word → Pre → Post → Memory
-after_store m w word pre post = put_where m w pre (cell_at m w) (λ c. record { word = word; full = full_after post c.full })
+after_store m w word pre post = put_where m w pre (cell_at m w)
+    (λ c. record { word = word; full = full_after post c.full })
 
 abbrev pub after_map : Memory → ℕ → Memory
 after_map m p = if can_map m p then map_page m p else m

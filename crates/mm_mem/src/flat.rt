@@ -1,4 +1,5 @@
-ghost use Rattle.std.specs.Prelude.{◌≡◌, ◌+◌, ◌%◌, ◌^◌, ◌<◌, ◌≤◌, IsTrue, IfOk, IfSome, IfNone, Some, None, length, map, slice_get, vec_len};
+ghost use Rattle.std.specs.Prelude.{◌≡◌, ◌+◌, ◌%◌, ◌^◌, ◌<◌, ◌≤◌, IsTrue, IfOk, IfSome, IfNone, Some, None, length};
+ghost use Rattle.std.specs.Prelude.{map, slice_get, vec_len};
 ghost use Rattle.std.specs.Vec.{vec_capacity};
 ghost use Rattle.std.specs.List.{AllByRecursion};
 ghost use Rattle.std.specs.Ordering.{nat_cmp};
@@ -27,7 +28,7 @@ fn place_of(word: u64) -> usize
     (word % 4096 / 8) as usize
 }
 
-// This many frames that no page stands in.
+// Frames without a page, as many as asked for.
 fn free_frames(alloc: Global, count: u32) -> Result<Vec<Frame>, NoMemory>
     ensures len { IfOk result (λ v. vec_len v ≡ count) }
     ensures room { IfOk result (λ v. count ≤ vec_capacity v) }
@@ -44,7 +45,7 @@ fn free_frames(alloc: Global, count: u32) -> Result<Vec<Frame>, NoMemory>
     Ok(free)
 }
 
-// Copies each page into a free frame, in their order.
+// Copies each page into a free frame, in the order of the pages.
 fn seat(used: &mut Vec<Frame>, free: &mut Vec<Frame>, pages: &[Page])
     requires none { vec_len used.old ≡ 0 }
     requires room { length pages.now ≤ vec_capacity used.old }
@@ -66,7 +67,7 @@ fn seat(used: &mut Vec<Frame>, free: &mut Vec<Frame>, pages: &[Page])
     }
 }
 
-// Pages in ascending order, and the frames that no page stands in. Contracts see a flat memory.
+// Pages in ascending order, and the frames without a page. Contracts see a flat memory.
 #[derive(Drop)]
 pub(crate) struct FlatPages {
     pages: Vec<Frame>,
@@ -115,14 +116,7 @@ impl FlatPages {
         })
     }
 
-    // What is true of every such memory.
-    pub(crate) fn paged(&self)
-        ensures { IsPaged self.now }
-    {
-        let _frames = self.frames;
-    }
-
-    // Where a word's page stands among the mapped ones.
+    // The index of a word's page among the mapped pages.
     pub(crate) fn find(&self, word: u64) -> Option<usize>
         ensures found { IfSome result (IsAt (page_of word) self.now.pages) }
         ensures absent { IfNone result (cell_at self.now word ≡ None) }
@@ -130,7 +124,7 @@ impl FlatPages {
         search(&self.pages, page_of(word)).ok()
     }
 
-    // The cell of a word whose page stands here.
+    // The cell of a word whose page has this index.
     pub(crate) fn cell(&self, i: usize, word: u64) -> Cell
         requires here { IsAt (page_of word) self.now.pages i }
         requires aligned { word % 8 ≡ 0 }
@@ -139,7 +133,7 @@ impl FlatPages {
         self.pages[i].cell(place_of(word))
     }
 
-    // Writes the cell of a word whose page stands here.
+    // Writes the cell of a word whose page has this index.
     pub(crate) fn put(&mut self, i: usize, word: u64, cell: Cell)
         requires { IsAt (page_of word) self.old.pages i }
         ensures { self.new ≡ put_cell self.old word cell }
@@ -186,9 +180,10 @@ impl FlatPages {
         }
     }
 
-    // How many pages are mapped.
+    // The number of mapped pages.
     pub(crate) fn len(&self) -> u32
-        ensures { result ≡ length self.now.pages }
+        ensures count { result ≡ length self.now.pages }
+        ensures paged { IsPaged self.now }
     {
         self.pages.len() as u32
     }
@@ -201,7 +196,7 @@ impl FlatPages {
         self.pages[i as usize].number()
     }
 
-    // Makes these pages the whole contents, in the frames that were taken first.
+    // Makes these pages the whole contents, in the frames that `new` took.
     pub(crate) fn reset(&mut self, pages: &[Page])
         requires ascend { IsTrue (is_sorted nat_cmp pages.now) }
         requires fit { length pages.now ≤ self.old.frames }

@@ -1,18 +1,13 @@
 ghost use Rattle.std.specs.Prelude.{◌≡◌, ◌^◌, ◌<◌, IfOk, Some, slice_get, slice_set};
 ghost use Rattle.mm_model.specs.Memory.{IsPage, zero_page};
 
+use crate::block::ZERO;
 use mm_model::{CELLS, Page};
-use mm_word::{Cell, NoMemory, Word};
+use mm_word::{Cell, NoMemory};
 use std::alloc::Global;
 use std::marker::Model;
 
-// What each cell of a page holds that was just mapped.
-const ZERO: Cell = Cell {
-    word: Word::Int(0),
-    full: true,
-};
-
-// A frame, and the page that stands in it. Its cells are taken once, and stay for as long as the memory does.
+// A frame, and the page in it. The memory of its cells is taken once, and kept for as long as the frame.
 #[derive(Drop)]
 pub(crate) struct Frame {
     number: u64,
@@ -42,14 +37,14 @@ impl Frame {
         Ok(Frame { number: 0, cells })
     }
 
-    // The number of its page.
+    // The number of the frame's page.
     pub(crate) fn number(&self) -> u64
         ensures { result ≡ self.now.0 }
     {
         self.number
     }
 
-    // The cell at this place.
+    // The cell at a place of the page.
     pub(crate) fn cell(&self, place: usize) -> Cell
         requires { place < 512 }
         ensures { slice_get self.now.1 place ≡ Some result }
@@ -57,7 +52,7 @@ impl Frame {
         self.cells[place]
     }
 
-    // Writes the cell at this place.
+    // Writes the cell at a place of the page.
     pub(crate) fn put(&mut self, place: usize, cell: Cell)
         requires { place < 512 }
         ensures { self.new ≡ (self.old.0, slice_set self.old.1 place cell) }
@@ -65,7 +60,7 @@ impl Frame {
         self.cells[place] = cell;
     }
 
-    // Makes it a page of zeros.
+    // Makes the frame a page of zeros.
     pub(crate) fn clear(&mut self, number: u64)
         requires { number < 2 ^ 42 }
         ensures { self.new ≡ (number, zero_page) }
@@ -74,7 +69,7 @@ impl Frame {
         self.cells.fill(ZERO);
     }
 
-    // Makes it a copy of this page.
+    // Makes the frame a copy of a page.
     pub(crate) fn copy(&mut self, page: &Page)
         ensures copied { self.new ≡ page.now }
         ensures whole { IsPage page.now }

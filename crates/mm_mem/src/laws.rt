@@ -1,14 +1,17 @@
 //! What holds of every memory, whichever way it is kept.
 //!
 //! These functions do nothing when they run: the contract of each is the law.
-ghost use Rattle.mm_mem.specs.Laws.{RefusalsChangeNothing, LoadsSetOneBit, StoresWriteOneCell, AccessesKeepPages, MapsOnePage, UnmapsOnePage, RemovedPagesComeBackEmpty, FramesStay, CallsKeepPaged, ContentsAreThePages};
+ghost use Rattle.mm_mem.specs.Laws.{RefusalsChangeNothing, LoadsSetOneBit, StoresWriteOneCell, AccessesKeepPages};
+ghost use Rattle.mm_mem.specs.Laws.{MapsOnePage, UnmapsOnePage, RemovedPagesComeBackEmpty, FramesStay, CallsKeepPaged};
+ghost use Rattle.mm_mem.specs.Laws.{ContentsAreThePages};
 
 /// An access that is refused leaves the memory as it was.
 pub fn refusals_change_nothing()
     ensures { RefusalsChangeNothing }
 {}
 
-/// A load changes at most the bit of its own cell, and a store writes its own cell and no other; neither maps or removes a page.
+/// A load changes at most the bit of its own cell, and a store writes its own cell and no other; neither maps or
+/// removes a page.
 pub fn accesses_change_one_cell()
     ensures load { LoadsSetOneBit }
     ensures store { StoresWriteOneCell }

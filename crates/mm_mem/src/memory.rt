@@ -4,17 +4,18 @@ ghost use Rattle.std.specs.FinMap.{is_sorted};
 ghost use Rattle.mm_model.specs.Memory.{Memory as Flat, cell_at, is_mapped, can_map};
 ghost use Rattle.mm_model.specs.Uses.{Use, accesses, TakesUses};
 ghost use Rattle.mm_model.specs.Ask.{load_kind};
-ghost use Rattle.mm_mem.specs.Answers.{fetched, loaded, stored, after_load, after_store, after_map, after_unmap, access_uses, fetch_uses, unmap_uses};
+ghost use Rattle.mm_mem.specs.Answers.{fetched, loaded, stored, after_load, after_store, after_map, after_unmap};
+ghost use Rattle.mm_mem.specs.Answers.{access_uses, fetch_uses, unmap_uses};
 
 use crate::{Loaded, Stored};
 use mm_model::{Counts, Page};
 use mm_word::{Access, Cell, Kind, NoMemory, Post, Pre, Word};
 use std::alloc::Global;
 
-/// A memory of whole pages of cells, and a number of frames that pages can stand in.
+/// A memory of whole pages of cells, and the number of its frames: as many pages can be mapped.
 ///
-/// It stands to lists of uses: what was asked of it, in order. Each call takes every list to which the memory stood to that list
-/// with the call's own uses added.
+/// A memory stands to lists of uses: what was asked of it, in order. Each call takes every list to which the memory
+/// stood to that list with the call's own uses added.
 pub trait Memory: Drop {
     /// The mapped pages with their cells, and the number of frames.
     ghost meaning: { Self → Flat };
@@ -55,7 +56,7 @@ pub trait Memory: Drop {
         ensures count { uses self.new ≡ uses self.old + 1 }
         ensures takes { TakesUses stands self.old self.new (access_uses (meaning self.old) a.now pre) };
 
-    /// Maps a page of integer zeros, full. False exactly where it is mapped already or no frame is free.
+    /// Maps a page of integer zeros, full. False exactly where the page is mapped already or no frame is free.
     fn map(&mut self, page: u64) -> bool
         requires { page < 2 ^ 42 }
         ensures answer { result ≡ can_map (meaning self.old) page }
@@ -63,7 +64,7 @@ pub trait Memory: Drop {
         ensures count { uses self.new ≡ uses self.old }
         ensures takes { TakesUses stands self.old self.new [] };
 
-    /// Removes a page. False exactly where it is not mapped.
+    /// Removes a page. False exactly where the page is not mapped.
     fn unmap(&mut self, page: u64) -> bool
         requires { page < 2 ^ 42 }
         ensures answer { result ≡ is_mapped (meaning self.old) page }
@@ -80,7 +81,7 @@ pub trait Inspect: Memory {
     /// What a memory of this type tells of a list of uses.
     ghost tells: { List Use → Option Counts };
 
-    /// The cell of a word, if its page is mapped.
+    /// The cell of a word, if the word's page is mapped.
     fn peek(&self, word: u64) -> Option<Cell>
         requires aligned { word % 8 ≡ 0 }
         requires small { word < 2 ^ 54 }
@@ -95,14 +96,14 @@ pub trait Inspect: Memory {
         requires { i < length (Self.meaning self.now).pages }
         ensures { slice_get (map (λ e. e.0) (Self.meaning self.now).pages) i ≡ Some result };
 
-    /// What it counted, for each list of uses to which it stands.
+    /// What the memory counted, for each list of uses to which it stands.
     fn counts(&self) -> Option<Counts>
         ensures { (us : List Use) → Self.stands self.now us → result ≡ tells us };
 }
 
 /// Makes a memory.
 pub trait Boot: Inspect + Sized {
-    /// The memory of these pages, in so many frames.
+    /// The memory of these pages, with this many frames.
     fn new(alloc: Global, pages: &[Page], frames: u32) -> Result<Self, NoMemory>
         requires some { 1 ≤ frames }
         requires few { frames ≤ 4096 }
@@ -118,6 +119,7 @@ pub trait Reset: Inspect {
     fn reset(&mut self, pages: &[Page])
         requires ascend { IsTrue (is_sorted nat_cmp pages.now) }
         requires fit { length pages.now ≤ (Self.meaning self.old).frames }
-        ensures meaning { Self.meaning self.new ≡ record { pages = pages.now; frames = (Self.meaning self.old).frames } }
+        ensures meaning { Self.meaning self.new
+            ≡ record { pages = pages.now; frames = (Self.meaning self.old).frames } }
         ensures stands { Self.stands self.new [] };
 }

@@ -13,7 +13,7 @@ use std::marker::Model;
 
 /// The plain memory, the yardstick of the others: pages in ascending order, and a count of the accesses.
 ///
-/// A look-up is a binary search. The frames are taken when it is made; no later call takes memory or moves the cells of a page.
+/// A look-up is a binary search. `new` takes the frames; no later call takes memory or moves the cells of a page.
 #[derive(Drop)]
 pub struct PlainMem {
     flat: FlatPages,
@@ -94,15 +94,6 @@ impl Memory for PlainMem {
     }
 }
 
-impl PlainMem {
-    /// Of every plain memory: its pages rise, each is whole, and no more are mapped than it has frames.
-    pub fn paged(&self)
-        ensures { IsPaged self.now.memory }
-    {
-        self.flat.paged();
-    }
-}
-
 impl Inspect for PlainMem {
     ghost tells = { λ us. None };
 
@@ -111,7 +102,11 @@ impl Inspect for PlainMem {
         Some(self.flat.cell(i, word))
     }
 
-    fn pages(&self) -> u32 {
+    // The pages of every plain memory rise, each is whole, and no more are mapped than it has frames.
+    fn pages(&self) -> u32
+        ensures count { result ≡ length self.now.memory.pages }
+        ensures paged { IsPaged self.now.memory }
+    {
         self.flat.len()
     }
 

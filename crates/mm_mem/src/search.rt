@@ -5,7 +5,7 @@ ghost use Rattle.mm_mem.specs.Places.{IsAt, IsGap};
 
 use crate::frame::Frame;
 
-// Where the page with this number stands, or where it would go.
+// The index of the page with this number, or the index where it would go.
 pub(crate) fn search(pages: &[Frame], number: u64) -> Result<usize, usize>
     requires { IsTrue (is_sorted nat_cmp pages.now) }
     ensures found { IfOk result (IsAt number pages.now) }

@@ -48,7 +48,8 @@ reaching (Ok a) pre = Reach a pre
 
 -- pages are for privileged code, and their numbers are below 2^42
 abbrev pub page_asked : Perm → ℕ → Ask → Ask
-page_asked perm page asked = if is_privileged perm then (if nat_lt page (2 ^ 42) then asked else Refuse Bounds) else Refuse Priv
+page_asked perm page asked =
+    if is_privileged perm then (if nat_lt page (2 ^ 42) then asked else Refuse Bounds) else Refuse Priv
 
 unfoldable pub ask : Instr → Slot → Ask
 ask (Out ra) s = Room s.group

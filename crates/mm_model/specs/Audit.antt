@@ -1,5 +1,6 @@
 -- The audit's text.
-use Rattle.std.specs.Prelude.{◌≡◌, ◌↔◌, ℕ, ◌<◌, ◌≤◌, Bool, true, false, List, [], ◌∷◌, ◌++◌, Contains, zip, drop, codes, decimal, Option, Some, None}
+use Rattle.std.specs.Prelude.{◌≡◌, ◌↔◌, ℕ, ◌<◌, ◌≤◌, Bool, true, false, List, [], ◌∷◌, ◌++◌, Contains, zip, drop, codes}
+use Rattle.std.specs.Prelude.{decimal, Option, Some, None}
 use Rattle.std.specs.List.{flat_map, AllByRecursion}
 use Rattle.mm_word.specs.Perm.{can_load, can_store}
 use Rattle.mm_word.specs.Pointer.{Pointer, InSegment, base_of}
@@ -71,7 +72,8 @@ abbrev pub Judged : Image → Entries → (ℕ → Bool) → Verdict → Type 0
 Judged i e c Yes = Apart i e c
 Judged i e c (Handler n) = Crosses i c n × ((m : ℕ) → Crosses i c m → n ≤ m)
 Judged i e c (Writer g w) =
-    ((n : ℕ) → ¬ Crosses i c n) × Writes i e c g w × ((h v : ℕ) → Writes i e c h v → g ≤ h) × ((v : ℕ) → Writes i e c g v → w ≤ v)
+    ((n : ℕ) → ¬ Crosses i c n) × Writes i e c g w × ((h v : ℕ) → Writes i e c h v → g ≤ h)
+    × ((v : ℕ) → Writes i e c g v → w ≤ v)
 
 -- groups as they are written: their numbers, with commas between
 abbrev pub groups_text : List ℕ → List ℕ
@@ -107,19 +109,24 @@ pub record AuditOf (i : Image) (g : ℕ) (text : List ℕ) : Type 0 where
   pub privileged_is : (privileged ≡ true) ↔ Privileged i All g
   pub touch_is : MaximalSegments i All g can_load touch
   pub write_is : MaximalSegments i All g can_store write
-  pub is : text ≡ kind_line g privileged ++ flat_map (segment_line (codes "touch")) touch ++ flat_map (segment_line (codes "write")) write
+  pub is : text ≡ kind_line g privileged ++ flat_map (segment_line (codes "touch")) touch
+      ++ flat_map (segment_line (codes "write")) write
 
 -- each of these groups, with its own apart line
 pub data AuditEach (i : Image) : List ℕ → List ℕ → Type 0 where
   no_group : AuditEach i [] []
-  group : {g : ℕ} {gs own line text : List ℕ} → AuditOf i g own → ApartLine i (g ∷ []) line → AuditEach i gs text → AuditEach i (g ∷ gs) (own ++ line ++ text)
+  group : {g : ℕ} {gs own line text : List ℕ} → AuditOf i g own → ApartLine i (g ∷ []) line → AuditEach i gs text
+      → AuditEach i (g ∷ gs) (own ++ line ++ text)
 
 -- each of these groups alone
 pub data AuditGroups (i : Image) : List ℕ → List ℕ → Type 0 where
   no_group : AuditGroups i [] []
-  group : {g : ℕ} {gs own text : List ℕ} → AuditOf i g own → AuditGroups i gs text → AuditGroups i (g ∷ gs) (own ++ text)
+  group : {g : ℕ} {gs own text : List ℕ} → AuditOf i g own → AuditGroups i gs text
+      → AuditGroups i (g ∷ gs) (own ++ text)
 
--- The text is the audit of the image: each group that has a slot, ascending, and its apart line; or, where groups are given, their apart line at the end.
+-- The text is the audit of the image: each group that has a slot, ascending, and its apart line; or, where groups are
+-- given, their apart line at the end.
 abbrev pub IsAudit : Image → Option (List ℕ) → List ℕ → Type 0
 IsAudit i None text = AuditEach i (groups_of (start i).core) text
-IsAudit i (Some groups) text = (own : List ℕ) × AuditGroups i (groups_of (start i).core) own × ((line : List ℕ) × ApartLine i groups line × (text ≡ own ++ line))
+IsAudit i (Some groups) text = (own : List ℕ) × AuditGroups i (groups_of (start i).core) own
+    × ((line : List ℕ) × ApartLine i groups line × (text ≡ own ++ line))

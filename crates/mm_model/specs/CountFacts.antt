@@ -34,7 +34,8 @@ pub record LatestWas (line block : ℕ) (us : List Use) : Type 0 where
 -- each access to this block in `later`, before which the uses `earlier` came, is a hit
 abbrev pub HitsOnly : ℕ → List Use → List Use → Type 0
 HitsOnly block earlier [] = Unit {0}
-HitsOnly block earlier (Accessed kind addr true done ∷ us) = (block_of addr ≡ block → is_hit block (us ++ earlier) ≡ true) × HitsOnly block earlier us
+HitsOnly block earlier (Accessed kind addr true done ∷ us) =
+    (block_of addr ≡ block → is_hit block (us ++ earlier) ≡ true) × HitsOnly block earlier us
 HitsOnly block earlier (Accessed kind addr false done ∷ us) = HitsOnly block earlier us
 HitsOnly block earlier (Removed page ∷ us) = HitsOnly block earlier us
 

@@ -1,5 +1,6 @@
 -- The counts of a list of uses. In each list here the latest use is first.
-use Rattle.std.specs.Prelude.{ℕ, ◌+◌, ◌/◌, ◌%◌, ◌==◌, Bool, true, false, not, ◌&&◌, ◌||◌, if◌then◌else◌, List, [], ◌∷◌, ◌++◌, reverse, take, Option, None, Some, is_some}
+use Rattle.std.specs.Prelude.{ℕ, ◌+◌, ◌/◌, ◌%◌, ◌==◌, Bool, true, false, not, ◌&&◌, ◌||◌, if◌then◌else◌, List, [], ◌∷◌}
+use Rattle.std.specs.Prelude.{◌++◌, reverse, take, Option, None, Some, is_some}
 use Rattle.mm_word.specs.declared.perm.Kind.{Kind}
 use Rattle.mm_word.specs.declared.perm.Kind.TheVariants.{Fetch, Load, LoadSet, Store}
 use Rattle.mm_model.specs.Flags.{one_if}
@@ -31,7 +32,8 @@ kept page (Some block) = if page_of_block block == page then None else Some bloc
 -- the block of the latest counted access with this line index, if its page was not removed since
 abbrev pub latest : ℕ → List Use → Option ℕ
 latest line [] = None
-latest line (Accessed kind addr true done ∷ us) = if line_of (block_of addr) == line then Some (block_of addr) else latest line us
+latest line (Accessed kind addr true done ∷ us) =
+    if line_of (block_of addr) == line then Some (block_of addr) else latest line us
 latest line (Accessed kind addr false done ∷ us) = latest line us
 latest line (Removed page ∷ us) = kept page (latest line us)
 
@@ -39,15 +41,18 @@ abbrev pub is_block : Option ℕ → ℕ → Bool
 is_block None block = false
 is_block (Some b) block = b == block
 
--- whether an access to this block is a hit after these uses: the latest counted access with its line index was to it, and its page was not removed since
+-- whether an access to this block is a hit after these uses: the latest counted access with its line index was to it,
+-- and its page was not removed since
 abbrev pub is_hit : ℕ → List Use → Bool
 is_hit block us = is_block (latest (line_of block) us) block
 
--- whether there was a done write from the last miss on the block of the latest counted access with this line index up to that access
+-- whether there was a done write from the last miss on the block of the latest counted access with this line index up
+-- to that access
 abbrev pub written : ℕ → List Use → Bool
 written line [] = false
 written line (Accessed kind addr true done ∷ us) =
-    if line_of (block_of addr) == line then (writes kind && done) || (is_hit (block_of addr) us && written line us) else written line us
+    if line_of (block_of addr) == line then (writes kind && done) || (is_hit (block_of addr) us && written line us)
+    else written line us
 written line (Accessed kind addr false done ∷ us) = written line us
 written line (Removed page ∷ us) = written line us
 

@@ -1,5 +1,6 @@
 -- What an instruction does with the reply to what it asked.
-use Rattle.std.specs.Prelude.{ℕ, ◌+◌, ◌*◌, ◌%◌, ◌^◌, Bool, true, false, ◌&&◌, ◌||◌, ◌==◌, if◌then◌else◌, ℤ, pos, ◌+ℤ◌, ◌*ℤ◌, List, [], ◌∷◌, slice_set, Option, Some, None, Result, Ok, Err}
+use Rattle.std.specs.Prelude.{ℕ, ◌+◌, ◌*◌, ◌%◌, ◌^◌, Bool, true, false, ◌&&◌, ◌||◌, ◌==◌, if◌then◌else◌, ℤ, pos, ◌+ℤ◌}
+use Rattle.std.specs.Prelude.{◌*ℤ◌, List, [], ◌∷◌, slice_set, Option, Some, None, Result, Ok, Err}
 use Rattle.std.specs.Int.{w32, w64, cast_unsigned, cast_signed}
 use Rattle.mm_word.specs.declared.perm.Perm.{Perm}
 use Rattle.mm_word.specs.declared.perm.Perm.TheVariants.{Eu, Ep}
@@ -13,12 +14,16 @@ use Rattle.mm_word.specs.declared.word.Cell.{Cell}
 use Rattle.mm_word.specs.Access.{Touch}
 use Rattle.mm_word.specs.Cause.{number_of}
 use Rattle.mm_word.specs.Word.{word_bits, is_pointer}
-use Rattle.mm_word.specs.Pointer.{Pointer, moved_to, lea_result, leab_result, restrict_result, subseg_result, setptr_result, next_result, enter_result}
+use Rattle.mm_word.specs.Pointer.{Pointer, moved_to, lea_result, leab_result, restrict_result, subseg_result}
+use Rattle.mm_word.specs.Pointer.{setptr_result, next_result, enter_result}
 use Rattle.mm_isa.specs.declared.instr.DivZero.{DivZero}
 use Rattle.mm_isa.specs.declared.instr.How.{How}
 use Rattle.mm_isa.specs.declared.instr.How.TheVariants.{Retry, Skip, Kill}
 use Rattle.mm_isa.specs.declared.instr.Instr.{Instr}
-use Rattle.mm_isa.specs.declared.instr.Instr.TheVariants.{Halt, Nop, Ldi, Ldhi, Mov, Isptr, Eqw, Out, SelfSlot, Alu, Addi, Lea, Leai, Leab, Restrict, Subseg, Setptr, Ld, St, Br, Bz, Bnz, Jmp, Jal, Lip, Trap, Evt, Resume, Rreg, Wreg, Map, Unmap}
+use Rattle.mm_isa.specs.declared.instr.Instr.TheVariants.{Halt, Nop, Ldi, Ldhi, Mov, Isptr, Eqw, Out, SelfSlot, Alu}
+use Rattle.mm_isa.specs.declared.instr.Instr.TheVariants.{Addi, Lea, Leai, Leab, Restrict, Subseg, Setptr, Ld, St, Br}
+use Rattle.mm_isa.specs.declared.instr.Instr.TheVariants.{Bz, Bnz, Jmp, Jal, Lip, Trap, Evt, Resume, Rreg, Wreg, Map}
+use Rattle.mm_isa.specs.declared.instr.Instr.TheVariants.{Unmap}
 use Rattle.mm_isa.specs.Alu.{alu_result}
 use Rattle.mm_model.specs.declared.slot.SlotState.TheVariants.{Running, Taken, Halted}
 use Rattle.mm_model.specs.declared.slot.Pending.{Pending}
@@ -161,7 +166,8 @@ loaded split s rd post (Refused c) = Fault c
 loaded split s rd post _ = Block
 
 abbrev pub stored : Slot → Word → Post → Reply → Effect
-stored s w post (Got a c) = Does (record (plain s) { cell = Some (a.addr, record { word = w; full = full_after post c.full }) })
+stored s w post (Got a c) =
+    Does (record (plain s) { cell = Some (a.addr, record { word = w; full = full_after post c.full }) })
 stored s w post (Refused c) = Fault c
 stored s w post _ = Block
 
@@ -190,12 +196,14 @@ jumps s p (Some to) = Does (record (plain s) { next = to; past = false; entered 
 abbrev pub links : Slot → ℕ → Pointer → Option Pointer → Option Pointer → Effect
 links s rd p None behind = Fault cause.Perm
 links s rd p (Some to) None = Fault cause.Bounds
-links s rd p (Some to) (Some back) = Does (record (plain s) { writes = (rd, Ptr back) ∷ []; next = to; past = false; entered = entry_of p })
+links s rd p (Some to) (Some back) =
+    Does (record (plain s) { writes = (rd, Ptr back) ∷ []; next = to; past = false; entered = entry_of p })
 
 -- an event's words go to four registers, and its slot is taken
 abbrev pub takes : Slot → ℕ → Reply → Effect
 takes s rd (Took e rest of) = Does (record (plain s) {
-  writes = (rd, Int (number_of e.cause + 256 * e.slot)) ∷ (rd + 1, Ptr e.ip) ∷ (rd + 2, e.addr_op) ∷ (rd + 3, e.value_op) ∷ [];
+  writes = (rd, Int (number_of e.cause + 256 * e.slot)) ∷ (rd + 1, Ptr e.ip) ∷ (rd + 2, e.addr_op)
+      ∷ (rd + 3, e.value_op) ∷ [];
   queue = Some rest;
   other = Some (record of { state = Taken });
 })
@@ -214,7 +222,8 @@ resumes s how _ = Block
 
 abbrev pub delivers : Slot → List Pending → Slot
 delivers s [] = s
-delivers s (p ∷ rest) = record s { regs = slice_set s.regs p.reg p.word; empty = slice_set s.empty p.reg false; pending = rest }
+delivers s (p ∷ rest) =
+    record s { regs = slice_set s.regs p.reg p.word; empty = slice_set s.empty p.reg false; pending = rest }
 
 -- the slot with its oldest pending load delivered
 unfoldable pub delivered : Slot → Slot
@@ -222,13 +231,15 @@ delivered s = delivers s s.pending
 
 -- a register of the served slot that waits for a load makes the turn wait too
 abbrev pub reads_of : Bool → Slot → ℕ → ℕ → Reply → Effect
-reads_of split s rd reg (Served of) = if split && is_empty of reg then Deliver (delivered of) else sets s rd (register of reg)
+reads_of split s rd reg (Served of) =
+    if split && is_empty of reg then Deliver (delivered of) else sets s rd (register of reg)
 reads_of split s rd reg (Refused c) = Fault c
 reads_of split s rd reg _ = Block
 
 abbrev pub writes_of : Bool → Slot → ℕ → Word → Reply → Effect
 writes_of split s reg w (Served of) =
-    if split && is_empty of reg then Deliver (delivered of) else Does (record (plain s) { other = Some (record of { regs = slice_set of.regs reg w }) })
+    if split && is_empty of reg then Deliver (delivered of)
+    else Does (record (plain s) { other = Some (record of { regs = slice_set of.regs reg w }) })
 writes_of split s reg w (Refused c) = Fault c
 writes_of split s reg w _ = Block
 
@@ -255,19 +266,27 @@ effect split (Isptr rd ra) s reply = sets s rd (Int (test (is_pointer (register 
 effect split (Eqw rd ra rb) s reply = sets s rd (Int (test (same_word (register s ra) (register s rb))))
 effect split (Out ra) s reply = puts_out s (word_bits (register s ra) % 256) reply
 effect split (SelfSlot rd) s reply = sets s rd (Int s.number)
-effect split (Alu op rd ra rb) s reply = sets_number s rd (alu_result op (word_bits (register s ra)) (word_bits (register s rb)))
+effect split (Alu op rd ra rb) s reply =
+    sets_number s rd (alu_result op (word_bits (register s ra)) (word_bits (register s rb)))
 effect split (Addi rd ra imm) s reply = sets s rd (Int ((word_bits (register s ra) + cast_unsigned w64 imm) % 2 ^ 64))
-effect split (Lea rd ra rb) s reply = if_pointer (register s ra) (λ p. sets_pointer s rd (lea_result p (cast_signed w64 (word_bits (register s rb)))))
+effect split (Lea rd ra rb) s reply =
+    if_pointer (register s ra) (λ p. sets_pointer s rd (lea_result p (cast_signed w64 (word_bits (register s rb)))))
 effect split (Leai rd ra imm) s reply = if_pointer (register s ra) (λ p. sets_pointer s rd (lea_result p imm))
-effect split (Leab rd ra rb) s reply = if_pointer (register s ra) (λ p. sets_pointer s rd (leab_result p (cast_signed w64 (word_bits (register s rb)))))
-effect split (Restrict rd ra rb) s reply = if_pointer (register s ra) (λ p. sets_pointer s rd (restrict_result p (word_bits (register s rb))))
-effect split (Subseg rd ra rb) s reply = if_pointer (register s ra) (λ p. sets_pointer s rd (subseg_result p (word_bits (register s rb))))
-effect split (Setptr rd ra) s reply = if is_privileged s.ip.perm then sets_pointer s rd (setptr_result (word_bits (register s ra))) else Fault cause.Priv
+effect split (Leab rd ra rb) s reply =
+    if_pointer (register s ra) (λ p. sets_pointer s rd (leab_result p (cast_signed w64 (word_bits (register s rb)))))
+effect split (Restrict rd ra rb) s reply =
+    if_pointer (register s ra) (λ p. sets_pointer s rd (restrict_result p (word_bits (register s rb))))
+effect split (Subseg rd ra rb) s reply =
+    if_pointer (register s ra) (λ p. sets_pointer s rd (subseg_result p (word_bits (register s rb))))
+effect split (Setptr rd ra) s reply =
+    if is_privileged s.ip.perm then sets_pointer s rd (setptr_result (word_bits (register s ra))) else Fault cause.Priv
 effect split (Ld rd ra pre post imm) s reply = loaded split s rd post reply
 effect split (St ra rb pre post imm) s reply = stored s (register s rb) post reply
 effect split (Br imm) s reply = branches s (at_distance s imm)
-effect split (Bz ra imm) s reply = if word_bits (register s ra) == 0 then branches s (at_distance s imm) else Does (plain s)
-effect split (Bnz ra imm) s reply = if word_bits (register s ra) == 0 then Does (plain s) else branches s (at_distance s imm)
+effect split (Bz ra imm) s reply =
+    if word_bits (register s ra) == 0 then branches s (at_distance s imm) else Does (plain s)
+effect split (Bnz ra imm) s reply =
+    if word_bits (register s ra) == 0 then Does (plain s) else branches s (at_distance s imm)
 effect split (Jmp ra) s reply = if_pointer (register s ra) (λ p. jumps s p (enter_result p))
 effect split (Jal rd ra) s reply = if_pointer (register s ra) (λ p. links s rd p (enter_result p) (next_result s.ip))
 effect split (Lip rd imm) s reply = sets_pointer s rd (at_distance s imm)

@@ -1,5 +1,6 @@
 -- What a state is, when it fits an image, and what the types of a machine keep besides.
-use Rattle.std.specs.Prelude.{◌≡◌, ◌≢◌, ℕ, ◌+◌, ◌<◌, ◌≤◌, Bool, true, false, ◌==◌, if◌then◌else◌, List, [], ◌∷◌, map, length, Option, None, Some, IfSome}
+use Rattle.std.specs.Prelude.{◌≡◌, ◌≢◌, ℕ, ◌+◌, ◌<◌, ◌≤◌, Bool, true, false, ◌==◌, if◌then◌else◌, List, [], ◌∷◌, map}
+use Rattle.std.specs.Prelude.{length, Option, None, Some, IfSome}
 use Rattle.std.specs.List.{AllByRecursion}
 use Rattle.std.specs.List.Sorted.{IsStrictlyIncreasing}
 use Rattle.mm_word.specs.Perm.{can_fetch}
@@ -89,8 +90,8 @@ waits_for h (Some s) = if is_waiting s.state then is_handler h s.handler else fa
 abbrev pub WaitsForSome : Slot → Type 0
 WaitsForSome s = is_waiting s.state ≡ true → s.handler ≢ None
 
--- waiting slots and queued events match one to one, each event in the queue of its slot's handler; empty registers and pending
--- loads match one to one
+-- waiting slots and queued events match one to one, each event in the queue of its slot's handler; empty registers and
+-- pending loads match one to one
 pub record Matches (core : Core) : Type 0 where
   pub events : (n h : ℕ) → events_of n (queue_at core h) ≡ one_if (waits_for h (slot_at core n))
   pub waiting : AllByRecursion WaitsForSome (slots_of core)
@@ -100,8 +101,8 @@ pub record Matches (core : Core) : Type 0 where
 abbrev pub identity_of : Slot → ℕ × ℕ × Option ℕ
 identity_of s = (s.number, s.group, s.handler)
 
--- The numbers, groups and handlers of the slots, the number of frames, the version and the mode are the image's, no more pages
--- are mapped than there are frames, and what has to match matches.
+-- The numbers, groups and handlers of the slots, the number of frames, the version and the mode are the image's, no
+-- more pages are mapped than there are frames, and what has to match matches.
 pub record Fits (i : Image) (s : State) : Type 0 where
   pub same_slots : map identity_of (slots_of s.core) ≡ map identity_of i.slots
   pub version : s.core.version ≡ i.version
@@ -145,7 +146,8 @@ pub record IsOfVersion (version : ℕ) (s : Slot) : Type 0 where
 
 -- each slot's handler is another slot
 abbrev pub HandlersAreOthers : Core → Type 0
-HandlersAreOthers core = AllByRecursion (λ (s : Slot). IfSome s.handler (IsOther (slots_of core) s.number)) (slots_of core)
+HandlersAreOthers core =
+    AllByRecursion (λ (s : Slot). IfSome s.handler (IsOther (slots_of core) s.number)) (slots_of core)
 
 -- what the slots, queues and outputs of a machine always are
 pub record IsCore (core : Core) : Type 0 where

@@ -33,7 +33,8 @@ HasNoGroup i c = (s : Slot) → Contains i.slots s → c s.group ≡ false
 
 -- each slot that is of one of the groups has its handler, if any, among them
 abbrev pub HandlersStayInside : Image → (ℕ → Bool) → Type 0
-HandlersStayInside i c = (s h : Slot) → Contains i.slots s → Contains i.slots h → s.handler ≡ Some h.number → c s.group ≡ true → c h.group ≡ true
+HandlersStayInside i c = (s h : Slot) → Contains i.slots s → Contains i.slots h → s.handler ≡ Some h.number
+    → c s.group ≡ true → c h.group ≡ true
 
 -- a slot of this number is of one of the groups
 pub record HasSlotAt (slots : List Slot) (c : ℕ → Bool) (n : ℕ) : Type 0 where

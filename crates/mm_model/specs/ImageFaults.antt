@@ -14,14 +14,17 @@
 -- 11 order of pages
 -- 12 frames: of frames, or of pages
 -- 13 trailing, at the first byte too many
-use Rattle.std.specs.Prelude.{ℕ, ◌+◌, ◌*◌, ◌-◌, Bool, false, not, ◌||◌, ◌==◌, nat_lt, nat_le, List, [], ◌∷◌, ◌++◌, length, take, codes, Option, Some, None}
+use Rattle.std.specs.Prelude.{ℕ, ◌+◌, ◌*◌, ◌-◌, Bool, false, not, ◌||◌, ◌==◌, nat_lt, nat_le, List, [], ◌∷◌, ◌++◌}
+use Rattle.std.specs.Prelude.{length, take, codes, Option, Some, None}
 use Rattle.std.specs.List.{list_any}
 use Rattle.std.specs.Str.{bytes_eq}
 use Rattle.mm_model.specs.Slot.{Slot}
 use Rattle.mm_model.specs.Image.{slot_limit, frame_limit}
-use Rattle.mm_model.specs.Places.{Place, first_bad, in_turn, number_at, mask_bit_at, least_number, end_places, word_places, ip_places, page_record_places}
+use Rattle.mm_model.specs.Places.{Place, first_bad, in_turn, number_at, mask_bit_at, least_number, end_places}
+use Rattle.mm_model.specs.Places.{word_places, ip_places, page_record_places}
 use Rattle.mm_model.specs.Places.Place.{Field, Test}
-use Rattle.mm_model.specs.ImageReading.{slot_offset, page_offset, version_of, slots_of, frames_of, pages_of, mode_number, slot_at, slots_at}
+use Rattle.mm_model.specs.ImageReading.{slot_offset, page_offset, version_of, slots_of, frames_of, pages_of}
+use Rattle.mm_model.specs.ImageReading.{mode_number, slot_at, slots_at}
 
 -- a slot of the list has this number
 abbrev pub has_number : List Slot → ℕ → Bool
@@ -87,11 +90,14 @@ module _ (bytes : List ℕ) where
   abbrev pub pages_places : (slots count : ℕ) → List Place
   pages_places slots count = in_turn (page_places slots) 0 count
 
-  -- all places in the order in which they are read: the handlers behind the last slot, since they name slots that may follow
+  -- all places in the order in which they are read: the handlers behind the last slot, since they name slots that may
+  -- follow
   abbrev pub places : List Place
   places =
-      header_places ++ (slots_places (version_of bytes) (slots_of bytes) ++ (handlers_places (slots_at bytes (slots_of bytes))
-      ++ (pages_places (slots_of bytes) (pages_of bytes) ++ end_places bytes 13 (page_offset (slots_of bytes) (pages_of bytes)))))
+      header_places
+      ++ (slots_places (version_of bytes) (slots_of bytes) ++ (handlers_places (slots_at bytes (slots_of bytes))
+      ++ (pages_places (slots_of bytes) (pages_of bytes)
+      ++ end_places bytes 13 (page_offset (slots_of bytes) (pages_of bytes)))))
 
   -- the number and the place of the first fault, if there is one
   unfoldable pub image_fault : Option (ℕ × ℕ)

@@ -1,5 +1,6 @@
 -- The lines of slots, cells and pages.
-use Rattle.std.specs.Prelude.{ℕ, zero, suc, ◌+◌, ◌/◌, Bool, true, false, ◌==◌, if◌then◌else◌, List, [], ◌∷◌, ◌++◌, length, take, drop, codes, decimal, Some, None}
+use Rattle.std.specs.Prelude.{ℕ, zero, suc, ◌+◌, ◌/◌, Bool, true, false, ◌==◌, if◌then◌else◌, List, [], ◌∷◌, ◌++◌}
+use Rattle.std.specs.Prelude.{length, take, drop, codes, decimal, Some, None}
 use Rattle.std.specs.List.{flat_map, range_with_len}
 use Rattle.mm_word.specs.declared.word.Word.{Word}
 use Rattle.mm_word.specs.declared.word.Word.TheVariants.{Int, Ptr}
@@ -38,7 +39,8 @@ numbers_text number turns = codes "slot " ++ decimal number ++ codes " turns " +
 
 -- number, turns, state and instruction pointer of a slot
 abbrev pub slot_line : Slot → List ℕ
-slot_line s = numbers_text s.number s.turns ++ state_text s.state ++ codes " ip " ++ word_text (Ptr s.ip) ++ past_text s.past
+slot_line s =
+    numbers_text s.number s.turns ++ state_text s.state ++ codes " ip " ++ word_text (Ptr s.ip) ++ past_text s.past
 
 abbrev pub is_zero : Word → Bool
 is_zero (Int bits) = bits == 0

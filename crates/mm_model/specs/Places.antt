@@ -1,5 +1,7 @@
--- Places of a file: its fields and tests in the order in which they are read, the first fault among them, and what fields say.
-use Rattle.std.specs.Prelude.{ℕ, zero, suc, ◌+◌, ◌*◌, ◌/◌, ◌%◌, ◌^◌, ◌<◌, Bool, not, ◌&&◌, ◌||◌, ◌==◌, nat_lt, nat_le, if◌then◌else◌, List, [], ◌∷◌, map, length, take, drop, slice_index, Option, Some, None}
+-- Places of a file: its fields and tests in the order in which they are read, the first fault among them, and what
+-- fields say.
+use Rattle.std.specs.Prelude.{ℕ, zero, suc, ◌+◌, ◌*◌, ◌/◌, ◌%◌, ◌^◌, ◌<◌, Bool, not, ◌&&◌, ◌||◌, ◌==◌, nat_lt, nat_le}
+use Rattle.std.specs.Prelude.{if◌then◌else◌, List, [], ◌∷◌, map, length, take, drop, slice_index, Option, Some, None}
 use Rattle.std.specs.List.{flat_map, fold, range_with_len}
 use Rattle.std.specs.Option.{option_or}
 use Rattle.mm_word.specs.declared.word.Word.{Word}
@@ -49,7 +51,8 @@ module _ (bytes : List ℕ) where
   abbrev pub mask_bit_at : (at r : ℕ) → Bool
   mask_bit_at at r = number_at at 2 / 2 ^ r % 2 == 1
 
-  -- the least number that record k may have, where the records stand there and their first fields, of so many bytes, rise
+  -- the least number that record k may have, where the records stand there and their first fields, of so many bytes,
+  -- rise
   abbrev pub least_number : (place : ℕ → ℕ) (size k : ℕ) → ℕ
   least_number place size zero = 0
   least_number place size (suc k) = number_at (place k) size + 1
@@ -70,7 +73,8 @@ module _ (bytes : List ℕ) where
 
   -- 10: no pointer, or one that nothing may be fetched through
   abbrev pub ip_places : (at : ℕ) → List Place
-  ip_places at = Field at 8 ∷ Test 10 at (not (spells_pointer (number_at at 8)) || not (can_fetch (pointer_of (number_at at 8)).perm)) ∷ []
+  ip_places at = Field at 8
+      ∷ Test 10 at (not (spells_pointer (number_at at 8)) || not (can_fetch (pointer_of (number_at at 8)).perm)) ∷ []
 
   -- 4. The record of a page: its number, which cells hold pointers, which are full, and the 512 words.
 

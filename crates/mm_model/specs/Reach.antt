@@ -42,17 +42,21 @@ pub record StoresAt (p : Pointer) (w : ℕ) : Type 0 where
 -- The pointers that a group is granted.
 pub data Grants (i : Image) (e : Entries) : ℕ → Pointer → Type 0 where
   -- a slot of the group has it in a register
-  in_register : {g : ℕ} {q : Pointer} (s : Slot) → Contains i.slots s → s.group ≡ g → Contains s.regs (Ptr q) → Grants i e g q
+  in_register : {g : ℕ} {q : Pointer} (s : Slot) → Contains i.slots s → s.group ≡ g → Contains s.regs (Ptr q)
+      → Grants i e g q
   -- or runs by it
   runs_by : {g : ℕ} {q : Pointer} (s : Slot) → Contains i.slots s → s.group ≡ g → s.ip ≡ q → Grants i e g q
   -- a cell of the image that the group can load holds it
-  in_cell : {g : ℕ} {q : Pointer} (p : Pointer) (w : ℕ) (c : Cell) → Grants i e g p → LoadsAt p w → cell_at i.memory w ≡ Some c → c.word ≡ Ptr q → Grants i e g q
+  in_cell : {g : ℕ} {q : Pointer} (p : Pointer) (w : ℕ) (c : Cell) → Grants i e g p → LoadsAt p w
+      → cell_at i.memory w ≡ Some c → c.word ≡ Ptr q → Grants i e g q
   -- it is below one of the group's pointers
   below : {g : ℕ} {q : Pointer} (p : Pointer) → Grants i e g p → IsBelow q p → Grants i e g q
   -- a group that is granted it can store where this group can load
-  passed : {g : ℕ} {q : Pointer} (h w : ℕ) (p r : Pointer) → Grants i e h q → Grants i e h p → StoresAt p w → Grants i e g r → LoadsAt r w → Grants i e g q
+  passed : {g : ℕ} {q : Pointer} (h w : ℕ) (p r : Pointer) → Grants i e h q → Grants i e h p → StoresAt p w
+      → Grants i e g r → LoadsAt r w → Grants i e g q
   -- the group entered there
-  entered : {g : ℕ} {q : Pointer} (p : Pointer) → Grants i e g p → (p.perm ≡ Eu) ⊎ (p.perm ≡ Ep) → MayEnter e g p → enter_result p ≡ Some q → Grants i e g q
+  entered : {g : ℕ} {q : Pointer} (p : Pointer) → Grants i e g p → (p.perm ≡ Eu) ⊎ (p.perm ≡ Ep) → MayEnter e g p
+      → enter_result p ≡ Some q → Grants i e g q
   -- a group that serves this one, or that this one serves, is granted it
   served : {g : ℕ} {q : Pointer} (h : ℕ) → Grants i e h q → Serves i g h → Grants i e g q
   -- privileged code makes any pointer

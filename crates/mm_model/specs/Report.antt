@@ -1,5 +1,6 @@
 -- The report of a state against an image.
-use Rattle.std.specs.Prelude.{ℕ, ◌+◌, ◌*◌, Bool, true, false, not, ◌&&◌, ◌==◌, if◌then◌else◌, List, [], ◌∷◌, ◌++◌, length, codes, decimal, Option, Some, None}
+use Rattle.std.specs.Prelude.{ℕ, ◌+◌, ◌*◌, Bool, true, false, not, ◌&&◌, ◌==◌, if◌then◌else◌, List, [], ◌∷◌, ◌++◌}
+use Rattle.std.specs.Prelude.{length, codes, decimal, Option, Some, None}
 use Rattle.std.specs.List.{flat_map, filter, fold, list_any, range_with_len}
 use Rattle.std.specs.Ordering.{nat_cmp}
 use Rattle.std.specs.FinMap.{put}
@@ -27,7 +28,8 @@ group_line g count = codes "group " ++ decimal g ++ codes " output " ++ decimal 
 
 -- what is written of a group: its output, and its slots
 unfoldable pub section : Core → ℕ → List ℕ
-section core g = group_line g (length (output_of core g)) ++ output_lines (output_of core g) ++ flat_map (λ row. slot_lines row.slot) (filter (is_of g) core.rows)
+section core g = group_line g (length (output_of core g)) ++ output_lines (output_of core g)
+    ++ flat_map (λ row. slot_lines row.slot) (filter (is_of g) core.rows)
 
 -- the groups that have a slot, ascending
 abbrev pub groups_of : Core → List ℕ
@@ -48,7 +50,8 @@ page_change p false true = codes "page " ++ hex 11 p ++ codes " gone\n"
 page_change p _ _ = []
 
 abbrev pub page_lines : Memory → Memory → List ℕ
-page_lines now image = flat_map (λ page. page_change page.0 (is_mapped now page.0) (is_mapped image page.0)) (pages_of now image)
+page_lines now image =
+    flat_map (λ page. page_change page.0 (is_mapped now page.0) (is_mapped image page.0)) (pages_of now image)
 
 -- 5. Cells that differ.
 
@@ -71,7 +74,8 @@ cells_or_zero (Some cells) = cells
 
 -- each mapped cell that is not the image's, or not integer 0, full, where the image has no such page
 abbrev pub changes : Memory → Memory → List (ℕ × Cell)
-changes now image = flat_map (λ page. changes_from (page.0 * 4096) page.1 (cells_or_zero (page_at image page.0))) now.pages
+changes now image =
+    flat_map (λ page. changes_from (page.0 * 4096) page.1 (cells_or_zero (page_at image page.0))) now.pages
 
 -- their lines
 abbrev pub cell_lines : Memory → Memory → List ℕ
@@ -81,10 +85,13 @@ cell_lines now image = flat_map (λ change. cell_line change.0 change.1) (change
 abbrev pub count_line : Option Counts → List ℕ
 count_line None = []
 count_line (Some c) =
-    codes "counts hits " ++ decimal c.hits ++ codes " misses " ++ decimal c.misses ++ codes " writebacks " ++ decimal c.writebacks ++ codes " tlb_hits " ++ decimal c.tlb_hits
-    ++ codes " tlb_misses " ++ decimal c.tlb_misses ++ codes " reads " ++ decimal c.reads ++ codes " writes " ++ decimal c.writes ++ newline
+    codes "counts hits " ++ decimal c.hits ++ codes " misses " ++ decimal c.misses ++ codes " writebacks "
+    ++ decimal c.writebacks ++ codes " tlb_hits " ++ decimal c.tlb_hits
+    ++ codes " tlb_misses " ++ decimal c.tlb_misses ++ codes " reads " ++ decimal c.reads ++ codes " writes "
+    ++ decimal c.writes ++ newline
 
 -- the whole report
 unfoldable pub report : State → Image → Option Counts → List ℕ
 report s image counts =
-    cycles_line s.cycles ++ sections s.core ++ page_lines s.memory image.memory ++ cell_lines s.memory image.memory ++ count_line counts
+    cycles_line s.cycles ++ sections s.core ++ page_lines s.memory image.memory ++ cell_lines s.memory image.memory
+    ++ count_line counts

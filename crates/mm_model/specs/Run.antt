@@ -1,5 +1,6 @@
 -- Cycles, runs and round robin.
-use Rattle.std.specs.Prelude.{ℕ, zero, suc, ◌+◌, Bool, true, nat_lt, if◌then◌else◌, List, [], ◌∷◌, ◌++◌, Option, Some, None}
+use Rattle.std.specs.Prelude.{ℕ, zero, suc, ◌+◌, Bool, true, nat_lt, if◌then◌else◌, List, [], ◌∷◌, ◌++◌, Option, Some}
+use Rattle.std.specs.Prelude.{None}
 use Rattle.mm_model.specs.declared.step.Step.{Step}
 use Rattle.mm_model.specs.Uses.{Use}
 use Rattle.mm_model.specs.State.{State, Row}
@@ -36,7 +37,9 @@ uses s (n ∷ ns) = (turn_of s n).uses ++ uses (after s n) ns
 abbrev pub first_running : (ℕ → Bool) → List Row → Option ℕ
 first_running passes [] = None
 first_running passes (row ∷ rows) =
-    if is_running row.slot.state then (if passes row.slot.number then Some row.slot.number else first_running passes rows) else first_running passes rows
+    if is_running row.slot.state
+    then (if passes row.slot.number then Some row.slot.number else first_running passes rows)
+    else first_running passes rows
 
 abbrev pub or_else : Option ℕ → Option ℕ → Option ℕ
 or_else None other = other

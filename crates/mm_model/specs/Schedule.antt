@@ -1,5 +1,6 @@
 -- Schedules: what a text means, where its fault is, and restriction to groups.
-use Rattle.std.specs.Prelude.{◌≡◌, ℕ, ◌+◌, ◌-◌, ◌<◌, ◌≤◌, ◌⊎◌, Bool, true, false, ◌||◌, ◌&&◌, ◌==◌, nat_le, if◌then◌else◌, List, [], ◌∷◌, ◌++◌, length, take, replicate, decimal, Option, Some, None}
+use Rattle.std.specs.Prelude.{◌≡◌, ℕ, ◌+◌, ◌-◌, ◌<◌, ◌≤◌, ◌⊎◌, Bool, true, false, ◌||◌, ◌&&◌, ◌==◌, nat_le}
+use Rattle.std.specs.Prelude.{if◌then◌else◌, List, [], ◌∷◌, ◌++◌, length, take, replicate, decimal, Option, Some, None}
 use Rattle.std.specs.List.{filter}
 use Rattle.mm_model.specs.Slot.{Slot}
 use Rattle.mm_model.specs.Image.{Image, slot_in}
@@ -53,7 +54,8 @@ pub record Means (text items : List ℕ) : Type 0 where
   pub lists : Lists (runs_of text) items
   pub limit : length items ≤ item_limit
 
--- The text's fault is at a place: the first run that is no item, or that brings the number of items above the limit, begins there.
+-- The text's fault is at a place: the first run that is no item, or that brings the number of items above the limit,
+-- begins there.
 pub record FaultsAt (text : List ℕ) (place : ℕ) : Type 0 where
   pub before : List (ℕ × List ℕ)
   pub word : List ℕ

@@ -1,5 +1,6 @@
 -- The bytes that spell an image.
-use Rattle.std.specs.Prelude.{◌≡◌, ◌≢◌, ℕ, zero, suc, ◌+◌, ◌^◌, ◌<◌, ◌≤◌, Bool, true, false, ◌==◌, if◌then◌else◌, List, [], ◌∷◌, ◌++◌, map, length, take, drop, codes, Option, Some, None, IfSome, ◌⊎◌}
+use Rattle.std.specs.Prelude.{◌≡◌, ◌≢◌, ℕ, zero, suc, ◌+◌, ◌^◌, ◌<◌, ◌≤◌, Bool, true, false, ◌==◌, if◌then◌else◌, List}
+use Rattle.std.specs.Prelude.{[], ◌∷◌, ◌++◌, map, length, take, drop, codes, Option, Some, None, IfSome, ◌⊎◌}
 use Rattle.std.specs.List.{flat_map, AllByRecursion}
 use Rattle.std.specs.List.Sorted.{IsStrictlyIncreasing}
 use Rattle.std.specs.Int.{w16, w32, w64, to_be_bytes}
@@ -92,7 +93,8 @@ bitmap (suc count) flags = number_of_flags (take 8 flags) ∷ bitmap count (drop
 -- number, which cells hold pointers, which are full, and the 512 words
 unfoldable pub page_record : ℕ × List Cell → List ℕ
 page_record page =
-    to_be_bytes w64 page.0 ++ bitmap 64 (map (λ (c : Cell). is_pointer c.word) page.1) ++ bitmap 64 (map (λ (c : Cell). c.full) page.1)
+    to_be_bytes w64 page.0 ++ bitmap 64 (map (λ (c : Cell). is_pointer c.word) page.1)
+    ++ bitmap 64 (map (λ (c : Cell). c.full) page.1)
     ++ words_spelling (map (λ (c : Cell). c.word) page.1)
 
 -- magic, version, how many slots, frames and pages, and the mode

@@ -1,5 +1,6 @@
 -- The tests of a turn in their order.
-use Rattle.std.specs.Prelude.{ℕ, ◌+◌, ◌^◌, Bool, true, false, not, ◌&&◌, ◌==◌, nat_lt, is_some, if◌then◌else◌, ℤ, pos, negsuc, ◌+ℤ◌, ◌*ℤ◌, List, [], ◌∷◌, ◌++◌, map, length, Option, Some, None, option_and_then}
+use Rattle.std.specs.Prelude.{ℕ, ◌+◌, ◌^◌, Bool, true, false, not, ◌&&◌, ◌==◌, nat_lt, is_some, if◌then◌else◌, ℤ, pos}
+use Rattle.std.specs.Prelude.{negsuc, ◌+ℤ◌, ◌*ℤ◌, List, [], ◌∷◌, ◌++◌, map, length, Option, Some, None, option_and_then}
 use Rattle.std.specs.Int.{w64, cast_signed}
 use Rattle.mm_word.specs.declared.perm.Perm.{Perm}
 use Rattle.mm_word.specs.declared.perm.Kind.{Kind}
@@ -17,7 +18,9 @@ use Rattle.mm_word.specs.Perm.{perm_of, can_become, can_move, execute_form}
 use Rattle.mm_word.specs.Pointer.{Pointer, in_segment, spells_pointer, base_of}
 use Rattle.mm_word.specs.Word.{word_bits}
 use Rattle.mm_isa.specs.declared.instr.Instr.{Instr}
-use Rattle.mm_isa.specs.declared.instr.Instr.TheVariants.{Out, Alu, Lea, Leai, Leab, Restrict, Subseg, Setptr, Ld, St, Br, Bz, Bnz, Jmp, Jal, Lip, Trap, Evt, Resume, Rreg, Wreg, Map, Unmap}
+use Rattle.mm_isa.specs.declared.instr.Instr.TheVariants.{Out, Alu, Lea, Leai, Leab, Restrict, Subseg, Setptr, Ld, St}
+use Rattle.mm_isa.specs.declared.instr.Instr.TheVariants.{Br, Bz, Bnz, Jmp, Jal, Lip, Trap, Evt, Resume, Rreg, Wreg}
+use Rattle.mm_isa.specs.declared.instr.Instr.TheVariants.{Map, Unmap}
 use Rattle.mm_isa.specs.Alu.{divides}
 use Rattle.mm_model.specs.declared.event.Event.{Event}
 use Rattle.mm_model.specs.Memory.{Memory, cell_at, passes}
@@ -116,7 +119,8 @@ serves n (Some of) = is_handler n of.handler && is_taken of.state
 -- the tests of reading or writing a register of a served slot
 abbrev pub serve_tests : Bool → ℕ → Option Slot → ℕ → List (Bool × Stop)
 serve_tests split n None reg = (false, Fails cause.NoSlot) ∷ []
-serve_tests split n (Some of) reg = (serves n (Some of), Fails cause.NoSlot) ∷ (not (split && is_empty of reg), Lacks of) ∷ []
+serve_tests split n (Some of) reg =
+    (serves n (Some of), Fails cause.NoSlot) ∷ (not (split && is_empty of reg), Lacks of) ∷ []
 
 -- the tests of mapping or unmapping a page
 abbrev pub page_tests : Slot → ℕ → List (Bool × Stop)
@@ -130,15 +134,18 @@ tests core m s (Lea rd ra rb) = pointer_tests (register s ra) (λ p. move_tests 
 tests core m s (Leai rd ra imm) = pointer_tests (register s ra) (λ p. move_tests p (pos p.addr +ℤ imm))
 tests core m s (Leab rd ra rb) = pointer_tests (register s ra) (λ p. move_tests p (pos (base_of p) +ℤ signed_in s rb))
 tests core m s (Restrict rd ra rb) = pointer_tests (register s ra) (λ p. restrict_tests p (perm_of (bits_in s rb)))
-tests core m s (Subseg rd ra rb) = pointer_tests (register s ra) (λ p. (can_move p.perm, Fails cause.Perm) ∷ (nat_lt (bits_in s rb) p.log, Fails cause.Bounds) ∷ [])
-tests core m s (Setptr rd ra) = (is_privileged s.ip.perm, Fails cause.Priv) ∷ (spells_pointer (bits_in s ra), Fails cause.Malformed) ∷ []
+tests core m s (Subseg rd ra rb) = pointer_tests (register s ra)
+    (λ p. (can_move p.perm, Fails cause.Perm) ∷ (nat_lt (bits_in s rb) p.log, Fails cause.Bounds) ∷ [])
+tests core m s (Setptr rd ra) =
+    (is_privileged s.ip.perm, Fails cause.Priv) ∷ (spells_pointer (bits_in s ra), Fails cause.Malformed) ∷ []
 tests core m s (Ld rd ra pre post imm) = reach_tests m (register s ra) imm (load_kind post) pre
 tests core m s (St ra rb pre post imm) = reach_tests m (register s ra) imm Store pre
 tests core m s (Br imm) = distance_tests s imm
 tests core m s (Bz ra imm) = if bits_in s ra == 0 then distance_tests s imm else []
 tests core m s (Bnz ra imm) = if bits_in s ra == 0 then [] else distance_tests s imm
 tests core m s (Jmp ra) = pointer_tests (register s ra) (λ p. (can_jump p, Fails cause.Perm) ∷ [])
-tests core m s (Jal rd ra) = pointer_tests (register s ra) (λ p. (can_jump p, Fails cause.Perm) ∷ (in_segment s.ip (s.ip.addr + 8), Fails cause.Bounds) ∷ [])
+tests core m s (Jal rd ra) = pointer_tests (register s ra)
+    (λ p. (can_jump p, Fails cause.Perm) ∷ (in_segment s.ip (s.ip.addr + 8), Fails cause.Bounds) ∷ [])
 tests core m s (Lip rd imm) = distance_tests s imm
 tests core m s (Trap imm) = (false, Fails cause.Trap) ∷ []
 tests core m s (Evt rd) = (has_event (queue_at core s.number), Awaits) ∷ []
@@ -155,14 +162,18 @@ tests core m s _ = []
 abbrev pub instr_at : Memory → Slot → Option Instr
 instr_at m s = option_and_then (λ c. instr_in c.word) (cell_through m (Ptr s.ip) (pos 0))
 
--- the tests once the cell is fetched: it spells an instruction, none of the registers that it names is empty, and its own tests hold
+-- the tests once the cell is fetched: it spells an instruction, none of the registers that it names is empty, and its
+-- own tests hold
 abbrev pub instr_tests : Core → Memory → Slot → Option Instr → List (Bool × Stop)
 instr_tests core m s None = (false, Fails cause.Illegal) ∷ []
-instr_tests core m s (Some i) = (true, Fails cause.Illegal) ∷ (not (core.split && lacks i s), Lacks s) ∷ tests core m s i
+instr_tests core m s (Some i) =
+    (true, Fails cause.Illegal) ∷ (not (core.split && lacks i s), Lacks s) ∷ tests core m s i
 
--- the tests of a slot's turn: that it is not past its segment's end, those of the fetch, and those of the instruction there
+-- the tests of a slot's turn: that it is not past its segment's end, those of the fetch, and those of the instruction
+-- there
 abbrev pub turn_tests : Core → Memory → Slot → List (Bool × Stop)
-turn_tests core m s = (not s.past, Fails cause.Bounds) ∷ reach_tests m (Ptr s.ip) (pos 0) Fetch Any ++ instr_tests core m s (instr_at m s)
+turn_tests core m s = (not s.past, Fails cause.Bounds) ∷ reach_tests m (Ptr s.ip) (pos 0) Fetch Any
+    ++ instr_tests core m s (instr_at m s)
 
 -- what the first of them leads to that fails; none where all hold
 unfoldable pub first_stop : Core → Memory → Slot → Option Stop

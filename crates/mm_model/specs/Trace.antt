@@ -37,7 +37,8 @@ enter_text (Some e) = codes " enter " ++ word_text (Ptr e)
 -- `t`, the slot, the number of its turn, how that ended, and what it touched and entered
 abbrev pub turn_line : ℕ → Step → List ℕ → List ℕ
 turn_line turns step outcome =
-    codes "t " ++ decimal step.slot ++ codes " " ++ decimal turns ++ codes " " ++ outcome ++ touch_text step.fetched ++ touch_text step.touched ++ enter_text step.entered ++ newline
+    codes "t " ++ decimal step.slot ++ codes " " ++ decimal turns ++ codes " " ++ outcome ++ touch_text step.fetched
+    ++ touch_text step.touched ++ enter_text step.entered ++ newline
 
 -- the line of a step after which its slot has taken so many turns; none where the cycle is idle
 unfoldable pub step_line : ℕ → Step → Tick → List ℕ
@@ -57,7 +58,8 @@ trace_line t = step_line (turns_of (slot_at t.core t.step.slot)) t.step t.step.t
 -- the lines of the turns that pass a test
 unfoldable pub traced : (Turned → Bool) → State → List ℕ → List ℕ
 traced passes s [] = []
-traced passes s (n ∷ items) = (if passes (turn_of s n) then trace_line (turn_of s n) else []) ++ traced passes (after s n) items
+traced passes s (n ∷ items) =
+    (if passes (turn_of s n) then trace_line (turn_of s n) else []) ++ traced passes (after s n) items
 
 -- the lines of a run
 unfoldable pub trace : State → List ℕ → List ℕ

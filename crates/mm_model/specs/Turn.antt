@@ -1,5 +1,6 @@
 -- One turn of one slot, and the cycle that names it.
-use Rattle.std.specs.Prelude.{ℕ, ◌+◌, ◌-◌, Bool, true, false, ◌&&◌, ◌==◌, nat_lt, nat_le, if◌then◌else◌, pos, List, [], ◌∷◌, ◌++◌, slice_set, length, Option, Some, None, Result, Ok, Err}
+use Rattle.std.specs.Prelude.{ℕ, ◌+◌, ◌-◌, Bool, true, false, ◌&&◌, ◌==◌, nat_lt, nat_le, if◌then◌else◌, pos, List, []}
+use Rattle.std.specs.Prelude.{◌∷◌, ◌++◌, slice_set, length, Option, Some, None, Result, Ok, Err}
 use Rattle.mm_word.specs.declared.perm.Kind.TheVariants.{Fetch}
 use Rattle.mm_word.specs.declared.cause.Cause.{Cause}
 use Rattle.mm_word.specs.declared.cause.Cause.TheVariants.{Bounds, NoPage, Sync, Illegal, NoSlot, OutFull}
@@ -74,7 +75,8 @@ reply core m n (Reach a pre) = reached a pre (cell_at m a.addr)
 reply core m n (MapPage page) = Paged page (can_map m page)
 reply core m n (UnmapPage page) = Paged page (is_mapped m page)
 reply core m n NextEvent = first_event core (queue_at core n)
-reply core m n (Room g) = if nat_lt (length (output_of core g)) (output_limit core.version) then Fine else Refused OutFull
+reply core m n (Room g) =
+    if nat_lt (length (output_of core g)) (output_limit core.version) then Fine else Refused OutFull
 reply core m n (Serve k) = served n (slot_at core k)
 
 -- 2. What an effect makes of the machine.
@@ -93,7 +95,15 @@ with_issue s (Some p) = record s { empty = slice_set s.empty p.reg true; pending
 
 -- the slot's own part of a change
 unfoldable pub slot_after : Slot → Change → Slot
-slot_after s c = with_issue (record s { regs = put_all s.regs c.writes; ip = c.next; past = c.past; turns = s.turns + 1; state = state_after c.halts }) c.issue
+slot_after s c = with_issue
+    (record s {
+      regs = put_all s.regs c.writes;
+      ip = c.next;
+      past = c.past;
+      turns = s.turns + 1;
+      state = state_after
+          c.halts;
+    }) c.issue
 
 abbrev pub with_other : Core → Option Slot → Core
 with_other core None = core
@@ -117,7 +127,8 @@ with_pages m (Add page) = map_page m page
 with_pages m (Remove page) = unmap_page m page
 
 unfoldable pub core_after : Core → Slot → Change → Core
-core_after core s c = with_out (with_queue (put_slot (with_other core c.other) (slot_after s c)) s.number c.queue) s.group c.out
+core_after core s c =
+    with_out (with_queue (put_slot (with_other core c.other) (slot_after s c)) s.number c.queue) s.group c.out
 
 unfoldable pub memory_after : Memory → Change → Memory
 memory_after m c = with_pages (with_cell m c.cell) c.pages
@@ -137,8 +148,10 @@ unfoldable pub event_of : Slot → Cause → Word → Word → Event
 event_of s c a v = record { slot = s.number; cause = c; ip = s.ip; addr_op = a; value_op = v }
 
 unfoldable pub core_faulted : Core → Slot → Event → Option ℕ → Core
-core_faulted core s e (Some h) = let waits = put_slot core (stood s Waiting) in put_queue waits h (queue_at waits h ++ e ∷ [])
-core_faulted core s e None = if is_sync e.cause then put_slot core (stood s Running) else put_slot core (stood s (Halted (Some e.cause)))
+core_faulted core s e (Some h) =
+    let waits = put_slot core (stood s Waiting) in put_queue waits h (queue_at waits h ++ e ∷ [])
+core_faulted core s e None =
+    if is_sync e.cause then put_slot core (stood s Running) else put_slot core (stood s (Halted (Some e.cause)))
 
 abbrev pub tick_faulted : Cause → Option ℕ → Tick
 tick_faulted c (Some h) = Faulted c
@@ -148,7 +161,13 @@ unfoldable pub faulted : Core → Memory → Slot → Cause → Word → Word �
 faulted core m s c a v fetched touched uses = record {
   core = core_faulted core s (event_of s c a v) s.handler;
   memory = m;
-  step = record { tick = tick_faulted c s.handler; slot = s.number; fetched = fetched; touched = touched; entered = None };
+  step = record {
+    tick = tick_faulted c s.handler;
+    slot = s.number;
+    fetched = fetched;
+    touched = touched;
+    entered = None;
+  };
   uses = uses;
 }
 
@@ -177,7 +196,8 @@ blocked core m s f touched uses = record {
 }
 
 unfoldable pub ended : Core → Memory → Slot → Instr → Touch → Option Touch → List Use → Effect → Turned
-ended core m s i f touched uses (Fault c) = faulted core m s c (addr_operand i s) (value_operand i s) (Some f) touched uses
+ended core m s i f touched uses (Fault c) =
+    faulted core m s c (addr_operand i s) (value_operand i s) (Some f) touched uses
 ended core m s i f touched uses Block = blocked core m s f touched uses
 ended core m s i f touched uses (Deliver other) = blocked (put_slot core other) m s f touched uses
 ended core m s i f touched uses (Does c) = record {
@@ -194,7 +214,8 @@ executed core m s f u i =
 
 -- an instruction that needs an empty register waits, and the slot's oldest pending load is delivered
 unfoldable pub issued : Core → Memory → Slot → Touch → Use → Instr → Turned
-issued core m s f u i = if core.split && lacks i s then blocked core m (delivered s) f None (u ∷ []) else executed core m s f u i
+issued core m s f u i =
+    if core.split && lacks i s then blocked core m (delivered s) f None (u ∷ []) else executed core m s f u i
 
 abbrev pub decoded : Core → Memory → Slot → Touch → Use → Option Instr → Turned
 decoded core m s f u None = faulted core m s Illegal (Int 0) (Int 0) (Some f) None (u ∷ [])
@@ -206,7 +227,8 @@ instr_in (Int bits) = instr_of bits
 instr_in (Ptr p) = None
 
 abbrev pub fetched : Core → Memory → Slot → Touch → Option Cell → Turned
-fetched core m s f None = faulted core m s NoPage (Int 0) (Int 0) (Some f) None (Accessed f.kind f.addr false false ∷ [])
+fetched core m s f None =
+    faulted core m s NoPage (Int 0) (Int 0) (Some f) None (Accessed f.kind f.addr false false ∷ [])
 fetched core m s f (Some c) = decoded core m s f (Accessed f.kind f.addr true true) (instr_in c.word)
 
 abbrev pub aimed : Core → Memory → Slot → Result Touch Cause → Turned
@@ -215,11 +237,18 @@ aimed core m s (Ok f) = fetched core m s f (cell_at m f.addr)
 
 unfoldable pub started : Core → Memory → Slot → Turned
 started core m s =
-    if s.past then faulted core m s Bounds (Int 0) (Int 0) None None [] else aimed core m s (check_result (Ptr s.ip) (pos 0) Fetch)
+    if s.past then faulted core m s Bounds (Int 0) (Int 0) None None []
+    else aimed core m s (check_result (Ptr s.ip) (pos 0) Fetch)
 
 -- nothing but the number of cycles changes
 unfoldable pub idle : Core → Memory → ℕ → Turned
-idle core m n = record { core = core; memory = m; step = record { tick = Idle; slot = n; fetched = None; touched = None; entered = None }; uses = [] }
+idle core m n =
+    record {
+      core = core;
+      memory = m;
+      step = record { tick = Idle; slot = n; fetched = None; touched = None; entered = None };
+      uses = [];
+    }
 
 abbrev pub arrives : Core → Memory → Slot → List Pending → Turned
 arrives core m s [] = idle core m s.number

@@ -34,10 +34,14 @@ pub record TakesUses {M : Type 0} (stands : M → List Use → Type 0) (old new 
 
 module _ {M : Type 0} {stands : M → List Use → Type 0} where
   pub takes_none : (m : M) → TakesUses stands m m []
-  takes_none m = record { each = λ before h. let P : List Use → Type 0 = λ us. stands m us in subst P (sym (append-nil before)) h }
+  takes_none m = record {
+    each = λ before h. let P : List Use
+        → Type 0 = λ us. stands m us in subst P (sym (append-nil before)) h;
+  }
 
   -- one after the other
-  pub takes_both : {a b c : M} {us vs : List Use} → TakesUses stands a b us → TakesUses stands b c vs → TakesUses stands a c (us ++ vs)
+  pub takes_both : {a b c : M} {us vs : List Use} → TakesUses stands a b us → TakesUses stands b c vs
+      → TakesUses stands a c (us ++ vs)
   takes_both {c = c} {us = us} {vs = vs} first second = record {
     each = λ before h. let P : List Use → Type 0 = λ ws. stands c ws in
         subst P (append_assoc before us vs) (second.each (before ++ us) (first.each before h));

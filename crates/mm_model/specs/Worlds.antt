@@ -29,7 +29,8 @@ pub record IsPrivileged (i : Image) (e : Entries) (c : ℕ → Bool) : Type 0 wh
 -- no group outside can write a word that one of the groups can touch, and no slot has its handler on the other side
 pub record Apart (i : Image) (e : Entries) (c : ℕ → Bool) : Type 0 where
   pub writes : (g w : ℕ) → c g ≡ false → CanWrite i e g w → ¬ Touchable i e c w
-  pub handlers : (s h : Slot) → Contains i.slots s → Contains i.slots h → s.handler ≡ Some h.number → c s.group ≡ c h.group
+  pub handlers : (s h : Slot) → Contains i.slots s → Contains i.slots h → s.handler ≡ Some h.number
+      → c s.group ≡ c h.group
 
 -- the image without the slots of other groups
 unfoldable pub alone : Image → (ℕ → Bool) → Image
@@ -58,22 +59,26 @@ trace_of c s items = traced (is_turn_of c) s items
 abbrev pub changes_at : (ℕ → Bool) → Memory → Memory → List (ℕ × Cell)
 changes_at passes now image = filter (λ change. passes change.0) (changes now image)
 
--- The groups see the same of two runs: their sections, their turns, and the changed cells at any words that they can touch.
+-- The groups see the same of two runs: their sections, their turns, and the changed cells at any words that they can
+-- touch.
 pub record SameView (i : Image) (s : List ℕ) (j : Image) (t : List ℕ) (c : ℕ → Bool) : Type 0 where
   pub sections : sections_of c (run (start i) s).core ≡ sections_of c (run (start j) t).core
   pub turns : trace_of c (start i) s ≡ trace_of c (start j) t
   pub cells : (passes : ℕ → Bool) → ((w : ℕ) → passes w ≡ true → Touchable i All c w)
       → changes_at passes (run (start i) s).memory i.memory ≡ changes_at passes (run (start j) t).memory j.memory
 
--- J is the groups' own image: their slots, and each page with a word that they can touch, where cells that they cannot touch are integer 0, full
+-- J is the groups' own image: their slots, and each page with a word that they can touch, where cells that they cannot
+-- touch are integer 0, full
 pub record Extracts (i : Image) (c : ℕ → Bool) (j : Image) : Type 0 where
   pub version : j.version ≡ i.version
   pub mode : j.split ≡ i.split
   pub slots : j.slots ≡ own_slots c i.slots
   pub frames : j.memory.frames ≡ i.memory.frames
   pub paged : IsPaged j.memory
-  pub kept : (w : ℕ) → Touchable i All c w → is_mapped i.memory (page_of w) ≡ true → is_mapped j.memory (page_of w) ≡ true
-  pub only : (page : ℕ) → is_mapped j.memory page ≡ true → (is_mapped i.memory page ≡ true) × ((w : ℕ) × Touchable i All c w × (page_of w ≡ page))
+  pub kept : (w : ℕ) → Touchable i All c w → is_mapped i.memory (page_of w) ≡ true
+      → is_mapped j.memory (page_of w) ≡ true
+  pub only : (page : ℕ) → is_mapped j.memory page ≡ true → (is_mapped i.memory page ≡ true)
+      × ((w : ℕ) × Touchable i All c w × (page_of w ≡ page))
   pub cells : (w : ℕ) → Touchable i All c w → cell_at j.memory w ≡ cell_at i.memory w
   pub others : (w : ℕ) (cell : Cell) → ¬ Touchable i All c w → cell_at j.memory w ≡ Some cell → cell ≡ zero_cell
 

@@ -1,7 +1,7 @@
 //! The machine as data and definitions.
 //!
-//! The plain data that the crates of the machine share stands in `src/`. What the machine means stands in `specs/`: memory,
-//! slots, one turn, runs, images and texts. Every contract above cites these definitions.
+//! The plain data that the crates of the machine share stands in `src/`. What the machine means stands in `specs/`:
+//! memory, slots, one turn, runs, images and texts. Every contract above cites these definitions.
 #![tactic(auto)]
 
 mod counts;

@@ -12,7 +12,8 @@ IsEvent (Turn node slot) = (node ≤ 7) × (slot ≤ 255)
 IsEvent (Send link) = link ≤ 63
 IsEvent (Carry link number) = (link ≤ 63) × (number ≤ 999999)
 
--- The word says the item so many times: a turn is `N:` and an item of a schedule, `S` or `S*K`; a link takes, `+L`, or carries, `L@K`, once.
+-- The word says the item so many times: a turn is `N:` and an item of a schedule, `S` or `S*K`; a link takes, `+L`, or
+-- carries, `L@K`, once.
 abbrev pub Spells : List ℕ → NetItem → ℕ → Type 0
 Spells word (Turn node slot) count = (turns : List ℕ) × IsItem turns slot count × (word ≡ decimal node ++ 58 ∷ turns)
 Spells word (Send link) count = (count ≡ 1) × (word ≡ 43 ∷ decimal link)

@@ -1,5 +1,6 @@
 -- What the nodes of a net reach is granted by their own images.
-use Rattle.std.specs.Prelude.{◌≡◌, ◌⊎◌, ℕ, true, false, ◌==◌, if◌then◌else◌, List, [], ◌∷◌, ◌++◌, slice_get, Option, Some}
+use Rattle.std.specs.Prelude.{◌≡◌, ◌⊎◌, ℕ, true, false, ◌==◌, if◌then◌else◌, List, [], ◌∷◌, ◌++◌, slice_get, Option}
+use Rattle.std.specs.Prelude.{Some}
 use Rattle.std.specs.List.{All}
 use Rattle.mm_word.specs.Pointer.{Pointer}
 use Rattle.mm_word.specs.declared.word.Word.{Word}
@@ -23,15 +24,18 @@ use Rattle.mm_net.specs.Nets.{NetState, net_start, net_after, net_run}
 
 -- the entry that an item does at a node
 abbrev pub entry_at : ℕ → NetItem → Option State → List (ℕ × Pointer)
-entry_at n (Turn node item) (Some state) = if n == node then done_entry (turn_of state item) (turn_of state item).step.entered else []
+entry_at n (Turn node item) (Some state) =
+    if n == node then done_entry (turn_of state item) (turn_of state item).step.entered else []
 entry_at n _ _ = []
 
 -- the entries that the turns of a node did, in order
 unfoldable pub net_entries : List Link → NetState → List NetItem → ℕ → List (ℕ × Pointer)
 net_entries links s [] n = []
-net_entries links s (item ∷ items) n = entry_at n item (slice_get s.nodes n) ++ net_entries links (net_after links s item) items n
+net_entries links s (item ∷ items) n =
+    entry_at n item (slice_get s.nodes n) ++ net_entries links (net_after links s item) items n
 
--- a node is in a state that fits the image, its words are granted, and so is all that its next turn touches, enters and changes
+-- a node is in a state that fits the image, its words are granted, and so is all that its next turn touches, enters and
+-- changes
 pub record GrantedNode (i : Image) (e : Entries) (node : State) : Type 0 where
   pub state : IsState node
   pub fits : Fits i node
@@ -40,7 +44,8 @@ pub record GrantedNode (i : Image) (e : Entries) (node : State) : Type 0 where
 -- So it is at each node after every list of items, by its own image and under the entries of its own turns.
 abbrev pub NodesAreGranted : Type 0
 NodesAreGranted =
-    (images : List Image) (links : List Link) (items : List NetItem) (n : ℕ) (i : Image) (node : State) → All IsImage images
+    (images : List Image) (links : List Link) (items : List NetItem) (n : ℕ) (i : Image) (node : State)
+    → All IsImage images
     → slice_get images n ≡ Some i → slice_get (net_run links (net_start images links) items).nodes n ≡ Some node
     → GrantedNode i (These (net_entries links (net_start images links) items n)) node
 
@@ -69,10 +74,12 @@ pub record OnlyIntegersEnter (before after : State) : Type 0 where
   pub core : after.core ≡ before.core
   pub cycles : after.cycles ≡ before.cycles
   pub frames : after.memory.frames ≡ before.memory.frames
-  pub cells : (w : ℕ) → (cell_at after.memory w ≡ cell_at before.memory w) ⊎ IsEmptied before.memory after.memory w ⊎ IsFilled before.memory after.memory w
+  pub cells : (w : ℕ) → (cell_at after.memory w ≡ cell_at before.memory w) ⊎ IsEmptied before.memory after.memory w
+      ⊎ IsFilled before.memory after.memory w
 
 -- whatever a link takes or carries, at each node
 abbrev pub LinksCarryIntegers : Type 0
 LinksCarryIntegers =
     (links : List Link) (s : NetState) (item : NetItem) (n : ℕ) (before after : State) → IsOfALink item
-    → slice_get s.nodes n ≡ Some before → slice_get (net_after links s item).nodes n ≡ Some after → OnlyIntegersEnter before after
+    → slice_get s.nodes n ≡ Some before → slice_get (net_after links s item).nodes n ≡ Some after
+    → OnlyIntegersEnter before after

@@ -13,4 +13,5 @@ pub record IsInOrder (carried : Carried) : Type 0 where
 
 -- after every list of items, at each link, whatever is carried early, twice or never
 abbrev pub ArrivesInOrder : Type 0
-ArrivesInOrder = (images : List Image) (links : List Link) (items : List NetItem) → All IsInOrder (net_run links (net_start images links) items).links
+ArrivesInOrder = (images : List Image) (links : List Link) (items : List NetItem)
+    → All IsInOrder (net_run links (net_start images links) items).links

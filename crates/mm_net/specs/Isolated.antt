@@ -1,5 +1,6 @@
 -- Groups of a net's nodes that stand apart see nothing of the others.
-use Rattle.std.specs.Prelude.{◌≡◌, ◌⊎◌, ℕ, Bool, true, false, List, [], ◌∷◌, Contains, length, slice_get, Option, Some, IsSomeAnd}
+use Rattle.std.specs.Prelude.{◌≡◌, ◌⊎◌, ℕ, Bool, true, false, List, [], ◌∷◌, Contains, length, slice_get, Option, Some}
+use Rattle.std.specs.Prelude.{IsSomeAnd}
 use Rattle.std.specs.List.{All}
 use Rattle.mm_model.specs.Memory.{cell_at}
 use Rattle.mm_model.specs.State.{State}
@@ -34,16 +35,20 @@ IsItemOf images links c (Send l) = IsSomeAnd (slice_get links l) (IsLinkOf image
 IsItemOf images links c (Carry l k) = IsSomeAnd (slice_get links l) (IsLinkOf images c)
 
 -- the items of the groups among all items, in order
-pub data AreItemsOf (images : List Image) (links : List Link) (c : ℕ → ℕ → Bool) : List NetItem → List NetItem → Type 0 where
+pub data AreItemsOf (images : List Image) (links : List Link) (c : ℕ → ℕ → Bool) : List NetItem → List NetItem
+    → Type 0 where
   no_item : AreItemsOf images links c [] []
-  kept : {item : NetItem} {all own : List NetItem} → IsItemOf images links c item → AreItemsOf images links c all own → AreItemsOf images links c (item ∷ all) (item ∷ own)
-  left_out : {item : NetItem} {all own : List NetItem} → ¬ IsItemOf images links c item → AreItemsOf images links c all own → AreItemsOf images links c (item ∷ all) own
+  kept : {item : NetItem} {all own : List NetItem} → IsItemOf images links c item → AreItemsOf images links c all own
+      → AreItemsOf images links c (item ∷ all) (item ∷ own)
+  left_out : {item : NetItem} {all own : List NetItem} → ¬ IsItemOf images links c item
+      → AreItemsOf images links c all own → AreItemsOf images links c (item ∷ all) own
 
 -- 2. Nets whose groups stand apart, and that agree on them.
 
 -- no group outside can write the word of the node
 abbrev pub IsUnwritten : List Image → (ℕ → ℕ → Bool) → ℕ → ℕ → Type 0
-IsUnwritten images c n w = (i : Image) (g : ℕ) → slice_get images n ≡ Some i → c n g ≡ false → ¬ CanWrite i entries.All g w
+IsUnwritten images c n w =
+    (i : Image) (g : ℕ) → slice_get images n ≡ Some i → c n g ≡ false → ¬ CanWrite i entries.All g w
 
 -- the groups stand apart at each node, and no group outside can write where a link of theirs takes or puts
 pub record NetApart (images : List Image) (links : List Link) (c : ℕ → ℕ → Bool) : Type 0 where
@@ -53,13 +58,15 @@ pub record NetApart (images : List Image) (links : List Link) (c : ℕ → ℕ �
 
 -- the images have equal cells at the word of the node, or both none
 abbrev pub HaveSameCell : List Image → List Image → ℕ → ℕ → Type 0
-HaveSameCell images others n w = (i j : Image) → slice_get images n ≡ Some i → slice_get others n ≡ Some j → cell_at i.memory w ≡ cell_at j.memory w
+HaveSameCell images others n w =
+    (i j : Image) → slice_get images n ≡ Some i → slice_get others n ≡ Some j → cell_at i.memory w ≡ cell_at j.memory w
 
 -- as many nodes, whose images agree on the groups and have equal cells at the ends of the groups' links
 pub record NetAgree (images others : List Image) (links : List Link) (c : ℕ → ℕ → Bool) : Type 0 where
   pub count : length images ≡ length others
   pub nodes : (n : ℕ) (i j : Image) → slice_get images n ≡ Some i → slice_get others n ≡ Some j → Agree i j (c n)
-  pub takes : (link : Link) → Contains links link → IsLinkOf images c link → HaveSameCell images others link.from link.take
+  pub takes : (link : Link) → Contains links link → IsLinkOf images c link
+      → HaveSameCell images others link.from link.take
   pub puts : (link : Link) → Contains links link → IsLinkOf images c link → HaveSameCell images others link.to link.put
 
 -- two nets with the same links that agree on groups, which stand apart in both
@@ -77,20 +84,26 @@ abbrev pub AlikeNodes : Image → (ℕ → Bool) → Option State → Option Sta
 AlikeNodes i c (Some s) (Some t) = Alike i c s t
 AlikeNodes i c _ _ = ⊥
 
--- At each node the slots of the groups with their queues, the outputs of the groups and the cells at the words that they can touch are
--- equal; and so is what each link of the groups sent and what arrived by it.
+-- At each node the slots of the groups with their queues, the outputs of the groups and the cells at the words that
+-- they can touch are equal; and so is what each link of the groups sent and what arrived by it.
 pub record AlikeNets (images : List Image) (links : List Link) (c : ℕ → ℕ → Bool) (s t : NetState) : Type 0 where
-  pub nodes : (n : ℕ) (i : Image) → slice_get images n ≡ Some i → AlikeNodes i (c n) (slice_get s.nodes n) (slice_get t.nodes n)
-  pub carried : (l : ℕ) (link : Link) → slice_get links l ≡ Some link → IsLinkOf images c link → slice_get s.links l ≡ slice_get t.links l
+  pub nodes : (n : ℕ) (i : Image) → slice_get images n ≡ Some i
+      → AlikeNodes i (c n) (slice_get s.nodes n) (slice_get t.nodes n)
+  pub carried : (l : ℕ) (link : Link) → slice_get links l ≡ Some link → IsLinkOf images c link
+      → slice_get s.links l ≡ slice_get t.links l
 
 -- after two lists with the same items of the groups, the groups see the same
 abbrev pub NetWorlds : Type 0
 NetWorlds =
-    (images others : List Image) (links : List Link) (c : ℕ → ℕ → Bool) (items events own : List NetItem) → NetsAgreeApart images others links c
+    (images others : List Image) (links : List Link) (c : ℕ → ℕ → Bool) (items events own : List NetItem)
+    → NetsAgreeApart images others links c
     → AreItemsOf images links c items own → AreItemsOf others links c events own
-    → AlikeNets images links c (net_run links (net_start images links) items) (net_run links (net_start others links) events)
+    → AlikeNets images links c (net_run links (net_start images links) items)
+    (net_run links (net_start others links) events)
 
 -- each list of items has such a list of the groups' items, for which it is enough that none is impossible, and only one
 pub record ItemsAreOne : Type 0 where
-  pub one : (images : List Image) (links : List Link) (c : ℕ → ℕ → Bool) (all own other : List NetItem) → AreItemsOf images links c all own → AreItemsOf images links c all other → own ≡ other
-  pub some : (images : List Image) (links : List Link) (c : ℕ → ℕ → Bool) (all : List NetItem) → ¬ (¬ ((own : List NetItem) × AreItemsOf images links c all own))
+  pub one : (images : List Image) (links : List Link) (c : ℕ → ℕ → Bool) (all own other : List NetItem)
+      → AreItemsOf images links c all own → AreItemsOf images links c all other → own ≡ other
+  pub some : (images : List Image) (links : List Link) (c : ℕ → ℕ → Bool) (all : List NetItem)
+      → ¬ (¬ ((own : List NetItem) × AreItemsOf images links c all own))

@@ -1,5 +1,6 @@
 -- What the items of a net do, in so many words.
-use Rattle.std.specs.Prelude.{◌≡◌, ◌≢◌, ◌↔◌, ℕ, true, false, ◌==◌, if◌then◌else◌, List, [], ◌∷◌, ◌++◌, length, slice_get, Some}
+use Rattle.std.specs.Prelude.{◌≡◌, ◌≢◌, ◌↔◌, ℕ, true, false, ◌==◌, if◌then◌else◌, List, [], ◌∷◌, ◌++◌, length}
+use Rattle.std.specs.Prelude.{slice_get, Some}
 use Rattle.mm_word.specs.declared.word.Word.{Word}
 use Rattle.mm_word.specs.declared.word.Word.TheVariants.{Int}
 use Rattle.mm_word.specs.Word.{word_bits}
@@ -65,8 +66,8 @@ pub record Took (links : List Link) (s t : NetState) (l bits : ℕ) : Type 0 whe
   pub sent : slice_get t.links l ≡ Some (record { sent = can.carried.sent ++ bits ∷ []; arrived = can.carried.arrived })
   pub one_end : ChangesOneEnd s t can.link.from l
 
--- A link and its node are there, as many integers have arrived by the link as the number says, the integer of that number is this one, and
--- the cell at which the link puts is empty.
+-- A link and its node are there, as many integers have arrived by the link as the number says, the integer of that
+-- number is this one, and the cell at which the link puts is empty.
 pub record CanPut (links : List Link) (s : NetState) (l number bits : ℕ) : Type 0 where
   pub link : Link
   pub there : slice_get links l ≡ Some link
@@ -86,17 +87,24 @@ pub record Put (links : List Link) (s t : NetState) (l number bits : ℕ) : Type
   pub at : slice_get t.nodes can.link.to ≡ Some node
   pub cell : IsFull node.memory can.link.put (Int bits)
   pub one_cell : ChangesOneCell can.node node can.link.put
-  pub arrived : slice_get t.links l ≡ Some (record { sent = can.carried.sent; arrived = can.carried.arrived ++ bits ∷ [] })
+  pub arrived : slice_get t.links l
+      ≡ Some (record { sent = can.carried.sent; arrived = can.carried.arrived ++ bits ∷ [] })
   pub one_end : ChangesOneEnd s t can.link.to l
 
 -- a link takes and puts exactly where it can, and where it cannot, nothing changes
 pub record LinksActExactly : Type 0 where
-  pub takes : (links : List Link) (s : NetState) (l bits : ℕ) → ((net_step links s (Send l)).tick ≡ Sent bits) ↔ CanTake links s l bits
-  pub took : (links : List Link) (s : NetState) (l bits : ℕ) → CanTake links s l bits → Took links s (net_after links s (Send l)) l bits
-  pub puts : (links : List Link) (s : NetState) (l number bits : ℕ) → ((net_step links s (Carry l number)).tick ≡ Arrived bits) ↔ CanPut links s l number bits
-  pub put : (links : List Link) (s : NetState) (l number bits : ℕ) → CanPut links s l number bits → Put links s (net_after links s (Carry l number)) l number bits
-  pub takes_none : (links : List Link) (s : NetState) (l : ℕ) → ((bits : ℕ) → ¬ CanTake links s l bits) → StaysIdle links s (Send l)
-  pub puts_none : (links : List Link) (s : NetState) (l number : ℕ) → ((bits : ℕ) → ¬ CanPut links s l number bits) → StaysIdle links s (Carry l number)
+  pub takes : (links : List Link) (s : NetState) (l bits : ℕ) → ((net_step links s (Send l)).tick ≡ Sent bits)
+      ↔ CanTake links s l bits
+  pub took : (links : List Link) (s : NetState) (l bits : ℕ) → CanTake links s l bits
+      → Took links s (net_after links s (Send l)) l bits
+  pub puts : (links : List Link) (s : NetState) (l number bits : ℕ)
+      → ((net_step links s (Carry l number)).tick ≡ Arrived bits) ↔ CanPut links s l number bits
+  pub put : (links : List Link) (s : NetState) (l number bits : ℕ) → CanPut links s l number bits
+      → Put links s (net_after links s (Carry l number)) l number bits
+  pub takes_none : (links : List Link) (s : NetState) (l : ℕ) → ((bits : ℕ) → ¬ CanTake links s l bits)
+      → StaysIdle links s (Send l)
+  pub puts_none : (links : List Link) (s : NetState) (l number : ℕ) → ((bits : ℕ) → ¬ CanPut links s l number bits)
+      → StaysIdle links s (Carry l number)
 
 -- 2. What the items of a link told.
 
@@ -111,7 +119,8 @@ told_arrived l _ _ = []
 -- the integers that a list of items tells of each item, in order
 unfoldable pub told : (NetItem → NetTick → List ℕ) → List Link → NetState → List NetItem → List ℕ
 told tells links s [] = []
-told tells links s (item ∷ items) = tells item (net_step links s item).tick ++ told tells links (net_after links s item) items
+told tells links s (item ∷ items) =
+    tells item (net_step links s item).tick ++ told tells links (net_after links s item) items
 
 -- what a link sent, and what arrived by it, are the integers that its items told, in order
 pub record IsTold (l : ℕ) (links : List Link) (s : NetState) (items : List NetItem) (carried : Carried) : Type 0 where
@@ -121,7 +130,8 @@ pub record IsTold (l : ℕ) (links : List Link) (s : NetState) (items : List Net
 abbrev pub LinksTellWhatTheyCarry : Type 0
 LinksTellWhatTheyCarry =
     (images : List Image) (links : List Link) (items : List NetItem) (l : ℕ) (carried : Carried)
-    → slice_get (net_run links (net_start images links) items).links l ≡ Some carried → IsTold l links (net_start images links) items carried
+    → slice_get (net_run links (net_start images links) items).links l ≡ Some carried
+    → IsTold l links (net_start images links) items carried
 
 -- 3. Nodes without links.
 
@@ -140,4 +150,5 @@ pub record RunsAlone (n : ℕ) (i : Image) (images : List Image) (items : List N
   pub uses_made : net_uses [] (net_start images []) items n ≡ uses (start i) (items_of n items)
 
 abbrev pub NodesRunAlone : Type 0
-NodesRunAlone = (images : List Image) (items : List NetItem) (n : ℕ) (i : Image) → slice_get images n ≡ Some i → RunsAlone n i images items
+NodesRunAlone = (images : List Image) (items : List NetItem) (n : ℕ) (i : Image) → slice_get images n ≡ Some i
+    → RunsAlone n i images items

@@ -14,7 +14,8 @@ use Rattle.mm_net.specs.declared.item.NetItem.{NetItem}
 use Rattle.mm_net.specs.declared.item.NetItem.TheVariants.{Turn, Send, Carry}
 use Rattle.mm_net.specs.declared.tick.NetTick.{NetTick}
 use Rattle.mm_net.specs.declared.net.Net.{Net}
-use Rattle.mm_net.specs.Nets.{Carried, NetState, NetStep, nothing_carried, net_start, net_step, net_after, net_run, asked_of, net_uses}
+use Rattle.mm_net.specs.Nets.{Carried, NetState, NetStep, nothing_carried, net_start, net_step, net_after, net_run}
+use Rattle.mm_net.specs.Nets.{asked_of, net_uses}
 use Rattle.mm_net.specs.Wires.{link_list, carried_list}
 
 module _ {M : Type 0} {memory : Ghosts M} where
@@ -47,7 +48,8 @@ module _ {M : Type 0} {memory : Ghosts M} where
 
   -- each node's memory is asked what the step asks of it
   pub record NodesTake (old new : Net M memory) (t : NetStep) : Type 0 where
-    pub each : (n : ℕ) (before after : Machine M memory) → node_in old n ≡ Some before → node_in new n ≡ Some after → Takes before after (asked_of n t)
+    pub each : (n : ℕ) (before after : Machine M memory) → node_in old n ≡ Some before → node_in new n ≡ Some after
+        → Takes before after (asked_of n t)
 
   -- the net took the step of an item, and this is its tick
   pub record Steps (old new : Net M memory) (item : NetItem) (tick : NetTick) : Type 0 where
@@ -76,7 +78,8 @@ module _ {M : Type 0} {memory : Ghosts M} where
   abbrev pub NodesStandTo : Net M memory → (uses : ℕ → List Use) → Type 0
   NodesStandTo net uses = (n : ℕ) (m : Machine M memory) → node_in net n ≡ Some m → StandsTo m (uses n)
 
-  -- the net is where a run of the images' net under these items leads, and the memory of each node was asked what that run asks of it
+  -- the net is where a run of the images' net under these items leads, and the memory of each node was asked what that
+  -- run asks of it
   pub record StandsFor (images : List Image) (items : List NetItem) (net : Net M memory) : Type 0 where
     pub state : net_of net ≡ net_run (links_of net) (net_start images (links_of net)) items
     pub uses_made : NodesStandTo net (net_uses (links_of net) (net_start images (links_of net)) items)

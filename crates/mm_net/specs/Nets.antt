@@ -1,5 +1,6 @@
 -- A net: machines as nodes, and links that take integers from a word of one node and put them at a word of a node.
-use Rattle.std.specs.Prelude.{ℕ, Bool, true, false, not, ◌==◌, if◌then◌else◌, List, [], ◌∷◌, ◌++◌, map, length, slice_get, slice_set, Option, Some, None}
+use Rattle.std.specs.Prelude.{ℕ, Bool, true, false, not, ◌==◌, if◌then◌else◌, List, [], ◌∷◌, ◌++◌, map, length}
+use Rattle.std.specs.Prelude.{slice_get, slice_set, Option, Some, None}
 use Rattle.mm_word.specs.declared.perm.Kind.TheVariants.{LoadSet, Store}
 use Rattle.mm_word.specs.declared.word.Pre.TheVariants.{Full, Empty}
 use Rattle.mm_word.specs.declared.word.Post.TheVariants as leaves
@@ -55,7 +56,8 @@ pub record NetStep : Type 0 where
   pub node : ℕ
   pub uses : List Use
 
--- an item whose link is not there, or whose node at the end where it acts, or whose integer is not due: it changes nothing and asks nothing
+-- an item whose link is not there, or whose node at the end where it acts, or whose integer is not due: it changes
+-- nothing and asks nothing
 abbrev pub idles : NetState → NetStep
 idles s = record { net = s; tick = Idle; node = 0; uses = [] }
 
@@ -70,7 +72,12 @@ abbrev pub turns : NetState → ℕ → ℕ → Option State → NetStep
 turns s n item None = idles s
 turns s n item (Some node) =
     let step = (turn_of node item).step in
-    record { net = with_node s n (after node item); tick = turn_tick step step.tick; node = n; uses = (turn_of node item).uses }
+    record {
+      net = with_node s n (after node item);
+      tick = turn_tick step step.tick;
+      node = n;
+      uses = (turn_of node item).uses;
+    }
 
 -- 3. A link takes: where the cell is full its 64 bits are sent, without the tag, and the cell is left empty.
 
@@ -106,8 +113,8 @@ abbrev pub takes : NetState → ℕ → Option Link → NetStep
 takes s l None = idles s
 takes s l (Some link) = takes_at s l link (slice_get s.nodes link.from) (slice_get s.links l)
 
--- 4. A link carries the integer of a number of those that it sent, counted from 0. Where that is the next to arrive and the cell is empty,
--- it is put there and the cell is left full.
+-- 4. A link carries the integer of a number of those that it sent, counted from 0. Where that is the next to arrive and
+-- the cell is empty, it is put there and the cell is left full.
 
 -- the integer of this number, where it is due
 abbrev pub due : Carried → ℕ → Option ℕ
@@ -170,8 +177,10 @@ net_run links s (item ∷ items) = net_run links (net_after links s item) items
 abbrev pub asked_of : ℕ → NetStep → List Use
 asked_of n t = if n == t.node then t.uses else []
 
--- what a list of items asks of the memory of a node, in order: what its turns ask, a load that sets the bit for each time that a link takes
--- there, and a store for each integer that is carried there when it is due, also where they find no page or the wrong bit
+-- what a list of items asks of the memory of a node, in order: what its turns ask, a load that sets the bit for each
+-- time that a link takes there, and a store for each integer that is carried there when it is due, also where they find
+-- no page or the wrong bit
 unfoldable pub net_uses : List Link → NetState → List NetItem → ℕ → List Use
 net_uses links s [] n = []
-net_uses links s (item ∷ items) n = asked_of n (net_step links s item) ++ net_uses links (net_after links s item) items n
+net_uses links s (item ∷ items) n =
+    asked_of n (net_step links s item) ++ net_uses links (net_after links s item) items n

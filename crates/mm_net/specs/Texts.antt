@@ -17,11 +17,13 @@ node_text tells n image state uses = codes "node " ++ decimal n ++ newline ++ re
 
 -- how many integers a link took, and how many of these it put
 abbrev pub link_line : ℕ → Carried → List ℕ
-link_line l carried = codes "link " ++ decimal l ++ codes " sent " ++ decimal (length carried.sent) ++ codes " arrived " ++ decimal (length carried.arrived) ++ newline
+link_line l carried = codes "link " ++ decimal l ++ codes " sent " ++ decimal (length carried.sent) ++ codes " arrived "
+    ++ decimal (length carried.arrived) ++ newline
 
 -- the nodes, ascending, each with what was asked of its memory
 abbrev pub nodes_text : (tells : List Use → Option Counts) → List Image → List State → (uses : ℕ → List Use) → List ℕ
-nodes_text tells images nodes uses = flat_map (λ x. node_text tells x.0 x.1.0 x.1.1 (uses x.0)) (enumerate_from 0 (zip images nodes))
+nodes_text tells images nodes uses =
+    flat_map (λ x. node_text tells x.0 x.1.0 x.1.1 (uses x.0)) (enumerate_from 0 (zip images nodes))
 
 -- the links, ascending
 abbrev pub link_lines : List Carried → List ℕ

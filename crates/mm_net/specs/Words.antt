@@ -9,12 +9,14 @@ pub data Lists {A : Type 0} (Says : List ℕ → List A → Type 0) : List (ℕ 
       → Says word said → Lists Says words items → Lists Says ((at, word) ∷ words) (said ++ items)
 
 -- the words of the text say the items, and these keep the rules
-pub record TextMeans {A : Type 0} (Says : List ℕ → List A → Type 0) (Keeps : List A → Type 0) (text : List ℕ) (items : List A) : Type 0 where
+pub record TextMeans {A : Type 0} (Says : List ℕ → List A → Type 0) (Keeps : List A → Type 0) (text : List ℕ)
+    (items : List A) : Type 0 where
   pub lists : Lists Says (runs_of text) items
   pub rules : Keeps items
 
 -- The text's fault is at a place: the first word that says nothing, or that brings what breaks a rule, begins there.
-pub record TextFaultsAt {A : Type 0} (Says : List ℕ → List A → Type 0) (Keeps : List A → Type 0) (text : List ℕ) (place : ℕ) : Type 0 where
+pub record TextFaultsAt {A : Type 0} (Says : List ℕ → List A → Type 0) (Keeps : List A → Type 0) (text : List ℕ)
+    (place : ℕ) : Type 0 where
   pub before : List (ℕ × List ℕ)
   pub word : List ℕ
   pub behind : List (ℕ × List ℕ)

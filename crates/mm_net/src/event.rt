@@ -11,7 +11,8 @@ use mm_sched::{item, number};
 fn turn(node: &[u8], rest: &[u8]) -> Option<(NetItem, u32)>
     requires { has 58 node.now ≡ false }
     ensures some { IfSome result (λ said. IsEvent said.0 × Spells (node.now ++ 58 ∷ rest.now) said.0 said.1) }
-    ensures none { IsNone result → (item : NetItem) (count : ℕ) → IsEvent item → ¬ Spells (node.now ++ 58 ∷ rest.now) item count }
+    ensures none { IsNone result → (item : NetItem) (count : ℕ) → IsEvent item
+        → ¬ Spells (node.now ++ 58 ∷ rest.now) item count }
 {
     let node = number(node, 7)? as u8;
     let (slot, count) = item(rest)?;
@@ -31,7 +32,8 @@ fn send(digits: &[u8]) -> Option<(NetItem, u32)>
 fn carry(link: &[u8], integer: &[u8]) -> Option<(NetItem, u32)>
     requires { has 64 link.now ≡ false }
     ensures some { IfSome result (λ said. IsEvent said.0 × Spells (link.now ++ 64 ∷ integer.now) said.0 said.1) }
-    ensures none { IsNone result → (item : NetItem) (count : ℕ) → IsEvent item → ¬ Spells (link.now ++ 64 ∷ integer.now) item count }
+    ensures none { IsNone result → (item : NetItem) (count : ℕ) → IsEvent item
+        → ¬ Spells (link.now ++ 64 ∷ integer.now) item count }
 {
     let link = number(link, 63)? as u8;
     let number = number(integer, 999_999)? as u32;

@@ -13,7 +13,8 @@ use std::marker::Model;
 /// The most events of a text.
 pub const EVENT_LIMIT: usize = 1_000_000;
 
-/// At most 1,000,000 items of a net: of nodes 0 to 7, links 0 to 63 and numbers below 1,000,000. Contracts see the list.
+/// At most 1,000,000 items of a net: of nodes 0 to 7, links 0 to 63 and numbers below 1,000,000. Contracts see the
+/// list.
 #[derive(Drop)]
 pub struct Events {
     items: Vec<NetItem>,
@@ -55,16 +56,18 @@ fn append(items: &mut Vec<NetItem>, item: NetItem, count: u32) -> Result<(), NoM
     Ok(())
 }
 
-/// The events that a text means: items between blanks, and comments from `#` to the end of the line. `N:S` is a turn or port item S
-/// of node N, and `N:S*K` is K of them; link L takes at `+L`, and carries its integer K at `L@K`. Want of memory is the one answer that
-/// needs no cause.
+/// The events that a text means: items between blanks, and comments from `#` to the end of the line. `N:S` is a turn or
+/// port item S of node N, and `N:S*K` is K of them; link L takes at `+L`, and carries its integer K at `L@K`. Want of
+/// memory is the one answer that needs no cause.
 pub fn read_events(alloc: Global, bytes: &[u8]) -> Result<Events, NetError>
     ensures means { IfOk result (λ events. Means bytes.now events) }
     ensures fault { (offset : ℕ) → result ≡ Err (NetError.Fault offset) → FaultsAt bytes.now offset }
 
     // Each text that means events is read as these, and each that faults is refused at its fault.
-    ensures reads { (events : List NetItem) → Means bytes.now events → (result ≡ Ok events) ⊎ (result ≡ Err NetError.NoMemory) }
-    ensures refuses { (offset : ℕ) → FaultsAt bytes.now offset → (result ≡ Err (NetError.Fault offset)) ⊎ (result ≡ Err NetError.NoMemory) }
+    ensures reads { (events : List NetItem) → Means bytes.now events → (result ≡ Ok events)
+        ⊎ (result ≡ Err NetError.NoMemory) }
+    ensures refuses { (offset : ℕ) → FaultsAt bytes.now offset → (result ≡ Err (NetError.Fault offset))
+        ⊎ (result ≡ Err NetError.NoMemory) }
 {
     let mut items = Vec::new(alloc);
     let mut at = run_start(bytes, 0);

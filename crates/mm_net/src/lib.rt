@@ -1,5 +1,5 @@
-//! Networks of machines: nodes, and links that take integers from a word of one and put them at a word of another; the text of the links
-//! and the text of the events.
+//! Networks of machines: nodes, and links that take integers from a word of one and put them at a word of another; the
+//! text of the links and the text of the events.
 #![tactic(auto)]
 
 mod end;

@@ -14,8 +14,8 @@ use std::marker::Model;
 /// The most links of a net.
 pub const LINK_LIMIT: usize = 64;
 
-/// At most 64 links between nodes 0 to 7. The address of each word is a multiple of 8 below 2^54, and no end, a node and a word,
-/// stands twice. Contracts see the list.
+/// At most 64 links between nodes 0 to 7. The address of each word is a multiple of 8 below 2^54, and no end, a node
+/// and a word, stands twice. Contracts see the list.
 #[derive(Drop)]
 pub struct Links {
     items: Vec<Link>,
@@ -71,15 +71,17 @@ fn fits(links: &[Link], more: Link) -> bool
     !is_end(links, more.to, more.put)
 }
 
-/// The links that a text means: items `A.X>B.Y` between blanks, and comments from `#` to the end of the line. The link takes at address
-/// X of node A and puts at address Y of node B. Want of memory is the one answer that needs no cause.
+/// The links that a text means: items `A.X>B.Y` between blanks, and comments from `#` to the end of the line. The link
+/// takes at address X of node A and puts at address Y of node B. Want of memory is the one answer that needs no cause.
 pub fn read_links(alloc: Global, bytes: &[u8]) -> Result<Links, NetError>
     ensures means { IfOk result (λ links. Means bytes.now links) }
     ensures fault { (offset : ℕ) → result ≡ Err (NetError.Fault offset) → FaultsAt bytes.now offset }
 
     // Each text that means links is read as these, and each that faults is refused at its fault.
-    ensures reads { (links : List Link) → Means bytes.now links → (result ≡ Ok links) ⊎ (result ≡ Err NetError.NoMemory) }
-    ensures refuses { (offset : ℕ) → FaultsAt bytes.now offset → (result ≡ Err (NetError.Fault offset)) ⊎ (result ≡ Err NetError.NoMemory) }
+    ensures reads { (links : List Link) → Means bytes.now links → (result ≡ Ok links)
+        ⊎ (result ≡ Err NetError.NoMemory) }
+    ensures refuses { (offset : ℕ) → FaultsAt bytes.now offset → (result ≡ Err (NetError.Fault offset))
+        ⊎ (result ≡ Err NetError.NoMemory) }
 {
     let mut items = Vec::new(alloc);
     let mut at = run_start(bytes, 0);

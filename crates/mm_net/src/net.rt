@@ -12,7 +12,8 @@ use std::alloc::Global;
 
 /// Machines as nodes, and links that take integers from a word of one node and put them at a word of a node.
 ///
-/// A link carries 64 bits, and never a tag: no pointer crosses. Each step is a turn of a node, a link that takes, or a link that carries.
+/// A link carries 64 bits, and never a tag: no pointer crosses. Each step is a turn of a node, a link that takes, or a
+/// link that carries.
 #[derive(Drop)]
 pub struct Net<M: Memory> {
     nodes: Vec<Machine<M>>,
@@ -35,10 +36,11 @@ impl<M: Memory> Net<M> {
     ghost use Rattle.mm_model.specs.Image.{Image};
     ghost use Rattle.mm_net.specs.declared.item.NetItem.{NetItem as Item};
     ghost use Rattle.mm_net.specs.Nets.{net_step, net_after};
-    ghost use Rattle.mm_net.specs.Net.{net_of, links_of, room_of, steps_of, node_in, carried_in, NodesTake, Steps, IsUnused, HasNodes, begun, AllStart, StandsFor, HasRoom, ComesToNothing};
+    ghost use Rattle.mm_net.specs.Net.{net_of, links_of, room_of, steps_of, node_in, carried_in, NodesTake, Steps};
+    ghost use Rattle.mm_net.specs.Net.{IsUnused, HasNodes, begun, AllStart, StandsFor, HasRoom, ComesToNothing};
 
-    /// A net of these nodes and links that took no step yet. Room for so many integers is taken for each link, and no later call takes
-    /// memory.
+    /// A net of these nodes and links that took no step yet. Room for so many integers is taken for each link, and no
+    /// later call takes memory.
     pub fn new(
         alloc: Global,
         nodes: Vec<Machine<M>>,
@@ -56,7 +58,8 @@ impl<M: Memory> Net<M> {
         ensures steps { IfOk result (λ net. steps_of net ≡ 0) }
 
         // Where each machine stands at the start of its image.
-        ensures stands { (images : List Image) → AllStart images nodes.items → IfOk result (λ net. StandsFor images [] net) }
+        ensures stands { (images : List Image) → AllStart images nodes.items
+            → IfOk result (λ net. StandsFor images [] net) }
     {
         let wires = wires_of(alloc, links.items(), room)?;
         Ok(Net {
@@ -67,9 +70,9 @@ impl<M: Memory> Net<M> {
         })
     }
 
-    /// One step: a turn of a node, or a link that takes, or carries the integer of a number. A link takes where it finds a full cell, and
-    /// leaves it empty. It carries the first integer that has not arrived, where it finds an empty cell, and leaves that full; any other
-    /// number changes nothing. Takes no memory.
+    /// One step: a turn of a node, or a link that takes, or carries the integer of a number. A link takes where it
+    /// finds a full cell, and leaves it empty. It carries the first integer that has not arrived, where it finds an
+    /// empty cell, and leaves that full; any other number changes nothing. Takes no memory.
     pub fn step(&mut self, item: NetItem) -> NetTick
         requires few { steps_of self.old < 2 ^ 32 }
         requires room { HasRoom (room_of self.old) (net_of self.old) item }
@@ -87,7 +90,8 @@ impl<M: Memory> Net<M> {
         ensures steps { steps_of self.new ≡ steps_of self.old + 1 }
 
         // After any items of images, one item more.
-        ensures runs { (images : List Image) (items : List Item) → StandsFor images items self.old → StandsFor images (items ++ item ∷ []) self.new }
+        ensures runs { (images : List Image) (items : List Item) → StandsFor images items self.old
+            → StandsFor images (items ++ item ∷ []) self.new }
     {
         match item {
             NetItem::Turn { node, slot } => self.turn(node, slot),
@@ -149,7 +153,8 @@ impl<M: Memory> Net<M> {
     fn turn(&mut self, node: u8, slot: u8) -> NetTick
         requires { steps_of self.old < 2 ^ 32 }
         ensures step { Steps self.old self.new (Item.Turn node slot) result }
-        ensures idle { (result ≡ NetTick.Idle) ↔ ComesToNothing (net_of self.old) (net_of self.new) (Item.Turn node slot) }
+        ensures idle { (result ≡ NetTick.Idle)
+            ↔ ComesToNothing (net_of self.old) (net_of self.new) (Item.Turn node slot) }
     {
         self.steps += 1;
         let Some(node) = self.nodes.get_mut(node as usize) else {

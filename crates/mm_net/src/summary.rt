@@ -16,15 +16,17 @@ use mm_machine::Machine;
 use mm_mem::{Inspect, Memory};
 use mm_text::{Gather, Piece, write_pieces};
 
-/// Writes the text of a net against the images of its nodes: the report of each node, ascending, behind a line `node N`; and then for each
-/// link, ascending, a line `link L sent N arrived M`. At a [`WriteFault`] the sink took a front part.
+/// Writes the text of a net against the images of its nodes: the report of each node, ascending, behind a line `node
+/// N`; and then for each link, ascending, a line `link L sent N arrived M`. At a [`WriteFault`] the sink took a front
+/// part.
 pub fn report<M: Inspect, O: Sink>(
     net: &Net<M>,
     images: &[Image],
     out: &mut O,
 ) -> Result<(), WriteFault>
     requires { length images.now ≡ length (net_of net.now).nodes }
-    ensures { (items : List NetItem) → StandsFor images.now items net.now → Writes O.taken O.faults out.old out.new (net_text M.tells (links_of net.now) images.now items) result }
+    ensures { (items : List NetItem) → StandsFor images.now items net.now
+        → Writes O.taken O.faults out.old out.new (net_text M.tells (links_of net.now) images.now items) result }
 {
     write_nodes(net, images, out)?;
     write_links(net, out)
@@ -37,7 +39,8 @@ fn write_nodes<M: Inspect, O: Sink>(
     out: &mut O,
 ) -> Result<(), WriteFault>
     requires { length images.now ≡ length (net_of net.now).nodes }
-    ensures { (uses : ℕ → List Use) → NodesStandTo net.now uses → Writes O.taken O.faults out.old out.new (nodes_text M.tells images.now (net_of net.now).nodes uses) result }
+    ensures { (uses : ℕ → List Use) → NodesStandTo net.now uses
+        → Writes O.taken O.faults out.old out.new (nodes_text M.tells images.now (net_of net.now).nodes uses) result }
 {
     for n in 0..net.node_count() {
         let node = net.node(n).unwrap();
@@ -53,7 +56,8 @@ fn write_node<M: Inspect, O: Sink>(
     image: &Image,
     out: &mut O,
 ) -> Result<(), WriteFault>
-    ensures { (us : List Use) → StandsTo node.now us → Writes O.taken O.faults out.old out.new (node_text M.tells n image.now (state_of node.now) us) result }
+    ensures { (us : List Use) → StandsTo node.now us
+        → Writes O.taken O.faults out.old out.new (node_text M.tells n image.now (state_of node.now) us) result }
 {
     write_pieces(
         out,
@@ -80,7 +84,8 @@ fn write_links<M: Memory, O: Sink>(net: &Net<M>, out: &mut O) -> Result<(), Writ
 /// Appends the line of a link.
 fn put_link<M: Memory, O: Sink>(text: &mut Gather, out: &mut O, net: &Net<M>, link: u8)
     requires { link < length (links_of net.now) }
-    ensures { (carried : Carried) → carried_in net.now link ≡ Some carried → Gathers O.taken O.faults out.old out.new text.old text.new (link_line link carried) }
+    ensures { (carried : Carried) → carried_in net.now link ≡ Some carried
+        → Gathers O.taken O.faults out.old out.new text.old text.new (link_line link carried) }
 {
     text.put(
         out,

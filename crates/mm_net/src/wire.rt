@@ -17,7 +17,8 @@ use std::marker::Model;
 /// The logarithm of the length of the whole address space.
 const ALL_ADDRESSES: u8 = 54;
 
-/// A link beside what it carried. Its room is taken whole when it is made, and so are the accesses by which it takes and puts.
+/// A link beside what it carried. Its room is taken whole when it is made, and so are the accesses by which it takes
+/// and puts.
 #[derive(Drop)]
 pub(crate) struct Wire {
     link: Link,
@@ -123,7 +124,8 @@ impl Wire {
     /// Counts the integer that is due as one that arrived.
     pub(crate) fn count_arrival(&mut self)
         requires { length self.old.carried.arrived < length self.old.carried.sent }
-        ensures carried { (number bits : ℕ) → due self.old.carried number ≡ Some bits → self.new.carried ≡ with_arrived self.old.carried bits true }
+        ensures carried { (number bits : ℕ) → due self.old.carried number ≡ Some bits
+            → self.new.carried ≡ with_arrived self.old.carried bits true }
         ensures link { self.new.link ≡ self.old.link }
         ensures room { self.new.room ≡ self.old.room }
     {
@@ -135,7 +137,8 @@ impl Wire {
 pub(crate) fn wires_of(alloc: Global, links: &[Link], room: u32) -> Result<Vec<Wire>, NoMemory>
     requires { All IsLink links.now }
     ensures links { IfOk result (λ wires. link_list wires.items ≡ links.now) }
-    ensures carried { IfOk result (λ wires. carried_list wires.items ≡ map (λ (_ : LinkValue). nothing_carried) links.now) }
+    ensures carried { IfOk result
+        (λ wires. carried_list wires.items ≡ map (λ (_ : LinkValue). nothing_carried) links.now) }
     ensures room { IfOk result (λ wires. All (λ w. room ≤ w.room) wires.items) }
 {
     let Ok(mut wires) = Vec::with_capacity(alloc, links.len()) else {

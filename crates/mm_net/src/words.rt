@@ -4,7 +4,8 @@ ghost use Rattle.mm_net.specs.Marks.{has};
 
 /// What stands before the first of these bytes in a word, and what stands behind it.
 pub fn split(word: &[u8], mark: u8) -> Option<(&[u8], &[u8])>
-    ensures { MatchOption result (has mark word.now ≡ false) (λ parts. (has mark parts.0.now ≡ false) × (word.now ≡ parts.0.now ++ mark ∷ parts.1.now)) }
+    ensures { MatchOption result (has mark word.now ≡ false)
+        (λ parts. (has mark parts.0.now ≡ false) × (word.now ≡ parts.0.now ++ mark ∷ parts.1.now)) }
 {
     for (at, b) in word.iter().enumerate() {
         if *b == mark {

@@ -19,3 +19,4 @@ pub mod SpelledWhole
 pub mod Answered
 pub mod ReadSteps
 pub mod Found
+pub mod Members

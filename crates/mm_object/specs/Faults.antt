@@ -10,7 +10,8 @@
 -- 7 relocation
 -- 8 thread
 -- 9 trailing, at the first byte too many
-use Rattle.std.specs.Prelude.{ℕ, zero, suc, ◌+◌, ◌*◌, ◌-◌, ◌/◌, ◌%◌, ◌^◌, Bool, false, not, ◌&&◌, ◌||◌, ◌==◌, nat_lt, nat_le, List, [], ◌∷◌, ◌++◌, length, take, codes, is_some, Option}
+use Rattle.std.specs.Prelude.{ℕ, zero, suc, ◌+◌, ◌*◌, ◌-◌, ◌/◌, ◌%◌, ◌^◌, Bool, false, not, ◌&&◌, ◌||◌, ◌==◌, nat_lt}
+use Rattle.std.specs.Prelude.{nat_le, List, [], ◌∷◌, ◌++◌, length, take, codes, is_some, Option}
 use Rattle.std.specs.List.{list_any, range_with_len}
 use Rattle.std.specs.Str.{bytes_eq}
 use Rattle.mm_word.specs.Perm.{perm_of}
@@ -18,8 +19,13 @@ use Rattle.mm_model.specs.Places.{Place, first_bad, in_turn, number_at, mask_bit
 use Rattle.mm_model.specs.Places.Place.{Field, Test}
 use Rattle.mm_object.specs.declared.target.Target.{Target}
 use Rattle.mm_object.specs.Names.{has_form, is_before}
-use Rattle.mm_object.specs.Objects.{Segment, segment_limit, external_limit, thread_limit, spare_limit, word_limit, least_log, greatest_log, words_of, names_of, is_among, is_reloc, is_thread, place_of, targets_of}
-use Rattle.mm_object.specs.Reading.{version_of, segments_of, externals_of, relocs_of, threads_of, spare_of, name_size, name_at, name_end, log_at, count_place, count_at, bitmap_place, bitmap_size, words_place, segment_place, segments_at, external_place, reloc_place, reloc_record_at, relocs_at, thread_place, thread_record_at, threads_at}
+use Rattle.mm_object.specs.Objects.{Segment, segment_limit, external_limit, thread_limit, spare_limit, word_limit}
+use Rattle.mm_object.specs.Objects.{least_log, greatest_log, words_of, names_of, is_among, is_reloc, is_thread}
+use Rattle.mm_object.specs.Objects.{place_of, targets_of}
+use Rattle.mm_object.specs.Reading.{version_of, segments_of, externals_of, relocs_of, threads_of, spare_of, name_size}
+use Rattle.mm_object.specs.Reading.{name_at, name_end, log_at, count_place, count_at, bitmap_place, bitmap_size}
+use Rattle.mm_object.specs.Reading.{words_place, segment_place, segments_at, external_place, reloc_place}
+use Rattle.mm_object.specs.Reading.{reloc_record_at, relocs_at, thread_place, thread_record_at, threads_at}
 
 module _ (bytes : List ℕ) where
   abbrev pub is_magic : Bool
@@ -54,8 +60,10 @@ module _ (bytes : List ℕ) where
   abbrev pub segment_record_places : (before : List Segment) (at : ℕ) → List Place
   segment_record_places before at =
       name_places at (is_among (name_at bytes at) (names_of before))
-      ++ Field (name_end bytes at) 1 ∷ Test 6 (name_end bytes at) (nat_lt (log_at bytes at) least_log || nat_lt greatest_log (log_at bytes at))
-      ∷ Field (count_place bytes at) 4 ∷ Test 4 (count_place bytes at) (nat_lt word_limit (words_of before + count_at bytes at))
+      ++ Field (name_end bytes at) 1
+      ∷ Test 6 (name_end bytes at) (nat_lt (log_at bytes at) least_log || nat_lt greatest_log (log_at bytes at))
+      ∷ Field (count_place bytes at) 4
+      ∷ Test 4 (count_place bytes at) (nat_lt word_limit (words_of before + count_at bytes at))
       ∷ Test 6 (count_place bytes at) (nat_lt (2 ^ (log_at bytes at - 3)) (count_at bytes at))
       ∷ Field (bitmap_place bytes at) (bitmap_size bytes at)
       ∷ Test 6 (words_place bytes at - 1) (has_unused_bit (bitmap_place bytes at) (count_at bytes at))
@@ -70,11 +78,13 @@ module _ (bytes : List ℕ) where
   -- whether the external before this one does not stand before it in the order of bytes
   abbrev pub is_out_of_order : (k : ℕ) → Bool
   is_out_of_order zero = false
-  is_out_of_order (suc k) = not (is_before (name_at bytes (external_place bytes k)) (name_at bytes (external_place bytes (suc k))))
+  is_out_of_order (suc k) =
+      not (is_before (name_at bytes (external_place bytes k)) (name_at bytes (external_place bytes (suc k))))
 
   abbrev pub external_places : (segments : List Segment) (k : ℕ) → List Place
   external_places segments k =
-      name_places (external_place bytes k) (is_among (name_at bytes (external_place bytes k)) (names_of segments) || is_out_of_order k)
+      name_places (external_place bytes k)
+      (is_among (name_at bytes (external_place bytes k)) (names_of segments) || is_out_of_order k)
 
   abbrev pub externals_places : (segments : List Segment) (count : ℕ) → List Place
   externals_places segments count = in_turn (external_places segments) 0 count
@@ -85,12 +95,15 @@ module _ (bytes : List ℕ) where
   -- whether a relocation does not stand behind the one before it
   abbrev pub is_misplaced : (k : ℕ) → Bool
   is_misplaced zero = false
-  is_misplaced (suc k) = nat_le (place_of (reloc_record_at bytes (reloc_place bytes (suc k)))) (place_of (reloc_record_at bytes (reloc_place bytes k)))
+  is_misplaced (suc k) = nat_le (place_of (reloc_record_at bytes (reloc_place bytes (suc k))))
+      (place_of (reloc_record_at bytes (reloc_place bytes k)))
 
   abbrev pub reloc_places : (segments : List Segment) (k : ℕ) → List Place
   reloc_places segments k =
       let at = reloc_place bytes k in
-      Field at 13 ∷ Test 7 at (not (is_perm (at + 6)) || not (is_reloc segments (externals_of bytes) (reloc_record_at bytes at)) || is_misplaced k) ∷ []
+      Field at 13 ∷ Test 7 at
+      (not (is_perm (at + 6)) || not
+      (is_reloc segments (externals_of bytes) (reloc_record_at bytes at)) || is_misplaced k) ∷ []
 
   abbrev pub relocs_places : (segments : List Segment) (count : ℕ) → List Place
   relocs_places segments count = in_turn (reloc_places segments) 0 count
@@ -98,11 +111,13 @@ module _ (bytes : List ℕ) where
   -- whether the slot of a thread is not above that of the one before it
   abbrev pub has_low_slot : (k : ℕ) → Bool
   has_low_slot zero = false
-  has_low_slot (suc k) = nat_le (thread_record_at bytes (thread_place bytes (suc k))).slot (thread_record_at bytes (thread_place bytes k)).slot
+  has_low_slot (suc k) = nat_le (thread_record_at bytes (thread_place bytes (suc k))).slot
+      (thread_record_at bytes (thread_place bytes k)).slot
 
   -- whether register r is to become a pointer and has no permission, or no zero behind it
   abbrev pub is_bad_register : (at r : ℕ) → Bool
-  is_bad_register at r = mask_bit_at bytes (at + 10) r && (not (is_perm (at + 12 + 8 * r)) || not (number_at bytes (at + 12 + 8 * r + 1) 1 == 0))
+  is_bad_register at r = mask_bit_at bytes (at + 10)
+      r && (not (is_perm (at + 12 + 8 * r)) || not (number_at bytes (at + 12 + 8 * r + 1) 1 == 0))
 
   abbrev pub thread_places : (segments : List Segment) (k : ℕ) → List Place
   thread_places segments k =
@@ -115,18 +130,21 @@ module _ (bytes : List ℕ) where
 
   -- an external that nothing points to
   abbrev pub use_places : (segments : ℕ) (targets : List Target) (k : ℕ) → List Place
-  use_places segments targets k = Test 5 (external_place bytes k) (not (list_any (λ (t : Target). t.index == segments + k) targets)) ∷ []
+  use_places segments targets k =
+      Test 5 (external_place bytes k) (not (list_any (λ (t : Target). t.index == segments + k) targets)) ∷ []
 
   abbrev pub uses_places : (segments : ℕ) (targets : List Target) (count : ℕ) → List Place
   uses_places segments targets count = in_turn (use_places segments targets) 0 count
 
-  -- all places in the order in which they are read: externals that nothing points to behind the last thread, since a thread may point to them
+  -- all places in the order in which they are read: externals that nothing points to behind the last thread, since a
+  -- thread may point to them
   abbrev pub places : List Place
   places =
       let segments = segments_at bytes (segments_of bytes) in
       header_places ++ (segments_places (segments_of bytes) ++ (externals_places segments (externals_of bytes)
       ++ (relocs_places segments (relocs_of bytes) ++ (threads_places segments (threads_of bytes)
-      ++ (uses_places (segments_of bytes) (targets_of (relocs_at bytes (relocs_of bytes)) (threads_at bytes (threads_of bytes))) (externals_of bytes)
+      ++ (uses_places (segments_of bytes)
+      (targets_of (relocs_at bytes (relocs_of bytes)) (threads_at bytes (threads_of bytes))) (externals_of bytes)
       ++ end_places bytes 9 (thread_place bytes (threads_of bytes)))))))
 
   -- the number and the place of the first fault, if there is one

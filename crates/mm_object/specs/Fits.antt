@@ -6,11 +6,14 @@ use Rattle.mm_object.specs.declared.target.Target.{Target}
 use Rattle.mm_object.specs.declared.target.Reloc.{Reloc}
 use Rattle.mm_object.specs.declared.thread.Thread.{Thread}
 use Rattle.mm_object.specs.Names.{is_name}
-use Rattle.mm_object.specs.Objects.{Segment, Object, IsSegment, IsNumber, segment_limit, word_limit, external_limit, reloc_limit, thread_limit, words_of, names_of, is_among, are_apart, ascend, is_reloc, place_of, is_thread, targets_of}
+use Rattle.mm_object.specs.Objects.{Segment, Object, IsSegment, IsNumber, segment_limit, word_limit, external_limit}
+use Rattle.mm_object.specs.Objects.{reloc_limit, thread_limit, words_of, names_of, is_among, are_apart, ascend}
+use Rattle.mm_object.specs.Objects.{is_reloc, place_of, is_thread, targets_of}
 
 -- the object of these parts
 abbrev pub object_from : List Segment → List (List ℕ) → List Reloc → List Thread → ℕ → Object
-object_from segments externals relocs threads spare = record { segments = segments; externals = externals; relocs = relocs; threads = threads; spare = spare }
+object_from segments externals relocs threads spare =
+    record { segments = segments; externals = externals; relocs = relocs; threads = threads; spare = spare }
 
 -- the segments of an object
 pub record SegmentsFit (segments : List Segment) : Type 0 where
@@ -45,11 +48,13 @@ pub record AreWhole (threads : List Thread) : Type 0 where
 
 -- each of so many externals, behind so many segments, is a target
 abbrev pub AreUsed : ℕ → ℕ → List Target → Type 0
-AreUsed segments externals targets = (i : ℕ) → i < externals → list_any (λ (t : Target). t.index == segments + i) targets ≡ true
+AreUsed segments externals targets =
+    (i : ℕ) → i < externals → list_any (λ (t : Target). t.index == segments + i) targets ≡ true
 
 -- a table says of each external whether it is a target
 abbrev pub HoldsUses : List Bool → ℕ → List Target → Type 0
-HoldsUses used segments targets = (i : ℕ) → i < external_limit → slice_index_or used i false ≡ list_any (λ (t : Target). t.index == segments + i) targets
+HoldsUses used segments targets = (i : ℕ) → i < external_limit
+    → slice_index_or used i false ≡ list_any (λ (t : Target). t.index == segments + i) targets
 
 -- segments, and names that an object of these segments does not have itself
 pub record NamesFit (segments : List Segment) (externals : List (List ℕ)) : Type 0 where
@@ -57,7 +62,8 @@ pub record NamesFit (segments : List Segment) (externals : List (List ℕ)) : Ty
   pub foreign : ExternalsFit segments externals
 
 -- relocations and threads, and each external is a target of them
-pub record PointersFit (segments : List Segment) (externals : ℕ) (relocs : List Reloc) (threads : List Thread) : Type 0 where
+pub record PointersFit (segments : List Segment) (externals : ℕ) (relocs : List Reloc)
+    (threads : List Thread) : Type 0 where
   pub words : RelocsFit segments externals relocs
   pub starts : ThreadsFit segments externals threads
   pub whole : AreWhole threads

@@ -1,5 +1,6 @@
 -- Names of segments and of what an object does not have itself.
-use Rattle.std.specs.Prelude.{ℕ, Bool, true, false, ◌&&◌, ◌||◌, ◌==◌, nat_lt, nat_le, if◌then◌else◌, List, [], ◌∷◌, length}
+use Rattle.std.specs.Prelude.{ℕ, Bool, true, false, ◌&&◌, ◌||◌, ◌==◌, nat_lt, nat_le, if◌then◌else◌, List, [], ◌∷◌}
+use Rattle.std.specs.Prelude.{length}
 use Rattle.std.specs.List.{list_all}
 
 abbrev pub is_between : ℕ → ℕ → ℕ → Bool

@@ -1,5 +1,7 @@
--- What an object is: segments of words, names that it does not have itself, words that become pointers when it is placed, and threads.
-use Rattle.std.specs.Prelude.{◌≡◌, ℕ, ◌+◌, ◌*◌, ◌-◌, ◌^◌, ◌<◌, ◌≤◌, Bool, true, false, not, ◌&&◌, ◌==◌, nat_lt, List, [], ◌∷◌, ◌++◌, map, length, slice_get, Option, Some, None}
+-- What an object is: segments of words, names that it does not have itself, words that become pointers when it is
+-- placed, and threads.
+use Rattle.std.specs.Prelude.{◌≡◌, ℕ, ◌+◌, ◌*◌, ◌-◌, ◌^◌, ◌<◌, ◌≤◌, Bool, true, false, not, ◌&&◌, ◌==◌, nat_lt, List}
+use Rattle.std.specs.Prelude.{[], ◌∷◌, ◌++◌, map, length, slice_get, Option, Some, None}
 use Rattle.std.specs.List.{flat_map, list_any, list_all, AllByRecursion}
 use Rattle.std.specs.List.Sorted.{IsStrictlyIncreasing}
 use Rattle.mm_word.specs.Perm.{can_fetch}
@@ -102,7 +104,8 @@ is_zero (Some item) = item.bits == 0
 
 -- a relocation replaces a word of the object that is 0
 abbrev pub is_reloc : List Segment → ℕ → Reloc → Bool
-is_reloc segments externals r = is_zero (item_of (slice_get segments r.segment) r.word) && is_target segments externals r.target
+is_reloc segments externals r =
+    is_zero (item_of (slice_get segments r.segment) r.word) && is_target segments externals r.target
 
 -- where it does: its segment, and then its word
 abbrev pub place_of : Reloc → ℕ
@@ -128,7 +131,8 @@ value_targets (Ptr perm target) = target ∷ []
 
 -- what an object points to
 abbrev pub targets_of : List Reloc → List Thread → List Target
-targets_of relocs threads = map (λ r. r.target) relocs ++ flat_map (λ t. t.target ∷ flat_map value_targets t.regs) threads
+targets_of relocs threads =
+    map (λ r. r.target) relocs ++ flat_map (λ t. t.target ∷ flat_map value_targets t.regs) threads
 
 -- 3. The whole.
 
@@ -154,7 +158,8 @@ pub record IsObject (o : Object) : Type 0 where
   pub rising : ascend o.externals ≡ true
   pub foreign : list_any (λ name. is_among name (names_of o.segments)) o.externals ≡ false
   -- each of them is the target of something
-  pub used : (i : ℕ) → i < length o.externals → list_any (λ (t : Target). t.index == length o.segments + i) (targets_of o.relocs o.threads) ≡ true
+  pub used : (i : ℕ) → i < length o.externals
+      → list_any (λ (t : Target). t.index == length o.segments + i) (targets_of o.relocs o.threads) ≡ true
   pub few_relocs : length o.relocs ≤ reloc_limit
   pub relocs : list_all (is_reloc o.segments (length o.externals)) o.relocs ≡ true
   pub in_order : IsStrictlyIncreasing (map place_of o.relocs)

@@ -1,5 +1,6 @@
 -- What the bytes of an object say, field by field. Where a record begins depends on those before it.
-use Rattle.std.specs.Prelude.{ℕ, zero, suc, ◌+◌, ◌*◌, ◌/◌, ◌==◌, Bool, if◌then◌else◌, List, map, take, drop, Option, Some, None}
+use Rattle.std.specs.Prelude.{ℕ, zero, suc, ◌+◌, ◌*◌, ◌/◌, ◌==◌, Bool, if◌then◌else◌, List, map, take, drop, Option}
+use Rattle.std.specs.Prelude.{Some, None}
 use Rattle.std.specs.List.{range_with_len}
 use Rattle.mm_word.specs.declared.perm.Perm.{Perm}
 use Rattle.mm_word.specs.declared.perm.Perm.TheVariants.{Key}
@@ -94,7 +95,13 @@ module _ (bytes : List ℕ) where
   perm_at at = perm_or_key (perm_of (number_at bytes at 1))
 
   abbrev pub reloc_record_at : (at : ℕ) → Reloc
-  reloc_record_at at = record { segment = number_at bytes at 2; word = number_at bytes (at + 2) 4; perm = perm_at (at + 6); target = target_at (at + 7) }
+  reloc_record_at at =
+      record {
+        segment = number_at bytes at 2;
+        word = number_at bytes (at + 2) 4;
+        perm = perm_at (at + 6);
+        target = target_at (at + 7);
+      }
 
   -- eight bytes of a register
   abbrev pub value_at : (tagged : Bool) (at : ℕ) → Value

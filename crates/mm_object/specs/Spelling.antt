@@ -20,7 +20,8 @@ name_record name = length name ∷ name
 -- name, logarithm, how many words, which of them are full, and the words
 unfoldable pub segment_record : Segment → List ℕ
 segment_record s =
-    name_record s.name ++ (s.log ∷ []) ++ to_be_bytes w32 (length s.items) ++ bitmap ((length s.items + 7) / 8) (map (λ (i : Item). i.full) s.items)
+    name_record s.name ++ (s.log ∷ []) ++ to_be_bytes w32 (length s.items)
+    ++ bitmap ((length s.items + 7) / 8) (map (λ (i : Item). i.full) s.items)
     ++ flat_map (λ (i : Item). to_be_bytes w64 i.bits) s.items
 
 -- what it is in, and how far
@@ -49,13 +50,15 @@ thread_record t =
 -- magic, version, and how many segments, externals, relocations, threads and spare frames
 abbrev pub header : Object → List ℕ
 header o =
-    codes "MMO1" ++ to_be_bytes w16 1 ++ to_be_bytes w16 (length o.segments) ++ to_be_bytes w16 (length o.externals) ++ to_be_bytes w16 (length o.relocs)
+    codes "MMO1" ++ to_be_bytes w16 1 ++ to_be_bytes w16 (length o.segments) ++ to_be_bytes w16 (length o.externals)
+    ++ to_be_bytes w16 (length o.relocs)
     ++ to_be_bytes w16 (length o.threads) ++ to_be_bytes w16 o.spare
 
 -- the bytes of an object's file
 unfoldable pub spelling : Object → List ℕ
 spelling o =
-    header o ++ flat_map segment_record o.segments ++ flat_map name_record o.externals ++ flat_map reloc_record o.relocs ++ flat_map thread_record o.threads
+    header o ++ flat_map segment_record o.segments ++ flat_map name_record o.externals ++ flat_map reloc_record o.relocs
+    ++ flat_map thread_record o.threads
 
 -- the bytes spell the object
 pub record Spells (bytes : List ℕ) (o : Object) : Type 0 where

@@ -4,8 +4,8 @@ ghost use Rattle.mm_object.specs.declared.fault.ObjectError.TheVariants.{NoMemor
 use std::alloc::{AllocError, AllocFailed};
 use thiserror::Error;
 
-/// What is wrong with the bytes of an object file. The fields are read from the front, and the first fault is given with the
-/// offset of its field or record.
+/// What is wrong with the bytes of an object file. The fields are read from the front, and the first fault is given
+/// with the offset of its field or record.
 #[derive(Clone, Copy, Debug, PartialEq, Eq)]
 pub enum ObjectFault {
     /// The next field, bitmap, name or record is not whole. The offset is the length of the file.
@@ -16,16 +16,17 @@ pub enum ObjectFault {
     Version,
     /// A number in the header is above its limit, or so many words bring all segments together above 131,072.
     Count,
-    /// A name is none, is there already, or stands out of order, or nothing points to an external. The offset is that of the
-    /// name's length. The use of externals is tested behind the last thread.
+    /// A name is none, is there already, or stands out of order, or nothing points to an external. The offset is that
+    /// of the name's length. The use of externals is tested behind the last thread.
     Name,
-    /// The logarithm of a segment's length is not 3 to 20, a segment has more words than its length has room for, or the last
-    /// byte of a bitmap has a bit that stands for no word. The offset is that of the field, or of that byte.
+    /// The logarithm of a segment's length is not 3 to 20, a segment has more words than its length has room for, or
+    /// the last byte of a bitmap has a bit that stands for no word. The offset is that of the field, or of that byte.
     Segment,
-    /// A relocation has no permission, does not replace a word that is 0, points nowhere, or does not stand behind the one before.
+    /// A relocation has no permission, does not replace a word that is 0, points nowhere, or does not stand behind the
+    /// one before.
     Reloc,
-    /// The slot, group, handler, permission, target or a register of a thread is none, or the slot is not above that of the
-    /// thread before.
+    /// The slot, group, handler, permission, target or a register of a thread is none, or the slot is not above that of
+    /// the thread before.
     Thread,
     /// The file goes on behind the last thread.
     Trailing,

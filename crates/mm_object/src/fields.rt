@@ -40,7 +40,8 @@ impl Reader<'_> {
     /// Refuses where the test holds.
     #[tactic(auto, unfolding(mm_model::specs::Places::place_fault))]
     pub fn refuse_if(&self, wrong: bool, kind: ObjectFault, at: usize) -> Result<(), ObjectError>
-        ensures fault { Gives (λ _. true) (place_fault (length self.now.bytes.now) (Test (number_of kind) at wrong)) true result }
+        ensures fault { Gives (λ _. true) (place_fault (length self.now.bytes.now) (Test (number_of kind) at wrong))
+            true result }
         ensures right { OnOk result (wrong ≡ false) }
     {
         if wrong {
@@ -66,7 +67,8 @@ impl Reader<'_> {
     /// The number of one byte.
     pub fn u8_at(&self, at: usize) -> Result<u8, ObjectError>
         requires { at + 1 < 2 ^ 64 }
-        ensures number { let bytes = self.now.bytes.now in Gives (λ n. n) (place_fault (length bytes) (Field at 1)) (number_at bytes at 1) result }
+        ensures number { let bytes = self.now.bytes.now in Gives (λ n. n) (place_fault (length bytes) (Field at 1))
+            (number_at bytes at 1) result }
         ensures within { OnOk result (at + 1 ≤ length self.now.bytes.now) }
     {
         self.whole(at, 1)?;
@@ -76,7 +78,8 @@ impl Reader<'_> {
     /// The number of two bytes.
     pub fn u16_at(&self, at: usize) -> Result<u16, ObjectError>
         requires { at + 2 < 2 ^ 64 }
-        ensures number { let bytes = self.now.bytes.now in Gives (λ n. n) (place_fault (length bytes) (Field at 2)) (number_at bytes at 2) result }
+        ensures number { let bytes = self.now.bytes.now in Gives (λ n. n) (place_fault (length bytes) (Field at 2))
+            (number_at bytes at 2) result }
         ensures within { OnOk result (at + 2 ≤ length self.now.bytes.now) }
     {
         self.whole(at, 2)?;
@@ -86,7 +89,8 @@ impl Reader<'_> {
     /// The number of four bytes.
     pub fn u32_at(&self, at: usize) -> Result<u32, ObjectError>
         requires { at + 4 < 2 ^ 64 }
-        ensures number { let bytes = self.now.bytes.now in Gives (λ n. n) (place_fault (length bytes) (Field at 4)) (number_at bytes at 4) result }
+        ensures number { let bytes = self.now.bytes.now in Gives (λ n. n) (place_fault (length bytes) (Field at 4))
+            (number_at bytes at 4) result }
         ensures within { OnOk result (at + 4 ≤ length self.now.bytes.now) }
     {
         self.whole(at, 4)?;

@@ -27,7 +27,8 @@ pub(crate) struct Header {
 impl Reader<'_> {
     /// The header of the file.
     pub fn header(&self) -> Result<Header, ObjectError>
-        ensures header { let bytes = self.now.bytes.now in Gives (λ h. h) (first_bad (length bytes) (header_places bytes)) (header_of bytes) result }
+        ensures header { let bytes = self.now.bytes.now in Gives (λ h. h)
+            (first_bad (length bytes) (header_places bytes)) (header_of bytes) result }
         ensures within { OnOk result (16 ≤ length self.now.bytes.now) }
         ensures few { IfOk result (λ h. (h.segments ≤ 256) × (h.externals ≤ 1024) × (h.threads ≤ 16)) }
     {
@@ -53,7 +54,9 @@ impl Reader<'_> {
     // A number of two bytes that is not above a limit.
     fn count(&self, at: usize, limit: usize) -> Result<u16, ObjectError>
         requires { at ≤ 14 }
-        ensures count { let bytes = self.now.bytes.now in Gives (λ n. n) (first_bad (length bytes) (Field at 2 ∷ Test 4 at (nat_lt limit (number_at bytes at 2)) ∷ [])) (number_at bytes at 2) result }
+        ensures count { let bytes = self.now.bytes.now in Gives (λ n. n)
+            (first_bad (length bytes) (Field at 2 ∷ Test 4 at (nat_lt limit (number_at bytes at 2)) ∷ []))
+            (number_at bytes at 2) result }
         ensures within { OnOk result (at + 2 ≤ length self.now.bytes.now) }
         ensures few { IfOk result (λ n. n ≤ limit) }
     {

@@ -1,9 +1,10 @@
 //! Object files, read and written.
 //!
-//! An object is what an assembler makes and a linker takes: named segments of words, names that it does not have itself, words that become pointers
-//! once the segments are placed, threads, and how many spare frames a machine is to have. [`read`] gives the object that the bytes of a file spell, or
-//! the number and the place of the first fault. [`write`] gives the one spelling of an object, which is read as the same object again.
-//! [`Object::new`] makes an object of its parts.
+//! An object is what an assembler makes and a linker takes: named segments of words, names that it does not have
+//! itself, words that become pointers once the segments are placed, threads, and how many spare frames a machine is to
+//! have. [`read`] gives the object that the bytes of a file spell, or the number and the place of the first fault.
+//! [`write`] gives the one spelling of an object, which is read as the same object again. [`Object::new`] makes an
+//! object of its parts.
 //!
 //! The file, whose numbers have their greatest byte first and whose bitmaps have their first bit lowest:
 //!
@@ -21,7 +22,8 @@
 //! | 13 a relocation | segment (2), word (4), permission (1), target (2), addend (4) |
 //! | 140 a thread | slot, group, handler or 255, and permission, a byte each; target (2), addend (4); which registers become pointers (2); 16 registers (128) |
 //!
-//! A register that becomes a pointer has permission (1), zero (1), target (2) and addend (4); any other is an integer. The format is this project's profile.
+//! A register that becomes a pointer has permission (1), zero (1), target (2) and addend (4); any other is an integer.
+//! The format is this project's profile.
 #![tactic(auto)]
 
 mod fault;
@@ -42,8 +44,6 @@ mod segment;
 mod segment_records;
 mod segments;
 mod target;
-#[cfg(test)]
-mod tests;
 mod thread;
 mod thread_records;
 mod threads;

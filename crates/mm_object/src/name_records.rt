@@ -1,6 +1,7 @@
 //! The names of an object file.
 
-ghost use Rattle.std.specs.Prelude.{◌≡◌, ◌==◌, ◌||◌, nat_lt, ◌+◌, ◌≤◌, IfOk, OnOk, take, drop, length, vec_len, true, false, MatchOption};
+ghost use Rattle.std.specs.Prelude.{◌≡◌, ◌==◌, ◌||◌, nat_lt, ◌+◌, ◌≤◌, IfOk, OnOk, take, drop, length, vec_len, true};
+ghost use Rattle.std.specs.Prelude.{false, MatchOption};
 ghost use Rattle.mm_model.specs.Places.{first_bad};
 ghost use Rattle.mm_object.specs.Answers.{Gives};
 ghost use Rattle.mm_object.specs.Faults.{externals_places, form_places, name_places};
@@ -54,7 +55,8 @@ impl Reader<'_> {
     #[tactic(auto, unfolding(mm_model::specs::Places::place_fault))]
     pub fn name(&self, at: usize) -> Result<Name, ObjectError>
         requires { at ≤ length self.now.bytes.now }
-        ensures name { let bytes = self.now.bytes.now in Gives (λ n. n) (first_bad (length bytes) (form_places bytes at)) (name_at bytes at) result }
+        ensures name { let bytes = self.now.bytes.now in Gives (λ n. n)
+            (first_bad (length bytes) (form_places bytes at)) (name_at bytes at) result }
         ensures within { OnOk result (name_end self.now.bytes.now at ≤ length self.now.bytes.now) }
         ensures size { IfOk result (λ n. name_end self.now.bytes.now at ≡ at + (1 + length n)) }
     {
@@ -72,7 +74,8 @@ impl Reader<'_> {
     fn form(&self, at: usize, size: usize) -> Option<Name>
         requires whole { at + size ≤ length self.now.bytes.now }
         requires short { size ≤ 31 }
-        ensures { let name = take size (drop at self.now.bytes.now) in MatchOption result (has_form name ≡ false) (λ n. (has_form name ≡ true) × (n ≡ name)) }
+        ensures { let name = take size (drop at self.now.bytes.now) in MatchOption result (has_form name ≡ false)
+            (λ n. (has_form name ≡ true) × (n ≡ name)) }
     {
         Name::new(&self.bytes[at..at + size])
     }
@@ -85,7 +88,11 @@ impl Reader<'_> {
         at: usize,
     ) -> Result<Name, ObjectError>
         requires { at ≤ length self.now.bytes.now }
-        ensures name { let bytes = self.now.bytes.now in Gives (λ n. n) (first_bad (length bytes) (name_places bytes at (is_among (name_at bytes at) (bytes_of known.now.keys) || is_late names.now (name_at bytes at)))) (name_at bytes at) result }
+        ensures name { let bytes = self.now.bytes.now in Gives (λ n. n)
+            (first_bad (length bytes)
+            (name_places bytes at
+            (is_among (name_at bytes at) (bytes_of known.now.keys) || is_late names.now (name_at bytes at))))
+            (name_at bytes at) result }
         ensures within { OnOk result (name_end self.now.bytes.now at ≤ length self.now.bytes.now) }
         ensures size { IfOk result (λ n. name_end self.now.bytes.now at ≡ at + (1 + length n)) }
     {
@@ -106,7 +113,8 @@ impl Reader<'_> {
     ) -> Result<(Vec<Name>, usize), ObjectError>
         requires start { start ≤ length self.now.bytes.now }
         requires place { start ≡ external_place self.now.bytes.now 0 }
-        ensures names { let bytes = self.now.bytes.now in Gives (λ r. (r.0.items, r.1)) (first_bad (length bytes) (externals_places bytes segments.now count)) (externals_read bytes count) result }
+        ensures names { let bytes = self.now.bytes.now in Gives (λ r. (r.0.items, r.1))
+            (first_bad (length bytes) (externals_places bytes segments.now count)) (externals_read bytes count) result }
         ensures within { IfOk result (λ r. r.1 ≤ length self.now.bytes.now) }
         ensures count { IfOk result (λ r. vec_len r.0 ≡ count) }
     {

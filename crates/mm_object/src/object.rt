@@ -13,8 +13,8 @@ use crate::target::{Reloc, Target};
 use crate::thread::Thread;
 use std::marker::Model;
 
-/// What an assembler makes: segments of words, names that it does not have itself, words that become pointers when it is
-/// placed, threads, and how many frames a machine is to have beside those of its pages.
+/// What an assembler makes: segments of words, names that it does not have itself, words that become pointers when it
+/// is placed, threads, and how many frames a machine is to have beside those of its pages.
 #[derive(Drop)]
 pub struct Object {
     pub(crate) segments: Vec<Segment>,
@@ -82,11 +82,11 @@ impl Object {
     ghost use Rattle.mm_object.specs.Objects.{IsObject};
     ghost use Rattle.mm_object.specs.Fits.{object_from};
 
-    /// The object of these parts. None exactly where they make no object: more than 256 segments, 1,024 externals, 65,535
-    /// relocations, 16 threads or 256 spare frames, a segment whose length is not 2^3 to 2^20 bytes or that has more words
-    /// than room, more than 131,072 words, a name that is there twice, externals that do not ascend or that nothing points
-    /// to, relocations or threads that do not ascend, a word that is relocated and is not 0, a target that is none, or a
-    /// thread whose slot, group, handler or permission is none.
+    /// The object of these parts. None exactly where they make no object: more than 256 segments, 1,024 externals,
+    /// 65,535 relocations, 16 threads or 256 spare frames, a segment whose length is not 2^3 to 2^20 bytes or that has
+    /// more words than room, more than 131,072 words, a name that is there twice, externals that do not ascend or that
+    /// nothing points to, relocations or threads that do not ascend, a word that is relocated and is not 0, a target
+    /// that is none, or a thread whose slot, group, handler or permission is none.
     pub fn new(
         segments: Vec<Segment>,
         externals: Vec<Name>,
@@ -94,7 +94,9 @@ impl Object {
         threads: Vec<Thread>,
         spare: u16,
     ) -> Option<Object>
-        ensures { SomeIff result (IsObject (object_from segments.items externals.items relocs.items threads.items spare)) (object_from segments.items externals.items relocs.items threads.items spare) }
+        ensures { SomeIff result
+            (IsObject (object_from segments.items externals.items relocs.items threads.items spare))
+            (object_from segments.items externals.items relocs.items threads.items spare) }
     {
         if !is_object(&segments, &externals, &relocs, &threads, spare) {
             return None;
@@ -172,8 +174,8 @@ impl Object {
         Some(reloc)
     }
 
-    /// The relocation of a word, if it has one, with its place among the relocations. The place `near` is looked at first, so that words in
-    /// their order are found at once.
+    /// The relocation of a word, if it has one, with its place among the relocations. The place `near` is looked at
+    /// first, so that words in their order are found at once.
     #[tactic(auto, unfolding(crate::specs::Lookups::reloc_at))]
     pub fn reloc_near(&self, near: usize, segment: u16, word: u32) -> Option<(usize, Reloc)>
         ensures reloc { option_map (λ found. found.1) result ≡ reloc_at self.now segment word }

@@ -28,8 +28,10 @@ pub fn read(alloc: Global, bytes: &[u8]) -> Result<Object, ObjectError>
     ensures again { (o : ObjectValue) → Spells bytes.now o → IsUnlessNoMemory o result }
 
     // A fault that is answered is the first one, and where there is one it is answered.
-    ensures fault { (kind : ObjectFault) (offset : ℕ) → result ≡ Err (ObjectError.Fault kind offset) → object_fault bytes.now ≡ Some (number_of kind, offset) }
-    ensures first { (number offset : ℕ) → object_fault bytes.now ≡ Some (number, offset) → FailsUnlessNoMemory (number, offset) result }
+    ensures fault { (kind : ObjectFault) (offset : ℕ) → result ≡ Err (ObjectError.Fault kind offset)
+        → object_fault bytes.now ≡ Some (number_of kind, offset) }
+    ensures first { (number offset : ℕ) → object_fault bytes.now ≡ Some (number, offset)
+        → FailsUnlessNoMemory (number, offset) result }
 {
     read_parts(alloc, bytes)
 }
@@ -94,7 +96,9 @@ impl Reader<'_> {
         requires place { start ≡ external_place self.now.bytes.now 0 }
         requires names { externals.now ≡ externals_at self.now.bytes.now (length externals.now) }
         requires whole { external_place self.now.bytes.now (length externals.now) ≤ length self.now.bytes.now }
-        ensures { let bytes = self.now.bytes.now in Gives (λ _. true) (first_bad (length bytes) (uses_places bytes segments (targets_of relocs.now threads.now) (length externals.now))) true result }
+        ensures { let bytes = self.now.bytes.now in Gives (λ _. true)
+            (first_bad (length bytes)
+            (uses_places bytes segments (targets_of relocs.now threads.now) (length externals.now))) true result }
     {
         let used = uses(segments, relocs, threads);
         let mut at = start;
@@ -107,7 +111,8 @@ impl Reader<'_> {
 
     // Whether the file ends here.
     fn nothing_follows(&self, end: usize) -> Result<(), ObjectError>
-        ensures { let bytes = self.now.bytes.now in Gives (λ _. true) (first_bad (length bytes) (end_places bytes 9 end)) true result }
+        ensures { let bytes = self.now.bytes.now in Gives (λ _. true)
+            (first_bad (length bytes) (end_places bytes 9 end)) true result }
     {
         self.refuse_if(self.bytes.len() > end, ObjectFault::Trailing, end)
     }

@@ -1,6 +1,7 @@
 //! The relocations of an object file.
 
-ghost use Rattle.std.specs.Prelude.{◌≡◌, ◌+◌, ◌*◌, ◌≤◌, true, false, not, nat_lt, ◌||◌, MatchOption, IfOk, OnOk, length, vec_len};
+ghost use Rattle.std.specs.Prelude.{◌≡◌, ◌+◌, ◌*◌, ◌≤◌, true, false, not, nat_lt, ◌||◌, MatchOption, IfOk, OnOk, length};
+ghost use Rattle.std.specs.Prelude.{vec_len};
 ghost use Rattle.mm_model.specs.Places.{first_bad};
 ghost use Rattle.mm_object.specs.Answers.{Gives};
 ghost use Rattle.mm_object.specs.Faults.{is_perm, relocs_places};
@@ -29,7 +30,8 @@ impl Reader<'_> {
     // What a record that is there says, if it has a permission.
     fn reloc_record(&self, at: usize) -> Option<Reloc>
         requires { at + 13 ≤ length self.now.bytes.now }
-        ensures { MatchOption result (is_perm self.now.bytes.now (at + 6) ≡ false) (λ r. (is_perm self.now.bytes.now (at + 6) ≡ true) × (r ≡ reloc_record_at self.now.bytes.now at)) }
+        ensures { MatchOption result (is_perm self.now.bytes.now (at + 6) ≡ false)
+            (λ r. (is_perm self.now.bytes.now (at + 6) ≡ true) × (r ≡ reloc_record_at self.now.bytes.now at)) }
     {
         let perm = self.perm(at + 6)?;
         Some(Reloc {
@@ -50,7 +52,9 @@ impl Reader<'_> {
         at: usize,
     ) -> Result<Reloc, ObjectError>
         requires { at ≤ length self.now.bytes.now }
-        ensures reloc { let bytes = self.now.bytes.now in Gives (λ r. r) (first_bad (length bytes) (reloc_record_places bytes segments.now externals least at)) (reloc_record_at bytes at) result }
+        ensures reloc { let bytes = self.now.bytes.now in Gives (λ r. r)
+            (first_bad (length bytes) (reloc_record_places bytes segments.now externals least at))
+            (reloc_record_at bytes at) result }
         ensures within { OnOk result (at + 13 ≤ length self.now.bytes.now) }
     {
         self.whole(at, RELOC_BYTES)?;
@@ -72,7 +76,8 @@ impl Reader<'_> {
         requires start { start ≤ length self.now.bytes.now }
         requires place { start ≡ reloc_place self.now.bytes.now 0 }
         requires externals { externals ≡ externals_of self.now.bytes.now }
-        ensures relocs { let bytes = self.now.bytes.now in Gives (λ r. r.items) (first_bad (length bytes) (relocs_places bytes segments.now count)) (relocs_at bytes count) result }
+        ensures relocs { let bytes = self.now.bytes.now in Gives (λ r. r.items)
+            (first_bad (length bytes) (relocs_places bytes segments.now count)) (relocs_at bytes count) result }
         ensures within { OnOk result (start + 13 * count ≤ length self.now.bytes.now) }
         ensures count { IfOk result (λ r. vec_len r ≡ count) }
     {

@@ -7,7 +7,8 @@ ghost use Rattle.mm_object.specs.Answers.{Gives};
 ghost use Rattle.mm_object.specs.Faults.{has_unused_bit, segment_record_places, segments_places};
 ghost use Rattle.mm_object.specs.Objects.{words_of};
 ghost use Rattle.mm_object.specs.Reading.{segment_end, segment_record_at};
-ghost use Rattle.mm_object.specs.Steps.{bitmap_places, count_places, items_from, log_places, segment_size, segments_read};
+ghost use Rattle.mm_object.specs.Steps.{bitmap_places, count_places, items_from, log_places, segment_size};
+ghost use Rattle.mm_object.specs.Steps.{segments_read};
 
 use crate::fault::{ObjectError, ObjectFault};
 use crate::fields::{Reader, is_set};
@@ -40,7 +41,8 @@ impl Reader<'_> {
     // The logarithm of a segment's length.
     fn log(&self, at: usize) -> Result<u8, ObjectError>
         requires { at ≤ length self.now.bytes.now }
-        ensures log { let bytes = self.now.bytes.now in Gives (λ n. n) (first_bad (length bytes) (log_places bytes at)) (number_at bytes at 1) result }
+        ensures log { let bytes = self.now.bytes.now in Gives (λ n. n) (first_bad (length bytes) (log_places bytes at))
+            (number_at bytes at 1) result }
         ensures within { OnOk result (at + 1 ≤ length self.now.bytes.now) }
         ensures small { IfOk result (λ n. n ≤ 20) }
     {
@@ -54,7 +56,8 @@ impl Reader<'_> {
         requires place { at ≤ length self.now.bytes.now }
         requires log { log ≤ 20 }
         requires words { words ≤ 131072 }
-        ensures count { let bytes = self.now.bytes.now in Gives (λ n. n) (first_bad (length bytes) (count_places bytes log words at)) (number_at bytes at 4) result }
+        ensures count { let bytes = self.now.bytes.now in Gives (λ n. n)
+            (first_bad (length bytes) (count_places bytes log words at)) (number_at bytes at 4) result }
         ensures within { OnOk result (at + 4 ≤ length self.now.bytes.now) }
         ensures small { IfOk result (λ n. words + n ≤ 131072) }
     {
@@ -69,7 +72,8 @@ impl Reader<'_> {
         requires place { at ≤ length self.now.bytes.now }
         requires header { 16 ≤ at }
         requires count { count ≤ 131072 }
-        ensures bitmap { let bytes = self.now.bytes.now in Gives (λ _. true) (first_bad (length bytes) (bitmap_places bytes count at)) true result }
+        ensures bitmap { let bytes = self.now.bytes.now in Gives (λ _. true)
+            (first_bad (length bytes) (bitmap_places bytes count at)) true result }
         ensures within { OnOk result (at + (count + 7) / 8 ≤ length self.now.bytes.now) }
     {
         let size = (count as usize + 7) / 8;
@@ -108,7 +112,8 @@ impl Reader<'_> {
         requires bits { bitmap + (count + 7) / 8 ≤ length self.now.bytes.now }
         requires place { words ≤ length self.now.bytes.now }
         requires count { count ≤ 131072 }
-        ensures items { let bytes = self.now.bytes.now in Gives (λ items. items.items) (place_fault (length bytes) (Field words (8 * count))) (items_from bytes bitmap words count) result }
+        ensures items { let bytes = self.now.bytes.now in Gives (λ items. items.items)
+            (place_fault (length bytes) (Field words (8 * count))) (items_from bytes bitmap words count) result }
         ensures within { OnOk result (words + 8 * count ≤ length self.now.bytes.now) }
         ensures count { IfOk result (λ items. vec_len items ≡ count) }
     {
@@ -135,7 +140,8 @@ impl Reader<'_> {
         requires header { 16 ≤ at }
         requires words { words ≡ words_of before.now }
         requires few { words ≤ 131072 }
-        ensures segment { let bytes = self.now.bytes.now in Gives (λ s. s) (first_bad (length bytes) (segment_record_places bytes before.now at)) (segment_record_at bytes at) result }
+        ensures segment { let bytes = self.now.bytes.now in Gives (λ s. s)
+            (first_bad (length bytes) (segment_record_places bytes before.now at)) (segment_record_at bytes at) result }
         ensures within { OnOk result (segment_end self.now.bytes.now at ≤ length self.now.bytes.now) }
         ensures size { IfOk result (λ s. segment_end self.now.bytes.now at ≡ at + segment_size s) }
         ensures few { IfOk result (λ s. words + length s.items ≤ 131072) }
@@ -154,7 +160,8 @@ impl Reader<'_> {
     /// So many segments, and where they end.
     pub fn segments(&self, alloc: Global, count: u16) -> Result<(Vec<Segment>, usize), ObjectError>
         requires { 16 ≤ length self.now.bytes.now }
-        ensures segments { let bytes = self.now.bytes.now in Gives (λ r. (r.0.items, r.1)) (first_bad (length bytes) (segments_places bytes count)) (segments_read bytes count) result }
+        ensures segments { let bytes = self.now.bytes.now in Gives (λ r. (r.0.items, r.1))
+            (first_bad (length bytes) (segments_places bytes count)) (segments_read bytes count) result }
         ensures within { IfOk result (λ r. r.1 ≤ length self.now.bytes.now) }
         ensures count { IfOk result (λ r. vec_len r.0 ≡ count) }
     {

@@ -1,7 +1,7 @@
 use mm_word::Perm;
 
-/// What a pointer is to point to: a segment of the object by its place or, behind all segments, one of the names that it does not have itself, and the
-/// distance in bytes from there.
+/// What a pointer is to point to: a segment of the object by its place or, behind all segments, one of the names that
+/// it does not have itself, and the distance in bytes from there.
 #[derive(Clone, Copy, Debug, PartialEq, Eq)]
 pub struct Target {
     pub index: u16,

@@ -8,7 +8,8 @@ pub enum Value {
     Ptr { perm: Perm, target: Target },
 }
 
-/// A thread: the slot that it begins in, its group, its handler's slot, where it begins and by which permission, and its registers.
+/// A thread: the slot that it begins in, its group, its handler's slot, where it begins and by which permission, and
+/// its registers.
 #[derive(Clone, Copy, Debug, PartialEq, Eq)]
 pub struct Thread {
     pub slot: u8,

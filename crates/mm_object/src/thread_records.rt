@@ -1,13 +1,15 @@
 //! The threads of an object file.
 
-ghost use Rattle.std.specs.Prelude.{◌≡◌, ◌==◌, ◌&&◌, ◌+◌, ◌*◌, ◌<◌, ◌≤◌, true, false, not, nat_lt, ◌||◌, if◌then◌else◌, None, Some, MatchOption, IfOk, OnOk, length, vec_len};
+ghost use Rattle.std.specs.Prelude.{◌≡◌, ◌==◌, ◌&&◌, ◌+◌, ◌*◌, ◌<◌, ◌≤◌, true, false, not, nat_lt, ◌||◌, if◌then◌else◌};
+ghost use Rattle.std.specs.Prelude.{None, Some, MatchOption, IfOk, OnOk, length, vec_len};
 ghost use Rattle.std.specs.List.{list_any, range_with_len};
 ghost use Rattle.mm_model.specs.Places.{first_bad, number_at};
 ghost use Rattle.mm_object.specs.declared.thread.Thread.{Thread};
 ghost use Rattle.mm_object.specs.Answers.{Gives};
 ghost use Rattle.mm_object.specs.Faults.{is_bad_register, is_perm, threads_places};
 ghost use Rattle.mm_object.specs.Objects.{is_thread};
-ghost use Rattle.mm_object.specs.Reading.{externals_of, registers_at, thread_place, thread_record_at, threads_at, value_at};
+ghost use Rattle.mm_object.specs.Reading.{externals_of, registers_at, thread_place, thread_record_at, threads_at};
+ghost use Rattle.mm_object.specs.Reading.{value_at};
 ghost use Rattle.mm_object.specs.Steps.{bad_registers, thread_record_places};
 
 use crate::fault::{ObjectError, ObjectFault};
@@ -32,7 +34,9 @@ impl Reader<'_> {
     // What eight bytes that are there say of a register, if they may.
     fn value(&self, tagged: bool, at: usize) -> Option<Value>
         requires { at + 8 ≤ length self.now.bytes.now }
-        ensures { let bytes = self.now.bytes.now in let bad = tagged && (not (is_perm bytes at) || not (number_at bytes (at + 1) 1 == 0)) in MatchOption result (bad ≡ true) (λ v. (bad ≡ false) × (v ≡ value_at bytes tagged at)) }
+        ensures { let bytes = self.now.bytes.now in let bad = tagged && (not (is_perm bytes at) || not
+            (number_at bytes (at + 1) 1 == 0)) in MatchOption result (bad ≡ true)
+            (λ v. (bad ≡ false) × (v ≡ value_at bytes tagged at)) }
     {
         if !tagged {
             return Some(Value::Int(self.number_8(at)));
@@ -50,7 +54,8 @@ impl Reader<'_> {
     // The registers of the thread whose record begins here, if they may be so.
     fn registers(&self, at: usize) -> Option<[Value; 16]>
         requires { at + 140 ≤ length self.now.bytes.now }
-        ensures { let bytes = self.now.bytes.now in MatchOption result (bad_registers bytes at 16 ≡ true) (λ regs. (bad_registers bytes at 16 ≡ false) × (regs ≡ registers_at bytes at)) }
+        ensures { let bytes = self.now.bytes.now in MatchOption result (bad_registers bytes at 16 ≡ true)
+            (λ regs. (bad_registers bytes at 16 ≡ false) × (regs ≡ registers_at bytes at)) }
     {
         let tags = self.number_2(at + 10);
         let mut regs = [Value::Int(0); 16];
@@ -78,7 +83,9 @@ impl Reader<'_> {
     #[tactic(auto, unfolding(crate::specs::Steps::bad_registers))]
     fn thread_record(&self, at: usize) -> Option<Thread>
         requires { at + 140 ≤ length self.now.bytes.now }
-        ensures { let bytes = self.now.bytes.now in let bad = not (is_perm bytes (at + 3)) || list_any (is_bad_register bytes at) (range_with_len 0 16) in MatchOption result (bad ≡ true) (λ t. (bad ≡ false) × (t ≡ thread_record_at bytes at)) }
+        ensures { let bytes = self.now.bytes.now in let bad = not (is_perm bytes (at + 3)) || list_any
+            (is_bad_register bytes at) (range_with_len 0 16) in MatchOption result (bad ≡ true)
+            (λ t. (bad ≡ false) × (t ≡ thread_record_at bytes at)) }
     {
         let perm = self.perm(at + 3)?;
         let regs = self.registers(at)?;
@@ -102,7 +109,9 @@ impl Reader<'_> {
         at: usize,
     ) -> Result<Thread, ObjectError>
         requires { at ≤ length self.now.bytes.now }
-        ensures thread { let bytes = self.now.bytes.now in Gives (λ t. t) (first_bad (length bytes) (thread_record_places bytes segments.now externals least at)) (thread_record_at bytes at) result }
+        ensures thread { let bytes = self.now.bytes.now in Gives (λ t. t)
+            (first_bad (length bytes) (thread_record_places bytes segments.now externals least at))
+            (thread_record_at bytes at) result }
         ensures within { OnOk result (at + 140 ≤ length self.now.bytes.now) }
         ensures slot { IfOk result (λ (t : Thread). t.slot < 16) }
     {
@@ -125,7 +134,8 @@ impl Reader<'_> {
         requires start { start ≤ length self.now.bytes.now }
         requires place { start ≡ thread_place self.now.bytes.now 0 }
         requires externals { externals ≡ externals_of self.now.bytes.now }
-        ensures threads { let bytes = self.now.bytes.now in Gives (λ t. t.items) (first_bad (length bytes) (threads_places bytes segments.now count)) (threads_at bytes count) result }
+        ensures threads { let bytes = self.now.bytes.now in Gives (λ t. t.items)
+            (first_bad (length bytes) (threads_places bytes segments.now count)) (threads_at bytes count) result }
         ensures within { OnOk result (start + 140 * count ≤ length self.now.bytes.now) }
         ensures count { IfOk result (λ t. vec_len t ≡ count) }
     {

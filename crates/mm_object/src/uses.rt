@@ -24,7 +24,8 @@ pub(crate) fn uses(segments: usize, relocs: &[Reloc], threads: &[Thread]) -> [bo
 }
 
 fn mark_relocs(used: &mut [bool; 1024], segments: usize, relocs: &[Reloc])
-    ensures { (before : List Target) → HoldsUses used.old segments before → HoldsUses used.new segments (before ++ map (λ (r : Reloc). r.target) relocs.now) }
+    ensures { (before : List Target) → HoldsUses used.old segments before
+        → HoldsUses used.new segments (before ++ map (λ (r : Reloc). r.target) relocs.now) }
 {
     for reloc in relocs {
         mark(used, segments, reloc.target);
@@ -32,14 +33,16 @@ fn mark_relocs(used: &mut [bool; 1024], segments: usize, relocs: &[Reloc])
 }
 
 fn mark_thread(used: &mut [bool; 1024], segments: usize, thread: &Thread)
-    ensures { (before : List Target) → HoldsUses used.old segments before → HoldsUses used.new segments (before ++ thread.now.target ∷ flat_map value_targets thread.now.regs) }
+    ensures { (before : List Target) → HoldsUses used.old segments before
+        → HoldsUses used.new segments (before ++ thread.now.target ∷ flat_map value_targets thread.now.regs) }
 {
     mark(used, segments, thread.target);
     mark_values(used, segments, &thread.regs);
 }
 
 fn mark_values(used: &mut [bool; 1024], segments: usize, values: &[Value])
-    ensures { (before : List Target) → HoldsUses used.old segments before → HoldsUses used.new segments (before ++ flat_map value_targets values.now) }
+    ensures { (before : List Target) → HoldsUses used.old segments before
+        → HoldsUses used.new segments (before ++ flat_map value_targets values.now) }
 {
     for value in values {
         mark_value(used, segments, *value);
@@ -47,7 +50,8 @@ fn mark_values(used: &mut [bool; 1024], segments: usize, values: &[Value])
 }
 
 fn mark_value(used: &mut [bool; 1024], segments: usize, value: Value)
-    ensures { (before : List Target) → HoldsUses used.old segments before → HoldsUses used.new segments (before ++ value_targets value) }
+    ensures { (before : List Target) → HoldsUses used.old segments before
+        → HoldsUses used.new segments (before ++ value_targets value) }
 {
     if let Value::Ptr { target, .. } = value {
         mark(used, segments, target);
@@ -56,7 +60,8 @@ fn mark_value(used: &mut [bool; 1024], segments: usize, value: Value)
 
 // One target more.
 fn mark(used: &mut [bool; 1024], segments: usize, target: Target)
-    ensures { (before : List Target) → HoldsUses used.old segments before → HoldsUses used.new segments (before ++ target ∷ []) }
+    ensures { (before : List Target) → HoldsUses used.old segments before
+        → HoldsUses used.new segments (before ++ target ∷ []) }
 {
     let index = usize::from(target.index);
     if index < segments {

@@ -8,7 +8,8 @@ ghost use Rattle.mm_model.specs.Flags.{number_of_flags};
 ghost use Rattle.mm_model.specs.Spelling.{bitmap, handler_byte};
 ghost use Rattle.mm_object.specs.declared.item.Item.{Item as ItemValue};
 ghost use Rattle.mm_object.specs.Objects.{IsSegment};
-ghost use Rattle.mm_object.specs.Spelling.{header, is_tagged, name_record, reloc_record, segment_record, spelling, target_record, thread_record, value_record, Spells};
+ghost use Rattle.mm_object.specs.Spelling.{header, is_tagged, name_record, reloc_record, segment_record, spelling};
+ghost use Rattle.mm_object.specs.Spelling.{target_record, thread_record, value_record, Spells};
 
 use crate::item::Item;
 use crate::name::Name;
@@ -128,7 +129,9 @@ fn put_count(out: &mut Vec<u8>, items: &[Item]) -> Result<(), AllocError>
 
 fn put_full_bits(out: &mut Vec<u8>, items: &[Item]) -> Result<(), AllocError>
     requires { length items.now < 2 ^ 32 }
-    ensures { OnOk result (out.new.items ≡ out.old.items ++ bitmap ((length items.now + 7) / 8) (map (λ (i : ItemValue). i.full) items.now)) }
+    ensures { OnOk result
+        (out.new.items ≡ out.old.items ++ bitmap ((length items.now + 7) / 8)
+        (map (λ (i : ItemValue). i.full) items.now)) }
 {
     for k in 0..(items.len() + 7) / 8 {
         let end = (8 * k + 8).min(items.len());
@@ -138,7 +141,8 @@ fn put_full_bits(out: &mut Vec<u8>, items: &[Item]) -> Result<(), AllocError>
 }
 
 fn put_words(out: &mut Vec<u8>, items: &[Item]) -> Result<(), AllocError>
-    ensures { OnOk result (out.new.items ≡ out.old.items ++ flat_map (λ (i : ItemValue). to_be_bytes w64 i.bits) items.now) }
+    ensures { OnOk result
+        (out.new.items ≡ out.old.items ++ flat_map (λ (i : ItemValue). to_be_bytes w64 i.bits) items.now) }
 {
     for item in items {
         out.extend_from_slice(&item.bits.to_be_bytes())?;
@@ -178,7 +182,8 @@ fn put_thread(out: &mut Vec<u8>, thread: &Thread) -> Result<(), AllocError>
 
 // The bytes of a thread before its target.
 fn thread_head(thread: &Thread) -> [u8; 4]
-    ensures { result ≡ thread.now.slot ∷ thread.now.group ∷ handler_byte thread.now.handler ∷ code_of thread.now.perm ∷ [] }
+    ensures { result ≡ thread.now.slot ∷ thread.now.group ∷ handler_byte thread.now.handler
+        ∷ code_of thread.now.perm ∷ [] }
 {
     let handler = match thread.handler {
         Some(handler) => handler,

@@ -1,5 +1,4 @@
 pub mod OutputRows
-pub mod RegisterLines
 pub mod CellPlaces
 pub mod Unions
 pub mod Members

@@ -1,21 +1,19 @@
 // The lines of cells that changed.
-ghost use Rattle.std.specs.Prelude.{◌≡◌, ◌%◌, ◌<◌, ◌^◌, ◌++◌, IsTrue, MatchOption, None, length, slice_index_or, true};
+ghost use Rattle.std.specs.Prelude.{◌≡◌, ◌%◌, ◌<◌, ◌^◌, IsTrue, MatchOption, None, length, slice_index_or, true};
 ghost use Rattle.std.specs.List.{AllByRecursion};
 ghost use Rattle.std.specs.Ordering.{nat_cmp};
 ghost use Rattle.std.specs.FinMap.{is_sorted};
 ghost use Rattle.mm_text.specs.Gathers.{Gathers};
 ghost use Rattle.mm_model.specs.Effect.{same_word};
-ghost use Rattle.mm_model.specs.Lines.{cell_line, full_text, newline};
 ghost use Rattle.mm_model.specs.Report.{same_cell, cell_lines};
 ghost use Rattle.mm_model.specs.Memory.{page_at, is_mapped, zero_cell, IsPage, IsPaged};
 ghost use Rattle.mm_mem.specs.Places.{IsAt};
 ghost use Rattle.mm_report.specs.Changes.{change_line, contents, cells_of, changes_of};
 
-use crate::words::put_word;
 use mm_io::Sink;
 use mm_mem::Inspect;
 use mm_model::{CELLS, Page};
-use mm_text::{Gather, Piece};
+use mm_text::{Gather, put_cell};
 use mm_word::{Cell, Word};
 
 /// What a cell is compared with where the image has no such page.
@@ -36,29 +34,6 @@ fn is_same_cell(a: &Cell, b: &Cell) -> bool
     ensures { result ≡ same_cell a.now b.now }
 {
     is_same_word(a.word, b.word) && a.full == b.full
-}
-
-/// Appends the line of a cell: `cell A WORD full` or `cell A WORD empty`.
-pub fn put_cell<O: Sink>(text: &mut Gather, out: &mut O, word: u64, cell: &Cell)
-    ensures { Gathers O.taken O.faults out.old out.new text.old text.new (cell_line word cell.now) }
-{
-    text.put(
-        out,
-        &[
-            Piece::Text("cell "),
-            Piece::HexAddress(word),
-            Piece::Text(" "),
-        ],
-    );
-    put_word(text, out, cell.word);
-    put_bit(text, out, cell.full);
-}
-
-/// Ends the line of a cell with its bit.
-fn put_bit<O: Sink>(text: &mut Gather, out: &mut O, full: bool)
-    ensures { Gathers O.taken O.faults out.old out.new text.old text.new (full_text full ++ newline) }
-{
-    text.put_piece(out, &Piece::Text(if full { " full\n" } else { " empty\n" }));
 }
 
 /// Appends the line of a cell that is not as it was.
@@ -117,7 +92,8 @@ fn put_page_cells<M: Inspect, O: Sink>(
     requires paged { IsPaged (M.meaning mem.now) }
     requires number { number < 2 ^ 42 }
     requires mapped { is_mapped (M.meaning mem.now) number ≡ true }
-    ensures { Gathers O.taken O.faults out.old out.new text.old text.new (changes_of (M.meaning mem.now) (contents pages.now) number) }
+    ensures { Gathers O.taken O.faults out.old out.new text.old text.new
+        (changes_of (M.meaning mem.now) (contents pages.now) number) }
 {
     let place = find_page(pages, number);
     for index in 0..CELLS {
@@ -132,7 +108,8 @@ pub fn put_cells<M: Inspect, O: Sink>(text: &mut Gather, out: &mut O, mem: &M, p
     requires rising { IsTrue (is_sorted nat_cmp pages.now) }
     requires whole { AllByRecursion IsPage pages.now }
     requires paged { IsPaged (M.meaning mem.now) }
-    ensures { Gathers O.taken O.faults out.old out.new text.old text.new (cell_lines (M.meaning mem.now) (contents pages.now)) }
+    ensures { Gathers O.taken O.faults out.old out.new text.old text.new
+        (cell_lines (M.meaning mem.now) (contents pages.now)) }
 {
     for i in 0..mem.pages() {
         let number = mem.page_at(i);

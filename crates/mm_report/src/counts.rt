@@ -1,24 +1,10 @@
 // The line of what a memory counted.
 ghost use Rattle.mm_text.specs.Gathers.{Gathers};
-ghost use Rattle.mm_model.specs.Report.{count_line, cycles_line};
+ghost use Rattle.mm_model.specs.Report.{count_line};
 
 use mm_io::Sink;
 use mm_model::Counts;
 use mm_text::{Gather, Piece};
-
-/// Appends the number of cycles.
-pub fn put_cycles<O: Sink>(text: &mut Gather, out: &mut O, cycles: u64)
-    ensures { Gathers O.taken O.faults out.old out.new text.old text.new (cycles_line cycles) }
-{
-    text.put(
-        out,
-        &[
-            Piece::Text("cycles "),
-            Piece::Decimal(cycles),
-            Piece::Text("\n"),
-        ],
-    );
-}
 
 /// Appends what a memory counted, where it counts.
 pub fn put_counts<O: Sink>(text: &mut Gather, out: &mut O, counts: Option<Counts>)

@@ -89,7 +89,8 @@ fn lesser(now: Option<u64>, was: Option<u64>) -> Option<u64>
 fn mapped_behind<M: Inspect>(mem: &M, i: u32, number: u64) -> u32
     requires { i ≤ length (M.meaning mem.now).pages }
     ensures place { result ≤ length (M.meaning mem.now).pages }
-    ensures rest { drop result (numbers (M.meaning mem.now).pages) ≡ behind number (drop i (numbers (M.meaning mem.now).pages)) }
+    ensures rest { drop result (numbers (M.meaning mem.now).pages)
+        ≡ behind number (drop i (numbers (M.meaning mem.now).pages)) }
 {
     if mapped_at(mem, i) == Some(number) {
         i + 1
@@ -116,7 +117,8 @@ pub fn put_pages<M: Inspect, O: Sink>(text: &mut Gather, out: &mut O, mem: &M, p
     requires rising { IsTrue (is_sorted nat_cmp pages.now) }
     requires whole { AllByRecursion IsPage pages.now }
     requires paged { IsPaged (M.meaning mem.now) }
-    ensures { Gathers O.taken O.faults out.old out.new text.old text.new (page_lines (M.meaning mem.now) (contents pages.now)) }
+    ensures { Gathers O.taken O.faults out.old out.new text.old text.new
+        (page_lines (M.meaning mem.now) (contents pages.now)) }
 {
     let mut i = 0;
     let mut j = 0;

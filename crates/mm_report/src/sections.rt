@@ -8,12 +8,11 @@ ghost use Rattle.mm_machine.specs.Machine.{state_of};
 ghost use Rattle.mm_report.specs.Groups.{member_text, group_text};
 
 use crate::output::put_output;
-use crate::slots::put_slot;
 use mm_io::Sink;
 use mm_machine::Machine;
 use mm_mem::Memory;
 use mm_model::Slot;
-use mm_text::{Gather, Piece};
+use mm_text::{Gather, Piece, put_slot};
 
 /// How many groups there can be.
 const GROUPS: u8 = 64;

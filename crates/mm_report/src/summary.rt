@@ -6,14 +6,14 @@ ghost use Rattle.mm_model.specs.Report.{report as report_of};
 ghost use Rattle.mm_machine.specs.Machine.{state_of, StandsTo};
 
 use crate::cells::put_cells;
-use crate::counts::{put_counts, put_cycles};
+use crate::counts::put_counts;
 use crate::page_changes::put_pages;
 use crate::sections::put_sections;
 use mm_image::Image;
 use mm_io::{Sink, WriteFault};
 use mm_machine::Machine;
 use mm_mem::Inspect;
-use mm_text::Gather;
+use mm_text::{Gather, put_cycles};
 
 /// Writes the report of a machine against an image: the number of cycles; for each group that has a slot its output and its slots;
 /// the pages that were mapped or removed; the cells that changed; and what the memory counted, where it counts. At a [`WriteFault`]

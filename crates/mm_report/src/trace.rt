@@ -5,16 +5,16 @@ ghost use Rattle.mm_text.specs.Gathers.{Gathers};
 ghost use Rattle.mm_model.specs.Trace.{kind_text, touch_text, enter_text, turn_line, step_line};
 ghost use Rattle.mm_report.specs.Outcomes.{outcome_text};
 
-use crate::words::put_word;
 use mm_io::{Sink, WriteFault};
 use mm_model::{Step, Tick};
-use mm_text::{Gather, Piece};
+use mm_text::{Gather, Piece, put_word};
 use mm_word::{Access, GuardedPtr, Kind, Word};
 
 /// Writes the line of a cycle in a trace:
 ///
-/// - `t S T OUTCOME` for a turn of the slot S, its turn number T, and ` fetch A`, one of ` load A`, ` loadset A`, ` store A`, and
-///   ` enter WORD` where there are such. The outcome is `did`, `blocked`, or `faulted` with the number of the fault;
+/// - `t S T OUTCOME` for a turn of the slot S, its turn number T, and ` fetch A`, one of ` load A`, ` loadset A`,
+///   ` store A`, and ` enter WORD` where there are such. The outcome is `did`, `blocked`, or `faulted` with the number of
+///   the fault;
 /// - `m S K` where the port of the slot S delivered to its register K;
 /// - nothing for an idle cycle.
 ///
@@ -40,7 +40,8 @@ pub fn put_step<O: Sink>(text: &mut Gather, out: &mut O, step: &Step, turn: u64)
 }
 
 fn put_delivery<O: Sink>(text: &mut Gather, out: &mut O, slot: u8, register: u8)
-    ensures { Gathers O.taken O.faults out.old out.new text.old text.new (codes "m " ++ decimal slot ++ codes " " ++ decimal register ++ codes "\n") }
+    ensures { Gathers O.taken O.faults out.old out.new text.old text.new
+        (codes "m " ++ decimal slot ++ codes " " ++ decimal register ++ codes "\n") }
 {
     text.put(
         out,
@@ -56,7 +57,8 @@ fn put_delivery<O: Sink>(text: &mut Gather, out: &mut O, slot: u8, register: u8)
 
 /// Appends the line of a turn.
 fn put_turn<O: Sink>(text: &mut Gather, out: &mut O, step: &Step, turn: u64)
-    ensures { Gathers O.taken O.faults out.old out.new text.old text.new (turn_line turn step.now (outcome_text step.now.tick)) }
+    ensures { Gathers O.taken O.faults out.old out.new text.old text.new
+        (turn_line turn step.now (outcome_text step.now.tick)) }
 {
     text.put(
         out,

@@ -65,7 +65,7 @@ unfolding after
 each_on first = record {
   issues = λ s item next on.
       stepped_adds (bare first) (total_of s) 1 ∙ ap (λ t. stepped t 1) on ∙ stepped_bare s 1 ∙ ap bare (one_cycle s item next);
-  breaks = λ s marks on. on;
+  breaks = λ s entries on. on;
   watches = λ s words on. on;
 }
 
@@ -94,7 +94,7 @@ each_like s = record {
   issues = λ t item next like.
       let one = run_goes_on t.state (item ∷ []) in
       record { order = like.order; version = one.core.version ∙ like.version; split = one.core.split ∙ like.split; frames = one.frames ∙ like.frames };
-  breaks = λ t marks like. record { order = like.order; version = like.version; split = like.split; frames = like.frames };
+  breaks = λ t entries like. record { order = like.order; version = like.version; split = like.split; frames = like.frames };
   watches = λ t words like. record { order = like.order; version = like.version; split = like.split; frames = like.frames };
 }
 

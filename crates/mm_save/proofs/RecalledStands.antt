@@ -4,13 +4,12 @@ use Rattle.std.specs.Prelude.{min}
 use Rattle.mm_model.specs.Image.{Image, start}
 use Rattle.mm_model.specs.Run.{run}
 use Rattle.mm_sched.specs.declared.schedule.Order.{Order}
-use Rattle.mm_debug.specs.declared.session.Go.{Go}
-use Rattle.mm_debug.specs.declared.session.Go.TheVariants as go
 use Rattle.mm_debug.specs.declared.command.Command.{Command}
 use Rattle.mm_debug.specs.Commands.{command_of}
-use Rattle.mm_debug.specs.Session.{Session, total_of, begun, stepped, Answer, answer, Dialogue, behind_answer}
+use Rattle.mm_debug.specs.Session.{Session, total_of, begun, stepped, answer}
 use Rattle.mm_machine.specs.Kept.{Kept}
-use Rattle.mm_debug.specs.Standing.{Point, StandsFor, IsPointOf, GoesOnAfter, first_items, gone, total_at}
+use Rattle.mm_debug.specs.Standing.{Point, StandsFor, IsPointOf, GoesOnAfter, run_items, gone, total_at}
+use Rattle.mm_debug.proofs.Dialogues.{keeps}
 use Rattle.mm_debug.proofs.LinesStand.{answer_order}
 use Rattle.mm_debug.proofs.Standing.{begun_stands, answer_stands, stepped_stands}
 use Rattle.mm_save.specs.Recorder.{Recalls, back_of, bare, began_at, with_state, gone_back, answer_back, recalled, recollection}
@@ -33,8 +32,8 @@ pub record Goes (i : Image) (first s : Session) : Type 0 where
 -- a session with the state of one that stands for the image under the same order
 there_stands : (i : Image) (s there : Session) → there.order ≡ s.order → StandsFor i there → StandsFor i (with_state s there)
 there_stands i s there same stands = record {
-  state = subst (λ (o : Order). there.state ≡ run (start i) (first_items i o (total_of there))) same stands.state;
-  place = subst (λ (o : Order). GoesOnAfter o there.last (first_items i o (total_of there))) same stands.place;
+  state = subst (λ (o : Order). there.state ≡ run (start i) (run_items i o (total_of there))) same stands.state;
+  place = subst (λ (o : Order). GoesOnAfter o there.last (run_items i o (total_of there))) same stands.place;
 }
 
 module _ (i : Image) (first : Session) (begins : StandsFor i first) where
@@ -54,24 +53,16 @@ module _ (i : Image) (first : Session) (begins : StandsFor i first) where
   unfolding recalled
   recalled_goes s line now = answered s line (back_of line) now
 
-  behind : (a : Answer) (next : Go) (rest : Session → Dialogue) → Goes i first a.session → Goes i first (rest a.session).session → Goes i first (behind_answer a next rest).session
-  behind a go.Quit rest now later = now
-  behind a go.More rest now later = later
-
   pub recollection_goes : (s : Session) (lines : List (List ℕ)) → Goes i first s → Goes i first (recollection first s lines).session
-  unfolding recollection
-  recollection_goes s [] now = now
-  recollection_goes s (line ∷ lines) now =
-      let next = recalled_goes s line now in
-      behind (recalled first s line) (recalled first s line).go (λ t. recollection first t lines) next (recollection_goes (recalled first s line).session lines next)
+  recollection_goes = keeps (recalled first) (Goes i first) recalled_goes
 
-  -- also behind a `quit`
+  -- also after a `quit`
   pub lines_go : (s : Session) (lines : List (List ℕ)) → Goes i first s → Goes i first (after_lines first s lines)
   lines_go s [] now = now
   lines_go s (line ∷ lines) now = lines_go (recalled first s line).session lines (recalled_goes s line now)
 
 in_run : (i : Image) (first s : Session) → Goes i first s → IsInRun i first.order s
-in_run i first s goes = goes.stands.state ∙ ap (λ (o : Order). run (start i) (first_items i o (total_of s))) goes.order
+in_run i first s goes = goes.stands.state ∙ ap (λ (o : Order). run (start i) (run_items i o (total_of s))) goes.order
 
 pub going_back_changes_no_run : GoingBackChangesNoRun
 going_back_changes_no_run i order lines =
@@ -91,7 +82,8 @@ answer_recalls i s c start ring now recalls = record {
 }
 
 -- and one that went back
-pub back_recalls : (i : Image) (s : Session) (start : Point) (ring now : List Point) (r : Remembers s start ring) (q : Point) (on : IsOnTheWay (began_at s start) s q) (target : ℕ) (later : total_at q ≤ target) (few : target ≤ total_of s)
+pub back_recalls : (i : Image) (s : Session) (start : Point) (ring now : List Point) (r : Remembers s start ring) (q : Point)
+    (on : IsOnTheWay (began_at s start) s q) (target : ℕ) (later : total_at q ≤ target) (few : target ≤ total_of s)
     → Recalls i (recording_by s start ring) → Recalls i (recording_by (stepped (gone s q) (target - total_at q)) start now)
 back_recalls i s start ring now r q on target later few recalls = record {
   order = refl;

@@ -1,110 +1,24 @@
--- Laws of checkpoints.
-use Rattle.std.specs.Prelude.{◌≡◌, ◌↔◌, ℕ, ◌+◌, ◌<◌, ◌≤◌, List, [], ◌∷◌, ◌++◌, length, Option, None, IfSome}
+-- A law of sessions that go back.
+use Rattle.std.specs.Prelude.{◌≡◌, ℕ, List, [], ◌∷◌}
 use Rattle.mm_model.specs.Image.{Image, start}
-use Rattle.mm_model.specs.Places.{IsBytes}
-use Rattle.mm_model.specs.Run.{run, robin_from, last_item}
-use Rattle.mm_model.specs.Spelling.{IsImage}
-use Rattle.mm_model.specs.State.{State}
-use Rattle.mm_machine.specs.Snapshot.{Parts, IsSnapshot, IsTyped, IsSnapshotOf, restored}
+use Rattle.mm_model.specs.Run.{run}
 use Rattle.mm_sched.specs.declared.schedule.Order.{Order}
 use Rattle.mm_debug.specs.Session.{Session, begun, total_of}
-use Rattle.mm_debug.specs.Standing.{first_items}
-use Rattle.mm_save.specs.Checkpoints.{saved_of, IsCheckpoint, Saves, spelling}
-use Rattle.mm_save.specs.Faults.{save_fault}
+use Rattle.mm_debug.specs.Standing.{run_items}
 use Rattle.mm_save.specs.Recorder.{recalled, recollection}
-use Rattle.mm_save.specs.States.{saved_form}
 
--- 1. Bytes and checkpoints.
-
--- some parts of a state, and a last slot, that bytes spell as a checkpoint of the image
-pub record SomeSaved (i : Image) (bytes : List ℕ) : Type 0 where
-  pub parts : Parts
-  pub last : Option ℕ
-  pub saves : Saves bytes i parts last
-
--- bytes either are a checkpoint of the image or have a first fault
-abbrev pub CheckpointsHaveNoFault : Type 0
-CheckpointsHaveNoFault = (i : Image) (bytes : List ℕ) → IsImage i → IsBytes bytes → (save_fault i bytes ≡ None) ↔ SomeSaved i bytes
-
--- bytes are one checkpoint of the image at most
-abbrev pub CheckpointsAreOne : Type 0
-CheckpointsAreOne = (i : Image) (bytes : List ℕ) (p q : Parts) (last also : Option ℕ) → IsImage i → Saves bytes i p last → Saves bytes i q also → saved_of p last ≡ saved_of q also
-
--- the bytes of a checkpoint of an image are no more than are read of a checkpoint's file
-abbrev pub CheckpointsAreShort : Type 0
-CheckpointsAreShort = (i : Image) (bytes : List ℕ) (p : Parts) (last : Option ℕ) → IsImage i → Saves bytes i p last → length bytes ≤ 33554432
-
--- 2. Checkpoints of runs.
-
--- a snapshot of a state, whose parts keep what their types keep
-pub record SomeSnapshot (s : State) : Type 0 where
-  pub parts : Parts
-  pub of : IsSnapshotOf s parts
-  pub typed : IsTyped parts
-
--- there is one of the state of each run of an image
-abbrev pub RunsHaveSnapshots : Type 0
-RunsHaveSnapshots = (i : Image) (items : List ℕ) → IsImage i → SomeSnapshot (run (start i) items)
-
--- what spells a state's saved form is a checkpoint of the image, of a snapshot of the state, and each of it is a byte
-pub record IsSavedState (i : Image) (s : State) (last : Option ℕ) : Type 0 where
-  pub parts : Parts
-  pub of : IsSnapshotOf s parts
-  pub saves : Saves (spelling (saved_form s last)) i parts last
-  pub bytes : IsBytes (spelling (saved_form s last))
-
--- so it is of the state of each run of an image under at most 1,000,000 items, with no last slot, or any below 64
-abbrev pub RunsHaveCheckpoints : Type 0
-RunsHaveCheckpoints =
-    (i : Image) (items : List ℕ) (last : Option ℕ) → IsImage i → length items ≤ 1000000 → IfSome last (λ n. n < 64) → IsSavedState i (run (start i) items) last
-
--- a snapshot of a machine of an image, after at most 1,000,000 items, keeps the rules of its checkpoints
-abbrev pub SnapshotsAreCheckpoints : Type 0
-SnapshotsAreCheckpoints =
-    (i : Image) (items : List ℕ) (p : Parts) (last : Option ℕ) → IsImage i → length items ≤ 1000000 → IsSnapshotOf (run (start i) items) p → IsTyped p
-    → IfSome last (λ n. n < 64) → IsCheckpoint i p last
-
--- parts with one saved form, of which the second keep the rules of snapshots: they are snapshots of the same states, put the same state
--- back, and have the same last slot
-pub record SameStates (p q : Parts) : Type 0 where
-  pub of : (t : State) → IsSnapshotOf t p → IsSnapshotOf t q
-  pub restored : (s : State) → restored s p ≡ restored s q
-
-abbrev pub SavedFormsAreStates : Type 0
-SavedFormsAreStates = (p q : Parts) (last also : Option ℕ) → IsSnapshot q → saved_of p last ≡ saved_of q also → SameStates p q × (last ≡ also)
-
--- the snapshot of a machine of an image, after any list of items, brings the run's state back to a machine at the image's start, and so
--- further items lead where the whole list leads
-abbrev pub RestoredRunsGoOn : Type 0
-RestoredRunsGoOn =
-    (i : Image) (items more : List ℕ) (p : Parts) → IsImage i → IsSnapshotOf (run (start i) items) p
-    → (restored (start i) p ≡ run (start i) items) × (run (restored (start i) p) more ≡ run (start i) (items ++ more))
-
--- the saved form of a snapshot of a machine of an image, after any list of items, is that of the run's state
-abbrev pub SnapshotsHaveSavedForms : Type 0
-SnapshotsHaveSavedForms =
-    (i : Image) (items : List ℕ) (p : Parts) (last : Option ℕ) → IsImage i → IsSnapshotOf (run (start i) items) p → saved_of p last ≡ saved_form (run (start i) items) last
-
--- round robin of so many cycles and then so many more is one round robin, which goes on from the state and the last item
-abbrev pub RoundRobinGoesOn : Type 0
-RoundRobinGoesOn =
-    (s : State) (last : Option ℕ) (first more : ℕ)
-    → robin_from s last (first + more)
-    ≡ robin_from s last first ++ robin_from (run s (robin_from s last first)) (last_item last (robin_from s last first)) more
-
--- 3. Sessions that go back.
-
--- the session after lines, each of which is carried out, also behind a `quit`
+-- the session after lines, each of which is carried out, also after a `quit`
 abbrev pub after_lines : (first : Session) → Session → List (List ℕ) → Session
 after_lines first s [] = s
 after_lines first s (line ∷ lines) = after_lines first (recalled first s line).session lines
 
 -- the session's state is where the image's run is after as many items of the order as its total says
 abbrev pub IsInRun : Image → Order → Session → Type 0
-IsInRun i order s = s.state ≡ run (start i) (first_items i order (total_of s))
+IsInRun i order s = s.state ≡ run (start i) (run_items i order (total_of s))
 
--- a session that began at the start of an image's run and can go back is in that run after any lines: after those of an input, up to a
--- `quit`, and also where the lines behind it are carried out
+-- a session that began at the start of an image's run and can go back is in that run after any lines: after those of an
+-- input, up to a `quit`, and also where the lines after it are carried out
 abbrev pub GoingBackChangesNoRun : Type 0
 GoingBackChangesNoRun = (i : Image) (order : Order) (lines : List (List ℕ)) →
-    let first = begun order (start i) in IsInRun i order (recollection first first lines).session × IsInRun i order (after_lines first first lines)
+    let first = begun order (start i) in
+    IsInRun i order (recollection first first lines).session × IsInRun i order (after_lines first first lines)

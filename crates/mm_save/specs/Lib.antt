@@ -1,10 +1,4 @@
-pub mod Answers
-pub mod Checkpoints
-pub mod Faults
 pub mod Laws
-pub mod Reading
-pub mod Recorder
 pub mod Recorded
+pub mod Recorder
 pub mod Shown
-pub mod States
-pub mod Steps

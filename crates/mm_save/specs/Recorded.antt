@@ -14,7 +14,8 @@ pub record IsOnTheWay (first s : Session) (p : Point) : Type 0 where
   pub fits : CanGo s p
   pub there : stepped first (total_at p) ≡ began_at s p
 
--- what a recorder keeps: it began with nothing issued, its session is where as many cycles lead as its total says, and so was each kept state
+-- what a recorder keeps: it began with nothing issued, its session is where as many cycles lead as its total says, and
+-- so was each kept state
 pub record Remembers (s : Session) (start : Point) (ring : List Point) : Type 0 where
   pub begins : total_at start ≡ 0
   pub fits : CanGo s start

@@ -6,7 +6,8 @@ use Rattle.mm_model.specs.Image.{Image}
 use Rattle.mm_model.specs.Lines.{newline}
 use Rattle.mm_machine.specs.Snapshot.{restored}
 use Rattle.mm_debug.specs.Commands.{tokens, number_of, is_count, lines_of}
-use Rattle.mm_debug.specs.Session.{Session, total_of, stepped, Answer, replies, answer_to, Dialogue, behind_answer}
+use Rattle.mm_debug.specs.Session.{Session, total_of, stepped, Answer, replies, answer_to, Dialogue, dialogue_by}
+use Rattle.mm_debug.specs.Dialogues.{IsAnswer}
 use Rattle.mm_debug.specs.Standing.{Point, StandsFor}
 use Rattle.mm_debug.specs.declared.session.Go.{Go}
 use Rattle.mm_debug.specs.declared.session.Go.TheVariants as go
@@ -64,16 +65,16 @@ back_text count total = codes "back " ++ decimal count ++ codes " total " ++ dec
 -- `back N` goes back N cycles, or all where there are fewer
 abbrev pub answer_back : (first : Session) → Session → (line : List ℕ) → Option ℕ → Answer
 answer_back first s line None = answer_to s line
-answer_back first s line (Some n) = let count = min n (total_of s) in replies (back_text count (total_of s - count)) (gone_back first s count)
+answer_back first s line (Some n) = let count = min n (total_of s) in
+    replies (back_text count (total_of s - count)) (gone_back first s count)
 
 -- the answer to a line: each other line is answered as by the session alone
 unfoldable pub recalled : (first : Session) → Session → List ℕ → Answer
 recalled first s line = answer_back first s line (back_of line)
 
--- what is replied to lines, and the session afterwards: no line behind a `quit` is carried out
-unfoldable pub recollection : (first : Session) → Session → List (List ℕ) → Dialogue
-recollection first s [] = record { text = []; session = s }
-recollection first s (line ∷ lines) = behind_answer (recalled first s line) (recalled first s line).go (λ t. recollection first t lines)
+-- what is replied to lines, and the session afterwards: no line after a `quit` is carried out
+abbrev pub recollection : (first : Session) → Session → List (List ℕ) → Dialogue
+recollection first s lines = dialogue_by (recalled first) s lines
 
 -- what is replied to an input
 abbrev pub recorded : (first : Session) → Session → List ℕ → Dialogue
@@ -93,23 +94,35 @@ newest kept = unwrap_or (last_item kept) 0
 abbrev pub is_far : ℕ → ℕ → Bool
 is_far a b = nat_le (a + 1000) b || nat_le (b + 1000) a
 
--- the totals after a line before which there were these, and this was the session's total: where the line is due they are the last 8 of
--- these and the session's, or still these, and where it is not they are these
+-- the totals after a line before which there were these, and this was the session's total: where the line is due they
+-- are the last 8 of these and the session's, or still these, and where it is not they are these
 abbrev pub IsKept : (old : List ℕ) (total : ℕ) (new : List ℕ) → Type 0
 IsKept old total new =
-    (is_far (newest old) total ≡ true → (new ≡ keep_last ring_size (old ++ total ∷ [])) ⊎ (new ≡ old)) × (is_far (newest old) total ≡ false → new ≡ old)
+    (is_far (newest old) total ≡ true → (new ≡ keep_last ring_size (old ++ total ∷ [])) ⊎ (new ≡ old))
+    × (is_far (newest old) total ≡ false → new ≡ old)
 
--- no line behind a `quit` is carried out
-abbrev pub totals_behind : Go → (later : List ℕ) → List ℕ
-totals_behind go.Quit later = []
-totals_behind go.More later = later
+-- no line after a `quit` is carried out
+abbrev pub totals_after : Go → (later : List ℕ) → List ℕ
+totals_after go.Quit later = []
+totals_after go.More later = later
 
 -- the session's totals before each of these lines that is carried out
 unfoldable pub totals_before : (first : Session) → Session → List (List ℕ) → List ℕ
 totals_before first s [] = []
-totals_before first s (line ∷ lines) = total_of s ∷ totals_behind (recalled first s line).go (totals_before first (recalled first s line).session lines)
+totals_before first s (line ∷ lines) =
+    total_of s ∷ totals_after (recalled first s line).go (totals_before first (recalled first s line).session lines)
 
--- the ring's totals after lines, before which they were these, and before each of which the session's total was one of these, in turn
+-- the ring's totals after lines, before which they were these, and before each of which the session's total was one of
+-- these, in turn
 abbrev pub AreKept : (old : List ℕ) (totals : List ℕ) (new : List ℕ) → Type 0
 AreKept old [] new = new ≡ old
 AreKept old (total ∷ totals) new = (after : List ℕ) × IsKept old total after × AreKept after totals new
+
+-- 5. Lines.
+
+-- What a line leads to: a recorder before it, the reply, the recorder afterwards, and whether a line may follow.
+pub record Handled (old : Recording) (line reply : List ℕ) (new : Recording) (next : Go) : Type 0 where
+  pub answer : IsAnswer (recalled old.first old.session line) reply new.session next
+  pub first : new.first ≡ old.first
+  pub kept : IsKept old.kept (total_of old.session) new.kept
+  pub stands : (i : Image) → Recalls i old → Recalls i new

@@ -1,62 +1,11 @@
-//! What holds of all checkpoints.
+//! What holds of all sessions that go back.
 //!
-//! These functions do nothing when they run: the contract of each is the law.
-ghost use Rattle.mm_save.specs.Laws.{CheckpointsHaveNoFault, CheckpointsAreOne, CheckpointsAreShort, GoingBackChangesNoRun, RestoredRunsGoOn, RoundRobinGoesOn, RunsHaveCheckpoints, RunsHaveSnapshots, SavedFormsAreStates, SnapshotsAreCheckpoints, SnapshotsHaveSavedForms};
+//! The function does nothing when it runs: its contract is the law.
+ghost use Rattle.mm_save.specs.Laws.{GoingBackChangesNoRun};
 
-/// The list of places of a file that is read against an image has no fault exactly where its bytes are some checkpoint of the image.
-pub fn checkpoints_have_no_fault()
-    ensures { CheckpointsHaveNoFault }
-{}
-
-/// Bytes are one checkpoint of an image at most.
-pub fn checkpoints_are_one()
-    ensures { CheckpointsAreOne }
-{}
-
-/// A checkpoint of an image has at most 33,554,432 bytes, so that none is too long to be read from a file.
-pub fn checkpoints_are_short()
-    ensures { CheckpointsAreShort }
-{}
-
-/// There is a snapshot of the state of each run of an image, after any list of items.
-pub fn runs_have_snapshots()
-    ensures { RunsHaveSnapshots }
-{}
-
-/// The state of each run of an image under at most 1,000,000 items, beside no last slot or any below 64, is spelled by bytes, and these
-/// are a checkpoint of the image.
-pub fn runs_have_checkpoints()
-    ensures { RunsHaveCheckpoints }
-{}
-
-/// A snapshot of a machine of an image, after at most 1,000,000 items, keeps the rules of the image's checkpoints.
-pub fn snapshots_are_checkpoints()
-    ensures { SnapshotsAreCheckpoints }
-{}
-
-/// Two snapshots with one saved form are snapshots of the same states, put the same state back, and have the same last slot.
-pub fn saved_forms_are_states()
-    ensures { SavedFormsAreStates }
-{}
-
-/// The snapshot of a machine of an image, after any list of items, brings the run's state back to a machine at the image's start, and
-/// further items lead where the whole list leads.
-pub fn restored_runs_go_on()
-    ensures { RestoredRunsGoOn }
-{}
-
-/// The saved form of a snapshot of a machine of an image, after any list of items, is that of the run's state.
-pub fn snapshots_have_saved_forms()
-    ensures { SnapshotsHaveSavedForms }
-{}
-
-/// Round robin of some cycles, and then of more from the state and the last slot that they leave, is one round robin of all these cycles.
-pub fn round_robin_goes_on()
-    ensures { RoundRobinGoesOn }
-{}
-
-/// A session that began at the start of an image's run and can go back is, after any lines, where that run is after as many items of
-/// the order as its total says: after those of an input, up to a `quit`, and also where the lines behind it are carried out.
+/// A session that began at the start of an image's run and can go back is, after any lines, where that run is after as
+/// many items of the order as its total says: after those of an input, up to a `quit`, and also where the lines after
+/// it are carried out.
 pub fn going_back_changes_no_run()
     ensures { GoingBackChangesNoRun }
 {}

@@ -9,7 +9,7 @@ ghost use Rattle.mm_save.specs.Recorded.{Remembers};
 ghost use Rattle.std.proofs.Props.{props};
 
 use circular_buffer::HeapCircularBuffer;
-use mm_debug::{Go, Point, Session, first_line, number, take_token};
+use mm_debug::{Go, LineHandler, Point, Session, handle_lines, number, take_token};
 use mm_io::{Sink, WriteFault};
 use mm_mem::{Memory, Reset};
 use mm_text::{Gather, Piece};
@@ -27,9 +27,10 @@ const MAX_BACK: u64 = 1_000_000;
 
 /// A session that can go back, with the state at its start and a ring of 8 states on its way.
 ///
-/// A line is due where the total before it differs by 1,000 or more from that of the newest state in the ring, or from 0 where the
-/// ring is empty. The state before a due line is put into the ring, and the oldest state falls out of a full one. It may be left out
-/// instead: that is meant for want of memory, but no clause ties it to that. No line fails for want of memory.
+/// A line is due where the total before it differs by 1,000 or more from that of the newest state in the ring, or from
+/// 0 where the ring is empty. The state before a due line is put into the ring, and the oldest state falls out of a
+/// full one. It may be left out instead: that is meant for want of memory, but no clause ties it to that. No line fails
+/// for want of memory.
 #[derive(Drop)]
 pub struct Recorder<M: Memory> {
     alloc: Global,
@@ -60,7 +61,8 @@ impl<M: Reset> Recorder<M> {
         ensures empty { IfOk result (λ r. (recording_of r).kept ≡ []) }
 
         // It stands for every image for which the session does.
-        ensures stands { (i : Image) → StandsFor i (session_of session) → IfOk result (λ r. Recalls i (recording_of r)) }
+        ensures stands { (i : Image) → StandsFor i (session_of session)
+            → IfOk result (λ r. Recalls i (recording_of r)) }
     {
         let start = session.point(alloc)?;
         let Ok(ring) = HeapCircularBuffer::with_capacity(alloc, RING_SIZE) else {
@@ -91,18 +93,24 @@ impl<M: Reset> Recorder<M> {
         }
     }
 
-    /// Carries out a line, which is handed over without its newline, and writes its reply: `back N`, with N 1 to 1,000,000, goes back
-    /// K cycles, the least of N and the total, with the reply `back K total C`, C the new total. Breaks and watches stay. Each other
-    /// line is the session's. At a [`WriteFault`] the sink took a front part of the reply; the recorder goes on as after any line.
+    /// Carries out a line, which is handed over without its newline, and writes its reply: `back N`, with N 1 to
+    /// 1,000,000, goes back K cycles, the least of N and the total, with the reply `back K total C`, C the new total.
+    /// Breaks and watches stay. Each other line is the session's. At a [`WriteFault`] the sink took a front part of the
+    /// reply; the recorder goes on as after any line.
     pub fn line<O: Sink>(&mut self, text: &[u8], out: &mut O) -> Result<Go, WriteFault>
-        ensures session { let r = recording_of self.old in (recording_of self.new).session ≡ (recalled r.first r.session text.now).session }
+        ensures session { let r = recording_of self.old in
+            (recording_of self.new).session ≡ (recalled r.first r.session text.now).session }
         ensures first { (recording_of self.new).first ≡ (recording_of self.old).first }
-        ensures kept { let r = recording_of self.old in IsKept r.kept (total_of r.session) (recording_of self.new).kept }
-        ensures reply { let r = recording_of self.old in Writes O.taken O.faults out.old out.new (recalled r.first r.session text.now).reply result }
-        ensures go { let r = recording_of self.old in IfOk result (λ go. go ≡ (recalled r.first r.session text.now).go) }
+        ensures kept { let r = recording_of self.old in
+            IsKept r.kept (total_of r.session) (recording_of self.new).kept }
+        ensures reply { let r = recording_of self.old in
+            Writes O.taken O.faults out.old out.new (recalled r.first r.session text.now).reply result }
+        ensures go { let r = recording_of self.old in
+            IfOk result (λ go. go ≡ (recalled r.first r.session text.now).go) }
 
         // A line `back N` lowers the total by the least of N and the total.
-        ensures total { let was = total_of (recording_of self.old).session in (n : ℕ) → back_of text.now ≡ Some n → total_of (recording_of self.new).session ≡ was - min n was }
+        ensures total { let was = total_of (recording_of self.old).session in (n : ℕ) → back_of text.now ≡ Some n
+            → total_of (recording_of self.new).session ≡ was - min n was }
 
         // It stands for every image for which it stood.
         ensures stands { (i : Image) → Recalls i (recording_of self.old) → Recalls i (recording_of self.new) }
@@ -113,46 +121,35 @@ impl<M: Reset> Recorder<M> {
         Ok(go)
     }
 
-    /// Carries out the lines of an input up to its end or a `quit`, and writes their replies. At a [`WriteFault`] all lines are
-    /// carried out too, and the sink took a front part of the replies.
+    /// Carries out the lines of an input up to its end or a `quit`, and writes their replies. At a [`WriteFault`] all
+    /// lines are carried out too, and the sink took a front part of the replies.
     pub fn lines<O: Sink>(&mut self, input: &[u8], out: &mut O) -> Result<(), WriteFault>
-        ensures session { let r = recording_of self.old in (recording_of self.new).session ≡ (recorded r.first r.session input.now).session }
+        ensures session { let r = recording_of self.old in
+            (recording_of self.new).session ≡ (recorded r.first r.session input.now).session }
         ensures first { (recording_of self.new).first ≡ (recording_of self.old).first }
-        ensures kept { let r = recording_of self.old in AreKept r.kept (totals_before r.first r.session (lines_of input.now)) (recording_of self.new).kept }
-        ensures replies { let r = recording_of self.old in Writes O.taken O.faults out.old out.new (recorded r.first r.session input.now).text result }
+        ensures kept { let r = recording_of self.old in
+            AreKept r.kept (totals_before r.first r.session (lines_of input.now)) (recording_of self.new).kept }
+        ensures replies { let r = recording_of self.old in
+            Writes O.taken O.faults out.old out.new (recorded r.first r.session input.now).text result }
         ensures stands { (i : Image) → Recalls i (recording_of self.old) → Recalls i (recording_of self.new) }
     {
         let mut replies = Gather::new();
-        self.put_lines(&mut replies, out, input);
+        handle_lines(self, &mut replies, out, input);
         replies.finish(out)
-    }
-
-    /// Carries out the lines of an input up to its end or a `quit`, and appends their replies.
-    fn put_lines<O: Sink>(&mut self, replies: &mut Gather, out: &mut O, input: &[u8])
-        ensures session { let r = recording_of self.old in (recording_of self.new).session ≡ (recorded r.first r.session input.now).session }
-        ensures first { (recording_of self.new).first ≡ (recording_of self.old).first }
-        ensures kept { let r = recording_of self.old in AreKept r.kept (totals_before r.first r.session (lines_of input.now)) (recording_of self.new).kept }
-        ensures replies { let r = recording_of self.old in Gathers O.taken O.faults out.old out.new replies.old replies.new (recorded r.first r.session input.now).text }
-        ensures stands { (i : Image) → Recalls i (recording_of self.old) → Recalls i (recording_of self.new) }
-    {
-        let mut rest = input;
-        while !rest.is_empty() {
-            let (line, behind) = first_line(rest);
-            if self.put_line(replies, out, line) == Go::Quit {
-                break;
-            }
-            rest = behind;
-        }
     }
 
     /// Carries out a line, and appends its reply.
     fn put_line<O: Sink>(&mut self, reply: &mut Gather, out: &mut O, line: &[u8]) -> Go
-        ensures session { let r = recording_of self.old in (recording_of self.new).session ≡ (recalled r.first r.session line.now).session }
+        ensures session { let r = recording_of self.old in
+            (recording_of self.new).session ≡ (recalled r.first r.session line.now).session }
         ensures first { (recording_of self.new).first ≡ (recording_of self.old).first }
-        ensures kept { let r = recording_of self.old in IsKept r.kept (total_of r.session) (recording_of self.new).kept }
-        ensures reply { let r = recording_of self.old in Gathers O.taken O.faults out.old out.new reply.old reply.new (recalled r.first r.session line.now).reply }
+        ensures kept { let r = recording_of self.old in
+            IsKept r.kept (total_of r.session) (recording_of self.new).kept }
+        ensures reply { let r = recording_of self.old in
+            Gathers O.taken O.faults out.old out.new reply.old reply.new (recalled r.first r.session line.now).reply }
         ensures go { let r = recording_of self.old in result ≡ (recalled r.first r.session line.now).go }
-        ensures total { let was = total_of (recording_of self.old).session in (n : ℕ) → back_of line.now ≡ Some n → total_of (recording_of self.new).session ≡ was - min n was }
+        ensures total { let was = total_of (recording_of self.old).session in (n : ℕ) → back_of line.now ≡ Some n
+            → total_of (recording_of self.new).session ≡ was - min n was }
         ensures stands { (i : Image) → Recalls i (recording_of self.old) → Recalls i (recording_of self.new) }
     {
         self.keep();
@@ -171,7 +168,8 @@ impl<M: Reset> Recorder<M> {
     fn keep(&mut self)
         ensures session { (recording_of self.new).session ≡ (recording_of self.old).session }
         ensures first { (recording_of self.new).first ≡ (recording_of self.old).first }
-        ensures kept { let r = recording_of self.old in IsKept r.kept (total_of r.session) (recording_of self.new).kept }
+        ensures kept { let r = recording_of self.old in
+            IsKept r.kept (total_of r.session) (recording_of self.new).kept }
     {
         let newest = match self.ring.back() {
             Some(point) => point.total(),
@@ -187,7 +185,8 @@ impl<M: Reset> Recorder<M> {
     /// Goes back so many cycles: to the latest state that is kept and not later, and from there on.
     fn go_back(&mut self, count: u64)
         requires { count ≤ total_of (recording_of self.old).session }
-        ensures session { let r = recording_of self.old in (recording_of self.new).session ≡ gone_back r.first r.session count }
+        ensures session { let r = recording_of self.old in
+            (recording_of self.new).session ≡ gone_back r.first r.session count }
         ensures total { total_of (recording_of self.new).session ≡ total_of (recording_of self.old).session - count }
         ensures first { (recording_of self.new).first ≡ (recording_of self.old).first }
         ensures kept { (recording_of self.new).kept ≡ (recording_of self.old).kept }
@@ -223,6 +222,17 @@ impl<M: Reset> Recorder<M> {
             }
         }
         latest
+    }
+}
+
+impl<M: Reset> LineHandler for Recorder<M> {
+    ghost use Rattle.mm_save.specs.Recorder.{Handled};
+    ghost use Rattle.mm_save.specs.Shown.{recording_of};
+
+    ghost Answers = { λ old line reply new go. Handled (recording_of old) line reply (recording_of new) go };
+
+    fn handle_line<O: Sink>(&mut self, reply: &mut Gather, out: &mut O, line: &[u8]) -> Go {
+        self.put_line(reply, out, line)
     }
 }
 

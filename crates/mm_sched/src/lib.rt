@@ -4,8 +4,6 @@
 mod robin;
 mod runs;
 mod schedule;
-#[cfg(test)]
-mod tests;
 mod text;
 mod word;
 

@@ -3,8 +3,8 @@ ghost use Rattle.mm_sched.specs.Following.{IsNext, IsLeast, NoneAbove};
 
 use std::marker::Model;
 
-/// Round robin: the next running slot after the last one that was issued, cyclically by number, and at first the least. Contracts
-/// see the last one.
+/// Round robin: the next running slot after the last one that was issued, cyclically by number, and at first the least.
+/// Contracts see the last one.
 #[derive(Clone, Copy, Debug, PartialEq, Eq)]
 pub struct Robin {
     last: Option<u8>,
@@ -38,7 +38,8 @@ impl Robin {
         Robin { last }
     }
 
-    /// The slot that comes next, where bit `s` of the mask is set for each running slot `s`: none exactly where none is set.
+    /// The slot that comes next, where bit `s` of the mask is set for each running slot `s`: none exactly where none is
+    /// set.
     pub fn peek(&self, running: u64) -> Option<u8>
         ensures some { IsSome result ↔ (running ≢ 0) }
         ensures next { IfSome result (IsNext running self.now) }

@@ -9,8 +9,8 @@ fn is_blank(b: u8) -> bool
     b == b'\t' || b == b'\n' || b == b'\r' || b == b' '
 }
 
-/// Where the first run of bytes begins that are neither blank nor in a comment, from a place on that is in no comment; or the end of
-/// the text.
+/// Where the first run of bytes begins that are neither blank nor in a comment, from a place on that is in no comment;
+/// or the end of the text.
 pub fn run_start(bytes: &[u8], from: usize) -> usize
     requires { from ≤ length bytes.now }
     ensures from { from ≤ result }

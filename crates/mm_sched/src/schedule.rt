@@ -8,8 +8,8 @@ use std::marker::Model;
 /// The most items of a schedule.
 pub const ITEM_LIMIT: usize = 1_000_000;
 
-/// A list of at most 1,000,000 items. An item names a slot or, in a split machine, is 128 more than the number of the slot whose
-/// port it is. Contracts see the list.
+/// A list of at most 1,000,000 items. An item names a slot or, in a split machine, is 128 more than the number of the
+/// slot whose port it is. Contracts see the list.
 #[derive(Drop)]
 pub struct Schedule {
     pub(crate) items: Vec<u8>,
@@ -61,7 +61,8 @@ impl Schedule {
 
 /// Of the first `count` items, those that are among the members. Order and repeats stay.
 pub fn only(alloc: Global, s: &Schedule, count: u64, members: &[u8]) -> Result<Schedule, NoMemory>
-    ensures { IfOk result (λ kept. kept ≡ filter (λ item. list_any (λ member. member == item) members.now) (take count s.now)) }
+    ensures { IfOk result
+        (λ kept. kept ≡ filter (λ item. list_any (λ member. member == item) members.now) (take count s.now)) }
 {
     let items = s.items();
     let first = &items[..count.min(items.len() as u64) as usize];

@@ -37,15 +37,17 @@ fn append(items: &mut Vec<u8>, number: u8, count: u32) -> Result<(), NoMemory>
     Ok(())
 }
 
-/// The schedule that a text means: items `N` or `N*K` between blanks, and comments from `#` to the end of the line. Want of memory
-/// is the one answer that needs no cause.
+/// The schedule that a text means: items `N` or `N*K` between blanks, and comments from `#` to the end of the line.
+/// Want of memory is the one answer that needs no cause.
 pub fn parse(alloc: Global, bytes: &[u8]) -> Result<Schedule, SchedError>
     ensures means { IfOk result (λ s. Means bytes.now s) }
     ensures fault { (offset : ℕ) → result ≡ Err (SchedError.Fault offset) → FaultsAt bytes.now offset }
 
     // Each text that means a list is read as that list, and each that faults is refused at its fault.
-    ensures reads { (items : List ℕ) → Means bytes.now items → (result ≡ Ok items) ⊎ (result ≡ Err SchedError.NoMemory) }
-    ensures refuses { (offset : ℕ) → FaultsAt bytes.now offset → (result ≡ Err (SchedError.Fault offset)) ⊎ (result ≡ Err SchedError.NoMemory) }
+    ensures reads { (items : List ℕ) → Means bytes.now items → (result ≡ Ok items)
+        ⊎ (result ≡ Err SchedError.NoMemory) }
+    ensures refuses { (offset : ℕ) → FaultsAt bytes.now offset → (result ≡ Err (SchedError.Fault offset))
+        ⊎ (result ≡ Err SchedError.NoMemory) }
 {
     // Room for one item of each word: a byte at least stands between two words.
     let room = bytes.len().div_ceil(2).min(ITEM_LIMIT);

@@ -15,7 +15,8 @@ pub fn number(digits: &[u8], most: u64) -> Option<u64>
     if rest.is_empty() { Some(number) } else { None }
 }
 
-/// The number of at most `most` with which a text begins, in decimal digits without a leading zero, and what stands behind them.
+/// The number of at most `most` with which a text begins, in decimal digits without a leading zero, and what stands
+/// behind them.
 fn leading_number(text: &[u8], most: u64) -> Option<(u64, &[u8])>
     ensures some { IfSome result (λ read. Begins text.now read.0 read.1.now × (read.0 ≤ most)) }
     ensures none { IsNone result → (n : ℕ) (rest : List ℕ) → n ≤ most → ¬ (Begins text.now n rest) }
@@ -35,7 +36,8 @@ fn leading_number(text: &[u8], most: u64) -> Option<(u64, &[u8])>
 /// A number with one digit more, where that is at most `most`.
 fn with_digit(number: u64, digit: u8, most: u64) -> Option<u64>
     requires { IsAsciiDigit digit }
-    ensures { MatchOption result (most < number * 10 + (digit - 48)) (λ more. (more ≡ number * 10 + (digit - 48)) × (more ≤ most)) }
+    ensures { MatchOption result (most < number * 10 + (digit - 48)) (λ more. (more ≡ number * 10 + (digit - 48))
+        × (more ≤ most)) }
 {
     let more = number
         .checked_mul(10)?

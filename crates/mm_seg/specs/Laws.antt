@@ -5,7 +5,8 @@ use Rattle.mm_seg.specs.Segments.{IsMaximal, Covered, end_of}
 -- the sets that inserts of these segments, the last one first, can leave
 pub data Inserts : List (ℕ × ℕ) → List (ℕ × ℕ) → Type 0 where
   none : Inserts [] []
-  one_more : {inserted old new : List (ℕ × ℕ)} {s : ℕ × ℕ} → Inserts inserted old → IsMaximal (s ∷ old) new → Inserts (s ∷ inserted) new
+  one_more : {inserted old new : List (ℕ × ℕ)} {s : ℕ × ℕ} → Inserts inserted old → IsMaximal (s ∷ old) new
+      → Inserts (s ∷ inserted) new
 
 abbrev pub HoldsAllInserts : Type 0
 HoldsAllInserts = (inserted set : List (ℕ × ℕ)) → Inserts inserted set → IsMaximal inserted set

@@ -10,7 +10,5 @@ pub mod laws;
 mod meet;
 mod search;
 mod set;
-#[cfg(test)]
-mod tests;
 
 pub use set::SegSet;

@@ -10,8 +10,7 @@ use crate::meeting::Range;
 use mm_image::Image;
 use mm_io::{Sink, WriteFault};
 use mm_model::{Page, Slot};
-use mm_report::put_word;
-use mm_text::{Gather, Piece};
+use mm_text::{Gather, Piece, put_word};
 use mm_word::Word;
 
 /// Where a pointer is held.

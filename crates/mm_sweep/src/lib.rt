@@ -9,8 +9,6 @@ pub mod laws;
 mod meeting;
 mod refusing;
 mod sweeping;
-#[cfg(test)]
-mod tests;
 mod words;
 
 pub use holding::holders;

@@ -1,3 +1,4 @@
 pub mod Gathering
 pub mod HexDigits
 pub mod LineLengths
+pub mod RegisterLines

@@ -19,7 +19,8 @@ pub record HandsOver (old new : Option (List ℕ)) (text kept : List ℕ) : Type
   pub took : new ≡ append_known old part
 
 -- A write failed: the sink took some front part, and its count rose or stands at its last value.
-pub record Breaks {S : Type 0} (taken : S → Option (List ℕ)) (faults : S → ℕ) (old new : S) (text : List ℕ) : Type 0 where
+pub record Breaks {S : Type 0} (taken : S → Option (List ℕ)) (faults : S → ℕ) (old new : S)
+    (text : List ℕ) : Type 0 where
   pub part : TookPart (taken old) (taken new) text
   pub failed : Rose (faults old) (faults new)
 
@@ -31,7 +32,8 @@ Became taken faults old new true true text kept = taken new ≡ taken old
 Became taken faults old new true false text kept = ⊥
 
 -- A text was gathered: behind what was kept before, unless a write had failed.
-pub record Gathers {S : Type 0} (taken : S → Option (List ℕ)) (faults : S → ℕ) (old_out new_out : S) (old new : Gathered) (text : List ℕ) : Type 0 where
+pub record Gathers {S : Type 0} (taken : S → Option (List ℕ)) (faults : S → ℕ) (old_out new_out : S)
+    (old new : Gathered) (text : List ℕ) : Type 0 where
   pub later : faults old_out ≤ faults new_out
   pub became : Became taken faults old_out new_out old.failed new.failed (old.kept ++ text) new.kept
 
@@ -40,6 +42,7 @@ abbrev pub Finished : {S T E : Type 0} → (S → Option (List ℕ)) → (S → 
 Finished taken faults old new false kept result = Writes taken faults old new kept result
 Finished taken faults old new true kept result = (taken new ≡ taken old) × IsErr result
 
-pub record Finishes {S T E : Type 0} (taken : S → Option (List ℕ)) (faults : S → ℕ) (old_out new_out : S) (old : Gathered) (result : Result T E) : Type 0 where
+pub record Finishes {S T E : Type 0} (taken : S → Option (List ℕ)) (faults : S → ℕ) (old_out new_out : S)
+    (old : Gathered) (result : Result T E) : Type 0 where
   pub later : faults old_out ≤ faults new_out
   pub finished : Finished taken faults old_out new_out old.failed old.kept result

@@ -1,3 +1,2 @@
 pub mod Gathers
-pub mod Listing
 pub mod Pieces

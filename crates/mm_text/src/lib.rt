@@ -1,14 +1,23 @@
-//! Texts that are written piece by piece, without memory.
+//! Texts that are written piece by piece, without memory; and the lines of words, cells and slots, which reports,
+//! sessions and summaries share.
 //!
 //! A [`Gather`] hands a sink some kilobytes at a time, so that a stream of the system is not called
 //! for every word. It keeps in mind that a write failed, so that a function that writes many pieces
 //! looks for a fault only at its end. A [`Line`] puts a short text together from its end.
 #![tactic(auto)]
 
+mod cells;
+mod cycles;
 mod gather;
 mod line;
 mod piece;
+mod slots;
+mod words;
 
+pub use cells::put_cell;
+pub use cycles::put_cycles;
 pub use gather::{Gather, write_pieces};
 pub use line::Line;
 pub use piece::Piece;
+pub use slots::{put_numbers, put_slot, put_state, slot_lines};
+pub use words::put_word;

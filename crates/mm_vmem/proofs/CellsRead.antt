@@ -8,7 +8,7 @@ use Rattle.mm_model.proofs.Memories.{cell_at-aligned, page_whole}
 use Rattle.mm_mem.proofs.Flats.{no_cell}
 use Rattle.mm_frames.specs.Framed.{frame_of, memory_of}
 use Rattle.mm_frames.proofs.Framed.{has_frame_is_mapped}
-use Rattle.mm_cache.specs.declared.line.Line.{Line}
+use Rattle.mm_cache.specs.declared.line.CacheLine.{CacheLine}
 use Rattle.mm_cache.specs.Lines.{AreLines, line_in, is_in, hits, cell_in_line, cell_of, place_in_block}
 use Rattle.mm_cache.specs.Over.{over}
 use Rattle.mm_cache.proofs.Laid.{mapped_over}
@@ -23,7 +23,7 @@ get_within [] n lt = absurd (omega (arith, lt))
 get_within (x ∷ xs) zero lt = (x, refl)
 get_within (x ∷ xs) (suc n) lt = get_within xs n (omega (arith, lt))
 
-block_in_line : (o : Option Line) (w : ℕ) (c : Cell) → cell_in_line o w ≡ Some c → is_in o (block_of w) ≡ true
+block_in_line : (o : Option CacheLine) (w : ℕ) (c : Cell) → cell_in_line o w ≡ Some c → is_in o (block_of w) ≡ true
 block_in_line None w c is = cc
 block_in_line (Some l) w c is = by (l.block == block_of w) is
   where
@@ -32,18 +32,18 @@ block_in_line (Some l) w c is = by (l.block == block_of w) is
     by false h = cc
 
 -- a cell that is found in a line is a hit
-pub cell_is_hit : (ls : List (Option Line)) (w : ℕ) (c : Cell) → cell_of ls w ≡ Some c → hits ls (block_of w) ≡ true
+pub cell_is_hit : (ls : List (Option CacheLine)) (w : ℕ) (c : Cell) → cell_of ls w ≡ Some c → hits ls (block_of w) ≡ true
 cell_is_hit ls w c is = block_in_line (line_in ls (line_of (block_of w))) w c is
 
--- and at a hit a cell is found
-pub hit_has_cell : (ls : List (Option Line)) (w : ℕ) → AreLines ls → hits ls (block_of w) ≡ true → (c : Cell) × (cell_of ls w ≡ Some c)
+-- at a hit a cell is found
+pub hit_has_cell : (ls : List (Option CacheLine)) (w : ℕ) → AreLines ls → hits ls (block_of w) ≡ true → (c : Cell) × (cell_of ls w ≡ Some c)
 hit_has_cell ls w are hit =
     let l = line_hit ls (block_of w) hit in
     let whole : length l.0.cells ≡ 8 = are.whole (line_of (block_of w)) l.0 l.1 in
     let c = get_within l.0.cells (place_in_block w) (omega (arith, whole)) in
     (c.0, cell_hit ls w l.0 l.1 l.2 ∙ c.1)
 
-pub no_cell_no_hit : (ls : List (Option Line)) (w : ℕ) → AreLines ls → cell_of ls w ≡ None → hits ls (block_of w) ≡ false
+pub no_cell_no_hit : (ls : List (Option CacheLine)) (w : ℕ) → AreLines ls → cell_of ls w ≡ None → hits ls (block_of w) ≡ false
 no_cell_no_hit ls w are none = by (hits ls (block_of w)) refl
   where
     by : (b : Bool) → hits ls (block_of w) ≡ b → b ≡ false
@@ -85,7 +85,7 @@ read_there m w held aligned hit =
     let c = mapped_has_cell (memory_of m.frames) w held.cover.paged aligned mapped in
     reads_are_over.hit (memory_of m.frames) m.lines w c.0 held.cover c.1 hit
 
--- and else that of the frame
+-- else the cell is that of the frame
 pub read_missing : (m : Cached) (w : ℕ) → IsCached m → hits m.lines (block_of w) ≡ false → cell_at (meaning m) w ≡ cell_at (memory_of m.frames) w
 unfolding meaning
 read_missing m w held absent = reads_are_over.miss (memory_of m.frames) m.lines w held.cover absent

@@ -1,5 +1,6 @@
 -- The entries of the buffer, and their pages.
-use Rattle.std.proofs.Common.{◌≡◌, ℕ, zero, suc, ◌+◌, ◌<◌, ◌≤◌, ◌==◌, Bool, true, false, cond, if◌then◌else◌, List, [], ◌∷◌, take, drop, length, get_or, set, ◌++◌, inl, inr, Option, None, Some, is_some, nat_lt, refl, sym, ap, subst, arith, ◌∙◌, eqb-true, eq-eqb}
+use Rattle.std.proofs.Common.{◌≡◌, ℕ, zero, suc, ◌+◌, ◌<◌, ◌≤◌, ◌==◌, Bool, true, false, cond, if◌then◌else◌, List, [], ◌∷◌, take, drop, length, get_or, set, ◌++◌, inl, inr, Option, None, Some}
+use Rattle.std.proofs.Common.{is_some, nat_lt, refl, sym, ap, subst, arith, ◌∙◌, eqb-true, eq-eqb}
 use Rattle.std.specs.List.{AllByRecursion, remove, refill, position, position_or_len}
 use Rattle.std.proofs.lemmas.Bool.{cases_lt}
 use Rattle.std.proofs.lemmas.Grind.{drop_more_same}
@@ -9,7 +10,7 @@ use Rattle.std.proofs.lemmas.List.Quantifiers.{position-Some}
 use Rattle.std.proofs.lemmas.List.Sums.{fails_before_first}
 use Rattle.mm_model.specs.Counted.{has, without}
 use Rattle.mm_vmem.specs.Stands.{IsDistinct, moved}
-use Rattle.mm_vmem.specs.declared.buffer.Entry.{Entry}
+use Rattle.mm_vmem.specs.declared.tlb.Entry.{Entry}
 use Rattle.mm_vmem.specs.Entries.{pages_in, frame_in, entries_without, after_look_up, AreEntries}
 use Rattle.mm_vmem.proofs.Recents.{distinct_moved}
 
@@ -86,7 +87,7 @@ frame_found page (e ∷ es) =
 
 -- 4. The place of a page.
 
--- the first entry of a page stands here
+-- the first entry of a page is here
 pub record IsFirst (page i : ℕ) (es : List Entry) : Type 0 where
   pub in_range : i < length es
   pub at : (d : Entry) → ((get_or es i d).page == page) ≡ true
@@ -169,7 +170,8 @@ take_whole (suc n) (e ∷ es) le = ap (λ (xs : List Entry). e ∷ xs) (take_who
 
 -- 6. Entries that move down, one after the other, while the first ones wait at the front.
 
-module _ (first carried : Entry) (old now : List Entry) (i : ℕ) (within : i < length now) (whole : i < length old) (front : take i now ++ carried ∷ [] ≡ first ∷ take i old) (rest : drop i now ≡ drop i old) where
+module _ (first carried : Entry) (old now : List Entry) (i : ℕ) (within : i < length now) (whole : i < length old) (front : take i now ++ carried ∷ [] ≡ first ∷ take i old)
+    (rest : drop i now ≡ drop i old) where
   -- the entry that comes next has not moved
   pub next_is : (d : Entry) → get_or now i d ≡ get_or old i d
   next_is d =

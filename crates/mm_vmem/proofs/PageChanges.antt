@@ -8,12 +8,12 @@ use Rattle.mm_mem.specs.Answers.{after_map, after_unmap}
 use Rattle.mm_mem.proofs.Flats.{map_refused, map_done, unmap_refused, unmap_done}
 use Rattle.mm_frames.specs.Framed.{Framed, frame_of, memory_of, seated, without}
 use Rattle.mm_frames.proofs.Framed.{has_frame_is_mapped, frame_of-seated_other, frame_of-without_other}
-use Rattle.mm_cache.specs.declared.line.Line.{Line}
+use Rattle.mm_cache.specs.declared.line.CacheLine.{CacheLine}
 use Rattle.mm_cache.specs.Lines.{without_page}
 use Rattle.mm_cache.specs.Over.{over, lay}
 use Rattle.mm_cache.specs.Laws.{Cover}
 use Rattle.mm_cache.proofs.MapPages.{pages_are_over, empty_lines_are_over}
-use Rattle.mm_vmem.specs.declared.buffer.Entry.{Entry}
+use Rattle.mm_vmem.specs.declared.tlb.Entry.{Entry}
 use Rattle.mm_vmem.specs.Cached.{Cached, IsCached, AreFew}
 use Rattle.mm_vmem.proofs.Held.{AreRight}
 
@@ -62,7 +62,7 @@ map_held m f g page (Some frame) held small answer after same memory =
       few = few_with m f g (ap (λ (h : Framed). h.reads) after) (ap (λ (h : Framed). h.writes) after) held.few;
     }
 
-pub map_meaning : (m n : Memory) (ls : List (Option Line)) (page : ℕ) → Cover ls m → n ≡ after_map m page → over n ls ≡ after_map (over m ls) page
+pub map_meaning : (m n : Memory) (ls : List (Option CacheLine)) (page : ℕ) → Cover ls m → n ≡ after_map m page → over n ls ≡ after_map (over m ls) page
 map_meaning m n ls page cover is = by (can_map m page) refl
   where
     by : (b : Bool) → can_map m page ≡ b → over n ls ≡ after_map (over m ls) page
@@ -76,12 +76,12 @@ map_meaning m n ls page cover is = by (can_map m page) refl
 
 -- 2. A page is removed, or was not there.
 
-pub unmap_held : (m : Cached) (f g : Framed) (page : ℕ) (lines : List (Option Line)) (entries : List Entry) → IsCached (with_frames m f) → is_mapped (memory_of f) page ≡ true
+pub unmap_held : (m : Cached) (f g : Framed) (page : ℕ) (lines : List (Option CacheLine)) (entries : List Entry) → IsCached (with_frames m f) → is_mapped (memory_of f) page ≡ true
     → g ≡ without f page → memory_of g ≡ after_unmap (memory_of f) page → lines ≡ without_page page m.lines → entries ≡ [] → IsCached (record (with_frames m g) { lines = lines; entries = entries })
 unmap_held m f g page lines entries held mapped after memory lines_are entries_are =
     let made : memory_of g ≡ unmap_page (memory_of f) page = memory ∙ sym (unmap_done (memory_of f) page mapped) in
     record {
-      cover = subst (λ (ls : List (Option Line)). Cover ls (memory_of g)) (sym lines_are)
+      cover = subst (λ (ls : List (Option CacheLine)). Cover ls (memory_of g)) (sym lines_are)
           (subst (λ (n : Memory). Cover (without_page page m.lines) n) (sym made) (pages_are_over.unmap_cover (memory_of f) m.lines page held.cover));
       right = subst (λ (es : List Entry). AreRight g es) (sym entries_are) tt;
       few = few_with m f g (ap (λ (h : Framed). h.reads) after) (ap (λ (h : Framed). h.writes) after) held.few;
@@ -95,14 +95,15 @@ refused_held m f g page held absent after memory = record {
   few = few_with m f g (ap (λ (h : Framed). h.reads) after) (ap (λ (h : Framed). h.writes) after) held.few;
 }
 
-pub unmap_meaning : (m n : Memory) (ls lines : List (Option Line)) (page : ℕ) → Cover ls m → is_mapped m page ≡ true → n ≡ after_unmap m page → lines ≡ without_page page ls → over n lines ≡ after_unmap (over m ls) page
+pub unmap_meaning : (m n : Memory) (ls lines : List (Option CacheLine)) (page : ℕ) → Cover ls m → is_mapped m page ≡ true → n ≡ after_unmap m page → lines ≡ without_page page ls
+    → over n lines ≡ after_unmap (over m ls) page
 unmap_meaning m n ls lines page cover mapped is lines_are =
     ap (over n) lines_are
     ∙ ap (λ (x : Memory). over x (without_page page ls)) (is ∙ sym (unmap_done m page mapped))
     ∙ pages_are_over.unmap m ls page cover
     ∙ unmap_done (over m ls) page (pages_are_over.mapped m ls page ∙ mapped)
 
-pub refused_meaning : (m n : Memory) (ls : List (Option Line)) (page : ℕ) → is_mapped m page ≡ false → n ≡ after_unmap m page → over n ls ≡ after_unmap (over m ls) page
+pub refused_meaning : (m n : Memory) (ls : List (Option CacheLine)) (page : ℕ) → is_mapped m page ≡ false → n ≡ after_unmap m page → over n ls ≡ after_unmap (over m ls) page
 refused_meaning m n ls page absent is =
     ap (λ (x : Memory). over x ls) (is ∙ sym (unmap_refused m page absent))
     ∙ unmap_refused (over m ls) page (pages_are_over.mapped m ls page ∙ absent)
@@ -113,19 +114,25 @@ numbers_of : {X Y : Type 0} (h : ℕ → X → Y) (es : List (ℕ × X)) → map
 numbers_of h [] = refl
 numbers_of h (e ∷ es) = ap (λ (ns : List ℕ). e.0 ∷ ns) (numbers_of h es)
 
-pub numbers_over : (m : Memory) (ls : List (Option Line)) → map (λ (e : ℕ × List Cell). e.0) (over m ls).pages ≡ map (λ (e : ℕ × List Cell). e.0) m.pages
+pub numbers_over : (m : Memory) (ls : List (Option CacheLine)) → map (λ (e : ℕ × List Cell). e.0) (over m ls).pages ≡ map (λ (e : ℕ × List Cell). e.0) m.pages
 unfolding over
 numbers_over m ls = numbers_of (λ (n : ℕ) (cells : List Cell). lay ls n 0 cells) m.pages
 
 -- 4. New contents.
 
-pub new_held : (f : Framed) (lines : List (Option Line)) (entries : List Entry) → IsPaged (memory_of f) → f.reads ≡ 0 → f.writes ≡ 0 → lines ≡ replicate 64 None → entries ≡ []
-    → IsCached (record { frames = f; lines = lines; entries = entries; uses = 0; numbers = record { hits = 0; misses = 0; writebacks = 0; tlb_hits = 0; tlb_misses = 0; reads = f.reads; writes = f.writes } })
+pub new_held : (f : Framed) (lines : List (Option CacheLine)) (entries : List Entry) → IsPaged (memory_of f) → f.reads ≡ 0 → f.writes ≡ 0 → lines ≡ replicate 64 None → entries ≡ []
+    → IsCached (record {
+      frames = f;
+      lines = lines;
+      entries = entries;
+      uses = 0;
+      numbers = record { hits = 0; misses = 0; writebacks = 0; tlb_hits = 0; tlb_misses = 0; reads = f.reads; writes = f.writes };
+    })
 new_held f lines entries paged reads writes lines_are entries_are = record {
-  cover = subst (λ (ls : List (Option Line)). Cover ls (memory_of f)) (sym lines_are) (empty_lines_are_over.cover (memory_of f) paged);
+  cover = subst (λ (ls : List (Option CacheLine)). Cover ls (memory_of f)) (sym lines_are) (empty_lines_are_over.cover (memory_of f) paged);
   right = subst (λ (es : List Entry). AreRight f es) (sym entries_are) tt;
   few = record { accesses = omega arith; writebacks = omega arith; look_ups = omega arith; reads = omega (arith, reads); writes = omega (arith, writes) };
 }
 
-pub new_meaning : (f : Framed) (lines : List (Option Line)) → lines ≡ replicate 64 None → over (memory_of f) lines ≡ memory_of f
+pub new_meaning : (f : Framed) (lines : List (Option CacheLine)) → lines ≡ replicate 64 None → over (memory_of f) lines ≡ memory_of f
 new_meaning f lines lines_are = ap (over (memory_of f)) lines_are ∙ empty_lines_are_over.map (memory_of f)

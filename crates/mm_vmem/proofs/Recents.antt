@@ -1,6 +1,5 @@
 -- The buffer is the first entries of the distinct pages.
 use Rattle.std.proofs.Common.{◌≡◌, ◌≢◌, ℕ, zero, suc, ◌+◌, ◌-◌, ◌<◌, ◌≤◌, ◌==◌, Bool, true, false, if◌then◌else◌, List, [], ◌∷◌, take, length, get_or, refl, sym, ap, subst, arith, ◌∙◌, inl, inr}
-use Rattle.std.specs.List.{insert, remove}
 use Rattle.std.proofs.lemmas.Bool.{cases_eq}
 use Rattle.std.proofs.lemmas.Bool.Decides.{nat_tests}
 use Rattle.mm_model.specs.Counted.{has, without, distinct}
@@ -82,10 +81,13 @@ without_take p zero (x ∷ xs) d = refl
 without_take p (suc n) (x ∷ xs) d = elim (cases_eq p x) [
   | inl same ↦
       let fresh : has p xs ≡ false = subst (λ (y : ℕ). has y xs ≡ false) (sym same) d.0 in
-      subst (λ (b : Bool). take (suc n) (if b then without p (take (suc n) xs) else x ∷ without p (take (suc n) xs)) ≡ take (suc n) (if b then without p xs else x ∷ without p xs)) (sym (same_test p x same))
-      (ap (λ (ys : List ℕ). take (suc n) ys) (nothing_without p (take (suc n) xs) (has_take p (suc n) xs fresh)) ∙ take_take (suc n) xs ∙ ap (λ (ys : List ℕ). take (suc n) ys) (sym (nothing_without p xs fresh)))
+      subst (λ (b : Bool). take (suc n) (if b then without p (take (suc n) xs) else x ∷ without p (take (suc n) xs)) ≡ take (suc n) (if b then without p xs else x ∷ without p xs))
+      (sym (same_test p x same))
+      (ap (λ (ys : List ℕ). take (suc n) ys) (nothing_without p (take (suc n) xs) (has_take p (suc n) xs fresh)) ∙ take_take (suc n) xs
+      ∙ ap (λ (ys : List ℕ). take (suc n) ys) (sym (nothing_without p xs fresh)))
   | inr other ↦
-      subst (λ (b : Bool). take (suc n) (if b then without p (take (suc n) xs) else x ∷ without p (take (suc n) xs)) ≡ take (suc n) (if b then without p xs else x ∷ without p xs)) (sym (other_test p x other))
+      subst (λ (b : Bool). take (suc n) (if b then without p (take (suc n) xs) else x ∷ without p (take (suc n) xs)) ≡ take (suc n) (if b then without p xs else x ∷ without p xs))
+      (sym (other_test p x other))
       (ap (λ (ys : List ℕ). x ∷ ys) (without_take p n xs d.1))
 ]
 
@@ -93,67 +95,10 @@ without_take p (suc n) (x ∷ xs) d = elim (cases_eq p x) [
 pub move_first : (p : ℕ) (xs : List ℕ) → take 16 (p ∷ without p (take 16 (distinct xs))) ≡ take 16 (distinct (p ∷ xs))
 move_first p xs = ap (λ (ys : List ℕ). p ∷ ys) (without_take p 15 (distinct xs) (distinct_is xs))
 
-either_test : (x y : ℕ) (xs : List ℕ) → x ≢ y → has x xs ≡ false → has x (y ∷ xs) ≡ false
-either_test x y xs other h = subst (λ (b : Bool). (if b then true else has x xs) ≡ false) (sym (other_test x y other)) h
-
 pub distinct_take : (n : ℕ) (xs : List ℕ) → IsDistinct xs → IsDistinct (take n xs)
 distinct_take zero xs d = tt
 distinct_take (suc n) [] d = tt
 distinct_take (suc n) (x ∷ xs) d = (has_take x n xs d.0, distinct_take n xs d.1)
 
-pub has_at : (p i : ℕ) (xs : List ℕ) → i < length xs → ((d : ℕ) → get_or xs i d ≡ p) → has p xs ≡ true
-has_at p i [] lt at = absurd (omega (arith, lt))
-has_at p zero (x ∷ xs) lt at = subst (λ (b : Bool). (if b then true else has p xs) ≡ true) (sym (same_test p x (sym (at 0)))) refl
-has_at p (suc i) (x ∷ xs) lt at = later (p == x) (has_at p i xs (omega (arith, lt)) at)
-  where
-    later : (b : Bool) → has p xs ≡ true → (if b then true else has p xs) ≡ true
-    later true h = refl
-    later false h = h
-
--- the entry that is taken out is the only one of its page
-pub remove_place : (p i : ℕ) (xs : List ℕ) → IsDistinct xs → i < length xs → ((d : ℕ) → get_or xs i d ≡ p) → remove xs i ≡ without p xs
-remove_place p i [] dis lt at = absurd (omega (arith, lt))
-remove_place p zero (x ∷ xs) dis lt at =
-    subst (λ (b : Bool). xs ≡ (if b then without p xs else x ∷ without p xs)) (sym (same_test p x (sym (at 0))))
-    (sym (nothing_without p xs (subst (λ (y : ℕ). has y xs ≡ false) (at 0) dis.0)))
-remove_place p (suc i) (x ∷ xs) dis lt at =
-    let there : has p xs ≡ true = has_at p i xs (omega (arith, lt)) at in
-    let other : p ≢ x = λ same. clash (has p xs) there (subst (λ (y : ℕ). has y xs ≡ false) (sym same) dis.0) in
-    ap (λ (ys : List ℕ). x ∷ ys) (remove_place p i xs dis.1 (omega (arith, lt)) at)
-    ∙ subst (λ (b : Bool). x ∷ without p xs ≡ (if b then without p xs else x ∷ without p xs)) (sym (other_test p x other)) refl
-  where
-    clash : (b : Bool) → b ≡ true → b ≡ false → ⊥
-    clash b t f = cc
-
-pub take_all : (n : ℕ) (xs : List ℕ) → length xs ≤ n → take n xs ≡ xs
-take_all zero [] le = refl
-take_all zero (x ∷ xs) le = absurd (omega (arith, le))
-take_all (suc n) [] le = refl
-take_all (suc n) (x ∷ xs) le = ap (λ (ys : List ℕ). x ∷ ys) (take_all n xs (omega (arith, le)))
-
 pub distinct_moved : (p : ℕ) (xs : List ℕ) → IsDistinct xs → IsDistinct (take 16 (p ∷ without p xs))
 distinct_moved p xs d = (has_take p 15 (without p xs) (gone p xs), distinct_take 15 (without p xs) (distinct_without p xs d))
-
-pub few_moved : (n : ℕ) (xs : List ℕ) → length (take n xs) ≤ n
-few_moved zero xs = omega arith
-few_moved (suc n) [] = omega arith
-few_moved (suc n) (x ∷ xs) = omega (arith, few_moved n xs)
-
--- a page that is there, its entry at the front
-pub moved_found : (p i : ℕ) (xs ys zs : List ℕ) → IsDistinct xs → length xs ≤ 16 → i < length xs → ((d : ℕ) → get_or xs i d ≡ p) → ys ≡ remove xs i → length ys + 1 ≡ length xs → zs ≡ insert ys 0 p → zs ≡ take 16 (p ∷ without p xs)
-moved_found p i xs ys zs dis few lt at ys_is len zs_is =
-    zs_is ∙ ap (λ (ws : List ℕ). p ∷ ws) (sym (take_all 15 ys (omega (arith, few, len))) ∙ ap (λ (ws : List ℕ). take 15 ws) (ys_is ∙ remove_place p i xs dis lt at))
-
--- one that is not there, and room
-pub moved_room : (p : ℕ) (xs zs : List ℕ) → length xs < 16 → has p xs ≡ false → zs ≡ insert xs 0 p → zs ≡ take 16 (p ∷ without p xs)
-moved_room p xs zs few absent zs_is =
-    zs_is ∙ ap (λ (ws : List ℕ). p ∷ ws) (sym (take_all 15 xs (omega (arith, few))) ∙ ap (λ (ws : List ℕ). take 15 ws) (sym (nothing_without p xs absent)))
-
--- and no room: the last goes
-pub moved_full : (p : ℕ) (xs ys zs : List ℕ) → length xs ≡ 16 → has p xs ≡ false → ys ≡ take (length xs - 1) xs → zs ≡ insert ys 0 p → zs ≡ take 16 (p ∷ without p xs)
-moved_full p xs ys zs full absent ys_is zs_is =
-    zs_is ∙ ap (λ (ws : List ℕ). p ∷ ws) (ys_is ∙ ap (λ (n : ℕ). take (n - 1) xs) full ∙ ap (λ (ws : List ℕ). take 15 ws) (sym (nothing_without p xs absent)))
-
-pub absent_all : (p : ℕ) (xs : List ℕ) → ((j d : ℕ) → j < length xs → get_or xs j d ≢ p) → has p xs ≡ false
-absent_all p [] none = refl
-absent_all p (x ∷ xs) none = either_test p x xs (λ same. none 0 0 (omega arith) (sym same)) (absent_all p xs (λ j d lt. none (suc j) d (omega (arith, lt))))

@@ -1,5 +1,6 @@
 -- One more use.
-use Rattle.std.proofs.Common.{◌≡◌, ◌≢◌, ℕ, zero, suc, ◌+◌, ◌<◌, ◌==◌, Bool, true, false, not, ◌&&◌, ◌||◌, if◌then◌else◌, List, [], ◌∷◌, ◌++◌, reverse, take, set, Option, None, Some, slice_get, is_some, refl, sym, ap, subst, arith, ◌∙◌, ◌⊎◌, inl, inr}
+use Rattle.std.proofs.Common.{◌≡◌, ◌≢◌, ℕ, zero, suc, ◌+◌, ◌<◌, ◌==◌, Bool, true, false, not, ◌&&◌, ◌||◌, if◌then◌else◌, List, [], ◌∷◌, ◌++◌, reverse, take, set, Option, None, Some, slice_get}
+use Rattle.std.proofs.Common.{is_some, refl, sym, ap, subst, arith, ◌∙◌, ◌⊎◌, inl, inr}
 use Rattle.std.proofs.lemmas.Bool.{cases_eq}
 use Rattle.std.proofs.lemmas.Bool.Decides.{nat_tests}
 use Rattle.std.proofs.lemmas.List.{reverse-append}
@@ -7,9 +8,11 @@ use Rattle.std.specs.Prelude.{slice_set}
 use Rattle.mm_word.specs.declared.perm.Kind.{Kind}
 use Rattle.mm_model.specs.Uses.{Use, Accessed, Removed, accesses-append}
 use Rattle.mm_model.specs.declared.counts.Counts.{Counts}
-use Rattle.mm_model.specs.Counted.{latest, written, recent, numbers, page_of_block, block_of, line_of, kept, has, distinct, is_block, is_hit, given_back, written_back, looked_up, look_ups, buffer_hits, buffer_misses, page_of_old, writes}
+use Rattle.mm_model.specs.Counted.{latest, written, recent, numbers, page_of_block, block_of, line_of, kept, has, distinct, is_block, is_hit, given_back, written_back, looked_up, look_ups}
+use Rattle.mm_model.specs.Counted.{buffer_hits, buffer_misses, page_of_old, writes}
 use Rattle.mm_model.specs.Flags.{one_if}
-use Rattle.mm_vmem.specs.Stands.{LineState, state_with, line_after, line_without, Stands, moved, flat_line, state_at, state_has, back_of, next_state, sought, after_looks, found_in, missed_in, next_numbers, lines_without}
+use Rattle.mm_vmem.specs.Stands.{LineState, state_with, line_after, line_without, Stands, moved, flat_line, state_at, state_has, back_of, next_state, sought, after_looks, found_in, missed_in}
+use Rattle.mm_vmem.specs.Stands.{next_numbers, lines_without}
 use Rattle.mm_vmem.proofs.Recents.{move_first}
 
 snoc : (us : List Use) (u : Use) → u ∷ reverse us ≡ reverse (us ++ u ∷ [])
@@ -37,13 +40,15 @@ next_of_tag (Some x) w d b = refl
 line_here : (us : List Use) (kind : Kind) (addr : ℕ) (done : Bool) →
     line_after (line_of (block_of addr)) (Accessed kind addr true done ∷ us) ≡ next_state (line_after (line_of (block_of addr)) us) (block_of addr) (writes kind && done)
 line_here us kind addr done =
-    ap (λ (t : Bool). state_with (if t then Some (block_of addr) else latest (line_of (block_of addr)) us) (if t then (writes kind && done) || (is_hit (block_of addr) us && written (line_of (block_of addr)) us) else written (line_of (block_of addr)) us)) (self_test (line_of (block_of addr)))
+    ap (λ (t : Bool). state_with (if t then Some (block_of addr) else latest (line_of (block_of addr)) us)
+    (if t then (writes kind && done) || (is_hit (block_of addr) us && written (line_of (block_of addr)) us) else written (line_of (block_of addr)) us)) (self_test (line_of (block_of addr)))
     ∙ next_of_tag (latest (line_of (block_of addr)) us) (written (line_of (block_of addr)) us) (writes kind && done) (block_of addr)
 
 -- the other lines
 line_there : (i : ℕ) (us : List Use) (kind : Kind) (addr : ℕ) (done : Bool) → line_of (block_of addr) ≢ i → line_after i (Accessed kind addr true done ∷ us) ≡ line_after i us
 line_there i us kind addr done other =
-    ap (λ (t : Bool). state_with (if t then Some (block_of addr) else latest i us) (if t then (writes kind && done) || (is_hit (block_of addr) us && written i us) else written i us)) (other_test (line_of (block_of addr)) i other)
+    ap (λ (t : Bool). state_with (if t then Some (block_of addr) else latest i us) (if t then (writes kind && done) || (is_hit (block_of addr) us && written i us) else written i us))
+    (other_test (line_of (block_of addr)) i other)
 
 get_here : {A : Type 0} (xs : List A) (i : ℕ) (c d : A) → slice_get xs i ≡ Some d → slice_get (set xs i c) i ≡ Some c
 get_here [] i c d is = cc
@@ -82,7 +87,8 @@ lines_next lines new us kind addr done are is i small = ap (λ (xs : List (Optio
   where
     by_case : (line_of (block_of addr) ≡ i) ⊎ (line_of (block_of addr) ≢ i) → slice_get (next_lines lines kind addr done) i ≡ Some (line_after i (Accessed kind addr true done ∷ us))
     by_case (inl same) = subst (λ (j : ℕ). slice_get (next_lines lines kind addr done) j ≡ Some (line_after j (Accessed kind addr true done ∷ us))) same (next_here lines us kind addr done are)
-    by_case (inr other) = get_other lines (line_of (block_of addr)) i (next_line lines kind addr done) other ∙ are i small ∙ ap (λ (t : Option LineState). Some t) (sym (line_there i us kind addr done other))
+    by_case (inr other) = get_other lines (line_of (block_of addr)) i (next_line lines kind addr done) other ∙ are i small
+        ∙ ap (λ (t : Option LineState). Some t) (sym (line_there i us kind addr done other))
 
 -- what is looked up
 back_same : (us : List Use) (b : ℕ) → written_back b us ≡ back_of (line_after (line_of b) us) b
@@ -226,8 +232,10 @@ stands_marked uses lines new buffer n us kind addr w new_is old =
     marked : (vs : List Use) → LinesAre lines (Accessed kind addr true false ∷ vs) → LinesAre new (Accessed kind addr true true ∷ vs)
     marked vs are i small = ap (λ (xs : List (Option LineState)). slice_get xs i) new_is ∙ by_case (cases_eq (line_of (block_of addr)) i)
       where
-        by_case : (line_of (block_of addr) ≡ i) ⊎ (line_of (block_of addr) ≢ i) → slice_get (slice_set lines (line_of (block_of addr)) (Some (record { block = block_of addr; dirty = true }))) i ≡ Some (line_after i (Accessed kind addr true true ∷ vs))
-        by_case (inl same) = subst (λ (j : ℕ). slice_get (slice_set lines (line_of (block_of addr)) (Some (record { block = block_of addr; dirty = true }))) j ≡ Some (line_after j (Accessed kind addr true true ∷ vs))) same
+        by_case : (line_of (block_of addr) ≡ i) ⊎ (line_of (block_of addr) ≢ i)
+            → slice_get (slice_set lines (line_of (block_of addr)) (Some (record { block = block_of addr; dirty = true }))) i ≡ Some (line_after i (Accessed kind addr true true ∷ vs))
+        by_case (inl same) = subst (λ (j : ℕ). slice_get (slice_set lines (line_of (block_of addr)) (Some (record { block = block_of addr; dirty = true }))) j ≡ Some
+            (line_after j (Accessed kind addr true true ∷ vs))) same
             (get_here lines (line_of (block_of addr)) (Some (record { block = block_of addr; dirty = true })) _ (are (line_of (block_of addr)) (omega arith))
             ∙ ap (λ (t : Option LineState). Some t) (sym (written_here vs kind addr w)))
         by_case (inr other) = get_other lines (line_of (block_of addr)) i (Some (record { block = block_of addr; dirty = true })) other ∙ are i small

@@ -5,11 +5,11 @@ use Rattle.mm_word.specs.declared.perm.Kind.{Kind}
 use Rattle.mm_word.specs.declared.word.Cell.{Cell}
 use Rattle.mm_model.specs.Uses.{Use, Accessed, Removed}
 use Rattle.mm_model.specs.Counted.{block_of, line_of, writes}
-use Rattle.mm_cache.specs.declared.line.Line.{Line}
+use Rattle.mm_cache.specs.declared.line.CacheLine.{CacheLine}
 use Rattle.mm_cache.specs.Lines.{hits, with_cell, without_page}
 use Rattle.mm_vmem.specs.Stands.{LineState, state_at, state_has, sought, after_looks, next_numbers}
 use Rattle.mm_frames.specs.Framed.{Framed}
-use Rattle.mm_vmem.specs.declared.buffer.Entry.{Entry}
+use Rattle.mm_vmem.specs.declared.tlb.Entry.{Entry}
 use Rattle.mm_vmem.specs.Entries.{pages_in}
 use Rattle.mm_vmem.specs.Cached.{Cached, StandsTo, line_states}
 use Rattle.mm_vmem.proofs.Steps.{stands_counted, stands_no_page, stands_removed, stands_marked, stands_none}
@@ -23,7 +23,8 @@ pub stands_hit : (now : Cached) (w : ℕ) (us : List Use) (kind : Kind) (done : 
     → StandsTo (record now { uses = now.uses + 1; numbers = record now.numbers { hits = now.numbers.hits + 1 } }) (us ++ Accessed kind w true done ∷ [])
 stands_hit now w us kind done hit nothing old =
     let there : state_has (tag_here now w) (block_of w) ≡ true = tag_hits now.lines (block_of w) ∙ hit in
-    stands_counted now.uses (now.uses + 1) (line_states now.lines) (line_states now.lines) (pages_in now.entries) (pages_in now.entries) now.numbers (record now.numbers { hits = now.numbers.hits + 1 }) us kind w done refl
+    stands_counted now.uses (now.uses + 1) (line_states now.lines) (line_states now.lines) (pages_in now.entries) (pages_in now.entries) now.numbers
+    (record now.numbers { hits = now.numbers.hits + 1 }) us kind w done refl
     (lines_there (line_states now.lines) (block_of w) (writes kind && done) there nothing)
     (ap (λ (ps : List ℕ). after_looks ps (pages_in now.entries)) (sym (sought_there (tag_here now w) (block_of w) there)))
     (numbers_there (tag_here now w) (block_of w) there (pages_in now.entries) now.numbers)
@@ -52,7 +53,8 @@ stands_miss now begun new w us kind done (Some c) begun_is absent nothing count 
     old
 
 -- a cell that is written after its access
-pub stands_written : (now : Cached) (lines : List (Option Line)) (w : ℕ) (c : Cell) (us : List Use) (kind : Kind) → lines ≡ with_cell now.lines w c → hits now.lines (block_of w) ≡ true → writes kind ≡ true
+pub stands_written : (now : Cached) (lines : List (Option CacheLine)) (w : ℕ) (c : Cell) (us : List Use) (kind : Kind) → lines ≡ with_cell now.lines w c → hits now.lines (block_of w) ≡ true
+    → writes kind ≡ true
     → StandsTo now (us ++ Accessed kind w true false ∷ []) → StandsTo (record now { lines = lines }) (us ++ Accessed kind w true true ∷ [])
 stands_written now lines w c us kind is hit writing old =
     stands_marked now.uses (line_states now.lines) (line_states lines) (pages_in now.entries) now.numbers us kind w writing (tags_written now.lines lines w c is hit) old
@@ -61,21 +63,28 @@ stands_written now lines w c us kind is hit writing old =
 pub stands_page_removed : (now new : Cached) (us : List Use) (page : ℕ) → new.uses ≡ now.uses → new.lines ≡ without_page page now.lines → new.entries ≡ [] → new.numbers ≡ now.numbers
     → StandsTo now us → StandsTo new (us ++ Removed page ∷ [])
 stands_page_removed now new us page uses lines entries numbers old =
-    let stood = stands_removed now.uses (line_states now.lines) (line_states new.lines) (pages_in now.entries) (pages_in new.entries) now.numbers us page (ap line_states lines ∙ tags_without page now.lines) (ap pages_in entries) old in
+    let stood = stands_removed now.uses (line_states now.lines) (line_states new.lines) (pages_in now.entries) (pages_in new.entries) now.numbers us page
+    (ap line_states lines ∙ tags_without page now.lines) (ap pages_in entries) old in
     record { count = uses ∙ stood.count; lines_are = stood.lines_are; buffer_is = stood.buffer_is; numbers_are = numbers ∙ stood.numbers_are }
 
 -- nothing that counts has changed
 pub stands_same : (now new : Cached) (us : List Use) → new.uses ≡ now.uses → new.lines ≡ now.lines → new.entries ≡ now.entries → new.numbers ≡ now.numbers → StandsTo now us → StandsTo new us
 stands_same now new us uses lines entries numbers old = record {
   count = uses ∙ old.count;
-  lines_are = λ i small. ap (λ (ls : List (Option Line)). slice_get (line_states ls) i) lines ∙ old.lines_are i small;
+  lines_are = λ i small. ap (λ (ls : List (Option CacheLine)). slice_get (line_states ls) i) lines ∙ old.lines_are i small;
   buffer_is = ap pages_in entries ∙ old.buffer_is;
   numbers_are = numbers ∙ old.numbers_are;
 }
 
 -- new contents
-pub stands_new : (f : Framed) (lines : List (Option Line)) (entries : List Entry) → f.reads ≡ 0 → f.writes ≡ 0 → lines ≡ replicate 64 None → entries ≡ []
-    → StandsTo (record { frames = f; lines = lines; entries = entries; uses = 0; numbers = record { hits = 0; misses = 0; writebacks = 0; tlb_hits = 0; tlb_misses = 0; reads = f.reads; writes = f.writes } }) []
+pub stands_new : (f : Framed) (lines : List (Option CacheLine)) (entries : List Entry) → f.reads ≡ 0 → f.writes ≡ 0 → lines ≡ replicate 64 None → entries ≡ []
+    → StandsTo (record {
+      frames = f;
+      lines = lines;
+      entries = entries;
+      uses = 0;
+      numbers = record { hits = 0; misses = 0; writebacks = 0; tlb_hits = 0; tlb_misses = 0; reads = f.reads; writes = f.writes };
+    }) []
 stands_new f lines entries reads writes lines_are entries_are =
-    stands_none (line_states lines) (pages_in entries) _ (λ i small. ap (λ (ls : List (Option Line)). slice_get (line_states ls) i) lines_are ∙ tags_empty 64 i small) (ap pages_in entries_are)
+    stands_none (line_states lines) (pages_in entries) _ (λ i small. ap (λ (ls : List (Option CacheLine)). slice_get (line_states ls) i) lines_are ∙ tags_empty 64 i small) (ap pages_in entries_are)
     (same_counts _ _ refl refl refl refl refl reads writes)

@@ -7,10 +7,10 @@ use Rattle.mm_model.specs.Flags.{one_if}
 use Rattle.mm_model.specs.Counted.{counts_of, line_of, page_of_block, has}
 use Rattle.mm_model.specs.declared.counts.Counts.{Counts}
 use Rattle.mm_frames.specs.Framed.{Framed, frame_of, memory_of}
-use Rattle.mm_cache.specs.declared.line.Line.{Line}
+use Rattle.mm_cache.specs.declared.line.CacheLine.{CacheLine}
 use Rattle.mm_cache.specs.Over.{over}
 use Rattle.mm_cache.specs.Laws.{Cover}
-use Rattle.mm_vmem.specs.declared.buffer.Entry.{Entry}
+use Rattle.mm_vmem.specs.declared.tlb.Entry.{Entry}
 use Rattle.mm_vmem.specs.Stands.{LineState, Stands, state_at, back_of}
 use Rattle.mm_vmem.specs.Entries.{pages_in}
 
@@ -19,34 +19,34 @@ use Rattle.mm_vmem.specs.Entries.{pages_in}
 -- a cached memory, as contracts see it
 pub record Cached : Type 0 where
   pub frames : Framed
-  pub lines : List (Option Line)
+  pub lines : List (Option CacheLine)
   -- the translation buffer
   pub entries : List Entry
   -- how many accesses were made
   pub uses : ℕ
   pub numbers : Counts
 
--- the flat memory that it means: its lines, clean and dirty, laid over the frames
+-- the flat memory that a cached memory means: its lines, clean and dirty, laid over the frames
 unfoldable pub meaning : Cached → Memory
 meaning c = over (memory_of c.frames) c.lines
 
-abbrev pub line_state : Option Line → Option LineState
+abbrev pub line_state : Option CacheLine → Option LineState
 line_state None = None
 line_state (Some l) = Some (record { block = l.block; dirty = l.dirty })
 
 -- the block and the flag of each line
-abbrev pub line_states : List (Option Line) → List (Option LineState)
+abbrev pub line_states : List (Option CacheLine) → List (Option LineState)
 line_states lines = map line_state lines
 
--- it stands to a list of uses: its lines, its buffer and its numbers are what the list says
+-- a cached memory stands to a list of uses: its lines, its buffer and its numbers are what the list says
 abbrev pub StandsTo : Cached → List Use → Type 0
 StandsTo c us = Stands c.uses (line_states c.lines) (pages_in c.entries) c.numbers us
 
--- what it tells of a list of uses
+-- what a cached memory tells of a list of uses
 abbrev pub tells : List Use → Option Counts
 tells us = Some (counts_of us)
 
--- numbers of so many accesses
+-- numbers that this many accesses can make
 pub record AreFew (n : Counts) (made : ℕ) : Type 0 where
   pub accesses : n.hits + n.misses ≤ made
   pub writebacks : n.writebacks ≤ made
@@ -66,11 +66,15 @@ pub record IsCached (c : Cached) : Type 0 where
 abbrev pub old_block : Cached → ℕ → Option ℕ
 old_block c block = back_of (state_at (line_states c.lines) (line_of block)) block
 
--- the numbers after a page was looked up in a buffer of these
+-- the numbers after a page was looked up in a translation buffer of these pages
 abbrev pub looked : ℕ → List ℕ → Counts → Counts
-looked page buffer n = record n { tlb_hits = n.tlb_hits + one_if (has page buffer); tlb_misses = n.tlb_misses + one_if (not (has page buffer)) }
+looked page buffer n = record n {
+  tlb_hits = n.tlb_hits + one_if (has page buffer);
+  tlb_misses = n.tlb_misses + one_if (not (has page buffer));
+}
 
 -- the numbers after a block went back, by a look-up of its page
 abbrev pub gone_back : Option ℕ → List ℕ → Counts → Counts
 gone_back None buffer n = n
-gone_back (Some block) buffer n = looked (page_of_block block) buffer (record n { writebacks = n.writebacks + 1; writes = n.writes + 1 })
+gone_back (Some block) buffer n = looked (page_of_block block) buffer
+    (record n { writebacks = n.writebacks + 1; writes = n.writes + 1 })

@@ -1,9 +1,9 @@
 -- The entries of the translation buffer, the last used first.
 use Rattle.std.specs.Prelude.{ℕ, ◌==◌, ◌≤◌, if◌then◌else◌, List, [], ◌∷◌, map, take, length, Option, None, Some}
-use Rattle.mm_vmem.specs.declared.buffer.Entry.{Entry}
+use Rattle.mm_vmem.specs.declared.tlb.Entry.{Entry}
 use Rattle.mm_vmem.specs.Stands.{IsDistinct}
 
--- the pages that it has
+-- the pages of these entries
 abbrev pub pages_in : List Entry → List ℕ
 pages_in entries = map (λ e. e.page) entries
 
@@ -14,9 +14,11 @@ frame_in page (e ∷ entries) = if e.page == page then Some e.frame else frame_i
 
 abbrev pub entries_without : ℕ → List Entry → List Entry
 entries_without page [] = []
-entries_without page (e ∷ entries) = if page == e.page then entries_without page entries else e ∷ entries_without page entries
+entries_without page (e ∷ entries) = if page == e.page then entries_without page entries
+    else e ∷ entries_without page entries
 
--- the buffer after a look-up of this entry's page: its entry is the first, and where there were 16 others the last of them is gone
+-- the buffer after a look-up of this entry's page: its entry is the first, and where there were 16 others the last of
+-- them is gone
 abbrev pub after_look_up : Entry → List Entry → List Entry
 after_look_up e entries = take 16 (e ∷ entries_without e.page entries)
 

@@ -1,9 +1,11 @@
 -- When lines, a buffer and numbers are what a list of uses says.
-use Rattle.std.specs.Prelude.{◌≡◌, ℕ, ◌+◌, ◌<◌, ◌==◌, Bool, false, not, ◌&&◌, ◌||◌, if◌then◌else◌, List, [], ◌∷◌, reverse, take, slice_get, Option, None, Some, is_some}
+use Rattle.std.specs.Prelude.{◌≡◌, ℕ, ◌+◌, ◌<◌, ◌==◌, Bool, false, not, ◌&&◌, ◌||◌, if◌then◌else◌, List, [], ◌∷◌}
+use Rattle.std.specs.Prelude.{reverse, take, slice_get, Option, None, Some, is_some}
 use Rattle.mm_model.specs.Uses.{Use, accesses}
 use Rattle.mm_model.specs.declared.counts.Counts.{Counts}
 use Rattle.mm_model.specs.Flags.{one_if}
-use Rattle.mm_model.specs.Counted.{latest, written, recent, numbers, page_of_block, has, without, given_back, page_of_old}
+use Rattle.mm_model.specs.Counted.{latest, written, recent, numbers, page_of_block, has, without, given_back}
+use Rattle.mm_model.specs.Counted.{page_of_old}
 
 -- a line that is not empty: its block, and whether it was written
 pub record LineState : Type 0 where
@@ -24,7 +26,8 @@ line_without page None = None
 line_without page (Some t) = if page_of_block t.block == page then None else Some t
 
 -- the count of uses, the lines, the buffer and the numbers are what these uses say
-pub record Stands (uses : ℕ) (lines : List (Option LineState)) (buffer : List ℕ) (n : Counts) (us : List Use) : Type 0 where
+pub record Stands (uses : ℕ) (lines : List (Option LineState)) (buffer : List ℕ) (n : Counts)
+    (us : List Use) : Type 0 where
   pub count : uses ≡ accesses us
   pub lines_are : (i : ℕ) → i < 64 → slice_get lines i ≡ Some (line_after i (reverse us))
   pub buffer_is : buffer ≡ take 16 (recent (reverse us))

@@ -1,10 +1,8 @@
-//! The cached memory: a translation buffer and a write-back cache over pages in frames, and what they count.
+//! The cached memory: a translation buffer (TLB) and a write-back cache over pages in frames, and what they count.
 #![tactic(auto)]
 
-mod buffer;
-#[cfg(test)]
-mod tests;
+mod tlb;
 mod vmem;
 
-pub use buffer::{Buffer, ENTRIES, Entry};
+pub use tlb::{ENTRIES, Entry, Tlb};
 pub use vmem::VMem;

@@ -1,4 +1,5 @@
-ghost use Rattle.std.specs.Prelude.{◌≡◌, ℕ, ◌+◌, ◌-◌, ◌*◌, ◌^◌, ◌%◌, ◌<◌, ◌≤◌, ◌&&◌, Bool, true, false, [], ◌∷◌, ◌++◌, IsTrue, IfOk, IfSome, IfNone, List, length, is_some, slice_set};
+ghost use Rattle.std.specs.Prelude.{◌≡◌, ℕ, ◌+◌, ◌-◌, ◌*◌, ◌^◌, ◌%◌, ◌<◌, ◌≤◌, ◌&&◌, Bool, true, false, [], ◌∷◌, ◌++◌};
+ghost use Rattle.std.specs.Prelude.{IsTrue, IfOk, IfSome, IfNone, List, length, is_some, slice_set};
 ghost use Rattle.std.specs.Ordering.{nat_cmp};
 ghost use Rattle.std.specs.FinMap.{is_sorted};
 ghost use Rattle.mm_word.specs.declared.perm.Kind.{Kind};
@@ -11,7 +12,7 @@ ghost use Rattle.mm_vmem.specs.Stands.{state_at, sought, after_looks, next_numbe
 ghost use Rattle.mm_vmem.specs.Entries.{pages_in, after_look_up};
 ghost use Rattle.mm_vmem.specs.Cached.{AreFew, meaning, StandsTo, tells, line_states, old_block, looked, gone_back};
 
-use crate::buffer::Buffer;
+use crate::tlb::Tlb;
 use mm_cache::Lines;
 use mm_frames::Frames;
 use mm_mem::{Boot, Inspect, Loaded, Memory, Reset, Stored, full_after, passes};
@@ -20,7 +21,7 @@ use mm_word::{Access, Cell, NoMemory, Post, Pre, Word};
 use std::alloc::Global;
 use std::marker::Model;
 
-// What is counted of lines and of the buffer; the frames count their blocks themselves.
+// Counts of the lines and of the TLB; the frames count their blocks themselves.
 #[derive(Clone, Copy, Drop)]
 struct Tally {
     hits: u64,
@@ -38,17 +39,19 @@ const NOTHING: Tally = Tally {
     tlb_misses: 0,
 };
 
-/// The cached memory: a write-back cache of 64 lines over pages in frames, with a translation buffer of 16 entries. It counts what they do.
+/// The cached memory: a write-back cache of 64 lines over pages in frames, with a translation buffer (TLB) of 16
+/// entries. It counts what they do.
 ///
-/// An access whose block is in its line is a hit, and reads or writes there. A miss first makes room: a dirty block is written back to its frame, by a
-/// look-up of its page. Then its own page is looked up, and its block is read from the frame. All memory is taken when it is made.
+/// An access whose block is in its line is a hit, and reads or writes there. A miss first makes room: a dirty block is
+/// written back to its frame, by a look-up of its page. Then its own page is looked up, and its block is read from the
+/// frame. `new` takes all memory; no later call takes any.
 #[derive(Drop)]
 pub struct VMem {
     frames: Frames,
     lines: Lines,
-    buffer: Buffer,
+    tlb: Tlb,
     tally: Tally,
-    // Accesses that were no hits: those that missed, and those that found no page.
+    // Accesses that did not hit: those that missed, and those that found no page.
     others: u64,
 }
 
@@ -61,7 +64,7 @@ impl Model for VMem {
     ghost view = { λ m. record {
       frames = m.frames;
       lines = m.lines;
-      entries = m.buffer;
+      entries = m.tlb;
       uses = m.others + m.tally.hits;
       numbers = record {
         hits = m.tally.hits;
@@ -77,7 +80,7 @@ impl Model for VMem {
     ghost invariant = { λ m. IsCached (record {
       frames = m.frames;
       lines = m.lines;
-      entries = m.buffer;
+      entries = m.tlb;
       uses = m.others + m.tally.hits;
       numbers = record {
         hits = m.tally.hits;
@@ -92,7 +95,8 @@ impl Model for VMem {
 }
 
 impl VMem {
-    // The cell of a word, whose block is in its line then; none where its page is not mapped. It is counted as an access.
+    // Accesses a word, which is counted: its cell, and its block is then in its line; none where its page is not
+    // mapped.
     #[inline(always)]
     fn touch(&mut self, word: u64) -> Option<Cell>
         requires aligned { word % 8 ≡ 0 }
@@ -103,8 +107,9 @@ impl VMem {
         ensures count { self.new.uses ≡ self.old.uses + 1 }
         ensures there { IfSome result (λ cell. hits self.new.lines (block_of word) ≡ true) }
 
-        // The lists to which it stood, with this access of any kind, as long as it wrote nothing.
-        ensures takes { (us : List Use) (kind : Kind) (done : Bool) → (writes_of kind && done) ≡ false → StandsTo self.old us
+        // The memory stands to each list to which it stood, with this access of any kind after it that wrote nothing.
+        ensures takes { (us : List Use) (kind : Kind) (done : Bool) → (writes_of kind && done) ≡ false
+            → StandsTo self.old us
             → StandsTo self.new (us ++ Accessed kind word (is_some result) done ∷ []) }
     {
         match self.lines.cell(word) {
@@ -133,9 +138,14 @@ impl VMem {
         ensures count { self.new.uses ≡ self.old.uses }
         ensures there { IfSome result (λ cell. hits self.new.lines (block_of word) ≡ true) }
         ensures same { IfNone result (self.new ≡ self.old) }
-        ensures lines { IfSome result (λ cell. line_states self.new.lines ≡ slice_set (line_states self.old.lines) (line_of (block_of word)) (Some (record { block = block_of word; dirty = false }))) }
-        ensures entries { IfSome result (λ cell. pages_in self.new.entries ≡ after_looks (sought (state_at (line_states self.old.lines) (line_of (block_of word))) (block_of word)) (pages_in self.old.entries)) }
-        ensures numbers { IfSome result (λ cell. self.new.numbers ≡ next_numbers (state_at (line_states self.old.lines) (line_of (block_of word))) (block_of word) (pages_in self.old.entries) self.old.numbers) }
+        ensures lines { IfSome result (λ cell. line_states self.new.lines ≡ slice_set (line_states self.old.lines)
+            (line_of (block_of word)) (Some (record { block = block_of word; dirty = false }))) }
+        ensures entries { IfSome result (λ cell. pages_in self.new.entries ≡ after_looks
+            (sought (state_at (line_states self.old.lines) (line_of (block_of word))) (block_of word))
+            (pages_in self.old.entries)) }
+        ensures numbers { IfSome result (λ cell. self.new.numbers ≡ next_numbers
+            (state_at (line_states self.old.lines) (line_of (block_of word))) (block_of word)
+            (pages_in self.old.entries) self.old.numbers) }
     {
         let block = word / 64;
         let frame = self.frame_of(block / 64)?;
@@ -154,18 +164,21 @@ impl VMem {
         ensures there { hits self.new.lines block ≡ true }
         ensures after { meaning self.new ≡ meaning self.old }
         ensures count { self.new.uses ≡ self.old.uses }
-        ensures lines { line_states self.new.lines ≡ slice_set (line_states self.old.lines) (line_of block) (Some (record { block = block; dirty = false })) }
-        ensures entries { pages_in self.new.entries ≡ after_looks (sought (state_at (line_states self.old.lines) (line_of block)) block) (pages_in self.old.entries) }
-        ensures numbers { self.new.numbers ≡ next_numbers (state_at (line_states self.old.lines) (line_of block)) block (pages_in self.old.entries) self.old.numbers }
+        ensures lines { line_states self.new.lines ≡ slice_set (line_states self.old.lines) (line_of block)
+            (Some (record { block = block; dirty = false })) }
+        ensures entries { pages_in self.new.entries ≡ after_looks
+            (sought (state_at (line_states self.old.lines) (line_of block)) block) (pages_in self.old.entries) }
+        ensures numbers { self.new.numbers ≡ next_numbers (state_at (line_states self.old.lines) (line_of block)) block
+            (pages_in self.old.entries) self.old.numbers }
     {
         self.tally.misses += 1;
         self.make_room(block);
         self.look_up(block / 64, frame);
-        let cells = self.frames.read_block(frame, (block % 64) as u8);
-        self.lines.fill(block, cells);
+        let cells = self.frames.read_packed(frame, (block % 64) as u8);
+        self.lines.fill_packed(block, cells);
     }
 
-    // Empties the line of a block that is not there, and writes back what was dirty.
+    // Empties the line of a block that is not there, and writes its old block back where that is dirty.
     fn make_room(&mut self, block: u64)
         requires absent { hits self.old.lines block ≡ false }
         requires room { self.old.uses ≤ 2 ^ 62 }
@@ -176,10 +189,12 @@ impl VMem {
         ensures after { meaning self.new ≡ meaning self.old }
         ensures pages { self.new.frames.rows ≡ self.old.frames.rows }
         ensures count { self.new.uses ≡ self.old.uses }
-        ensures entries { pages_in self.new.entries ≡ after_looks (page_of_old (old_block self.old block)) (pages_in self.old.entries) }
-        ensures numbers { self.new.numbers ≡ gone_back (old_block self.old block) (pages_in self.old.entries) self.old.numbers }
+        ensures entries { pages_in self.new.entries ≡ after_looks (page_of_old (old_block self.old block))
+            (pages_in self.old.entries) }
+        ensures numbers { self.new.numbers ≡ gone_back (old_block self.old block)
+            (pages_in self.old.entries) self.old.numbers }
     {
-        if let Some(victim) = self.lines.evict((block % 64) as u8) {
+        if let Some(victim) = self.lines.evict_packed((block % 64) as u8) {
             let page = victim.block / 64;
             let Some(frame) = self.frame_of(page) else {
                 unreachable!();
@@ -187,28 +202,32 @@ impl VMem {
             self.tally.writebacks += 1;
             self.look_up(page, frame);
             self.frames
-                .write_block(frame, (victim.block % 64) as u8, &victim.cells);
+                .write_packed(frame, (victim.block % 64) as u8, &victim.cells);
         }
     }
 
-    // The frame of a page: the buffer's, or found among the mapped pages.
+    // The frame of a page: that of the TLB's entry, or else found among the mapped pages.
     fn frame_of(&self, page: u64) -> Option<u32>
         ensures { result ≡ frame_of self.now.frames page }
     {
-        match self.buffer.find(page) {
+        match self.tlb.find(page) {
             Some(frame) => Some(frame),
             None => self.frames.frame_of(page),
         }
     }
 
-    // Looks up a page in the buffer, and counts whether it was there.
+    // Looks up a page in the TLB, and counts whether it was there.
     fn look_up(&mut self, page: u64, frame: u32)
         requires frame { frame_of self.old.frames page ≡ Some frame }
         requires room { self.old.uses ≤ 2 ^ 62 }
         requires few { self.old.numbers.tlb_hits + self.old.numbers.tlb_misses < 2 * self.old.uses }
-        ensures { self.new ≡ record self.old { entries = after_look_up (record { page = page; frame = frame }) self.old.entries; numbers = looked page (pages_in self.old.entries) self.old.numbers } }
+        ensures { self.new ≡ record self.old {
+          entries = after_look_up (record { page = page; frame = frame }) self.old.entries;
+          numbers = looked page
+              (pages_in self.old.entries) self.old.numbers;
+        } }
     {
-        if self.buffer.look_up(page, frame) {
+        if self.tlb.look_up(page, frame) {
             self.tally.tlb_hits += 1;
         } else {
             self.tally.tlb_misses += 1;
@@ -222,7 +241,8 @@ impl VMem {
         ensures count { self.new.uses ≡ self.old.uses }
 
         // An access of this word that wrote nothing yet has written.
-        ensures takes { (us : List Use) (kind : Kind) → writes_of kind ≡ true → StandsTo self.old (us ++ Accessed kind word true false ∷ [])
+        ensures takes { (us : List Use) (kind : Kind) → writes_of kind ≡ true
+            → StandsTo self.old (us ++ Accessed kind word true false ∷ [])
             → StandsTo self.new (us ++ Accessed kind word true true ∷ []) }
     {
         self.lines.put(word, cell);
@@ -282,23 +302,14 @@ impl Memory for VMem {
         self.frames.take(page).is_some()
     }
 
-    // Its lines go without a write-back, and the buffer is emptied.
+    // The page's lines go without a write-back, and the TLB is emptied.
     fn unmap(&mut self, page: u64) -> bool {
         let removed = self.frames.give(page);
         if removed {
             self.lines.drop_page(page);
-            self.buffer.clear();
+            self.tlb.clear();
         }
         removed
-    }
-}
-
-impl VMem {
-    /// Of every cached memory: its pages rise, each is whole, and no more are mapped than it has frames. Nothing is done.
-    pub fn paged(&self)
-        ensures { IsPaged (meaning self.now) }
-    {
-        let _others = self.others;
     }
 }
 
@@ -315,7 +326,11 @@ impl Inspect for VMem {
         }
     }
 
-    fn pages(&self) -> u32 {
+    // The pages of every cached memory rise, each is whole, and no more are mapped than it has frames.
+    fn pages(&self) -> u32
+        ensures count { result ≡ length (meaning self.now).pages }
+        ensures paged { IsPaged (meaning self.now) }
+    {
         self.frames.pages()
     }
 
@@ -353,11 +368,10 @@ impl Boot for VMem {
         ensures paged { IfOk result (λ m. IsPaged (meaning m)) }
     {
         let frames = Frames::new(alloc, pages, frames)?;
-        frames.paged();
         Ok(VMem {
             frames,
             lines: Lines::new(),
-            buffer: Buffer::new(),
+            tlb: Tlb::new(),
             tally: NOTHING,
             others: 0,
         })
@@ -373,9 +387,8 @@ impl Reset for VMem {
         ensures paged { IsPaged (meaning self.new) }
     {
         self.frames.reset(pages);
-        self.frames.paged();
         self.lines.clear();
-        self.buffer.clear();
+        self.tlb.clear();
         self.tally = NOTHING;
         self.others = 0;
     }

@@ -8,7 +8,8 @@ pub record Adds {S A : Type 0} (stands : S → List A → Type 0) (old new : S) 
 
 module _ {S A : Type 0} {stands : S → List A → Type 0} where
   pub adds_none : (s : S) → Adds stands s s []
-  adds_none s = record { each = λ before h. let P : List A → Type 0 = λ xs. stands s xs in subst P (sym (append-nil before)) h }
+  adds_none s =
+      record { each = λ before h. let P : List A → Type 0 = λ xs. stands s xs in subst P (sym (append-nil before)) h }
 
   -- one after the other
   pub adds_both : {a b c : S} {xs ys : List A} → Adds stands a b xs → Adds stands b c ys → Adds stands a c (xs ++ ys)

@@ -1,7 +1,10 @@
 //! What holds of every pointer, permission and segment.
 //!
 //! These functions do nothing when they run: the contract of each is the law.
-ghost use Rattle.mm_word.specs.Laws.{RestrictionIsTransitive, FetchingLoads, StoringLoads, BelowIsReflexive, BelowIsTransitive, BelowIsWellFormed, ResultsAreBelow, SpelledIsWellFormed, EnteredIsWellFormed, PassedIsGranted, ShorterSegmentsNest, ShortSegmentsCoverNothing, BitsAreInjective};
+ghost use Rattle.mm_word.specs.Laws.{RestrictionIsTransitive, FetchingLoads, StoringLoads, BelowIsReflexive};
+ghost use Rattle.mm_word.specs.Laws.{BelowIsTransitive, BelowIsWellFormed, ResultsAreBelow, SpelledIsWellFormed};
+ghost use Rattle.mm_word.specs.Laws.{EnteredIsWellFormed, PassedIsGranted, ShorterSegmentsNest};
+ghost use Rattle.mm_word.specs.Laws.{ShortSegmentsCoverNothing, BitsAreInjective};
 
 /// What a chain of restrictions gives, one restriction may give: the table is transitively closed.
 pub fn restriction_is_transitive()

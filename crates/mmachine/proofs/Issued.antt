@@ -10,8 +10,8 @@ use Rattle.mm_sched.specs.declared.schedule.Order.TheVariants as order
 use Rattle.mm_sched.specs.Orders.{items_of}
 use Rattle.mm_model.specs.Spelling.{IsImage}
 use Rattle.mm_machine.specs.Snapshot.{Parts, IsSnapshotOf}
-use Rattle.mm_save.specs.Checkpoints.{saved_of, spelling}
-use Rattle.mm_save.proofs.Forms.{have_forms}
+use Rattle.mm_checkpoint.specs.Checkpoints.{saved_of, spelling}
+use Rattle.mm_checkpoint.proofs.Forms.{have_forms}
 use Rattle.mm_machine.specs.Going.{WentOn}
 use Rattle.mm_load.specs.Kinds.{values_of}
 use Rattle.mmachine.specs.Saving.{items_behind, last_behind, last_issued, saved_after, Further}

@@ -2,6 +2,7 @@
 use Rattle.std.proofs.Common.{◌≡◌, inl, inr, ℕ, List, [], ◌++◌, Option, None, Some, Result, Ok, Err, refl, sym, subst}
 use Rattle.std.specs.Result.{IsErrAnd}
 use Rattle.mm_word.specs.Adding.{adds_none}
+use Rattle.mm_io.specs.Files.{PieceRead}
 use Rattle.mm_load.specs.declared.status.Refusal.{Refusal}
 use Rattle.mm_load.specs.declared.status.Stop.{Stop}
 use Rattle.mm_load.specs.declared.status.Stop.TheVariants as stop
@@ -50,12 +51,12 @@ row_ends {files = files} {out = out} {Text = Text} {row = row} {values = values}
     ends_read files out Text row (values t) Refuses IsText result (subst P (sym all) read.accepted) (subst R (sym all) read.asked) ends refuses writes
 
 -- a row that reads nothing
-pub row_alone : {F : Type 0} (held : F → List ℕ → Option (List ℕ)) (faults : F → List ℕ → ℕ) (asked : F → List (List ℕ) → Type 0) (files : F) {out : Writing}
+pub row_alone : {F : Type 0} (held : F → List ℕ → Option (List ℕ)) (faults : F → List ℕ → ℕ) (asked : F → List PieceRead → Type 0) (files : F) {out : Writing}
     (Text : Row → List Value → List ℕ → Type 0) (row : Row) (IsText : List ℕ → Type 0) {result : Result (Unit {0}) Stop} → files_of row ≡ [] → EndsWith out IsText result
     → ((text : List ℕ) → IsText text → Text row [] text) → CommandEnds (reading held faults asked files files) out Text row result
 row_alone held faults asked files {out = out} Text row IsText {result = result} none ends writes =
     let r = reading held faults asked files files in
-    let nothing : AsksFiles r [] [] = record { names = []; asked = adds_none files; in_order = refl } in
+    let nothing : AsksFiles r [] [] = record { reads = []; asked = adds_none files; in_order = refl } in
     ends_read r out Text row [] (λ r. ⊥) IsText result (subst (λ (fs : List (List ℕ × Kind)). FilesAccepted r.held [] fs []) (sym none) tt)
     (subst (λ (fs : List (List ℕ × Kind)). AsksFiles r [] fs) (sym none) nothing) ends (λ r no. absurd no) writes
 

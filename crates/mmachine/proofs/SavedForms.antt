@@ -7,7 +7,7 @@ use Rattle.mm_model.specs.Spelling.{IsImage}
 use Rattle.mm_model.proofs.Starts.{start_fits}
 use Rattle.mm_thread.specs.declared.output.Output.{Output}
 use Rattle.mm_machine.specs.Snapshot.{Parts, CanRestore}
-use Rattle.mm_save.specs.Checkpoints.{IsCheckpoint}
+use Rattle.mm_checkpoint.specs.Checkpoints.{IsCheckpoint}
 
 pub can_begin : (i : Image) (p : Parts) (last : Option ℕ) → IsImage i → IsCheckpoint i p last → CanRestore (start i) p
 can_begin i p last image checkpoint =

@@ -16,15 +16,15 @@ use Rattle.mm_machine.specs.Kept.{Kept}
 use Rattle.mm_machine.specs.Snapshot.{Parts, restored}
 use Rattle.mm_machine.proofs.Keeping.{kept_start, kept_after}
 use Rattle.mm_machine.proofs.Returning.{put_back}
-use Rattle.mm_save.specs.Checkpoints.{Saved, saved_of, Saves}
-use Rattle.mm_save.specs.States.{saved_form}
-use Rattle.mm_save.specs.Laws.{IsSavedState}
-use Rattle.mm_save.proofs.CheckpointBytes.{checkpoints_are_short}
-use Rattle.mm_save.proofs.Forms.{have_forms, of_form}
-use Rattle.mm_save.proofs.RunCheckpoints.{runs_have_checkpoints}
-use Rattle.mm_save.proofs.SpelledLaws.{are_one}
-use Rattle.mm_save.proofs.GoesOn as whole
-use Rattle.mm_save.proofs.RobinOn as robin
+use Rattle.mm_checkpoint.specs.Checkpoints.{Saved, saved_of, Saves}
+use Rattle.mm_checkpoint.specs.States.{saved_form}
+use Rattle.mm_checkpoint.specs.Laws.{IsSavedState}
+use Rattle.mm_checkpoint.proofs.CheckpointBytes.{checkpoints_are_short}
+use Rattle.mm_checkpoint.proofs.Forms.{have_forms, of_form}
+use Rattle.mm_checkpoint.proofs.RunCheckpoints.{runs_have_checkpoints}
+use Rattle.mm_checkpoint.proofs.SpelledLaws.{are_one}
+use Rattle.mm_checkpoint.proofs.GoesOn as whole
+use Rattle.mm_checkpoint.proofs.RobinOn as robin
 use Rattle.mm_cli.specs.declared.table.Kind.TheVariants.{Checkpoint as checkpoint_file}
 use Rattle.mm_load.specs.Kinds.{Value, an_image, a_list, a_checkpoint, Accepts}
 use Rattle.mmachine.specs.Orders.{Issues}

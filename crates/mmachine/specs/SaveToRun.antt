@@ -8,7 +8,7 @@ use Rattle.mm_model.specs.Run.{run, uses, robin_from}
 use Rattle.mm_model.specs.Schedule.{first_items}
 use Rattle.mm_model.specs.Report.{report}
 use Rattle.mm_model.specs.Spelling.{IsImage}
-use Rattle.mm_save.specs.Checkpoints.{Saved}
+use Rattle.mm_checkpoint.specs.Checkpoints.{Saved}
 use Rattle.mm_cli.specs.declared.table.Kind.TheVariants.{Checkpoint as checkpoint_file}
 use Rattle.mm_load.specs.Kinds.{Value, an_image, a_list, a_checkpoint, limit_of, Accepts}
 use Rattle.mmachine.specs.Orders.{Issues}

@@ -8,8 +8,8 @@ use Rattle.mm_model.specs.Run.{run, uses, robin_from, last_item}
 use Rattle.mm_model.specs.Schedule.{first_items}
 use Rattle.mm_model.specs.Report.{report}
 use Rattle.mm_machine.specs.Snapshot.{IsAlike}
-use Rattle.mm_save.specs.Checkpoints.{Saved, spelling}
-use Rattle.mm_save.specs.States.{saved_form}
+use Rattle.mm_checkpoint.specs.Checkpoints.{Saved, spelling}
+use Rattle.mm_checkpoint.specs.States.{saved_form}
 use Rattle.mm_sched.specs.declared.schedule.Order.{Order}
 use Rattle.mm_sched.specs.declared.schedule.Order.TheVariants as order
 use Rattle.mm_load.specs.Kinds.{Value, a_list}

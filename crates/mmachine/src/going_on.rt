@@ -1,6 +1,6 @@
 // `continue`: the report of an image that goes on from a checkpoint, after so many cycles more.
 ghost use Rattle.std.specs.Prelude.{◌≤◌};
-ghost use Rattle.mm_save.specs.Checkpoints.{IsCheckpoint, saved_of};
+ghost use Rattle.mm_checkpoint.specs.Checkpoints.{IsCheckpoint, saved_of};
 ghost use Rattle.mm_load.specs.Files.{reading};
 ghost use Rattle.mmachine.specs.Table.{row_of};
 ghost use Rattle.mm_load.specs.Kinds.{values_of};

@@ -1,8 +1,7 @@
 use crate::top::mmachine;
-use mm_io::{MemFiles, MemSink, MemSource, Source, StdFiles, StdSink, StdSource, SureSource};
+use mm_io::{MemFiles, MemSink, MemSource};
 use mm_load::Status;
 use mm_vmem::VMem;
-use std::fs;
 use std::test::Fail;
 
 const HELLO: &[u8] =
@@ -24,12 +23,6 @@ const TRACE_OF_TWO: &[u8] =
 
 const ALONE_0: &[u8] =
     b"cycles 4\ngroup 0 output 2\no 4141\nslot 0 turns 4 running ip p3300000000100000\nr 1 i0000000000000041\ncounts hits 3 misses 1 writebacks 0 tlb_hits 0 tlb_misses 1 reads 1 writes 0\n";
-
-const ALONE_1: &[u8] =
-    b"cycles 3\ngroup 1 output 2\no 4242\nslot 1 turns 3 running ip p3300000000100008\nr 1 i0000000000000042\ncounts hits 2 misses 1 writebacks 0 tlb_hits 0 tlb_misses 1 reads 1 writes 0\n";
-
-const BOTH: &[u8] =
-    b"cycles 7\ngroup 0 output 2\no 4141\nslot 0 turns 4 running ip p3300000000100000\nr 1 i0000000000000041\ngroup 1 output 2\no 4242\nslot 1 turns 3 running ip p3300000000100008\nr 1 i0000000000000042\ncounts hits 6 misses 1 writebacks 0 tlb_hits 0 tlb_misses 1 reads 1 writes 0\n";
 
 // A source of two lines, and its object.
 const SOURCE: &[u8] = b".segment a 3\nhalt\n";
@@ -53,14 +46,6 @@ const EVENTS: &[u8] = b"0:0*2 +0 0@0 1:0 1:1";
 
 const HELLO_AND_PAIR: &[u8] =
     b"node 0\ncycles 2\ngroup 0 output 1\no 41\nslot 0 turns 2 running ip p3300000000100010\nr 1 i0000000000000041\ncell 00000000100040 i0000000000000000 empty\ncounts hits 1 misses 2 writebacks 0 tlb_hits 1 tlb_misses 1 reads 2 writes 0\nnode 1\ncycles 2\ngroup 0 output 1\no 41\nslot 0 turns 1 running ip p3300000000100008\nr 1 i0000000000000041\ngroup 1 output 1\no 42\nslot 1 turns 1 running ip p3300000000100008\nr 1 i0000000000000042\ncounts hits 1 misses 2 writebacks 0 tlb_hits 1 tlb_misses 1 reads 2 writes 0\nlink 0 sent 1 arrived 0\n";
-
-// A node stores a letter, a link carries it, and the other node loads it and puts it out.
-const LETTER: &[u8] =
-    b"node 0\ncycles 1\ngroup 0 output 0\nslot 0 turns 1 running ip p3300000000100008\nr 1 p20c0000000101000\nr 2 i0000000000000041\ncell 00000000101000 i0000000000000041 empty\ncounts hits 1 misses 2 writebacks 0 tlb_hits 0 tlb_misses 2 reads 2 writes 0\nnode 1\ncycles 3\ngroup 0 output 1\no 41\nslot 0 turns 3 halted ip p3300000000100010\nr 1 p20c0000000101000\nr 2 i0000000000000041\ncell 00000000101000 i0000000000000041 empty\ncounts hits 1 misses 4 writebacks 2 tlb_hits 4 tlb_misses 2 reads 4 writes 2\nlink 0 sent 1 arrived 1\n";
-
-// The same of a pointer, which arrives as an integer: the other node cannot load through it.
-const POINTER: &[u8] =
-    b"node 0\ncycles 1\ngroup 0 output 0\nslot 0 turns 1 running ip p3300000000100008\nr 1 p20c0000000101000\nr 2 p20c0000000101000\ncell 00000000101000 p20c0000000101000 empty\ncounts hits 1 misses 2 writebacks 0 tlb_hits 0 tlb_misses 2 reads 2 writes 0\nnode 1\ncycles 3\ngroup 0 output 0\nslot 0 turns 2 faulted 1 ip p3300000000100008\nr 1 p20c0000000101000\nr 2 i20c0000000101000\ncell 00000000101000 i20c0000000101000 empty\ncounts hits 0 misses 4 writebacks 2 tlb_hits 4 tlb_misses 2 reads 4 writes 2\nlink 0 sent 1 arrived 1\n";
 
 /// The image of `examples/hello.img`.
 fn hello(rt: &HostRuntime) -> Result<Vec<u8>, Fail> {
@@ -108,33 +93,6 @@ fn putting(rt: &HostRuntime, slots: &[(u8, u8, u8)]) -> Result<Vec<u8>, Fail> {
     bytes.extend_from_slice(&0x0701_0000_0000_0000_u64.to_be_bytes())?;
     bytes.extend_from_slice(&0x4000_0000_ffff_ffff_u64.to_be_bytes())?;
     bytes.extend_from_slice(&[0; 4080])?;
-    Ok(bytes)
-}
-
-/// A node whose slot has a pointer to an empty word in register 1, a word in register 2, with these tags, and this code.
-fn node(rt: &HostRuntime, tags: u8, word: u64, code: [u64; 2]) -> Result<Vec<u8>, Fail> {
-    let mut bytes = Vec::from_slice(
-        rt.alloc(),
-        b"MMI1\x00\x01\x00\x01\x00\x02\x00\x02\x00\x00\x00\x00\x00\x00\xff\x00",
-    )?;
-    bytes.extend_from_slice(&0x3300_0000_0010_0000_u64.to_be_bytes())?;
-    bytes.extend_from_slice(&[0, tags, 0, 0, 0, 0, 0, 0, 0, 0])?;
-    bytes.extend_from_slice(&0x20c0_0000_0010_1000_u64.to_be_bytes())?;
-    bytes.extend_from_slice(&word.to_be_bytes())?;
-    bytes.extend_from_slice(&[0; 104])?;
-    // Page 0x100: the code.
-    bytes.extend_from_slice(&0x100_u64.to_be_bytes())?;
-    bytes.extend_from_slice(&[0; 64])?;
-    bytes.extend_from_slice(&[0xff; 64])?;
-    bytes.extend_from_slice(&code[0].to_be_bytes())?;
-    bytes.extend_from_slice(&code[1].to_be_bytes())?;
-    bytes.extend_from_slice(&[0; 4080])?;
-    // Page 0x101: its first cell is empty.
-    bytes.extend_from_slice(&0x101_u64.to_be_bytes())?;
-    bytes.extend_from_slice(&[0; 64])?;
-    bytes.push(0xfe)?;
-    bytes.extend_from_slice(&[0xff; 63])?;
-    bytes.extend_from_slice(&[0; 4096])?;
     Ok(bytes)
 }
 
@@ -204,45 +162,6 @@ fn strings(rt: &HostRuntime, words: &[&str]) -> Result<Vec<String>, Fail> {
     Ok(strings)
 }
 
-/// Files `IMAGE` and `SCHEDULE` with these bytes, which move so many bytes in a call.
-fn files(rt: &HostRuntime, image: Vec<u8>, schedule: &str, piece: usize) -> Result<MemFiles, Fail> {
-    let mut held = Vec::new(rt.alloc());
-    held.push((String::from_str(rt.alloc(), "IMAGE")?, image))?;
-    let schedule = Vec::from_slice(rt.alloc(), schedule.as_bytes())?;
-    held.push((String::from_str(rt.alloc(), "SCHEDULE")?, schedule))?;
-    Ok(MemFiles::new(held, Vec::new(rt.alloc()), piece.max(1)))
-}
-
-/// The answer to the words, with what the sinks took.
-fn answer(
-    rt: &HostRuntime,
-    words: &[&str],
-    files: MemFiles,
-) -> Result<(Status, MemSink, MemSink), Fail> {
-    let mut nothing = SureSource::new(Vec::new(rt.alloc()));
-    answer_to(rt, words, files, &mut nothing)
-}
-
-/// The same with this standard input.
-fn answer_to<I: Source>(
-    rt: &HostRuntime,
-    words: &[&str],
-    mut files: MemFiles,
-    input: &mut I,
-) -> Result<(Status, MemSink, MemSink), Fail> {
-    let mut out = MemSink::new(rt.alloc(), 10_000, Vec::new(rt.alloc()), 7)?;
-    let mut diag = MemSink::new(rt.alloc(), 100, Vec::new(rt.alloc()), 7)?;
-    let status = mmachine::<VMem, _, _, _, _>(
-        rt.alloc(),
-        &strings(rt, words)?,
-        &mut files,
-        input,
-        &mut out,
-        &mut diag,
-    );
-    Ok((status, out, diag))
-}
-
 /// The files that the tables of commands name, which move so many bytes in a call. The call of this number fails.
 fn shelf(rt: &HostRuntime, fails: u64, piece: usize) -> Result<MemFiles, Fail> {
     let mut held = Vec::new(rt.alloc());
@@ -267,178 +186,9 @@ fn shelf(rt: &HostRuntime, fails: u64, piece: usize) -> Result<MemFiles, Fail> {
     Ok(MemFiles::new(held, fails, piece.max(1)))
 }
 
-// The same text in whatever pieces the files are read.
-#[test]
-fn runs(rt: HostRuntime) -> Result<(), Fail> {
-    let rows: [(&[&str], &[u8]); 3] = [
-        (&["run", "HELLO", "10"], HELLO),
-        (&["run", "HELLO", "10", "SCHEDULE"], UNDER_A_SCHEDULE),
-        (&["run", "PAIR", "100", "TURNS"], BOTH),
-    ];
-    for (words, text) in rows {
-        for piece in [1, 4096] {
-            let (status, out, diag) = answer(&rt, words, shelf(&rt, 0, piece)?)?;
-            assert!(rt; matches!(status, Status::Done));
-            assert_eq!(rt; out.taken(), text);
-            assert_eq!(rt; diag.taken().len(), 0);
-        }
-    }
-    Ok(())
-}
-
-// The lines of two slots that take turns, and then the report.
-#[test]
-fn traces(rt: HostRuntime) -> Result<(), Fail> {
-    let held = files(&rt, pair(&rt, 0xff)?, TURNS, 4096)?;
-    let (status, out, diag) = answer(&rt, &["trace", "IMAGE", "100", "SCHEDULE"], held)?;
-    assert!(rt; matches!(status, Status::Done));
-    assert_eq!(rt; out.taken(), TRACE_OF_TWO);
-    assert_eq!(rt; diag.taken().len(), 0);
-    let held = files(&rt, hello(&rt)?, "", 4096)?;
-    let (status, out, _) = answer(&rt, &["trace", "IMAGE", "2"], held)?;
-    assert!(rt; matches!(status, Status::Done));
-    assert_eq!(rt; out.taken(), TWO_CYCLES);
-    Ok(())
-}
-
-// Each of two slots alone, under its own items.
-#[test]
-fn solos(rt: HostRuntime) -> Result<(), Fail> {
-    for (groups, alone) in [("0", ALONE_0), ("1", ALONE_1), ("0,1", BOTH)] {
-        let held = files(&rt, pair(&rt, 0xff)?, TURNS, 4096)?;
-        let (status, out, diag) = answer(&rt, &["solo", "IMAGE", groups, "100", "SCHEDULE"], held)?;
-        assert!(rt; matches!(status, Status::Done));
-        assert_eq!(rt; out.taken(), alone);
-        assert_eq!(rt; diag.taken().len(), 0);
-    }
-    // The first four items, and then those of the groups.
-    let held = files(&rt, pair(&rt, 0xff)?, TURNS, 4096)?;
-    let (_, out, _) = answer(&rt, &["solo", "IMAGE", "1", "4", "SCHEDULE"], held)?;
-    assert_eq!(rt; out.taken().starts_with(b"cycles 1\n"), true);
-    Ok(())
-}
-
-// What the audit has of each of two groups.
-const REACH_0: &str = "group 0 user\ntouch 00000000100000 12\n";
-
-const REACH_1: &str = "group 1 user\ntouch 00000000100000 12\n";
-
 // What the audit writes of both groups.
 const REACH: &[u8] =
     b"group 0 user\ntouch 00000000100000 12\napart 0 yes\ngroup 1 user\ntouch 00000000100000 12\napart 1 yes\n";
-
-// What each of two groups can reach, with its own answer, or with that of both together.
-#[test]
-fn audits(rt: HostRuntime) -> Result<(), Fail> {
-    let rows: [(&[&str], [&str; 4]); 2] = [
-        (
-            &["grants", "IMAGE"],
-            [REACH_0, "apart 0 yes\n", REACH_1, "apart 1 yes\n"],
-        ),
-        (
-            &["grants", "IMAGE", "0,1"],
-            [REACH_0, REACH_1, "apart 0,1 yes\n", ""],
-        ),
-    ];
-    for (words, parts) in rows {
-        let mut text = Vec::new(rt.alloc());
-        for part in parts {
-            text.extend_from_slice(part.as_bytes())?;
-        }
-        let held = files(&rt, pair(&rt, 0xff)?, TURNS, 4096)?;
-        let (status, out, diag) = answer(&rt, words, held)?;
-        assert!(rt; matches!(status, Status::Done));
-        assert_eq!(rt; out.taken(), text.as_slice());
-        assert_eq!(rt; diag.taken().len(), 0);
-    }
-    Ok(())
-}
-
-// The image of one of two groups, and a slot that is handled outside.
-#[test]
-fn extracts(rt: HostRuntime) -> Result<(), Fail> {
-    let held = files(&rt, pair(&rt, 0xff)?, TURNS, 4096)?;
-    let (status, out, _) = answer(&rt, &["extract", "IMAGE", "0"], held)?;
-    assert!(rt; matches!(status, Status::Done));
-    assert_eq!(rt; out.taken().len(), 4390);
-    assert_eq!(rt; out.taken().starts_with(b"MMI1\x00\x01\x00\x01"), true);
-    let held = files(&rt, pair(&rt, 1)?, TURNS, 4096)?;
-    let (status, out, diag) = answer(&rt, &["extract", "IMAGE", "0"], held)?;
-    assert!(rt; matches!(status, Status::Refused(_)));
-    assert_eq!(rt; diag.taken(), b"mmachine: crosses slot 0\n".as_slice());
-    assert_eq!(rt; out.taken().len(), 0);
-    Ok(())
-}
-
-// An image as version 2: another version and another mode, and the same slots and pages.
-#[test]
-fn migrates(rt: HostRuntime) -> Result<(), Fail> {
-    for (mode, number) in [("plain", 0), ("split", 1)] {
-        let new = hello_as(&rt, 2, number)?;
-        let held = files(&rt, hello(&rt)?, "", 4096)?;
-        let (status, out, diag) = answer(&rt, &["migrate", "IMAGE", mode], held)?;
-        assert!(rt; matches!(status, Status::Done));
-        assert_eq!(rt; out.taken(), new.as_slice());
-        assert_eq!(rt; diag.taken().len(), 0);
-    }
-    Ok(())
-}
-
-// Texts and their objects, and texts that mean none.
-#[test]
-fn assembles(rt: HostRuntime) -> Result<(), Fail> {
-    // Two names that the text does not have, in the order of their bytes, and two words that become pointers to them.
-    let pointers: &[u8] =
-        b"MMO1\x00\x01\x00\x01\x00\x02\x00\x02\x00\x00\x00\x02\x01a\x05\x00\x00\x00\x02\x01\x00\x00\x00\x00\x00\x00\x00\x00\x00\x00\x00\x00\x00\x00\x00\x00\x01b\x01z\x00\x00\x00\x00\x00\x00\x01\x00\x02\x00\x00\x00\x00\x00\x00\x00\x00\x00\x01\x02\x00\x01\x00\x00\x00\x05";
-    for (text, object) in [
-        (".segment a 3\nhalt\n", HALT),
-        (".segment a 3\r\nhalt", HALT),
-        (
-            ".spare 2\n.segment a 5\n.ptr ro z\n.empty .ptr rw b + 5",
-            pointers,
-        ),
-    ] {
-        let held = files(&rt, Vec::new(rt.alloc()), text, 4096)?;
-        let (status, out, _) = answer(&rt, &["asm", "SCHEDULE"], held)?;
-        assert!(rt; matches!(status, Status::Done));
-        assert_eq!(rt; out.taken(), object);
-    }
-    for (text, line) in [
-        (".segment a ; 3", "mmachine: source fault 2 at 1:15\n"),
-        (
-            ".segment a 3\nhalt\nhalt",
-            "mmachine: source fault 8 at 3:1\n",
-        ),
-        (
-            ".segment a 3\nbr nowhere",
-            "mmachine: source fault 5 at 2:4\n",
-        ),
-        (".segment a 3\nbr a", "mmachine: source fault 5 at 2:4\n"),
-        (
-            ".segment a 4\nx: halt\n.segment b 3\nbr x",
-            "mmachine: source fault 5 at 4:4\n",
-        ),
-        (
-            ".segment a 3\n.ptr ro a + 8",
-            "mmachine: source fault 4 at 2:9\n",
-        ),
-        (
-            ".segment a 3\nhalt\nx:\n.segment b 3\n.ptr ro x",
-            "mmachine: source fault 4 at 5:9\n",
-        ),
-        (
-            ".segment a 3\nbr nowhere\n$",
-            "mmachine: source fault 1 at 3:1\n",
-        ),
-    ] {
-        let held = files(&rt, Vec::new(rt.alloc()), text, 4096)?;
-        let (status, out, diag) = answer(&rt, &["asm", "SCHEDULE"], held)?;
-        assert!(rt; matches!(status, Status::Refused(_)));
-        assert_eq!(rt; out.taken(), b"".as_slice());
-        assert_eq!(rt; diag.taken(), line.as_bytes());
-    }
-    Ok(())
-}
 
 const LINES: &[u8] = b"step 1\nregs 0\nmem 0x100000 1\njump\nquit\n";
 
@@ -449,30 +199,6 @@ const REPLIES: &[u8] =
 fn lines(rt: &HostRuntime, fails: u64) -> Result<MemSource, Fail> {
     let fails = vec![in rt.alloc(); fails]?;
     Ok(MemSource::new(Vec::from_slice(rt.alloc(), LINES)?, fails, 10))
-}
-
-// A reply to each line of standard input, and none behind `quit`.
-#[test]
-fn debugs(rt: HostRuntime) -> Result<(), Fail> {
-    let held = files(&rt, hello(&rt)?, "", 4096)?;
-    let mut input = lines(&rt, 0)?;
-    let (status, out, diag) = answer_to(&rt, &["debug", "IMAGE"], held, &mut input)?;
-    assert!(rt; matches!(status, Status::Done));
-    assert_eq!(rt; out.taken(), REPLIES);
-    assert_eq!(rt; diag.taken().len(), 0);
-    Ok(())
-}
-
-// Standard input of one byte too many.
-#[test]
-fn long_input(rt: HostRuntime) -> Result<(), Fail> {
-    let held = files(&rt, hello(&rt)?, "", 4096)?;
-    let mut input = SureSource::new(vec![in rt.alloc(); b'\n'; 1_048_577]?);
-    let (status, out, diag) = answer_to(&rt, &["debug", "IMAGE"], held, &mut input)?;
-    assert!(rt; matches!(status, Status::Refused(_)));
-    assert_eq!(rt; out.taken().len(), 0);
-    assert_eq!(rt; diag.taken(), b"mmachine: file 0 too long\n".as_slice());
-    Ok(())
 }
 
 /// The answer to the words, with what the sinks took, where the calls of these numbers fail: of the files, of standard input, of `out`
@@ -615,181 +341,5 @@ fn each_write_of_an_image_fails(rt: HostRuntime) -> Result<(), Fail> {
             &hello(&rt)?
         )?
     );
-    Ok(())
-}
-
-// Ranges that are none, and one that a slot runs in; a number of cycles that is none, and a file that is no checkpoint.
-#[test]
-fn ranges(rt: HostRuntime) -> Result<(), Fail> {
-    for (words, line) in [
-        (["sweep", "PAIR", "8", "4"], "mmachine: usage\n"),
-        (["sweep", "PAIR", "8", "2"], "mmachine: usage\n"),
-        (["sweep", "PAIR", "08", "3"], "mmachine: usage\n"),
-        (["holders", "PAIR", "0", "55"], "mmachine: usage\n"),
-        (
-            ["holders", "PAIR", "18014398509481984", "3"],
-            "mmachine: usage\n",
-        ),
-        (["sweep", "PAIR", "1052664", "3"], "mmachine: held slot 0\n"),
-        (["sweep", "PAIR", "0", "54"], "mmachine: held slot 0\n"),
-        (["continue", "PAIR", "PAIR", "01"], "mmachine: usage\n"),
-        (
-            ["continue", "PAIR", "PAIR", "1"],
-            "mmachine: file 2 checkpoint fault at 0\n",
-        ),
-    ] {
-        let (_, out, diag) = attempt(&rt, &words, [0; 4])?;
-        assert_eq!(rt; out.taken().len(), 0);
-        assert_eq!(rt; diag.taken(), line.as_bytes());
-    }
-    Ok(())
-}
-
-/// Files `LINKS` and `EVENTS` with these texts, and the nodes `FIRST` and `SECOND`.
-fn net_files(
-    rt: &HostRuntime,
-    links: &str,
-    events: &str,
-    first: Vec<u8>,
-    second: Vec<u8>,
-) -> Result<MemFiles, Fail> {
-    let mut held = Vec::new(rt.alloc());
-    for (name, text) in [("LINKS", links), ("EVENTS", events)] {
-        let bytes = Vec::from_slice(rt.alloc(), text.as_bytes())?;
-        held.push((String::from_str(rt.alloc(), name)?, bytes))?;
-    }
-    held.push((String::from_str(rt.alloc(), "FIRST")?, first))?;
-    held.push((String::from_str(rt.alloc(), "SECOND")?, second))?;
-    Ok(MemFiles::new(held, Vec::new(rt.alloc()), 4096))
-}
-
-// The first node stores a word where a link takes, and the second loads where it puts: an integer, and a pointer.
-#[test]
-fn joins(rt: HostRuntime) -> Result<(), Fail> {
-    let out_it = 0x0702_0000_0000_0000;
-    let load_by_it = 0x3032_0000_0000_0000;
-    for (tags, word, then, text) in [
-        (2, 0x41, out_it, LETTER),
-        (6, 0x20c0_0000_0010_1000, load_by_it, POINTER),
-    ] {
-        let first = node(&rt, tags, word, [0x3101_2900_0000_0000, 0])?;
-        let second = node(&rt, 2, 0, [0x3021_0600_0000_0000, then])?;
-        let links = "0.1052672>1.1052672";
-        let held = net_files(&rt, links, "0:0 +0 0@0 0@0 1:0*3", first, second)?;
-        let words = ["net", "LINKS", "EVENTS", "100", "FIRST", "SECOND"];
-        let (status, out, diag) = answer(&rt, &words, held)?;
-        assert!(rt; matches!(status, Status::Done));
-        assert_eq!(rt; out.taken(), text);
-        assert_eq!(rt; diag.taken().len(), 0);
-    }
-    Ok(())
-}
-
-// Links and events with a fault, a link whose node is not there, and words that fit no net.
-#[test]
-fn joins_nothing(rt: HostRuntime) -> Result<(), Fail> {
-    for (links, events, words, line) in [
-        (
-            "0.1052672>1.8 0.1052672>1.16",
-            "8:0",
-            ["1", "FIRST", "SECOND"],
-            "mmachine: file 1 links fault at 14\n",
-        ),
-        (
-            "0.8>2.8",
-            "0:0 8:0",
-            ["1", "FIRST", "SECOND"],
-            "mmachine: file 2 schedule fault at 4\n",
-        ),
-        (
-            "0.8>2.8",
-            "",
-            ["1", "FIRST", "LINKS"],
-            "mmachine: file 4 image fault 2 at 0\n",
-        ),
-        (
-            "0.8>1.8 1.16>0.16 1.24>2.8 2.16>0.24",
-            "",
-            ["1", "FIRST", "SECOND"],
-            "mmachine: no node link 2\n",
-        ),
-        ("", "", ["1000001", "FIRST", "SECOND"], "mmachine: usage\n"),
-    ] {
-        let first = hello(&rt)?;
-        let second = hello(&rt)?;
-        let held = net_files(&rt, links, events, first, second)?;
-        let [cycles, one, other] = words;
-        let words = ["net", "LINKS", "EVENTS", cycles, one, other];
-        let (_, out, diag) = answer(&rt, &words, held)?;
-        assert_eq!(rt; out.taken().len(), 0);
-        assert_eq!(rt; diag.taken(), line.as_bytes());
-    }
-    // None, and nine.
-    let words = [
-        "net", "A", "B", "0", "C", "D", "E", "F", "G", "H", "I", "J", "K",
-    ];
-    for count in [4, 13] {
-        let (status, _, _) = attempt(&rt, &words[..count], [0; 4])?;
-        assert!(rt; matches!(status, Status::Usage));
-    }
-    Ok(())
-}
-
-// Words in no row, and no line where `diag` takes none.
-#[test]
-fn failing_line(rt: HostRuntime) -> Result<(), Fail> {
-    let (status, out, diag) = attempt(&rt, &["walk"], [0, 0, 0, 1])?;
-    assert!(rt; matches!(status, Status::Usage));
-    assert_eq!(rt; out.taken().len(), 0);
-    assert_eq!(rt; diag.taken().len(), 0);
-    Ok(())
-}
-
-// A program that always says that memory ran out keeps the contract, and fails here.
-#[test]
-fn memory_suffices(rt: HostRuntime) -> Result<(), Fail> {
-    for cycles in ["0", "1", "1000000"] {
-        let words = ["run", "IMAGE", cycles, "SCHEDULE"];
-        for count in [3, 4] {
-            let held = files(&rt, hello(&rt)?, "0*1000000", 4096)?;
-            let (status, _, _) = answer(&rt, &words[..count], held)?;
-            assert!(rt; matches!(status, Status::Done));
-        }
-    }
-    Ok(())
-}
-
-// The real objects that `main` makes; an absent file is a fault of the reading.
-#[test]
-fn real_files(rt: HostRuntime) -> Result<(), Fail> {
-    let name = "mmachine_real_files";
-    fs::write(&rt, name, hello(&rt)?.as_slice())?;
-    let words = strings(&rt, &["run", name, "10"])?;
-    let mut files = StdFiles::new(rt.clone()?);
-    let mut input = StdSource::new(b"".as_slice());
-    let mut kept = Vec::new(rt.alloc());
-    let mut said = Vec::new(rt.alloc());
-    let mut out = StdSink::new(&mut kept);
-    let mut diag = StdSink::new(&mut said);
-    let done = mmachine::<VMem, _, _, _, _>(
-        rt.alloc(),
-        &words,
-        &mut files,
-        &mut input,
-        &mut out,
-        &mut diag,
-    );
-    fs::remove_file(&rt, name)?;
-    let absent = mmachine::<VMem, _, _, _, _>(
-        rt.alloc(),
-        &words,
-        &mut files,
-        &mut input,
-        &mut out,
-        &mut diag,
-    );
-    assert!(rt; matches!((done, absent), (Status::Done, Status::ReadFault)));
-    assert_eq!(rt; kept.as_slice(), HELLO);
-    assert_eq!(rt; said.as_slice(), b"mmachine: read fault\n".as_slice());
     Ok(())
 }

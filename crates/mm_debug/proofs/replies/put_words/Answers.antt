@@ -13,7 +13,8 @@ loop-k-preserved g c =
     let n : ℕ = c.loop-k.k in
     let inside : n < c.args.count = omega arith in
     let same : n ≡ get_or (range_with_len 0 c.args.count) n n = omega (arith, get_or-range_with_len 0 c.args.count n n inside) in
-    gathers_item (λ k. word_line (c.args.word + 8 * k) (cell_at memory (c.args.word + 8 * k))) (range_with_len 0 c.args.count) n n (omega (arith, length-range_with_len 0 c.args.count)) same c.loop-k.invariant c.put_word_line.ensures
+    gathers_item (λ k. word_line (c.args.word + 8 * k) (cell_at memory (c.args.word + 8 * k))) (range_with_len 0 c.args.count) n n
+    (omega (arith, length-range_with_len 0 c.args.count)) same c.loop-k.invariant c.put_word_line.ensures
 
 pub returns : goal.returns
 returns g c =

@@ -1,7 +1,7 @@
-use Rattle.std.proofs.Common.{rules, ◌≡◌, length, arith, ◌∙◌}
+use Rattle.std.proofs.Common.{rules, ◌≡◌, length, arith, ◌∙◌, refl}
 use Rattle.std.proofs.lemmas.Grind.{common_steps}
 use Rattle.mm_io.specs.Files.{ReadsAt}
-use Rattle.mm_io.proofs.Asking.{asks_again}
+use Rattle.mm_io.proofs.Asking.{front_again, front_only, front_ends}
 use Rattle.mm_io.proofs.Reading.{Begins-++, Begins-longer, reads_same}
 use Rattle.mm_io.proofs.read.read_pieces.Goals as goal
 
@@ -27,5 +27,22 @@ loop-bytes-preserved g c =
       room = search rules;
       kept = c.in_ok-count.ensures.kept ∙ c.loop-bytes.invariant.kept;
       later = λ name. omega (arith, c.in_ok-count.ensures.later name, c.loop-bytes.invariant.later name);
-      asks = asks_again c.loop-bytes.invariant.asks c.in_ok-count.ensures.asks;
+      asks = front_again c.in_ok-count.count c.loop-bytes.invariant.asks at (omega arith) (search rules) c.in_ok-count.ensures.asks;
     }
+
+pub returns-in_err-count-clause-asks : goal.returns-in_err-count-clause-asks
+returns-in_err-count-clause-asks g c = front_only _ c.loop-bytes.invariant.asks refl c.in_err-count.ensures.asks
+
+pub returns-then-count-eq0-clause-asks : goal.returns-then-count-eq0-clause-asks
+returns-then-count-eq0-clause-asks g c = front_only _ c.loop-bytes.invariant.asks refl c.in_ok-count.ensures.asks
+
+pub returns-then-count-eq0-clause-whole : goal.returns-then-count-eq0-clause-whole
+returns-then-count-eq0-clause-whole g c =
+    let at : c.len.result ≡ length c.loop-bytes.bytes.items = search rules in
+    front_ends c.in_ok-count.count c.loop-bytes.invariant.asks at (search rules) c.in_ok-count.ensures.asks
+
+pub returns-then-len-count-clause-asks : goal.returns-then-len-count-clause-asks
+returns-then-len-count-clause-asks g c = front_only _ c.loop-bytes.invariant.asks refl c.in_ok-count.ensures.asks
+
+pub returns-in_err-extend_from_slice-clause-asks : goal.returns-in_err-extend_from_slice-clause-asks
+returns-in_err-extend_from_slice-clause-asks g c = front_only _ c.loop-bytes.invariant.asks refl c.in_ok-count.ensures.asks

@@ -1,5 +1,6 @@
 use Rattle.std.proofs.Common.{◌≡◌, ◌≤◌, length, ◌+◌, ◌-◌}
-use Rattle.mm_io.specs.Files.{NoneFell, AsksOnly}
+use Rattle.mm_io.specs.Files.{NoneFell}
+use Rattle.mm_io.proofs.Asking.{AsksFront}
 use Rattle.mm_io.proofs.Reading.{Begins}
 use Rattle.mm_io.proofs.read.read_pieces.Given as goal
 
@@ -10,7 +11,7 @@ invariant-loop-bytes g l = record {
   room : length l.buffer ≡ length l.initial.buffer;
   kept : g.F.Files.held l.files ≡ g.F.Files.held l.initial.files;
   later : NoneFell (g.F.Files.faults l.initial.files) (g.F.Files.faults l.files);
-  asks : AsksOnly g.F.Files.asked l.initial.files l.files l.name;
+  asks : AsksFront g.F.Files.asked l.initial.files l.files l.name (length l.bytes.items);
 }
 
 abbrev pub decreases-loop-bytes : goal.decreases-loop-bytes

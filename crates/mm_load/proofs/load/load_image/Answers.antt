@@ -13,4 +13,4 @@ returns-in-Err-Fault-clause-read g c before counted =
     let P : List ℕ → Type 0 = λ bytes. image_fault bytes ≡ Some (number_of fault, offset) in
     let says = subst P c.deref.ensures.value (c.read.ensures.fault fault offset (c.in-Err-Fault.is ∙ ap (λ (e : ImageError). Err e) c.in-Err-Fault.field-0-is)) in
     refused_file _ _ c.in_ok-bytes.ensures.bytes c.in_ok-bytes.ensures.short (fault, offset, ap (λ (n : ℕ). refusal.Image n fault offset) counted, says)
-    c.read_file.ensures.asks.asks
+    c.read_file.ensures.asks.of_name c.read_file.ensures.asks.asks

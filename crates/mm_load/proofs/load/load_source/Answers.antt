@@ -12,4 +12,4 @@ returns-in-Err-Fault g c before counted =
     let column = c.in-Err-Fault.column in
     let P : List ℕ → Type 0 = λ bytes. first_fault bytes ≡ Some (record { line = line; column = column; number = number_of fault }) in
     let says = subst P c.deref.ensures.value (c.assemble.ensures.fault fault line column (c.in-Err-Fault.is ∙ ap (λ (e : AsmError). Err e) c.in-Err-Fault.field-0-is)) in
-    refused_file _ _ c.in_ok-bytes.ensures.bytes c.in_ok-bytes.ensures.short (fault, line, column, refl, says) c.read_file.ensures.asks.asks
+    refused_file _ _ c.in_ok-bytes.ensures.bytes c.in_ok-bytes.ensures.short (fault, line, column, refl, says) c.read_file.ensures.asks.of_name c.read_file.ensures.asks.asks

@@ -1,11 +1,12 @@
 use Rattle.std.proofs.Common.{[], ◌∷◌, Ok, refl, sym, ◌∙◌, arith, append-nil}
 use Rattle.mm_word.specs.Adding.{adds_both}
-use Rattle.mm_save.specs.Checkpoints.{saved_of}
+use Rattle.mm_checkpoint.specs.Checkpoints.{saved_of}
 use Rattle.mm_cli.specs.declared.table.Kind.TheVariants.{Image as image_file, Checkpoint as checkpoint_file}
 use Rattle.mm_load.specs.Kinds.{an_image, a_checkpoint}
 use Rattle.mm_load.specs.Files.{FilesRead, reading}
 use Rattle.mm_load.proofs.Reading.{files_then}
 use Rattle.mmachine.proofs.Rows.{row_stops, row_ends}
+use Rattle.mmachine.proofs.NamedFiles.{schedule_read}
 use Rattle.mmachine.proofs.going_on.go_on.Goals as goal
 
 pub returns-in_err-image : goal.returns-in_err-image
@@ -27,7 +28,7 @@ returns-in_err-order g c =
     files_then (c.in_ok-image.ensures.read [] refl) c.in_ok-checkpoint.ensures.read
     (record { kept = c.load_image.ensures.kept; counts = refl; later = c.load_image.ensures.later; asked = λ names more one two. adds_both one two }) in
     row_stops _ c.from_residual-in_err-order.result
-    (files_then both (c.in_err-order.ensures (an_image i ∷ a_checkpoint (saved_of k.snapshot k.last) ∷ []) refl)
+    (files_then both (schedule_read (c.in_err-order.ensures (an_image i ∷ a_checkpoint (saved_of k.snapshot k.last) ∷ []) refl))
     (record { kept = c.load_checkpoint.ensures.kept ∙ c.load_image.ensures.kept; counts = refl; later = λ n. omega (arith, c.load_image.ensures.later n, c.load_checkpoint.ensures.later n); asked = λ names more one two. adds_both one two }))
     (sym (append-nil _)) refl c.from_residual-in_err-order.ensures.1
 
@@ -40,6 +41,6 @@ returns g c =
     files_then (c.in_ok-image.ensures.read [] refl) c.in_ok-checkpoint.ensures.read
     (record { kept = c.load_image.ensures.kept; counts = refl; later = c.load_image.ensures.later; asked = λ names more one two. adds_both one two }) in
     row_ends _ _
-    (files_then both (c.in_ok-order.ensures (an_image i ∷ a_checkpoint (saved_of k.snapshot k.last) ∷ []) refl)
+    (files_then both (schedule_read (c.in_ok-order.ensures (an_image i ∷ a_checkpoint (saved_of k.snapshot k.last) ∷ []) refl))
     (record { kept = c.load_checkpoint.ensures.kept ∙ c.load_image.ensures.kept; counts = refl; later = λ n. omega (arith, c.load_image.ensures.later n, c.load_checkpoint.ensures.later n); asked = λ names more one two. adds_both one two }))
     refl c.write_further.ensures (λ r no. no) (λ text is. is)

@@ -8,8 +8,8 @@ use Rattle.mm_model.specs.Report.{report}
 use Rattle.mm_machine.specs.Machine.{state_of}
 use Rattle.mm_machine.specs.Snapshot.{Parts, CanRestore, restored}
 use Rattle.mm_machine.proofs.Keeping.{kept_core}
-use Rattle.mm_save.specs.Checkpoints.{saved_of}
-use Rattle.mm_save.proofs.Forms.{have_form}
+use Rattle.mm_checkpoint.specs.Checkpoints.{saved_of}
+use Rattle.mm_checkpoint.proofs.Forms.{have_form}
 use Rattle.mmachine.specs.Saving.{HasState, items_behind}
 use Rattle.mmachine.proofs.Issued.{further}
 use Rattle.mmachine.proofs.Reported.{start_state, ends_written}

@@ -6,6 +6,7 @@ use Rattle.mm_load.specs.Kinds.{an_image}
 use Rattle.mm_load.proofs.Reading.{files_then}
 use Rattle.mmachine.proofs.Reported.{issued}
 use Rattle.mmachine.proofs.Rows.{row_stops, row_ends}
+use Rattle.mmachine.proofs.NamedFiles.{schedule_read}
 use Rattle.mmachine.proofs.run.run.Goals as goal
 
 pub returns-in_err-image : goal.returns-in_err-image
@@ -14,7 +15,7 @@ returns-in_err-image g c = row_stops _ c.from_residual.result (c.in_err-image.en
 pub returns-in_err-order : goal.returns-in_err-order
 returns-in_err-order g c =
     row_stops _ c.from_residual-in_err-order.result
-    (files_then (c.in_ok-image.ensures.read [] refl) (c.in_err-order.ensures (an_image c.in_ok-image.image ∷ []) refl)
+    (files_then (c.in_ok-image.ensures.read [] refl) (schedule_read (c.in_err-order.ensures (an_image c.in_ok-image.image ∷ []) refl))
     (record { kept = c.load_image.ensures.kept; counts = refl; later = c.load_image.ensures.later; asked = λ names more one two. adds_both one two }))
     (sym (append-nil _)) refl c.from_residual-in_err-order.ensures.1
 
@@ -23,6 +24,6 @@ returns g c =
     let i = c.in_ok-image.image in
     let order = c.in_ok-order.order in
     row_ends _ _
-    (files_then (c.in_ok-image.ensures.read [] refl) (c.in_ok-order.ensures (an_image i ∷ []) refl)
+    (files_then (c.in_ok-image.ensures.read [] refl) (schedule_read (c.in_ok-order.ensures (an_image i ∷ []) refl))
     (record { kept = c.load_image.ensures.kept; counts = refl; later = c.load_image.ensures.later; asked = λ names more one two. adds_both one two }))
     refl c.write_run.ensures (λ r no. no) (λ text is. (items_of order (start i) c.args.asked.cycles, issued order i c.args.asked.cycles, is))

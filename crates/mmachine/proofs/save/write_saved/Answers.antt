@@ -4,7 +4,7 @@ use Rattle.mm_model.specs.State.{State}
 use Rattle.mm_machine.specs.Machine.{StandsFor}
 use Rattle.mm_machine.specs.Snapshot.{IsSnapshotOf, IsTyped}
 use Rattle.mm_sched.specs.Orders.{items_of}
-use Rattle.mm_save.proofs.Reached.{snapshots}
+use Rattle.mm_checkpoint.proofs.Reached.{snapshots}
 use Rattle.mmachine.proofs.Reported.{start_cycles, ends_cut}
 use Rattle.mmachine.proofs.Issued.{issued_from_start, few_items, saved_from_start}
 use Rattle.mmachine.proofs.save.write_saved.Goals as goal

@@ -7,4 +7,4 @@ use Rattle.mm_audit.proofs.reach.Reach.write_set.Goals as goal
 pub returns : goal.returns
 returns c i e a =
     let b = subst (Audits i e) (sym c.self.view_is) a in
-    subst (MaximalSegments i e c.args.group can_store) (sym c.of.ensures) (b.write_maximal c.args.group c.requires)
+    subst (MaximalSegments i e c.args.group can_store) (sym c.of.ensures) (b.write_maximal c.args.group)

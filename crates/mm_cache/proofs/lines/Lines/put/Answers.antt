@@ -1,6 +1,6 @@
 use Rattle.std.proofs.Common.{◌≡◌, ◌<◌, ℕ, List, Option, length, sym, ap, subst, ◌∙◌, arith, get_or, set, refl}
 use Rattle.mm_model.specs.Counted.{block_of, line_of}
-use Rattle.mm_cache.specs.declared.line.Line.{Line}
+use Rattle.mm_cache.specs.declared.line.CacheLine.{CacheLine}
 use Rattle.mm_cache.specs.Lines.{AreLines, line_in, line_with, is_in, hits, with_cell}
 use Rattle.mm_cache.proofs.DropPage.{index_in}
 use Rattle.mm_cache.proofs.Placed.{lines_written}
@@ -19,18 +19,18 @@ its_line c =
 
 written : (c : goal.After-write) → set c.self.inside.lines c.line_of.result c.write.new.line ≡ with_cell c.self.inside.lines c.args.word c.args.cell
 written c =
-    let ls : List (Option Line) = c.self.inside.lines in
+    let ls : List (Option CacheLine) = c.self.inside.lines in
     ap (λ (i : ℕ). set ls i c.write.new.line) (index c)
-    ∙ ap (set ls (line_of (block_of c.args.word))) (c.write.ensures.after ∙ ap (λ (o : Option Line). line_with o c.args.word c.args.cell) (its_line c))
+    ∙ ap (set ls (line_of (block_of c.args.word))) (c.write.ensures.after ∙ ap (λ (o : Option CacheLine). line_with o c.args.word c.args.cell) (its_line c))
 
 pub invariant_of-self : goal.invariant_of-self
 invariant_of-self c =
-    let ls : List (Option Line) = c.self.inside.lines in
+    let ls : List (Option CacheLine) = c.self.inside.lines in
     subst AreLines (sym (written c)) (lines_written ls c.args.word c.args.cell (line_in ls (line_of (block_of c.args.word))) c.self.invariant refl)
 
 pub returns-clause-answer : goal.returns-clause-answer
 returns-clause-answer c =
-    c.write.ensures.answer ∙ ap (λ (o : Option Line). is_in o (block_of c.args.word)) (its_line c) ∙ ap (λ (ls : List (Option Line)). hits ls (block_of c.args.word)) c.self.view_is
+    c.write.ensures.answer ∙ ap (λ (o : Option CacheLine). is_in o (block_of c.args.word)) (its_line c) ∙ ap (λ (ls : List (Option CacheLine)). hits ls (block_of c.args.word)) c.self.view_is
 
 pub returns-clause-after : goal.returns-clause-after
-returns-clause-after c = written c ∙ ap (λ (ls : List (Option Line)). with_cell ls c.args.word c.args.cell) c.self.view_is
+returns-clause-after c = written c ∙ ap (λ (ls : List (Option CacheLine)). with_cell ls c.args.word c.args.cell) c.self.view_is

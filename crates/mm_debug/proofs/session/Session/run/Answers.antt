@@ -2,7 +2,7 @@ use Rattle.std.proofs.Common.{◌≡◌, ◌+◌, ◌-◌, true, false, ◌&&◌
 use Rattle.mm_debug.specs.declared.stop.Stop.TheVariants as stop
 use Rattle.mm_debug.specs.Session.{Session, stops_before, stopped, run_from}
 use Rattle.mm_debug.specs.Shown.{session_of}
-use Rattle.mm_debug.proofs.Runs.{run_begins, run_over, run_ends, run_breaks, run_watches, run_goes, passes_first, passes_later, seen_behind}
+use Rattle.mm_debug.proofs.Runs.{run_begins, run_over, run_ends, run_breaks, run_watches, run_goes, passes_first, passes_later, seen_after}
 use Rattle.mm_debug.proofs.session.Session.run.Goals as goal
 use Rattle.mm_debug.proofs.session.Session.run.Goals.{else-begun-via-then-begun+else-stops_before, else-begun-via-else-begun}
 
@@ -31,7 +31,7 @@ returns-in-Some-watched g c =
     c.loop.invariant
     ∙ run_watches c.loop.begun s item (1000000 - c.loop.counter) (1000000 - (c.loop.counter + 1)) c.in-Some.ensures (omega arith)
     c.in-Some-watched.word passes
-    (seen_behind s (session_of c.issue-step.new.self) item c.issue-step.result (Some c.in-Some-watched.word) c.issue-step.ensures.session c.issue-step.ensures.step
+    (seen_after s (session_of c.issue-step.new.self) item c.issue-step.result (Some c.in-Some-watched.word) c.issue-step.ensures.session c.issue-step.ensures.step
     c.in-Some-watched.ensures)
     ∙ ap (λ (t : Session). stopped t (stop.Watch c.in-Some-watched.word)) (sym c.issue-step.ensures.session)
 
@@ -47,7 +47,7 @@ loop-preserved g c =
     ] in
     c.loop.invariant
     ∙ run_goes c.loop.begun s item (1000000 - c.loop.counter) less c.in-Some.ensures (omega arith) passes
-    (seen_behind s (session_of c.issue-step.new.self) item c.issue-step.result None c.issue-step.ensures.session c.issue-step.ensures.step c.in_default-watched.ensures)
+    (seen_after s (session_of c.issue-step.new.self) item c.issue-step.result None c.issue-step.ensures.session c.issue-step.ensures.step c.in_default-watched.ensures)
     ∙ ap (λ (t : Session). run_from true t less) (sym c.issue-step.ensures.session)
 
 pub returns : goal.returns

@@ -1,7 +1,7 @@
 use Rattle.std.proofs.Common.{◌≡◌, ◌*◌, ◌+◌, List, length, sym, ◌∙◌, ap, arith, take}
 use Rattle.std.proofs.lemmas.List.{take_all}
 use Rattle.mm_word.specs.declared.word.Cell.{Cell}
-use Rattle.mm_frames.proofs.PackedCells.{front_more, whole_with_block}
+use Rattle.mm_frames.proofs.Cells.{eight_of_page, front_more, whole_with_block}
 use Rattle.mm_frames.proofs.frame.Frame.copy.Goals as goal
 
 pub loop-place-preserved : goal.loop-place-preserved
@@ -11,7 +11,8 @@ loop-place-preserved c =
     record {
       copied = ap (take ((l.place + 1) * 8)) c.put.ensures.cells
           ∙ front_more l.self cells c.of.result l.place c.loop-place-test.true c.put.ensures.whole c.cells-cells.ensures.whole c.of.ensures l.invariant.copied;
-      whole = λ _. ap length c.put.ensures.cells ∙ whole_with_block l.self c.of.result l.place c.loop-place-test.true c.put.ensures.whole c.put.ensures.block;
+      whole = λ _. ap length c.put.ensures.cells ∙ whole_with_block l.self c.of.result l.place c.loop-place-test.true c.put.ensures.whole
+          (ap length c.of.ensures ∙ eight_of_page cells l.place c.loop-place-test.true c.cells-cells.ensures.whole);
     }
 
 pub returns : goal.returns

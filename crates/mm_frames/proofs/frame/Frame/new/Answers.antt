@@ -1,13 +1,14 @@
-use Rattle.std.proofs.Common.{◌≡◌, ℕ, List, replicate, rules, sym, subst, ap, ◌∙◌}
-use Rattle.mm_frames.specs.Packed.{cells_of, IsPackedFrame}
-use Rattle.mm_frames.proofs.PackedCells.{zeros_packed, zero_cells}
+use Rattle.std.proofs.Common.{◌≡◌, List, replicate, rules, ap, ◌∙◌}
+use Rattle.mm_word.specs.declared.word.Cell.{Cell}
+use Rattle.mm_model.specs.Memory.{zero_cell}
+use Rattle.mm_frames.specs.Cells.{cells_of}
+use Rattle.mm_frames.proofs.Cells.{zero_frame}
 use Rattle.mm_frames.proofs.frame.Frame.new.Goals as goal
 
-zeros : (c : goal.In-Ok) → c.in-Ok.bits.items ≡ replicate 512 0
-zeros c = search rules
-
-pub invariant_of-result : goal.invariant_of-result
-invariant_of-result c = subst (λ (bits : List ℕ). IsPackedFrame bits (replicate 64 0) (replicate 64 255)) (sym (zeros c)) zeros_packed
+all_zero : (c : goal.In-Ok) → c.in-Ok.blocks.items ≡ replicate 64 (replicate 8 zero_cell)
+all_zero c =
+    c.in-Ok.ensures.items_if_clones_equal (λ y h. search rules)
+    ∙ ap (λ (block : List Cell). replicate 64 block) c.zeros.ensures
 
 pub returns : goal.returns
-returns c = ap (λ (bits : List ℕ). cells_of bits (replicate 64 0) (replicate 64 255)) (zeros c) ∙ zero_cells
+returns c = ap cells_of (all_zero c) ∙ zero_frame

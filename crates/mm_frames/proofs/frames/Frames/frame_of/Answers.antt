@@ -25,5 +25,6 @@ returns c =
     let at = place_from c.args.page rows c.search.result c.in_ok-i.i c.in_ok-i.ensures.value found in
     let row = c.index.result.now in
     ap (λ (r : ℕ × ℕ). Some r.1) c.behind-self.view_is
-    ∙ sym (frame_at (record { rows = c.self.inside.rows.items; cells = c.self.inside.frames.items; reads = c.self.inside.reads; writes = c.self.inside.writes }) c.args.page c.in_ok-i.i row (rows_rise _ _ c.self.invariant.framed) at c.index.ensures)
+    ∙ sym (frame_at (record { rows = c.self.inside.rows.items; cells = c.self.inside.frames.items; reads = c.self.inside.reads; writes = c.self.inside.writes }) c.args.page c.in_ok-i.i row
+    (rows_rise _ _ c.self.invariant.framed) at c.index.ensures)
     ∙ ap (λ (f : Framed). frame_of f c.args.page) c.self.view_is

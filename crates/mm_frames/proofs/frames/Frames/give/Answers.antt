@@ -35,13 +35,17 @@ returns-in-Err-clause-memory c = unmap_refused (memory_of c.args.self.now) c.arg
 there : (c : goal.In-Ok-push) → IsAt c.args.page c.self.inside.rows.items c.in-Ok.i
 there c = subst (λ (rows : List (ℕ × ℕ)). IsAt c.args.page rows c.in-Ok.i) c.deref.ensures.value c.in-Ok.ensures.found
 
-after : (c : goal.In-Ok-push) → record (record { rows = c.self.inside.rows.items; cells = c.self.inside.frames.items; reads = c.self.inside.reads; writes = c.self.inside.writes }) { rows = c.remove-row.new.self.items } ≡ without (record { rows = c.self.inside.rows.items; cells = c.self.inside.frames.items; reads = c.self.inside.reads; writes = c.self.inside.writes }) c.args.page
+after : (c : goal.In-Ok-push) → record (record { rows = c.self.inside.rows.items; cells = c.self.inside.frames.items; reads = c.self.inside.reads; writes = c.self.inside.writes })
+    { rows = c.remove-row.new.self.items } ≡ without (record { rows = c.self.inside.rows.items; cells = c.self.inside.frames.items; reads = c.self.inside.reads; writes = c.self.inside.writes })
+    c.args.page
 after c =
     let f : Framed = record { rows = c.self.inside.rows.items; cells = c.self.inside.frames.items; reads = c.self.inside.reads; writes = c.self.inside.writes } in
     ap (λ (rows : List (ℕ × ℕ)). record f { rows = rows }) (c.remove-row.ensures.items ∙ remove_at c.args.page f.rows c.in-Ok.i (held _ (rows_rise f _ c.self.invariant.framed)) (there c))
 
-mapped : (c : goal.In-Ok-push) → is_mapped (memory_of (record { rows = c.self.inside.rows.items; cells = c.self.inside.frames.items; reads = c.self.inside.reads; writes = c.self.inside.writes })) c.args.page ≡ true
-mapped c = is_mapped_at (record { rows = c.self.inside.rows.items; cells = c.self.inside.frames.items; reads = c.self.inside.reads; writes = c.self.inside.writes }) c.args.page c.in-Ok.i (rows_rise _ _ c.self.invariant.framed) (there c)
+mapped : (c : goal.In-Ok-push) → is_mapped (memory_of (record { rows = c.self.inside.rows.items; cells = c.self.inside.frames.items; reads = c.self.inside.reads; writes = c.self.inside.writes }))
+    c.args.page ≡ true
+mapped c = is_mapped_at (record { rows = c.self.inside.rows.items; cells = c.self.inside.frames.items; reads = c.self.inside.reads; writes = c.self.inside.writes }) c.args.page c.in-Ok.i
+    (rows_rise _ _ c.self.invariant.framed) (there c)
 
 pub invariant_of-self : goal.invariant_of-self
 invariant_of-self c =

@@ -20,5 +20,6 @@ returns c =
     sym (ap (λ (f : Framed). slice_get (map (λ e. e.0) (memory_of f).pages) c.args.i) c.self.view_is)
     ∙ ap (λ ns. slice_get ns c.args.i) (ap (map (λ e. e.0)) (pages_are f) ∙ numbers_paired (cells_in f) f.rows)
     ∙ slice_get-map (λ (e : ℕ × ℕ). e.0) f.rows c.args.i
-    ∙ ap (option_map (λ (e : ℕ × ℕ). e.0)) (slice_get_read f.rows (length f.rows) c.args.i c.index.result.now refl (omega (arith, c.requires, pages_length f, ap (λ (f : Framed). length (memory_of f).pages) c.self.view_is)) c.index.ensures)
+    ∙ ap (option_map (λ (e : ℕ × ℕ). e.0)) (slice_get_read f.rows (length f.rows) c.args.i c.index.result.now refl
+    (omega (arith, c.requires, pages_length f, ap (λ (f : Framed). length (memory_of f).pages) c.self.view_is)) c.index.ensures)
     ∙ sym (ap (λ (r : ℕ × ℕ). Some r.0) c.behind-self.view_is)

@@ -3,5 +3,5 @@ use Rattle.mm_frames.specs.Framed.{Framed, memory_of}
 use Rattle.mm_frames.proofs.Framed.{pages_length}
 use Rattle.mm_frames.proofs.frames.Frames.pages.Goals as goal
 
-pub returns : goal.returns
-returns c = c.len.ensures ∙ c.self.inside.rows.ok.0 ∙ sym (pages_length _) ∙ ap (λ (f : Framed). length (memory_of f).pages) c.self.view_is
+pub returns-clause-count : goal.returns-clause-count
+returns-clause-count c = c.len.ensures ∙ c.self.inside.rows.ok.0 ∙ sym (pages_length _) ∙ ap (λ (f : Framed). length (memory_of f).pages) c.self.view_is

@@ -34,14 +34,25 @@ returns-in_err-i-clause-memory c = map_refused (memory_of c.args.self.now) c.arg
 
 -- 2. No frame is free.
 
-full : (c : goal.After-from_residual-in_err-frame) → can_map (memory_of (record { rows = c.self.inside.rows.items; cells = c.self.inside.frames.items; reads = c.self.inside.reads; writes = c.self.inside.writes })) c.args.page ≡ false
-full c = cannot_map_full (record { rows = c.self.inside.rows.items; cells = c.self.inside.frames.items; reads = c.self.inside.reads; writes = c.self.inside.writes }) c.args.page (omega (arith, c.self.invariant.framed.counted, c.in_err-frame.ensures.cases.0, c.self.inside.free.ok.0))
+full : (c : goal.After-from_residual-in_err-frame) → can_map (memory_of (record {
+  rows = c.self.inside.rows.items;
+  cells = c.self.inside.frames.items;
+  reads = c.self.inside.reads;
+  writes = c.self.inside.writes;
+})) c.args.page ≡ false
+full c = cannot_map_full (record { rows = c.self.inside.rows.items; cells = c.self.inside.frames.items; reads = c.self.inside.reads; writes = c.self.inside.writes }) c.args.page
+    (omega (arith, c.self.invariant.framed.counted, c.in_err-frame.ensures.cases.0, c.self.inside.free.ok.0))
 
 pub returns-in_err-frame-clause-answer : goal.returns-in_err-frame-clause-answer
 returns-in_err-frame-clause-answer c = ap is_some c.from_residual-in_err-frame.ensures ∙ sym (full c) ∙ ap (λ (f : Framed). can_map (memory_of f) c.args.page) c.self.view_is
 
 pub returns-in_err-frame-clause-memory : goal.returns-in_err-frame-clause-memory
-returns-in_err-frame-clause-memory c = map_refused (memory_of (record { rows = c.self.inside.rows.items; cells = c.self.inside.frames.items; reads = c.self.inside.reads; writes = c.self.inside.writes })) c.args.page (full c) ∙ ap (λ (f : Framed). after_map (memory_of f) c.args.page) c.self.view_is
+returns-in_err-frame-clause-memory c = map_refused (memory_of (record {
+  rows = c.self.inside.rows.items;
+  cells = c.self.inside.frames.items;
+  reads = c.self.inside.reads;
+  writes = c.self.inside.writes;
+})) c.args.page (full c) ∙ ap (λ (f : Framed). after_map (memory_of f) c.args.page) c.self.view_is
 
 -- 3. A frame is free.
 
@@ -57,12 +68,16 @@ gap c = gap_place_from c.args.page c.self.inside.rows.items c.search.result c.in
 stands : (c : goal.In-Ok) → 1 ≤ times c.in_ok-frame.frame c.self.inside.free.items
 stands c = subst (λ (free : List ℕ). 1 ≤ times c.in_ok-frame.frame free) (sym c.in_ok-frame.ensures.items) (last_stands c.in_ok-frame.frame c.pop.new.self.items)
 
-can : (c : goal.In-Ok) → can_map (memory_of (record { rows = c.self.inside.rows.items; cells = c.self.inside.frames.items; reads = c.self.inside.reads; writes = c.self.inside.writes })) c.args.page ≡ true
+can : (c : goal.In-Ok) → can_map (memory_of (record { rows = c.self.inside.rows.items; cells = c.self.inside.frames.items; reads = c.self.inside.reads; writes = c.self.inside.writes })) c.args.page
+    ≡ true
 can c =
     let free = ap length c.in_ok-frame.ensures.items ∙ length-append c.pop.new.self.items (c.in_ok-frame.frame ∷ []) in
-    can_map_in (record { rows = c.self.inside.rows.items; cells = c.self.inside.frames.items; reads = c.self.inside.reads; writes = c.self.inside.writes }) c.args.page c.in_ok-i.i (gap c) (omega (arith, c.self.invariant.framed.counted, free))
+    can_map_in (record { rows = c.self.inside.rows.items; cells = c.self.inside.frames.items; reads = c.self.inside.reads; writes = c.self.inside.writes }) c.args.page c.in_ok-i.i (gap c)
+    (omega (arith, c.self.invariant.framed.counted, free))
 
-after : (c : goal.In-Ok) → record (record { rows = c.self.inside.rows.items; cells = c.self.inside.frames.items; reads = c.self.inside.reads; writes = c.self.inside.writes }) { rows = c.insert.new.self.items; cells = set c.self.inside.frames.items c.in_ok-frame.frame c.clear.new.self } ≡ seated (record { rows = c.self.inside.rows.items; cells = c.self.inside.frames.items; reads = c.self.inside.reads; writes = c.self.inside.writes }) c.args.page c.in_ok-frame.frame
+after : (c : goal.In-Ok) → record (record { rows = c.self.inside.rows.items; cells = c.self.inside.frames.items; reads = c.self.inside.reads; writes = c.self.inside.writes })
+    { rows = c.insert.new.self.items; cells = set c.self.inside.frames.items c.in_ok-frame.frame c.clear.new.self } ≡ seated
+    (record { rows = c.self.inside.rows.items; cells = c.self.inside.frames.items; reads = c.self.inside.reads; writes = c.self.inside.writes }) c.args.page c.in_ok-frame.frame
 after c =
     let f : Framed = record { rows = c.self.inside.rows.items; cells = c.self.inside.frames.items; reads = c.self.inside.reads; writes = c.self.inside.writes } in
     let rows = c.in-Ok.ensures.items ∙ insert_in_gap c.args.page c.in_ok-frame.frame f.rows c.in_ok-i.i (gap c) in
@@ -93,6 +108,7 @@ returns-clause-memory c =
     let f : Framed = record { rows = c.self.inside.rows.items; cells = c.self.inside.frames.items; reads = c.self.inside.reads; writes = c.self.inside.writes } in
     let free : List ℕ = c.self.inside.free.items in
     ap memory_of (after c)
-    ∙ memory_of-seated f c.args.page c.in_ok-frame.frame (free_in_range f free c.self.invariant.framed c.in_ok-frame.frame (stands c)) (free_has_no_row f free c.self.invariant.framed c.in_ok-frame.frame (stands c))
+    ∙ memory_of-seated f c.args.page c.in_ok-frame.frame (free_in_range f free c.self.invariant.framed c.in_ok-frame.frame (stands c))
+    (free_has_no_row f free c.self.invariant.framed c.in_ok-frame.frame (stands c))
     ∙ map_done (memory_of f) c.args.page (can c)
     ∙ ap (λ (f : Framed). after_map (memory_of f) c.args.page) c.self.view_is

@@ -5,7 +5,8 @@ use Rattle.mm_mem.specs.Places.{IsAt}
 use Rattle.mm_mem.proofs.Flats.{flat, put_here, same_paged}
 use Rattle.mm_mem.proofs.flat.FlatPages.put.Goals as goal
 
-made : (c : goal.After-self-1) → flat (set c.self.inside.pages.items c.args.i c.put.new.self) c.self.inside.frames ≡ put_cell (flat c.self.inside.pages.items c.self.inside.frames) c.args.word c.args.cell
+made : (c : goal.After-self-1) → flat (set c.self.inside.pages.items c.args.i c.put.new.self) c.self.inside.frames ≡ put_cell
+    (flat c.self.inside.pages.items c.self.inside.frames) c.args.word c.args.cell
 made c =
     let m = flat c.self.inside.pages.items c.self.inside.frames in
     let e = c.index_mut-frame.result.now in

@@ -34,7 +34,9 @@ pub returns-in-None-clause-first : goal.returns-in-None-clause-first
 returns-in-None-clause-first g c = plain_first _ _ _ _ (stays g (goal.at.returns-in-None-clause-first g c).After-keep) c.args.line.now _ c.put_line.ensures.session
 
 pub returns-in-None-clause-reply : goal.returns-in-None-clause-reply
-returns-in-None-clause-reply g c = gathers_same c.put_line.ensures.reply (ap (λ (a : Answer). a.reply) (plainly _ _ _ _ (stays g (goal.at.returns-in-None-clause-reply g c).After-keep) c.args.line.now c.in-None.ensures))
+returns-in-None-clause-reply g c =
+    gathers_same c.put_line.ensures.reply
+    (ap (λ (a : Answer). a.reply) (plainly _ _ _ _ (stays g (goal.at.returns-in-None-clause-reply g c).After-keep) c.args.line.now c.in-None.ensures))
 
 pub returns-in-None-clause-go : goal.returns-in-None-clause-go
 returns-in-None-clause-go g c = c.put_line.ensures.go ∙ ap (λ (a : Answer). a.go) (plainly _ _ _ _ (stays g (goal.at.returns-in-None-clause-go g c).After-keep) c.args.line.now c.in-None.ensures)
@@ -44,21 +46,31 @@ pub returns-in-None-clause-total : goal.returns-in-None-clause-total
 returns-in-None-clause-total g c n is = let none : None ≡ back_of c.args.line.now = c.in-None.ensures in cc
 
 pub returns-in-None-clause-stands : goal.returns-in-None-clause-stands
-returns-in-None-clause-stands g c i recalls = plain_recalls _ _ _ _ (stays g (goal.at.returns-in-None-clause-stands g c).After-keep) c.args.line.now i _ _ c.put_line.ensures.session recalls.session recalls.first
+returns-in-None-clause-stands g c i recalls =
+    plain_recalls _ _ _ _ (stays g (goal.at.returns-in-None-clause-stands g c).After-keep) c.args.line.now i _ _ c.put_line.ensures.session
+    recalls.session recalls.first
 
 -- `back N`
 least : (g : Over) (c : After-min-count g) → c.min-count.result ≡ min c.in-Some.asked (total_of (session_of c.keep.new.self.session))
 least g c = c.min-count.ensures ∙ ap (min c.in-Some.asked) c.total.ensures.total
 
 pub returns-in-Some-clause-session : goal.returns-in-Some-clause-session
-returns-in-Some-clause-session g c = back_session _ _ _ _ (stays g (goal.at.returns-in-Some-clause-session g c).After-keep) c.args.line.now c.in-Some.asked _ c.in-Some.ensures (least g (goal.at.returns-in-Some-clause-session g c).After-min-count) _ c.go_back.ensures.session
+returns-in-Some-clause-session g c =
+    back_session _ _ _ _ (stays g (goal.at.returns-in-Some-clause-session g c).After-keep) c.args.line.now c.in-Some.asked _ c.in-Some.ensures
+    (least g (goal.at.returns-in-Some-clause-session g c).After-min-count) _ c.go_back.ensures.session
 
 pub returns-in-Some-clause-reply : goal.returns-in-Some-clause-reply
-returns-in-Some-clause-reply g c = gathers_same c.put_back.ensures (back_reply _ _ _ _ (stays g (goal.at.returns-in-Some-clause-reply g c).After-keep) c.args.line.now c.in-Some.asked _ c.in-Some.ensures (least g (goal.at.returns-in-Some-clause-reply g c).After-min-count) _ (c.total-in-Some.ensures.total ∙ c.go_back.ensures.total))
+returns-in-Some-clause-reply g c =
+    gathers_same c.put_back.ensures
+    (back_reply _ _ _ _ (stays g (goal.at.returns-in-Some-clause-reply g c).After-keep) c.args.line.now c.in-Some.asked _ c.in-Some.ensures
+    (least g (goal.at.returns-in-Some-clause-reply g c).After-min-count) _ (c.total-in-Some.ensures.total ∙ c.go_back.ensures.total))
 
 pub returns-in-Some-clause-go : goal.returns-in-Some-clause-go
-returns-in-Some-clause-go g c = back_more _ _ _ _ (stays g (goal.at.returns-in-Some-clause-go g c).After-keep) c.args.line.now c.in-Some.asked _ c.in-Some.ensures (least g (goal.at.returns-in-Some-clause-go g c).After-min-count)
+returns-in-Some-clause-go g c =
+    back_more _ _ _ _ (stays g (goal.at.returns-in-Some-clause-go g c).After-keep) c.args.line.now c.in-Some.asked _ c.in-Some.ensures
+    (least g (goal.at.returns-in-Some-clause-go g c).After-min-count)
 
 pub returns-in-Some-clause-total : goal.returns-in-Some-clause-total
 returns-in-Some-clause-total g c n is =
-    back_lowers _ _ _ _ (stays g (goal.at.returns-in-Some-clause-total g c).After-keep) c.args.line.now c.in-Some.asked _ c.in-Some.ensures (least g (goal.at.returns-in-Some-clause-total g c).After-min-count) _ c.go_back.ensures.total n is
+    back_lowers _ _ _ _ (stays g (goal.at.returns-in-Some-clause-total g c).After-keep) c.args.line.now c.in-Some.asked _ c.in-Some.ensures
+    (least g (goal.at.returns-in-Some-clause-total g c).After-min-count) _ c.go_back.ensures.total n is

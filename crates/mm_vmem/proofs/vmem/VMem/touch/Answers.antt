@@ -14,7 +14,8 @@ use Rattle.mm_vmem.proofs.vmem.VMem.touch.Goals as goal
 pub returns-in-Some-clause-answer : goal.returns-in-Some-clause-answer
 returns-in-Some-clause-answer c =
     let at = sym c.cell.ensures ∙ c.in-Some.is in
-    sym (sym (ap (λ (m : Cached). cell_at (meaning m) c.args.word) c.self.view_is) ∙ read_there (the_view c.self.inside) c.args.word c.self.invariant c.requires.aligned (cell_is_hit c.self.inside.lines c.args.word c.in-Some.cell at) ∙ at)
+    sym (sym (ap (λ (m : Cached). cell_at (meaning m) c.args.word) c.self.view_is)
+    ∙ read_there (the_view c.self.inside) c.args.word c.self.invariant c.requires.aligned (cell_is_hit c.self.inside.lines c.args.word c.in-Some.cell at) ∙ at)
 
 pub returns-in-Some-clause-after : goal.returns-in-Some-clause-after
 unfolding meaning
@@ -44,4 +45,5 @@ returns-in-None-clause-takes c us kind done nothing old =
     sym (ap (λ (m : Cached). hits m.lines (block_of c.args.word)) c.self.view_is) ∙ no_cell_no_hit c.self.inside.lines c.args.word c.self.invariant.cover.lines (sym c.cell.ensures ∙ c.in-None.is) in
     let one_more : c.self.inside.others + 1 + c.self.inside.tally.hits ≡ c.self.inside.others + c.self.inside.tally.hits + 1 = omega arith in
     stands_miss c.args.self.now (the_view (record c.self.inside { others = c.self.inside.others + 1 })) c.miss.new.self c.args.word us kind done c.miss.result
-    (ap (λ (n : ℕ). record (the_view c.self.inside) { uses = n }) one_more ∙ ap (λ (m : Cached). record m { uses = m.uses + 1 }) c.self.view_is) absent nothing c.miss.ensures.count c.miss.ensures.same c.miss.ensures.lines c.miss.ensures.entries c.miss.ensures.numbers old
+    (ap (λ (n : ℕ). record (the_view c.self.inside) { uses = n }) one_more ∙ ap (λ (m : Cached). record m { uses = m.uses + 1 }) c.self.view_is) absent nothing c.miss.ensures.count c.miss.ensures.same
+    c.miss.ensures.lines c.miss.ensures.entries c.miss.ensures.numbers old

@@ -3,7 +3,7 @@ use Rattle.mm_model.specs.Memory.{put_cell}
 use Rattle.mm_model.specs.Uses.{Accessed}
 use Rattle.mm_model.specs.Counted.{block_of}
 use Rattle.mm_frames.specs.Framed.{memory_of}
-use Rattle.mm_cache.specs.declared.line.Line.{Line}
+use Rattle.mm_cache.specs.declared.line.CacheLine.{CacheLine}
 use Rattle.mm_cache.specs.Lines.{hits, with_cell}
 use Rattle.mm_cache.specs.Over.{over}
 use Rattle.mm_cache.specs.Laws.{Cover}
@@ -14,7 +14,7 @@ use Rattle.mm_vmem.proofs.vmem.VMem.write.Goals as goal
 
 pub invariant_of-self : goal.invariant_of-self
 invariant_of-self c = record {
-  cover = subst (λ (ls : List (Option Line)). Cover ls (memory_of c.self.inside.frames)) (sym c.put.ensures.after)
+  cover = subst (λ (ls : List (Option CacheLine)). Cover ls (memory_of c.self.inside.frames)) (sym c.put.ensures.after)
       (writes_are_over.cover (memory_of c.self.inside.frames) c.self.inside.lines c.args.word c.args.cell c.self.invariant.cover
       (ap (λ (m : Cached). hits m.lines (block_of c.args.word)) c.self.view_is ∙ c.requires));
   right = c.self.invariant.right;
@@ -32,4 +32,5 @@ returns-clause-after c =
 pub returns-clause-takes : goal.returns-clause-takes
 returns-clause-takes c us kind writing old =
     subst (λ (m : Cached). StandsTo (record m { lines = c.put.new.self }) (us ++ Accessed kind c.args.word true true ∷ [])) (sym c.self.view_is)
-    (stands_written c.args.self.now c.put.new.self c.args.word c.args.cell us kind (c.put.ensures.after ∙ ap (λ (m : Cached). with_cell m.lines c.args.word c.args.cell) c.self.view_is) c.requires writing old)
+    (stands_written c.args.self.now c.put.new.self c.args.word c.args.cell us kind
+    (c.put.ensures.after ∙ ap (λ (m : Cached). with_cell m.lines c.args.word c.args.cell) c.self.view_is) c.requires writing old)

@@ -6,7 +6,8 @@ use Rattle.mm_vmem.proofs.UsesTaken.{stands_new}
 use Rattle.mm_vmem.proofs.vmem.VMemBoot.new.Goals as goal
 
 pub invariant_of-result : goal.invariant_of-result
-invariant_of-result c = new_held c.in_ok-frames.frames c.new-2.result c.new-3.result c.paged.ensures c.in_ok-frames.ensures.reads c.in_ok-frames.ensures.writes c.new-2.ensures c.new-3.ensures
+invariant_of-result c = new_held c.in_ok-frames.frames c.new-2.result c.new-3.result c.in_ok-frames.ensures.paged c.in_ok-frames.ensures.reads c.in_ok-frames.ensures.writes c.new-2.ensures
+    c.new-3.ensures
 
 pub returns-clause-meaning : goal.returns-clause-meaning
 unfolding meaning
@@ -17,4 +18,4 @@ returns-clause-stands c = stands_new c.in_ok-frames.frames c.new-2.result c.new-
 
 pub returns-clause-paged : goal.returns-clause-paged
 unfolding meaning
-returns-clause-paged c = subst IsPaged (sym (new_meaning c.in_ok-frames.frames c.new-2.result c.new-2.ensures)) c.paged.ensures
+returns-clause-paged c = subst IsPaged (sym (new_meaning c.in_ok-frames.frames c.new-2.result c.new-2.ensures)) c.in_ok-frames.ensures.paged

@@ -11,7 +11,8 @@ use Rattle.mm_vmem.proofs.vmem.VMemMemory.map.Goals as goal
 
 pub invariant_of-self : goal.invariant_of-self
 invariant_of-self c =
-    map_held (the_view c.self.inside) c.self.inside.frames c.take.new.self c.args.page c.take.result c.self.invariant c.requires c.take.ensures.answer c.take.ensures.after c.take.ensures.same c.take.ensures.memory
+    map_held (the_view c.self.inside) c.self.inside.frames c.take.new.self c.args.page c.take.result c.self.invariant c.requires c.take.ensures.answer c.take.ensures.after c.take.ensures.same
+    c.take.ensures.memory
 
 pub returns-clause-answer : goal.returns-clause-answer
 unfolding meaning

@@ -15,7 +15,8 @@ use Rattle.mm_vmem.proofs.vmem.VMemMemory.unmap.Goals as goal
 
 pub invariant_of-self : goal.invariant_of-self
 invariant_of-self c =
-    unmap_held (the_view c.self.inside) c.self.inside.frames c.give-removed.new.self c.args.page c.drop_page.new.self c.clear.new.self c.self.invariant (sym c.give-removed.ensures.answer ∙ c.if-removed.true)
+    unmap_held (the_view c.self.inside) c.self.inside.frames c.give-removed.new.self c.args.page c.drop_page.new.self c.clear.new.self c.self.invariant
+    (sym c.give-removed.ensures.answer ∙ c.if-removed.true)
     c.give-removed.ensures.after c.give-removed.ensures.memory c.drop_page.ensures c.clear.ensures
 
 pub invariant_of-self-else-removed : goal.invariant_of-self-else-removed
@@ -40,20 +41,22 @@ returns-else-removed-clause-answer c =
 pub returns-then-removed-clause-after : goal.returns-then-removed-clause-after
 unfolding meaning
 returns-then-removed-clause-after c =
-    unmap_meaning (memory_of c.self.inside.frames) (memory_of c.give-removed.new.self) c.self.inside.lines c.drop_page.new.self c.args.page c.self.invariant.cover (sym c.give-removed.ensures.answer ∙ c.if-removed.true) c.give-removed.ensures.memory c.drop_page.ensures
+    unmap_meaning (memory_of c.self.inside.frames) (memory_of c.give-removed.new.self) c.self.inside.lines c.drop_page.new.self c.args.page c.self.invariant.cover
+    (sym c.give-removed.ensures.answer ∙ c.if-removed.true) c.give-removed.ensures.memory c.drop_page.ensures
     ∙ ap (λ (m : Cached). after_unmap (over (memory_of m.frames) m.lines) c.args.page) c.self.view_is
 
 pub returns-else-removed-clause-after : goal.returns-else-removed-clause-after
 unfolding meaning
 returns-else-removed-clause-after c =
-    refused_meaning (memory_of c.self.inside.frames) (memory_of c.give-removed.new.self) c.self.inside.lines c.args.page (sym c.give-removed.ensures.answer ∙ c.if-removed.false) c.give-removed.ensures.memory
+    refused_meaning (memory_of c.self.inside.frames) (memory_of c.give-removed.new.self) c.self.inside.lines c.args.page
+    (sym c.give-removed.ensures.answer ∙ c.if-removed.false) c.give-removed.ensures.memory
     ∙ ap (λ (m : Cached). after_unmap (over (memory_of m.frames) m.lines) c.args.page) c.self.view_is
 
 pub returns-then-removed-clause-takes : goal.returns-then-removed-clause-takes
 unfolding meaning
 returns-then-removed-clause-takes c = record {
   each = λ before old.
-      let new = the_view (record { frames = c.give-removed.new.self; lines = c.drop_page.new.self; buffer = c.clear.new.self; tally = c.self.inside.tally; others = c.self.inside.others }) in
+      let new = the_view (record { frames = c.give-removed.new.self; lines = c.drop_page.new.self; tlb = c.clear.new.self; tally = c.self.inside.tally; others = c.self.inside.others }) in
       let mapped : is_mapped (over (memory_of c.args.self.now.frames) c.args.self.now.lines) c.args.page ≡ true =
       sym (ap (λ (m : Cached). is_mapped (over (memory_of m.frames) m.lines) c.args.page) c.self.view_is)
       ∙ pages_are_over.mapped (memory_of c.self.inside.frames) c.self.inside.lines c.args.page ∙ sym c.give-removed.ensures.answer ∙ c.if-removed.true in
@@ -70,7 +73,7 @@ pub returns-else-removed-clause-takes : goal.returns-else-removed-clause-takes
 unfolding meaning
 returns-else-removed-clause-takes c = record {
   each = λ before old.
-      let new = the_view (record { frames = c.give-removed.new.self; lines = c.self.inside.lines; buffer = c.self.inside.buffer; tally = c.self.inside.tally; others = c.self.inside.others }) in
+      let new = the_view (record { frames = c.give-removed.new.self; lines = c.self.inside.lines; tlb = c.self.inside.tlb; tally = c.self.inside.tally; others = c.self.inside.others }) in
       let absent : is_mapped (over (memory_of c.args.self.now.frames) c.args.self.now.lines) c.args.page ≡ false =
       sym (ap (λ (m : Cached). is_mapped (over (memory_of m.frames) m.lines) c.args.page) c.self.view_is)
       ∙ pages_are_over.mapped (memory_of c.self.inside.frames) c.self.inside.lines c.args.page ∙ sym c.give-removed.ensures.answer ∙ c.if-removed.false in

@@ -21,7 +21,7 @@ unfolding meaning
 reset-requires-clause-fit c = subst (λ (n : ℕ). length c.args.pages.now ≤ n) (frames_kept _ c.args.self.now c.self.view_is) c.requires.fit
 
 pub invariant_of-self : goal.invariant_of-self
-invariant_of-self c = new_held c.reset.new.self c.clear.new.self c.clear-2.new.self c.paged.ensures c.reset.ensures.reads c.reset.ensures.writes c.clear.ensures c.clear-2.ensures
+invariant_of-self c = new_held c.reset.new.self c.clear.new.self c.clear-2.new.self c.reset.ensures.paged c.reset.ensures.reads c.reset.ensures.writes c.clear.ensures c.clear-2.ensures
 
 pub returns-clause-meaning : goal.returns-clause-meaning
 unfolding meaning
@@ -35,4 +35,4 @@ returns-clause-stands c = stands_new c.reset.new.self c.clear.new.self c.clear-2
 
 pub returns-clause-paged : goal.returns-clause-paged
 unfolding meaning
-returns-clause-paged c = subst IsPaged (sym (new_meaning c.reset.new.self c.clear.new.self c.clear.ensures)) c.paged.ensures
+returns-clause-paged c = subst IsPaged (sym (new_meaning c.reset.new.self c.clear.new.self c.clear.ensures)) c.reset.ensures.paged

@@ -1,8 +1,0 @@
-use Rattle.std.proofs.Common.{take}
-use Rattle.std.specs.List.{flat_map}
-use Rattle.mm_asm.specs.Answers.{Meets}
-use Rattle.mm_asm.specs.Faults.{word_failures}
-use Rattle.mm_asm.proofs.late.meet_goals_in.Given as goal
-
-abbrev pub invariant-loop-word : goal.invariant-loop-word
-invariant-loop-word l = Meets l.initial.first l.first (flat_map (word_failures l.draft l.segment) (take l.word-index l.words))

@@ -1,8 +1,0 @@
-use Rattle.std.proofs.Common.{take}
-use Rattle.std.specs.List.{flat_map}
-use Rattle.mm_asm.specs.Answers.{Meets}
-use Rattle.mm_asm.specs.Faults.{use_failures}
-use Rattle.mm_asm.proofs.late.meet_targets.Given as goal
-
-abbrev pub invariant-loop-u : goal.invariant-loop-u
-invariant-loop-u l = Meets l.initial.first l.first (flat_map (use_failures l.draft) (take l.u-index l.uses))

@@ -1,0 +1,5 @@
+use Rattle.mm_checkpoint.proofs.SameState.{same_states}
+use Rattle.mm_checkpoint.proofs.laws.saved_forms_are_states.Goals as goal
+
+pub returns : goal.returns
+returns c = same_states

@@ -1,0 +1,8 @@
+use Rattle.std.proofs.Common.{◌≡◌, ◌++◌, map, take}
+use Rattle.std.specs.List.{flat_map}
+use Rattle.mm_thread.specs.declared.output.Output.{Output}
+use Rattle.mm_checkpoint.specs.Checkpoints.{output_record}
+use Rattle.mm_checkpoint.proofs.writing.put_outputs.Given as goal
+
+abbrev pub invariant-loop-output : goal.invariant-loop-output
+invariant-loop-output l = l.out.items ≡ l.initial.out.items ++ flat_map output_record (map (λ (o : Output). (o.group, o.bytes.items)) (take l.output-index l.outputs))

@@ -1,0 +1,7 @@
+pub mod Answers
+pub mod Checkpoints
+pub mod Faults
+pub mod Laws
+pub mod Reading
+pub mod States
+pub mod Steps

@@ -1,7 +1,0 @@
-use Rattle.std.proofs.Common.{arith}
-use Rattle.std.specs.List.Sorted.{IsStrictlySortedBy}
-use Rattle.mm_debug.proofs.marks.Watches.new.Goals as goal
-
-pub invariant_of-result : goal.invariant_of-result
-unfolding IsStrictlySortedBy
-invariant_of-result c = rw c.new.ensures (record { rise = tt; few = omega arith })

@@ -1,0 +1,36 @@
+-- Packed cells: the 64 bits of each word, and for eight cells a byte of tags, of which each bit, the lowest for the
+-- first, says whether a cell holds a pointer, and a byte of which each bit says whether a cell is full.
+use Rattle.std.specs.Prelude.{◌≡◌, ℕ, ◌/◌, ◌%◌, ◌^◌, ◌<◌, ◌==◌, Bool, true, if◌then◌else◌, List, length, map}
+use Rattle.std.specs.Prelude.{slice_index}
+use Rattle.std.specs.List.{range_with_len}
+use Rattle.mm_word.specs.declared.word.Word.{Word}
+use Rattle.mm_word.specs.declared.word.Word.TheVariants.{Int, Ptr}
+use Rattle.mm_word.specs.declared.word.Cell.{Cell}
+use Rattle.mm_word.specs.Pointer.{pointer_of, SpellsPointer}
+
+-- bit i of a byte, the lowest first
+abbrev pub bit_of : ℕ → ℕ → Bool
+bit_of byte i = byte / 2 ^ i % 2 == 1
+
+-- the word of these bits: a pointer where it is tagged
+abbrev pub word_of : ℕ → Bool → Word
+word_of bits tagged = if tagged then Ptr (pointer_of bits) else Int bits
+
+-- the cell of these bits, for which bit i of two bytes says whether it holds a pointer and whether it is full
+abbrev pub cell_from : (bits tags fulls i : ℕ) → Cell
+cell_from bits tags fulls i = record { word = word_of bits (bit_of tags i); full = bit_of fulls i }
+
+-- the cell at a place
+abbrev pub cell_of_block : (bits : List ℕ) (tags fulls place : ℕ) → Cell
+cell_of_block bits tags fulls place = cell_from (slice_index bits place) tags fulls place
+
+-- the eight cells
+unfoldable pub block_of : (bits : List ℕ) (tags fulls : ℕ) → List Cell
+block_of bits tags fulls = map (cell_of_block bits tags fulls) (range_with_len 0 8)
+
+-- eight words and two bytes; what is tagged spells a pointer
+pub record IsPackedBlock (bits : List ℕ) (tags fulls : ℕ) : Type 0 where
+  pub words : length bits ≡ 8
+  pub tag_byte : tags < 256
+  pub full_byte : fulls < 256
+  pub pointers : (place : ℕ) → place < 8 → bit_of tags place ≡ true → SpellsPointer (slice_index bits place)

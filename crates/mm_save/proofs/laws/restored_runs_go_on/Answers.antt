@@ -1,5 +1,0 @@
-use Rattle.mm_save.proofs.GoesOn.{goes_on}
-use Rattle.mm_save.proofs.laws.restored_runs_go_on.Goals as goal
-
-pub returns : goal.returns
-returns c = goes_on

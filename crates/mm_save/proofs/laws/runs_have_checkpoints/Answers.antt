@@ -1,5 +1,0 @@
-use Rattle.mm_save.proofs.RunCheckpoints.{runs_have_checkpoints}
-use Rattle.mm_save.proofs.laws.runs_have_checkpoints.Goals as goal
-
-pub returns : goal.returns
-returns c = runs_have_checkpoints

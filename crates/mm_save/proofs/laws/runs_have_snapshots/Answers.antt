@@ -1,5 +1,0 @@
-use Rattle.mm_save.proofs.RunParts.{runs_have_snapshots}
-use Rattle.mm_save.proofs.laws.runs_have_snapshots.Goals as goal
-
-pub returns : goal.returns
-returns c = runs_have_snapshots

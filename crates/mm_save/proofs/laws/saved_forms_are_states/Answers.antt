@@ -1,5 +1,0 @@
-use Rattle.mm_save.proofs.SameState.{same_states}
-use Rattle.mm_save.proofs.laws.saved_forms_are_states.Goals as goal
-
-pub returns : goal.returns
-returns c = same_states

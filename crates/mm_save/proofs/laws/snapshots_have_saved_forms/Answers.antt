@@ -1,5 +1,0 @@
-use Rattle.mm_save.proofs.Forms.{have_forms}
-use Rattle.mm_save.proofs.laws.snapshots_have_saved_forms.Goals as goal
-
-pub returns : goal.returns
-returns c = have_forms

@@ -1,7 +1,0 @@
-use Rattle.std.proofs.Common.{◌≡◌, ◌++◌, take}
-use Rattle.std.specs.List.{flat_map}
-use Rattle.mm_save.specs.Checkpoints.{slot_record}
-use Rattle.mm_save.proofs.writing.put_slots.Given as goal
-
-abbrev pub invariant-loop-slot : goal.invariant-loop-slot
-invariant-loop-slot l = l.out.items ≡ l.initial.out.items ++ flat_map (slot_record l.events) (take l.slot-index l.slots)

@@ -1,0 +1,48 @@
+# Completion of the words of mm for bash, 4 or later.
+
+_mm() {
+    local word=${COMP_WORDS[COMP_CWORD]} before=${COMP_WORDS[COMP_CWORD-1]} command='' at
+    local commands='run debug trace symbols dis audit holders sweep extract solo net save continue asm link migrate gen soak help'
+    COMPREPLY=()
+    for ((at = 1; at < COMP_CWORD; at++)); do
+        case ${COMP_WORDS[at]} in
+            --program) ((at++)) ;;
+            -*) ;;
+            *) command=${COMP_WORDS[at]}; break ;;
+        esac
+    done
+    case $before in
+        --program | --schedule | --names | --output | -s | -o) compopt -o default; return ;;
+        --cycles | --turns | --groups | -n | -t | -g) return ;;
+    esac
+    if [ -z "$command" ]; then
+        COMPREPLY=($(compgen -W "$commands --program --help --version" -- "$word"))
+        return
+    fi
+    if [[ $word == -* ]]; then
+        local options='--help'
+        case $command in
+            run | trace | solo | continue) options="$options --cycles --schedule --turns --names --json" ;;
+            debug) options="$options --schedule --turns --names" ;;
+            symbols) options="$options --names --json" ;;
+            dis | holders) options="$options --names" ;;
+            audit) options="$options --groups --names --json" ;;
+            sweep) options="$options --output --names" ;;
+            save) options="$options --cycles --schedule --turns --output" ;;
+            extract | asm | link | migrate | gen) options="$options --output" ;;
+            net | soak) options="$options --cycles" ;;
+        esac
+        COMPREPLY=($(compgen -W "$options" -- "$word"))
+        return
+    fi
+    case $command in
+        help) COMPREPLY=($(compgen -W "$commands sources pointers schedules names ranges waiting idioms nets statuses json operations directives faults letters debugger" -- "$word")) ;;
+        gen | soak) ;;
+        *)
+            [ "$command" = migrate ] && COMPREPLY=($(compgen -W 'plain split' -- "$word"))
+            # The shell's own completion of files, which knows blanks and quotes.
+            compopt -o default ;;
+    esac
+}
+
+complete -F _mm mm

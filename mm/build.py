@@ -1,0 +1,272 @@
+"""From files to an image with names: sources are assembled, objects linked, and an image is taken as it is."""
+
+from __future__ import annotations
+
+import os
+import tempfile
+from dataclasses import dataclass, field
+from typing import Optional, Sequence
+
+from mm.formats.image import Image, read_image
+from mm.formats.kinds import FileKind, looks_binary
+from mm.formats.object import MOST_WORDS, Object, object_of_words, read_object
+from mm.machine.program import Answer, Program
+from mm.messages.diagnostic import Diagnostic
+from mm.messages.files import NamedFile, explain_files
+from mm.messages.links import explain_link
+from mm.messages.sources import explain
+from mm.names.layout import Placed, differences, place
+from mm.names.symbols import Symbols, fits, symbols_of
+from mm.outputs.refusal import Refusal, RefusalKind, read_refusal
+from mm.source.mend import Mender
+from mm.source.text import SourceText, read_source
+from mm.status import Status, Stop
+
+MOST_ERRORS = 20
+OUR_SUFFIXES = (".asm", ".obj", ".img", ".mms", ".schedule", ".links", ".events")
+
+
+class Refused(Stop):
+    """Files that are not what they must be, with a message for each place."""
+
+    def __init__(self, status: int, diagnostics: Sequence[Diagnostic], more: bool = False) -> None:
+        super().__init__(status)
+        self.diagnostics, self.more = list(diagnostics), more
+
+
+@dataclass
+class Unit:
+    """A source or an object: its name, its object, and its text where there is one that fits."""
+
+    name: str
+    data: bytes
+    made: Object
+    source: Optional[SourceText] = None
+    # Whether it is a text that was read here otherwise than `mmachine` reads it, so that its labels and lines are not used.
+    misread: bool = False
+
+
+@dataclass
+class Built:
+    """An image, where it is for `mmachine`, its names, and the placed segments that these come from."""
+
+    name: str
+    path: str
+    data: bytes
+    image: Image
+    symbols: Symbols = field(default_factory=Symbols)
+    units: list[Unit] = field(default_factory=list)
+    placed: list[Placed] = field(default_factory=list)
+    notes: list[str] = field(default_factory=list)
+
+    @property
+    def file(self) -> NamedFile:
+        return NamedFile(self.name, self.data)
+
+
+def read_file(name: str) -> bytes:
+    """The bytes of a file, or a message that names it."""
+    try:
+        with open(name, "rb") as file:
+            return file.read()
+    except OSError as error:
+        raise Refused(
+            Status.READ_FAULT, [Diagnostic(name, f"cannot be read: {error.strerror}", hints=_beside(name, error))]
+        ) from None
+
+
+def _beside(name: str, error: OSError) -> list[str]:
+    """Files that may have been meant."""
+    folder, last = os.path.split(name)
+    if not isinstance(error, FileNotFoundError):
+        return []
+    try:
+        there = os.listdir(folder or ".")
+    except OSError:
+        return [f"there is no folder {folder}"]
+    stem = os.path.splitext(last)[0]
+    meant = [stem + suffix for suffix in OUR_SUFFIXES if stem + suffix in there]
+    return [f"there is {os.path.join(folder, meant[0])}"] if meant else []
+
+
+class Workshop:
+    """A folder for the files in between, and the program that makes them."""
+
+    def __init__(self, program: Program) -> None:
+        self.program = program
+        self.room = tempfile.TemporaryDirectory(prefix="mm-")
+        self.made = 0
+
+    def close(self) -> None:
+        self.room.cleanup()
+
+    def keep(self, data: bytes, suffix: str) -> str:
+        """A file with these bytes."""
+        self.made += 1
+        path = os.path.join(self.room.name, f"{self.made}{suffix}")
+        with open(path, "wb") as file:
+            file.write(data)
+        return path
+
+    def assemble(self, name: str, data: bytes) -> Unit:
+        """The object of a source, or a message for each of its faults."""
+        if looks_binary(data):
+            raise Refused(
+                Status.REFUSED,
+                [
+                    Diagnostic(
+                        name,
+                        "this is no text, no image and no object",
+                        hints=["a source is a text; `mm help sources` shows one"],
+                    )
+                ],
+            )
+        answer = self.program.run(["asm", self.keep(data, ".asm")])
+        if answer.status:
+            raise self._source_refused(name, data, answer)
+        made, source = read_object(answer.out), read_source(name, data)
+        read_alike = fits(source, made)
+        return Unit(name, answer.out, made, source if read_alike else None, not read_alike)
+
+    def _source_refused(self, name: str, data: bytes, answer: Answer) -> Refused:
+        refusal = read_refusal(answer.line)
+        if refusal is None or refusal.kind is not RefusalKind.SOURCE:
+            return refused(answer, [NamedFile(name, data)])
+        return self._all_faults(name, data, refusal, answer.status)
+
+    def _all_faults(self, name: str, data: bytes, refusal: Refusal, status: int) -> Refused:
+        """The first fault, and those that show once it is taken out, up to a limit."""
+        source = read_source(name, data)
+        mender = Mender(source.lines)
+        found: list[Diagnostic] = []
+        seen: set[tuple[int, int, int]] = set()
+        fault, line, column = refusal["fault"], refusal["line"], refusal["column"]
+        while len(found) < MOST_ERRORS and (fault, line, column) not in seen:
+            seen.add((fault, line, column))
+            told = explain(source, fault, line, column)
+            found += [told] if told.name not in mender.dropped else []
+            next_one = self._next_fault(mender, fault, line, column)
+            if next_one is None:
+                return Refused(status, sorted(found, key=lambda one: (one.line, one.column)))
+            fault, line, column = next_one
+        return Refused(
+            status, sorted(found, key=lambda one: (one.line, one.column)), more=(fault, line, column) not in seen
+        )
+
+    def _next_fault(self, mender: Mender, fault: int, line: int, column: int) -> Optional[tuple[int, int, int]]:
+        if not mender.mend(fault, line, column):
+            return None
+        refusal = read_refusal(self.program.run(["asm", self.keep(mender.data(), ".asm")]).line)
+        if refusal is None or refusal.kind is not RefusalKind.SOURCE or refusal["line"] < 2:
+            return None
+        return refusal["fault"], refusal["line"] - 1, refusal["column"]
+
+    def texts(self, words: Sequence[int]) -> list[str]:
+        """What `mmachine dis` calls each word: an instruction, or `.int` and its digits."""
+        found: list[str] = []
+        for at in range(0, len(words), MOST_WORDS):
+            answer = self.program.run(["dis", self.keep(object_of_words(list(words[at : at + MOST_WORDS])), ".obj")])
+            if answer.status:
+                raise refused(answer, [NamedFile("the words of an image", b"")])
+            found += [line for line in answer.text.splitlines() if not line.startswith((".spare", ".segment"))]
+        return found
+
+    def unit(self, name: str, data: bytes) -> Unit:
+        """The object of a file that is a source or an object."""
+        if FileKind.of(data) is FileKind.OBJECT:
+            answer = self.program.run(["dis", self.keep(data, ".obj")])
+            if answer.status:
+                raise refused(answer, [NamedFile(name, data)])
+            return Unit(name, data, read_object(data))
+        return self.assemble(name, data)
+
+    def link(self, units: Sequence[Unit]) -> Built:
+        """The image of objects, with names that were compared with it."""
+        answer = self.program.run(["link", *[self.keep(unit.data, ".obj") for unit in units]])
+        if answer.status:
+            refusal = read_refusal(answer.line)
+            if refusal and refusal.kind is RefusalKind.LINK:
+                raise Refused(
+                    answer.status,
+                    explain_link(
+                        refusal["fault"], refusal.name, [(unit.name, unit.made, unit.source) for unit in units]
+                    ),
+                )
+            raise refused(answer, [NamedFile(unit.name, unit.data) for unit in units])
+        image = read_image(answer.out)
+        built = Built(units[0].name, self.keep(answer.out, ".img"), answer.out, image, units=list(units))
+        give_names(built, units)
+        return built
+
+    def build(self, names: Sequence[str], others: Sequence[str] = ()) -> Built:
+        """The image of files: an image as it is, or sources and objects linked. `others` are files that an image's names are taken from."""
+        datas = [read_file(name) for name in names]
+        kinds = [FileKind.of(data) for data in datas]
+        if FileKind.IMAGE in kinds:
+            if len(names) > 1:
+                image = names[kinds.index(FileKind.IMAGE)]
+                raise Refused(
+                    Status.USAGE,
+                    [Diagnostic(image, "an image is linked already: give it alone, or the sources and objects of all")],
+                )
+            return self._image(names[0], datas[0], others)
+        if FileKind.CHECKPOINT in kinds:
+            raise Refused(
+                Status.USAGE,
+                [
+                    Diagnostic(
+                        names[kinds.index(FileKind.CHECKPOINT)],
+                        "this is a checkpoint: `mm continue FILE.. CHECKPOINT` goes on from it",
+                    )
+                ],
+            )
+        return self.link([self.unit(name, data) for name, data in zip(names, datas)])
+
+    def _image(self, name: str, data: bytes, others: Sequence[str]) -> Built:
+        path = self.keep(data, ".img")
+        answer = self.program.run(["run", path, "0"])
+        if answer.status:
+            raise refused(answer, [NamedFile(name, data)])
+        built = Built(name, path, data, read_image(data))
+        if others:
+            give_names(built, [self.unit(other, read_file(other)) for other in others])
+        else:
+            self._names_beside(built)
+        return built
+
+    def _names_beside(self, built: Built) -> None:
+        """The names of a source beside an image, if the image is what it links to."""
+        source = os.path.splitext(built.name)[0] + ".asm"
+        if not os.path.isfile(source):
+            return
+        try:
+            made = self.link([self.unit(source, read_file(source))])
+        except Stop:
+            return
+        if made.data == built.data:
+            built.symbols, built.units, built.placed = made.symbols, made.units, made.placed
+
+
+def give_names(built: Built, units: Sequence[Unit]) -> None:
+    """Gives an image the names of its units, if it has the cells that their link makes; else says how many it has not."""
+    placed = place([unit.made for unit in units])
+    wrong = differences(placed, built.image)
+    built.notes += [
+        f"{unit.name}: its lines and labels are not shown, since they were not read as `mmachine` reads them"
+        for unit in units
+        if unit.misread
+    ]
+    built.placed, built.symbols = placed, symbols_of(placed, [unit.source for unit in units])
+    if wrong:
+        total = sum(len(item.segment.words) for item in placed)
+        built.notes.append(
+            f"names come from other files than the image: {len(wrong)} of {total} words differ, the first at {built.symbols.show(wrong[0])}"
+        )
+
+
+def refused(answer: Answer, files: Sequence[NamedFile]) -> Refused:
+    """A refusal of `mmachine` in words."""
+    refusal = read_refusal(answer.line)
+    if refusal is None:
+        return Refused(answer.status, [Diagnostic("mmachine", answer.line or f"ended with status {answer.status}")])
+    return Refused(answer.status, [explain_files(refusal, files)])

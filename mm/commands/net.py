@@ -1,0 +1,79 @@
+"""`mm net`: several machines side by side. Each file is a node, and links may name words instead of addresses."""
+
+from __future__ import annotations
+
+import re
+
+from mm.build import Built, read_file
+from mm.commands.running import Run
+from mm.commands.run import show
+from mm.console import Console
+from mm.formats.schedule import words_of
+from mm.messages.files import NamedFile
+from mm.names.expressions import NoAddress, address_of
+from mm.outputs.report import read_report
+from mm.status import Status, usage
+from mm.words import MOST_CYCLES
+
+LINK = re.compile(r"(\d)\.([^>\s]+)>(\d)\.(\S+)")
+MOST_NODES = 8
+
+
+def _end(node: str, place: str, nodes: list[Built]) -> str:
+    """The end of a link with its address as a number."""
+    if int(node) >= len(nodes):
+        return f"{node}.{place}" if place.isdigit() else f"{node}.8"
+    try:
+        return f"{node}.{address_of(place, nodes[int(node)].symbols)}"
+    except NoAddress as error:
+        raise usage(f"mm: link {node}.{place}: {error}") from None
+
+
+def numeric(data: bytes, nodes: list[Built]) -> tuple[bytes, dict[int, int]]:
+    """A text of links with numbers for names, and of each item's place in it the place in the user's own text."""
+    made, places = b"", {}
+    for offset, word in words_of(data):
+        match = LINK.fullmatch(word.decode("latin-1"))
+        places[len(made)] = offset
+        made += (
+            f"{_end(match[1], match[2], nodes)}>{_end(match[3], match[4], nodes)}".encode() if match else word
+        ) + b"\n"
+    return made, places
+
+
+def _split(text: str) -> tuple[list[list[str]], list[str]]:
+    """The lines of each node's report, and those of the links."""
+    nodes: list[list[str]] = []
+    links: list[str] = []
+    for line in text.splitlines():
+        if line.startswith("node "):
+            nodes.append([])
+        elif line.startswith("link "):
+            links.append(line)
+        else:
+            nodes[-1].append(line)
+    return nodes, links
+
+
+def run(console: Console) -> int:
+    links, events, *names = console.words
+    if len(names) > MOST_NODES:
+        raise usage(f"mm: net: a net has at most {MOST_NODES} nodes, and {len(names)} files are given")
+    nodes = [console.build([name]) for name in names]
+    said, order = read_file(links), read_file(events)
+    text, moved = numeric(said, nodes)
+    files = [NamedFile(links, said, moved=moved), NamedFile(events, order, events=True), *(node.file for node in nodes)]
+    words = [
+        "net",
+        console.workshop.keep(text, ".links"),
+        console.workshop.keep(order, ".events"),
+        str(console.cycles(MOST_CYCLES)),
+        *(node.path for node in nodes),
+    ]
+    reports, told = _split(console.ask(words, files).text)
+    for number, (node, lines) in enumerate(zip(nodes, reports)):
+        console.write([f"{console.style.strong(f'node {number}')}  {node.name}"])
+        show(console, node, Run(read_report(lines), {}), f"by its events of {events}")
+        console.write([""])
+    console.write(told)
+    return Status.DONE

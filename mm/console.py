@@ -1,0 +1,146 @@
+"""What a command works with: its words, the streams that it writes to, the program, and a workshop for files."""
+
+from __future__ import annotations
+
+import json
+import sys
+from typing import Any, Iterable, Optional
+
+from mm.build import Built, Refused, Workshop, read_file, refused
+from mm.formats.schedule import Schedule, read_schedule
+from mm.machine.program import Answer, Program, find_program
+from mm.messages.files import NamedFile
+from mm.status import Status, Stop, usage
+from mm.table import CYCLES, NAMES, OUTPUT, PROGRAM, SCHEDULE, TURNS
+from mm.views.style import Style
+from mm.words import Words, cycles_of
+
+
+class Order:
+    """The order of turns: a schedule as a file for `mmachine` and for messages, or round robin."""
+
+    def __init__(self, file: Optional[NamedFile] = None, path: Optional[str] = None) -> None:
+        self.file, self.path = file, path
+
+    @property
+    def words(self) -> list[str]:
+        return [self.path] if self.path else []
+
+    @property
+    def files(self) -> list[NamedFile]:
+        return [self.file] if self.file else []
+
+    @property
+    def schedule(self) -> Optional[Schedule]:
+        """The items, once `mmachine` has accepted them."""
+        return read_schedule(self.file.data) if self.file else None
+
+    def __str__(self) -> str:
+        return f"in the order of {self.file.name}" if self.file else "round robin"
+
+
+class Console:
+    """The surroundings of one command."""
+
+    def __init__(self, said: Words) -> None:
+        self.said = said
+        self.out, self.err = sys.stdout, sys.stderr
+        self.style, self.err_style = Style.of(sys.stdout), Style.of(sys.stderr)
+        self._program: Optional[Program] = None
+        self._workshop: Optional[Workshop] = None
+
+    @property
+    def name(self) -> str:
+        """The name of the command."""
+        return self.said.command.name if self.said.command else ""
+
+    @property
+    def words(self) -> list[str]:
+        return self.said.words
+
+    @property
+    def program(self) -> Program:
+        if self._program is None:
+            self._program = find_program(self.said.value(PROGRAM))
+        return self._program
+
+    @property
+    def workshop(self) -> Workshop:
+        if self._workshop is None:
+            self._workshop = Workshop(self.program)
+        return self._workshop
+
+    def close(self) -> None:
+        if self._workshop:
+            self._workshop.close()
+
+    def write(self, lines: Iterable[str]) -> None:
+        for line in lines:
+            self.out.write(line + "\n")
+
+    def write_json(self, form: Any) -> None:
+        json.dump(form, self.out, indent=1, ensure_ascii=True)
+        self.out.write("\n")
+
+    def tell(self, *lines: str) -> None:
+        """Lines for the standard error."""
+        self.out.flush()
+        for line in lines:
+            self.err.write(line + "\n")
+
+    def build(self, names: list[str]) -> Built:
+        """The image of files, with notes on its names told."""
+        built = self.workshop.build(names, self.said.all(NAMES))
+        self.tell(*[f"mm: note: {note}" for note in built.notes])
+        return built
+
+    def order(self) -> Order:
+        """What --schedule or --turns says."""
+        name, turns = self.said.value(SCHEDULE), self.said.value(TURNS)
+        if name is not None and turns is not None:
+            raise usage("mm: --schedule and --turns exclude each other")
+        if name is None and turns is None:
+            return Order()
+        file = NamedFile("--turns", (turns or "").encode()) if name is None else NamedFile(name, read_file(name))
+        return Order(file, self.workshop.keep(file.data, ".schedule"))
+
+    def cycles(self, default: int) -> int:
+        found = cycles_of(self.said.value(CYCLES))
+        return default if found is None else found
+
+    def ask(self, words: list[str], files: list[NamedFile], lines: Optional[bytes] = None) -> Answer:
+        """An answer of `mmachine`; a refusal is told in words."""
+        answer = self.program.run(words, lines)
+        if answer.status:
+            raise refused(answer, files)
+        return answer
+
+    def put(self, data: bytes) -> int:
+        """Bytes for the file of --output, or for the standard output where that is no terminal."""
+        name = self.said.value(OUTPUT)
+        if name is None:
+            if self.out.isatty():
+                raise usage(
+                    "mm: this would write bytes to the terminal: say where to with --output FILE, or send it to a file by `>`"
+                )
+            self.out.flush()
+            self.out.buffer.write(data)
+            self.out.buffer.flush()
+            return Status.DONE
+        try:
+            with open(name, "wb") as file:
+                file.write(data)
+        except OSError as error:
+            raise Stop(Status.WRITE_FAULT, f"mm: {name} cannot be written: {error.strerror}") from None
+        self.tell(f"{name}: {len(data)} bytes")
+        return Status.DONE
+
+
+def show_stop(console: Console, stop: Stop) -> None:
+    """Tells why a command could not be done."""
+    if isinstance(stop, Refused):
+        for diagnostic in stop.diagnostics:
+            console.tell(*diagnostic.render(console.err_style))
+        if stop.more:
+            console.tell(f"mm: {len(stop.diagnostics)} errors are shown, and there are more")
+    console.tell(*stop.lines)

@@ -1,0 +1,337 @@
+"""The commands of the debugger: their names and short forms, and what each does. `help` and completion are made from this table."""
+
+from __future__ import annotations
+
+from dataclasses import dataclass
+from typing import Callable, Iterable, Iterator
+
+from mm.debugger.evaluate import count_of, place_of, slot_of, span, value_of
+from mm.debugger.points import PointKind
+from mm.debugger.session import Halt, Session
+from mm.debugger.show import Show
+from mm.machine.isa import OPERATIONS
+from mm.machine.words import Pointer
+from mm.outputs.trace import Turn
+from mm.views.listing import map_lines
+
+Lines = Iterable[str]
+MOST_WORDS = 512
+
+
+class Wrong(Exception):
+    """A line that cannot be carried out, with the reason."""
+
+
+class Debugger:
+    """A session with what shows it, and expressions that are shown at each stop."""
+
+    def __init__(self, session: Session, show: Show) -> None:
+        self.session, self.show = session, show
+        self.displays: list[str] = []
+        self.over = False
+
+    def stop(self, halt: Halt) -> Iterator[str]:
+        yield from self.show.stop(halt)
+        for text in self.displays:
+            yield f"{text} = {self.show.word(value_of(text, self.session))}"
+
+
+@dataclass(frozen=True)
+class Entry:
+    """A command: its names, the first in full; its words; what it does; what completes its words; and its function."""
+
+    names: tuple[str, ...]
+    words: str
+    says: str
+    completes: str
+    run: Callable[[Debugger, str], Lines]
+
+
+def _step(debugger: Debugger, rest: str) -> Lines:
+    return debugger.stop(debugger.session.step(count_of(rest)))
+
+
+def _back(debugger: Debugger, rest: str) -> Lines:
+    return debugger.stop(debugger.session.back(count_of(rest)))
+
+
+def _goto(debugger: Debugger, rest: str) -> Lines:
+    return debugger.stop(debugger.session.go(count_of(rest, 0)))
+
+
+def _next(debugger: Debugger, rest: str) -> Lines:
+    """Turns of the current slot; a call is one."""
+    session = debugger.session
+    halt = Halt()
+    for _ in range(count_of(rest)):
+        halt = session.follow(_over_call(debugger))
+        if halt.point or halt.ended:
+            break
+    return debugger.stop(halt)
+
+
+def _here(debugger: Debugger) -> Pointer:
+    """Where the current slot stands."""
+    slot = debugger.session.current
+    pointer = slot.ip.pointer if slot else None
+    if pointer is None:
+        raise Wrong("there is no such slot")
+    return pointer
+
+
+def _over_call(debugger: Debugger) -> Callable[[Turn], bool]:
+    """What the next turn of the current slot is: that after the way back, if it stands at a call."""
+    here = _here(debugger)
+    instruction = debugger.session.memory.instruction(here.address)
+    if instruction is None or instruction.name != "jal":
+        return lambda turn: True
+    back = here.address + 8
+    return lambda turn: turn.fetch == back
+
+
+def _finish(debugger: Debugger, rest: str) -> Lines:
+    """To where the current slot leaves its segment."""
+    here = _here(debugger)
+    return debugger.stop(debugger.session.follow(lambda turn: turn.fetch is not None and not here.covers(turn.fetch)))
+
+
+def _until(debugger: Debugger, rest: str) -> Lines:
+    session = debugger.session
+    if rest:
+        address, length = place_of(rest, session)
+        return debugger.stop(
+            session.follow(lambda turn: turn.fetch is not None and address <= turn.fetch < address + length)
+        )
+    here = _here(debugger)
+    return debugger.stop(session.follow(lambda turn: turn.fetch is not None and here.address < turn.fetch < here.end))
+
+
+def _continue(debugger: Debugger, rest: str) -> Lines:
+    return debugger.stop(debugger.session.resume())
+
+
+def _reverse(debugger: Debugger, rest: str) -> Lines:
+    return debugger.stop(debugger.session.reverse())
+
+
+def _run(debugger: Debugger, rest: str) -> Lines:
+    debugger.session.go(0)
+    return debugger.stop(debugger.session.resume())
+
+
+def _start(debugger: Debugger, rest: str) -> Lines:
+    return debugger.stop(debugger.session.go(0))
+
+
+def _set_break(debugger: Debugger, rest: str, once: bool = False) -> Lines:
+    session = debugger.session
+    place, slot = slot_of(rest, session)
+    kinds = {
+        "fault": PointKind.FAULT,
+        "faults": PointKind.FAULT,
+        "entry": PointKind.ENTRY,
+        "entries": PointKind.ENTRY,
+        "enter": PointKind.ENTRY,
+    }
+    if place in kinds and not session.symbols.named(place):
+        point = session.add(kinds[place], "", slot=slot, once=once)
+        yield f"{point.number}: {point}"
+        return
+    address, length = place_of(place, session)
+    point = session.add(PointKind.BREAK, place, address, length, slot, once)
+    name, origin = session.symbols.show(address), session.symbols.origin(address)
+    if length > 8:
+        yield f"{point.number}: break where a slot comes into {name}"
+        return
+    typed = "" if place == name else f"{place} "
+    yield f"{point.number}: break {typed}at {name}" + (f", {origin}: {origin.code}" if origin else "")
+
+
+def _set_once(debugger: Debugger, rest: str) -> Lines:
+    return _set_break(debugger, rest, True)
+
+
+def _set_watch(kind: PointKind) -> Callable[[Debugger, str], Lines]:
+    def run(debugger: Debugger, rest: str) -> Lines:
+        place, slot = slot_of(rest, debugger.session)
+        address, length = span(place, debugger.session)
+        point = debugger.session.add(kind, place, address & ~7, length, slot)
+        now = debugger.show.cell(debugger.session.memory.cell(point.address)) if length == 8 else f"{length // 8} words"
+        yield f"{point.number}: {kind.title} {place}, now {now}"
+
+    return run
+
+
+def _delete(debugger: Debugger, rest: str) -> Lines:
+    points = debugger.session.points
+    if not rest:
+        points.clear()
+        yield "no breaks and no watches are left"
+        return
+    for word in rest.split():
+        found = next((point for point in points if str(point.number) == word), None)
+        if found is None:
+            raise Wrong(f"there is no break or watch {word}: `info breakpoints` lists them")
+        points.remove(found)
+        yield f"{found.number} is gone"
+
+
+def _registers(debugger: Debugger, rest: str) -> Lines:
+    number = count_of(rest, 0) if rest else debugger.session.slot
+    slot = debugger.session.report.slot(number)
+    if slot is None:
+        raise Wrong(f"there is no slot {number}: `info slots` lists them")
+    return debugger.show.registers(slot)
+
+
+def _slot(debugger: Debugger, rest: str) -> Lines:
+    if rest:
+        number = count_of(rest, 0)
+        if debugger.session.report.slot(number) is None:
+            raise Wrong(f"there is no slot {number}: `info slots` lists them")
+        debugger.session.slot = number
+    return debugger.show.slots()
+
+
+def _print(debugger: Debugger, rest: str) -> Lines:
+    if not rest:
+        raise Wrong("say what: `p r5`, `p count`, `p &box`, `p 0x100100`")
+    yield f"{rest} = {debugger.show.word(value_of(rest, debugger.session))}"
+
+
+def _display(debugger: Debugger, rest: str) -> Lines:
+    if not rest:
+        debugger.displays.clear()
+        yield "nothing is shown at a stop any more"
+        return
+    yield from _print(debugger, rest)
+    debugger.displays.append(rest)
+
+
+def _examine(debugger: Debugger, rest: str) -> Lines:
+    """`x/8 box`, `x/4i door`."""
+    form, text = (rest[1:].partition(" ")[0], rest[1:].partition(" ")[2]) if rest.startswith("/") else ("", rest)
+    digits = "".join(letter for letter in form if letter.isdigit())
+    address, length = span(text or "ip", debugger.session)
+    count = int(digits) if digits else max(1, min(length // 8, 16))
+    if not 0 < count <= MOST_WORDS:
+        raise Wrong(f"1 to {MOST_WORDS} words can be shown")
+    return debugger.show.memory(address & ~7, count, "i" in form)
+
+
+def _list(debugger: Debugger, rest: str) -> Lines:
+    session = debugger.session
+    slot = session.current
+    ip = slot.ip.pointer if slot else None
+    address = place_of(rest, session)[0] if rest else ip.address if ip else 0
+    return debugger.show.source(address)
+
+
+def _where(debugger: Debugger, rest: str) -> Lines:
+    yield from debugger.show.stop(Halt())
+
+
+def _output(debugger: Debugger, rest: str) -> Lines:
+    return debugger.show.output()
+
+
+INFO: dict[str, tuple[str, Callable[[Debugger, str], Lines]]] = {
+    "slots": ("where each slot stands", _slot),
+    "registers": ("the registers of a slot", _registers),
+    "breakpoints": ("breaks and watches", lambda debugger, rest: debugger.show.points()),
+    "symbols": (
+        "names with their addresses",
+        lambda debugger, rest: map_lines(debugger.session.symbols, debugger.show.style),
+    ),
+    "output": ("what each group has put out", _output),
+    "line": ("where this slot stands", _where),
+}
+INFO_NAMES = {
+    "threads": "slots",
+    "watchpoints": "breakpoints",
+    "locals": "registers",
+    "frame": "line",
+    "program": "line",
+    "variables": "symbols",
+    "functions": "symbols",
+}
+
+
+def _info(debugger: Debugger, rest: str) -> Lines:
+    word, _, more = rest.partition(" ")
+    names = [name for name in [*INFO, *INFO_NAMES] if word and name.startswith(word)]
+    if not names:
+        raise Wrong("info about what: " + ", ".join(f"{name} ({said})" for name, (said, _) in INFO.items()))
+    return INFO[INFO_NAMES.get(names[0], names[0])][1](debugger, more.strip())
+
+
+def _quit(debugger: Debugger, rest: str) -> Lines:
+    debugger.over = True
+    return ()
+
+
+def _help(debugger: Debugger, rest: str) -> Lines:
+    if rest and rest in OPERATIONS:
+        operation = OPERATIONS[rest]
+        yield f"{operation.usage}: {operation.effect}"
+        return
+    for entry in ENTRIES if not rest else [find(rest)]:
+        yield f"  {', '.join(entry.names):<30}  {entry.words:<14}  {entry.says}"
+    if not rest:
+        yield "A place is a name (door), a name and an offset (box+8), a line (7, or counter.asm:20), or a number (0x100100)."
+        yield "An empty line does the last command again. Nothing that is typed changes the run."
+
+
+# fmt: off
+ENTRIES = (
+    Entry(("step", "s", "si", "stepi"), "[N]", "N cycles on, whichever slots they belong to", "", _step),
+    Entry(("next", "n", "ni", "nexti"), "[N]", "N turns of this slot on; a call counts as one", "", _next),
+    Entry(("continue", "c"), "", "on to the next stop", "", _continue),
+    Entry(("until", "u", "advance"), "[PLACE]", "on until this slot comes to a place, or past a loop", "place", _until),
+    Entry(("finish", "fin"), "", "on until this slot leaves its segment, as a gate", "", _finish),
+    Entry(("back", "rs", "reverse-step"), "[N]", "N cycles back", "", _back),
+    Entry(("reverse", "rc", "reverse-continue"), "", "back to the last stop before here", "", _reverse),
+    Entry(("goto",), "N", "to the state after N cycles", "", _goto),
+    Entry(("run", "r"), "", "from the start to the first stop", "", _run),
+    Entry(("start",), "", "to the start", "", _start),
+    Entry(("break", "b"), "PLACE", "stop before a place; `break fault`, `break entry`; `.. slot N` for one slot alone", "place", _set_break),
+    Entry(("tbreak", "tb"), "PLACE", "the same, once", "place", _set_once),
+    Entry(("watch", "w"), "NAME", "stop after each write of a word, or of its bit", "place", _set_watch(PointKind.WATCH)),
+    Entry(("rwatch", "rw"), "NAME", "stop after each load", "place", _set_watch(PointKind.READ)),
+    Entry(("awatch", "aw"), "NAME", "stop after each load or write", "place", _set_watch(PointKind.ACCESS)),
+    Entry(("delete", "d"), "[N]", "remove a break or a watch, or all; 0 is the stop at faults", "", _delete),
+    Entry(("regs", "registers"), "[S]", "the registers of a slot", "", _registers),
+    Entry(("slot", "thread", "t"), "[S]", "look at another slot", "", _slot),
+    Entry(("print", "p", "inspect"), "WHAT", "a register (r5, ip), the word at a name, or with & the name's address", "value", _print),
+    Entry(("display",), "[WHAT]", "the same at each stop; nothing ends it", "value", _display),
+    Entry(("x",), "/N[i] PLACE", "N words of memory, with i as instructions; a register stands for where it points", "value", _examine),
+    Entry(("list", "l"), "[PLACE]", "the source around this slot, or around a place", "place", _list),
+    Entry(("where", "bt", "backtrace", "frame"), "", "where the run stands", "", _where),
+    Entry(("output", "o"), "", "what each group has put out", "", _output),
+    Entry(("info", "i"), "WHAT", ", ".join(INFO), "info", _info),
+    Entry(("help", "h"), "[WHAT]", "this list, a command or an operation", "help", _help),
+    Entry(("quit", "q", "exit"), "", "the end", "", _quit),
+)
+# fmt: on
+BY_NAME = {name: entry for entry in ENTRIES for name in entry.names}
+
+
+def find(word: str) -> Entry:
+    """A command by its name, a short form, or the beginning of a name."""
+    if word in BY_NAME:
+        return BY_NAME[word]
+    found = {entry.names[0]: entry for entry in ENTRIES if word and entry.names[0].startswith(word)}
+    if len(found) == 1:
+        return next(iter(found.values()))
+    if found:
+        raise Wrong(f"`{word}` may be {' or '.join(found)}")
+    raise Wrong(f"there is no command `{word}`: `help` lists them")
+
+
+def carry_out(debugger: Debugger, line: str) -> Lines:
+    """What a line answers."""
+    word, _, rest = line.strip().partition(" ")
+    if "/" in word and word.split("/")[0] in ("x", "p", "print"):
+        word, slash, form = word.partition("/")
+        rest = f"/{form} {rest}" if word == "x" else rest
+    return find(word).run(debugger, rest.strip())

@@ -1,0 +1,108 @@
+"""What a person types in the debugger: counts, places, registers and names."""
+
+from __future__ import annotations
+
+import re
+from typing import Optional
+
+from mm.debugger.session import Session
+from mm.machine.words import Word
+from mm.names.expressions import NoAddress, address_of, span_of
+from mm.names.numbers import number_of
+from mm.words import MOST_CYCLES
+
+REGISTER = re.compile(r"\$?r(\d+)")
+OFFSET = re.compile(r"(\$?r\d+|\$?ip)\s*([+-]\s*\w+)?")
+SLOT = re.compile(r"(.*?)\s*\b(?:if\s+)?(?:slot|thread)\s+(\d+)")
+SOME_LINES = 100_000
+
+
+def count_of(text: str, least: int = 1) -> int:
+    """A number of cycles or turns, 1 where none is written."""
+    if not text:
+        return 1
+    number = number_of(text)
+    if number is None or not least <= number <= MOST_CYCLES:
+        raise NoAddress(f"`{text}` is no number here: {least} to {MOST_CYCLES}")
+    return number
+
+
+def slot_of(text: str, session: Session) -> tuple[str, Optional[int]]:
+    """A place, and the slot that it is said for."""
+    match = SLOT.fullmatch(text)
+    if not match:
+        return text, None
+    if session.report.slot(int(match[2])) is None:
+        raise NoAddress(f"there is no slot {match[2]}")
+    return match[1], int(match[2])
+
+
+def _register(text: str, session: Session) -> Optional[Word]:
+    """A register of the current slot, or its instruction pointer."""
+    slot = session.current
+    if slot is None:
+        raise NoAddress("there is no such slot")
+    if text.lstrip("$") in ("ip", "pc"):
+        return slot.ip
+    match = REGISTER.fullmatch(text)
+    if not match or int(match[1]) > 15:
+        raise NoAddress(f"there is no register {text}: r0 to r15, and ip")
+    word = slot.register(int(match[1]))
+    if word is None:
+        raise NoAddress(f"{text} is empty: its load has not arrived")
+    return word
+
+
+def span(text: str, session: Session) -> tuple[int, int]:
+    """The address of a place and how many bytes it covers; a register stands for where it points."""
+    match = OFFSET.fullmatch(text.strip())
+    if not match or session.symbols.named(text.strip()):
+        return span_of(text, session.symbols)
+    word = _register(match[1], session)
+    pointer = word.pointer if word else None
+    if pointer is None:
+        raise NoAddress(f"{match[1]} is no pointer: it is {session.speller.register(word)}")
+    return pointer.address + (number_of(match[2].replace(" ", "").lstrip("+")) or 0 if match[2] else 0), 8
+
+
+def place_of(text: str, session: Session) -> tuple[int, int]:
+    """A place of the code: a name, a line of the source of this slot, or an address. A segment that begins with a pointer is meant whole."""
+    if not text:
+        raise NoAddress("say where: a name as `door`, a line as 7 or counter.asm:20, or an address as 0x1000c8")
+    number = number_of(text)
+    if number is not None and 0 < number < SOME_LINES:
+        return session_line(number, session), 8
+    address, length = span(text, session)
+    cell = session.memory.cell(address)
+    symbol = next(iter(session.symbols.named(text)), None)
+    whole = symbol is not None and symbol.segment and cell is not None and cell.word.tagged
+    return address, length if whole else 8
+
+
+def session_line(number: int, session: Session) -> int:
+    """The address of a line of the source that this slot runs."""
+    slot = session.current
+    ip = slot.ip.pointer if slot else None
+    region = session.symbols.region(ip.address) if ip else None
+    if region is None or region.source is None:
+        raise NoAddress(f"line {number} of which source? Say FILE:{number}")
+    return address_of(f"{region.source.path}:{number}", session.symbols)
+
+
+def value_of(text: str, session: Session) -> Word:
+    """The word that a person means: a register, the word at a name, a name's address with `&`, or a number."""
+    text = text.strip()
+    if text.startswith("&"):
+        return Word(address_of(text, session.symbols))
+    if OFFSET.fullmatch(text) and not session.symbols.named(text):
+        found = _register(text, session) if "+" not in text and "-" not in text else None
+        if found:
+            return found
+    number = number_of(text)
+    if number is not None and number < SOME_LINES:
+        return Word(number & (1 << 64) - 1)
+    address = span(text.lstrip("*"), session)[0]
+    cell = session.memory.cell(address & ~7)
+    if cell is None:
+        raise NoAddress(f"no page is at {session.symbols.show(address)}")
+    return cell.word

@@ -1,0 +1,156 @@
+"""A session: a moment of a run, the slot that is looked at, and the points."""
+
+from __future__ import annotations
+
+import re
+from dataclasses import dataclass
+from typing import Callable, Optional
+
+from mm.build import Built
+from mm.console import Console, Order
+from mm.debugger.history import History
+from mm.debugger.points import Point, PointKind, pattern_of
+from mm.names.symbols import Symbols
+from mm.outputs.report import Report, SlotState
+from mm.outputs.trace import Turn
+from mm.views.spell import Memory, Speller
+
+ANY_TURN = re.compile("^t ")
+
+
+@dataclass(frozen=True)
+class Halt:
+    """Why a run has stopped: at a point, by a turn, or at its end."""
+
+    point: Optional[Point] = None
+    turn: Optional[Turn] = None
+    ended: bool = False
+
+
+class Session:
+    """A run that is looked at after so many cycles."""
+
+    def __init__(self, console: Console, built: Built, order: Order) -> None:
+        self.built = built
+        self.history = History(console, built, order)
+        self.symbols: Symbols = built.symbols
+        self.speller = Speller(built.symbols)
+        self.total = 0
+        self.slot = built.image.slots[0].number
+        self.points = [Point(0, PointKind.FAULT, "")]
+        self.made = 0
+
+    @property
+    def report(self) -> Report:
+        return self.history.report(self.total)
+
+    @property
+    def memory(self) -> Memory:
+        return Memory(self.built.image, self.report.cells)
+
+    @property
+    def current(self) -> Optional[SlotState]:
+        return self.report.slot(self.slot)
+
+    @property
+    def last_turn(self) -> Optional[Turn]:
+        return self.history.turn(self.total) if self.total else None
+
+    @property
+    def next_turn(self) -> Optional[Turn]:
+        """The turn of the next cycle that is not idle."""
+        return next((turn for _, turn in self.history.after(self.total, ANY_TURN)), None)
+
+    def add(
+        self,
+        kind: PointKind,
+        text: str,
+        address: int = 0,
+        length: int = 8,
+        slot: Optional[int] = None,
+        once: bool = False,
+    ) -> Point:
+        self.made += 1
+        point = Point(self.made, kind, text, address, length, slot, once)
+        self.points.append(point)
+        return point
+
+    def go(self, total: int) -> Halt:
+        """Goes to a moment, which ends where the run ends."""
+        self.history.reach(total)
+        self.total = max(0, min(total, self.history.last))
+        turn = self.last_turn
+        if turn:
+            self.slot = turn.slot
+        return Halt(turn=turn, ended=self.total < total)
+
+    def step(self, count: int) -> Halt:
+        return self.go(self.total + count)
+
+    def back(self, count: int) -> Halt:
+        return self.go(max(0, self.total - count))
+
+    def _stop(self, cycle: int, turn: Turn, point: Point) -> Halt:
+        """Stops at a point: before a turn for a break, after it for all others."""
+        self.total = cycle - 1 if point.kind.before else cycle
+        self.slot = turn.slot
+        point.hits += 1
+        if point.once:
+            self.points.remove(point)
+        return Halt(point, None if point.kind.before else turn)
+
+    def _met(self, cycle: int, turn: Turn) -> Optional[Point]:
+        """The point that a turn meets. A break is met once by a slot that waits at it."""
+        for point in sorted(self.points, key=lambda point: not point.kind.before):
+            if point.meets(turn) and not (point.kind.before and self._was_there(cycle, turn, point)):
+                return point
+        return None
+
+    def _was_there(self, cycle: int, turn: Turn, point: Point) -> bool:
+        """Whether a slot waits at a break since an earlier turn, or is in a range since then."""
+        previous = self.history.previous(cycle, turn.slot)
+        if previous is None or previous.fetch is None:
+            return False
+        return (
+            previous.outcome == "blocked" and previous.fetch == turn.fetch or point.length > 8 and point.meets(previous)
+        )
+
+    def resume(self) -> Halt:
+        """Goes on to the next point, or to the end. A break right here does not count."""
+        for cycle, turn in self.history.after(self.total, pattern_of(self.points)):
+            here = [point for point in self.points if point.kind.before] if cycle == self.total + 1 else []
+            point = (
+                next((point for point in self.points if point not in here and point.meets(turn)), None)
+                if here
+                else self._met(cycle, turn)
+            )
+            if point:
+                return self._stop(cycle, turn, point)
+        return self._to_end()
+
+    def _to_end(self) -> Halt:
+        self.go(self.history.last)
+        return Halt(ended=True)
+
+    def reverse(self) -> Halt:
+        """Goes back to the last point before here, or to the start."""
+        for cycle, turn in self.history.before(self.total, pattern_of(self.points)):
+            point = self._met(cycle, turn)
+            if point and (cycle - 1 if point.kind.before else cycle) < self.total:
+                return self._stop(cycle, turn, point)
+        return self.go(0)
+
+    def follow(self, until: Callable[[Turn], bool]) -> Halt:
+        """Goes on to before the turn of the current slot at which a condition holds, or to a point before it."""
+        mine = re.compile("|".join(filter(None, [rf"^t {self.slot} ", pattern_of(self.points).pattern])))
+        slot, first = self.slot, True
+        for cycle, turn in self.history.after(self.total, mine):
+            if turn.slot == slot and not first and until(turn):
+                self.total, self.slot = cycle - 1, slot
+                return Halt(turn=self.history.previous(cycle, slot))
+            point = None if first and turn.slot == slot else self._met(cycle, turn)
+            point = point or next((each for each in self.points if not each.kind.before and each.meets(turn)), None)
+            if point:
+                return self._stop(cycle, turn, point)
+            first = first and turn.slot != slot
+        return self._to_end()

@@ -1,0 +1,114 @@
+"""Lines at a terminal or from a file: history, completion, and an empty line that repeats."""
+
+from __future__ import annotations
+
+import sys
+from typing import Optional
+
+from mm.console import Console, show_stop
+from mm.debugger.commands import BY_NAME, ENTRIES, INFO, Debugger, Wrong, carry_out, find
+from mm.machine.isa import OPERATIONS
+from mm.names.expressions import NoAddress
+from mm.status import Status, Stop
+
+PROMPT = "(mm) "
+
+
+class Completer:
+    """What Tab offers: commands, then what their words may be."""
+
+    def __init__(self, debugger: Debugger) -> None:
+        self.debugger = debugger
+
+    def offers(self, line: str) -> list[str]:
+        """All that may stand at the end of a line."""
+        word, blank, _ = line.lstrip().partition(" ")
+        if not blank:
+            return [entry.names[0] for entry in ENTRIES]
+        entry = BY_NAME.get(word.partition("/")[0])
+        kind = entry.completes if entry else ""
+        names = [symbol.name for symbol in self.debugger.session.symbols.symbols]
+        registers = [f"r{number}" for number in range(16)] + ["ip"]
+        offered = {
+            "place": names + ["fault", "entry"],
+            "value": names + registers,
+            "info": list(INFO),
+            "help": [*BY_NAME, *OPERATIONS],
+        }
+        return offered.get(kind, [])
+
+    def __call__(self, text: str, state: int) -> Optional[str]:
+        import readline
+
+        found = [offer for offer in self.offers(readline.get_line_buffer()) if offer.startswith(text)]
+        return found[state] if state < len(found) else None
+
+
+def set_up(debugger: Debugger) -> None:
+    """History and completion, where the standard library has them."""
+    try:
+        import readline
+    except ImportError:
+        return
+    readline.set_completer(Completer(debugger))
+    readline.set_completer_delims(" \t&*/")
+    readline.parse_and_bind("bind ^I rl_complete" if "libedit" in (readline.__doc__ or "") else "tab: complete")
+
+
+class Shell:
+    """Reads lines and writes answers."""
+
+    def __init__(self, console: Console, debugger: Debugger) -> None:
+        self.console, self.debugger = console, debugger
+        self.terminal = sys.stdin.isatty()
+        self.last = ""
+
+    def read(self) -> Optional[str]:
+        """The next line; none at the end. Lines of a file are shown, so that the answers can be told apart."""
+        try:
+            if self.terminal:
+                return input(PROMPT)
+            line = sys.stdin.readline()
+        except EOFError:
+            return None
+        if not line:
+            return None
+        self.console.write([PROMPT + line.rstrip("\n")])
+        return line.rstrip("\n")
+
+    def answer(self, line: str) -> None:
+        try:
+            self.console.write(carry_out(self.debugger, line))
+        except (Wrong, NoAddress) as error:
+            self.console.write([self.console.style.warn(str(error))])
+        except Stop as stop:
+            show_stop(self.console, stop)
+
+    def loop(self) -> int:
+        """Lines up to the end or `quit`."""
+        if self.terminal:
+            set_up(self.debugger)
+        while not self.debugger.over:
+            try:
+                line = self.read()
+                if line is None:
+                    break
+                line = line.split("#")[0].strip() or ("" if line.strip() else self.last)
+                if line:
+                    self.last = self.repeated(line)
+                    self.answer(line)
+                self.console.out.flush()
+            except KeyboardInterrupt:
+                self.console.write(["", "`quit` ends the session"])
+        if self.terminal and not self.debugger.over:
+            self.console.write([""])
+        return Status.DONE
+
+    @staticmethod
+    def repeated(line: str) -> str:
+        """What an empty line does after this one: the same, but that nothing is set or removed twice."""
+        try:
+            name = find(line.split()[0].partition("/")[0]).names[0]
+        except Wrong:
+            return ""
+        return "" if name in ("break", "tbreak", "watch", "rwatch", "awatch", "delete", "display", "run") else line

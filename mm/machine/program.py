@@ -1,0 +1,78 @@
+"""The program `mmachine`: where it is, and what it answers to words and files."""
+
+from __future__ import annotations
+
+import os
+import shutil
+import subprocess
+import tempfile
+from dataclasses import dataclass
+from typing import Optional, Sequence
+
+from mm.status import Status, Stop
+
+VARIABLE = "MMACHINE"
+BUILT = os.path.join("crates", "mmachine", "out", "mmachine")
+CHECKOUT = os.path.dirname(os.path.dirname(os.path.dirname(os.path.abspath(__file__))))
+NOT_THERE = (
+    "mm: the program `mmachine` is needed, and was not found.",
+    f"    It was looked for in ${VARIABLE}, in {BUILT} of this checkout, and on the path.",
+    "    Build it with `cd crates/mmachine && rt run -- run ../../examples/hello.img 10` (README.md, Quick start),",
+    f"    or say where it is: `mm --program FILE ..`, or `export {VARIABLE}=FILE`.",
+)
+
+
+@dataclass(frozen=True)
+class Answer:
+    """What a command of `mmachine` came to: its status, its standard output, and the line on its standard error."""
+
+    status: int
+    out: bytes
+    line: str
+
+    @property
+    def text(self) -> str:
+        return self.out.decode("latin-1")
+
+
+class Program:
+    """A built `mmachine`."""
+
+    def __init__(self, path: str) -> None:
+        self.path = path
+
+    def run(self, words: Sequence[str], lines: Optional[bytes] = None) -> Answer:
+        """Runs a command to its end. `lines` is its standard input, empty where none is given."""
+        try:
+            ended = subprocess.run(
+                [self.path, *words], input=lines or b"", stdout=subprocess.PIPE, stderr=subprocess.PIPE, check=False
+            )
+        except OSError as error:
+            raise Stop(Status.NO_PROGRAM, f"mm: {self.path} cannot be run: {error.strerror}") from None
+        return Answer(ended.returncode, ended.stdout, ended.stderr.decode("utf-8", "replace").strip())
+
+    def tail(self, words: Sequence[str], length: int) -> bytes:
+        """The last bytes of what a command writes, which may be long."""
+        with tempfile.TemporaryFile() as file:
+            subprocess.run(
+                [self.path, *words], stdin=subprocess.DEVNULL, stdout=file, stderr=subprocess.DEVNULL, check=False
+            )
+            file.seek(max(0, file.seek(0, os.SEEK_END) - length))
+            return file.read()
+
+
+def _usable(path: str) -> bool:
+    return os.path.isfile(path) and os.access(path, os.X_OK)
+
+
+def find_program(named: Optional[str] = None) -> Program:
+    """The program that was named, that of the environment, that of this checkout, or that on the path."""
+    for path, said in ((named, "--program"), (os.environ.get(VARIABLE), f"${VARIABLE}")):
+        if path and not _usable(path):
+            raise Stop(Status.NO_PROGRAM, f"mm: {said} says {path}, and there is no program of that name")
+        if path:
+            return Program(os.path.abspath(path))
+    for path in (os.path.join(CHECKOUT, BUILT), shutil.which("mmachine")):
+        if path and _usable(path):
+            return Program(path)
+    raise Stop(Status.NO_PROGRAM, *NOT_THERE)

@@ -1,0 +1,191 @@
+"""Names of addresses, and addresses of names."""
+
+from __future__ import annotations
+
+import bisect
+from collections import Counter
+from dataclasses import dataclass
+from typing import Optional, Sequence
+
+from mm.formats.object import Object, Segment
+from mm.machine.isa import OPERATIONS
+from mm.names.layout import Placed
+from mm.source.text import SourceSegment, SourceText
+from mm.source.tokens import readable
+
+
+@dataclass(frozen=True)
+class Origin:
+    """A line of a source."""
+
+    path: str
+    line: int
+    text: str
+
+    @property
+    def code(self) -> str:
+        """The line without its comment."""
+        return readable(self.text.split(";")[0].strip())
+
+    def __str__(self) -> str:
+        return f"{self.path}:{self.line}"
+
+
+@dataclass(frozen=True)
+class Symbol:
+    """A segment or a label: its name, its first address, how many bytes its name covers, and the line where it stands."""
+
+    name: str
+    address: int
+    length: int
+    segment: bool
+    origin: Optional[Origin]
+
+
+@dataclass(frozen=True)
+class Region:
+    """A placed segment, with its words and the text that it comes from, where there is one."""
+
+    name: str
+    base: int
+    log: int
+    words: int
+    source: Optional[SourceText]
+    index: int
+
+    @property
+    def end(self) -> int:
+        return self.base + (1 << self.log)
+
+    def line_of(self, address: int) -> Optional[int]:
+        """The line that made the word at an address."""
+        if self.source is None:
+            return None
+        run = self.source.segments[self.index].run_at((address - self.base) // 8)
+        return run.line if run else None
+
+
+def fits(source: SourceText, made: Object) -> bool:
+    """Whether what was read of a source is what `mmachine` made of it: the segments, their words, and which of these are pointers."""
+    if [(item.name, item.log, item.words) for item in source.segments] != [
+        (item.name, item.log, len(item.words)) for item in made.segments
+    ]:
+        return False
+    return all(_same_words(read, segment) for read, segment in zip(source.segments, made.segments))
+
+
+def _same_words(read: SourceSegment, segment: Segment) -> bool:
+    for run in read.runs:
+        operation = OPERATIONS.get(run.head)
+        if operation and segment.words[run.place] >> 56 != operation.number:
+            return False
+        if (run.head == ".ptr") != (run.place in segment.relocations):
+            return False
+    return True
+
+
+class Symbols:
+    """The names of an image. Without names every address is written as a number."""
+
+    def __init__(self, regions: Sequence[Region] = ()) -> None:
+        self.regions = sorted(regions, key=lambda region: region.base)
+        self.bases = [region.base for region in self.regions]
+        self.symbols: list[Symbol] = []
+        for region in self.regions:
+            self.symbols += _symbols_of(region)
+        self.symbols.sort(key=lambda symbol: (symbol.address, not symbol.segment))
+        labels = [symbol for symbol in self.symbols if not symbol.segment]
+        self.label_places = [symbol.address for symbol in labels]
+        self.label_names = self._label_names(labels)
+
+    def _label_names(self, labels: Sequence[Symbol]) -> list[str]:
+        """The names of labels, with their segments where several have the same."""
+        counts = Counter(label.name for label in labels)
+        regions = [self.region(label.address) for label in labels]
+        return [
+            f"{region.name}.{label.name}" if region and counts[label.name] > 1 else label.name
+            for label, region in zip(labels, regions)
+        ]
+
+    def __bool__(self) -> bool:
+        return bool(self.regions)
+
+    def region(self, address: int) -> Optional[Region]:
+        """The segment that an address is in."""
+        at = bisect.bisect_right(self.bases, address) - 1
+        return self.regions[at] if at >= 0 and address < self.regions[at].end else None
+
+    def name(self, address: int) -> Optional[str]:
+        """The name of an address: a label that stands there, else the nearest one before it that is not its segment's beginning, or the
+        segment, and how many bytes it is on."""
+        region = self.region(address)
+        if region is None:
+            return None
+        at = bisect.bisect_right(self.label_places, address) - 1
+        labelled = at >= 0 and self.label_places[at] > region.base
+        start, name = (self.label_places[at], self.label_names[at]) if labelled else (region.base, region.name)
+        return name if start == address else f"{name}+{address - start}"
+
+    def show(self, address: int) -> str:
+        """The name of an address, or the number where it has none."""
+        return self.name(address) or f"0x{address:x}"
+
+    def origin(self, address: int) -> Optional[Origin]:
+        """The line that made the word at an address."""
+        region = self.region(address)
+        line = region.line_of(address) if region else None
+        return Origin(region.source.path, line, region.source.line(line)) if region and region.source and line else None
+
+    def named(self, name: str) -> list[Symbol]:
+        """All that has a name. `SEGMENT.NAME` says which of several labels is meant."""
+        outer, dot, inner = name.partition(".")
+        if dot:
+            region = next((region for region in self.regions if region.name == outer), None)
+            return [symbol for symbol in self.named(inner) if region and region.base <= symbol.address < region.end]
+        return [symbol for symbol in self.symbols if symbol.name == name]
+
+    def place_of_line(self, path: str, line: int) -> Optional[int]:
+        """The address of the first word that a line of a source makes, or the next line that makes one."""
+        found = []
+        for region in self.regions:
+            if region.source and region.source.path == path:
+                runs = [run for run in region.source.segments[region.index].runs if run.line >= line]
+                found += [(run.line, region.base + 8 * run.place) for run in runs[:1]]
+        return min(found)[1] if found else None
+
+
+def _symbols_of(region: Region) -> list[Symbol]:
+    """A segment and its labels, each as long as up to the next."""
+    source = region.source
+    origin = None
+    if source:
+        line = source.segments[region.index].line
+        origin = Origin(source.path, line, source.line(line))
+    found = [Symbol(region.name, region.base, 1 << region.log, True, origin)]
+    if source is None:
+        return found
+    labels = sorted(
+        (label.place, label.line, label) for label in source.labels.values() if label.segment == region.index
+    )
+    ends = [place for place, _, _ in labels[1:]] + [max(region.words, labels[-1][0] + 1 if labels else 0)]
+    for (place, line, label), end in zip(labels, ends):
+        address = region.base + 8 * place
+        if address < region.end:
+            found.append(
+                Symbol(
+                    label.name, address, max(8, 8 * (end - place)), False, Origin(source.path, line, source.line(line))
+                )
+            )
+    return found
+
+
+def symbols_of(placed: Sequence[Placed], sources: Sequence[Optional[SourceText]]) -> Symbols:
+    """The names of placed segments; of each unit its source, where there is one that fits."""
+    return Symbols(
+        [
+            Region(
+                item.segment.name, item.base, item.segment.log, len(item.segment.words), sources[item.unit], item.index
+            )
+            for item in placed
+        ]
+    )

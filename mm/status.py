@@ -1,0 +1,30 @@
+"""How `mm` ends: the statuses of `mmachine`, and one of its own for a program that is not there."""
+
+from __future__ import annotations
+
+from enum import IntEnum
+
+
+class Status(IntEnum):
+    """An exit status. 0 to 6 are those of `mmachine`."""
+
+    DONE = 0
+    USAGE = 1
+    REFUSED = 2
+    READ_FAULT = 3
+    WRITE_FAULT = 4
+    NO_MEMORY = 5
+    NO_WORDS = 6
+    NO_PROGRAM = 127
+
+
+class Stop(Exception):
+    """The end of a command that could not be done: its status, and what is told on the standard error."""
+
+    def __init__(self, status: int, *lines: str) -> None:
+        super().__init__(*lines)
+        self.status, self.lines = status, lines
+
+
+def usage(*lines: str) -> Stop:
+    return Stop(Status.USAGE, *lines)

@@ -1,0 +1,1 @@
+"""Tests of `mm`. Those of commands need the built `mmachine`, as `mm` itself does."""

@@ -1,0 +1,96 @@
+"""Usual mistakes of beginners: a source, where the message is, what it says, and what to do."""
+
+from __future__ import annotations
+
+from dataclasses import dataclass
+
+HEAD, TAIL = ".segment main 6\n", "\n  halt\n.thread 0 0 none xu main\n"
+
+
+@dataclass(frozen=True)
+class Mistake:
+    """A source that is refused, and what must be in the message: the place, what is wrong, and the hint."""
+
+    source: str
+    place: str
+    says: str
+    hint: str
+
+
+def line(text: str, place: str, says: str, hint: str) -> Mistake:
+    """A mistake in the second line of a source that is right otherwise."""
+    return Mistake(HEAD + text + TAIL, place, says, hint)
+
+
+def thread(text: str, place: str, says: str, hint: str) -> Mistake:
+    """A mistake after a right thread."""
+    return Mistake(HEAD + "  halt\n.thread 0 0 none xu main\n" + text + "\n", place, says, hint)
+
+
+# fmt: off
+MISTAKES = [
+    line("  ld r2, 8(r1)", "2:10", "expected a register", "`ld r2, r1, 8, any, keep`"),
+    line("  ld r2, [r1]", "2:10", "`[`", "`ld r2, r1, 0, any, keep`"),
+    line("  st r2, 0(r1)", "2:10", "expected a register", "`st r1, r2, 0, any, keep`"),
+    line("  ldi R2, 1", "2:7", "`R2`", "`r2`"),
+    line("  ldi r16, 1", "2:7", "`r16`", "r0 to r15"),
+    line("  ldi a0, 1", "2:7", "`a0`", "r0 to r15"),
+    line("  MOV r1, r2", "2:3", "`MOV`", "`mov`"),
+    line("  .word 5", "2:3", "`.word`", "`.int NUMBER`"),
+    line("  .string \"hi\"", "2:3", "`.string`", "each letter is a word"),
+    line("  .space 8", "2:3", "`.space`", "`.fill COUNT`"),
+    line("  li r1, 5", "2:3", "`li`", "`ldi r1, 65`"),
+    line("  lw r2, r1", "2:3", "`lw`", "`ld r2, r1, 0, any, keep`"),
+    line("  sw r2, r1", "2:3", "`sw`", "the pointer r1 comes first"),
+    line("  ret", "2:3", "`ret`", "`jmp r6`"),
+    line("  call main", "2:3", "`call`", "`jal r6, r5`"),
+    line("  beq r1, r2, main", "2:3", "`beq`", "`eq r3, r1, r2`"),
+    line("  push r1", "2:3", "`push`", "mm help idioms"),
+    line("  hlt", "2:3", "`hlt`", "`halt`"),
+    line("  lda r1", "2:3", "`lda`", "do you mean `ld"),
+    line("  ld r2, r1", "2:12", "too early", "`ld r2, r1, 0, any, keep`"),
+    line("  ld r2, r1, 8, any", "2:20", "too early", "`ld r2, r1, 8, any, keep`"),
+    line("  ld r2, r1, 0, keep, any", "2:17", "found `keep`", "first comes what the bit must be"),
+    line("  addi r2, 5", "2:12", "expected a register", "`addi r2, r2, 5`"),
+    line("  add r2, r2, 5", "2:15", "expected a register", "`addi r2, r2, 5`"),
+    line("  sub r2, r2, 1", "2:15", "expected a register", "`addi r2, r2, -1`"),
+    line("  add r2, r3", "2:13", "too early", "`add r2, r2, r3`"),
+    line("  add r1 r2 r3", "2:10", "expected a comma", "`add r1, r2, r3`"),
+    line("  mov r1, 5", "2:11", "expected a register", "`ldi r1, 5`"),
+    line("  out 65", "2:7", "expected a register", "`ldi`"),
+    line("  ldi r1, 'A'", "2:11", "`'`", "65 for A"),
+    line("  ldi r1, #5", "2:11", "`#`", "without a mark"),
+    line("  halt // done", "2:8", "`/`", "a comment begins with `;`"),
+    line("  ldi r1, 0x123456789", "2:11", "out of range", "`ldhi r1, 0x23456789`"),
+    line("  ldi r1, 2 * 3", "2:13", "`*`", "write the number"),
+    line("  ldi r1, 65 out r1", "2:14", "expected the end of the line", "a line has one statement"),
+    line("  evt r14", "2:7", "`r14`", "r12 is the last"),
+    line("loop\n  br loop", "2:1", "`loop`", "write `:` after it"),
+    line("  br nowhere", "2:6", "no label of this segment", "a label is a name and `:`"),
+    line("again: br agian", "2:11", "`agian`", "do you mean `again`?"),
+    line("  .int main", "2:8", "expected a number", "`.ptr rw main`"),
+    line("  .ptr main", "2:8", "expected a permission", "`.ptr rw main`"),
+    Mistake(HEAD + "  br there\n.segment other 4\nthere: halt\n.thread 0 0 none xu main\n", "2:6", "no label of this segment", "in segment `other`"),
+    Mistake(HEAD + "a: halt\na: halt\n.thread 0 0 none xu main\n", "3:1", "in line 2", "one set of names"),
+    Mistake(".segment main\n  halt\n.thread 0 0 none xu main\n", "1:14", "too early", "2^6 = 64 bytes"),
+    Mistake(".segment main 64\n  halt\n.thread 0 0 none xu main\n", "1:15", "out of range", "for 64 bytes write 6"),
+    Mistake(".segment main 3\n  ldi r1, 65\n  out r1\n  halt\n.thread 0 0 none xu main\n", "3:3", "`main` is full", "`.segment main 5`"),
+    Mistake("  ldi r1, 5\n" + HEAD + TAIL, "1:3", "before the first `.segment`", "begin with a segment"),
+    Mistake(".text\n" + HEAD + TAIL, "1:1", "`.text`", "`.segment NAME L`"),
+    Mistake(HEAD + "  halt\n.thread 0 0 xu main\n", "3:13", "handler", "`.thread 0 0 none xu main`"),
+    Mistake(HEAD + "  halt\n.thread 0 0 none rw main\n", "3:18", "`rw`", "`xu` as a user"),
+    Mistake(HEAD + "  halt\n.thread 0 0 0 xu main\n", "3:13", "out of range", "its own faults"),
+    Mistake(HEAD + "  halt\n.thread 0 0 1 xu main\n", "3:1", "handler in slot 1", "`none`"),
+    Mistake(HEAD + "  halt\n.thread 0 0 none xu mian\n", "3:21", "`mian`", "do you mean `main`?"),
+    Mistake(HEAD + "  halt\n", "", "there is no thread", "`.thread 0 0 none xu main`"),
+    thread(".thread 0 1 none xu main", "4:9", "second thread in slot 0", "another slot"),
+    thread(".reg r1 int 5", "4:6", "`r1`", "`.reg 1 int 5`"),
+    thread(".reg 1 5", "4:8", "expected int or ptr", "`.reg 1 int 5`"),
+    thread(".reg 1 main", "4:8", "expected int or ptr", "`.reg 1 ptr rw main`"),
+    thread(".reg 1 ptr main", "4:12", "expected a permission", "`.reg 1 ptr rw main`"),
+    thread(".reg 1 ptr rx main", "4:12", "`rx`", "ro (read)"),
+    thread(".reg 1 int 5\n.reg 1 int 6", "5:6", "set already", "one value"),
+    thread(".reg 1 ptr rw main + 64", "4:15", "to the end of its segment", "below the segment's length"),
+    Mistake(".reg 1 int 5\n" + HEAD + TAIL, "1:1", "before the first `.thread`", "the thread before them"),
+]
+# fmt: on

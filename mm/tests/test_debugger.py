@@ -1,0 +1,150 @@
+"""The debugger, by the lines that a person would type."""
+
+import time
+import unittest
+
+from mm.tests.support import mm, needs_program
+
+
+def answers(ended):
+    """What each line answers, by the line."""
+    found = []
+    for line in ended.out.splitlines()[1:]:
+        if line.startswith("(mm) "):
+            found.append((line[5:], []))
+        elif found:
+            found[-1][1].append(line)
+    return [(line, "\n".join(said)) for line, said in found]
+
+
+@needs_program
+class Sessions(unittest.TestCase):
+    def session(self, lines, *words):
+        ended = mm("debug", *words, lines="\n".join(lines) + "\n")
+        self.assertEqual((ended.status, ended.err), (0, ""))
+        return [said for _, said in answers(ended)]
+
+    def test_bug_is_found_by_name(self):
+        watch, first, back, register, price, *_ = self.session(
+            ["watch price", "continue", "back", "p r2", "p price", "list"], "examples/bug.asm"
+        )
+        self.assertIn("watch price, now 36 '$'", watch)
+        self.assertIn("price was 36 '$', and is 111 'o'", first)
+        self.assertIn("cycle 27", first)
+        self.assertIn("bug.asm:6:  leai r1, r1, 8", first)
+        self.assertIn("bug.asm:5:  st r2, r3, 0, any, keep", back)
+        self.assertIn("rw 2^6 price   (read/write, all 64 bytes of record", register)
+        self.assertIn("36 '$'", price)
+
+    def test_breaks(self):
+        said = self.session(["b door", "c", "n", "n", "fin", "c", "info b", "d 1", "c"], "examples/counter.asm")
+        self.assertIn("break at door, examples/counter.asm:20", said[0])
+        self.assertIn("cycle 9\nslot 1 is at door", said[1])
+        self.assertIn("slot 1 is at door+8", said[2])
+        self.assertIn("slot 1 is at cons+32", said[4])
+        self.assertIn("break door at door  (met 2 times)", said[6])
+        self.assertIn("cycle 36, the end of the run", said[8])
+
+    def test_places(self):
+        said = self.session(
+            [
+                "b 13",
+                "c",
+                "b counter.asm:15",
+                "c",
+                "b door+8",
+                "c",
+                "b *0x1000c8",
+                "b gate",
+                "tb fault",
+                "b entry slot 1",
+                "b 0x100000 slot 7",
+                "b nowhere",
+            ],
+            "examples/counter.asm",
+        )
+        self.assertIn("cycle", said[0] + said[1])
+        self.assertIn("counter.asm:15", said[2])
+        self.assertIn("door+8", said[4])
+        self.assertIn("door", said[6])
+        self.assertIn("where a slot comes into gate", said[7])
+        self.assertIn("fault once", said[8])
+        self.assertIn("entry slot 1", said[9])
+        self.assertIn("there is no slot 7", said[10])
+        self.assertIn("there is no label or segment `nowhere`", said[11])
+
+    def test_faults_stop(self):
+        said = self.session(["c", "c", "rc", "start", "d 0", "c"], "examples/faults.asm")
+        self.assertIn("fault 1 NotPointer", said[0])
+        self.assertIn("its bits are those of ro 2^5 text", said[0])
+        self.assertIn("fault 3 Bounds", said[1])
+        self.assertIn("fault 1 NotPointer", said[2])
+        self.assertIn("the end of the run", said[5])
+
+    def test_entries_and_accesses(self):
+        said = self.session(["b entry", "c", "awatch count", "rwatch box slot 1", "c", "c"], "examples/counter.asm")
+        self.assertIn("enters eu 2^6 door", said[1])
+        self.assertIn("loads count", said[4])
+        self.assertIn("count was 0, and is 1", said[5])
+
+    def test_memory_and_registers(self):
+        said = self.session(
+            [
+                "goto 36",
+                "x/2 box",
+                "x/3i door",
+                "p count",
+                "p &door",
+                "p r5",
+                "x r1",
+                "regs 0",
+                "info output",
+                "i slots",
+                "p 5",
+            ],
+            "examples/counter.asm",
+        )
+        self.assertIn("box    2 (empty)", said[1])
+        self.assertIn("lip r7, gate", said[2])
+        self.assertIn("count = 2", said[3])
+        self.assertIn("0x1000c8", said[4])
+        self.assertIn("enter-user, all 64 bytes of gate", said[5])
+        self.assertIn("box", said[6])
+        self.assertIn("r1   rw 2^3 box", said[7])
+        self.assertIn('group 1  "AB"', said[8])
+        self.assertIn("* slot", said[9])
+
+    def test_schedule_with_idle_cycles(self):
+        said = self.session(["s", "s 2", "back", "goto 7", "s"], "examples/counter.asm", "--turns", "9 0 9 1*5")
+        self.assertIn("cycle 1\n", said[0])
+        self.assertIn("cycle 3\n", said[1])
+        self.assertIn("slot 0 did st", said[2])
+        self.assertIn("cycle 7", said[3])
+        self.assertIn("enters eu 2^6 door", said[3])
+        self.assertIn("cycle 8, the end", said[4])
+
+    def test_empty_line_repeats(self):
+        said = self.session(["s", "", "", "w box", "", "foo"], "examples/counter.asm")
+        self.assertIn("cycle 3", said[2])
+        self.assertEqual(said[4], "")
+        self.assertIn("there is no command `foo`", said[5])
+
+    def test_wrong_lines_change_nothing(self):
+        lines = ["s 2", "p r99", "x/0 box", "s many", "b", "until nowhere", "p", "regs 5", "d 9", "info what", "where"]
+        said = self.session(lines, "examples/counter.asm")
+        self.assertIn("cycle 2", said[-1])
+
+    def test_ends_are_ends(self):
+        said = self.session(["c", "s", "n", "fin", "u door", "back 36", "rc", "q"], "examples/counter.asm")
+        self.assertIn("cycle 36, the end", said[3])
+        self.assertIn("cycle 0", said[5])
+
+    def test_lines_are_answered_at_once(self):
+        """Fifty lines in a process that is there, each in 50 ms but on a busy machine."""
+        began = time.process_time()
+        self.session(["s", "regs", "p count", "b door", "c"] * 10, "examples/counter.asm")
+        self.assertLess((time.process_time() - began) / 50, 0.05)
+
+
+if __name__ == "__main__":
+    unittest.main()

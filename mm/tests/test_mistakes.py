@@ -1,0 +1,173 @@
+"""Each usual mistake gets a message that says where it is, what it is, and what to do."""
+
+import unittest
+
+from mm.messages.mistakes import OPERATION_HINTS
+from mm.source.wants import DIRECTIVES, OPERANDS
+from mm.tests.mistakes import MISTAKES
+from mm.tests.support import folder, mm, needs_program, write
+
+MANY = """\
+.segment main 6
+  li r1, 5
+  ld r2, 8(r1)
+loop:
+  addi r2, 5
+  br lop
+  halt
+.segment data
+  .word 5
+  .int 6
+.thread 0 0 xu main
+.reg 1 ptr data
+"""
+
+
+@needs_program
+class Mistakes(unittest.TestCase):
+    def test_table(self):
+        self.assertGreaterEqual(len(MISTAKES), 30)
+        with folder() as room:
+            for mistake in MISTAKES:
+                path = write(room, "mine.asm", mistake.source)
+                ended = mm("run", path)
+                place = f"{path}:{mistake.place}: error: " if mistake.place else f"{path}: error: "
+                with self.subTest(mistake.source):
+                    self.assertEqual(ended.status, 2)
+                    self.assertEqual(ended.out, "")
+                    first, _, rest = ended.err.partition("\n")
+                    self.assertTrue(first.startswith(place), ended.err)
+                    self.assertIn(mistake.says, first)
+                    self.assertIn("hint: ", rest)
+                    self.assertIn(mistake.hint, rest.split("hint: ")[1].split("\n")[0])
+                    self.assertEqual(ended.err.count(": error: "), 1, ended.err)
+
+    def test_all_of_a_source(self):
+        with folder() as room:
+            path = write(room, "mine.asm", MANY)
+            ended = mm("run", path)
+        places = [line.split(": error")[0][len(path) + 1 :] for line in ended.err.splitlines() if ": error: " in line]
+        self.assertEqual(places, ["2:3", "3:10", "5:12", "6:6", "8:14", "9:3", "11:13", "12:12"])
+        self.assertEqual(ended.status, 2)
+
+    def test_caret_stands_under_the_letter(self):
+        with folder() as room:
+            path = write(room, "mine.asm", ".segment main 6 ; \u00e4\u00f6\u00fc\n\tldi r1, 5 \u00e4\n")
+            lines = mm("asm", path).err.splitlines()
+        self.assertEqual(lines[1].index("\u00e4"), lines[2].index("^"))
+
+    def test_errors_are_not_endless(self):
+        with folder() as room:
+            path = write(room, "mine.asm", ".segment main 20\n" + "  li r1, 5\n" * 100)
+            ended = mm("asm", path)
+        self.assertEqual(ended.err.count(": error: "), 20)
+        self.assertIn("there are more", ended.err)
+
+
+class Hints(unittest.TestCase):
+    def test_hints_are_of_other_words(self):
+        self.assertFalse(set(OPERATION_HINTS) & set(OPERANDS))
+        self.assertTrue(all(name.startswith(".") for name in DIRECTIVES))
+
+
+@needs_program
+class Files(unittest.TestCase):
+    def refused(self, status, *words):
+        ended = mm(*words)
+        self.assertEqual((ended.status, ended.out), (status, ""), ended.err)
+        return ended.err
+
+    def test_files_that_are_not_there(self):
+        self.assertIn("nofile.asm: error: cannot be read", self.refused(3, "run", "nofile.asm"))
+        self.assertIn("there is examples/counter.asm", self.refused(3, "run", "examples/counter.s"))
+        self.assertIn(
+            "nothing.schedule: error: cannot be read",
+            self.refused(3, "run", "examples/counter.asm", "--schedule", "nothing.schedule"),
+        )
+        self.assertIn("examples: error: cannot be read", self.refused(3, "run", "examples"))
+
+    def test_schedules(self):
+        for text, hint in (
+            ("0*3 x", "an item is a slot's number"),
+            ("0, 1", "no commas"),
+            ("07", "no leading zero: 7"),
+            ("s1", "its number alone: 1"),
+        ):
+            err = self.refused(2, "run", "examples/counter.asm", "--turns", text)
+            self.assertIn("--turns:1:", err)
+            self.assertIn(hint, err)
+        with folder() as room:
+            path = write(room, "my.schedule", "0*3\n1 two\n")
+            self.assertIn(f"{path}:2:3: error: `two`", self.refused(2, "run", "examples/counter.asm", "-s", path))
+
+    def test_images_and_objects(self):
+        with open("examples/hello.img", "rb") as file:
+            image = file.read()
+        with folder() as room:
+            path = write(room, "bad.img", "")
+            for data, says in (
+                (image[:200], "ends within a field"),
+                (image + b"x", "goes on after the last page"),
+                (image[:5] + b"\x09" + image[6:], "neither 1 nor 2"),
+            ):
+                with open(path, "wb") as file:
+                    file.write(data)
+                self.assertIn(says, self.refused(2, "run", path))
+            with open(path, "wb") as file:
+                file.write(b"MMO1\0\1\0\1")
+            self.assertIn("bad.img: error: the file ends within a field", self.refused(2, "run", path))
+            with open(path, "wb") as file:
+                file.write(bytes(64))
+            self.assertIn("no text, no image and no object", self.refused(2, "run", path))
+
+    def test_links_of_sources(self):
+        with folder() as room:
+            one = write(room, "one.asm", HEAD_ONE)
+            two = write(room, "two.asm", ".segment data 4\nfirst: .int 1\nsecond: .int 2\n")
+            err = self.refused(2, "run", one, two)
+            self.assertIn(f"{one}:4:15: error: `second`", err)
+            self.assertIn("write `data + 8`", err)
+            self.assertIn("two segments have the name `data`", self.refused(2, "run", two, two))
+
+    def test_groups_and_ranges(self):
+        self.assertIn("no slot is of one of these groups", self.refused(2, "extract", "examples/hello.asm", "5"))
+        self.assertIn(
+            "slot 1 runs by a pointer into the range", self.refused(2, "sweep", "examples/letterbox.asm", "reader")
+        )
+        self.assertIn("do you mean `box`?", self.refused(1, "holders", "examples/letterbox.asm", "bx"))
+        self.assertIn("begins at a multiple", self.refused(1, "holders", "examples/letterbox.asm", "box,12"))
+        self.assertIn("no checkpoint", self.refused(2, "continue", "examples/hello.asm", "examples/hello.asm"))
+
+    def test_nets(self):
+        with folder() as room:
+            links = write(room, "my.links", "0.sent>1.nothing\n")
+            events = write(room, "my.events", "0:0*7 +0\n")
+            self.assertIn("nothing", self.refused(1, "net", links, events, "examples/ask.asm", "examples/answer.asm"))
+            write(room, "my.links", "0.sent>1.got\n")
+            write(room, "my.events", "0:0*7 go\n")
+            self.assertIn(
+                f"{events}:1:7: error: `go` is no item of events",
+                self.refused(2, "net", links, events, "examples/ask.asm", "examples/answer.asm"),
+            )
+            write(room, "my.links", "0.sent>1.got zero\n")
+            self.assertIn(
+                f"{links}:1:14: error: `zero` is no item of links",
+                self.refused(2, "net", links, events, "examples/ask.asm", "examples/answer.asm"),
+            )
+
+    def test_words(self):
+        self.assertIn("do you mean `run`?", self.refused(1, "rum", "examples/hello.asm"))
+        self.assertIn(
+            "has no option --cycle; do you mean --cycles?", self.refused(1, "run", "examples/hello.asm", "--cycle", "5")
+        )
+        self.assertIn("no number of cycles", self.refused(1, "run", "examples/hello.asm", "--cycles", "many"))
+        self.assertIn("as `mm run examples/hello.asm`", self.refused(1, "examples/hello.asm"))
+        self.assertIn("too few words", self.refused(1, "run"))
+        self.assertIn("no program of that name", self.refused(127, "--program", "nowhere", "run", "examples/hello.asm"))
+
+
+HEAD_ONE = ".segment main 6\n  halt\n.thread 0 0 none xu main\n.reg 1 ptr rw second\n"
+
+
+if __name__ == "__main__":
+    unittest.main()

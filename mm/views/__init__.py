@@ -1,0 +1,1 @@
+"""What people see: reports, traces, audits, instructions and pointers with names."""

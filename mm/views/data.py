@@ -1,0 +1,182 @@
+"""The forms of `--json`, which docs/JSON.md describes. A number of 64 bits is a text in hexadecimal, so that no reader rounds it."""
+
+from __future__ import annotations
+
+from typing import Any, Mapping, Optional
+
+from mm.machine.causes import Cause
+from mm.machine.words import Cell, Word
+from mm.names.symbols import Symbols
+from mm.outputs.audit import Apart, Audit
+from mm.outputs.report import Report, SlotState
+from mm.outputs.trace import Turn
+from mm.views.spell import Memory, Speller
+from mm.views.waiting import Waiting, what_for
+from mm.views.why import why
+
+FORM = 1
+Json = dict[str, Any]
+
+
+def address_form(address: int, symbols: Symbols) -> Json:
+    """`{"address": "0x100100", "name": "box"}`, with the name `null` where there is none."""
+    return {"address": f"0x{address:x}", "name": symbols.name(address)}
+
+
+def word_form(word: Optional[Word], symbols: Symbols) -> Optional[Json]:
+    """A word; `null` for a register whose load has not arrived."""
+    if word is None:
+        return None
+    form: Json = {"tagged": word.tagged, "bits": f"0x{word.bits:016x}"}
+    pointer = word.pointer
+    if pointer is None:
+        return {**form, "integer": word.signed} if abs(word.signed) < 1 << 53 else form
+    return {
+        **form,
+        "permission": pointer.permission.short,
+        "log": pointer.log,
+        **address_form(pointer.address, symbols),
+    }
+
+
+def cell_form(cell: Optional[Cell], symbols: Symbols) -> Optional[Json]:
+    return {"word": word_form(cell.word, symbols), "full": cell.full} if cell else None
+
+
+class ReportForm:
+    """The form of a report."""
+
+    def __init__(self, report: Report, memory: Memory, symbols: Symbols, waits: Mapping[int, Waiting]) -> None:
+        self.report, self.memory, self.symbols, self.waits = report, memory, symbols, waits
+        self.speller = Speller(symbols)
+
+    def slot(self, slot: SlotState) -> Json:
+        ip = slot.ip.pointer
+        form: Json = {
+            "slot": slot.number,
+            "group": slot.group,
+            "turns": slot.turns,
+            "state": slot.state,
+            "past": slot.past,
+            "ip": word_form(slot.ip, self.symbols),
+            "registers": {
+                f"r{number}": word_form(word, self.symbols) for number, word in sorted(slot.registers.items())
+            },
+            "pending": [
+                {"register": f"r{number}", "word": word_form(word, self.symbols)} for number, word in slot.pending
+            ],
+            "fault": self.fault(slot),
+            "waits": self.wait(slot),
+            "source": None,
+            "instruction": None,
+        }
+        origin = self.symbols.origin(ip.address) if ip else None
+        if origin:
+            form["source"] = {"file": origin.path, "line": origin.line}
+        instruction = self.memory.instruction(ip.address) if ip else None
+        if instruction and ip:
+            form["instruction"] = self.speller.instruction(instruction, ip.address)
+        return form
+
+    def fault(self, slot: SlotState) -> Optional[Json]:
+        cause = Cause.of_number(slot.fault) if slot.fault else None
+        return (
+            {"number": cause.number, "name": cause.title, "why": why(cause, slot, self.memory, self.speller)}
+            if cause
+            else None
+        )
+
+    def wait(self, slot: SlotState) -> Optional[Json]:
+        wait = self.waits.get(slot.number)
+        return (
+            {"turns": wait.turns, "for_ever": wait.stuck, "what": what_for(slot, self.memory, self.speller)}
+            if wait
+            else None
+        )
+
+    def cell(self, address: int, cell: Cell) -> Json:
+        before = self.memory.image.cell(address)
+        return {
+            **address_form(address, self.symbols),
+            **(cell_form(cell, self.symbols) or {}),
+            "before": cell_form(before, self.symbols),
+        }
+
+    def form(self) -> Json:
+        return {
+            "form": FORM,
+            "cycles": self.report.cycles,
+            "groups": [
+                {"group": group, "output": {"hex": data.hex(), "text": data.decode("latin-1")}}
+                for group, data in self.report.outputs.items()
+            ],
+            "slots": [self.slot(slot) for slot in self.report.slots],
+            "pages": [{"page": f"0x{page:x}", "change": "new" if new else "gone"} for page, new in self.report.pages],
+            "cells": [self.cell(address, cell) for address, cell in sorted(self.report.cells.items())],
+            "counts": self.report.counts,
+        }
+
+
+def turn_form(cycle: int, turn: Turn, symbols: Symbols, instruction: Optional[str]) -> Json:
+    """A turn, or with `delivered` a load that came by a port."""
+    if turn.delivered is not None:
+        return {"cycle": cycle, "slot": turn.slot, "outcome": "delivered", "register": f"r{turn.delivered}"}
+    return {
+        "cycle": cycle,
+        "slot": turn.slot,
+        "turn": turn.number,
+        "outcome": turn.outcome,
+        "fault": turn.fault,
+        "fetch": address_form(turn.fetch, symbols) if turn.fetch is not None else None,
+        "instruction": instruction,
+        "access": {"kind": turn.access, **address_form(turn.address, symbols)} if turn.address is not None else None,
+        "enters": word_form(turn.entered, symbols) if turn.entered else None,
+    }
+
+
+def symbols_form(symbols: Symbols) -> Json:
+    """The map of a link."""
+    rows = []
+    for symbol in symbols.symbols:
+        origin = {"file": symbol.origin.path, "line": symbol.origin.line} if symbol.origin else None
+        rows.append(
+            {
+                "name": symbol.name,
+                "kind": "segment" if symbol.segment else "label",
+                "address": f"0x{symbol.address:x}",
+                "length": symbol.length,
+                "source": origin,
+            }
+        )
+    return {"form": FORM, "symbols": rows}
+
+
+def _apart_form(apart: Apart, symbols: Symbols) -> Json:
+    form: Json = {
+        "groups": [int(group) for group in apart.groups.split(",")],
+        "apart": apart.apart,
+        "writer": apart.writer,
+        "word": None,
+        "handler": apart.handler,
+    }
+    if apart.word is not None:
+        form["word"] = address_form(apart.word, symbols)
+    return form
+
+
+def audit_form(audit: Audit, symbols: Symbols) -> Json:
+    """An audit: what each group can reach, and which stand apart."""
+
+    def segments(found: list[tuple[int, int]]) -> list[Json]:
+        return [{**address_form(base, symbols), "log": log} for base, log in found]
+
+    groups = [
+        {
+            "group": reach.group,
+            "privileged": reach.privileged,
+            "touch": segments(reach.touch),
+            "write": segments(reach.write),
+        }
+        for reach in audit.reaches
+    ]
+    return {"form": FORM, "groups": groups, "apart": [_apart_form(apart, symbols) for apart in audit.aparts]}

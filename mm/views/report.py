@@ -1,0 +1,158 @@
+"""A report for people: names for addresses, pointers spelled out, output as text, faults and waiting in words."""
+
+from __future__ import annotations
+
+from typing import Mapping, Optional
+
+from mm.machine.causes import Cause
+from mm.machine.words import Cell
+from mm.names.numbers import counted
+from mm.outputs.report import Report, SlotState
+from mm.views.spell import Memory, Speller, bytes_as_text
+from mm.views.style import Style
+from mm.views.waiting import Waiting, what_for
+from mm.views.why import why
+from mm.words import MOST_CYCLES
+
+BYTES_SHOWN = 64
+CELLS_SHOWN = 64
+
+
+class ReportView:
+    """Writes a report as lines."""
+
+    def __init__(
+        self,
+        report: Report,
+        memory: Memory,
+        speller: Speller,
+        style: Style,
+        waits: Optional[Mapping[int, Waiting]] = None,
+    ) -> None:
+        self.report, self.memory, self.speller, self.style = report, memory, speller, style
+        self.waits = waits or {}
+
+    def lines(self, order: str) -> list[str]:
+        """The whole report. `order` says in what order slots took turns."""
+        lines = [f"{counted(self.report.cycles, 'cycle')}, {order}"]
+        for group in self.report.groups:
+            lines += ["", self.group(group)]
+            for slot in self.report.slots:
+                if slot.group == group:
+                    lines += self.slot(slot)
+        lines += self.pages() + self.cells() + self.verdict()
+        return lines + self.counts()
+
+    def group(self, group: int) -> str:
+        data = self.report.outputs[group]
+        head = self.style.strong(f"group {group}")
+        if not data:
+            return f"{head}  no output"
+        shown = data[:BYTES_SHOWN]
+        more = f" .. {len(data) - BYTES_SHOWN} more" if len(data) > BYTES_SHOWN else ""
+        return f"{head}  output {bytes_as_text(data)}  ({counted(len(data), 'byte')}: {shown.hex(' ')}{more})"
+
+    def slot(self, slot: SlotState) -> list[str]:
+        """The state of a slot, the line where it stands, and its registers."""
+        lines = [f"  {self.style.strong(f'slot {slot.number}')}  {self.state(slot)}  ({counted(slot.turns, 'turn')})"]
+        lines += [f"    {line}" for line in self.place(slot)]
+        cause = Cause.of_number(slot.fault) if slot.fault else None
+        if cause:
+            lines += [
+                f"    {self.style.bad(line) if at == 0 else line}"
+                for at, line in enumerate(why(cause, slot, self.memory, self.speller))
+            ]
+        for number, word in sorted(slot.registers.items()):
+            lines.append(f"    {f'r{number}':<4} {self.speller.register(word)}")
+        return lines + [
+            f"    a load of r{number} has not arrived: {self.speller.word(word)}" for number, word in slot.pending
+        ]
+
+    def state(self, slot: SlotState) -> str:
+        """`halted at cons+48`, `stopped by fault 3 Bounds at ..`."""
+        ip = slot.ip.pointer
+        where = f"at {self.style.name(self.speller.symbols.show(ip.address))}" if ip else ""
+        if slot.fault:
+            cause = Cause.of_number(slot.fault)
+            title = f"fault {slot.fault} {cause.title}: {cause.meaning}" if cause else f"fault {slot.fault}"
+            return f"{self.style.bad('stopped')} {where} by {title}"
+        if slot.number in self.waits:
+            wait = self.waits[slot.number]
+            lasts = "for ever" if wait.stuck else f"its last {counted(wait.turns, 'turn')}"
+            return f"{self.style.warn(what_for(slot, self.memory, self.speller))}, {lasts}"
+        words = {
+            "waiting": ("has faulted", ", and its handler has not looked yet"),
+            "taken": ("has faulted", ", and its handler has it"),
+        }
+        before, after = words.get(slot.state, (slot.state, ""))
+        return f"{before} {where}{', past the end of its segment' if slot.past else ''}{after}"
+
+    def place(self, slot: SlotState) -> list[str]:
+        """The instruction at which a slot stands, with the line that it comes from."""
+        ip = slot.ip.pointer
+        if ip is None or slot.past:
+            return []
+        origin = self.speller.symbols.origin(ip.address)
+        if origin and ip.address not in self.memory.changed:
+            return [f"{self.style.soft(str(origin) + ':')} {origin.code}"]
+        return [self.style.soft(f"0x{ip.address:x}: ") + self.speller.at(self.memory, ip.address)]
+
+    def pages(self) -> list[str]:
+        if not self.report.pages:
+            return []
+        return ["", "pages"] + [
+            f"  0x{page << 12:x}  {'mapped' if new else 'removed'} by the run" for page, new in self.report.pages
+        ]
+
+    def cells(self) -> list[str]:
+        """Cells that differ from the image's, with what they were."""
+        cells = sorted(self.report.cells.items())
+        if not cells:
+            return []
+        names = [self.speller.symbols.show(address) for address, _ in cells[:CELLS_SHOWN]]
+        width = max(len(name) for name in names)
+        lines = ["", "memory that has changed"]
+        for name, (address, cell) in zip(names, cells):
+            lines.append(f"  {self.style.name(name.ljust(width))}  {self.change(address, cell)}")
+        rest = len(cells) - CELLS_SHOWN
+        return lines + (
+            [f"  .. and {counted(rest, 'word')} more (`mmachine run` and --json list all)"] if rest > 0 else []
+        )
+
+    def change(self, address: int, cell: Cell) -> str:
+        before = self.memory.image.cell(address) or Cell()
+        bit = "" if cell.full == before.full and cell.full else f", {'full' if cell.full else 'empty'}"
+        if cell.word == before.word:
+            return f"{self.speller.word(cell.word)}{bit} (it was {'full' if before.full else 'empty'})"
+        return f"{self.speller.word(cell.word)}{bit} (it was {self.speller.word(before.word)}{'' if before.full else ', empty'})"
+
+    def verdict(self) -> list[str]:
+        """A word for a run that can come no further, or that was cut off."""
+        stuck = [slot for slot, wait in self.waits.items() if wait.stuck]
+        going = [slot.number for slot in self.report.slots if slot.running]
+        if not stuck and self.report.cycles == MOST_CYCLES and going:
+            return [
+                "",
+                self.style.warn(
+                    f"a run has at most {MOST_CYCLES} cycles: `mm save` and `mm continue` make a longer one of two"
+                ),
+            ]
+        if not stuck:
+            return []
+        return [
+            "",
+            self.style.warn(
+                "nothing can change any more: each slot that runs waits" + (" (a deadlock)" if len(stuck) > 1 else "")
+            ),
+        ]
+
+    def counts(self) -> list[str]:
+        counts = self.report.counts
+        if not counts:
+            return []
+        return [
+            "",
+            self.style.soft(
+                "cache: " + ", ".join(f"{name.replace('_', ' ')} {value}" for name, value in counts.items())
+            ),
+        ]

@@ -1,0 +1,82 @@
+"""Words, pointers and instructions with names."""
+
+from __future__ import annotations
+
+from typing import Mapping, Optional
+
+from mm.formats.image import Image
+from mm.machine.isa import Instruction, decode
+from mm.machine.words import Cell, Pointer, Word, bytes_in_words, letter_of
+from mm.names.symbols import Symbols
+
+SMALL = 1 << 16
+
+
+class Memory:
+    """The cells of an image, with those that have changed laid over them."""
+
+    def __init__(self, image: Image, changed: Optional[Mapping[int, Cell]] = None) -> None:
+        self.image, self.changed = image, changed or {}
+
+    def cell(self, address: int) -> Optional[Cell]:
+        return self.changed.get(address) or self.image.cell(address)
+
+    def instruction(self, address: int) -> Optional[Instruction]:
+        """The instruction at an address, or none where the word is none."""
+        cell = self.cell(address)
+        return decode(cell.word.bits) if cell and not cell.word.tagged else None
+
+
+class Speller:
+    """Writes words and instructions for people, by the names of an image."""
+
+    def __init__(self, symbols: Symbols) -> None:
+        self.symbols = symbols
+
+    def pointer(self, pointer: Pointer) -> str:
+        """`rw 2^3 box`: what it may, how long its segment is, and where it stands."""
+        return f"{pointer.permission.short} 2^{pointer.log} {self.symbols.show(pointer.address)}"
+
+    def reach(self, pointer: Pointer) -> str:
+        """From where to where a pointer reaches: `all 64 bytes of gate`, `16 bytes from letters+32 on`."""
+        region = self.symbols.region(pointer.base)
+        length = bytes_in_words(pointer.log)
+        if region and (region.base, region.log) == (pointer.base, pointer.log):
+            return f"all {length} of {region.name}"
+        return f"{length} from {self.symbols.show(pointer.base)} on"
+
+    def word(self, word: Word) -> str:
+        """A pointer spelled out, or an integer as a number, with its letter where it is one."""
+        pointer = word.pointer
+        return self.pointer(pointer) if pointer else integer(word)
+
+    def register(self, word: Optional[Word]) -> str:
+        return "empty (its load has not arrived)" if word is None else self.word(word)
+
+    def instruction(self, instruction: Instruction, address: int) -> str:
+        """An instruction as a source has it, with the label of a branch."""
+        return instruction.text(lambda words: self.symbols.name(address + 8 * words) or str(words))
+
+    def at(self, memory: Memory, address: int) -> str:
+        """What stands at an address: an instruction, or a word that is none."""
+        instruction, cell = memory.instruction(address), memory.cell(address)
+        if instruction:
+            return self.instruction(instruction, address)
+        return f"no instruction: {self.word(cell.word)}" if cell else "no page is here"
+
+
+def integer(word: Word) -> str:
+    """`66 'B'`, `-1`, or `1048840 0x100108` where the number is large."""
+    signed = word.signed
+    if -SMALL < signed < SMALL:
+        letter = letter_of(word.bits)
+        return f"{signed} '{letter}'" if letter else str(signed)
+    return f"{signed} 0x{word.bits:x}"
+
+
+def bytes_as_text(data: bytes) -> str:
+    """Bytes as a text between quotes, with `\\n` and the like for what cannot be printed."""
+    shown = {10: "\\n", 13: "\\r", 9: "\\t", 34: '\\"', 92: "\\\\"}
+    return (
+        '"' + "".join(shown.get(byte) or (chr(byte) if 32 <= byte < 127 else f"\\x{byte:02x}") for byte in data) + '"'
+    )

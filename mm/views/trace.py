@@ -1,0 +1,58 @@
+"""A trace for people: a line for each turn, with the instruction and names."""
+
+from __future__ import annotations
+
+from typing import Iterable, Iterator
+
+from mm.machine.causes import Cause
+from mm.outputs.trace import Turn
+from mm.views.spell import Memory, Speller
+from mm.views.style import Style
+
+ACCESSES = {"load": "loads", "loadset": "loads and sets the bit of", "store": "stores to"}
+
+
+class TraceView:
+    """Writes turns as lines. Instructions are those of the image: where the run has changed one, it says so."""
+
+    def __init__(self, memory: Memory, speller: Speller, style: Style) -> None:
+        self.memory, self.speller, self.style = memory, speller, style
+
+    def outcome(self, turn: Turn) -> str:
+        """What became of a turn, where it is not simply done."""
+        if turn.outcome == "blocked":
+            return self.style.warn("waits")
+        if turn.fault:
+            cause = Cause.of_number(turn.fault)
+            return self.style.bad(f"fault {turn.fault} {cause.title if cause else ''}".rstrip())
+        return ""
+
+    def effects(self, turn: Turn) -> list[str]:
+        """What a turn accessed and entered."""
+        said = []
+        if turn.access and turn.address is not None:
+            said.append(f"{ACCESSES[turn.access]} {self.speller.symbols.show(turn.address)}")
+        if turn.entered:
+            said.append(f"enters {self.speller.word(turn.entered)}")
+        return said
+
+    def instruction(self, turn: Turn) -> str:
+        if turn.fetch is None:
+            return "(nothing was fetched)"
+        text = self.speller.at(self.memory, turn.fetch)
+        return f"{text} (changed by the run)" if turn.fetch in self.memory.changed else text
+
+    def line(self, cycle: int, turn: Turn) -> str:
+        head = f"{cycle:>6}  slot {turn.slot:<2}"
+        if turn.delivered is not None:
+            return f"{head} {'':>6}  a load arrives in r{turn.delivered}"
+        place = self.speller.symbols.show(turn.fetch) if turn.fetch is not None else "?"
+        said = "; ".join(filter(None, [self.outcome(turn), *self.effects(turn)]))
+        return (
+            f"{head} {turn.number:>6}  {self.style.name(f'{place:<14}')}  {self.instruction(turn):<30}  {said}".rstrip()
+        )
+
+    def lines(self, turns: Iterable[tuple[int, Turn]]) -> Iterator[str]:
+        yield self.style.soft(f"{'cycle':>6}  {'slot':<7} {'turn':>6}  {'place':<14}  {'instruction':<30}  what it did")
+        for cycle, turn in turns:
+            yield self.line(cycle, turn)

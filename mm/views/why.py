@@ -1,0 +1,225 @@
+"""Why a turn was refused: the fault in words, from the instruction and the registers, which a fault leaves as they were."""
+
+from __future__ import annotations
+
+from typing import Callable, Optional
+
+from mm.machine.causes import Cause
+from mm.machine.isa import BRANCHES, Instruction
+from mm.machine.words import Permission, Pointer, Word, WORD_MASK
+from mm.outputs.report import SlotState
+from mm.views.spell import Memory, Speller, integer
+
+
+class Refusal:
+    """A turn that was refused: the slot as it stands there, and its instruction, where the word is one."""
+
+    def __init__(self, slot: SlotState, memory: Memory, speller: Speller) -> None:
+        self.slot, self.memory, self.speller = slot, memory, speller
+        self.ip = slot.ip.pointer or Pointer(Permission.XU, 0, 0)
+        self.instruction: Optional[Instruction] = None if slot.past else memory.instruction(self.ip.address)
+
+    @property
+    def name(self) -> str:
+        return self.instruction.name if self.instruction else ""
+
+    def register(self, field: str) -> str:
+        return f"r{self.instruction.value(field)}" if self.instruction else ""
+
+    def word(self, field: str) -> Word:
+        found = self.slot.register(self.instruction.value(field)) if self.instruction else None
+        return found or Word(0)
+
+    def spelled(self, field: str) -> str:
+        """`r1 is rw 2^3 box`."""
+        return f"{self.register(field)} is {self.speller.word(self.word(field))}"
+
+    @property
+    def pointer(self) -> Optional[Pointer]:
+        return self.word("ra").pointer if self.instruction and self.instruction.has("ra") else None
+
+    @property
+    def is_access(self) -> bool:
+        return self.name in ("ld", "st")
+
+    @property
+    def address(self) -> int:
+        """The address of an access."""
+        return self.pointer.address + self.instruction.value("imm") if self.pointer and self.instruction else 0
+
+    def reach(self, pointer: Pointer) -> str:
+        return self.speller.reach(pointer)
+
+
+def _not_pointer(at: Refusal) -> list[str]:
+    word = at.word("ra")
+    lines = [f"{at.register('ra')} is the integer {integer(word)}, and `{at.name}` wants a pointer there"]
+    spelled = Pointer.of_bits(word.bits)
+    if spelled and word.bits:
+        lines.append(
+            f"its bits are those of {at.speller.pointer(spelled)}, but without the tag they are a number: arithmetic and `ldi` make integers alone (move pointers by lea, leai, leab)"
+        )
+    elif word.bits == 0:
+        lines.append(
+            f"a register that nothing was put into is 0: give it a pointer by `.reg {at.register('ra')[1:]} ptr rw NAME` after the `.thread`, or see where it was cleared"
+        )
+    return lines
+
+
+def _perm(at: Refusal) -> list[str]:
+    pointer = at.pointer
+    if pointer is None:
+        return []
+    may = pointer.permission
+    lines = [f"{at.spelled('ra')}: {may.full}"]
+    if at.is_access:
+        sets = at.name == "ld" and at.instruction is not None and at.instruction.choice("post") != "keep"
+        need = (
+            "load and store rights, since this load sets the bit"
+            if sets
+            else "the right to load"
+            if at.name == "ld"
+            else "the right to store"
+        )
+        lines.append(f"`{at.name}` needs {need}, and this pointer has {_rights(may)}")
+    elif at.name == "restrict":
+        wanted = Permission.of_code(at.word("rb").bits)
+        lines.append(
+            f"it may become {' or '.join(each.short for each in may.may_become) or 'nothing else'}, and {wanted.short if wanted else 'that'} is asked for"
+        )
+    elif at.name in ("jmp", "jal"):
+        lines.append("a jump needs a pointer that executes (xu, xp) or enters (eu, ep)")
+    else:
+        lines.append("an enter pointer or a key cannot be moved or cut")
+    return lines
+
+
+def _rights(permission: Permission) -> str:
+    if permission.enters:
+        return "the right to be jumped to alone"
+    return {Permission.RO: "the right to load alone", Permission.RW: "both", Permission.KEY: "none"}.get(
+        permission, "the rights to load and to be run"
+    )
+
+
+def _bounds(at: Refusal) -> list[str]:
+    show = at.speller.symbols.show
+    if at.slot.past or at.instruction is None:
+        return [
+            f"the thread ran past the end of its segment: {show(at.ip.address)} was its last word",
+            "end it with `halt`, or branch back",
+        ]
+    if at.is_access and at.pointer:
+        return [
+            f"{at.spelled('ra')}, and the access is at {show(at.address)}",
+            f"it reaches {at.reach(at.pointer)}, and no further",
+        ]
+    if at.name in ("lea", "leai", "leab") and at.pointer:
+        by = at.instruction.value("imm") if at.name == "leai" else at.word("rb").signed
+        start = at.pointer.base if at.name == "leab" else at.pointer.address
+        lines = [
+            f"{at.spelled('ra')}, and {by:+d} bytes {'from its base ' if at.name == 'leab' else ''}would lead to {show(start + by)}"
+        ]
+        return lines + [
+            f"it reaches {at.reach(at.pointer)}: no pointer stands outside of its segment, not even at its end"
+        ]
+    if at.name == "subseg" and at.pointer:
+        return [
+            f"{at.spelled('ra')}, and a segment of 2^{at.word('rb').bits} bytes is not shorter than its 2^{at.pointer.log}"
+        ]
+    if at.name in ("map", "unmap"):
+        return [f"{at.spelled('ra')}, and a page's number is below 2^42: it is the address divided by 4096"]
+    return _bounds_of_code(at)
+
+
+def _bounds_of_code(at: Refusal) -> list[str]:
+    show, here = at.speller.symbols.show, at.ip
+    words = at.instruction.value("imm") if at.instruction and at.name in BRANCHES else 1
+    to = here.address + 8 * words
+    lines = [f"{show(to)} is outside of the code, which has {at.reach(here)}"]
+    if at.name == "jal":
+        lines.append("the way back would be behind the segment: leave a word after a call")
+    elif at.name in BRANCHES:
+        lines.append("a branch stays in its segment: reach others by `jmp` or `jal` through a pointer")
+    return lines
+
+
+def _align(at: Refusal) -> list[str]:
+    here = at.address if at.is_access else at.ip.address
+    return [f"{at.speller.symbols.show(here)} is {here % 8} bytes past a word: words stand at multiples of 8"]
+
+
+def _no_page(at: Refusal) -> list[str]:
+    here = at.address if at.is_access else at.ip.address
+    return [
+        f"no page is mapped at {at.speller.symbols.show(here)}: an image has the pages of its segments, and `map` makes others"
+    ]
+
+
+def _illegal(at: Refusal) -> list[str]:
+    cell = at.memory.cell(at.ip.address)
+    what = at.speller.word(cell.word) if cell else "nothing"
+    lines = [f"the word at {at.speller.symbols.show(at.ip.address)} is no instruction: {what}"]
+    if cell and cell.word.tagged:
+        lines.append("a pointer is never an instruction: let the thread begin, or jump, after it")
+    return lines
+
+
+def _priv(at: Refusal) -> list[str]:
+    return [
+        f"`{at.name}` is for code that runs by an execute-privileged pointer, and this runs by {at.speller.pointer(at.ip)}",
+        "`.thread .. xp NAME` begins a privileged thread",
+    ]
+
+
+def _div_zero(at: Refusal) -> list[str]:
+    return [f"{at.register('rb')}, by which it divides, is 0"]
+
+
+def _malformed(at: Refusal) -> list[str]:
+    if at.name == "restrict":
+        return [f"{at.register('rb')} is {integer(at.word('rb'))}, and permissions are 1 (ro) to 7 (key)"]
+    return [
+        f"the bits 0x{at.word('ra').bits & WORD_MASK:x} of {at.register('ra')} spell no pointer: the first digit is 1 to 7, the length at most 2^54"
+    ]
+
+
+def _trap(at: Refusal) -> list[str]:
+    number = at.instruction.value("imm") if at.instruction else 0
+    return [
+        f"trap {number}, and the slot has no handler that would answer it"
+        if at.slot.fault
+        else f"trap {number}, which is for the handler to answer"
+    ]
+
+
+def _no_slot(at: Refusal) -> list[str]:
+    return [f"{at.spelled('ra')}: a slot that this one handles, and whose event it has read by `evt`, is wanted"]
+
+
+def _out_full(at: Refusal) -> list[str]:
+    return [
+        f"the group has put out {at.memory.image.output_limit} bytes, which is all that it may (`mm migrate FILE plain` gives 65536)"
+    ]
+
+
+REASONS: dict[Cause, Callable[[Refusal], list[str]]] = {
+    Cause.NOT_POINTER: _not_pointer,
+    Cause.PERM: _perm,
+    Cause.BOUNDS: _bounds,
+    Cause.ALIGN: _align,
+    Cause.NO_PAGE: _no_page,
+    Cause.ILLEGAL: _illegal,
+    Cause.PRIV: _priv,
+    Cause.DIV_ZERO: _div_zero,
+    Cause.MALFORMED: _malformed,
+    Cause.TRAP: _trap,
+    Cause.NO_SLOT: _no_slot,
+    Cause.OUT_FULL: _out_full,
+}
+
+
+def why(cause: Cause, slot: SlotState, memory: Memory, speller: Speller) -> list[str]:
+    """The fault of a slot that still stands at its instruction, in words."""
+    told = REASONS.get(cause)
+    return told(Refusal(slot, memory, speller)) if told else [cause.meaning]
