@@ -1,3 +1,4 @@
 mod GroupWords
 mod RowWords
+pub mod SaidWords
 pub mod Rows

@@ -9,7 +9,7 @@ use Rattle.mm_cli.specs.declared.table.Place.TheVariants.{File, Number, Groups, 
 use Rattle.mm_cli.specs.declared.table.Last.{Last}
 use Rattle.mm_cli.specs.declared.table.Last.TheVariants.{Nothing, Several}
 use Rattle.mm_cli.specs.declared.words.Word.{Word as Read}
-use Rattle.mm_cli.specs.Words.{Word, file_word, number_word, groups_word, mode_word, range_word, text_list, spelled, spoken, texts, words_of, FitsPlace, FitsLast, FitsRow}
+use Rattle.mm_cli.specs.Words.{Word, file_word, number_word, groups_word, mode_word, range_word, text_list, spelled, spoken, texts, words_of, FitsPlace, FitsLast, FitsRow, IsOfPlace, AreOfLast, AreOfRow}
 
 -- 1. What is left after the words of one place.
 
@@ -135,7 +135,7 @@ pub names_spelled : (kind : Kind) (names : List (List ℕ)) → spelled (map (fi
 names_spelled kind [] = refl
 names_spelled kind (name ∷ names) = ap (λ (xs : List (List ℕ)). name ∷ xs) (names_spelled kind names)
 
-some_words : (words : List (String Global)) → (length words == 0) ≡ false → 1 ≤ length words
+pub some_words : (words : List (String Global)) → (length words == 0) ≡ false → 1 ≤ length words
 some_words [] none = absurd (cc)
 some_words (w ∷ words) none = omega arith
 
@@ -156,3 +156,37 @@ several_none kind most said words (names, is, some, few) are wrong =
     let same : texts words ≡ names = are ∙ ap spelled is ∙ names_spelled kind names in
     let count : length words ≡ length names = sym (length-map words (λ (word : String Global). string_bytes word)) ∙ ap (λ (xs : List (List ℕ)). length xs) same in
     elim wrong [ inl empty ↦ let none = no_words words empty in absurd (omega (arith, count, some)) | inr more ↦ absurd (omega (arith, count, few)) ]
+
+-- 5. Words as they are read.
+
+-- one place more
+formed_place : (ps : List Place) (p : Place) (rs : List Read) (r : Read) → AreOfRow ps Nothing rs → IsOfPlace p r → AreOfRow (ps ++ p ∷ []) Nothing (rs ++ r ∷ [])
+formed_place [] p [] r are one = (one, tt)
+formed_place [] p (s ∷ rs) r are one = absurd are
+formed_place (q ∷ ps) p [] r are one = absurd are
+formed_place (q ∷ ps) p (s ∷ rs) r are one = (are.0, formed_place ps p rs r are.1 one)
+
+pub formed_more : (places : List Place) (at : ℕ) (d : Place) (read more : List Read) (r : Read) → at < length places → AreOfRow (take at places) Nothing read → IsOfPlace (get_or places at d) r
+    → more ≡ read ++ r ∷ [] → AreOfRow (take (at + 1) places) Nothing more
+formed_more places at d read more r inside are one also =
+    subst (λ (rs : List Read). AreOfRow (take (at + 1) places) Nothing rs) (sym also)
+    (subst (λ (ps : List Place). AreOfRow ps Nothing (read ++ r ∷ [])) (sym (take_more places at d inside)) (formed_place (take at places) (get_or places at d) read r are one))
+
+with_formed : (ps : List Place) (last : Last) (rs more : List Read) → AreOfRow ps Nothing rs → AreOfLast last more → AreOfRow ps last (rs ++ more)
+with_formed [] last [] more are rest = rest
+with_formed [] last (r ∷ rs) more are rest = absurd are
+with_formed (p ∷ ps) last [] more are rest = absurd are
+with_formed (p ∷ ps) last (r ∷ rs) more are rest = (are.0, with_formed ps last rs more are.1 rest)
+
+pub formed_all : (places : List Place) (last : Last) (at : ℕ) (read more all : List Read) → length places ≤ at → AreOfRow (take at places) Nothing read → AreOfLast last more → all ≡ read ++ more
+    → AreOfRow places last all
+formed_all places last at read more all all_read are rest whole =
+    subst (λ (rs : List Read). AreOfRow places last rs) (sym whole)
+    (with_formed places last read more (subst (λ (ps : List Place). AreOfRow ps Nothing read) (take_all at places all_read) are) rest)
+
+pub spoken_both : (xs ys zs : List Read) → zs ≡ xs ++ ys → spoken zs ≡ spoken xs ++ spoken ys
+spoken_both xs ys zs whole = ap spoken whole ∙ by xs
+  where
+    by : (us : List Read) → spoken (us ++ ys) ≡ spoken us ++ spoken ys
+    by [] = refl
+    by (u ∷ us) = ap (λ (ws : List Word). words_of u ++ ws) (by us) ∙ sym (append_assoc (words_of u) (spoken us) (spoken ys))

@@ -16,9 +16,12 @@ use Rattle.mm_cli.specs.declared.table.Place.{Place}
 use Rattle.mm_cli.specs.declared.table.Place.TheVariants.{File, Number, Groups, Mode, Range}
 use Rattle.mm_cli.specs.declared.table.Last.{Last}
 use Rattle.mm_cli.specs.declared.table.Last.TheVariants.{Nothing, Perhaps, Several}
-use Rattle.mm_cli.specs.Words.{Word, file_word, number_word, groups_word, mode_word, range_word, mode_text, text_list, FitsPlace, FitsLast, FitsRow, room, spelled, texts}
+use Rattle.mm_cli.specs.declared.words.Word.{Word as Read}
+use Rattle.mm_cli.specs.Words.{AreOfRow, Word, file_word, number_word, groups_word, mode_word, range_word, mode_text, text_list, FitsPlace, FitsLast, FitsRow, room, spelled, spoken, texts}
 use Rattle.mm_cli.specs.Table.{Listed, Row, IsInTable, Asks, Fits, InNoRow, NoneIsNamed, is_same, row_for, table}
+use Rattle.mm_cli.specs.Said.{said, said_by}
 use Rattle.mm_cli.proofs.GroupWords.{one_list}
+use Rattle.mm_cli.proofs.SaidWords.{said_row}
 use Rattle.mm_cli.proofs.RowWords.{same_after, names_spelled}
 
 -- 1. What is seen of each row of a list.
@@ -271,3 +274,10 @@ one_row words a b one two =
     let words_same : a.words ≡ b.words = one_row_of d.places d.last a.words b.words few least one.in_table.fits fits texts in
     let commands : a.command ≡ b.command = sym one.in_table.command ∙ ap (λ (l : Listed). l.command) rows ∙ two.in_table.command in
     ap (λ (c : Command). record { command = c; words = a.words }) commands ∙ ap (λ (ws : List Word). record { command = b.command; words = ws }) words_same
+
+-- what was read for a row of the table is what the words of its command say
+pub as_said : (number : ℕ) (row : Listed) (words : List Read) → slice_get table number ≡ Some row
+    → AreOfRow row.places row.last words → spoken words ≡ said row.command words
+as_said number row words at are =
+    let found : row_for row.command ≡ Some row = found_in table number row table_commands at in
+    said_row row.places row.last words are ∙ ap (λ (o : Option Listed). said_by o words) (sym found)

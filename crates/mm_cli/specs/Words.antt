@@ -1,5 +1,5 @@
 -- What words say, how it is written, and where it fits.
-use Rattle.std.specs.Prelude.{◌≡◌, ℕ, ◌%◌, ◌^◌, ◌-◌, ◌≤◌, Bool, true, false, List, [], ◌∷◌, ◌++◌, map, length, String, string_bytes, codes, decimal, ⊤}
+use Rattle.std.specs.Prelude.{◌≡◌, ℕ, ◌%◌, ◌^◌, ◌-◌, ◌≤◌, Bool, true, false, List, [], ◌∷◌, ◌++◌, map, length, String, string_bytes, codes, decimal, Option, None, Some, ⊤}
 use Rattle.std.specs.declared.alloc.Global.{Global}
 use Rattle.mm_model.specs.Audit.{groups_text}
 use Rattle.mm_cli.specs.GroupList.{AreGroups}
@@ -40,6 +40,11 @@ text_list (range_word base log) = decimal base ∷ decimal log ∷ []
 abbrev pub spelled : List Word → List (List ℕ)
 spelled [] = []
 spelled (word ∷ words) = text_list word ++ spelled words
+
+-- no word, or one
+abbrev pub perhaps : {A : Type 0} → (A → Word) → Option A → List Word
+perhaps word None = []
+perhaps word (Some a) = word a ∷ []
 
 -- the files that words name
 abbrev pub files_in : List Word → List (List ℕ × Kind)
@@ -104,3 +109,28 @@ abbrev pub room : Last → ℕ
 room Nothing = 0
 room (Perhaps place) = 1
 room (Several kind most) = 1
+
+-- 5. Words as they are read, place by place.
+
+-- what was read is of the variant that the place is for, and in its range
+abbrev pub IsOfPlace : Place → Read → Type 0
+IsOfPlace (File kind) (read.File other name) = other ≡ kind
+IsOfPlace (Number least most) (read.Number n) = (least ≤ n) × (n ≤ most)
+IsOfPlace Groups (read.Groups groups) = AreGroups groups.items
+IsOfPlace Mode (read.Mode split) = ⊤
+IsOfPlace Range (read.Range base log) = IsRange base log
+IsOfPlace _ _ = ⊥
+
+-- one word at most was read for what comes last: several files are one word
+abbrev pub AreOfLast : Last → List Read → Type 0
+AreOfLast Nothing [] = ⊤
+AreOfLast (Perhaps place) [] = ⊤
+AreOfLast (Perhaps place) (word ∷ []) = IsOfPlace place word
+AreOfLast (Several kind most) (read.Files other names ∷ []) = (other ≡ kind) × (1 ≤ length names.now) × (length names.now ≤ most)
+AreOfLast _ _ = ⊥
+
+-- one word was read for each place, and then what comes last
+abbrev pub AreOfRow : List Place → Last → List Read → Type 0
+AreOfRow [] last words = AreOfLast last words
+AreOfRow (place ∷ places) last (word ∷ words) = IsOfPlace place word × AreOfRow places last words
+AreOfRow (place ∷ places) last [] = ⊥

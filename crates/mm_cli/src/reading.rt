@@ -1,7 +1,8 @@
 //! The words of the command line, read by the table.
 ghost use Rattle.std.specs.Prelude.{◌≡◌, ◌≢◌, ◌<◌, ◌≤◌, ◌++◌, ◌+◌, ℕ, List, MatchOption, IsSome, IsNone, Some, length, slice_get};
 ghost use Rattle.arrayvec.specs.ArrayVec.{array_vec_len};
-ghost use Rattle.mm_cli.specs.Words.{Word as Spoken, FitsLast, FitsRow, room, spoken, spelled, texts};
+ghost use Rattle.mm_cli.specs.declared.words.Word.{Word as Read};
+ghost use Rattle.mm_cli.specs.Words.{Word as Spoken, AreOfLast, AreOfRow, FitsLast, FitsRow, room, spoken, spelled, texts};
 ghost use Rattle.mm_cli.specs.Table.{InNoRow, Asks, NoneIsNamed, listed, table};
 ghost use Rattle.mm_cli.specs.Asked.{row_of};
 
@@ -59,7 +60,7 @@ fn row_at(number: usize) -> &'static Listed<'static>
 fn read_row<'a>(places: &[Place], last: Last, words: &'a [String]) -> Option<ArrayVec<Word<'a>, 4>>
     requires { length places.now + room last ≤ 4 }
     ensures { MatchOption result ((said : List Spoken) → FitsRow places.now last said → texts words.now ≢ spelled said)
-        (λ read. FitsRow places.now last (spoken read.items) × (texts words.now ≡ spelled (spoken read.items))) }
+        (λ read. AreOfRow places.now last read.items × FitsRow places.now last (spoken read.items) × (texts words.now ≡ spelled (spoken read.items))) }
 {
     let mut read = ArrayVec::new();
     let mut rest = words;
@@ -75,7 +76,8 @@ fn read_row<'a>(places: &[Place], last: Last, words: &'a [String]) -> Option<Arr
 /// Appends what words say, all of them, read for what comes after the places of a row.
 fn push_last<'a>(read: &mut ArrayVec<Word<'a>, 4>, last: Last, words: &'a [String]) -> Option<()>
     requires { array_vec_len read.old + room last ≤ 4 }
-    ensures some { IsSome result → (said : List Spoken) × FitsLast last said × (texts words.now ≡ spelled said) × (spoken read.new.items ≡ spoken read.old.items ++ said) }
+    ensures some { IsSome result → (more : List Read) × AreOfLast last more × (read.new.items ≡ read.old.items ++ more)
+        × FitsLast last (spoken more) × (texts words.now ≡ spelled (spoken more)) }
     ensures none { IsNone result → (said : List Spoken) → FitsLast last said → texts words.now ≢ spelled said }
 {
     match last {

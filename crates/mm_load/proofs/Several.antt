@@ -6,10 +6,17 @@ use Rattle.std.proofs.lemmas.List.{take_more, map-append, take-append-drop}
 use Rattle.mm_io.specs.Files.{PieceRead}
 use Rattle.mm_load.specs.declared.status.Stop.{Stop}
 use Rattle.mm_cli.specs.declared.table.Kind.{Kind}
+use Rattle.mm_cli.specs.Words.{file_word, files_in, texts}
 use Rattle.mm_load.specs.Kinds.{Value}
 use Rattle.mm_load.specs.Files.{Reading, FilesRead, FilesRefused, FilesFailed, AsksFiles, Stops}
 use Rattle.mm_load.specs.Files.{files_named}
 use Rattle.mm_load.proofs.Reading.{GoesOn, both, files_then, stops_first, asks_of_all}
+
+-- the files that these words name
+pub files_in_words : (kind : Kind) (names : List (String Global)) → files_in (map (file_word kind) (texts names)) ≡ files_named kind names
+files_in_words kind [] = refl
+files_in_words kind (name ∷ names) =
+    ap (λ (files : List (List ℕ × Kind)). (string_bytes name, kind) ∷ files) (files_in_words kind names)
 
 -- their kind, and what values such files have
 module _ {A : Type 0} (kind : Kind) (value : A → Value) where

@@ -174,8 +174,3 @@ pub record InputRead {T : Type 0} (d : Drawing) (before : List Value) (kind : Ki
 -- files of a kind with these names
 abbrev pub files_named : Kind → List (String Global) → List (List ℕ × Kind)
 files_named kind names = map (λ (name : String Global). (string_bytes name, kind)) names
-
--- no file, or one of a kind
-abbrev pub file_perhaps : Kind → Option (List ℕ) → List (List ℕ × Kind)
-file_perhaps kind None = []
-file_perhaps kind (Some name) = (name, kind) ∷ []

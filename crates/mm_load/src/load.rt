@@ -7,7 +7,8 @@ ghost use Rattle.mm_checkpoint.specs.Checkpoints.{saved_of, IsCheckpoint};
 ghost use Rattle.mm_cli.specs.declared.table.Kind.TheVariants.{Image as image_file, Schedule as schedule_file, Source as source_file, Object as object_file, Checkpoint as checkpoint_file, Links as links_file, Events as events_file, Text as text_input};
 ghost use Rattle.mm_load.specs.Kinds.{Value, an_image, a_list, an_object, a_checkpoint, a_links, an_events, a_text};
 ghost use Rattle.mm_load.specs.Files.{Stops, IsTooLong, FilesRead, InputRead, reading, drawing};
-ghost use Rattle.mm_load.specs.Files.{files_named, file_perhaps};
+ghost use Rattle.mm_cli.specs.Words.{file_word, files_in, perhaps};
+ghost use Rattle.mm_load.specs.Files.{files_named};
 ghost use Rattle.mm_load.specs.Kinds.{values_of};
 ghost use Rattle.mm_load.specs.Stops.{stop_of_error};
 
@@ -262,7 +263,7 @@ pub fn load_order<F: Files>(
 ) -> Result<Order, Stop>
     ensures { (before : List Value) → number ≡ length before + 1
         → FilesRead (reading F.held F.faults F.asked files.old files.new) before
-        (file_perhaps schedule_file (option_map (λ name. name.now) name.entry)) values_of result }
+        (files_in (perhaps (file_word schedule_file) (option_map (λ name. name.now) name.entry))) values_of result }
 {
     match name {
         None => Ok(Order::Robin),

@@ -1,14 +1,1 @@
-pub mod GroupList
-pub mod Groups
-pub mod Ranges
-pub mod Nodes
-pub mod Orders
-pub mod Saving
-pub mod Table
-pub mod Commands
-pub mod Answers
 pub mod Exit
-pub mod Headline
-pub mod Memories
-pub mod TextToRun
-pub mod SaveToRun

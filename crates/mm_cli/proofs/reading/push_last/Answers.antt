@@ -1,8 +1,10 @@
-use Rattle.std.proofs.Common.{◌∷◌, ◌++◌, [], List, map, inl, inr, sym, ap, ◌∙◌, subst}
+use Rattle.std.proofs.Common.{◌≡◌, ◌∷◌, ◌++◌, [], List, map, inl, inr, sym, ap, append-nil, ◌∙◌, subst, refl}
 use Rattle.mm_cli.specs.declared.table.Last.{Last}
-use Rattle.mm_cli.specs.declared.table.Last.TheVariants.{Several}
-use Rattle.mm_cli.specs.Words.{Word as Spoken, FitsLast, file_word, spoken, texts}
-use Rattle.mm_cli.proofs.RowWords.{spoken_more, one_left, several_said, several_none}
+use Rattle.mm_cli.specs.declared.table.Last.TheVariants.{Several, Perhaps}
+use Rattle.mm_cli.specs.declared.words.Word.{Word as Read}
+use Rattle.mm_cli.specs.declared.words.Word.TheVariants as read
+use Rattle.mm_cli.specs.Words.{AreOfLast, Word as Spoken, words_of, FitsLast, file_word, spoken, texts, spelled}
+use Rattle.mm_cli.proofs.RowWords.{some_words, one_left, several_said, several_none}
 use Rattle.mm_cli.proofs.reading.push_last.Goals.{then-is_empty-via-then-is_empty, then-is_empty-via-else-is_empty+then-words-most}
 use Rattle.mm_cli.proofs.reading.push_last.Goals as goal
 
@@ -16,20 +18,27 @@ returns-then-is_empty-clause-none c none said fits are =
 
 pub returns-else-not-is_empty-3-clause-some : goal.returns-else-not-is_empty-3-clause-some
 returns-else-not-is_empty-3-clause-some c some =
-    let (word, says, fits, said) = c.in_ok-word-in-Perhaps.ensures in (
-      word ∷ [],
-      subst (λ (last : Last). FitsLast last (word ∷ [])) (sym c.in-Perhaps.is) fits,
-      one_left c.args.words.now c.in_ok-word-in-Perhaps.after.now word said (sym c.is_empty-then-not-is_empty-2.ensures ∙ c.if-not-is_empty-3.false),
-      spoken_more c.args.read.now.items c.push.new.self.items c.in_ok-word-in-Perhaps.word c.push.ensures.items ∙ ap (λ (ws : List Spoken). spoken c.args.read.now.items ++ ws) says,
+    let read = c.in_ok-word-in-Perhaps.word in
+    let (word, is_of, says, fits, said) = c.in_ok-word-in-Perhaps.ensures in
+    let speaks : spoken (read ∷ []) ≡ word ∷ [] = append-nil (words_of read) ∙ says in (
+      read ∷ [],
+      subst (λ (last : Last). AreOfLast last (read ∷ [])) (sym c.in-Perhaps.is) is_of,
+      c.push.ensures.items,
+      subst (λ (last : Last). FitsLast last (spoken (read ∷ []))) (sym c.in-Perhaps.is) (subst (λ (ws : List Spoken). FitsLast (Perhaps c.in-Perhaps.place) ws) (sym speaks) fits),
+      one_left c.args.words.now c.in_ok-word-in-Perhaps.after.now word said (sym c.is_empty-then-not-is_empty-2.ensures ∙ c.if-not-is_empty-3.false) ∙ ap spelled (sym speaks),
     )
 
 pub returns-else-words-most-clause-some : goal.returns-else-words-most-clause-some
 returns-else-words-most-clause-some c some =
     let kind = c.in-Several.kind in
-    let names = texts c.args.words.now in
-    let (fits, said) = several_said kind c.in-Several.most c.args.words.now (sym c.is_empty-in-Several.ensures ∙ c.if-is_empty.false) c.if-words-most.false in (
-      map (file_word kind) names,
-      subst (λ (last : Last). FitsLast last (map (file_word kind) names)) (sym c.in-Several.is) fits,
-      said,
-      spoken_more c.args.read.now.items c.push-in-Several.new.self.items _ c.push-in-Several.ensures.items,
+    let most = c.in-Several.most in
+    let read : Read = read.Files kind c.args.words in
+    let none = sym c.is_empty-in-Several.ensures ∙ c.if-is_empty.false in
+    let (fits, said) = several_said kind most c.args.words.now none c.if-words-most.false in
+    let speaks : spoken (read ∷ []) ≡ map (file_word kind) (texts c.args.words.now) = append-nil (words_of read) in (
+      read ∷ [],
+      subst (λ (last : Last). AreOfLast last (read ∷ [])) (sym c.in-Several.is) (refl, some_words c.args.words.now none, c.if-words-most.false),
+      c.push-in-Several.ensures.items,
+      subst (λ (last : Last). FitsLast last (spoken (read ∷ []))) (sym c.in-Several.is) (subst (λ (ws : List Spoken). FitsLast (Several kind most) ws) (sym speaks) fits),
+      said ∙ ap spelled (sym speaks),
     )
