@@ -14,6 +14,7 @@ use Rattle.mm_cli.specs.Table.{Row, Asks}
 use Rattle.mm_top.specs.Commands.{run, trace}
 use Rattle.mm_top.specs.Answers.{Answers, Call, Gives, write}
 use Rattle.mm_top.specs.Headline.{RunIsProved, TraceIsProved}
+use Rattle.mm_top.proofs.TracedSections.{traces_isolate}
 use Rattle.mm_top.proofs.Verdicts.{done}
 use Rattle.mm_cli.proofs.Rows.{one_row}
 
@@ -45,6 +46,10 @@ trace_proved tells held left image cycles schedule text (an_image i ∷ lists, a
   issues = issues;
   writes = is;
   reaches = runs_reach i items accepted.0.means.image;
+  isolates =
+      λ c has apart.
+      let P : List ℕ → Type 0 = λ written. Isolates i items written c in
+      subst P (sym is) (traces_isolate i items (tells (machine.uses (model.start i) items)) c accepted.0.means.image has apart);
 }
 trace_proved tells held left image cycles schedule text ([], accepted, writes) = absurd writes
 trace_proved tells held left image cycles schedule text (v ∷ lists, accepted, writes) = absurd (assumption (accepted, writes))

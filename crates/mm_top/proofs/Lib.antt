@@ -8,6 +8,7 @@ pub mod SavedRuns
 pub mod Reported
 pub mod Headlines
 pub mod TracedRuns
+pub mod TracedSections
 pub mod OwnItems
 pub mod Migrated
 pub mod CountsBehind

@@ -41,3 +41,5 @@ pub record TraceIsProved (tells : List Use → Option Counts) (held : List ℕ �
   pub writes : written ≡ trace_of (start i) items ++ report_after tells i items
   -- Every word that a thread touches lies in a segment that is granted to its group, as above.
   pub reaches : Reaches i items
+  -- The sections of groups that stand apart are those of a run without the others, as above.
+  pub isolates : (c : ℕ → Bool) → HasSlot i c → Apart i All c → Isolates i items written c

@@ -76,7 +76,7 @@ pub fn mmachine<M: Boot + Reset, F: Files, I: Source, O: Sink, D: Sink>(
     ensures headline { result ≡ Status.Done → (image : List ℕ) (cycles : ℕ) (schedule : Option (List ℕ)) → Asks (texts words.now) (run image cycles schedule)
         → (written : List ℕ) × RunIsProved M.tells (F.held files.old) image cycles schedule written × (O.taken out.new ≡ append_known (O.taken out.old) written) }
 
-    // Its second part, of each trace that is done.
+    // Its second and its third part, of each trace that is done.
     ensures reach { result ≡ Status.Done → (image : List ℕ) (cycles : ℕ) (schedule : Option (List ℕ)) → Asks (texts words.now) (trace image cycles schedule)
         → (written : List ℕ) × TraceIsProved M.tells (F.held files.old) image cycles schedule written × (O.taken out.new ≡ append_known (O.taken out.old) written) }
 
