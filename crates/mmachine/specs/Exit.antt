@@ -1,7 +1,7 @@
 -- The status of the process at an answer.
 use Rattle.std.specs.Prelude.{ℕ}
-use Rattle.mmachine.specs.declared.status.Status.{Status}
-use Rattle.mmachine.specs.declared.status.Status.TheVariants.{Done, Usage, Refused, ReadFault, WriteFault, NoMemory}
+use Rattle.mm_load.specs.declared.status.Status.{Status}
+use Rattle.mm_load.specs.declared.status.Status.TheVariants.{Done, Usage, Refused, ReadFault, WriteFault, NoMemory}
 
 abbrev pub exit_code : Status → ℕ
 exit_code Done = 0

@@ -1,16 +1,1 @@
-pub mod GroupList
-pub mod Groups
-pub mod Ranges
-pub mod Nodes
-pub mod Kinds
-pub mod Files
-pub mod Orders
-pub mod Saving
-pub mod Table
-pub mod Commands
-pub mod Answers
 pub mod Exit
-pub mod Headline
-pub mod Memories
-pub mod TextToRun
-pub mod SaveToRun

@@ -1,46 +1,18 @@
 //! `mmachine` runs programs of the integer part of the M-Machine, whose threads are kept apart by guarded pointers.
 //!
-//! All that the program does is done by the top call, [`top::mmachine`]. `main` makes the real files and streams, calls it and
-//! ends with its status.
+//! All that the program does is done by one call, [`mmachine`] of `mm_top`. `main` makes the real files and streams, calls
+//! it and ends with its status.
 #![tactic(auto)]
 
 ghost use Rattle.std.specs.Prelude.{◌≡◌};
 ghost use Rattle.mmachine.specs.Exit.{exit_code};
 
-mod asm;
-mod cycles;
-mod debug;
-mod dis;
-mod extract;
-mod generate;
-mod going_on;
-mod grants;
-mod group_list;
-mod holders;
-mod laws;
-mod line;
-mod link;
-mod load;
-mod members;
-mod memories;
-mod migrate;
-mod nets;
-mod run;
-mod save;
-mod soak;
-mod solo;
-mod status;
-mod sweep;
 #[cfg(test)]
 mod tests;
-mod top;
-mod trace;
-mod traced;
-mod words;
 
-use crate::status::Status;
-use crate::top::mmachine;
 use mm_io::{StdFiles, StdSink, StdSource};
+use mm_load::Status;
+use mm_top::mmachine;
 use mm_vmem::VMem;
 use std::env;
 use std::process::ExitCode;

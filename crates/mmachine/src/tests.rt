@@ -1,6 +1,6 @@
-use crate::status::Status;
-use crate::top::mmachine;
 use mm_io::{MemFiles, MemSink, MemSource};
+use mm_load::Status;
+use mm_top::mmachine;
 use mm_vmem::VMem;
 use std::test::Fail;
 

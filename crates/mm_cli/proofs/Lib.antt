@@ -1,0 +1,4 @@
+mod GroupWords
+mod RowWords
+pub mod SaidWords
+pub mod Rows

@@ -1,0 +1,136 @@
+-- What words say, how it is written, and where it fits.
+use Rattle.std.specs.Prelude.{◌≡◌, ℕ, ◌%◌, ◌^◌, ◌-◌, ◌≤◌, Bool, true, false, List, [], ◌∷◌, ◌++◌, map, length, String, string_bytes, codes, decimal, Option, None, Some, ⊤}
+use Rattle.std.specs.declared.alloc.Global.{Global}
+use Rattle.mm_model.specs.Audit.{groups_text}
+use Rattle.mm_cli.specs.GroupList.{AreGroups}
+use Rattle.mm_cli.specs.declared.table.Kind.{Kind}
+use Rattle.mm_cli.specs.declared.table.Place.{Place}
+use Rattle.mm_cli.specs.declared.table.Place.TheVariants.{File, Number, Groups, Mode, Range}
+use Rattle.mm_cli.specs.declared.words.Word.{Word as Read}
+use Rattle.mm_cli.specs.declared.words.Word.TheVariants as read
+use Rattle.mm_cli.specs.declared.table.Last.{Last}
+use Rattle.mm_cli.specs.declared.table.Last.TheVariants.{Nothing, Perhaps, Several}
+
+-- 1. Words, and how they are written.
+
+-- What words say.
+pub data Word : Type 0 where
+  -- the name of a file of a kind
+  file_word : Kind → (name : List ℕ) → Word
+  number_word : ℕ → Word
+  groups_word : List ℕ → Word
+  -- whether loads are split
+  mode_word : (split : Bool) → Word
+  -- where a range of addresses begins, and the logarithm of its length
+  range_word : (base log : ℕ) → Word
+
+abbrev pub mode_text : Bool → List ℕ
+mode_text false = codes "plain"
+mode_text true = codes "split"
+
+-- the texts that say it: two of a range, and else one
+abbrev pub text_list : Word → List (List ℕ)
+text_list (file_word kind name) = name ∷ []
+text_list (number_word n) = decimal n ∷ []
+text_list (groups_word groups) = groups_text groups ∷ []
+text_list (mode_word split) = mode_text split ∷ []
+text_list (range_word base log) = decimal base ∷ decimal log ∷ []
+
+-- the texts of words, one after the other
+abbrev pub spelled : List Word → List (List ℕ)
+spelled [] = []
+spelled (word ∷ words) = text_list word ++ spelled words
+
+-- no word, or one
+abbrev pub perhaps : {A : Type 0} → (A → Word) → Option A → List Word
+perhaps word None = []
+perhaps word (Some a) = word a ∷ []
+
+-- the files that words name
+abbrev pub files_in : List Word → List (List ℕ × Kind)
+files_in [] = []
+files_in (file_word kind name ∷ words) = (name, kind) ∷ files_in words
+files_in (number_word n ∷ words) = files_in words
+files_in (groups_word groups ∷ words) = files_in words
+files_in (mode_word split ∷ words) = files_in words
+files_in (range_word base log ∷ words) = files_in words
+
+-- 2. Where words fit.
+
+-- a range of a power of two of addresses, at least a word, that begins at a multiple of its length
+abbrev pub IsRange : (base log : ℕ) → Type 0
+IsRange base log = (base ≤ 2 ^ 54 - 1) × (3 ≤ log) × (log ≤ 54) × (base % 2 ^ log ≡ 0)
+
+-- the word is one that the place is for
+abbrev pub FitsPlace : Place → Word → Type 0
+FitsPlace (File kind) (file_word other name) = other ≡ kind
+FitsPlace (Number least most) (number_word n) = (least ≤ n) × (n ≤ most)
+FitsPlace Groups (groups_word groups) = AreGroups groups
+FitsPlace Mode (mode_word split) = ⊤
+FitsPlace Range (range_word base log) = IsRange base log
+FitsPlace _ _ = ⊥
+
+-- the words are those that come last
+abbrev pub FitsLast : Last → List Word → Type 0
+FitsLast Nothing [] = ⊤
+FitsLast (Perhaps place) [] = ⊤
+FitsLast (Perhaps place) (word ∷ []) = FitsPlace place word
+FitsLast (Several kind most) words =
+    (names : List (List ℕ)) × (words ≡ map (file_word kind) names) × (1 ≤ length names) × (length names ≤ most)
+FitsLast _ _ = ⊥
+
+-- the words are those of the places, and of what comes after them
+abbrev pub FitsRow : List Place → Last → List Word → Type 0
+FitsRow [] last words = FitsLast last words
+FitsRow (place ∷ places) last (word ∷ words) = FitsPlace place word × FitsRow places last words
+FitsRow (place ∷ places) last [] = ⊥
+
+-- 3. The words of a command line.
+
+-- the texts of the words
+abbrev pub texts : List (String Global) → List (List ℕ)
+texts words = map string_bytes words
+
+-- what a word that was read says: one word of each file where it names several
+abbrev pub words_of : Read → List Word
+words_of (read.File kind name) = file_word kind name.now ∷ []
+words_of (read.Files kind names) = map (file_word kind) (texts names.now)
+words_of (read.Number n) = number_word n ∷ []
+words_of (read.Groups groups) = groups_word groups.items ∷ []
+words_of (read.Mode split) = mode_word split ∷ []
+words_of (read.Range base log) = range_word base log ∷ []
+
+abbrev pub spoken : List Read → List Word
+spoken [] = []
+spoken (word ∷ words) = words_of word ++ spoken words
+
+-- how many words that were read stand for what comes last, at most
+abbrev pub room : Last → ℕ
+room Nothing = 0
+room (Perhaps place) = 1
+room (Several kind most) = 1
+
+-- 5. Words as they are read, place by place.
+
+-- what was read is of the variant that the place is for, and in its range
+abbrev pub IsOfPlace : Place → Read → Type 0
+IsOfPlace (File kind) (read.File other name) = other ≡ kind
+IsOfPlace (Number least most) (read.Number n) = (least ≤ n) × (n ≤ most)
+IsOfPlace Groups (read.Groups groups) = AreGroups groups.items
+IsOfPlace Mode (read.Mode split) = ⊤
+IsOfPlace Range (read.Range base log) = IsRange base log
+IsOfPlace _ _ = ⊥
+
+-- one word at most was read for what comes last: several files are one word
+abbrev pub AreOfLast : Last → List Read → Type 0
+AreOfLast Nothing [] = ⊤
+AreOfLast (Perhaps place) [] = ⊤
+AreOfLast (Perhaps place) (word ∷ []) = IsOfPlace place word
+AreOfLast (Several kind most) (read.Files other names ∷ []) = (other ≡ kind) × (1 ≤ length names.now) × (length names.now ≤ most)
+AreOfLast _ _ = ⊥
+
+-- one word was read for each place, and then what comes last
+abbrev pub AreOfRow : List Place → Last → List Read → Type 0
+AreOfRow [] last words = AreOfLast last words
+AreOfRow (place ∷ places) last (word ∷ words) = IsOfPlace place word × AreOfRow places last words
+AreOfRow (place ∷ places) last [] = ⊥

@@ -1,0 +1,58 @@
+// Groups as they are written.
+ghost use Rattle.std.specs.Prelude.{◌≡◌, ◌≢◌, ◌++◌, ◌∷◌, [], ℕ, List, IsNone, IsSome, IsTrue, MatchOption, ◌<◌, ◌↔◌, decimal, position};
+ghost use Rattle.std.specs.List.{AllByRecursion};
+ghost use Rattle.mm_model.specs.Audit.{groups_text};
+ghost use Rattle.mm_cli.specs.GroupList.{Ascends, AreGroups, AreSoFar, Follows, is_comma};
+
+use arrayvec::ArrayVec;
+use mm_sched::number;
+
+/// The greatest group.
+const MAX_GROUP: u64 = 63;
+
+/// One or more groups in decimal digits, ascending, with single commas between them.
+pub fn read_groups(text: &[u8]) -> Option<ArrayVec<u8, 64>>
+    ensures { MatchOption result ((groups : List ℕ) → AreGroups groups → text.now ≢ groups_text groups)
+        (λ groups. (text.now ≡ groups_text groups.items) × AreGroups groups.items) }
+{
+    let mut groups = ArrayVec::new();
+    let mut rest = text;
+    while let Some(at) = comma(rest) {
+        push_group(&mut groups, &rest[..at])?;
+        rest = &rest[at + 1..];
+    }
+    push_group(&mut groups, rest)?;
+    Some(groups)
+}
+
+/// The place of the first comma.
+fn comma(text: &[u8]) -> Option<usize>
+    ensures { result ≡ position is_comma text.now }
+{
+    text.iter().position(|b| *b == b',')
+}
+
+/// Appends a group that is above those before.
+fn push_group(groups: &mut ArrayVec<u8, 64>, word: &[u8]) -> Option<()>
+    requires { AreSoFar groups.old.items }
+    ensures some { IsSome result → (g : ℕ) × Follows groups.old.items g × (word.now ≡ decimal g) × (groups.new.items ≡ groups.old.items ++ g ∷ []) }
+    ensures none { IsNone result → (g : ℕ) → Follows groups.old.items g → word.now ≢ decimal g }
+{
+    let group = number(word, MAX_GROUP)? as u8;
+    if !is_above(groups.as_slice(), group) {
+        return None;
+    }
+    groups.push(group);
+    Some(())
+}
+
+/// Whether a group is above ascending ones.
+fn is_above(groups: &[u8], group: u8) -> bool
+    requires { Ascends groups.now }
+    ensures { IsTrue result ↔ AllByRecursion (λ h. h < group) groups.now }
+{
+    match groups.last() {
+        None => true,
+        Some(last) => *last < group,
+    }
+}

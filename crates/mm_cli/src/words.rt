@@ -1,0 +1,123 @@
+//! What the words of the command line say.
+ghost use Rattle.std.specs.Prelude.{◌≡◌, ◌≢◌, ◌≤◌, ◌++◌, ◌∷◌, [], ℕ, Bool, List, MatchOption, decimal, string_bytes};
+ghost use Rattle.mm_cli.specs.Words.{Word as Spoken, FitsPlace, IsOfPlace, IsRange, range_word, mode_text, text_list, texts, words_of};
+
+use crate::groups::read_groups;
+use crate::table::{Kind, Place};
+use arrayvec::ArrayVec;
+use mm_sched::number;
+
+/// What the words in a place of a row say.
+#[derive(Drop)]
+pub enum Word<'a> {
+    /// The name of a file of a kind.
+    File { kind: Kind, name: &'a str },
+    /// The names of files of a kind.
+    Files { kind: Kind, names: &'a [String] },
+    Number(u64),
+    Groups(ArrayVec<u8, 64>),
+    Mode { split: bool },
+    /// Where a range of addresses begins, and the logarithm of its length.
+    Range { base: u64, log: u8 },
+}
+
+/// An `ArrayVec` fills its free places with this word.
+impl Default for Word<'_> {
+    fn default() -> Self {
+        Word::Number(0)
+    }
+}
+
+/// What the first words say, read for a place, and the words after them.
+pub fn read_place<'a>(place: Place, words: &'a [String]) -> Option<(Word<'a>, &'a [String])>
+    ensures { MatchOption result ((word : Spoken) (after : List (List ℕ)) → FitsPlace place word → texts words.now ≢ text_list word ++ after)
+        (λ read. (word : Spoken) × IsOfPlace place read.0 × (words_of read.0 ≡ word ∷ []) × FitsPlace place word × (texts words.now ≡ text_list word ++ texts read.1.now)) }
+{
+    if let Place::Range = place {
+        return read_range_place(words);
+    }
+    let [word, after @ ..] = words else {
+        return None;
+    };
+    Some((read_word(place, word)?, after))
+}
+
+/// A range of addresses, said by the first two words, and the words after them.
+fn read_range_place(words: &[String]) -> Option<(Word<'_>, &[String])>
+    ensures { MatchOption result ((first width : ℕ) (after : List (List ℕ)) → IsRange first width → texts words.now ≢ decimal first ∷ decimal width ∷ after)
+        (λ read. (first : ℕ) × (width : ℕ) × IsOfPlace Place.Range read.0 × (words_of read.0 ≡ range_word first width ∷ []) × IsRange first width
+        × (texts words.now ≡ decimal first ∷ decimal width ∷ texts read.1.now)) }
+{
+    let [base, log, after @ ..] = words else {
+        return None;
+    };
+    let (base, log) = read_range(base.as_bytes(), log.as_bytes())?;
+    Some((Word::Range { base, log }, after))
+}
+
+/// What one word says, read for a place that is no range.
+fn read_word(place: Place, word: &String) -> Option<Word<'_>>
+    ensures { MatchOption result ((said : Spoken) → FitsPlace place said → string_bytes word.now ∷ [] ≢ text_list said)
+        (λ read. (said : Spoken) × IsOfPlace place read × (words_of read ≡ said ∷ []) × FitsPlace place said × (string_bytes word.now ∷ [] ≡ text_list said)) }
+{
+    match place {
+        Place::File(kind) => Some(Word::File {
+            kind,
+            name: word.as_str(),
+        }),
+        Place::Number { least, most } => Some(Word::Number(read_number(
+            word.as_bytes(),
+            least,
+            most,
+        )?)),
+        Place::Groups => Some(Word::Groups(read_groups(word.as_bytes())?)),
+        Place::Mode => Some(Word::Mode {
+            split: read_mode(word.as_str())?,
+        }),
+        Place::Range => None,
+    }
+}
+
+/// A number between two others in decimal digits.
+fn read_number(digits: &[u8], least: u64, most: u64) -> Option<u64>
+    ensures { MatchOption result ((n : ℕ) → least ≤ n → n ≤ most → digits.now ≢ decimal n)
+        (λ n. (digits.now ≡ decimal n) × (least ≤ n) × (n ≤ most)) }
+{
+    let number = number(digits, most)?;
+    if number < least {
+        return None;
+    }
+    Some(number)
+}
+
+/// Whether a mode's word says that loads are split.
+fn read_mode(word: &str) -> Option<bool>
+    ensures { MatchOption result ((split : Bool) → word.now ≢ mode_text split) (λ split. word.now ≡ mode_text split) }
+{
+    match word {
+        "plain" => Some(false),
+        "split" => Some(true),
+        _ => None,
+    }
+}
+
+/// Where a range of addresses begins, and the logarithm of its length, 3 to 54. It begins at a multiple of its length.
+fn read_range(base: &[u8], log: &[u8]) -> Option<(u64, u8)>
+    ensures { MatchOption result ((first width : ℕ) → IsRange first width → base.now ≡ decimal first → log.now ≢ decimal width)
+        (λ range. IsRange range.0 range.1 × (base.now ≡ decimal range.0) × (log.now ≡ decimal range.1)) }
+{
+    let base = number(base, MAX_ADDRESS)?;
+    let log = read_number(log, MIN_LOG, MAX_LOG)?;
+    if base % (1 << log) != 0 {
+        return None;
+    }
+    Some((base, log as u8))
+}
+
+/// The last address.
+const MAX_ADDRESS: u64 = (1 << 54) - 1;
+
+/// The logarithm of a word's length, and of the length of the whole address space.
+const MIN_LOG: u64 = 3;
+
+const MAX_LOG: u64 = 54;

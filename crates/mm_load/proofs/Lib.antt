@@ -1,0 +1,4 @@
+pub mod KindsOnce
+pub mod Told
+pub mod Reading
+pub mod Several

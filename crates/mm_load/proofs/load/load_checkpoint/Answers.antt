@@ -1,0 +1,12 @@
+use Rattle.std.proofs.Common.{◌≡◌, ℕ, List, Some, Err, refl, ap, ◌∙◌, subst}
+use Rattle.mm_checkpoint.specs.Faults.{save_fault}
+use Rattle.mm_checkpoint.specs.declared.fault.SaveError.{SaveError}
+use Rattle.mm_load.proofs.Reading.{refused_file}
+use Rattle.mm_load.proofs.load.load_checkpoint.Goals as goal
+
+pub returns-in-Err-Fault-clause-read : goal.returns-in-Err-Fault-clause-read
+returns-in-Err-Fault-clause-read g c =
+    let offset = c.in-Err-Fault.offset in
+    let P : List ℕ → Type 0 = λ bytes. save_fault c.args.image.now bytes ≡ Some offset in
+    let says = subst P c.deref.ensures.value (c.read.ensures.fault offset (c.in-Err-Fault.is ∙ ap (λ (e : SaveError). Err e) c.in-Err-Fault.field-0-is)) in
+    refused_file _ _ c.in_ok-bytes.ensures.bytes c.in_ok-bytes.ensures.short (offset, refl, says) c.read_file.ensures.asks.of_name c.read_file.ensures.asks.asks

@@ -1,0 +1,45 @@
+use Rattle.std.proofs.Common.{◌≡◌, ◌+◌, ◌++◌, ◌∷◌, [], ℕ, List, length, map, Err, Ok, refl, ◌∙◌, subst, arith, length-append}
+use Rattle.std.proofs.lemmas.List.{length-map}
+use Rattle.mm_word.specs.Adding.{adds_both}
+use Rattle.mm_cli.specs.declared.table.Kind.TheVariants.{Image as image_file}
+use Rattle.mm_load.specs.Kinds.{an_image}
+use Rattle.mm_load.specs.Files.{FilesRead, reading}
+use Rattle.mm_load.proofs.Several.{value_more, value_stops, values_asked}
+use Rattle.mm_load.proofs.load.load_images.Goals as goal
+
+pub loop-at-preserved : goal.loop-at-preserved
+loop-at-preserved g c =
+    let images = c.loop-at.images.items in
+    record {
+      count = omega (arith, c.in-Ok.ensures.len, c.loop-at.invariant.count);
+      kept = c.load_image.ensures.kept ∙ c.loop-at.invariant.kept;
+      later = λ n. omega (arith, c.loop-at.invariant.later n, c.load_image.ensures.later n);
+      read = λ before counted.
+          let number : c.args.first + c.loop-at.at ≡ length (before ++ map an_image images) + 1 = omega (arith, length-append before (map an_image images), length-map images (λ x. an_image x), c.loop-at.invariant.count) in
+          let P : List ℕ → Type 0 = λ text. FilesRead (reading g.F.Files.held g.F.Files.faults g.F.Files.asked c.loop-at.files c.load_image.new.files) (before ++ map an_image images) ((text, image_file) ∷ []) (λ i. an_image i ∷ []) (Ok c.in_ok-image.image) in
+          value_more image_file an_image c.args.names.now c.loop-at.at c.index-names-at.result images _ c.in_ok-image.image c.loop-at-test.true c.index-names-at.is c.in-Ok.ensures.items (c.loop-at.invariant.read before counted)
+          (subst P c.as_str.ensures.value (c.in_ok-image.ensures.read (before ++ map an_image images) number))
+          (record { kept = c.loop-at.invariant.kept; counts = refl; later = c.loop-at.invariant.later; asked = λ names more one two. adds_both one two });
+    }
+
+pub returns-in_default-clause-read : goal.returns-in_default-clause-read
+returns-in_default-clause-read g c before counted =
+    let images = c.loop-at.images.items in
+    let number : c.args.first + c.loop-at.at ≡ length (before ++ map an_image images) + 1 = omega (arith, length-append before (map an_image images), length-map images (λ x. an_image x), c.loop-at.invariant.count) in
+    let P : List ℕ → Type 0 = λ text. FilesRead (reading g.F.Files.held g.F.Files.faults g.F.Files.asked c.loop-at.files c.load_image.new.files) (before ++ map an_image images) ((text, image_file) ∷ []) (λ i. an_image i ∷ []) (Ok c.in_ok-image.image) in
+    record {
+      accepted = tt;
+      stopped = tt;
+      asked = values_asked image_file an_image c.args.names.now c.loop-at.at c.index-names-at.result images _ _ c.loop-at-test.true c.index-names-at.is (c.loop-at.invariant.read before counted)
+          (subst P c.as_str.ensures.value (c.in_ok-image.ensures.read (before ++ map an_image images) number))
+          (record { kept = c.loop-at.invariant.kept; counts = refl; later = c.loop-at.invariant.later; asked = λ names more one two. adds_both one two });
+    }
+
+pub returns-in_err-image-clause-read : goal.returns-in_err-image-clause-read
+returns-in_err-image-clause-read g c before counted =
+    let images = c.loop-at.images.items in
+    let number : c.args.first + c.loop-at.at ≡ length (before ++ map an_image images) + 1 = omega (arith, length-append before (map an_image images), length-map images (λ x. an_image x), c.loop-at.invariant.count) in
+    let P : List ℕ → Type 0 = λ text. FilesRead (reading g.F.Files.held g.F.Files.faults g.F.Files.asked c.loop-at.files c.load_image.new.files) (before ++ map an_image images) ((text, image_file) ∷ []) (λ i. an_image i ∷ []) (Err c.in_err-image.field-0.0) in
+    value_stops image_file an_image c.args.names.now c.loop-at.at c.index-names-at.result images _ _ c.from_residual.result c.loop-at-test.true c.index-names-at.is (c.loop-at.invariant.read before counted)
+    (subst P c.as_str.ensures.value (c.in_err-image.ensures.read (before ++ map an_image images) number))
+    (record { kept = c.loop-at.invariant.kept; counts = refl; later = c.loop-at.invariant.later; asked = λ names more one two. adds_both one two }) c.from_residual.ensures.1

@@ -1,0 +1,4 @@
+pub mod Kinds
+pub mod Files
+pub mod Stops
+pub mod Lines

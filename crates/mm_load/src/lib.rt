@@ -1,0 +1,13 @@
+//! The inputs of a command: what kinds there are, how each is read and parsed, why that is refused, and the line that says so.
+#![tactic(auto)]
+
+mod lines;
+mod load;
+mod status;
+
+pub use lines::write_line;
+pub use load::{
+    Checkpoint, load_checkpoint, load_events, load_image, load_images, load_input, load_links,
+    load_object, load_objects, load_order, load_schedule, load_source,
+};
+pub use status::{Refusal, Status, Stop, ended};

@@ -1,0 +1,184 @@
+//! The line that an answer writes to standard error.
+ghost use Rattle.mm_io.specs.Sinks.{Writes};
+ghost use Rattle.mm_text.specs.Gathers.{Gathers};
+ghost use Rattle.mm_load.specs.Lines.{line_of, named_by};
+
+use crate::status::{Refusal, Status};
+use mm_io::{Sink, WriteFault, write_all};
+use mm_link::LinkFault;
+use mm_text::{Gather, Piece, write_pieces};
+
+/// Writes the line that says why it is not done; nothing where it is.
+pub fn write_line<D: Sink>(status: &Status, diag: &mut D) -> Result<(), WriteFault>
+    ensures { Writes D.taken D.faults diag.old diag.new (line_of status.now) result }
+{
+    match status {
+        Status::Done => Ok(()),
+        Status::Usage => write_all(diag, b"mmachine: usage\n"),
+        Status::Refused(refusal) => write_refusal(refusal, diag),
+        Status::ReadFault => write_all(diag, b"mmachine: read fault\n"),
+        Status::WriteFault => write_all(diag, b"mmachine: write fault\n"),
+        Status::NoMemory => write_all(diag, b"mmachine: out of memory\n"),
+    }
+}
+
+/// Writes the line of a refusal.
+fn write_refusal<D: Sink>(refusal: &Refusal, diag: &mut D) -> Result<(), WriteFault>
+    ensures { Writes D.taken D.faults diag.old diag.new (line_of (Status.Refused refusal.now)) result }
+{
+    match refusal {
+        Refusal::TooLong { file } => write_pieces(
+            diag,
+            &[
+                Piece::Text("mmachine: file "),
+                Piece::Decimal(*file as u64),
+                Piece::Text(" too long\n"),
+            ],
+        ),
+        Refusal::Image {
+            file,
+            fault,
+            offset,
+        } => write_pieces(
+            diag,
+            &[
+                Piece::Text("mmachine: file "),
+                Piece::Decimal(*file as u64),
+                Piece::Text(" image fault "),
+                Piece::Decimal(fault.number() as u64),
+                Piece::Text(" at "),
+                Piece::Decimal(*offset),
+                Piece::Text("\n"),
+            ],
+        ),
+        Refusal::Object {
+            file,
+            fault,
+            offset,
+        } => write_pieces(
+            diag,
+            &[
+                Piece::Text("mmachine: file "),
+                Piece::Decimal(*file as u64),
+                Piece::Text(" object fault "),
+                Piece::Decimal(fault.number() as u64),
+                Piece::Text(" at "),
+                Piece::Decimal(*offset),
+                Piece::Text("\n"),
+            ],
+        ),
+        Refusal::Link(fault) => write_link_fault(fault, diag),
+        Refusal::Asm {
+            fault,
+            line,
+            column,
+        } => write_pieces(
+            diag,
+            &[
+                Piece::Text("mmachine: source fault "),
+                Piece::Decimal(fault.number() as u64),
+                Piece::Text(" at "),
+                Piece::Decimal(*line as u64),
+                Piece::Text(":"),
+                Piece::Decimal(*column as u64),
+                Piece::Text("\n"),
+            ],
+        ),
+        Refusal::NoGroup => write_all(diag, b"mmachine: no group\n"),
+        Refusal::Crosses { slot } => write_pieces(
+            diag,
+            &[
+                Piece::Text("mmachine: crosses slot "),
+                Piece::Decimal(*slot as u64),
+                Piece::Text("\n"),
+            ],
+        ),
+        Refusal::Held { slot } => write_pieces(
+            diag,
+            &[
+                Piece::Text("mmachine: held slot "),
+                Piece::Decimal(*slot as u64),
+                Piece::Text("\n"),
+            ],
+        ),
+        Refusal::Privileged { group } => write_pieces(
+            diag,
+            &[
+                Piece::Text("mmachine: privileged group "),
+                Piece::Decimal(*group as u64),
+                Piece::Text("\n"),
+            ],
+        ),
+        Refusal::Checkpoint { file, offset } => write_pieces(
+            diag,
+            &[
+                Piece::Text("mmachine: file "),
+                Piece::Decimal(*file as u64),
+                Piece::Text(" checkpoint fault at "),
+                Piece::Decimal(*offset),
+                Piece::Text("\n"),
+            ],
+        ),
+        Refusal::Links { file, offset } => write_pieces(
+            diag,
+            &[
+                Piece::Text("mmachine: file "),
+                Piece::Decimal(*file as u64),
+                Piece::Text(" links fault at "),
+                Piece::Decimal(*offset),
+                Piece::Text("\n"),
+            ],
+        ),
+        Refusal::NoNode { link } => write_pieces(
+            diag,
+            &[
+                Piece::Text("mmachine: no node link "),
+                Piece::Decimal(*link as u64),
+                Piece::Text("\n"),
+            ],
+        ),
+        Refusal::Schedule { file, offset } => write_pieces(
+            diag,
+            &[
+                Piece::Text("mmachine: file "),
+                Piece::Decimal(*file as u64),
+                Piece::Text(" schedule fault at "),
+                Piece::Decimal(*offset),
+                Piece::Text("\n"),
+            ],
+        ),
+    }
+}
+
+/// Writes the line of a fault of linking.
+fn write_link_fault<D: Sink>(fault: &LinkFault, diag: &mut D) -> Result<(), WriteFault>
+    ensures { Writes D.taken D.faults diag.old diag.new (line_of (Status.Refused (Refusal.Link fault.now))) result }
+{
+    let mut text = Gather::new();
+    text.put(
+        diag,
+        &[
+            Piece::Text("mmachine: link fault "),
+            Piece::Decimal(fault.number() as u64),
+            Piece::Text(" "),
+        ],
+    );
+    put_named(&mut text, diag, fault);
+    text.put_bytes(diag, b"\n");
+    text.finish(diag)
+}
+
+/// Appends what a fault of linking names: a name, a slot, or nothing.
+fn put_named<D: Sink>(text: &mut Gather, diag: &mut D, fault: &LinkFault)
+    ensures { Gathers D.taken D.faults diag.old diag.new text.old text.new (named_by fault.now) }
+{
+    match fault {
+        LinkFault::Twice(name) | LinkFault::Undefined(name) | LinkFault::Offset(name) => {
+            text.put_bytes(diag, name.bytes());
+        }
+        LinkFault::SlotTwice(slot) | LinkFault::Handler(slot) => {
+            text.put_piece(diag, &Piece::Decimal(*slot as u64));
+        }
+        LinkFault::NoThread | LinkFault::TooLarge => text.put_bytes(diag, b"-"),
+    }
+}

@@ -1,0 +1,332 @@
+//! The inputs of a command, each read and parsed.
+ghost use Rattle.std.specs.Prelude.{◌≡◌, ◌+◌, ◌<◌, ◌≤◌, ◌^◌, ◌∷◌, [], List, length, map, IfOk, IfErr, OnOk};
+ghost use Rattle.std.specs.Option.{option_map};
+ghost use Rattle.std.specs.Io.KnownBytes.{IsAtEnd};
+ghost use Rattle.mm_io.specs.Files.{Rose, NoneFell, Holds, AsksOnly};
+ghost use Rattle.mm_checkpoint.specs.Checkpoints.{saved_of, IsCheckpoint};
+ghost use Rattle.mm_cli.specs.declared.table.Kind.TheVariants.{Image as image_file, Schedule as schedule_file, Source as source_file, Object as object_file, Checkpoint as checkpoint_file, Links as links_file, Events as events_file, Text as text_input};
+ghost use Rattle.mm_load.specs.Kinds.{Value, an_image, a_list, an_object, a_checkpoint, a_links, an_events, a_text};
+ghost use Rattle.mm_load.specs.Files.{Stops, IsTooLong, FilesRead, InputRead, reading, drawing};
+ghost use Rattle.mm_cli.specs.Words.{file_word, files_in, perhaps};
+ghost use Rattle.mm_load.specs.Files.{files_named};
+ghost use Rattle.mm_load.specs.Kinds.{values_of};
+ghost use Rattle.mm_load.specs.Stops.{stop_of_error};
+
+use crate::status::{Refusal, Stop};
+use mm_asm::{AsmError, assemble};
+use mm_checkpoint::SaveError;
+use mm_image::{Image, ImageError};
+use mm_io::{Files, ReadError, Source, read_all, read_input};
+use mm_machine::Snapshot;
+use mm_net::{Events, Links, NetError, read_events, read_links};
+use mm_object::{Object, ObjectError};
+use mm_sched::{Order, SchedError, Schedule};
+use std::alloc::Global;
+
+/// The most bytes of an image file.
+const IMAGE_LIMIT: u64 = 33_554_432;
+
+/// The most bytes of a schedule file.
+const SCHEDULE_LIMIT: u64 = 8_388_608;
+
+/// The most bytes of a source file.
+const SOURCE_LIMIT: u64 = 8_388_608;
+
+/// The most bytes of an object file.
+const OBJECT_LIMIT: u64 = 2_097_152;
+
+/// The most bytes of a checkpoint file.
+const CHECKPOINT_LIMIT: u64 = 33_554_432;
+
+/// The most bytes of a file of links.
+const LINKS_LIMIT: u64 = 65_536;
+
+/// The most bytes of a file of events.
+const EVENTS_LIMIT: u64 = 8_388_608;
+
+/// The most bytes of standard input.
+const INPUT_LIMIT: u64 = 1_048_576;
+
+/// All bytes of the file of a number.
+fn read_file<F: Files>(
+    alloc: Global,
+    files: &mut F,
+    name: &str,
+    limit: u64,
+    number: u8,
+) -> Result<Vec<u8>, Stop>
+    requires { limit < 2 ^ 31 }
+    ensures bytes { IfOk result (λ bytes. Holds (F.held files.old name.now) bytes.items) }
+    ensures short { IfOk result (λ bytes. length bytes.items ≤ limit) }
+    ensures stop { IfErr result (Stops (IsTooLong limit number (F.held files.old name.now)) (Rose (F.faults files.old name.now) (F.faults files.new name.now))) }
+    ensures kept { F.held files.new ≡ F.held files.old }
+    ensures later { NoneFell (F.faults files.old) (F.faults files.new) }
+    ensures asks { AsksOnly F.asked files.old files.new name.now }
+{
+    match read_all(alloc, files, name, limit) {
+        Ok(bytes) => Ok(bytes),
+        Err(error) => Err(stop_of(error, number)),
+    }
+}
+
+fn stop_of(error: ReadError, file: u8) -> Stop
+    ensures { result ≡ stop_of_error error file }
+{
+    match error {
+        ReadError::ReadFault => Stop::ReadFault,
+        ReadError::TooLong => Stop::Refused(Refusal::TooLong { file }),
+        ReadError::NoMemory => Stop::NoMemory,
+    }
+}
+
+/// Reads and parses an image file, the file of a number.
+pub fn load_image<F: Files>(
+    alloc: Global,
+    files: &mut F,
+    name: &str,
+    number: u8,
+) -> Result<Image, Stop>
+    ensures read { (before : List Value) → number ≡ length before + 1
+        → FilesRead (reading F.held F.faults F.asked files.old files.new) before ((name.now, image_file) ∷ []) (λ i. an_image i ∷ []) result }
+    ensures kept { F.held files.new ≡ F.held files.old }
+    ensures later { NoneFell (F.faults files.old) (F.faults files.new) }
+{
+    let bytes = read_file(alloc, files, name, IMAGE_LIMIT, number)?;
+    match mm_image::read(alloc, &bytes) {
+        Ok(image) => Ok(image),
+        Err(ImageError::Fault { fault, offset }) => Err(Stop::Refused(Refusal::Image {
+            file: number,
+            fault,
+            offset,
+        })),
+        Err(ImageError::NoMemory) => Err(Stop::NoMemory),
+    }
+}
+
+/// Reads and parses a schedule file, the file of a number.
+pub fn load_schedule<F: Files>(
+    alloc: Global,
+    files: &mut F,
+    name: &str,
+    number: u8,
+) -> Result<Schedule, Stop>
+    ensures read { (before : List Value) → number ≡ length before + 1
+        → FilesRead (reading F.held F.faults F.asked files.old files.new) before ((name.now, schedule_file) ∷ []) (λ list. a_list list ∷ []) result }
+    ensures kept { F.held files.new ≡ F.held files.old }
+    ensures later { NoneFell (F.faults files.old) (F.faults files.new) }
+{
+    let bytes = read_file(alloc, files, name, SCHEDULE_LIMIT, number)?;
+    match mm_sched::parse(alloc, &bytes) {
+        Ok(list) => Ok(list),
+        Err(SchedError::Fault { offset }) => Err(Stop::Refused(Refusal::Schedule {
+            file: number,
+            offset,
+        })),
+        Err(SchedError::NoMemory) => Err(Stop::NoMemory),
+    }
+}
+
+/// Reads and assembles a source file, the file of a number.
+pub fn load_source<F: Files>(
+    alloc: Global,
+    files: &mut F,
+    name: &str,
+    number: u8,
+) -> Result<Object, Stop>
+    ensures { (before : List Value) → number ≡ length before + 1
+        → FilesRead (reading F.held F.faults F.asked files.old files.new) before ((name.now, source_file) ∷ []) (λ o. an_object o ∷ []) result }
+{
+    let bytes = read_file(alloc, files, name, SOURCE_LIMIT, number)?;
+    match assemble(alloc, &bytes) {
+        Ok(object) => Ok(object),
+        Err(
+            AsmError::Fault {
+                fault,
+                line,
+                column,
+            },
+        ) => Err(Stop::Refused(Refusal::Asm {
+            fault,
+            line,
+            column,
+        })),
+        Err(AsmError::NoMemory) => Err(Stop::NoMemory),
+    }
+}
+
+/// Reads and parses an object file, the file of a number.
+pub fn load_object<F: Files>(
+    alloc: Global,
+    files: &mut F,
+    name: &str,
+    number: u8,
+) -> Result<Object, Stop>
+    ensures read { (before : List Value) → number ≡ length before + 1
+        → FilesRead (reading F.held F.faults F.asked files.old files.new) before ((name.now, object_file) ∷ []) (λ o. an_object o ∷ []) result }
+    ensures kept { F.held files.new ≡ F.held files.old }
+    ensures later { NoneFell (F.faults files.old) (F.faults files.new) }
+{
+    let bytes = read_file(alloc, files, name, OBJECT_LIMIT, number)?;
+    match mm_object::read(alloc, &bytes) {
+        Ok(object) => Ok(object),
+        Err(ObjectError::Fault { fault, offset }) => Err(Stop::Refused(Refusal::Object {
+            file: number,
+            fault,
+            offset,
+        })),
+        Err(ObjectError::NoMemory) => Err(Stop::NoMemory),
+    }
+}
+
+/// A state that a machine of an image can have, beside the slot that round robin issued last.
+#[derive(Drop)]
+pub struct Checkpoint {
+    pub snapshot: Snapshot,
+    pub last: Option<u8>,
+}
+
+/// Reads a checkpoint file, the second file, against the image of the first, and parses it.
+pub fn load_checkpoint<F: Files>(
+    alloc: Global,
+    files: &mut F,
+    name: &str,
+    image: &Image,
+) -> Result<Checkpoint, Stop>
+    ensures read { FilesRead (reading F.held F.faults F.asked files.old files.new) (an_image image.now ∷ []) ((name.now, checkpoint_file) ∷ [])
+        (λ c. a_checkpoint (saved_of c.snapshot c.last) ∷ []) result }
+    ensures checkpoint { IfOk result (λ c. IsCheckpoint image.now c.snapshot c.last) }
+    ensures kept { F.held files.new ≡ F.held files.old }
+    ensures later { NoneFell (F.faults files.old) (F.faults files.new) }
+{
+    let bytes = read_file(alloc, files, name, CHECKPOINT_LIMIT, 2)?;
+    match mm_checkpoint::read(alloc, image, &bytes) {
+        Ok((snapshot, last)) => Ok(Checkpoint { snapshot, last }),
+        Err(SaveError::Fault { offset }) => {
+            Err(Stop::Refused(Refusal::Checkpoint { file: 2, offset }))
+        }
+        Err(SaveError::NoMemory) => Err(Stop::NoMemory),
+    }
+}
+
+/// Reads and parses a file of links, the file of a number.
+pub fn load_links<F: Files>(
+    alloc: Global,
+    files: &mut F,
+    name: &str,
+    number: u8,
+) -> Result<Links, Stop>
+    ensures read { (before : List Value) → number ≡ length before + 1
+        → FilesRead (reading F.held F.faults F.asked files.old files.new) before ((name.now, links_file) ∷ []) (λ links. a_links links ∷ []) result }
+    ensures kept { F.held files.new ≡ F.held files.old }
+    ensures later { NoneFell (F.faults files.old) (F.faults files.new) }
+{
+    let bytes = read_file(alloc, files, name, LINKS_LIMIT, number)?;
+    match read_links(alloc, &bytes) {
+        Ok(links) => Ok(links),
+        Err(NetError::Fault { offset }) => Err(Stop::Refused(Refusal::Links {
+            file: number,
+            offset,
+        })),
+        Err(NetError::NoMemory) => Err(Stop::NoMemory),
+    }
+}
+
+/// Reads and parses a file of events, the file of a number. It is refused as a schedule is.
+pub fn load_events<F: Files>(
+    alloc: Global,
+    files: &mut F,
+    name: &str,
+    number: u8,
+) -> Result<Events, Stop>
+    ensures read { (before : List Value) → number ≡ length before + 1
+        → FilesRead (reading F.held F.faults F.asked files.old files.new) before ((name.now, events_file) ∷ []) (λ events. an_events events ∷ []) result }
+    ensures kept { F.held files.new ≡ F.held files.old }
+    ensures later { NoneFell (F.faults files.old) (F.faults files.new) }
+{
+    let bytes = read_file(alloc, files, name, EVENTS_LIMIT, number)?;
+    match read_events(alloc, &bytes) {
+        Ok(events) => Ok(events),
+        Err(NetError::Fault { offset }) => Err(Stop::Refused(Refusal::Schedule {
+            file: number,
+            offset,
+        })),
+        Err(NetError::NoMemory) => Err(Stop::NoMemory),
+    }
+}
+
+/// The order of a schedule file, the file of a number, or round robin where there is none.
+pub fn load_order<F: Files>(
+    alloc: Global,
+    files: &mut F,
+    name: Option<&str>,
+    number: u8,
+) -> Result<Order, Stop>
+    ensures { (before : List Value) → number ≡ length before + 1
+        → FilesRead (reading F.held F.faults F.asked files.old files.new) before
+        (files_in (perhaps (file_word schedule_file) (option_map (λ name. name.now) name.entry))) values_of result }
+{
+    match name {
+        None => Ok(Order::Robin),
+        Some(name) => match load_schedule(alloc, files, name, number) {
+            Ok(list) => Ok(Order::List(list)),
+            Err(stop) => Err(stop),
+        },
+    }
+}
+
+/// Reads standard input to its end, which has number 0.
+pub fn load_input<I: Source>(alloc: Global, input: &mut I) -> Result<Vec<u8>, Stop>
+    ensures read { (before : List Value) → InputRead (drawing I.left I.faults input.old input.new) before text_input (λ text. a_text text.items) result }
+    ensures end { OnOk result (IsAtEnd (I.left input.new)) }
+{
+    match read_input(alloc, input, INPUT_LIMIT) {
+        Ok(bytes) => Ok(bytes),
+        Err(error) => Err(stop_of(error, 0)),
+    }
+}
+
+/// Reads and parses object files one after the other, the first of them the file of a number.
+pub fn load_objects<F: Files>(
+    alloc: Global,
+    files: &mut F,
+    names: &[String],
+    first: u8,
+) -> Result<Vec<Object>, Stop>
+    requires few { length names.now ≤ 16 }
+    requires early { first ≤ 16 }
+    ensures read { (before : List Value) → first ≡ length before + 1
+        → FilesRead (reading F.held F.faults F.asked files.old files.new) before (files_named object_file names.now) (λ objects. map an_object objects.items) result }
+    ensures count { IfOk result (λ objects. length objects.items ≡ length names.now) }
+{
+    let mut objects = Vec::new(alloc);
+    for at in 0..names.len() {
+        let object = load_object(alloc, files, names[at].as_str(), first + at as u8)?;
+        let Ok(()) = objects.push(object) else {
+            return Err(Stop::NoMemory);
+        };
+    }
+    Ok(objects)
+}
+
+/// Reads and parses image files one after the other, the first of them the file of a number.
+pub fn load_images<F: Files>(
+    alloc: Global,
+    files: &mut F,
+    names: &[String],
+    first: u8,
+) -> Result<Vec<Image>, Stop>
+    requires few { length names.now ≤ 16 }
+    requires early { first ≤ 16 }
+    ensures read { (before : List Value) → first ≡ length before + 1
+        → FilesRead (reading F.held F.faults F.asked files.old files.new) before (files_named image_file names.now) (λ images. map an_image images.items) result }
+    ensures count { IfOk result (λ images. length images.items ≡ length names.now) }
+{
+    let mut images = Vec::new(alloc);
+    for at in 0..names.len() {
+        let image = load_image(alloc, files, names[at].as_str(), first + at as u8)?;
+        let Ok(()) = images.push(image) else {
+            return Err(Stop::NoMemory);
+        };
+    }
+    Ok(images)
+}

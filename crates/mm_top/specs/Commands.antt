@@ -1,0 +1,172 @@
+-- What each command comes to, by its words and the values of its inputs.
+use Rattle.std.specs.Prelude.{◌≡◌, ℕ, Bool, List, [], ◌∷◌, ◌++◌, map, length, take, Option, None, Some}
+use Rattle.mm_model.specs.declared.counts.Counts.{Counts}
+use Rattle.mm_model.specs.Uses.{Use}
+use Rattle.mm_model.specs.Image as model
+use Rattle.mm_model.specs.Groups.{among}
+use Rattle.mm_model.specs.Run as machine
+use Rattle.mm_model.specs.Trace as lines
+use Rattle.mm_model.specs.Schedule.{first_items, only}
+use Rattle.mm_model.specs.Worlds.{Extracts, alone, migrated}
+use Rattle.mm_model.specs.Spelling.{Spells}
+use Rattle.mm_object.specs.Objects.{Object}
+use Rattle.mm_object.specs.Spelling.{Spells as SpellsObject}
+use Rattle.mm_link.specs.declared.fault.LinkFault.{LinkFault}
+use Rattle.mm_link.specs.Faults.{link_fault}
+use Rattle.mm_link.specs.Linked.{Linked}
+use Rattle.mm_disasm.specs.Canonical.{canonical}
+use Rattle.mm_gen.specs.Generated.{generated}
+use Rattle.mm_gen.specs.Summary.{summary}
+use Rattle.mm_sweep.specs.Swept.{swept}
+use Rattle.mm_sweep.specs.Refusals.{CanSweep}
+use Rattle.mm_sweep.specs.Holders as holding
+use Rattle.mm_model.specs.Audit.{IsAudit}
+use Rattle.mm_model.specs.Report.{report}
+use Rattle.mm_audit.specs.Refusals.{StandAlone}
+use Rattle.mm_sched.specs.declared.schedule.Order.{Order}
+use Rattle.mm_debug.specs.Session as session
+use Rattle.mm_save.specs.Recorder.{recorded}
+use Rattle.mm_cli.specs.declared.table.Command.{Command}
+use Rattle.mm_cli.specs.declared.table.Command.TheVariants.{Run, Trace, Solo, Grants, Extract, Asm, Link, Dis, Debug, Gen, Soak, Migrate, Sweep, Holders, Save, Continue, Net}
+use Rattle.mm_cli.specs.declared.table.Kind.TheVariants.{Image as image_file, Schedule as schedule_file, Source as source_file, Object as object_file, Checkpoint as checkpoint_file}
+use Rattle.mm_cli.specs.Words.{Word, file_word, number_word, groups_word, mode_word, range_word, perhaps}
+use Rattle.mm_cli.specs.Table.{Row}
+use Rattle.mm_load.specs.declared.status.Refusal.{Refusal}
+use Rattle.mm_load.specs.declared.status.Refusal.TheVariants as refusal
+use Rattle.mm_net.specs.Texts.{net_text}
+use Rattle.mm_load.specs.Kinds.{Value, an_image, a_list, an_object, a_checkpoint, a_links, an_events, a_text}
+use Rattle.mm_load.specs.Kinds.{values_of}
+use Rattle.mm_top.specs.Orders.{Issues}
+use Rattle.mm_top.specs.Groups.{GroupsRefused}
+use Rattle.mm_top.specs.Ranges.{SweepRefused}
+use Rattle.mm_top.specs.Nodes.{NoneLacking, JoinRefused}
+use Rattle.mm_top.specs.Saving.{last_issued, saved_after, Continues}
+
+-- 1. What is written and refused.
+
+-- the report of an image's run under these items, with what the memory tells of the run's uses
+abbrev pub report_after : (List Use → Option Counts) → model.Image → List ℕ → List ℕ
+report_after tells i items = report (machine.run (model.start i) items) i (tells (machine.uses (model.start i) items))
+
+-- the report of the groups' own part of a run under a list: the image without the slots of other groups, and the items of the
+-- list's first so many that are theirs
+abbrev pub own_report : (List Use → Option Counts) → model.Image → List ℕ → ℕ → (ℕ → Bool) → List ℕ
+own_report tells i list cycles c = report_after tells (alone i c) (only i (first_items list cycles) c)
+
+-- the text is the one spelling of the groups' own image: their slots, and what they can touch
+abbrev pub IsExtract : model.Image → (ℕ → Bool) → List ℕ → Type 0
+IsExtract i c text = (own : model.Image) × Extracts i c own × Spells text own
+
+-- why objects are refused: they do not link, and this is their first fault
+abbrev pub LinkRefused : List Object → Refusal → Type 0
+LinkRefused objects r = (fault : LinkFault) × (r ≡ refusal.Link fault) × (link_fault objects ≡ Some fault)
+
+-- the text is the one spelling of the image that objects link to
+abbrev pub IsLinked : List Object → List ℕ → Type 0
+IsLinked objects text = (i : model.Image) × Linked objects i × Spells text i
+
+-- the replies to the lines of an input, in a session of an image under an order, which can go back as far as it began
+abbrev pub replies_to : model.Image → Order → (input : List ℕ) → List ℕ
+replies_to i order input = let first = session.begun order (model.start i) in (recorded first first input).text
+
+-- the values are those of an order and, behind it, of an input, and the text is the replies to that
+abbrev pub IsDialogue : model.Image → List Value → List ℕ → Type 0
+IsDialogue i values text = (order : Order) × (input : List ℕ) × (values ≡ values_of order ++ a_text input ∷ []) × (text ≡ replies_to i order input)
+
+-- the summary of a generated image's run under so many cycles of round robin, over every memory
+abbrev pub soaked : (number size cycles : ℕ) → List ℕ
+soaked number size cycles =
+    let i = generated number size in
+    summary (machine.run (model.start i) (machine.robin_from (model.start i) None cycles))
+
+-- 2. The commands.
+
+-- a command with these words, whose inputs have these values, is refused
+abbrev pub DeclinesAt : Command → List Word → List Value → Refusal → Type 0
+DeclinesAt Solo (image ∷ groups_word groups ∷ words) (an_image i ∷ lists) r = GroupsRefused i (among groups) r
+DeclinesAt Extract (image ∷ groups_word groups ∷ []) (an_image i ∷ []) r = GroupsRefused i (among groups) r
+DeclinesAt Link words values r = (objects : List Object) × (values ≡ map an_object objects) × LinkRefused objects r
+DeclinesAt Sweep (image ∷ range_word base log ∷ []) (an_image i ∷ []) r = SweepRefused (base, log) i r
+DeclinesAt Net words (a_links links ∷ an_events events ∷ values) r =
+    (images : List model.Image) × (values ≡ map an_image images) × JoinRefused links (length images) r
+DeclinesAt _ _ _ r = ⊥
+
+-- one that runs nothing writes a text
+abbrev pub YieldsAloneAt : Command → List Word → List Value → List ℕ → Type 0
+YieldsAloneAt Grants (image ∷ []) (an_image i ∷ []) text = IsAudit i None text
+YieldsAloneAt Grants (image ∷ groups_word groups ∷ []) (an_image i ∷ []) text = IsAudit i (Some groups) text
+YieldsAloneAt Extract (image ∷ groups_word groups ∷ []) (an_image i ∷ []) text =
+    StandAlone i (among groups) × IsExtract i (among groups) text
+YieldsAloneAt Asm words (an_object o ∷ []) text = SpellsObject text o
+YieldsAloneAt Link words values text = (objects : List Object) × (values ≡ map an_object objects) × IsLinked objects text
+YieldsAloneAt Dis words (an_object o ∷ []) text = text ≡ canonical o
+YieldsAloneAt Gen (number_word number ∷ number_word size ∷ []) [] text = Spells text (generated number size)
+YieldsAloneAt Migrate (image ∷ mode_word split ∷ []) (an_image i ∷ []) text = Spells text (migrated i split)
+YieldsAloneAt Sweep (image ∷ range_word base log ∷ []) (an_image i ∷ []) text =
+    CanSweep (base, log) i × Spells text (swept (base, log) i)
+YieldsAloneAt Holders (image ∷ range_word base log ∷ []) (an_image i ∷ []) text = text ≡ holding.holders (base, log) i
+YieldsAloneAt _ _ _ text = ⊥
+
+-- one writes a text, where the memory tells so much of uses
+abbrev pub YieldsAt : (List Use → Option Counts) → Command → List Word → List Value → List ℕ → Type 0
+YieldsAt tells Run (image ∷ number_word cycles ∷ words) (an_image i ∷ lists) text =
+    (items : List ℕ) × Issues i cycles lists items × (text ≡ report_after tells i items)
+YieldsAt tells Trace (image ∷ number_word cycles ∷ words) (an_image i ∷ lists) text =
+    (items : List ℕ) × Issues i cycles lists items
+    × (text ≡ lines.trace (model.start i) items ++ report_after tells i items)
+YieldsAt tells Solo (image ∷ groups_word groups ∷ number_word cycles ∷ words) (an_image i ∷ a_list list ∷ []) text =
+    StandAlone i (among groups) × (text ≡ own_report tells i list cycles (among groups))
+YieldsAt tells Debug words (an_image i ∷ values) text = IsDialogue i values text
+YieldsAt tells Soak (number_word number ∷ number_word size ∷ number_word cycles ∷ []) [] text =
+    text ≡ soaked number size cycles
+YieldsAt tells Save (image ∷ number_word cycles ∷ words) (an_image i ∷ lists) text =
+    (items : List ℕ) × Issues i cycles lists items × (text ≡ saved_after i items (last_issued lists items))
+YieldsAt tells Continue (image ∷ checkpoint ∷ number_word cycles ∷ words) (an_image i ∷ a_checkpoint c ∷ lists) text =
+    Continues tells i c cycles lists text
+YieldsAt tells Net (first ∷ second ∷ number_word cycles ∷ words) (a_links links ∷ an_events events ∷ values) text =
+    (images : List model.Image) × (values ≡ map an_image images) × NoneLacking links (length images)
+    × (text ≡ net_text tells links images (take cycles events))
+YieldsAt tells command words values text = YieldsAloneAt command words values text
+
+-- the same of a row
+abbrev pub Declines : Row → List Value → Refusal → Type 0
+Declines row values r = DeclinesAt row.command row.words values r
+
+abbrev pub YieldsAlone : Row → List Value → List ℕ → Type 0
+YieldsAlone row values text = YieldsAloneAt row.command row.words values text
+
+abbrev pub Yields : (List Use → Option Counts) → Row → List Value → List ℕ → Type 0
+Yields tells row values text = YieldsAt tells row.command row.words values text
+
+-- 3. The rows that clauses and laws name.
+
+abbrev pub run : (image : List ℕ) (cycles : ℕ) (schedule : Option (List ℕ)) → Row
+run image cycles schedule = record {
+  command = Run;
+  words = file_word image_file image ∷ number_word cycles ∷ perhaps (file_word schedule_file) schedule;
+}
+
+abbrev pub trace : (image : List ℕ) (cycles : ℕ) (schedule : Option (List ℕ)) → Row
+trace image cycles schedule = record {
+  command = Trace;
+  words = file_word image_file image ∷ number_word cycles ∷ perhaps (file_word schedule_file) schedule;
+}
+
+abbrev pub save : (image : List ℕ) (cycles : ℕ) (schedule : Option (List ℕ)) → Row
+save image cycles schedule = record {
+  command = Save;
+  words = file_word image_file image ∷ number_word cycles ∷ perhaps (file_word schedule_file) schedule;
+}
+
+abbrev pub continue : (image checkpoint : List ℕ) (cycles : ℕ) (schedule : Option (List ℕ)) → Row
+continue image checkpoint cycles schedule = record {
+  command = Continue;
+  words = file_word image_file image ∷ file_word checkpoint_file checkpoint ∷ number_word cycles
+      ∷ perhaps (file_word schedule_file) schedule;
+}
+
+abbrev pub asm : (source : List ℕ) → Row
+asm source = record { command = Asm; words = file_word source_file source ∷ [] }
+
+abbrev pub link : (objects : List (List ℕ)) → Row
+link objects = record { command = Link; words = map (file_word object_file) objects }

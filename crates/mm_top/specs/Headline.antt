@@ -1,0 +1,45 @@
+-- The headline: what is proved of every run that is done.
+use Rattle.std.specs.Prelude.{◌≡◌, ◌++◌, ◌∷◌, [], ℕ, Bool, List, Option}
+use Rattle.mm_model.specs.declared.counts.Counts.{Counts}
+use Rattle.mm_model.specs.Uses.{Use}
+use Rattle.mm_model.specs.Image.{Image, start}
+use Rattle.mm_model.specs.Groups.{HasSlot}
+use Rattle.mm_model.specs.Trace.{trace as trace_of}
+use Rattle.mm_model.specs.Reach.Entries.{All}
+use Rattle.mm_model.specs.Worlds.{Apart}
+use Rattle.mm_laws.specs.Runs.{Reaches, Isolates}
+use Rattle.mm_load.specs.Kinds.{Value, an_image}
+use Rattle.mm_load.specs.Files.{FilesAccepted}
+use Rattle.mm_cli.specs.Table.{files_of}
+use Rattle.mm_top.specs.Orders.{Issues}
+use Rattle.mm_top.specs.Commands.{run, trace, report_after}
+
+-- What `run` did, where it is done.
+pub record RunIsProved (tells : List Use → Option Counts) (held : List ℕ → Option (List ℕ)) (image : List ℕ) (cycles : ℕ) (schedule : Option (List ℕ)) (written : List ℕ) : Type 0 where
+  -- the image that the first file spells, the list of the second, if there is one, and the items that were issued
+  pub i : Image
+  pub lists : List Value
+  pub items : List ℕ
+  pub reads : FilesAccepted held [] (files_of (run image cycles schedule)) (an_image i ∷ lists)
+  pub issues : Issues i cycles lists items
+  -- It writes the flat machine's report.
+  pub writes : written ≡ report_after tells i items
+  -- Every word that a thread touches lies in a segment that is granted to its group, what lies behind an enter pointer only once it
+  -- was entered at its own address.
+  pub reaches : Reaches i items
+  -- The sections of groups that stand apart are those of a run without the others, under the items restricted to them.
+  pub isolates : (c : ℕ → Bool) → HasSlot i c → Apart i All c → Isolates i items written c
+
+-- What `trace` did, where it is done.
+pub record TraceIsProved (tells : List Use → Option Counts) (held : List ℕ → Option (List ℕ)) (image : List ℕ) (cycles : ℕ) (schedule : Option (List ℕ)) (written : List ℕ) : Type 0 where
+  pub i : Image
+  pub lists : List Value
+  pub items : List ℕ
+  pub reads : FilesAccepted held [] (files_of (trace image cycles schedule)) (an_image i ∷ lists)
+  pub issues : Issues i cycles lists items
+  -- It writes the line of each turn, with what the turn touched and entered, and then the report.
+  pub writes : written ≡ trace_of (start i) items ++ report_after tells i items
+  -- Every word that a thread touches lies in a segment that is granted to its group, as above.
+  pub reaches : Reaches i items
+  -- The sections of groups that stand apart are those of a run without the others, as above.
+  pub isolates : (c : ℕ → Bool) → HasSlot i c → Apart i All c → Isolates i items written c

@@ -1,0 +1,11 @@
+pub mod Groups
+pub mod Ranges
+pub mod Nodes
+pub mod Orders
+pub mod Saving
+pub mod Commands
+pub mod Answers
+pub mod Headline
+pub mod Memories
+pub mod TextToRun
+pub mod SaveToRun

@@ -1,0 +1,33 @@
+// Cycles in an order.
+ghost use Rattle.std.specs.Prelude.{◌≡◌, ◌+◌, ◌<◌, ◌≤◌, ◌^◌, IfSome};
+ghost use Rattle.mm_machine.specs.Machine.{state_of};
+ghost use Rattle.mm_machine.specs.Going.{WentOn};
+ghost use Rattle.mm_top.specs.Saving.{items_behind, last_behind};
+
+use mm_machine::Machine;
+use mm_mem::Memory;
+use mm_sched::Order;
+
+/// Issues so many cycles in an order, whose round robin goes on behind a slot, fewer where its items end or no slot runs. Gives the
+/// slot that round robin issued last, which a list has none of.
+pub fn issue<M: Memory>(
+    machine: &mut Machine<M>,
+    order: &Order,
+    after: Option<u8>,
+    count: u64,
+) -> Option<u8>
+    requires few { (state_of machine.old).cycles + count ≤ 2 ^ 32 }
+    requires slot { IfSome after (λ n. n < 64) }
+    ensures goes { WentOn machine.old machine.new (items_behind order.now (state_of machine.old) after count) }
+    ensures last { result ≡ last_behind order.now after (items_behind order.now (state_of machine.old) after count) }
+    ensures slot { IfSome result (λ n. n < 64) }
+{
+    match order {
+        Order::Robin => machine.round_robin(after, count),
+        Order::List(list) => {
+            let items = list.items();
+            machine.follow(&items[..count.min(items.len() as u64) as usize]);
+            None
+        }
+    }
+}

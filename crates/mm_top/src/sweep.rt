@@ -1,0 +1,50 @@
+// `sweep`: the image in which nobody reaches a range.
+ghost use Rattle.mm_model.specs.Spelling.{Spells};
+ghost use Rattle.mm_sweep.specs.Swept.{swept};
+ghost use Rattle.mm_sweep.specs.Refusals.{CanSweep};
+ghost use Rattle.mm_load.specs.Files.{reading};
+ghost use Rattle.mm_top.specs.Ranges.{SweepRefused};
+ghost use Rattle.mm_cli.specs.Words.{IsRange};
+ghost use Rattle.mm_cli.specs.Said.{AreOf, row};
+ghost use Rattle.mm_top.specs.Commands.{YieldsAlone};
+ghost use Rattle.mm_top.specs.Answers.{CommandEnds, Ends, writing};
+
+use mm_cli::{Command, Word, name_at, range_at};
+use mm_image::Image;
+use mm_io::{Files, Sink, write_all};
+use mm_load::{Stop, load_image};
+use std::alloc::Global;
+
+/// `sweep IMAGE BASE LOG`
+pub fn sweep<F: Files, O: Sink>(
+    alloc: Global,
+    words: &[Word<'_>],
+    files: &mut F,
+    out: &mut O,
+) -> Result<(), Stop>
+    requires { AreOf Command.Sweep words.now }
+    ensures { CommandEnds (reading F.held F.faults F.asked files.old files.new)
+        (writing O.taken O.faults out.old out.new) YieldsAlone (row Command.Sweep words.now) result }
+{
+    let image = load_image(alloc, files, name_at(words, 0), 1)?;
+    let (base, log) = range_at(words, 1);
+    write_swept(alloc, &image, base, log, out)
+}
+
+/// Writes the one spelling of a swept image.
+fn write_swept<O: Sink>(
+    alloc: Global,
+    image: &Image,
+    base: u64,
+    log: u8,
+    out: &mut O,
+) -> Result<(), Stop>
+    requires { IsRange base log }
+    ensures { Ends (writing O.taken O.faults out.old out.new) (SweepRefused (base, log) image.now) ⊥
+        (λ text. CanSweep (base, log) image.now × Spells text (swept (base, log) image.now)) result }
+{
+    let swept = mm_sweep::sweep(alloc, image, base, log)?;
+    let bytes = mm_image::write(alloc, &swept)?;
+    write_all(out, bytes.as_slice())?;
+    Ok(())
+}

@@ -1,0 +1,185 @@
+// The top call: all that the program does.
+ghost use Rattle.std.specs.Prelude.{◌≡◌, ◌↔◌, ◌⊎◌, List, ℕ, Option, None, IsSome, OnOk, []};
+ghost use Rattle.std.specs.Io.KnownBytes.{append_known, IsAtEnd};
+ghost use Rattle.mm_io.specs.Files.{Rose};
+ghost use Rattle.mm_io.specs.Sinks.{TookPart};
+ghost use Rattle.mm_load.specs.declared.status.Refusal.{Refusal};
+ghost use Rattle.mm_load.specs.Files.{AsksFiles, DrawnBehind, drawing, reading};
+ghost use Rattle.mm_cli.specs.Words.{texts};
+ghost use Rattle.mm_cli.specs.Table.{InNoRow, Asks, LeaveInput, Row, files_of, input_of};
+ghost use Rattle.mm_cli.specs.Said.{AreOf, row};
+ghost use Rattle.mm_top.specs.Commands.{run, trace};
+ghost use Rattle.mm_load.specs.Lines.{line_of};
+ghost use Rattle.mm_top.specs.Answers.{ComesTo, ReadFailed, WritesNothing, TookLine, NothingFails, HasToRefuse, RefusedUnless, RowEnds, Answers, call, writing, status_of, refuse, write};
+ghost use Rattle.mm_top.specs.Headline.{RunIsProved, TraceIsProved};
+
+use crate::asm::asm;
+use crate::debug::debug;
+use crate::dis::dis;
+use crate::extract::extract;
+use crate::generate::generate;
+use crate::going_on::go_on;
+use crate::grants::grants;
+use crate::holders::holders;
+use crate::link::link;
+use crate::migrate::migrate;
+use crate::nets::run_net;
+use crate::run::run;
+use crate::save::save;
+use crate::soak::soak;
+use crate::solo::solo;
+use crate::sweep::sweep;
+use crate::trace::trace;
+use mm_cli::{Command, Word, read_words};
+use mm_io::{Files, Sink, Source};
+use mm_load::{Refusal, Status, Stop, write_line};
+use mm_mem::{Boot, Reset};
+use std::alloc::Global;
+
+/// Does what the words ask, writes the result to `out`, and one line to `diag` where it is not done.
+///
+/// `words` are the command line without the program's name. `M` is the type of the memory that every command which runs an image
+/// makes and runs on.
+#[tactic(auto, using(crate::proofs::Verdicts::read_fault, crate::proofs::Verdicts::write_fault, crate::proofs::Verdicts::silent))]
+pub fn mmachine<M: Boot + Reset, F: Files, I: Source, O: Sink, D: Sink>(
+    alloc: Global,
+    words: &[String],
+    files: &mut F,
+    input: &mut I,
+    out: &mut O,
+    diag: &mut D,
+) -> Status
+    // Each answer has its cause.
+    ensures usage { (result ≡ Status.Usage) ↔ InNoRow (texts words.now) }
+    ensures refused { (r : Refusal) → result ≡ Status.Refused r → ComesTo M.tells (F.held files.old) (I.left input.old) (texts words.now) (refuse r) }
+    ensures read_fault { result ≡ Status.ReadFault → ReadFailed (reading F.held F.faults F.asked files.old files.new) (drawing I.left I.faults input.old input.new) (texts words.now) }
+    ensures write_fault { result ≡ Status.WriteFault → Rose (O.faults out.old) (O.faults out.new) }
+
+    // What is read: nothing where the words are in no row, and else the row's files alone, each once those before it were accepted, and
+    // behind them standard input, to its end, where the row reads that.
+    ensures unread { result ≡ Status.Usage → files.new ≡ files.old }
+    ensures asks { (row : Row) → Asks (texts words.now) row → AsksFiles (reading F.held F.faults F.asked files.old files.new) [] (files_of row) }
+    ensures undrawn { LeaveInput (texts words.now) → input.new ≡ input.old }
+    ensures drawn { (row : Row) → Asks (texts words.now) row → DrawnBehind (F.held files.old) (files_of row) (input.new ≡ input.old) }
+    ensures read { result ≡ Status.Done → (row : Row) → Asks (texts words.now) row → IsSome (input_of row) → IsAtEnd (I.left input.new) }
+
+    // What is written.
+    ensures done { result ≡ Status.Done → (text : List ℕ) × ComesTo M.tells (F.held files.old) (I.left input.old) (texts words.now) (write text)
+        × (O.taken out.new ≡ append_known (O.taken out.old) text) }
+    ensures part { result ≡ Status.WriteFault → (text : List ℕ) × ComesTo M.tells (F.held files.old) (I.left input.old) (texts words.now) (write text)
+        × TookPart (O.taken out.old) (O.taken out.new) text }
+    ensures nothing { WritesNothing result → O.taken out.new ≡ O.taken out.old }
+    ensures line { TookLine (D.taken diag.old) (D.taken diag.new) (D.faults diag.old) (D.faults diag.new) (line_of result) }
+    ensures silent { result ≡ Status.Done → D.taken diag.new ≡ D.taken diag.old }
+
+    // The headline, of each run that is done.
+    ensures headline { result ≡ Status.Done → (image : List ℕ) (cycles : ℕ) (schedule : Option (List ℕ)) → Asks (texts words.now) (run image cycles schedule)
+        → (written : List ℕ) × RunIsProved M.tells (F.held files.old) image cycles schedule written × (O.taken out.new ≡ append_known (O.taken out.old) written) }
+
+    // Its second and its third part, of each trace that is done.
+    ensures reach { result ≡ Status.Done → (image : List ℕ) (cycles : ℕ) (schedule : Option (List ℕ)) → Asks (texts words.now) (trace image cycles schedule)
+        → (written : List ℕ) × TraceIsProved M.tells (F.held files.old) image cycles schedule written × (O.taken out.new ≡ append_known (O.taken out.old) written) }
+
+    // Where a refusal has to come, it comes, unless a read failed or memory ran out; and where nothing fails, it is done, or memory ran out.
+    ensures refuses { (r : Refusal) → HasToRefuse (F.held files.old) (I.left input.old) (texts words.now) r → RefusedUnless r result }
+    ensures complete { NothingFails (call M.tells (reading F.held F.faults F.asked files.old files.new) (drawing I.left I.faults input.old input.new) (writing O.taken O.faults out.old out.new)) (texts words.now)
+        → (result ≡ Status.Done) ⊎ (result ≡ Status.NoMemory) }
+{
+    let status = answer::<M, F, I, O>(alloc, words, files, input, out);
+    let _ = write_line(&status, diag);
+    status
+}
+
+/// Does what the words ask.
+fn answer<M: Boot + Reset, F: Files, I: Source, O: Sink>(
+    alloc: Global,
+    words: &[String],
+    files: &mut F,
+    input: &mut I,
+    out: &mut O,
+) -> Status
+    ensures answers { Answers (call M.tells (reading F.held F.faults F.asked files.old files.new) (drawing I.left I.faults input.old input.new) (writing O.taken O.faults out.old out.new)) (texts words.now) result }
+    ensures refused { (r : Refusal) → result ≡ Status.Refused r → ComesTo M.tells (F.held files.old) (I.left input.old) (texts words.now) (refuse r) }
+    ensures asks { (row : Row) → Asks (texts words.now) row → AsksFiles (reading F.held F.faults F.asked files.old files.new) [] (files_of row) }
+    ensures refuses { (r : Refusal) → HasToRefuse (F.held files.old) (I.left input.old) (texts words.now) r → RefusedUnless r result }
+    ensures complete { NothingFails (call M.tells (reading F.held F.faults F.asked files.old files.new) (drawing I.left I.faults input.old input.new) (writing O.taken O.faults out.old out.new)) (texts words.now) → (result ≡ Status.Done) ⊎ (result ≡ Status.NoMemory) }
+    ensures unread { result ≡ Status.Usage → files.new ≡ files.old }
+    ensures undrawn { LeaveInput (texts words.now) → input.new ≡ input.old }
+    ensures drawn { (row : Row) → Asks (texts words.now) row → DrawnBehind (F.held files.old) (files_of row) (input.new ≡ input.old) }
+    ensures read { result ≡ Status.Done → (row : Row) → Asks (texts words.now) row → IsSome (input_of row) → IsAtEnd (I.left input.new) }
+{
+    by_row::<M, F, I, O>(alloc, words, files, input, out)
+}
+
+/// The same, by the row of the table that the words are in.
+fn by_row<M: Boot + Reset, F: Files, I: Source, O: Sink>(
+    alloc: Global,
+    words: &[String],
+    files: &mut F,
+    input: &mut I,
+    out: &mut O,
+) -> Status
+    ensures answers { Answers (call M.tells (reading F.held F.faults F.asked files.old files.new) (drawing I.left I.faults input.old input.new) (writing O.taken O.faults out.old out.new)) (texts words.now) result }
+    ensures unread { result ≡ Status.Usage → files.new ≡ files.old }
+    ensures undrawn { LeaveInput (texts words.now) → input.new ≡ input.old }
+    ensures drawn { (row : Row) → Asks (texts words.now) row → DrawnBehind (F.held files.old) (files_of row) (input.new ≡ input.old) }
+    ensures read { result ≡ Status.Done → (row : Row) → Asks (texts words.now) row → IsSome (input_of row) → IsAtEnd (I.left input.new) }
+{
+    match read_words(words) {
+        None => Status::Usage,
+        Some(asked) => {
+            let said = asked.words.as_slice();
+            status(by_command::<M, F, I, O>(alloc, asked.command, said, files, input, out))
+        }
+    }
+}
+
+/// Does what a command asks with its words.
+#[tactic(auto, using(crate::proofs::Inputs::none_read))]
+fn by_command<M: Boot + Reset, F: Files, I: Source, O: Sink>(
+    alloc: Global,
+    command: Command,
+    words: &[Word<'_>],
+    files: &mut F,
+    input: &mut I,
+    out: &mut O,
+) -> Result<(), Stop>
+    requires { AreOf command words.now }
+    ensures ends { RowEnds (call M.tells (reading F.held F.faults F.asked files.old files.new) (drawing I.left I.faults input.old input.new) (writing O.taken O.faults out.old out.new)) (row command words.now) result }
+    ensures asked { AsksFiles (reading F.held F.faults F.asked files.old files.new) [] (files_of (row command words.now)) }
+    ensures undrawn { input_of (row command words.now) ≡ None → input.new ≡ input.old }
+    ensures drawn { DrawnBehind (F.held files.old) (files_of (row command words.now)) (input.new ≡ input.old) }
+    ensures read { OnOk result (IsSome (input_of (row command words.now)) → IsAtEnd (I.left input.new)) }
+{
+    match command {
+        Command::Run => run::<M, F, O>(alloc, words, files, out),
+        Command::Trace => trace::<M, F, O>(alloc, words, files, out),
+        Command::Solo => solo::<M, F, O>(alloc, words, files, out),
+        Command::Grants => grants(alloc, words, files, out),
+        Command::Extract => extract(alloc, words, files, out),
+        Command::Asm => asm(alloc, words, files, out),
+        Command::Link => link(alloc, words, files, out),
+        Command::Dis => dis(alloc, words, files, out),
+        Command::Debug => debug::<M, F, I, O>(alloc, words, files, input, out),
+        Command::Gen => generate(alloc, words, out),
+        Command::Soak => soak::<M, O>(alloc, words, out),
+        Command::Migrate => migrate(alloc, words, files, out),
+        Command::Sweep => sweep(alloc, words, files, out),
+        Command::Holders => holders(alloc, words, files, out),
+        Command::Save => save::<M, F, O>(alloc, words, files, out),
+        Command::Continue => go_on::<M, F, O>(alloc, words, files, out),
+        Command::Net => run_net::<M, F, O>(alloc, words, files, out),
+    }
+}
+
+fn status(outcome: Result<(), Stop>) -> Status
+    ensures { result ≡ status_of outcome }
+{
+    match outcome {
+        Ok(()) => Status::Done,
+        Err(Stop::Refused(refusal)) => Status::Refused(refusal),
+        Err(Stop::ReadFault) => Status::ReadFault,
+        Err(Stop::WriteFault) => Status::WriteFault,
+        Err(Stop::NoMemory) => Status::NoMemory,
+    }
+}

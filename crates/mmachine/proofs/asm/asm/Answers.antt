@@ -1,9 +1,0 @@
-use Rattle.std.proofs.Common.{[], refl}
-use Rattle.mmachine.proofs.Rows.{row_stops, row_ends}
-use Rattle.mmachine.proofs.asm.asm.Goals as goal
-
-pub returns-in_err-object : goal.returns-in_err-object
-returns-in_err-object g c = row_stops [] c.from_residual.result (c.in_err-object.ensures [] refl) refl refl c.from_residual.ensures.1
-
-pub returns : goal.returns
-returns g c = row_ends _ _ (c.in_ok-object.ensures [] refl) refl c.write_object.ensures (λ r no. no) (λ text is. is)

@@ -1,5 +1,0 @@
-use Rattle.mmachine.proofs.GroupWords.{is_last}
-use Rattle.mmachine.proofs.group_list.is_above.Goals as goal
-
-pub returns-in-Some : goal.returns-in-Some
-returns-in-Some c = is_last c.args.groups.now c.args.group c.in-Some.last.now c.requires c.in-Some.ensures.value

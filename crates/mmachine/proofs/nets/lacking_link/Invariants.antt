@@ -1,7 +1,0 @@
-use Rattle.std.proofs.Common.{ℕ, ◌<◌}
-use Rattle.mmachine.specs.Nodes.{LacksNode}
-use Rattle.mmachine.proofs.nets.lacking_link.Given as goal
-
--- none of the links so far lacks a node
-abbrev pub invariant-loop-l : goal.invariant-loop-l
-invariant-loop-l l = (m : ℕ) → m < l.l → ¬ LacksNode l.links l.count m
