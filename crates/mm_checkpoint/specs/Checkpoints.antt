@@ -1,5 +1,6 @@
 -- Checkpoints: a state of an image's machine with the slot that round robin issued last, and the bytes that spell it.
-use Rattle.std.specs.Prelude.{◌≡◌, ℕ, suc, ◌<◌, ◌≤◌, false, ◌==◌, if◌then◌else◌, List, [], ◌∷◌, ◌++◌, map, length, codes, Option, Some, None, IfSome}
+use Rattle.std.specs.Prelude.{◌≡◌, ℕ, suc, ◌<◌, ◌≤◌, false, ◌==◌, if◌then◌else◌, List, [], ◌∷◌, ◌++◌, map, length}
+use Rattle.std.specs.Prelude.{codes, Option, Some, None, IfSome}
 use Rattle.std.specs.List.{flat_map, find, AllByRecursion}
 use Rattle.std.specs.Int.{w16, w32, w64, to_be_bytes}
 use Rattle.std.specs.Option.{option_map}
@@ -85,11 +86,13 @@ cause_byte _ _ = 0
 abbrev pub place_in : List (ℕ × Event) → (queue slot : ℕ) → ℕ
 place_in [] queue slot = 0
 place_in (x ∷ events) queue slot =
-    if x.1.slot == slot then 0 else (if x.0 == queue then suc (place_in events queue slot) else place_in events queue slot)
+    if x.1.slot == slot then 0 else
+    (if x.0 == queue then suc (place_in events queue slot) else place_in events queue slot)
 
 -- the place of a waiting slot's event in its handler's queue
 abbrev pub place_byte : List (ℕ × Event) → Slot → ℕ
-place_byte events s = if state_byte s.state == 1 then place_in events (elim s.handler [ None ↦ 0 | Some handler ↦ handler ]) s.number else 0
+place_byte events s = if state_byte s.state == 1 then place_in events
+    (elim s.handler [ None ↦ 0 | Some handler ↦ handler ]) s.number else 0
 
 -- a tag, and then the word
 abbrev pub tagged_word : Word → List ℕ
@@ -109,7 +112,8 @@ unfoldable pub slot_record : List (ℕ × Event) → Slot → List ℕ
 slot_record events s =
     (state_byte s.state ∷ cause_byte s.state (event_of events s.number) ∷ place_byte events s ∷ one_if s.past ∷ [])
     ++ to_be_bytes w64 s.turns ++ to_be_bytes w64 (bits_of s.ip)
-    ++ to_be_bytes w16 (number_of_flags (map is_pointer s.regs)) ++ to_be_bytes w16 (number_of_flags s.empty) ++ words_spelling s.regs
+    ++ to_be_bytes w16 (number_of_flags (map is_pointer s.regs)) ++ to_be_bytes w16 (number_of_flags s.empty)
+    ++ words_spelling s.regs
     ++ operands (event_of events s.number) ++ (length s.pending ∷ []) ++ flat_map pending_record s.pending
 
 -- the bytes of an output: the count of bytes that a group has put out, and these bytes
@@ -118,11 +122,13 @@ output_record output = to_be_bytes w32 (length output.1) ++ output.1
 
 -- the header: magic, version, the slot that was issued last, zero, the count of cycles, and the count of pages
 abbrev pub header : Saved → List ℕ
-header c = codes "MMS1" ++ to_be_bytes w16 1 ++ (last_byte c.last ∷ 0 ∷ []) ++ to_be_bytes w64 c.cycles ++ to_be_bytes w16 (length c.pages)
+header c = codes "MMS1" ++ to_be_bytes w16 1 ++ (last_byte c.last ∷ 0 ∷ []) ++ to_be_bytes w64 c.cycles
+    ++ to_be_bytes w16 (length c.pages)
 
 -- the bytes of a checkpoint's file
 unfoldable pub spelling : Saved → List ℕ
-spelling c = header c ++ flat_map (slot_record c.events) c.slots ++ flat_map output_record c.outputs ++ flat_map page_record c.pages
+spelling c = header c ++ flat_map (slot_record c.events) c.slots ++ flat_map output_record c.outputs
+    ++ flat_map page_record c.pages
 
 -- the bytes are a checkpoint of the image: they spell these parts of a state and this last slot
 pub record Saves (bytes : List ℕ) (i : Image) (p : Parts) (last : Option ℕ) : Type 0 where

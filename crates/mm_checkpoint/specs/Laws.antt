@@ -20,15 +20,18 @@ pub record SomeSaved (i : Image) (bytes : List ℕ) : Type 0 where
 
 -- bytes have no fault exactly if they are a checkpoint of the image
 abbrev pub CheckpointsHaveNoFault : Type 0
-CheckpointsHaveNoFault = (i : Image) (bytes : List ℕ) → IsImage i → IsBytes bytes → (save_fault i bytes ≡ None) ↔ SomeSaved i bytes
+CheckpointsHaveNoFault = (i : Image) (bytes : List ℕ) → IsImage i → IsBytes bytes → (save_fault i bytes ≡ None)
+    ↔ SomeSaved i bytes
 
 -- bytes are at most one checkpoint of the image
 abbrev pub CheckpointsAreOne : Type 0
-CheckpointsAreOne = (i : Image) (bytes : List ℕ) (p q : Parts) (last also : Option ℕ) → IsImage i → Saves bytes i p last → Saves bytes i q also → saved_of p last ≡ saved_of q also
+CheckpointsAreOne = (i : Image) (bytes : List ℕ) (p q : Parts) (last also : Option ℕ) → IsImage i → Saves bytes i p last
+    → Saves bytes i q also → saved_of p last ≡ saved_of q also
 
 -- the bytes of a checkpoint of an image are no more than are read of a checkpoint's file
 abbrev pub CheckpointsAreShort : Type 0
-CheckpointsAreShort = (i : Image) (bytes : List ℕ) (p : Parts) (last : Option ℕ) → IsImage i → Saves bytes i p last → length bytes ≤ 33554432
+CheckpointsAreShort = (i : Image) (bytes : List ℕ) (p : Parts) (last : Option ℕ) → IsImage i → Saves bytes i p last
+    → length bytes ≤ 33554432
 
 -- 2. Checkpoints of runs.
 
@@ -53,12 +56,14 @@ pub record IsSavedState (i : Image) (s : State) (last : Option ℕ) : Type 0 whe
 -- 64
 abbrev pub RunsHaveCheckpoints : Type 0
 RunsHaveCheckpoints =
-    (i : Image) (items : List ℕ) (last : Option ℕ) → IsImage i → length items ≤ 1000000 → IfSome last (λ n. n < 64) → IsSavedState i (run (start i) items) last
+    (i : Image) (items : List ℕ) (last : Option ℕ) → IsImage i → length items ≤ 1000000 → IfSome last (λ n. n < 64)
+    → IsSavedState i (run (start i) items) last
 
 -- a snapshot of a machine of an image, after at most 1,000,000 items, keeps the rules of the image's checkpoints
 abbrev pub SnapshotsAreCheckpoints : Type 0
 SnapshotsAreCheckpoints =
-    (i : Image) (items : List ℕ) (p : Parts) (last : Option ℕ) → IsImage i → length items ≤ 1000000 → IsSnapshotOf (run (start i) items) p → IsTyped p
+    (i : Image) (items : List ℕ) (p : Parts) (last : Option ℕ) → IsImage i → length items ≤ 1000000
+    → IsSnapshotOf (run (start i) items) p → IsTyped p
     → IfSome last (λ n. n < 64) → IsCheckpoint i p last
 
 -- if the first parts are a snapshot of a state, so are the second; and both put the same state back
@@ -67,7 +72,8 @@ pub record SameStates (p q : Parts) : Type 0 where
   pub restored : (s : State) → restored s p ≡ restored s q
 
 abbrev pub SavedFormsAreStates : Type 0
-SavedFormsAreStates = (p q : Parts) (last also : Option ℕ) → IsSnapshot q → saved_of p last ≡ saved_of q also → SameStates p q × (last ≡ also)
+SavedFormsAreStates = (p q : Parts) (last also : Option ℕ) → IsSnapshot q → saved_of p last ≡ saved_of q also
+    → SameStates p q × (last ≡ also)
 
 -- the snapshot of a machine of an image, after any list of items, brings the run's state back to a machine at the
 -- image's start, and further items then lead where the whole list leads
@@ -79,11 +85,13 @@ RestoredRunsGoOn =
 -- the saved form of a snapshot of a machine of an image, after any list of items, is that of the run's state
 abbrev pub SnapshotsHaveSavedForms : Type 0
 SnapshotsHaveSavedForms =
-    (i : Image) (items : List ℕ) (p : Parts) (last : Option ℕ) → IsImage i → IsSnapshotOf (run (start i) items) p → saved_of p last ≡ saved_form (run (start i) items) last
+    (i : Image) (items : List ℕ) (p : Parts) (last : Option ℕ) → IsImage i → IsSnapshotOf (run (start i) items) p
+    → saved_of p last ≡ saved_form (run (start i) items) last
 
 -- round robin of some cycles, and then of more from the state and the last item after them, is one round robin of all
 abbrev pub RoundRobinGoesOn : Type 0
 RoundRobinGoesOn =
     (s : State) (last : Option ℕ) (first more : ℕ)
     → robin_from s last (first + more)
-    ≡ robin_from s last first ++ robin_from (run s (robin_from s last first)) (last_item last (robin_from s last first)) more
+    ≡ robin_from s last first
+    ++ robin_from (run s (robin_from s last first)) (last_item last (robin_from s last first)) more

@@ -1,5 +1,6 @@
 -- What the code that reads a checkpoint keeps between its fields.
-use Rattle.std.specs.Prelude.{ℕ, ◌+◌, ◌/◌, ◌%◌, ◌^◌, Bool, not, ◌&&◌, ◌||◌, ◌==◌, nat_lt, nat_le, if◌then◌else◌, List, [], ◌∷◌, ◌++◌, unwrap_or, count_by, Option, Some, None}
+use Rattle.std.specs.Prelude.{ℕ, ◌+◌, ◌/◌, ◌%◌, ◌^◌, Bool, not, ◌&&◌, ◌||◌, ◌==◌, nat_lt, nat_le, if◌then◌else◌, List}
+use Rattle.std.specs.Prelude.{[], ◌∷◌, ◌++◌, unwrap_or, count_by, Option, Some, None}
 use Rattle.std.specs.List.{range_with_len}
 use Rattle.mm_word.specs.declared.cause.Cause.TheVariants.{NotPointer}
 use Rattle.mm_word.specs.declared.word.Word.{Word}
@@ -17,7 +18,8 @@ use Rattle.mm_checkpoint.specs.declared.header.Header.{Header}
 use Rattle.mm_checkpoint.specs.declared.heads.Head.{Head}
 use Rattle.mm_checkpoint.specs.declared.slots.Record.{Record}
 use Rattle.mm_checkpoint.specs.declared.waiting.Waiter.{Waiter}
-use Rattle.mm_checkpoint.specs.Reading.{last_of, cycles_of, pages_of, cause_of, state_of, handler_of, waits_at, slot_at, slot_end, slots_at, waiters_at, slots_end, outputs_at, outputs_end}
+use Rattle.mm_checkpoint.specs.Reading.{last_of, cycles_of, pages_of, cause_of, state_of, handler_of, waits_at, slot_at}
+use Rattle.mm_checkpoint.specs.Reading.{slot_end, slots_at, waiters_at, slots_end, outputs_at, outputs_end}
 use Rattle.mm_checkpoint.specs.Faults.{has_entry}
 
 -- the error of a reader of checkpoints for that of a reader of fields, without the kind of the fault
@@ -49,7 +51,13 @@ waiter_from s head address value at =
       handler = handler_of s;
       place = head.place;
       at = at + 2;
-      event = record { slot = s.number; cause = unwrap_or head.cause NotPointer; ip = head.ip; addr_op = address; value_op = value };
+      event = record {
+        slot = s.number;
+        cause = unwrap_or head.cause NotPointer;
+        ip = head.ip;
+        addr_op = address;
+        value_op = value;
+      };
     })
     else None
 
@@ -73,15 +81,18 @@ module _ (bytes : List ℕ) where
 
   -- the word of a register, which is integer 0 if the register is empty
   abbrev pub word_of_places : (tagged empty : Bool) (at : ℕ) → List Place
-  word_of_places tagged empty at = word_places bytes tagged at ++ Test 9 at (empty && (tagged || not (number_at bytes at 8 == 0))) ∷ []
+  word_of_places tagged empty at = word_places bytes tagged at
+      ++ Test 9 at (empty && (tagged || not (number_at bytes at 8 == 0))) ∷ []
 
   -- a word after its tag, which is at most `limit`: 1, or 0 if no pointer is allowed
   abbrev pub tagged_places : (limit at : ℕ) → List Place
-  tagged_places limit at = Field at 1 ∷ Test 4 at (nat_lt limit (number_at bytes at 1)) ∷ word_places bytes (number_at bytes at 1 == 1) (at + 1)
+  tagged_places limit at = Field at 1 ∷ Test 4 at (nat_lt limit (number_at bytes at 1))
+      ∷ word_places bytes (number_at bytes at 1 == 1) (at + 1)
 
   -- a pending load after others
   abbrev pub entry_from : (empty : ℕ) (earlier : List Pending) (at : ℕ) → List Place
-  entry_from empty earlier at = Field at 1 ∷ Test 4 at (is_bad_entry empty earlier (number_at bytes at 1)) ∷ tagged_places 1 (at + 1)
+  entry_from empty earlier at = Field at 1 ∷ Test 4 at (is_bad_entry empty earlier (number_at bytes at 1))
+      ∷ tagged_places 1 (at + 1)
 
   -- the slot of a record, and where the next record begins
   abbrev pub record_at : Slot → (at : ℕ) → Record

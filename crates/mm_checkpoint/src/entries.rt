@@ -50,7 +50,9 @@ fn read_entry(
     at: usize,
 ) -> Result<Pending, ImageError>
     requires { at < 2 ^ 38 }
-    ensures entry { let bytes = reader.now.bytes.now in Gives (λ p. p) (first_bad (length bytes) (entry_from bytes empty earlier.now at)) (record { reg = number_at bytes at 1; word = tagged_at bytes (at + 1) }) result }
+    ensures entry { let bytes = reader.now.bytes.now in
+        Gives (λ p. p) (first_bad (length bytes) (entry_from bytes empty earlier.now at))
+        (record { reg = number_at bytes at 1; word = tagged_at bytes (at + 1) }) result }
     ensures holds { IfOk result (λ p. IsWord p.word) }
 {
     let register = reader.u8_at(at)?;
@@ -72,7 +74,9 @@ pub(crate) fn read_entries(
 ) -> Result<ArrayVec<Pending, 16>, ImageError>
     requires small { at < 2 ^ 37 }
     requires empty { empty ≡ number_at reader.now.bytes.now (at + 22) 2 }
-    ensures entries { let bytes = reader.now.bytes.now in Gives (λ p. p.items) (first_bad (length bytes) (entries_places bytes at)) (entries_at bytes at (pending_count bytes at)) result }
+    ensures entries { let bytes = reader.now.bytes.now in
+        Gives (λ p. p.items) (first_bad (length bytes) (entries_places bytes at))
+        (entries_at bytes at (pending_count bytes at)) result }
     ensures words { IfOk result (λ entries. AllByRecursion (λ (p : PendingValue). IsWord p.word) entries.items) }
 {
     let count = reader.u8_at(at + COUNT)?;

@@ -30,7 +30,8 @@ pub(crate) struct Header {
 
 /// The header of a checkpoint of an image with this count of frames.
 pub(crate) fn read_header(reader: &Reader<'_>, frames: u32) -> Result<Header, ImageError>
-    ensures { let bytes = reader.now.bytes.now in Gives (λ h. h) (first_bad (length bytes) (header_places bytes frames)) (header_of bytes) result }
+    ensures { let bytes = reader.now.bytes.now in
+        Gives (λ h. h) (first_bad (length bytes) (header_places bytes frames)) (header_of bytes) result }
 {
     reader.whole(0, 4)?;
     let magic = &reader.bytes[..4];

@@ -40,7 +40,9 @@ pub(crate) fn read_head(
     at: usize,
 ) -> Result<Head, ImageError>
     requires { at < 2 ^ 39 }
-    ensures head { let bytes = reader.now.bytes.now in Gives (λ h. h) (first_bad (length bytes) (head_places bytes split cycles known.now at)) (head_at bytes at) result }
+    ensures head { let bytes = reader.now.bytes.now in
+        Gives (λ h. h) (first_bad (length bytes) (head_places bytes split cycles known.now at)) (head_at bytes at)
+        result }
     ensures executable { IfOk result (λ h. can_fetch h.ip.perm ≡ true) }
     ensures well_formed { IfOk result (λ h. IsWellFormed h.ip) }
 {

@@ -1,8 +1,10 @@
 //! What holds of all checkpoints.
 //!
 //! These functions do nothing when they run: the contract of each is the law.
-ghost use Rattle.mm_checkpoint.specs.Laws.{CheckpointsHaveNoFault, CheckpointsAreOne, CheckpointsAreShort, RestoredRunsGoOn, RoundRobinGoesOn, RunsHaveCheckpoints};
-ghost use Rattle.mm_checkpoint.specs.Laws.{RunsHaveSnapshots, SavedFormsAreStates, SnapshotsAreCheckpoints, SnapshotsHaveSavedForms};
+ghost use Rattle.mm_checkpoint.specs.Laws.{CheckpointsHaveNoFault, CheckpointsAreOne, CheckpointsAreShort};
+ghost use Rattle.mm_checkpoint.specs.Laws.{RestoredRunsGoOn, RoundRobinGoesOn, RunsHaveCheckpoints};
+ghost use Rattle.mm_checkpoint.specs.Laws.{RunsHaveSnapshots, SavedFormsAreStates, SnapshotsAreCheckpoints};
+ghost use Rattle.mm_checkpoint.specs.Laws.{SnapshotsHaveSavedForms};
 
 /// The list of places of a file that is read against an image has no fault exactly if its bytes are a checkpoint of the
 /// image.

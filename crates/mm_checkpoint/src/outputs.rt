@@ -64,7 +64,10 @@ pub(crate) fn read_outputs(
     requires limit { limit ≤ 65536 }
     requires few { length groups.now ≤ 64 }
     requires start { start < 2 ^ 18 }
-    ensures outputs { let bytes = reader.now.bytes.now in Gives {Y = List (ℕ × List ℕ) × ℕ} (λ o. (map put_out o.outputs.items, o.end)) (first_bad (length bytes) (outputs_places bytes limit groups.now start)) (outputs_from bytes groups.now start) result }
+    ensures outputs { let bytes = reader.now.bytes.now in
+        Gives {Y = List (ℕ × List ℕ) × ℕ} (λ o. (map put_out o.outputs.items, o.end))
+        (first_bad (length bytes) (outputs_places bytes limit groups.now start)) (outputs_from bytes groups.now start)
+        result }
     ensures end { IfOk result (λ o. o.end < 2 ^ 24) }
 {
     let mut outputs = Vec::with_capacity(alloc, groups.len())?;
@@ -88,7 +91,9 @@ fn read_output(
     at: usize,
 ) -> Result<Vec<u8>, ImageError>
     requires { at < 2 ^ 39 }
-    ensures output { let bytes = reader.now.bytes.now in Gives (λ output. output.items) (first_bad (length bytes) (output_places bytes limit at)) (output_at bytes at) result }
+    ensures output { let bytes = reader.now.bytes.now in
+        Gives (λ output. output.items) (first_bad (length bytes) (output_places bytes limit at)) (output_at bytes at)
+        result }
     ensures short { IfOk result (λ output. length output.items ≤ limit) }
     ensures length { IfOk result (λ output. length output.items ≡ output_length reader.now.bytes.now at) }
 {

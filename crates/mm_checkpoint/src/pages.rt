@@ -20,7 +20,9 @@ pub(crate) fn read_pages(
     count: u16,
 ) -> Result<Vec<Page>, ImageError>
     requires { first < 2 ^ 24 }
-    ensures { let bytes = reader.now.bytes.now in Gives (λ pages. pages.items) (first_bad (length bytes) (pages_places bytes first count)) (pages_at bytes first count) result }
+    ensures { let bytes = reader.now.bytes.now in
+        Gives (λ pages. pages.items) (first_bad (length bytes) (pages_places bytes first count))
+        (pages_at bytes first count) result }
 {
     let mut pages = Vec::with_capacity(alloc, usize::from(count))?;
     let mut least = 0;
@@ -39,7 +41,8 @@ pub(crate) fn nothing_follows(
     pages: u16,
 ) -> Result<(), ImageError>
     requires { first < 2 ^ 24 }
-    ensures { let bytes = reader.now.bytes.now in Gives (λ _. true) (first_bad (length bytes) (end_places bytes 13 (page_offset first pages))) true result }
+    ensures { let bytes = reader.now.bytes.now in
+        Gives (λ _. true) (first_bad (length bytes) (end_places bytes 13 (page_offset first pages))) true result }
 {
     let end = first + PAGE_BYTES * usize::from(pages);
     reader.refuse_if(reader.bytes.len() > end, ImageFault::Trailing, end)

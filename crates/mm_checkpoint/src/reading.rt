@@ -26,7 +26,8 @@ use std::alloc::Global;
 pub fn read(alloc: Global, img: &Image, bytes: &[u8]) -> Result<(Snapshot, Option<u8>), SaveError>
     // The checkpoint that is read is spelled by the bytes, and a checkpoint that the bytes spell is read.
     ensures saves { IfOk result (λ read. Saves bytes.now img.now read.0 read.1) }
-    ensures again { (p : Parts) (last : Option ℕ) → Saves bytes.now img.now p last → IsUnlessNoMemory (saved_of p last) result }
+    ensures again { (p : Parts) (last : Option ℕ) → Saves bytes.now img.now p last
+        → IsUnlessNoMemory (saved_of p last) result }
 
     // A fault that is answered is the first one, and if there is one it is answered.
     ensures fault { (offset : ℕ) → result ≡ Err (SaveError.Fault offset) → save_fault img.now bytes.now ≡ Some offset }
@@ -59,7 +60,9 @@ struct Checkpoint {
 
 // The checkpoint of a file, read part by part.
 fn read_parts(alloc: Global, img: &Image, bytes: &[u8]) -> Result<Checkpoint, ImageError>
-    ensures parts { Gives (λ c. saved_of (parts_of c.slots.items c.events.items c.outputs.items c.pages.items c.cycles) c.last) (first_fault img.now bytes.now) (saved_at img.now bytes.now) result }
+    ensures parts { Gives
+        (λ c. saved_of (parts_of c.slots.items c.events.items c.outputs.items c.pages.items c.cycles) c.last)
+        (first_fault img.now bytes.now) (saved_at img.now bytes.now) result }
     ensures image { IsImage img.now }
 {
     let reader = Reader { bytes };

@@ -38,8 +38,11 @@ fn read_record(
     waiting: &mut Vec<Waiter>,
 ) -> Result<Record, ImageError>
     requires { at < 2 ^ 37 }
-    ensures record { let bytes = reader.now.bytes.now in Gives (λ r. r) (first_bad (length bytes) (slot_places bytes split cycles known.now at)) (record_at bytes known.now at) result }
-    ensures waiting { OnOk result (waiting.new.items ≡ waiting.old.items ++ waiter_at reader.now.bytes.now known.now at) }
+    ensures record { let bytes = reader.now.bytes.now in
+        Gives (λ r. r) (first_bad (length bytes) (slot_places bytes split cycles known.now at))
+        (record_at bytes known.now at) result }
+    ensures waiting { OnOk result
+        (waiting.new.items ≡ waiting.old.items ++ waiter_at reader.now.bytes.now known.now at) }
     ensures end { IfOk result (λ r. r.end ≤ at + 2721) }
 {
     let head = read_head(reader, split, cycles, known, at)?;
@@ -74,7 +77,8 @@ fn push_waiter(
     at: usize,
 ) -> Result<(), AllocError>
     requires { at < 2 ^ 37 }
-    ensures { OnOk result (waiting.new.items ≡ waiting.old.items ++ cons_option (waiter_from known.now head.now address value at) []) }
+    ensures { OnOk result
+        (waiting.new.items ≡ waiting.old.items ++ cons_option (waiter_from known.now head.now address value at) []) }
 {
     if !head.waits {
         return Ok(());
@@ -111,7 +115,10 @@ pub(crate) fn read_slots(
     known: &[Slot],
 ) -> Result<Records, ImageError>
     requires { length known.now ≤ 64 }
-    ensures records { let bytes = reader.now.bytes.now in Gives {Y = List SlotValue × List WaiterValue × ℕ} (λ r. (r.slots.items, r.waiting.items, r.end)) (first_bad (length bytes) (slots_places bytes split cycles known.now slots_start)) (records_at bytes known.now slots_start) result }
+    ensures records { let bytes = reader.now.bytes.now in
+        Gives {Y = List SlotValue × List WaiterValue × ℕ} (λ r. (r.slots.items, r.waiting.items, r.end))
+        (first_bad (length bytes) (slots_places bytes split cycles known.now slots_start))
+        (records_at bytes known.now slots_start) result }
     ensures end { IfOk result (λ r. r.end < 2 ^ 18) }
 {
     let mut slots = Vec::with_capacity(alloc, known.len())?;

@@ -40,7 +40,8 @@ pub(crate) fn read_registers(
     requires small { at < 2 ^ 39 }
     requires tags { tags ≡ number_at reader.now.bytes.now (at + 20) 2 }
     requires empty { empty ≡ number_at reader.now.bytes.now (at + 22) 2 }
-    ensures regs { let bytes = reader.now.bytes.now in Gives (λ regs. regs) (first_bad (length bytes) (registers_places bytes at)) (registers_at bytes at) result }
+    ensures regs { let bytes = reader.now.bytes.now in
+        Gives (λ regs. regs) (first_bad (length bytes) (registers_places bytes at)) (registers_at bytes at) result }
     ensures count { IfOk result (λ regs. length regs ≡ 16) }
     ensures words { IfOk result (λ regs. AllByRecursion IsWord regs) }
 {
@@ -62,7 +63,9 @@ fn read_register(
     at: usize,
 ) -> Result<Word, ImageError>
     requires { at < 2 ^ 40 }
-    ensures word { let bytes = reader.now.bytes.now in Gives (λ w. w) (first_bad (length bytes) (word_of_places bytes tagged empty at)) (word_at bytes tagged at) result }
+    ensures word { let bytes = reader.now.bytes.now in
+        Gives (λ w. w) (first_bad (length bytes) (word_of_places bytes tagged empty at)) (word_at bytes tagged at)
+        result }
     ensures holds { IfOk result IsWord }
 {
     let word = reader.word(tagged, at)?;
@@ -74,7 +77,8 @@ fn read_register(
 /// The word after its tag. The tag is at most `limit`: 1, or 0 if no pointer is allowed.
 pub(crate) fn read_tagged(reader: &Reader<'_>, limit: u8, at: usize) -> Result<Word, ImageError>
     requires { at < 2 ^ 39 }
-    ensures word { let bytes = reader.now.bytes.now in Gives (λ w. w) (first_bad (length bytes) (tagged_places bytes limit at)) (tagged_at bytes at) result }
+    ensures word { let bytes = reader.now.bytes.now in
+        Gives (λ w. w) (first_bad (length bytes) (tagged_places bytes limit at)) (tagged_at bytes at) result }
     ensures holds { IfOk result IsWord }
 {
     let tag = reader.u8_at(at)?;
@@ -100,7 +104,8 @@ fn is_bad_operand(waits: bool, word: &Word) -> bool
 /// An operand of the event of a slot that waits; integer 0 if the slot does not wait.
 pub(crate) fn read_operand(reader: &Reader<'_>, waits: bool, at: usize) -> Result<Word, ImageError>
     requires { at < 2 ^ 39 }
-    ensures operand { let bytes = reader.now.bytes.now in Gives (λ w. w) (first_bad (length bytes) (operand_places bytes waits at)) (tagged_at bytes at) result }
+    ensures operand { let bytes = reader.now.bytes.now in
+        Gives (λ w. w) (first_bad (length bytes) (operand_places bytes waits at)) (tagged_at bytes at) result }
     ensures holds { IfOk result IsWord }
 {
     let word = read_tagged(reader, tag_limit(waits), at)?;

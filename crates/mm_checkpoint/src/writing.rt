@@ -1,6 +1,7 @@
 //! The writer of checkpoints.
 
-ghost use Rattle.std.specs.Prelude.{◌≡◌, ℕ, ◌+◌, ◌*◌, ◌^◌, ◌<◌, ◌≤◌, [], ◌∷◌, ◌++◌, length, map, unwrap_or, option_map, IfOk, IfSome, OnOk};
+ghost use Rattle.std.specs.Prelude.{◌≡◌, ℕ, ◌+◌, ◌*◌, ◌^◌, ◌<◌, ◌≤◌, [], ◌∷◌, ◌++◌, length, map, unwrap_or, option_map};
+ghost use Rattle.std.specs.Prelude.{IfOk, IfSome, OnOk};
 ghost use Rattle.std.specs.Int.{w16, to_be_bytes};
 ghost use Rattle.std.specs.List.{AllByRecursion, flat_map};
 ghost use Rattle.mm_word.specs.Word.{is_pointer};
@@ -9,7 +10,9 @@ ghost use Rattle.mm_model.specs.Fits.{WaitsForSome};
 ghost use Rattle.mm_model.specs.Spelling.{words_spelling, page_record};
 ghost use Rattle.mm_thread.specs.Output.{Output as OutputValue};
 ghost use Rattle.mm_machine.specs.Snapshot.{HasOneEvent};
-ghost use Rattle.mm_checkpoint.specs.Checkpoints.{IsCheckpoint, Saves, saved_of, spelling, header, slot_record, state_byte, cause_byte, place_in, event_of, operands, tagged_word, pending_record, output_record};
+ghost use Rattle.mm_checkpoint.specs.Checkpoints.{IsCheckpoint, Saves, saved_of, spelling, header, slot_record};
+ghost use Rattle.mm_checkpoint.specs.Checkpoints.{state_byte, cause_byte, place_in, event_of, operands, tagged_word};
+ghost use Rattle.mm_checkpoint.specs.Checkpoints.{pending_record, output_record};
 
 use crate::layout::{ENTRY_BYTES, HEADER_BYTES, PAGE_BYTES, SLOT_BYTES};
 use mm_image::{Image, put_page, put_words, tags_of};
@@ -80,7 +83,8 @@ fn spelled(
 fn length_of(outputs: &[Output]) -> usize
     requires few { length outputs.now ≤ 64 }
     requires short { AllByRecursion (λ (o : OutputValue). length o.bytes ≤ 65536) outputs.now }
-    ensures length { result ≡ length (flat_map output_record (map (λ (o : OutputValue). (o.group, o.bytes)) outputs.now)) }
+    ensures length { result
+        ≡ length (flat_map output_record (map (λ (o : OutputValue). (o.group, o.bytes)) outputs.now)) }
     ensures bound { result ≤ 65540 * length outputs.now }
 {
     let mut total = 0;
@@ -153,7 +157,10 @@ fn event_of(events: &[(u8, Event)], number: u8, handler: Option<u8>) -> Option<Q
 
 // Appends the state of a slot, its cause, the place of its event, and whether it is past its segment.
 fn put_state(out: &mut Vec<u8>, slot: &Slot, queued: Option<&QueuedEvent>) -> Result<(), AllocError>
-    ensures { OnOk result (out.new.items ≡ out.old.items ++ (state_byte slot.now.state ∷ cause_byte slot.now.state (option_map (λ q. q.now.event) queued.entry) ∷ unwrap_or (option_map (λ q. q.now.place) queued.entry) 0 ∷ one_if slot.now.past ∷ [])) }
+    ensures { OnOk result
+        (out.new.items ≡ out.old.items
+        ++ (state_byte slot.now.state ∷ cause_byte slot.now.state (option_map (λ q. q.now.event) queued.entry)
+        ∷ unwrap_or (option_map (λ q. q.now.place) queued.entry) 0 ∷ one_if slot.now.past ∷ [])) }
 {
     let state = state_byte(slot.state);
     let cause = cause_byte(slot.state, queued);
@@ -192,7 +199,10 @@ fn cause_byte(state: SlotState, queued: Option<&QueuedEvent>) -> u8
 
 // Appends the masks of the registers that hold pointers and of those that wait for a load, and the registers' words.
 fn put_registers(out: &mut Vec<u8>, slot: &Slot) -> Result<(), AllocError>
-    ensures { OnOk result (out.new.items ≡ out.old.items ++ (to_be_bytes w16 (number_of_flags (map is_pointer slot.now.regs)) ++ to_be_bytes w16 (number_of_flags slot.now.empty) ++ words_spelling slot.now.regs)) }
+    ensures { OnOk result
+        (out.new.items ≡ out.old.items
+        ++ (to_be_bytes w16 (number_of_flags (map is_pointer slot.now.regs))
+        ++ to_be_bytes w16 (number_of_flags slot.now.empty) ++ words_spelling slot.now.regs)) }
 {
     out.extend_from_slice(&tags_of(&slot.regs).to_be_bytes())?;
     out.extend_from_slice(&slot.empty.to_be_bytes())?;
@@ -227,7 +237,8 @@ fn put_tagged(out: &mut Vec<u8>, word: &Word) -> Result<(), AllocError>
 
 fn put_pending(out: &mut Vec<u8>, pending: &[Pending]) -> Result<(), AllocError>
     requires { length pending.now ≤ 16 }
-    ensures { OnOk result (out.new.items ≡ out.old.items ++ ((length pending.now ∷ []) ++ flat_map pending_record pending.now)) }
+    ensures { OnOk result
+        (out.new.items ≡ out.old.items ++ ((length pending.now ∷ []) ++ flat_map pending_record pending.now)) }
 {
     out.push(pending.len() as u8)?;
     for load in pending {
@@ -246,7 +257,9 @@ fn put_load(out: &mut Vec<u8>, load: &Pending) -> Result<(), AllocError>
 
 fn put_outputs(out: &mut Vec<u8>, outputs: &[Output]) -> Result<(), AllocError>
     requires { AllByRecursion (λ (o : OutputValue). length o.bytes ≤ 65536) outputs.now }
-    ensures { OnOk result (out.new.items ≡ out.old.items ++ flat_map output_record (map (λ (o : OutputValue). (o.group, o.bytes)) outputs.now)) }
+    ensures { OnOk result
+        (out.new.items ≡ out.old.items
+        ++ flat_map output_record (map (λ (o : OutputValue). (o.group, o.bytes)) outputs.now)) }
 {
     for output in outputs {
         put_output(out, output)?;

@@ -13,7 +13,8 @@ use Rattle.mm_cli.specs.declared.table.Place.{Place}
 use Rattle.mm_cli.specs.declared.table.Last.{Last}
 use Rattle.mm_cli.specs.Words.{Word, FitsRow, files_in, spelled}
 
--- A row of the table of src/table.rt: the command's own word, the command, the places after that word, and what comes after them.
+-- A row of the table of src/table.rt: the command's own word, the command, the places after that word, and what comes
+-- after them.
 pub record Listed : Type 0 where
   pub name : List ℕ
   pub command : Command

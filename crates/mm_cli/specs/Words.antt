@@ -1,5 +1,6 @@
 -- What words say, how it is written, and where it fits.
-use Rattle.std.specs.Prelude.{◌≡◌, ℕ, ◌%◌, ◌^◌, ◌-◌, ◌≤◌, Bool, true, false, List, [], ◌∷◌, ◌++◌, map, length, String, string_bytes, codes, decimal, Option, None, Some, ⊤}
+use Rattle.std.specs.Prelude.{◌≡◌, ℕ, ◌%◌, ◌^◌, ◌-◌, ◌≤◌, Bool, true, false, List, [], ◌∷◌, ◌++◌, map, length, String}
+use Rattle.std.specs.Prelude.{string_bytes, codes, decimal, Option, None, Some, ⊤}
 use Rattle.std.specs.declared.alloc.Global.{Global}
 use Rattle.mm_model.specs.Audit.{groups_text}
 use Rattle.mm_cli.specs.GroupList.{AreGroups}
@@ -126,7 +127,8 @@ abbrev pub AreOfLast : Last → List Read → Type 0
 AreOfLast Nothing [] = ⊤
 AreOfLast (Perhaps place) [] = ⊤
 AreOfLast (Perhaps place) (word ∷ []) = IsOfPlace place word
-AreOfLast (Several kind most) (read.Files other names ∷ []) = (other ≡ kind) × (1 ≤ length names.now) × (length names.now ≤ most)
+AreOfLast (Several kind most) (read.Files other names ∷ []) = (other ≡ kind) × (1 ≤ length names.now)
+    × (length names.now ≤ most)
 AreOfLast _ _ = ⊥
 
 -- one word was read for each place, and then what comes last

@@ -1,5 +1,6 @@
 // Groups as they are written.
-ghost use Rattle.std.specs.Prelude.{◌≡◌, ◌≢◌, ◌++◌, ◌∷◌, [], ℕ, List, IsNone, IsSome, IsTrue, MatchOption, ◌<◌, ◌↔◌, decimal, position};
+ghost use Rattle.std.specs.Prelude.{◌≡◌, ◌≢◌, ◌++◌, ◌∷◌, [], ℕ, List, IsNone, IsSome, IsTrue, MatchOption, ◌<◌, ◌↔◌};
+ghost use Rattle.std.specs.Prelude.{decimal, position};
 ghost use Rattle.std.specs.List.{AllByRecursion};
 ghost use Rattle.mm_model.specs.Audit.{groups_text};
 ghost use Rattle.mm_cli.specs.GroupList.{Ascends, AreGroups, AreSoFar, Follows, is_comma};
@@ -35,7 +36,8 @@ fn comma(text: &[u8]) -> Option<usize>
 /// Appends a group that is above those before.
 fn push_group(groups: &mut ArrayVec<u8, 64>, word: &[u8]) -> Option<()>
     requires { AreSoFar groups.old.items }
-    ensures some { IsSome result → (g : ℕ) × Follows groups.old.items g × (word.now ≡ decimal g) × (groups.new.items ≡ groups.old.items ++ g ∷ []) }
+    ensures some { IsSome result → (g : ℕ) × Follows groups.old.items g × (word.now ≡ decimal g)
+        × (groups.new.items ≡ groups.old.items ++ g ∷ []) }
     ensures none { IsNone result → (g : ℕ) → Follows groups.old.items g → word.now ≢ decimal g }
 {
     let group = number(word, MAX_GROUP)? as u8;

@@ -1,8 +1,10 @@
 //! The words of the command line, read by the table.
-ghost use Rattle.std.specs.Prelude.{◌≡◌, ◌≢◌, ◌<◌, ◌≤◌, ◌++◌, ◌+◌, ℕ, List, MatchOption, IsSome, IsNone, Some, length, slice_get};
+ghost use Rattle.std.specs.Prelude.{◌≡◌, ◌≢◌, ◌<◌, ◌≤◌, ◌++◌, ◌+◌, ℕ, List, MatchOption, IsSome, IsNone, Some, length};
+ghost use Rattle.std.specs.Prelude.{slice_get};
 ghost use Rattle.arrayvec.specs.ArrayVec.{array_vec_len};
 ghost use Rattle.mm_cli.specs.declared.words.Word.{Word as Read};
-ghost use Rattle.mm_cli.specs.Words.{Word as Spoken, AreOfLast, AreOfRow, FitsLast, FitsRow, room, spoken, spelled, texts};
+ghost use Rattle.mm_cli.specs.Words.{Word as Spoken, AreOfLast, AreOfRow, FitsLast, FitsRow, room, spoken, spelled};
+ghost use Rattle.mm_cli.specs.Words.{texts};
 ghost use Rattle.mm_cli.specs.Table.{InNoRow, Asks, NoneIsNamed, listed, table};
 ghost use Rattle.mm_cli.specs.Asked.{row_of};
 
@@ -37,7 +39,8 @@ pub fn read_words(words: &[String]) -> Option<Asked<'_>>
 
 /// The row with a name.
 fn row_named(name: &str) -> Option<&'static Listed<'static>>
-    ensures { MatchOption result (NoneIsNamed name.now) (λ row. (number : ℕ) × (slice_get table number ≡ Some (listed row.now)) × (row.now.0.now ≡ name.now)) }
+    ensures { MatchOption result (NoneIsNamed name.now)
+        (λ row. (number : ℕ) × (slice_get table number ≡ Some (listed row.now)) × (row.now.0.now ≡ name.now)) }
 {
     for number in 0..TABLE.len() {
         let row = row_at(number);
@@ -60,7 +63,8 @@ fn row_at(number: usize) -> &'static Listed<'static>
 fn read_row<'a>(places: &[Place], last: Last, words: &'a [String]) -> Option<ArrayVec<Word<'a>, 4>>
     requires { length places.now + room last ≤ 4 }
     ensures { MatchOption result ((said : List Spoken) → FitsRow places.now last said → texts words.now ≢ spelled said)
-        (λ read. AreOfRow places.now last read.items × FitsRow places.now last (spoken read.items) × (texts words.now ≡ spelled (spoken read.items))) }
+        (λ read. AreOfRow places.now last read.items × FitsRow places.now last (spoken read.items)
+        × (texts words.now ≡ spelled (spoken read.items))) }
 {
     let mut read = ArrayVec::new();
     let mut rest = words;

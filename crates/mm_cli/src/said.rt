@@ -1,7 +1,8 @@
 //! What the words of a command say, place by place.
 ghost use Rattle.std.specs.Prelude.{◌≡◌, slice_get};
 ghost use Rattle.std.specs.Option.{option_map};
-ghost use Rattle.mm_cli.specs.Said.{name_of, name_perhaps_of, names_of, number_of, groups_of, groups_perhaps_of, mode_of, range_of};
+ghost use Rattle.mm_cli.specs.Said.{name_of, name_perhaps_of, names_of, number_of, groups_of, groups_perhaps_of};
+ghost use Rattle.mm_cli.specs.Said.{mode_of, range_of};
 
 use crate::words::Word;
 

@@ -1,6 +1,7 @@
 //! What the words of the command line say.
 ghost use Rattle.std.specs.Prelude.{◌≡◌, ◌≢◌, ◌≤◌, ◌++◌, ◌∷◌, [], ℕ, Bool, List, MatchOption, decimal, string_bytes};
-ghost use Rattle.mm_cli.specs.Words.{Word as Spoken, FitsPlace, IsOfPlace, IsRange, range_word, mode_text, text_list, texts, words_of};
+ghost use Rattle.mm_cli.specs.Words.{Word as Spoken, FitsPlace, IsOfPlace, IsRange, range_word, mode_text, text_list};
+ghost use Rattle.mm_cli.specs.Words.{texts, words_of};
 
 use crate::groups::read_groups;
 use crate::table::{Kind, Place};
@@ -30,8 +31,10 @@ impl Default for Word<'_> {
 
 /// What the first words say, read for a place, and the words after them.
 pub fn read_place<'a>(place: Place, words: &'a [String]) -> Option<(Word<'a>, &'a [String])>
-    ensures { MatchOption result ((word : Spoken) (after : List (List ℕ)) → FitsPlace place word → texts words.now ≢ text_list word ++ after)
-        (λ read. (word : Spoken) × IsOfPlace place read.0 × (words_of read.0 ≡ word ∷ []) × FitsPlace place word × (texts words.now ≡ text_list word ++ texts read.1.now)) }
+    ensures { MatchOption result
+        ((word : Spoken) (after : List (List ℕ)) → FitsPlace place word → texts words.now ≢ text_list word ++ after)
+        (λ read. (word : Spoken) × IsOfPlace place read.0 × (words_of read.0 ≡ word ∷ []) × FitsPlace place word
+        × (texts words.now ≡ text_list word ++ texts read.1.now)) }
 {
     if let Place::Range = place {
         return read_range_place(words);
@@ -44,8 +47,11 @@ pub fn read_place<'a>(place: Place, words: &'a [String]) -> Option<(Word<'a>, &'
 
 /// A range of addresses, said by the first two words, and the words after them.
 fn read_range_place(words: &[String]) -> Option<(Word<'_>, &[String])>
-    ensures { MatchOption result ((first width : ℕ) (after : List (List ℕ)) → IsRange first width → texts words.now ≢ decimal first ∷ decimal width ∷ after)
-        (λ read. (first : ℕ) × (width : ℕ) × IsOfPlace Place.Range read.0 × (words_of read.0 ≡ range_word first width ∷ []) × IsRange first width
+    ensures { MatchOption result
+        ((first width : ℕ) (after : List (List ℕ)) → IsRange first width → texts words.now ≢ decimal first
+        ∷ decimal width ∷ after)
+        (λ read. (first : ℕ) × (width : ℕ) × IsOfPlace Place.Range read.0
+        × (words_of read.0 ≡ range_word first width ∷ []) × IsRange first width
         × (texts words.now ≡ decimal first ∷ decimal width ∷ texts read.1.now)) }
 {
     let [base, log, after @ ..] = words else {
@@ -58,7 +64,8 @@ fn read_range_place(words: &[String]) -> Option<(Word<'_>, &[String])>
 /// What one word says, read for a place that is no range.
 fn read_word(place: Place, word: &String) -> Option<Word<'_>>
     ensures { MatchOption result ((said : Spoken) → FitsPlace place said → string_bytes word.now ∷ [] ≢ text_list said)
-        (λ read. (said : Spoken) × IsOfPlace place read × (words_of read ≡ said ∷ []) × FitsPlace place said × (string_bytes word.now ∷ [] ≡ text_list said)) }
+        (λ read. (said : Spoken) × IsOfPlace place read × (words_of read ≡ said ∷ []) × FitsPlace place said
+        × (string_bytes word.now ∷ [] ≡ text_list said)) }
 {
     match place {
         Place::File(kind) => Some(Word::File {
@@ -103,7 +110,8 @@ fn read_mode(word: &str) -> Option<bool>
 
 /// Where a range of addresses begins, and the logarithm of its length, 3 to 54. It begins at a multiple of its length.
 fn read_range(base: &[u8], log: &[u8]) -> Option<(u64, u8)>
-    ensures { MatchOption result ((first width : ℕ) → IsRange first width → base.now ≡ decimal first → log.now ≢ decimal width)
+    ensures { MatchOption result
+        ((first width : ℕ) → IsRange first width → base.now ≡ decimal first → log.now ≢ decimal width)
         (λ range. IsRange range.0 range.1 × (base.now ≡ decimal range.0) × (log.now ≡ decimal range.1)) }
 {
     let base = number(base, MAX_ADDRESS)?;

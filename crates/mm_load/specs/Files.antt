@@ -1,5 +1,7 @@
--- The inputs of a command, each read and parsed before the next: its files and, behind them, standard input where it reads that.
-use Rattle.std.specs.Prelude.{◌≡◌, ◌⊎◌, ℕ, ◌+◌, ◌≤◌, List, [], ◌∷◌, ◌++◌, length, map, String, string_bytes, Option, Some, None, IsSome, Result, IfOk, IfErr, ⊤}
+-- The inputs of a command, each read and parsed before the next: its files and, behind them, standard input where it
+-- reads that.
+use Rattle.std.specs.Prelude.{◌≡◌, ◌⊎◌, ℕ, ◌+◌, ◌≤◌, List, [], ◌∷◌, ◌++◌, length, map, String, string_bytes, Option}
+use Rattle.std.specs.Prelude.{Some, None, IsSome, Result, IfOk, IfErr, ⊤}
 use Rattle.std.specs.declared.alloc.Global.{Global}
 use Rattle.std.specs.List.{AllByRecursion}
 use Rattle.mm_word.specs.Adding.{Adds}
@@ -25,22 +27,26 @@ abbrev pub IsTooLong : ℕ → (number : ℕ) → Option (List ℕ) → Refusal 
 IsTooLong limit number told r = (r ≡ TooLong number) × IsLonger told limit
 
 -- Its bytes mean nothing.
-pub record IsFaulty (kind : Kind) (before : List Value) (number : ℕ) (told : Option (List ℕ)) (r : Refusal) : Type 0 where
-  pub bytes : List ℕ
-  pub holds : Holds told bytes
-  pub short : length bytes ≤ limit_of kind
-  pub fault : Faults kind before number bytes r
+pub record IsFaulty (kind : Kind) (before : List Value) (number : ℕ) (told : Option (List ℕ)) (r : Refusal) : Type 0
+  where
+    pub bytes : List ℕ
+    pub holds : Holds told bytes
+    pub short : length bytes ≤ limit_of kind
+    pub fault : Faults kind before number bytes r
 
--- The input of a number, behind those of the values before, is refused. Files are counted from 1, and standard input has number 0.
+-- The input of a number, behind those of the values before, is refused. Files are counted from 1, and standard input
+-- has number 0.
 abbrev pub InputRefused : Kind → (before : List Value) → (number : ℕ) → Option (List ℕ) → Refusal → Type 0
 InputRefused kind before number told r = IsTooLong (limit_of kind) number told r ⊎ IsFaulty kind before number told r
 
 -- 2. Files by their names, behind files of the values before.
 
 -- each of them is accepted, and these are their values
-abbrev pub FilesAccepted : (List ℕ → Option (List ℕ)) → (before : List Value) → List (List ℕ × Kind) → List Value → Type 0
+abbrev pub FilesAccepted : (List ℕ → Option (List ℕ)) → (before : List Value) → List (List ℕ × Kind) → List Value
+    → Type 0
 FilesAccepted held before [] [] = ⊤
-FilesAccepted held before (file ∷ files) (v ∷ values) = Accepted file.1 before (held file.0) v × FilesAccepted held (before ++ v ∷ []) files values
+FilesAccepted held before (file ∷ files) (v ∷ values) = Accepted file.1 before (held file.0) v
+    × FilesAccepted held (before ++ v ∷ []) files values
 FilesAccepted held before _ _ = ⊥
 
 -- one of them is refused, and those before it are accepted
@@ -50,17 +56,19 @@ FilesRefused held before (file ∷ files) r =
     InputRefused file.1 before (length before + 1) (held file.0) r
     ⊎ ((v : Value) × Accepted file.1 before (held file.0) v × FilesRefused held (before ++ v ∷ []) files r)
 
--- What the files hold when their reading starts, as far as it is told, how often reads of each name had failed then and have now, and
--- which names reads asked for in between.
+-- What the files hold when their reading starts, as far as it is told, how often reads of each name had failed then and
+-- have now, and which names reads asked for in between.
 pub record Reading : Type 1 where
   pub held : List ℕ → Option (List ℕ)
   pub before : List ℕ → ℕ
   pub now : List ℕ → ℕ
   pub asks : List PieceRead → Type 0
 
-abbrev pub reading : {F : Type 0} → (held : F → List ℕ → Option (List ℕ)) → (faults : F → List ℕ → ℕ) → (asked : F → List PieceRead → Type 0)
+abbrev pub reading : {F : Type 0} → (held : F → List ℕ → Option (List ℕ)) → (faults : F → List ℕ → ℕ)
+    → (asked : F → List PieceRead → Type 0)
     → (old new : F) → Reading
-reading held faults asked old new = record { held = held old; before = faults old; now = faults new; asks = Adds asked old new }
+reading held faults asked old new
+    = record { held = held old; before = faults old; now = faults new; asks = Adds asked old new }
 
 -- the count of one of their names rose, or stands at its last value, and the files before it are accepted
 abbrev pub FilesFailed : Reading → (before : List Value) → List (List ℕ × Kind) → Type 0
@@ -73,9 +81,10 @@ FilesFailed r before (file ∷ files) =
 abbrev pub FilesTold : (List ℕ → Option (List ℕ)) → List (List ℕ × Kind) → Type 0
 FilesTold held files = AllByRecursion (λ (file : List ℕ × Kind). IsSome (held file.0)) files
 
--- These are reads of the files in their order: any number of the first and then, only where that file is accepted, those of
--- the files after it.
-abbrev pub AsksInOrder : (List ℕ → Option (List ℕ)) → (before : List Value) → List (List ℕ × Kind) → (reads : List PieceRead)
+-- These are reads of the files in their order: any number of the first and then, only where that file is accepted,
+-- those of the files after it.
+abbrev pub AsksInOrder : (List ℕ → Option (List ℕ)) → (before : List Value) → List (List ℕ × Kind)
+    → (reads : List PieceRead)
     → Type 0
 AsksInOrder held before [] reads = reads ≡ []
 AsksInOrder held before (file ∷ files) reads =
@@ -91,7 +100,8 @@ pub record AsksFiles (r : Reading) (before : List Value) (files : List (List ℕ
 
 -- 3. Standard input, behind files by their names, where a command reads it as input of a kind.
 
--- What it has left when its reading starts, as far as that is told, and how often reads of it had failed then and have now.
+-- What it has left when its reading starts, as far as that is told, and how often reads of it had failed then and have
+-- now.
 pub record Drawing : Type 0 where
   pub left : Option (List ℕ)
   pub before : ℕ
@@ -105,31 +115,38 @@ abbrev pub DrawnBehind : (List ℕ → Option (List ℕ)) → List (List ℕ × 
 DrawnBehind held files Undrawn = Undrawn ⊎ ((values : List Value) × FilesAccepted held [] files values)
 
 -- each input is accepted, and these are their values
-abbrev pub InputsAccepted : (List ℕ → Option (List ℕ)) → (left : Option (List ℕ)) → List (List ℕ × Kind) → Option Kind → List Value → Type 0
+abbrev pub InputsAccepted : (List ℕ → Option (List ℕ)) → (left : Option (List ℕ)) → List (List ℕ × Kind) → Option Kind
+    → List Value → Type 0
 InputsAccepted held left files None values = FilesAccepted held [] files values
 InputsAccepted held left files (Some kind) values =
-    (before : List Value) × (last : Value) × (values ≡ before ++ last ∷ []) × FilesAccepted held [] files before × Accepted kind before left last
+    (before : List Value) × (last : Value) × (values ≡ before ++ last ∷ []) × FilesAccepted held [] files before
+    × Accepted kind before left last
 
 -- one of them is refused, and those before it are accepted
-abbrev pub InputsRefused : (List ℕ → Option (List ℕ)) → (left : Option (List ℕ)) → List (List ℕ × Kind) → Option Kind → Refusal → Type 0
+abbrev pub InputsRefused : (List ℕ → Option (List ℕ)) → (left : Option (List ℕ)) → List (List ℕ × Kind) → Option Kind
+    → Refusal → Type 0
 InputsRefused held left files None r = FilesRefused held [] files r
 InputsRefused held left files (Some kind) r =
-    FilesRefused held [] files r ⊎ ((before : List Value) × FilesAccepted held [] files before × InputRefused kind before 0 left r)
+    FilesRefused held [] files r
+    ⊎ ((before : List Value) × FilesAccepted held [] files before × InputRefused kind before 0 left r)
 
 -- the count of one of them rose, or stands at its last value, and those before it are accepted
 abbrev pub InputsFailed : Reading → Drawing → List (List ℕ × Kind) → Option Kind → Type 0
 InputsFailed r d files None = FilesFailed r [] files
-InputsFailed r d files (Some kind) = FilesFailed r [] files ⊎ ((before : List Value) × FilesAccepted r.held [] files before × Rose d.before d.now)
+InputsFailed r d files (Some kind) = FilesFailed r [] files
+    ⊎ ((before : List Value) × FilesAccepted r.held [] files before × Rose d.before d.now)
 
 -- it is told what each of them holds
-abbrev pub InputsTold : (List ℕ → Option (List ℕ)) → (left : Option (List ℕ)) → List (List ℕ × Kind) → Option Kind → Type 0
+abbrev pub InputsTold : (List ℕ → Option (List ℕ)) → (left : Option (List ℕ)) → List (List ℕ × Kind) → Option Kind
+    → Type 0
 InputsTold held left files None = FilesTold held files
 InputsTold held left files (Some kind) = FilesTold held files × IsSome left
 
 -- 4. Inputs that have to be refused.
 
 -- one of the files is refused and those before it are accepted; what it holds, and what each before it holds, is told
-abbrev pub ToldFilesRefused : (List ℕ → Option (List ℕ)) → (before : List Value) → List (List ℕ × Kind) → Refusal → Type 0
+abbrev pub ToldFilesRefused : (List ℕ → Option (List ℕ)) → (before : List Value) → List (List ℕ × Kind) → Refusal
+    → Type 0
 ToldFilesRefused held before [] r = ⊥
 ToldFilesRefused held before (file ∷ files) r =
     IsSome (held file.0)
@@ -137,16 +154,19 @@ ToldFilesRefused held before (file ∷ files) r =
     ⊎ ((v : Value) × Accepted file.1 before (held file.0) v × ToldFilesRefused held (before ++ v ∷ []) files r))
 
 -- the same of standard input behind them
-pub record ToldInputRefused (held : List ℕ → Option (List ℕ)) (left : Option (List ℕ)) (files : List (List ℕ × Kind)) (kind : Kind) (r : Refusal) : Type 0 where
+pub record ToldInputRefused (held : List ℕ → Option (List ℕ)) (left : Option (List ℕ)) (files : List (List ℕ × Kind))
+    (kind : Kind) (r : Refusal) : Type 0 where
   pub told : FilesTold held files
   pub before : List Value
   pub accepted : FilesAccepted held [] files before
   pub input_told : IsSome left
   pub refused : InputRefused kind before 0 left r
 
-abbrev pub ToldInputsRefused : (List ℕ → Option (List ℕ)) → (left : Option (List ℕ)) → List (List ℕ × Kind) → Option Kind → Refusal → Type 0
+abbrev pub ToldInputsRefused : (List ℕ → Option (List ℕ)) → (left : Option (List ℕ)) → List (List ℕ × Kind)
+    → Option Kind → Refusal → Type 0
 ToldInputsRefused held left files None r = ToldFilesRefused held [] files r
-ToldInputsRefused held left files (Some kind) r = ToldFilesRefused held [] files r ⊎ ToldInputRefused held left files kind r
+ToldInputsRefused held left files (Some kind) r = ToldFilesRefused held [] files r
+    ⊎ ToldInputRefused held left files kind r
 
 -- 5. What their reading answers.
 
@@ -158,14 +178,16 @@ Stops Refuses Fails stop.WriteFault = ⊥
 Stops Refuses Fails stop.NoMemory = ⊤
 
 -- The reading of files answers their values, or why it stops, and asks for their names in order.
-pub record FilesRead {T : Type 0} (r : Reading) (before : List Value) (files : List (List ℕ × Kind)) (values : T → List Value)
+pub record FilesRead {T : Type 0} (r : Reading) (before : List Value) (files : List (List ℕ × Kind))
+    (values : T → List Value)
     (result : Result T Stop) : Type 0 where
   pub accepted : IfOk result (λ t. FilesAccepted r.held before files (values t))
   pub stopped : IfErr result (Stops (FilesRefused r.held before files) (FilesFailed r before files))
   pub asked : AsksFiles r before files
 
 -- The reading of standard input answers its value, or why it stops.
-pub record InputRead {T : Type 0} (d : Drawing) (before : List Value) (kind : Kind) (value : T → Value) (result : Result T Stop) : Type 0 where
+pub record InputRead {T : Type 0} (d : Drawing) (before : List Value) (kind : Kind) (value : T → Value)
+    (result : Result T Stop) : Type 0 where
   pub accepted : IfOk result (λ t. Accepted kind before d.left (value t))
   pub stopped : IfErr result (Stops (InputRefused kind before 0 d.left) (Rose d.before d.now))
 

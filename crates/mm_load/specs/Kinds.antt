@@ -1,7 +1,10 @@
 -- The kinds of inputs: how long they may be, what they mean, and their faults.
 use Rattle.std.specs.Prelude.{◌≡◌, ℕ, List, [], ◌∷◌, Option, Some}
 use Rattle.mm_cli.specs.declared.table.Kind.{Kind}
-use Rattle.mm_cli.specs.declared.table.Kind.TheVariants.{Image as image_file, Schedule as schedule_file, Source as source_file, Object as object_file, Checkpoint as checkpoint_file, Links as links_file, Events as events_file, Text as text_input}
+use Rattle.mm_cli.specs.declared.table.Kind.TheVariants.{Image as image_file, Schedule as schedule_file}
+use Rattle.mm_cli.specs.declared.table.Kind.TheVariants.{Source as source_file, Object as object_file}
+use Rattle.mm_cli.specs.declared.table.Kind.TheVariants.{Checkpoint as checkpoint_file, Links as links_file}
+use Rattle.mm_cli.specs.declared.table.Kind.TheVariants.{Events as events_file, Text as text_input}
 use Rattle.mm_model.specs.Image.{Image}
 use Rattle.mm_model.specs.Spelling.{Spells}
 use Rattle.mm_model.specs.ImageFaults.{image_fault}
@@ -55,7 +58,8 @@ Accepts image_file before bytes (an_image i) = Spells bytes i
 Accepts schedule_file before bytes (a_list items) = Means bytes items
 Accepts source_file before bytes (an_object o) = text.Means bytes o
 Accepts object_file before bytes (an_object o) = SpellsObject bytes o
-Accepts checkpoint_file (an_image i ∷ []) bytes (a_checkpoint c) = (p : Parts) × (last : Option ℕ) × Saves bytes i p last × (c ≡ saved_of p last)
+Accepts checkpoint_file (an_image i ∷ []) bytes (a_checkpoint c) = (p : Parts) × (last : Option ℕ)
+    × Saves bytes i p last × (c ≡ saved_of p last)
 Accepts links_file before bytes (a_links links) = link.Means bytes links
 Accepts events_file before bytes (an_events items) = event.Means bytes items
 Accepts text_input before bytes (a_text text) = text ≡ bytes
@@ -68,11 +72,14 @@ Faults image_file before number bytes r = (fault : ImageFault) × (offset : ℕ)
 Faults schedule_file before number bytes r = (offset : ℕ) × (r ≡ refusal.Schedule number offset) × FaultsAt bytes offset
 Faults source_file before number bytes r = (fault : Fault) × (line column : ℕ) × (r ≡ refusal.Asm fault line column)
     × (text.first_fault bytes ≡ Some (record { line = line; column = column; number = fault_number fault }))
-Faults object_file before number bytes r = (fault : ObjectFault) × (offset : ℕ) × (r ≡ refusal.Object number fault offset)
+Faults object_file before number bytes r = (fault : ObjectFault) × (offset : ℕ)
+    × (r ≡ refusal.Object number fault offset)
     × (object_fault bytes ≡ Some (object_number fault, offset))
-Faults checkpoint_file (an_image i ∷ []) number bytes r = (offset : ℕ) × (r ≡ refusal.Checkpoint number offset) × (save_fault i bytes ≡ Some offset)
+Faults checkpoint_file (an_image i ∷ []) number bytes r = (offset : ℕ) × (r ≡ refusal.Checkpoint number offset)
+    × (save_fault i bytes ≡ Some offset)
 Faults links_file before number bytes r = (offset : ℕ) × (r ≡ refusal.Links number offset) × link.FaultsAt bytes offset
-Faults events_file before number bytes r = (offset : ℕ) × (r ≡ refusal.Schedule number offset) × event.FaultsAt bytes offset
+Faults events_file before number bytes r = (offset : ℕ) × (r ≡ refusal.Schedule number offset)
+    × event.FaultsAt bytes offset
 Faults _ before number bytes r = ⊥
 
 -- the values of the files that an order comes from

@@ -4,10 +4,12 @@ use Rattle.mm_image.specs.Faults.{number_of}
 use Rattle.mm_line.specs.Faults.{number_of as fault_number}
 use Rattle.mm_object.specs.Answers.{number_of as object_number}
 use Rattle.mm_link.specs.declared.fault.LinkFault.{LinkFault}
-use Rattle.mm_link.specs.declared.fault.LinkFault.TheVariants.{Twice, Undefined, Offset, SlotTwice, NoThread, Handler, TooLarge}
+use Rattle.mm_link.specs.declared.fault.LinkFault.TheVariants.{Twice, Undefined, Offset, SlotTwice, NoThread, Handler}
+use Rattle.mm_link.specs.declared.fault.LinkFault.TheVariants.{TooLarge}
 use Rattle.mm_link.specs.Faults.{number_of as link_number}
 use Rattle.mm_load.specs.declared.status.Refusal.{Refusal}
-use Rattle.mm_load.specs.declared.status.Refusal.TheVariants.{TooLong, Image, Schedule, Object, Asm, Link, NoGroup, Crosses, Held, Privileged, Checkpoint, Links, NoNode}
+use Rattle.mm_load.specs.declared.status.Refusal.TheVariants.{TooLong, Image, Schedule, Object, Asm, Link, NoGroup}
+use Rattle.mm_load.specs.declared.status.Refusal.TheVariants.{Crosses, Held, Privileged, Checkpoint, Links, NoNode}
 use Rattle.mm_load.specs.declared.status.Status.{Status}
 use Rattle.mm_load.specs.declared.status.Status.TheVariants.{Done, Usage, Refused, ReadFault, WriteFault, NoMemory}
 
@@ -27,19 +29,26 @@ line_of Done = []
 line_of Usage = codes "mmachine: usage\n"
 line_of (Refused (TooLong file)) = codes "mmachine: file " ++ decimal file ++ codes " too long\n"
 line_of (Refused (Image file fault offset)) =
-    codes "mmachine: file " ++ decimal file ++ codes " image fault " ++ decimal (number_of fault) ++ codes " at " ++ decimal offset ++ codes "\n"
-line_of (Refused (Schedule file offset)) = codes "mmachine: file " ++ decimal file ++ codes " schedule fault at " ++ decimal offset ++ codes "\n"
+    codes "mmachine: file " ++ decimal file ++ codes " image fault " ++ decimal (number_of fault) ++ codes " at "
+    ++ decimal offset ++ codes "\n"
+line_of (Refused (Schedule file offset)) = codes "mmachine: file " ++ decimal file ++ codes " schedule fault at "
+    ++ decimal offset ++ codes "\n"
 line_of (Refused (Object file fault offset)) =
-    codes "mmachine: file " ++ decimal file ++ codes " object fault " ++ decimal (object_number fault) ++ codes " at " ++ decimal offset ++ codes "\n"
-line_of (Refused (Link fault)) = codes "mmachine: link fault " ++ decimal (link_number fault) ++ codes " " ++ named_by fault ++ codes "\n"
+    codes "mmachine: file " ++ decimal file ++ codes " object fault " ++ decimal (object_number fault) ++ codes " at "
+    ++ decimal offset ++ codes "\n"
+line_of (Refused (Link fault)) = codes "mmachine: link fault " ++ decimal (link_number fault) ++ codes " "
+    ++ named_by fault ++ codes "\n"
 line_of (Refused (Asm fault line column)) =
-    codes "mmachine: source fault " ++ decimal (fault_number fault) ++ codes " at " ++ decimal line ++ codes ":" ++ decimal column ++ codes "\n"
+    codes "mmachine: source fault " ++ decimal (fault_number fault) ++ codes " at " ++ decimal line ++ codes ":"
+    ++ decimal column ++ codes "\n"
 line_of (Refused NoGroup) = codes "mmachine: no group\n"
 line_of (Refused (Crosses slot)) = codes "mmachine: crosses slot " ++ decimal slot ++ codes "\n"
 line_of (Refused (Held slot)) = codes "mmachine: held slot " ++ decimal slot ++ codes "\n"
 line_of (Refused (Privileged group)) = codes "mmachine: privileged group " ++ decimal group ++ codes "\n"
-line_of (Refused (Checkpoint file offset)) = codes "mmachine: file " ++ decimal file ++ codes " checkpoint fault at " ++ decimal offset ++ codes "\n"
-line_of (Refused (Links file offset)) = codes "mmachine: file " ++ decimal file ++ codes " links fault at " ++ decimal offset ++ codes "\n"
+line_of (Refused (Checkpoint file offset)) = codes "mmachine: file " ++ decimal file ++ codes " checkpoint fault at "
+    ++ decimal offset ++ codes "\n"
+line_of (Refused (Links file offset)) = codes "mmachine: file " ++ decimal file ++ codes " links fault at "
+    ++ decimal offset ++ codes "\n"
 line_of (Refused (NoNode link)) = codes "mmachine: no node link " ++ decimal link ++ codes "\n"
 line_of ReadFault = codes "mmachine: read fault\n"
 line_of WriteFault = codes "mmachine: write fault\n"

@@ -4,7 +4,10 @@ ghost use Rattle.std.specs.Option.{option_map};
 ghost use Rattle.std.specs.Io.KnownBytes.{IsAtEnd};
 ghost use Rattle.mm_io.specs.Files.{Rose, NoneFell, Holds, AsksOnly};
 ghost use Rattle.mm_checkpoint.specs.Checkpoints.{saved_of, IsCheckpoint};
-ghost use Rattle.mm_cli.specs.declared.table.Kind.TheVariants.{Image as image_file, Schedule as schedule_file, Source as source_file, Object as object_file, Checkpoint as checkpoint_file, Links as links_file, Events as events_file, Text as text_input};
+ghost use Rattle.mm_cli.specs.declared.table.Kind.TheVariants.{Image as image_file, Schedule as schedule_file};
+ghost use Rattle.mm_cli.specs.declared.table.Kind.TheVariants.{Source as source_file, Object as object_file};
+ghost use Rattle.mm_cli.specs.declared.table.Kind.TheVariants.{Checkpoint as checkpoint_file, Links as links_file};
+ghost use Rattle.mm_cli.specs.declared.table.Kind.TheVariants.{Events as events_file, Text as text_input};
 ghost use Rattle.mm_load.specs.Kinds.{Value, an_image, a_list, an_object, a_checkpoint, a_links, an_events, a_text};
 ghost use Rattle.mm_load.specs.Files.{Stops, IsTooLong, FilesRead, InputRead, reading, drawing};
 ghost use Rattle.mm_cli.specs.Words.{file_word, files_in, perhaps};
@@ -58,7 +61,9 @@ fn read_file<F: Files>(
     requires { limit < 2 ^ 31 }
     ensures bytes { IfOk result (λ bytes. Holds (F.held files.old name.now) bytes.items) }
     ensures short { IfOk result (λ bytes. length bytes.items ≤ limit) }
-    ensures stop { IfErr result (Stops (IsTooLong limit number (F.held files.old name.now)) (Rose (F.faults files.old name.now) (F.faults files.new name.now))) }
+    ensures stop { IfErr result
+        (Stops (IsTooLong limit number (F.held files.old name.now))
+        (Rose (F.faults files.old name.now) (F.faults files.new name.now))) }
     ensures kept { F.held files.new ≡ F.held files.old }
     ensures later { NoneFell (F.faults files.old) (F.faults files.new) }
     ensures asks { AsksOnly F.asked files.old files.new name.now }
@@ -87,7 +92,8 @@ pub fn load_image<F: Files>(
     number: u8,
 ) -> Result<Image, Stop>
     ensures read { (before : List Value) → number ≡ length before + 1
-        → FilesRead (reading F.held F.faults F.asked files.old files.new) before ((name.now, image_file) ∷ []) (λ i. an_image i ∷ []) result }
+        → FilesRead (reading F.held F.faults F.asked files.old files.new) before ((name.now, image_file) ∷ [])
+        (λ i. an_image i ∷ []) result }
     ensures kept { F.held files.new ≡ F.held files.old }
     ensures later { NoneFell (F.faults files.old) (F.faults files.new) }
 {
@@ -111,7 +117,8 @@ pub fn load_schedule<F: Files>(
     number: u8,
 ) -> Result<Schedule, Stop>
     ensures read { (before : List Value) → number ≡ length before + 1
-        → FilesRead (reading F.held F.faults F.asked files.old files.new) before ((name.now, schedule_file) ∷ []) (λ list. a_list list ∷ []) result }
+        → FilesRead (reading F.held F.faults F.asked files.old files.new) before ((name.now, schedule_file) ∷ [])
+        (λ list. a_list list ∷ []) result }
     ensures kept { F.held files.new ≡ F.held files.old }
     ensures later { NoneFell (F.faults files.old) (F.faults files.new) }
 {
@@ -134,7 +141,8 @@ pub fn load_source<F: Files>(
     number: u8,
 ) -> Result<Object, Stop>
     ensures { (before : List Value) → number ≡ length before + 1
-        → FilesRead (reading F.held F.faults F.asked files.old files.new) before ((name.now, source_file) ∷ []) (λ o. an_object o ∷ []) result }
+        → FilesRead (reading F.held F.faults F.asked files.old files.new) before ((name.now, source_file) ∷ [])
+        (λ o. an_object o ∷ []) result }
 {
     let bytes = read_file(alloc, files, name, SOURCE_LIMIT, number)?;
     match assemble(alloc, &bytes) {
@@ -162,7 +170,8 @@ pub fn load_object<F: Files>(
     number: u8,
 ) -> Result<Object, Stop>
     ensures read { (before : List Value) → number ≡ length before + 1
-        → FilesRead (reading F.held F.faults F.asked files.old files.new) before ((name.now, object_file) ∷ []) (λ o. an_object o ∷ []) result }
+        → FilesRead (reading F.held F.faults F.asked files.old files.new) before ((name.now, object_file) ∷ [])
+        (λ o. an_object o ∷ []) result }
     ensures kept { F.held files.new ≡ F.held files.old }
     ensures later { NoneFell (F.faults files.old) (F.faults files.new) }
 {
@@ -192,7 +201,8 @@ pub fn load_checkpoint<F: Files>(
     name: &str,
     image: &Image,
 ) -> Result<Checkpoint, Stop>
-    ensures read { FilesRead (reading F.held F.faults F.asked files.old files.new) (an_image image.now ∷ []) ((name.now, checkpoint_file) ∷ [])
+    ensures read { FilesRead (reading F.held F.faults F.asked files.old files.new) (an_image image.now ∷ [])
+        ((name.now, checkpoint_file) ∷ [])
         (λ c. a_checkpoint (saved_of c.snapshot c.last) ∷ []) result }
     ensures checkpoint { IfOk result (λ c. IsCheckpoint image.now c.snapshot c.last) }
     ensures kept { F.held files.new ≡ F.held files.old }
@@ -216,7 +226,8 @@ pub fn load_links<F: Files>(
     number: u8,
 ) -> Result<Links, Stop>
     ensures read { (before : List Value) → number ≡ length before + 1
-        → FilesRead (reading F.held F.faults F.asked files.old files.new) before ((name.now, links_file) ∷ []) (λ links. a_links links ∷ []) result }
+        → FilesRead (reading F.held F.faults F.asked files.old files.new) before ((name.now, links_file) ∷ [])
+        (λ links. a_links links ∷ []) result }
     ensures kept { F.held files.new ≡ F.held files.old }
     ensures later { NoneFell (F.faults files.old) (F.faults files.new) }
 {
@@ -239,7 +250,8 @@ pub fn load_events<F: Files>(
     number: u8,
 ) -> Result<Events, Stop>
     ensures read { (before : List Value) → number ≡ length before + 1
-        → FilesRead (reading F.held F.faults F.asked files.old files.new) before ((name.now, events_file) ∷ []) (λ events. an_events events ∷ []) result }
+        → FilesRead (reading F.held F.faults F.asked files.old files.new) before ((name.now, events_file) ∷ [])
+        (λ events. an_events events ∷ []) result }
     ensures kept { F.held files.new ≡ F.held files.old }
     ensures later { NoneFell (F.faults files.old) (F.faults files.new) }
 {
@@ -276,7 +288,8 @@ pub fn load_order<F: Files>(
 
 /// Reads standard input to its end, which has number 0.
 pub fn load_input<I: Source>(alloc: Global, input: &mut I) -> Result<Vec<u8>, Stop>
-    ensures read { (before : List Value) → InputRead (drawing I.left I.faults input.old input.new) before text_input (λ text. a_text text.items) result }
+    ensures read { (before : List Value)
+        → InputRead (drawing I.left I.faults input.old input.new) before text_input (λ text. a_text text.items) result }
     ensures end { OnOk result (IsAtEnd (I.left input.new)) }
 {
     match read_input(alloc, input, INPUT_LIMIT) {
@@ -295,7 +308,8 @@ pub fn load_objects<F: Files>(
     requires few { length names.now ≤ 16 }
     requires early { first ≤ 16 }
     ensures read { (before : List Value) → first ≡ length before + 1
-        → FilesRead (reading F.held F.faults F.asked files.old files.new) before (files_named object_file names.now) (λ objects. map an_object objects.items) result }
+        → FilesRead (reading F.held F.faults F.asked files.old files.new) before (files_named object_file names.now)
+        (λ objects. map an_object objects.items) result }
     ensures count { IfOk result (λ objects. length objects.items ≡ length names.now) }
 {
     let mut objects = Vec::new(alloc);
@@ -318,7 +332,8 @@ pub fn load_images<F: Files>(
     requires few { length names.now ≤ 16 }
     requires early { first ≤ 16 }
     ensures read { (before : List Value) → first ≡ length before + 1
-        → FilesRead (reading F.held F.faults F.asked files.old files.new) before (files_named image_file names.now) (λ images. map an_image images.items) result }
+        → FilesRead (reading F.held F.faults F.asked files.old files.new) before (files_named image_file names.now)
+        (λ images. map an_image images.items) result }
     ensures count { IfOk result (λ images. length images.items ≡ length names.now) }
 {
     let mut images = Vec::new(alloc);

@@ -79,7 +79,8 @@ pub enum Refusal {
 pub enum Status {
     /// All input was read, and the whole text was written.
     Done,
-    /// The words are in no row of the table of commands: none has so many, or a number is out of its range, or they do not fit together.
+    /// The words are in no row of the table of commands: none has so many, or a number is out of its range, or they do
+    /// not fit together.
     Usage,
     Refused(Refusal),
     /// A file could not be read.

@@ -1,5 +1,6 @@
 -- A state of a machine, kept apart from the machine, without the frames of its memory.
-use Rattle.std.specs.Prelude.{◌≡◌, ◌≢◌, ℕ, ◌+◌, ◌<◌, ◌≤◌, Bool, true, false, ◌==◌, List, [], length, map, slice_index, Option, Some, None, IsSomeAnd}
+use Rattle.std.specs.Prelude.{◌≡◌, ◌≢◌, ℕ, ◌+◌, ◌<◌, ◌≤◌, Bool, true, false, ◌==◌, List, [], length, map, slice_index}
+use Rattle.std.specs.Prelude.{Option, Some, None, IsSomeAnd}
 use Rattle.std.specs.List.{AllByRecursion, list_any, find, count_by, flat_map}
 use Rattle.std.specs.List.Sorted.{IsStrictlyIncreasing}
 use Rattle.mm_word.specs.declared.word.Word.TheVariants.{Int}
@@ -28,7 +29,8 @@ pub record Parts : Type 0 where
   pub cycles : ℕ
 
 abbrev pub parts_of : List Slot → List (ℕ × Event) → List Output → List (ℕ × List Cell) → ℕ → Parts
-parts_of slots events outputs pages cycles = record { slots = slots; events = events; outputs = outputs; pages = pages; cycles = cycles }
+parts_of slots events outputs pages cycles
+    = record { slots = slots; events = events; outputs = outputs; pages = pages; cycles = cycles }
 
 abbrev pub queues_of : List (ℕ × Event) → List ℕ
 queues_of events = map (λ x. x.0) events

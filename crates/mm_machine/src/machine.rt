@@ -27,7 +27,8 @@ pub struct Machine<M: Memory> {
 }
 
 impl<M: Memory> Machine<M> {
-    ghost use Rattle.std.specs.Prelude.{◌≡◌, ◌↔◌, ℕ, ◌+◌, ◌<◌, ◌≤◌, ◌^◌, false, [], ◌∷◌, ◌++◌, List, length, slice_get, slice_index, IfOk, IfSome, IsSomeAnd, Some};
+    ghost use Rattle.std.specs.Prelude.{◌≡◌, ◌↔◌, ℕ, ◌+◌, ◌<◌, ◌≤◌, ◌^◌, false, [], ◌∷◌, ◌++◌, List, length, slice_get};
+    ghost use Rattle.std.specs.Prelude.{slice_index, IfOk, IfSome, IsSomeAnd, Some};
     ghost use Rattle.mm_model.specs.Fits.{slots_of};
     ghost use Rattle.mm_model.specs.Groups.{has_group};
     ghost use Rattle.std.specs.Option.{option_copied};
@@ -77,16 +78,20 @@ impl<M: Memory> Machine<M> {
 
         // The outcome of the item, exactly, by the first test of the turn that fails.
         ensures idle { (result.tick ≡ Tick.Idle) ↔ IsIdle (state_of self.old).core item }
-        ensures delivered { (reg : ℕ) → (result.tick ≡ Tick.Delivered reg) ↔ Delivers (state_of self.old).core item reg }
+        ensures delivered { (reg : ℕ) → (result.tick ≡ Tick.Delivered reg)
+            ↔ Delivers (state_of self.old).core item reg }
         ensures blocked { let s = state_of self.old in (result.tick ≡ Tick.Blocked) ↔ Blocks s.core s.memory item }
-        ensures faulted { let s = state_of self.old in (c : Cause) → (result.tick ≡ Tick.Faulted c) ↔ Faults s.core s.memory item c }
+        ensures faulted { let s = state_of self.old in (c : Cause) → (result.tick ≡ Tick.Faulted c)
+            ↔ Faults s.core s.memory item c }
         ensures did { let s = state_of self.old in (result.tick ≡ Tick.Did) ↔ Completes s.core s.memory item }
 
         // A turn that stops at a fault changes what a fault changes, and nothing else.
-        ensures unchanged { let s = state_of self.old in (x : SlotValue) (c : Cause) → StopsAt s.core s.memory item x c → FaultChanges x c s (state_of self.new) }
+        ensures unchanged { let s = state_of self.old in (x : SlotValue) (c : Cause) → StopsAt s.core s.memory item x c
+            → FaultChanges x c s (state_of self.new) }
 
         // The machine after one item more, from the machine after any items of an image.
-        ensures runs { (i : ImageValue) (items : List ℕ) → StandsFor i items self.old → StandsFor i (items ++ item ∷ []) self.new }
+        ensures runs { (i : ImageValue) (items : List ℕ) → StandsFor i items self.old
+            → StandsFor i (items ++ item ∷ []) self.new }
         ensures ports { ports_used self.new ≡ ports_used self.old }
     {
         let mut step = no_step();
@@ -125,7 +130,8 @@ impl<M: Memory> Machine<M> {
     fn issue(&mut self, items: &[u8], behind: Option<u8>, count: u64, step: &mut Step) -> Option<u8>
         requires few { (state_of self.old).cycles + (length items.now + count) ≤ 2 ^ 32 }
         requires slot { IfSome behind (λ n. n < 64) }
-        ensures goes { WentOn self.old self.new (items.now ++ robin_from (run (state_of self.old) items.now) behind count) }
+        ensures goes { WentOn self.old self.new
+            (items.now ++ robin_from (run (state_of self.old) items.now) behind count) }
         ensures last { result ≡ last_item behind (robin_from (run (state_of self.old) items.now) behind count) }
         ensures slot { IfSome result (λ n. n < 64) }
         ensures step { (n : ℕ) → items.now ≡ n ∷ [] → count ≡ 0 → step.new ≡ (turn_of (state_of self.old) n).step }
@@ -151,7 +157,8 @@ impl<M: Memory> Machine<M> {
     fn next_item(&self, items: &[u8], at: u64, last: &mut Option<u8>) -> Option<u8>
         requires slot { IfSome last.old (λ n. n < 64) }
         ensures listed { at < length items.now → (result ≡ Some (slice_index items.now at)) × (last.new ≡ last.old) }
-        ensures behind { length items.now ≤ at → (result ≡ next_running (state_of self.now).core.rows last.old) × (last.new ≡ or_else result last.old) }
+        ensures behind { length items.now ≤ at → (result ≡ next_running (state_of self.now).core.rows last.old)
+            × (last.new ≡ or_else result last.old) }
         ensures slot { IfSome last.new (λ n. n < 64) }
     {
         if at < items.len() as u64 {
@@ -190,7 +197,8 @@ impl<M: Memory> Machine<M> {
 
     /// The set of running slots: bit n is set exactly if slot n runs.
     pub fn running(&self) -> u64
-        ensures { (n : ℕ) → IsBitSet result n ↔ IsSomeAnd (slot_at (state_of self.now).core n) (λ s. s.state ≡ Running) }
+        ensures { (n : ℕ) → IsBitSet result n
+            ↔ IsSomeAnd (slot_at (state_of self.now).core n) (λ s. s.state ≡ Running) }
     {
         self.core.running()
     }
@@ -254,7 +262,9 @@ impl<M: Memory> Machine<M> {
         ensures answer { result ≡ loaded Pre.Full (cell_at (state_of self.old).memory a.now.addr) }
 
         // This cell alone is changed.
-        ensures state { state_of self.new ≡ record (state_of self.old) { memory = after_load (state_of self.old).memory a.now.addr Pre.Full Post.Empty } }
+        ensures state { state_of self.new
+            ≡ record (state_of self.old)
+            { memory = after_load (state_of self.old).memory a.now.addr Pre.Full Post.Empty } }
 
         // This one use is added.
         ensures takes { Takes self.old self.new (access_uses (state_of self.old).memory a.now Pre.Full) }
@@ -272,7 +282,9 @@ impl<M: Memory> Machine<M> {
         ensures answer { result ≡ stored Pre.Empty (cell_at (state_of self.old).memory a.now.addr) }
 
         // This cell alone is changed.
-        ensures state { state_of self.new ≡ record (state_of self.old) { memory = after_store (state_of self.old).memory a.now.addr (Word.Int bits) Pre.Empty Post.Full } }
+        ensures state { state_of self.new
+            ≡ record (state_of self.old)
+            { memory = after_store (state_of self.old).memory a.now.addr (Word.Int bits) Pre.Empty Post.Full } }
 
         // This one use is added.
         ensures takes { Takes self.old self.new (access_uses (state_of self.old).memory a.now Pre.Empty) }

@@ -26,7 +26,8 @@ impl Model for Snapshot {
 
     ghost view = { λ s. parts_of s.slots.items s.events.items s.outputs.items s.pages.items s.cycles };
 
-    ghost invariant = { λ s. IsSnapshot (parts_of s.slots.items s.events.items s.outputs.items s.pages.items s.cycles) × IsTyped (parts_of s.slots.items s.events.items s.outputs.items s.pages.items s.cycles) };
+    ghost invariant = { λ s. IsSnapshot (parts_of s.slots.items s.events.items s.outputs.items s.pages.items s.cycles)
+        × IsTyped (parts_of s.slots.items s.events.items s.outputs.items s.pages.items s.cycles) };
 }
 
 impl Snapshot {
@@ -46,7 +47,8 @@ impl Snapshot {
         pages: Vec<Page>,
         cycles: u64,
     ) -> Option<Snapshot>
-        ensures { SomeIff result (IsSnapshot (parts_of slots.items events.items outputs.items pages.items cycles)) (parts_of slots.items events.items outputs.items pages.items cycles) }
+        ensures { SomeIff result (IsSnapshot (parts_of slots.items events.items outputs.items pages.items cycles))
+            (parts_of slots.items events.items outputs.items pages.items cycles) }
     {
         if !is_snapshot(&slots, &events, &outputs, &pages, cycles) {
             return None;

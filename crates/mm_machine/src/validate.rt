@@ -12,7 +12,9 @@ ghost use Rattle.mm_model.specs.Spelling.{numbers_of};
 ghost use Rattle.mm_model.specs.Flags.{one_if};
 ghost use Rattle.mm_model.specs.Fits.{is_waiting, waits_for, EventHoldsWords};
 ghost use Rattle.mm_thread.specs.Output.{Output as OutputValue};
-ghost use Rattle.mm_machine.specs.Snapshot.{IsSnapshot, IsTypedEvent, IsAwaited, IsEventOf, HasOneEvent, IsPending, RegisterStands, DoesNotFall, parts_of, numbered, queues_of, groups_of, page_numbers, has_output};
+ghost use Rattle.mm_machine.specs.Snapshot.{IsSnapshot, IsTypedEvent, IsAwaited, IsEventOf, HasOneEvent, IsPending};
+ghost use Rattle.mm_machine.specs.Snapshot.{RegisterStands, DoesNotFall, parts_of, numbered, queues_of, groups_of};
+ghost use Rattle.mm_machine.specs.Snapshot.{page_numbers, has_output};
 
 use mm_model::{Event, Page, Pending, Slot, SlotState};
 use mm_thread::Output;

@@ -27,10 +27,12 @@ pub fn report<M: Inspect, O: Sink>(
 ) -> Result<(), WriteFault>
 
     // For every machine, all of the text except the line of counts, and when a `WriteFault` comes.
-    ensures text { (counts : Option Counts) × Writes O.taken O.faults out.old out.new (report_of (state_of m.now) img.now counts) result }
+    ensures text { (counts : Option Counts)
+        × Writes O.taken O.faults out.old out.new (report_of (state_of m.now) img.now counts) result }
 
     // The line of counts.
-    ensures counts { (us : List Use) → StandsTo m.now us → Writes O.taken O.faults out.old out.new (report_of (state_of m.now) img.now (M.tells us)) result }
+    ensures counts { (us : List Use) → StandsTo m.now us
+        → Writes O.taken O.faults out.old out.new (report_of (state_of m.now) img.now (M.tells us)) result }
 {
     let mem = m.memory();
     let pages = img.pages();

@@ -1,5 +1,6 @@
 -- What the execution of an instruction leaves of the machine before its turn is ended.
-use Rattle.std.specs.Prelude.{◌≡◌, ℕ, ◌+◌, ◌<◌, ◌^◌, true, List, [], length, nat_lt, if◌then◌else◌, Option, None, Result, Ok, Err}
+use Rattle.std.specs.Prelude.{◌≡◌, ℕ, ◌+◌, ◌<◌, ◌^◌, true, List, [], length, nat_lt, if◌then◌else◌, Option, None}
+use Rattle.std.specs.Prelude.{Result, Ok, Err}
 use Rattle.mm_word.specs.declared.cause.Cause.{Cause}
 use Rattle.mm_word.specs.declared.cause.Cause.TheVariants.{Bounds, NoPage, Sync, Priv}
 use Rattle.mm_word.specs.Word.{word_bits}
@@ -16,7 +17,8 @@ use Rattle.mm_model.specs.Operands.{addr_operand, value_operand}
 use Rattle.mm_model.specs.Ask.{ask, is_privileged}
 use Rattle.mm_model.specs.Effect.{Effect, effect, plain, loads}
 use Rattle.mm_model.specs.Effect.Effect.{Fault, Block, Deliver, Does}
-use Rattle.mm_model.specs.Turn.{Turned, core_after, memory_after, reply, touch_of, asked_use, is_running, stood, slot_after, core_faulted, event_of, tick_faulted}
+use Rattle.mm_model.specs.Turn.{Turned, core_after, memory_after, reply, touch_of, asked_use, is_running, stood}
+use Rattle.mm_model.specs.Turn.{slot_after, core_faulted, event_of, tick_faulted}
 use Rattle.mm_model.specs.Fits.{IsCore}
 use Rattle.mm_mem.specs.declared.answer.Loaded.{Loaded}
 use Rattle.mm_mem.specs.declared.answer.Loaded.TheVariants as loads_as
@@ -54,7 +56,8 @@ outcome_of Block = Waits
 outcome_of (Deliver other) = Waits
 outcome_of (Does c) = Goes c.entered
 
-pub record Leaves (core : Core) (m : Memory) (s : Slot) (e : Effect) (core' : Core) (m' : Memory) (outcome : Outcome) : Type 0 where
+pub record Leaves (core : Core) (m : Memory) (s : Slot) (e : Effect) (core' : Core) (m' : Memory) (outcome : Outcome) :
+    Type 0 where
   pub core_is : core' ≡ core_left core s e
   pub memory_is : m' ≡ memory_left m e
   pub outcome_is : outcome ≡ outcome_of e
@@ -94,17 +97,21 @@ CanEnd (Fails c) core place = CanTurn core place
 abbrev pub core_ended : Instr → Core → Slot → ℕ → Outcome → Core
 core_ended i core s place (Goes entered) = core
 core_ended i core s place Waits = with_slot core place (stood s Running)
-core_ended i core s place (Fails c) = core_faulted core s (event_of s c (addr_operand i s) (value_operand i s)) s.handler
+core_ended i core s place (Fails c)
+    = core_faulted core s (event_of s c (addr_operand i s) (value_operand i s)) s.handler
 
 abbrev pub step_ended : ℕ → Slot → Option Touch → Option Touch → Outcome → Step
-step_ended n s f touched (Goes entered) = record { tick = Did; slot = n; fetched = f; touched = touched; entered = entered }
+step_ended n s f touched (Goes entered)
+    = record { tick = Did; slot = n; fetched = f; touched = touched; entered = entered }
 step_ended n s f touched Waits = record { tick = Blocked; slot = n; fetched = f; touched = touched; entered = None }
-step_ended n s f touched (Fails c) = record { tick = tick_faulted c s.handler; slot = n; fetched = f; touched = touched; entered = None }
+step_ended n s f touched (Fails c)
+    = record { tick = tick_faulted c s.handler; slot = n; fetched = f; touched = touched; entered = None }
 
 -- 5. The answers of a memory, and what they do to a slot.
 
 abbrev pub core_loaded : Core → ℕ → ℕ → Loaded → Core
-core_loaded core place rd (loads_as.Value w) = with_slot core place (slot_after (slot_in core place) (loads core.split (slot_in core place) rd w))
+core_loaded core place rd (loads_as.Value w)
+    = with_slot core place (slot_after (slot_in core place) (loads core.split (slot_in core place) rd w))
 core_loaded core place rd _ = core
 
 abbrev pub outcome_loaded : Loaded → Outcome
@@ -113,7 +120,8 @@ outcome_loaded loads_as.NoPage = Fails NoPage
 outcome_loaded loads_as.NotReady = Fails Sync
 
 abbrev pub core_stored : Core → ℕ → Stored → Core
-core_stored core place stores_as.Done = with_slot core place (slot_after (slot_in core place) (plain (slot_in core place)))
+core_stored core place stores_as.Done
+    = with_slot core place (slot_after (slot_in core place) (plain (slot_in core place)))
 core_stored core place _ = core
 
 abbrev pub outcome_stored : Stored → Outcome
@@ -124,7 +132,9 @@ outcome_stored stores_as.NotReady = Fails Sync
 -- the page that a register names, if the code is privileged and the number is below 2^42
 abbrev pub page_named : Slot → ℕ → Result ℕ Cause
 page_named s ra =
-    if is_privileged s.ip.perm then (if nat_lt (word_bits (register s ra)) (2 ^ 42) then Ok (word_bits (register s ra)) else Err Bounds) else Err Priv
+    if is_privileged s.ip.perm then
+    (if nat_lt (word_bits (register s ra)) (2 ^ 42) then Ok (word_bits (register s ra)) else Err Bounds) else Err
+    Priv
 
 -- a turn that asks nothing of a memory and leaves it as it is
 pub record AsksNothing (t : Turned) (m : Memory) (core' : Core) (step' : Step) : Type 0 where

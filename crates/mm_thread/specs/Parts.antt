@@ -33,4 +33,5 @@ core_of version split slots events outputs = record {
 pub record AreParts (core : Core) (slots : List Slot) (events : List (ℕ × Event)) (outputs : List Output) : Type 0 where
   pub whole : IsCore (core_of core.version core.split slots events outputs)
   pub same : map identity_of slots ≡ map identity_of (slots_of core)
-  pub given : AllByRecursion (λ (o : Output). output_of (core_of core.version core.split slots events outputs) o.group ≡ o.bytes) outputs
+  pub given : AllByRecursion
+      (λ (o : Output). output_of (core_of core.version core.split slots events outputs) o.group ≡ o.bytes) outputs

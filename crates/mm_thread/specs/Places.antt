@@ -65,4 +65,5 @@ first_register (p ∷ ps) = Some p.reg
 
 -- the words of an event in four registers from rd on
 abbrev pub event_writes : ℕ → Event → List (ℕ × Word)
-event_writes rd e = (rd, Int (number_of e.cause + 256 * e.slot)) ∷ (rd + 1, Ptr e.ip) ∷ (rd + 2, e.addr_op) ∷ (rd + 3, e.value_op) ∷ []
+event_writes rd e = (rd, Int (number_of e.cause + 256 * e.slot)) ∷ (rd + 1, Ptr e.ip) ∷ (rd + 2, e.addr_op)
+    ∷ (rd + 3, e.value_op) ∷ []

@@ -14,11 +14,13 @@ slot_of_row rows k = (slice_index_or rows k no_row).slot
 -- each row has a number of its own, below 64
 pub record AreNumbered (rows : List Row) : Type 0 where
   pub small : (k : ℕ) → k < length rows → (slot_of_row rows k).number < 64
-  pub own : (j k : ℕ) → j < length rows → k < length rows → (slot_of_row rows j).number ≡ (slot_of_row rows k).number → j ≡ k
+  pub own : (j k : ℕ) → j < length rows → k < length rows → (slot_of_row rows j).number ≡ (slot_of_row rows k).number
+      → j ≡ k
 
 -- each bit says whether one of the first rows has its number and runs
 pub record AreRunners (rows : List Row) (i runners : ℕ) : Type 0 where
-  pub each : (k : ℕ) → k < i → bit_at runners (slot_of_row rows k).number ≡ one_if (is_running (slot_of_row rows k).state)
+  pub each : (k : ℕ) → k < i
+      → bit_at runners (slot_of_row rows k).number ≡ one_if (is_running (slot_of_row rows k).state)
   pub none : (n : ℕ) → n < 64 → ((k : ℕ) → k < i → (slot_of_row rows k).number ≢ n) → bit_at runners n ≡ 0
 
 -- the set has exactly the rows that run

@@ -22,7 +22,8 @@ pub(crate) fn execute<M: Memory>(
     requires can { CanTurn tables.old place }
     requires free { (tables.old.split && lacks instr.now (slot_in tables.old place)) ≡ false }
     requires room { M.uses mem.old < 2 ^ 62 }
-    ensures { Executes M.meaning M.uses M.stands tables.old (slot_in tables.old place) instr.now mem.old mem.new tables.new result }
+    ensures { Executes M.meaning M.uses M.stands tables.old (slot_in tables.old place) instr.now mem.old mem.new
+        tables.new result }
 {
     match instr {
         Instr::Out { ra } => untouched(put_out(tables, place, *ra)),

@@ -19,7 +19,8 @@ pub(crate) fn take_item<M: Memory>(tables: &mut Tables, mem: &mut M, item: u8, s
     requires whole { IsCore tables.old }
     requires turns { AllByRecursion (λ (s : SlotValue). s.turns < 2 ^ 61) (slots_of tables.old) }
     requires room { M.uses mem.old < 2 ^ 61 }
-    ensures { Gives M.meaning M.uses M.stands (turn tables.old (M.meaning mem.old) item) mem.old mem.new tables.new step.new }
+    ensures { Gives M.meaning M.uses M.stands (turn tables.old (M.meaning mem.old) item) mem.old mem.new tables.new
+        step.new }
 {
     match tables.place_of(u64::from(item)) {
         None => take_port(tables, item, step),
@@ -43,7 +44,8 @@ pub(crate) fn is_running(slot: &Slot) -> bool
 // Takes the turn of an item that is the number of no running slot: a port's delivery, or an idle cycle.
 fn take_port(tables: &mut Tables, item: u8, step: &mut Step)
     requires whole { IsCore tables.old }
-    ensures { (m : MemoryValue) → AsksNothing (taken_by_port tables.old m item (port_of tables.old item)) m tables.new step.new }
+    ensures { (m : MemoryValue)
+        → AsksNothing (taken_by_port tables.old m item (port_of tables.old item)) m tables.new step.new }
 {
     let Some(place) = port_of(tables, item) else {
         tell(step, Tick::Idle, item, None, None);

@@ -6,7 +6,8 @@ ghost use Rattle.mm_word.specs.Perm.{can_fetch};
 ghost use Rattle.mm_word.specs.Pointer.{enter_result, next_result};
 ghost use Rattle.mm_model.specs.Slot.{register};
 ghost use Rattle.mm_model.specs.Ask.{is_privileged};
-ghost use Rattle.mm_model.specs.Effect.{effect, sets_pointer, branches, at_distance, high_and_low, same_word, test, entry_of, jumps, links, plain};
+ghost use Rattle.mm_model.specs.Effect.{effect, sets_pointer, branches, at_distance, high_and_low, same_word, test};
+ghost use Rattle.mm_model.specs.Effect.{entry_of, jumps, links, plain};
 ghost use Rattle.mm_model.specs.Effect.Effect.{Does};
 ghost use Rattle.mm_model.specs.Effect.Reply.{Fine};
 ghost use Rattle.mm_thread.specs.Ends.{EndsAlone, pointer_in};
@@ -194,7 +195,8 @@ pub(crate) fn leab_by(slot: &mut Slot, rd: Reg, ra: Reg, rb: Reg) -> Entered
 
 pub(crate) fn restrict_to(slot: &mut Slot, rd: Reg, ra: Reg, rb: Reg) -> Entered
     requires { slot.old.turns < 2 ^ 62 }
-    ensures { (split : Bool) → EndsAlone (effect split (Instr.Restrict rd ra rb) slot.old Fine) slot.old slot.new result }
+    ensures { (split : Bool)
+        → EndsAlone (effect split (Instr.Restrict rd ra rb) slot.old Fine) slot.old slot.new result }
 {
     let code = word_of(slot, rb).bits();
     match pointer_of(slot, ra) {

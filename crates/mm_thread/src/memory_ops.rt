@@ -7,7 +7,8 @@ ghost use Rattle.mm_model.specs.Operands.{lacks};
 ghost use Rattle.mm_model.specs.Ask.{load_kind};
 ghost use Rattle.mm_model.specs.Turn.{is_running};
 ghost use Rattle.mm_thread.specs.Places.{slot_in};
-ghost use Rattle.mm_thread.specs.Execution.{CanTurn, Executes, core_loaded, outcome_loaded, core_stored, outcome_stored, page_named};
+ghost use Rattle.mm_thread.specs.Execution.{CanTurn, Executes, core_loaded, outcome_loaded, core_stored};
+ghost use Rattle.mm_thread.specs.Execution.{outcome_stored, page_named};
 
 use crate::local_ops::{flag, is_privileged};
 use crate::outcome::{Outcome, Retired};
@@ -38,9 +39,11 @@ pub(crate) fn load<M: Memory>(
     at: MemoryOperand,
 ) -> Retired
     requires can { CanTurn tables.old place }
-    requires free { (tables.old.split && lacks (Instr.Ld rd at.base at.pre at.post at.offset) (slot_in tables.old place)) ≡ false }
+    requires free { (tables.old.split
+        && lacks (Instr.Ld rd at.base at.pre at.post at.offset) (slot_in tables.old place)) ≡ false }
     requires room { M.uses mem.old < 2 ^ 62 }
-    ensures { Executes M.meaning M.uses M.stands tables.old (slot_in tables.old place) (Instr.Ld rd at.base at.pre at.post at.offset) mem.old mem.new tables.new result }
+    ensures { Executes M.meaning M.uses M.stands tables.old (slot_in tables.old place)
+        (Instr.Ld rd at.base at.pre at.post at.offset) mem.old mem.new tables.new result }
 {
     match reach(tables.slot(place), at.base, at.offset, load_kind(at.post)) {
         Err(cause) => untouched(Outcome::Fails(cause)),
@@ -62,7 +65,8 @@ pub(crate) fn store<M: Memory>(
 ) -> Retired
     requires can { CanTurn tables.old place }
     requires room { M.uses mem.old < 2 ^ 62 }
-    ensures { Executes M.meaning M.uses M.stands tables.old (slot_in tables.old place) (Instr.St at.base rb at.pre at.post at.offset) mem.old mem.new tables.new result }
+    ensures { Executes M.meaning M.uses M.stands tables.old (slot_in tables.old place)
+        (Instr.St at.base rb at.pre at.post at.offset) mem.old mem.new tables.new result }
 {
     match reach(tables.slot(place), at.base, at.offset, Kind::Store) {
         Err(cause) => untouched(Outcome::Fails(cause)),
@@ -84,7 +88,8 @@ pub(crate) fn map<M: Memory>(
     ra: Reg,
 ) -> Retired
     requires can { CanTurn tables.old place }
-    ensures { Executes M.meaning M.uses M.stands tables.old (slot_in tables.old place) (Instr.Map rd ra) mem.old mem.new tables.new result }
+    ensures { Executes M.meaning M.uses M.stands tables.old (slot_in tables.old place) (Instr.Map rd ra) mem.old mem.new
+        tables.new result }
 {
     match page_named(tables.slot(place), ra) {
         Err(cause) => untouched(Outcome::Fails(cause)),
@@ -105,7 +110,8 @@ pub(crate) fn unmap<M: Memory>(
     ra: Reg,
 ) -> Retired
     requires can { CanTurn tables.old place }
-    ensures { Executes M.meaning M.uses M.stands tables.old (slot_in tables.old place) (Instr.Unmap rd ra) mem.old mem.new tables.new result }
+    ensures { Executes M.meaning M.uses M.stands tables.old (slot_in tables.old place) (Instr.Unmap rd ra) mem.old
+        mem.new tables.new result }
 {
     match page_named(tables.slot(place), ra) {
         Err(cause) => untouched(Outcome::Fails(cause)),

@@ -4,7 +4,8 @@
 ghost use Rattle.std.specs.Prelude.{◌≡◌, [], ◌∷◌};
 ghost use Rattle.std.specs.List.{list_any};
 ghost use Rattle.mm_model.specs.Slot.{is_empty};
-ghost use Rattle.mm_model.specs.Operands.{field_a, field_b, field_imm, fields_d, addr_operand, value_operand, field_empty, lacks};
+ghost use Rattle.mm_model.specs.Operands.{field_a, field_b, field_imm, fields_d, addr_operand, value_operand};
+ghost use Rattle.mm_model.specs.Operands.{field_empty, lacks};
 ghost use Rattle.mm_thread.specs.Named.{results};
 
 use crate::slot::word_of;

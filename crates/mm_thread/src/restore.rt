@@ -30,7 +30,8 @@ pub(crate) fn put_slots(tables: &mut Tables, slots: &[Slot])
 pub(crate) fn put_events(tables: &mut Tables, events: &[(u8, Event)])
     requires apart { AreNumbered tables.old.rows }
     requires empty { tables.old.rows ≡ map row_alone (slots_of tables.old) }
-    requires room { AllByRecursion (λ (s : SlotValue). length (events_for s.number events.now) ≤ 64) (slots_of tables.old) }
+    requires room { AllByRecursion (λ (s : SlotValue). length (events_for s.number events.now) ≤ 64)
+        (slots_of tables.old) }
     ensures { tables.new ≡ record tables.old { rows = map (row_with events.now) (slots_of tables.old) } }
 {
     for (number, event) in events {

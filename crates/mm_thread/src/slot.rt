@@ -81,7 +81,8 @@ pub(crate) fn go_to(slot: &mut Slot, next: GuardedPtr)
 pub(crate) fn link(slot: &mut Slot, rd: Reg, back: GuardedPtr, next: GuardedPtr)
     requires turns { slot.old.turns < 2 ^ 62 }
     requires executable { can_fetch next.perm ≡ true }
-    ensures { slot.new ≡ slot_after slot.old (record (plain slot.old) { writes = (rd, Ptr back) ∷ []; next = next; past = false }) }
+    ensures { slot.new ≡ slot_after slot.old
+        (record (plain slot.old) { writes = (rd, Ptr back) ∷ []; next = next; past = false }) }
 {
     set_register(slot, rd, Word::Ptr(back));
     go_to(slot, next);
@@ -92,7 +93,8 @@ pub(crate) fn link(slot: &mut Slot, rd: Reg, back: GuardedPtr, next: GuardedPtr)
 pub(crate) fn issue(slot: &mut Slot, rd: Reg, word: Word)
     requires turns { slot.old.turns < 2 ^ 62 }
     requires room { length slot.old.pending < 16 }
-    ensures { slot.new ≡ slot_after slot.old (record (plain slot.old) { writes = (rd, Int 0) ∷ []; issue = Some (record { reg = rd; word = word }) }) }
+    ensures { slot.new ≡ slot_after slot.old
+        (record (plain slot.old) { writes = (rd, Int 0) ∷ []; issue = Some (record { reg = rd; word = word }) }) }
 {
     slot.pending.push(Pending {
         reg: rd.number(),

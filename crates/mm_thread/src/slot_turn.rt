@@ -22,7 +22,8 @@ use mm_word::{Access, Cause, Kind, Word, check};
 pub(crate) fn start<M: Memory>(tables: &mut Tables, place: usize, mem: &mut M, step: &mut Step)
     requires can { CanTurn tables.old place }
     requires room { M.uses mem.old < 2 ^ 61 }
-    ensures { Gives M.meaning M.uses M.stands (started tables.old (M.meaning mem.old) (slot_in tables.old place)) mem.old mem.new tables.new step.new }
+    ensures { Gives M.meaning M.uses M.stands (started tables.old (M.meaning mem.old) (slot_in tables.old place))
+        mem.old mem.new tables.new step.new }
 {
     let slot = tables.slot(place);
     let past = slot.past;
@@ -49,7 +50,13 @@ fn fail_fetch(
     ensures core { let s = slot_in tables.old place in
         tables.new ≡ core_faulted tables.old s (event_of s cause (Word.Int 0) (Word.Int 0)) s.handler }
     ensures step { let s = slot_in tables.old place in
-        step.new ≡ record { tick = tick_faulted cause s.handler; slot = s.number; fetched = fetched; touched = None; entered = None } }
+        step.new ≡ record {
+          tick = tick_faulted cause s.handler;
+          slot = s.number;
+          fetched = fetched;
+          touched = None;
+          entered = None;
+        } }
 {
     let number = tables.slot(place).number;
     let tick = fault(tables, place, cause, Word::Int(0), Word::Int(0));
@@ -61,7 +68,9 @@ fn fetch<M: Memory>(tables: &mut Tables, place: usize, mem: &mut M, access: Acce
     requires can { CanTurn tables.old place }
     requires room { M.uses mem.old < 2 ^ 61 }
     requires kind { access.kind ≡ Kind.Fetch }
-    ensures { Gives M.meaning M.uses M.stands (fetched tables.old (M.meaning mem.old) (slot_in tables.old place) access (cell_at (M.meaning mem.old) access.addr)) mem.old mem.new tables.new step.new }
+    ensures { Gives M.meaning M.uses M.stands
+        (fetched tables.old (M.meaning mem.old) (slot_in tables.old place) access
+        (cell_at (M.meaning mem.old) access.addr)) mem.old mem.new tables.new step.new }
 {
     let Some(word) = mem.fetch(&access) else {
         fail_fetch(tables, place, Cause::NoPage, Some(access), step);
@@ -94,8 +103,11 @@ fn issue<M: Memory>(
 )
     requires can { CanTurn tables.old place }
     requires room { M.uses mem.old < 2 ^ 62 }
-    ensures { (before : M) (u : Use) → TakesUses M.stands before mem.old (u ∷ []) → M.meaning mem.old ≡ M.meaning before → M.uses mem.old ≡ M.uses before + accesses (u ∷ []) →
-        Gives M.meaning M.uses M.stands (issued tables.old (M.meaning before) (slot_in tables.old place) access u instr) before mem.new tables.new step.new }
+    ensures { (before : M) (u : Use) → TakesUses M.stands before mem.old (u ∷ []) → M.meaning mem.old ≡ M.meaning before
+        → M.uses mem.old ≡ M.uses before + accesses (u ∷ []) →
+        Gives M.meaning M.uses M.stands
+        (issued tables.old (M.meaning before) (slot_in tables.old place) access u instr)
+        before mem.new tables.new step.new }
 {
     let number = tables.slot(place).number;
     if must_wait(tables, place, &instr) {
@@ -123,7 +135,8 @@ fn must_wait(tables: &Tables, place: usize, instr: &Instr) -> bool
 fn end(tables: &mut Tables, place: usize, instr: &Instr, told: Retired, step: &mut Step)
     requires { CanEnd told.outcome tables.old place }
     ensures core { tables.new ≡ core_ended instr.now tables.old (slot_in tables.old place) place told.outcome }
-    ensures step { step.new ≡ step_ended step.old.slot (slot_in tables.old place) step.old.fetched told.touched told.outcome }
+    ensures step { step.new
+        ≡ step_ended step.old.slot (slot_in tables.old place) step.old.fetched told.touched told.outcome }
 {
     let Retired { outcome, touched } = told;
     step.touched = touched;

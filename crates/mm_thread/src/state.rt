@@ -1,6 +1,7 @@
 //! A core: the slots, events and outputs of a machine.
 
-ghost use Rattle.std.specs.Prelude.{◌≡◌, ℕ, ◌+◌, ◌<◌, ◌≤◌, ◌^◌, ◌⊎◌, false, [], length, map, replicate, IfOk, IsSomeAnd, slice_get, ◌↔◌};
+ghost use Rattle.std.specs.Prelude.{◌≡◌, ℕ, ◌+◌, ◌<◌, ◌≤◌, ◌^◌, ◌⊎◌, false, [], length, map, replicate, IfOk};
+ghost use Rattle.std.specs.Prelude.{IsSomeAnd, slice_get, ◌↔◌};
 ghost use Rattle.std.specs.Int.{IsBitSet};
 ghost use Rattle.std.specs.Option.{option_copied};
 ghost use Rattle.mm_model.specs.declared.slot.SlotState.TheVariants.{Running};

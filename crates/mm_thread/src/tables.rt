@@ -1,6 +1,7 @@
 //! The tables of a core, and the changes to them.
 
-ghost use Rattle.std.specs.Prelude.{◌≡◌, ◌↔◌, ℕ, IsSomeAnd, IfSome, IfNone, ◌<◌, ◌≤◌, ◌^◌, ◌++◌, ◌&&◌, [], ◌∷◌, nat_lt, None, Some, Bool, true, false, length, drop, slice_set};
+ghost use Rattle.std.specs.Prelude.{◌≡◌, ◌↔◌, ℕ, IsSomeAnd, IfSome, IfNone, ◌<◌, ◌≤◌, ◌^◌, ◌++◌, ◌&&◌, [], ◌∷◌, nat_lt};
+ghost use Rattle.std.specs.Prelude.{None, Some, Bool, true, false, length, drop, slice_set};
 ghost use Rattle.std.specs.List.{AllByRecursion};
 ghost use Rattle.std.specs.Int.{IsBitSet};
 ghost use Rattle.mm_word.specs.declared.word.Word.TheVariants.{Int};
@@ -14,7 +15,8 @@ ghost use Rattle.mm_model.specs.Effect.Reply.{Fine};
 ghost use Rattle.mm_model.specs.Turn.{slot_after, stood, is_running};
 ghost use Rattle.mm_thread.specs.Ends.{EndsAlone, is_alone};
 ghost use Rattle.mm_thread.specs.Tables.{AreNumbered};
-ghost use Rattle.mm_thread.specs.Places.{row_alone, slot_in, queue_in, with_row, with_slot, with_queue_in, first_register, event_writes};
+ghost use Rattle.mm_thread.specs.Places.{row_alone, slot_in, queue_in, with_row, with_slot, with_queue_in};
+ghost use Rattle.mm_thread.specs.Places.{first_register, event_writes};
 
 use crate::build::index_of;
 use crate::carry_out::carry_out;
@@ -47,7 +49,8 @@ impl Model for Tables {
 
     ghost Value = { Core };
 
-    ghost view = { λ t. record { rows = t.rows.items; outputs = t.outputs.items; version = t.version; split = t.split } };
+    ghost view = { λ t. record
+        { rows = t.rows.items; outputs = t.outputs.items; version = t.version; split = t.split } };
 
     ghost invariant = { λ t. AreKnown t.rows.items t.index t.runners };
 }
@@ -191,7 +194,8 @@ impl Tables {
         requires place { place < length self.old.rows }
         requires runs { is_running (slot_in self.old place).state ≡ true }
         requires turns { (slot_in self.old place).turns < 2 ^ 62 }
-        ensures { self.new ≡ with_slot self.old place (slot_after (slot_in self.old place) (plain (slot_in self.old place))) }
+        ensures { self.new ≡ with_slot self.old place
+            (slot_after (slot_in self.old place) (plain (slot_in self.old place))) }
     {
         let row = &mut self.rows[place];
         let slot = &mut row.slot;
@@ -204,7 +208,9 @@ impl Tables {
         requires place { place < length self.old.rows }
         requires runs { is_running (slot_in self.old place).state ≡ true }
         requires turns { (slot_in self.old place).turns < 2 ^ 62 }
-        ensures { self.new ≡ with_slot self.old place (slot_after (slot_in self.old place) (record (plain (slot_in self.old place)) { writes = (rd, word) ∷ [] })) }
+        ensures { self.new ≡ with_slot self.old place
+            (slot_after (slot_in self.old place)
+            (record (plain (slot_in self.old place)) { writes = (rd, word) ∷ [] })) }
     {
         let row = &mut self.rows[place];
         let slot = &mut row.slot;
@@ -218,7 +224,10 @@ impl Tables {
         requires runs { is_running (slot_in self.old place).state ≡ true }
         requires turns { (slot_in self.old place).turns < 2 ^ 62 }
         requires room { length (slot_in self.old place).pending < 16 }
-        ensures { self.new ≡ with_slot self.old place (slot_after (slot_in self.old place) (record (plain (slot_in self.old place)) { writes = (rd, Int 0) ∷ []; issue = Some (record { reg = rd; word = word }) })) }
+        ensures { self.new ≡ with_slot self.old place
+            (slot_after (slot_in self.old place)
+            (record (plain (slot_in self.old place))
+            { writes = (rd, Int 0) ∷ []; issue = Some (record { reg = rd; word = word }) })) }
     {
         let row = &mut self.rows[place];
         let slot = &mut row.slot;
@@ -232,7 +241,9 @@ impl Tables {
         requires runs { is_running (slot_in self.old place).state ≡ true }
         requires turns { (slot_in self.old place).turns < 2 ^ 62 }
         requires alone { is_alone instr ≡ true }
-        ensures ends { (split : Bool) → EndsAlone (effect split instr (slot_in self.old place) Fine) (slot_in self.old place) (slot_in self.new place) result }
+        ensures ends { (split : Bool)
+            → EndsAlone (effect split instr (slot_in self.old place) Fine) (slot_in self.old place)
+            (slot_in self.new place) result }
         ensures others { self.new ≡ with_slot self.old place (slot_in self.new place) }
     {
         let row = &mut self.rows[place];
@@ -247,7 +258,9 @@ impl Tables {
         requires place { place < length self.old.rows }
         requires runs { is_running (slot_in self.old place).state ≡ true }
         requires turns { (slot_in self.old place).turns < 2 ^ 62 }
-        ensures { self.new ≡ with_slot self.old place (slot_after (slot_in self.old place) (record (plain (slot_in self.old place)) { writes = event_writes rd event.now })) }
+        ensures { self.new ≡ with_slot self.old place
+            (slot_after (slot_in self.old place)
+            (record (plain (slot_in self.old place)) { writes = event_writes rd event.now })) }
     {
         let row = &mut self.rows[place];
         let slot = &mut row.slot;
@@ -292,7 +305,8 @@ impl Tables {
     /// Writes a register of the slot, for its handler.
     pub(crate) fn set_register(&mut self, place: usize, reg: Reg, word: Word)
         requires { place < length self.old.rows }
-        ensures { self.new ≡ with_slot self.old place (record (slot_in self.old place) { regs = slice_set (slot_in self.old place).regs reg word }) }
+        ensures { self.new ≡ with_slot self.old place
+            (record (slot_in self.old place) { regs = slice_set (slot_in self.old place).regs reg word }) }
     {
         let row = &mut self.rows[place];
         let slot = &mut row.slot;

@@ -11,7 +11,8 @@ use Rattle.mm_load.specs.declared.status.Status.TheVariants.{Done, Usage, Refuse
 use Rattle.mm_load.specs.declared.status.Stop.{Stop}
 use Rattle.mm_load.specs.declared.status.Stop.TheVariants as stop
 use Rattle.mm_load.specs.Kinds.{Value}
-use Rattle.mm_load.specs.Files.{Reading, Drawing, FilesAccepted, FilesRefused, FilesFailed, AsksFiles, InputsAccepted, InputsRefused, InputsFailed, InputsTold, ToldInputsRefused}
+use Rattle.mm_load.specs.Files.{Reading, Drawing, FilesAccepted, FilesRefused, FilesFailed, AsksFiles, InputsAccepted}
+use Rattle.mm_load.specs.Files.{InputsRefused, InputsFailed, InputsTold, ToldInputsRefused}
 use Rattle.mm_cli.specs.Table.{Row, files_of, input_of, Asks, InNoRow}
 use Rattle.mm_top.specs.Commands.{Declines, Yields}
 
@@ -22,22 +23,27 @@ pub data Outcome : Type 0 where
   refuse : Refusal → Outcome
   write : List ℕ → Outcome
 
--- what a row comes to, by what the memory tells of uses, and by what the files hold and standard input has left, as far as that is told
-abbrev pub Gives : (List Use → Option Counts) → (List ℕ → Option (List ℕ)) → (left : Option (List ℕ)) → Row → Outcome → Type 0
+-- what a row comes to, by what the memory tells of uses, and by what the files hold and standard input has left, as far
+-- as that is told
+abbrev pub Gives : (List Use → Option Counts) → (List ℕ → Option (List ℕ)) → (left : Option (List ℕ)) → Row → Outcome
+    → Type 0
 Gives tells held left row (refuse r) =
     InputsRefused held left (files_of row) (input_of row) r
     ⊎ ((values : List Value) × InputsAccepted held left (files_of row) (input_of row) values × Declines row values r)
-Gives tells held left row (write text) = (values : List Value) × InputsAccepted held left (files_of row) (input_of row) values × Yields tells row values text
+Gives tells held left row (write text) = (values : List Value)
+    × InputsAccepted held left (files_of row) (input_of row) values × Yields tells row values text
 
 -- What words come to: they are in a row that comes to it.
-pub record ComesTo (tells : List Use → Option Counts) (held : List ℕ → Option (List ℕ)) (left : Option (List ℕ)) (words : List (List ℕ)) (outcome : Outcome) : Type 0 where
+pub record ComesTo (tells : List Use → Option Counts) (held : List ℕ → Option (List ℕ)) (left : Option (List ℕ))
+    (words : List (List ℕ)) (outcome : Outcome) : Type 0 where
   pub row : Row
   pub asks : Asks words row
   pub gives : Gives tells held left row outcome
 
 -- 2. What a call starts and ends with.
 
--- What a sink had taken when its writing starts and has taken now, and how often writes of it had failed then and have now.
+-- What a sink had taken when its writing starts and has taken now, and how often writes of it had failed then and have
+-- now.
 pub record Writing : Type 0 where
   pub taken_before : Option (List ℕ)
   pub taken : Option (List ℕ)
@@ -45,7 +51,8 @@ pub record Writing : Type 0 where
   pub now : ℕ
 
 abbrev pub writing : {S : Type 0} → (taken : S → Option (List ℕ)) → (faults : S → ℕ) → (old new : S) → Writing
-writing taken faults old new = record { taken_before = taken old; taken = taken new; before = faults old; now = faults new }
+writing taken faults old new
+    = record { taken_before = taken old; taken = taken new; before = faults old; now = faults new }
 
 -- What the memory tells of uses, the reading of files and of standard input, and the writing of the text.
 pub record Call : Type 1 where
@@ -74,8 +81,8 @@ pub record TookLine (old new : Option (List ℕ)) (before now : ℕ) (line : Lis
   pub part : TookPart old new line
   pub whole : ¬ Rose before now → new ≡ append_known old line
 
--- What completeness asks: the words are in a row, its inputs are told and accepted, none of the row's own refusals stands, and no count
--- that the row depends on rose or stands at its last value.
+-- What completeness asks: the words are in a row, its inputs are told and accepted, none of the row's own refusals
+-- stands, and no count that the row depends on rose or stands at its last value.
 pub record NothingFails (c : Call) (words : List (List ℕ)) : Type 0 where
   pub row : Row
   pub asks : Asks words row
@@ -86,8 +93,8 @@ pub record NothingFails (c : Call) (words : List (List ℕ)) : Type 0 where
   pub read : ¬ InputsFailed c.files c.input (files_of row) (input_of row)
   pub written : ¬ Rose c.out.before c.out.now
 
--- why a refusal has to come: an input is refused, those before it are accepted, and what these hold is told; or what all hold is told,
--- all are accepted, and the row declines their values
+-- why a refusal has to come: an input is refused, those before it are accepted, and what these hold is told; or what
+-- all hold is told, all are accepted, and the row declines their values
 abbrev pub ToldToRefuse : (List ℕ → Option (List ℕ)) → (left : Option (List ℕ)) → Row → Refusal → Type 0
 ToldToRefuse held left row r =
     ToldInputsRefused held left (files_of row) (input_of row) r
@@ -95,7 +102,8 @@ ToldToRefuse held left row r =
     × ((values : List Value) × InputsAccepted held left (files_of row) (input_of row) values × Declines row values r))
 
 -- A refusal that has to come: the words are in a row that has to give it.
-pub record HasToRefuse (held : List ℕ → Option (List ℕ)) (left : Option (List ℕ)) (words : List (List ℕ)) (r : Refusal) : Type 0 where
+pub record HasToRefuse (held : List ℕ → Option (List ℕ)) (left : Option (List ℕ)) (words : List (List ℕ)) (r : Refusal)
+    : Type 0 where
   pub row : Row
   pub asks : Asks words row
   pub why : ToldToRefuse held left row r
@@ -109,9 +117,12 @@ RefusedUnless r _ = ⊥
 
 -- 4. What the parts of the program answer.
 
--- How a command ends: with a whole text that it is to write, or because it is refused, reading or writing fails, or memory runs out.
-abbrev pub Ends : Writing → (Refuses : Refusal → Type 0) → (Fails : Type 0) → (IsText : List ℕ → Type 0) → Result (Unit {0}) Stop → Type 0
-Ends out Refuses Fails IsText (Ok done) = (text : List ℕ) × IsText text × (out.taken ≡ append_known out.taken_before text)
+-- How a command ends: with a whole text that it is to write, or because it is refused, reading or writing fails, or
+-- memory runs out.
+abbrev pub Ends : Writing → (Refuses : Refusal → Type 0) → (Fails : Type 0) → (IsText : List ℕ → Type 0)
+    → Result (Unit {0}) Stop → Type 0
+Ends out Refuses Fails IsText (Ok done) = (text : List ℕ) × IsText text
+    × (out.taken ≡ append_known out.taken_before text)
 Ends out Refuses Fails IsText (Err (stop.Refused r)) = Refuses r × (out.taken ≡ out.taken_before)
 Ends out Refuses Fails IsText (Err stop.ReadFault) = Fails × (out.taken ≡ out.taken_before)
 Ends out Refuses Fails IsText (Err stop.WriteFault) =
@@ -123,15 +134,20 @@ abbrev pub EndsWith : Writing → (IsText : List ℕ → Type 0) → Result (Uni
 EndsWith out IsText result = Ends out (λ r. ⊥) ⊥ IsText result
 
 -- How a row's command ends that reads files alone. `Text` says what it writes, by the values of the files.
-pub record CommandEnds (files : Reading) (out : Writing) (Text : Row → List Value → List ℕ → Type 0) (row : Row) (result : Result (Unit {0}) Stop) : Type 0 where
-  pub ends : Ends out (λ r. FilesRefused files.held [] (files_of row) r ⊎ ((values : List Value) × FilesAccepted files.held [] (files_of row) values × Declines row values r))
-      (FilesFailed files [] (files_of row)) (λ text. (values : List Value) × FilesAccepted files.held [] (files_of row) values × Text row values text) result
+pub record CommandEnds (files : Reading) (out : Writing) (Text : Row → List Value → List ℕ → Type 0) (row : Row)
+    (result : Result (Unit {0}) Stop) : Type 0 where
+  pub ends : Ends out (λ r. FilesRefused files.held [] (files_of row) r
+      ⊎ ((values : List Value) × FilesAccepted files.held [] (files_of row) values × Declines row values r))
+      (FilesFailed files [] (files_of row))
+      (λ text. (values : List Value) × FilesAccepted files.held [] (files_of row) values × Text row values text)
+      result
   pub asked : AsksFiles files [] (files_of row)
 
 -- how the command of a row ends
 abbrev pub RowEnds : Call → Row → Result (Unit {0}) Stop → Type 0
 RowEnds c row result =
-    Ends c.out (λ r. Gives c.tells c.files.held c.input.left row (refuse r)) (InputsFailed c.files c.input (files_of row) (input_of row))
+    Ends c.out (λ r. Gives c.tells c.files.held c.input.left row (refuse r))
+    (InputsFailed c.files c.input (files_of row) (input_of row))
     (λ text. Gives c.tells c.files.held c.input.left row (write text)) result
 
 -- the status at the end of a command

@@ -27,8 +27,11 @@ use Rattle.mm_sched.specs.declared.schedule.Order.{Order}
 use Rattle.mm_debug.specs.Session as session
 use Rattle.mm_save.specs.Recorder.{recorded}
 use Rattle.mm_cli.specs.declared.table.Command.{Command}
-use Rattle.mm_cli.specs.declared.table.Command.TheVariants.{Run, Trace, Solo, Grants, Extract, Asm, Link, Dis, Debug, Gen, Soak, Migrate, Sweep, Holders, Save, Continue, Net}
-use Rattle.mm_cli.specs.declared.table.Kind.TheVariants.{Image as image_file, Schedule as schedule_file, Source as source_file, Object as object_file, Checkpoint as checkpoint_file}
+use Rattle.mm_cli.specs.declared.table.Command.TheVariants.{Run, Trace, Solo, Grants, Extract, Asm, Link, Dis, Debug}
+use Rattle.mm_cli.specs.declared.table.Command.TheVariants.{Gen, Soak, Migrate, Sweep, Holders, Save, Continue, Net}
+use Rattle.mm_cli.specs.declared.table.Kind.TheVariants.{Image as image_file, Schedule as schedule_file}
+use Rattle.mm_cli.specs.declared.table.Kind.TheVariants.{Source as source_file, Object as object_file}
+use Rattle.mm_cli.specs.declared.table.Kind.TheVariants.{Checkpoint as checkpoint_file}
 use Rattle.mm_cli.specs.Words.{Word, file_word, number_word, groups_word, mode_word, range_word, perhaps}
 use Rattle.mm_cli.specs.Table.{Row}
 use Rattle.mm_load.specs.declared.status.Refusal.{Refusal}
@@ -48,8 +51,8 @@ use Rattle.mm_top.specs.Saving.{last_issued, saved_after, Continues}
 abbrev pub report_after : (List Use → Option Counts) → model.Image → List ℕ → List ℕ
 report_after tells i items = report (machine.run (model.start i) items) i (tells (machine.uses (model.start i) items))
 
--- the report of the groups' own part of a run under a list: the image without the slots of other groups, and the items of the
--- list's first so many that are theirs
+-- the report of the groups' own part of a run under a list: the image without the slots of other groups, and the items
+-- of the list's first so many that are theirs
 abbrev pub own_report : (List Use → Option Counts) → model.Image → List ℕ → ℕ → (ℕ → Bool) → List ℕ
 own_report tells i list cycles c = report_after tells (alone i c) (only i (first_items list cycles) c)
 
@@ -71,7 +74,8 @@ replies_to i order input = let first = session.begun order (model.start i) in (r
 
 -- the values are those of an order and, behind it, of an input, and the text is the replies to that
 abbrev pub IsDialogue : model.Image → List Value → List ℕ → Type 0
-IsDialogue i values text = (order : Order) × (input : List ℕ) × (values ≡ values_of order ++ a_text input ∷ []) × (text ≡ replies_to i order input)
+IsDialogue i values text = (order : Order) × (input : List ℕ) × (values ≡ values_of order ++ a_text input ∷ [])
+    × (text ≡ replies_to i order input)
 
 -- the summary of a generated image's run under so many cycles of round robin, over every memory
 abbrev pub soaked : (number size cycles : ℕ) → List ℕ
@@ -98,7 +102,8 @@ YieldsAloneAt Grants (image ∷ groups_word groups ∷ []) (an_image i ∷ []) t
 YieldsAloneAt Extract (image ∷ groups_word groups ∷ []) (an_image i ∷ []) text =
     StandAlone i (among groups) × IsExtract i (among groups) text
 YieldsAloneAt Asm words (an_object o ∷ []) text = SpellsObject text o
-YieldsAloneAt Link words values text = (objects : List Object) × (values ≡ map an_object objects) × IsLinked objects text
+YieldsAloneAt Link words values text = (objects : List Object) × (values ≡ map an_object objects)
+    × IsLinked objects text
 YieldsAloneAt Dis words (an_object o ∷ []) text = text ≡ canonical o
 YieldsAloneAt Gen (number_word number ∷ number_word size ∷ []) [] text = Spells text (generated number size)
 YieldsAloneAt Migrate (image ∷ mode_word split ∷ []) (an_image i ∷ []) text = Spells text (migrated i split)

@@ -7,7 +7,8 @@ use Rattle.mm_audit.specs.Refusals.{IsRefused}
 use Rattle.mm_load.specs.declared.status.Refusal.{Refusal}
 use Rattle.mm_load.specs.declared.status.Refusal.TheVariants.{NoGroup, Crosses}
 
--- why the groups are refused: they have no slot, or else one of their slots has its handler outside, and this is the least such slot
+-- why the groups are refused: they have no slot, or else one of their slots has its handler outside, and this is the
+-- least such slot
 abbrev pub GroupsRefused : Image → (ℕ → Bool) → Refusal → Type 0
 GroupsRefused i c NoGroup = IsRefused i c refused.NoGroup
 GroupsRefused i c (Crosses n) = IsRefused i c (refused.Crosses n)

@@ -15,7 +15,8 @@ use Rattle.mm_top.specs.Orders.{Issues}
 use Rattle.mm_top.specs.Commands.{run, trace, report_after}
 
 -- What `run` did, where it is done.
-pub record RunIsProved (tells : List Use → Option Counts) (held : List ℕ → Option (List ℕ)) (image : List ℕ) (cycles : ℕ) (schedule : Option (List ℕ)) (written : List ℕ) : Type 0 where
+pub record RunIsProved (tells : List Use → Option Counts) (held : List ℕ → Option (List ℕ)) (image : List ℕ)
+    (cycles : ℕ) (schedule : Option (List ℕ)) (written : List ℕ) : Type 0 where
   -- the image that the first file spells, the list of the second, if there is one, and the items that were issued
   pub i : Image
   pub lists : List Value
@@ -24,14 +25,15 @@ pub record RunIsProved (tells : List Use → Option Counts) (held : List ℕ →
   pub issues : Issues i cycles lists items
   -- It writes the flat machine's report.
   pub writes : written ≡ report_after tells i items
-  -- Every word that a thread touches lies in a segment that is granted to its group, what lies behind an enter pointer only once it
-  -- was entered at its own address.
+  -- Every word that a thread touches lies in a segment that is granted to its group, what lies behind an enter pointer
+  -- only once it was entered at its own address.
   pub reaches : Reaches i items
   -- The sections of groups that stand apart are those of a run without the others, under the items restricted to them.
   pub isolates : (c : ℕ → Bool) → HasSlot i c → Apart i All c → Isolates i items written c
 
 -- What `trace` did, where it is done.
-pub record TraceIsProved (tells : List Use → Option Counts) (held : List ℕ → Option (List ℕ)) (image : List ℕ) (cycles : ℕ) (schedule : Option (List ℕ)) (written : List ℕ) : Type 0 where
+pub record TraceIsProved (tells : List Use → Option Counts) (held : List ℕ → Option (List ℕ)) (image : List ℕ)
+    (cycles : ℕ) (schedule : Option (List ℕ)) (written : List ℕ) : Type 0 where
   pub i : Image
   pub lists : List Value
   pub items : List ℕ

@@ -32,7 +32,8 @@ pub record HasState (i : Image) (c : Saved) (s : State) : Type 0 where
   pub alike : IsAlike (start i) s
   pub saved : saved_form s c.last ≡ c
 
--- the further items: so many cycles of round robin from a state on, behind the slot issued last, or a list's first so many
+-- the further items: so many cycles of round robin from a state on, behind the slot issued last, or a list's first so
+-- many
 abbrev pub Further : State → (last : Option ℕ) → (cycles : ℕ) → (lists : List Value) → List ℕ → Type 0
 Further s last cycles [] items = items ≡ robin_from s last cycles
 Further s last cycles (a_list list ∷ []) items = items ≡ first_items list cycles
@@ -43,9 +44,11 @@ abbrev pub further_report : (List Use → Option Counts) → Image → State →
 further_report tells i s items = report (run s items) i (tells (uses s items))
 
 -- the text is the report of a run that goes on from what is saved
-abbrev pub Continues : (List Use → Option Counts) → Image → Saved → (cycles : ℕ) → (lists : List Value) → List ℕ → Type 0
+abbrev pub Continues : (List Use → Option Counts) → Image → Saved → (cycles : ℕ) → (lists : List Value) → List ℕ
+    → Type 0
 Continues tells i c cycles lists text =
-    (s : State) × HasState i c s × ((items : List ℕ) × Further s c.last cycles lists items × (text ≡ further_report tells i s items))
+    (s : State) × HasState i c s
+    × ((items : List ℕ) × Further s c.last cycles lists items × (text ≡ further_report tells i s items))
 
 -- 3. By orders.
 

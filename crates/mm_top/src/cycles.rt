@@ -8,8 +8,8 @@ use mm_machine::Machine;
 use mm_mem::Memory;
 use mm_sched::Order;
 
-/// Issues so many cycles in an order, whose round robin goes on behind a slot, fewer where its items end or no slot runs. Gives the
-/// slot that round robin issued last, which a list has none of.
+/// Issues so many cycles in an order, whose round robin goes on behind a slot, fewer where its items end or no slot
+/// runs. Gives the slot that round robin issued last, which a list has none of.
 pub fn issue<M: Memory>(
     machine: &mut Machine<M>,
     order: &Order,

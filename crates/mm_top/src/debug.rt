@@ -27,8 +27,12 @@ pub fn debug<M: Boot + Reset, F: Files, I: Source, O: Sink>(
     input: &mut I,
     out: &mut O,
 ) -> Result<(), Stop>
-    ensures ends { RowEnds (call M.tells (reading F.held F.faults F.asked files.old files.new) (drawing I.left I.faults input.old input.new) (writing O.taken O.faults out.old out.new)) (row Command.Debug words.now) result }
-    ensures asked { AsksFiles (reading F.held F.faults F.asked files.old files.new) [] (files_of (row Command.Debug words.now)) }
+    ensures ends { RowEnds
+        (call M.tells (reading F.held F.faults F.asked files.old files.new)
+        (drawing I.left I.faults input.old input.new) (writing O.taken O.faults out.old out.new))
+        (row Command.Debug words.now) result }
+    ensures asked { AsksFiles (reading F.held F.faults F.asked files.old files.new) []
+        (files_of (row Command.Debug words.now)) }
     ensures drawn { DrawnBehind (F.held files.old) (files_of (row Command.Debug words.now)) (input.new ≡ input.old) }
     ensures read { OnOk result (IsAtEnd (I.left input.new)) }
 {
@@ -46,7 +50,8 @@ fn write_replies<M: Boot + Reset, O: Sink>(
     lines: &[u8],
     out: &mut O,
 ) -> Result<(), Stop>
-    ensures { EndsWith (writing O.taken O.faults out.old out.new) (λ text. text ≡ replies_to image.now order lines.now) result }
+    ensures { EndsWith (writing O.taken O.faults out.old out.new) (λ text. text ≡ replies_to image.now order lines.now)
+        result }
 {
     let machine: Machine<M> = boot(alloc, image)?;
     let session = Session::new(machine, order);

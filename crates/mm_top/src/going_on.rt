@@ -48,7 +48,9 @@ fn write_further<M: Boot + Reset, O: Sink>(
 ) -> Result<(), Stop>
     requires checkpoint { IsCheckpoint image.now checkpoint.now.snapshot checkpoint.now.last }
     requires few { cycles ≤ 1000000 }
-    ensures { EndsWith (writing O.taken O.faults out.old out.new) (Continues M.tells image.now (saved_of checkpoint.now.snapshot checkpoint.now.last) cycles (values_of order.now)) result }
+    ensures { EndsWith (writing O.taken O.faults out.old out.new)
+        (Continues M.tells image.now (saved_of checkpoint.now.snapshot checkpoint.now.last) cycles
+        (values_of order.now)) result }
 {
     let mut machine: Machine<M> = boot(alloc, image)?;
     machine.restore(&checkpoint.snapshot);

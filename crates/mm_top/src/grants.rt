@@ -39,7 +39,8 @@ fn write_grants<O: Sink>(
     groups: Option<&[u8]>,
     out: &mut O,
 ) -> Result<(), Stop>
-    ensures { EndsWith (writing O.taken O.faults out.old out.new) (IsAudit image.now (option_map (λ list. list.now) groups.entry)) result }
+    ensures { EndsWith (writing O.taken O.faults out.old out.new)
+        (IsAudit image.now (option_map (λ list. list.now) groups.entry)) result }
 {
     let survey = survey(alloc, image, &Entries::All)?;
     write_text(&survey, image, groups, out)?;

@@ -32,7 +32,8 @@ pub fn holders<F: Files, O: Sink>(
 /// Writes who holds a pointer whose segment meets a range.
 fn write_holders<O: Sink>(image: &Image, base: u64, log: u8, out: &mut O) -> Result<(), Stop>
     requires { IsRange base log }
-    ensures { EndsWith (writing O.taken O.faults out.old out.new) (λ text. text ≡ holders (base, log) image.now) result }
+    ensures { EndsWith (writing O.taken O.faults out.old out.new) (λ text. text ≡ holders (base, log) image.now)
+        result }
 {
     ended(mm_sweep::holders(image, base, log, out))
 }

@@ -1,7 +1,8 @@
 //! All that the program does: the commands, and the one call that does what words ask, [`mmachine`].
 //!
-//! The contract of [`mmachine`] stands in src/top.rt, with the headline among its clauses. The table of commands is that of
-//! `mm_cli`, the kinds of files are those of `mm_load`, and what each command comes to stands in specs/Commands.antt.
+//! The contract of [`mmachine`] stands in src/top.rt, with the headline among its clauses. The table of commands is
+//! that of `mm_cli`, the kinds of files are those of `mm_load`, and what each command comes to stands in
+//! specs/Commands.antt.
 #![tactic(auto)]
 
 mod asm;

@@ -30,7 +30,8 @@ pub fn link<F: Files, O: Sink>(
 fn write_linked<O: Sink>(alloc: Global, objects: &[Object], out: &mut O) -> Result<(), Stop>
     requires some { 1 ≤ length objects.now }
     requires few { length objects.now ≤ 16 }
-    ensures { Ends (writing O.taken O.faults out.old out.new) (LinkRefused objects.now) ⊥ (IsLinked objects.now) result }
+    ensures { Ends (writing O.taken O.faults out.old out.new) (LinkRefused objects.now) ⊥ (IsLinked objects.now)
+        result }
 {
     let image = mm_link::link(alloc, objects)?;
     let bytes = mm_image::write(alloc, &image)?;

@@ -36,7 +36,8 @@ fn write_migrated<O: Sink>(
     split: bool,
     out: &mut O,
 ) -> Result<(), Stop>
-    ensures { EndsWith (writing O.taken O.faults out.old out.new) (λ text. Spells text (migrated image.now split)) result }
+    ensures { EndsWith (writing O.taken O.faults out.old out.new) (λ text. Spells text (migrated image.now split))
+        result }
 {
     let image = as_version_2(alloc, image, split)?;
     let bytes = mm_image::write(alloc, &image)?;

@@ -39,7 +39,8 @@ pub fn run_net<M: Boot, F: Files, O: Sink>(
     write_net::<M, O>(alloc, links, &events, &images, number_at(words, 2), out)
 }
 
-/// Writes what a net of images has come to after the first so many events: the report of each node, and what each link carried.
+/// Writes what a net of images has come to after the first so many events: the report of each node, and what each link
+/// carried.
 fn write_net<M: Boot, O: Sink>(
     alloc: Global,
     links: Links,
@@ -51,7 +52,8 @@ fn write_net<M: Boot, O: Sink>(
     requires some { 1 ≤ length images.now }
     requires few { length images.now ≤ 8 }
     ensures { Ends (writing O.taken O.faults out.old out.new) (JoinRefused links (length images.now)) ⊥
-        (λ text. NoneLacking links (length images.now) × (text ≡ net_text M.tells links images.now (take cycles events.now))) result }
+        (λ text. NoneLacking links (length images.now)
+        × (text ≡ net_text M.tells links images.now (take cycles events.now))) result }
 {
     if let Some(link) = lacking_link(links.items(), images.len()) {
         return Err(Stop::Refused(Refusal::NoNode { link }));
@@ -112,7 +114,8 @@ fn is_send(item: &NetItem) -> bool
 fn issue_items<M: Memory>(net: &mut Net<M>, items: &[NetItem])
     requires few { steps_of net.old + length items.now ≤ 2 ^ 32 }
     requires room { sent_count (net_of net.old) + count_by is_send items.now ≤ room_of net.old }
-    ensures runs { (images : List model) (before : List Item) → StandsFor images before net.old → StandsFor images (before ++ items.now) net.new }
+    ensures runs { (images : List model) (before : List Item) → StandsFor images before net.old
+        → StandsFor images (before ++ items.now) net.new }
     ensures links { links_of net.new ≡ links_of net.old }
     ensures count { length (net_of net.new).nodes ≡ length (net_of net.old).nodes }
 {

@@ -44,7 +44,8 @@ fn write_run<M: Boot, O: Sink>(
     out: &mut O,
 ) -> Result<(), Stop>
     requires { cycles ≤ 1000000 }
-    ensures { EndsWith (writing O.taken O.faults out.old out.new) (λ text. text ≡ report_after M.tells image.now (items_of order.now (start image.now) cycles)) result }
+    ensures { EndsWith (writing O.taken O.faults out.old out.new)
+        (λ text. text ≡ report_after M.tells image.now (items_of order.now (start image.now) cycles)) result }
 {
     let mut machine: Machine<M> = boot(alloc, image)?;
     issue(&mut machine, order, None, cycles);

@@ -46,7 +46,8 @@ fn write_saved<M: Boot, O: Sink>(
 ) -> Result<(), Stop>
     requires { cycles ≤ 1000000 }
     ensures { let items = items_of order.now (start image.now) cycles in
-        EndsWith (writing O.taken O.faults out.old out.new) (λ text. text ≡ saved_after image.now items (last_issued (values_of order.now) items)) result }
+        EndsWith (writing O.taken O.faults out.old out.new)
+        (λ text. text ≡ saved_after image.now items (last_issued (values_of order.now) items)) result }
 {
     let mut machine: Machine<M> = boot(alloc, image)?;
     let last = issue(&mut machine, order, None, cycles);

@@ -16,7 +16,8 @@ use std::alloc::Global;
 /// `soak NUMBER SIZE CYCLES`
 pub fn soak<M: Boot, O: Sink>(alloc: Global, words: &[Word<'_>], out: &mut O) -> Result<(), Stop>
     requires { AreOf Command.Soak words.now }
-    ensures { EndsWith (writing O.taken O.faults out.old out.new) (Yields M.tells (row Command.Soak words.now) []) result }
+    ensures { EndsWith (writing O.taken O.faults out.old out.new) (Yields M.tells (row Command.Soak words.now) [])
+        result }
 {
     write_soaked::<M, O>(
         alloc,

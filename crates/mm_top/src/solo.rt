@@ -53,7 +53,8 @@ fn write_solo<M: Boot, O: Sink>(
     out: &mut O,
 ) -> Result<(), Stop>
     ensures { Ends (writing O.taken O.faults out.old out.new) (GroupsRefused image (among groups.now)) ⊥
-        (λ text. StandAlone image (among groups.now) × (text ≡ own_report M.tells image list.now cycles (among groups.now))) result }
+        (λ text. StandAlone image (among groups.now)
+        × (text ≡ own_report M.tells image list.now cycles (among groups.now))) result }
 {
     let own = alone(alloc, &image, groups)?;
     let items = only(alloc, list, cycles, members(&own).as_slice())?;

@@ -10,7 +10,8 @@ ghost use Rattle.mm_cli.specs.Table.{InNoRow, Asks, LeaveInput, Row, files_of, i
 ghost use Rattle.mm_cli.specs.Said.{AreOf, row};
 ghost use Rattle.mm_top.specs.Commands.{run, trace};
 ghost use Rattle.mm_load.specs.Lines.{line_of};
-ghost use Rattle.mm_top.specs.Answers.{ComesTo, ReadFailed, WritesNothing, TookLine, NothingFails, HasToRefuse, RefusedUnless, RowEnds, Answers, call, writing, status_of, refuse, write};
+ghost use Rattle.mm_top.specs.Answers.{ComesTo, ReadFailed, WritesNothing, TookLine, NothingFails, HasToRefuse};
+ghost use Rattle.mm_top.specs.Answers.{RefusedUnless, RowEnds, Answers, call, writing, status_of, refuse, write};
 ghost use Rattle.mm_top.specs.Headline.{RunIsProved, TraceIsProved};
 
 use crate::asm::asm;
@@ -38,8 +39,8 @@ use std::alloc::Global;
 
 /// Does what the words ask, writes the result to `out`, and one line to `diag` where it is not done.
 ///
-/// `words` are the command line without the program's name. `M` is the type of the memory that every command which runs an image
-/// makes and runs on.
+/// `words` are the command line without the program's name. `M` is the type of the memory that every command which runs
+/// an image makes and runs on.
 #[tactic(auto, using(crate::proofs::Verdicts::read_fault, crate::proofs::Verdicts::write_fault, crate::proofs::Verdicts::silent))]
 pub fn mmachine<M: Boot + Reset, F: Files, I: Source, O: Sink, D: Sink>(
     alloc: Global,
@@ -51,38 +52,55 @@ pub fn mmachine<M: Boot + Reset, F: Files, I: Source, O: Sink, D: Sink>(
 ) -> Status
     // Each answer has its cause.
     ensures usage { (result ≡ Status.Usage) ↔ InNoRow (texts words.now) }
-    ensures refused { (r : Refusal) → result ≡ Status.Refused r → ComesTo M.tells (F.held files.old) (I.left input.old) (texts words.now) (refuse r) }
-    ensures read_fault { result ≡ Status.ReadFault → ReadFailed (reading F.held F.faults F.asked files.old files.new) (drawing I.left I.faults input.old input.new) (texts words.now) }
+    ensures refused { (r : Refusal) → result ≡ Status.Refused r
+        → ComesTo M.tells (F.held files.old) (I.left input.old) (texts words.now) (refuse r) }
+    ensures read_fault { result ≡ Status.ReadFault
+        → ReadFailed (reading F.held F.faults F.asked files.old files.new) (drawing I.left I.faults input.old input.new)
+        (texts words.now) }
     ensures write_fault { result ≡ Status.WriteFault → Rose (O.faults out.old) (O.faults out.new) }
 
-    // What is read: nothing where the words are in no row, and else the row's files alone, each once those before it were accepted, and
-    // behind them standard input, to its end, where the row reads that.
+    // What is read: nothing where the words are in no row, and else the row's files alone, each once those before it
+    // were accepted, and behind them standard input, to its end, where the row reads that.
     ensures unread { result ≡ Status.Usage → files.new ≡ files.old }
-    ensures asks { (row : Row) → Asks (texts words.now) row → AsksFiles (reading F.held F.faults F.asked files.old files.new) [] (files_of row) }
+    ensures asks { (row : Row) → Asks (texts words.now) row
+        → AsksFiles (reading F.held F.faults F.asked files.old files.new) [] (files_of row) }
     ensures undrawn { LeaveInput (texts words.now) → input.new ≡ input.old }
-    ensures drawn { (row : Row) → Asks (texts words.now) row → DrawnBehind (F.held files.old) (files_of row) (input.new ≡ input.old) }
-    ensures read { result ≡ Status.Done → (row : Row) → Asks (texts words.now) row → IsSome (input_of row) → IsAtEnd (I.left input.new) }
+    ensures drawn { (row : Row) → Asks (texts words.now) row
+        → DrawnBehind (F.held files.old) (files_of row) (input.new ≡ input.old) }
+    ensures read { result ≡ Status.Done → (row : Row) → Asks (texts words.now) row → IsSome (input_of row)
+        → IsAtEnd (I.left input.new) }
 
     // What is written.
-    ensures done { result ≡ Status.Done → (text : List ℕ) × ComesTo M.tells (F.held files.old) (I.left input.old) (texts words.now) (write text)
+    ensures done { result ≡ Status.Done → (text : List ℕ)
+        × ComesTo M.tells (F.held files.old) (I.left input.old) (texts words.now) (write text)
         × (O.taken out.new ≡ append_known (O.taken out.old) text) }
-    ensures part { result ≡ Status.WriteFault → (text : List ℕ) × ComesTo M.tells (F.held files.old) (I.left input.old) (texts words.now) (write text)
+    ensures part { result ≡ Status.WriteFault → (text : List ℕ)
+        × ComesTo M.tells (F.held files.old) (I.left input.old) (texts words.now) (write text)
         × TookPart (O.taken out.old) (O.taken out.new) text }
     ensures nothing { WritesNothing result → O.taken out.new ≡ O.taken out.old }
-    ensures line { TookLine (D.taken diag.old) (D.taken diag.new) (D.faults diag.old) (D.faults diag.new) (line_of result) }
+    ensures line { TookLine (D.taken diag.old) (D.taken diag.new) (D.faults diag.old) (D.faults diag.new)
+        (line_of result) }
     ensures silent { result ≡ Status.Done → D.taken diag.new ≡ D.taken diag.old }
 
     // The headline, of each run that is done.
-    ensures headline { result ≡ Status.Done → (image : List ℕ) (cycles : ℕ) (schedule : Option (List ℕ)) → Asks (texts words.now) (run image cycles schedule)
-        → (written : List ℕ) × RunIsProved M.tells (F.held files.old) image cycles schedule written × (O.taken out.new ≡ append_known (O.taken out.old) written) }
+    ensures headline { result ≡ Status.Done → (image : List ℕ) (cycles : ℕ) (schedule : Option (List ℕ))
+        → Asks (texts words.now) (run image cycles schedule)
+        → (written : List ℕ) × RunIsProved M.tells (F.held files.old) image cycles schedule written
+        × (O.taken out.new ≡ append_known (O.taken out.old) written) }
 
     // Its second and its third part, of each trace that is done.
-    ensures reach { result ≡ Status.Done → (image : List ℕ) (cycles : ℕ) (schedule : Option (List ℕ)) → Asks (texts words.now) (trace image cycles schedule)
-        → (written : List ℕ) × TraceIsProved M.tells (F.held files.old) image cycles schedule written × (O.taken out.new ≡ append_known (O.taken out.old) written) }
+    ensures reach { result ≡ Status.Done → (image : List ℕ) (cycles : ℕ) (schedule : Option (List ℕ))
+        → Asks (texts words.now) (trace image cycles schedule)
+        → (written : List ℕ) × TraceIsProved M.tells (F.held files.old) image cycles schedule written
+        × (O.taken out.new ≡ append_known (O.taken out.old) written) }
 
-    // Where a refusal has to come, it comes, unless a read failed or memory ran out; and where nothing fails, it is done, or memory ran out.
-    ensures refuses { (r : Refusal) → HasToRefuse (F.held files.old) (I.left input.old) (texts words.now) r → RefusedUnless r result }
-    ensures complete { NothingFails (call M.tells (reading F.held F.faults F.asked files.old files.new) (drawing I.left I.faults input.old input.new) (writing O.taken O.faults out.old out.new)) (texts words.now)
+    // Where a refusal has to come, it comes, unless a read failed or memory ran out; and where nothing fails, it is
+    // done, or memory ran out.
+    ensures refuses { (r : Refusal) → HasToRefuse (F.held files.old) (I.left input.old) (texts words.now) r
+        → RefusedUnless r result }
+    ensures complete { NothingFails
+        (call M.tells (reading F.held F.faults F.asked files.old files.new)
+        (drawing I.left I.faults input.old input.new) (writing O.taken O.faults out.old out.new)) (texts words.now)
         → (result ≡ Status.Done) ⊎ (result ≡ Status.NoMemory) }
 {
     let status = answer::<M, F, I, O>(alloc, words, files, input, out);
@@ -98,15 +116,26 @@ fn answer<M: Boot + Reset, F: Files, I: Source, O: Sink>(
     input: &mut I,
     out: &mut O,
 ) -> Status
-    ensures answers { Answers (call M.tells (reading F.held F.faults F.asked files.old files.new) (drawing I.left I.faults input.old input.new) (writing O.taken O.faults out.old out.new)) (texts words.now) result }
-    ensures refused { (r : Refusal) → result ≡ Status.Refused r → ComesTo M.tells (F.held files.old) (I.left input.old) (texts words.now) (refuse r) }
-    ensures asks { (row : Row) → Asks (texts words.now) row → AsksFiles (reading F.held F.faults F.asked files.old files.new) [] (files_of row) }
-    ensures refuses { (r : Refusal) → HasToRefuse (F.held files.old) (I.left input.old) (texts words.now) r → RefusedUnless r result }
-    ensures complete { NothingFails (call M.tells (reading F.held F.faults F.asked files.old files.new) (drawing I.left I.faults input.old input.new) (writing O.taken O.faults out.old out.new)) (texts words.now) → (result ≡ Status.Done) ⊎ (result ≡ Status.NoMemory) }
+    ensures answers { Answers
+        (call M.tells (reading F.held F.faults F.asked files.old files.new)
+        (drawing I.left I.faults input.old input.new) (writing O.taken O.faults out.old out.new)) (texts words.now)
+        result }
+    ensures refused { (r : Refusal) → result ≡ Status.Refused r
+        → ComesTo M.tells (F.held files.old) (I.left input.old) (texts words.now) (refuse r) }
+    ensures asks { (row : Row) → Asks (texts words.now) row
+        → AsksFiles (reading F.held F.faults F.asked files.old files.new) [] (files_of row) }
+    ensures refuses { (r : Refusal) → HasToRefuse (F.held files.old) (I.left input.old) (texts words.now) r
+        → RefusedUnless r result }
+    ensures complete { NothingFails
+        (call M.tells (reading F.held F.faults F.asked files.old files.new)
+        (drawing I.left I.faults input.old input.new) (writing O.taken O.faults out.old out.new)) (texts words.now)
+        → (result ≡ Status.Done) ⊎ (result ≡ Status.NoMemory) }
     ensures unread { result ≡ Status.Usage → files.new ≡ files.old }
     ensures undrawn { LeaveInput (texts words.now) → input.new ≡ input.old }
-    ensures drawn { (row : Row) → Asks (texts words.now) row → DrawnBehind (F.held files.old) (files_of row) (input.new ≡ input.old) }
-    ensures read { result ≡ Status.Done → (row : Row) → Asks (texts words.now) row → IsSome (input_of row) → IsAtEnd (I.left input.new) }
+    ensures drawn { (row : Row) → Asks (texts words.now) row
+        → DrawnBehind (F.held files.old) (files_of row) (input.new ≡ input.old) }
+    ensures read { result ≡ Status.Done → (row : Row) → Asks (texts words.now) row → IsSome (input_of row)
+        → IsAtEnd (I.left input.new) }
 {
     by_row::<M, F, I, O>(alloc, words, files, input, out)
 }
@@ -119,11 +148,16 @@ fn by_row<M: Boot + Reset, F: Files, I: Source, O: Sink>(
     input: &mut I,
     out: &mut O,
 ) -> Status
-    ensures answers { Answers (call M.tells (reading F.held F.faults F.asked files.old files.new) (drawing I.left I.faults input.old input.new) (writing O.taken O.faults out.old out.new)) (texts words.now) result }
+    ensures answers { Answers
+        (call M.tells (reading F.held F.faults F.asked files.old files.new)
+        (drawing I.left I.faults input.old input.new) (writing O.taken O.faults out.old out.new)) (texts words.now)
+        result }
     ensures unread { result ≡ Status.Usage → files.new ≡ files.old }
     ensures undrawn { LeaveInput (texts words.now) → input.new ≡ input.old }
-    ensures drawn { (row : Row) → Asks (texts words.now) row → DrawnBehind (F.held files.old) (files_of row) (input.new ≡ input.old) }
-    ensures read { result ≡ Status.Done → (row : Row) → Asks (texts words.now) row → IsSome (input_of row) → IsAtEnd (I.left input.new) }
+    ensures drawn { (row : Row) → Asks (texts words.now) row
+        → DrawnBehind (F.held files.old) (files_of row) (input.new ≡ input.old) }
+    ensures read { result ≡ Status.Done → (row : Row) → Asks (texts words.now) row → IsSome (input_of row)
+        → IsAtEnd (I.left input.new) }
 {
     match read_words(words) {
         None => Status::Usage,
@@ -145,8 +179,12 @@ fn by_command<M: Boot + Reset, F: Files, I: Source, O: Sink>(
     out: &mut O,
 ) -> Result<(), Stop>
     requires { AreOf command words.now }
-    ensures ends { RowEnds (call M.tells (reading F.held F.faults F.asked files.old files.new) (drawing I.left I.faults input.old input.new) (writing O.taken O.faults out.old out.new)) (row command words.now) result }
-    ensures asked { AsksFiles (reading F.held F.faults F.asked files.old files.new) [] (files_of (row command words.now)) }
+    ensures ends { RowEnds
+        (call M.tells (reading F.held F.faults F.asked files.old files.new)
+        (drawing I.left I.faults input.old input.new) (writing O.taken O.faults out.old out.new))
+        (row command words.now) result }
+    ensures asked { AsksFiles (reading F.held F.faults F.asked files.old files.new) []
+        (files_of (row command words.now)) }
     ensures undrawn { input_of (row command words.now) ≡ None → input.new ≡ input.old }
     ensures drawn { DrawnBehind (F.held files.old) (files_of (row command words.now)) (input.new ≡ input.old) }
     ensures read { OnOk result (IsSome (input_of (row command words.now)) → IsAtEnd (I.left input.new)) }

@@ -49,7 +49,8 @@ fn write_trace<M: Boot, O: Sink>(
 ) -> Result<(), Stop>
     requires { cycles ≤ 1000000 }
     ensures { let items = items_of order.now (start image.now) cycles in
-        EndsWith (writing O.taken O.faults out.old out.new) (λ text. text ≡ trace_of (start image.now) items ++ report_after M.tells image.now items) result }
+        EndsWith (writing O.taken O.faults out.old out.new)
+        (λ text. text ≡ trace_of (start image.now) items ++ report_after M.tells image.now items) result }
 {
     let mut machine: Machine<M> = boot(alloc, image)?;
     write_lines(&mut machine, order, cycles, out)?;
@@ -66,7 +67,8 @@ fn write_lines<M: Memory, O: Sink>(
     requires { (state_of machine.old).cycles + count ≤ 2 ^ 32 }
     ensures goes { (i : ImageValue) (before : List ℕ) → StandsFor i before machine.old
         → StandsFor i (before ++ items_of order.now (state_of machine.old) count) machine.new }
-    ensures lines { Writes O.taken O.faults out.old out.new (trace_of (state_of machine.old) (items_of order.now (state_of machine.old) count)) result }
+    ensures lines { Writes O.taken O.faults out.old out.new
+        (trace_of (state_of machine.old) (items_of order.now (state_of machine.old) count)) result }
 {
     let mut text = Gather::new();
     issue_traced(machine, order, count, &mut text, out);

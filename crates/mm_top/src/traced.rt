@@ -26,7 +26,8 @@ pub fn issue_traced<M: Memory, O: Sink>(
     requires { (state_of machine.old).cycles + count ≤ 2 ^ 32 }
     ensures goes { (i : Image) (before : List ℕ) → StandsFor i before machine.old
         → StandsFor i (before ++ items_of order.now (state_of machine.old) count) machine.new }
-    ensures lines { Gathers O.taken O.faults out.old out.new text.old text.new (trace (state_of machine.old) (items_of order.now (state_of machine.old) count)) }
+    ensures lines { Gathers O.taken O.faults out.old out.new text.old text.new
+        (trace (state_of machine.old) (items_of order.now (state_of machine.old) count)) }
 {
     match order {
         Order::Robin => trace_robin(machine, count, text, out),
@@ -47,8 +48,10 @@ fn cycle_traced<M: Memory, O: Sink>(
 )
     requires { (state_of machine.old).cycles < 2 ^ 32 }
     ensures state { state_of machine.new ≡ after (state_of machine.old) item }
-    ensures goes { (i : Image) (before : List ℕ) → StandsFor i before machine.old → StandsFor i (before ++ item ∷ []) machine.new }
-    ensures line { Gathers O.taken O.faults out.old out.new text.old text.new (trace_line (turn_of (state_of machine.old) item)) }
+    ensures goes { (i : Image) (before : List ℕ) → StandsFor i before machine.old
+        → StandsFor i (before ++ item ∷ []) machine.new }
+    ensures line { Gathers O.taken O.faults out.old out.new text.old text.new
+        (trace_line (turn_of (state_of machine.old) item)) }
 {
     let step = machine.cycle(item);
     let turns = turns_of(machine, step.slot);
@@ -73,8 +76,10 @@ fn trace_list<M: Memory, O: Sink>(
     out: &mut O,
 )
     requires { (state_of machine.old).cycles + length items.now ≤ 2 ^ 32 }
-    ensures goes { (i : Image) (before : List ℕ) → StandsFor i before machine.old → StandsFor i (before ++ items.now) machine.new }
-    ensures lines { Gathers O.taken O.faults out.old out.new text.old text.new (trace (state_of machine.old) items.now) }
+    ensures goes { (i : Image) (before : List ℕ) → StandsFor i before machine.old
+        → StandsFor i (before ++ items.now) machine.new }
+    ensures lines { Gathers O.taken O.faults out.old out.new text.old text.new
+        (trace (state_of machine.old) items.now) }
 {
     for item in items {
         cycle_traced(machine, *item, text, out);
@@ -91,7 +96,8 @@ fn trace_robin<M: Memory, O: Sink>(
     requires { (state_of machine.old).cycles + count ≤ 2 ^ 32 }
     ensures goes { (i : Image) (before : List ℕ) → StandsFor i before machine.old
         → StandsFor i (before ++ robin_from (state_of machine.old) None count) machine.new }
-    ensures lines { Gathers O.taken O.faults out.old out.new text.old text.new (trace (state_of machine.old) (robin_from (state_of machine.old) None count)) }
+    ensures lines { Gathers O.taken O.faults out.old out.new text.old text.new
+        (trace (state_of machine.old) (robin_from (state_of machine.old) None count)) }
 {
     let mut robin = Robin::new();
     for _ in 0..count {

@@ -1,7 +1,7 @@
 //! `mmachine` runs programs of the integer part of the M-Machine, whose threads are kept apart by guarded pointers.
 //!
-//! All that the program does is done by one call, [`mmachine`] of `mm_top`. `main` makes the real files and streams, calls
-//! it and ends with its status.
+//! All that the program does is done by one call, [`mmachine`] of `mm_top`. `main` makes the real files and streams,
+//! calls it and ends with its status.
 #![tactic(auto)]
 
 ghost use Rattle.std.specs.Prelude.{◌≡◌};

@@ -75,7 +75,8 @@ fn pair(rt: &HostRuntime, handler: u8) -> Result<Vec<u8>, Fail> {
     putting(rt, &[(0, handler, 0x41), (1, 0xff, 0x42)])
 }
 
-/// Slots of these numbers and handlers, which put out these bytes again and again. Each has a group of its own, of its number.
+/// Slots of these numbers and handlers, which put out these bytes again and again. Each has a group of its own, of its
+/// number.
 fn putting(rt: &HostRuntime, slots: &[(u8, u8, u8)]) -> Result<Vec<u8>, Fail> {
     let mut bytes = Vec::from_slice(rt.alloc(), b"MMI1\x00\x01")?;
     bytes.extend_from_slice(&(slots.len() as u64).to_be_bytes()[6..])?;
@@ -201,8 +202,8 @@ fn lines(rt: &HostRuntime, fails: u64) -> Result<MemSource, Fail> {
     Ok(MemSource::new(Vec::from_slice(rt.alloc(), LINES)?, fails, 10))
 }
 
-/// The answer to the words, with what the sinks took, where the calls of these numbers fail: of the files, of standard input, of `out`
-/// and of `diag`. None fails for a number 0.
+/// The answer to the words, with what the sinks took, where the calls of these numbers fail: of the files, of standard
+/// input, of `out` and of `diag`. None fails for a number 0.
 fn attempt(
     rt: &HostRuntime,
     words: &[&str],
@@ -254,8 +255,8 @@ fn ends(rt: &HostRuntime, words: &[&str], fails: [u64; 4], text: &[u8]) -> Resul
     Ok(matches!(status, Status::Done) && out.taken() == text && diag.taken().is_empty())
 }
 
-/// Whether it is so for each call that the words make: so many reads of files, reads of standard input and writes. A failing call that
-/// they do not make changes nothing.
+/// Whether it is so for each call that the words make: so many reads of files, reads of standard input and writes. A
+/// failing call that they do not make changes nothing.
 fn fails_in_turn(
     rt: &HostRuntime,
     words: &[&str],
