@@ -1,0 +1,5 @@
+pub mod Lines
+pub mod Changes
+pub mod Log
+pub mod Replay
+pub mod Laws
