@@ -1,2 +1,6 @@
 pub mod Rows
 pub mod Turns
+pub mod Runs
+pub mod Sames
+pub mod Pages
+pub mod Carried

@@ -92,7 +92,7 @@ delivered_move s = by s.pending refl
     by [] is = record { number = refl; group = refl; handler = refl; loads = LoadsMove.stay refl refl }
     by (p ∷ rest) is = record { number = refl; group = refl; handler = refl; loads = LoadsMove.deliver p rest is refl refl }
 
-delivered_turns : (s : Slot) → (delivered s).turns ≡ s.turns
+pub delivered_turns : (s : Slot) → (delivered s).turns ≡ s.turns
 unfolding delivered
 delivered_turns s = by s.pending
   where

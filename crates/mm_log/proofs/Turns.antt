@@ -73,7 +73,7 @@ module _ (C : ℕ → Type 0) where
   out_moves_not : (core mid : Core) (g : ℕ) (o : Option ℕ) → SlotsMove core mid → SlotsMove core (with_out mid g o)
   unfolding slot_at put_output
   out_moves_not core mid g None h = h
-  out_moves_not core mid g (Some b) h k was at = let old = h k was at in record { now = old.now; is = old.is; move = old.move; turns = old.turns }
+  out_moves_not core mid g (Some b) h = λ k was at. let old = h k was at in record { now = old.now; is = old.is; move = old.move; turns = old.turns }
 
 stood_move : (s x : Slot) (state : SlotState) → SlotMove s x → SlotMove s (stood x state)
 stood_move s x state m = record { number = m.number; group = m.group; handler = m.handler; loads = by m.loads }
@@ -175,7 +175,7 @@ module _ (core : Core) (m : Memory) (h : IsFormed core) (fit : Fitting core) whe
         by : (b : Bool) → QueuesMove core (if b then put_slot core (stood s Running) else put_slot core (stood s (Halted (Some e.cause))))
         by true = queues_put core (stood s Running) (λ k. refl)
         by false = queues_put core (stood s (Halted (Some e.cause))) (λ k. refl)
-    fault_queues e (Some g) is k =
+    fault_queues e (Some g) is = λ k.
         let waits : Core = put_slot core (stood s Waiting) in
         let handlers = slot_has (λ (x : Slot). IfSome x.handler (IsOther (slots_of core) x.number)) core s.number s fit.handlers at in
         let other = other_at core h.rising s.number g (subst (λ o. IfSome o (IsOther (slots_of core) s.number)) is handlers) in
