@@ -4,3 +4,5 @@ pub mod Runs
 pub mod Sames
 pub mod Pages
 pub mod Carried
+pub mod Registers
+pub mod Logs

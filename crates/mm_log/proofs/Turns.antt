@@ -11,7 +11,7 @@ use Rattle.mm_model.specs.declared.slot.SlotState.{SlotState}
 use Rattle.mm_model.specs.declared.slot.SlotState.TheVariants.{Running, Waiting, Halted}
 use Rattle.mm_model.specs.declared.slot.Pending.{Pending}
 use Rattle.mm_model.specs.declared.event.Event.{Event}
-use Rattle.mm_model.specs.declared.step.Tick.TheVariants.{Blocked, Faulted}
+use Rattle.mm_model.specs.declared.step.Tick.TheVariants.{Idle, Blocked, Faulted}
 use Rattle.mm_model.specs.Memory.{Memory}
 use Rattle.mm_model.specs.Uses.{Use}
 use Rattle.mm_model.specs.Slot.{Slot}
@@ -144,6 +144,7 @@ pub record TurnMoves (core : Core) (m : Memory) (t : Turned) : Type 0 where
   pub outputs : OutsMove core t.core
   pub asked : Ask
   pub memory : MemoryMove m asked t.memory
+  pub idle : t.step.tick ≡ Idle → (t.core ≡ core) × (t.memory ≡ m)
 
 fault_turns : (c : Cause) (o : Option ℕ) → is_turn (tick_faulted c o) ≡ true
 fault_turns c (Some h) = refl
@@ -206,6 +207,7 @@ module _ (core : Core) (m : Memory) (h : IsFormed core) (fit : Fitting core) whe
       outputs = outs_stay core (core_faulted core s (event_of s c a v) s.handler) (fault_outs (event_of s c a v) s.handler);
       asked = Nothing;
       memory = MemoryMove.stays refl;
+      idle = λ e. cc (fault_turns c s.handler);
     }
 
     put_outs : (mid : Core) (x : Slot) → mid.outputs ≡ core.outputs → (put_slot mid x).outputs ≡ core.outputs
@@ -222,6 +224,7 @@ module _ (core : Core) (m : Memory) (h : IsFormed core) (fit : Fitting core) whe
       outputs = outs_stay core (put_slot mid (stood x Running)) (put_outs mid (stood x Running) outs);
       asked = Nothing;
       memory = MemoryMove.stays refl;
+      idle = λ e. cc;
     }
 
     module _ (asked : Ask) where
@@ -305,6 +308,7 @@ module _ (core : Core) (m : Memory) (h : IsFormed core) (fit : Fitting core) whe
       outputs = change_outs asked c k;
       asked = asked;
       memory = k.memory;
+      idle = λ e. cc;
     }
 
     arrived_moves : (p : Pending) (rest : List Pending) → TurnMoves core m (arrives core m s (p ∷ rest))
@@ -314,11 +318,12 @@ module _ (core : Core) (m : Memory) (h : IsFormed core) (fit : Fitting core) whe
       outputs = outs_stay core (put_slot core (delivered s)) (put_outs core (delivered s) refl);
       asked = Nothing;
       memory = MemoryMove.stays refl;
+      idle = λ e. cc;
     }
 
   idle_moves : (n : ℕ) → TurnMoves core m (idle core m n)
   unfolding idle
-  idle_moves n = record { slots = slots_stay (Counts (idle core m n)) core; queues = λ k. QueueMove.keeps refl; outputs = λ g. OutMove.keeps refl; asked = Nothing; memory = MemoryMove.stays refl }
+  idle_moves n = record { slots = slots_stay (Counts (idle core m n)) core; queues = λ k. QueueMove.keeps refl; outputs = λ g. OutMove.keeps refl; asked = Nothing; memory = MemoryMove.stays refl; idle = λ e. (refl, refl) }
 
   at_its_number : (n : ℕ) (s : Slot) → slot_at core n ≡ Some s → slot_at core s.number ≡ Some s
   at_its_number n s is = ap (slot_at core) (slot_at-number core n s is) ∙ is
