@@ -1,5 +1,5 @@
 -- What lines make of each row, of the outputs and of the memory of a state.
-use Rattle.std.proofs.Common.{◌≡◌, ◌≢◌, ℕ, ◌+◌, ◌<◌, inl, inr, Bool, true, false, ◌==◌, nat_eq, if◌then◌else◌, List, [], ◌∷◌, ◌++◌, map, slice_set, slice_index_or, Option, Some, None, refl, sym, ap, ◌∙◌, subst, arith, eq-eqb}
+use Rattle.std.proofs.Common.{◌≡◌, ◌≢◌, ℕ, ◌<◌, inl, inr, Bool, true, false, ◌==◌, nat_eq, if◌then◌else◌, List, [], ◌∷◌, ◌++◌, map, slice_set, slice_index_or, Option, Some, refl, sym, ap, ◌∙◌, arith, eq-eqb}
 use Rattle.std.specs.List.{AllByRecursion}
 use Rattle.std.specs.List.Sorted.{IsStrictlyIncreasing}
 use Rattle.std.proofs.lemmas.Bool.{cases_eq, ne_eqb}
@@ -11,7 +11,7 @@ use Rattle.mm_model.specs.Fits.{identity_of, slots_of}
 use Rattle.mm_model.proofs.CoreRows.{above_first, rest_rises}
 use Rattle.mm_log.specs.Lines.{Line}
 use Rattle.mm_log.specs.Lines.Line.{Traced, Points, Stands, Holds, Empties, Issues, Queues, Reads, Puts, Maps, Removes, Sets}
-use Rattle.mm_log.specs.Replay.{holding, emptied, is_turn, with_turns, on_slot, on_queue, without_first, carry_out, replay}
+use Rattle.mm_log.specs.Replay.{holding, emptied, is_turn, with_turns, without_first, carry_out, replay}
 use Rattle.mm_log.proofs.Runs.{run_on}
 use Rattle.mm_log.proofs.Pages.{memory_line}
 

@@ -6,3 +6,5 @@ pub mod Pages
 pub mod Carried
 pub mod Registers
 pub mod Logs
+pub mod Told
+pub mod Ways

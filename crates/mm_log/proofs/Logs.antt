@@ -1,12 +1,11 @@
 -- The lines of a turn make the state after it, and those of a log the state after its run.
-use Rattle.std.proofs.Common.{◌≡◌, ◌≢◌, ℕ, ◌+◌, ◌<◌, ◌≤◌, inl, inr, Bool, true, false, ◌==◌, nat_eq, nat_lt, if◌then◌else◌, List, [], ◌∷◌, ◌++◌, length, drop, map, slice_set, slice_index_or, Option, Some, None, refl, sym, ap, ◌∙◌, subst, arith, eq-eqb, eqb-true, suc, zero, ◌*◌, ◌⊎◌, append_assoc, append-nil, length-set, get_or-set_same, get_or-set_other, length-append}
-use Rattle.std.specs.List.{AllByRecursion, flat_map, range_with_len}
+use Rattle.std.proofs.Common.{◌≡◌, ◌≢◌, ℕ, ◌+◌, ◌<◌, inl, inr, Bool, true, false, ◌==◌, nat_eq, nat_lt, if◌then◌else◌, List, [], ◌∷◌, ◌++◌, length, drop, map, slice_set, slice_index_or, Option, Some, None, refl, sym, ap, ◌∙◌, subst, arith, eq-eqb, eqb-true, suc, ◌*◌, ◌⊎◌, append_assoc, length-set, get_or-set_same, get_or-set_other, length-append}
+use Rattle.std.specs.List.{AllByRecursion, range_with_len}
 use Rattle.std.proofs.lemmas.Bool.{cases_eq, ne_eqb}
 use Rattle.std.proofs.lemmas.Bool.Decides.{nat_tests}
 use Rattle.std.proofs.lemmas.List.{ext_get_or}
 use Rattle.std.proofs.Math.Seq.{drop-length, drop-append_seam}
 use Rattle.std.proofs.Math.ListN.{drop_of_length-le}
-use Rattle.mm_word.specs.declared.word.Word.TheVariants.{Int}
 use Rattle.mm_word.specs.declared.word.Cell.{Cell}
 use Rattle.mm_word.specs.Pointer.{Pointer}
 use Rattle.mm_word.specs.declared.word.Word.{Word}
@@ -16,7 +15,7 @@ use Rattle.mm_model.specs.declared.event.Event.{Event}
 use Rattle.mm_model.specs.declared.step.Tick.{Tick}
 use Rattle.mm_model.specs.declared.step.Tick.TheVariants.{Idle, Blocked, Did, Faulted, Delivered}
 use Rattle.mm_model.specs.Memory.{Memory, page_at, is_mapped}
-use Rattle.mm_model.specs.Slot.{Slot, register, is_empty}
+use Rattle.mm_model.specs.Slot.{Slot}
 use Rattle.mm_model.specs.State.{Row, Core, State, row_in, slot_of, queue_of, slot_at, queue_at, output_of}
 use Rattle.mm_model.specs.Image.{Image, start}
 use Rattle.mm_model.specs.Spelling.{IsImage}
@@ -24,9 +23,8 @@ use Rattle.mm_model.specs.Report.{changes_from}
 use Rattle.mm_model.specs.Turn.{Turned}
 use Rattle.mm_model.specs.Trace.{turns_of}
 use Rattle.mm_model.specs.Run.{turn_of, after, run}
-use Rattle.mm_model.specs.Fits.{IsState, IsFormed, IsSlot, Fits, IsKept, LoadsMatch, LoadsAreKept, SlotHoldsWords}
+use Rattle.mm_model.specs.Fits.{IsState, IsSlot, Fits, IsKept, LoadsMatch, LoadsAreKept}
 use Rattle.mm_model.proofs.CoreRows.{slot_at-number, slot_has}
-use Rattle.mm_model.proofs.CoreSteps.{Fitting}
 use Rattle.mm_model.proofs.EffectWords.{slot_words}
 use Rattle.mm_model.proofs.Fitted.{fitting_of}
 use Rattle.mm_model.proofs.Starts.{start_state, start_fits, start_kept}
@@ -37,12 +35,12 @@ use Rattle.mm_log.specs.Lines.Line.{Traced, Points, Stands, Holds, Empties, Issu
 use Rattle.mm_log.specs.Changes.{slot_changes, changes_between, each_number, slots_changed, queued_at, read_at, put_out_by, pages_mapped, pages_removed, cells_changed, cells_changed_in, changes}
 use Rattle.mm_log.specs.Log.{turns_in, told, cycle_log, log}
 use Rattle.mm_log.specs.Replay.{holding, emptied, is_turn, with_turns, without_first, carry_out, replay}
-use Rattle.mm_log.specs.Laws.{but_cycles, Replays, LogsReplay}
-use Rattle.mm_log.proofs.Runs.{all_append, all_flat, all_map, all_unless, all_where, run_on, run_append, run_silent, run_range, IsSilent}
+use Rattle.mm_log.specs.Laws.{but_cycles, LogsReplay}
+use Rattle.mm_log.proofs.Runs.{all_flat, all_map, all_unless, all_where, run_on, run_append, run_silent, run_range, IsSilent}
 use Rattle.mm_log.proofs.Rows.{SlotMove}
-use Rattle.mm_log.proofs.Turns.{Moved, Counts, QueueMove, OutMove, TurnMoves, turn_moves}
-use Rattle.mm_log.proofs.Pages.{memory_line, memory_lines, memory_told, memory_made}
-use Rattle.mm_log.proofs.Carried.{row_line, out_line, slot_line, queue_line, Replayed, replayed, row_all, found_number, core_made}
+use Rattle.mm_log.proofs.Turns.{Counts, QueueMove, OutMove, TurnMoves, turn_moves}
+use Rattle.mm_log.proofs.Pages.{memory_line, memory_told, memory_made}
+use Rattle.mm_log.proofs.Carried.{row_line, out_line, slot_line, queue_line, replayed, row_all, found_number, core_made}
 use Rattle.mm_log.proofs.Registers.{slot_all, slot_replayed}
 
 -- 1. Which lines are told.

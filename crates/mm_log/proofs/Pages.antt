@@ -1,5 +1,5 @@
 -- What is told of a memory after what a turn can do to it, and that these lines make the later memory.
-use Rattle.std.proofs.Common.{◌≡◌, ◌≢◌, ℕ, zero, suc, ◌+◌, ◌*◌, ◌<◌, ◌≤◌, inl, inr, Bool, true, false, cond, not, nat_eq, if◌then◌else◌, List, [], ◌∷◌, ◌++◌, map, slice_get, slice_set, Option, Some, None, is_some, refl, sym, ap, ◌∙◌, subst, arith, T, eq-eqb, append-nil}
+use Rattle.std.proofs.Common.{◌≡◌, ◌≢◌, ℕ, zero, suc, ◌+◌, ◌*◌, ◌<◌, inl, inr, Bool, true, false, cond, not, nat_eq, if◌then◌else◌, List, [], ◌∷◌, ◌++◌, map, slice_get, slice_set, Option, Some, None, is_some, refl, sym, ap, ◌∙◌, subst, arith, T, eq-eqb, append-nil}
 use Rattle.std.specs.List.{AllByRecursion, filter, flat_map}
 use Rattle.std.specs.Ordering.{nat_cmp}
 use Rattle.std.specs.declared.cmp.Ordering.TheVariants.{Less, Equal, Greater}
@@ -14,17 +14,16 @@ use Rattle.mm_word.specs.declared.word.Cell.{Cell}
 use Rattle.mm_word.specs.Access.{Touch}
 use Rattle.mm_word.specs.declared.word.Pre.{Pre}
 use Rattle.mm_word.specs.Word.{IsWord}
-use Rattle.mm_model.specs.declared.slot.Pending.{Pending}
 use Rattle.mm_model.specs.Memory.{Memory, page_at, page_of, place_of, is_mapped, cell_at, cell_in, put_in, put_cell, map_page, unmap_page, zero_page, ArePages}
 use Rattle.mm_model.specs.Ask.{Ask}
 use Rattle.mm_model.specs.Ask.Ask.{Reach, MapPage, UnmapPage}
 use Rattle.mm_model.specs.Spelling.{HoldsWords}
 use Rattle.mm_model.specs.Report.{same_cell, changes_from}
-use Rattle.mm_model.proofs.CoreRows.{each_map, each_both, each_get}
-use Rattle.mm_model.proofs.Memories.{cell_at-aligned, aligned, page_of_cell, page_at-put_same, page_at-put_other, page_at-map_same, page_at-map_other, page_at-unmap_same, page_at-unmap_other, put_frames, put_pages, cell_at-put_same}
+use Rattle.mm_model.proofs.CoreRows.{each_map, each_both}
+use Rattle.mm_model.proofs.Memories.{cell_at-aligned, aligned, page_of_cell, page_at-put_same, page_at-put_other, page_at-map_other, page_at-unmap_same, page_at-unmap_other, put_frames, put_pages, cell_at-put_same}
 use Rattle.mm_model.proofs.EffectWords.{page_words}
 use Rattle.mm_log.specs.Lines.{Line}
-use Rattle.mm_log.specs.Lines.Line.{Traced, Points, Stands, Holds, Empties, Issues, Queues, Reads, Puts, Maps, Removes, Sets}
+use Rattle.mm_log.specs.Lines.Line.{Maps, Removes, Sets}
 use Rattle.mm_log.specs.Changes.{pages_mapped, pages_removed, cells_changed, cells_changed_in}
 use Rattle.mm_log.proofs.Runs.{flat_none, run_on}
 use Rattle.mm_log.proofs.Rows.{MemoryMove}

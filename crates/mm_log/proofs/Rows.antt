@@ -1,5 +1,5 @@
 -- Each row of the table of instructions: what it moves around its slot.
-use Rattle.std.proofs.Common.{◌≡◌, ℕ, ◌+◌, ◌%◌, ◌^◌, Bool, true, false, ◌&&◌, ◌||◌, ◌==◌, nat_lt, if◌then◌else◌, not, List, [], ◌∷◌, ◌++◌, length, Option, Some, None, is_some, Result, Ok, Err, refl, sym, ap, ◌∙◌, subst, ℤ, pos, ◌*ℤ◌, ◌+ℤ◌, slice_set}
+use Rattle.std.proofs.Common.{◌≡◌, ℕ, ◌+◌, ◌%◌, ◌^◌, Bool, true, false, ◌&&◌, ◌==◌, nat_lt, if◌then◌else◌, List, [], ◌∷◌, ◌++◌, length, Option, Some, None, Result, Ok, Err, refl, sym, ap, ◌∙◌, slice_set}
 use Rattle.std.specs.Int.{w64, cast_unsigned, cast_signed}
 use Rattle.mm_word.specs.declared.perm.Kind.TheVariants.{Store}
 use Rattle.mm_word.specs.declared.cause.Cause.{Cause}
@@ -19,20 +19,19 @@ use Rattle.mm_isa.specs.declared.instr.How.TheVariants.{Retry, Skip, Kill}
 use Rattle.mm_isa.specs.declared.instr.Instr.{Instr}
 use Rattle.mm_isa.specs.declared.instr.Instr.TheVariants.{Halt, Nop, Ldi, Ldhi, Mov, Isptr, Eqw, Out, SelfSlot, Alu, Addi, Lea, Leai, Leab, Restrict, Subseg, Setptr, Ld, St, Br, Bz, Bnz, Jmp, Jal, Lip, Trap, Evt, Resume, Rreg, Wreg, Map, Unmap}
 use Rattle.mm_isa.specs.Alu.{alu_result}
-use Rattle.mm_model.specs.declared.slot.SlotState.TheVariants.{Running, Taken, Halted}
+use Rattle.mm_model.specs.declared.slot.SlotState.TheVariants.{Taken}
 use Rattle.mm_model.specs.declared.slot.Pending.{Pending}
 use Rattle.mm_model.specs.declared.event.Event.{Event}
 use Rattle.mm_model.specs.Memory.{Memory, cell_at, is_mapped, can_map, put_cell, map_page, unmap_page, passes, full_after}
 use Rattle.mm_model.specs.Slot.{Slot, register, is_empty}
 use Rattle.mm_model.specs.State.{Core, slot_at, queue_at, output_of}
 use Rattle.mm_model.specs.Image.{output_limit}
-use Rattle.mm_model.specs.Ask.{Ask, ask, is_privileged, load_kind, reaching, page_asked}
+use Rattle.mm_model.specs.Ask.{Ask, ask, is_privileged, load_kind, reaching}
 use Rattle.mm_model.specs.Ask.Ask.{Nothing, Refuse, Reach, MapPage, UnmapPage, NextEvent, Room, Serve}
-use Rattle.mm_model.specs.Effect.{Reply, Change, Pages, Effect, effect, advanced, runs_past, plain, sets, sets_pointer, sets_number, if_pointer, test, same_word, high_and_low, puts_out, set_by, loads, loaded, stored, at_distance, branches, entry_of, jumps, links, takes, resumed_by, resumes, delivers, delivered, reads_of, writes_of, maps, unmaps}
-use Rattle.mm_model.specs.Effect.Pages.{Keep, Add, Remove}
-use Rattle.mm_model.specs.Effect.Reply.{Fine, Refused, Got, Paged, NoEvent, Took, Served}
+use Rattle.mm_model.specs.Effect.{Reply, Change, Effect, effect, plain, sets, sets_pointer, sets_number, if_pointer, test, same_word, high_and_low, puts_out, loaded, stored, at_distance, branches, jumps, links, takes, resumed_by, resumes, delivers, delivered, reads_of, writes_of, maps, unmaps}
+use Rattle.mm_model.specs.Effect.Reply.{Fine, Refused, Got, Paged, Served}
 use Rattle.mm_model.specs.Effect.Effect.{Fault, Block, Deliver, Does}
-use Rattle.mm_model.specs.Turn.{reply, reached, event_reply, first_event, served, is_running, is_taken, is_handler, with_cell, with_pages, memory_after}
+use Rattle.mm_model.specs.Turn.{reply, reached, event_reply, first_event, served, is_taken, is_handler, memory_after}
 use Rattle.mm_model.proofs.CoreRows.{slot_at-number}
 use Rattle.mm_model.proofs.Memories.{can_map-facts}
 

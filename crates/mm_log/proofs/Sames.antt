@@ -1,5 +1,5 @@
 -- Words, states and cells that are tested to be the same are the same.
-use Rattle.std.proofs.Common.{◌≡◌, ℕ, Bool, true, false, ◌&&◌, nat_eq, if◌then◌else◌, Some, None, refl, sym, ap, ◌∙◌, eqb-true, eq-eqb, not}
+use Rattle.std.proofs.Common.{◌≡◌, ℕ, Bool, true, false, ◌&&◌, nat_eq, if◌then◌else◌, Some, None, refl, sym, ap, ◌∙◌, eqb-true, eq-eqb}
 use Rattle.mm_word.specs.declared.cause.Cause.{Cause}
 use Rattle.mm_word.specs.declared.cause.Cause.TheVariants.{NotPointer, Perm, Bounds, Align, NoPage, Sync, Illegal, Priv, DivZero, Malformed, Trap, NoSlot, OutFull}
 use Rattle.mm_word.specs.declared.word.Word.{Word}

@@ -7,7 +7,6 @@ use Rattle.mm_word.specs.declared.word.Cell.{Cell}
 use Rattle.mm_word.specs.Cause.{number_of}
 use Rattle.mm_model.specs.declared.slot.SlotState.{SlotState}
 use Rattle.mm_model.specs.declared.slot.SlotState.TheVariants.{Running, Waiting, Taken, Halted}
-use Rattle.mm_model.specs.declared.event.Event.{Event}
 use Rattle.mm_model.specs.Memory.{Memory, page_at, is_mapped}
 use Rattle.mm_model.specs.Effect.{same_word}
 use Rattle.mm_model.specs.Report.{same_bit, changes_from}

@@ -3,3 +3,4 @@ pub mod Changes
 pub mod Log
 pub mod Replay
 pub mod Laws
+pub mod Looks

@@ -8,7 +8,7 @@ use Rattle.mm_model.specs.declared.step.Tick.{Tick}
 use Rattle.mm_model.specs.declared.step.Tick.TheVariants.{Did, Blocked, Faulted}
 use Rattle.mm_model.specs.Memory.{put_cell, map_page, unmap_page}
 use Rattle.mm_model.specs.Slot.{Slot, is_empty}
-use Rattle.mm_model.specs.State.{Row, Core, State, at_number, output_of, put_output}
+use Rattle.mm_model.specs.State.{State, at_number, output_of, put_output}
 use Rattle.mm_log.specs.Lines.{Line}
 use Rattle.mm_log.specs.Lines.Line.{Traced, Points, Stands, Holds, Empties, Issues, Queues, Reads, Puts, Maps, Removes, Sets}
 
