@@ -4,3 +4,4 @@ pub mod Log
 pub mod Replay
 pub mod Laws
 pub mod Looks
+pub mod Named

@@ -3,4 +3,5 @@
 
 pub mod laws;
 mod lines;
+mod operands;
 mod slots;
