@@ -8,3 +8,8 @@ pub mod Registers
 pub mod Logs
 pub mod Told
 pub mod Ways
+pub mod Numbers
+pub mod Frames
+pub mod Seeing
+pub mod Events
+pub mod Peeks

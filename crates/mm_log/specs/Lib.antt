@@ -5,3 +5,4 @@ pub mod Replay
 pub mod Laws
 pub mod Looks
 pub mod Named
+pub mod Seen

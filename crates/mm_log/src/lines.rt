@@ -6,12 +6,12 @@ ghost use Rattle.mm_text.specs.Gathers.{Gathers};
 ghost use Rattle.mm_word.specs.Cause.{number_of};
 ghost use Rattle.mm_model.specs.Lines.{past_text};
 ghost use Rattle.mm_log.specs.Lines.{line_text, register_text, event_text};
-ghost use Rattle.mm_log.specs.Lines.Line.{Points, Stands, Holds, Empties, Issues, Queues, Reads, Puts, Maps, Removes};
+ghost use Rattle.mm_log.specs.Lines.Line.{Points, Stands, Holds, Empties, Issues, Queues, Reads, Puts, Maps, Removes, Sets};
 
 use mm_io::Sink;
 use mm_model::{Event, Pending, SlotState};
-use mm_text::{Gather, Piece, put_state, put_word};
-use mm_word::{Cause, GuardedPtr, Word};
+use mm_text::{Gather, Piece, put_cell, put_state, put_word};
+use mm_word::{Cause, Cell, GuardedPtr, Word};
 
 /// Appends `ip S P`, or `ip S P past`.
 pub(crate) fn put_pointer<O: Sink>(
@@ -143,6 +143,13 @@ pub(crate) fn put_gone_page<O: Sink>(text: &mut Gather, out: &mut O, page: u64)
             Piece::Text(" gone\n"),
         ],
     );
+}
+
+/// Appends `cell A WORD full` or `cell A WORD empty`.
+pub(crate) fn put_set<O: Sink>(text: &mut Gather, out: &mut O, word: u64, cell: &Cell)
+    ensures { Gathers O.taken O.faults out.old out.new text.old text.new (line_text (Sets word cell.now)) }
+{
+    put_cell(text, out, word, cell);
 }
 
 // Appends a line's name with its blank, a number and a blank.

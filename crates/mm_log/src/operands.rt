@@ -3,7 +3,7 @@
 
 ghost use Rattle.std.specs.Prelude.{◌≡◌};
 ghost use Rattle.mm_model.specs.Slot.{register as register_of};
-ghost use Rattle.mm_model.specs.Operands.{field_a, field_b, field_imm};
+ghost use Rattle.mm_model.specs.Operands.{field_a, field_b, field_imm, addr_operand, value_operand};
 ghost use Rattle.mm_log.specs.Looks.{address_told as address_told_of, value_told as value_told_of};
 
 use mm_isa::{Instr, Operand, Reg, Visitor};
@@ -76,29 +76,41 @@ fn word_in(slot: &Slot, register: Reg) -> Word
     slot.register(register.number())
 }
 
-/// The address operand of the event of a fault: the word of ra, else integer 0.
-pub(crate) fn address_told(instr: Option<Instr>, slot: &Slot) -> Word
-    ensures { result ≡ address_told_of instr slot.now }
+fn address_operand(instr: &Instr, slot: &Slot) -> Word
+    ensures { result ≡ addr_operand instr.now slot.now }
 {
-    let Some(instr) = instr else {
-        return Word::Int(0);
-    };
-    match names(&instr).ra {
+    match names(instr).ra {
         Some(ra) => word_in(slot, ra),
         None => Word::Int(0),
     }
 }
 
-/// Its data operand: the word of rb, else the number of imm; integer 0 where there is no instruction.
-pub(crate) fn value_told(instr: Option<Instr>, slot: &Slot) -> Word
-    ensures { result ≡ value_told_of instr slot.now }
+fn data_operand(instr: &Instr, slot: &Slot) -> Word
+    ensures { result ≡ value_operand instr.now slot.now }
 {
-    let Some(instr) = instr else {
-        return Word::Int(0);
-    };
-    let named = names(&instr);
+    let named = names(instr);
     match named.rb {
         Some(rb) => word_in(slot, rb),
         None => Word::Int(named.imm.cast_unsigned()),
+    }
+}
+
+/// The address operand of the event of a fault: the word of ra, else integer 0.
+pub(crate) fn address_told(instr: &Option<Instr>, slot: &Slot) -> Word
+    ensures { result ≡ address_told_of instr.now slot.now }
+{
+    match instr {
+        Some(instr) => address_operand(instr, slot),
+        None => Word::Int(0),
+    }
+}
+
+/// Its data operand: the word of rb, else the number of imm; integer 0 where there is no instruction.
+pub(crate) fn value_told(instr: &Option<Instr>, slot: &Slot) -> Word
+    ensures { result ≡ value_told_of instr.now slot.now }
+{
+    match instr {
+        Some(instr) => data_operand(instr, slot),
+        None => Word::Int(0),
     }
 }
