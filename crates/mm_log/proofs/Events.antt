@@ -219,7 +219,7 @@ module _ (core : Core) (m : Memory) (n : ℕ) (formed : IsFormed core) (fit : Fi
   way_events s own t (Way.idles j is) = subst (TellsEvents s) (sym is) (none_queued core core (λ h. refl), none_read core core (λ h. refl))
   way_events s own t (Way.arrives_at x p rest none high at pending is) = subst (TellsEvents s) (sym is) (none_queued core (put_slot core (delivered x)) (queue_at-put_slot core (delivered x)), none_read core (put_slot core (delivered x)) (queue_at-put_slot core (delivered x)))
   way_events s own t (Way.waits x y f u us r same is) = subst (TellsEvents s) (sym is) (none_queued core (put_slot core (stood y Running)) (queue_at-put_slot core (stood y Running)), none_read core (put_slot core (stood y Running)) (queue_at-put_slot core (stood y Running)))
-  way_events s own t (Way.helps x o i f u us r comes other is) =
+  way_events s own t (Way.helps x o i f u us r comes made other is) =
       let same : (h : ℕ) → queue_at (put_slot (put_slot core o) (stood x Running)) h ≡ queue_at core h = λ h. queue_at-put_slot (put_slot core o) (stood x Running) h ∙ queue_at-put_slot core o h in
       subst (TellsEvents s) (sym is) (none_queued core (put_slot (put_slot core o) (stood x Running)) same, none_read core (put_slot (put_slot core o) (stood x Running)) same)
   way_events s own t (Way.faults x c f u us r is) =

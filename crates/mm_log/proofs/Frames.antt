@@ -72,7 +72,7 @@ module _ (core : Core) (m : Memory) (n : ℕ) where
   way_still t (Way.arrives_at s p rest none high at pending is) = subst Still (sym is) (λ k ne apart. slot_at-put_other core (delivered s) k (λ e. ne (e ∙ (delivered_from s).number)))
   way_still t (Way.faults s c f u us r is) = subst Still (sym is) (λ k ne apart. fault_still s (event_of s c (address_told (comes_to m s) s) (value_told (comes_to m s) s)) s.handler k ne)
   way_still t (Way.waits s x f u us r same is) = subst Still (sym is) (λ k ne apart. slot_at-put_other core (stood x Running) k ne)
-  way_still t (Way.helps s o i f u us r comes other is) = subst Still (sym is) (λ k ne apart. slot_at-put_other (put_slot core o) (stood s Running) k ne ∙ slot_at-put_other core o k (apart s o i r comes other))
+  way_still t (Way.helps s o i f u us r comes made other is) = subst Still (sym is) (λ k ne apart. slot_at-put_other (put_slot core o) (stood s Running) k ne ∙ slot_at-put_other core o k (apart s o i r comes other))
   way_still t (Way.does s i c f u us r comes made moves is) = subst Still (sym is) (λ k ne apart. change_still s i c k ne moves.other (λ x other. apart s x i r comes other))
 
   -- what a turn leaves of the slots

@@ -13,3 +13,8 @@ pub mod Frames
 pub mod Seeing
 pub mod Events
 pub mod Peeks
+pub mod OneSlot
+pub mod Placed
+pub mod Taking
+pub mod Whole
+pub mod LoggedRuns

@@ -85,7 +85,7 @@ module _ (core : Core) (m : Memory) (n : ℕ) where
   way_outs t (Way.arrives_at s p rest none high at pending is) = subst OutsStill (sym is) (λ g no. refl)
   way_outs t (Way.faults s c f u us r is) = subst OutsStill (sym is) (λ g no. fault_outs s (event_of s c (address_told (comes_to m s) s) (value_told (comes_to m s) s)) s.handler g)
   way_outs t (Way.waits s x f u us r same is) = subst OutsStill (sym is) (λ g no. refl)
-  way_outs t (Way.helps s o i f u us r comes other is) = subst OutsStill (sym is) (λ g no. refl)
+  way_outs t (Way.helps s o i f u us r comes made other is) = subst OutsStill (sym is) (λ g no. refl)
   way_outs t (Way.does s i c f u us r comes made moves is) = subst OutsStill (sym is) (λ g no. change_outs s (slot_after s c) c.other c.queue c.out g (no s (runs_own core n s r)))
 
   -- the bytes that were put out are those of the own group
@@ -113,7 +113,7 @@ module _ (core : Core) (m : Memory) (n : ℕ) where
   memory_way t (Way.arrives_at s p rest none high at pending is) = inl (ap (λ (x : Turned). x.memory) is)
   memory_way t (Way.faults s c f u us r is) = inl (ap (λ (x : Turned). x.memory) is)
   memory_way t (Way.waits s x f u us r same is) = inl (ap (λ (x : Turned). x.memory) is)
-  memory_way t (Way.helps s o i f u us r comes other is) = inl (ap (λ (x : Turned). x.memory) is)
+  memory_way t (Way.helps s o i f u us r comes made other is) = inl (ap (λ (x : Turned). x.memory) is)
   memory_way t (Way.does s i c f u us r comes made moves is) = inr (record { slot = s; instr = i; own = runs_own core n s r; comes = comes; move = subst (MemoryMove m (ask i s)) (sym (ap (λ (x : Turned). x.memory) is)) moves.memory })
 
   told_none : (p : ℕ) (b : Bool) → page_told p b b ≡ []

@@ -31,7 +31,7 @@ pub data Way (core : Core) (m : Memory) (n : ℕ) (t : Turned) : Type 0 where
   -- the slot waits; a load of its own may be delivered
   waits : (s x : Slot) (f : Touch) (u : Option Touch) (us : List Use) → Runs core n s → (x ≡ s) ⊎ (x ≡ delivered s) → t ≡ blocked core m x f u us → Way core m n t
   -- or a load of a slot that it serves
-  helps : (s o : Slot) (i : Instr) (f : Touch) (u : Option Touch) (us : List Use) → Runs core n s → comes_to m s ≡ Some i → OtherMove core s.number (ask i s) o → t ≡ blocked (put_slot core o) m s f u us → Way core m n t
+  helps : (s o : Slot) (i : Instr) (f : Touch) (u : Option Touch) (us : List Use) → Runs core n s → comes_to m s ≡ Some i → effect core.split i s (reply core m s.number (ask i s)) ≡ Deliver o → OtherMove core s.number (ask i s) o → t ≡ blocked (put_slot core o) m s f u us → Way core m n t
   -- the instruction is carried out
   does : (s : Slot) (i : Instr) (c : Change) (f : Touch) (u : Option Touch) (us : List Use) → Runs core n s → comes_to m s ≡ Some i → effect core.split i s (reply core m s.number (ask i s)) ≡ Does c → ChangeMoves core m s (ask i s) c → t ≡ ended core m s i f u us (Does c) → Way core m n t
 
@@ -51,7 +51,7 @@ module _ (core : Core) (m : Memory) (n : ℕ) where
     unfolding ended
     ended_way i is f u us (Fault c) e k = fault_way (Some i) is c (Some f) u us
     ended_way i is f u us Block e k = Way.waits s s f u us r (inl refl) refl
-    ended_way i is f u us (Deliver o) e k = Way.helps s o i f u us r is k refl
+    ended_way i is f u us (Deliver o) e k = Way.helps s o i f u us r is e k refl
     ended_way i is f u us (Does c) e k = Way.does s i c f u us r is e k refl
 
     issued_way : (i : Instr) → comes_to m s ≡ Some i → (f : Touch) (u : Use) → Goes (issued core m s f u i)

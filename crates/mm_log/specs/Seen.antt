@@ -99,3 +99,8 @@ unfoldable pub seen : State → Before → Tick → List Line
 seen later b tick =
     slots_seen later.core b tick ++ queued_seen b tick ++ read_seen b.instr b.own.number tick ++ out_seen later.core b
     ++ (page_seen later.memory b.there ++ cell_seen later.memory b.there)
+
+-- nothing where nothing was looked at
+abbrev pub seen_by : State → Option Before → Tick → List Line
+seen_by later None tick = []
+seen_by later (Some b) tick = seen later b tick

@@ -15,7 +15,7 @@ ghost use Rattle.mm_log.specs.Lines.{line_text};
 ghost use Rattle.mm_log.specs.Lines.Line.{Stands, Puts, Maps, Removes};
 ghost use Rattle.mm_model.specs.declared.slot.SlotState.TheVariants.{Taken};
 ghost use Rattle.mm_log.specs.Log.{text_of};
-ghost use Rattle.mm_log.specs.Seen.{seen_of, in_order, read_by as read_by_of, read_in, with_taken, slots_seen, queued_seen, read_own, read_seen, page_told, page_seen, cell_now, cell_seen, seen};
+ghost use Rattle.mm_log.specs.Seen.{seen_of, in_order, read_by as read_by_of, read_in, with_taken, slots_seen, queued_seen, read_own, read_seen, page_told, page_seen, cell_now, cell_seen, seen, seen_by};
 
 use crate::before::{Before, There, cell_of, is_mapped};
 use crate::lines::{put_byte, put_event, put_gone_page, put_new_page, put_set, put_standing, put_taken};
@@ -324,7 +324,7 @@ fn put_memory<M: Inspect, O: Sink>(
 }
 
 /// Appends the lines of what a cycle changed, of what was looked at before it.
-pub(crate) fn put_seen<M: Inspect, O: Sink>(
+fn put_seen<M: Inspect, O: Sink>(
     text: &mut Gather,
     out: &mut O,
     machine: &Machine<M>,
@@ -338,4 +338,19 @@ pub(crate) fn put_seen<M: Inspect, O: Sink>(
     put_read(text, out, before, tick);
     put_out(text, out, machine, before);
     put_memory(text, out, machine, &before.there);
+}
+
+/// Appends the lines of what a cycle changed; none where nothing was looked at.
+pub(crate) fn put_changes<M: Inspect, O: Sink>(
+    text: &mut Gather,
+    out: &mut O,
+    machine: &Machine<M>,
+    before: &Option<Before>,
+    tick: Tick,
+)
+    ensures { Gathers O.taken O.faults out.old out.new text.old text.new (text_of (seen_by (state_of machine.now) before.now tick)) }
+{
+    if let Some(before) = before {
+        put_seen(text, out, machine, before, tick);
+    }
 }

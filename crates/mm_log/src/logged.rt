@@ -9,7 +9,7 @@ ghost use Rattle.mm_machine.specs.Machine.{state_of, StandsFor};
 ghost use Rattle.mm_sched.specs.Orders.{items_of};
 ghost use Rattle.mm_log.specs.Log.{cycle_log, log_text, text_of};
 
-use crate::after::put_seen;
+use crate::after::put_changes;
 use crate::before::look;
 use mm_io::Sink;
 use mm_machine::Machine;
@@ -57,9 +57,7 @@ fn cycle_logged<M: Inspect, O: Sink>(
     let step = machine.cycle(item);
     let turns = turns_of(machine, step.slot);
     put_step(text, out, &step, turns);
-    if let Some(before) = before {
-        put_seen(text, out, machine, &before, step.tick);
-    }
+    put_changes(text, out, machine, &before, step.tick);
 }
 
 /// How many turns a slot has taken; none where it is not there.
