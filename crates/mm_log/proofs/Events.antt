@@ -117,10 +117,10 @@ module _ (core : Core) (later : Core) (h : ℕ) where
 
 -- where all queues stay
 module _ (core later : Core) (same : (h : ℕ) → queue_at later h ≡ queue_at core h) where
-  none_queued : each_number (queued_at core later) ≡ []
+  pub none_queued : each_number (queued_at core later) ≡ []
   none_queued = no_number (queued_at core later) (λ h. queued_same core later h (same h))
 
-  none_read : each_number (read_at core later) ≡ []
+  pub none_read : each_number (read_at core later) ≡ []
   none_read = no_number (read_at core later) (λ h. read_same core later h (same h))
 
 module _ (core : Core) (m : Memory) (n : ℕ) (formed : IsFormed core) (fit : Fitting core) where

@@ -34,7 +34,7 @@ module _ (core : Core) (m : Memory) (n : ℕ) where
   abbrev pub Still : Turned → Type 0
   Still t = (k : ℕ) → k ≢ t.step.slot → NoOther k → slot_at t.core k ≡ slot_at core k
 
-  fault_still : (s : Slot) (e : Event) (o : Option ℕ) (k : ℕ) → k ≢ s.number → slot_at (core_faulted core s e o) k ≡ slot_at core k
+  pub fault_still : (s : Slot) (e : Event) (o : Option ℕ) (k : ℕ) → k ≢ s.number → slot_at (core_faulted core s e o) k ≡ slot_at core k
   unfolding core_faulted
   fault_still s e (Some h) k ne =
       let waits : Core = put_slot core (stood s Waiting) in

@@ -57,7 +57,7 @@ module _ (f : ℕ → List Line) where
   pub two_numbers : (a b : ℕ) → a < b → b < 64 → ((k : ℕ) → k ≢ a → k ≢ b → f k ≡ []) → flat_map f (range_with_len 0 64) ≡ f a ++ f b
   two_numbers a b lt few h = two_from a b 0 64 lt h (omega arith) (omega (arith, few))
 
-each_none : {A : Type 0} (f : A → List Line) → ((x : A) → f x ≡ []) → (xs : List A) → AllByRecursion (λ x. f x ≡ []) xs
+pub each_none : {A : Type 0} (f : A → List Line) → ((x : A) → f x ≡ []) → (xs : List A) → AllByRecursion (λ x. f x ≡ []) xs
 each_none f h [] = tt
 each_none f h (x ∷ xs) = (h x, each_none f h xs)
 

@@ -2,6 +2,7 @@
 use Rattle.std.proofs.Common.{◌≡◌, ◌≢◌, ℕ, ◌-◌, ◌<◌, ◌≤◌, inl, inr, Bool, true, false, nat_le, nat_lt, if◌then◌else◌, List, [], ◌∷◌, ◌++◌, length, drop, map, Option, Some, None, refl, sym, ap, ◌∙◌, subst, arith, append_assoc}
 use Rattle.std.specs.List.{flat_map}
 use Rattle.std.proofs.Math.Logic.{∥∥₁_elim}
+use Rattle.std.proofs.Props.{props}
 use Rattle.std.proofs.Math.Seq.{drop-length}
 use Rattle.std.proofs.lemmas.Bool.Decides.{nat_tests}
 use Rattle.mm_word.specs.declared.word.Pre.{Pre}
@@ -18,7 +19,7 @@ use Rattle.mm_model.specs.Image.{Image}
 use Rattle.mm_model.specs.Fits.{IsSlot, IsState, IsFormed, Matches, IsOfVersion, slots_of}
 use Rattle.mm_model.specs.Ask.{Ask, ask}
 use Rattle.mm_model.specs.Ask.Ask.{Nothing, Refuse, Reach, MapPage, UnmapPage, NextEvent, Room, Serve}
-use Rattle.mm_model.specs.Turn.{Turned, turn}
+use Rattle.mm_model.specs.Turn.{Turned, turn, idle}
 use Rattle.mm_model.specs.Trace.{turns_of, step_line}
 use Rattle.mm_model.specs.Run.{turn_of, after}
 use Rattle.mm_model.specs.Outcomes.{Runs}
@@ -198,6 +199,7 @@ module _ (s : State) (n : ℕ) (k : Kept s) where
 
   -- of any item
   whole_seen : (o : Option Slot) → own_of s.core n ≡ o → changes s (after s n) ≡ seen_by (after s n) (looks_at s.core s.memory o) (turn_of s n).step.tick
+  unfolding idle
   whole_seen (Some x) own = changes_seen x own
   whole_seen None own = by (turn_way s.core s.memory n)
     where
@@ -234,12 +236,12 @@ module _ (s : State) (n : ℕ) (k : Kept s) where
       by (Faulted c) e = refl
       by (Delivered r) e = refl
 
-pub line_is : (s t : State) (n : ℕ) (b : Option Before) (step : Step) (turns : ℕ) → ∥ Kept s ∥₁ → b ≡ looks s.core s.memory n → step ≡ (turn_of s n).step → t ≡ after s n → turns ≡ turns_of (slot_at t.core step.slot)
-    → step_line turns step step.tick ++ text_of (seen_by t b step.tick) ≡ text_of (cycle_log s n)
+pub line_is : (s t : State) (n : ℕ) (before : Option Before) (step : Step) (turns : ℕ) → ∥ Kept s ∥₁ → before ≡ looks s.core s.memory n → step ≡ (turn_of s n).step → t ≡ after s n → turns ≡ turns_of (slot_at t.core step.slot)
+    → step_line turns step step.tick ++ text_of (seen_by t before step.tick) ≡ text_of (cycle_log s n)
 unfolding after
-line_is s t n b step turns kept looked is left counted =
-    ap (λ (k : ℕ). step_line k step step.tick ++ text_of (seen_by t b step.tick)) (counted ∙ ap (λ (x : State). turns_of (slot_at x.core step.slot)) left)
-    ∙ ap (λ (x : State). step_line (turns_of (slot_at (turn_of s n).core step.slot)) step step.tick ++ text_of (seen_by x b step.tick)) left
+line_is s t n before step turns kept looked is left counted =
+    ap (λ (k : ℕ). step_line k step step.tick ++ text_of (seen_by t before step.tick)) (counted ∙ ap (λ (x : State). turns_of (slot_at x.core step.slot)) left)
+    ∙ ap (λ (x : State). step_line (turns_of (slot_at (turn_of s n).core step.slot)) step step.tick ++ text_of (seen_by x before step.tick)) left
     ∙ ap (λ (x : Option Before). step_line (turns_of (slot_at (turn_of s n).core step.slot)) step step.tick ++ text_of (seen_by (after s n) x step.tick)) looked
     ∙ ap (λ (x : Step). step_line (turns_of (slot_at (turn_of s n).core x.slot)) x x.tick ++ text_of (seen_by (after s n) (looks s.core s.memory n) x.tick)) is
     ∙ ∥∥₁_elim kept (hlevel props) (λ k. cycle_text s n k)

@@ -186,6 +186,7 @@ fn put_slots<M: Memory, O: Sink>(
 }
 
 /// The event of a fault of a slot.
+#[tactic(auto, unfolding(mm_model::specs::Turn::event_of))]
 fn event_of(slot: &Slot, instr: &Option<Instr>, cause: Cause) -> Event
     ensures { result ≡ event_of_fault slot.now cause (address_told_of instr.now slot.now) (value_told_of instr.now slot.now) }
 {
