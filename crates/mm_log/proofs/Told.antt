@@ -1,0 +1,66 @@
+-- The texts of lines, part by part.
+use Rattle.std.proofs.Common.{◌≡◌, ℕ, Bool, ◌&&◌, not, nat_lt, if◌then◌else◌, List, [], ◌∷◌, ◌++◌, length, drop, map, refl, sym, ap, ◌∙◌}
+use Rattle.std.specs.List.{flat_map, range_with_len}
+use Rattle.std.proofs.lemmas.Grind.{flat_map-append}
+use Rattle.std.proofs.lemmas.List.Folds.{flat_map-map}
+use Rattle.mm_model.specs.Slot.{Slot}
+use Rattle.mm_log.specs.Lines.{Line, line_text}
+use Rattle.mm_model.specs.declared.step.Tick.{Tick}
+use Rattle.mm_model.specs.State.{State, output_of}
+use Rattle.mm_log.specs.declared.before.Before.{Before}
+use Rattle.mm_log.specs.Lines.Line.{Issues, Puts, Maps, Removes}
+use Rattle.mm_log.specs.Changes.{pointer_changes, state_changes, register_changes, load_changes, slot_changes}
+use Rattle.mm_log.specs.Log.{text_of}
+use Rattle.mm_log.specs.Seen.{in_order, slots_seen, queued_seen, read_seen, out_seen, page_told, page_seen, cell_seen, seen}
+
+pub text_append : (xs ys : List Line) → text_of (xs ++ ys) ≡ text_of xs ++ text_of ys
+text_append xs ys = flat_map-append line_text xs ys
+
+pub text_flat : {A : Type 0} (f : A → List Line) (xs : List A) → text_of (flat_map f xs) ≡ flat_map (λ x. text_of (f x)) xs
+text_flat f [] = refl
+text_flat f (x ∷ xs) = text_append (f x) (flat_map f xs) ∙ ap (λ l. text_of (f x) ++ l) (text_flat f xs)
+
+-- the text of what changed of a slot
+pub slot_text : (was now : Slot)
+    → text_of (pointer_changes was now) ++ text_of (state_changes was now) ++ flat_map (λ r. text_of (register_changes was now r)) (range_with_len 0 16)
+    ++ flat_map (λ load. line_text (Issues now.number load)) (drop (length was.pending) now.pending)
+    ≡ text_of (slot_changes was now)
+unfolding slot_changes
+slot_text was now =
+    sym
+    (text_append (pointer_changes was now ++ state_changes was now ++ flat_map (register_changes was now) (range_with_len 0 16)) (load_changes was now)
+    ∙ ap (λ l. l ++ text_of (load_changes was now))
+    (text_append (pointer_changes was now ++ state_changes was now) (flat_map (register_changes was now) (range_with_len 0 16))
+    ∙ ap (λ l. l ++ text_of (flat_map (register_changes was now) (range_with_len 0 16))) (text_append (pointer_changes was now) (state_changes was now)))
+    ∙ ap (λ l. text_of (pointer_changes was now) ++ text_of (state_changes was now) ++ l ++ text_of (load_changes was now)) (text_flat (register_changes was now) (range_with_len 0 16))
+    ∙ ap (λ l. text_of (pointer_changes was now) ++ text_of (state_changes was now) ++ flat_map (λ r. text_of (register_changes was now r)) (range_with_len 0 16) ++ l) (flat_map-map line_text (Issues now.number) (drop (length was.pending) now.pending)))
+
+-- the texts of two slots in order
+pub order_text : (a b : ℕ) (first second : List Line)
+    → text_of (if nat_lt b a then second else []) ++ text_of first ++ text_of (if nat_lt a b then second else []) ≡ text_of (in_order a b first second)
+order_text a b first second =
+    sym (text_append ((if nat_lt b a then second else []) ++ first) (if nat_lt a b then second else [])
+    ∙ ap (λ l. l ++ text_of (if nat_lt a b then second else [])) (text_append (if nat_lt b a then second else []) first))
+
+pub page_text : (p : ℕ) (was now : Bool)
+    → text_of (if now && not was then Maps p ∷ [] else []) ++ text_of (if was && not now then Removes p ∷ [] else []) ≡ text_of (page_told p was now)
+page_text p was now = sym (text_append (if now && not was then Maps p ∷ [] else []) (if was && not now then Removes p ∷ [] else []))
+
+-- the text of what was seen of a cycle
+pub seen_text : (later : State) (b : Before) (tick : Tick)
+    → text_of (slots_seen later.core b tick) ++ text_of (queued_seen b tick) ++ text_of (read_seen b.instr b.own.number tick) ++ flat_map (λ x. line_text (Puts b.own.group x)) (drop b.output (output_of later.core b.own.group))
+    ++ text_of (page_seen later.memory b.there ++ cell_seen later.memory b.there)
+    ≡ text_of (seen later b tick)
+unfolding seen
+seen_text later b tick =
+    let s : List Line = slots_seen later.core b tick in
+    let q : List Line = queued_seen b tick in
+    let r : List Line = read_seen b.instr b.own.number tick in
+    let o : List Line = out_seen later.core b in
+    let m : List Line = page_seen later.memory b.there ++ cell_seen later.memory b.there in
+    ap (λ l. text_of s ++ text_of q ++ text_of r ++ l ++ text_of m) (sym (flat_map-map line_text (Puts b.own.group) (drop b.output (output_of later.core b.own.group))))
+    ∙ sym (text_append (s ++ q ++ r ++ o) m
+    ∙ ap (λ l. l ++ text_of m)
+    (text_append (s ++ q ++ r) o
+    ∙ ap (λ l. l ++ text_of o)
+    (text_append (s ++ q) r ∙ ap (λ l. l ++ text_of r) (text_append s q))))

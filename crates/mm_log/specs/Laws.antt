@@ -1,0 +1,21 @@
+-- What holds of every commit log.
+use Rattle.std.specs.Prelude.{◌≡◌, ℕ, List, ◌++◌}
+use Rattle.mm_model.specs.Image.{Image, start}
+use Rattle.mm_model.specs.Spelling.{IsImage}
+use Rattle.mm_model.specs.State.{State}
+use Rattle.mm_model.specs.Run.{run}
+use Rattle.mm_log.specs.Log.{log}
+use Rattle.mm_log.specs.Replay.{replay}
+
+-- a state but for its number of cycles
+abbrev pub but_cycles : State → State
+but_cycles s = record s { cycles = 0 }
+
+-- The lines up to any cycle are a front part of the log; carried out from the machine's start, they make the state that
+-- the items up to that cycle make, but for the number of cycles.
+pub record Replays (i : Image) (items later : List ℕ) : Type 0 where
+  pub front : log (start i) (items ++ later) ≡ log (start i) items ++ log (run (start i) items) later
+  pub state : but_cycles (replay (start i) (log (start i) items)) ≡ but_cycles (run (start i) items)
+
+abbrev pub LogsReplay : Type 0
+LogsReplay = (i : Image) (items later : List ℕ) → IsImage i → Replays i items later

@@ -1,0 +1,8 @@
+pub mod Lines
+pub mod Changes
+pub mod Log
+pub mod Replay
+pub mod Laws
+pub mod Looks
+pub mod Named
+pub mod Seen

@@ -1,0 +1,64 @@
+-- The lines of a commit log as data, and their texts.
+use Rattle.std.specs.Prelude.{ℕ, Bool, List, ◌++◌, codes, decimal}
+use Rattle.mm_word.specs.declared.word.Word.{Word}
+use Rattle.mm_word.specs.declared.word.Word.TheVariants.{Ptr}
+use Rattle.mm_word.specs.declared.word.Cell.{Cell}
+use Rattle.mm_word.specs.Cause.{number_of}
+use Rattle.mm_word.specs.Pointer.{Pointer}
+use Rattle.mm_model.specs.declared.slot.SlotState.{SlotState}
+use Rattle.mm_model.specs.declared.slot.Pending.{Pending}
+use Rattle.mm_model.specs.declared.event.Event.{Event}
+use Rattle.mm_model.specs.declared.step.Step.{Step}
+use Rattle.mm_model.specs.Digits.{hex}
+use Rattle.mm_model.specs.Lines.{newline, word_text, state_text, past_text, cell_line}
+use Rattle.mm_model.specs.Trace.{step_line}
+
+pub data Line : Type 0 where
+  -- the line of a cycle in a trace, after which its slot has taken so many turns
+  Traced : (turns : ℕ) (step : Step) → Line
+  -- a slot's instruction pointer, and whether it is past its segment
+  Points : (slot : ℕ) (ip : Pointer) (past : Bool) → Line
+  -- a slot's state
+  Stands : (slot : ℕ) (state : SlotState) → Line
+  -- the word of a slot's register
+  Holds : (slot : ℕ) (reg : ℕ) (word : Word) → Line
+  -- a slot's register waits for a load
+  Empties : (slot : ℕ) (reg : ℕ) → Line
+  -- a load of a slot is pending
+  Issues : (slot : ℕ) (load : Pending) → Line
+  -- an event is queued at its handler
+  Queues : (handler : ℕ) (event : Event) → Line
+  -- the first event of a handler's queue is read
+  Reads : (handler : ℕ) → Line
+  -- a group puts out a byte
+  Puts : (group : ℕ) (byte : ℕ) → Line
+  -- a page is mapped, or removed
+  Maps : (page : ℕ) → Line
+  Removes : (page : ℕ) → Line
+  -- the cell of a word
+  Sets : (word : ℕ) (cell : Cell) → Line
+
+-- how a line of a register begins, up to its word
+abbrev pub register_text : ℕ → ℕ → List ℕ
+register_text slot reg = codes "r " ++ decimal slot ++ codes " " ++ decimal reg ++ codes " "
+
+-- slot, cause, instruction pointer, address operand and data operand of an event
+abbrev pub event_text : Event → List ℕ
+event_text e =
+    decimal e.slot ++ codes " " ++ decimal (number_of e.cause) ++ codes " " ++ word_text (Ptr e.ip) ++ codes " "
+    ++ word_text e.addr_op ++ codes " " ++ word_text e.value_op
+
+unfoldable pub line_text : Line → List ℕ
+line_text (Traced turns step) = step_line turns step step.tick
+line_text (Points slot ip past) = codes "ip " ++ decimal slot ++ codes " " ++ word_text (Ptr ip) ++ past_text past
+line_text (Stands slot state) = codes "state " ++ decimal slot ++ codes " " ++ state_text state ++ newline
+line_text (Holds slot reg word) = register_text slot reg ++ word_text word ++ newline
+line_text (Empties slot reg) = register_text slot reg ++ codes "empty\n"
+line_text (Issues slot load) =
+    codes "load " ++ decimal slot ++ codes " " ++ decimal load.reg ++ codes " " ++ word_text load.word ++ newline
+line_text (Queues handler event) = codes "event " ++ decimal handler ++ codes " " ++ event_text event ++ newline
+line_text (Reads handler) = codes "taken " ++ decimal handler ++ newline
+line_text (Puts group byte) = codes "out " ++ decimal group ++ codes " " ++ hex 2 byte ++ newline
+line_text (Maps page) = codes "page " ++ hex 11 page ++ codes " new\n"
+line_text (Removes page) = codes "page " ++ hex 11 page ++ codes " gone\n"
+line_text (Sets word cell) = cell_line word cell

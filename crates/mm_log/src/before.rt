@@ -1,0 +1,229 @@
+// What the cycle of an item can change, as it stands before.
+ghost use Rattle.std.specs.Prelude.{◌≡◌, ◌-◌, nat_le, nat_lt, if◌then◌else◌, None};
+ghost use Rattle.std.specs.Option.{option_copied};
+ghost use Rattle.mm_word.specs.declared.word.Pre.{Pre as PreValue};
+ghost use Rattle.mm_model.specs.Ask.{Ask as AskValue, ask, reaching, load_kind as load_kind_of, page_asked};
+ghost use Rattle.mm_model.specs.Ask.Ask.{MapPage};
+ghost use Rattle.mm_model.specs.Memory.{cell_at, is_mapped as is_mapped_in};
+ghost use Rattle.mm_model.specs.Slot.{register as register_of};
+ghost use Rattle.mm_model.specs.State.{slot_at};
+ghost use Rattle.mm_model.specs.Turn.{instr_in};
+ghost use Rattle.mm_machine.specs.Machine.{state_of};
+ghost use Rattle.mm_log.specs.declared.before.There.TheVariants as there;
+ghost use Rattle.mm_log.specs.Looks.{own_of, in_cell, comes_to, cell_there as cell_there_of, slot_there as slot_there_of, there_at, there_for, looked_at, looks};
+
+use mm_isa::{Instr, Reg, read};
+use mm_machine::Machine;
+use mm_mem::{Inspect, Memory};
+use mm_model::Slot;
+use mm_word::{Access, Cause, Cell, Kind, Perm, Post, Word, check};
+
+/// What an instruction asks for besides its slot, as it stands.
+#[derive(Drop)]
+pub(crate) enum There {
+    Nothing,
+    /// The cell of an access.
+    Cell(Access, Cell),
+    /// A page, and whether it is mapped.
+    Page(u64, bool),
+    /// A slot.
+    Slot(Slot),
+}
+
+/// What the cycle of an item can change, as it stands before.
+#[derive(Drop)]
+pub(crate) struct Before {
+    /// The slot that the item names or whose port it is.
+    pub own: Slot,
+    /// The instruction that its turn comes to.
+    pub instr: Option<Instr>,
+    /// What that asks for besides its slot.
+    pub there: There,
+    /// How many bytes the slot's group has put out.
+    pub output: usize,
+}
+
+/// The slot that an item names or whose port it is.
+fn slot_of<M: Memory>(machine: &Machine<M>, item: u8) -> Option<&Slot>
+    ensures { option_copied result ≡ own_of (state_of machine.now).core item }
+{
+    match machine.slot(item) {
+        Some(slot) => Some(slot),
+        None => port_of(machine, item),
+    }
+}
+
+/// The slot whose port an item is.
+fn port_of<M: Memory>(machine: &Machine<M>, item: u8) -> Option<&Slot>
+    ensures { option_copied result ≡ (if nat_le 128 item then slot_at (state_of machine.now).core (item - 128) else None) }
+{
+    if item < 128 {
+        return None;
+    }
+    machine.slot(item - 128)
+}
+
+/// The instruction that a word spells.
+fn instruction_in(word: Word) -> Option<Instr>
+    ensures { result ≡ instr_in word }
+{
+    match word {
+        Word::Int(bits) => read(bits),
+        Word::Ptr(_) => None,
+    }
+}
+
+/// The cell of an access, if its page is mapped.
+pub(crate) fn cell_of<M: Inspect>(machine: &Machine<M>, access: Access) -> Option<Cell>
+    ensures { result ≡ cell_at (state_of machine.now).memory access.addr }
+{
+    machine.memory().peek(access.addr())
+}
+
+/// The instruction that the cell of an access holds.
+fn instruction_at<M: Inspect>(machine: &Machine<M>, access: Access) -> Option<Instr>
+    ensures { result ≡ in_cell (cell_at (state_of machine.now).memory access.addr) }
+{
+    match cell_of(machine, access) {
+        Some(cell) => instruction_in(cell.word),
+        None => None,
+    }
+}
+
+/// The instruction that the turn of a slot comes to, if it does not fault before.
+fn instruction_of<M: Inspect>(machine: &Machine<M>, slot: &Slot) -> Option<Instr>
+    ensures { result ≡ comes_to (state_of machine.now).memory slot.now }
+{
+    if slot.past {
+        return None;
+    }
+    match check(Word::Ptr(slot.ip), 0, Kind::Fetch) {
+        Ok(access) => instruction_at(machine, access),
+        Err(_) => None,
+    }
+}
+
+/// The cell of an access.
+fn cell_there<M: Inspect>(machine: &Machine<M>, access: Access) -> There
+    ensures { result ≡ cell_there_of access (cell_at (state_of machine.now).memory access.addr) }
+{
+    match cell_of(machine, access) {
+        Some(cell) => There::Cell(access, cell),
+        None => There::Nothing,
+    }
+}
+
+fn access_there<M: Inspect>(machine: &Machine<M>, access: Result<Access, Cause>) -> There
+    ensures { (pre : PreValue) → result ≡ there_at (state_of machine.now).core (state_of machine.now).memory (reaching access pre) }
+{
+    match access {
+        Ok(access) => cell_there(machine, access),
+        Err(_) => There::Nothing,
+    }
+}
+
+fn load_kind(post: Post) -> Kind
+    ensures { result ≡ load_kind_of post }
+{
+    match post {
+        Post::Keep => Kind::Load,
+        Post::Full | Post::Empty => Kind::LoadSet,
+    }
+}
+
+/// The word of a register.
+fn word_of(slot: &Slot, register: Reg) -> Word
+    ensures { result ≡ register_of slot.now register }
+{
+    slot.register(register.number())
+}
+
+/// Whether a page is mapped.
+#[tactic(auto, using(crate::proofs::Peeks::mapped_by, crate::proofs::Peeks::mapped_not))]
+pub(crate) fn is_mapped<M: Inspect>(machine: &Machine<M>, page: u64) -> bool
+    ensures { result ≡ is_mapped_in (state_of machine.now).memory page }
+{
+    let memory = machine.memory();
+    page < 1 << 42 && memory.peek(page * 4096).is_some()
+}
+
+/// A page, where the slot is privileged and there can be such a page.
+fn page_there<M: Inspect>(machine: &Machine<M>, slot: &Slot, page: u64) -> There
+    ensures { result ≡ there_at (state_of machine.now).core (state_of machine.now).memory (page_asked slot.now.ip.perm page (MapPage page)) }
+{
+    if slot.ip.perm() != Perm::Xp || page >= 1 << 42 {
+        return There::Nothing;
+    }
+    There::Page(page, is_mapped(machine, page))
+}
+
+/// The slot of a number.
+fn slot_there<M: Memory>(machine: &Machine<M>, number: u64) -> There
+    ensures { result ≡ (if nat_lt number 64 then slot_there_of (slot_at (state_of machine.now).core number) else there.Nothing) }
+{
+    if number >= 64 {
+        return There::Nothing;
+    }
+    match machine.slot(number as u8) {
+        Some(slot) => There::Slot(slot.copy()),
+        None => There::Nothing,
+    }
+}
+
+/// What an instruction asks for besides its slot, as it stands.
+#[tactic(auto, unfolding(mm_model::specs::Ask::ask))]
+fn asked_there<M: Inspect>(machine: &Machine<M>, slot: &Slot, instr: &Instr) -> There
+    ensures { result ≡ there_at (state_of machine.now).core (state_of machine.now).memory (ask instr.now slot.now) }
+{
+    match instr {
+        Instr::Ld { ra, post, imm, .. } => access_there(
+            machine,
+            check(word_of(slot, *ra), *imm as i64, load_kind(*post)),
+        ),
+        Instr::St { ra, imm, .. } => access_there(
+            machine,
+            check(word_of(slot, *ra), *imm as i64, Kind::Store),
+        ),
+        Instr::Resume { ra, .. } => slot_there(machine, word_of(slot, *ra).bits()),
+        Instr::Rreg { ra, .. } => slot_there(machine, word_of(slot, *ra).bits()),
+        Instr::Wreg { ra, .. } => slot_there(machine, word_of(slot, *ra).bits()),
+        Instr::Map { ra, .. } => page_there(machine, slot, word_of(slot, *ra).bits()),
+        Instr::Unmap { ra, .. } => page_there(machine, slot, word_of(slot, *ra).bits()),
+        _ => There::Nothing,
+    }
+}
+
+fn there_before<M: Inspect>(machine: &Machine<M>, slot: &Slot, instr: &Option<Instr>) -> There
+    ensures { result ≡ there_for (state_of machine.now).core (state_of machine.now).memory instr.now slot.now }
+{
+    match instr {
+        Some(instr) => asked_there(machine, slot, instr),
+        None => There::Nothing,
+    }
+}
+
+/// What the cycle of an item of this slot can change.
+fn look_at<M: Inspect>(machine: &Machine<M>, slot: &Slot) -> Before
+    ensures { result ≡ looked_at (state_of machine.now).core (state_of machine.now).memory slot.now }
+{
+    let instr = instruction_of(machine, slot);
+    let there = there_before(machine, slot, &instr);
+    let output = machine.output(slot.group).len();
+    let own = slot.copy();
+    Before {
+        own,
+        instr,
+        there,
+        output,
+    }
+}
+
+/// What the cycle of an item can change; nothing where the item names no slot and no port of one.
+pub(crate) fn look<M: Inspect>(machine: &Machine<M>, item: u8) -> Option<Before>
+    ensures { result ≡ looks (state_of machine.now).core (state_of machine.now).memory item }
+{
+    match slot_of(machine, item) {
+        Some(slot) => Some(look_at(machine, slot)),
+        None => None,
+    }
+}

@@ -1,0 +1,12 @@
+//! The commit log of a run: the line of each turn, and behind it all that the turn changed.
+#![tactic(auto)]
+
+mod after;
+mod before;
+pub mod laws;
+mod lines;
+mod logged;
+mod operands;
+mod slots;
+
+pub use logged::issue_logged;

@@ -1,0 +1,217 @@
+// The lines of a commit log.
+#![tactic(auto, unfolding(crate::specs::Lines::line_text))]
+
+ghost use Rattle.std.specs.Prelude.{◌++◌, codes, decimal};
+ghost use Rattle.mm_text.specs.Gathers.{Gathers};
+ghost use Rattle.mm_word.specs.Cause.{number_of};
+ghost use Rattle.mm_model.specs.Lines.{past_text};
+ghost use Rattle.mm_log.specs.Lines.{line_text, register_text, event_text};
+ghost use Rattle.mm_log.specs.Lines.Line.{Points, Stands, Holds, Empties, Issues, Queues, Reads, Puts, Maps, Removes, Sets};
+
+use mm_io::Sink;
+use mm_model::{Event, Pending, SlotState};
+use mm_text::{Gather, Piece, put_cell, put_state, put_word};
+use mm_word::{Cause, Cell, GuardedPtr, Word};
+
+/// Appends `ip S P`, or `ip S P past`.
+pub(crate) fn put_pointer<O: Sink>(
+    text: &mut Gather,
+    out: &mut O,
+    slot: u8,
+    ip: GuardedPtr,
+    past: bool,
+)
+    ensures { Gathers O.taken O.faults out.old out.new text.old text.new (line_text (Points slot ip past)) }
+{
+    put_front(text, out, "ip ", slot);
+    put_word(text, out, Word::Ptr(ip));
+    put_end(text, out, past);
+}
+
+/// Appends `state S STATE`.
+pub(crate) fn put_standing<O: Sink>(text: &mut Gather, out: &mut O, slot: u8, state: SlotState)
+    ensures { Gathers O.taken O.faults out.old out.new text.old text.new (line_text (Stands slot state)) }
+{
+    put_front(text, out, "state ", slot);
+    put_state(text, out, state);
+    text.put_piece(out, &Piece::Text("\n"));
+}
+
+/// Appends `r S K WORD`.
+pub(crate) fn put_register<O: Sink>(
+    text: &mut Gather,
+    out: &mut O,
+    slot: u8,
+    register: u8,
+    word: Word,
+)
+    ensures { Gathers O.taken O.faults out.old out.new text.old text.new (line_text (Holds slot register word)) }
+{
+    put_register_front(text, out, slot, register);
+    put_word(text, out, word);
+    text.put_piece(out, &Piece::Text("\n"));
+}
+
+/// Appends `r S K empty`.
+pub(crate) fn put_empty<O: Sink>(text: &mut Gather, out: &mut O, slot: u8, register: u8)
+    ensures { Gathers O.taken O.faults out.old out.new text.old text.new (line_text (Empties slot register)) }
+{
+    put_register_front(text, out, slot, register);
+    text.put_piece(out, &Piece::Text("empty\n"));
+}
+
+/// Appends `load S K WORD`.
+pub(crate) fn put_load<O: Sink>(text: &mut Gather, out: &mut O, slot: u8, load: &Pending)
+    ensures { Gathers O.taken O.faults out.old out.new text.old text.new (line_text (Issues slot load.now)) }
+{
+    text.put(
+        out,
+        &[
+            Piece::Text("load "),
+            Piece::Decimal(slot as u64),
+            Piece::Text(" "),
+            Piece::Decimal(load.reg as u64),
+            Piece::Text(" "),
+        ],
+    );
+    put_word(text, out, load.word);
+    text.put_piece(out, &Piece::Text("\n"));
+}
+
+/// Appends `event H S C P X Y`.
+pub(crate) fn put_event<O: Sink>(text: &mut Gather, out: &mut O, handler: u8, event: &Event)
+    ensures { Gathers O.taken O.faults out.old out.new text.old text.new (line_text (Queues handler event.now)) }
+{
+    put_front(text, out, "event ", handler);
+    put_told(text, out, event);
+    text.put_piece(out, &Piece::Text("\n"));
+}
+
+/// Appends `taken H`.
+pub(crate) fn put_taken<O: Sink>(text: &mut Gather, out: &mut O, handler: u8)
+    ensures { Gathers O.taken O.faults out.old out.new text.old text.new (line_text (Reads handler)) }
+{
+    text.put(
+        out,
+        &[
+            Piece::Text("taken "),
+            Piece::Decimal(handler as u64),
+            Piece::Text("\n"),
+        ],
+    );
+}
+
+/// Appends `out G HH`.
+pub(crate) fn put_byte<O: Sink>(text: &mut Gather, out: &mut O, group: u8, byte: u8)
+    ensures { Gathers O.taken O.faults out.old out.new text.old text.new (line_text (Puts group byte)) }
+{
+    text.put(
+        out,
+        &[
+            Piece::Text("out "),
+            Piece::Decimal(group as u64),
+            Piece::Text(" "),
+            Piece::HexByte(byte),
+            Piece::Text("\n"),
+        ],
+    );
+}
+
+/// Appends `page P new`.
+pub(crate) fn put_new_page<O: Sink>(text: &mut Gather, out: &mut O, page: u64)
+    ensures { Gathers O.taken O.faults out.old out.new text.old text.new (line_text (Maps page)) }
+{
+    text.put(
+        out,
+        &[
+            Piece::Text("page "),
+            Piece::HexPage(page),
+            Piece::Text(" new\n"),
+        ],
+    );
+}
+
+/// Appends `page P gone`.
+pub(crate) fn put_gone_page<O: Sink>(text: &mut Gather, out: &mut O, page: u64)
+    ensures { Gathers O.taken O.faults out.old out.new text.old text.new (line_text (Removes page)) }
+{
+    text.put(
+        out,
+        &[
+            Piece::Text("page "),
+            Piece::HexPage(page),
+            Piece::Text(" gone\n"),
+        ],
+    );
+}
+
+/// Appends `cell A WORD full` or `cell A WORD empty`.
+pub(crate) fn put_set<O: Sink>(text: &mut Gather, out: &mut O, word: u64, cell: &Cell)
+    ensures { Gathers O.taken O.faults out.old out.new text.old text.new (line_text (Sets word cell.now)) }
+{
+    put_cell(text, out, word, cell);
+}
+
+// Appends a line's name with its blank, a number and a blank.
+fn put_front<O: Sink>(text: &mut Gather, out: &mut O, name: &str, number: u8)
+    ensures { Gathers O.taken O.faults out.old out.new text.old text.new (name.now ++ decimal number ++ codes " ") }
+{
+    text.put(
+        out,
+        &[
+            Piece::Text(name),
+            Piece::Decimal(number as u64),
+            Piece::Text(" "),
+        ],
+    );
+}
+
+// Ends the line of an instruction pointer.
+fn put_end<O: Sink>(text: &mut Gather, out: &mut O, past: bool)
+    ensures { Gathers O.taken O.faults out.old out.new text.old text.new (past_text past) }
+{
+    text.put_piece(out, &Piece::Text(if past { " past\n" } else { "\n" }));
+}
+
+// Appends slot, cause, instruction pointer, address operand and data operand of an event.
+fn put_told<O: Sink>(text: &mut Gather, out: &mut O, event: &Event)
+    ensures { Gathers O.taken O.faults out.old out.new text.old text.new (event_text event.now) }
+{
+    put_fault(text, out, event.slot, event.cause);
+    put_word(text, out, Word::Ptr(event.ip));
+    text.put_piece(out, &Piece::Text(" "));
+    put_word(text, out, event.addr_op);
+    text.put_piece(out, &Piece::Text(" "));
+    put_word(text, out, event.value_op);
+}
+
+// Appends the number of a slot and that of its fault, each with a blank.
+fn put_fault<O: Sink>(text: &mut Gather, out: &mut O, slot: u8, cause: Cause)
+    ensures { Gathers O.taken O.faults out.old out.new text.old text.new (decimal slot ++ codes " " ++ decimal (number_of cause) ++ codes " ") }
+{
+    text.put(
+        out,
+        &[
+            Piece::Decimal(slot as u64),
+            Piece::Text(" "),
+            Piece::Decimal(cause.number() as u64),
+            Piece::Text(" "),
+        ],
+    );
+}
+
+// Appends the front of a register's line.
+fn put_register_front<O: Sink>(text: &mut Gather, out: &mut O, slot: u8, register: u8)
+    ensures { Gathers O.taken O.faults out.old out.new text.old text.new (register_text slot register) }
+{
+    text.put(
+        out,
+        &[
+            Piece::Text("r "),
+            Piece::Decimal(slot as u64),
+            Piece::Text(" "),
+            Piece::Decimal(register as u64),
+            Piece::Text(" "),
+        ],
+    );
+}
