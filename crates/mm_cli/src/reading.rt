@@ -53,7 +53,7 @@ fn row_named(name: &str) -> Option<&'static Listed<'static>>
 
 /// The row of a number.
 fn row_at(number: usize) -> &'static Listed<'static>
-    requires { number < 17 }
+    requires { number < 18 }
     ensures { slice_get table number ≡ Some (listed result.now) }
 {
     &TABLE[number]

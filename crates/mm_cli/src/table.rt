@@ -5,6 +5,7 @@
 pub enum Command {
     Run,
     Trace,
+    Log,
     Solo,
     Grants,
     Extract,
@@ -112,7 +113,7 @@ const NODES: Last = Last::Several {
 };
 
 /// The commands, each with its words.
-pub static TABLE: [Listed<'static>; 17] = [
+pub static TABLE: [Listed<'static>; 18] = [
     (
         "run",
         Command::Run,
@@ -122,6 +123,12 @@ pub static TABLE: [Listed<'static>; 17] = [
     (
         "trace",
         Command::Trace,
+        &[IMAGE, CYCLES],
+        Last::Perhaps(SCHEDULE),
+    ),
+    (
+        "log",
+        Command::Log,
         &[IMAGE, CYCLES],
         Last::Perhaps(SCHEDULE),
     ),

@@ -141,12 +141,11 @@ module _ (core : Core) (m : Memory) (n : ℕ) (formed : IsFormed core) (fit : Fi
       let small = slot_has IsSlot core g other.1.0 formed.slots other.1.1 in
       let few : g < 64 = let low = small.number in omega arith in
       let here : queue_at queued g ≡ queue_at core g ++ e ∷ [] = queue_at-put_same waits g (queue_at waits g ++ e ∷ []) other.1.0 there ∙ ap (λ q. q ++ e ∷ []) (queue_at-put_slot core (stood s Waiting) g) in
-      let others : (k : ℕ) → k ≢ g → queue_at queued k ≡ queue_at core k = λ k ne. queue_at-put_other waits g (queue_at waits g ++ e ∷ []) k ne ∙ queue_at-put_slot core (stood s Waiting) k in
-      (
+      let others : (k : ℕ) → k ≢ g → queue_at queued k ≡ queue_at core k = λ k ne. queue_at-put_other waits g (queue_at waits g ++ e ∷ []) k ne ∙ queue_at-put_slot core (stood s Waiting) k in (
         one_number (queued_at core queued) g few (λ k ne. queued_same core queued k (others k ne))
-        ∙ queued_added core queued g e here
-        ∙ ap (λ x. Queues g x ∷ []) made
-        ∙ sym (ap (queued_for (comes_to m s) s c) is),
+            ∙ queued_added core queued g e here
+            ∙ ap (λ x. Queues g x ∷ []) made
+            ∙ sym (ap (queued_for (comes_to m s) s c) is),
         one_number (read_at core queued) g few (λ k ne. read_same core queued k (others k ne)) ∙ read_added core queued g e here,
       )
   fault_events s at c e causes made None is = subst (λ (x : Cause). (each_number (queued_at core (if is_sync x then put_slot core (stood s Running) else put_slot core (stood s (Halted (Some x))))) ≡ queued_by (comes_to m s) s (if is_sync c then Blocked else Faulted c)) × (each_number (read_at core (if is_sync x then put_slot core (stood s Running) else put_slot core (stood s (Halted (Some x))))) ≡ read_seen (comes_to m s) s.number (if is_sync c then Blocked else Faulted c))) (sym causes) (by (is_sync c))
@@ -200,11 +199,10 @@ module _ (core : Core) (m : Memory) (n : ℕ) (formed : IsFormed core) (fit : Fi
         let others : (h : ℕ) → h ≢ s.number → queue_at (after_queue (Some q)) h ≡ queue_at core h = λ h ne. out_queue (put_queue mid s.number q) c.out h ∙ queue_at-put_other mid s.number q h ne ∙ mid_queue h in
         let lost : queue_at core s.number ≡ k.1.0 ∷ queue_at (after_queue (Some q)) s.number = k.1.1 ∙ ap (λ l. k.1.0 ∷ l) (sym here) in
         let small = slot_has IsSlot core s.number s formed.slots at in
-        let few : s.number < 64 = small.number in
-        (
+        let few : s.number < 64 = small.number in (
           one_number (queued_at core (after_queue (Some q))) s.number few (λ h ne. queued_same core (after_queue (Some q)) h (others h ne)) ∙ queued_lost core (after_queue (Some q)) s.number k.1.0 lost,
           one_number (read_at core (after_queue (Some q))) s.number few (λ h ne. read_same core (after_queue (Some q)) h (others h ne)) ∙ read_lost core (after_queue (Some q)) s.number k.1.0 lost
-          ∙ sym (event_row i s s.number k.0),
+              ∙ sym (event_row i s s.number k.0),
         )
 
     change_events : QueueMoves core s.number (ask i s) c.queue → (each_number (queued_at core (core_after core s c)) ≡ []) × (each_number (read_at core (core_after core s c)) ≡ read_own (Some i) s.number)

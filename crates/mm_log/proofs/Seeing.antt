@@ -166,22 +166,19 @@ module _ (core : Core) (m : Memory) (n : ℕ) where
   told_seen asked later (MemoryTold.nothing same a b c) = stays_seen (there_at core m asked) (nothing_at asked) later same a b c
   told_seen asked later (MemoryTold.cell a pre old c is at made x y z) =
       let here : there_at core m asked ≡ there.Cell a old = ap (there_at core m) is ∙ ap (cell_there a) at in
-      let now : cell_at later a.addr ≡ Some c = ap (λ (v : Memory). cell_at v a.addr) made ∙ cell_at-put_same m a.addr c old at in
-      (
+      let now : cell_at later a.addr ≡ Some c = ap (λ (v : Memory). cell_at v a.addr) made ∙ cell_at-put_same m a.addr c old at in (
         ap (λ l. l ++ pages_removed m later) x ∙ y ∙ sym (ap (page_seen later) here),
         z ∙ sym (ap (cell_seen later) here ∙ ap (cell_now a.addr old) now),
       )
   told_seen asked later (MemoryTold.mapped p is free made x y z) =
       let here : there_at core m asked ≡ there.Page p false = ap (there_at core m) is ∙ ap (λ b. there.Page p b) free in
-      let now : is_mapped later p ≡ true = ap (λ (v : Memory). is_mapped v p) made ∙ ap is_some (page_at-map_same m p) in
-      (
+      let now : is_mapped later p ≡ true = ap (λ (v : Memory). is_mapped v p) made ∙ ap is_some (page_at-map_same m p) in (
         ap (λ l. l ++ pages_removed m later) x ∙ ap (λ l. Maps p ∷ l) y ∙ sym (ap (page_seen later) here ∙ ap (page_told p false) now),
         z ∙ sym (ap (cell_seen later) here),
       )
   told_seen asked later (MemoryTold.removed p is mapped made x y z) =
       let here : there_at core m asked ≡ there.Page p true = ap (there_at core m) is ∙ ap (λ b. there.Page p b) mapped in
-      let now : is_mapped later p ≡ false = ap (λ (v : Memory). is_mapped v p) made ∙ ap is_some (page_at-unmap_same m p) in
-      (
+      let now : is_mapped later p ≡ false = ap (λ (v : Memory). is_mapped v p) made ∙ ap is_some (page_at-unmap_same m p) in (
         ap (λ l. l ++ pages_removed m later) x ∙ y ∙ sym (ap (page_seen later) here ∙ ap (page_told p true) now),
         z ∙ sym (ap (cell_seen later) here),
       )
@@ -202,8 +199,7 @@ module _ (core : Core) (m : Memory) (n : ℕ) where
       stayed : MemoryTold m Ask.Nothing (turn core m n).memory → (turn core m n).memory ≡ m → TellsMemory (turn core m n).memory (there_for core m (comes_to m s) s)
       stayed told same =
           let k = told_seen Ask.Nothing (turn core m n).memory told in
-          let none = nothing_for (comes_to m s) s in
-          (
+          let none = nothing_for (comes_to m s) s in (
             k.0 ∙ sym (ap (λ (y : Memory). page_seen y (there_for core m (comes_to m s) s)) same ∙ none.0),
             k.1 ∙ sym (ap (λ (y : Memory). cell_seen y (there_for core m (comes_to m s) s)) same ∙ none.1),
           )

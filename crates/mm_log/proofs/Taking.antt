@@ -243,9 +243,9 @@ module _ (core : Core) (m : Memory) (n : ℕ) (formed : IsFormed core) (match : 
       let own_number = (changed_from s done).number in
       let own_now : slot_at later s.number ≡ Some (slot_after s done) = ap (λ (x : Core). slot_at x s.number) whole ∙ own_after core s at done in
       let told : e.slot ≢ s.number → changes_between (slot_at core e.slot) (slot_at later e.slot) ≡ Stands e.slot Taken ∷ [] = λ ne.
-          ap (λ o. changes_between o (slot_at later e.slot)) r.there
-          ∙ ap (λ o. changes_between (Some of) o) (ap (λ (x : Core). slot_at x e.slot) whole ∙ other_after core s at done taken of refl e.slot number r.there ne)
-          ∙ taken_changes of waits ∙ ap (λ k. Stands k Taken ∷ []) number in
+      ap (λ o. changes_between o (slot_at later e.slot)) r.there
+      ∙ ap (λ o. changes_between (Some of) o) (ap (λ (x : Core). slot_at x e.slot) whole ∙ other_after core s at done taken of refl e.slot number r.there ne)
+      ∙ taken_changes of waits ∙ ap (λ k. Stands k Taken ∷ []) number in
       let reads : read_in (comes_to m s) Did (slot_at later s.number) ≡ Some e.slot =
       ap (λ o. read_by o (slot_at later s.number)) (comes ∙ ap (λ (x : Instr). Some x) evt.is)
       ∙ ap (slot_in evt.rd) own_now

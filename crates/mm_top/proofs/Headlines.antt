@@ -11,10 +11,12 @@ use Rattle.mm_load.specs.declared.status.Status.{Status}
 use Rattle.mm_load.specs.declared.status.Status.TheVariants.{Done}
 use Rattle.mm_load.specs.Kinds.{an_image}
 use Rattle.mm_cli.specs.Table.{Row, Asks}
-use Rattle.mm_top.specs.Commands.{run, trace}
+use Rattle.mm_log.proofs.Logs.{logs_replay}
+use Rattle.mm_top.specs.Commands.{run, trace, log}
 use Rattle.mm_top.specs.Answers.{Answers, Call, Gives, write}
-use Rattle.mm_top.specs.Headline.{RunIsProved, TraceIsProved}
+use Rattle.mm_top.specs.Headline.{RunIsProved, TraceIsProved, LogIsProved}
 use Rattle.mm_top.proofs.TracedSections.{traces_isolate}
+use Rattle.mm_top.proofs.LoggedSections.{logs_isolate}
 use Rattle.mm_top.proofs.Verdicts.{done}
 use Rattle.mm_cli.proofs.Rows.{one_row}
 
@@ -54,6 +56,26 @@ trace_proved tells held left image cycles schedule text (an_image i ∷ lists, a
 trace_proved tells held left image cycles schedule text ([], accepted, writes) = absurd writes
 trace_proved tells held left image cycles schedule text (v ∷ lists, accepted, writes) = absurd (assumption (accepted, writes))
 
+log_proved : (tells : List Use → Option Counts) (held : List ℕ → Option (List ℕ)) (left : Option (List ℕ)) (image : List ℕ)
+    (cycles : ℕ) (schedule : Option (List ℕ)) (text : List ℕ)
+    → Gives tells held left (log image cycles schedule) (write text) → LogIsProved tells held image cycles schedule text
+log_proved tells held left image cycles schedule text (an_image i ∷ lists, accepted, (items, issues, is)) = record {
+  i = i;
+  lists = lists;
+  items = items;
+  reads = accepted;
+  issues = issues;
+  writes = is;
+  replays = λ front later same. logs_replay i front later accepted.0.means.image;
+  reaches = runs_reach i items accepted.0.means.image;
+  isolates =
+      λ c has apart.
+      let P : List ℕ → Type 0 = λ written. Isolates i items written c in
+      subst P (sym is) (logs_isolate i items (tells (machine.uses (model.start i) items)) c accepted.0.means.image has apart);
+}
+log_proved tells held left image cycles schedule text ([], accepted, writes) = absurd writes
+log_proved tells held left image cycles schedule text (v ∷ lists, accepted, writes) = absurd (assumption (accepted, writes))
+
 -- the text that is written is what the row of the words comes to
 written : {c : Call} {words : List (List ℕ)} {status : Status} → Answers c words status → status ≡ Done → (row : Row) → Asks words row
     → (text : List ℕ) × Gives c.tells c.files.held c.input.left row (write text) × (c.out.taken ≡ append_known c.out.taken_before text)
@@ -74,3 +96,10 @@ pub trace_headline : {c : Call} {words : List (List ℕ)} {status : Status} → 
 trace_headline {c = c} answers same image cycles schedule asks =
     let (text, gives, took) = written answers same (trace image cycles schedule) asks in
     (text, trace_proved c.tells c.files.held c.input.left image cycles schedule text gives, took)
+
+pub log_headline : {c : Call} {words : List (List ℕ)} {status : Status} → Answers c words status → status ≡ Done → (image : List ℕ)
+    (cycles : ℕ) (schedule : Option (List ℕ)) → Asks words (log image cycles schedule)
+    → (text : List ℕ) × LogIsProved c.tells c.files.held image cycles schedule text × (c.out.taken ≡ append_known c.out.taken_before text)
+log_headline {c = c} answers same image cycles schedule asks =
+    let (text, gives, took) = written answers same (log image cycles schedule) asks in
+    (text, log_proved c.tells c.files.held c.input.left image cycles schedule text gives, took)

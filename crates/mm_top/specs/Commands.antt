@@ -25,10 +25,11 @@ use Rattle.mm_model.specs.Report.{report}
 use Rattle.mm_audit.specs.Refusals.{StandAlone}
 use Rattle.mm_sched.specs.declared.schedule.Order.{Order}
 use Rattle.mm_debug.specs.Session as session
+use Rattle.mm_log.specs.Log.{log_text}
 use Rattle.mm_save.specs.Recorder.{recorded}
 use Rattle.mm_cli.specs.declared.table.Command.{Command}
-use Rattle.mm_cli.specs.declared.table.Command.TheVariants.{Run, Trace, Solo, Grants, Extract, Asm, Link, Dis, Debug}
-use Rattle.mm_cli.specs.declared.table.Command.TheVariants.{Gen, Soak, Migrate, Sweep, Holders, Save, Continue, Net}
+use Rattle.mm_cli.specs.declared.table.Command.TheVariants.{Run, Trace, Log, Solo, Grants, Extract, Asm, Link, Dis}
+use Rattle.mm_cli.specs.declared.table.Command.TheVariants.{Debug, Gen, Soak, Migrate, Sweep, Holders, Save, Continue, Net}
 use Rattle.mm_cli.specs.declared.table.Kind.TheVariants.{Image as image_file, Schedule as schedule_file}
 use Rattle.mm_cli.specs.declared.table.Kind.TheVariants.{Source as source_file, Object as object_file}
 use Rattle.mm_cli.specs.declared.table.Kind.TheVariants.{Checkpoint as checkpoint_file}
@@ -119,6 +120,9 @@ YieldsAt tells Run (image ∷ number_word cycles ∷ words) (an_image i ∷ list
 YieldsAt tells Trace (image ∷ number_word cycles ∷ words) (an_image i ∷ lists) text =
     (items : List ℕ) × Issues i cycles lists items
     × (text ≡ lines.trace (model.start i) items ++ report_after tells i items)
+YieldsAt tells Log (image ∷ number_word cycles ∷ words) (an_image i ∷ lists) text =
+    (items : List ℕ) × Issues i cycles lists items
+    × (text ≡ log_text (model.start i) items ++ report_after tells i items)
 YieldsAt tells Solo (image ∷ groups_word groups ∷ number_word cycles ∷ words) (an_image i ∷ a_list list ∷ []) text =
     StandAlone i (among groups) × (text ≡ own_report tells i list cycles (among groups))
 YieldsAt tells Debug words (an_image i ∷ values) text = IsDialogue i values text
@@ -154,6 +158,12 @@ run image cycles schedule = record {
 abbrev pub trace : (image : List ℕ) (cycles : ℕ) (schedule : Option (List ℕ)) → Row
 trace image cycles schedule = record {
   command = Trace;
+  words = file_word image_file image ∷ number_word cycles ∷ perhaps (file_word schedule_file) schedule;
+}
+
+abbrev pub log : (image : List ℕ) (cycles : ℕ) (schedule : Option (List ℕ)) → Row
+log image cycles schedule = record {
+  command = Log;
   words = file_word image_file image ∷ number_word cycles ∷ perhaps (file_word schedule_file) schedule;
 }
 

@@ -12,7 +12,9 @@ use Rattle.mm_load.specs.Kinds.{Value, an_image}
 use Rattle.mm_load.specs.Files.{FilesAccepted}
 use Rattle.mm_cli.specs.Table.{files_of}
 use Rattle.mm_top.specs.Orders.{Issues}
-use Rattle.mm_top.specs.Commands.{run, trace, report_after}
+use Rattle.mm_log.specs.Log.{log_text}
+use Rattle.mm_log.specs.Laws.{Replays}
+use Rattle.mm_top.specs.Commands.{run, trace, log, report_after}
 
 -- What `run` did, where it is done.
 pub record RunIsProved (tells : List Use → Option Counts) (held : List ℕ → Option (List ℕ)) (image : List ℕ)
@@ -41,6 +43,23 @@ pub record TraceIsProved (tells : List Use → Option Counts) (held : List ℕ �
   pub issues : Issues i cycles lists items
   -- It writes the line of each turn, with what the turn touched and entered, and then the report.
   pub writes : written ≡ trace_of (start i) items ++ report_after tells i items
+  -- Every word that a thread touches lies in a segment that is granted to its group, as above.
+  pub reaches : Reaches i items
+  -- The sections of groups that stand apart are those of a run without the others, as above.
+  pub isolates : (c : ℕ → Bool) → HasSlot i c → Apart i All c → Isolates i items written c
+
+-- What `log` did, where it is done.
+pub record LogIsProved (tells : List Use → Option Counts) (held : List ℕ → Option (List ℕ)) (image : List ℕ)
+    (cycles : ℕ) (schedule : Option (List ℕ)) (written : List ℕ) : Type 0 where
+  pub i : Image
+  pub lists : List Value
+  pub items : List ℕ
+  pub reads : FilesAccepted held [] (files_of (log image cycles schedule)) (an_image i ∷ lists)
+  pub issues : Issues i cycles lists items
+  -- It writes the line of each turn, after each of these the lines of all that the turn changed, and then the report.
+  pub writes : written ≡ log_text (start i) items ++ report_after tells i items
+  -- The lines up to any cycle, carried out from the machine's start, make the state that the run has then.
+  pub replays : (front later : List ℕ) → items ≡ front ++ later → Replays i front later
   -- Every word that a thread touches lies in a segment that is granted to its group, as above.
   pub reaches : Reaches i items
   -- The sections of groups that stand apart are those of a run without the others, as above.

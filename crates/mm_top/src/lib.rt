@@ -17,6 +17,7 @@ mod grants;
 mod holders;
 mod laws;
 mod link;
+mod log;
 mod members;
 mod memories;
 mod migrate;

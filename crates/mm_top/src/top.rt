@@ -8,11 +8,11 @@ ghost use Rattle.mm_load.specs.Files.{AsksFiles, DrawnBehind, drawing, reading};
 ghost use Rattle.mm_cli.specs.Words.{texts};
 ghost use Rattle.mm_cli.specs.Table.{InNoRow, Asks, LeaveInput, Row, files_of, input_of};
 ghost use Rattle.mm_cli.specs.Said.{AreOf, row};
-ghost use Rattle.mm_top.specs.Commands.{run, trace};
+ghost use Rattle.mm_top.specs.Commands.{run, trace, log};
 ghost use Rattle.mm_load.specs.Lines.{line_of};
 ghost use Rattle.mm_top.specs.Answers.{ComesTo, ReadFailed, WritesNothing, TookLine, NothingFails, HasToRefuse};
 ghost use Rattle.mm_top.specs.Answers.{RefusedUnless, RowEnds, Answers, call, writing, status_of, refuse, write};
-ghost use Rattle.mm_top.specs.Headline.{RunIsProved, TraceIsProved};
+ghost use Rattle.mm_top.specs.Headline.{RunIsProved, TraceIsProved, LogIsProved};
 
 use crate::asm::asm;
 use crate::debug::debug;
@@ -23,6 +23,7 @@ use crate::going_on::go_on;
 use crate::grants::grants;
 use crate::holders::holders;
 use crate::link::link;
+use crate::log::log;
 use crate::migrate::migrate;
 use crate::nets::run_net;
 use crate::run::run;
@@ -92,6 +93,12 @@ pub fn mmachine<M: Boot + Reset, F: Files, I: Source, O: Sink, D: Sink>(
     ensures reach { result ≡ Status.Done → (image : List ℕ) (cycles : ℕ) (schedule : Option (List ℕ))
         → Asks (texts words.now) (trace image cycles schedule)
         → (written : List ℕ) × TraceIsProved M.tells (F.held files.old) image cycles schedule written
+        × (O.taken out.new ≡ append_known (O.taken out.old) written) }
+
+    // The same of each log that is done; and carried out, its lines up to any cycle make the state of the run.
+    ensures replay { result ≡ Status.Done → (image : List ℕ) (cycles : ℕ) (schedule : Option (List ℕ))
+        → Asks (texts words.now) (log image cycles schedule)
+        → (written : List ℕ) × LogIsProved M.tells (F.held files.old) image cycles schedule written
         × (O.taken out.new ≡ append_known (O.taken out.old) written) }
 
     // Where a refusal has to come, it comes, unless a read failed or memory ran out; and where nothing fails, it is
@@ -192,6 +199,7 @@ fn by_command<M: Boot + Reset, F: Files, I: Source, O: Sink>(
     match command {
         Command::Run => run::<M, F, O>(alloc, words, files, out),
         Command::Trace => trace::<M, F, O>(alloc, words, files, out),
+        Command::Log => log::<M, F, O>(alloc, words, files, out),
         Command::Solo => solo::<M, F, O>(alloc, words, files, out),
         Command::Grants => grants(alloc, words, files, out),
         Command::Extract => extract(alloc, words, files, out),

@@ -1,5 +1,5 @@
 use Rattle.mm_top.proofs.Verdicts.{usage, done, part, line}
-use Rattle.mm_top.proofs.Headlines.{run_headline, trace_headline}
+use Rattle.mm_top.proofs.Headlines.{run_headline, trace_headline, log_headline}
 use Rattle.mm_top.proofs.top.mmachine.Goals as goal
 
 pub returns-clause-usage : goal.returns-clause-usage
@@ -10,6 +10,9 @@ returns-clause-headline g c = run_headline c.answer-status.ensures.answers
 
 pub returns-clause-reach : goal.returns-clause-reach
 returns-clause-reach g c = trace_headline c.answer-status.ensures.answers
+
+pub returns-clause-replay : goal.returns-clause-replay
+returns-clause-replay g c = log_headline c.answer-status.ensures.answers
 
 pub returns-clause-line : goal.returns-clause-line
 returns-clause-line g c = line c.write_line.ensures
