@@ -1,5 +1,5 @@
 -- What was looked at before a cycle tells the events that the cycle queues and reads.
-use Rattle.std.proofs.Common.{◌≡◌, ◌≢◌, ◌⊎◌, ℕ, suc, ◌+◌, ◌-◌, ◌<◌, ◌≤◌, ◌^◌, inl, inr, Bool, true, false, nat_lt, if◌then◌else◌, List, [], ◌∷◌, ◌++◌, length, drop, map, Option, Some, None, Result, Ok, Err, refl, sym, ap, ◌∙◌, subst, arith, length-append}
+use Rattle.std.proofs.Common.{◌≡◌, ◌≢◌, ℕ, suc, ◌+◌, ◌<◌, ◌^◌, inl, inr, Bool, true, false, nat_lt, if◌then◌else◌, List, [], ◌∷◌, ◌++◌, length, drop, map, Option, Some, None, Result, Ok, Err, refl, sym, ap, ◌∙◌, subst, arith, length-append}
 use Rattle.std.specs.Prelude.{IfSome}
 use Rattle.std.proofs.lemmas.Bool.{cases_eq}
 use Rattle.std.proofs.lemmas.Bool.Decides.{nat_tests}
@@ -15,8 +15,7 @@ use Rattle.mm_isa.specs.declared.instr.Instr.{Instr}
 use Rattle.mm_isa.specs.declared.instr.Instr.TheVariants.{Out, Ld, St, Evt, Resume, Rreg, Wreg, Map, Unmap}
 use Rattle.mm_model.specs.declared.slot.SlotState.TheVariants.{Running, Waiting, Halted}
 use Rattle.mm_model.specs.declared.event.Event.{Event}
-use Rattle.mm_model.specs.declared.step.Tick.{Tick}
-use Rattle.mm_model.specs.declared.step.Tick.TheVariants.{Idle, Blocked, Did, Faulted, Delivered}
+use Rattle.mm_model.specs.declared.step.Tick.TheVariants.{Blocked, Faulted}
 use Rattle.mm_model.specs.Memory.{Memory}
 use Rattle.mm_model.specs.Slot.{Slot, register}
 use Rattle.mm_model.specs.State.{Core, slot_at, queue_at, put_slot, put_queue, put_output}
@@ -26,8 +25,7 @@ use Rattle.mm_model.specs.Ask.{Ask, ask, is_privileged, load_kind, reaching}
 use Rattle.mm_model.specs.Ask.Ask.{Refuse, MapPage, UnmapPage, NextEvent}
 use Rattle.mm_model.specs.Effect.{Change, effect, takes, delivered}
 use Rattle.mm_model.specs.Effect.Effect.{Does}
-use Rattle.mm_model.specs.Turn.{Turned, reply, first_event, event_reply, slot_after, with_other, with_queue, with_out, core_after, stood, is_sync, event_of, core_faulted, tick_faulted, faulted, blocked, ended, idle, arrives, turn}
-use Rattle.mm_model.specs.Outcomes.{Runs}
+use Rattle.mm_model.specs.Turn.{Turned, reply, first_event, event_reply, slot_after, with_other, with_queue, with_out, core_after, stood, is_sync, event_of, core_faulted, tick_faulted, faulted, blocked, ended, idle, turn}
 use Rattle.mm_model.proofs.CoreRows.{slot_at-number, slot_at-put_same, slot_at-put_other, queue_at-put_slot, queue_at-put_same, queue_at-put_other, slot_has, other_at}
 use Rattle.mm_model.proofs.CoreSteps.{Fitting}
 use Rattle.mm_model.proofs.TurnKeeps.{changed_from}
@@ -39,7 +37,7 @@ use Rattle.mm_log.specs.Seen.{queued_for, queued_by, read_own, read_seen}
 use Rattle.mm_log.proofs.Rows.{QueueMoves}
 use Rattle.mm_log.proofs.Numbers.{no_number, one_number}
 use Rattle.mm_log.proofs.Ways.{Way, turn_way}
-use Rattle.mm_log.proofs.Seeing.{runs_own, port_own, same_own}
+use Rattle.mm_log.proofs.Seeing.{runs_own, same_own}
 
 -- 1. Which instruction reads events.
 
@@ -141,12 +139,11 @@ module _ (core : Core) (m : Memory) (n : ℕ) (formed : IsFormed core) (fit : Fi
       let small = slot_has IsSlot core g other.1.0 formed.slots other.1.1 in
       let few : g < 64 = let low = small.number in omega arith in
       let here : queue_at queued g ≡ queue_at core g ++ e ∷ [] = queue_at-put_same waits g (queue_at waits g ++ e ∷ []) other.1.0 there ∙ ap (λ q. q ++ e ∷ []) (queue_at-put_slot core (stood s Waiting) g) in
-      let others : (k : ℕ) → k ≢ g → queue_at queued k ≡ queue_at core k = λ k ne. queue_at-put_other waits g (queue_at waits g ++ e ∷ []) k ne ∙ queue_at-put_slot core (stood s Waiting) k in
-      (
+      let others : (k : ℕ) → k ≢ g → queue_at queued k ≡ queue_at core k = λ k ne. queue_at-put_other waits g (queue_at waits g ++ e ∷ []) k ne ∙ queue_at-put_slot core (stood s Waiting) k in (
         one_number (queued_at core queued) g few (λ k ne. queued_same core queued k (others k ne))
-        ∙ queued_added core queued g e here
-        ∙ ap (λ x. Queues g x ∷ []) made
-        ∙ sym (ap (queued_for (comes_to m s) s c) is),
+            ∙ queued_added core queued g e here
+            ∙ ap (λ x. Queues g x ∷ []) made
+            ∙ sym (ap (queued_for (comes_to m s) s c) is),
         one_number (read_at core queued) g few (λ k ne. read_same core queued k (others k ne)) ∙ read_added core queued g e here,
       )
   fault_events s at c e causes made None is = subst (λ (x : Cause). (each_number (queued_at core (if is_sync x then put_slot core (stood s Running) else put_slot core (stood s (Halted (Some x))))) ≡ queued_by (comes_to m s) s (if is_sync c then Blocked else Faulted c)) × (each_number (read_at core (if is_sync x then put_slot core (stood s Running) else put_slot core (stood s (Halted (Some x))))) ≡ read_seen (comes_to m s) s.number (if is_sync c then Blocked else Faulted c))) (sym causes) (by (is_sync c))
@@ -200,11 +197,10 @@ module _ (core : Core) (m : Memory) (n : ℕ) (formed : IsFormed core) (fit : Fi
         let others : (h : ℕ) → h ≢ s.number → queue_at (after_queue (Some q)) h ≡ queue_at core h = λ h ne. out_queue (put_queue mid s.number q) c.out h ∙ queue_at-put_other mid s.number q h ne ∙ mid_queue h in
         let lost : queue_at core s.number ≡ k.1.0 ∷ queue_at (after_queue (Some q)) s.number = k.1.1 ∙ ap (λ l. k.1.0 ∷ l) (sym here) in
         let small = slot_has IsSlot core s.number s formed.slots at in
-        let few : s.number < 64 = small.number in
-        (
+        let few : s.number < 64 = small.number in (
           one_number (queued_at core (after_queue (Some q))) s.number few (λ h ne. queued_same core (after_queue (Some q)) h (others h ne)) ∙ queued_lost core (after_queue (Some q)) s.number k.1.0 lost,
           one_number (read_at core (after_queue (Some q))) s.number few (λ h ne. read_same core (after_queue (Some q)) h (others h ne)) ∙ read_lost core (after_queue (Some q)) s.number k.1.0 lost
-          ∙ sym (event_row i s s.number k.0),
+              ∙ sym (event_row i s s.number k.0),
         )
 
     change_events : QueueMoves core s.number (ask i s) c.queue → (each_number (queued_at core (core_after core s c)) ≡ []) × (each_number (read_at core (core_after core s c)) ≡ read_own (Some i) s.number)

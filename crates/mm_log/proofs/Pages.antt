@@ -56,8 +56,8 @@ each_found [] sorted = tt
 each_found (e ∷ es) sorted = (
   find_here e es e.0 refl,
   each_both (λ (x : ℕ × List Cell). e.0 < x.0) (λ (x : ℕ × List Cell). find nat_cmp x.0 es ≡ Some x.1) (λ (x : ℕ × List Cell). find nat_cmp x.0 (e ∷ es) ≡ Some x.1)
-  (λ x lt found. let ne : x.0 ≢ e.0 = omega arith in find_later e es x.0 ne ∙ found) es
-  (all_below e.0 es (below_rest e es sorted)) (each_found es (sorted_rest e es sorted)),
+      (λ x lt found. let ne : x.0 ≢ e.0 = omega arith in find_later e es x.0 ne ∙ found) es
+      (all_below e.0 es (below_rest e es sorted)) (each_found es (sorted_rest e es sorted)),
 )
 
 module _ (P : ℕ × List Cell → Type 0) where

@@ -18,7 +18,9 @@ ghost use Rattle.mm_log.specs.Log.{text_of};
 ghost use Rattle.mm_log.specs.Seen.{seen_of, in_order, read_by as read_by_of, read_in, with_taken, slots_seen, queued_seen, read_own, read_seen, page_told, page_seen, cell_now, cell_seen, seen, seen_by};
 
 use crate::before::{Before, There, cell_of, is_mapped};
-use crate::lines::{put_byte, put_event, put_gone_page, put_new_page, put_set, put_standing, put_taken};
+use crate::lines::{
+    put_byte, put_event, put_gone_page, put_new_page, put_set, put_standing, put_taken,
+};
 use crate::operands::{address_told, value_told};
 use crate::slots::{is_same_bit, is_same_word, put_slot_changes};
 use mm_io::Sink;
