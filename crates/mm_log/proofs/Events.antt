@@ -1,5 +1,5 @@
 -- What was looked at before a cycle tells the events that the cycle queues and reads.
-use Rattle.std.proofs.Common.{◌≡◌, ◌≢◌, ◌⊎◌, ℕ, suc, ◌+◌, ◌-◌, ◌<◌, ◌≤◌, ◌^◌, inl, inr, Bool, true, false, nat_lt, if◌then◌else◌, List, [], ◌∷◌, ◌++◌, length, drop, map, Option, Some, None, Result, Ok, Err, refl, sym, ap, ◌∙◌, subst, arith, length-append}
+use Rattle.std.proofs.Common.{◌≡◌, ◌≢◌, ℕ, suc, ◌+◌, ◌<◌, ◌^◌, inl, inr, Bool, true, false, nat_lt, if◌then◌else◌, List, [], ◌∷◌, ◌++◌, length, drop, map, Option, Some, None, Result, Ok, Err, refl, sym, ap, ◌∙◌, subst, arith, length-append}
 use Rattle.std.specs.Prelude.{IfSome}
 use Rattle.std.proofs.lemmas.Bool.{cases_eq}
 use Rattle.std.proofs.lemmas.Bool.Decides.{nat_tests}
@@ -15,8 +15,7 @@ use Rattle.mm_isa.specs.declared.instr.Instr.{Instr}
 use Rattle.mm_isa.specs.declared.instr.Instr.TheVariants.{Out, Ld, St, Evt, Resume, Rreg, Wreg, Map, Unmap}
 use Rattle.mm_model.specs.declared.slot.SlotState.TheVariants.{Running, Waiting, Halted}
 use Rattle.mm_model.specs.declared.event.Event.{Event}
-use Rattle.mm_model.specs.declared.step.Tick.{Tick}
-use Rattle.mm_model.specs.declared.step.Tick.TheVariants.{Idle, Blocked, Did, Faulted, Delivered}
+use Rattle.mm_model.specs.declared.step.Tick.TheVariants.{Blocked, Faulted}
 use Rattle.mm_model.specs.Memory.{Memory}
 use Rattle.mm_model.specs.Slot.{Slot, register}
 use Rattle.mm_model.specs.State.{Core, slot_at, queue_at, put_slot, put_queue, put_output}
@@ -26,8 +25,7 @@ use Rattle.mm_model.specs.Ask.{Ask, ask, is_privileged, load_kind, reaching}
 use Rattle.mm_model.specs.Ask.Ask.{Refuse, MapPage, UnmapPage, NextEvent}
 use Rattle.mm_model.specs.Effect.{Change, effect, takes, delivered}
 use Rattle.mm_model.specs.Effect.Effect.{Does}
-use Rattle.mm_model.specs.Turn.{Turned, reply, first_event, event_reply, slot_after, with_other, with_queue, with_out, core_after, stood, is_sync, event_of, core_faulted, tick_faulted, faulted, blocked, ended, idle, arrives, turn}
-use Rattle.mm_model.specs.Outcomes.{Runs}
+use Rattle.mm_model.specs.Turn.{Turned, reply, first_event, event_reply, slot_after, with_other, with_queue, with_out, core_after, stood, is_sync, event_of, core_faulted, tick_faulted, faulted, blocked, ended, idle, turn}
 use Rattle.mm_model.proofs.CoreRows.{slot_at-number, slot_at-put_same, slot_at-put_other, queue_at-put_slot, queue_at-put_same, queue_at-put_other, slot_has, other_at}
 use Rattle.mm_model.proofs.CoreSteps.{Fitting}
 use Rattle.mm_model.proofs.TurnKeeps.{changed_from}
@@ -39,7 +37,7 @@ use Rattle.mm_log.specs.Seen.{queued_for, queued_by, read_own, read_seen}
 use Rattle.mm_log.proofs.Rows.{QueueMoves}
 use Rattle.mm_log.proofs.Numbers.{no_number, one_number}
 use Rattle.mm_log.proofs.Ways.{Way, turn_way}
-use Rattle.mm_log.proofs.Seeing.{runs_own, port_own, same_own}
+use Rattle.mm_log.proofs.Seeing.{runs_own, same_own}
 
 -- 1. Which instruction reads events.
 

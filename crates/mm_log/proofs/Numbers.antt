@@ -1,5 +1,5 @@
 -- What is told of numbers where few of them have something to tell.
-use Rattle.std.proofs.Common.{◌≡◌, ◌≢◌, ℕ, zero, suc, ◌+◌, ◌<◌, ◌≤◌, inl, inr, true, false, nat_lt, if◌then◌else◌, List, [], ◌∷◌, ◌++◌, length, drop, map, Option, Some, None, refl, sym, ap, ◌∙◌, subst, arith, append-nil}
+use Rattle.std.proofs.Common.{◌≡◌, ◌≢◌, ℕ, zero, suc, ◌+◌, ◌<◌, ◌≤◌, inl, inr, if◌then◌else◌, List, [], ◌∷◌, ◌++◌, map, Option, Some, None, refl, ap, ◌∙◌, arith, append-nil}
 use Rattle.std.specs.List.{AllByRecursion, flat_map, range_with_len}
 use Rattle.std.proofs.lemmas.Bool.{cases_eq}
 use Rattle.std.proofs.Math.Seq.{drop-length}
@@ -7,7 +7,7 @@ use Rattle.mm_word.specs.declared.word.Word.TheVariants.{Ptr}
 use Rattle.mm_model.specs.Slot.{Slot, register, is_empty}
 use Rattle.mm_log.specs.Lines.{Line}
 use Rattle.mm_log.specs.Lines.Line.{Points, Stands, Issues}
-use Rattle.mm_log.specs.Changes.{pointer_changes, state_changes, register_changes, register_now, load_changes, slot_changes, changes_between}
+use Rattle.mm_log.specs.Changes.{state_changes, register_changes, register_now, load_changes, slot_changes, changes_between}
 use Rattle.mm_log.proofs.Runs.{flat_none}
 use Rattle.mm_log.proofs.Sames.{pair_self, state_self}
 

@@ -1,5 +1,5 @@
 -- What was looked at before a cycle tells the slots that the cycle changes, but for `evt`.
-use Rattle.std.proofs.Common.{◌≡◌, ◌≢◌, ◌⊎◌, ℕ, ◌-◌, ◌<◌, ◌≤◌, inl, inr, Bool, true, false, nat_le, nat_lt, if◌then◌else◌, List, [], ◌∷◌, ◌++◌, Option, Some, None, refl, sym, ap, ◌∙◌, subst, arith, append-nil}
+use Rattle.std.proofs.Common.{◌≡◌, ◌≢◌, ◌⊎◌, ℕ, ◌-◌, ◌<◌, ◌≤◌, inl, inr, Bool, true, false, nat_le, nat_lt, if◌then◌else◌, List, [], ◌++◌, Option, Some, None, refl, sym, ap, ◌∙◌, arith, append-nil}
 use Rattle.std.proofs.lemmas.Bool.{cases_eq}
 use Rattle.std.proofs.lemmas.Bool.Decides.{nat_tests}
 use Rattle.mm_isa.specs.declared.instr.Instr.{Instr}
@@ -9,9 +9,7 @@ use Rattle.mm_model.specs.State.{Core, slot_at}
 use Rattle.mm_model.specs.Fits.{IsSlot, IsFormed}
 use Rattle.mm_model.specs.Ask.{ask}
 use Rattle.mm_model.specs.Ask.Ask.{NextEvent, Serve}
-use Rattle.mm_model.specs.Effect.{delivered}
-use Rattle.mm_model.specs.Turn.{Turned, faulted, blocked, ended, idle, arrives, turn}
-use Rattle.mm_model.specs.Outcomes.{Runs}
+use Rattle.mm_model.specs.Turn.{Turned, faulted, blocked, ended, idle, turn}
 use Rattle.mm_model.proofs.CoreRows.{slot_at-number, slot_has}
 use Rattle.mm_model.proofs.SlotSteps.{delivered_from}
 use Rattle.mm_log.specs.Lines.{Line}

@@ -1,43 +1,29 @@
 -- What was looked at before a cycle tells all that the cycle changes: bytes, events and the memory.
-use Rattle.std.proofs.Common.{◌≡◌, ◌≢◌, ◌⊎◌, ℕ, suc, ◌+◌, ◌-◌, ◌<◌, ◌≤◌, inl, inr, Bool, true, false, ◌&&◌, not, nat_le, nat_lt, if◌then◌else◌, List, [], ◌∷◌, ◌++◌, length, drop, map, Option, Some, None, is_some, refl, sym, ap, ◌∙◌, subst, arith, slice_index_or, slice_set, get_or-set_other, append-nil, append_assoc}
-use Rattle.std.specs.Prelude.{IfSome}
-use Rattle.std.proofs.lemmas.Bool.{cases_eq}
-use Rattle.std.proofs.Math.Seq.{drop-length, drop-append_seam}
-use Rattle.std.proofs.Math.ListN.{drop_of_length-le}
-use Rattle.mm_word.specs.declared.cause.Cause.{Cause}
+use Rattle.std.proofs.Common.{◌≡◌, ◌≢◌, ◌⊎◌, ℕ, ◌-◌, ◌<◌, inl, inr, Bool, true, false, nat_le, nat_lt, if◌then◌else◌, List, [], ◌∷◌, ◌++◌, length, drop, map, Option, Some, None, is_some, refl, sym, ap, ◌∙◌, subst, slice_index_or, get_or-set_other}
+use Rattle.std.proofs.Math.Seq.{drop-length}
 use Rattle.mm_word.specs.declared.word.Cell.{Cell}
 use Rattle.mm_word.specs.Access.{Touch}
 use Rattle.mm_isa.specs.declared.instr.Instr.{Instr}
-use Rattle.mm_model.specs.declared.slot.SlotState.{SlotState}
-use Rattle.mm_model.specs.declared.slot.SlotState.TheVariants.{Running, Waiting, Halted}
+use Rattle.mm_model.specs.declared.slot.SlotState.TheVariants.{Running, Halted}
 use Rattle.mm_model.specs.declared.event.Event.{Event}
-use Rattle.mm_model.specs.declared.step.Tick.{Tick}
-use Rattle.mm_model.specs.declared.step.Tick.TheVariants.{Idle, Blocked, Did, Faulted, Delivered}
-use Rattle.mm_model.specs.Memory.{Memory, cell_at, is_mapped, put_cell, map_page, unmap_page, ArePages}
-use Rattle.mm_model.specs.Report.{same_cell}
+use Rattle.mm_model.specs.Memory.{Memory, cell_at, is_mapped, ArePages}
 use Rattle.mm_model.specs.Slot.{Slot}
-use Rattle.mm_model.specs.State.{Core, slot_at, queue_at, put_slot, put_queue, output_of, put_output}
-use Rattle.mm_model.specs.Spelling.{IsOther}
-use Rattle.mm_model.specs.Fits.{slots_of, IsSlot, IsFormed}
+use Rattle.mm_model.specs.State.{Core, slot_at, put_slot, put_queue, output_of, put_output}
 use Rattle.mm_model.specs.Ask.{Ask, ask}
 use Rattle.mm_model.specs.Ask.Ask.{Reach, MapPage, UnmapPage}
-use Rattle.mm_model.specs.Effect.{Change, delivered}
-use Rattle.mm_model.specs.Turn.{Turned, slot_after, with_other, with_queue, with_out, core_after, stood, is_sync, event_of, core_faulted, tick_faulted, faulted, blocked, ended, idle, arrives, turn}
+use Rattle.mm_model.specs.Turn.{Turned, slot_after, with_other, with_queue, with_out, core_after, stood, is_sync, event_of, core_faulted, faulted, blocked, ended, idle, turn}
 use Rattle.mm_model.specs.Outcomes.{Runs}
-use Rattle.mm_model.proofs.CoreRows.{slot_at-number, slot_at-put_other, queue_at-put_slot, queue_at-put_same, queue_at-put_other, slot_has, other_at}
-use Rattle.mm_model.proofs.CoreSteps.{Fitting}
 use Rattle.mm_model.proofs.Memories.{cell_at-put_same, page_at-map_same, page_at-unmap_same}
 use Rattle.mm_log.specs.declared.before.There.{There}
 use Rattle.mm_log.specs.declared.before.There.TheVariants as there
-use Rattle.mm_log.specs.Lines.{Line}
-use Rattle.mm_log.specs.Lines.Line.{Queues, Puts, Maps, Removes, Sets}
-use Rattle.mm_log.specs.Changes.{each_number, queued_at, put_out_by, pages_mapped, pages_removed, cells_changed}
+use Rattle.mm_log.specs.Lines.Line.{Puts, Maps, Sets}
+use Rattle.mm_log.specs.Changes.{each_number, put_out_by, pages_mapped, pages_removed, cells_changed}
 use Rattle.mm_log.specs.Looks.{own_of, or_port, comes_to, address_told, value_told, there_at, there_for, cell_there, slot_there}
-use Rattle.mm_log.specs.Seen.{queued_for, page_told, page_seen, cell_now, cell_seen}
+use Rattle.mm_log.specs.Seen.{page_told, page_seen, cell_now, cell_seen}
 use Rattle.mm_log.proofs.Rows.{MemoryMove}
 use Rattle.mm_log.proofs.Sames.{cell_self}
 use Rattle.mm_log.proofs.Pages.{MemoryTold, memory_told}
-use Rattle.mm_log.proofs.Numbers.{no_number, one_number}
+use Rattle.mm_log.proofs.Numbers.{one_number}
 use Rattle.mm_log.proofs.Ways.{Way, turn_way}
 
 -- 1. The item's own slot.

@@ -1,5 +1,5 @@
 -- What was looked at before a cycle of `evt` tells the slots that the cycle changes.
-use Rattle.std.proofs.Common.{◌≡◌, ◌≢◌, ◌⊎◌, ℕ, ◌+◌, ◌*◌, ◌-◌, ◌/◌, ◌%◌, ◌<◌, ◌≤◌, ◌^◌, inl, inr, Bool, true, false, nat_lt, if◌then◌else◌, List, [], ◌∷◌, ◌++◌, length, map, Option, Some, None, Result, Ok, Err, pos, refl, sym, ap, ◌∙◌, subst, arith, slice_set, slice_index_or, get_or-set_same, get_or-set_other}
+use Rattle.std.proofs.Common.{◌≡◌, ◌≢◌, ℕ, ◌+◌, ◌*◌, ◌/◌, ◌%◌, ◌<◌, ◌^◌, inl, inr, Bool, true, false, nat_lt, if◌then◌else◌, List, [], ◌∷◌, ◌++◌, length, map, Option, Some, None, Result, Ok, Err, pos, refl, sym, ap, ◌∙◌, subst, arith, slice_set, slice_index_or, get_or-set_same, get_or-set_other}
 use Rattle.std.specs.List.{AllByRecursion, flat_map, range_with_len}
 use Rattle.std.proofs.Math.Seq.{drop-length}
 use Rattle.mm_word.specs.declared.cause.Cause.{Cause}
@@ -21,26 +21,24 @@ use Rattle.mm_model.specs.declared.slot.SlotState.{SlotState}
 use Rattle.mm_model.specs.declared.slot.SlotState.TheVariants.{Running, Waiting, Taken, Halted}
 use Rattle.mm_model.specs.declared.event.Event.{Event}
 use Rattle.mm_model.specs.declared.step.Tick.{Tick}
-use Rattle.mm_model.specs.declared.step.Tick.TheVariants.{Idle, Blocked, Did, Faulted, Delivered}
+use Rattle.mm_model.specs.declared.step.Tick.TheVariants.{Blocked, Did, Faulted}
 use Rattle.mm_model.specs.Memory.{Memory, cell_at}
 use Rattle.mm_model.specs.Slot.{Slot, register, is_empty}
-use Rattle.mm_model.specs.State.{Core, slot_at, queue_at, put_slot, put_queue, put_output}
+use Rattle.mm_model.specs.State.{Core, slot_at, queue_at}
 use Rattle.mm_model.specs.Fits.{is_waiting, IsSlot, IsFormed, Matches}
 use Rattle.mm_model.specs.Ask.{Ask, ask, is_privileged, load_kind, reaching}
 use Rattle.mm_model.specs.Ask.Ask.{Refuse, MapPage, UnmapPage, NextEvent, Serve}
 use Rattle.mm_model.specs.Effect.{Change, Effect, effect, plain, takes, delivered}
 use Rattle.mm_model.specs.Effect.Effect.{Deliver, Does}
-use Rattle.mm_model.specs.Turn.{Turned, instr_in, reply, first_event, event_reply, put_all, slot_after, with_other, with_queue, with_out, core_after, stood, is_sync, event_of, core_faulted, tick_faulted, faulted, blocked, ended, idle, arrives, turn}
-use Rattle.mm_model.specs.Outcomes.{Runs}
-use Rattle.mm_model.proofs.CoreRows.{slot_at-number, slot_at-put_same, slot_at-put_other, slot_at-put_queue, slot_has}
+use Rattle.mm_model.specs.Turn.{Turned, instr_in, reply, first_event, event_reply, slot_after, core_after, stood, is_sync, event_of, tick_faulted, faulted, blocked, ended, idle, turn}
+use Rattle.mm_model.proofs.CoreRows.{slot_at-number, slot_at-put_other, slot_has}
 use Rattle.mm_model.proofs.CoreSteps.{queued_waits}
 use Rattle.mm_model.proofs.SlotSteps.{delivered_from}
 use Rattle.mm_model.proofs.TurnKeeps.{changed_from}
-use Rattle.mm_log.specs.Lines.{Line}
 use Rattle.mm_log.specs.Lines.Line.{Points, Stands, Issues}
-use Rattle.mm_log.specs.Changes.{same_state, pointer_changes, state_changes, register_changes, register_now, load_changes, slot_changes, changes_between, slots_changed}
+use Rattle.mm_log.specs.Changes.{same_state, state_changes, register_changes, register_now, load_changes, slot_changes, changes_between, slots_changed}
 use Rattle.mm_log.specs.Looks.{own_of, comes_to, found_by, in_cell, address_told, value_told}
-use Rattle.mm_log.specs.Seen.{seen_of, in_order, slot_in, read_by, read_in, with_taken}
+use Rattle.mm_log.specs.Seen.{slot_in, read_by, read_in, with_taken}
 use Rattle.mm_log.proofs.Runs.{flat_none}
 use Rattle.mm_log.proofs.Sames.{pair_self}
 use Rattle.mm_log.proofs.Rows.{OtherMove}
