@@ -14,6 +14,8 @@ What it tells of a machine comes from `mmachine`. By itself it reads sources, ob
     formats    images, objects and schedules
     source     sources in the assembly language
     outputs    what `mmachine` writes, read again
+    log        commit logs, and the machine after any turn
+    waves      value change dumps
     names      names for addresses
     messages   refusals in words
     views      what people see, and the forms of --json

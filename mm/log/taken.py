@@ -12,11 +12,19 @@ from mm.log.read import LogReader, Step
 from mm.log.replay import Machine
 from mm.outputs.report import Report
 from mm.outputs.trace import numbered
+from mm.table import FROM
+from mm.words import Words, cycles_of
 
 # How many cycles a run has whose length was not said, and how many turns a window has at most.
 FIRST_LOOK, MOST_TURNS = 10_000, 20_000
 # How many of the turns at the end are kept that change nothing but counts: enough to see that a slot waits.
 QUIET_TURNS = 12
+
+
+def first_of(said: Words) -> int:
+    """What --from says."""
+    first = cycles_of(said.value(FROM))
+    return max(1, first or 1)
 
 
 @dataclass
