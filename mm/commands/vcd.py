@@ -3,16 +3,20 @@
 from __future__ import annotations
 
 from mm.console import Console
-from mm.log.taken import first_of, take_window
+from mm.log.replay import Machine
+from mm.log.taken import first_of, length_of, opened
 from mm.table import CYCLES
 from mm.waves.vcd import dump
-from mm.words import MOST_CYCLES, cycles_of
+from mm.words import cycles_of
 
 
 def run(console: Console) -> int:
-    """Writes the value change dump of a run. A window is as long as the run, since viewers take long ones."""
-    built, order = console.build(console.words), console.order()
-    cycles = cycles_of(console.said.value(CYCLES))
-    window = take_window(console, built, order, cycles, first_of(console.said), MOST_CYCLES)
-    title = f"{' '.join(console.words)}, {order}"
-    return console.put(("\n".join(dump(window, title)) + "\n").encode("ascii", "backslashreplace"))
+    """Writes the value change dump of a run, as long as it is said to be: viewers take long ones."""
+    built, order, first = console.build(console.words), console.order(), first_of(console.said)
+    cycles = length_of(cycles_of(console.said.value(CYCLES)), first)
+    title = f"{' '.join(console.words)}, {order}".replace("$", "")
+    with opened(console, built, order, cycles) as (_, steps):
+        data = bytearray()
+        for line in dump(Machine(built.image), steps, first, title):
+            data += line.encode("ascii", "backslashreplace") + b"\n"
+    return console.put(bytes(data))

@@ -2,6 +2,7 @@
 
 from __future__ import annotations
 
+import contextlib
 from dataclasses import dataclass, field
 from itertools import islice
 from typing import Iterator, Optional
@@ -12,8 +13,9 @@ from mm.log.read import LogReader, Step
 from mm.log.replay import Machine
 from mm.outputs.report import Report
 from mm.outputs.trace import numbered
+from mm.status import Status, Stop
 from mm.table import FROM
-from mm.words import Words, cycles_of
+from mm.words import MOST_CYCLES, Words, cycles_of
 
 # How many cycles a run has whose length was not said, and how many turns a window has at most.
 FIRST_LOOK, MOST_TURNS = 10_000, 20_000
@@ -46,24 +48,51 @@ class Window:
         return self.steps[-1][0] if self.steps else self.first - 1
 
 
+def length_of(cycles: Optional[int], first: int) -> int:
+    """How many cycles are run: as many as were said, or a first look."""
+    return min(MOST_CYCLES, first - 1 + FIRST_LOOK) if cycles is None else cycles
+
+
+@contextlib.contextmanager
+def opened(
+    console: Console, built: Built, order: Order, cycles: int
+) -> Iterator[tuple[LogReader, Iterator[tuple[int, Step]]]]:
+    """The log of so many cycles, read as it comes: its steps with their cycles, and after them its report."""
+    words = ["log", built.path, str(cycles), *order.words]
+    with console.program.lines(words) as (answer, lines):
+        if answer.status == Status.USAGE:
+            raise Stop(
+                Status.USAGE,
+                f"mm: {console.program.path} has no command `log`, which `mm {console.name}` needs",
+                "    build the program of this checkout, or name another one by --program",
+            )
+        if answer.status:
+            raise refused(answer, [built.file, *order.files])
+        reader = LogReader(lines)
+        yield reader, numbered(reader.steps(), order.schedule)
+
+
 def take_window(
     console: Console, built: Built, order: Order, cycles: Optional[int], first: int = 1, most: int = MOST_TURNS
 ) -> Window:
     """The turns of a run from cycle `first` on, as `mmachine log` tells them."""
-    wanted = first - 1 + FIRST_LOOK if cycles is None else cycles
-    words = ["log", built.path, str(min(wanted, first - 1 + max(most, FIRST_LOOK))), *order.words]
+    asked = min(length_of(cycles, first), first - 1 + max(most, FIRST_LOOK))
     window = Window(Machine(built.image), first)
-    with console.program.lines(words) as (answer, lines):
-        if answer.status:
-            raise refused(answer, [built.file, *order.files])
-        reader = LogReader(lines)
-        fill(window, numbered(reader.steps(), order.schedule), most)
+    with opened(console, built, order, asked) as (reader, steps):
+        fill(window, steps, most)
         window.report = reader.report
-    going = any(slot.running for slot in window.report.slots)
-    window.goes_on = window.goes_on or (going and window.report.cycles < (wanted if cycles is None else cycles))
+    cut = window.report.cycles == asked and (cycles is None or asked < cycles)
+    window.goes_on = window.goes_on or (cut and has_more(window.report, order))
     if cycles is None:
         cut_quiet(window)
     return window
+
+
+def has_more(report: Report, order: Order) -> bool:
+    """Whether a run could go on after the cycles of a report."""
+    if order.schedule is None:
+        return any(slot.running for slot in report.slots)
+    return order.schedule.length > report.cycles
 
 
 def fill(window: Window, steps: Iterator[tuple[int, Step]], most: int) -> None:

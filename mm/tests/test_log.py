@@ -29,7 +29,8 @@ cell 00000000100100 i0000000000000002 empty
 cell 00000000102000 p2300000000101000 full
 """
 
-# Slot 1 handles slot 0 of a split machine, and maps pages: no program does this, and no program is needed to carry it out.
+# Slot 1 handles slot 0 of a split machine, and maps pages: no program does this, and no program is needed to carry it
+# out.
 LOG = """\
 t 0 1 did fetch 00000000100000 load 00000000100008
 r 0 2 empty

@@ -5,7 +5,6 @@ import unittest
 
 from mm.log.read import read_log
 from mm.log.replay import Machine
-from mm.log.taken import Window
 from mm.tests.support import mm, needs_log
 from mm.tests.test_log import LOG, small_image
 from mm.waves.vcd import Dump, dump, short_name
@@ -63,7 +62,7 @@ class Waves(unittest.TestCase):
 
     def test_read_back(self):
         steps = list(enumerate(read_log(LOG.splitlines())[0], 5))
-        lines = list(dump(Window(Machine(small_image()), 5, steps), "a test"))
+        lines = list(dump(Machine(small_image()), iter(steps), 5, "a test"))
         machine, moments = Machine(small_image()), list(Reader(lines).moments)
         self.assertEqual([time for time, _ in moments], [4, *(cycle for cycle, _ in steps), 14])
         self.assertEqual(moments[0][1], values_of(machine, None))
@@ -75,13 +74,23 @@ class Waves(unittest.TestCase):
         )
         self.assertEqual([values["machine.slot1.queue"] for _, values in moments[3:7]], [0, 1, 0, 0])
 
+    def test_from_a_cycle_on(self):
+        steps = list(enumerate(read_log(LOG.splitlines())[0], 1))
+        whole = list(Reader(list(dump(Machine(small_image()), iter(steps), 1, "a test"))).moments)
+        late = list(Reader(list(dump(Machine(small_image()), iter(steps), 5, "a test"))).moments)
+        self.assertEqual([time for time, _ in late], [4, 5, 6, 7, 8, 9, 10])
+        self.assertEqual(late[1][1], whole[5][1])
+        after = list(Reader(list(dump(Machine(small_image()), iter(steps), 50, "a test"))).moments)
+        self.assertEqual([time for time, _ in after], [49, 50])
+
     @needs_log
     def test_command(self):
         ended = mm("vcd", "examples/counter.asm", "--from", "10")
         moments = list(Reader(ended.out.splitlines()).moments)
         self.assertEqual((ended.status, moments[0][0], moments[-1][0]), (0, 9, 37))
         last = moments[-1][1]
-        self.assertEqual((last["machine.group1.bytes"], last["machine.group1.last"], last["machine.slot1.r2"]), (2, 66, 66))
+        self.assertEqual((last["machine.group1.bytes"], last["machine.group1.last"], last["machine.slot1.r2"]),
+            (2, 66, 66))
         self.assertEqual((last["machine.slot1.r5"], last["machine.slot1.r5_tag"]), (0x51800000001000C8, 1))
 
 

@@ -3,12 +3,12 @@
 from __future__ import annotations
 
 from dataclasses import dataclass
+from itertools import chain
 from typing import Iterable, Iterator, Optional
 
 from mm.log.changes import ByteOut, EventQueued, EventTaken
 from mm.log.read import Step
 from mm.log.replay import Machine, SlotNow
-from mm.log.taken import Window
 from mm.machine.words import Pointer
 
 FIRST, LAST = 33, 126
@@ -134,16 +134,22 @@ def touched(step: Step) -> list[str]:
     return ["turn", *sorted(scopes)]
 
 
-def dump(window: Window, title: str) -> Iterator[str]:
-    """The lines of the dump. The window's machine is at its end afterwards."""
-    made = Dump(window.machine)
+def dump(machine: Machine, steps: Iterable[tuple[int, Step]], first: int, title: str) -> Iterator[str]:
+    """The lines of the dump from a cycle on, as the steps come. Those before it are carried out and not told."""
+    made, last = Dump(machine), first - 1
     yield from made.head(title)
-    yield f"#{window.first - 1}"
-    yield "$dumpvars"
-    yield from made.changes(made.scopes())
-    yield "$end"
-    for cycle, step in window.steps:
-        window.machine.carry_out(step)
-        yield f"#{cycle}"
-        yield from made.changes(touched(step), step)
-    yield f"#{window.last + 1}"
+    for cycle, step in chain(steps, [(0, None)]):
+        if step and cycle < first:
+            machine.carry_out(step)
+            continue
+        if not made.told:
+            yield f"#{first - 1}"
+            yield "$dumpvars"
+            yield from made.changes(made.scopes())
+            yield "$end"
+        if step:
+            machine.carry_out(step)
+            yield f"#{cycle}"
+            yield from made.changes(touched(step), step)
+            last = cycle
+    yield f"#{last + 1}"
