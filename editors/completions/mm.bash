@@ -2,7 +2,7 @@
 
 _mm() {
     local word=${COMP_WORDS[COMP_CWORD]} before=${COMP_WORDS[COMP_CWORD-1]} command='' at
-    local commands='run debug trace vcd symbols dis audit holders sweep extract solo net save continue asm link migrate gen soak help'
+    local commands='run debug trace view vcd symbols dis audit holders sweep extract solo net save continue asm link migrate gen soak help'
     COMPREPLY=()
     for ((at = 1; at < COMP_CWORD; at++)); do
         case ${COMP_WORDS[at]} in
@@ -23,6 +23,7 @@ _mm() {
         local options='--help'
         case $command in
             run | trace | solo | continue) options="$options --cycles --schedule --turns --names --json" ;;
+            view) options="$options --cycles --schedule --turns --names --from --audit --output" ;;
             vcd) options="$options --cycles --schedule --turns --names --from --output" ;;
             debug) options="$options --schedule --turns --names" ;;
             symbols) options="$options --names --json" ;;
