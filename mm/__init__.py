@@ -14,6 +14,10 @@ What it tells of a machine comes from `mmachine`. By itself it reads sources, ob
     formats    images, objects and schedules
     source     sources in the assembly language
     outputs    what `mmachine` writes, read again
+    log        commit logs, and the machine after any turn
+    waves      value change dumps
+    view       runs as pages for a browser
+    pictures   pictures for pages and slides, which `tools/draw` writes
     names      names for addresses
     messages   refusals in words
     views      what people see, and the forms of --json

@@ -41,6 +41,8 @@ TURNS = Option("--turns", "the order of turns itself, as '0 1*5'", "ITEMS", "-t"
 GROUPS = Option("--groups", "ask of these groups together, as 0,1", "LIST", "-g")
 JSON = Option("--json", "write JSON, in the form of docs/JSON.md")
 OUTPUT = Option("--output", "write to this file", "FILE", "-o")
+FROM = Option("--from", "the first cycle that is shown; else 1", "N")
+AUDIT = Option("--audit", "show too which group can read and write what")
 NAMES = Option("--names", "take names for an image from this source; may be given again", "FILE")
 RUNNING = (CYCLES, SCHEDULE, TURNS, NAMES)
 FILES = "FILE.."
@@ -50,6 +52,8 @@ COMMANDS = (
     Command("run", FILES, "run sources, objects or an image, and tell what came of it", (*RUNNING, JSON)),
     Command("debug", FILES, "step through a run, forwards and back, with names and source lines", (SCHEDULE, TURNS, NAMES)),
     Command("trace", FILES, "what each turn did, with its instruction and names", (*RUNNING, JSON)),
+    Command("view", FILES, "a page for any browser: each turn of a run, to look at and to step through", (*RUNNING, FROM, AUDIT, OUTPUT)),
+    Command("vcd", FILES, "a run as waves for GTKWave and other viewers", (*RUNNING, FROM, OUTPUT)),
     Command("symbols", FILES, "the map of a link: segments and labels with their addresses", (NAMES, JSON)),
     Command("dis", "FILE", "an image or an object word by word: address, word, instruction and name", (NAMES,), most=1),
     Command("audit", FILES, "what each group can read and write, whatever its code does", (GROUPS, NAMES, JSON)),

@@ -2,7 +2,7 @@
 
 _mm() {
     local word=${COMP_WORDS[COMP_CWORD]} before=${COMP_WORDS[COMP_CWORD-1]} command='' at
-    local commands='run debug trace symbols dis audit holders sweep extract solo net save continue asm link migrate gen soak help'
+    local commands='run debug trace view vcd symbols dis audit holders sweep extract solo net save continue asm link migrate gen soak help'
     COMPREPLY=()
     for ((at = 1; at < COMP_CWORD; at++)); do
         case ${COMP_WORDS[at]} in
@@ -13,7 +13,7 @@ _mm() {
     done
     case $before in
         --program | --schedule | --names | --output | -s | -o) compopt -o default; return ;;
-        --cycles | --turns | --groups | -n | -t | -g) return ;;
+        --cycles | --turns | --groups | --from | -n | -t | -g) return ;;
     esac
     if [ -z "$command" ]; then
         COMPREPLY=($(compgen -W "$commands --program --help --version" -- "$word"))
@@ -23,6 +23,8 @@ _mm() {
         local options='--help'
         case $command in
             run | trace | solo | continue) options="$options --cycles --schedule --turns --names --json" ;;
+            view) options="$options --cycles --schedule --turns --names --from --audit --output" ;;
+            vcd) options="$options --cycles --schedule --turns --names --from --output" ;;
             debug) options="$options --schedule --turns --names" ;;
             symbols) options="$options --names --json" ;;
             dis | holders) options="$options --names" ;;

@@ -2,12 +2,13 @@
 
 from __future__ import annotations
 
+import contextlib
 import os
 import shutil
 import subprocess
 import tempfile
 from dataclasses import dataclass
-from typing import Optional, Sequence
+from typing import Iterator, Optional, Sequence
 
 from mm.status import Status, Stop
 
@@ -50,6 +51,20 @@ class Program:
         except OSError as error:
             raise Stop(Status.NO_PROGRAM, f"mm: {self.path} cannot be run: {error.strerror}") from None
         return Answer(ended.returncode, ended.stdout, ended.stderr.decode("utf-8", "replace").strip())
+
+    @contextlib.contextmanager
+    def lines(self, words: Sequence[str]) -> Iterator[tuple[Answer, Iterator[str]]]:
+        """Runs a command whose text may be long: how it ended, and the lines of its text one by one."""
+        with tempfile.TemporaryFile() as file:
+            try:
+                ended = subprocess.run(
+                    [self.path, *words], stdin=subprocess.DEVNULL, stdout=file, stderr=subprocess.PIPE, check=False
+                )
+            except OSError as error:
+                raise Stop(Status.NO_PROGRAM, f"mm: {self.path} cannot be run: {error.strerror}") from None
+            file.seek(0)
+            line = ended.stderr.decode("utf-8", "replace").strip()
+            yield Answer(ended.returncode, b"", line), (row.decode("latin-1").rstrip("\n") for row in file)
 
     def tail(self, words: Sequence[str], length: int) -> bytes:
         """The last bytes of what a command writes, which may be long."""

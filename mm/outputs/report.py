@@ -49,12 +49,22 @@ class Report:
         return list(self.outputs)
 
 
+def state_of(words: list[str]) -> tuple[str, Optional[int]]:
+    """The state that words begin with, and the number of the fault that halted the slot, where one did."""
+    return words[0], int(words[1]) if words[0] == "faulted" else None
+
+
+def state_text(state: str, fault: Optional[int]) -> str:
+    """A state as a report has it."""
+    return state if fault is None else f"{state} {fault}"
+
+
 def read_slot(words: list[str], group: int) -> SlotState:
     """A line `slot S turns T STATE ip WORD`, with the fault of a slot that has faulted and the mark of one that is past."""
     at = words.index("ip")
-    fault = int(words[5]) if words[4] == "faulted" else None
+    state, fault = state_of(words[4:at])
     return SlotState(
-        int(words[1]), group, int(words[3]), words[4], fault, Word.parse(words[at + 1]), words[-1] == "past"
+        int(words[1]), group, int(words[3]), state, fault, Word.parse(words[at + 1]), words[-1] == "past"
     )
 
 

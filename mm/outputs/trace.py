@@ -4,7 +4,7 @@ from __future__ import annotations
 
 import re
 from dataclasses import dataclass
-from typing import Iterable, Iterator, Optional
+from typing import Iterable, Iterator, Optional, Protocol, TypeVar
 
 from mm.formats.schedule import PORT, Schedule
 from mm.machine.words import Word
@@ -66,7 +66,17 @@ def split_trace(text: str) -> tuple[list[str], Report]:
     return text[:begin].splitlines(), read_report(text[begin:].splitlines())
 
 
-def numbered(turns: Iterable[Turn], schedule: Optional[Schedule]) -> Iterator[tuple[int, Turn]]:
+class HasItem(Protocol):
+    """Something that an item of a schedule made: a turn, or a step of a log."""
+
+    @property
+    def item(self) -> int: ...
+
+
+Made = TypeVar("Made", bound=HasItem)
+
+
+def numbered(turns: Iterable[Made], schedule: Optional[Schedule]) -> Iterator[tuple[int, Made]]:
     """Each turn with its cycle, from 1. In round robin every cycle has a turn. An item of a schedule is idle exactly where it does not
     make the next turn: an idle item changes nothing, so the slot of the next turn can already take it."""
     if schedule is None:

@@ -99,3 +99,11 @@ def write(room: str, name: str, text: str) -> str:
     with open(path, "w", encoding="utf-8") as file:
         file.write(text)
     return path
+
+
+def has_log() -> bool:
+    """Whether the program has the command `log`."""
+    return has_program() and not find_program().run(["log", path_of("examples", "hello.img"), "0"]).status
+
+
+needs_log = unittest.skipUnless(has_log(), "there is no built mmachine that has `log`")

@@ -1,0 +1,165 @@
+"""The machine after any turn, rebuilt from its image and the changes of a log. It reads no instruction."""
+
+from __future__ import annotations
+
+from collections import deque
+from dataclasses import dataclass, field
+from typing import Callable, Optional
+
+from mm.formats.image import PAGE_BYTES, PAGE_WORDS, Image, Slot
+from mm.log.changes import (
+    ByteOut,
+    CellSet,
+    Change,
+    EventQueued,
+    EventTaken,
+    IpSet,
+    LoadIssued,
+    PageSet,
+    RegisterSet,
+    StateSet,
+)
+from mm.log.read import Step
+from mm.machine.words import ZERO, Cell, Word
+from mm.outputs.report import Report, SlotState
+
+
+@dataclass
+class SlotNow:
+    """A slot at one moment. A register that is empty has no word."""
+
+    number: int
+    group: int
+    handler: Optional[int]
+    state: str
+    ip: Word
+    registers: list[Optional[Word]]
+    fault: Optional[int] = None
+    past: bool = False
+    turns: int = 0
+    pending: list[tuple[int, Word]] = field(default_factory=list)
+    queue: deque[EventQueued] = field(default_factory=deque)
+
+    @classmethod
+    def of(cls, slot: Slot) -> SlotNow:
+        state = "halted" if slot.halted else "running"
+        return cls(slot.number, slot.group, slot.handler, state, Word(slot.ip.bits, True), list(slot.registers))
+
+    def report(self) -> SlotState:
+        """The slot as a report has it: registers that are not integer 0."""
+        words = {number: word for number, word in enumerate(self.registers) if word != ZERO}
+        return SlotState(
+            self.number,
+            self.group,
+            self.turns,
+            self.state,
+            self.fault,
+            self.ip,
+            self.past,
+            words,
+            list(self.pending),
+        )
+
+
+class Machine:
+    """A machine at one moment: its slots, its outputs, its pages, and the cells that are not the image's."""
+
+    def __init__(self, image: Image) -> None:
+        self.image = image
+        self.slots = {slot.number: SlotNow.of(slot) for slot in image.slots}
+        self.outputs = {group: bytearray() for group in image.groups}
+        self.pages = set(image.pages)
+        # The pages that were mapped by the run and hold integer 0, full, where `cells` has nothing.
+        self.blank: set[int] = set()
+        self.cells: dict[int, Cell] = {}
+        self.steps = 0
+
+    def carry_out(self, step: Step) -> None:
+        """Makes the changes of a turn."""
+        self.steps += 1
+        if step.turn.delivered is None:
+            self.slots[step.turn.slot].turns = step.turn.number
+        for change in step.changes:
+            CARRIERS[type(change)](self, change)
+
+    def cell(self, address: int) -> Optional[Cell]:
+        """The cell at an address, or none where no page is."""
+        page = address // PAGE_BYTES
+        if page not in self.pages:
+            return None
+        found = self.cells.get(address)
+        return found or (Cell() if page in self.blank else self.image.cell(address))
+
+    def report(self, cycles: int) -> Report:
+        """The report of this moment, but for the counts of the cache."""
+        there = set(self.image.pages)
+        return Report(
+            cycles,
+            {group: bytes(data) for group, data in self.outputs.items()},
+            [slot.report() for slot in sorted(self.slots.values(), key=lambda slot: (slot.group, slot.number))],
+            [(page, page in self.pages) for page in sorted(self.pages ^ there)],
+            self._changed(),
+        )
+
+    def _changed(self) -> dict[int, Cell]:
+        """The mapped cells that differ from the image's, by address."""
+        places = set(self.cells)
+        for page in self.blank & set(self.image.pages):
+            places.update(page * PAGE_BYTES + 8 * place for place in range(PAGE_WORDS))
+        found = {address: self.cell(address) for address in sorted(places)}
+        return {
+            address: cell for address, cell in found.items() if cell and cell != (self.image.cell(address) or Cell())
+        }
+
+    def _ip(self, change: IpSet) -> None:
+        slot = self.slots[change.slot]
+        slot.ip, slot.past = change.ip, change.past
+
+    def _state(self, change: StateSet) -> None:
+        slot = self.slots[change.slot]
+        slot.state, slot.fault = change.state, change.fault
+
+    def _register(self, change: RegisterSet) -> None:
+        slot = self.slots[change.slot]
+        if slot.registers[change.register] is None and change.word is not None:
+            slot.pending = [entry for entry in slot.pending if entry[0] != change.register]
+        slot.registers[change.register] = change.word
+
+    def _load(self, change: LoadIssued) -> None:
+        self.slots[change.slot].pending.append((change.register, change.word))
+
+    def _event(self, change: EventQueued) -> None:
+        self.slots[change.handler].queue.append(change)
+
+    def _taken(self, change: EventTaken) -> None:
+        self.slots[change.handler].queue.popleft()
+
+    def _out(self, change: ByteOut) -> None:
+        self.outputs[change.group].append(change.byte)
+
+    def _page(self, change: PageSet) -> None:
+        first = change.page * PAGE_BYTES
+        for address in range(first, first + PAGE_BYTES, 8):
+            self.cells.pop(address, None)
+        if change.new:
+            self.pages.add(change.page)
+            self.blank.add(change.page)
+        else:
+            self.pages.discard(change.page)
+            self.blank.discard(change.page)
+
+    def _cell(self, change: CellSet) -> None:
+        self.cells[change.address] = change.cell
+
+
+CARRIERS: dict[type, Callable[[Machine, Change], None]] = {
+    IpSet: Machine._ip,
+    StateSet: Machine._state,
+    RegisterSet: Machine._register,
+    LoadIssued: Machine._load,
+    EventQueued: Machine._event,
+    EventTaken: Machine._taken,
+    ByteOut: Machine._out,
+    PageSet: Machine._page,
+    CellSet: Machine._cell,
+}

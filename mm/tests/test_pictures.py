@@ -1,0 +1,113 @@
+"""Pictures: each can be drawn, is well-formed, can be read on a phone and in the dark, and has the names of its source."""
+
+import re
+import unittest
+from xml.etree import ElementTree
+
+from mm.machine.words import BY_SHORT, Word
+from mm.names.symbols import Symbols
+from mm.pictures import permissions, pointer, states, tree
+from mm.pictures.make import KINDS, drawn
+from mm.pictures.svg import COLOURS, SHOWN, SMALLEST, WIDTH, Picture
+from mm.status import Stop
+from mm.tests.support import needs_program, path_of, read
+from mm.tests.test_view import DEUTAN, PLAIN, PROTAN, contrast, distance
+
+SPACE = "{http://www.w3.org/2000/svg}"
+PHONE = 343
+
+
+def texts_of(svg):
+    return [(float(it.get("font-size")), it.text or "") for it in ElementTree.fromstring(svg).iter(f"{SPACE}text")]
+
+
+class Drawn(unittest.TestCase):
+    def look(self, svg):
+        """The rules for all pictures; its letters as one text."""
+        root = ElementTree.fromstring(svg)
+        self.assertEqual(root.get("width"), str(SHOWN))
+        self.assertTrue(root.find(f"{SPACE}title").text)
+        self.assertIn("prefers-color-scheme:dark", root.find(f"{SPACE}style").text)
+        for element in root.iter():
+            self.assertNotRegex(element.get("fill") or "none", "#", "a colour that is the same in the dark")
+            for name in (element.get("class") or "").split():
+                self.assertIn(name[2:], COLOURS)
+        self.assertGreaterEqual(min(size for size, _ in texts_of(svg)) * PHONE / WIDTH, 9)
+        return "\n".join(text for _, text in texts_of(svg))
+
+    def test_permissions_are_those_of_the_table(self):
+        self.look(permissions.draw().svg())
+        reached = {short: set() for short in BY_SHORT}
+        for one, other in permissions.steps():
+            reached[one.short].add(other.short)
+        for _ in BY_SHORT:
+            for short, there in reached.items():
+                there |= {after for each in there for after in reached[each]}
+        self.assertEqual(reached, {it.short: {one.short for one in it.may_become} for it in BY_SHORT.values()})
+
+    def test_pointer(self):
+        text = self.look(pointer.draw(Word(0x51800000001000C8, True), Symbols()).svg())
+        for said in ("permission 5: eu, enter-user", "length 6: a segment of 2^6 = 64 bytes", "0x1000c0", "0x1000ff"):
+            self.assertIn(said, text)
+        self.assertRaises(ValueError, pointer.draw, Word(0x51800000001000C8), Symbols())
+
+    def test_states_and_tree(self):
+        text = self.look(states.draw().svg())
+        for state in ("running", "waiting", "taken", "halted", "evt by", "resume kill"):
+            self.assertIn(state, text)
+        self.assertEqual(self.look(tree.draw().svg()).count("2^"), 1 + 2 + 4 + 1)
+
+    def test_small_letters_are_refused(self):
+        self.assertRaises(AssertionError, Picture("a title").text, 20, 20, "too small", SMALLEST - 1)
+        self.assertRaises(AssertionError, Picture("a title").text, 400, 20, "this does not fit there", 14)
+
+    def test_colours(self):
+        for at in (0, 1):
+            colour = {name: pair[at] for name, pair in COLOURS.items()}
+            for front, back in (("ink", "ground"), ("soft", "ground"), ("ink", "field"), ("ink", "mark"),
+                ("accent", "ground")):
+                self.assertGreaterEqual(contrast(colour[front], colour[back]), 4.5)
+            tints = [colour[f"tint-{number}"] for number in range(8)]
+            for number, tint in enumerate(tints):
+                self.assertGreaterEqual(contrast(colour["on-tint"], tint), 4.5)
+                for other in tints[:number]:
+                    for eye in (PLAIN, PROTAN, DEUTAN):
+                        self.assertGreaterEqual(distance(tint, other, eye), 18)
+
+    @needs_program
+    def test_names(self):
+        for words, said in (
+            (["gate", "examples/counter.asm"],
+                ("jal r6, r5", "r7 = rw 2^3 count", "stores to count", "back to cons by r6")),
+            (["trace", "examples/faults.asm"], ("walk", "forge", "8: slot 1 faults at forge+24, 1 NotPointer")),
+            (["audit", "examples/counter.asm"], ("box", "count", "gate")),
+            (["audits", "examples/counter.asm", "examples/kernel.asm"],
+                ("credits_a", "kernel: each group stands apart.")),
+            (["image", "examples/kernel.asm"], ("gate_a", "64 bytes at 0x100040, a gate")),
+            (["reach", "docs/course/reach.asm"], ("shelf", "book", "runs reader")),
+            (["sweep", "examples/lend.asm", "buffer"], ("word pocket", "owner: r1", "nobody's")),
+            (["net", "examples/nodes.links", "examples/ask.asm", "examples/answer.asm"], ("sent", "link 1")),
+        ):
+            with self.subTest(words[0]):
+                full = [path_of(word) if "/" in word else word for word in words]
+                text = self.look(drawn(full, ""))
+                for each in said:
+                    self.assertIn(each, text)
+        self.assertRaises(Stop, drawn, ["what"], "")
+        self.assertRaises(Stop, drawn, ["trace"], "")
+
+    def test_the_list_has_each_kind(self):
+        rows = [line.split("|")[1].split()[0] for line in read("docs", "pictures", "drawn").splitlines()
+            if "|" in line and line[0] != "#"]
+        self.assertEqual(set(rows), set(KINDS))
+        page = read("docs", "pictures", "README.md")
+        for kind in KINDS:
+            self.assertRegex(page, rf"tools/draw {kind}\b")
+        names = [line.split("|")[0].strip() for line in read("docs", "pictures", "drawn").splitlines() if "|" in line
+            and line[0] != "#"]
+        for name in names:
+            self.assertTrue(re.search(rf"\({name}\.svg\)", page), name)
+
+
+if __name__ == "__main__":
+    unittest.main()

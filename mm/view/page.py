@@ -1,0 +1,35 @@
+"""The page of a run: the template with its style, its scripts and its data in one file."""
+
+from __future__ import annotations
+
+import html
+import json
+import os
+import re
+from typing import Any
+
+MARK = re.compile(r"\{\{(\w+)\}\}")
+FOLDER = os.path.dirname(os.path.abspath(__file__))
+SCRIPTS = ("words.js", "replay.js", "timeline.js", "turn.js", "slots.js", "memory.js", "others.js", "main.js")
+
+
+def part(name: str) -> str:
+    with open(os.path.join(FOLDER, name), encoding="utf-8") as file:
+        return file.read()
+
+
+def data_text(data: Any) -> str:
+    """Data as JSON that may stand in a script element, whatever its texts say."""
+    text = json.dumps(data, ensure_ascii=True, separators=(",", ":"))
+    return text.replace("<", "\\u003c").replace(">", "\\u003e").replace("&", "\\u0026")
+
+
+def page_of(data: Any) -> str:
+    """The page that shows a run."""
+    parts = {
+        "title": html.escape(data["title"]),
+        "style": part("view.css"),
+        "scripts": "\n".join(part(name) for name in SCRIPTS),
+        "data": data_text(data),
+    }
+    return MARK.sub(lambda mark: parts[mark[1]], part("page.html"))
