@@ -20,7 +20,8 @@ use Rattle.mm_log.specs.Lines.Line.{Points, Stands, Holds, Empties, Issues, Queu
 -- its instruction pointer, or whether it is past its segment
 abbrev pub pointer_changes : Slot → Slot → List Line
 pointer_changes was now =
-    if same_word (Ptr was.ip) (Ptr now.ip) && same_bit was.past now.past then [] else Points now.number now.ip now.past ∷ []
+    if same_word (Ptr was.ip) (Ptr now.ip) && same_bit was.past now.past then [] else Points now.number now.ip now.past
+    ∷ []
 
 abbrev pub same_state : SlotState → SlotState → Bool
 same_state Running Running = true

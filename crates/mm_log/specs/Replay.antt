@@ -10,7 +10,8 @@ use Rattle.mm_model.specs.Memory.{put_cell, map_page, unmap_page}
 use Rattle.mm_model.specs.Slot.{Slot, is_empty}
 use Rattle.mm_model.specs.State.{State, at_number, output_of, put_output}
 use Rattle.mm_log.specs.Lines.{Line}
-use Rattle.mm_log.specs.Lines.Line.{Traced, Points, Stands, Holds, Empties, Issues, Queues, Reads, Puts, Maps, Removes, Sets}
+use Rattle.mm_log.specs.Lines.Line.{Traced, Points, Stands, Holds, Empties, Issues, Queues, Reads, Puts, Maps, Removes}
+use Rattle.mm_log.specs.Lines.Line.{Sets}
 
 -- 1. What is changed of one slot.
 

@@ -15,7 +15,9 @@ ghost use Rattle.mm_log.specs.Lines.{line_text};
 ghost use Rattle.mm_log.specs.Lines.Line.{Stands, Puts, Maps, Removes};
 ghost use Rattle.mm_model.specs.declared.slot.SlotState.TheVariants.{Taken};
 ghost use Rattle.mm_log.specs.Log.{text_of};
-ghost use Rattle.mm_log.specs.Seen.{seen_of, in_order, read_by as read_by_of, read_in, with_taken, slots_seen, queued_seen, read_own, read_seen, page_told, page_seen, cell_now, cell_seen, seen, seen_by};
+ghost use Rattle.mm_log.specs.Seen.{seen_of, in_order, read_by as read_by_of, read_in, with_taken, slots_seen};
+ghost use Rattle.mm_log.specs.Seen.{queued_seen, read_own, read_seen, page_told, page_seen, cell_now, cell_seen, seen};
+ghost use Rattle.mm_log.specs.Seen.{seen_by};
 
 use crate::before::{Before, There, cell_of, is_mapped};
 use crate::lines::{
@@ -33,7 +35,8 @@ use mm_word::{Access, Cause, Cell};
 
 /// Appends the lines of what changed of a slot.
 fn put_own<M: Memory, O: Sink>(text: &mut Gather, out: &mut O, machine: &Machine<M>, was: &Slot)
-    ensures { Gathers O.taken O.faults out.old out.new text.old text.new (text_of (seen_of (state_of machine.now).core was.now)) }
+    ensures { Gathers O.taken O.faults out.old out.new text.old text.new
+        (text_of (seen_of (state_of machine.now).core was.now)) }
 {
     if let Some(now) = machine.slot(was.number) {
         put_slot_changes(text, out, was, now);
@@ -83,7 +86,8 @@ fn put_own_before<M: Memory, O: Sink>(
     was: &Slot,
     own: &Slot,
 )
-    ensures { Gathers O.taken O.faults out.old out.new text.old text.new (text_of (if nat_lt was.now.number own.now.number then seen_of (state_of machine.now).core was.now else [])) }
+    ensures { Gathers O.taken O.faults out.old out.new text.old text.new
+        (text_of (if nat_lt was.now.number own.now.number then seen_of (state_of machine.now).core was.now else [])) }
 {
     if was.number < own.number {
         put_own(text, out, machine, was);
@@ -98,7 +102,8 @@ fn put_own_behind<M: Memory, O: Sink>(
     was: &Slot,
     own: &Slot,
 )
-    ensures { Gathers O.taken O.faults out.old out.new text.old text.new (text_of (if nat_lt own.now.number was.now.number then seen_of (state_of machine.now).core was.now else [])) }
+    ensures { Gathers O.taken O.faults out.old out.new text.old text.new
+        (text_of (if nat_lt own.now.number was.now.number then seen_of (state_of machine.now).core was.now else [])) }
 {
     if own.number < was.number {
         put_own(text, out, machine, was);
@@ -113,7 +118,9 @@ fn put_two<M: Memory, O: Sink>(
     own: &Slot,
     other: &Slot,
 )
-    ensures { Gathers O.taken O.faults out.old out.new text.old text.new (text_of (in_order own.now.number other.now.number (seen_of (state_of machine.now).core own.now) (seen_of (state_of machine.now).core other.now))) }
+    ensures { Gathers O.taken O.faults out.old out.new text.old text.new
+        (text_of (in_order own.now.number other.now.number (seen_of (state_of machine.now).core own.now)
+        (seen_of (state_of machine.now).core other.now))) }
 {
     put_own_before(text, out, machine, other, own);
     put_own(text, out, machine, own);
@@ -122,7 +129,8 @@ fn put_two<M: Memory, O: Sink>(
 
 /// Appends the line of a slot that was taken, where it has the lesser number.
 fn put_taken_before<O: Sink>(text: &mut Gather, out: &mut O, slot: u8, own: &Slot)
-    ensures { Gathers O.taken O.faults out.old out.new text.old text.new (text_of (if nat_lt slot own.now.number then Stands slot Taken ∷ [] else [])) }
+    ensures { Gathers O.taken O.faults out.old out.new text.old text.new
+        (text_of (if nat_lt slot own.now.number then Stands slot Taken ∷ [] else [])) }
 {
     if slot < own.number {
         put_standing(text, out, slot, SlotState::Taken);
@@ -131,7 +139,8 @@ fn put_taken_before<O: Sink>(text: &mut Gather, out: &mut O, slot: u8, own: &Slo
 
 /// Appends the line of a slot that was taken, where it has the greater number.
 fn put_taken_behind<O: Sink>(text: &mut Gather, out: &mut O, slot: u8, own: &Slot)
-    ensures { Gathers O.taken O.faults out.old out.new text.old text.new (text_of (if nat_lt own.now.number slot then Stands slot Taken ∷ [] else [])) }
+    ensures { Gathers O.taken O.faults out.old out.new text.old text.new
+        (text_of (if nat_lt own.now.number slot then Stands slot Taken ∷ [] else [])) }
 {
     if own.number < slot {
         put_standing(text, out, slot, SlotState::Taken);
@@ -146,7 +155,9 @@ fn put_both<M: Memory, O: Sink>(
     own: &Slot,
     taken: u8,
 )
-    ensures { Gathers O.taken O.faults out.old out.new text.old text.new (text_of (in_order own.now.number taken (seen_of (state_of machine.now).core own.now) (Stands taken Taken ∷ []))) }
+    ensures { Gathers O.taken O.faults out.old out.new text.old text.new
+        (text_of (in_order own.now.number taken (seen_of (state_of machine.now).core own.now)
+        (Stands taken Taken ∷ []))) }
 {
     put_taken_before(text, out, taken, own);
     put_own(text, out, machine, own);
@@ -160,7 +171,8 @@ fn put_with_taken<M: Memory, O: Sink>(
     own: &Slot,
     taken: Option<u8>,
 )
-    ensures { Gathers O.taken O.faults out.old out.new text.old text.new (text_of (with_taken (state_of machine.now).core own.now taken)) }
+    ensures { Gathers O.taken O.faults out.old out.new text.old text.new
+        (text_of (with_taken (state_of machine.now).core own.now taken)) }
 {
     match taken {
         Some(taken) => put_both(text, out, machine, own, taken),
@@ -176,7 +188,8 @@ fn put_slots<M: Memory, O: Sink>(
     before: &Before,
     tick: Tick,
 )
-    ensures { Gathers O.taken O.faults out.old out.new text.old text.new (text_of (slots_seen (state_of machine.now).core before.now tick)) }
+    ensures { Gathers O.taken O.faults out.old out.new text.old text.new
+        (text_of (slots_seen (state_of machine.now).core before.now tick)) }
 {
     match &before.there {
         There::Slot(other) => put_two(text, out, machine, &before.own, other),
@@ -190,7 +203,8 @@ fn put_slots<M: Memory, O: Sink>(
 /// The event of a fault of a slot.
 #[tactic(auto, unfolding(mm_model::specs::Turn::event_of))]
 fn event_of(slot: &Slot, instr: &Option<Instr>, cause: Cause) -> Event
-    ensures { result ≡ event_of_fault slot.now cause (address_told_of instr.now slot.now) (value_told_of instr.now slot.now) }
+    ensures { result ≡ event_of_fault slot.now cause (address_told_of instr.now slot.now)
+        (value_told_of instr.now slot.now) }
 {
     let addr_op = address_told(instr, slot);
     let value_op = value_told(instr, slot);
@@ -228,7 +242,8 @@ fn put_read_by<O: Sink>(text: &mut Gather, out: &mut O, instr: &Option<Instr>, o
 
 /// Appends the line of the event that was read.
 fn put_read<O: Sink>(text: &mut Gather, out: &mut O, before: &Before, tick: Tick)
-    ensures { Gathers O.taken O.faults out.old out.new text.old text.new (text_of (read_seen before.now.instr before.now.own.number tick)) }
+    ensures { Gathers O.taken O.faults out.old out.new text.old text.new
+        (text_of (read_seen before.now.instr before.now.own.number tick)) }
 {
     if tick != Tick::Did {
         return;
@@ -237,7 +252,8 @@ fn put_read<O: Sink>(text: &mut Gather, out: &mut O, before: &Before, tick: Tick
 }
 
 fn put_bytes<O: Sink>(text: &mut Gather, out: &mut O, group: u8, bytes: &[u8])
-    ensures { Gathers O.taken O.faults out.old out.new text.old text.new (flat_map (λ b. line_text (Puts group b)) bytes.now) }
+    ensures { Gathers O.taken O.faults out.old out.new text.old text.new
+        (flat_map (λ b. line_text (Puts group b)) bytes.now) }
 {
     for byte in bytes {
         put_byte(text, out, group, *byte);
@@ -251,7 +267,9 @@ fn put_out<M: Memory, O: Sink>(
     machine: &Machine<M>,
     before: &Before,
 )
-    ensures { Gathers O.taken O.faults out.old out.new text.old text.new (flat_map (λ b. line_text (Puts before.now.own.group b)) (drop before.now.output (output_of (state_of machine.now).core before.now.own.group))) }
+    ensures { Gathers O.taken O.faults out.old out.new text.old text.new
+        (flat_map (λ b. line_text (Puts before.now.own.group b))
+        (drop before.now.output (output_of (state_of machine.now).core before.now.own.group))) }
 {
     let group = before.own.group;
     let bytes = machine.output(group);
@@ -262,7 +280,8 @@ fn put_out<M: Memory, O: Sink>(
 
 /// Appends the line of a page that was mapped, where it was.
 fn put_mapped<O: Sink>(text: &mut Gather, out: &mut O, page: u64, was: bool, now: bool)
-    ensures { Gathers O.taken O.faults out.old out.new text.old text.new (text_of (if now && not was then Maps page ∷ [] else [])) }
+    ensures { Gathers O.taken O.faults out.old out.new text.old text.new
+        (text_of (if now && not was then Maps page ∷ [] else [])) }
 {
     if now && !was {
         put_new_page(text, out, page);
@@ -271,7 +290,8 @@ fn put_mapped<O: Sink>(text: &mut Gather, out: &mut O, page: u64, was: bool, now
 
 /// Appends the line of a page that was removed, where it was.
 fn put_removed<O: Sink>(text: &mut Gather, out: &mut O, page: u64, was: bool, now: bool)
-    ensures { Gathers O.taken O.faults out.old out.new text.old text.new (text_of (if was && not now then Removes page ∷ [] else [])) }
+    ensures { Gathers O.taken O.faults out.old out.new text.old text.new
+        (text_of (if was && not now then Removes page ∷ [] else [])) }
 {
     if was && !now {
         put_gone_page(text, out, page);
@@ -288,7 +308,8 @@ fn put_page<O: Sink>(text: &mut Gather, out: &mut O, page: u64, was: bool, now: 
 
 /// Appends the line of a cell that changed.
 fn put_changed<O: Sink>(text: &mut Gather, out: &mut O, word: u64, was: &Cell, now: &Cell)
-    ensures { Gathers O.taken O.faults out.old out.new text.old text.new (text_of (cell_now word was.now (Some now.now))) }
+    ensures { Gathers O.taken O.faults out.old out.new text.old text.new
+        (text_of (cell_now word was.now (Some now.now))) }
 {
     if !(is_same_word(now.word, was.word) && is_same_bit(now.full, was.full)) {
         put_set(text, out, word, now);
@@ -303,7 +324,8 @@ fn put_reached<M: Inspect, O: Sink>(
     access: Access,
     was: &Cell,
 )
-    ensures { Gathers O.taken O.faults out.old out.new text.old text.new (text_of (cell_now access.addr was.now (cell_at (state_of machine.now).memory access.addr))) }
+    ensures { Gathers O.taken O.faults out.old out.new text.old text.new
+        (text_of (cell_now access.addr was.now (cell_at (state_of machine.now).memory access.addr))) }
 {
     if let Some(now) = cell_of(machine, access) {
         put_changed(text, out, access.addr(), was, &now);
@@ -317,7 +339,9 @@ fn put_memory<M: Inspect, O: Sink>(
     machine: &Machine<M>,
     there: &There,
 )
-    ensures { Gathers O.taken O.faults out.old out.new text.old text.new (text_of (page_seen (state_of machine.now).memory there.now ++ cell_seen (state_of machine.now).memory there.now)) }
+    ensures { Gathers O.taken O.faults out.old out.new text.old text.new
+        (text_of (page_seen (state_of machine.now).memory there.now
+        ++ cell_seen (state_of machine.now).memory there.now)) }
 {
     match there {
         There::Page(page, was) => put_page(text, out, *page, *was, is_mapped(machine, *page)),
@@ -334,7 +358,8 @@ fn put_seen<M: Inspect, O: Sink>(
     before: &Before,
     tick: Tick,
 )
-    ensures { Gathers O.taken O.faults out.old out.new text.old text.new (text_of (seen (state_of machine.now) before.now tick)) }
+    ensures { Gathers O.taken O.faults out.old out.new text.old text.new
+        (text_of (seen (state_of machine.now) before.now tick)) }
 {
     put_slots(text, out, machine, before, tick);
     put_queued(text, out, before, tick);
@@ -351,7 +376,8 @@ pub(crate) fn put_changes<M: Inspect, O: Sink>(
     before: &Option<Before>,
     tick: Tick,
 )
-    ensures { Gathers O.taken O.faults out.old out.new text.old text.new (text_of (seen_by (state_of machine.now) before.now tick)) }
+    ensures { Gathers O.taken O.faults out.old out.new text.old text.new
+        (text_of (seen_by (state_of machine.now) before.now tick)) }
 {
     if let Some(before) = before {
         put_seen(text, out, machine, before, tick);

@@ -10,7 +10,8 @@ ghost use Rattle.mm_model.specs.State.{slot_at};
 ghost use Rattle.mm_model.specs.Turn.{instr_in};
 ghost use Rattle.mm_machine.specs.Machine.{state_of};
 ghost use Rattle.mm_log.specs.declared.before.There.TheVariants as there;
-ghost use Rattle.mm_log.specs.Looks.{own_of, in_cell, comes_to, cell_there as cell_there_of, slot_there as slot_there_of, there_at, there_for, looked_at, looks};
+ghost use Rattle.mm_log.specs.Looks.{own_of, in_cell, comes_to, cell_there as cell_there_of};
+ghost use Rattle.mm_log.specs.Looks.{slot_there as slot_there_of, there_at, there_for, looked_at, looks};
 
 use mm_isa::{Instr, Reg, read};
 use mm_machine::Machine;
@@ -55,7 +56,8 @@ fn slot_of<M: Memory>(machine: &Machine<M>, item: u8) -> Option<&Slot>
 
 /// The slot whose port an item is.
 fn port_of<M: Memory>(machine: &Machine<M>, item: u8) -> Option<&Slot>
-    ensures { option_copied result ≡ (if nat_le 128 item then slot_at (state_of machine.now).core (item - 128) else None) }
+    ensures { option_copied result
+        ≡ (if nat_le 128 item then slot_at (state_of machine.now).core (item - 128) else None) }
 {
     if item < 128 {
         return None;
@@ -114,7 +116,8 @@ fn cell_there<M: Inspect>(machine: &Machine<M>, access: Access) -> There
 }
 
 fn access_there<M: Inspect>(machine: &Machine<M>, access: Result<Access, Cause>) -> There
-    ensures { (pre : PreValue) → result ≡ there_at (state_of machine.now).core (state_of machine.now).memory (reaching access pre) }
+    ensures { (pre : PreValue)
+        → result ≡ there_at (state_of machine.now).core (state_of machine.now).memory (reaching access pre) }
 {
     match access {
         Ok(access) => cell_there(machine, access),
@@ -149,7 +152,8 @@ pub(crate) fn is_mapped<M: Inspect>(machine: &Machine<M>, page: u64) -> bool
 
 /// A page, where the slot is privileged and there can be such a page.
 fn page_there<M: Inspect>(machine: &Machine<M>, slot: &Slot, page: u64) -> There
-    ensures { result ≡ there_at (state_of machine.now).core (state_of machine.now).memory (page_asked slot.now.ip.perm page (MapPage page)) }
+    ensures { result ≡ there_at (state_of machine.now).core (state_of machine.now).memory
+        (page_asked slot.now.ip.perm page (MapPage page)) }
 {
     if slot.ip.perm() != Perm::Xp || page >= 1 << 42 {
         return There::Nothing;
@@ -159,7 +163,8 @@ fn page_there<M: Inspect>(machine: &Machine<M>, slot: &Slot, page: u64) -> There
 
 /// The slot of a number.
 fn slot_there<M: Memory>(machine: &Machine<M>, number: u64) -> There
-    ensures { result ≡ (if nat_lt number 64 then slot_there_of (slot_at (state_of machine.now).core number) else there.Nothing) }
+    ensures { result ≡ (if nat_lt number 64 then slot_there_of (slot_at (state_of machine.now).core number) else
+        there.Nothing) }
 {
     if number >= 64 {
         return There::Nothing;

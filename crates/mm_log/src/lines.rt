@@ -6,7 +6,8 @@ ghost use Rattle.mm_text.specs.Gathers.{Gathers};
 ghost use Rattle.mm_word.specs.Cause.{number_of};
 ghost use Rattle.mm_model.specs.Lines.{past_text};
 ghost use Rattle.mm_log.specs.Lines.{line_text, register_text, event_text};
-ghost use Rattle.mm_log.specs.Lines.Line.{Points, Stands, Holds, Empties, Issues, Queues, Reads, Puts, Maps, Removes, Sets};
+ghost use Rattle.mm_log.specs.Lines.Line.{Points, Stands, Holds, Empties, Issues, Queues, Reads, Puts, Maps, Removes};
+ghost use Rattle.mm_log.specs.Lines.Line.{Sets};
 
 use mm_io::Sink;
 use mm_model::{Event, Pending, SlotState};
@@ -187,7 +188,8 @@ fn put_told<O: Sink>(text: &mut Gather, out: &mut O, event: &Event)
 
 // Appends the number of a slot and that of its fault, each with a blank.
 fn put_fault<O: Sink>(text: &mut Gather, out: &mut O, slot: u8, cause: Cause)
-    ensures { Gathers O.taken O.faults out.old out.new text.old text.new (decimal slot ++ codes " " ++ decimal (number_of cause) ++ codes " ") }
+    ensures { Gathers O.taken O.faults out.old out.new text.old text.new
+        (decimal slot ++ codes " " ++ decimal (number_of cause) ++ codes " ") }
 {
     text.put(
         out,

@@ -29,7 +29,8 @@ pub fn issue_logged<M: Inspect, O: Sink>(
     requires { (state_of machine.old).cycles + count ≤ 2 ^ 32 }
     ensures goes { (i : Image) (before : List ℕ) → StandsFor i before machine.old
         → StandsFor i (before ++ items_of order.now (state_of machine.old) count) machine.new }
-    ensures lines { Gathers O.taken O.faults out.old out.new text.old text.new (log_text (state_of machine.old) (items_of order.now (state_of machine.old) count)) }
+    ensures lines { Gathers O.taken O.faults out.old out.new text.old text.new
+        (log_text (state_of machine.old) (items_of order.now (state_of machine.old) count)) }
 {
     match order {
         Order::Robin => log_robin(machine, count, text, out),
@@ -50,8 +51,10 @@ fn cycle_logged<M: Inspect, O: Sink>(
 )
     requires { (state_of machine.old).cycles < 2 ^ 32 }
     ensures state { state_of machine.new ≡ after (state_of machine.old) item }
-    ensures goes { (i : Image) (before : List ℕ) → StandsFor i before machine.old → StandsFor i (before ++ item ∷ []) machine.new }
-    ensures line { Gathers O.taken O.faults out.old out.new text.old text.new (text_of (cycle_log (state_of machine.old) item)) }
+    ensures goes { (i : Image) (before : List ℕ) → StandsFor i before machine.old
+        → StandsFor i (before ++ item ∷ []) machine.new }
+    ensures line { Gathers O.taken O.faults out.old out.new text.old text.new
+        (text_of (cycle_log (state_of machine.old) item)) }
 {
     let before = look(machine, item);
     let step = machine.cycle(item);
@@ -78,8 +81,10 @@ fn log_list<M: Inspect, O: Sink>(
     out: &mut O,
 )
     requires { (state_of machine.old).cycles + length items.now ≤ 2 ^ 32 }
-    ensures goes { (i : Image) (before : List ℕ) → StandsFor i before machine.old → StandsFor i (before ++ items.now) machine.new }
-    ensures lines { Gathers O.taken O.faults out.old out.new text.old text.new (log_text (state_of machine.old) items.now) }
+    ensures goes { (i : Image) (before : List ℕ) → StandsFor i before machine.old
+        → StandsFor i (before ++ items.now) machine.new }
+    ensures lines { Gathers O.taken O.faults out.old out.new text.old text.new
+        (log_text (state_of machine.old) items.now) }
 {
     for item in items {
         cycle_logged(machine, *item, text, out);
@@ -96,7 +101,8 @@ fn log_robin<M: Inspect, O: Sink>(
     requires { (state_of machine.old).cycles + count ≤ 2 ^ 32 }
     ensures goes { (i : Image) (before : List ℕ) → StandsFor i before machine.old
         → StandsFor i (before ++ robin_from (state_of machine.old) None count) machine.new }
-    ensures lines { Gathers O.taken O.faults out.old out.new text.old text.new (log_text (state_of machine.old) (robin_from (state_of machine.old) None count)) }
+    ensures lines { Gathers O.taken O.faults out.old out.new text.old text.new
+        (log_text (state_of machine.old) (robin_from (state_of machine.old) None count)) }
 {
     let mut robin = Robin::new();
     for _ in 0..count {

@@ -9,7 +9,8 @@ ghost use Rattle.mm_model.specs.Effect.{same_word as same_word_of};
 ghost use Rattle.mm_model.specs.Report.{same_bit as same_bit_of};
 ghost use Rattle.mm_log.specs.Lines.{line_text};
 ghost use Rattle.mm_log.specs.Lines.Line.{Issues};
-ghost use Rattle.mm_log.specs.Changes.{pointer_changes, same_state as same_state_of, state_changes, register_now, register_changes, slot_changes as slot_changes_of};
+ghost use Rattle.mm_log.specs.Changes.{pointer_changes, same_state as same_state_of, state_changes, register_now};
+ghost use Rattle.mm_log.specs.Changes.{register_changes, slot_changes as slot_changes_of};
 ghost use Rattle.mm_log.specs.Log.{text_of};
 
 use crate::lines::{put_empty, put_load, put_pointer, put_register, put_standing};
@@ -90,7 +91,8 @@ fn put_register_change<O: Sink>(
     register: u8,
 )
     requires { register < 16 }
-    ensures { Gathers O.taken O.faults out.old out.new text.old text.new (text_of (register_changes was.now now.now register)) }
+    ensures { Gathers O.taken O.faults out.old out.new text.old text.new
+        (text_of (register_changes was.now now.now register)) }
 {
     let same = is_same_word(was.register(register), now.register(register))
         && is_same_bit(was.is_empty(register), now.is_empty(register));
@@ -100,7 +102,8 @@ fn put_register_change<O: Sink>(
 }
 
 fn put_register_changes<O: Sink>(text: &mut Gather, out: &mut O, was: &Slot, now: &Slot)
-    ensures { Gathers O.taken O.faults out.old out.new text.old text.new (flat_map (λ r. text_of (register_changes was.now now.now r)) (range_with_len 0 16)) }
+    ensures { Gathers O.taken O.faults out.old out.new text.old text.new
+        (flat_map (λ r. text_of (register_changes was.now now.now r)) (range_with_len 0 16)) }
 {
     for register in 0..16 {
         put_register_change(text, out, was, now, register);
@@ -108,7 +111,8 @@ fn put_register_changes<O: Sink>(text: &mut Gather, out: &mut O, was: &Slot, now
 }
 
 fn put_loads<O: Sink>(text: &mut Gather, out: &mut O, slot: u8, loads: &[Pending])
-    ensures { Gathers O.taken O.faults out.old out.new text.old text.new (flat_map (λ load. line_text (Issues slot load)) loads.now) }
+    ensures { Gathers O.taken O.faults out.old out.new text.old text.new
+        (flat_map (λ load. line_text (Issues slot load)) loads.now) }
 {
     for load in loads {
         put_load(text, out, slot, load);
@@ -117,7 +121,8 @@ fn put_loads<O: Sink>(text: &mut Gather, out: &mut O, slot: u8, loads: &[Pending
 
 /// Appends the lines of the pending loads that were added.
 fn put_load_changes<O: Sink>(text: &mut Gather, out: &mut O, was: &Slot, now: &Slot)
-    ensures { Gathers O.taken O.faults out.old out.new text.old text.new (flat_map (λ load. line_text (Issues now.now.number load)) (drop (length was.now.pending) now.now.pending)) }
+    ensures { Gathers O.taken O.faults out.old out.new text.old text.new
+        (flat_map (λ load. line_text (Issues now.now.number load)) (drop (length was.now.pending) now.now.pending)) }
 {
     let before = was.pending.len();
     if before < now.pending.len() {

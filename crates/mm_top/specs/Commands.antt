@@ -29,7 +29,8 @@ use Rattle.mm_log.specs.Log.{log_text}
 use Rattle.mm_save.specs.Recorder.{recorded}
 use Rattle.mm_cli.specs.declared.table.Command.{Command}
 use Rattle.mm_cli.specs.declared.table.Command.TheVariants.{Run, Trace, Log, Solo, Grants, Extract, Asm, Link, Dis}
-use Rattle.mm_cli.specs.declared.table.Command.TheVariants.{Debug, Gen, Soak, Migrate, Sweep, Holders, Save, Continue, Net}
+use Rattle.mm_cli.specs.declared.table.Command.TheVariants.{Debug, Gen, Soak, Migrate, Sweep, Holders, Save, Continue}
+use Rattle.mm_cli.specs.declared.table.Command.TheVariants.{Net}
 use Rattle.mm_cli.specs.declared.table.Kind.TheVariants.{Image as image_file, Schedule as schedule_file}
 use Rattle.mm_cli.specs.declared.table.Kind.TheVariants.{Source as source_file, Object as object_file}
 use Rattle.mm_cli.specs.declared.table.Kind.TheVariants.{Checkpoint as checkpoint_file}
