@@ -1,4 +1,5 @@
-// Groups as they are written.
+//! Groups as they are written.
+
 ghost use Rattle.std.specs.Prelude.{◌≡◌, ◌≢◌, ◌++◌, ◌∷◌, [], ℕ, List, IsNone, IsSome, IsTrue, MatchOption, ◌<◌, ◌↔◌};
 ghost use Rattle.std.specs.Prelude.{decimal, position};
 ghost use Rattle.std.specs.List.{AllByRecursion};

@@ -1,4 +1,4 @@
-// What changed after a cycle.
+//! What changed after a cycle.
 #![tactic(auto)]
 
 ghost use Rattle.std.specs.Prelude.{◌≡◌, ◌/◌, ◌%◌, ◌&&◌, ◌++◌, ◌∷◌, [], drop, nat_lt, not, if◌then◌else◌, Some};

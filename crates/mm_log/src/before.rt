@@ -1,4 +1,5 @@
-// What the cycle of an item can change, as it stands before.
+//! What the cycle of an item can change, as it stands before.
+
 ghost use Rattle.std.specs.Prelude.{◌≡◌, ◌-◌, nat_le, nat_lt, if◌then◌else◌, None};
 ghost use Rattle.std.specs.Option.{option_copied};
 ghost use Rattle.mm_word.specs.declared.word.Pre.{Pre as PreValue};

@@ -1,4 +1,4 @@
-// The lines of a commit log.
+//! The lines of a commit log.
 #![tactic(auto, unfolding(crate::specs::Lines::line_text))]
 
 ghost use Rattle.std.specs.Prelude.{◌++◌, codes, decimal};

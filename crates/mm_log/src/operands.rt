@@ -1,4 +1,4 @@
-// The operands of an instruction that an event tells.
+//! The operands of an instruction that an event tells.
 #![tactic(auto, unfolding(mm_model::specs::Operands::addr_operand, mm_model::specs::Operands::value_operand))]
 
 ghost use Rattle.std.specs.Prelude.{◌≡◌};

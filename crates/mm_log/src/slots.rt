@@ -1,4 +1,4 @@
-// What changed of a slot.
+//! What changed of a slot.
 #![tactic(auto)]
 
 ghost use Rattle.std.specs.Prelude.{◌≡◌, ◌<◌, drop, length};

@@ -1,4 +1,5 @@
-// `asm`: the object that a source means.
+//! `asm`: the object that a source means.
+
 ghost use Rattle.mm_object.specs.Spelling.{Spells};
 ghost use Rattle.mm_load.specs.Files.{reading};
 ghost use Rattle.mm_cli.specs.Said.{row};

@@ -1,4 +1,5 @@
-// Cycles in an order.
+//! Cycles in an order.
+
 ghost use Rattle.std.specs.Prelude.{◌≡◌, ◌+◌, ◌<◌, ◌≤◌, ◌^◌, IfSome};
 ghost use Rattle.mm_machine.specs.Machine.{state_of};
 ghost use Rattle.mm_machine.specs.Going.{WentOn};

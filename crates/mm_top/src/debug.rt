@@ -1,4 +1,5 @@
-// `debug`: a session of an image that can go back, and the replies to the lines of standard input.
+//! `debug`: a session of an image that can go back, and the replies to the lines of standard input.
+
 ghost use Rattle.std.specs.Prelude.{◌≡◌, [], OnOk};
 ghost use Rattle.std.specs.Io.KnownBytes.{IsAtEnd};
 ghost use Rattle.mm_load.specs.Files.{AsksFiles, DrawnBehind, reading, drawing};

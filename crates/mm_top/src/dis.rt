@@ -1,4 +1,5 @@
-// `dis`: the text of an object.
+//! `dis`: the text of an object.
+
 ghost use Rattle.mm_load.specs.Files.{reading};
 ghost use Rattle.mm_cli.specs.Said.{row};
 ghost use Rattle.mm_top.specs.Commands.{YieldsAlone};

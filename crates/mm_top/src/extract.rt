@@ -1,4 +1,5 @@
-// `extract`: the image of some groups alone.
+//! `extract`: the image of some groups alone.
+
 ghost use Rattle.mm_model.specs.Groups.{among};
 ghost use Rattle.mm_audit.specs.Refusals.{StandAlone};
 ghost use Rattle.mm_load.specs.Files.{reading};

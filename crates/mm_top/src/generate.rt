@@ -1,4 +1,5 @@
-// `gen`: the image of a number.
+//! `gen`: the image of a number.
+
 ghost use Rattle.std.specs.Prelude.{◌≤◌, []};
 ghost use Rattle.mm_model.specs.Spelling.{Spells};
 ghost use Rattle.mm_gen.specs.Generated.{generated};

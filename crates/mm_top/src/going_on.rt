@@ -1,4 +1,5 @@
-// `continue`: the report of an image that goes on from a checkpoint, after so many cycles more.
+//! `continue`: the report of an image that goes on from a checkpoint, after so many cycles more.
+
 ghost use Rattle.std.specs.Prelude.{◌≤◌};
 ghost use Rattle.mm_checkpoint.specs.Checkpoints.{IsCheckpoint, saved_of};
 ghost use Rattle.mm_load.specs.Files.{reading};

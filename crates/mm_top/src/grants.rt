@@ -1,4 +1,5 @@
-// `grants`: what each group of an image can reach.
+//! `grants`: what each group of an image can reach.
+
 ghost use Rattle.std.specs.Prelude.{List, Option, ℕ};
 ghost use Rattle.std.specs.Option.{option_map};
 ghost use Rattle.mm_io.specs.Sinks.{Writes};

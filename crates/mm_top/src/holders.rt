@@ -1,4 +1,5 @@
-// `holders`: who holds a pointer whose segment meets a range.
+//! `holders`: who holds a pointer whose segment meets a range.
+
 ghost use Rattle.std.specs.Prelude.{◌≡◌};
 ghost use Rattle.mm_sweep.specs.Holders.{holders};
 ghost use Rattle.mm_load.specs.Files.{reading};

@@ -1,4 +1,5 @@
-// `link`: the image of objects.
+//! `link`: the image of objects.
+
 ghost use Rattle.std.specs.Prelude.{◌≤◌, length};
 ghost use Rattle.mm_load.specs.Files.{reading};
 ghost use Rattle.mm_cli.specs.Said.{AreOf, row};

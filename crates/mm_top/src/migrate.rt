@@ -1,4 +1,5 @@
-// `migrate`: an image as version 2.
+//! `migrate`: an image as version 2.
+
 ghost use Rattle.std.specs.Prelude.{◌≡◌, IfOk};
 ghost use Rattle.mm_model.specs.Spelling.{Spells};
 ghost use Rattle.mm_model.specs.Worlds.{migrated};

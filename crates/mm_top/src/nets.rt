@@ -1,4 +1,5 @@
-// `net`: images as nodes, joined by links.
+//! `net`: images as nodes, joined by links.
+
 ghost use Rattle.std.specs.Prelude.{◌≡◌, ◌+◌, ◌++◌, ◌≤◌, ◌^◌, ℕ, List, MatchOption, IfOk, length, take};
 ghost use Rattle.std.specs.List.{All, count_by};
 ghost use Rattle.mm_model.specs.Image.{Image as model};

@@ -1,4 +1,5 @@
-// `run`: the report of an image after so many cycles.
+//! `run`: the report of an image after so many cycles.
+
 ghost use Rattle.std.specs.Prelude.{◌≡◌, ◌≤◌};
 ghost use Rattle.mm_model.specs.Image.{start};
 ghost use Rattle.mm_sched.specs.Orders.{items_of};

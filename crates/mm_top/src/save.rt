@@ -1,4 +1,5 @@
-// `save`: the checkpoint of an image after so many cycles.
+//! `save`: the checkpoint of an image after so many cycles.
+
 ghost use Rattle.std.specs.Prelude.{◌≡◌, ◌≤◌};
 ghost use Rattle.mm_model.specs.Image.{start};
 ghost use Rattle.mm_sched.specs.Orders.{items_of};

@@ -1,4 +1,5 @@
-// `soak`: what a generated image comes to after so many cycles.
+//! `soak`: what a generated image comes to after so many cycles.
+
 ghost use Rattle.std.specs.Prelude.{◌≡◌, ◌≤◌, []};
 ghost use Rattle.mm_cli.specs.Said.{AreOf, row};
 ghost use Rattle.mm_top.specs.Commands.{soaked, Yields};

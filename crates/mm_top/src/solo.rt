@@ -1,4 +1,5 @@
-// `solo`: the report of some groups of an image, alone.
+//! `solo`: the report of some groups of an image, alone.
+
 ghost use Rattle.std.specs.Prelude.{◌≡◌};
 ghost use Rattle.mm_model.specs.Groups.{among};
 ghost use Rattle.mm_audit.specs.Refusals.{StandAlone};

@@ -1,4 +1,5 @@
-// `sweep`: the image in which nobody reaches a range.
+//! `sweep`: the image in which nobody reaches a range.
+
 ghost use Rattle.mm_model.specs.Spelling.{Spells};
 ghost use Rattle.mm_sweep.specs.Swept.{swept};
 ghost use Rattle.mm_sweep.specs.Refusals.{CanSweep};

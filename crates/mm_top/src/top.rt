@@ -1,4 +1,5 @@
-// The top call: all that the program does.
+//! The top call: all that the program does.
+
 ghost use Rattle.std.specs.Prelude.{◌≡◌, ◌↔◌, ◌⊎◌, List, ℕ, Option, None, IsSome, OnOk, []};
 ghost use Rattle.std.specs.Io.KnownBytes.{append_known, IsAtEnd};
 ghost use Rattle.mm_io.specs.Files.{Rose};

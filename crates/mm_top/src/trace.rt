@@ -1,4 +1,5 @@
-// `trace`: the line of each cycle of an image, and then the report.
+//! `trace`: the line of each cycle of an image, and then the report.
+
 ghost use Rattle.std.specs.Prelude.{◌≡◌, ◌≤◌, ◌++◌, ◌^◌, ◌+◌, List, ℕ};
 ghost use Rattle.mm_io.specs.Sinks.{Writes};
 ghost use Rattle.mm_model.specs.Image.{Image as ImageValue, start};
