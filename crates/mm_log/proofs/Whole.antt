@@ -20,7 +20,7 @@ use Rattle.mm_model.specs.Ask.Ask.{Nothing, Refuse, Reach, MapPage, UnmapPage, N
 use Rattle.mm_model.specs.Turn.{Turned, turn, idle}
 use Rattle.mm_model.specs.Trace.{turns_of, step_line}
 use Rattle.mm_model.specs.Run.{turn_of, after}
-use Rattle.mm_model.proofs.CoreRows.{slot_at-number, slot_has, slot_limit-few}
+use Rattle.mm_model.proofs.CoreRows.{slot_at-number, slot_has}
 use Rattle.mm_model.proofs.Fitted.{fitting_of, core_of}
 use Rattle.mm_machine.specs.Kept.{Kept}
 use Rattle.mm_log.specs.declared.before.There.{There}
@@ -148,8 +148,8 @@ module _ (s : State) (n : ℕ) (k : Kept s) where
       let whole = core_of k.image s k.is_image k.state k.fits k.types in
       let slots = slots_whole s.core s.memory n k.state.core fit.matched x own in
       let events = events_seen s.core s.memory n k.state.core fit x own in
-      let version = slot_has (IsOfVersion s.core.version) s.core x.number x whole.numbers (own_at s.core n x own) in
-      let few : x.group < 64 = let a = version.group in let c = slot_limit-few s.core.version in omega arith in
+      let version = slot_has (IsOfVersion 2) s.core x.number x whole.numbers (own_at s.core n x own) in
+      let few : x.group < 64 = version.group in
       let outs = outs_seen s.core s.memory n x own few in
       let memory = memory_seen s.core s.memory n k.state.pages x own in
       let b : Before = looked_at s.core s.memory x in
