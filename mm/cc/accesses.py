@@ -212,6 +212,8 @@ class Accesses(Lowering):
             if isinstance(type_, VectorType) and isinstance(type_.element, IntType) and type_.element.bits < 8:
                 raise Untranslated("a vector of bits in memory")
             return [(size * at, type_.element) for at in range(type_.count)]
+        if isinstance(type_, IntType) and 64 < type_.bits <= 128:
+            return [(0, IntType(64)), (WORD, IntType(64))]
         raise Untranslated(self.left_out(type_))
 
     @staticmethod

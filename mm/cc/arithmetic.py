@@ -4,7 +4,7 @@ from __future__ import annotations
 
 from mm.cc.accesses import Accesses
 from mm.cc.forms import RAW, SIGNED, ZEROED, Forms, bits_of
-from mm.cc.ir import Instruction, IntType, Local, Number, PointerType, Value, Zero, FloatType, VectorType
+from mm.cc.ir import Instruction, IntType, Local, Number, PointerType, Type, Value, Zero, FloatType, VectorType
 from mm.cc.pointers import Pointer
 from mm.cc.untranslated import Untranslated
 
@@ -86,8 +86,6 @@ class Arithmetic(Accesses):
 
     def width(self, made: Instruction) -> None:
         operand = made.operands[0]
-        if isinstance(operand.type, (FloatType, VectorType)):
-            raise Untranslated(self.left_out(operand.type))
         if made.op == "zext":
             self.define(made.name, made.type, self.number(operand, ZEROED), "SZ")
         elif made.op == "sext":
@@ -119,7 +117,9 @@ class Arithmetic(Accesses):
     # Comparisons
 
     def compare(self, made: Instruction) -> None:
-        if any(self.needs_truth(user, made.name) for user in self.users.get(made.name or "", [])) or not made.name:
+        if isinstance(made.type, VectorType):
+            self.by_element(made, made.type.element)
+        elif any(self.needs_truth(user, made.name) for user in self.users.get(made.name or "", [])) or not made.name:
             self.define(made.name, made.type, self.truth(made), ZEROED)
 
     @staticmethod
@@ -166,6 +166,7 @@ class Arithmetic(Accesses):
         if made.condition in ("eq", "ne"):
             left, right = made.operands
             zero = isinstance(right, Zero) or isinstance(right, Number) and right.number == 0
+            zero = zero and bits_of(left.type) <= 64
             if zero and not isinstance(left.type, PointerType):
                 form = ZEROED if bits_of(left.type) == 1 else self.forms.compared(made)
                 return self.number(left, form), made.condition == "eq"
@@ -179,8 +180,6 @@ class Arithmetic(Accesses):
         """One of two values: a branch over a move, which is shorter than any arithmetic and keeps tags."""
         assert made.name is not None
         condition, yes, no = made.operands
-        if isinstance(condition.type, VectorType):
-            raise Untranslated("a vector of conditions")
         if isinstance(made.type, PointerType):
             self.select_pointer(made.name, condition, yes, no)
         elif isinstance(made.type, IntType) and made.type.bits <= 64:
@@ -211,4 +210,7 @@ class Arithmetic(Accesses):
         self.pointers[name] = Pointer(self.chosen(condition, first.base, second.base), offset)
 
     def select_group(self, made: Instruction) -> None:
-        raise Untranslated(self.left_out(made.type))
+        raise NotImplementedError
+
+    def by_element(self, made: Instruction, element: Type) -> None:
+        raise NotImplementedError

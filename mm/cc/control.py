@@ -4,7 +4,6 @@ from __future__ import annotations
 
 from typing import Optional
 
-from mm.cc.calls import Calls
 from mm.cc.code import ARGUMENTS, Call, Code, CodeBlock, Fixed, LocalObject, Op, log_of, place_in
 from mm.cc.forms import RAW, SIGNED, ZEROED, bits_of
 from mm.cc.ir import (
@@ -19,6 +18,7 @@ from mm.cc.ir import (
     Number,
     Parts,
     PointerType,
+    Text,
     Type,
     Undefined,
     Value,
@@ -29,12 +29,13 @@ from mm.cc.ir import (
 from mm.cc.lowering import signed
 from mm.cc.pointers import Known, Pointer, is_twice
 from mm.cc.untranslated import Untranslated
+from mm.cc.wide import Vectors, has_floats, is_plain, is_wide
 
 WORD = 8
 LEAST_TABLE = 5
 
 
-class Translator(Calls):
+class Translator(Vectors):
     """Translates one function."""
 
     def translate(self) -> Code:
@@ -42,11 +43,15 @@ class Translator(Calls):
         self.refuse_floats()
         self.later = []
         self.moving: dict[str, int] = {}
+        self.arriving: dict[str, dict[int, int]] = {}
+        self.block_with: dict[str, str] = {}
         self.order = self.reachable()
         self.by_name = {block.name: block for block in self.order}
         self.code.twice = any(is_twice(made) for block in self.order for made in block.body)
         self.code.variadic = function.variadic
         self.promote()
+        self.computed = {label for block in self.order if block.body[-1].op == "indirectbr"
+                         for label in block.body[-1].labels}
         self.several()
         self.entry()
         starts: dict[str, CodeBlock] = {}
@@ -108,6 +113,7 @@ class Translator(Calls):
         for block in self.order:
             for made in block.body:
                 if made.op == "phi" and made.name is not None:
+                    self.block_with[made.name] = block.name
                     self.place_of_several(made.name, self.layouts.plain(made.type))
 
     def place_of_several(self, name: str, type_: Type) -> None:
@@ -164,6 +170,9 @@ class Translator(Calls):
         name = made.name
         if name is None:
             return
+        if name in self.numbers and bits_of(made.type) < 64:
+            self.numbers[name] = {form: register for form, register in self.numbers[name].items()
+                                  if form in (RAW, self.forms.carried(name))}
         if name in self.numbers:
             have = self.numbers[name]
             for form in self.forms.of(name):
@@ -198,14 +207,30 @@ class Translator(Calls):
         "addrspacecast": "bitcast", "getelementptr": "element", "load": "load", "store": "store", "alloca": "alloca",
         "call": "call", "br": "branch", "switch": "switch", "ret": "give_back", "unreachable": "unreachable",
         "indirectbr": "indirect", "extractvalue": "extract", "insertvalue": "insert", "fence": "fence",
+        "extractelement": "extract_element", "insertelement": "insert_element", "shufflevector": "shuffle",
         "atomicrmw": "read_and_write", "cmpxchg": "compare_and_change",
     }
 
     def binary(self, made: Instruction) -> None:
         if isinstance(made.type, IntType) and made.type.bits <= 64:
             super().binary(made)
+        elif is_wide(made.type):
+            self.wide_binary(made)
+        elif isinstance(made.type, VectorType) and not has_floats(made.type):
+            self.by_element(made, made.type.element)
         else:
             raise Untranslated(self.left_out(made.type))
+
+    def width(self, made: Instruction) -> None:
+        source = made.operands[0].type
+        if isinstance(made.type, VectorType):
+            self.by_element(made, made.type.element)
+        elif is_wide(made.type) or is_wide(source):
+            self.wide_width(made)
+        elif is_plain(made.type) and is_plain(source):
+            super().width(made)
+        else:
+            raise Untranslated(self.left_out(source if is_plain(made.type) else made.type))
 
     def number_to_pointer(self, made: Instruction) -> None:
         assert made.name is not None
@@ -218,8 +243,10 @@ class Translator(Calls):
             self.pointers[made.name] = self.pointer(operand)
         elif isinstance(made.type, IntType) and isinstance(operand.type, IntType):
             self.define(made.name, made.type, self.number(operand, RAW))
+        elif has_floats(made.type) or has_floats(operand.type):
+            raise Untranslated("floating point")
         else:
-            raise Untranslated(self.left_out(operand.type))
+            self.through_object(made)
 
     def element(self, made: Instruction) -> None:
         assert made.name is not None
@@ -238,7 +265,11 @@ class Translator(Calls):
             return found
         if isinstance(value, Parts):
             return list(value.parts)
+        if isinstance(value, Number):
+            return [Number(IntType(64), value.number), Number(IntType(64), value.number >> 64)]
         kinds = [part for _, part in self.parts(value.type)]
+        if isinstance(value, Text):
+            return [Number(kind, byte) for kind, byte in zip(kinds, value.data)]
         if isinstance(value, Zero):
             return [Number(kind, 0) if isinstance(kind, IntType) else Zero(kind) for kind in kinds]
         if isinstance(value, Undefined):
@@ -446,17 +477,23 @@ class Translator(Calls):
                 moves = self.moves_of(block.name, target)
                 if not moves:
                     continue
-                if len(set(home.next)) == 1:
+                if len(set(home.next)) == 1 or last.op == "indirectbr":
                     end = home.body.pop()
                     self.block = home
-                    self.copy_together(moves)
+                    self.copy_together(moves, target in self.computed)
                     home.body.append(end)
                 else:
-                    if last.op == "indirectbr":
-                        raise Untranslated("a jump to a label that is computed, with values that change on the way")
-                    self.split(home, self.labels[target], moves)
+                    self.split(home, self.labels[target], moves, target in self.computed)
+        for name in self.computed:
+            self.arrivals(name)
 
-    def split(self, home: CodeBlock, target: str, moves: list[tuple[Value, Value]]) -> None:
+    def arrivals(self, name: str) -> None:
+        """At a label that is jumped to by its address, values arrive in registers of their own: the jump may lead elsewhere."""
+        block = self.block_of[name]
+        moves = [Op("mov", register, arrival) for register, arrival in self.arriving.get(name, {}).items()]
+        block.body[:0] = moves
+
+    def split(self, home: CodeBlock, target: str, moves: list[tuple[Value, Value]], computed: bool) -> None:
         """A block of its own for an edge."""
         edge = CodeBlock(self.names.fresh())
         for op in home.body:
@@ -466,7 +503,7 @@ class Translator(Calls):
                 op.extra = [edge.label if label == target else label for label in op.extra]  # type: ignore[attr-defined]
         home.next = list(dict.fromkeys(edge.label if label == target else label for label in home.next))
         self.block = edge
-        self.copy_together(moves)
+        self.copy_together(moves, computed)
         self.emit("br", extra=target)
         edge.next = [target]
         self.code.blocks.insert(self.code.blocks.index(home) + 1, edge)
@@ -486,13 +523,18 @@ class Translator(Calls):
                     break
         return found
 
-    def copy_together(self, moves: list[tuple[Value, Value]]) -> None:
+    def copy_together(self, moves: list[tuple[Value, Value]], computed: bool) -> None:
         """Moves at one moment: what is moved is taken before anything changes."""
         pairs: list[tuple[int, int]] = []
         self.line = None
         for to, value in moves:
             assert isinstance(to, Local)
-            self.pairs_of(to, value, pairs)
+            found: list[tuple[int, int]] = []
+            self.pairs_of(to, value, found)
+            if computed:
+                home = self.arriving.setdefault(self.block_with[to.name], {})
+                found = [(home.setdefault(d, 0) or self._arrival(home, d), a) for d, a in found]
+            pairs += found
         pairs = [(d, a) for d, a in pairs if d != a]
         while pairs:
             free = [pair for pair in pairs if not any(pair[0] == a for _, a in pairs)]
@@ -504,6 +546,10 @@ class Translator(Calls):
             first = pairs[0][1]
             kept = self.op("mov", first)
             pairs = [(d, kept if a == first else a) for d, a in pairs]
+
+    def _arrival(self, home: dict[int, int], register: int) -> int:
+        home[register] = self.code.new()
+        return home[register]
 
     def pairs_of(self, to: Local, value: Value, pairs: list[tuple[int, int]]) -> None:
         type_ = self.layouts.plain(to.type)

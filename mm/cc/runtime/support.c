@@ -83,3 +83,82 @@ static number bits_of(const void *pointer)
 {
     return (number)pointer;
 }
+
+/* The halves of a shift of 128 bits. */
+number __mm_left_low(number low, number high, number by)
+{
+    return by & 64 ? 0 : low << (by & 63);
+}
+
+number __mm_left_high(number low, number high, number by)
+{
+    return by & 64 ? low << (by & 63) : by & 63 ? high << (by & 63) | low >> (64 - (by & 63)) : high;
+}
+
+number __mm_right_low(number low, number high, number by)
+{
+    return by & 64 ? high >> (by & 63) : by & 63 ? low >> (by & 63) | high << (64 - (by & 63)) : low;
+}
+
+number __mm_right_high(number low, number high, number by)
+{
+    return by & 64 ? 0 : high >> (by & 63);
+}
+
+number __mm_signed_right_low(number low, number high, number by)
+{
+    return by & 64 ? (long)high >> (by & 63) : by & 63 ? low >> (by & 63) | high << (64 - (by & 63)) : low;
+}
+
+number __mm_signed_right_high(number low, number high, number by)
+{
+    return by & 64 ? (long)high >> 63 : (long)high >> (by & 63);
+}
+
+/* Divisions of 128 bits, bit by bit. The result is the rest where `rest` is set. */
+static void divide(number *result, number al, number ah, number bl, number bh, int rest)
+{
+    number ql = 0, qh = 0, rl = 0, rh = 0;
+    for (int at = 127; at >= 0; at--) {
+        number bit = at & 64 ? ah >> (at & 63) & 1 : al >> at & 1;
+        rh = rh << 1 | rl >> 63;
+        rl = rl << 1 | bit;
+        if (rh > bh || rh == bh && rl >= bl) {
+            rh -= bh + (rl < bl);
+            rl -= bl;
+            if (at & 64)
+                qh |= 1ul << (at & 63);
+            else
+                ql |= 1ul << at;
+        }
+    }
+    result[0] = rest ? rl : ql;
+    result[1] = rest ? rh : qh;
+}
+
+static void divide_signed(number *result, number al, number ah, number bl, number bh, int rest)
+{
+    long turned = rest ? (long)ah : (long)(ah ^ bh);
+    if ((long)ah < 0)
+        ah = ~ah + !al, al = -al;
+    if ((long)bh < 0)
+        bh = ~bh + !bl, bl = -bl;
+    divide(result, al, ah, bl, bh, rest);
+    if (turned < 0) {
+        result[1] = ~result[1] + !result[0];
+        result[0] = -result[0];
+    }
+}
+
+void __mm_wide_udiv(number *result, number al, number ah, number bl, number bh) { divide(result, al, ah, bl, bh, 0); }
+void __mm_wide_urem(number *result, number al, number ah, number bl, number bh) { divide(result, al, ah, bl, bh, 1); }
+
+void __mm_wide_sdiv(number *result, number al, number ah, number bl, number bh)
+{
+    divide_signed(result, al, ah, bl, bh, 0);
+}
+
+void __mm_wide_srem(number *result, number al, number ah, number bl, number bh)
+{
+    divide_signed(result, al, ah, bl, bh, 1);
+}
