@@ -52,8 +52,11 @@ def text_of(path: str, level: str = "1", more: Sequence[str] = ()) -> str:
     return ended.stdout.decode("utf-8", "replace")
 
 
-def module_of(path: str, level: str = "1", more: Sequence[str] = ()) -> Module:
-    return read_module(text_of(path, level, more), os.path.basename(path))
+def module_of(path: str, level: str = "1", more: Sequence[str] = (), lines: bool = False) -> Module:
+    """The module of a file, with its lines and the names of its locals where these are wanted."""
+    if lines:
+        more = ["-gline-tables-only", "-fno-discard-value-names", *more]
+    return read_module(text_of(path, level, more), path)
 
 
 _LIBRARY: dict[tuple[str, ...], Module] = {}

@@ -1,31 +1,37 @@
-"""From files of C to a source."""
+"""From files of C to sources."""
 
 from __future__ import annotations
 
-from dataclasses import dataclass, field
+import os
+import re
+from dataclasses import replace
 from typing import Sequence
 
 from mm.cc.clang import library, module_of
+from mm.cc.options import Options
 from mm.cc.program import Failure, Program
-from mm.cc.source import Settings, write_source
+from mm.cc.source import write_source
 from mm.status import Status, Stop
 
 
-@dataclass
-class Options:
-    """How C is translated."""
-
-    level: str = "1"
-    flags: list[str] = field(default_factory=list)
-    settings: Settings = field(default_factory=Settings)
-    at_end: bool = True
-
-
 def source_of(paths: Sequence[str], options: Options) -> str:
-    """The source of a program in C. What is left out ends with a message."""
-    modules = [module_of(path, options.level, options.flags) for path in paths]
-    program = Program([*modules, library()], options.at_end, options.settings.heap)
+    """The source of one program in C. What is left out ends with a message."""
+    modules = [module_of(path, options.level, options.flags, options.lines) for path in paths]
+    program = Program([*modules, library()], options)
     try:
-        return write_source(program, options.settings)
+        return write_source(program, options)
     except Failure as failure:
         raise Stop(Status.REFUSED, f"mm: {failure}") from None
+
+
+def sources_of(paths: Sequence[str], options: Options) -> list[bytes]:
+    """The sources of several programs, a file each. Those with a `main` get slots and groups in their order."""
+    if len(paths) == 1:
+        return [source_of(paths, options).encode("latin-1", "replace")]
+    made, slot = [], options.slot
+    for path in paths:
+        prefix = re.sub(r"\W", "_", os.path.splitext(os.path.basename(path))[0])
+        source = source_of([path], replace(options, slot=slot, prefix=prefix))
+        slot += "\n.thread " in source
+        made.append(source.encode("latin-1", "replace"))
+    return made

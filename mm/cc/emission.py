@@ -31,11 +31,13 @@ class Line:
 class TextBlock:
     """A block of text: a label and lines."""
 
-    __slots__ = ("label", "lines")
+    __slots__ = ("label", "lines", "notes")
 
     def __init__(self, label: str) -> None:
         self.label = label
         self.lines: list[Line] = []
+        # What is said of the function, for the debugger.
+        self.notes: list[str] = []
 
 
 class Frame:
@@ -84,7 +86,18 @@ class Emission:
             for op in block.body:
                 self.origin = op.line
                 self.operation(op)
+        self.blocks[0].notes = self.notes()
         return self.blocks
+
+    def notes(self) -> list[str]:
+        """Where the way back, the caller's frame and the named objects stand in the frame, from the stack pointer on."""
+        frame = self.frame
+        link = str(frame.saved[LINK]) if LINK in frame.saved else "-"
+        old = f"at {frame.old}" if frame.aligned else f"by {frame.size}"
+        found = [f"frame back {link} caller {old}"]
+        for made in self.code.objects:
+            found.append(f"local {made.name} {made.size} at {made.at + made.place} log {made.log}")
+        return found
 
     # Lines
 

@@ -551,6 +551,9 @@ class InstructionReader(Reader):
         found: set[str] = set()
         while True:
             token = self.token
+            if token[:1] == "!":
+                self.at += 2
+                continue
             if not token[:1].isalpha() or INT.fullmatch(token) or token in BASIC:
                 return frozenset(found), None
             found.add(self.next())
@@ -660,8 +663,6 @@ class ModuleReader:
         reader = InstructionReader(line)
         reader.next()
         said, _ = reader.words_of_result()
-        while reader.token in ("",):
-            break
         result = reader.type()
         name = bare(reader.next())
         reader.want("(")

@@ -11,7 +11,9 @@ from mm.cc.control import Translator
 from mm.cc.data import Constants, Place, Words
 from mm.cc.emission import Line, TextBlock, emit
 from mm.cc.ir import ArrayType, BlockAddress, Expression, Function, Global, GlobalObject, IntType, Layouts, Module, Value
+from mm.cc.lines import Lines
 from mm.cc.lowering import Names
+from mm.cc.options import Options
 from mm.cc.pointers import Known
 from mm.cc.untranslated import Untranslated
 
@@ -68,6 +70,7 @@ class ModuleNames(Names):
         self.program, self.module = program, module
         self.layouts = module.layouts()
         self.constants = Constants(self.layouts, self.resolve)
+        self.lines = Lines(module)
 
     def fresh(self) -> str:
         return self.program.fresh()
@@ -101,8 +104,9 @@ class ModuleNames(Names):
 class Program:
     """A program that is put together from what `main` uses."""
 
-    def __init__(self, modules: list[Module], at_end: bool = True, heap: int = 16) -> None:
-        self.modules, self.at_end, self.heap = modules, at_end, heap
+    def __init__(self, modules: list[Module], options: Options) -> None:
+        self.modules, self.at_end, self.heap = modules, options.at_end, options.heap
+        self.prefix = options.prefix + "_" if options.prefix else ""
         self.names = {id(module): ModuleNames(self, module) for module in modules}
         self.public: dict[str, Module] = {}
         self.taken: set[str] = set()
@@ -149,7 +153,7 @@ class Program:
 
     def mangled(self, name: str) -> str:
         """A name that the assembler takes, which nothing else has."""
-        plain = re.sub(r"\W", "_", name)
+        plain = self.prefix + re.sub(r"\W", "_", name)
         if not plain or plain[0].isdigit() or RESERVED.fullmatch(plain):
             plain = "c_" + plain
         found, number = plain[:MOST_NAME], 1
@@ -201,7 +205,7 @@ class Program:
         found = self.segments.get((0, HEAP))
         if found is None:
             made = GlobalObject(HEAP, ArrayType(1 << self.heap, IntType(8)), False, None)
-            found = Segment("heap", module, made, 1 << self.heap, Known(0, self.heap), True)
+            found = Segment(self.prefix + "heap", module, made, 1 << self.heap, Known(0, self.heap), True)
             self.segments[0, HEAP] = found
         return found
 
@@ -250,7 +254,17 @@ class Program:
             if (name, block_name) in module.addressed:
                 self.blocks[id(module), name, block_name] = label
                 addressed.append(label)
-        self.texts.append(emit(code, self.fresh, addressed))
+        lines = names.lines
+        for block in code.blocks:
+            for op in block.body:
+                op.line = lines.of(op.line)
+        blocks = emit(code, self.fresh, addressed)
+        begins = lines.of_function(function.debug)
+        if begins:
+            blocks[0].notes.insert(0, f"function {begins}")
+        else:
+            blocks[0].notes.clear()
+        self.texts.append(blocks)
 
     # Data
 

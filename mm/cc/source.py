@@ -2,31 +2,20 @@
 
 from __future__ import annotations
 
-from dataclasses import dataclass
-from typing import Optional
-
 from mm.cc.emission import TextBlock
+from mm.cc.options import Options
 from mm.cc.program import MAINS, Failure, Program, Segment
 
 STACK_ROOM = 64
-
-
-@dataclass
-class Settings:
-    """What a program's thread is like."""
-
-    slot: int = 0
-    group: int = 0
-    handler: str = "none"
-    stack: int = 16
-    heap: int = 16
+# What begins a comment that `mm` reads again.
+MARK = ";@"
 
 
 class SourceWriter:
     """Writes a source."""
 
-    def __init__(self, program: Program, settings: Settings) -> None:
-        self.program, self.settings = program, settings
+    def __init__(self, program: Program, options: Options) -> None:
+        self.program, self.options = program, options
         self.pool: dict[str, str] = {}
         self.late: list[tuple[str, str, int]] = []
         self.lines: list[str] = []
@@ -45,18 +34,18 @@ class SourceWriter:
             body += self.text(text)
         first = self.start(label)
         pool = [f"{name}: .ptr {target}" for target, name in self.pool.items()]
-        words = sum(1 for line in first + body if not line.endswith(":")) + len(pool) + 1
+        words = sum(1 for line in first + body if not line.endswith(":") and MARK not in line) + len(pool) + 1
         log = max(3, (8 * words - 1).bit_length())
         if log > 20:
             raise Failure("the program", f"{words} words of code, more than a segment can have,")
-        settings = self.settings
-        lines = [f".segment text {log}", *first, *body, *pool]
+        options, prefix = self.options, self.program.prefix
+        lines = [f".segment {prefix}text {log}", *first, *body, *pool]
         for part in data:
             lines += part
         lines += [
-            f".segment stack {settings.stack}",
-            f".thread {settings.slot} {settings.group} {settings.handler} xu start",
-            f".reg 15 ptr rw stack+{(1 << settings.stack) - STACK_ROOM}",
+            f".segment {prefix}stack {options.stack}",
+            f".thread {options.slot} {options.slot} none xu start",
+            f".reg 15 ptr rw {prefix}stack+{(1 << options.stack) - STACK_ROOM}",
         ]
         return "\n".join(lines) + "\n"
 
@@ -77,11 +66,16 @@ class SourceWriter:
 
     def text(self, blocks: list[TextBlock]) -> list[str]:
         lines = []
+        origin = None
         for block in blocks:
             lines.append(f"{block.label}:")
+            lines += [f"  {MARK} {note}" for note in block.notes]
             for line in block.lines:
                 if line.target is not None and line.target[0] == "@":
                     line.target = self.pooled(self.global_target(line.target[1:]))
+                if line.origin is not None and line.origin != origin:
+                    origin = line.origin
+                    lines.append(f"  {MARK} line {origin}")
                 lines.append(str(line))
         return lines
 
@@ -99,6 +93,9 @@ class SourceWriter:
         words = segment.words
         assert words is not None
         lines = [f".segment {segment.name} {segment.known.log}"]
+        if not segment.made.internal or not segment.made.name.startswith("."):
+            name = segment.made.name.rpartition(".")[2] if "." in segment.made.name else segment.made.name
+            lines.append(f"  {MARK} global {name} {segment.size} at {segment.known.place}")
         zeros = 0
         data = words.data
         for at in range(0, len(data), 8):
@@ -122,5 +119,5 @@ class SourceWriter:
         return lines
 
 
-def write_source(program: Program, settings: Optional[Settings] = None) -> str:
-    return SourceWriter(program, settings or Settings()).write()
+def write_source(program: Program, options: Options) -> str:
+    return SourceWriter(program, options).write()
