@@ -224,7 +224,8 @@ class Workshop:
                     )
                 ],
             )
-        return self.link([self.unit(name, data) for name, data in zip(names, datas)])
+        named = [name + ".asm" if name.endswith(C_SUFFIX) else name for name in names]
+        return self.link([self.unit(name, data) for name, data in zip(named, datas)])
 
     def _translated(self, names: Sequence[str], datas: list[bytes]) -> list[bytes]:
         """The files, those of C as sources: each is a program of its own, in the next slot if it has a `main`."""
