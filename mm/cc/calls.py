@@ -228,7 +228,7 @@ class Calls(Arithmetic):
             value = arguments[0]
             self.emit("trap", number=value.number if isinstance(value, Number) else 0)
             return
-        elif op in ("rreg", "wreg", "resume", "evt"):
+        elif op in ("rreg", "wreg", "resume"):
             register = self.handler_operation(op, arguments, word)
             if register < 0:
                 return
@@ -246,10 +246,8 @@ class Calls(Arithmetic):
             return self.op("rreg", word(0), number=numbers[1])
         if op == "wreg":
             self.emit("wreg", None, word(0), word(2), number=numbers[1])
-        elif op == "resume":
-            self.emit("resume", None, word(0), extra=("retry", "skip", "kill")[numbers[1]])
         else:
-            self.emit("evt", None, word(0))
+            self.emit("resume", None, word(0), extra=("retry", "skip", "kill")[numbers[1]])
         return -1
 
     # LLVM's functions

@@ -296,18 +296,6 @@ class Emission:
         assert op.a is not None
         self.put("resume", f"r{self.get(op.a, SCRATCH)}", op.extra)
 
-    def _evt(self, op: Op) -> None:
-        """An event comes in four registers, and goes to four words."""
-        assert op.a is not None
-        place = self.get(op.a, SECOND)
-        if place != SECOND:
-            self.reg("mov", SECOND, place)
-        saved = self.frame
-        del saved
-        self.put("evt", "r0")
-        for number in range(4):
-            self.store(SECOND, number, 8 * number)
-
     # Branches
 
     def _br(self, op: Op) -> None:

@@ -18,9 +18,13 @@ from mm.cc.pointers import Known
 from mm.cc.untranslated import Untranslated
 
 MOST_NAME = 31
+# What the header mm.h makes of the names of doors, and of words that several programs share.
+DOOR, SHARED, EMPTY = "mm_door_", "mm_shared_", "mm_empty_"
 HEAP = "__mm_heap"
 MOST_LOG = 20
 RESERVED = re.compile(r"r\d+|L\d+|P_.*|none|int|ptr|start|stack|text|heap")
+# A door's segment: where it is entered, and its length.
+DOOR_ENTRY, DOOR_LOG = 16, 9
 MAINS = ("main", "__main_argc_argv", "__main_void", "__original_main")
 # Functions that are written in the machine's own operations.
 ASSEMBLER = {
@@ -31,6 +35,9 @@ ASSEMBLER = {
                 "ld r10, r0, 24, any, keep", "ld r11, r0, 32, any, keep", "ld r14, r0, 40, any, keep",
                 "ld r15, r0, 48, any, keep", "mov r0, r1", "bnz r0, 2", "ldi r0, 1", "jmp r14"],
 }
+# An event of a slot that this one handles goes to four words.
+ASSEMBLER["__mm_event"] = ["mov r12, r0", "evt r0", *[f"st r12, r{number}, {8 * number}, any, keep" for number in range(4)],
+                           "jmp r14"]
 ASSEMBLER["_setjmp"] = ASSEMBLER["setjmp"]
 ASSEMBLER["_longjmp"] = ASSEMBLER["longjmp"]
 
@@ -80,6 +87,8 @@ class ModuleNames(Names):
 
     def is_function(self, name: str) -> bool:
         module = self.program.home(self.module, name)
+        if module is None and name.startswith(DOOR):
+            return False
         if module is not None:
             return name in module.functions
         return name in ASSEMBLER or name in self.module.functions
@@ -118,6 +127,8 @@ class Program:
         self.pool: dict[str, str] = {}
         self.counter = 0
         self.undefined: list[str] = []
+        # Doors and shared words of other programs, by their names here.
+        self.foreign: set[str] = set()
         for module in modules:
             self._publish(module)
 
@@ -186,6 +197,8 @@ class Program:
 
     def want_global(self, module: Module, name: str) -> Segment:
         home = self.home(module, name)
+        if home is None and name.startswith((DOOR, SHARED, EMPTY)):
+            return self._foreign(module, name)
         if name == HEAP:
             return self._heap(module)
         if home is None or name not in home.globals:
@@ -198,6 +211,19 @@ class Program:
         found = self.segments.get(key)
         if found is None:
             found = self.segments[key] = self._segment(home, name)
+        return found
+
+    def _foreign(self, module: Module, name: str) -> Segment:
+        """What another program defines: a door, or words that it shares."""
+        found = self.segments.get((0, name))
+        if found is None:
+            self.foreign.add(public_name(name))
+            if name.startswith(DOOR):
+                made = GlobalObject(name, IntType(64), True, None)
+                found = Segment(public_name(name), module, made, 0, Known(DOOR_ENTRY, DOOR_LOG), False)
+            else:
+                found = self._segment(module, name)
+            self.segments[0, name] = found
         return found
 
     def _heap(self, module: Module) -> Segment:
@@ -220,8 +246,11 @@ class Program:
         if log > MOST_LOG:
             raise Failure(f"{module.name}: {name}", f"an object of {size} bytes, more than a segment can have,")
         place = place_in(size, align, log, self.at_end)
-        segment = Segment(self.mangled(name), module, made, size, Known(place, log), not made.constant)
-        return segment
+        if name.startswith((SHARED, EMPTY)):
+            own = public_name(name)
+        else:
+            own = self.mangled(name)
+        return Segment(own, module, made, size, Known(place, log), not made.constant)
 
     # Code
 
@@ -271,6 +300,8 @@ class Program:
     def _data(self, segment: Segment) -> None:
         names = self.names[id(segment.module)]
         words = segment.words = Words(bytearray(1 << segment.known.log))
+        if segment.name in self.foreign:
+            return
         value = segment.made.value
         if value is None:
             return
@@ -302,6 +333,13 @@ class Program:
         if 0 <= at < 1 << found.known.log:
             return f"{permission} {found.name}+{at}", None
         return f"{permission} {found.name}+{found.known.place}", place.by
+
+
+def public_name(name: str) -> str:
+    """The segment of a door, or of words that are shared: other programs know it by this name."""
+    if name.startswith(DOOR):
+        return "door_" + name[len(DOOR):]
+    return name[len(SHARED if name.startswith(SHARED) else EMPTY):]
 
 
 def _split(line: str) -> tuple[str, str]:

@@ -5,3 +5,4 @@
 #include "print.c"
 #include "allocate.c"
 #include "general.c"
+#include "domain.c"
