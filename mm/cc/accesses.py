@@ -213,7 +213,7 @@ class Accesses(Lowering):
                 raise Untranslated("a vector of bits in memory")
             return [(size * at, type_.element) for at in range(type_.count)]
         if isinstance(type_, IntType) and 64 < type_.bits <= 128:
-            return [(0, IntType(64)), (WORD, IntType(64))]
+            return [(0, IntType(64)), (WORD, IntType(type_.bits - 64))]
         raise Untranslated(self.left_out(type_))
 
     @staticmethod

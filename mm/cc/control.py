@@ -241,7 +241,7 @@ class Translator(Vectors):
         operand = made.operands[0]
         if isinstance(made.type, PointerType) and isinstance(operand.type, PointerType):
             self.pointers[made.name] = self.pointer(operand)
-        elif isinstance(made.type, IntType) and isinstance(operand.type, IntType):
+        elif is_plain(made.type) and is_plain(operand.type):
             self.define(made.name, made.type, self.number(operand, RAW))
         elif has_floats(made.type) or has_floats(operand.type):
             raise Untranslated("floating point")
@@ -266,7 +266,7 @@ class Translator(Vectors):
         if isinstance(value, Parts):
             return list(value.parts)
         if isinstance(value, Number):
-            return [Number(IntType(64), value.number), Number(IntType(64), value.number >> 64)]
+            return [Number(IntType(64), value.number), Number(IntType(bits_of(value.type) - 64), value.number >> 64)]
         kinds = [part for _, part in self.parts(value.type)]
         if isinstance(value, Text):
             return [Number(kind, byte) for kind, byte in zip(kinds, value.data)]

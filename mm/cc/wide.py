@@ -26,70 +26,95 @@ Pair = tuple[int, int]
 
 
 def is_wide(type_: Type) -> bool:
-    return isinstance(type_, IntType) and type_.bits == 128
+    return isinstance(type_, IntType) and 64 < type_.bits <= 128
 
 
 class Wide(Calls):
-    """Integers of 128 bits."""
+    """Integers of 65 to 128 bits, as two words. Bits above their width may be anything, as in narrow ones."""
 
-    def pair(self, value: Value) -> Pair:
+    def pair(self, value: Value, form: str = RAW) -> Pair:
         """The lower and the upper word of a value."""
         low, high = self.group(value)
-        return self.number(low), self.number(high)
+        return self.number(low), self.number(high, form)
 
-    def give_pair(self, name: Optional[str], low: int, high: int) -> None:
+    def give_pair(self, name: Optional[str], type_: Type, low: int, high: int) -> None:
         if name is None:
             return
+        upper = IntType(bits_of(type_) - 64)
         self.define(f"{name}?0", WORD_TYPE, low)
-        self.define(f"{name}?1", WORD_TYPE, high)
-        self.groups[name] = [Local(WORD_TYPE, f"{name}?0"), Local(WORD_TYPE, f"{name}?1")]
+        self.define(f"{name}?1", upper, high)
+        self.groups[name] = [Local(WORD_TYPE, f"{name}?0"), Local(upper, f"{name}?1")]
 
     def wide_binary(self, made: Instruction) -> None:
         op = made.op
-        (a, b), (c, d) = self.pair(made.operands[0]), self.pair(made.operands[1])
+        form = SIGNED if op in ("ashr", "sdiv", "srem") else ZEROED if op in ("lshr", "udiv", "urem") else RAW
+        (a, b), (c, d) = self.pair(made.operands[0], form), self.pair(made.operands[1], form)
         if op == "add":
             low = self.op("add", a, c)
             carry = self.op("ltu", low, a)
-            self.give_pair(made.name, low, self.op("add", self.op("add", b, d), carry))
+            self.give_pair(made.name, made.type, low, self.op("add", self.op("add", b, d), carry))
         elif op == "sub":
             high = self.op("sub", self.op("sub", b, d), self.op("ltu", a, c))
-            self.give_pair(made.name, self.op("sub", a, c), high)
+            self.give_pair(made.name, made.type, self.op("sub", a, c), high)
         elif op in ("and", "or", "xor"):
-            self.give_pair(made.name, self.op(op, a, c), self.op(op, b, d))
+            self.give_pair(made.name, made.type, self.op(op, a, c), self.op(op, b, d))
         elif op == "mul":
             high = self.runtime("__mm_product_high", [a, c], True)
             cross = self.op("add", self.op("mul", a, d), self.op("mul", b, c))
-            self.give_pair(made.name, self.op("mul", a, c), self.op("add", high, cross))
+            self.give_pair(made.name, made.type, self.op("mul", a, c), self.op("add", high, cross))
         elif op in ("shl", "lshr", "ashr"):
             self.wide_shift(made, a, b, c)
         else:
             self.through_memory(made, [a, b, c, d])
 
     def wide_shift(self, made: Instruction, low: int, high: int, by: int) -> None:
+        amount = made.operands[1]
+        if isinstance(amount, Number) and 0 < amount.number < 128 and amount.number != 64:
+            self.give_pair(made.name, made.type, *self.shifted(made.op, low, high, amount.number))
+            return
         names = {"shl": ("__mm_left_low", "__mm_left_high"), "lshr": ("__mm_right_low", "__mm_right_high"),
                  "ashr": ("__mm_signed_right_low", "__mm_signed_right_high")}[made.op]
         halves = [self.runtime(name, [low, high, by], True) for name in names]
-        self.give_pair(made.name, *halves)
+        self.give_pair(made.name, made.type, *halves)
+
+    def shifted(self, op: str, low: int, high: int, by: int) -> Pair:
+        """A shift by a constant that is no multiple of a word."""
+        inside, rest = self.constant(by & 63), self.constant(64 - (by & 63))
+        if op == "shl":
+            if by > 64:
+                return self.constant(0), self.op("shl", low, inside)
+            return self.op("shl", low, inside), self.op("or", self.op("shl", high, inside), self.op("shr", low, rest))
+        right = "sar" if op == "ashr" else "shr"
+        if by > 64:
+            above = self.op("sar", high, self.constant(63)) if op == "ashr" else self.constant(0)
+            return self.op(right, high, inside), above
+        return self.op("or", self.op("shr", low, inside), self.op("shl", high, rest)), self.op(right, high, inside)
 
     def through_memory(self, made: Instruction, words: list[int]) -> None:
         """A division, whose result the library leaves in an object."""
         result = self.local_object("result", 16, 8)
         self.runtime("__mm_wide_" + made.op, [self.whole(result), *words])
-        self.give_pair(made.name, self.load_word(result), self.load_word(self.further(result, 8)))
+        self.give_pair(made.name, made.type, self.load_word(result), self.load_word(self.further(result, 8)))
 
     def wide_width(self, made: Instruction) -> None:
         operand = made.operands[0]
-        if made.op == "trunc":
-            self.define(made.name, made.type, self.pair(operand)[0])
+        form = {"zext": ZEROED, "sext": SIGNED}.get(made.op, RAW)
+        if is_wide(operand.type):
+            low, high = self.pair(operand, form)
+            if is_wide(made.type):
+                self.give_pair(made.name, made.type, low, high)
+            else:
+                self.define(made.name, made.type, low)
         elif made.op == "zext":
-            self.give_pair(made.name, self.number(operand, ZEROED), self.constant(0))
+            self.give_pair(made.name, made.type, self.number(operand, ZEROED), self.constant(0))
         else:
             low = self.number(operand, SIGNED)
-            self.give_pair(made.name, low, self.op("sar", low, self.constant(63)))
+            self.give_pair(made.name, made.type, low, self.op("sar", low, self.constant(63)))
 
     def wide_condition(self, made: Instruction) -> tuple[int, bool]:
-        (a, b), (c, d) = self.pair(made.operands[0]), self.pair(made.operands[1])
         condition = made.condition
+        form = SIGNED if condition[0] == "s" else ZEROED
+        (a, b), (c, d) = self.pair(made.operands[0], form), self.pair(made.operands[1], form)
         if condition in ("eq", "ne"):
             change = self.op("or", self.op("xor", a, c), self.op("xor", b, d))
             return self.op("eq", change, self.constant(0)), condition == "ne"
