@@ -1,4 +1,5 @@
-/* Another client, who tries to look into drawers that are not his: with the bits of his key, which are no key any more. */
+/* Another client, who tries to look into drawers that are not his: with the bits of his key, which are no key any
+   more. */
 #include "say.h"
 #include "store.h"
 

@@ -1,4 +1,5 @@
-/* A small interpreter: expressions are compiled for a stack machine, whose operations are reached by pointers to functions. */
+/* A small interpreter: expressions are compiled for a stack machine, whose operations are reached by pointers to
+   functions. */
 #include "say.h"
 #include <ctype.h>
 #include <stdlib.h>

@@ -5,8 +5,8 @@
 #define MOST 250
 
 static const char text[] =
-    "a pointer has a permission, a segment and an address; a pointer that leaves its segment is no pointer, and a pointer "
-    "that has no permission to load is a pointer that cannot load.";
+    "a pointer has a permission, a segment and an address; a pointer that leaves its segment is no pointer, and a "
+    "pointer that has no permission to load is a pointer that cannot load.";
 static unsigned char packed[512], unpacked[sizeof text];
 
 static int pack(const unsigned char *from, int size, unsigned char *to)

@@ -1,4 +1,5 @@
-/* A store for several clients. A client is told apart by his key, a pointer that nothing can be done with but to compare it. */
+/* A store for several clients. A client is told apart by his key, a pointer that nothing can be done with but to
+   compare it. */
 #include "store.h"
 
 #define DRAWERS 8

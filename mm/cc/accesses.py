@@ -5,8 +5,8 @@ from __future__ import annotations
 from typing import Optional
 
 from mm.cc.code import LocalObject
-from mm.cc.forms import RAW, SIGNED, ZEROED, bits_of
-from mm.cc.ir import Instruction, IntType, Local, PointerType, StructType, Type, Undefined, Value, ArrayType, Zero, VectorType
+from mm.cc.forms import RAW, SIGNED, ZEROED
+from mm.cc.ir import ArrayType, Instruction, IntType, Local, PointerType, StructType, Type, Undefined, Value, VectorType
 from mm.cc.lowering import Lowering
 from mm.cc.pointers import Pointer
 from mm.cc.untranslated import Untranslated
@@ -15,7 +15,8 @@ WORD = 8
 
 
 class Accesses(Lowering):
-    """Memory has words alone. Narrow accesses take the word apart; where it is not known where in its word they stand, they find out."""
+    """Memory has words alone. Narrow accesses take the word apart; where it is not known where in its word they
+    stand, they find out."""
 
     # Where an access goes
 
@@ -29,7 +30,8 @@ class Accesses(Lowering):
         return None
 
     def address(self, pointer: Pointer, less: int = 0) -> tuple[int, int]:
-        """A register and a constant whose sum is `less` bytes before a pointer, inside of the segment if the access is."""
+        """A register and a constant whose sum is `less` bytes before a pointer, inside of the segment if the access
+        is."""
         constant = pointer.constant - less
         if pointer.offset is None and -(1 << 31) <= constant < 1 << 31:
             return pointer.base, constant

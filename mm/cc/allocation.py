@@ -10,8 +10,8 @@ from mm.cc.liveness import Interval, Liveness, Range
 
 
 class Allocation:
-    """Where each register of the code is: a register of the machine, or a slot of the frame; fixed values may be in neither, and are
-    made where they are used."""
+    """Where each register of the code is: a register of the machine, or a slot of the frame; fixed values may be in
+    neither, and are made where they are used."""
 
     def __init__(self, code: Code) -> None:
         self.code = code
@@ -41,7 +41,8 @@ class Allocation:
         return self.root(register) in self.slot
 
     def _give_fixed_ranges(self) -> None:
-        """A fixed value is made at the beginning of the function, so it is live from there on to where liveness finds it."""
+        """A fixed value is made at the beginning of the function, so it is live from there on to where liveness finds
+        it."""
         for register in self.code.fixed:
             interval = self.live.intervals.get(register)
             if interval is not None and interval.ranges[0][0] > 1:
@@ -51,7 +52,8 @@ class Allocation:
     # Moves
 
     def _join_moves(self) -> None:
-        """Registers that are moved into one another become one, where they are never live at one place with different values."""
+        """Registers that are moved into one another become one, where they are never live at one place with different
+        values."""
         intervals, fixed = self.live.intervals, self.code.fixed
         for _, op in sorted(self.live.moves, key=lambda item: -item[0]):
             assert op.d is not None and op.a is not None
@@ -91,7 +93,8 @@ class Allocation:
         return interval.weight / (interval.length + 2)
 
     def _allocate(self) -> None:
-        kept = [register for register in range(FIRST_KEPT, LAST_KEPT + 1) if not (self.code.dynamic and register == FRAME)]
+        last = LAST_KEPT - 1 if self.code.dynamic else LAST_KEPT
+        kept = list(range(FIRST_KEPT, last + 1))
         free = list(range(FIRST_KEPT))
         taken: dict[int, list[Range]] = {register: [] for register in [*free, *kept]}
         hints = self._hints()

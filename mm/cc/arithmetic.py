@@ -4,7 +4,7 @@ from __future__ import annotations
 
 from mm.cc.accesses import Accesses
 from mm.cc.forms import RAW, SIGNED, ZEROED, Forms, bits_of
-from mm.cc.ir import Instruction, IntType, Local, Number, PointerType, Type, Value, Zero, FloatType, VectorType
+from mm.cc.ir import FloatType, Instruction, IntType, Local, Number, PointerType, Type, Value, VectorType, Zero
 from mm.cc.pointers import Pointer
 from mm.cc.untranslated import Untranslated
 
@@ -186,7 +186,8 @@ class Arithmetic(Accesses):
             form = self.forms.carried(made.name)
             first, second = self.number(yes, form), self.number(no, form)
             register = self.chosen(condition, first, second)
-            self.define(made.name, made.type, register, ZEROED if bits_of(made.type) == 1 else form if form != RAW else "")
+            known = ZEROED if bits_of(made.type) == 1 else form if form != RAW else ""
+            self.define(made.name, made.type, register, known)
         else:
             self.select_group(made)
 

@@ -22,8 +22,8 @@ FLAGS = (
 )
 NOT_THERE = (
     "mm: C is read by Clang, and there is none.",
-    "    Install it: `apt-get install clang` (Debian, Ubuntu), `dnf install clang` (Fedora), `brew install llvm` (macOS);",
-    f"    version 14 or later. Or say where it is: `export {VARIABLE}=FILE`.",
+    "    Install it: `apt-get install clang` (Debian, Ubuntu), `dnf install clang` (Fedora), `brew install llvm`",
+    f"    (macOS); version 14 or later. Or say where it is: `export {VARIABLE}=FILE`.",
 )
 
 

@@ -5,7 +5,8 @@ from __future__ import annotations
 from dataclasses import dataclass, field
 from typing import Optional
 
-# The registers. Arguments come in the first six; those from FIRST_KEPT to LAST_KEPT are kept by a function that is called.
+# The registers. Arguments come in the first six; those from FIRST_KEPT to LAST_KEPT are kept by a function that is
+# called.
 ARGUMENTS = 6
 VARIADIC = 6
 FIRST_KEPT, LAST_KEPT = 7, 11
@@ -15,7 +16,8 @@ SCRATCH, SECOND, LINK, STACK = 12, 13, 14, 15
 
 @dataclass(frozen=True)
 class Fixed:
-    """A value that can be made anywhere: a number, the pointer of a global, of a local object, or of a place in the text."""
+    """A value that can be made anywhere: a number, the pointer of a global, of a local object, or of a place in the
+    text."""
 
     kind: str
     number: int = 0

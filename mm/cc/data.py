@@ -3,7 +3,7 @@
 from __future__ import annotations
 
 from dataclasses import dataclass, field
-from typing import Callable, Optional, Union
+from typing import Callable, Union
 
 from mm.cc.forms import bits_of
 from mm.cc.ir import (
@@ -20,7 +20,6 @@ from mm.cc.ir import (
     PointerType,
     StructType,
     Text,
-    Type,
     Undefined,
     Value,
     VectorType,

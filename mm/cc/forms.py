@@ -15,7 +15,8 @@ def bits_of(type_: Type) -> int:
 
 
 class Forms:
-    """The forms that the uses of each value want, found before code is made. What is missed is made where it is used."""
+    """The forms that the uses of each value want, found before code is made. What is missed is made where it is
+    used."""
 
     def __init__(self, function: Function, promoted: Promoted) -> None:
         self.promoted = promoted
@@ -73,7 +74,8 @@ class Forms:
         return "S"
 
     def compared(self, instruction: Instruction) -> str:
-        """The form in which a comparison takes its operands. Extended by their signs, unsigned numbers keep their order."""
+        """The form in which a comparison takes its operands. Extended by their signs, unsigned numbers keep their
+        order."""
         if instruction.condition[0] == "s":
             return SIGNED
         both = {self.natural(operand) for operand in instruction.operands}
@@ -135,7 +137,8 @@ class Forms:
                     self.want(value, taken)
 
     def taken(self, made: Instruction) -> Optional[str]:
-        """The form in which an operation takes its operands so that its result has the form that is wanted; none where any form does."""
+        """The form in which an operation takes its operands so that its result has the form that is wanted; none
+        where any form does."""
         wanted = self.wanted.get(made.name or "", set())
         if made.op in ("add", "sub", "mul", "shl"):
             if SIGNED in wanted and "nsw" in made.words:

@@ -1,4 +1,5 @@
-"""When each register of a function's code holds something that is still used: ranges of places, over blocks and loops."""
+"""When each register of a function's code holds something that is still used: ranges of places, over blocks and
+loops."""
 
 from __future__ import annotations
 
@@ -42,7 +43,8 @@ def depths(blocks: list[CodeBlock]) -> None:
 
 
 class Liveness:
-    """The intervals of a function's registers. Operation k of the whole function reads at place 2k and defines at 2k + 1."""
+    """The intervals of a function's registers. Operation k of the whole function reads at place 2k and defines at 2k
+    + 1."""
 
     def __init__(self, code: Code) -> None:
         self.code = code
@@ -57,20 +59,7 @@ class Liveness:
         """The registers that are live at the end of each block, as bits."""
         blocks = self.code.blocks
         at = {block.label: number for number, block in enumerate(blocks)}
-        used, made = [], []
-        for block in blocks:
-            uses = defines = 0
-            for op in block.body:
-                for register in op.uses():
-                    bit = 1 << register
-                    if not defines & bit:
-                        uses |= bit
-                for register in op.defines():
-                    defines |= 1 << register
-                if op.name == "entry" and op.d is not None:
-                    defines |= 1 << op.d
-            used.append(uses)
-            made.append(defines)
+        used, made = self._used_and_made()
         before = list(used)
         after = [0] * len(blocks)
         nexts = [[at[label] for label in block.next] for block in blocks]
@@ -95,6 +84,24 @@ class Liveness:
                         waiting[lead] = True
                         work.append(lead)
         return after
+
+    def _used_and_made(self) -> tuple[list[int], list[int]]:
+        """The registers that each block reads before it defines them, and those that it defines, as bits."""
+        used, made = [], []
+        for block in self.code.blocks:
+            uses = defines = 0
+            for op in block.body:
+                for register in op.uses():
+                    bit = 1 << register
+                    if not defines & bit:
+                        uses |= bit
+                for register in op.defines():
+                    defines |= 1 << register
+                if op.name == "entry" and op.d is not None:
+                    defines |= 1 << op.d
+            used.append(uses)
+            made.append(defines)
+        return used, made
 
     def _ranges(self, after: list[int]) -> None:
         """Goes through the code backwards."""

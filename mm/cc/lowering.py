@@ -4,33 +4,29 @@ from __future__ import annotations
 
 from typing import Optional
 
-from mm.cc.code import Call, Code, CodeBlock, Fixed, LocalObject, Op, log_of, place_in
+from mm.cc.code import Code, CodeBlock, Fixed, Op
 from mm.cc.forms import RAW, SIGNED, ZEROED, Forms, bits_of
 from mm.cc.ir import (
-    Block,
+    ArrayType,
     BlockAddress,
     Expression,
+    FloatNumber,
+    FloatType,
     Function,
     Global,
     Instruction,
-    IntType,
     Layouts,
     Local,
     Number,
-    Parts,
     PointerType,
     StructType,
     Type,
     Undefined,
     Value,
     VectorType,
-    VoidType,
     Zero,
-    FloatType,
-    ArrayType,
-    FloatNumber,
 )
-from mm.cc.pointers import Bases, Known, Pointer, is_twice, promotable
+from mm.cc.pointers import Bases, Known, Pointer, promotable
 from mm.cc.untranslated import Untranslated
 
 MASK = (1 << 64) - 1
@@ -42,7 +38,8 @@ def signed(number: int, bits: int) -> int:
 
 
 class Names:
-    """What the functions of a program share: labels, and what is known of each global. Names are those of the function's module."""
+    """What the functions of a program share: labels, and what is known of each global. Names are those of the
+    function's module."""
 
     def label(self, name: str) -> str:
         """The label of a function, which is then part of the program."""
@@ -68,7 +65,8 @@ class Names:
 
 
 class Lowering:
-    """Makes the code of one function: registers for its values, blocks, and the ends of blocks. Its parts are in other modules."""
+    """Makes the code of one function: registers for its values, blocks, and the ends of blocks. Its parts are in
+    other modules."""
 
     def __init__(self, function: Function, layouts: Layouts, names: Names, at_end: bool) -> None:
         self.function, self.layouts, self.names, self.at_end = function, layouts, names, at_end
@@ -153,7 +151,8 @@ class Lowering:
         if isinstance(value.type, PointerType):
             return self.whole(self.pointer(value))
         name = f"?{len(self.numbers)}"
-        made = Instruction(value.op, value.type, name, list(value.parts), source=value.source, condition=value.condition)
+        made = Instruction(value.op, value.type, name, list(value.parts), source=value.source)
+        made.condition = value.condition
         self.instruction(made)
         return self.number(Local(value.type, name), form)
 
@@ -191,7 +190,7 @@ class Lowering:
             if found is None:
                 if value.name in self.numbers:
                     return Pointer(self.numbers[value.name][RAW])
-                raise Untranslated(f"a pointer of the kind {self.made[value.name].op if value.name in self.made else '?'}")
+                raise Untranslated(f"the pointer %{value.name}")
             return found
         if isinstance(value, Global):
             return self.global_pointer(value.name)
@@ -287,8 +286,8 @@ class Lowering:
         return self.plus(self.op("add", pointer.base, pointer.offset), pointer.constant)
 
     def whole(self, pointer: Pointer) -> int:
-        """A pointer as one word: guarded while it is in its segment, else its bits as an integer, which nothing can be done with but to
-        compare it."""
+        """A pointer as one word: guarded while it is in its segment, else its bits as an integer, which nothing can
+        be done with but to compare it."""
         if pointer.at_base:
             return pointer.base
         known = self.known.get(pointer.base)
@@ -302,7 +301,8 @@ class Lowering:
         return d
 
     def pointer_of_number(self, value: Value) -> Pointer:
-        """A pointer of an integer. Where the integer was computed of one pointer of this function, it is that pointer, moved."""
+        """A pointer of an integer. Where the integer was computed of one pointer of this function, it is that
+        pointer, moved."""
         leaf = self._leaf(value)
         if leaf is not None and not (isinstance(value, Local) and self.made.get(value.name) is leaf):
             start = self.pointer(leaf.operands[0])

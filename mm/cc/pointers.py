@@ -28,7 +28,8 @@ ALONG = ("getelementptr", "bitcast", "freeze", "addrspacecast")
 
 @dataclass(frozen=True)
 class Pointer:
-    """A pointer of C: a guarded pointer, and how far from it in bytes: a register with a number, a multiple of `step`, and a constant."""
+    """A pointer of C: a guarded pointer, and how far from it in bytes: a register with a number, a multiple of
+    `step`, and a constant."""
 
     base: int
     offset: Optional[int] = None
@@ -42,7 +43,8 @@ class Pointer:
 
 @dataclass(frozen=True)
 class Known:
-    """What is known of the object at a base: where it stands in its segment, the segment's length, and its frame object if it has one."""
+    """What is known of the object at a base: where it stands in its segment, the segment's length, and its frame
+    object if it has one."""
 
     place: int
     log: int
@@ -159,7 +161,8 @@ class Bases:
 
 
 def promotable(function: Function) -> dict[str, Type]:
-    """Locals of one number or pointer whose address is not taken: they live in registers, whatever the level of optimisation."""
+    """Locals of one number or pointer whose address is not taken: they live in registers, whatever the level of
+    optimisation."""
     if any(is_twice(made) for block in function.blocks for made in block.body):
         return {}
     found: dict[str, Type] = {}

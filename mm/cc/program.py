@@ -3,18 +3,19 @@
 from __future__ import annotations
 
 import re
-from dataclasses import dataclass, field
+from dataclasses import dataclass
 from typing import Optional
 
-from mm.cc.code import Code, log_of, place_in
+from mm.cc.code import log_of, place_in
 from mm.cc.control import Translator
 from mm.cc.data import Constants, Place, Words
-from mm.cc.emission import Line, TextBlock, emit
-from mm.cc.ir import ArrayType, BlockAddress, Expression, Function, Global, GlobalObject, IntType, Layouts, Module, Value
+from mm.cc.ir import ArrayType, BlockAddress, Function, Global, GlobalObject, IntType, Module, Value
 from mm.cc.lines import Lines
 from mm.cc.lowering import Names
 from mm.cc.options import Options
 from mm.cc.pointers import Known
+from mm.cc.sequences import emit
+from mm.cc.text import Line, TextBlock
 from mm.cc.untranslated import Untranslated
 
 MOST_NAME = 31
@@ -36,8 +37,8 @@ ASSEMBLER = {
                 "ld r15, r0, 48, any, keep", "mov r0, r1", "bnz r0, 2", "ldi r0, 1", "jmp r14"],
 }
 # An event of a slot that this one handles goes to four words.
-ASSEMBLER["__mm_event"] = ["mov r12, r0", "evt r0", *[f"st r12, r{number}, {8 * number}, any, keep" for number in range(4)],
-                           "jmp r14"]
+ASSEMBLER["__mm_event"] = ["mov r12, r0", "evt r0", "st r12, r0, 0, any, keep", "st r12, r1, 8, any, keep",
+                           "st r12, r2, 16, any, keep", "st r12, r3, 24, any, keep", "jmp r14"]
 ASSEMBLER["_setjmp"] = ASSEMBLER["setjmp"]
 ASSEMBLER["_longjmp"] = ASSEMBLER["longjmp"]
 
@@ -319,7 +320,8 @@ class Program:
                 names.segment(target.name)
 
     def pointer_text(self, module: Module, place: Place) -> tuple[str, Optional[int]]:
-        """How a constant pointer is written; and where it is not in its segment, how far beside its beginning it stands."""
+        """How a constant pointer is written; and where it is not in its segment, how far beside its beginning it
+        stands."""
         names = self.names[id(module)]
         target = place.target
         if isinstance(target, BlockAddress):

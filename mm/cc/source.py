@@ -5,10 +5,10 @@ from __future__ import annotations
 from typing import Optional
 
 from mm.cc.doors import check, doors_of, stub, thread_of
-from mm.cc.emission import TextBlock
 from mm.cc.ir import Function
 from mm.cc.options import Options
 from mm.cc.program import EMPTY, MAINS, Failure, Program, Segment
+from mm.cc.text import TextBlock
 
 STACK_ROOM = 64
 # What begins a comment that `mm` reads again.

@@ -4,7 +4,7 @@ from __future__ import annotations
 
 from typing import Optional
 
-from mm.cc.calls import Calls
+from mm.cc.counting import Counting
 from mm.cc.forms import RAW, SIGNED, ZEROED, bits_of
 from mm.cc.ir import (
     FloatType,
@@ -29,7 +29,7 @@ def is_wide(type_: Type) -> bool:
     return isinstance(type_, IntType) and 64 < type_.bits <= 128
 
 
-class Wide(Calls):
+class Wide(Counting):
     """Integers of 65 to 128 bits, as two words. Bits above their width may be anything, as in narrow ones."""
 
     def pair(self, value: Value, form: str = RAW) -> Pair:

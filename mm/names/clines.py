@@ -1,4 +1,5 @@
-"""What the translator of C says of its source in comments: lines of C, objects with their C names, and frames of the stack."""
+"""What the translator of C says of its source in comments: lines of C, objects with their C names, and frames of the
+stack."""
 
 from __future__ import annotations
 

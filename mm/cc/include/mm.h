@@ -1,4 +1,5 @@
-/* The machine's own operations, domains, shared words and handlers, as C can name them. docs/C.md says how they are used. */
+/* The machine's own operations, domains, shared words and handlers, as C can name them. docs/C.md says how they are
+   used. */
 #ifndef MM_H
 #define MM_H
 
@@ -7,7 +8,8 @@
 /* Permissions. */
 enum { MM_RO = 1, MM_RW = 2, MM_XU = 3, MM_XP = 4, MM_EU = 5, MM_EP = 6, MM_KEY = 7 };
 
-/* A door: `long pay(long amount) MM_DOOR(pay);`. The program that defines the function is entered by others through it. */
+/* A door: `long pay(long amount) MM_DOOR(pay);`. The program that defines the function is entered by others through
+   it. */
 #define MM_DOOR(name) __asm__("mm_door_" #name)
 
 /* Words that several programs share, one of which defines them: `extern long box[4] MM_SHARED(box);`. */
@@ -29,7 +31,8 @@ void *mm_key(const void *pointer);
 int mm_can_read(const void *pointer, size_t n);
 int mm_can_write(const void *pointer, size_t n);
 
-/* Words by their synchronisation bits: taking waits until a word is full and leaves it empty, putting the other way round. */
+/* Words by their synchronisation bits: taking waits until a word is full and leaves it empty, putting the other way
+   round. */
 long mm_take(const void *word);
 void mm_put(void *word, long value);
 void *mm_take_pointer(const void *word);

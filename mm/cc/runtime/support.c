@@ -7,30 +7,29 @@
 typedef long __attribute__((may_alias)) word;
 typedef unsigned long number;
 
+/* Clang makes functions of its own out of the usual loops for these, which would be these again. */
+static const unsigned char ones_of_four[16] = {0, 1, 1, 2, 1, 2, 2, 3, 1, 2, 2, 3, 2, 3, 3, 4};
+
 number __mm_ones(number x, long bits)
 {
     number n = 0;
-    for (; x; x &= x - 1)
-        n++;
+    for (; x; x >>= 4)
+        n += ones_of_four[x & 15];
     return n;
 }
 
 number __mm_leading_zeros(number x, long bits)
 {
-    number n = bits;
-    for (; x; x >>= 1)
-        n--;
-    return n;
+    number n = 0;
+    for (number step = 32; step; step >>= 1)
+        if (x >> step)
+            x >>= step, n += step;
+    return bits - n - (x != 0);
 }
 
 number __mm_trailing_zeros(number x, long bits)
 {
-    number n = 0;
-    if (!x)
-        return bits;
-    for (; !(x & 1); x >>= 1)
-        n++;
-    return n;
+    return x ? __mm_ones((x & -x) - 1, 64) : bits;
 }
 
 number __mm_bytes_swapped(number x, long bits)
