@@ -6,7 +6,7 @@ start:
   br ben_main
   halt
 ben_main:
-  ;@ function examples/c/ben.c:7
+  ;@ function examples/c/ben.c:8
   ;@ frame back 56 caller at 64
   ;@ local digits.i12 20 at 96 log 5
   ;@ local digits.i 20 at 128 log 5
@@ -34,18 +34,18 @@ ben_main:
   ldi r9, 10
   ldi r11, 3
   ldi r10, -8
-  ;@ line examples/c/ben.c:9
+  ;@ line examples/c/ben.c:10
   lip r13, P_0
   ld r13, r13, 0, any, keep
   jal r14, r13
   st r15, r0, 8, any, keep
-  ;@ line examples/c/ben.c:10
+  ;@ line examples/c/ben.c:11
   lip r13, P_1
   ld r13, r13, 0, any, keep
   ld r0, r15, 8, any, keep
   ldi r1, 77
   jal r14, r13
-  ;@ line examples/c/ben.c:11
+  ;@ line examples/c/ben.c:12
   lip r13, P_2
   ld r13, r13, 0, any, keep
   ld r0, r15, 8, any, keep
@@ -121,14 +121,14 @@ L6:
   ;@ line examples/c/say.h:21
   bnz r7, L6
 L7:
-  ;@ line examples/c/ben.c:12
+  ;@ line examples/c/ben.c:13
   ld r12, r15, 8, any, keep
   st r15, r12, 72, any, keep
   st r15, r10, 0, any, keep
-  ;@ line examples/c/ben.c:13
+  ;@ line examples/c/ben.c:14
   br L9
 L8:
-  ;@ line examples/c/ben.c:17
+  ;@ line examples/c/ben.c:18
   ldi r0, 0
   ld r7, r15, 16, any, keep
   ld r8, r15, 24, any, keep
@@ -146,7 +146,7 @@ L9:
   ldi r0, 32
   lip r14, 2
   br ben_fputc
-  ;@ line examples/c/ben.c:15
+  ;@ line examples/c/ben.c:16
   ld r0, r15, 72, any, keep
   ld r13, r15, 0, any, keep
   add r0, r0, r13
@@ -222,7 +222,7 @@ L14:
   ;@ line examples/c/say.h:21
   bnz r7, L14
 L15:
-  ;@ line examples/c/ben.c:13
+  ;@ line examples/c/ben.c:14
   ld r12, r15, 0, any, keep
   addi r1, r12, 8
   ld r12, r15, 0, any, keep

@@ -6,32 +6,32 @@ start:
   br main
   halt
 main:
-  ;@ function examples/c/calculator.c:111
+  ;@ function examples/c/calculator.c:112
   ;@ frame back 0 caller by 8
   leai r15, r15, -8
   st r15, r14, 0, any, keep
-  ;@ line examples/c/calculator.c:113
+  ;@ line examples/c/calculator.c:114
   lip r0, P_0
   ld r0, r0, 0, any, keep
   lip r14, 2
   br line
-  ;@ line examples/c/calculator.c:114
+  ;@ line examples/c/calculator.c:115
   lip r0, P_1
   ld r0, r0, 0, any, keep
   lip r14, 2
   br line
-  ;@ line examples/c/calculator.c:115
+  ;@ line examples/c/calculator.c:116
   lip r0, P_2
   ld r0, r0, 0, any, keep
   lip r14, 2
   br line
-  ;@ line examples/c/calculator.c:116
+  ;@ line examples/c/calculator.c:117
   ldi r0, 0
   ld r14, r15, 0, any, keep
   leai r15, r15, 8
   jmp r14
 line:
-  ;@ function examples/c/calculator.c:95
+  ;@ function examples/c/calculator.c:96
   ;@ frame back 64 caller at 72
   ;@ local digits.i 20 at 96 log 5
   ldi r13, 31
@@ -63,9 +63,9 @@ line:
   ld r7, r7, 0, any, keep
   lip r10, P_7
   ld r10, r10, 0, any, keep
-  ;@ line examples/c/calculator.c:97
-  st r4, r3, 0, any, keep
   ;@ line examples/c/calculator.c:98
+  st r4, r3, 0, any, keep
+  ;@ line examples/c/calculator.c:99
   ld r0, r9, -4, any, keep
   shl r0, r0, r8
   shr r1, r0, r8
@@ -73,7 +73,7 @@ line:
   shl r0, r12, r8
   or r0, r1, r0
   st r9, r0, -4, any, keep
-  ;@ line examples/c/calculator.c:99
+  ;@ line examples/c/calculator.c:100
   ldi r13, 7
   and r0, r3, r13
   ldi r12, 0
@@ -88,7 +88,7 @@ line:
   ldi r13, 56
   sar r12, r0, r13
   st r15, r12, 16, any, keep
-  ;@ line examples/c/calculator.c:100
+  ;@ line examples/c/calculator.c:101
   ldi r13, 3
   add r2, r3, r13
   isptr r0, r3
@@ -101,14 +101,14 @@ line:
   lea r2, r3, r13
 L18:
   st r4, r2, 0, any, keep
-  ;@ line examples/c/calculator.c:101
+  ;@ line examples/c/calculator.c:102
   lip r14, 2
   br sum
-  ;@ line examples/c/calculator.c:102
+  ;@ line examples/c/calculator.c:103
   ld r12, r15, 16, any, keep
   addi r12, r12, -97
   st r15, r12, 8, any, keep
-  ;@ line examples/c/calculator.c:21
+  ;@ line examples/c/calculator.c:22
   ld r0, r9, -4, any, keep
   sar r3, r0, r8
   addi r4, r3, 1
@@ -163,7 +163,7 @@ L18:
   st r0, r13, 0, any, keep
   ldi r9, 0
 L3:
-  ;@ line examples/c/calculator.c:76
+  ;@ line examples/c/calculator.c:77
   lea r0, r11, r9
   ld r0, r0, 0, any, keep
   shl r0, r0, r8
@@ -180,7 +180,7 @@ L3:
   bnz r0, L9
   br L7
 L4:
-  ;@ line examples/c/calculator.c:78
+  ;@ line examples/c/calculator.c:79
   addi r0, r9, 8
   lea r0, r11, r0
   ld r4, r0, 0, any, keep
@@ -197,10 +197,10 @@ L4:
   shl r0, r3, r13
   lea r0, r10, r0
   st r0, r4, 0, any, keep
-  ;@ line examples/c/calculator.c:79
+  ;@ line examples/c/calculator.c:80
   br L8
 L5:
-  ;@ line examples/c/calculator.c:81
+  ;@ line examples/c/calculator.c:82
   addi r0, r9, 8
   lea r0, r11, r0
   ld r0, r0, 0, any, keep
@@ -223,10 +223,10 @@ L5:
   shl r0, r3, r13
   lea r0, r10, r0
   st r0, r4, 0, any, keep
-  ;@ line examples/c/calculator.c:82
+  ;@ line examples/c/calculator.c:83
   br L8
 L6:
-  ;@ line examples/c/calculator.c:84
+  ;@ line examples/c/calculator.c:85
   ld r0, r7, -4, any, keep
   sar r0, r0, r8
   addi r2, r0, -1
@@ -249,10 +249,10 @@ L6:
   ld r12, r12, 0, any, keep
   lea r0, r12, r0
   st r0, r1, 0, any, keep
-  ;@ line examples/c/calculator.c:85
+  ;@ line examples/c/calculator.c:86
   br L8
 L7:
-  ;@ line examples/c/calculator.c:89
+  ;@ line examples/c/calculator.c:90
   ld r0, r7, -4, any, keep
   sar r4, r0, r8
   addi r5, r4, -1
@@ -262,7 +262,7 @@ L7:
   shl r0, r5, r8
   or r0, r1, r0
   st r7, r0, -4, any, keep
-  ;@ line examples/c/calculator.c:90
+  ;@ line examples/c/calculator.c:91
   addi r0, r2, -3
   ldi r13, 0
   ldhi r13, 4294967295
@@ -295,10 +295,10 @@ L7:
   st r0, r1, 0, any, keep
 L8:
   addi r9, r9, 16
-  ;@ line examples/c/calculator.c:75
+  ;@ line examples/c/calculator.c:76
   br L3
 L9:
-  ;@ line examples/c/calculator.c:105
+  ;@ line examples/c/calculator.c:106
   ld r0, r15, 16, any, keep
   lip r14, 2
   br putchar
@@ -312,7 +312,7 @@ L9:
   ldi r2, 1
   lip r14, 2
   br fwrite
-  ;@ line examples/c/calculator.c:107
+  ;@ line examples/c/calculator.c:108
   ld r12, r15, 8, any, keep
   ldi r13, 3
   shl r0, r12, r13
@@ -396,11 +396,11 @@ L14:
   ;@ line examples/c/say.h:21
   bnz r7, L14
 L15:
-  ;@ line examples/c/calculator.c:108
+  ;@ line examples/c/calculator.c:109
   ldi r0, 10
   lip r14, 2
   br putchar
-  ;@ line examples/c/calculator.c:109
+  ;@ line examples/c/calculator.c:110
   ld r7, r15, 24, any, keep
   ld r8, r15, 32, any, keep
   ld r9, r15, 40, any, keep
@@ -454,7 +454,7 @@ putchar:
   and r0, r0, r13
   jmp r14
 sum:
-  ;@ function examples/c/calculator.c:56
+  ;@ function examples/c/calculator.c:57
   ;@ frame back 48 caller by 56
   leai r15, r15, -56
   st r15, r7, 8, any, keep
@@ -468,11 +468,11 @@ sum:
   ldi r10, 0
   ldi r9, 56
   ldi r11, 32
-  ;@ line examples/c/calculator.c:48
+  ;@ line examples/c/calculator.c:49
   lip r14, 2
   br factor
 L27:
-  ;@ line examples/c/calculator.c:26
+  ;@ line examples/c/calculator.c:27
   ld r5, r8, 0, any, keep
   ldi r13, 7
   and r0, r5, r13
@@ -491,7 +491,7 @@ L27:
 L44:
   mov r4, r10
 L28:
-  ;@ line examples/c/calculator.c:27
+  ;@ line examples/c/calculator.c:28
   addi r3, r4, 1
   add r2, r5, r3
   isptr r0, r5
@@ -504,7 +504,7 @@ L28:
   lea r2, r5, r3
 L56:
   st r8, r2, 0, any, keep
-  ;@ line examples/c/calculator.c:26
+  ;@ line examples/c/calculator.c:27
   addi r0, r4, 1
   lea r1, r5, r0
   ldi r13, 7
@@ -525,7 +525,7 @@ L46:
   addi r4, r4, 1
   br L28
 L29:
-  ;@ line examples/c/calculator.c:49
+  ;@ line examples/c/calculator.c:50
   ldi r13, 42
   eq r0, r1, r13
   bnz r0, L31
@@ -545,7 +545,7 @@ L30:
   eq r0, r0, r13
   bz r0, L32
 L31:
-  ;@ line examples/c/calculator.c:50
+  ;@ line examples/c/calculator.c:51
   ld r3, r8, 0, any, keep
   ldi r13, 1
   add r2, r3, r13
@@ -575,10 +575,10 @@ L57:
   bnz r0, L58
   ldi r7, 6
 L58:
-  ;@ line examples/c/calculator.c:51
+  ;@ line examples/c/calculator.c:52
   lip r14, 2
   br factor
-  ;@ line examples/c/calculator.c:21
+  ;@ line examples/c/calculator.c:22
   lip r12, P_4
   ld r12, r12, 0, any, keep
   ld r0, r12, -4, any, keep
@@ -616,10 +616,10 @@ L58:
   ld r12, r12, 0, any, keep
   lea r0, r12, r0
   st r0, r10, 0, any, keep
-  ;@ line examples/c/calculator.c:49
+  ;@ line examples/c/calculator.c:50
   br L27
 L32:
-  ;@ line examples/c/calculator.c:26
+  ;@ line examples/c/calculator.c:27
   ld r5, r8, 0, any, keep
   ldi r13, 7
   and r0, r5, r13
@@ -638,7 +638,7 @@ L32:
 L48:
   mov r4, r10
 L33:
-  ;@ line examples/c/calculator.c:27
+  ;@ line examples/c/calculator.c:28
   addi r3, r4, 1
   add r2, r5, r3
   isptr r0, r5
@@ -651,7 +651,7 @@ L33:
   lea r2, r5, r3
 L59:
   st r8, r2, 0, any, keep
-  ;@ line examples/c/calculator.c:26
+  ;@ line examples/c/calculator.c:27
   addi r0, r4, 1
   lea r1, r5, r0
   ldi r13, 7
@@ -672,7 +672,7 @@ L50:
   addi r4, r4, 1
   br L33
 L34:
-  ;@ line examples/c/calculator.c:59
+  ;@ line examples/c/calculator.c:60
   ldi r13, 43
   eq r0, r1, r13
   bnz r0, L36
@@ -692,7 +692,7 @@ L35:
   eq r0, r0, r13
   bz r0, L43
 L36:
-  ;@ line examples/c/calculator.c:60
+  ;@ line examples/c/calculator.c:61
   ld r3, r8, 0, any, keep
   ldi r13, 1
   add r2, r3, r13
@@ -717,11 +717,11 @@ L60:
   ldi r13, 255
   and r12, r0, r13
   st r15, r12, 0, any, keep
-  ;@ line examples/c/calculator.c:48
+  ;@ line examples/c/calculator.c:49
   lip r14, 2
   br factor
 L37:
-  ;@ line examples/c/calculator.c:26
+  ;@ line examples/c/calculator.c:27
   ld r5, r8, 0, any, keep
   ldi r13, 7
   and r0, r5, r13
@@ -740,7 +740,7 @@ L37:
 L52:
   mov r4, r10
 L38:
-  ;@ line examples/c/calculator.c:27
+  ;@ line examples/c/calculator.c:28
   addi r3, r4, 1
   add r2, r5, r3
   isptr r0, r5
@@ -753,7 +753,7 @@ L38:
   lea r2, r5, r3
 L61:
   st r8, r2, 0, any, keep
-  ;@ line examples/c/calculator.c:26
+  ;@ line examples/c/calculator.c:27
   addi r0, r4, 1
   lea r1, r5, r0
   ldi r13, 7
@@ -774,7 +774,7 @@ L54:
   addi r4, r4, 1
   br L38
 L39:
-  ;@ line examples/c/calculator.c:49
+  ;@ line examples/c/calculator.c:50
   ldi r13, 42
   eq r0, r1, r13
   bnz r0, L41
@@ -794,7 +794,7 @@ L40:
   eq r0, r0, r13
   bz r0, L42
 L41:
-  ;@ line examples/c/calculator.c:50
+  ;@ line examples/c/calculator.c:51
   ld r3, r8, 0, any, keep
   ldi r13, 1
   add r2, r3, r13
@@ -824,10 +824,10 @@ L62:
   bnz r0, L63
   ldi r7, 6
 L63:
-  ;@ line examples/c/calculator.c:51
+  ;@ line examples/c/calculator.c:52
   lip r14, 2
   br factor
-  ;@ line examples/c/calculator.c:21
+  ;@ line examples/c/calculator.c:22
   lip r12, P_4
   ld r12, r12, 0, any, keep
   ld r0, r12, -4, any, keep
@@ -865,10 +865,10 @@ L63:
   ld r12, r12, 0, any, keep
   lea r0, r12, r0
   st r0, r10, 0, any, keep
-  ;@ line examples/c/calculator.c:49
+  ;@ line examples/c/calculator.c:50
   br L37
 L42:
-  ;@ line examples/c/calculator.c:60
+  ;@ line examples/c/calculator.c:61
   ld r12, r15, 0, any, keep
   ldi r13, 43
   eq r0, r12, r13
@@ -876,7 +876,7 @@ L42:
   bnz r0, L64
   ldi r4, 4
 L64:
-  ;@ line examples/c/calculator.c:21
+  ;@ line examples/c/calculator.c:22
   lip r12, P_4
   ld r12, r12, 0, any, keep
   ld r0, r12, -4, any, keep
@@ -914,10 +914,10 @@ L64:
   ld r12, r12, 0, any, keep
   lea r0, r12, r0
   st r0, r10, 0, any, keep
-  ;@ line examples/c/calculator.c:59
+  ;@ line examples/c/calculator.c:60
   br L32
 L43:
-  ;@ line examples/c/calculator.c:64
+  ;@ line examples/c/calculator.c:65
   ld r7, r15, 8, any, keep
   ld r8, r15, 16, any, keep
   ld r9, r15, 24, any, keep
@@ -927,7 +927,7 @@ L43:
   leai r15, r15, 56
   jmp r14
 factor:
-  ;@ function examples/c/calculator.c:33
+  ;@ function examples/c/calculator.c:34
   ;@ frame back 40 caller by 48
   leai r15, r15, -48
   st r15, r7, 0, any, keep
@@ -943,7 +943,7 @@ factor:
   ldi r6, 56
   ldi r8, 255
   ldi r9, 32
-  ;@ line examples/c/calculator.c:26
+  ;@ line examples/c/calculator.c:27
   ld r5, r7, 0, any, keep
   and r0, r5, r10
   ldi r12, 0
@@ -960,7 +960,7 @@ factor:
 L73:
   ldi r4, 0
 L66:
-  ;@ line examples/c/calculator.c:27
+  ;@ line examples/c/calculator.c:28
   addi r3, r4, 1
   add r2, r5, r3
   isptr r0, r5
@@ -973,7 +973,7 @@ L66:
   lea r2, r5, r3
 L77:
   st r7, r2, 0, any, keep
-  ;@ line examples/c/calculator.c:26
+  ;@ line examples/c/calculator.c:27
   addi r0, r4, 1
   lea r1, r5, r0
   and r0, r1, r10
@@ -993,12 +993,12 @@ L75:
   br L66
 L67:
   ld r3, r7, 0, any, keep
-  ;@ line examples/c/calculator.c:35
+  ;@ line examples/c/calculator.c:36
   ldi r13, 40
   eq r0, r1, r13
   bz r0, L69
 L68:
-  ;@ line examples/c/calculator.c:36
+  ;@ line examples/c/calculator.c:37
   ldi r13, 1
   add r2, r3, r13
   isptr r0, r3
@@ -1011,10 +1011,10 @@ L68:
   lea r2, r3, r13
 L78:
   st r7, r2, 0, any, keep
-  ;@ line examples/c/calculator.c:37
+  ;@ line examples/c/calculator.c:38
   lip r14, 2
   br sum
-  ;@ line examples/c/calculator.c:38
+  ;@ line examples/c/calculator.c:39
   ld r3, r7, 0, any, keep
   ldi r13, 1
   add r2, r3, r13
@@ -1028,7 +1028,7 @@ L78:
   lea r2, r3, r13
 L79:
   st r7, r2, 0, any, keep
-  ;@ line examples/c/calculator.c:39
+  ;@ line examples/c/calculator.c:40
   br L72
 L69:
   and r0, r3, r10
@@ -1045,14 +1045,14 @@ L69:
   ltu r0, r0, r13
   bz r0, L71
 L70:
-  ;@ line examples/c/calculator.c:40
+  ;@ line examples/c/calculator.c:41
   mov r0, r3
   mov r1, r7
   ldi r2, 10
   lip r14, 2
   br strtol
   mov r4, r0
-  ;@ line examples/c/calculator.c:21
+  ;@ line examples/c/calculator.c:22
   lip r12, P_4
   ld r12, r12, 0, any, keep
   ld r0, r12, -4, any, keep
@@ -1091,10 +1091,10 @@ L70:
   ld r12, r12, 0, any, keep
   lea r0, r12, r0
   st r0, r4, 0, any, keep
-  ;@ line examples/c/calculator.c:41
+  ;@ line examples/c/calculator.c:42
   br L72
 L71:
-  ;@ line examples/c/calculator.c:42
+  ;@ line examples/c/calculator.c:43
   ldi r13, 1
   add r2, r3, r13
   isptr r0, r3
@@ -1117,7 +1117,7 @@ L80:
   shl r0, r0, r6
   sar r0, r0, r6
   addi r4, r0, -97
-  ;@ line examples/c/calculator.c:21
+  ;@ line examples/c/calculator.c:22
   lip r12, P_4
   ld r12, r12, 0, any, keep
   ld r0, r12, -4, any, keep
@@ -1157,7 +1157,7 @@ L80:
   lea r0, r12, r0
   st r0, r4, 0, any, keep
 L72:
-  ;@ line examples/c/calculator.c:44
+  ;@ line examples/c/calculator.c:45
   ld r7, r15, 0, any, keep
   ld r8, r15, 8, any, keep
   ld r9, r15, 16, any, keep
@@ -1398,11 +1398,11 @@ L113:
   leai r15, r15, 56
   jmp r14
 div_:
-  ;@ function examples/c/calculator.c:69
+  ;@ function examples/c/calculator.c:70
   ;@ frame back - caller by 0
   mov r3, r1
   ldi r1, 63
-  ;@ line examples/c/calculator.c:69
+  ;@ line examples/c/calculator.c:70
   bnz r3, L115
 L117:
   ldi r0, 0
@@ -1421,21 +1421,21 @@ L115:
 L116:
   jmp r14
 mul:
-  ;@ function examples/c/calculator.c:68
+  ;@ function examples/c/calculator.c:69
   ;@ frame back - caller by 0
-  ;@ line examples/c/calculator.c:68
+  ;@ line examples/c/calculator.c:69
   mul r0, r1, r0
   jmp r14
 sub:
-  ;@ function examples/c/calculator.c:67
+  ;@ function examples/c/calculator.c:68
   ;@ frame back - caller by 0
-  ;@ line examples/c/calculator.c:67
+  ;@ line examples/c/calculator.c:68
   sub r0, r0, r1
   jmp r14
 add:
-  ;@ function examples/c/calculator.c:66
+  ;@ function examples/c/calculator.c:67
   ;@ frame back - caller by 0
-  ;@ line examples/c/calculator.c:66
+  ;@ line examples/c/calculator.c:67
   add r0, r1, r0
   jmp r14
 P_0: .ptr ro _str+1

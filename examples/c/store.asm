@@ -1,6 +1,6 @@
 .segment store_text 11
 store_mm_door_look_in:
-  ;@ function examples/c/store.c:32
+  ;@ function examples/c/store.c:33
   ;@ frame back 48 caller by 56
   leai r15, r15, -56
   st r15, r7, 8, any, keep
@@ -15,7 +15,7 @@ store_mm_door_look_in:
   ldi r9, 0
   lip r11, P_1
   ld r11, r11, 0, any, keep
-  ;@ line examples/c/store.c:12
+  ;@ line examples/c/store.c:13
   ld r0, r10, -4, any, keep
   ldi r13, 32
   sar r0, r0, r13
@@ -39,7 +39,7 @@ L11:
   mov r0, r9
   br L4
 L3:
-  ;@ line examples/c/store.c:13
+  ;@ line examples/c/store.c:14
   ldi r13, 3
   shl r8, r7, r13
   add r2, r11, r8
@@ -57,14 +57,14 @@ L13:
   br store_mm_key
   ld r12, r15, 0, any, keep
   eqw r0, r12, r0
-  ;@ line examples/c/store.c:12
-  addi r7, r7, 1
   ;@ line examples/c/store.c:13
+  addi r7, r7, 1
+  ;@ line examples/c/store.c:14
   bz r0, L2
 L9:
   mov r0, r11
 L4:
-  ;@ line examples/c/store.c:35
+  ;@ line examples/c/store.c:36
   add r1, r0, r8
   bnz r1, L5
 L12:
@@ -87,7 +87,7 @@ store_mm_key:
   restrict r0, r0, r13
   jmp r14
 store_mm_door_put_in:
-  ;@ function examples/c/store.c:23
+  ;@ function examples/c/store.c:24
   ;@ frame back 56 caller by 64
   leai r15, r15, -64
   st r15, r7, 16, any, keep
@@ -103,7 +103,7 @@ store_mm_door_put_in:
   ldi r11, 0
   lip r10, P_1
   ld r10, r10, 0, any, keep
-  ;@ line examples/c/store.c:12
+  ;@ line examples/c/store.c:13
   ld r0, r9, -4, any, keep
   ldi r13, 32
   sar r0, r0, r13
@@ -127,7 +127,7 @@ L25:
   mov r0, r11
   br L18
 L17:
-  ;@ line examples/c/store.c:13
+  ;@ line examples/c/store.c:14
   ldi r13, 3
   shl r8, r7, r13
   add r2, r10, r8
@@ -145,27 +145,27 @@ L27:
   br store_mm_key
   ld r12, r15, 0, any, keep
   eqw r0, r12, r0
-  ;@ line examples/c/store.c:12
-  addi r7, r7, 1
   ;@ line examples/c/store.c:13
+  addi r7, r7, 1
+  ;@ line examples/c/store.c:14
   bz r0, L16
 L23:
   mov r0, r10
 L18:
-  ;@ line examples/c/store.c:26
+  ;@ line examples/c/store.c:27
   add r1, r0, r8
   bnz r1, L19
 L26:
   ldi r0, -1
   br L20
 L19:
-  ;@ line examples/c/store.c:28
+  ;@ line examples/c/store.c:29
   lea r0, r0, r8
   ld r13, r15, 8, any, keep
   st r0, r13, 0, any, keep
   mov r0, r11
 L20:
-  ;@ line examples/c/store.c:30
+  ;@ line examples/c/store.c:31
   ld r7, r15, 16, any, keep
   ld r8, r15, 24, any, keep
   ld r9, r15, 32, any, keep
@@ -175,14 +175,14 @@ L20:
   leai r15, r15, 64
   jmp r14
 store_mm_door_open_drawer:
-  ;@ function examples/c/store.c:18
+  ;@ function examples/c/store.c:19
   ;@ frame back 0 caller by 8
   leai r15, r15, -8
   st r15, r14, 0, any, keep
   lip r4, P_0
   ld r4, r4, 0, any, keep
   ldi r5, 32
-  ;@ line examples/c/store.c:20
+  ;@ line examples/c/store.c:21
   ld r0, r4, -4, any, keep
   sar r3, r0, r5
   ldi r13, 8

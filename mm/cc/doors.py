@@ -34,9 +34,9 @@ def check(module: Module, function: Function) -> None:
 def stub(function: Function, label: str, turn: str) -> list[str]:
     """The segment of a door. Who enters has an enter pointer alone, and cannot see these words.
 
-    The way back must be a pointer that runs or enters. Then the stub waits until the program's stack is there, which one caller at a
-    time has; leaves the caller's stack and way back on it; calls the function; takes all away that it left; puts the stack back; and
-    clears the registers but for the result."""
+    The way back must be a pointer that runs or enters. Then the stub waits until the program's stack is there, which one
+    caller at a time has; leaves the caller's stack and way back on it; calls the function; takes all away that it left;
+    puts the stack back; and clears the registers but for the result."""
     name = public_name(function.name)
     void = isinstance(function.result, VoidType)
     cleared = [register for register in range(0 if void else 1, ARGUMENTS + 1)]
