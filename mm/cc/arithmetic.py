@@ -119,7 +119,7 @@ class Arithmetic(Accesses):
     def compare(self, made: Instruction) -> None:
         if isinstance(made.type, VectorType):
             self.by_element(made, made.type.element)
-        elif any(self.needs_truth(user, made.name) for user in self.users.get(made.name or "", [])) or not made.name:
+        elif made.name not in self.made or any(self.needs_truth(user, made.name) for user in self.users.get(made.name, [])):
             self.define(made.name, made.type, self.truth(made), ZEROED)
 
     @staticmethod

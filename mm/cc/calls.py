@@ -121,6 +121,8 @@ class Calls(Arithmetic):
             return
         name = made.name or f"?{self.code.registers}"
         self.receive(name, type_, call.results, "zeroext" in made.words)
+        if len(call.results) > ARGUMENTS:
+            raise Untranslated("a result of more than six words")
 
     def receive(self, name: str, type_: Type, registers: list[int], zeroed: bool) -> None:
         """Says where a value is that comes in registers, which are new."""
