@@ -8,8 +8,8 @@ start:
 ben_main:
   ;@ function examples/c/ben.c:8
   ;@ frame back 56 caller at 64
-  ;@ local digits.i12 20 at 96 log 5
-  ;@ local digits.i 20 at 128 log 5
+  ;@ local digits.i12 20 at 104 log 5
+  ;@ local digits.i 20 at 136 log 5
   ;@ local bits 8 at 72 log 3
   ldi r13, 31
   and r13, r15, r13
@@ -24,10 +24,10 @@ ben_main:
   st r15, r10, 40, any, keep
   st r15, r11, 48, any, keep
   st r15, r14, 56, any, keep
-  leai r8, r15, 96
+  leai r8, r15, 104
   ldi r14, 5
   subseg r8, r8, r14
-  leai r12, r15, 128
+  leai r12, r15, 136
   ldi r14, 5
   subseg r12, r12, r14
   st r15, r12, 0, any, keep
@@ -79,6 +79,7 @@ L4:
   ldi r13, 48
   or r4, r0, r13
   addi r6, r1, 1
+  addi r1, r1, 8
   and r0, r1, r10
   ld r12, r15, 0, any, keep
   leab r3, r12, r0
@@ -106,10 +107,11 @@ L5:
 L6:
   ;@ line examples/c/say.h:22
   addi r7, r7, -1
-  and r0, r7, r10
+  addi r1, r7, 8
+  and r0, r1, r10
   ld r12, r15, 0, any, keep
   leab r0, r12, r0
-  shl r1, r7, r11
+  shl r1, r1, r11
   ld r0, r0, 0, any, keep
   shr r0, r0, r1
   ldi r13, 56
@@ -182,6 +184,7 @@ L12:
   ldi r13, 48
   or r4, r0, r13
   addi r6, r1, 1
+  addi r1, r1, 8
   and r0, r1, r10
   leab r3, r8, r0
   shl r2, r1, r11
@@ -208,9 +211,10 @@ L13:
 L14:
   ;@ line examples/c/say.h:22
   addi r7, r7, -1
-  and r0, r7, r10
+  addi r1, r7, 8
+  and r0, r1, r10
   leab r0, r8, r0
-  shl r1, r7, r11
+  shl r1, r1, r11
   ld r0, r0, 0, any, keep
   shr r0, r0, r1
   ldi r13, 56

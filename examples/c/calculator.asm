@@ -33,7 +33,7 @@ main:
 line:
   ;@ function examples/c/calculator.c:96
   ;@ frame back 64 caller at 72
-  ;@ local digits.i 20 at 96 log 5
+  ;@ local digits.i 20 at 104 log 5
   ldi r13, 31
   and r13, r15, r13
   ldi r12, -128
@@ -48,7 +48,7 @@ line:
   st r15, r11, 56, any, keep
   st r15, r14, 64, any, keep
   mov r3, r0
-  leai r12, r15, 96
+  leai r12, r15, 104
   ldi r14, 5
   subseg r12, r12, r14
   st r15, r12, 0, any, keep
@@ -351,6 +351,7 @@ L12:
   ldi r13, 48
   or r4, r0, r13
   addi r6, r1, 1
+  addi r1, r1, 8
   ldi r13, -8
   and r0, r1, r13
   ld r12, r15, 0, any, keep
@@ -379,12 +380,13 @@ L13:
 L14:
   ;@ line examples/c/say.h:22
   addi r7, r7, -1
+  addi r1, r7, 8
   ldi r13, -8
-  and r0, r7, r13
+  and r0, r1, r13
   ld r12, r15, 0, any, keep
   leab r0, r12, r0
   ldi r13, 3
-  shl r1, r7, r13
+  shl r1, r1, r13
   ld r0, r0, 0, any, keep
   shr r0, r0, r1
   ldi r13, 56

@@ -8,8 +8,8 @@ start:
 main:
   ;@ function examples/c/compress.c:51
   ;@ frame back 80 caller at 88
-  ;@ local digits.i21 20 at 96 log 5
-  ;@ local digits.i 20 at 128 log 5
+  ;@ local digits.i21 20 at 104 log 5
+  ;@ local digits.i 20 at 136 log 5
   ldi r13, 31
   and r13, r15, r13
   ldi r12, -160
@@ -23,11 +23,11 @@ main:
   st r15, r10, 64, any, keep
   st r15, r11, 72, any, keep
   st r15, r14, 80, any, keep
-  leai r12, r15, 96
+  leai r12, r15, 104
   ldi r14, 5
   subseg r12, r12, r14
   st r15, r12, 32, any, keep
-  leai r12, r15, 128
+  leai r12, r15, 136
   ldi r14, 5
   subseg r12, r12, r14
   st r15, r12, 24, any, keep
@@ -103,7 +103,7 @@ L36:
   mov r0, r7
   br L10
 L7:
-  addi r1, r2, 64
+  addi r1, r2, 72
   ldi r13, -8
   and r0, r1, r13
   leab r0, r8, r0
@@ -114,7 +114,7 @@ L7:
   ldi r13, 255
   and r4, r0, r13
   sub r0, r2, r5
-  addi r1, r0, 64
+  addi r1, r0, 72
   ldi r13, -8
   and r0, r1, r13
   leab r0, r8, r0
@@ -207,7 +207,7 @@ L11:
   br L13
 L12:
   ;@ line examples/c/compress.c:30
-  addi r1, r11, 64
+  addi r1, r11, 72
   ldi r13, -8
   and r0, r1, r13
   leab r0, r8, r0
@@ -304,7 +304,7 @@ L18:
   ;@ line examples/c/compress.c:41
   addi r6, r6, 1
   addi r5, r7, 1
-  addi r1, r7, 64
+  addi r1, r7, 72
   ldi r13, -8
   and r0, r1, r13
   lip r12, P_2
@@ -340,7 +340,7 @@ L21:
 L22:
   ;@ line examples/c/compress.c:45
   sub r0, r7, r9
-  addi r1, r0, 64
+  addi r1, r0, 72
   ldi r13, -8
   and r0, r1, r13
   lip r12, P_2
@@ -350,7 +350,7 @@ L22:
   shl r1, r1, r13
   ld r0, r0, 0, any, keep
   shr r4, r0, r1
-  addi r1, r7, 64
+  addi r1, r7, 72
   ldi r13, -8
   and r0, r1, r13
   lip r12, P_2
@@ -386,12 +386,13 @@ L24:
   ldi r13, 48
   or r4, r0, r13
   addi r5, r2, 1
+  addi r1, r2, 8
   ldi r13, -8
-  and r0, r2, r13
+  and r0, r1, r13
   ld r12, r15, 24, any, keep
   leab r3, r12, r0
   ldi r13, 3
-  shl r2, r2, r13
+  shl r2, r1, r13
   ld r1, r3, 0, any, keep
   shr r0, r1, r2
   xor r0, r0, r4
@@ -412,12 +413,13 @@ L48:
 L25:
   ;@ line examples/c/say.h:22
   addi r9, r9, -1
+  addi r1, r9, 8
   ldi r13, -8
-  and r0, r9, r13
+  and r0, r1, r13
   ld r12, r15, 24, any, keep
   leab r0, r12, r0
   ldi r13, 3
-  shl r1, r9, r13
+  shl r1, r1, r13
   ld r0, r0, 0, any, keep
   shr r0, r0, r1
   ldi r13, 56
@@ -473,6 +475,7 @@ L29:
   ldi r13, 48
   or r4, r0, r13
   addi r6, r1, 1
+  addi r1, r1, 8
   ldi r13, -8
   and r0, r1, r13
   ld r12, r15, 32, any, keep
@@ -503,12 +506,13 @@ L30:
 L31:
   ;@ line examples/c/say.h:22
   addi r9, r9, -1
+  addi r1, r9, 8
   ldi r13, -8
-  and r0, r9, r13
+  and r0, r1, r13
   ld r12, r15, 32, any, keep
   leab r0, r12, r0
   ldi r13, 3
-  shl r1, r9, r13
+  shl r1, r1, r13
   ld r0, r0, 0, any, keep
   shr r0, r0, r1
   ldi r13, 56
@@ -719,16 +723,16 @@ putchar:
   ldi r13, 255
   and r0, r0, r13
   jmp r14
-P_0: .ptr ro c_text+64
+P_0: .ptr ro c_text+72
 P_1: .ptr rw packed+0
-P_2: .ptr rw unpacked+64
+P_2: .ptr rw unpacked+72
 P_3: .ptr rw stdout+0
 P_4: .ptr ro _str+1
 P_5: .ptr ro _str_2+0
 P_6: .ptr ro _str_1+9
 .segment c_text 8
-  ;@ global text 179 at 64
-  .fill 8
+  ;@ global text 179 at 72
+  .fill 9
   .int 0x65746e696f702061
   .int 0x2061207361682072
   .int 0x697373696d726570
@@ -755,7 +759,7 @@ P_6: .ptr ro _str_1+9
 .segment packed 9
   ;@ global packed 512 at 0
 .segment unpacked 8
-  ;@ global unpacked 179 at 64
+  ;@ global unpacked 179 at 72
 .segment stdout 3
   ;@ global stdout 8 at 0
   .ptr rw files+8

@@ -8,7 +8,7 @@ start:
 guest_main:
   ;@ function examples/c/guest.c:7
   ;@ frame back 48 caller at 56
-  ;@ local digits.i 20 at 64 log 5
+  ;@ local digits.i 20 at 72 log 5
   ldi r13, 31
   and r13, r15, r13
   ldi r12, -96
@@ -22,7 +22,7 @@ guest_main:
   st r15, r10, 32, any, keep
   st r15, r11, 40, any, keep
   st r15, r14, 48, any, keep
-  leai r8, r15, 64
+  leai r8, r15, 72
   ldi r14, 5
   subseg r8, r8, r14
   ldi r9, 10
@@ -77,6 +77,7 @@ L6:
   ldi r13, 48
   or r4, r0, r13
   addi r6, r1, 1
+  addi r1, r1, 8
   and r0, r1, r11
   leab r3, r8, r0
   shl r2, r1, r10
@@ -103,9 +104,10 @@ L7:
 L8:
   ;@ line examples/c/say.h:22
   addi r7, r7, -1
-  and r0, r7, r11
+  addi r1, r7, 8
+  and r0, r1, r11
   leab r0, r8, r0
-  shl r1, r7, r10
+  shl r1, r1, r10
   ld r0, r0, 0, any, keep
   shr r0, r0, r1
   ldi r13, 56

@@ -8,7 +8,7 @@ start:
 main:
   ;@ function examples/c/sort.c:54
   ;@ frame back 80 caller at 88
-  ;@ local digits.i 20 at 96 log 5
+  ;@ local digits.i 20 at 104 log 5
   ;@ local first 96 at 288 log 7
   ;@ local second 96 at 416 log 7
   ;@ local third 96 at 544 log 7
@@ -27,7 +27,7 @@ main:
   st r15, r10, 64, any, keep
   st r15, r11, 72, any, keep
   st r15, r14, 80, any, keep
-  leai r9, r15, 96
+  leai r9, r15, 104
   ldi r14, 5
   subseg r9, r9, r14
   leai r8, r15, 288
@@ -344,6 +344,7 @@ L13:
   ldi r13, 48
   or r4, r0, r13
   addi r6, r1, 1
+  addi r1, r1, 8
   ldi r13, -8
   and r0, r1, r13
   leab r3, r9, r0
@@ -373,11 +374,12 @@ L14:
 L15:
   ;@ line examples/c/say.h:22
   addi r7, r7, -1
+  addi r1, r7, 8
   ldi r13, -8
-  and r0, r7, r13
+  and r0, r1, r13
   leab r0, r9, r0
   ldi r13, 3
-  shl r1, r7, r13
+  shl r1, r1, r13
   ld r0, r0, 0, any, keep
   shr r0, r0, r1
   ldi r13, 56

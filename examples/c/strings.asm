@@ -9,7 +9,7 @@ main:
   ;@ function examples/c/strings.c:28
   ;@ frame back 48 caller at 56
   ;@ local letters.i 32 at 64 log 5
-  ;@ local digits.i 20 at 96 log 5
+  ;@ local digits.i 20 at 104 log 5
   ;@ local room 32 at 128 log 5
   ldi r13, 31
   and r13, r15, r13
@@ -28,7 +28,7 @@ main:
   ldi r14, 5
   subseg r12, r12, r14
   st r15, r12, 0, any, keep
-  leai r9, r15, 96
+  leai r9, r15, 104
   ldi r14, 5
   subseg r9, r9, r14
   leai r8, r15, 128
@@ -222,6 +222,7 @@ L6:
   ldi r13, 48
   or r4, r0, r13
   addi r6, r1, 1
+  addi r1, r1, 8
   ldi r13, -8
   and r0, r1, r13
   leab r3, r9, r0
@@ -250,10 +251,11 @@ L7:
 L8:
   ;@ line examples/c/say.h:22
   addi r7, r7, -1
+  addi r1, r7, 8
   ldi r13, -8
-  and r0, r7, r13
+  and r0, r1, r13
   leab r0, r9, r0
-  shl r1, r7, r11
+  shl r1, r1, r11
   ld r0, r0, 0, any, keep
   shr r0, r0, r1
   ldi r13, 56

@@ -8,7 +8,7 @@ start:
 thief_main:
   ;@ function examples/c/thief.c:7
   ;@ frame back 40 caller at 48
-  ;@ local digits.i 20 at 64 log 5
+  ;@ local digits.i 20 at 72 log 5
   ldi r13, 31
   and r13, r15, r13
   ldi r12, -96
@@ -22,7 +22,7 @@ thief_main:
   st r15, r10, 24, any, keep
   st r15, r11, 32, any, keep
   st r15, r14, 40, any, keep
-  leai r9, r15, 64
+  leai r9, r15, 72
   ldi r14, 5
   subseg r9, r9, r14
   ldi r8, 10
@@ -61,6 +61,7 @@ L4:
   ldi r13, 48
   or r4, r0, r13
   addi r6, r1, 1
+  addi r1, r1, 8
   and r0, r1, r11
   leab r3, r9, r0
   shl r2, r1, r10
@@ -87,9 +88,10 @@ L5:
 L6:
   ;@ line examples/c/say.h:22
   addi r7, r7, -1
-  and r0, r7, r11
+  addi r1, r7, 8
+  and r0, r1, r11
   leab r0, r9, r0
-  shl r1, r7, r10
+  shl r1, r1, r10
   ld r0, r0, 0, any, keep
   shr r0, r0, r1
   ldi r13, 56

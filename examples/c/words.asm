@@ -1,4 +1,4 @@
-.segment text 13
+.segment text 14
 start:
   ldi r0, 1
   ldi r1, 0
@@ -8,9 +8,9 @@ start:
 main:
   ;@ function examples/c/words.c:48
   ;@ frame back 56 caller at 64
-  ;@ local digits.i 20 at 96 log 5
+  ;@ local digits.i 20 at 104 log 5
   ;@ local text 79 at 304 log 7
-  ;@ local asked 40 at 144 log 6
+  ;@ local asked 40 at 152 log 6
   ldi r13, 127
   and r13, r15, r13
   ldi r12, -384
@@ -24,14 +24,14 @@ main:
   st r15, r10, 40, any, keep
   st r15, r11, 48, any, keep
   st r15, r14, 56, any, keep
-  leai r8, r15, 96
+  leai r8, r15, 104
   ldi r14, 5
   subseg r8, r8, r14
   leai r12, r15, 304
   ldi r14, 7
   subseg r12, r12, r14
   st r15, r12, 0, any, keep
-  leai r12, r15, 144
+  leai r12, r15, 152
   ldi r14, 6
   subseg r12, r12, r14
   st r15, r12, 8, any, keep
@@ -57,8 +57,6 @@ main:
 L2:
   ;@ line examples/c/words.c:53
   ldi r12, 0
-  st r15, r12, 144, any, keep
-  ldi r12, 0
   st r15, r12, 152, any, keep
   ldi r12, 0
   st r15, r12, 160, any, keep
@@ -66,21 +64,23 @@ L2:
   st r15, r12, 168, any, keep
   ldi r12, 0
   st r15, r12, 176, any, keep
+  ldi r12, 0
+  st r15, r12, 184, any, keep
   lip r12, P_3
   ld r12, r12, 0, any, keep
-  st r15, r12, 144, any, keep
+  st r15, r12, 152, any, keep
   lip r12, P_4
   ld r12, r12, 0, any, keep
-  st r15, r12, 152, any, keep
+  st r15, r12, 160, any, keep
   lip r12, P_5
   ld r12, r12, 0, any, keep
-  st r15, r12, 160, any, keep
+  st r15, r12, 168, any, keep
   lip r12, P_6
   ld r12, r12, 0, any, keep
-  st r15, r12, 168, any, keep
+  st r15, r12, 176, any, keep
   lip r12, P_7
   ld r12, r12, 0, any, keep
-  st r15, r12, 176, any, keep
+  st r15, r12, 184, any, keep
   ldi r12, 0
   st r15, r12, 0, any, keep
   ;@ line examples/c/words.c:54
@@ -205,6 +205,7 @@ L11:
   ldi r13, 48
   or r4, r0, r13
   addi r6, r1, 1
+  addi r1, r1, 8
   and r0, r1, r11
   leab r3, r8, r0
   ldi r13, 3
@@ -232,10 +233,11 @@ L12:
 L13:
   ;@ line examples/c/say.h:22
   addi r7, r7, -1
-  and r0, r7, r11
+  addi r1, r7, 8
+  and r0, r1, r11
   leab r0, r8, r0
   ldi r13, 3
-  shl r1, r7, r13
+  shl r1, r1, r13
   ld r0, r0, 0, any, keep
   shr r0, r0, r1
   ldi r13, 56
@@ -1185,7 +1187,7 @@ P_6: .ptr ro _str_4+4
 P_7: .ptr ro _str_5+4
 P_8: .ptr rw stdout+0
 P_9: .ptr rw heap+0
-P_10: .ptr rw unused+80
+P_10: .ptr rw unused+88
 P_11: .ptr rw top+0
 P_12: .ptr rw strtok_rest+0
 .segment __const_main_text 7
@@ -1221,7 +1223,7 @@ P_12: .ptr rw strtok_rest+0
 .segment heap 16
   ;@ global __mm_heap 65536 at 0
 .segment unused 8
-  ;@ global unused 168 at 80
+  ;@ global unused 168 at 88
 .segment top 3
   ;@ global top 8 at 0
 .segment strtok_rest 3

@@ -119,8 +119,11 @@ class Arithmetic(Accesses):
     def compare(self, made: Instruction) -> None:
         if isinstance(made.type, VectorType):
             self.by_element(made, made.type.element)
-        elif made.name not in self.made or any(self.needs_truth(user, made.name) for user in self.users.get(made.name, [])):
+        elif made.name not in self.made or self.is_number(made.name):
             self.define(made.name, made.type, self.truth(made), ZEROED)
+
+    def is_number(self, name: str) -> bool:
+        return any(self.needs_truth(user, name) for user in self.users.get(name, []))
 
     @staticmethod
     def needs_truth(user: Instruction, name: object) -> bool:
