@@ -4,7 +4,7 @@ else left out."""
 from __future__ import annotations
 
 import re
-from typing import Callable, Optional
+from typing import Optional
 
 from mm.cc.calls import Calls
 from mm.cc.forms import RAW, SIGNED
@@ -44,56 +44,55 @@ class Operations(Calls):
         kinds = [part for _, part in self.parts(made.type)]
         self.groups[made.name] = [value or Zero(kind) for value, kind in zip(found, kinds)]
 
+    def word(self, value: Value) -> int:
+        """An operand of an operation, as one word."""
+        if isinstance(value.type, PointerType):
+            return self.whole(self.pointer(value))
+        return self.number(value, SIGNED)
+
     def machine_operation(self, made: Instruction, op: str) -> None:
         arguments = [argument.value for argument in made.arguments]
-
-        def word(at: int) -> int:
-            value = arguments[at]
-            if isinstance(value.type, PointerType):
-                return self.whole(self.pointer(value))
-            return self.number(value, SIGNED)
-
-        if op in ("subseg", "restrict", "leab", "lea"):
-            register = self.op(op, word(0), word(1))
-        elif op in ("isptr", "mov"):
-            register = self.op(op, word(0))
-        elif op == "eqw":
-            register = self.op(op, word(0), word(1))
-        elif op == "self":
-            register = self.op("self")
-        elif op.startswith("ld_"):
-            register = self.op("ld", word(0), extra=op[3:].replace("_", ", "))
-        elif op.startswith("st_"):
-            self.emit("st", None, word(0), word(1), extra=op[3:].replace("_", ", "))
+        register = self.operation(op, arguments)
+        if register is None or made.name is None:
             return
+        if isinstance(made.type, PointerType):
+            self.pointers[made.name] = Pointer(register)
+        else:
+            self.define(made.name, made.type, register)
+
+    def operation(self, op: str, arguments: list[Value]) -> Optional[int]:
+        """The register of an operation's result; none where it has none."""
+        if op in ("subseg", "restrict", "leab", "lea", "eqw"):
+            return self.op(op, self.word(arguments[0]), self.word(arguments[1]))
+        if op in ("isptr", "mov"):
+            return self.op(op, self.word(arguments[0]))
+        if op == "self":
+            return self.op("self")
+        if op.startswith("ld_"):
+            return self.op("ld", self.word(arguments[0]), extra=op[3:].replace("_", ", "))
+        if op == "rreg":
+            return self.op("rreg", self.word(arguments[0]), number=self.plain(arguments[1]))
+        self.effect(op, arguments)
+        return None
+
+    @staticmethod
+    def plain(value: Value) -> int:
+        return value.number if isinstance(value, Number) else 0
+
+    def effect(self, op: str, arguments: list[Value]) -> None:
+        """An operation without a result."""
+        if op.startswith("st_"):
+            self.emit("st", None, self.word(arguments[0]), self.word(arguments[1]), extra=op[3:].replace("_", ", "))
         elif op == "out":
-            self.emit("out", None, word(0))
-            return
+            self.emit("out", None, self.word(arguments[0]))
         elif op == "halt":
-            self.emit("halt", extra=(word(0),))
-            return
+            self.emit("halt", extra=(self.word(arguments[0]),))
         elif op == "trap":
-            value = arguments[0]
-            self.emit("trap", number=value.number if isinstance(value, Number) else 0)
-            return
-        elif op in ("rreg", "wreg", "resume"):
-            register = self.handler_operation(op, arguments, word)
-            if register < 0:
-                return
+            self.emit("trap", number=self.plain(arguments[0]))
+        elif op == "wreg":
+            self.emit("wreg", None, self.word(arguments[0]), self.word(arguments[2]), number=self.plain(arguments[1]))
+        elif op == "resume":
+            way = ("retry", "skip", "kill")[self.plain(arguments[1])]
+            self.emit("resume", None, self.word(arguments[0]), extra=way)
         else:
             raise Untranslated(f"the operation __mm_op_{op}")
-        if made.name is not None:
-            if isinstance(made.type, PointerType):
-                self.pointers[made.name] = Pointer(register)
-            else:
-                self.define(made.name, made.type, register)
-
-    def handler_operation(self, op: str, arguments: list[Value], word: Callable[[int], int]) -> int:
-        numbers = [value.number if isinstance(value, Number) else -1 for value in arguments]
-        if op == "rreg":
-            return self.op("rreg", word(0), number=numbers[1])
-        if op == "wreg":
-            self.emit("wreg", None, word(0), word(2), number=numbers[1])
-        else:
-            self.emit("resume", None, word(0), extra=("retry", "skip", "kill")[numbers[1]])
-        return -1

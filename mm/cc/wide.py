@@ -69,7 +69,7 @@ class Wide(Counting):
 
     def wide_shift(self, made: Instruction, low: int, high: int, by: int) -> None:
         amount = made.operands[1]
-        if isinstance(amount, Number) and 0 < amount.number < 128 and amount.number != 64:
+        if isinstance(amount, Number) and 0 < amount.number < 128:
             self.give_pair(made.name, made.type, *self.shifted(made.op, low, high, amount.number))
             return
         names = {"shl": ("__mm_left_low", "__mm_left_high"), "lshr": ("__mm_right_low", "__mm_right_high"),
@@ -78,14 +78,14 @@ class Wide(Counting):
         self.give_pair(made.name, made.type, *halves)
 
     def shifted(self, op: str, low: int, high: int, by: int) -> Pair:
-        """A shift by a constant that is no multiple of a word."""
+        """A shift by a constant from 1 to 127."""
         inside, rest = self.constant(by & 63), self.constant(64 - (by & 63))
         if op == "shl":
-            if by > 64:
+            if by >= 64:
                 return self.constant(0), self.op("shl", low, inside)
             return self.op("shl", low, inside), self.op("or", self.op("shl", high, inside), self.op("shr", low, rest))
         right = "sar" if op == "ashr" else "shr"
-        if by > 64:
+        if by >= 64:
             above = self.op("sar", high, self.constant(63)) if op == "ashr" else self.constant(0)
             return self.op(right, high, inside), above
         return self.op("or", self.op("shr", low, inside), self.op("shl", high, rest)), self.op(right, high, inside)

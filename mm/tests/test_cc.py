@@ -79,11 +79,16 @@ out:
     i32 4, label %d
     i32 5, label %e
   ]
-a: ret i32 10
-b: ret i32 20
-c: ret i32 12
-d: ret i32 0
-e: ret i32 20
+a:
+  ret i32 10
+b:
+  ret i32 20
+c:
+  ret i32 12
+d:
+  ret i32 0
+e:
+  ret i32 20
 }
 define i32 @main() {
   %x = call i32 @pick(i32 3)
