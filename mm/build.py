@@ -7,6 +7,7 @@ import tempfile
 from dataclasses import dataclass, field
 from typing import Optional, Sequence
 
+from mm.cc.options import Options
 from mm.formats.image import Image, read_image
 from mm.formats.kinds import FileKind, looks_binary
 from mm.formats.object import MOST_WORDS, Object, object_of_words, read_object
@@ -23,6 +24,7 @@ from mm.source.text import SourceText, read_source
 from mm.status import Status, Stop
 
 MOST_ERRORS = 20
+C_SUFFIX = ".c"
 OUR_SUFFIXES = (".asm", ".obj", ".img", ".mms", ".schedule", ".links", ".events")
 
 
@@ -92,8 +94,9 @@ def _beside(name: str, error: OSError) -> list[str]:
 class Workshop:
     """A folder for the files in between, and the program that makes them."""
 
-    def __init__(self, program: Program) -> None:
+    def __init__(self, program: Program, options: Optional[Options] = None) -> None:
         self.program = program
+        self.options = options or Options()
         self.room = tempfile.TemporaryDirectory(prefix="mm-")
         self.made = 0
 
@@ -201,6 +204,7 @@ class Workshop:
     def build(self, names: Sequence[str], others: Sequence[str] = ()) -> Built:
         """The image of files: an image as it is, or sources and objects linked. `others` are files that an image's names are taken from."""
         datas = [read_file(name) for name in names]
+        datas = self._translated(names, datas)
         kinds = [FileKind.of(data) for data in datas]
         if FileKind.IMAGE in kinds:
             if len(names) > 1:
@@ -220,7 +224,18 @@ class Workshop:
                     )
                 ],
             )
-        return self.link([self.unit(name, data) for name, data in zip(names, datas)])
+        named = [name + ".asm" if name.endswith(C_SUFFIX) else name for name in names]
+        return self.link([self.unit(name, data) for name, data in zip(named, datas)])
+
+    def _translated(self, names: Sequence[str], datas: list[bytes]) -> list[bytes]:
+        """The files, those of C as sources: each is a program of its own, in the next slot if it has a `main`."""
+        files = [name for name in names if name.endswith(C_SUFFIX)]
+        if not files:
+            return datas
+        from mm.cc.driver import sources_of
+
+        made = iter(sources_of(files, self.options))
+        return [next(made) if name.endswith(C_SUFFIX) else data for name, data in zip(names, datas)]
 
     def _image(self, name: str, data: bytes, others: Sequence[str]) -> Built:
         path = self.keep(data, ".img")

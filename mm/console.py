@@ -6,6 +6,7 @@ import json
 import sys
 from typing import Any, Iterable, Optional
 
+from mm.cc.options import options_of
 from mm.build import Built, Refused, Workshop, read_file, refused
 from mm.formats.schedule import Schedule, read_schedule
 from mm.machine.program import Answer, Program, find_program
@@ -67,7 +68,7 @@ class Console:
     @property
     def workshop(self) -> Workshop:
         if self._workshop is None:
-            self._workshop = Workshop(self.program)
+            self._workshop = Workshop(self.program, options_of(self.said))
         return self._workshop
 
     def close(self) -> None:

@@ -44,19 +44,26 @@ OUTPUT = Option("--output", "write to this file", "FILE", "-o")
 FROM = Option("--from", "the first cycle that is shown; else 1", "N")
 AUDIT = Option("--audit", "show too which group can read and write what")
 NAMES = Option("--names", "take names for an image from this source; may be given again", "FILE")
+LEVEL = Option("--optimise", "how much Clang optimises C: 0, 1, 2, 3 or s; else 1", "LEVEL", "-O")
+HEAP = Option("--heap", "C: the logarithm of the bytes that malloc has, 4 to 20; else 16", "LOG")
+STACK = Option("--stack", "C: the logarithm of the bytes of the stack, 8 to 20; else 16", "LOG")
+CLANG = Option("--clang", "C: a word for Clang, as -DSIZE=3; may be given again", "WORD")
+C = (LEVEL, HEAP, STACK, CLANG)
+SLOT = Option("--slot", "the slot and the group of the program's thread, 0 to 15; else 0", "N")
+PREFIX = Option("--prefix", "what the names of the program's segments begin with", "NAME")
 RUNNING = (CYCLES, SCHEDULE, TURNS, NAMES)
 FILES = "FILE.."
 
 # fmt: off
 COMMANDS = (
-    Command("run", FILES, "run sources, objects or an image, and tell what came of it", (*RUNNING, JSON)),
-    Command("debug", FILES, "step through a run, forwards and back, with names and source lines", (SCHEDULE, TURNS, NAMES)),
-    Command("trace", FILES, "what each turn did, with its instruction and names", (*RUNNING, JSON)),
-    Command("view", FILES, "a page for any browser: each turn of a run, to look at and to step through", (*RUNNING, FROM, AUDIT, OUTPUT)),
-    Command("vcd", FILES, "a run as waves for GTKWave and other viewers", (*RUNNING, FROM, OUTPUT)),
-    Command("symbols", FILES, "the map of a link: segments and labels with their addresses", (NAMES, JSON)),
+    Command("run", FILES, "run sources, objects or an image, and tell what came of it", (*RUNNING, JSON, *C)),
+    Command("debug", FILES, "step through a run, forwards and back, with names and source lines", (SCHEDULE, TURNS, NAMES, *C)),
+    Command("trace", FILES, "what each turn did, with its instruction and names", (*RUNNING, JSON, *C)),
+    Command("view", FILES, "a page for any browser: each turn of a run, to look at and to step through", (*RUNNING, FROM, AUDIT, OUTPUT, *C)),
+    Command("vcd", FILES, "a run as waves for GTKWave and other viewers", (*RUNNING, FROM, OUTPUT, *C)),
+    Command("symbols", FILES, "the map of a link: segments and labels with their addresses", (NAMES, JSON, *C)),
     Command("dis", "FILE", "an image or an object word by word: address, word, instruction and name", (NAMES,), most=1),
-    Command("audit", FILES, "what each group can read and write, whatever its code does", (GROUPS, NAMES, JSON)),
+    Command("audit", FILES, "what each group can read and write, whatever its code does", (GROUPS, NAMES, JSON, *C)),
     Command("holders", "FILE.. RANGE", "who holds a pointer into a range (`mm help ranges`)", (NAMES,), least=2, module="ranges"),
     Command("sweep", "FILE.. RANGE", "an image in which nobody has a pointer into a range", (OUTPUT, NAMES), least=2, module="ranges"),
     Command("extract", "FILE.. GROUPS", "an image of some groups and what they can touch", (OUTPUT,), least=2, module="make"),
@@ -64,6 +71,7 @@ COMMANDS = (
     Command("net", "LINKS EVENTS FILE..", "run several machines side by side, with links between them", (CYCLES,), least=3),
     Command("save", FILES, "run, and write a checkpoint of where the run is then", (CYCLES, SCHEDULE, TURNS, OUTPUT), module="make"),
     Command("continue", "FILE.. CHECKPOINT", "go on from a checkpoint", (*RUNNING, JSON), least=2, module="run"),
+    Command("cc", "FILE.c..", "the source of a program in C (docs/C.md)", (*C, SLOT, PREFIX, OUTPUT)),
     Command("asm", "SOURCE", "the object of a source", (OUTPUT,), most=1, module="make"),
     Command("link", FILES, "the image of sources and objects", (OUTPUT,), module="make"),
     Command("migrate", "FILE.. MODE", "an image of version 2, in which loads answer at once (plain) or later (split)", (OUTPUT,), least=2, module="make"),

@@ -72,6 +72,9 @@ def read_words(given: Sequence[str]) -> Words:
 def _take_option(said: Words, word: str, rest: list[str]) -> None:
     name, equals, value = word.partition("=")
     option = _known(said.command).get(name)
+    short = _known(said.command).get(word[:2])
+    if option is None and short is not None and short.value:
+        option, equals, value = short, "=", word[2:]
     if option is None:
         where = f"`mm {said.command.name}`" if said.command else "`mm`"
         near = difflib.get_close_matches(name, _known(said.command), 1)

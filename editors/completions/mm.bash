@@ -2,7 +2,7 @@
 
 _mm() {
     local word=${COMP_WORDS[COMP_CWORD]} before=${COMP_WORDS[COMP_CWORD-1]} command='' at
-    local commands='run debug trace view vcd symbols dis audit holders sweep extract solo net save continue asm link migrate gen soak help'
+    local commands='run debug trace view vcd symbols dis audit holders sweep extract solo net save continue cc asm link migrate gen soak help'
     COMPREPLY=()
     for ((at = 1; at < COMP_CWORD; at++)); do
         case ${COMP_WORDS[at]} in
@@ -14,6 +14,8 @@ _mm() {
     case $before in
         --program | --schedule | --names | --output | -s | -o) compopt -o default; return ;;
         --cycles | --turns | --groups | --from | -n | -t | -g) return ;;
+        --optimise | -O) COMPREPLY=($(compgen -W '0 1 2 3 s' -- "$word")); return ;;
+        --heap | --stack | --clang | --slot | --prefix) return ;;
     esac
     if [ -z "$command" ]; then
         COMPREPLY=($(compgen -W "$commands --program --help --version" -- "$word"))
@@ -22,13 +24,15 @@ _mm() {
     if [[ $word == -* ]]; then
         local options='--help'
         case $command in
-            run | trace | solo | continue) options="$options --cycles --schedule --turns --names --json" ;;
-            view) options="$options --cycles --schedule --turns --names --from --audit --output" ;;
-            vcd) options="$options --cycles --schedule --turns --names --from --output" ;;
-            debug) options="$options --schedule --turns --names" ;;
-            symbols) options="$options --names --json" ;;
+            run | trace) options="$options --cycles --schedule --turns --names --json --optimise --heap --stack --clang" ;;
+            solo | continue) options="$options --cycles --schedule --turns --names --json" ;;
+            view) options="$options --cycles --schedule --turns --names --from --audit --output --optimise --heap --stack --clang" ;;
+            vcd) options="$options --cycles --schedule --turns --names --from --output --optimise --heap --stack --clang" ;;
+            debug) options="$options --schedule --turns --names --optimise --heap --stack --clang" ;;
+            symbols) options="$options --names --json --optimise --heap --stack --clang" ;;
+            cc) options="$options --optimise --heap --stack --clang --slot --prefix --output" ;;
             dis | holders) options="$options --names" ;;
-            audit) options="$options --groups --names --json" ;;
+            audit) options="$options --groups --names --json --optimise --heap --stack --clang" ;;
             sweep) options="$options --output --names" ;;
             save) options="$options --cycles --schedule --turns --output" ;;
             extract | asm | link | migrate | gen) options="$options --output" ;;

@@ -36,6 +36,9 @@ class Show:
         origin = session.symbols.origin(address)
         text = session.speller.at(session.memory, address)
         where = self.style.name(session.symbols.show(address))
+        line = session.symbols.c_line(address)
+        if line:
+            where += f"  {self.style.soft(str(line) + ':')}  {line.text}  |"
         if origin and address not in session.report.cells:
             return f"{where}  {self.style.soft(str(origin) + ':')}  {origin.code}"
         return f"{where}:  {text}"

@@ -45,6 +45,9 @@ def _symbol(name: str, symbols: Symbols) -> Symbol:
 
 
 def _of_line(path: str, line: int, symbols: Symbols) -> int:
+    of_c = symbols.place_of_c_line(path, line)
+    if of_c is not None:
+        return of_c
     paths = sorted({region.source.path for region in symbols.regions if region.source})
     meant = [known for known in paths if known == path or known.endswith("/" + path)]
     if len(meant) != 1:

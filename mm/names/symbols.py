@@ -9,6 +9,7 @@ from typing import Optional, Sequence
 
 from mm.formats.object import Object, Segment
 from mm.machine.isa import OPERATIONS
+from mm.names.clines import CFunction, CLine, CObject
 from mm.names.layout import Placed
 from mm.source.text import SourceSegment, SourceText
 from mm.source.tokens import readable
@@ -135,6 +136,34 @@ class Symbols:
         region = self.region(address)
         line = region.line_of(address) if region else None
         return Origin(region.source.path, line, region.source.line(line)) if region and region.source and line else None
+
+    def c_line(self, address: int) -> Optional[CLine]:
+        """The line of C that the word at an address comes from."""
+        return self.c_place(address)[1]
+
+    def c_place(self, address: int) -> tuple[Optional[CFunction], Optional[CLine]]:
+        """The function of C, or of its library, that an address is in, and its line."""
+        region = self.region(address)
+        line = region.line_of(address) if region else None
+        notes = region.source.notes if region and region.source else None
+        if notes is None or line is None:
+            return None, None
+        return notes.function_at(line), notes.line_at(line)
+
+    def c_global(self, region: Region) -> Optional[CObject]:
+        """The global that a segment is."""
+        return region.source.notes.globals.get(region.name) if region.source and region.source.notes else None
+
+    def place_of_c_line(self, path: str, line: int) -> Optional[int]:
+        """The address of the first word of a line of C, or of the next one that has code."""
+        for region in self.regions:
+            notes = region.source.notes if region.source else None
+            first = notes.first_of(path, line) if notes else None
+            if region.source and first is not None:
+                found = self.place_of_line(region.source.path, first)
+                if found is not None:
+                    return found
+        return None
 
     def named(self, name: str) -> list[Symbol]:
         """All that has a name. `SEGMENT.NAME` says which of several labels is meant."""

@@ -7,6 +7,7 @@ import re
 from dataclasses import dataclass, field
 from typing import Optional
 
+from mm.names.clines import MARK, CNotes
 from mm.source import wants
 from mm.source.lines import WORD_DIRECTIVES, Line, read_line
 from mm.source.tokens import TokenKind
@@ -98,6 +99,7 @@ class SourceText:
     labels: dict[str, Label] = field(default_factory=dict)
     uses: list[Use] = field(default_factory=list)
     threads: list[SourceThread] = field(default_factory=list)
+    notes: Optional[CNotes] = None
 
     def line(self, number: int) -> str:
         """A line by its number, from 1; an empty one where there is none."""
@@ -154,4 +156,6 @@ def read_source(path: str, data: bytes) -> SourceText:
             text.segments[-1].add(1, number, head)
         if head in DIRECTIVES and head != ".int":
             _add_directive(text, read_line(said), number)
+    if any(MARK in said for said in text.lines):
+        text.notes = CNotes(text.lines)
     return text

@@ -8,6 +8,7 @@ from mm.machine.causes import Cause
 from mm.machine.words import Cell
 from mm.names.numbers import counted
 from mm.outputs.report import Report, SlotState
+from mm.views.cview import CView
 from mm.views.spell import Memory, Speller, bytes_as_text
 from mm.views.style import Style
 from mm.views.waiting import Waiting, what_for
@@ -74,6 +75,9 @@ class ReportView:
         where = f"at {self.style.name(self.speller.symbols.show(ip.address))}" if ip else ""
         if slot.fault:
             cause = Cause.of_number(slot.fault)
+            of_c = CView(slot, self.memory, self.speller).fault(cause) if cause else None
+            if of_c:
+                return f"{self.style.bad('stopped')} {where} by {of_c}"
             title = f"fault {slot.fault} {cause.title}: {cause.meaning}" if cause else f"fault {slot.fault}"
             return f"{self.style.bad('stopped')} {where} by {title}"
         if slot.number in self.waits:
@@ -93,8 +97,10 @@ class ReportView:
         if ip is None or slot.past:
             return []
         origin = self.speller.symbols.origin(ip.address)
+        line = CView(slot, self.memory, self.speller).line()
+        of_c = [f"{self.style.soft(str(line) + ':')} {line.text}"] if line else []
         if origin and ip.address not in self.memory.changed:
-            return [f"{self.style.soft(str(origin) + ':')} {origin.code}"]
+            return [*of_c, f"{self.style.soft(str(origin) + ':')} {origin.code}"]
         return [self.style.soft(f"0x{ip.address:x}: ") + self.speller.at(self.memory, ip.address)]
 
     def pages(self) -> list[str]:

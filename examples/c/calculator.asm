@@ -1,0 +1,1495 @@
+.segment text 14
+start:
+  ldi r0, 1
+  ldi r1, 0
+  lip r14, 2
+  br main
+  halt
+main:
+  ;@ function examples/c/calculator.c:112
+  ;@ frame back 0 caller by 8
+  leai r15, r15, -8
+  st r15, r14, 0, any, keep
+  ;@ line examples/c/calculator.c:114
+  lip r0, P_0
+  ld r0, r0, 0, any, keep
+  lip r14, 2
+  br line
+  ;@ line examples/c/calculator.c:115
+  lip r0, P_1
+  ld r0, r0, 0, any, keep
+  lip r14, 2
+  br line
+  ;@ line examples/c/calculator.c:116
+  lip r0, P_2
+  ld r0, r0, 0, any, keep
+  lip r14, 2
+  br line
+  ;@ line examples/c/calculator.c:117
+  ldi r0, 0
+  ld r14, r15, 0, any, keep
+  leai r15, r15, 8
+  jmp r14
+line:
+  ;@ function examples/c/calculator.c:96
+  ;@ frame back 64 caller at 72
+  ;@ local digits.i 20 at 104 log 5
+  ldi r13, 31
+  and r13, r15, r13
+  ldi r12, -128
+  sub r13, r12, r13
+  lea r12, r15, r13
+  st r12, r15, 72, any, keep
+  mov r15, r12
+  st r15, r7, 24, any, keep
+  st r15, r8, 32, any, keep
+  st r15, r9, 40, any, keep
+  st r15, r10, 48, any, keep
+  st r15, r11, 56, any, keep
+  st r15, r14, 64, any, keep
+  mov r3, r0
+  leai r12, r15, 104
+  ldi r14, 5
+  subseg r12, r12, r14
+  st r15, r12, 0, any, keep
+  lip r4, P_3
+  ld r4, r4, 0, any, keep
+  lip r9, P_4
+  ld r9, r9, 0, any, keep
+  ldi r8, 32
+  lip r11, P_5
+  ld r11, r11, 0, any, keep
+  lip r7, P_6
+  ld r7, r7, 0, any, keep
+  lip r10, P_7
+  ld r10, r10, 0, any, keep
+  ;@ line examples/c/calculator.c:98
+  st r4, r3, 0, any, keep
+  ;@ line examples/c/calculator.c:99
+  ld r0, r9, -4, any, keep
+  shl r0, r0, r8
+  shr r1, r0, r8
+  ldi r12, 0
+  shl r0, r12, r8
+  or r0, r1, r0
+  st r9, r0, -4, any, keep
+  ;@ line examples/c/calculator.c:100
+  ldi r13, 7
+  and r0, r3, r13
+  ldi r12, 0
+  sub r0, r12, r0
+  lea r0, r3, r0
+  ldi r13, 3
+  shl r1, r3, r13
+  ld r0, r0, 0, any, keep
+  shr r0, r0, r1
+  ldi r13, 56
+  shl r0, r0, r13
+  ldi r13, 56
+  sar r12, r0, r13
+  st r15, r12, 16, any, keep
+  ;@ line examples/c/calculator.c:101
+  ldi r13, 3
+  add r2, r3, r13
+  isptr r0, r3
+  bz r0, L18
+  ldi r0, 54
+  shr r0, r3, r0
+  xor r1, r2, r3
+  shr r1, r1, r0
+  bnz r1, L18
+  lea r2, r3, r13
+L18:
+  st r4, r2, 0, any, keep
+  ;@ line examples/c/calculator.c:102
+  lip r14, 2
+  br sum
+  ;@ line examples/c/calculator.c:103
+  ld r12, r15, 16, any, keep
+  addi r12, r12, -97
+  st r15, r12, 8, any, keep
+  ;@ line examples/c/calculator.c:22
+  ld r0, r9, -4, any, keep
+  sar r3, r0, r8
+  addi r4, r3, 1
+  ld r0, r9, -4, any, keep
+  shl r0, r0, r8
+  shr r1, r0, r8
+  shl r0, r4, r8
+  or r0, r1, r0
+  st r9, r0, -4, any, keep
+  ldi r13, 4
+  shl r2, r3, r13
+  lea r0, r11, r2
+  ld r1, r0, 0, any, keep
+  ldi r13, 2
+  xor r0, r1, r13
+  ldi r13, 0
+  ldhi r13, 4294967295
+  and r0, r0, r13
+  xor r1, r1, r0
+  lea r0, r11, r2
+  st r0, r1, 0, any, keep
+  ldi r13, 4
+  shl r0, r3, r13
+  addi r0, r0, 8
+  lea r0, r11, r0
+  ld r13, r15, 8, any, keep
+  st r0, r13, 0, any, keep
+  addi r2, r3, 2
+  ld r0, r9, -4, any, keep
+  shl r0, r0, r8
+  shr r1, r0, r8
+  shl r0, r2, r8
+  or r0, r1, r0
+  st r9, r0, -4, any, keep
+  ldi r13, 4
+  shl r2, r4, r13
+  lea r0, r11, r2
+  ld r1, r0, 0, any, keep
+  ldi r13, 7
+  xor r0, r1, r13
+  ldi r13, 0
+  ldhi r13, 4294967295
+  and r0, r0, r13
+  xor r1, r1, r0
+  lea r0, r11, r2
+  st r0, r1, 0, any, keep
+  ldi r13, 4
+  shl r0, r4, r13
+  addi r0, r0, 8
+  lea r0, r11, r0
+  ldi r13, 0
+  st r0, r13, 0, any, keep
+  ldi r9, 0
+L3:
+  ;@ line examples/c/calculator.c:77
+  lea r0, r11, r9
+  ld r0, r0, 0, any, keep
+  shl r0, r0, r8
+  sar r2, r0, r8
+  bz r2, L4
+  ldi r13, 1
+  eq r0, r2, r13
+  bnz r0, L5
+  ldi r13, 2
+  eq r0, r2, r13
+  bnz r0, L6
+  ldi r13, 7
+  eq r0, r2, r13
+  bnz r0, L9
+  br L7
+L4:
+  ;@ line examples/c/calculator.c:79
+  addi r0, r9, 8
+  lea r0, r11, r0
+  ld r4, r0, 0, any, keep
+  ld r0, r7, -4, any, keep
+  sar r3, r0, r8
+  addi r2, r3, 1
+  ld r0, r7, -4, any, keep
+  shl r0, r0, r8
+  shr r1, r0, r8
+  shl r0, r2, r8
+  or r0, r1, r0
+  st r7, r0, -4, any, keep
+  ldi r13, 3
+  shl r0, r3, r13
+  lea r0, r10, r0
+  st r0, r4, 0, any, keep
+  ;@ line examples/c/calculator.c:80
+  br L8
+L5:
+  ;@ line examples/c/calculator.c:82
+  addi r0, r9, 8
+  lea r0, r11, r0
+  ld r0, r0, 0, any, keep
+  ldi r13, 3
+  shl r0, r0, r13
+  lip r12, P_8
+  ld r12, r12, 0, any, keep
+  lea r0, r12, r0
+  ld r4, r0, 0, any, keep
+  ld r0, r7, -4, any, keep
+  sar r3, r0, r8
+  addi r2, r3, 1
+  ld r0, r7, -4, any, keep
+  shl r0, r0, r8
+  shr r1, r0, r8
+  shl r0, r2, r8
+  or r0, r1, r0
+  st r7, r0, -4, any, keep
+  ldi r13, 3
+  shl r0, r3, r13
+  lea r0, r10, r0
+  st r0, r4, 0, any, keep
+  ;@ line examples/c/calculator.c:83
+  br L8
+L6:
+  ;@ line examples/c/calculator.c:85
+  ld r0, r7, -4, any, keep
+  sar r0, r0, r8
+  addi r2, r0, -1
+  ld r0, r7, -4, any, keep
+  shl r0, r0, r8
+  shr r1, r0, r8
+  shl r0, r2, r8
+  or r0, r1, r0
+  st r7, r0, -4, any, keep
+  ldi r13, 3
+  shl r0, r2, r13
+  lea r0, r10, r0
+  ld r1, r0, 0, any, keep
+  addi r0, r9, 8
+  lea r0, r11, r0
+  ld r0, r0, 0, any, keep
+  ldi r13, 3
+  shl r0, r0, r13
+  lip r12, P_8
+  ld r12, r12, 0, any, keep
+  lea r0, r12, r0
+  st r0, r1, 0, any, keep
+  ;@ line examples/c/calculator.c:86
+  br L8
+L7:
+  ;@ line examples/c/calculator.c:90
+  ld r0, r7, -4, any, keep
+  sar r4, r0, r8
+  addi r5, r4, -1
+  ld r0, r7, -4, any, keep
+  shl r0, r0, r8
+  shr r1, r0, r8
+  shl r0, r5, r8
+  or r0, r1, r0
+  st r7, r0, -4, any, keep
+  ;@ line examples/c/calculator.c:91
+  addi r0, r2, -3
+  ldi r13, 0
+  ldhi r13, 4294967295
+  and r0, r0, r13
+  ldi r13, 3
+  shl r0, r0, r13
+  lip r12, P_9
+  ld r12, r12, 0, any, keep
+  lea r0, r12, r0
+  ld r3, r0, 0, any, keep
+  addi r0, r4, -2
+  ldi r13, 3
+  shl r0, r0, r13
+  lea r0, r10, r0
+  ld r2, r0, 0, any, keep
+  ldi r13, 3
+  shl r0, r5, r13
+  lea r0, r10, r0
+  ld r1, r0, 0, any, keep
+  mov r13, r3
+  mov r0, r2
+  jal r14, r13
+  mov r1, r0
+  ld r0, r7, -4, any, keep
+  sar r0, r0, r8
+  addi r0, r0, -1
+  ldi r13, 3
+  shl r0, r0, r13
+  lea r0, r10, r0
+  st r0, r1, 0, any, keep
+L8:
+  addi r9, r9, 16
+  ;@ line examples/c/calculator.c:76
+  br L3
+L9:
+  ;@ line examples/c/calculator.c:106
+  ld r0, r15, 16, any, keep
+  lip r14, 2
+  br putchar
+  ;@ line examples/c/say.h:8
+  lip r12, P_10
+  ld r12, r12, 0, any, keep
+  ld r3, r12, 0, any, keep
+  lip r0, P_11
+  ld r0, r0, 0, any, keep
+  ldi r1, 3
+  ldi r2, 1
+  lip r14, 2
+  br fwrite
+  ;@ line examples/c/calculator.c:108
+  ld r12, r15, 8, any, keep
+  ldi r13, 3
+  shl r0, r12, r13
+  lip r12, P_8
+  ld r12, r12, 0, any, keep
+  lea r0, r12, r0
+  ld r0, r0, 0, any, keep
+  ;@ line examples/c/say.h:15
+  ldi r12, 0
+  sub r2, r12, r0
+  ldi r13, 0
+  lts r1, r0, r13
+  mov r7, r2
+  bnz r1, L19
+  mov r7, r0
+L19:
+  ;@ line examples/c/say.h:16
+  ldi r13, 0
+  lts r0, r0, r13
+  bz r0, L11
+L10:
+  ;@ line examples/c/say.h:17
+  ldi r0, 45
+  lip r14, 2
+  br putchar
+L11:
+  ldi r1, 0
+L12:
+  ;@ line examples/c/say.h:20
+  ldi r13, 10
+  divu r5, r7, r13
+  ldi r13, 10
+  mul r0, r5, r13
+  sub r0, r7, r0
+  ;@ line examples/c/say.h:19
+  ldi r13, 48
+  or r4, r0, r13
+  addi r6, r1, 1
+  addi r1, r1, 8
+  ldi r13, -8
+  and r0, r1, r13
+  ld r12, r15, 0, any, keep
+  leab r3, r12, r0
+  ldi r13, 3
+  shl r2, r1, r13
+  ld r1, r3, 0, any, keep
+  shr r0, r1, r2
+  xor r0, r0, r4
+  ldi r13, 255
+  and r0, r0, r13
+  shl r0, r0, r2
+  xor r0, r1, r0
+  st r3, r0, 0, any, keep
+  ldi r13, 10
+  ltu r0, r7, r13
+  bnz r0, L13
+L16:
+  mov r1, r6
+  mov r7, r5
+  br L12
+L13:
+  ;@ line examples/c/say.h:21
+  shl r0, r6, r8
+  sar r7, r0, r8
+L14:
+  ;@ line examples/c/say.h:22
+  addi r7, r7, -1
+  addi r1, r7, 8
+  ldi r13, -8
+  and r0, r1, r13
+  ld r12, r15, 0, any, keep
+  leab r0, r12, r0
+  ldi r13, 3
+  shl r1, r1, r13
+  ld r0, r0, 0, any, keep
+  shr r0, r0, r1
+  ldi r13, 56
+  shl r0, r0, r13
+  ldi r13, 56
+  sar r0, r0, r13
+  lip r14, 2
+  br putchar
+  ;@ line examples/c/say.h:21
+  bnz r7, L14
+L15:
+  ;@ line examples/c/calculator.c:109
+  ldi r0, 10
+  lip r14, 2
+  br putchar
+  ;@ line examples/c/calculator.c:110
+  ld r7, r15, 24, any, keep
+  ld r8, r15, 32, any, keep
+  ld r9, r15, 40, any, keep
+  ld r10, r15, 48, any, keep
+  ld r11, r15, 56, any, keep
+  ld r14, r15, 64, any, keep
+  ld r15, r15, 72, any, keep
+  jmp r14
+fwrite:
+  leai r15, r15, -24
+  st r15, r7, 0, any, keep
+  st r15, r8, 8, any, keep
+  st r15, r9, 16, any, keep
+  mov r5, r0
+  mov r9, r2
+  mov r0, r3
+  ldi r7, 3
+  ldi r6, 0
+  ldi r8, 7
+  ldi r3, 56
+  mul r4, r9, r1
+  bz r4, L21
+L23:
+  mov r2, r6
+  br L22
+L21:
+  mov r0, r9
+  ld r7, r15, 0, any, keep
+  ld r8, r15, 8, any, keep
+  ld r9, r15, 16, any, keep
+  leai r15, r15, 24
+  jmp r14
+L22:
+  lea r1, r5, r2
+  and r0, r1, r8
+  sub r0, r6, r0
+  lea r0, r1, r0
+  shl r1, r1, r7
+  ld r0, r0, 0, any, keep
+  shr r0, r0, r1
+  shl r0, r0, r3
+  sar r0, r0, r3
+  out r0
+  addi r2, r2, 1
+  eq r0, r2, r4
+  bnz r0, L21
+  br L22
+putchar:
+  out r0
+  ldi r13, 255
+  and r0, r0, r13
+  jmp r14
+sum:
+  ;@ function examples/c/calculator.c:57
+  ;@ frame back 48 caller by 56
+  leai r15, r15, -56
+  st r15, r7, 8, any, keep
+  st r15, r8, 16, any, keep
+  st r15, r9, 24, any, keep
+  st r15, r10, 32, any, keep
+  st r15, r11, 40, any, keep
+  st r15, r14, 48, any, keep
+  lip r8, P_3
+  ld r8, r8, 0, any, keep
+  ldi r10, 0
+  ldi r9, 56
+  ldi r11, 32
+  ;@ line examples/c/calculator.c:49
+  lip r14, 2
+  br factor
+L27:
+  ;@ line examples/c/calculator.c:27
+  ld r5, r8, 0, any, keep
+  ldi r13, 7
+  and r0, r5, r13
+  sub r0, r10, r0
+  lea r0, r5, r0
+  ldi r13, 3
+  shl r1, r5, r13
+  ld r0, r0, 0, any, keep
+  shr r0, r0, r1
+  shl r0, r0, r9
+  sar r1, r0, r9
+  ldi r13, 255
+  and r0, r1, r13
+  eq r0, r0, r11
+  bz r0, L29
+L44:
+  mov r4, r10
+L28:
+  ;@ line examples/c/calculator.c:28
+  addi r3, r4, 1
+  add r2, r5, r3
+  isptr r0, r5
+  bz r0, L56
+  ldi r0, 54
+  shr r0, r5, r0
+  xor r1, r2, r5
+  shr r1, r1, r0
+  bnz r1, L56
+  lea r2, r5, r3
+L56:
+  st r8, r2, 0, any, keep
+  ;@ line examples/c/calculator.c:27
+  addi r0, r4, 1
+  lea r1, r5, r0
+  ldi r13, 7
+  and r0, r1, r13
+  sub r0, r10, r0
+  lea r0, r1, r0
+  ldi r13, 3
+  shl r1, r1, r13
+  ld r0, r0, 0, any, keep
+  shr r0, r0, r1
+  shl r0, r0, r9
+  sar r1, r0, r9
+  ldi r13, 255
+  and r0, r1, r13
+  eq r0, r0, r11
+  bz r0, L29
+L46:
+  addi r4, r4, 1
+  br L28
+L29:
+  ;@ line examples/c/calculator.c:50
+  ldi r13, 42
+  eq r0, r1, r13
+  bnz r0, L31
+L30:
+  ld r1, r8, 0, any, keep
+  ldi r13, 7
+  and r0, r1, r13
+  sub r0, r10, r0
+  lea r0, r1, r0
+  ldi r13, 3
+  shl r1, r1, r13
+  ld r0, r0, 0, any, keep
+  shr r0, r0, r1
+  ldi r13, 255
+  and r0, r0, r13
+  ldi r13, 47
+  eq r0, r0, r13
+  bz r0, L32
+L31:
+  ;@ line examples/c/calculator.c:51
+  ld r3, r8, 0, any, keep
+  ldi r13, 1
+  add r2, r3, r13
+  isptr r0, r3
+  bz r0, L57
+  ldi r0, 54
+  shr r0, r3, r0
+  xor r1, r2, r3
+  shr r1, r1, r0
+  bnz r1, L57
+  lea r2, r3, r13
+L57:
+  st r8, r2, 0, any, keep
+  ldi r13, 7
+  and r0, r3, r13
+  sub r0, r10, r0
+  lea r0, r3, r0
+  ldi r13, 3
+  shl r1, r3, r13
+  ld r0, r0, 0, any, keep
+  shr r0, r0, r1
+  ldi r13, 255
+  and r0, r0, r13
+  ldi r13, 42
+  eq r0, r0, r13
+  ldi r7, 5
+  bnz r0, L58
+  ldi r7, 6
+L58:
+  ;@ line examples/c/calculator.c:52
+  lip r14, 2
+  br factor
+  ;@ line examples/c/calculator.c:22
+  lip r12, P_4
+  ld r12, r12, 0, any, keep
+  ld r0, r12, -4, any, keep
+  sar r3, r0, r11
+  addi r2, r3, 1
+  lip r12, P_4
+  ld r12, r12, 0, any, keep
+  ld r0, r12, -4, any, keep
+  shl r0, r0, r11
+  shr r1, r0, r11
+  shl r0, r2, r11
+  or r0, r1, r0
+  lip r12, P_4
+  ld r12, r12, 0, any, keep
+  st r12, r0, -4, any, keep
+  ldi r13, 4
+  shl r2, r3, r13
+  lip r12, P_5
+  ld r12, r12, 0, any, keep
+  lea r0, r12, r2
+  ld r1, r0, 0, any, keep
+  xor r0, r1, r7
+  ldi r13, 0
+  ldhi r13, 4294967295
+  and r0, r0, r13
+  xor r1, r1, r0
+  lip r12, P_5
+  ld r12, r12, 0, any, keep
+  lea r0, r12, r2
+  st r0, r1, 0, any, keep
+  ldi r13, 4
+  shl r0, r3, r13
+  addi r0, r0, 8
+  lip r12, P_5
+  ld r12, r12, 0, any, keep
+  lea r0, r12, r0
+  st r0, r10, 0, any, keep
+  ;@ line examples/c/calculator.c:50
+  br L27
+L32:
+  ;@ line examples/c/calculator.c:27
+  ld r5, r8, 0, any, keep
+  ldi r13, 7
+  and r0, r5, r13
+  sub r0, r10, r0
+  lea r0, r5, r0
+  ldi r13, 3
+  shl r1, r5, r13
+  ld r0, r0, 0, any, keep
+  shr r0, r0, r1
+  shl r0, r0, r9
+  sar r1, r0, r9
+  ldi r13, 255
+  and r0, r1, r13
+  eq r0, r0, r11
+  bz r0, L34
+L48:
+  mov r4, r10
+L33:
+  ;@ line examples/c/calculator.c:28
+  addi r3, r4, 1
+  add r2, r5, r3
+  isptr r0, r5
+  bz r0, L59
+  ldi r0, 54
+  shr r0, r5, r0
+  xor r1, r2, r5
+  shr r1, r1, r0
+  bnz r1, L59
+  lea r2, r5, r3
+L59:
+  st r8, r2, 0, any, keep
+  ;@ line examples/c/calculator.c:27
+  addi r0, r4, 1
+  lea r1, r5, r0
+  ldi r13, 7
+  and r0, r1, r13
+  sub r0, r10, r0
+  lea r0, r1, r0
+  ldi r13, 3
+  shl r1, r1, r13
+  ld r0, r0, 0, any, keep
+  shr r0, r0, r1
+  shl r0, r0, r9
+  sar r1, r0, r9
+  ldi r13, 255
+  and r0, r1, r13
+  eq r0, r0, r11
+  bz r0, L34
+L50:
+  addi r4, r4, 1
+  br L33
+L34:
+  ;@ line examples/c/calculator.c:60
+  ldi r13, 43
+  eq r0, r1, r13
+  bnz r0, L36
+L35:
+  ld r1, r8, 0, any, keep
+  ldi r13, 7
+  and r0, r1, r13
+  sub r0, r10, r0
+  lea r0, r1, r0
+  ldi r13, 3
+  shl r1, r1, r13
+  ld r0, r0, 0, any, keep
+  shr r0, r0, r1
+  ldi r13, 255
+  and r0, r0, r13
+  ldi r13, 45
+  eq r0, r0, r13
+  bz r0, L43
+L36:
+  ;@ line examples/c/calculator.c:61
+  ld r3, r8, 0, any, keep
+  ldi r13, 1
+  add r2, r3, r13
+  isptr r0, r3
+  bz r0, L60
+  ldi r0, 54
+  shr r0, r3, r0
+  xor r1, r2, r3
+  shr r1, r1, r0
+  bnz r1, L60
+  lea r2, r3, r13
+L60:
+  st r8, r2, 0, any, keep
+  ldi r13, 7
+  and r0, r3, r13
+  sub r0, r10, r0
+  lea r0, r3, r0
+  ldi r13, 3
+  shl r1, r3, r13
+  ld r0, r0, 0, any, keep
+  shr r0, r0, r1
+  ldi r13, 255
+  and r12, r0, r13
+  st r15, r12, 0, any, keep
+  ;@ line examples/c/calculator.c:49
+  lip r14, 2
+  br factor
+L37:
+  ;@ line examples/c/calculator.c:27
+  ld r5, r8, 0, any, keep
+  ldi r13, 7
+  and r0, r5, r13
+  sub r0, r10, r0
+  lea r0, r5, r0
+  ldi r13, 3
+  shl r1, r5, r13
+  ld r0, r0, 0, any, keep
+  shr r0, r0, r1
+  shl r0, r0, r9
+  sar r1, r0, r9
+  ldi r13, 255
+  and r0, r1, r13
+  eq r0, r0, r11
+  bz r0, L39
+L52:
+  mov r4, r10
+L38:
+  ;@ line examples/c/calculator.c:28
+  addi r3, r4, 1
+  add r2, r5, r3
+  isptr r0, r5
+  bz r0, L61
+  ldi r0, 54
+  shr r0, r5, r0
+  xor r1, r2, r5
+  shr r1, r1, r0
+  bnz r1, L61
+  lea r2, r5, r3
+L61:
+  st r8, r2, 0, any, keep
+  ;@ line examples/c/calculator.c:27
+  addi r0, r4, 1
+  lea r1, r5, r0
+  ldi r13, 7
+  and r0, r1, r13
+  sub r0, r10, r0
+  lea r0, r1, r0
+  ldi r13, 3
+  shl r1, r1, r13
+  ld r0, r0, 0, any, keep
+  shr r0, r0, r1
+  shl r0, r0, r9
+  sar r1, r0, r9
+  ldi r13, 255
+  and r0, r1, r13
+  eq r0, r0, r11
+  bz r0, L39
+L54:
+  addi r4, r4, 1
+  br L38
+L39:
+  ;@ line examples/c/calculator.c:50
+  ldi r13, 42
+  eq r0, r1, r13
+  bnz r0, L41
+L40:
+  ld r1, r8, 0, any, keep
+  ldi r13, 7
+  and r0, r1, r13
+  sub r0, r10, r0
+  lea r0, r1, r0
+  ldi r13, 3
+  shl r1, r1, r13
+  ld r0, r0, 0, any, keep
+  shr r0, r0, r1
+  ldi r13, 255
+  and r0, r0, r13
+  ldi r13, 47
+  eq r0, r0, r13
+  bz r0, L42
+L41:
+  ;@ line examples/c/calculator.c:51
+  ld r3, r8, 0, any, keep
+  ldi r13, 1
+  add r2, r3, r13
+  isptr r0, r3
+  bz r0, L62
+  ldi r0, 54
+  shr r0, r3, r0
+  xor r1, r2, r3
+  shr r1, r1, r0
+  bnz r1, L62
+  lea r2, r3, r13
+L62:
+  st r8, r2, 0, any, keep
+  ldi r13, 7
+  and r0, r3, r13
+  sub r0, r10, r0
+  lea r0, r3, r0
+  ldi r13, 3
+  shl r1, r3, r13
+  ld r0, r0, 0, any, keep
+  shr r0, r0, r1
+  ldi r13, 255
+  and r0, r0, r13
+  ldi r13, 42
+  eq r0, r0, r13
+  ldi r7, 5
+  bnz r0, L63
+  ldi r7, 6
+L63:
+  ;@ line examples/c/calculator.c:52
+  lip r14, 2
+  br factor
+  ;@ line examples/c/calculator.c:22
+  lip r12, P_4
+  ld r12, r12, 0, any, keep
+  ld r0, r12, -4, any, keep
+  sar r3, r0, r11
+  addi r2, r3, 1
+  lip r12, P_4
+  ld r12, r12, 0, any, keep
+  ld r0, r12, -4, any, keep
+  shl r0, r0, r11
+  shr r1, r0, r11
+  shl r0, r2, r11
+  or r0, r1, r0
+  lip r12, P_4
+  ld r12, r12, 0, any, keep
+  st r12, r0, -4, any, keep
+  ldi r13, 4
+  shl r2, r3, r13
+  lip r12, P_5
+  ld r12, r12, 0, any, keep
+  lea r0, r12, r2
+  ld r1, r0, 0, any, keep
+  xor r0, r1, r7
+  ldi r13, 0
+  ldhi r13, 4294967295
+  and r0, r0, r13
+  xor r1, r1, r0
+  lip r12, P_5
+  ld r12, r12, 0, any, keep
+  lea r0, r12, r2
+  st r0, r1, 0, any, keep
+  ldi r13, 4
+  shl r0, r3, r13
+  addi r0, r0, 8
+  lip r12, P_5
+  ld r12, r12, 0, any, keep
+  lea r0, r12, r0
+  st r0, r10, 0, any, keep
+  ;@ line examples/c/calculator.c:50
+  br L37
+L42:
+  ;@ line examples/c/calculator.c:61
+  ld r12, r15, 0, any, keep
+  ldi r13, 43
+  eq r0, r12, r13
+  ldi r4, 3
+  bnz r0, L64
+  ldi r4, 4
+L64:
+  ;@ line examples/c/calculator.c:22
+  lip r12, P_4
+  ld r12, r12, 0, any, keep
+  ld r0, r12, -4, any, keep
+  sar r3, r0, r11
+  addi r2, r3, 1
+  lip r12, P_4
+  ld r12, r12, 0, any, keep
+  ld r0, r12, -4, any, keep
+  shl r0, r0, r11
+  shr r1, r0, r11
+  shl r0, r2, r11
+  or r0, r1, r0
+  lip r12, P_4
+  ld r12, r12, 0, any, keep
+  st r12, r0, -4, any, keep
+  ldi r13, 4
+  shl r2, r3, r13
+  lip r12, P_5
+  ld r12, r12, 0, any, keep
+  lea r0, r12, r2
+  ld r1, r0, 0, any, keep
+  xor r0, r1, r4
+  ldi r13, 0
+  ldhi r13, 4294967295
+  and r0, r0, r13
+  xor r1, r1, r0
+  lip r12, P_5
+  ld r12, r12, 0, any, keep
+  lea r0, r12, r2
+  st r0, r1, 0, any, keep
+  ldi r13, 4
+  shl r0, r3, r13
+  addi r0, r0, 8
+  lip r12, P_5
+  ld r12, r12, 0, any, keep
+  lea r0, r12, r0
+  st r0, r10, 0, any, keep
+  ;@ line examples/c/calculator.c:60
+  br L32
+L43:
+  ;@ line examples/c/calculator.c:65
+  ld r7, r15, 8, any, keep
+  ld r8, r15, 16, any, keep
+  ld r9, r15, 24, any, keep
+  ld r10, r15, 32, any, keep
+  ld r11, r15, 40, any, keep
+  ld r14, r15, 48, any, keep
+  leai r15, r15, 56
+  jmp r14
+factor:
+  ;@ function examples/c/calculator.c:34
+  ;@ frame back 40 caller by 48
+  leai r15, r15, -48
+  st r15, r7, 0, any, keep
+  st r15, r8, 8, any, keep
+  st r15, r9, 16, any, keep
+  st r15, r10, 24, any, keep
+  st r15, r11, 32, any, keep
+  st r15, r14, 40, any, keep
+  lip r7, P_3
+  ld r7, r7, 0, any, keep
+  ldi r11, 3
+  ldi r10, 7
+  ldi r6, 56
+  ldi r8, 255
+  ldi r9, 32
+  ;@ line examples/c/calculator.c:27
+  ld r5, r7, 0, any, keep
+  and r0, r5, r10
+  ldi r12, 0
+  sub r0, r12, r0
+  lea r0, r5, r0
+  shl r1, r5, r11
+  ld r0, r0, 0, any, keep
+  shr r0, r0, r1
+  shl r0, r0, r6
+  sar r1, r0, r6
+  and r0, r1, r8
+  eq r0, r0, r9
+  bz r0, L67
+L73:
+  ldi r4, 0
+L66:
+  ;@ line examples/c/calculator.c:28
+  addi r3, r4, 1
+  add r2, r5, r3
+  isptr r0, r5
+  bz r0, L77
+  ldi r0, 54
+  shr r0, r5, r0
+  xor r1, r2, r5
+  shr r1, r1, r0
+  bnz r1, L77
+  lea r2, r5, r3
+L77:
+  st r7, r2, 0, any, keep
+  ;@ line examples/c/calculator.c:27
+  addi r0, r4, 1
+  lea r1, r5, r0
+  and r0, r1, r10
+  ldi r12, 0
+  sub r0, r12, r0
+  lea r0, r1, r0
+  shl r1, r1, r11
+  ld r0, r0, 0, any, keep
+  shr r0, r0, r1
+  shl r0, r0, r6
+  sar r1, r0, r6
+  and r0, r1, r8
+  eq r0, r0, r9
+  bz r0, L67
+L75:
+  addi r4, r4, 1
+  br L66
+L67:
+  ld r3, r7, 0, any, keep
+  ;@ line examples/c/calculator.c:36
+  ldi r13, 40
+  eq r0, r1, r13
+  bz r0, L69
+L68:
+  ;@ line examples/c/calculator.c:37
+  ldi r13, 1
+  add r2, r3, r13
+  isptr r0, r3
+  bz r0, L78
+  ldi r0, 54
+  shr r0, r3, r0
+  xor r1, r2, r3
+  shr r1, r1, r0
+  bnz r1, L78
+  lea r2, r3, r13
+L78:
+  st r7, r2, 0, any, keep
+  ;@ line examples/c/calculator.c:38
+  lip r14, 2
+  br sum
+  ;@ line examples/c/calculator.c:39
+  ld r3, r7, 0, any, keep
+  ldi r13, 1
+  add r2, r3, r13
+  isptr r0, r3
+  bz r0, L79
+  ldi r0, 54
+  shr r0, r3, r0
+  xor r1, r2, r3
+  shr r1, r1, r0
+  bnz r1, L79
+  lea r2, r3, r13
+L79:
+  st r7, r2, 0, any, keep
+  ;@ line examples/c/calculator.c:40
+  br L72
+L69:
+  and r0, r3, r10
+  ldi r12, 0
+  sub r0, r12, r0
+  lea r0, r3, r0
+  shl r1, r3, r11
+  ld r0, r0, 0, any, keep
+  shr r0, r0, r1
+  shl r0, r0, r6
+  sar r0, r0, r6
+  addi r0, r0, -48
+  ldi r13, 10
+  ltu r0, r0, r13
+  bz r0, L71
+L70:
+  ;@ line examples/c/calculator.c:41
+  mov r0, r3
+  mov r1, r7
+  ldi r2, 10
+  lip r14, 2
+  br strtol
+  mov r4, r0
+  ;@ line examples/c/calculator.c:22
+  lip r12, P_4
+  ld r12, r12, 0, any, keep
+  ld r0, r12, -4, any, keep
+  sar r3, r0, r9
+  addi r2, r3, 1
+  lip r12, P_4
+  ld r12, r12, 0, any, keep
+  ld r0, r12, -4, any, keep
+  shl r0, r0, r9
+  shr r1, r0, r9
+  shl r0, r2, r9
+  or r0, r1, r0
+  lip r12, P_4
+  ld r12, r12, 0, any, keep
+  st r12, r0, -4, any, keep
+  ldi r13, 4
+  shl r2, r3, r13
+  lip r12, P_5
+  ld r12, r12, 0, any, keep
+  lea r0, r12, r2
+  ld r1, r0, 0, any, keep
+  ldi r13, 0
+  xor r0, r1, r13
+  ldi r13, 0
+  ldhi r13, 4294967295
+  and r0, r0, r13
+  xor r1, r1, r0
+  lip r12, P_5
+  ld r12, r12, 0, any, keep
+  lea r0, r12, r2
+  st r0, r1, 0, any, keep
+  ldi r13, 4
+  shl r0, r3, r13
+  addi r0, r0, 8
+  lip r12, P_5
+  ld r12, r12, 0, any, keep
+  lea r0, r12, r0
+  st r0, r4, 0, any, keep
+  ;@ line examples/c/calculator.c:42
+  br L72
+L71:
+  ;@ line examples/c/calculator.c:43
+  ldi r13, 1
+  add r2, r3, r13
+  isptr r0, r3
+  bz r0, L80
+  ldi r0, 54
+  shr r0, r3, r0
+  xor r1, r2, r3
+  shr r1, r1, r0
+  bnz r1, L80
+  lea r2, r3, r13
+L80:
+  st r7, r2, 0, any, keep
+  and r0, r3, r10
+  ldi r12, 0
+  sub r0, r12, r0
+  lea r0, r3, r0
+  shl r1, r3, r11
+  ld r0, r0, 0, any, keep
+  shr r0, r0, r1
+  shl r0, r0, r6
+  sar r0, r0, r6
+  addi r4, r0, -97
+  ;@ line examples/c/calculator.c:22
+  lip r12, P_4
+  ld r12, r12, 0, any, keep
+  ld r0, r12, -4, any, keep
+  sar r3, r0, r9
+  addi r2, r3, 1
+  lip r12, P_4
+  ld r12, r12, 0, any, keep
+  ld r0, r12, -4, any, keep
+  shl r0, r0, r9
+  shr r1, r0, r9
+  shl r0, r2, r9
+  or r0, r1, r0
+  lip r12, P_4
+  ld r12, r12, 0, any, keep
+  st r12, r0, -4, any, keep
+  ldi r13, 4
+  shl r2, r3, r13
+  lip r12, P_5
+  ld r12, r12, 0, any, keep
+  lea r0, r12, r2
+  ld r1, r0, 0, any, keep
+  ldi r13, 1
+  xor r0, r1, r13
+  ldi r13, 0
+  ldhi r13, 4294967295
+  and r0, r0, r13
+  xor r1, r1, r0
+  lip r12, P_5
+  ld r12, r12, 0, any, keep
+  lea r0, r12, r2
+  st r0, r1, 0, any, keep
+  ldi r13, 4
+  shl r0, r3, r13
+  addi r0, r0, 8
+  lip r12, P_5
+  ld r12, r12, 0, any, keep
+  lea r0, r12, r0
+  st r0, r4, 0, any, keep
+L72:
+  ;@ line examples/c/calculator.c:45
+  ld r7, r15, 0, any, keep
+  ld r8, r15, 8, any, keep
+  ld r9, r15, 16, any, keep
+  ld r10, r15, 24, any, keep
+  ld r11, r15, 32, any, keep
+  ld r14, r15, 40, any, keep
+  leai r15, r15, 48
+  jmp r14
+strtol:
+  leai r15, r15, -8
+  st r15, r14, 0, any, keep
+  lip r14, 2
+  br strtoul
+  ld r14, r15, 0, any, keep
+  leai r15, r15, 8
+  jmp r14
+strtoul:
+  leai r15, r15, -56
+  st r15, r7, 16, any, keep
+  st r15, r8, 24, any, keep
+  st r15, r9, 32, any, keep
+  st r15, r10, 40, any, keep
+  st r15, r11, 48, any, keep
+  st r15, r1, 8, any, keep
+  mov r10, r0
+  mov r8, r2
+  ldi r11, 3
+  ldi r9, 0
+  ldi r6, 56
+  ldi r5, -5
+  mov r4, r9
+L83:
+  lea r1, r10, r4
+  ldi r13, 7
+  and r0, r1, r13
+  sub r0, r9, r0
+  lea r0, r1, r0
+  shl r1, r1, r11
+  ld r0, r0, 0, any, keep
+  shr r0, r0, r1
+  shl r0, r0, r6
+  sar r3, r0, r6
+  ldi r13, 255
+  and r2, r3, r13
+  ldi r13, 32
+  eq r0, r2, r13
+  eq r1, r0, r9
+  addi r0, r2, -14
+  ltu r0, r0, r5
+  and r0, r1, r0
+  addi r7, r4, 1
+  bnz r0, L84
+L100:
+  mov r4, r7
+  br L83
+L84:
+  ldi r13, 43
+  eq r0, r3, r13
+  bnz r0, L85
+  ldi r13, 45
+  eq r0, r3, r13
+  bnz r0, L85
+L101:
+  st r15, r9, 0, any, keep
+  mov r7, r4
+  br L86
+L85:
+  ldi r13, 45
+  eq r12, r2, r13
+  st r15, r12, 0, any, keep
+L86:
+  eq r4, r8, r9
+  ldi r13, -17
+  and r0, r8, r13
+  bnz r0, L90
+L87:
+  lea r1, r10, r7
+  ldi r13, 7
+  and r0, r1, r13
+  sub r0, r9, r0
+  lea r0, r1, r0
+  shl r1, r1, r11
+  ld r0, r0, 0, any, keep
+  shr r0, r0, r1
+  ldi r13, 255
+  and r0, r0, r13
+  ldi r13, 48
+  eq r0, r0, r13
+  bz r0, L90
+L88:
+  addi r0, r7, 1
+  lea r1, r10, r0
+  ldi r13, 7
+  and r0, r1, r13
+  sub r0, r9, r0
+  lea r0, r1, r0
+  shl r1, r1, r11
+  ld r0, r0, 0, any, keep
+  shr r0, r0, r1
+  shl r0, r0, r6
+  sar r0, r0, r6
+  ldi r13, -33
+  and r0, r0, r13
+  ldi r13, 88
+  eq r0, r0, r13
+  bz r0, L90
+L89:
+  addi r3, r7, 2
+  lea r1, r10, r3
+  ldi r13, 7
+  and r0, r1, r13
+  sub r0, r9, r0
+  lea r0, r1, r0
+  shl r1, r1, r11
+  ld r0, r0, 0, any, keep
+  shr r0, r0, r1
+  shl r0, r0, r6
+  sar r1, r0, r6
+  addi r0, r1, -48
+  ldi r13, 10
+  ltu r2, r0, r13
+  ldi r13, -33
+  and r0, r1, r13
+  addi r0, r0, -65
+  ldi r13, 6
+  ltu r0, r0, r13
+  or r1, r2, r0
+  ldi r13, 1
+  xor r0, r4, r13
+  or r0, r1, r0
+  bnz r1, L107
+  mov r3, r7
+L107:
+  ldi r2, 16
+  bnz r1, L108
+  mov r2, r8
+L108:
+  bnz r0, L102
+L103:
+  ldi r8, 8
+  br L93
+L102:
+  mov r7, r3
+  mov r8, r2
+  br L93
+L90:
+  bnz r8, L93
+L91:
+  lea r1, r10, r7
+  ldi r13, 7
+  and r0, r1, r13
+  sub r0, r9, r0
+  lea r0, r1, r0
+  shl r1, r1, r11
+  ld r0, r0, 0, any, keep
+  shr r0, r0, r1
+  ldi r13, 255
+  and r0, r0, r13
+  ldi r13, 48
+  eq r0, r0, r13
+  ldi r8, 8
+  bnz r0, L93
+  ldi r8, 10
+L109:
+L93:
+  mov r5, r9
+  mov r4, r7
+L94:
+  lea r1, r10, r4
+  ldi r13, 7
+  and r0, r1, r13
+  sub r0, r9, r0
+  lea r0, r1, r0
+  shl r1, r1, r11
+  ld r0, r0, 0, any, keep
+  shr r0, r0, r1
+  ldi r13, 255
+  and r2, r0, r13
+  addi r1, r2, -48
+  ldi r12, 9
+  ltu r0, r12, r1
+  bz r0, L96
+L95:
+  ldi r13, 223
+  and r0, r2, r13
+  addi r1, r0, -91
+  ldi r13, 32
+  or r0, r2, r13
+  addi r2, r0, -87
+  ldi r13, -26
+  ltu r0, r1, r13
+  ldi r1, 99
+  bnz r0, L96
+  mov r1, r2
+L110:
+L96:
+  mul r0, r5, r8
+  add r3, r0, r1
+  addi r2, r4, 1
+  lts r0, r1, r8
+  bz r0, L97
+L106:
+  mov r5, r3
+  mov r4, r2
+  br L94
+L97:
+  ld r12, r15, 8, any, keep
+  bz r12, L99
+L98:
+  eq r0, r4, r7
+  mov r3, r9
+  bnz r0, L111
+  mov r3, r4
+L111:
+  add r2, r10, r3
+  isptr r0, r10
+  bz r0, L112
+  ldi r0, 54
+  shr r0, r10, r0
+  xor r1, r2, r10
+  shr r1, r1, r0
+  bnz r1, L112
+  lea r2, r10, r3
+L112:
+  ld r12, r15, 8, any, keep
+  st r12, r2, 0, any, keep
+L99:
+  sub r0, r9, r5
+  ld r12, r15, 0, any, keep
+  bnz r12, L113
+  mov r0, r5
+L113:
+  ld r7, r15, 16, any, keep
+  ld r8, r15, 24, any, keep
+  ld r9, r15, 32, any, keep
+  ld r10, r15, 40, any, keep
+  ld r11, r15, 48, any, keep
+  leai r15, r15, 56
+  jmp r14
+div_:
+  ;@ function examples/c/calculator.c:70
+  ;@ frame back - caller by 0
+  mov r3, r1
+  ldi r1, 63
+  ;@ line examples/c/calculator.c:70
+  bnz r3, L115
+L117:
+  ldi r0, 0
+  br L116
+L115:
+  sar r2, r0, r1
+  xor r0, r0, r2
+  sub r4, r0, r2
+  sar r1, r3, r1
+  xor r0, r3, r1
+  sub r0, r0, r1
+  divu r0, r4, r0
+  xor r1, r2, r1
+  xor r0, r0, r1
+  sub r0, r0, r1
+L116:
+  jmp r14
+mul:
+  ;@ function examples/c/calculator.c:69
+  ;@ frame back - caller by 0
+  ;@ line examples/c/calculator.c:69
+  mul r0, r1, r0
+  jmp r14
+sub:
+  ;@ function examples/c/calculator.c:68
+  ;@ frame back - caller by 0
+  ;@ line examples/c/calculator.c:68
+  sub r0, r0, r1
+  jmp r14
+add:
+  ;@ function examples/c/calculator.c:67
+  ;@ frame back - caller by 0
+  ;@ line examples/c/calculator.c:67
+  add r0, r1, r0
+  jmp r14
+P_0: .ptr ro _str+1
+P_1: .ptr ro _str_1+1
+P_2: .ptr ro _str_2+11
+P_3: .ptr rw at+0
+P_4: .ptr rw length+4
+P_5: .ptr rw program+0
+P_6: .ptr rw top+4
+P_7: .ptr rw c_stack+0
+P_8: .ptr rw variables+48
+P_9: .ptr ro operations+0
+P_10: .ptr rw stdout+0
+P_11: .ptr ro _str_3+4
+.segment _str 4
+  .int 0x202a2036203a7800
+  .int 0x2934202b203328
+.segment _str_1 4
+  .int 0x202f2078203a7900
+  .int 0x303031202d2035
+.segment _str_2 5
+  .fill 1
+  .int 0x7828203a7a000000
+  .int 0x202a202979202b20
+  .int 0x2979202d207828
+.segment at 3
+  ;@ global at 8 at 0
+.segment length 3
+  ;@ global length 4 at 4
+.segment program 10
+  ;@ global program 1024 at 0
+.segment top 3
+  ;@ global top 4 at 4
+.segment operations 5
+  ;@ global operations 32 at 0
+  .ptr xu add
+  .ptr xu sub
+  .ptr xu mul
+  .ptr xu div_
+.segment c_stack 7
+  ;@ global stack 128 at 0
+.segment variables 8
+  ;@ global variables 208 at 48
+.segment stdout 3
+  ;@ global stdout 8 at 0
+  .ptr rw files+8
+.segment _str_3 3
+  .int 0x203d2000000000
+.segment files 4
+  ;@ global files 12 at 4
+  .fill 1
+  .int 0x200000001
+.segment stack 16
+.thread 0 0 none xu start
+.reg 15 ptr rw stack+65472

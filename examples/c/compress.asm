@@ -1,0 +1,783 @@
+.segment text 13
+start:
+  ldi r0, 1
+  ldi r1, 0
+  lip r14, 2
+  br main
+  halt
+main:
+  ;@ function examples/c/compress.c:51
+  ;@ frame back 80 caller at 88
+  ;@ local digits.i21 20 at 104 log 5
+  ;@ local digits.i 20 at 136 log 5
+  ldi r13, 31
+  and r13, r15, r13
+  ldi r12, -160
+  sub r13, r12, r13
+  lea r12, r15, r13
+  st r12, r15, 88, any, keep
+  mov r15, r12
+  st r15, r7, 40, any, keep
+  st r15, r8, 48, any, keep
+  st r15, r9, 56, any, keep
+  st r15, r10, 64, any, keep
+  st r15, r11, 72, any, keep
+  st r15, r14, 80, any, keep
+  leai r12, r15, 104
+  ldi r14, 5
+  subseg r12, r12, r14
+  st r15, r12, 32, any, keep
+  leai r12, r15, 136
+  ldi r14, 5
+  subseg r12, r12, r14
+  st r15, r12, 24, any, keep
+  lip r8, P_0
+  ld r8, r8, 0, any, keep
+  ldi r10, 250
+  ldi r12, 0
+  st r15, r12, 16, any, keep
+  ldi r11, 0
+L2:
+  ;@ line examples/c/compress.c:17
+  ldi r12, 0
+  lts r0, r12, r11
+  bnz r0, L3
+L35:
+  ldi r2, 0
+  ldi r1, 0
+  br L5
+L3:
+  ldi r13, 178
+  lts r1, r11, r13
+  ldi r0, 178
+  bnz r1, L54
+  mov r0, r11
+L54:
+  sub r0, r0, r11
+  ldi r13, 32
+  shl r0, r0, r13
+  ldi r13, 32
+  sar r7, r0, r13
+  ldi r13, 178
+  lts r1, r11, r13
+  ldi r0, 178
+  bnz r1, L55
+  mov r0, r11
+L55:
+  sub r6, r0, r11
+  addi r1, r11, -1
+  ldi r13, 32
+  shl r0, r1, r13
+  ldi r13, 32
+  sar r0, r0, r13
+  ldi r13, 0
+  ldhi r13, 4294967295
+  and r0, r1, r13
+  ldi r13, 254
+  ltu r1, r0, r13
+  bnz r1, L56
+  ldi r0, 254
+L56:
+  addi r12, r0, 2
+  st r15, r12, 8, any, keep
+  ldi r5, 1
+  ldi r12, 0
+  st r15, r12, 0, any, keep
+  ldi r9, 0
+L4:
+  ldi r3, 0
+  ;@ line examples/c/compress.c:19
+  br L6
+L5:
+  ;@ line examples/c/compress.c:24
+  ldi r12, 3
+  lts r0, r12, r2
+  bnz r0, L11
+  br L12
+L6:
+  ;@ line examples/c/compress.c:19
+  add r2, r3, r11
+  eq r0, r3, r6
+  bz r0, L7
+L36:
+  mov r0, r7
+  br L10
+L7:
+  addi r1, r2, 72
+  ldi r13, -8
+  and r0, r1, r13
+  leab r0, r8, r0
+  ldi r13, 3
+  shl r1, r1, r13
+  ld r0, r0, 0, any, keep
+  shr r0, r0, r1
+  ldi r13, 255
+  and r4, r0, r13
+  sub r0, r2, r5
+  addi r1, r0, 72
+  ldi r13, -8
+  and r0, r1, r13
+  leab r0, r8, r0
+  ldi r13, 3
+  shl r1, r1, r13
+  ld r0, r0, 0, any, keep
+  shr r0, r0, r1
+  ldi r13, 255
+  and r0, r0, r13
+  eq r0, r4, r0
+  bz r0, L9
+L8:
+  ;@ line examples/c/compress.c:20
+  addi r3, r3, 1
+  ;@ line examples/c/compress.c:19
+  eq r0, r3, r10
+  bz r0, L6
+L37:
+  mov r0, r10
+  br L10
+L9:
+  ldi r13, 32
+  shl r0, r3, r13
+  ldi r13, 32
+  sar r0, r0, r13
+L10:
+  ;@ line examples/c/compress.c:21
+  lts r1, r9, r0
+  mov r2, r0
+  bnz r1, L57
+  mov r2, r9
+L57:
+  lts r0, r9, r0
+  mov r1, r5
+  bnz r0, L58
+  ld r1, r15, 0, any, keep
+L58:
+  ;@ line examples/c/compress.c:17
+  addi r5, r5, 1
+  ld r13, r15, 8, any, keep
+  eq r0, r5, r13
+  bnz r0, L5
+L40:
+  st r15, r1, 0, any, keep
+  mov r9, r2
+  br L4
+L11:
+  ;@ line examples/c/compress.c:25
+  ld r12, r15, 16, any, keep
+  addi r6, r12, 1
+  ld r12, r15, 16, any, keep
+  ldi r13, -8
+  and r0, r12, r13
+  lip r12, P_1
+  ld r12, r12, 0, any, keep
+  leab r5, r12, r0
+  ld r12, r15, 16, any, keep
+  ldi r13, 3
+  shl r4, r12, r13
+  ld r3, r5, 0, any, keep
+  shr r0, r3, r4
+  ldi r13, 0
+  xor r0, r0, r13
+  ldi r13, 255
+  and r0, r0, r13
+  shl r0, r0, r4
+  xor r0, r3, r0
+  st r5, r0, 0, any, keep
+  ;@ line examples/c/compress.c:26
+  ld r12, r15, 16, any, keep
+  addi r12, r12, 2
+  st r15, r12, 0, any, keep
+  ldi r13, -8
+  and r0, r6, r13
+  lip r12, P_1
+  ld r12, r12, 0, any, keep
+  leab r5, r12, r0
+  ldi r13, 3
+  shl r4, r6, r13
+  ld r3, r5, 0, any, keep
+  shr r0, r3, r4
+  xor r0, r0, r1
+  ldi r13, 255
+  and r0, r0, r13
+  shl r0, r0, r4
+  xor r0, r3, r0
+  st r5, r0, 0, any, keep
+  mov r4, r2
+  ;@ line examples/c/compress.c:29
+  br L13
+L12:
+  ;@ line examples/c/compress.c:30
+  addi r1, r11, 72
+  ldi r13, -8
+  and r0, r1, r13
+  leab r0, r8, r0
+  ldi r13, 3
+  shl r1, r1, r13
+  ld r0, r0, 0, any, keep
+  shr r4, r0, r1
+  ld r12, r15, 16, any, keep
+  st r15, r12, 0, any, keep
+  ldi r2, 1
+L13:
+  ld r12, r15, 0, any, keep
+  ldi r13, -8
+  and r0, r12, r13
+  lip r12, P_1
+  ld r12, r12, 0, any, keep
+  leab r5, r12, r0
+  ld r12, r15, 0, any, keep
+  ldi r13, 3
+  shl r3, r12, r13
+  ld r1, r5, 0, any, keep
+  shr r0, r1, r3
+  xor r0, r0, r4
+  ldi r13, 255
+  and r0, r0, r13
+  shl r0, r0, r3
+  xor r0, r1, r0
+  st r5, r0, 0, any, keep
+  ld r12, r15, 0, any, keep
+  addi r12, r12, 1
+  st r15, r12, 16, any, keep
+  add r11, r2, r11
+  ;@ line examples/c/compress.c:15
+  ldi r13, 178
+  lts r0, r11, r13
+  bnz r0, L2
+L14:
+  ;@ line examples/c/compress.c:39
+  ldi r12, -1
+  ld r13, r15, 0, any, keep
+  lts r0, r12, r13
+  bnz r0, L42
+L43:
+  ldi r7, 0
+  br L23
+L42:
+  ldi r6, 0
+  ldi r7, 0
+L15:
+  ;@ line examples/c/compress.c:40
+  ldi r13, -8
+  and r0, r6, r13
+  lip r12, P_1
+  ld r12, r12, 0, any, keep
+  leab r0, r12, r0
+  ldi r13, 3
+  shl r1, r6, r13
+  ld r0, r0, 0, any, keep
+  shr r0, r0, r1
+  ldi r13, 255
+  and r4, r0, r13
+  bnz r4, L18
+L16:
+  addi r1, r6, 2
+  ldi r13, -8
+  and r0, r1, r13
+  lip r12, P_1
+  ld r12, r12, 0, any, keep
+  leab r0, r12, r0
+  ldi r13, 3
+  shl r1, r1, r13
+  ld r0, r0, 0, any, keep
+  shr r0, r0, r1
+  ldi r13, 255
+  and r10, r0, r13
+  ;@ line examples/c/compress.c:44
+  bz r10, L21
+L17:
+  addi r1, r6, 1
+  ldi r13, -8
+  and r0, r1, r13
+  lip r12, P_1
+  ld r12, r12, 0, any, keep
+  leab r0, r12, r0
+  ldi r13, 3
+  shl r1, r1, r13
+  ld r0, r0, 0, any, keep
+  shr r0, r0, r1
+  ldi r13, 255
+  and r9, r0, r13
+  ldi r5, 0
+  br L22
+L18:
+  ;@ line examples/c/compress.c:41
+  addi r6, r6, 1
+  addi r5, r7, 1
+  addi r1, r7, 72
+  ldi r13, -8
+  and r0, r1, r13
+  lip r12, P_2
+  ld r12, r12, 0, any, keep
+  leab r3, r12, r0
+  ldi r13, 3
+  shl r2, r1, r13
+  ld r1, r3, 0, any, keep
+  shr r0, r1, r2
+  xor r0, r0, r4
+  ldi r13, 255
+  and r0, r0, r13
+  shl r0, r0, r2
+  xor r0, r1, r0
+  st r3, r0, 0, any, keep
+  mov r7, r5
+L19:
+  ;@ line examples/c/compress.c:39
+  ld r12, r15, 0, any, keep
+  lts r0, r12, r6
+  bnz r0, L23
+  br L15
+L20:
+  ;@ line examples/c/compress.c:46
+  ldi r13, 32
+  shl r0, r7, r13
+  ldi r13, 32
+  sar r7, r0, r13
+L21:
+  addi r6, r6, 3
+  ;@ line examples/c/compress.c:39
+  br L19
+L22:
+  ;@ line examples/c/compress.c:45
+  sub r0, r7, r9
+  addi r1, r0, 72
+  ldi r13, -8
+  and r0, r1, r13
+  lip r12, P_2
+  ld r12, r12, 0, any, keep
+  leab r0, r12, r0
+  ldi r13, 3
+  shl r1, r1, r13
+  ld r0, r0, 0, any, keep
+  shr r4, r0, r1
+  addi r1, r7, 72
+  ldi r13, -8
+  and r0, r1, r13
+  lip r12, P_2
+  ld r12, r12, 0, any, keep
+  leab r3, r12, r0
+  ldi r13, 3
+  shl r2, r1, r13
+  ld r1, r3, 0, any, keep
+  shr r0, r1, r2
+  xor r0, r0, r4
+  ldi r13, 255
+  and r0, r0, r13
+  shl r0, r0, r2
+  xor r0, r1, r0
+  st r3, r0, 0, any, keep
+  ;@ line examples/c/compress.c:44
+  addi r5, r5, 1
+  addi r7, r7, 1
+  eq r0, r5, r10
+  bnz r0, L20
+  br L22
+L23:
+  ldi r2, 0
+  ldi r1, 178
+L24:
+  ;@ line examples/c/say.h:20
+  ldi r13, 10
+  divu r6, r1, r13
+  ldi r13, 10
+  mul r0, r6, r13
+  sub r0, r1, r0
+  ;@ line examples/c/say.h:19
+  ldi r13, 48
+  or r4, r0, r13
+  addi r5, r2, 1
+  addi r1, r2, 8
+  ldi r13, -8
+  and r0, r1, r13
+  ld r12, r15, 24, any, keep
+  leab r3, r12, r0
+  ldi r13, 3
+  shl r2, r1, r13
+  ld r1, r3, 0, any, keep
+  shr r0, r1, r2
+  xor r0, r0, r4
+  ldi r13, 255
+  and r0, r0, r13
+  shl r0, r0, r2
+  xor r0, r1, r0
+  st r3, r0, 0, any, keep
+  ldi r13, 3
+  eq r0, r5, r13
+  bnz r0, L48
+L49:
+  mov r2, r5
+  mov r1, r6
+  br L24
+L48:
+  ldi r9, 3
+L25:
+  ;@ line examples/c/say.h:22
+  addi r9, r9, -1
+  addi r1, r9, 8
+  ldi r13, -8
+  and r0, r1, r13
+  ld r12, r15, 24, any, keep
+  leab r0, r12, r0
+  ldi r13, 3
+  shl r1, r1, r13
+  ld r0, r0, 0, any, keep
+  shr r0, r0, r1
+  ldi r13, 56
+  shl r0, r0, r13
+  ldi r13, 56
+  sar r0, r0, r13
+  lip r14, 2
+  br putchar
+  ;@ line examples/c/say.h:21
+  bnz r9, L25
+L26:
+  ;@ line examples/c/say.h:8
+  lip r12, P_3
+  ld r12, r12, 0, any, keep
+  ld r3, r12, 0, any, keep
+  lip r0, P_4
+  ld r0, r0, 0, any, keep
+  ldi r1, 14
+  ldi r2, 1
+  lip r14, 2
+  br fwrite
+  ;@ line examples/c/say.h:15
+  ldi r12, 0
+  ld r13, r15, 16, any, keep
+  sub r1, r12, r13
+  ld r12, r15, 0, any, keep
+  ldi r13, -1
+  lts r0, r12, r13
+  mov r9, r1
+  bnz r0, L59
+  ld r9, r15, 16, any, keep
+L59:
+  ;@ line examples/c/say.h:16
+  ld r12, r15, 0, any, keep
+  ldi r13, -1
+  lts r0, r12, r13
+  bz r0, L28
+L27:
+  ;@ line examples/c/say.h:17
+  ldi r0, 45
+  lip r14, 2
+  br putchar
+L28:
+  ldi r1, 0
+L29:
+  ;@ line examples/c/say.h:20
+  ldi r13, 10
+  divu r5, r9, r13
+  ldi r13, 10
+  mul r0, r5, r13
+  sub r0, r9, r0
+  ;@ line examples/c/say.h:19
+  ldi r13, 48
+  or r4, r0, r13
+  addi r6, r1, 1
+  addi r1, r1, 8
+  ldi r13, -8
+  and r0, r1, r13
+  ld r12, r15, 32, any, keep
+  leab r3, r12, r0
+  ldi r13, 3
+  shl r2, r1, r13
+  ld r1, r3, 0, any, keep
+  shr r0, r1, r2
+  xor r0, r0, r4
+  ldi r13, 255
+  and r0, r0, r13
+  shl r0, r0, r2
+  xor r0, r1, r0
+  st r3, r0, 0, any, keep
+  ldi r13, 10
+  ltu r0, r9, r13
+  bnz r0, L30
+L51:
+  mov r1, r6
+  mov r9, r5
+  br L29
+L30:
+  ;@ line examples/c/say.h:21
+  ldi r13, 32
+  shl r0, r6, r13
+  ldi r13, 32
+  sar r9, r0, r13
+L31:
+  ;@ line examples/c/say.h:22
+  addi r9, r9, -1
+  addi r1, r9, 8
+  ldi r13, -8
+  and r0, r1, r13
+  ld r12, r15, 32, any, keep
+  leab r0, r12, r0
+  ldi r13, 3
+  shl r1, r1, r13
+  ld r0, r0, 0, any, keep
+  shr r0, r0, r1
+  ldi r13, 56
+  shl r0, r0, r13
+  ldi r13, 56
+  sar r0, r0, r13
+  lip r14, 2
+  br putchar
+  ;@ line examples/c/say.h:21
+  bnz r9, L31
+L32:
+  ;@ line examples/c/compress.c:58
+  ldi r13, 178
+  eq r0, r7, r13
+  bnz r0, L33
+L53:
+  ldi r5, 0
+  lip r4, P_5
+  ld r4, r4, 0, any, keep
+  br L34
+L33:
+  mov r0, r8
+  lip r1, P_2
+  ld r1, r1, 0, any, keep
+  ldi r2, 178
+  lip r14, 2
+  br memcmp
+  lip r4, P_5
+  ld r4, r4, 0, any, keep
+  bnz r0, L60
+  lip r4, P_6
+  ld r4, r4, 0, any, keep
+L60:
+  ldi r5, 0
+L34:
+  ;@ line examples/c/say.h:8
+  lip r12, P_3
+  ld r12, r12, 0, any, keep
+  ld r3, r12, 0, any, keep
+  add r2, r4, r5
+  isptr r0, r4
+  bz r0, L61
+  ldi r0, 54
+  shr r0, r4, r0
+  xor r1, r2, r4
+  shr r1, r1, r0
+  bnz r1, L61
+  lea r2, r4, r5
+L61:
+  mov r0, r2
+  mov r1, r3
+  lip r14, 2
+  br fputs
+  ;@ line examples/c/compress.c:59
+  ldi r0, 0
+  ld r7, r15, 40, any, keep
+  ld r8, r15, 48, any, keep
+  ld r9, r15, 56, any, keep
+  ld r10, r15, 64, any, keep
+  ld r11, r15, 72, any, keep
+  ld r14, r15, 80, any, keep
+  ld r15, r15, 88, any, keep
+  jmp r14
+fputs:
+  leai r15, r15, -16
+  st r15, r7, 0, any, keep
+  st r15, r8, 8, any, keep
+  mov r5, r0
+  ldi r6, 3
+  ldi r4, 0
+  ldi r7, 7
+  ldi r3, 56
+  ldi r8, 255
+  and r0, r5, r7
+  sub r0, r4, r0
+  lea r0, r5, r0
+  shl r1, r5, r6
+  ld r0, r0, 0, any, keep
+  shr r0, r0, r1
+  shl r0, r0, r3
+  sar r1, r0, r3
+  and r0, r1, r8
+  bz r0, L63
+L65:
+  mov r2, r4
+  br L64
+L63:
+  mov r0, r4
+  ld r7, r15, 0, any, keep
+  ld r8, r15, 8, any, keep
+  leai r15, r15, 16
+  jmp r14
+L64:
+  out r1
+  addi r2, r2, 1
+  lea r1, r5, r2
+  and r0, r1, r7
+  sub r0, r4, r0
+  lea r0, r1, r0
+  shl r1, r1, r6
+  ld r0, r0, 0, any, keep
+  shr r0, r0, r1
+  shl r0, r0, r3
+  sar r1, r0, r3
+  and r0, r1, r8
+  bz r0, L63
+  br L64
+memcmp:
+  leai r15, r15, -32
+  st r15, r7, 0, any, keep
+  st r15, r8, 8, any, keep
+  st r15, r9, 16, any, keep
+  st r15, r10, 24, any, keep
+  mov r9, r0
+  mov r10, r1
+  mov r8, r2
+  ldi r5, 3
+  ldi r4, 0
+  ldi r6, 7
+  ldi r7, 255
+  bz r8, L72
+L73:
+  mov r2, r4
+  br L69
+L72:
+  mov r0, r4
+  br L71
+L68:
+  eq r0, r2, r8
+  bz r0, L69
+L74:
+  mov r0, r4
+  br L71
+L69:
+  lea r1, r9, r2
+  and r0, r1, r6
+  sub r0, r4, r0
+  lea r0, r1, r0
+  shl r1, r1, r5
+  ld r0, r0, 0, any, keep
+  shr r0, r0, r1
+  and r3, r0, r7
+  lea r1, r10, r2
+  and r0, r1, r6
+  sub r0, r4, r0
+  lea r0, r1, r0
+  shl r1, r1, r5
+  ld r0, r0, 0, any, keep
+  shr r0, r0, r1
+  and r1, r0, r7
+  addi r2, r2, 1
+  eq r0, r3, r1
+  bnz r0, L68
+L70:
+  ltu r1, r3, r1
+  ldi r0, -1
+  bnz r1, L71
+  ldi r0, 1
+L76:
+L71:
+  ld r7, r15, 0, any, keep
+  ld r8, r15, 8, any, keep
+  ld r9, r15, 16, any, keep
+  ld r10, r15, 24, any, keep
+  leai r15, r15, 32
+  jmp r14
+fwrite:
+  leai r15, r15, -24
+  st r15, r7, 0, any, keep
+  st r15, r8, 8, any, keep
+  st r15, r9, 16, any, keep
+  mov r5, r0
+  mov r9, r2
+  mov r0, r3
+  ldi r7, 3
+  ldi r6, 0
+  ldi r8, 7
+  ldi r3, 56
+  mul r4, r9, r1
+  bz r4, L78
+L80:
+  mov r2, r6
+  br L79
+L78:
+  mov r0, r9
+  ld r7, r15, 0, any, keep
+  ld r8, r15, 8, any, keep
+  ld r9, r15, 16, any, keep
+  leai r15, r15, 24
+  jmp r14
+L79:
+  lea r1, r5, r2
+  and r0, r1, r8
+  sub r0, r6, r0
+  lea r0, r1, r0
+  shl r1, r1, r7
+  ld r0, r0, 0, any, keep
+  shr r0, r0, r1
+  shl r0, r0, r3
+  sar r0, r0, r3
+  out r0
+  addi r2, r2, 1
+  eq r0, r2, r4
+  bnz r0, L78
+  br L79
+putchar:
+  out r0
+  ldi r13, 255
+  and r0, r0, r13
+  jmp r14
+P_0: .ptr ro c_text+72
+P_1: .ptr rw packed+0
+P_2: .ptr rw unpacked+72
+P_3: .ptr rw stdout+0
+P_4: .ptr ro _str+1
+P_5: .ptr ro _str_2+0
+P_6: .ptr ro _str_1+9
+.segment c_text 8
+  ;@ global text 179 at 72
+  .fill 9
+  .int 0x65746e696f702061
+  .int 0x2061207361682072
+  .int 0x697373696d726570
+  .int 0x65732061202c6e6f
+  .int 0x6e6120746e656d67
+  .int 0x646461206e612064
+  .int 0x2061203b73736572
+  .int 0x207265746e696f70
+  .int 0x61656c2074616874
+  .int 0x2073746920736576
+  .int 0x20746e656d676573
+  .int 0x6f70206f6e207369
+  .int 0x61202c7265746e69
+  .int 0x696f70206120646e
+  .int 0x616874207265746e
+  .int 0x6f6e207361682074
+  .int 0x7373696d72657020
+  .int 0x6c206f74206e6f69
+  .int 0x612073692064616f
+  .int 0x7265746e696f7020
+  .int 0x6163207461687420
+  .int 0x616f6c20746f6e6e
+  .int 0x2e64
+.segment packed 9
+  ;@ global packed 512 at 0
+.segment unpacked 8
+  ;@ global unpacked 179 at 72
+.segment stdout 3
+  ;@ global stdout 8 at 0
+  .ptr rw files+8
+.segment _str 4
+  .int 0x2073657479622000
+  .int 0x20656d6f636562
+.segment _str_1 5
+  .fill 1
+  .int 0x6320646e61202c00
+  .int 0x6b63616220656d6f
+  .int 0xa656c6f687720
+.segment _str_2 4
+  .int 0x726120646e61202c
+  .int 0xa74736f6c2065
+.segment files 4
+  ;@ global files 12 at 4
+  .fill 1
+  .int 0x200000001
+.segment stack 16
+.thread 0 0 none xu start
+.reg 15 ptr rw stack+65472

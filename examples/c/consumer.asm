@@ -1,0 +1,78 @@
+.segment consumer_text 9
+start:
+  ldi r0, 1
+  ldi r1, 0
+  lip r14, 2
+  br consumer_main
+  halt
+consumer_main:
+  ;@ function examples/c/consumer.c:7
+  ;@ frame back 40 caller by 48
+  leai r15, r15, -48
+  st r15, r7, 0, any, keep
+  st r15, r8, 8, any, keep
+  st r15, r9, 16, any, keep
+  st r15, r10, 24, any, keep
+  st r15, r11, 32, any, keep
+  st r15, r14, 40, any, keep
+  lip r8, P_0
+  ld r8, r8, 0, any, keep
+  ldi r9, 32
+  ldi r10, 3
+  ldi r11, 54
+  ;@ line examples/c/consumer.c:10
+  mov r0, r8
+  lip r14, 2
+  br consumer_mm_take
+  ;@ line examples/c/consumer.c:11
+  bz r0, L3
+L4:
+  ldi r7, 0
+L2:
+  ;@ line examples/c/consumer.c:13
+  shl r0, r0, r9
+  sar r0, r0, r9
+  lip r14, 2
+  br consumer_putchar
+  ;@ line examples/c/consumer.c:9
+  addi r7, r7, 1
+  ;@ line examples/c/consumer.c:10
+  and r0, r7, r10
+  shl r3, r0, r10
+  add r2, r8, r3
+  isptr r0, r8
+  bz r0, L6
+  shr r0, r8, r11
+  xor r1, r2, r8
+  shr r1, r1, r0
+  bnz r1, L6
+  lea r2, r8, r3
+L6:
+  mov r0, r2
+  lip r14, 2
+  br consumer_mm_take
+  ;@ line examples/c/consumer.c:11
+  bnz r0, L2
+L3:
+  ;@ line examples/c/consumer.c:15
+  ldi r0, 0
+  ld r7, r15, 0, any, keep
+  ld r8, r15, 8, any, keep
+  ld r9, r15, 16, any, keep
+  ld r10, r15, 24, any, keep
+  ld r11, r15, 32, any, keep
+  ld r14, r15, 40, any, keep
+  leai r15, r15, 48
+  jmp r14
+consumer_putchar:
+  out r0
+  ldi r13, 255
+  and r0, r0, r13
+  jmp r14
+consumer_mm_take:
+  ld r0, r0, 0, full, empty
+  jmp r14
+P_0: .ptr rw ring+0
+.segment consumer_stack 16
+.thread 1 1 none xu start
+.reg 15 ptr rw consumer_stack+65472

@@ -1,0 +1,158 @@
+.segment guest_text 10
+start:
+  ldi r0, 1
+  ldi r1, 0
+  lip r14, 2
+  br guest_main
+  halt
+guest_main:
+  ;@ function examples/c/guest.c:7
+  ;@ frame back 48 caller at 56
+  ;@ local digits.i 20 at 72 log 5
+  ldi r13, 31
+  and r13, r15, r13
+  ldi r12, -96
+  sub r13, r12, r13
+  lea r12, r15, r13
+  st r12, r15, 56, any, keep
+  mov r15, r12
+  st r15, r7, 8, any, keep
+  st r15, r8, 16, any, keep
+  st r15, r9, 24, any, keep
+  st r15, r10, 32, any, keep
+  st r15, r11, 40, any, keep
+  st r15, r14, 48, any, keep
+  leai r8, r15, 72
+  ldi r14, 5
+  subseg r8, r8, r14
+  ldi r9, 10
+  ldi r10, 3
+  ldi r11, -8
+  ldi r12, 0
+  st r15, r12, 0, any, keep
+  ;@ line examples/c/guest.c:9
+  br L3
+L2:
+  ;@ line examples/c/guest.c:13
+  ldi r0, 0
+  ld r7, r15, 8, any, keep
+  ld r8, r15, 16, any, keep
+  ld r9, r15, 24, any, keep
+  ld r10, r15, 32, any, keep
+  ld r11, r15, 40, any, keep
+  ld r14, r15, 48, any, keep
+  ld r15, r15, 56, any, keep
+  jmp r14
+L3:
+  ;@ line examples/c/guest.c:10
+  lip r13, P_0
+  ld r13, r13, 0, any, keep
+  jal r14, r13
+  ;@ line examples/c/say.h:15
+  ldi r12, 0
+  sub r2, r12, r0
+  ldi r13, 0
+  lts r1, r0, r13
+  mov r7, r2
+  bnz r1, L13
+  mov r7, r0
+L13:
+  ;@ line examples/c/say.h:16
+  ldi r13, 0
+  lts r0, r0, r13
+  bz r0, L5
+L4:
+  ;@ line examples/c/say.h:17
+  ldi r0, 45
+  lip r14, 2
+  br guest_putchar
+L5:
+  ldi r1, 0
+L6:
+  ;@ line examples/c/say.h:20
+  divu r5, r7, r9
+  mul r0, r5, r9
+  sub r0, r7, r0
+  ;@ line examples/c/say.h:19
+  ldi r13, 48
+  or r4, r0, r13
+  addi r6, r1, 1
+  addi r1, r1, 8
+  and r0, r1, r11
+  leab r3, r8, r0
+  shl r2, r1, r10
+  ld r1, r3, 0, any, keep
+  shr r0, r1, r2
+  xor r0, r0, r4
+  ldi r13, 255
+  and r0, r0, r13
+  shl r0, r0, r2
+  xor r0, r1, r0
+  st r3, r0, 0, any, keep
+  ltu r0, r7, r9
+  bnz r0, L7
+L10:
+  mov r1, r6
+  mov r7, r5
+  br L6
+L7:
+  ;@ line examples/c/say.h:21
+  ldi r13, 32
+  shl r0, r6, r13
+  ldi r13, 32
+  sar r7, r0, r13
+L8:
+  ;@ line examples/c/say.h:22
+  addi r7, r7, -1
+  addi r1, r7, 8
+  and r0, r1, r11
+  leab r0, r8, r0
+  shl r1, r1, r10
+  ld r0, r0, 0, any, keep
+  shr r0, r0, r1
+  ldi r13, 56
+  shl r0, r0, r13
+  ldi r13, 56
+  sar r0, r0, r13
+  lip r14, 2
+  br guest_putchar
+  ;@ line examples/c/say.h:21
+  bnz r7, L8
+L9:
+  ;@ line examples/c/say.h:8
+  lip r12, P_1
+  ld r12, r12, 0, any, keep
+  ld r1, r12, 0, any, keep
+  ldi r0, 32
+  lip r14, 2
+  br guest_fputc
+  ;@ line examples/c/guest.c:9
+  ld r12, r15, 0, any, keep
+  addi r12, r12, 1
+  st r15, r12, 0, any, keep
+  ld r12, r15, 0, any, keep
+  eq r0, r12, r10
+  bnz r0, L2
+  br L3
+guest_fputc:
+  out r0
+  ldi r13, 255
+  and r0, r0, r13
+  jmp r14
+guest_putchar:
+  out r0
+  ldi r13, 255
+  and r0, r0, r13
+  jmp r14
+P_0: .ptr eu door_count+16
+P_1: .ptr rw guest_stdout+0
+.segment guest_stdout 3
+  ;@ global stdout 8 at 0
+  .ptr rw guest_files+8
+.segment guest_files 4
+  ;@ global files 12 at 4
+  .fill 1
+  .int 0x200000001
+.segment guest_stack 16
+.thread 0 0 none xu start
+.reg 15 ptr rw guest_stack+65472

@@ -1,0 +1,2400 @@
+.segment text 15
+start:
+  ldi r0, 1
+  ldi r1, 0
+  lip r14, 2
+  br main
+  halt
+main:
+  ;@ function examples/c/sort.c:54
+  ;@ frame back 80 caller at 88
+  ;@ local digits.i 20 at 104 log 5
+  ;@ local first 96 at 288 log 7
+  ;@ local second 96 at 416 log 7
+  ;@ local third 96 at 544 log 7
+  ;@ local room 96 at 672 log 7
+  ;@ local names 48 at 144 log 6
+  ldi r13, 127
+  and r13, r15, r13
+  ldi r12, -768
+  sub r13, r12, r13
+  lea r12, r15, r13
+  st r12, r15, 88, any, keep
+  mov r15, r12
+  st r15, r7, 40, any, keep
+  st r15, r8, 48, any, keep
+  st r15, r9, 56, any, keep
+  st r15, r10, 64, any, keep
+  st r15, r11, 72, any, keep
+  st r15, r14, 80, any, keep
+  leai r9, r15, 104
+  ldi r14, 5
+  subseg r9, r9, r14
+  leai r8, r15, 288
+  ldi r14, 7
+  subseg r8, r8, r14
+  leai r12, r15, 416
+  ldi r14, 7
+  subseg r12, r12, r14
+  st r15, r12, 8, any, keep
+  leai r12, r15, 544
+  ldi r14, 7
+  subseg r12, r12, r14
+  st r15, r12, 16, any, keep
+  leai r12, r15, 672
+  ldi r14, 7
+  subseg r12, r12, r14
+  st r15, r12, 32, any, keep
+  leai r12, r15, 144
+  ldi r14, 6
+  subseg r12, r12, r14
+  st r15, r12, 24, any, keep
+  ldi r6, 1103515245
+  ldi r7, 0
+  ldhi r7, 4294967295
+  ldi r11, 2
+  ldi r10, 4
+  ;@ line examples/c/sort.c:56
+  lip r12, P_0
+  ld r12, r12, 0, any, keep
+  ld r0, r12, -4, any, keep
+  ldi r13, 32
+  shr r5, r0, r13
+  ldi r4, 0
+  ;@ line examples/c/sort.c:57
+  br L8
+L2:
+  lip r12, P_0
+  ld r12, r12, 0, any, keep
+  ld r0, r12, -4, any, keep
+  ldi r13, 32
+  shl r0, r0, r13
+  ldi r13, 32
+  shr r1, r0, r13
+  ldi r13, 32
+  shl r0, r5, r13
+  or r0, r1, r0
+  lip r12, P_0
+  ld r12, r12, 0, any, keep
+  st r12, r0, -4, any, keep
+  ldi r12, 1
+  st r15, r12, 0, any, keep
+L3:
+  ;@ line examples/c/sort.c:19
+  ld r12, r15, 0, any, keep
+  shl r0, r12, r11
+  lea r0, r8, r0
+  and r6, r0, r10
+  bnz r6, L31
+  ld r6, r0, 0, any, keep
+  ldi r14, 32
+  shl r6, r6, r14
+  br L32
+L31:
+  ld r6, r0, -4, any, keep
+L32:
+  ldi r14, 32
+  sar r6, r6, r14
+  ld r4, r15, 0, any, keep
+L4:
+  ;@ line examples/c/sort.c:20
+  addi r5, r4, -1
+  and r0, r5, r7
+  shl r0, r0, r11
+  lea r0, r8, r0
+  and r3, r0, r10
+  bnz r3, L33
+  ld r3, r0, 0, any, keep
+  ldi r14, 32
+  shl r3, r3, r14
+  br L34
+L33:
+  ld r3, r0, -4, any, keep
+L34:
+  ldi r14, 32
+  sar r3, r3, r14
+  lts r0, r6, r3
+  bz r0, L6
+L5:
+  ;@ line examples/c/sort.c:21
+  shl r0, r4, r11
+  lea r2, r8, r0
+  and r0, r2, r10
+  bnz r0, L35
+  ld r0, r2, 0, any, keep
+  xor r1, r0, r3
+  ldi r14, 32
+  shl r1, r1, r14
+  shr r1, r1, r14
+  xor r0, r0, r1
+  st r2, r0, 0, any, keep
+  br L36
+L35:
+  ld r0, r2, -4, any, keep
+  ldi r14, 32
+  shl r0, r0, r14
+  shr r0, r0, r14
+  shl r1, r3, r14
+  or r0, r0, r1
+  st r2, r0, -4, any, keep
+L36:
+  ;@ line examples/c/sort.c:20
+  ldi r12, 1
+  lts r0, r12, r4
+  bnz r0, L23
+L24:
+  ldi r4, 0
+  br L6
+L23:
+  mov r4, r5
+  br L4
+L6:
+  ;@ line examples/c/sort.c:22
+  ldi r13, 32
+  shl r0, r4, r13
+  ldi r13, 32
+  sar r0, r0, r13
+  shl r0, r0, r11
+  lea r2, r8, r0
+  and r0, r2, r10
+  bnz r0, L37
+  ld r0, r2, 0, any, keep
+  xor r1, r0, r6
+  ldi r14, 32
+  shl r1, r1, r14
+  shr r1, r1, r14
+  xor r0, r0, r1
+  st r2, r0, 0, any, keep
+  br L38
+L37:
+  ld r0, r2, -4, any, keep
+  ldi r14, 32
+  shl r0, r0, r14
+  shr r0, r0, r14
+  shl r1, r6, r14
+  or r0, r0, r1
+  st r2, r0, -4, any, keep
+L38:
+  ;@ line examples/c/sort.c:18
+  ld r12, r15, 0, any, keep
+  addi r12, r12, 1
+  st r15, r12, 0, any, keep
+  ld r12, r15, 0, any, keep
+  ldi r13, 24
+  eq r0, r12, r13
+  bz r0, L3
+L7:
+  ;@ line examples/c/sort.c:60
+  ld r0, r15, 8, any, keep
+  ld r1, r15, 32, any, keep
+  ldi r2, 0
+  ldi r3, 24
+  lip r14, 2
+  br by_merging
+  ;@ line examples/c/sort.c:61
+  mov r2, r10
+  ld r0, r15, 16, any, keep
+  ldi r1, 24
+  lip r3, compare
+  lip r14, 2
+  br qsort
+  ldi r12, 0
+  st r15, r12, 0, any, keep
+  ;@ line examples/c/sort.c:62
+  br L10
+L8:
+  ;@ line examples/c/sort.c:12
+  mul r0, r5, r6
+  addi r5, r0, 12345
+  and r0, r5, r7
+  ;@ line examples/c/sort.c:13
+  ldi r13, 16
+  shr r0, r0, r13
+  ldi r13, 1000
+  remu r3, r0, r13
+  ;@ line examples/c/sort.c:58
+  shl r0, r4, r11
+  ld r12, r15, 16, any, keep
+  lea r2, r12, r0
+  and r0, r2, r10
+  bnz r0, L39
+  ld r0, r2, 0, any, keep
+  xor r1, r0, r3
+  ldi r14, 32
+  shl r1, r1, r14
+  shr r1, r1, r14
+  xor r0, r0, r1
+  st r2, r0, 0, any, keep
+  br L40
+L39:
+  ld r0, r2, -4, any, keep
+  ldi r14, 32
+  shl r0, r0, r14
+  shr r0, r0, r14
+  shl r1, r3, r14
+  or r0, r0, r1
+  st r2, r0, -4, any, keep
+L40:
+  shl r0, r4, r11
+  ld r12, r15, 8, any, keep
+  lea r2, r12, r0
+  and r0, r2, r10
+  bnz r0, L41
+  ld r0, r2, 0, any, keep
+  xor r1, r0, r3
+  ldi r14, 32
+  shl r1, r1, r14
+  shr r1, r1, r14
+  xor r0, r0, r1
+  st r2, r0, 0, any, keep
+  br L42
+L41:
+  ld r0, r2, -4, any, keep
+  ldi r14, 32
+  shl r0, r0, r14
+  shr r0, r0, r14
+  shl r1, r3, r14
+  or r0, r0, r1
+  st r2, r0, -4, any, keep
+L42:
+  shl r0, r4, r11
+  lea r2, r8, r0
+  and r0, r2, r10
+  bnz r0, L43
+  ld r0, r2, 0, any, keep
+  xor r1, r0, r3
+  ldi r14, 32
+  shl r1, r1, r14
+  shr r1, r1, r14
+  xor r0, r0, r1
+  st r2, r0, 0, any, keep
+  br L44
+L43:
+  ld r0, r2, -4, any, keep
+  ldi r14, 32
+  shl r0, r0, r14
+  shr r0, r0, r14
+  shl r1, r3, r14
+  or r0, r0, r1
+  st r2, r0, -4, any, keep
+L44:
+  ;@ line examples/c/sort.c:57
+  addi r4, r4, 1
+  ldi r13, 24
+  eq r0, r4, r13
+  bnz r0, L2
+  br L8
+L9:
+  ;@ line examples/c/sort.c:66
+  mov r0, r8
+  ld r1, r15, 8, any, keep
+  ldi r2, 96
+  lip r14, 2
+  br memcmp
+  bz r0, L17
+L29:
+  ldi r3, 0
+  lip r2, P_1
+  ld r2, r2, 0, any, keep
+  br L18
+L10:
+  ;@ line examples/c/sort.c:63
+  ld r12, r15, 0, any, keep
+  shl r0, r12, r11
+  lea r1, r8, r0
+  and r0, r1, r10
+  bnz r0, L45
+  ld r0, r1, 0, any, keep
+  ldi r14, 32
+  shl r0, r0, r14
+  br L46
+L45:
+  ld r0, r1, -4, any, keep
+L46:
+  ldi r14, 32
+  sar r0, r0, r14
+  ;@ line examples/c/say.h:15
+  ldi r12, 0
+  sub r2, r12, r0
+  ldi r13, 0
+  lts r1, r0, r13
+  mov r7, r2
+  bnz r1, L47
+  mov r7, r0
+L47:
+  ;@ line examples/c/say.h:16
+  ldi r13, 0
+  lts r0, r0, r13
+  bz r0, L12
+L11:
+  ;@ line examples/c/say.h:17
+  ldi r0, 45
+  lip r14, 2
+  br putchar
+L12:
+  ldi r1, 0
+L13:
+  ;@ line examples/c/say.h:20
+  ldi r13, 10
+  divu r5, r7, r13
+  ldi r13, 10
+  mul r0, r5, r13
+  sub r0, r7, r0
+  ;@ line examples/c/say.h:19
+  ldi r13, 48
+  or r4, r0, r13
+  addi r6, r1, 1
+  addi r1, r1, 8
+  ldi r13, -8
+  and r0, r1, r13
+  leab r3, r9, r0
+  ldi r13, 3
+  shl r2, r1, r13
+  ld r1, r3, 0, any, keep
+  shr r0, r1, r2
+  xor r0, r0, r4
+  ldi r13, 255
+  and r0, r0, r13
+  shl r0, r0, r2
+  xor r0, r1, r0
+  st r3, r0, 0, any, keep
+  ldi r13, 10
+  ltu r0, r7, r13
+  bnz r0, L14
+L26:
+  mov r1, r6
+  mov r7, r5
+  br L13
+L14:
+  ;@ line examples/c/say.h:21
+  ldi r13, 32
+  shl r0, r6, r13
+  ldi r13, 32
+  sar r7, r0, r13
+L15:
+  ;@ line examples/c/say.h:22
+  addi r7, r7, -1
+  addi r1, r7, 8
+  ldi r13, -8
+  and r0, r1, r13
+  leab r0, r9, r0
+  ldi r13, 3
+  shl r1, r1, r13
+  ld r0, r0, 0, any, keep
+  shr r0, r0, r1
+  ldi r13, 56
+  shl r0, r0, r13
+  ldi r13, 56
+  sar r0, r0, r13
+  lip r14, 2
+  br putchar
+  ;@ line examples/c/say.h:21
+  bnz r7, L15
+L16:
+  ;@ line examples/c/sort.c:64
+  ld r12, r15, 0, any, keep
+  addi r7, r12, 1
+  ld r12, r15, 0, any, keep
+  ldi r13, 23
+  eq r1, r12, r13
+  ldi r0, 10
+  bnz r1, L48
+  ldi r0, 32
+L48:
+  lip r14, 2
+  br putchar
+  ;@ line examples/c/sort.c:62
+  ldi r13, 24
+  eq r0, r7, r13
+  bnz r0, L9
+L28:
+  st r15, r7, 0, any, keep
+  br L10
+L17:
+  ;@ line examples/c/sort.c:66
+  mov r0, r8
+  ld r1, r15, 16, any, keep
+  ldi r2, 96
+  lip r14, 2
+  br memcmp
+  lip r2, P_1
+  ld r2, r2, 0, any, keep
+  bnz r0, L49
+  lip r2, P_2
+  ld r2, r2, 0, any, keep
+L49:
+  ldi r3, 0
+L18:
+  ;@ line examples/c/say.h:8
+  lip r12, P_3
+  ld r12, r12, 0, any, keep
+  ld r5, r12, 0, any, keep
+  add r4, r2, r3
+  isptr r0, r2
+  bz r0, L50
+  ldi r0, 54
+  shr r0, r2, r0
+  xor r1, r4, r2
+  shr r1, r1, r0
+  bnz r1, L50
+  lea r4, r2, r3
+L50:
+  mov r0, r4
+  mov r3, r5
+  ldi r1, 10
+  ldi r2, 1
+  lip r14, 2
+  br fwrite
+  ;@ line examples/c/sort.c:67
+  ldi r12, 0
+  st r15, r12, 144, any, keep
+  ldi r12, 0
+  st r15, r12, 152, any, keep
+  ldi r12, 0
+  st r15, r12, 160, any, keep
+  ldi r12, 0
+  st r15, r12, 168, any, keep
+  ldi r12, 0
+  st r15, r12, 176, any, keep
+  ldi r12, 0
+  st r15, r12, 184, any, keep
+  lip r12, P_4
+  ld r12, r12, 0, any, keep
+  st r15, r12, 144, any, keep
+  lip r12, P_5
+  ld r12, r12, 0, any, keep
+  st r15, r12, 152, any, keep
+  lip r12, P_6
+  ld r12, r12, 0, any, keep
+  st r15, r12, 160, any, keep
+  lip r12, P_7
+  ld r12, r12, 0, any, keep
+  st r15, r12, 168, any, keep
+  lip r12, P_8
+  ld r12, r12, 0, any, keep
+  st r15, r12, 176, any, keep
+  lip r12, P_9
+  ld r12, r12, 0, any, keep
+  st r15, r12, 184, any, keep
+  ;@ line examples/c/sort.c:68
+  ld r0, r15, 24, any, keep
+  ldi r1, 6
+  ldi r2, 8
+  lip r3, compare_names
+  lip r14, 2
+  br qsort
+  ldi r7, 0
+  ;@ line examples/c/sort.c:69
+  br L20
+L19:
+  ;@ line examples/c/sort.c:73
+  ldi r0, 0
+  ld r7, r15, 40, any, keep
+  ld r8, r15, 48, any, keep
+  ld r9, r15, 56, any, keep
+  ld r10, r15, 64, any, keep
+  ld r11, r15, 72, any, keep
+  ld r14, r15, 80, any, keep
+  ld r15, r15, 88, any, keep
+  jmp r14
+L20:
+  ;@ line examples/c/sort.c:70
+  ldi r13, 3
+  shl r0, r7, r13
+  ld r12, r15, 24, any, keep
+  lea r0, r12, r0
+  ld r0, r0, 0, any, keep
+  ;@ line examples/c/say.h:8
+  lip r12, P_3
+  ld r12, r12, 0, any, keep
+  ld r1, r12, 0, any, keep
+  lip r14, 2
+  br fputs
+  ;@ line examples/c/sort.c:71
+  ldi r13, 5
+  eq r1, r7, r13
+  ldi r0, 10
+  bnz r1, L51
+  ldi r0, 32
+L51:
+  lip r14, 2
+  br putchar
+  ;@ line examples/c/sort.c:69
+  addi r7, r7, 1
+  ldi r13, 6
+  eq r0, r7, r13
+  bnz r0, L19
+  br L20
+fputs:
+  leai r15, r15, -16
+  st r15, r7, 0, any, keep
+  st r15, r8, 8, any, keep
+  mov r5, r0
+  ldi r6, 3
+  ldi r4, 0
+  ldi r7, 7
+  ldi r3, 56
+  ldi r8, 255
+  and r0, r5, r7
+  sub r0, r4, r0
+  lea r0, r5, r0
+  shl r1, r5, r6
+  ld r0, r0, 0, any, keep
+  shr r0, r0, r1
+  shl r0, r0, r3
+  sar r1, r0, r3
+  and r0, r1, r8
+  bz r0, L53
+L55:
+  mov r2, r4
+  br L54
+L53:
+  mov r0, r4
+  ld r7, r15, 0, any, keep
+  ld r8, r15, 8, any, keep
+  leai r15, r15, 16
+  jmp r14
+L54:
+  out r1
+  addi r2, r2, 1
+  lea r1, r5, r2
+  and r0, r1, r7
+  sub r0, r4, r0
+  lea r0, r1, r0
+  shl r1, r1, r6
+  ld r0, r0, 0, any, keep
+  shr r0, r0, r1
+  shl r0, r0, r3
+  sar r1, r0, r3
+  and r0, r1, r8
+  bz r0, L53
+  br L54
+compare_names:
+  ;@ function examples/c/sort.c:49
+  ;@ frame back 0 caller by 8
+  leai r15, r15, -8
+  st r15, r14, 0, any, keep
+  ;@ line examples/c/sort.c:51
+  ld r0, r0, 0, any, keep
+  ld r1, r1, 0, any, keep
+  lip r14, 2
+  br strcmp
+  ld r14, r15, 0, any, keep
+  leai r15, r15, 8
+  jmp r14
+strcmp:
+  leai r15, r15, -40
+  st r15, r7, 0, any, keep
+  st r15, r8, 8, any, keep
+  st r15, r9, 16, any, keep
+  st r15, r10, 24, any, keep
+  st r15, r11, 32, any, keep
+  mov r10, r0
+  mov r11, r1
+  ldi r5, 3
+  ldi r4, 0
+  ldi r6, 7
+  ldi r7, 255
+  ldi r8, -1
+  ldi r9, 1
+  mov r3, r4
+L59:
+  lea r1, r10, r3
+  and r0, r1, r6
+  sub r0, r4, r0
+  lea r0, r1, r0
+  shl r1, r1, r5
+  ld r0, r0, 0, any, keep
+  shr r0, r0, r1
+  and r2, r0, r7
+  lea r1, r11, r3
+  and r0, r1, r6
+  sub r0, r4, r0
+  lea r0, r1, r0
+  shl r1, r1, r5
+  ld r0, r0, 0, any, keep
+  shr r0, r0, r1
+  and r1, r0, r7
+  eq r0, r2, r1
+  bnz r0, L61
+L60:
+  ltu r0, r2, r1
+  mov r1, r8
+  bnz r0, L62
+  mov r1, r9
+L65:
+  br L62
+L61:
+  addi r3, r3, 1
+  eq r0, r3, r8
+  bnz r2, L66
+  mov r0, r9
+L66:
+  bz r0, L59
+L63:
+  mov r1, r4
+L62:
+  mov r0, r1
+  ld r7, r15, 0, any, keep
+  ld r8, r15, 8, any, keep
+  ld r9, r15, 16, any, keep
+  ld r10, r15, 24, any, keep
+  ld r11, r15, 32, any, keep
+  leai r15, r15, 40
+  jmp r14
+fwrite:
+  leai r15, r15, -24
+  st r15, r7, 0, any, keep
+  st r15, r8, 8, any, keep
+  st r15, r9, 16, any, keep
+  mov r5, r0
+  mov r9, r2
+  mov r0, r3
+  ldi r7, 3
+  ldi r6, 0
+  ldi r8, 7
+  ldi r3, 56
+  mul r4, r9, r1
+  bz r4, L68
+L70:
+  mov r2, r6
+  br L69
+L68:
+  mov r0, r9
+  ld r7, r15, 0, any, keep
+  ld r8, r15, 8, any, keep
+  ld r9, r15, 16, any, keep
+  leai r15, r15, 24
+  jmp r14
+L69:
+  lea r1, r5, r2
+  and r0, r1, r8
+  sub r0, r6, r0
+  lea r0, r1, r0
+  shl r1, r1, r7
+  ld r0, r0, 0, any, keep
+  shr r0, r0, r1
+  shl r0, r0, r3
+  sar r0, r0, r3
+  out r0
+  addi r2, r2, 1
+  eq r0, r2, r4
+  bnz r0, L68
+  br L69
+memcmp:
+  leai r15, r15, -32
+  st r15, r7, 0, any, keep
+  st r15, r8, 8, any, keep
+  st r15, r9, 16, any, keep
+  st r15, r10, 24, any, keep
+  mov r9, r0
+  mov r10, r1
+  mov r8, r2
+  ldi r5, 3
+  ldi r4, 0
+  ldi r6, 7
+  ldi r7, 255
+  bz r8, L77
+L78:
+  mov r2, r4
+  br L74
+L77:
+  mov r0, r4
+  br L76
+L73:
+  eq r0, r2, r8
+  bz r0, L74
+L79:
+  mov r0, r4
+  br L76
+L74:
+  lea r1, r9, r2
+  and r0, r1, r6
+  sub r0, r4, r0
+  lea r0, r1, r0
+  shl r1, r1, r5
+  ld r0, r0, 0, any, keep
+  shr r0, r0, r1
+  and r3, r0, r7
+  lea r1, r10, r2
+  and r0, r1, r6
+  sub r0, r4, r0
+  lea r0, r1, r0
+  shl r1, r1, r5
+  ld r0, r0, 0, any, keep
+  shr r0, r0, r1
+  and r1, r0, r7
+  addi r2, r2, 1
+  eq r0, r3, r1
+  bnz r0, L73
+L75:
+  ltu r1, r3, r1
+  ldi r0, -1
+  bnz r1, L76
+  ldi r0, 1
+L81:
+L76:
+  ld r7, r15, 0, any, keep
+  ld r8, r15, 8, any, keep
+  ld r9, r15, 16, any, keep
+  ld r10, r15, 24, any, keep
+  leai r15, r15, 32
+  jmp r14
+putchar:
+  out r0
+  ldi r13, 255
+  and r0, r0, r13
+  jmp r14
+qsort:
+  leai r15, r15, -128
+  st r15, r7, 80, any, keep
+  st r15, r8, 88, any, keep
+  st r15, r9, 96, any, keep
+  st r15, r10, 104, any, keep
+  st r15, r11, 112, any, keep
+  st r15, r14, 120, any, keep
+  st r15, r1, 56, any, keep
+  st r15, r2, 16, any, keep
+  st r15, r3, 64, any, keep
+  mov r8, r0
+  ldi r11, 3
+  ldi r10, 0
+  ld r12, r15, 56, any, keep
+  ldi r13, 2
+  ltu r0, r12, r13
+  bnz r0, L100
+L84:
+  ld r12, r15, 56, any, keep
+  ldi r13, 1
+  shr r12, r12, r13
+  st r15, r12, 72, any, keep
+  ld r12, r15, 16, any, keep
+  ldi r13, 8
+  ltu r12, r12, r13
+  st r15, r12, 48, any, keep
+  ld r12, r15, 16, any, keep
+  and r12, r12, r11
+  st r15, r12, 24, any, keep
+  br L87
+L85:
+  ldi r12, 1
+  ld r13, r15, 56, any, keep
+  ltu r0, r12, r13
+  bz r0, L100
+L86:
+  ld r12, r15, 16, any, keep
+  ldi r13, 8
+  ltu r12, r12, r13
+  st r15, r12, 72, any, keep
+  ld r12, r15, 16, any, keep
+  and r12, r12, r11
+  st r15, r12, 48, any, keep
+  ld r12, r15, 16, any, keep
+  and r12, r12, r11
+  st r15, r12, 40, any, keep
+  br L101
+L87:
+  ld r12, r15, 72, any, keep
+  addi r12, r12, -1
+  st r15, r12, 72, any, keep
+  ld r12, r15, 72, any, keep
+  ldi r13, 1
+  shl r1, r12, r13
+  ldi r13, 1
+  or r9, r1, r13
+  ld r13, r15, 56, any, keep
+  ltu r0, r9, r13
+  bz r0, L99
+L121:
+  ld r12, r15, 72, any, keep
+  st r15, r12, 0, any, keep
+L88:
+  addi r7, r1, 2
+  ld r13, r15, 56, any, keep
+  ltu r0, r7, r13
+  bnz r0, L89
+L122:
+  st r15, r9, 40, any, keep
+  br L90
+L89:
+  ld r13, r15, 16, any, keep
+  mul r2, r9, r13
+  ld r13, r15, 16, any, keep
+  mul r4, r7, r13
+  add r3, r8, r2
+  isptr r0, r8
+  bz r0, L159
+  ldi r0, 54
+  shr r0, r8, r0
+  xor r1, r3, r8
+  shr r1, r1, r0
+  bnz r1, L159
+  lea r3, r8, r2
+L159:
+  add r2, r8, r4
+  isptr r0, r8
+  bz r0, L160
+  ldi r0, 54
+  shr r0, r8, r0
+  xor r1, r2, r8
+  shr r1, r1, r0
+  bnz r1, L160
+  lea r2, r8, r4
+L160:
+  ld r13, r15, 64, any, keep
+  mov r0, r3
+  mov r1, r2
+  jal r14, r13
+  lts r0, r0, r10
+  mov r13, r7
+  bnz r0, L161
+  mov r13, r9
+L161:
+  st r15, r13, 40, any, keep
+L90:
+  ld r12, r15, 0, any, keep
+  ld r13, r15, 16, any, keep
+  mul r12, r12, r13
+  st r15, r12, 8, any, keep
+  ld r12, r15, 40, any, keep
+  ld r13, r15, 16, any, keep
+  mul r12, r12, r13
+  st r15, r12, 0, any, keep
+  ld r13, r15, 8, any, keep
+  add r3, r8, r13
+  isptr r0, r8
+  bz r0, L162
+  ldi r0, 54
+  shr r0, r8, r0
+  xor r1, r3, r8
+  shr r1, r1, r0
+  bnz r1, L162
+  lea r3, r8, r13
+L162:
+  ld r13, r15, 0, any, keep
+  add r2, r8, r13
+  isptr r0, r8
+  bz r0, L163
+  ldi r0, 54
+  shr r0, r8, r0
+  xor r1, r2, r8
+  shr r1, r1, r0
+  bnz r1, L163
+  lea r2, r8, r13
+L163:
+  ld r13, r15, 64, any, keep
+  mov r0, r3
+  mov r1, r2
+  jal r14, r13
+  ldi r12, -1
+  lts r0, r12, r0
+  bnz r0, L99
+L91:
+  ld r13, r15, 8, any, keep
+  add r1, r8, r13
+  ld r13, r15, 0, any, keep
+  add r0, r8, r13
+  or r0, r0, r1
+  ldi r13, 7
+  and r0, r0, r13
+  eq r0, r0, r10
+  eq r0, r0, r10
+  ld r12, r15, 48, any, keep
+  or r0, r12, r0
+  bnz r0, L123
+L124:
+  ldi r7, 8
+  mov r2, r10
+  br L92
+L123:
+  mov r7, r10
+  br L93
+L92:
+  ld r12, r15, 8, any, keep
+  add r3, r12, r2
+  lea r0, r8, r3
+  ld r4, r0, 0, any, keep
+  ld r12, r15, 0, any, keep
+  add r2, r12, r2
+  lea r0, r8, r2
+  ld r1, r0, 0, any, keep
+  lea r0, r8, r3
+  st r0, r1, 0, any, keep
+  lea r0, r8, r2
+  st r0, r4, 0, any, keep
+  addi r1, r7, 8
+  ld r12, r15, 16, any, keep
+  ltu r0, r12, r1
+  bnz r0, L93
+L126:
+  mov r2, r7
+  mov r7, r1
+  br L92
+L93:
+  ld r13, r15, 16, any, keep
+  ltu r0, r7, r13
+  bz r0, L98
+L94:
+  ldi r13, -1
+  xor r0, r7, r13
+  ld r13, r15, 16, any, keep
+  add r12, r0, r13
+  st r15, r12, 32, any, keep
+  ld r12, r15, 24, any, keep
+  bz r12, L96
+L128:
+  mov r6, r10
+L95:
+  ld r12, r15, 8, any, keep
+  add r2, r12, r7
+  lea r1, r8, r2
+  ldi r13, 7
+  and r0, r1, r13
+  sub r0, r10, r0
+  lea r0, r1, r0
+  shl r1, r1, r11
+  ld r0, r0, 0, any, keep
+  shr r9, r0, r1
+  ld r12, r15, 0, any, keep
+  add r5, r12, r7
+  lea r1, r8, r5
+  ldi r13, 7
+  and r0, r1, r13
+  sub r0, r10, r0
+  lea r0, r1, r0
+  shl r1, r1, r11
+  ld r0, r0, 0, any, keep
+  shr r4, r0, r1
+  lea r1, r8, r2
+  ldi r13, 7
+  and r0, r1, r13
+  sub r0, r10, r0
+  lea r3, r1, r0
+  shl r2, r1, r11
+  ld r1, r3, 0, any, keep
+  shr r0, r1, r2
+  xor r0, r0, r4
+  ldi r13, 255
+  and r0, r0, r13
+  shl r0, r0, r2
+  xor r0, r1, r0
+  st r3, r0, 0, any, keep
+  lea r1, r8, r5
+  ldi r13, 7
+  and r0, r1, r13
+  sub r0, r10, r0
+  lea r3, r1, r0
+  shl r2, r1, r11
+  ld r1, r3, 0, any, keep
+  shr r0, r1, r2
+  xor r0, r0, r9
+  ldi r13, 255
+  and r0, r0, r13
+  shl r0, r0, r2
+  xor r0, r1, r0
+  st r3, r0, 0, any, keep
+  addi r7, r7, 1
+  addi r6, r6, 1
+  ld r13, r15, 24, any, keep
+  eq r0, r6, r13
+  bz r0, L95
+L96:
+  ld r12, r15, 32, any, keep
+  ltu r0, r12, r11
+  bnz r0, L98
+L97:
+  ld r12, r15, 8, any, keep
+  add r2, r12, r7
+  lea r1, r8, r2
+  ldi r13, 7
+  and r0, r1, r13
+  sub r0, r10, r0
+  lea r0, r1, r0
+  shl r1, r1, r11
+  ld r0, r0, 0, any, keep
+  shr r6, r0, r1
+  ld r12, r15, 0, any, keep
+  add r5, r12, r7
+  lea r1, r8, r5
+  ldi r13, 7
+  and r0, r1, r13
+  sub r0, r10, r0
+  lea r0, r1, r0
+  shl r1, r1, r11
+  ld r0, r0, 0, any, keep
+  shr r4, r0, r1
+  lea r1, r8, r2
+  ldi r13, 7
+  and r0, r1, r13
+  sub r0, r10, r0
+  lea r3, r1, r0
+  shl r2, r1, r11
+  ld r1, r3, 0, any, keep
+  shr r0, r1, r2
+  xor r0, r0, r4
+  ldi r13, 255
+  and r0, r0, r13
+  shl r0, r0, r2
+  xor r0, r1, r0
+  st r3, r0, 0, any, keep
+  lea r1, r8, r5
+  ldi r13, 7
+  and r0, r1, r13
+  sub r0, r10, r0
+  lea r3, r1, r0
+  shl r2, r1, r11
+  ld r1, r3, 0, any, keep
+  shr r0, r1, r2
+  xor r0, r0, r6
+  ldi r13, 255
+  and r0, r0, r13
+  shl r0, r0, r2
+  xor r0, r1, r0
+  st r3, r0, 0, any, keep
+  addi r2, r7, 1
+  ld r12, r15, 8, any, keep
+  add r3, r12, r2
+  lea r1, r8, r3
+  ldi r13, 7
+  and r0, r1, r13
+  sub r0, r10, r0
+  lea r0, r1, r0
+  shl r1, r1, r11
+  ld r0, r0, 0, any, keep
+  shr r6, r0, r1
+  ld r12, r15, 0, any, keep
+  add r5, r12, r2
+  lea r1, r8, r5
+  ldi r13, 7
+  and r0, r1, r13
+  sub r0, r10, r0
+  lea r0, r1, r0
+  shl r1, r1, r11
+  ld r0, r0, 0, any, keep
+  shr r4, r0, r1
+  lea r1, r8, r3
+  ldi r13, 7
+  and r0, r1, r13
+  sub r0, r10, r0
+  lea r3, r1, r0
+  shl r2, r1, r11
+  ld r1, r3, 0, any, keep
+  shr r0, r1, r2
+  xor r0, r0, r4
+  ldi r13, 255
+  and r0, r0, r13
+  shl r0, r0, r2
+  xor r0, r1, r0
+  st r3, r0, 0, any, keep
+  lea r1, r8, r5
+  ldi r13, 7
+  and r0, r1, r13
+  sub r0, r10, r0
+  lea r3, r1, r0
+  shl r2, r1, r11
+  ld r1, r3, 0, any, keep
+  shr r0, r1, r2
+  xor r0, r0, r6
+  ldi r13, 255
+  and r0, r0, r13
+  shl r0, r0, r2
+  xor r0, r1, r0
+  st r3, r0, 0, any, keep
+  addi r2, r7, 2
+  ld r12, r15, 8, any, keep
+  add r3, r12, r2
+  lea r1, r8, r3
+  ldi r13, 7
+  and r0, r1, r13
+  sub r0, r10, r0
+  lea r0, r1, r0
+  shl r1, r1, r11
+  ld r0, r0, 0, any, keep
+  shr r6, r0, r1
+  ld r12, r15, 0, any, keep
+  add r5, r12, r2
+  lea r1, r8, r5
+  ldi r13, 7
+  and r0, r1, r13
+  sub r0, r10, r0
+  lea r0, r1, r0
+  shl r1, r1, r11
+  ld r0, r0, 0, any, keep
+  shr r4, r0, r1
+  lea r1, r8, r3
+  ldi r13, 7
+  and r0, r1, r13
+  sub r0, r10, r0
+  lea r3, r1, r0
+  shl r2, r1, r11
+  ld r1, r3, 0, any, keep
+  shr r0, r1, r2
+  xor r0, r0, r4
+  ldi r13, 255
+  and r0, r0, r13
+  shl r0, r0, r2
+  xor r0, r1, r0
+  st r3, r0, 0, any, keep
+  lea r1, r8, r5
+  ldi r13, 7
+  and r0, r1, r13
+  sub r0, r10, r0
+  lea r3, r1, r0
+  shl r2, r1, r11
+  ld r1, r3, 0, any, keep
+  shr r0, r1, r2
+  xor r0, r0, r6
+  ldi r13, 255
+  and r0, r0, r13
+  shl r0, r0, r2
+  xor r0, r1, r0
+  st r3, r0, 0, any, keep
+  addi r2, r7, 3
+  ld r12, r15, 8, any, keep
+  add r3, r12, r2
+  lea r1, r8, r3
+  ldi r13, 7
+  and r0, r1, r13
+  sub r0, r10, r0
+  lea r0, r1, r0
+  shl r1, r1, r11
+  ld r0, r0, 0, any, keep
+  shr r6, r0, r1
+  ld r12, r15, 0, any, keep
+  add r5, r12, r2
+  lea r1, r8, r5
+  ldi r13, 7
+  and r0, r1, r13
+  sub r0, r10, r0
+  lea r0, r1, r0
+  shl r1, r1, r11
+  ld r0, r0, 0, any, keep
+  shr r4, r0, r1
+  lea r1, r8, r3
+  ldi r13, 7
+  and r0, r1, r13
+  sub r0, r10, r0
+  lea r3, r1, r0
+  shl r2, r1, r11
+  ld r1, r3, 0, any, keep
+  shr r0, r1, r2
+  xor r0, r0, r4
+  ldi r13, 255
+  and r0, r0, r13
+  shl r0, r0, r2
+  xor r0, r1, r0
+  st r3, r0, 0, any, keep
+  lea r1, r8, r5
+  ldi r13, 7
+  and r0, r1, r13
+  sub r0, r10, r0
+  lea r3, r1, r0
+  shl r2, r1, r11
+  ld r1, r3, 0, any, keep
+  shr r0, r1, r2
+  xor r0, r0, r6
+  ldi r13, 255
+  and r0, r0, r13
+  shl r0, r0, r2
+  xor r0, r1, r0
+  st r3, r0, 0, any, keep
+  addi r7, r7, 4
+  ld r13, r15, 16, any, keep
+  eq r0, r7, r13
+  bz r0, L97
+L98:
+  ld r12, r15, 40, any, keep
+  ldi r13, 1
+  shl r1, r12, r13
+  ldi r13, 1
+  or r9, r1, r13
+  ld r13, r15, 56, any, keep
+  ltu r0, r9, r13
+  bz r0, L99
+L133:
+  ld r12, r15, 40, any, keep
+  st r15, r12, 0, any, keep
+  br L88
+L99:
+  ld r12, r15, 72, any, keep
+  bz r12, L85
+  br L87
+L100:
+  ld r7, r15, 80, any, keep
+  ld r8, r15, 88, any, keep
+  ld r9, r15, 96, any, keep
+  ld r10, r15, 104, any, keep
+  ld r11, r15, 112, any, keep
+  ld r14, r15, 120, any, keep
+  leai r15, r15, 128
+  jmp r14
+L101:
+  ld r12, r15, 56, any, keep
+  addi r12, r12, -1
+  st r15, r12, 56, any, keep
+  ld r12, r15, 56, any, keep
+  ld r13, r15, 16, any, keep
+  mul r12, r12, r13
+  st r15, r12, 0, any, keep
+  ld r13, r15, 0, any, keep
+  add r0, r8, r13
+  or r0, r0, r8
+  ldi r13, 7
+  and r0, r0, r13
+  eq r0, r0, r10
+  eq r0, r0, r10
+  ld r12, r15, 72, any, keep
+  or r0, r12, r0
+  bnz r0, L135
+L136:
+  ldi r7, 8
+  mov r3, r10
+  br L102
+L135:
+  mov r7, r10
+  br L103
+L102:
+  lea r0, r8, r3
+  ld r4, r0, 0, any, keep
+  ld r12, r15, 0, any, keep
+  add r2, r12, r3
+  lea r0, r8, r2
+  ld r1, r0, 0, any, keep
+  lea r0, r8, r3
+  st r0, r1, 0, any, keep
+  lea r0, r8, r2
+  st r0, r4, 0, any, keep
+  addi r1, r7, 8
+  ld r12, r15, 16, any, keep
+  ltu r0, r12, r1
+  bnz r0, L103
+L138:
+  mov r3, r7
+  mov r7, r1
+  br L102
+L103:
+  ld r13, r15, 16, any, keep
+  ltu r0, r7, r13
+  bz r0, L108
+L104:
+  ldi r13, -1
+  xor r0, r7, r13
+  ld r13, r15, 16, any, keep
+  add r12, r0, r13
+  st r15, r12, 8, any, keep
+  ld r12, r15, 48, any, keep
+  bz r12, L106
+L140:
+  mov r6, r10
+L105:
+  lea r1, r8, r7
+  ldi r13, 7
+  and r0, r1, r13
+  sub r0, r10, r0
+  lea r0, r1, r0
+  shl r1, r1, r11
+  ld r0, r0, 0, any, keep
+  shr r9, r0, r1
+  ld r12, r15, 0, any, keep
+  add r5, r12, r7
+  lea r1, r8, r5
+  ldi r13, 7
+  and r0, r1, r13
+  sub r0, r10, r0
+  lea r0, r1, r0
+  shl r1, r1, r11
+  ld r0, r0, 0, any, keep
+  shr r4, r0, r1
+  lea r1, r8, r7
+  ldi r13, 7
+  and r0, r1, r13
+  sub r0, r10, r0
+  lea r3, r1, r0
+  shl r2, r1, r11
+  ld r1, r3, 0, any, keep
+  shr r0, r1, r2
+  xor r0, r0, r4
+  ldi r13, 255
+  and r0, r0, r13
+  shl r0, r0, r2
+  xor r0, r1, r0
+  st r3, r0, 0, any, keep
+  lea r1, r8, r5
+  ldi r13, 7
+  and r0, r1, r13
+  sub r0, r10, r0
+  lea r3, r1, r0
+  shl r2, r1, r11
+  ld r1, r3, 0, any, keep
+  shr r0, r1, r2
+  xor r0, r0, r9
+  ldi r13, 255
+  and r0, r0, r13
+  shl r0, r0, r2
+  xor r0, r1, r0
+  st r3, r0, 0, any, keep
+  addi r7, r7, 1
+  addi r6, r6, 1
+  ld r13, r15, 48, any, keep
+  eq r0, r6, r13
+  bz r0, L105
+L106:
+  ld r12, r15, 8, any, keep
+  ltu r0, r12, r11
+  bnz r0, L108
+L107:
+  lea r1, r8, r7
+  ldi r13, 7
+  and r0, r1, r13
+  sub r0, r10, r0
+  lea r0, r1, r0
+  shl r1, r1, r11
+  ld r0, r0, 0, any, keep
+  shr r6, r0, r1
+  ld r12, r15, 0, any, keep
+  add r5, r12, r7
+  lea r1, r8, r5
+  ldi r13, 7
+  and r0, r1, r13
+  sub r0, r10, r0
+  lea r0, r1, r0
+  shl r1, r1, r11
+  ld r0, r0, 0, any, keep
+  shr r4, r0, r1
+  lea r1, r8, r7
+  ldi r13, 7
+  and r0, r1, r13
+  sub r0, r10, r0
+  lea r3, r1, r0
+  shl r2, r1, r11
+  ld r1, r3, 0, any, keep
+  shr r0, r1, r2
+  xor r0, r0, r4
+  ldi r13, 255
+  and r0, r0, r13
+  shl r0, r0, r2
+  xor r0, r1, r0
+  st r3, r0, 0, any, keep
+  lea r1, r8, r5
+  ldi r13, 7
+  and r0, r1, r13
+  sub r0, r10, r0
+  lea r3, r1, r0
+  shl r2, r1, r11
+  ld r1, r3, 0, any, keep
+  shr r0, r1, r2
+  xor r0, r0, r6
+  ldi r13, 255
+  and r0, r0, r13
+  shl r0, r0, r2
+  xor r0, r1, r0
+  st r3, r0, 0, any, keep
+  addi r2, r7, 1
+  lea r1, r8, r2
+  ldi r13, 7
+  and r0, r1, r13
+  sub r0, r10, r0
+  lea r0, r1, r0
+  shl r1, r1, r11
+  ld r0, r0, 0, any, keep
+  shr r6, r0, r1
+  ld r12, r15, 0, any, keep
+  add r5, r12, r2
+  lea r1, r8, r5
+  ldi r13, 7
+  and r0, r1, r13
+  sub r0, r10, r0
+  lea r0, r1, r0
+  shl r1, r1, r11
+  ld r0, r0, 0, any, keep
+  shr r4, r0, r1
+  lea r1, r8, r2
+  ldi r13, 7
+  and r0, r1, r13
+  sub r0, r10, r0
+  lea r3, r1, r0
+  shl r2, r1, r11
+  ld r1, r3, 0, any, keep
+  shr r0, r1, r2
+  xor r0, r0, r4
+  ldi r13, 255
+  and r0, r0, r13
+  shl r0, r0, r2
+  xor r0, r1, r0
+  st r3, r0, 0, any, keep
+  lea r1, r8, r5
+  ldi r13, 7
+  and r0, r1, r13
+  sub r0, r10, r0
+  lea r3, r1, r0
+  shl r2, r1, r11
+  ld r1, r3, 0, any, keep
+  shr r0, r1, r2
+  xor r0, r0, r6
+  ldi r13, 255
+  and r0, r0, r13
+  shl r0, r0, r2
+  xor r0, r1, r0
+  st r3, r0, 0, any, keep
+  addi r2, r7, 2
+  lea r1, r8, r2
+  ldi r13, 7
+  and r0, r1, r13
+  sub r0, r10, r0
+  lea r0, r1, r0
+  shl r1, r1, r11
+  ld r0, r0, 0, any, keep
+  shr r6, r0, r1
+  ld r12, r15, 0, any, keep
+  add r5, r12, r2
+  lea r1, r8, r5
+  ldi r13, 7
+  and r0, r1, r13
+  sub r0, r10, r0
+  lea r0, r1, r0
+  shl r1, r1, r11
+  ld r0, r0, 0, any, keep
+  shr r4, r0, r1
+  lea r1, r8, r2
+  ldi r13, 7
+  and r0, r1, r13
+  sub r0, r10, r0
+  lea r3, r1, r0
+  shl r2, r1, r11
+  ld r1, r3, 0, any, keep
+  shr r0, r1, r2
+  xor r0, r0, r4
+  ldi r13, 255
+  and r0, r0, r13
+  shl r0, r0, r2
+  xor r0, r1, r0
+  st r3, r0, 0, any, keep
+  lea r1, r8, r5
+  ldi r13, 7
+  and r0, r1, r13
+  sub r0, r10, r0
+  lea r3, r1, r0
+  shl r2, r1, r11
+  ld r1, r3, 0, any, keep
+  shr r0, r1, r2
+  xor r0, r0, r6
+  ldi r13, 255
+  and r0, r0, r13
+  shl r0, r0, r2
+  xor r0, r1, r0
+  st r3, r0, 0, any, keep
+  addi r2, r7, 3
+  lea r1, r8, r2
+  ldi r13, 7
+  and r0, r1, r13
+  sub r0, r10, r0
+  lea r0, r1, r0
+  shl r1, r1, r11
+  ld r0, r0, 0, any, keep
+  shr r6, r0, r1
+  ld r12, r15, 0, any, keep
+  add r5, r12, r2
+  lea r1, r8, r5
+  ldi r13, 7
+  and r0, r1, r13
+  sub r0, r10, r0
+  lea r0, r1, r0
+  shl r1, r1, r11
+  ld r0, r0, 0, any, keep
+  shr r4, r0, r1
+  lea r1, r8, r2
+  ldi r13, 7
+  and r0, r1, r13
+  sub r0, r10, r0
+  lea r3, r1, r0
+  shl r2, r1, r11
+  ld r1, r3, 0, any, keep
+  shr r0, r1, r2
+  xor r0, r0, r4
+  ldi r13, 255
+  and r0, r0, r13
+  shl r0, r0, r2
+  xor r0, r1, r0
+  st r3, r0, 0, any, keep
+  lea r1, r8, r5
+  ldi r13, 7
+  and r0, r1, r13
+  sub r0, r10, r0
+  lea r3, r1, r0
+  shl r2, r1, r11
+  ld r1, r3, 0, any, keep
+  shr r0, r1, r2
+  xor r0, r0, r6
+  ldi r13, 255
+  and r0, r0, r13
+  shl r0, r0, r2
+  xor r0, r1, r0
+  st r3, r0, 0, any, keep
+  addi r7, r7, 4
+  ld r13, r15, 16, any, keep
+  eq r0, r7, r13
+  bz r0, L107
+L108:
+  ldi r12, 1
+  ld r13, r15, 56, any, keep
+  ltu r0, r12, r13
+  bz r0, L100
+L145:
+  ldi r9, 1
+  mov r1, r10
+  st r15, r10, 0, any, keep
+L109:
+  addi r7, r1, 2
+  ld r13, r15, 56, any, keep
+  ltu r0, r7, r13
+  bnz r0, L110
+L146:
+  st r15, r9, 32, any, keep
+  br L111
+L110:
+  ld r13, r15, 16, any, keep
+  mul r2, r9, r13
+  ld r13, r15, 16, any, keep
+  mul r4, r7, r13
+  add r3, r8, r2
+  isptr r0, r8
+  bz r0, L164
+  ldi r0, 54
+  shr r0, r8, r0
+  xor r1, r3, r8
+  shr r1, r1, r0
+  bnz r1, L164
+  lea r3, r8, r2
+L164:
+  add r2, r8, r4
+  isptr r0, r8
+  bz r0, L165
+  ldi r0, 54
+  shr r0, r8, r0
+  xor r1, r2, r8
+  shr r1, r1, r0
+  bnz r1, L165
+  lea r2, r8, r4
+L165:
+  ld r13, r15, 64, any, keep
+  mov r0, r3
+  mov r1, r2
+  jal r14, r13
+  lts r0, r0, r10
+  mov r13, r7
+  bnz r0, L166
+  mov r13, r9
+L166:
+  st r15, r13, 32, any, keep
+L111:
+  ld r12, r15, 0, any, keep
+  ld r13, r15, 16, any, keep
+  mul r12, r12, r13
+  st r15, r12, 8, any, keep
+  ld r12, r15, 32, any, keep
+  ld r13, r15, 16, any, keep
+  mul r12, r12, r13
+  st r15, r12, 0, any, keep
+  ld r13, r15, 8, any, keep
+  add r3, r8, r13
+  isptr r0, r8
+  bz r0, L167
+  ldi r0, 54
+  shr r0, r8, r0
+  xor r1, r3, r8
+  shr r1, r1, r0
+  bnz r1, L167
+  lea r3, r8, r13
+L167:
+  ld r13, r15, 0, any, keep
+  add r2, r8, r13
+  isptr r0, r8
+  bz r0, L168
+  ldi r0, 54
+  shr r0, r8, r0
+  xor r1, r2, r8
+  shr r1, r1, r0
+  bnz r1, L168
+  lea r2, r8, r13
+L168:
+  ld r13, r15, 64, any, keep
+  mov r0, r3
+  mov r1, r2
+  jal r14, r13
+  ldi r12, -1
+  lts r0, r12, r0
+  bnz r0, L120
+L112:
+  ld r13, r15, 8, any, keep
+  add r1, r8, r13
+  ld r13, r15, 0, any, keep
+  add r0, r8, r13
+  or r0, r0, r1
+  ldi r13, 7
+  and r0, r0, r13
+  eq r0, r0, r10
+  eq r0, r0, r10
+  ld r12, r15, 72, any, keep
+  or r0, r12, r0
+  bnz r0, L147
+L148:
+  ldi r7, 8
+  mov r2, r10
+  br L113
+L147:
+  mov r7, r10
+  br L114
+L113:
+  ld r12, r15, 8, any, keep
+  add r3, r12, r2
+  lea r0, r8, r3
+  ld r4, r0, 0, any, keep
+  ld r12, r15, 0, any, keep
+  add r2, r12, r2
+  lea r0, r8, r2
+  ld r1, r0, 0, any, keep
+  lea r0, r8, r3
+  st r0, r1, 0, any, keep
+  lea r0, r8, r2
+  st r0, r4, 0, any, keep
+  addi r1, r7, 8
+  ld r12, r15, 16, any, keep
+  ltu r0, r12, r1
+  bnz r0, L114
+L150:
+  mov r2, r7
+  mov r7, r1
+  br L113
+L114:
+  ld r13, r15, 16, any, keep
+  ltu r0, r7, r13
+  bz r0, L119
+L115:
+  ldi r13, -1
+  xor r0, r7, r13
+  ld r13, r15, 16, any, keep
+  add r12, r0, r13
+  st r15, r12, 24, any, keep
+  ld r12, r15, 40, any, keep
+  bz r12, L117
+L152:
+  mov r6, r10
+L116:
+  ld r12, r15, 8, any, keep
+  add r2, r12, r7
+  lea r1, r8, r2
+  ldi r13, 7
+  and r0, r1, r13
+  sub r0, r10, r0
+  lea r0, r1, r0
+  shl r1, r1, r11
+  ld r0, r0, 0, any, keep
+  shr r9, r0, r1
+  ld r12, r15, 0, any, keep
+  add r5, r12, r7
+  lea r1, r8, r5
+  ldi r13, 7
+  and r0, r1, r13
+  sub r0, r10, r0
+  lea r0, r1, r0
+  shl r1, r1, r11
+  ld r0, r0, 0, any, keep
+  shr r4, r0, r1
+  lea r1, r8, r2
+  ldi r13, 7
+  and r0, r1, r13
+  sub r0, r10, r0
+  lea r3, r1, r0
+  shl r2, r1, r11
+  ld r1, r3, 0, any, keep
+  shr r0, r1, r2
+  xor r0, r0, r4
+  ldi r13, 255
+  and r0, r0, r13
+  shl r0, r0, r2
+  xor r0, r1, r0
+  st r3, r0, 0, any, keep
+  lea r1, r8, r5
+  ldi r13, 7
+  and r0, r1, r13
+  sub r0, r10, r0
+  lea r3, r1, r0
+  shl r2, r1, r11
+  ld r1, r3, 0, any, keep
+  shr r0, r1, r2
+  xor r0, r0, r9
+  ldi r13, 255
+  and r0, r0, r13
+  shl r0, r0, r2
+  xor r0, r1, r0
+  st r3, r0, 0, any, keep
+  addi r7, r7, 1
+  addi r6, r6, 1
+  ld r13, r15, 40, any, keep
+  eq r0, r6, r13
+  bz r0, L116
+L117:
+  ld r12, r15, 24, any, keep
+  ltu r0, r12, r11
+  bnz r0, L119
+L118:
+  ld r12, r15, 8, any, keep
+  add r2, r12, r7
+  lea r1, r8, r2
+  ldi r13, 7
+  and r0, r1, r13
+  sub r0, r10, r0
+  lea r0, r1, r0
+  shl r1, r1, r11
+  ld r0, r0, 0, any, keep
+  shr r6, r0, r1
+  ld r12, r15, 0, any, keep
+  add r5, r12, r7
+  lea r1, r8, r5
+  ldi r13, 7
+  and r0, r1, r13
+  sub r0, r10, r0
+  lea r0, r1, r0
+  shl r1, r1, r11
+  ld r0, r0, 0, any, keep
+  shr r4, r0, r1
+  lea r1, r8, r2
+  ldi r13, 7
+  and r0, r1, r13
+  sub r0, r10, r0
+  lea r3, r1, r0
+  shl r2, r1, r11
+  ld r1, r3, 0, any, keep
+  shr r0, r1, r2
+  xor r0, r0, r4
+  ldi r13, 255
+  and r0, r0, r13
+  shl r0, r0, r2
+  xor r0, r1, r0
+  st r3, r0, 0, any, keep
+  lea r1, r8, r5
+  ldi r13, 7
+  and r0, r1, r13
+  sub r0, r10, r0
+  lea r3, r1, r0
+  shl r2, r1, r11
+  ld r1, r3, 0, any, keep
+  shr r0, r1, r2
+  xor r0, r0, r6
+  ldi r13, 255
+  and r0, r0, r13
+  shl r0, r0, r2
+  xor r0, r1, r0
+  st r3, r0, 0, any, keep
+  addi r2, r7, 1
+  ld r12, r15, 8, any, keep
+  add r3, r12, r2
+  lea r1, r8, r3
+  ldi r13, 7
+  and r0, r1, r13
+  sub r0, r10, r0
+  lea r0, r1, r0
+  shl r1, r1, r11
+  ld r0, r0, 0, any, keep
+  shr r6, r0, r1
+  ld r12, r15, 0, any, keep
+  add r5, r12, r2
+  lea r1, r8, r5
+  ldi r13, 7
+  and r0, r1, r13
+  sub r0, r10, r0
+  lea r0, r1, r0
+  shl r1, r1, r11
+  ld r0, r0, 0, any, keep
+  shr r4, r0, r1
+  lea r1, r8, r3
+  ldi r13, 7
+  and r0, r1, r13
+  sub r0, r10, r0
+  lea r3, r1, r0
+  shl r2, r1, r11
+  ld r1, r3, 0, any, keep
+  shr r0, r1, r2
+  xor r0, r0, r4
+  ldi r13, 255
+  and r0, r0, r13
+  shl r0, r0, r2
+  xor r0, r1, r0
+  st r3, r0, 0, any, keep
+  lea r1, r8, r5
+  ldi r13, 7
+  and r0, r1, r13
+  sub r0, r10, r0
+  lea r3, r1, r0
+  shl r2, r1, r11
+  ld r1, r3, 0, any, keep
+  shr r0, r1, r2
+  xor r0, r0, r6
+  ldi r13, 255
+  and r0, r0, r13
+  shl r0, r0, r2
+  xor r0, r1, r0
+  st r3, r0, 0, any, keep
+  addi r2, r7, 2
+  ld r12, r15, 8, any, keep
+  add r3, r12, r2
+  lea r1, r8, r3
+  ldi r13, 7
+  and r0, r1, r13
+  sub r0, r10, r0
+  lea r0, r1, r0
+  shl r1, r1, r11
+  ld r0, r0, 0, any, keep
+  shr r6, r0, r1
+  ld r12, r15, 0, any, keep
+  add r5, r12, r2
+  lea r1, r8, r5
+  ldi r13, 7
+  and r0, r1, r13
+  sub r0, r10, r0
+  lea r0, r1, r0
+  shl r1, r1, r11
+  ld r0, r0, 0, any, keep
+  shr r4, r0, r1
+  lea r1, r8, r3
+  ldi r13, 7
+  and r0, r1, r13
+  sub r0, r10, r0
+  lea r3, r1, r0
+  shl r2, r1, r11
+  ld r1, r3, 0, any, keep
+  shr r0, r1, r2
+  xor r0, r0, r4
+  ldi r13, 255
+  and r0, r0, r13
+  shl r0, r0, r2
+  xor r0, r1, r0
+  st r3, r0, 0, any, keep
+  lea r1, r8, r5
+  ldi r13, 7
+  and r0, r1, r13
+  sub r0, r10, r0
+  lea r3, r1, r0
+  shl r2, r1, r11
+  ld r1, r3, 0, any, keep
+  shr r0, r1, r2
+  xor r0, r0, r6
+  ldi r13, 255
+  and r0, r0, r13
+  shl r0, r0, r2
+  xor r0, r1, r0
+  st r3, r0, 0, any, keep
+  addi r2, r7, 3
+  ld r12, r15, 8, any, keep
+  add r3, r12, r2
+  lea r1, r8, r3
+  ldi r13, 7
+  and r0, r1, r13
+  sub r0, r10, r0
+  lea r0, r1, r0
+  shl r1, r1, r11
+  ld r0, r0, 0, any, keep
+  shr r6, r0, r1
+  ld r12, r15, 0, any, keep
+  add r5, r12, r2
+  lea r1, r8, r5
+  ldi r13, 7
+  and r0, r1, r13
+  sub r0, r10, r0
+  lea r0, r1, r0
+  shl r1, r1, r11
+  ld r0, r0, 0, any, keep
+  shr r4, r0, r1
+  lea r1, r8, r3
+  ldi r13, 7
+  and r0, r1, r13
+  sub r0, r10, r0
+  lea r3, r1, r0
+  shl r2, r1, r11
+  ld r1, r3, 0, any, keep
+  shr r0, r1, r2
+  xor r0, r0, r4
+  ldi r13, 255
+  and r0, r0, r13
+  shl r0, r0, r2
+  xor r0, r1, r0
+  st r3, r0, 0, any, keep
+  lea r1, r8, r5
+  ldi r13, 7
+  and r0, r1, r13
+  sub r0, r10, r0
+  lea r3, r1, r0
+  shl r2, r1, r11
+  ld r1, r3, 0, any, keep
+  shr r0, r1, r2
+  xor r0, r0, r6
+  ldi r13, 255
+  and r0, r0, r13
+  shl r0, r0, r2
+  xor r0, r1, r0
+  st r3, r0, 0, any, keep
+  addi r7, r7, 4
+  ld r13, r15, 16, any, keep
+  eq r0, r7, r13
+  bz r0, L118
+L119:
+  ld r12, r15, 32, any, keep
+  ldi r13, 1
+  shl r1, r12, r13
+  ldi r13, 1
+  or r9, r1, r13
+  ld r13, r15, 56, any, keep
+  ltu r0, r9, r13
+  bz r0, L120
+L157:
+  ld r12, r15, 32, any, keep
+  st r15, r12, 0, any, keep
+  br L109
+L120:
+  ldi r12, 1
+  ld r13, r15, 56, any, keep
+  ltu r0, r12, r13
+  bnz r0, L101
+  br L100
+compare:
+  ;@ function examples/c/sort.c:44
+  ;@ frame back - caller by 0
+  mov r2, r1
+  ldi r3, 4
+  ldi r4, 32
+  ;@ line examples/c/sort.c:46
+  and r1, r0, r3
+  bnz r1, L170
+  ld r1, r0, 0, any, keep
+  shl r1, r1, r4
+  br L171
+L170:
+  ld r1, r0, -4, any, keep
+L171:
+  sar r1, r1, r4
+  and r0, r2, r3
+  bnz r0, L172
+  ld r0, r2, 0, any, keep
+  shl r0, r0, r4
+  br L173
+L172:
+  ld r0, r2, -4, any, keep
+L173:
+  sar r0, r0, r4
+  sub r0, r1, r0
+  jmp r14
+by_merging:
+  ;@ function examples/c/sort.c:34
+  ;@ frame back 80 caller by 88
+  leai r15, r15, -88
+  st r15, r7, 40, any, keep
+  st r15, r8, 48, any, keep
+  st r15, r9, 56, any, keep
+  st r15, r10, 64, any, keep
+  st r15, r11, 72, any, keep
+  st r15, r14, 80, any, keep
+  st r15, r1, 16, any, keep
+  st r15, r3, 0, any, keep
+  mov r11, r0
+  mov r7, r2
+  ldi r8, 2
+  ldi r9, 4
+  ldi r10, 32
+  ldi r13, 0
+  ldhi r13, 4294967295
+  and r12, r7, r13
+  st r15, r12, 32, any, keep
+  ;@ line examples/c/sort.c:36
+  ld r12, r15, 0, any, keep
+  sub r12, r12, r7
+  st r15, r12, 24, any, keep
+  ld r12, r15, 24, any, keep
+  lts r0, r12, r8
+  bnz r0, L184
+L175:
+  ;@ line examples/c/sort.c:38
+  ld r12, r15, 0, any, keep
+  add r0, r12, r7
+  ldi r13, 63
+  sar r1, r0, r13
+  xor r0, r0, r1
+  sub r0, r0, r1
+  divu r0, r0, r8
+  xor r0, r0, r1
+  sub r12, r0, r1
+  st r15, r12, 8, any, keep
+  ;@ line examples/c/sort.c:39
+  mov r0, r11
+  mov r2, r7
+  ld r1, r15, 16, any, keep
+  ld r3, r15, 8, any, keep
+  lip r14, 2
+  br by_merging
+  ;@ line examples/c/sort.c:40
+  mov r0, r11
+  ld r1, r15, 16, any, keep
+  ld r2, r15, 8, any, keep
+  ld r3, r15, 0, any, keep
+  lip r14, 2
+  br by_merging
+  ;@ line examples/c/sort.c:29
+  ld r13, r15, 0, any, keep
+  lts r0, r7, r13
+  bz r0, L183
+L176:
+  mov r6, r7
+  ld r3, r15, 8, any, keep
+L177:
+  ;@ line examples/c/sort.c:30
+  ld r13, r15, 8, any, keep
+  lts r0, r7, r13
+  bz r0, L181
+L178:
+  ld r13, r15, 0, any, keep
+  lts r0, r3, r13
+  bz r0, L180
+L179:
+  shl r0, r7, r8
+  lea r0, r11, r0
+  and r2, r0, r9
+  bnz r2, L186
+  ld r2, r0, 0, any, keep
+  shl r2, r2, r10
+  br L187
+L186:
+  ld r2, r0, -4, any, keep
+L187:
+  sar r2, r2, r10
+  shl r0, r3, r8
+  lea r1, r11, r0
+  and r0, r1, r9
+  bnz r0, L188
+  ld r0, r1, 0, any, keep
+  shl r0, r0, r10
+  br L189
+L188:
+  ld r0, r1, -4, any, keep
+L189:
+  sar r0, r0, r10
+  lts r0, r0, r2
+  bnz r0, L181
+L180:
+  addi r5, r7, 1
+  mov r4, r3
+  mov r3, r7
+  br L182
+L181:
+  addi r4, r3, 1
+  mov r5, r7
+L182:
+  shl r0, r3, r8
+  lea r0, r11, r0
+  and r3, r0, r9
+  bnz r3, L190
+  ld r3, r0, 0, any, keep
+  br L191
+L190:
+  ld r3, r0, -4, any, keep
+  shr r3, r3, r10
+L191:
+  shl r0, r6, r8
+  ld r12, r15, 16, any, keep
+  lea r2, r12, r0
+  and r0, r2, r9
+  bnz r0, L192
+  ld r0, r2, 0, any, keep
+  xor r1, r0, r3
+  shl r1, r1, r10
+  shr r1, r1, r10
+  xor r0, r0, r1
+  st r2, r0, 0, any, keep
+  br L193
+L192:
+  ld r0, r2, -4, any, keep
+  shl r0, r0, r10
+  shr r0, r0, r10
+  shl r1, r3, r10
+  or r0, r0, r1
+  st r2, r0, -4, any, keep
+L193:
+  ;@ line examples/c/sort.c:29
+  addi r6, r6, 1
+  ld r13, r15, 0, any, keep
+  eq r0, r6, r13
+  bnz r0, L183
+L185:
+  mov r3, r4
+  mov r7, r5
+  br L177
+L183:
+  ;@ line examples/c/sort.c:31
+  ld r12, r15, 32, any, keep
+  shl r5, r12, r8
+  ld r12, r15, 32, any, keep
+  shl r2, r12, r8
+  ld r12, r15, 24, any, keep
+  shl r4, r12, r8
+  ld r12, r15, 16, any, keep
+  add r3, r12, r2
+  isptr r0, r12
+  bz r0, L194
+  ldi r0, 54
+  shr r0, r12, r0
+  xor r1, r3, r12
+  shr r1, r1, r0
+  bnz r1, L194
+  lea r3, r12, r2
+L194:
+  add r2, r11, r5
+  isptr r0, r11
+  bz r0, L195
+  ldi r0, 54
+  shr r0, r11, r0
+  xor r1, r2, r11
+  shr r1, r1, r0
+  bnz r1, L195
+  lea r2, r11, r5
+L195:
+  mov r0, r2
+  mov r1, r3
+  mov r2, r4
+  lip r14, 2
+  br memcpy
+L184:
+  ;@ line examples/c/sort.c:42
+  ld r7, r15, 40, any, keep
+  ld r8, r15, 48, any, keep
+  ld r9, r15, 56, any, keep
+  ld r10, r15, 64, any, keep
+  ld r11, r15, 72, any, keep
+  ld r14, r15, 80, any, keep
+  leai r15, r15, 88
+  jmp r14
+memcpy:
+  leai r15, r15, -64
+  st r15, r7, 24, any, keep
+  st r15, r8, 32, any, keep
+  st r15, r9, 40, any, keep
+  st r15, r10, 48, any, keep
+  st r15, r11, 56, any, keep
+  st r15, r2, 8, any, keep
+  mov r10, r0
+  mov r11, r1
+  ldi r9, 7
+  ldi r7, 0
+  ldi r2, 8
+  ldi r8, 3
+  or r0, r11, r10
+  and r0, r0, r9
+  eq r0, r0, r7
+  eq r1, r0, r7
+  ld r12, r15, 8, any, keep
+  ltu r0, r12, r2
+  or r0, r1, r0
+  bnz r0, L204
+L205:
+  mov r6, r2
+  mov r2, r7
+  br L197
+L204:
+  mov r6, r7
+  br L198
+L197:
+  lea r0, r11, r2
+  ld r1, r0, 0, any, keep
+  lea r0, r10, r2
+  st r0, r1, 0, any, keep
+  addi r1, r6, 8
+  ld r12, r15, 8, any, keep
+  ltu r0, r12, r1
+  bnz r0, L198
+L207:
+  mov r2, r6
+  mov r6, r1
+  br L197
+L198:
+  ld r13, r15, 8, any, keep
+  ltu r0, r6, r13
+  bz r0, L203
+L199:
+  ldi r13, -1
+  xor r0, r6, r13
+  ld r13, r15, 8, any, keep
+  add r12, r0, r13
+  st r15, r12, 16, any, keep
+  ld r12, r15, 8, any, keep
+  and r12, r12, r8
+  st r15, r12, 0, any, keep
+  ld r12, r15, 0, any, keep
+  bz r12, L201
+L209:
+  mov r5, r7
+L200:
+  lea r1, r11, r6
+  and r0, r1, r9
+  sub r0, r7, r0
+  lea r0, r1, r0
+  shl r1, r1, r8
+  ld r0, r0, 0, any, keep
+  shr r4, r0, r1
+  lea r1, r10, r6
+  and r0, r1, r9
+  sub r0, r7, r0
+  lea r3, r1, r0
+  shl r2, r1, r8
+  ld r1, r3, 0, any, keep
+  shr r0, r1, r2
+  xor r0, r0, r4
+  ldi r13, 255
+  and r0, r0, r13
+  shl r0, r0, r2
+  xor r0, r1, r0
+  st r3, r0, 0, any, keep
+  addi r6, r6, 1
+  addi r5, r5, 1
+  ld r13, r15, 0, any, keep
+  eq r0, r5, r13
+  bz r0, L200
+L201:
+  ld r12, r15, 16, any, keep
+  ltu r0, r12, r8
+  bnz r0, L203
+L202:
+  lea r1, r11, r6
+  and r0, r1, r9
+  sub r0, r7, r0
+  lea r0, r1, r0
+  shl r1, r1, r8
+  ld r0, r0, 0, any, keep
+  shr r4, r0, r1
+  lea r1, r10, r6
+  and r0, r1, r9
+  sub r0, r7, r0
+  lea r3, r1, r0
+  shl r2, r1, r8
+  ld r1, r3, 0, any, keep
+  shr r0, r1, r2
+  xor r0, r0, r4
+  ldi r13, 255
+  and r0, r0, r13
+  shl r0, r0, r2
+  xor r0, r1, r0
+  st r3, r0, 0, any, keep
+  addi r2, r6, 1
+  lea r1, r11, r2
+  and r0, r1, r9
+  sub r0, r7, r0
+  lea r0, r1, r0
+  shl r1, r1, r8
+  ld r0, r0, 0, any, keep
+  shr r4, r0, r1
+  lea r1, r10, r2
+  and r0, r1, r9
+  sub r0, r7, r0
+  lea r3, r1, r0
+  shl r2, r1, r8
+  ld r1, r3, 0, any, keep
+  shr r0, r1, r2
+  xor r0, r0, r4
+  ldi r13, 255
+  and r0, r0, r13
+  shl r0, r0, r2
+  xor r0, r1, r0
+  st r3, r0, 0, any, keep
+  addi r2, r6, 2
+  lea r1, r11, r2
+  and r0, r1, r9
+  sub r0, r7, r0
+  lea r0, r1, r0
+  shl r1, r1, r8
+  ld r0, r0, 0, any, keep
+  shr r4, r0, r1
+  lea r1, r10, r2
+  and r0, r1, r9
+  sub r0, r7, r0
+  lea r3, r1, r0
+  shl r2, r1, r8
+  ld r1, r3, 0, any, keep
+  shr r0, r1, r2
+  xor r0, r0, r4
+  ldi r13, 255
+  and r0, r0, r13
+  shl r0, r0, r2
+  xor r0, r1, r0
+  st r3, r0, 0, any, keep
+  addi r2, r6, 3
+  lea r1, r11, r2
+  and r0, r1, r9
+  sub r0, r7, r0
+  lea r0, r1, r0
+  shl r1, r1, r8
+  ld r0, r0, 0, any, keep
+  shr r4, r0, r1
+  lea r1, r10, r2
+  and r0, r1, r9
+  sub r0, r7, r0
+  lea r3, r1, r0
+  shl r2, r1, r8
+  ld r1, r3, 0, any, keep
+  shr r0, r1, r2
+  xor r0, r0, r4
+  ldi r13, 255
+  and r0, r0, r13
+  shl r0, r0, r2
+  xor r0, r1, r0
+  st r3, r0, 0, any, keep
+  addi r6, r6, 4
+  ld r13, r15, 8, any, keep
+  eq r0, r6, r13
+  bz r0, L202
+L203:
+  mov r0, r10
+  ld r7, r15, 24, any, keep
+  ld r8, r15, 32, any, keep
+  ld r9, r15, 40, any, keep
+  ld r10, r15, 48, any, keep
+  ld r11, r15, 56, any, keep
+  leai r15, r15, 64
+  jmp r14
+P_0: .ptr rw seed+4
+P_1: .ptr ro _str+5
+P_2: .ptr ro _str_1+5
+P_3: .ptr rw stdout+0
+P_4: .ptr ro _str_2+0
+P_5: .ptr ro _str_3+1
+P_6: .ptr ro _str_4+2
+P_7: .ptr ro _str_5+2
+P_8: .ptr ro _str_6+4
+P_9: .ptr ro _str_7+7
+.segment seed 3
+  ;@ global seed 4 at 4
+  .int 0x303900000000
+.segment _str_1 4
+  .int 0x6c6c610000000000
+  .int 0xa656b696c6120
+.segment _str 4
+  .int 0x6669640000000000
+  .int 0xa746e65726566
+.segment stdout 3
+  ;@ global stdout 8 at 0
+  .ptr rw files+8
+.segment _str_2 3
+  .int 0x72656c6b63654b
+.segment _str_3 3
+  .int 0x72657472614300
+.segment _str_4 3
+  .int 0x796c6c61440000
+.segment _str_5 3
+  .int 0x6f6c6c69460000
+.segment _str_6 3
+  .int 0x65654c00000000
+.segment _str_7 4
+  .int 0x4700000000000000
+  .int 0x68636976657275
+.segment files 4
+  ;@ global files 12 at 4
+  .fill 1
+  .int 0x200000001
+.segment stack 16
+.thread 0 0 none xu start
+.reg 15 ptr rw stack+65472

@@ -1,0 +1,1005 @@
+.segment text 13
+start:
+  ldi r0, 1
+  ldi r1, 0
+  lip r14, 2
+  br main
+  halt
+main:
+  ;@ function examples/c/strings.c:28
+  ;@ frame back 48 caller at 56
+  ;@ local letters.i 32 at 64 log 5
+  ;@ local digits.i 20 at 104 log 5
+  ;@ local room 32 at 128 log 5
+  ldi r13, 31
+  and r13, r15, r13
+  ldi r12, -160
+  sub r13, r12, r13
+  lea r12, r15, r13
+  st r12, r15, 56, any, keep
+  mov r15, r12
+  st r15, r7, 8, any, keep
+  st r15, r8, 16, any, keep
+  st r15, r9, 24, any, keep
+  st r15, r10, 32, any, keep
+  st r15, r11, 40, any, keep
+  st r15, r14, 48, any, keep
+  leai r12, r15, 64
+  ldi r14, 5
+  subseg r12, r12, r14
+  st r15, r12, 0, any, keep
+  leai r9, r15, 104
+  ldi r14, 5
+  subseg r9, r9, r14
+  leai r8, r15, 128
+  ldi r14, 5
+  subseg r8, r8, r14
+  lip r0, P_0
+  ld r0, r0, 0, any, keep
+  ldi r11, 3
+  lip r10, P_1
+  ld r10, r10, 0, any, keep
+  ;@ line examples/c/strings.c:30
+  ld r3, r0, 0, any, keep
+  ld r2, r0, 8, any, keep
+  ld r1, r0, 16, any, keep
+  ld r0, r0, 24, any, keep
+  st r15, r3, 128, any, keep
+  st r15, r2, 136, any, keep
+  st r15, r1, 144, any, keep
+  st r15, r0, 152, any, keep
+  ;@ line examples/c/strings.c:31
+  mov r0, r8
+  lip r14, 2
+  br strlen
+  mov r3, r0
+  add r2, r8, r3
+  isptr r0, r8
+  bz r0, L29
+  ldi r0, 54
+  shr r0, r8, r0
+  xor r1, r2, r8
+  shr r1, r1, r0
+  bnz r1, L29
+  lea r2, r8, r3
+L29:
+  mov r0, r2
+  lip r1, P_2
+  ld r1, r1, 0, any, keep
+  ldi r2, 9
+  lip r14, 2
+  br memcpy
+  ;@ line examples/c/say.h:8
+  lip r12, P_3
+  ld r12, r12, 0, any, keep
+  ld r1, r12, 0, any, keep
+  mov r0, r8
+  lip r14, 2
+  br fputs
+  ;@ line examples/c/strings.c:33
+  mov r0, r8
+  lip r1, P_4
+  ld r1, r1, 0, any, keep
+  lip r14, 2
+  br strstr
+  mov r1, r0
+  addi r0, r8, 8
+  eq r0, r1, r0
+  lip r4, P_5
+  ld r4, r4, 0, any, keep
+  bnz r0, L30
+  lip r4, P_6
+  ld r4, r4, 0, any, keep
+L30:
+  ;@ line examples/c/say.h:8
+  lip r12, P_3
+  ld r12, r12, 0, any, keep
+  ld r3, r12, 0, any, keep
+  ldi r13, 0
+  add r2, r4, r13
+  isptr r0, r4
+  bz r0, L31
+  ldi r0, 54
+  shr r0, r4, r0
+  xor r1, r2, r4
+  shr r1, r1, r0
+  bnz r1, L31
+  lea r2, r4, r13
+L31:
+  mov r0, r2
+  mov r1, r3
+  lip r14, 2
+  br fputs
+  ;@ line examples/c/strings.c:8
+  mov r0, r8
+  lip r14, 2
+  br strlen
+  mov r1, r0
+  add r0, r8, r1
+  addi r0, r0, -1
+  ltu r0, r8, r0
+  bz r0, L3
+L19:
+  addi r6, r1, -1
+  ldi r5, 0
+L2:
+  ;@ line examples/c/strings.c:9
+  ldi r13, -8
+  and r0, r5, r13
+  leab r0, r8, r0
+  shl r1, r5, r11
+  ld r0, r0, 0, any, keep
+  shr r7, r0, r1
+  ;@ line examples/c/strings.c:10
+  ldi r13, -8
+  and r0, r6, r13
+  leab r0, r8, r0
+  shl r1, r6, r11
+  ld r0, r0, 0, any, keep
+  shr r4, r0, r1
+  ldi r13, -8
+  and r0, r5, r13
+  leab r3, r8, r0
+  shl r2, r5, r11
+  ld r1, r3, 0, any, keep
+  shr r0, r1, r2
+  xor r0, r0, r4
+  ldi r13, 255
+  and r0, r0, r13
+  shl r0, r0, r2
+  xor r0, r1, r0
+  st r3, r0, 0, any, keep
+  ;@ line examples/c/strings.c:11
+  ldi r13, -8
+  and r0, r6, r13
+  leab r3, r8, r0
+  shl r2, r6, r11
+  ld r1, r3, 0, any, keep
+  shr r0, r1, r2
+  xor r0, r0, r7
+  ldi r13, 255
+  and r0, r0, r13
+  shl r0, r0, r2
+  xor r0, r1, r0
+  st r3, r0, 0, any, keep
+  ;@ line examples/c/strings.c:8
+  add r0, r8, r5
+  addi r1, r0, 1
+  add r0, r8, r6
+  addi r0, r0, -1
+  ltu r0, r1, r0
+  bz r0, L3
+L20:
+  addi r6, r6, -1
+  addi r5, r5, 1
+  br L2
+L3:
+  ;@ line examples/c/say.h:8
+  lip r12, P_3
+  ld r12, r12, 0, any, keep
+  ld r1, r12, 0, any, keep
+  mov r0, r8
+  lip r14, 2
+  br fputs
+  lip r12, P_3
+  ld r12, r12, 0, any, keep
+  ld r1, r12, 0, any, keep
+  ldi r0, 10
+  lip r14, 2
+  br fputc
+  ;@ line examples/c/strings.c:37
+  mov r0, r8
+  lip r14, 2
+  br strlen
+  ;@ line examples/c/say.h:15
+  ldi r12, 0
+  sub r2, r12, r0
+  ldi r13, 0
+  lts r1, r0, r13
+  mov r7, r2
+  bnz r1, L32
+  mov r7, r0
+L32:
+  ;@ line examples/c/say.h:16
+  ldi r13, 0
+  lts r0, r0, r13
+  bz r0, L5
+L4:
+  ;@ line examples/c/say.h:17
+  ldi r0, 45
+  lip r14, 2
+  br putchar
+L5:
+  ldi r1, 0
+L6:
+  ;@ line examples/c/say.h:20
+  ldi r13, 10
+  divu r5, r7, r13
+  ldi r13, 10
+  mul r0, r5, r13
+  sub r0, r7, r0
+  ;@ line examples/c/say.h:19
+  ldi r13, 48
+  or r4, r0, r13
+  addi r6, r1, 1
+  addi r1, r1, 8
+  ldi r13, -8
+  and r0, r1, r13
+  leab r3, r9, r0
+  shl r2, r1, r11
+  ld r1, r3, 0, any, keep
+  shr r0, r1, r2
+  xor r0, r0, r4
+  ldi r13, 255
+  and r0, r0, r13
+  shl r0, r0, r2
+  xor r0, r1, r0
+  st r3, r0, 0, any, keep
+  ldi r13, 10
+  ltu r0, r7, r13
+  bnz r0, L7
+L21:
+  mov r1, r6
+  mov r7, r5
+  br L6
+L7:
+  ;@ line examples/c/say.h:21
+  ldi r13, 32
+  shl r0, r6, r13
+  ldi r13, 32
+  sar r7, r0, r13
+L8:
+  ;@ line examples/c/say.h:22
+  addi r7, r7, -1
+  addi r1, r7, 8
+  ldi r13, -8
+  and r0, r1, r13
+  leab r0, r9, r0
+  shl r1, r1, r11
+  ld r0, r0, 0, any, keep
+  shr r0, r0, r1
+  ldi r13, 56
+  shl r0, r0, r13
+  ldi r13, 56
+  sar r0, r0, r13
+  lip r14, 2
+  br putchar
+  ;@ line examples/c/say.h:21
+  bnz r7, L8
+L9:
+  ;@ line examples/c/strings.c:38
+  mov r0, r8
+  ldi r1, 122
+  lip r14, 2
+  br strchr
+  lip r4, P_7
+  ld r4, r4, 0, any, keep
+  bnz r0, L33
+  lip r4, P_8
+  ld r4, r4, 0, any, keep
+L33:
+  ;@ line examples/c/say.h:8
+  lip r12, P_3
+  ld r12, r12, 0, any, keep
+  ld r3, r12, 0, any, keep
+  ldi r13, 0
+  add r2, r4, r13
+  isptr r0, r4
+  bz r0, L34
+  ldi r0, 54
+  shr r0, r4, r0
+  xor r1, r2, r4
+  shr r1, r1, r0
+  bnz r1, L34
+  lea r2, r4, r13
+L34:
+  mov r0, r2
+  mov r1, r3
+  lip r14, 2
+  br fputs
+  ldi r8, 65
+  ldi r7, 0
+  ldi r9, 0
+  ;@ line examples/c/strings.c:19
+  br L12
+L10:
+  ldi r13, 63
+  sar r1, r5, r13
+  xor r0, r5, r1
+  sub r0, r0, r1
+  ldi r13, 2
+  divu r0, r0, r13
+  xor r0, r0, r1
+  sub r4, r0, r1
+  ldi r13, 0
+  ldhi r13, 4294967295
+  and r6, r4, r13
+  ;@ line examples/c/strings.c:22
+  ldi r12, 1
+  lts r0, r12, r5
+  bz r0, L18
+L11:
+  ;@ line examples/c/strings.c:23
+  ld r0, r15, 64, any, keep
+  ldi r13, 255
+  and r2, r0, r13
+  addi r0, r5, -1
+  ldi r13, 32
+  shl r0, r0, r13
+  ldi r13, 32
+  sar r1, r0, r13
+  ldi r13, -8
+  and r0, r1, r13
+  ld r12, r15, 0, any, keep
+  leab r0, r12, r0
+  shl r1, r1, r11
+  ld r0, r0, 0, any, keep
+  shr r0, r0, r1
+  ldi r13, 255
+  and r0, r0, r13
+  eq r0, r2, r0
+  bnz r0, L26
+L27:
+  ldi r0, 1
+  br L18
+L26:
+  ldi r2, 1
+  br L15
+L12:
+  ;@ line examples/c/strings.c:20
+  mov r0, r8
+  lip r14, 2
+  br isalpha
+  bnz r0, L13
+L23:
+  mov r5, r7
+  br L14
+L13:
+  ;@ line examples/c/strings.c:21
+  mov r0, r8
+  lip r14, 2
+  br tolower
+  mov r4, r0
+  addi r5, r7, 1
+  ldi r13, -8
+  and r0, r7, r13
+  ld r12, r15, 0, any, keep
+  leab r3, r12, r0
+  shl r2, r7, r11
+  ld r1, r3, 0, any, keep
+  shr r0, r1, r2
+  xor r0, r0, r4
+  ldi r13, 255
+  and r0, r0, r13
+  shl r0, r0, r2
+  xor r0, r1, r0
+  st r3, r0, 0, any, keep
+L14:
+  ;@ line examples/c/strings.c:19
+  addi r1, r9, 2
+  ldi r13, -8
+  and r0, r1, r13
+  leab r0, r10, r0
+  shl r1, r1, r11
+  ld r0, r0, 0, any, keep
+  shr r0, r0, r1
+  ldi r13, 255
+  and r8, r0, r13
+  add r0, r10, r9
+  addi r1, r0, 1
+  addi r0, r10, 30
+  eq r0, r1, r0
+  bnz r0, L10
+L24:
+  addi r9, r9, 1
+  mov r7, r5
+  br L12
+L15:
+  ;@ line examples/c/strings.c:22
+  eq r0, r2, r6
+  bnz r0, L17
+L16:
+  ;@ line examples/c/strings.c:23
+  ldi r13, -8
+  and r0, r2, r13
+  ld r12, r15, 0, any, keep
+  leab r0, r12, r0
+  shl r1, r2, r11
+  ld r0, r0, 0, any, keep
+  shr r0, r0, r1
+  ldi r13, 255
+  and r3, r0, r13
+  ldi r13, -1
+  xor r0, r2, r13
+  add r0, r5, r0
+  ldi r13, 32
+  shl r0, r0, r13
+  ldi r13, 32
+  sar r1, r0, r13
+  ldi r13, -8
+  and r0, r1, r13
+  ld r12, r15, 0, any, keep
+  leab r0, r12, r0
+  shl r1, r1, r11
+  ld r0, r0, 0, any, keep
+  shr r0, r0, r1
+  ldi r13, 255
+  and r0, r0, r13
+  ;@ line examples/c/strings.c:22
+  addi r1, r2, 1
+  ;@ line examples/c/strings.c:23
+  eq r0, r3, r0
+  bz r0, L17
+L28:
+  mov r2, r1
+  br L15
+L17:
+  ;@ line examples/c/strings.c:22
+  lts r0, r2, r4
+L18:
+  ;@ line examples/c/strings.c:39
+  lip r4, P_9
+  ld r4, r4, 0, any, keep
+  bnz r0, L35
+  lip r4, P_10
+  ld r4, r4, 0, any, keep
+L35:
+  ;@ line examples/c/say.h:8
+  lip r12, P_3
+  ld r12, r12, 0, any, keep
+  ld r3, r12, 0, any, keep
+  ldi r13, 0
+  add r2, r4, r13
+  isptr r0, r4
+  bz r0, L36
+  ldi r0, 54
+  shr r0, r4, r0
+  xor r1, r2, r4
+  shr r1, r1, r0
+  bnz r1, L36
+  lea r2, r4, r13
+L36:
+  mov r0, r2
+  mov r1, r3
+  lip r14, 2
+  br fputs
+  ;@ line examples/c/say.h:17
+  ldi r0, 45
+  lip r14, 2
+  br putchar
+  ;@ line examples/c/say.h:22
+  ldi r0, 49
+  lip r14, 2
+  br putchar
+  ldi r0, 48
+  lip r14, 2
+  br putchar
+  ;@ line examples/c/say.h:8
+  lip r12, P_3
+  ld r12, r12, 0, any, keep
+  ld r1, r12, 0, any, keep
+  ldi r0, 10
+  lip r14, 2
+  br fputc
+  ;@ line examples/c/strings.c:43
+  ldi r0, 0
+  ld r7, r15, 8, any, keep
+  ld r8, r15, 16, any, keep
+  ld r9, r15, 24, any, keep
+  ld r10, r15, 32, any, keep
+  ld r11, r15, 40, any, keep
+  ld r14, r15, 48, any, keep
+  ld r15, r15, 56, any, keep
+  jmp r14
+tolower:
+  mov r3, r0
+  ldi r1, 32
+  addi r0, r3, -91
+  shl r0, r0, r1
+  sar r0, r0, r1
+  addi r2, r3, 32
+  ldi r13, -26
+  ltu r1, r0, r13
+  mov r0, r3
+  bnz r1, L38
+  mov r0, r2
+L38:
+  jmp r14
+isalpha:
+  ldi r1, 32
+  ldi r13, -33
+  and r0, r0, r13
+  addi r0, r0, -65
+  shl r0, r0, r1
+  sar r0, r0, r1
+  ldi r13, 26
+  ltu r0, r0, r13
+  jmp r14
+strchr:
+  leai r15, r15, -16
+  st r15, r7, 0, any, keep
+  st r15, r8, 8, any, keep
+  mov r4, r0
+  ldi r5, 24
+  ldi r2, 32
+  ldi r7, 3
+  ldi r6, 0
+  ldi r8, 7
+  ldi r3, 56
+  shl r0, r1, r5
+  shl r0, r0, r2
+  sar r0, r0, r2
+  sar r5, r0, r5
+  and r0, r4, r8
+  sub r0, r6, r0
+  lea r0, r4, r0
+  shl r1, r4, r7
+  ld r0, r0, 0, any, keep
+  shr r0, r0, r1
+  shl r0, r0, r3
+  sar r1, r0, r3
+  eq r0, r5, r1
+  bnz r0, L44
+L45:
+  mov r2, r6
+  br L42
+L44:
+  mov r2, r6
+  br L43
+L41:
+  lea r1, r4, r2
+  and r0, r1, r8
+  sub r0, r6, r0
+  lea r0, r1, r0
+  shl r1, r1, r7
+  ld r0, r0, 0, any, keep
+  shr r0, r0, r1
+  shl r0, r0, r3
+  sar r1, r0, r3
+  eq r0, r5, r1
+  bnz r0, L43
+L42:
+  addi r2, r2, 1
+  bnz r1, L41
+L46:
+  mov r2, r6
+  mov r4, r6
+L43:
+  add r3, r4, r2
+  isptr r0, r4
+  bz r0, L49
+  ldi r0, 54
+  shr r0, r4, r0
+  xor r1, r3, r4
+  shr r1, r1, r0
+  bnz r1, L49
+  lea r3, r4, r2
+L49:
+  mov r0, r3
+  ld r7, r15, 0, any, keep
+  ld r8, r15, 8, any, keep
+  leai r15, r15, 16
+  jmp r14
+putchar:
+  out r0
+  ldi r13, 255
+  and r0, r0, r13
+  jmp r14
+fputc:
+  out r0
+  ldi r13, 255
+  and r0, r0, r13
+  jmp r14
+strstr:
+  leai r15, r15, -48
+  st r15, r7, 8, any, keep
+  st r15, r8, 16, any, keep
+  st r15, r9, 24, any, keep
+  st r15, r10, 32, any, keep
+  st r15, r11, 40, any, keep
+  mov r10, r0
+  mov r11, r1
+  ldi r5, 3
+  ldi r4, 0
+  ldi r6, 7
+  ldi r7, 255
+  mov r9, r4
+L53:
+  lea r1, r11, r9
+  and r0, r1, r6
+  sub r0, r4, r0
+  lea r0, r1, r0
+  shl r1, r1, r5
+  ld r0, r0, 0, any, keep
+  shr r0, r0, r1
+  and r0, r0, r7
+  addi r1, r9, 1
+  bz r0, L54
+L61:
+  mov r9, r1
+  br L53
+L54:
+  bz r9, L62
+L63:
+  mov r8, r4
+  st r15, r4, 0, any, keep
+  br L56
+L62:
+  mov r8, r4
+  br L60
+L55:
+  ld r8, r15, 0, any, keep
+L56:
+  mov r2, r4
+L57:
+  add r0, r8, r2
+  lea r1, r10, r0
+  and r0, r1, r6
+  sub r0, r4, r0
+  lea r0, r1, r0
+  shl r1, r1, r5
+  ld r0, r0, 0, any, keep
+  shr r0, r0, r1
+  and r3, r0, r7
+  lea r1, r11, r2
+  and r0, r1, r6
+  sub r0, r4, r0
+  lea r0, r1, r0
+  shl r1, r1, r5
+  ld r0, r0, 0, any, keep
+  shr r0, r0, r1
+  and r0, r0, r7
+  eq r0, r3, r0
+  bz r0, L59
+L58:
+  addi r2, r2, 1
+  eq r0, r2, r9
+  bnz r3, L67
+  ldi r0, 1
+L67:
+  bnz r0, L60
+  br L57
+L59:
+  lea r1, r10, r8
+  and r0, r1, r6
+  sub r0, r4, r0
+  lea r0, r1, r0
+  shl r1, r1, r5
+  ld r0, r0, 0, any, keep
+  shr r0, r0, r1
+  and r0, r0, r7
+  ld r12, r15, 0, any, keep
+  addi r12, r12, 1
+  st r15, r12, 0, any, keep
+  bnz r0, L55
+L66:
+  mov r8, r4
+  mov r10, r4
+L60:
+  add r2, r10, r8
+  isptr r0, r10
+  bz r0, L68
+  ldi r0, 54
+  shr r0, r10, r0
+  xor r1, r2, r10
+  shr r1, r1, r0
+  bnz r1, L68
+  lea r2, r10, r8
+L68:
+  mov r0, r2
+  ld r7, r15, 8, any, keep
+  ld r8, r15, 16, any, keep
+  ld r9, r15, 24, any, keep
+  ld r10, r15, 32, any, keep
+  ld r11, r15, 40, any, keep
+  leai r15, r15, 48
+  jmp r14
+fputs:
+  leai r15, r15, -16
+  st r15, r7, 0, any, keep
+  st r15, r8, 8, any, keep
+  mov r5, r0
+  ldi r6, 3
+  ldi r4, 0
+  ldi r7, 7
+  ldi r3, 56
+  ldi r8, 255
+  and r0, r5, r7
+  sub r0, r4, r0
+  lea r0, r5, r0
+  shl r1, r5, r6
+  ld r0, r0, 0, any, keep
+  shr r0, r0, r1
+  shl r0, r0, r3
+  sar r1, r0, r3
+  and r0, r1, r8
+  bz r0, L70
+L72:
+  mov r2, r4
+  br L71
+L70:
+  mov r0, r4
+  ld r7, r15, 0, any, keep
+  ld r8, r15, 8, any, keep
+  leai r15, r15, 16
+  jmp r14
+L71:
+  out r1
+  addi r2, r2, 1
+  lea r1, r5, r2
+  and r0, r1, r7
+  sub r0, r4, r0
+  lea r0, r1, r0
+  shl r1, r1, r6
+  ld r0, r0, 0, any, keep
+  shr r0, r0, r1
+  shl r0, r0, r3
+  sar r1, r0, r3
+  and r0, r1, r8
+  bz r0, L70
+  br L71
+memcpy:
+  leai r15, r15, -64
+  st r15, r7, 24, any, keep
+  st r15, r8, 32, any, keep
+  st r15, r9, 40, any, keep
+  st r15, r10, 48, any, keep
+  st r15, r11, 56, any, keep
+  st r15, r2, 8, any, keep
+  mov r10, r0
+  mov r11, r1
+  ldi r9, 7
+  ldi r7, 0
+  ldi r2, 8
+  ldi r8, 3
+  or r0, r11, r10
+  and r0, r0, r9
+  eq r0, r0, r7
+  eq r1, r0, r7
+  ld r12, r15, 8, any, keep
+  ltu r0, r12, r2
+  or r0, r1, r0
+  bnz r0, L82
+L83:
+  mov r6, r2
+  mov r2, r7
+  br L75
+L82:
+  mov r6, r7
+  br L76
+L75:
+  lea r0, r11, r2
+  ld r1, r0, 0, any, keep
+  lea r0, r10, r2
+  st r0, r1, 0, any, keep
+  addi r1, r6, 8
+  ld r12, r15, 8, any, keep
+  ltu r0, r12, r1
+  bnz r0, L76
+L85:
+  mov r2, r6
+  mov r6, r1
+  br L75
+L76:
+  ld r13, r15, 8, any, keep
+  ltu r0, r6, r13
+  bz r0, L81
+L77:
+  ldi r13, -1
+  xor r0, r6, r13
+  ld r13, r15, 8, any, keep
+  add r12, r0, r13
+  st r15, r12, 16, any, keep
+  ld r12, r15, 8, any, keep
+  and r12, r12, r8
+  st r15, r12, 0, any, keep
+  ld r12, r15, 0, any, keep
+  bz r12, L79
+L87:
+  mov r5, r7
+L78:
+  lea r1, r11, r6
+  and r0, r1, r9
+  sub r0, r7, r0
+  lea r0, r1, r0
+  shl r1, r1, r8
+  ld r0, r0, 0, any, keep
+  shr r4, r0, r1
+  lea r1, r10, r6
+  and r0, r1, r9
+  sub r0, r7, r0
+  lea r3, r1, r0
+  shl r2, r1, r8
+  ld r1, r3, 0, any, keep
+  shr r0, r1, r2
+  xor r0, r0, r4
+  ldi r13, 255
+  and r0, r0, r13
+  shl r0, r0, r2
+  xor r0, r1, r0
+  st r3, r0, 0, any, keep
+  addi r6, r6, 1
+  addi r5, r5, 1
+  ld r13, r15, 0, any, keep
+  eq r0, r5, r13
+  bz r0, L78
+L79:
+  ld r12, r15, 16, any, keep
+  ltu r0, r12, r8
+  bnz r0, L81
+L80:
+  lea r1, r11, r6
+  and r0, r1, r9
+  sub r0, r7, r0
+  lea r0, r1, r0
+  shl r1, r1, r8
+  ld r0, r0, 0, any, keep
+  shr r4, r0, r1
+  lea r1, r10, r6
+  and r0, r1, r9
+  sub r0, r7, r0
+  lea r3, r1, r0
+  shl r2, r1, r8
+  ld r1, r3, 0, any, keep
+  shr r0, r1, r2
+  xor r0, r0, r4
+  ldi r13, 255
+  and r0, r0, r13
+  shl r0, r0, r2
+  xor r0, r1, r0
+  st r3, r0, 0, any, keep
+  addi r2, r6, 1
+  lea r1, r11, r2
+  and r0, r1, r9
+  sub r0, r7, r0
+  lea r0, r1, r0
+  shl r1, r1, r8
+  ld r0, r0, 0, any, keep
+  shr r4, r0, r1
+  lea r1, r10, r2
+  and r0, r1, r9
+  sub r0, r7, r0
+  lea r3, r1, r0
+  shl r2, r1, r8
+  ld r1, r3, 0, any, keep
+  shr r0, r1, r2
+  xor r0, r0, r4
+  ldi r13, 255
+  and r0, r0, r13
+  shl r0, r0, r2
+  xor r0, r1, r0
+  st r3, r0, 0, any, keep
+  addi r2, r6, 2
+  lea r1, r11, r2
+  and r0, r1, r9
+  sub r0, r7, r0
+  lea r0, r1, r0
+  shl r1, r1, r8
+  ld r0, r0, 0, any, keep
+  shr r4, r0, r1
+  lea r1, r10, r2
+  and r0, r1, r9
+  sub r0, r7, r0
+  lea r3, r1, r0
+  shl r2, r1, r8
+  ld r1, r3, 0, any, keep
+  shr r0, r1, r2
+  xor r0, r0, r4
+  ldi r13, 255
+  and r0, r0, r13
+  shl r0, r0, r2
+  xor r0, r1, r0
+  st r3, r0, 0, any, keep
+  addi r2, r6, 3
+  lea r1, r11, r2
+  and r0, r1, r9
+  sub r0, r7, r0
+  lea r0, r1, r0
+  shl r1, r1, r8
+  ld r0, r0, 0, any, keep
+  shr r4, r0, r1
+  lea r1, r10, r2
+  and r0, r1, r9
+  sub r0, r7, r0
+  lea r3, r1, r0
+  shl r2, r1, r8
+  ld r1, r3, 0, any, keep
+  shr r0, r1, r2
+  xor r0, r0, r4
+  ldi r13, 255
+  and r0, r0, r13
+  shl r0, r0, r2
+  xor r0, r1, r0
+  st r3, r0, 0, any, keep
+  addi r6, r6, 4
+  ld r13, r15, 8, any, keep
+  eq r0, r6, r13
+  bz r0, L80
+L81:
+  mov r0, r10
+  ld r7, r15, 24, any, keep
+  ld r8, r15, 32, any, keep
+  ld r9, r15, 40, any, keep
+  ld r10, r15, 48, any, keep
+  ld r11, r15, 56, any, keep
+  leai r15, r15, 64
+  jmp r14
+strlen:
+  leai r15, r15, -8
+  st r15, r7, 0, any, keep
+  mov r3, r0
+  ldi r5, 3
+  ldi r4, 0
+  ldi r6, 7
+  ldi r7, 255
+  mov r2, r4
+L93:
+  lea r1, r3, r2
+  and r0, r1, r6
+  sub r0, r4, r0
+  lea r0, r1, r0
+  shl r1, r1, r5
+  ld r0, r0, 0, any, keep
+  shr r0, r0, r1
+  and r0, r0, r7
+  addi r1, r2, 1
+  bz r0, L94
+L95:
+  mov r2, r1
+  br L93
+L94:
+  mov r0, r2
+  ld r7, r15, 0, any, keep
+  leai r15, r15, 8
+  jmp r14
+P_0: .ptr ro __const_main_room+0
+P_1: .ptr ro _str_7+1
+P_2: .ptr ro _str+7
+P_3: .ptr rw stdout+0
+P_4: .ptr ro _str_1+2
+P_5: .ptr ro _str_2+2
+P_6: .ptr ro _str_3+5
+P_7: .ptr ro _str_5+7
+P_8: .ptr ro _str_6+4
+P_9: .ptr ro _str_9+2
+P_10: .ptr ro _str_8+2
+.segment __const_main_room 5
+  ;@ global room 32 at 0
+  .int 0x64656472617567
+.segment _str 4
+  .int 0x2000000000000000
+  .int 0x7265746e696f70
+.segment stdout 3
+  ;@ global stdout 8 at 0
+  .ptr rw files+8
+.segment _str_1 3
+  .int 0x746e696f700000
+.segment _str_2 4
+  .int 0x6120736168200000
+  .int 0xa746e696f7020
+.segment _str_3 4
+  .int 0x6168200000000000
+  .int 0xa656e6f6e2073
+.segment _str_6 4
+  .int 0x7469772000000000
+  .int 0xa7a2074756f68
+.segment _str_5 4
+  .int 0x2000000000000000
+  .int 0xa7a2068746977
+.segment _str_7 5
+  .int 0x202c6e616d204100
+  .int 0x202c6e616c702061
+  .int 0x3a6c616e61632061
+  .int 0x616d616e615020
+.segment _str_9 3
+  .int 0xa656e6f6e0000
+.segment _str_8 4
+  .int 0x696c617020610000
+  .int 0xa656d6f72646e
+.segment files 4
+  ;@ global files 12 at 4
+  .fill 1
+  .int 0x200000001
+.segment stack 16
+.thread 0 0 none xu start
+.reg 15 ptr rw stack+65472

@@ -1,0 +1,1237 @@
+.segment text 14
+start:
+  ldi r0, 1
+  ldi r1, 0
+  lip r14, 2
+  br main
+  halt
+main:
+  ;@ function examples/c/words.c:48
+  ;@ frame back 56 caller at 64
+  ;@ local digits.i 20 at 104 log 5
+  ;@ local text 79 at 304 log 7
+  ;@ local asked 40 at 152 log 6
+  ldi r13, 127
+  and r13, r15, r13
+  ldi r12, -384
+  sub r13, r12, r13
+  lea r12, r15, r13
+  st r12, r15, 64, any, keep
+  mov r15, r12
+  st r15, r7, 16, any, keep
+  st r15, r8, 24, any, keep
+  st r15, r9, 32, any, keep
+  st r15, r10, 40, any, keep
+  st r15, r11, 48, any, keep
+  st r15, r14, 56, any, keep
+  leai r8, r15, 104
+  ldi r14, 5
+  subseg r8, r8, r14
+  leai r12, r15, 304
+  ldi r14, 7
+  subseg r12, r12, r14
+  st r15, r12, 0, any, keep
+  leai r12, r15, 152
+  ldi r14, 6
+  subseg r12, r12, r14
+  st r15, r12, 8, any, keep
+  lip r7, P_0
+  ld r7, r7, 0, any, keep
+  ldi r10, 10
+  ldi r11, -8
+  lip r9, P_1
+  ld r9, r9, 0, any, keep
+  ;@ line examples/c/words.c:50
+  ld r0, r15, 0, any, keep
+  lip r1, P_2
+  ld r1, r1, 0, any, keep
+  ldi r2, 79
+  lip r14, 2
+  br memcpy
+  ;@ line examples/c/words.c:51
+  mov r1, r7
+  ld r0, r15, 0, any, keep
+  lip r14, 2
+  br strtok
+  bnz r0, L3
+L2:
+  ;@ line examples/c/words.c:53
+  ldi r12, 0
+  st r15, r12, 152, any, keep
+  ldi r12, 0
+  st r15, r12, 160, any, keep
+  ldi r12, 0
+  st r15, r12, 168, any, keep
+  ldi r12, 0
+  st r15, r12, 176, any, keep
+  ldi r12, 0
+  st r15, r12, 184, any, keep
+  lip r12, P_3
+  ld r12, r12, 0, any, keep
+  st r15, r12, 152, any, keep
+  lip r12, P_4
+  ld r12, r12, 0, any, keep
+  st r15, r12, 160, any, keep
+  lip r12, P_5
+  ld r12, r12, 0, any, keep
+  st r15, r12, 168, any, keep
+  lip r12, P_6
+  ld r12, r12, 0, any, keep
+  st r15, r12, 176, any, keep
+  lip r12, P_7
+  ld r12, r12, 0, any, keep
+  st r15, r12, 184, any, keep
+  ldi r12, 0
+  st r15, r12, 0, any, keep
+  ;@ line examples/c/words.c:54
+  br L8
+L3:
+  ;@ line examples/c/words.c:52
+  lip r14, 2
+  br find
+  mov r2, r0
+  ld r0, r2, 16, any, keep
+  addi r0, r0, 1
+  ld r1, r2, 16, any, keep
+  xor r0, r1, r0
+  ldi r13, 0
+  ldhi r13, 4294967295
+  and r0, r0, r13
+  xor r0, r1, r0
+  st r2, r0, 16, any, keep
+  ;@ line examples/c/words.c:51
+  mov r1, r7
+  ldi r0, 0
+  lip r14, 2
+  br strtok
+  bz r0, L2
+  br L3
+L4:
+  ;@ line examples/c/words.c:54
+  ldi r13, 3
+  shl r8, r10, r13
+  ;@ line examples/c/words.c:40
+  lea r0, r9, r8
+  ld r7, r0, 0, any, keep
+  bz r7, L6
+L5:
+  ;@ line examples/c/words.c:42
+  ld r1, r7, 0, any, keep
+  lea r0, r9, r8
+  st r0, r1, 0, any, keep
+  ;@ line examples/c/words.c:43
+  ld r0, r7, 8, any, keep
+  lip r14, 2
+  br free
+  ;@ line examples/c/words.c:44
+  mov r0, r7
+  lip r14, 2
+  br free
+  ;@ line examples/c/words.c:40
+  lea r0, r9, r8
+  ld r7, r0, 0, any, keep
+  bnz r7, L5
+L6:
+  ;@ line examples/c/words.c:39
+  addi r10, r10, 1
+  ldi r13, 16
+  eq r0, r10, r13
+  bz r0, L4
+L7:
+  ;@ line examples/c/words.c:61
+  ldi r0, 0
+  ld r7, r15, 16, any, keep
+  ld r8, r15, 24, any, keep
+  ld r9, r15, 32, any, keep
+  ld r10, r15, 40, any, keep
+  ld r11, r15, 48, any, keep
+  ld r14, r15, 56, any, keep
+  ld r15, r15, 64, any, keep
+  jmp r14
+L8:
+  ;@ line examples/c/words.c:55
+  ld r12, r15, 0, any, keep
+  ldi r13, 3
+  shl r0, r12, r13
+  ld r12, r15, 8, any, keep
+  lea r0, r12, r0
+  ld r7, r0, 0, any, keep
+  ;@ line examples/c/say.h:8
+  lip r12, P_8
+  ld r12, r12, 0, any, keep
+  ld r1, r12, 0, any, keep
+  mov r0, r7
+  lip r14, 2
+  br fputs
+  ;@ line examples/c/words.c:56
+  ldi r0, 32
+  lip r14, 2
+  br putchar
+  ;@ line examples/c/words.c:57
+  mov r0, r7
+  lip r14, 2
+  br find
+  ld r0, r0, 16, any, keep
+  ldi r13, 32
+  shl r0, r0, r13
+  ldi r13, 32
+  sar r0, r0, r13
+  ;@ line examples/c/say.h:15
+  ldi r12, 0
+  sub r2, r12, r0
+  ldi r13, 0
+  lts r1, r0, r13
+  mov r7, r2
+  bnz r1, L24
+  mov r7, r0
+L24:
+  ;@ line examples/c/say.h:16
+  ldi r13, 0
+  lts r0, r0, r13
+  bz r0, L10
+L9:
+  ;@ line examples/c/say.h:17
+  ldi r0, 45
+  lip r14, 2
+  br putchar
+L10:
+  ldi r1, 0
+L11:
+  ;@ line examples/c/say.h:20
+  divu r5, r7, r10
+  mul r0, r5, r10
+  sub r0, r7, r0
+  ;@ line examples/c/say.h:19
+  ldi r13, 48
+  or r4, r0, r13
+  addi r6, r1, 1
+  addi r1, r1, 8
+  and r0, r1, r11
+  leab r3, r8, r0
+  ldi r13, 3
+  shl r2, r1, r13
+  ld r1, r3, 0, any, keep
+  shr r0, r1, r2
+  xor r0, r0, r4
+  ldi r13, 255
+  and r0, r0, r13
+  shl r0, r0, r2
+  xor r0, r1, r0
+  st r3, r0, 0, any, keep
+  ltu r0, r7, r10
+  bnz r0, L12
+L17:
+  mov r1, r6
+  mov r7, r5
+  br L11
+L12:
+  ;@ line examples/c/say.h:21
+  ldi r13, 32
+  shl r0, r6, r13
+  ldi r13, 32
+  sar r7, r0, r13
+L13:
+  ;@ line examples/c/say.h:22
+  addi r7, r7, -1
+  addi r1, r7, 8
+  and r0, r1, r11
+  leab r0, r8, r0
+  ldi r13, 3
+  shl r1, r1, r13
+  ld r0, r0, 0, any, keep
+  shr r0, r0, r1
+  ldi r13, 56
+  shl r0, r0, r13
+  ldi r13, 56
+  sar r0, r0, r13
+  lip r14, 2
+  br putchar
+  ;@ line examples/c/say.h:21
+  bnz r7, L13
+L14:
+  ;@ line examples/c/words.c:58
+  mov r0, r10
+  lip r14, 2
+  br putchar
+  ;@ line examples/c/words.c:54
+  ld r12, r15, 0, any, keep
+  addi r12, r12, 1
+  st r15, r12, 0, any, keep
+  ld r12, r15, 0, any, keep
+  ldi r13, 5
+  eq r0, r12, r13
+  bz r0, L8
+L19:
+  ldi r10, 0
+  br L4
+free:
+  mov r1, r0
+  ldi r3, 4194303
+  ldhi r3, 4294967295
+  lip r4, P_9
+  ld r4, r4, 0, any, keep
+  lip r5, P_10
+  ld r5, r5, 0, any, keep
+  bz r1, L27
+L26:
+  ldi r13, 54
+  shr r0, r1, r13
+  ldi r13, 63
+  and r2, r0, r13
+  and r1, r1, r3
+  and r0, r4, r3
+  sub r1, r1, r0
+  ldi r12, -1
+  shl r0, r12, r2
+  and r0, r0, r1
+  leab r0, r4, r0
+  subseg r3, r0, r2
+  ldi r13, 3
+  shl r1, r2, r13
+  lea r0, r5, r1
+  ld r0, r0, 0, any, keep
+  st r3, r0, 0, any, keep
+  lea r0, r5, r1
+  st r0, r3, 0, any, keep
+L27:
+  jmp r14
+putchar:
+  out r0
+  ldi r13, 255
+  and r0, r0, r13
+  jmp r14
+fputs:
+  leai r15, r15, -16
+  st r15, r7, 0, any, keep
+  st r15, r8, 8, any, keep
+  mov r5, r0
+  ldi r6, 3
+  ldi r4, 0
+  ldi r7, 7
+  ldi r3, 56
+  ldi r8, 255
+  and r0, r5, r7
+  sub r0, r4, r0
+  lea r0, r5, r0
+  shl r1, r5, r6
+  ld r0, r0, 0, any, keep
+  shr r0, r0, r1
+  shl r0, r0, r3
+  sar r1, r0, r3
+  and r0, r1, r8
+  bz r0, L30
+L32:
+  mov r2, r4
+  br L31
+L30:
+  mov r0, r4
+  ld r7, r15, 0, any, keep
+  ld r8, r15, 8, any, keep
+  leai r15, r15, 16
+  jmp r14
+L31:
+  out r1
+  addi r2, r2, 1
+  lea r1, r5, r2
+  and r0, r1, r7
+  sub r0, r4, r0
+  lea r0, r1, r0
+  shl r1, r1, r6
+  ld r0, r0, 0, any, keep
+  shr r0, r0, r1
+  shl r0, r0, r3
+  sar r1, r0, r3
+  and r0, r1, r8
+  bz r0, L30
+  br L31
+find:
+  ;@ function examples/c/words.c:24
+  ;@ frame back 48 caller by 56
+  leai r15, r15, -56
+  st r15, r7, 8, any, keep
+  st r15, r8, 16, any, keep
+  st r15, r9, 24, any, keep
+  st r15, r10, 32, any, keep
+  st r15, r11, 40, any, keep
+  st r15, r14, 48, any, keep
+  mov r9, r0
+  ldi r6, 3
+  ldi r11, 0
+  ldi r4, 7
+  ldi r5, 255
+  ldi r7, 16777619
+  lip r8, P_1
+  ld r8, r8, 0, any, keep
+  ;@ line examples/c/words.c:19
+  and r0, r9, r4
+  sub r0, r11, r0
+  lea r0, r9, r0
+  shl r1, r9, r6
+  ld r0, r0, 0, any, keep
+  shr r0, r0, r1
+  and r0, r0, r5
+  bz r0, L43
+L44:
+  ldi r3, -2128831035
+  mov r2, r11
+  br L35
+L43:
+  ldi r0, 5
+  br L37
+L35:
+  ;@ line examples/c/words.c:20
+  xor r0, r3, r0
+  mul r3, r0, r7
+  ;@ line examples/c/words.c:19
+  addi r0, r2, 1
+  lea r1, r9, r0
+  and r0, r1, r4
+  sub r0, r11, r0
+  lea r0, r1, r0
+  shl r1, r1, r6
+  ld r0, r0, 0, any, keep
+  shr r0, r0, r1
+  and r0, r0, r5
+  bz r0, L36
+L45:
+  addi r2, r2, 1
+  br L35
+L36:
+  ;@ line examples/c/words.c:21
+  ldi r13, 15
+  and r0, r3, r13
+L37:
+  ;@ line examples/c/words.c:26
+  shl r10, r0, r6
+  ;@ line examples/c/words.c:27
+  lea r0, r8, r10
+  ld r7, r0, 0, any, keep
+  bnz r7, L38
+L46:
+  st r15, r8, 0, any, keep
+  br L41
+L38:
+  ;@ line examples/c/words.c:28
+  ld r0, r7, 8, any, keep
+  mov r1, r9
+  lip r14, 2
+  br strcmp
+  bz r0, L42
+L39:
+  ;@ line examples/c/words.c:27
+  ld r0, r7, 0, any, keep
+  bz r0, L40
+L49:
+  mov r7, r0
+  br L38
+L40:
+  mov r10, r11
+  st r15, r7, 0, any, keep
+L41:
+  ;@ line examples/c/words.c:30
+  ldi r0, 24
+  lip r14, 2
+  br malloc
+  mov r7, r0
+  ;@ line examples/c/words.c:31
+  st r7, r11, 0, any, keep
+  ;@ line examples/c/words.c:32
+  mov r0, r9
+  lip r14, 2
+  br strlen
+  addi r0, r0, 1
+  lip r14, 2
+  br malloc
+  mov r8, r0
+  mov r0, r8
+  mov r1, r9
+  lip r14, 2
+  br strcpy
+  st r7, r8, 8, any, keep
+  ;@ line examples/c/words.c:33
+  ld r1, r7, 16, any, keep
+  xor r0, r1, r11
+  ldi r13, 0
+  ldhi r13, 4294967295
+  and r0, r0, r13
+  xor r0, r1, r0
+  st r7, r0, 16, any, keep
+  ;@ line examples/c/words.c:34
+  ld r12, r15, 0, any, keep
+  lea r0, r12, r10
+  st r0, r7, 0, any, keep
+L42:
+  ;@ line examples/c/words.c:35
+  mov r0, r7
+  ld r7, r15, 8, any, keep
+  ld r8, r15, 16, any, keep
+  ld r9, r15, 24, any, keep
+  ld r10, r15, 32, any, keep
+  ld r11, r15, 40, any, keep
+  ld r14, r15, 48, any, keep
+  leai r15, r15, 56
+  jmp r14
+strcpy:
+  leai r15, r15, -40
+  st r15, r7, 0, any, keep
+  st r15, r8, 8, any, keep
+  st r15, r9, 16, any, keep
+  st r15, r10, 24, any, keep
+  st r15, r11, 32, any, keep
+  mov r11, r0
+  mov r9, r1
+  ldi r7, 3
+  ldi r6, 0
+  ldi r8, 7
+  ldi r10, 255
+  mov r5, r6
+L51:
+  lea r1, r9, r5
+  and r0, r1, r8
+  sub r0, r6, r0
+  lea r0, r1, r0
+  shl r1, r1, r7
+  ld r0, r0, 0, any, keep
+  shr r4, r0, r1
+  lea r1, r11, r5
+  and r0, r1, r8
+  sub r0, r6, r0
+  lea r3, r1, r0
+  shl r2, r1, r7
+  ld r1, r3, 0, any, keep
+  shr r0, r1, r2
+  xor r0, r0, r4
+  and r0, r0, r10
+  shl r0, r0, r2
+  xor r0, r1, r0
+  st r3, r0, 0, any, keep
+  addi r2, r5, 1
+  lea r1, r9, r5
+  and r0, r1, r8
+  sub r0, r6, r0
+  lea r0, r1, r0
+  shl r1, r1, r7
+  ld r0, r0, 0, any, keep
+  shr r0, r0, r1
+  and r0, r0, r10
+  bz r0, L52
+L53:
+  mov r5, r2
+  br L51
+L52:
+  mov r0, r11
+  ld r7, r15, 0, any, keep
+  ld r8, r15, 8, any, keep
+  ld r9, r15, 16, any, keep
+  ld r10, r15, 24, any, keep
+  ld r11, r15, 32, any, keep
+  leai r15, r15, 40
+  jmp r14
+strlen:
+  leai r15, r15, -8
+  st r15, r7, 0, any, keep
+  mov r3, r0
+  ldi r5, 3
+  ldi r4, 0
+  ldi r6, 7
+  ldi r7, 255
+  mov r2, r4
+L55:
+  lea r1, r3, r2
+  and r0, r1, r6
+  sub r0, r4, r0
+  lea r0, r1, r0
+  shl r1, r1, r5
+  ld r0, r0, 0, any, keep
+  shr r0, r0, r1
+  and r0, r0, r7
+  addi r1, r2, 1
+  bz r0, L56
+L57:
+  mov r2, r1
+  br L55
+L56:
+  mov r0, r2
+  ld r7, r15, 0, any, keep
+  leai r15, r15, 8
+  jmp r14
+malloc:
+  leai r15, r15, -56
+  st r15, r7, 16, any, keep
+  st r15, r8, 24, any, keep
+  st r15, r9, 32, any, keep
+  st r15, r10, 40, any, keep
+  st r15, r11, 48, any, keep
+  mov r1, r0
+  ldi r9, 1
+  lip r5, P_10
+  ld r5, r5, 0, any, keep
+  ldi r10, 3
+  lip r7, P_9
+  ld r7, r7, 0, any, keep
+  ldi r3, 63
+  lip r6, P_11
+  ld r6, r6, 0, any, keep
+  addi r0, r1, 7
+  ldi r13, -8
+  and r0, r0, r13
+  mov r13, r0
+  bnz r1, L81
+  ldi r13, 8
+L81:
+  st r15, r13, 8, any, keep
+  ldi r12, 2097151
+  ld r13, r15, 8, any, keep
+  ltu r0, r12, r13
+  bnz r0, L71
+L72:
+  mov r11, r10
+  br L59
+L71:
+  ldi r4, 0
+  ldi r3, 0
+  br L70
+L59:
+  shl r12, r9, r11
+  st r15, r12, 0, any, keep
+  addi r1, r11, 1
+  ld r12, r15, 0, any, keep
+  ld r13, r15, 8, any, keep
+  ltu r0, r12, r13
+  bz r0, L60
+L73:
+  mov r11, r1
+  br L59
+L60:
+  shl r1, r11, r10
+  lea r0, r5, r1
+  ld r0, r0, 0, any, keep
+  bz r0, L62
+L61:
+  ld r2, r0, 0, any, keep
+  lea r1, r5, r1
+  st r1, r2, 0, any, keep
+  br L69
+L62:
+  ldi r13, 54
+  shr r0, r7, r13
+  and r0, r0, r3
+  ltu r0, r11, r0
+  bnz r0, L63
+L74:
+  ldi r0, 0
+  br L69
+L63:
+  ld r1, r6, 0, any, keep
+  ld r12, r15, 0, any, keep
+  addi r8, r12, -1
+  add r2, r1, r8
+  ldi r12, 0
+  ld r13, r15, 0, any, keep
+  sub r0, r12, r13
+  and r0, r2, r0
+  ld r13, r15, 0, any, keep
+  add r2, r0, r13
+  ldi r13, 54
+  shr r0, r7, r13
+  and r0, r0, r3
+  shl r0, r9, r0
+  ltu r0, r0, r2
+  bz r0, L64
+L75:
+  ldi r0, 0
+  br L69
+L64:
+  and r0, r1, r8
+  bz r0, L65
+L77:
+  mov r3, r10
+  br L66
+L65:
+  ld r13, r15, 0, any, keep
+  add r0, r1, r13
+  st r6, r0, 0, any, keep
+  leab r0, r7, r1
+  subseg r0, r0, r11
+  br L69
+L66:
+  shl r4, r9, r3
+  and r0, r4, r1
+  bz r0, L68
+L67:
+  leab r0, r7, r1
+  subseg r2, r0, r3
+  shl r1, r3, r10
+  lea r0, r5, r1
+  ld r0, r0, 0, any, keep
+  st r2, r0, 0, any, keep
+  lea r0, r5, r1
+  st r0, r2, 0, any, keep
+  ld r0, r6, 0, any, keep
+  add r1, r0, r4
+  st r6, r1, 0, any, keep
+L68:
+  addi r3, r3, 1
+  and r0, r1, r8
+  bz r0, L65
+  br L66
+L69:
+  ld r12, r15, 0, any, keep
+  ld r13, r15, 8, any, keep
+  sub r1, r12, r13
+  mov r4, r1
+  bnz r0, L82
+  ldi r4, 0
+L82:
+  mov r3, r0
+  bnz r0, L70
+  ldi r3, 0
+L83:
+L70:
+  add r2, r3, r4
+  isptr r0, r3
+  bz r0, L84
+  ldi r0, 54
+  shr r0, r3, r0
+  xor r1, r2, r3
+  shr r1, r1, r0
+  bnz r1, L84
+  lea r2, r3, r4
+L84:
+  mov r0, r2
+  ld r7, r15, 16, any, keep
+  ld r8, r15, 24, any, keep
+  ld r9, r15, 32, any, keep
+  ld r10, r15, 40, any, keep
+  ld r11, r15, 48, any, keep
+  leai r15, r15, 56
+  jmp r14
+strcmp:
+  leai r15, r15, -40
+  st r15, r7, 0, any, keep
+  st r15, r8, 8, any, keep
+  st r15, r9, 16, any, keep
+  st r15, r10, 24, any, keep
+  st r15, r11, 32, any, keep
+  mov r10, r0
+  mov r11, r1
+  ldi r5, 3
+  ldi r4, 0
+  ldi r6, 7
+  ldi r7, 255
+  ldi r8, -1
+  ldi r9, 1
+  mov r3, r4
+L86:
+  lea r1, r10, r3
+  and r0, r1, r6
+  sub r0, r4, r0
+  lea r0, r1, r0
+  shl r1, r1, r5
+  ld r0, r0, 0, any, keep
+  shr r0, r0, r1
+  and r2, r0, r7
+  lea r1, r11, r3
+  and r0, r1, r6
+  sub r0, r4, r0
+  lea r0, r1, r0
+  shl r1, r1, r5
+  ld r0, r0, 0, any, keep
+  shr r0, r0, r1
+  and r1, r0, r7
+  eq r0, r2, r1
+  bnz r0, L88
+L87:
+  ltu r0, r2, r1
+  mov r1, r8
+  bnz r0, L89
+  mov r1, r9
+L92:
+  br L89
+L88:
+  addi r3, r3, 1
+  eq r0, r3, r8
+  bnz r2, L93
+  mov r0, r9
+L93:
+  bz r0, L86
+L90:
+  mov r1, r4
+L89:
+  mov r0, r1
+  ld r7, r15, 0, any, keep
+  ld r8, r15, 8, any, keep
+  ld r9, r15, 16, any, keep
+  ld r10, r15, 24, any, keep
+  ld r11, r15, 32, any, keep
+  leai r15, r15, 40
+  jmp r14
+strtok:
+  leai r15, r15, -48
+  st r15, r7, 8, any, keep
+  st r15, r8, 16, any, keep
+  st r15, r9, 24, any, keep
+  st r15, r10, 32, any, keep
+  st r15, r11, 40, any, keep
+  st r15, r0, 0, any, keep
+  mov r6, r1
+  ldi r9, 3
+  ldi r7, 0
+  ldi r8, 7
+  ldi r4, 56
+  ld r12, r15, 0, any, keep
+  bnz r12, L96
+L95:
+  lip r12, P_12
+  ld r12, r12, 0, any, keep
+  ld r12, r12, 0, any, keep
+  st r15, r12, 0, any, keep
+  ld r12, r15, 0, any, keep
+  bnz r12, L96
+L113:
+  mov r10, r7
+  st r15, r7, 0, any, keep
+  br L111
+L96:
+  ld r12, r15, 0, any, keep
+  and r0, r12, r8
+  sub r0, r7, r0
+  ld r12, r15, 0, any, keep
+  lea r0, r12, r0
+  ld r12, r15, 0, any, keep
+  shl r1, r12, r9
+  ld r0, r0, 0, any, keep
+  shr r0, r0, r1
+  shl r0, r0, r4
+  sar r5, r0, r4
+  ldi r13, 255
+  and r0, r5, r13
+  bnz r0, L97
+L115:
+  mov r3, r7
+  mov r4, r7
+  mov r10, r7
+  st r15, r7, 0, any, keep
+  br L110
+L97:
+  and r0, r6, r8
+  sub r0, r7, r0
+  lea r0, r6, r0
+  shl r1, r6, r9
+  ld r0, r0, 0, any, keep
+  shr r0, r0, r1
+  shl r0, r0, r4
+  sar r3, r0, r4
+  mov r10, r7
+L98:
+  eq r0, r5, r3
+  bnz r0, L101
+L116:
+  mov r1, r3
+  mov r2, r7
+  br L100
+L99:
+  lea r1, r6, r2
+  and r0, r1, r8
+  sub r0, r7, r0
+  lea r0, r1, r0
+  shl r1, r1, r9
+  ld r0, r0, 0, any, keep
+  shr r0, r0, r1
+  shl r0, r0, r4
+  sar r1, r0, r4
+  eq r0, r5, r1
+  bnz r0, L101
+L100:
+  addi r2, r2, 1
+  bz r1, L102
+  br L99
+L101:
+  addi r10, r10, 1
+  ld r12, r15, 0, any, keep
+  lea r1, r12, r10
+  and r0, r1, r8
+  sub r0, r7, r0
+  lea r0, r1, r0
+  shl r1, r1, r9
+  ld r0, r0, 0, any, keep
+  shr r0, r0, r1
+  shl r0, r0, r4
+  sar r5, r0, r4
+  ldi r13, 255
+  and r0, r5, r13
+  bnz r0, L98
+L126:
+  mov r3, r7
+  mov r4, r7
+  mov r10, r7
+  st r15, r7, 0, any, keep
+  br L110
+L102:
+  bnz r5, L103
+L117:
+  mov r3, r7
+  mov r4, r7
+  mov r10, r7
+  st r15, r7, 0, any, keep
+  br L110
+L103:
+  and r0, r6, r8
+  sub r0, r7, r0
+  lea r0, r6, r0
+  shl r1, r6, r9
+  ld r0, r0, 0, any, keep
+  shr r0, r0, r1
+  shl r0, r0, r4
+  sar r11, r0, r4
+  mov r3, r7
+L104:
+  eq r0, r5, r11
+  bnz r0, L108
+L119:
+  mov r1, r11
+  mov r2, r7
+  br L106
+L105:
+  lea r1, r6, r2
+  and r0, r1, r8
+  sub r0, r7, r0
+  lea r0, r1, r0
+  shl r1, r1, r9
+  ld r0, r0, 0, any, keep
+  shr r0, r0, r1
+  shl r0, r0, r4
+  sar r1, r0, r4
+  eq r0, r5, r1
+  bnz r0, L108
+L106:
+  addi r2, r2, 1
+  bnz r1, L105
+L107:
+  addi r3, r3, 1
+  add r0, r10, r3
+  ld r12, r15, 0, any, keep
+  lea r1, r12, r0
+  and r0, r1, r8
+  sub r0, r7, r0
+  lea r0, r1, r0
+  shl r1, r1, r9
+  ld r0, r0, 0, any, keep
+  shr r0, r0, r1
+  shl r0, r0, r4
+  sar r5, r0, r4
+  ldi r13, 255
+  and r0, r5, r13
+  bnz r0, L104
+L108:
+  add r4, r10, r3
+  ld r12, r15, 0, any, keep
+  lea r1, r12, r4
+  and r0, r1, r8
+  sub r0, r7, r0
+  lea r0, r1, r0
+  shl r1, r1, r9
+  ld r0, r0, 0, any, keep
+  shr r0, r0, r1
+  ldi r13, 255
+  and r0, r0, r13
+  bnz r0, L109
+L124:
+  mov r3, r7
+  mov r4, r7
+  br L110
+L109:
+  ld r12, r15, 0, any, keep
+  lea r1, r12, r4
+  and r0, r1, r8
+  sub r0, r7, r0
+  lea r3, r1, r0
+  shl r2, r1, r9
+  ld r1, r3, 0, any, keep
+  shr r0, r1, r2
+  xor r0, r0, r7
+  ldi r13, 255
+  and r0, r0, r13
+  shl r0, r0, r2
+  xor r0, r1, r0
+  st r3, r0, 0, any, keep
+  addi r3, r4, 1
+  ld r4, r15, 0, any, keep
+L110:
+  add r2, r4, r3
+  isptr r0, r4
+  bz r0, L128
+  ldi r0, 54
+  shr r0, r4, r0
+  xor r1, r2, r4
+  shr r1, r1, r0
+  bnz r1, L128
+  lea r2, r4, r3
+L128:
+  lip r12, P_12
+  ld r12, r12, 0, any, keep
+  st r12, r2, 0, any, keep
+L111:
+  ld r12, r15, 0, any, keep
+  add r2, r12, r10
+  isptr r0, r12
+  bz r0, L129
+  ldi r0, 54
+  shr r0, r12, r0
+  xor r1, r2, r12
+  shr r1, r1, r0
+  bnz r1, L129
+  lea r2, r12, r10
+L129:
+  mov r0, r2
+  ld r7, r15, 8, any, keep
+  ld r8, r15, 16, any, keep
+  ld r9, r15, 24, any, keep
+  ld r10, r15, 32, any, keep
+  ld r11, r15, 40, any, keep
+  leai r15, r15, 48
+  jmp r14
+memcpy:
+  leai r15, r15, -64
+  st r15, r7, 24, any, keep
+  st r15, r8, 32, any, keep
+  st r15, r9, 40, any, keep
+  st r15, r10, 48, any, keep
+  st r15, r11, 56, any, keep
+  st r15, r2, 8, any, keep
+  mov r10, r0
+  mov r11, r1
+  ldi r9, 7
+  ldi r7, 0
+  ldi r2, 8
+  ldi r8, 3
+  or r0, r11, r10
+  and r0, r0, r9
+  eq r0, r0, r7
+  eq r1, r0, r7
+  ld r12, r15, 8, any, keep
+  ltu r0, r12, r2
+  or r0, r1, r0
+  bnz r0, L138
+L139:
+  mov r6, r2
+  mov r2, r7
+  br L131
+L138:
+  mov r6, r7
+  br L132
+L131:
+  lea r0, r11, r2
+  ld r1, r0, 0, any, keep
+  lea r0, r10, r2
+  st r0, r1, 0, any, keep
+  addi r1, r6, 8
+  ld r12, r15, 8, any, keep
+  ltu r0, r12, r1
+  bnz r0, L132
+L141:
+  mov r2, r6
+  mov r6, r1
+  br L131
+L132:
+  ld r13, r15, 8, any, keep
+  ltu r0, r6, r13
+  bz r0, L137
+L133:
+  ldi r13, -1
+  xor r0, r6, r13
+  ld r13, r15, 8, any, keep
+  add r12, r0, r13
+  st r15, r12, 16, any, keep
+  ld r12, r15, 8, any, keep
+  and r12, r12, r8
+  st r15, r12, 0, any, keep
+  ld r12, r15, 0, any, keep
+  bz r12, L135
+L143:
+  mov r5, r7
+L134:
+  lea r1, r11, r6
+  and r0, r1, r9
+  sub r0, r7, r0
+  lea r0, r1, r0
+  shl r1, r1, r8
+  ld r0, r0, 0, any, keep
+  shr r4, r0, r1
+  lea r1, r10, r6
+  and r0, r1, r9
+  sub r0, r7, r0
+  lea r3, r1, r0
+  shl r2, r1, r8
+  ld r1, r3, 0, any, keep
+  shr r0, r1, r2
+  xor r0, r0, r4
+  ldi r13, 255
+  and r0, r0, r13
+  shl r0, r0, r2
+  xor r0, r1, r0
+  st r3, r0, 0, any, keep
+  addi r6, r6, 1
+  addi r5, r5, 1
+  ld r13, r15, 0, any, keep
+  eq r0, r5, r13
+  bz r0, L134
+L135:
+  ld r12, r15, 16, any, keep
+  ltu r0, r12, r8
+  bnz r0, L137
+L136:
+  lea r1, r11, r6
+  and r0, r1, r9
+  sub r0, r7, r0
+  lea r0, r1, r0
+  shl r1, r1, r8
+  ld r0, r0, 0, any, keep
+  shr r4, r0, r1
+  lea r1, r10, r6
+  and r0, r1, r9
+  sub r0, r7, r0
+  lea r3, r1, r0
+  shl r2, r1, r8
+  ld r1, r3, 0, any, keep
+  shr r0, r1, r2
+  xor r0, r0, r4
+  ldi r13, 255
+  and r0, r0, r13
+  shl r0, r0, r2
+  xor r0, r1, r0
+  st r3, r0, 0, any, keep
+  addi r2, r6, 1
+  lea r1, r11, r2
+  and r0, r1, r9
+  sub r0, r7, r0
+  lea r0, r1, r0
+  shl r1, r1, r8
+  ld r0, r0, 0, any, keep
+  shr r4, r0, r1
+  lea r1, r10, r2
+  and r0, r1, r9
+  sub r0, r7, r0
+  lea r3, r1, r0
+  shl r2, r1, r8
+  ld r1, r3, 0, any, keep
+  shr r0, r1, r2
+  xor r0, r0, r4
+  ldi r13, 255
+  and r0, r0, r13
+  shl r0, r0, r2
+  xor r0, r1, r0
+  st r3, r0, 0, any, keep
+  addi r2, r6, 2
+  lea r1, r11, r2
+  and r0, r1, r9
+  sub r0, r7, r0
+  lea r0, r1, r0
+  shl r1, r1, r8
+  ld r0, r0, 0, any, keep
+  shr r4, r0, r1
+  lea r1, r10, r2
+  and r0, r1, r9
+  sub r0, r7, r0
+  lea r3, r1, r0
+  shl r2, r1, r8
+  ld r1, r3, 0, any, keep
+  shr r0, r1, r2
+  xor r0, r0, r4
+  ldi r13, 255
+  and r0, r0, r13
+  shl r0, r0, r2
+  xor r0, r1, r0
+  st r3, r0, 0, any, keep
+  addi r2, r6, 3
+  lea r1, r11, r2
+  and r0, r1, r9
+  sub r0, r7, r0
+  lea r0, r1, r0
+  shl r1, r1, r8
+  ld r0, r0, 0, any, keep
+  shr r4, r0, r1
+  lea r1, r10, r2
+  and r0, r1, r9
+  sub r0, r7, r0
+  lea r3, r1, r0
+  shl r2, r1, r8
+  ld r1, r3, 0, any, keep
+  shr r0, r1, r2
+  xor r0, r0, r4
+  ldi r13, 255
+  and r0, r0, r13
+  shl r0, r0, r2
+  xor r0, r1, r0
+  st r3, r0, 0, any, keep
+  addi r6, r6, 4
+  ld r13, r15, 8, any, keep
+  eq r0, r6, r13
+  bz r0, L136
+L137:
+  mov r0, r10
+  ld r7, r15, 24, any, keep
+  ld r8, r15, 32, any, keep
+  ld r9, r15, 40, any, keep
+  ld r10, r15, 48, any, keep
+  ld r11, r15, 56, any, keep
+  leai r15, r15, 64
+  jmp r14
+P_0: .ptr ro _str+6
+P_1: .ptr rw chains+0
+P_2: .ptr ro __const_main_text+48
+P_3: .ptr ro _str_1+6
+P_4: .ptr ro _str_2+0
+P_5: .ptr ro _str_3+3
+P_6: .ptr ro _str_4+4
+P_7: .ptr ro _str_5+4
+P_8: .ptr rw stdout+0
+P_9: .ptr rw heap+0
+P_10: .ptr rw unused+88
+P_11: .ptr rw top+0
+P_12: .ptr rw strtok_rest+0
+.segment __const_main_text 7
+  ;@ global text 79 at 48
+  .fill 6
+  .int 0x65746e696f702061
+  .int 0x732061206f742072
+  .int 0x6920746e656d6765
+  .int 0x64726f7720612073
+  .int 0x2061206874697720
+  .int 0x20646e6120676174
+  .int 0x772064726f772061
+  .int 0x6174206120687469
+  .int 0x7020612073692067
+  .int 0x7265746e696f
+.segment _str 3
+  .int 0x20000000000000
+.segment _str_1 3
+  .int 0x61000000000000
+.segment _str_2 3
+  .int 0x7265746e696f70
+.segment _str_3 3
+  .int 0x64726f77000000
+.segment _str_4 3
+  .int 0x67617400000000
+.segment _str_5 3
+  .int 0x79656b00000000
+.segment stdout 3
+  ;@ global stdout 8 at 0
+  .ptr rw files+8
+.segment chains 7
+  ;@ global chains 128 at 0
+.segment heap 16
+  ;@ global __mm_heap 65536 at 0
+.segment unused 8
+  ;@ global unused 168 at 88
+.segment top 3
+  ;@ global top 8 at 0
+.segment strtok_rest 3
+  ;@ global rest 8 at 0
+.segment files 4
+  ;@ global files 12 at 4
+  .fill 1
+  .int 0x200000001
+.segment stack 16
+.thread 0 0 none xu start
+.reg 15 ptr rw stack+65472

@@ -1,0 +1,104 @@
+"""How a function begins, calls others, and ends."""
+
+from __future__ import annotations
+
+
+from mm.cc.code import ARGUMENTS, FRAME, LINK, SCRATCH, SECOND, STACK, VARIADIC, Call, Op
+from mm.cc.emission import Emission, Source
+
+
+class Calling(Emission):
+    """Entries, calls and returns."""
+
+    def _entry(self, op: Op) -> None:
+        self.prologue()
+        call = op.extra
+        assert isinstance(call, Call)
+        came = [(register, number) for number, register in enumerate(call.results[:ARGUMENTS])]
+        if op.d is not None:
+            came.append((op.d, VARIADIC))
+        pairs: list[tuple[int, Source]] = []
+        for register, number in came:
+            home = self.allocation.of(register)
+            if home is not None:
+                pairs.append((home, number))
+            elif self.allocation.has_slot(register):
+                self.store(self.base, number, self.slot(register))
+        self.moves(pairs)
+        self.stacked_parameters(call.results[ARGUMENTS:])
+        for register, fixed in self.code.fixed.items():
+            home = self.allocation.of(register)
+            if home is not None:
+                self.make(home, fixed)
+            elif self.allocation.has_slot(register):
+                self.make(SCRATCH, fixed)
+                self.store(self.base, SCRATCH, self.slot(register))
+
+    def stacked_parameters(self, registers: list[int]) -> None:
+        if not registers:
+            return
+        base, first = self.base, self.frame.size
+        if self.frame.aligned:
+            self.load(SECOND, self.base, self.frame.old)
+            base, first = SECOND, 0
+        for number, register in enumerate(registers):
+            if self.allocation.of(register) is None and not self.allocation.has_slot(register):
+                continue
+            d = self.target(register, SCRATCH)
+            self.load(d, base, first + 8 * number)
+            self.keep(register, d)
+
+    def prologue(self) -> None:
+        frame = self.frame
+        if frame.aligned:
+            self.put("ldi", f"r{SECOND}", frame.align - 1)
+            self.reg("and", SECOND, STACK, SECOND)
+            self.put("ldi", f"r{SCRATCH}", -frame.size)
+            self.reg("sub", SECOND, SCRATCH, SECOND)
+            self.reg("lea", SCRATCH, STACK, SECOND)
+            self.store(SCRATCH, STACK, frame.old)
+            self.reg("mov", STACK, SCRATCH)
+        elif frame.size:
+            self.put("leai", f"r{STACK}", f"r{STACK}", -frame.size)
+        for register, at in frame.saved.items():
+            self.store(STACK, register, at)
+        if self.code.dynamic:
+            self.reg("mov", FRAME, STACK)
+
+    def _ret(self, op: Op) -> None:
+        frame = self.frame
+        self.moves([(number, self.source(register)) for number, register in enumerate(op.uses())])
+        if self.code.dynamic:
+            self.reg("mov", STACK, FRAME)
+        for register, at in frame.saved.items():
+            self.load(register, STACK, at)
+        if frame.aligned:
+            self.load(STACK, STACK, frame.old)
+        elif frame.size:
+            self.put("leai", f"r{STACK}", f"r{STACK}", frame.size)
+        self.reg("jmp", LINK)
+
+    def _call(self, op: Op) -> None:
+        call = op.extra
+        assert isinstance(call, Call)
+        self.used_link = True
+        for number, register in enumerate(call.stacked + call.words):
+            self.store(STACK, self.get(register, SCRATCH), 8 * number)
+        if op.a is not None:
+            self.bring(SECOND, self.source(op.a))
+        self.moves([(number, self.source(register)) for number, register in enumerate(call.arguments)])
+        if call.variadic:
+            self.put("leai", f"r{VARIADIC}", f"r{STACK}", 8 * len(call.stacked))
+        if op.a is not None:
+            self.reg("jal", LINK, SECOND)
+        else:
+            self.put("lip", f"r{LINK}", 2)
+            self.put("br:call", target=call.label)
+        pairs: list[tuple[int, Source]] = []
+        for number, register in enumerate(call.results):
+            home = self.allocation.of(register)
+            if home is not None:
+                pairs.append((home, number))
+            elif self.allocation.has_slot(register):
+                self.store(self.base, number, self.slot(register))
+        self.moves(pairs)

@@ -1,0 +1,71 @@
+"""Doors: the stubs by which a function of a program is entered from others, and the thread that a program asks for."""
+
+from __future__ import annotations
+
+from typing import Optional
+
+from mm.cc.code import ARGUMENTS
+from mm.cc.ir import Function, IntType, Module, Number, Parts, PointerType, VoidType, Zero
+from mm.cc.options import Options
+from mm.cc.program import DOOR, DOOR_LOG, Failure, Program, public_name
+
+THREAD = "__mm_thread"
+NO_HANDLER = -1
+
+
+def doors_of(program: Program) -> list[tuple[Module, Function]]:
+    """The doors that a program has."""
+    return [(module, function) for name, module in program.public.items() if name.startswith(DOOR)
+            for function in [module.functions[name]]]
+
+
+def check(module: Module, function: Function) -> None:
+    """A door takes and gives single words, in registers."""
+    layouts = module.layouts()
+    types = [layouts.plain(parameter.type) for parameter in function.parameters]
+    result = layouts.plain(function.result)
+    words = all(isinstance(type_, PointerType) or isinstance(type_, IntType) and type_.bits <= 64 for type_ in types)
+    given = isinstance(result, (PointerType, VoidType)) or isinstance(result, IntType) and result.bits <= 64
+    if not words or not given or len(types) > ARGUMENTS or function.variadic:
+        raise Failure(f"{module.name}: {function.name}",
+                      "a door with more than six arguments, or one that is no number and no pointer,")
+
+
+def stub(function: Function, label: str, turn: str) -> list[str]:
+    """The segment of a door. Who enters has an enter pointer alone, and cannot see these words.
+
+    The way back must be a pointer that runs or enters. Then the stub waits until the program's stack is there, which one
+    caller at a time has; leaves the caller's stack and way back on it; calls the function; takes all away that it left;
+    puts the stack back; and clears the registers but for the result."""
+    name = public_name(function.name)
+    void = isinstance(function.result, VoidType)
+    cleared = [register for register in range(0 if void else 1, ARGUMENTS + 1)]
+    tail = [
+        "  mov r13, r15", "  ld r6, r13, 16, any, keep", "  ld r14, r13, 8, any, keep", "  ld r15, r13, 0, any, keep",
+        "  ldi r12, 0", "  st r13, r12, 0, any, keep", "  st r13, r12, 8, any, keep", "  st r13, r12, 16, any, keep",
+        "  st r6, r13, 0, empty, full",
+        *[f"  ldi r{register}, 0" for register in cleared],
+        "  ldi r13, 0", "  jmp r14",
+    ]
+    head = [
+        "  lip r12, -10", "  ld r6, r12, 0, any, keep", "  ld r13, r6, 0, full, empty",
+        "  st r13, r15, 0, any, keep", "  st r13, r14, 8, any, keep", "  st r13, r6, 16, any, keep", "  mov r15, r13",
+        "  ld r12, r12, 8, any, keep", "  jal r14, r12",
+    ]
+    test = [
+        "  isptr r12, r14", f"  bz r12, {7 + len(head) + len(tail)}", "  ldi r12, 60", "  shr r12, r14, r12",
+        "  addi r12, r12, -3", "  bz r12, 3", "  addi r12, r12, -2", f"  bnz r12, {1 + len(head) + len(tail)}",
+    ]
+    return [f".segment {name} {DOOR_LOG}", f"  .ptr rw {turn}", f"  .ptr xu {label}", *test, *head, *tail, "  trap 14"]
+
+
+def thread_of(program: Program, options: Options) -> tuple[int, int, Optional[int]]:
+    """The slot, the group and the handler's slot of a program: what it says itself, or what the options say."""
+    for module in program.modules:
+        made = module.globals.get(THREAD)
+        if made is not None and isinstance(made.value, (Parts, Zero)):
+            parts = made.value.parts if isinstance(made.value, Parts) else ()
+            numbers = [part.number if isinstance(part, Number) else 0 for part in parts] or [0, 0, 0]
+            handler = numbers[2]
+            return numbers[0], numbers[1], None if handler in (NO_HANDLER, 2**32 - 1) else handler
+    return options.slot, options.slot, None

@@ -1,0 +1,37 @@
+"""From files of C to sources."""
+
+from __future__ import annotations
+
+import os
+import re
+from dataclasses import replace
+from typing import Sequence
+
+from mm.cc.clang import library, module_of
+from mm.cc.options import Options
+from mm.cc.program import Failure, Program
+from mm.cc.source import write_source
+from mm.status import Status, Stop
+
+
+def source_of(paths: Sequence[str], options: Options) -> str:
+    """The source of one program in C. What is left out ends with a message."""
+    modules = [module_of(path, options.level, options.flags, options.lines) for path in paths]
+    program = Program([*modules, library()], options)
+    try:
+        return write_source(program, options)
+    except Failure as failure:
+        raise Stop(Status.REFUSED, f"mm: {failure}") from None
+
+
+def sources_of(paths: Sequence[str], options: Options) -> list[bytes]:
+    """The sources of several programs, a file each. Those with a `main` get slots and groups in their order."""
+    if len(paths) == 1:
+        return [source_of(paths, options).encode("latin-1", "replace")]
+    made, slot = [], options.slot
+    for path in paths:
+        prefix = re.sub(r"\W", "_", os.path.splitext(os.path.basename(path))[0])
+        source = source_of([path], replace(options, slot=slot, prefix=prefix))
+        slot += "\n.thread " in source
+        made.append(source.encode("latin-1", "replace"))
+    return made

@@ -1,0 +1,309 @@
+"""What a module of LLVM's text is made of: types with their sizes, constants, instructions, functions and globals."""
+
+from __future__ import annotations
+
+from dataclasses import dataclass, field
+from typing import Any, Optional, Sequence
+
+from mm.cc.untranslated import Untranslated
+
+WORD = 8
+
+
+@dataclass(frozen=True)
+class Type:
+    """A type of a value or an object."""
+
+
+@dataclass(frozen=True)
+class IntType(Type):
+    bits: int
+
+
+@dataclass(frozen=True)
+class PointerType(Type):
+    pass
+
+
+@dataclass(frozen=True)
+class VoidType(Type):
+    """No value, also that of labels, tokens and metadata."""
+
+
+@dataclass(frozen=True)
+class FloatType(Type):
+    name: str
+
+
+@dataclass(frozen=True)
+class ArrayType(Type):
+    count: int
+    element: Type
+
+
+@dataclass(frozen=True)
+class VectorType(Type):
+    count: int
+    element: Type
+
+
+@dataclass(frozen=True)
+class StructType(Type):
+    fields: tuple[Type, ...]
+    packed: bool = False
+
+
+@dataclass(frozen=True)
+class NamedType(Type):
+    """A structure that the module names."""
+
+    name: str
+
+
+@dataclass(frozen=True)
+class FunctionType(Type):
+    result: Type
+    parameters: tuple[Type, ...]
+    variadic: bool
+
+
+POINTER, VOID = PointerType(), VoidType()
+FLOAT_SIZES = {"half": 2, "bfloat": 2, "float": 4, "double": 8, "x86_fp80": 16, "fp128": 16, "ppc_fp128": 16}
+
+
+class Layouts:
+    """Sizes, alignments and places of fields, as Clang lays them out for the target that is asked for."""
+
+    def __init__(self, named: dict[str, Type]) -> None:
+        self.named = named
+        self.known: dict[Type, tuple[int, int]] = {}
+        self.places: dict[Type, list[int]] = {}
+
+    def plain(self, type_: Type) -> Type:
+        """A type with its name looked up."""
+        while isinstance(type_, NamedType):
+            type_ = self.named.get(type_.name, VOID)
+        return type_
+
+    def size(self, type_: Type) -> int:
+        return self._both(type_)[0]
+
+    def align(self, type_: Type) -> int:
+        return self._both(type_)[1]
+
+    def _both(self, type_: Type) -> tuple[int, int]:
+        found = self.known.get(type_)
+        if found is None:
+            found = self.known[type_] = self._measure(self.plain(type_))
+        return found
+
+    def _measure(self, type_: Type) -> tuple[int, int]:
+        if isinstance(type_, IntType):
+            size = 1
+            while size * 8 < type_.bits and size < 8:
+                size *= 2
+            if type_.bits > 64:
+                return (type_.bits + 127) // 128 * 16, 8 if type_.bits <= 64 else 16
+            return size, size
+        if isinstance(type_, PointerType):
+            return WORD, WORD
+        if isinstance(type_, FloatType):
+            return FLOAT_SIZES[type_.name], FLOAT_SIZES[type_.name]
+        if isinstance(type_, ArrayType):
+            return type_.count * self.size(type_.element), self.align(type_.element)
+        if isinstance(type_, VectorType):
+            size = 1
+            while size < type_.count * self.size(type_.element):
+                size *= 2
+            return size, size
+        if isinstance(type_, StructType):
+            return self._structure(type_)
+        return 1, 1
+
+    def _structure(self, type_: StructType) -> tuple[int, int]:
+        places, at, most = [], 0, 1
+        for part in type_.fields:
+            align = 1 if type_.packed else self.align(part)
+            at, most = -(-at // align) * align, max(most, align)
+            places.append(at)
+            at += self.size(part)
+        self.places[type_] = places
+        return -(-at // most) * most, most
+
+    def fields(self, type_: StructType) -> list[int]:
+        """The offsets of a structure's fields."""
+        self._both(type_)
+        return self.places[type_]
+
+    def inside(self, type_: Type, index: int) -> tuple[int, Type]:
+        """The offset and the type of a part."""
+        type_ = self.plain(type_)
+        if isinstance(type_, StructType):
+            return self.fields(type_)[index], type_.fields[index]
+        if isinstance(type_, (ArrayType, VectorType)):
+            return index * self.size(type_.element), type_.element
+        raise Untranslated(f"a part of {type_}")
+
+
+@dataclass(frozen=True)
+class Value:
+    """What an instruction takes: its type says how."""
+
+    type: Type
+
+
+@dataclass(frozen=True)
+class Local(Value):
+    name: str
+
+
+@dataclass(frozen=True)
+class Global(Value):
+    name: str
+
+
+@dataclass(frozen=True)
+class Number(Value):
+    number: int
+
+
+@dataclass(frozen=True)
+class Undefined(Value):
+    """A value that may be anything, also one that must not be used."""
+
+
+@dataclass(frozen=True)
+class Zero(Value):
+    """All bits zero: the null pointer, and objects of zeros."""
+
+
+@dataclass(frozen=True)
+class FloatNumber(Value):
+    text: str
+
+
+@dataclass(frozen=True)
+class Parts(Value):
+    """A constant array, structure or vector."""
+
+    parts: tuple[Value, ...]
+
+
+@dataclass(frozen=True)
+class Text(Value):
+    """A constant array of bytes."""
+
+    data: bytes
+
+
+@dataclass(frozen=True)
+class BlockAddress(Value):
+    function: str
+    block: str
+
+
+@dataclass(frozen=True)
+class Expression(Value):
+    """A constant that is computed of others. `source` is the type that a getelementptr goes by."""
+
+    op: str
+    parts: tuple[Value, ...]
+    source: Optional[Type] = None
+    condition: str = ""
+
+
+@dataclass
+class Argument:
+    """An operand of a call, or a parameter: its value and what is said of it."""
+
+    value: Value
+    words: frozenset[str] = frozenset()
+    by_value: Optional[Type] = None
+
+    @property
+    def type(self) -> Type:
+        return self.value.type
+
+
+@dataclass
+class Instruction:
+    """An instruction. What further fields mean depends on the operation."""
+
+    op: str
+    type: Type = VOID
+    name: Optional[str] = None
+    operands: list[Value] = field(default_factory=list)
+    words: frozenset[str] = frozenset()
+    source: Optional[Type] = None
+    align: int = 0
+    condition: str = ""
+    labels: list[str] = field(default_factory=list)
+    arguments: list[Argument] = field(default_factory=list)
+    callee: Any = None
+    signature: Optional[FunctionType] = None
+    cases: list[tuple[int, str]] = field(default_factory=list)
+    indices: tuple[int, ...] = ()
+    debug: Optional[str] = None
+
+
+@dataclass
+class Block:
+    name: str
+    body: list[Instruction] = field(default_factory=list)
+
+
+@dataclass
+class Function:
+    """A function; one without blocks is declared alone."""
+
+    name: str
+    result: Type
+    parameters: list[Argument]
+    variadic: bool
+    internal: bool = False
+    weak: bool = False
+    words: frozenset[str] = frozenset()
+    blocks: list[Block] = field(default_factory=list)
+    debug: Optional[str] = None
+    alias: Optional[Value] = None
+
+
+@dataclass
+class GlobalObject:
+    """A global: an initial value where it is defined here."""
+
+    name: str
+    type: Type
+    constant: bool
+    value: Optional[Value]
+    align: int = 1
+    internal: bool = False
+    weak: bool = False
+    debug: Optional[str] = None
+
+
+@dataclass
+class Module:
+    """A translated file."""
+
+    name: str
+    types: dict[str, Type] = field(default_factory=dict)
+    globals: dict[str, GlobalObject] = field(default_factory=dict)
+    functions: dict[str, Function] = field(default_factory=dict)
+    aliases: dict[str, Value] = field(default_factory=dict)
+    debug: dict[str, str] = field(default_factory=dict)
+    # Functions and blocks whose address is taken.
+    addressed: set[tuple[str, str]] = field(default_factory=set)
+    # What is wrong with functions that could not be read, by name.
+    unread: dict[str, str] = field(default_factory=dict)
+
+    def layouts(self) -> Layouts:
+        return Layouts(self.types)
+
+
+def operands_of(instruction: Instruction) -> Sequence[Value]:
+    """All values that an instruction takes, those of a call with its callee."""
+    if instruction.op != "call":
+        return instruction.operands
+    found = [argument.value for argument in instruction.arguments]
+    return [*found, instruction.callee] if isinstance(instruction.callee, Value) else found

@@ -1,0 +1,152 @@
+"""Values in parts, words that several threads share, and objects of the frame."""
+
+from __future__ import annotations
+
+from typing import Optional
+
+from mm.cc.code import Fixed, LocalObject, log_of, place_in
+from mm.cc.forms import RAW, SIGNED, ZEROED, bits_of
+from mm.cc.ir import FloatType, Instruction, IntType, Local, Number, Parts, PointerType, Text, Undefined, Value, Zero
+from mm.cc.pointers import Known, Pointer
+from mm.cc.untranslated import Untranslated
+from mm.cc.wide import Vectors
+
+
+class Objects(Vectors):
+    """What is made of several words."""
+
+    def group(self, value: Value) -> list[Value]:
+        if isinstance(value, Local):
+            found = self.groups.get(value.name)
+            if found is None:
+                raise Untranslated(self.left_out(value.type))
+            return found
+        if isinstance(value, Parts):
+            return list(value.parts)
+        if isinstance(value, Number):
+            return [Number(IntType(64), value.number), Number(IntType(bits_of(value.type) - 64), value.number >> 64)]
+        kinds = [part for _, part in self.parts(value.type)]
+        if isinstance(value, Text):
+            return [Number(kind, byte) for kind, byte in zip(kinds, value.data)]
+        if isinstance(value, Zero):
+            return [Number(kind, 0) if isinstance(kind, IntType) else Zero(kind) for kind in kinds]
+        if isinstance(value, Undefined):
+            return [Undefined(kind) for kind in kinds]
+        raise Untranslated(f"the constant {value}")
+
+    def extract(self, made: Instruction) -> None:
+        value: Value = made.operands[0]
+        for index in made.indices:
+            value = self.group(value)[index]
+        made.type = self.layouts.plain(value.type)
+        self.alias(made.name, value)
+
+    def alias(self, name: Optional[str], value: Value) -> None:
+        """Another name for a value."""
+        if name is None:
+            return
+        type_ = self.layouts.plain(value.type)
+        if isinstance(type_, PointerType):
+            self.pointers[name] = self.pointer(value)
+        elif isinstance(type_, IntType) and type_.bits <= 64:
+            if isinstance(value, Local):
+                self.numbers[name] = self.numbers[value.name]
+            else:
+                self.define(name, type_, self.number(value, RAW))
+        elif isinstance(type_, FloatType):
+            raise Untranslated("floating point")
+        else:
+            self.groups[name] = self.group(value)
+
+    def insert(self, made: Instruction) -> None:
+        assert made.name is not None
+        self.groups[made.name] = self.replaced(self.group(made.operands[0]), made.operands[1], made.indices)
+
+    def replaced(self, parts: list[Value], value: Value, indices: tuple[int, ...]) -> list[Value]:
+        parts = list(parts)
+        if len(indices) == 1:
+            parts[indices[0]] = value
+        else:
+            raise Untranslated("a part of a part")
+        return parts
+
+    # Words that several threads share
+
+    def read_and_write(self, made: Instruction) -> None:
+        """The old value is loaded and the new one stored, in two turns."""
+        place, value = made.operands
+        bits = bits_of(made.type)
+        align = self.layouts.align(made.type)
+        name = made.name or f"?{self.code.registers}"
+        made.name = name
+        pointer = self.pointer(place)
+        if isinstance(made.type, PointerType):
+            if made.condition != "xchg":
+                raise Untranslated(f"atomicrmw {made.condition}")
+            self.load_value(pointer, made.type, align, name)
+            self.store_value(pointer, value, align)
+            return
+        register, known = self.load_integer(pointer, bits, align, SIGNED)
+        self.define(name, made.type, register, known)
+        old = Local(made.type, name)
+        if made.condition == "xchg":
+            new = self.number(value)
+        elif made.condition == "nand":
+            new = self.op("xor", self.op("and", register, self.number(value)), self.constant(-1))
+        elif made.condition in ("add", "sub", "and", "or", "xor"):
+            new = self.op(made.condition, register, self.number(value))
+        else:
+            op, form = {"max": ("lts", SIGNED), "min": ("lts", SIGNED), "umax": ("ltu", SIGNED),
+                        "umin": ("ltu", SIGNED)}[made.condition]
+            less = self.op(op, self.number(old, form), self.number(value, form))
+            yes, no = self.number(value, form), self.number(old, form)
+            if made.condition.endswith("min"):
+                yes, no = no, yes
+            new = self.code.new()
+            self.emit("select", new, less, no, extra=(yes,), late=(less, no))
+        self.define(name + "?new", made.type, new)
+        self.store_integer(pointer, Local(made.type, name + "?new"), bits, align)
+
+    def compare_and_change(self, made: Instruction) -> None:
+        assert made.name is not None
+        place, expected, new = made.operands
+        type_ = expected.type
+        align = self.layouts.align(type_)
+        pointer, name = self.pointer(place), made.name
+        self.load_value(pointer, type_, align, name + "?0")
+        old = Local(type_, name + "?0")
+        if isinstance(type_, PointerType):
+            same = self.op("eq", self.whole(self.pointer(old)), self.whole(self.pointer(expected)))
+            d = self.code.new()
+            yes, no = self.whole(self.pointer(new)), self.whole(self.pointer(old))
+            self.emit("select", d, same, no, extra=(yes,), late=(same, no))
+            self.store_word(pointer, d)
+        else:
+            same = self.op("eq", self.number(old, SIGNED), self.number(expected, SIGNED))
+            d = self.code.new()
+            yes, no = self.number(new, SIGNED), self.number(old, SIGNED)
+            self.emit("select", d, same, no, extra=(yes,), late=(same, no))
+            self.define(name + "?new", type_, d)
+            self.store_integer(pointer, Local(type_, name + "?new"), bits_of(type_), align)
+        self.define(name + "?1", IntType(1), same, ZEROED)
+        self.groups[name] = [old, Local(IntType(1), name + "?1")]
+
+    # Objects of the frame
+
+    def local_object(self, name: str, size: int, align: int) -> Pointer:
+        log = max(log_of(size), (align - 1).bit_length() if align > 1 else 0)
+        made = LocalObject(name, size, align, log, place_in(size, align, log, self.at_end))
+        self.code.objects.append(made)
+        base = self.fix(Fixed("local", len(self.code.objects) - 1))
+        self.known[base] = Known(made.place, log, len(self.code.objects) - 1)
+        return Pointer(base)
+
+    def dynamic_alloca(self, made: Instruction, size: int) -> None:
+        assert made.name is not None
+        self.code.dynamic = True
+        count = self.number(made.operands[0], ZEROED)
+        total = self.scaled(count, size) if size else self.constant(0)
+        log = self.runtime("__mm_log_of", [total], True)
+        d = self.code.new()
+        self.emit("dynamic", d, log, total, late=(log, total), temporary=(self.code.new(), self.code.new()))
+        self.pointers[made.name] = Pointer(d)

@@ -1,0 +1,52 @@
+"""How C is translated, and what the options of a command say of it."""
+
+from __future__ import annotations
+
+from dataclasses import dataclass, field
+from typing import Optional
+
+from mm.names.numbers import number_of
+from mm.status import usage
+from mm.table import CLANG, HEAP, LEVEL, PREFIX, SLOT, STACK, Option
+from mm.words import Words
+
+LEVELS = ("0", "1", "2", "3", "s")
+
+
+@dataclass
+class Options:
+    """The level of optimisation, words for Clang, and what the program's thread is like."""
+
+    level: str = "1"
+    flags: list[str] = field(default_factory=list)
+    slot: int = 0
+    prefix: str = ""
+    stack: int = 16
+    heap: int = 16
+    # Whether an object stands at the end of its segment, so that the first byte after it is outside.
+    at_end: bool = True
+    lines: bool = True
+
+
+def _number(said: Words, option: Option, low: int, high: int, default: int) -> int:
+    text = said.value(option)
+    if text is None:
+        return default
+    number = number_of(text)
+    if number is None or not low <= number <= high:
+        raise usage(f"mm: {option.name}: `{text}` is no number from {low} to {high}")
+    return number
+
+
+def options_of(said: Words) -> Options:
+    level: Optional[str] = said.value(LEVEL)
+    if level is not None and level not in LEVELS:
+        raise usage(f"mm: {LEVEL.name}: `{level}` is no level: {', '.join(LEVELS)}")
+    return Options(
+        level or "1",
+        said.all(CLANG),
+        _number(said, SLOT, 0, 15, 0),
+        said.value(PREFIX) or "",
+        _number(said, STACK, 8, 20, 16),
+        _number(said, HEAP, 4, 20, 16),
+    )

@@ -1,0 +1,349 @@
+"""A program: the modules of its files and of the library, what of them is used, and the source that is made of it."""
+
+from __future__ import annotations
+
+import re
+from dataclasses import dataclass
+from typing import Optional
+
+from mm.cc.code import log_of, place_in
+from mm.cc.control import Translator
+from mm.cc.data import Constants, Place, Words
+from mm.cc.ir import ArrayType, BlockAddress, Function, Global, GlobalObject, IntType, Module, Value
+from mm.cc.lines import Lines
+from mm.cc.lowering import Names
+from mm.cc.options import Options
+from mm.cc.pointers import Known
+from mm.cc.sequences import emit
+from mm.cc.text import Line, TextBlock
+from mm.cc.untranslated import Untranslated
+
+MOST_NAME = 31
+# What the header mm.h makes of the names of doors, and of words that several programs share.
+DOOR, SHARED, EMPTY = "mm_door_", "mm_shared_", "mm_empty_"
+HEAP = "__mm_heap"
+MOST_LOG = 20
+RESERVED = re.compile(r"r\d+|L\d+|P_.*|none|int|ptr|start|stack|text|heap")
+# A door's segment: where it is entered, and its length.
+DOOR_ENTRY, DOOR_LOG = 16, 9
+MAINS = ("main", "__main_argc_argv", "__main_void", "__original_main")
+# Functions that are written in the machine's own operations.
+ASSEMBLER = {
+    "setjmp": ["st r0, r7, 0, any, keep", "st r0, r8, 8, any, keep", "st r0, r9, 16, any, keep",
+               "st r0, r10, 24, any, keep", "st r0, r11, 32, any, keep", "st r0, r14, 40, any, keep",
+               "st r0, r15, 48, any, keep", "ldi r0, 0", "jmp r14"],
+    "longjmp": ["ld r7, r0, 0, any, keep", "ld r8, r0, 8, any, keep", "ld r9, r0, 16, any, keep",
+                "ld r10, r0, 24, any, keep", "ld r11, r0, 32, any, keep", "ld r14, r0, 40, any, keep",
+                "ld r15, r0, 48, any, keep", "mov r0, r1", "bnz r0, 2", "ldi r0, 1", "jmp r14"],
+}
+# An event of a slot that this one handles goes to four words.
+ASSEMBLER["__mm_event"] = ["mov r12, r0", "evt r0", "st r12, r0, 0, any, keep", "st r12, r1, 8, any, keep",
+                           "st r12, r2, 16, any, keep", "st r12, r3, 24, any, keep", "jmp r14"]
+ASSEMBLER["_setjmp"] = ASSEMBLER["setjmp"]
+ASSEMBLER["_longjmp"] = ASSEMBLER["longjmp"]
+
+
+@dataclass
+class Failure(Exception):
+    """What could not be translated, and where."""
+
+    where: str
+    why: str
+
+    def __str__(self) -> str:
+        return f"{self.where}: {self.why} is left out"
+
+
+class Undefined_(Exception):
+    """A name that no file and no part of the library defines."""
+
+
+@dataclass
+class Segment:
+    """A global: its segment's name and length, its place there, and whether it may be written."""
+
+    name: str
+    module: Module
+    made: GlobalObject
+    size: int
+    known: Known
+    writable: bool
+    words: Optional[Words] = None
+
+
+class ModuleNames(Names):
+    """The names of a program as one of its modules knows them."""
+
+    def __init__(self, program: Program, module: Module) -> None:
+        self.program, self.module = program, module
+        self.layouts = module.layouts()
+        self.constants = Constants(self.layouts, self.resolve)
+        self.lines = Lines(module)
+
+    def fresh(self) -> str:
+        return self.program.fresh()
+
+    def label(self, name: str) -> str:
+        return self.program.want_function(self.module, name)
+
+    def is_function(self, name: str) -> bool:
+        module = self.program.home(self.module, name)
+        if module is None and name.startswith(DOOR):
+            return False
+        if module is not None:
+            return name in module.functions
+        return name in ASSEMBLER or name in self.module.functions
+
+    def function(self, name: str) -> Optional[Function]:
+        module = self.program.home(self.module, name) or self.module
+        return module.functions.get(name)
+
+    def segment(self, name: str) -> tuple[str, Known]:
+        found = self.program.want_global(self.module, name)
+        return found.name, found.known
+
+    def resolve(self, value: Value) -> Value:
+        while isinstance(value, Global):
+            module = self.program.home(self.module, value.name) or self.module
+            if value.name not in module.aliases:
+                break
+            value = module.aliases[value.name]
+        return value
+
+
+class Program:
+    """A program that is put together from what `main` uses."""
+
+    def __init__(self, modules: list[Module], options: Options) -> None:
+        self.modules, self.at_end, self.heap = modules, options.at_end, options.heap
+        self.prefix = options.prefix + "_" if options.prefix else ""
+        self.names = {id(module): ModuleNames(self, module) for module in modules}
+        self.public: dict[str, Module] = {}
+        self.taken: set[str] = set()
+        self.labels: dict[tuple[int, str], str] = {}
+        self.segments: dict[tuple[int, str], Segment] = {}
+        self.work: list[tuple[Module, str]] = []
+        self.texts: list[list[TextBlock]] = []
+        self.blocks: dict[tuple[int, str, str], str] = {}
+        self.pool: dict[str, str] = {}
+        self.counter = 0
+        self.undefined: list[str] = []
+        # Doors and shared words of other programs, by their names here.
+        self.foreign: set[str] = set()
+        for module in modules:
+            self._publish(module)
+
+    def _publish(self, module: Module) -> None:
+        for name, function in module.functions.items():
+            if function.blocks and not function.internal and "available_externally" not in function.words:
+                self._offer(name, module, function.weak)
+        for name, made in module.globals.items():
+            if made.value is not None and not made.internal:
+                self._offer(name, module, made.weak)
+        for name in module.aliases:
+            self._offer(name, module, False)
+
+    def _offer(self, name: str, module: Module, weak: bool) -> None:
+        if name not in self.public or not weak and self._is_weak(name):
+            self.public[name] = module
+
+    def _is_weak(self, name: str) -> bool:
+        module = self.public[name]
+        made = module.functions.get(name) or module.globals.get(name)
+        return made is not None and made.weak
+
+    def home(self, module: Module, name: str) -> Optional[Module]:
+        """The module that defines what a module calls by a name."""
+        function, made = module.functions.get(name), module.globals.get(name)
+        if function is not None and function.blocks and function.internal or made is not None and made.internal:
+            return module
+        return self.public.get(name)
+
+    def fresh(self) -> str:
+        self.counter += 1
+        return f"L{self.counter}"
+
+    def mangled(self, name: str) -> str:
+        """A name that the assembler takes, which nothing else has."""
+        plain = self.prefix + re.sub(r"\W", "_", name)
+        if not plain or plain[0].isdigit() or RESERVED.fullmatch(plain):
+            plain = "c_" + plain
+        found, number = plain[:MOST_NAME], 1
+        while found in self.taken:
+            number += 1
+            found = f"{plain[:MOST_NAME - len(str(number)) - 1]}_{number}"
+        self.taken.add(found)
+        return found
+
+    # What is used
+
+    def want_function(self, module: Module, name: str) -> str:
+        home = self.home(module, name)
+        if home is None or name not in home.functions:
+            if name not in ASSEMBLER:
+                if name not in self.undefined:
+                    self.undefined.append(name)
+            home = None
+        key = (id(home), name)
+        found = self.labels.get(key)
+        if found is None:
+            found = self.labels[key] = self.mangled("main" if name in MAINS else name)
+            if home is not None:
+                self.work.append((home, name))
+            elif name in ASSEMBLER:
+                block = TextBlock(found)
+                block.lines = [Line(*_split(line), None, None) for line in ASSEMBLER[name]]
+                self.texts.append([block])
+        return found
+
+    def want_global(self, module: Module, name: str) -> Segment:
+        home = self.home(module, name)
+        if home is None and name.startswith((DOOR, SHARED, EMPTY)):
+            return self._foreign(module, name)
+        if name == HEAP:
+            return self._heap(module)
+        if home is None or name not in home.globals:
+            if name not in self.undefined:
+                self.undefined.append(name)
+            home = module
+            if name not in home.globals:
+                raise Failure(module.name, f"`{name}`, which nothing defines,")
+        key = (id(home), name)
+        found = self.segments.get(key)
+        if found is None:
+            found = self.segments[key] = self._segment(home, name)
+        return found
+
+    def _foreign(self, module: Module, name: str) -> Segment:
+        """What another program defines: a door, or words that it shares."""
+        found = self.segments.get((0, name))
+        if found is None:
+            self.foreign.add(public_name(name))
+            if name.startswith(DOOR):
+                made = GlobalObject(name, IntType(64), True, None)
+                found = Segment(public_name(name), module, made, 0, Known(DOOR_ENTRY, DOOR_LOG), False)
+            else:
+                found = self._segment(module, name)
+            self.segments[0, name] = found
+        return found
+
+    def _heap(self, module: Module) -> Segment:
+        """The memory of `malloc`, as long as was asked for."""
+        found = self.segments.get((0, HEAP))
+        if found is None:
+            made = GlobalObject(HEAP, ArrayType(1 << self.heap, IntType(8)), False, None)
+            found = Segment(self.prefix + "heap", module, made, 1 << self.heap, Known(0, self.heap), True)
+            self.segments[0, HEAP] = found
+        return found
+
+    def _segment(self, module: Module, name: str) -> Segment:
+        if name in module.unread:
+            raise Failure(f"{module.name}: {name}", module.unread[name])
+        made = module.globals[name]
+        names = self.names[id(module)]
+        size = names.layouts.size(made.type)
+        align = max(made.align or names.layouts.align(made.type), 1)
+        log = max(log_of(size), (align - 1).bit_length() if align > 1 else 0)
+        if log > MOST_LOG:
+            raise Failure(f"{module.name}: {name}", f"an object of {size} bytes, more than a segment can have,")
+        place = place_in(size, align, log, self.at_end)
+        if name.startswith((SHARED, EMPTY)):
+            own = public_name(name)
+        else:
+            own = self.mangled(name)
+        return Segment(own, module, made, size, Known(place, log), not made.constant)
+
+    # Code
+
+    def translate(self) -> None:
+        """Translates everything that is wanted, until nothing new is."""
+        done_data: set[tuple[int, str]] = set()
+        while self.work or len(done_data) < len(self.segments):
+            while self.work:
+                self._function(*self.work.pop())
+            for key, segment in list(self.segments.items()):
+                if key not in done_data:
+                    done_data.add(key)
+                    self._data(segment)
+        if self.undefined:
+            raise Failure("the program", f"`{self.undefined[0]}`, which nothing defines,")
+
+    def _function(self, module: Module, name: str) -> None:
+        where = f"{module.name}: {name}"
+        if name in module.unread:
+            raise Failure(where, module.unread[name])
+        names = self.names[id(module)]
+        function = module.functions[name]
+        try:
+            translator = Translator(function, names.layouts, names, self.at_end)
+            code = translator.translate()
+        except Untranslated as reason:
+            raise Failure(where, str(reason)) from None
+        addressed = []
+        for block_name, label in translator.labels.items():
+            if (name, block_name) in module.addressed:
+                self.blocks[id(module), name, block_name] = label
+                addressed.append(label)
+        lines = names.lines
+        for block in code.blocks:
+            for op in block.body:
+                op.line = lines.of(op.line)
+        blocks = emit(code, self.fresh, addressed)
+        begins = lines.of_function(function.debug)
+        if begins:
+            blocks[0].notes.insert(0, f"function {begins}")
+        else:
+            blocks[0].notes.clear()
+        self.texts.append(blocks)
+
+    # Data
+
+    def _data(self, segment: Segment) -> None:
+        names = self.names[id(segment.module)]
+        words = segment.words = Words(bytearray(1 << segment.known.log))
+        if segment.name in self.foreign:
+            return
+        value = segment.made.value
+        if value is None:
+            return
+        try:
+            words.put(names.constants, value, segment.known.place)
+        except Untranslated as reason:
+            raise Failure(f"{segment.module.name}: {segment.made.name}", str(reason)) from None
+        for place in words.pointers.values():
+            target = place.target
+            if isinstance(target, BlockAddress):
+                names.label(target.function)
+            elif names.is_function(target.name):
+                names.label(target.name)
+            else:
+                names.segment(target.name)
+
+    def pointer_text(self, module: Module, place: Place) -> tuple[str, Optional[int]]:
+        """How a constant pointer is written; and where it is not in its segment, how far beside its beginning it
+        stands."""
+        names = self.names[id(module)]
+        target = place.target
+        if isinstance(target, BlockAddress):
+            home = self.home(module, target.function) or module
+            return f"xu {self.blocks[id(home), target.function, target.block]}", None if not place.by else place.by
+        if names.is_function(target.name):
+            return f"xu {names.label(target.name)}", None if not place.by else place.by
+        found = self.want_global(module, target.name)
+        at = found.known.place + place.by
+        permission = "rw" if found.writable else "ro"
+        if 0 <= at < 1 << found.known.log:
+            return f"{permission} {found.name}+{at}", None
+        return f"{permission} {found.name}+{found.known.place}", place.by
+
+
+def public_name(name: str) -> str:
+    """The segment of a door, or of words that are shared: other programs know it by this name."""
+    if name.startswith(DOOR):
+        return "door_" + name[len(DOOR):]
+    return name[len(SHARED if name.startswith(SHARED) else EMPTY):]
+
+
+def _split(line: str) -> tuple[str, str]:
+    op, _, operands = line.partition(" ")
+    return op, operands

@@ -1,0 +1,89 @@
+/* Copies move whole words where they can, so that pointers stay pointers. */
+
+static int words_fit(const void *a, const void *b)
+{
+    return ((bits_of(a) | bits_of(b)) & 7) == 0;
+}
+
+void *memcpy(void *to, const void *from, size_t size)
+{
+    char *a = to;
+    const char *b = from;
+    size_t at = 0;
+    if (words_fit(a, b))
+        for (; at + 8 <= size; at += 8)
+            *(word *)(a + at) = *(const word *)(b + at);
+    for (; at < size; at++)
+        a[at] = b[at];
+    return to;
+}
+
+void *mempcpy(void *to, const void *from, size_t size)
+{
+    return (char *)memcpy(to, from, size) + size;
+}
+
+void *memmove(void *to, const void *from, size_t size)
+{
+    char *a = to;
+    const char *b = from;
+    size_t at = size;
+    if (bits_of(a) - bits_of(b) >= size)
+        return memcpy(to, from, size);
+    if (words_fit(a, b)) {
+        for (; at & 7; at--)
+            a[at - 1] = b[at - 1];
+        for (; at; at -= 8)
+            *(word *)(a + at - 8) = *(const word *)(b + at - 8);
+    }
+    for (; at; at--)
+        a[at - 1] = b[at - 1];
+    return to;
+}
+
+void *memset(void *to, int byte, size_t size)
+{
+    char *a = to;
+    size_t at = 0;
+    number fill = (byte & 255) * 0x0101010101010101ul;
+    for (; at < size && (bits_of(a) + at & 7); at++)
+        a[at] = byte;
+    for (; at + 8 <= size; at += 8)
+        *(word *)(a + at) = fill;
+    for (; at < size; at++)
+        a[at] = byte;
+    return to;
+}
+
+int memcmp(const void *one, const void *other, size_t size)
+{
+    const unsigned char *a = one, *b = other;
+    for (size_t at = 0; at < size; at++)
+        if (a[at] != b[at])
+            return a[at] < b[at] ? -1 : 1;
+    return 0;
+}
+
+int bcmp(const void *one, const void *other, size_t size)
+{
+    return memcmp(one, other, size);
+}
+
+void bcopy(const void *from, void *to, size_t size)
+{
+    memmove(to, from, size);
+}
+
+void bzero(void *to, size_t size)
+{
+    memset(to, 0, size);
+}
+
+void *memchr(const void *in, int byte, size_t size)
+{
+    const unsigned char *a = in;
+    for (size_t at = 0; at < size; at++)
+        if (a[at] == (unsigned char)byte)
+            return (void *)(a + at);
+    return 0;
+}

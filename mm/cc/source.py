@@ -1,0 +1,160 @@
+"""The source of a program: its text, its pool of pointers, its data, and its thread."""
+
+from __future__ import annotations
+
+from typing import Optional
+
+from mm.cc.doors import check, doors_of, stub, thread_of
+from mm.cc.ir import Function
+from mm.cc.options import Options
+from mm.cc.program import EMPTY, MAINS, Failure, Program, Segment
+from mm.cc.text import TextBlock
+
+STACK_ROOM = 64
+# What begins a comment that `mm` reads again.
+MARK = ";@"
+
+
+class SourceWriter:
+    """Writes a source."""
+
+    def __init__(self, program: Program, options: Options) -> None:
+        self.program, self.options = program, options
+        self.pool: dict[str, str] = {}
+        self.late: list[tuple[str, str, int]] = []
+        self.lines: list[str] = []
+
+    def write(self) -> str:
+        program = self.program
+        doors = doors_of(program)
+        main = next((name for name in MAINS if name in program.public), None)
+        if main is None and not doors:
+            raise Failure("the program", "a program without `main` and without a door")
+        label = program.want_function(program.public[main], main) if main else None
+        entered = []
+        for module, function in doors:
+            check(module, function)
+            entered.append((function, program.want_function(module, function.name)))
+        program.translate()
+        data = [self.segment(segment) for segment in program.segments.values() if segment.name not in program.foreign]
+        body: list[str] = []
+        for text in program.texts:
+            body += self.text(text)
+        first = self.start(label)
+        pool = [f"{name}: .ptr {target}" for target, name in self.pool.items()]
+        lines = [f".segment {program.prefix}text {self.log_of_text(first + body, pool)}", *first, *body, *pool]
+        for part in data:
+            lines += part
+        lines += self.doors(entered)
+        if label is not None:
+            lines += self.thread()
+        return "\n".join(lines) + "\n"
+
+    @staticmethod
+    def log_of_text(lines: list[str], pool: list[str]) -> int:
+        """The length of the text, with a word that is left after a last call."""
+        words = sum(1 for line in lines if not line.endswith(":") and MARK not in line) + len(pool) + 1
+        log = max(3, (8 * words - 1).bit_length())
+        if log > 20:
+            raise Failure("the program", f"{words} words of code, more than a segment can have,")
+        return log
+
+    def doors(self, entered: list[tuple[Function, str]]) -> list[str]:
+        """The doors, their stack, and the word that holds its pointer while nobody is inside."""
+        if not entered:
+            return []
+        prefix, log = self.program.prefix, self.options.stack
+        lines = [f".segment {prefix}turn 3", f"  .ptr rw {prefix}door_stack+{(1 << log) - STACK_ROOM}"]
+        for function, label in entered:
+            lines += stub(function, label, f"{prefix}turn")
+        return [*lines, f".segment {prefix}door_stack {log}"]
+
+    def thread(self) -> list[str]:
+        slot, group, handler = thread_of(self.program, self.options)
+        prefix, log = self.program.prefix, self.options.stack
+        return [
+            f".segment {prefix}stack {log}",
+            f".thread {slot} {group} {'none' if handler is None else handler} xu start",
+            f".reg 15 ptr rw {prefix}stack+{(1 << log) - STACK_ROOM}",
+        ]
+
+    def start(self, main: Optional[str]) -> list[str]:
+        """What is done before `main`: pointers that stand beside their segments, which no source can name."""
+        if main is None:
+            if self.late:
+                raise Failure("the program", "a pointer past an object in a constant, in a program without `main`,")
+            return []
+        lines = ["start:"]
+        for target, place, by in self.late:
+            lines += [f"  lip r0, {self.pooled(target)}", "  ld r0, r0, 0, any, keep"]
+            lines += [f"  addi r0, r0, {by}"]
+            lines += [f"  lip r1, {self.pooled(place)}", "  ld r1, r1, 0, any, keep", "  st r1, r0, 0, any, keep"]
+        return lines + ["  ldi r0, 1", "  ldi r1, 0", "  lip r14, 2", f"  br {main}", "  halt"]
+
+    def pooled(self, target: str) -> str:
+        found = self.pool.get(target)
+        if found is None:
+            found = self.pool[target] = f"P_{len(self.pool)}"
+        return found
+
+    def text(self, blocks: list[TextBlock]) -> list[str]:
+        lines = []
+        origin = None
+        for block in blocks:
+            lines.append(f"{block.label}:")
+            lines += [f"  {MARK} {note}" for note in block.notes]
+            for line in block.lines:
+                if line.target is not None and line.target[0] == "@":
+                    line.target = self.pooled(self.global_target(line.target[1:]))
+                if line.origin is not None and line.origin != origin:
+                    origin = line.origin
+                    lines.append(f"  {MARK} line {origin}")
+                lines.append(str(line))
+        return lines
+
+    def global_target(self, name: str) -> str:
+        segment = self.by_name[name]
+        if name in self.program.foreign and name.startswith("door_"):
+            return f"eu {name}+{segment.known.place}"
+        return f"{'rw' if segment.writable else 'ro'} {name}+{segment.known.place}"
+
+    @property
+    def by_name(self) -> dict[str, Segment]:
+        if not hasattr(self, "_by_name"):
+            self._by_name = {segment.name: segment for segment in self.program.segments.values()}
+        return self._by_name
+
+    def segment(self, segment: Segment) -> list[str]:
+        words = segment.words
+        assert words is not None
+        lines = [f".segment {segment.name} {segment.known.log}"]
+        if segment.made.name.startswith(EMPTY):
+            return lines + ["  .empty .int 0"] * (1 << segment.known.log - 3)
+        if not segment.made.internal or not segment.made.name.startswith("."):
+            name = segment.made.name.rpartition(".")[2] if "." in segment.made.name else segment.made.name
+            lines.append(f"  {MARK} global {name} {segment.size} at {segment.known.place}")
+        zeros = 0
+        data = words.data
+        for at in range(0, len(data), 8):
+            place = words.pointers.get(at)
+            number = int.from_bytes(data[at : at + 8], "little")
+            if place is None and not number:
+                zeros += 1
+                continue
+            if zeros:
+                lines.append(f"  .fill {zeros}")
+                zeros = 0
+            if place is None:
+                lines.append(f"  .int 0x{number:x}")
+                continue
+            text, by = self.program.pointer_text(segment.module, place)
+            if by is None:
+                lines.append(f"  .ptr {text}")
+            else:
+                self.late.append((text, f"rw {segment.name}+{at}", by))
+                lines.append("  .int 0")
+        return lines
+
+
+def write_source(program: Program, options: Options) -> str:
+    return SourceWriter(program, options).write()
