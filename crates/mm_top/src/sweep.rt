@@ -1,4 +1,4 @@
-//! `sweep`: the image in which nobody reaches a range.
+//! `sweep`: the image in which no thread reaches a range.
 
 ghost use Rattle.mm_model.specs.Spelling.{Spells};
 ghost use Rattle.mm_sweep.specs.Swept.{swept};
@@ -32,7 +32,7 @@ pub fn sweep<F: Files, O: Sink>(
     write_swept(alloc, &image, base, log, out)
 }
 
-/// Writes the one spelling of a swept image.
+/// Writes the spelling of a swept image.
 fn write_swept<O: Sink>(
     alloc: Global,
     image: &Image,
