@@ -88,7 +88,6 @@ FitsRow (place ∷ places) last [] = ⊥
 
 -- 3. The words of a command line.
 
--- the texts of the words
 abbrev pub texts : List (String Global) → List (List ℕ)
 texts words = map string_bytes words
 

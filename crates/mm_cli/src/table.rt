@@ -1,6 +1,5 @@
 //! The table of commands. The program's contracts refer to this table.
 
-/// A command.
 #[derive(Clone, Copy)]
 pub enum Command {
     Run,

@@ -31,7 +31,6 @@ unfoldable pub log : State → List ℕ → List Line
 log s [] = []
 log s (n ∷ items) = cycle_log s n ++ log (after s n) items
 
--- the text of lines
 abbrev pub text_of : List Line → List ℕ
 text_of lines = flat_map line_text lines
 

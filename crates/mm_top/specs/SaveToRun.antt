@@ -46,7 +46,7 @@ pub record IsSaved (tells : List Use → Option Counts) (i : Image) (a : ℕ) (l
         → Yields tells (continue again file b other) (an_image i ∷ a_checkpoint checkpoint ∷ more) text
         → IsOneRun tells i a b lists more text
 
--- the run goes on from whatever `save` writes
+-- whatever `save` writes is read as a checkpoint, and the run goes on from it
 abbrev pub SavesGoOn : Type 0
 SavesGoOn = (tells : List Use → Option Counts) (i : Image) (a : ℕ) (image : List ℕ) (schedule : Option (List ℕ))
     (lists : List Value) (ck : List ℕ)

@@ -2,8 +2,8 @@
 ghost use Rattle.mm_top.specs.SaveToRun.{SavesGoOn};
 ghost use Rattle.mm_top.specs.TextToRun.{TextsAreRun};
 
-/// The law of texts that are run. Texts mean objects, and `asm` writes a file of each text. What `link` writes of these
-/// files is the image that the objects link to, and what `run` writes of that image is the report of its run.
+/// The law of texts that are run. If texts mean objects, and `link` writes an image from the files that `asm` writes of
+/// the texts, the image is the one that the objects link to. What `run` writes of the image is the report of its run.
 pub fn texts_are_run()
     ensures { TextsAreRun }
 {}

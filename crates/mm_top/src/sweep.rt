@@ -1,4 +1,4 @@
-//! `sweep`: the image in which no thread reaches a range.
+//! `sweep`: the image in which nobody reaches a range.
 
 ghost use Rattle.mm_model.specs.Spelling.{Spells};
 ghost use Rattle.mm_sweep.specs.Swept.{swept};
