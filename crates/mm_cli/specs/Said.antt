@@ -45,9 +45,9 @@ abbrev pub range_of : Option Read → ℕ × ℕ
 range_of (Some (read.Range base log)) = (base, log)
 range_of _ = (0, 0)
 
--- 2. The same of all words of a row.
+-- 2. What all words of a row say.
 
--- the word of a place
+-- what the word in a place says
 abbrev pub said_at : Place → Option Read → Word
 said_at (File kind) word = file_word kind (name_of word)
 said_at (Number least most) word = number_word (number_of word)
@@ -55,7 +55,7 @@ said_at Groups word = groups_word (groups_of word)
 said_at Mode word = mode_word (mode_of word)
 said_at Range word = range_word (range_of word).0 (range_of word).1
 
--- the words that come last
+-- what the last words say
 abbrev pub said_last : Last → Option Read → List Word
 said_last Nothing word = []
 said_last (Perhaps (File kind)) word = perhaps (file_word kind) (name_perhaps_of word)
@@ -64,7 +64,7 @@ said_last (Perhaps place) None = []
 said_last (Perhaps place) (Some word) = said_at place (Some word) ∷ []
 said_last (Several kind most) word = map (file_word kind) (texts (names_of word))
 
--- the words of places from one on, and those that come last
+-- what the words in the places from `at` on say, and then the last words
 abbrev pub said_from : List Place → Last → (at : ℕ) → List Read → List Word
 said_from [] last at words = said_last last (slice_get words at)
 said_from (place ∷ places) last at words = said_at place (slice_get words at) ∷ said_from places last (suc at) words
@@ -73,14 +73,14 @@ abbrev pub said_by : Option Listed → List Read → List Word
 said_by None words = []
 said_by (Some row) words = said_from row.places row.last 0 words
 
--- the words of a command
+-- what the words of a command say
 abbrev pub said : Command → List Read → List Word
 said command words = said_by (row_for command) words
 
--- a command, and what its words say
+-- the row of a command and what its words say
 abbrev pub row : Command → List Read → Row
 row command words = record { command = command; words = said command words }
 
--- the words are those of the command: what they say fits in its row
+-- what the words say fits in the row of the command
 abbrev pub AreOf : Command → List Read → Type 0
 AreOf command words = Fits command (said command words)

@@ -13,15 +13,15 @@ use Rattle.mm_cli.specs.declared.table.Place.{Place}
 use Rattle.mm_cli.specs.declared.table.Last.{Last}
 use Rattle.mm_cli.specs.Words.{Word, FitsRow, files_in, spelled}
 
--- A row of the table of src/table.rt: the command's own word, the command, the places after that word, and what comes
--- after them.
+-- A row of the table of src/table.rt: the command's name, the command, the places after the name, and what comes after
+-- these places.
 pub record Listed : Type 0 where
   pub name : List ℕ
   pub command : Command
   pub places : List Place
   pub last : Last
 
--- the row of this name, command, places and last words
+-- a row of src/table.rt as a record
 abbrev pub listed : Bor (List ℕ) × Command × Bor (List Place) × Last → Listed
 listed row = record { name = row.0.now; command = row.1; places = row.2.now; last = row.3 }
 
@@ -32,7 +32,7 @@ table = map (λ row. record { name = row.0.now; command = row.1; places = row.2.
 abbrev pub NoneIsNamed : List ℕ → Type 0
 NoneIsNamed name = (number : ℕ) (row : Listed) → slice_get table number ≡ Some row → row.name ≢ name
 
--- two commands are the same: they have the same number in the list of src/table.rt
+-- whether two commands are the same: they have the same number in the list of src/table.rt
 abbrev pub is_same : Command → Command → Bool
 is_same a b = tag_of the_type a == tag_of the_type b
 
@@ -40,12 +40,12 @@ is_same a b = tag_of the_type a == tag_of the_type b
 abbrev pub row_for : Command → Option Listed
 row_for command = find (λ (row : Listed). is_same row.command command) table
 
--- What is asked for: a command, and what the words after its own say.
+-- What is asked for: a command, and what the words after its name say.
 pub record Row : Type 0 where
   pub command : Command
   pub words : List Word
 
--- The row of the table whose command this is, and its words fit there.
+-- A row of the table has this command, and the words fit in it.
 pub record IsInTable (row : Row) : Type 0 where
   pub number : ℕ
   pub listed : Listed
@@ -57,19 +57,19 @@ pub record IsInTable (row : Row) : Type 0 where
 abbrev pub Fits : Command → List Word → Type 0
 Fits command words = IfSome (row_for command) (λ row. FitsRow row.places row.last words)
 
--- The words ask for a row: they are the name of its command, and behind it its words.
+-- The words ask for a row: they are the name of its command, and after that its words.
 pub record Asks (words : List (List ℕ)) (row : Row) : Type 0 where
   pub in_table : IsInTable row
   pub said : words ≡ in_table.listed.name ∷ spelled row.words
 
--- the words are in no row: none has that name, or so many words, or a number is out of its range
+-- the words are in no row: they ask for none
 abbrev pub InNoRow : List (List ℕ) → Type 0
 InNoRow words = (row : Row) → Asks words row → ⊥
 
 abbrev pub files_of : Row → List (List ℕ × Kind)
 files_of row = files_in row.words
 
--- the kind of standard input, where a command reads that after its files
+-- the kind of input as which a command reads standard input after its files, if it does
 abbrev pub input_for : Command → Option Kind
 input_for Debug = Some kind.Text
 input_for _ = None

@@ -14,22 +14,22 @@ use Rattle.mm_cli.specs.declared.table.Last.TheVariants.{Nothing, Perhaps, Sever
 
 -- 1. Words, and how they are written.
 
--- What words say.
+-- What a word says.
 pub data Word : Type 0 where
   -- the name of a file of a kind
   file_word : Kind → (name : List ℕ) → Word
   number_word : ℕ → Word
   groups_word : List ℕ → Word
-  -- whether loads are split
+  -- a mode: whether loads are split
   mode_word : (split : Bool) → Word
-  -- where a range of addresses begins, and the logarithm of its length
+  -- the base of a range of addresses and the logarithm of its length
   range_word : (base log : ℕ) → Word
 
 abbrev pub mode_text : Bool → List ℕ
 mode_text false = codes "plain"
 mode_text true = codes "split"
 
--- the texts that say it: two of a range, and else one
+-- the texts of a word: two for a range, else one
 abbrev pub text_list : Word → List (List ℕ)
 text_list (file_word kind name) = name ∷ []
 text_list (number_word n) = decimal n ∷ []
@@ -42,7 +42,7 @@ abbrev pub spelled : List Word → List (List ℕ)
 spelled [] = []
 spelled (word ∷ words) = text_list word ++ spelled words
 
--- no word, or one
+-- the word for a value, if there is a value
 abbrev pub perhaps : {A : Type 0} → (A → Word) → Option A → List Word
 perhaps word None = []
 perhaps word (Some a) = word a ∷ []
@@ -58,11 +58,11 @@ files_in (range_word base log ∷ words) = files_in words
 
 -- 2. Where words fit.
 
--- a range of a power of two of addresses, at least a word, that begins at a multiple of its length
+-- a range of `2 ^ log` addresses, at least a word, whose base is a multiple of its length
 abbrev pub IsRange : (base log : ℕ) → Type 0
 IsRange base log = (base ≤ 2 ^ 54 - 1) × (3 ≤ log) × (log ≤ 54) × (base % 2 ^ log ≡ 0)
 
--- the word is one that the place is for
+-- the word fits in the place
 abbrev pub FitsPlace : Place → Word → Type 0
 FitsPlace (File kind) (file_word other name) = other ≡ kind
 FitsPlace (Number least most) (number_word n) = (least ≤ n) × (n ≤ most)
@@ -71,7 +71,7 @@ FitsPlace Mode (mode_word split) = ⊤
 FitsPlace Range (range_word base log) = IsRange base log
 FitsPlace _ _ = ⊥
 
--- the words are those that come last
+-- the words fit in what comes after the places of a row
 abbrev pub FitsLast : Last → List Word → Type 0
 FitsLast Nothing [] = ⊤
 FitsLast (Perhaps place) [] = ⊤
@@ -80,7 +80,7 @@ FitsLast (Several kind most) words =
     (names : List (List ℕ)) × (words ≡ map (file_word kind) names) × (1 ≤ length names) × (length names ≤ most)
 FitsLast _ _ = ⊥
 
--- the words are those of the places, and of what comes after them
+-- the words fit in the places, and then in what comes after them
 abbrev pub FitsRow : List Place → Last → List Word → Type 0
 FitsRow [] last words = FitsLast last words
 FitsRow (place ∷ places) last (word ∷ words) = FitsPlace place word × FitsRow places last words
@@ -88,11 +88,10 @@ FitsRow (place ∷ places) last [] = ⊥
 
 -- 3. The words of a command line.
 
--- the texts of the words
 abbrev pub texts : List (String Global) → List (List ℕ)
 texts words = map string_bytes words
 
--- what a word that was read says: one word of each file where it names several
+-- what a word that was read says: one word for each file if it names several
 abbrev pub words_of : Read → List Word
 words_of (read.File kind name) = file_word kind name.now ∷ []
 words_of (read.Files kind names) = map (file_word kind) (texts names.now)
@@ -105,15 +104,15 @@ abbrev pub spoken : List Read → List Word
 spoken [] = []
 spoken (word ∷ words) = words_of word ++ spoken words
 
--- how many words that were read stand for what comes last, at most
+-- the most words that are read for what comes after the places of a row
 abbrev pub room : Last → ℕ
 room Nothing = 0
 room (Perhaps place) = 1
 room (Several kind most) = 1
 
--- 5. Words as they are read, place by place.
+-- 4. Words as they are read, place by place.
 
--- what was read is of the variant that the place is for, and in its range
+-- the word that was read has the variant of the place, and is in its range
 abbrev pub IsOfPlace : Place → Read → Type 0
 IsOfPlace (File kind) (read.File other name) = other ≡ kind
 IsOfPlace (Number least most) (read.Number n) = (least ≤ n) × (n ≤ most)
@@ -122,7 +121,7 @@ IsOfPlace Mode (read.Mode split) = ⊤
 IsOfPlace Range (read.Range base log) = IsRange base log
 IsOfPlace _ _ = ⊥
 
--- one word at most was read for what comes last: several files are one word
+-- at most one word was read for what comes after the places of a row: several files are one word
 abbrev pub AreOfLast : Last → List Read → Type 0
 AreOfLast Nothing [] = ⊤
 AreOfLast (Perhaps place) [] = ⊤
@@ -131,7 +130,7 @@ AreOfLast (Several kind most) (read.Files other names ∷ []) = (other ≡ kind)
     × (length names.now ≤ most)
 AreOfLast _ _ = ⊥
 
--- one word was read for each place, and then what comes last
+-- one word was read for each place, and then at most one for what comes after them
 abbrev pub AreOfRow : List Place → Last → List Read → Type 0
 AreOfRow [] last words = AreOfLast last words
 AreOfRow (place ∷ places) last (word ∷ words) = IsOfPlace place word × AreOfRow places last words

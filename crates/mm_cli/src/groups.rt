@@ -1,4 +1,4 @@
-//! Groups as they are written.
+//! Lists of groups as the command line writes them.
 
 ghost use Rattle.std.specs.Prelude.{◌≡◌, ◌≢◌, ◌++◌, ◌∷◌, [], ℕ, List, IsNone, IsSome, IsTrue, MatchOption, ◌<◌, ◌↔◌};
 ghost use Rattle.std.specs.Prelude.{decimal, position};
@@ -12,7 +12,7 @@ use mm_sched::number;
 /// The greatest group.
 const MAX_GROUP: u64 = 63;
 
-/// One or more groups in decimal digits, ascending, with single commas between them.
+/// Reads one or more groups in decimal digits, ascending and separated by single commas.
 pub fn read_groups(text: &[u8]) -> Option<ArrayVec<u8, 64>>
     ensures { MatchOption result ((groups : List ℕ) → AreGroups groups → text.now ≢ groups_text groups)
         (λ groups. (text.now ≡ groups_text groups.items) × AreGroups groups.items) }
@@ -27,14 +27,14 @@ pub fn read_groups(text: &[u8]) -> Option<ArrayVec<u8, 64>>
     Some(groups)
 }
 
-/// The place of the first comma.
+/// The index of the first comma, if there is one.
 fn comma(text: &[u8]) -> Option<usize>
     ensures { result ≡ position is_comma text.now }
 {
     text.iter().position(|b| *b == b',')
 }
 
-/// Appends a group that is above those before.
+/// Reads a group and appends it, if it is above the groups in the list.
 fn push_group(groups: &mut ArrayVec<u8, 64>, word: &[u8]) -> Option<()>
     requires { AreSoFar groups.old.items }
     ensures some { IsSome result → (g : ℕ) × Follows groups.old.items g × (word.now ≡ decimal g)
@@ -49,7 +49,7 @@ fn push_group(groups: &mut ArrayVec<u8, 64>, word: &[u8]) -> Option<()>
     Some(())
 }
 
-/// Whether a group is above ascending ones.
+/// Whether a group is above each of some ascending groups.
 fn is_above(groups: &[u8], group: u8) -> bool
     requires { Ascends groups.now }
     ensures { IsTrue result ↔ AllByRecursion (λ h. h < group) groups.now }

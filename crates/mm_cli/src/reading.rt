@@ -1,4 +1,4 @@
-//! The words of the command line, read by the table.
+//! Reads the words of a command line by the table of commands.
 ghost use Rattle.std.specs.Prelude.{◌≡◌, ◌≢◌, ◌<◌, ◌≤◌, ◌++◌, ◌+◌, ℕ, List, MatchOption, IsSome, IsNone, Some, length};
 ghost use Rattle.std.specs.Prelude.{slice_get};
 ghost use Rattle.arrayvec.specs.ArrayVec.{array_vec_len};
@@ -12,17 +12,17 @@ use crate::table::{Command, Last, Listed, Place, TABLE};
 use crate::words::{Word, read_place};
 use arrayvec::ArrayVec;
 
-/// The most words of a row, the files of one that takes several counted as one.
+/// The most words that are read for a row. Several files count as one word.
 const MAX_WORDS: usize = 4;
 
-/// A command, and what the words after its own say.
+/// A command and what the words after its name say.
 #[derive(Drop)]
 pub struct Asked<'a> {
     pub command: Command,
     pub words: ArrayVec<Word<'a>, 4>,
 }
 
-/// The command that the words ask for, and what they say to it; none where they are in no row of the table.
+/// The command that the words ask for, with what they say. `None` if the words are in no row of the table.
 pub fn read_words(words: &[String]) -> Option<Asked<'_>>
     ensures { MatchOption result (InNoRow (texts words.now)) (λ asked. Asks (texts words.now) (row_of asked)) }
 {
@@ -37,7 +37,7 @@ pub fn read_words(words: &[String]) -> Option<Asked<'_>>
     })
 }
 
-/// The row with a name.
+/// The row with this name, if there is one.
 fn row_named(name: &str) -> Option<&'static Listed<'static>>
     ensures { MatchOption result (NoneIsNamed name.now)
         (λ row. (number : ℕ) × (slice_get table number ≡ Some (listed row.now)) × (row.now.0.now ≡ name.now)) }
@@ -51,7 +51,7 @@ fn row_named(name: &str) -> Option<&'static Listed<'static>>
     None
 }
 
-/// The row of a number.
+/// The row with this number.
 fn row_at(number: usize) -> &'static Listed<'static>
     requires { number < 18 }
     ensures { slice_get table number ≡ Some (listed result.now) }
@@ -59,7 +59,7 @@ fn row_at(number: usize) -> &'static Listed<'static>
     &TABLE[number]
 }
 
-/// What words say, read for the places of a row and what comes after them.
+/// Reads all words by the places of a row and by what comes after these places.
 fn read_row<'a>(places: &[Place], last: Last, words: &'a [String]) -> Option<ArrayVec<Word<'a>, 4>>
     requires { length places.now + room last ≤ 4 }
     ensures { MatchOption result ((said : List Spoken) → FitsRow places.now last said → texts words.now ≢ spelled said)
@@ -77,7 +77,7 @@ fn read_row<'a>(places: &[Place], last: Last, words: &'a [String]) -> Option<Arr
     Some(read)
 }
 
-/// Appends what words say, all of them, read for what comes after the places of a row.
+/// Reads all words by what comes after the places of a row, and appends what they say.
 fn push_last<'a>(read: &mut ArrayVec<Word<'a>, 4>, last: Last, words: &'a [String]) -> Option<()>
     requires { array_vec_len read.old + room last ≤ 4 }
     ensures some { IsSome result → (more : List Read) × AreOfLast last more × (read.new.items ≡ read.old.items ++ more)

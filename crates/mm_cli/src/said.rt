@@ -6,7 +6,7 @@ ghost use Rattle.mm_cli.specs.Said.{mode_of, range_of};
 
 use crate::words::Word;
 
-/// The name of the file in a place; empty where no file is there.
+/// The name of the file in a place; empty if no file is there.
 pub fn name_at<'a>(words: &[Word<'a>], at: usize) -> &'a str
     ensures { result.now ≡ name_of (slice_get words.now at) }
 {
@@ -26,7 +26,7 @@ pub fn name_perhaps_at<'a>(words: &[Word<'a>], at: usize) -> Option<&'a str>
     }
 }
 
-/// The names of the files in a place; none where no files are there.
+/// The names of the files in a place; none if no files are there.
 pub fn names_at<'a>(words: &[Word<'a>], at: usize) -> &'a [String]
     ensures { result.now ≡ names_of (slice_get words.now at) }
 {
@@ -36,7 +36,7 @@ pub fn names_at<'a>(words: &[Word<'a>], at: usize) -> &'a [String]
     }
 }
 
-/// The number in a place; zero where none is there.
+/// The number in a place; zero if no number is there.
 pub fn number_at(words: &[Word<'_>], at: usize) -> u64
     ensures { result ≡ number_of (slice_get words.now at) }
 {
@@ -46,7 +46,7 @@ pub fn number_at(words: &[Word<'_>], at: usize) -> u64
     }
 }
 
-/// The groups in a place; none where no groups are there.
+/// The groups in a place; none if no groups are there.
 pub fn groups_at<'a>(words: &'a [Word<'_>], at: usize) -> &'a [u8]
     ensures { result.now ≡ groups_of (slice_get words.now at) }
 {
@@ -66,7 +66,7 @@ pub fn groups_perhaps_at<'a>(words: &'a [Word<'_>], at: usize) -> Option<&'a [u8
     }
 }
 
-/// Whether the mode in a place says that loads are split; not where none is there.
+/// Whether the mode in a place says that loads are split. `false` if no mode is there.
 pub fn mode_at(words: &[Word<'_>], at: usize) -> bool
     ensures { result ≡ mode_of (slice_get words.now at) }
 {
@@ -76,7 +76,7 @@ pub fn mode_at(words: &[Word<'_>], at: usize) -> bool
     }
 }
 
-/// The range in a place: where it begins, and the logarithm of its length; zeros where none is there.
+/// The range in a place: its base and the logarithm of its length. Zeros if no range is there.
 pub fn range_at(words: &[Word<'_>], at: usize) -> (u64, u8)
     ensures { (result.0, result.1) ≡ range_of (slice_get words.now at) }
 {

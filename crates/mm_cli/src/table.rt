@@ -1,6 +1,5 @@
-//! The table of commands. What the program's contracts say of commands and their words is said of this table.
+//! The table of commands. The program's contracts refer to this table.
 
-/// A command.
 #[derive(Clone, Copy)]
 pub enum Command {
     Run,
@@ -30,15 +29,15 @@ pub enum Kind {
     Schedule,
     Source,
     Object,
-    /// Read against the image before it.
+    /// A checkpoint, which is read against the image before it.
     Checkpoint,
     Links,
     Events,
-    /// The bytes of standard input, as they are.
+    /// The bytes of standard input, unparsed.
     Text,
 }
 
-/// What is said in one place of a row.
+/// What one place of a row takes.
 #[derive(Clone, Copy)]
 pub enum Place {
     /// The name of a file of a kind.
@@ -47,9 +46,9 @@ pub enum Place {
     Number { least: u64, most: u64 },
     /// One or more groups, ascending, with single commas between them.
     Groups,
-    /// `plain`, or `split` where loads are split.
+    /// `plain`, or `split` if loads are split.
     Mode,
-    /// Two words: where a range of addresses begins, and the logarithm of its length.
+    /// Two words: the base of a range of addresses and the logarithm of its length.
     Range,
 }
 
@@ -57,13 +56,13 @@ pub enum Place {
 #[derive(Clone, Copy)]
 pub enum Last {
     Nothing,
-    /// This place, or nothing.
+    /// One place, or nothing.
     Perhaps(Place),
-    /// The names of files of a kind, one at least.
+    /// The names of one or more files of a kind, up to `most`.
     Several { kind: Kind, most: usize },
 }
 
-/// A row of the table: the command's own word, the command, the places after that word, and what comes after them.
+/// A row of the table: the command's name, the command, the places after the name, and what comes after these places.
 pub type Listed<'a> = (&'a str, Command, &'a [Place], Last);
 
 const IMAGE: Place = Place::File(Kind::Image);
@@ -86,19 +85,19 @@ const MODE: Place = Place::Mode;
 
 const RANGE: Place = Place::Range;
 
-/// How many cycles.
+/// The number of cycles.
 const CYCLES: Place = Place::Number {
     least: 0,
     most: 1_000_000,
 };
 
-/// The number that an image is generated from.
+/// The number from which an image is generated.
 const SEED: Place = Place::Number {
     least: 0,
     most: u64::MAX,
 };
 
-/// How many slots a generated image has.
+/// The number of slots of a generated image.
 const SIZE: Place = Place::Number { least: 1, most: 16 };
 
 const OBJECTS: Last = Last::Several {

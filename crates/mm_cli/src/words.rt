@@ -18,7 +18,7 @@ pub enum Word<'a> {
     Number(u64),
     Groups(ArrayVec<u8, 64>),
     Mode { split: bool },
-    /// Where a range of addresses begins, and the logarithm of its length.
+    /// The base of a range of addresses and the logarithm of its length.
     Range { base: u64, log: u8 },
 }
 
@@ -29,7 +29,8 @@ impl Default for Word<'_> {
     }
 }
 
-/// What the first words say, read for a place, and the words after them.
+/// Reads the first word by a place, or the first two words if the place is a range. Gives what they say, and the words
+/// after them.
 pub fn read_place<'a>(place: Place, words: &'a [String]) -> Option<(Word<'a>, &'a [String])>
     ensures { MatchOption result
         ((word : Spoken) (after : List (List ℕ)) → FitsPlace place word → texts words.now ≢ text_list word ++ after)
@@ -45,7 +46,7 @@ pub fn read_place<'a>(place: Place, words: &'a [String]) -> Option<(Word<'a>, &'
     Some((read_word(place, word)?, after))
 }
 
-/// A range of addresses, said by the first two words, and the words after them.
+/// Reads a range of addresses from the first two words. Gives the range, and the words after them.
 fn read_range_place(words: &[String]) -> Option<(Word<'_>, &[String])>
     ensures { MatchOption result
         ((first width : ℕ) (after : List (List ℕ)) → IsRange first width → texts words.now ≢ decimal first
@@ -61,7 +62,7 @@ fn read_range_place(words: &[String]) -> Option<(Word<'_>, &[String])>
     Some((Word::Range { base, log }, after))
 }
 
-/// What one word says, read for a place that is no range.
+/// Reads one word by a place. `None` if the place is a range, which takes two words.
 fn read_word(place: Place, word: &String) -> Option<Word<'_>>
     ensures { MatchOption result ((said : Spoken) → FitsPlace place said → string_bytes word.now ∷ [] ≢ text_list said)
         (λ read. (said : Spoken) × IsOfPlace place read × (words_of read ≡ said ∷ []) × FitsPlace place said
@@ -85,7 +86,7 @@ fn read_word(place: Place, word: &String) -> Option<Word<'_>>
     }
 }
 
-/// A number between two others in decimal digits.
+/// Reads a number from `least` to `most` in decimal digits.
 fn read_number(digits: &[u8], least: u64, most: u64) -> Option<u64>
     ensures { MatchOption result ((n : ℕ) → least ≤ n → n ≤ most → digits.now ≢ decimal n)
         (λ n. (digits.now ≡ decimal n) × (least ≤ n) × (n ≤ most)) }
@@ -108,7 +109,8 @@ fn read_mode(word: &str) -> Option<bool>
     }
 }
 
-/// Where a range of addresses begins, and the logarithm of its length, 3 to 54. It begins at a multiple of its length.
+/// Reads the base of a range of addresses and the logarithm of its length, 3 to 54. The base is a multiple of the
+/// length.
 fn read_range(base: &[u8], log: &[u8]) -> Option<(u64, u8)>
     ensures { MatchOption result
         ((first width : ℕ) → IsRange first width → base.now ≡ decimal first → log.now ≢ decimal width)
@@ -125,7 +127,8 @@ fn read_range(base: &[u8], log: &[u8]) -> Option<(u64, u8)>
 /// The last address.
 const MAX_ADDRESS: u64 = (1 << 54) - 1;
 
-/// The logarithm of a word's length, and of the length of the whole address space.
+/// The logarithm of the length of a word.
 const MIN_LOG: u64 = 3;
 
+/// The logarithm of the length of the address space.
 const MAX_LOG: u64 = 54;

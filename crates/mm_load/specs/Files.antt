@@ -1,5 +1,5 @@
--- The inputs of a command, each read and parsed before the next: its files and, behind them, standard input where it
--- reads that.
+-- The inputs of a command, each read and parsed before the next: its files, and after them standard input if the
+-- command reads it.
 use Rattle.std.specs.Prelude.{◌≡◌, ◌⊎◌, ℕ, ◌+◌, ◌≤◌, List, [], ◌∷◌, ◌++◌, length, map, String, string_bytes, Option}
 use Rattle.std.specs.Prelude.{Some, None, IsSome, Result, IfOk, IfErr, ⊤}
 use Rattle.std.specs.declared.alloc.Global.{Global}
@@ -13,20 +13,20 @@ use Rattle.mm_load.specs.declared.status.Stop.TheVariants as stop
 use Rattle.mm_cli.specs.declared.table.Kind.{Kind}
 use Rattle.mm_load.specs.Kinds.{Value, limit_of, Accepts, Faults}
 
--- 1. One input. `told` is what it holds, as far as that is told.
+-- 1. One input. `told` is what the input holds, if that is known.
 
--- It is accepted, and this is its value.
+-- The input is accepted, and this is its value.
 pub record Accepted (kind : Kind) (before : List Value) (told : Option (List ℕ)) (value : Value) : Type 0 where
   pub bytes : List ℕ
   pub holds : Holds told bytes
   pub short : length bytes ≤ limit_of kind
   pub means : Accepts kind before bytes value
 
--- It is longer than its limit.
+-- The input is longer than its limit.
 abbrev pub IsTooLong : ℕ → (number : ℕ) → Option (List ℕ) → Refusal → Type 0
 IsTooLong limit number told r = (r ≡ TooLong number) × IsLonger told limit
 
--- Its bytes mean nothing.
+-- The bytes of the input mean no value.
 pub record IsFaulty (kind : Kind) (before : List Value) (number : ℕ) (told : Option (List ℕ)) (r : Refusal) : Type 0
   where
     pub bytes : List ℕ
@@ -34,14 +34,14 @@ pub record IsFaulty (kind : Kind) (before : List Value) (number : ℕ) (told : O
     pub short : length bytes ≤ limit_of kind
     pub fault : Faults kind before number bytes r
 
--- The input of a number, behind those of the values before, is refused. Files are counted from 1, and standard input
--- has number 0.
+-- The input with this number is refused, after inputs with the values before. Files are counted from 1, and standard
+-- input has number 0.
 abbrev pub InputRefused : Kind → (before : List Value) → (number : ℕ) → Option (List ℕ) → Refusal → Type 0
 InputRefused kind before number told r = IsTooLong (limit_of kind) number told r ⊎ IsFaulty kind before number told r
 
--- 2. Files by their names, behind files of the values before.
+-- 2. Files by their names, after files with the values before.
 
--- each of them is accepted, and these are their values
+-- each file is accepted, and these are the values of the files
 abbrev pub FilesAccepted : (List ℕ → Option (List ℕ)) → (before : List Value) → List (List ℕ × Kind) → List Value
     → Type 0
 FilesAccepted held before [] [] = ⊤
@@ -49,15 +49,15 @@ FilesAccepted held before (file ∷ files) (v ∷ values) = Accepted file.1 befo
     × FilesAccepted held (before ++ v ∷ []) files values
 FilesAccepted held before _ _ = ⊥
 
--- one of them is refused, and those before it are accepted
+-- one file is refused, and the files before it are accepted
 abbrev pub FilesRefused : (List ℕ → Option (List ℕ)) → (before : List Value) → List (List ℕ × Kind) → Refusal → Type 0
 FilesRefused held before [] r = ⊥
 FilesRefused held before (file ∷ files) r =
     InputRefused file.1 before (length before + 1) (held file.0) r
     ⊎ ((v : Value) × Accepted file.1 before (held file.0) v × FilesRefused held (before ++ v ∷ []) files r)
 
--- What the files hold when their reading starts, as far as it is told, how often reads of each name had failed then and
--- have now, and which names reads asked for in between.
+-- What the files hold when their reading starts, if that is known, how many reads of each name had failed then and have
+-- failed now, and which reads were asked for in between.
 pub record Reading : Type 1 where
   pub held : List ℕ → Option (List ℕ)
   pub before : List ℕ → ℕ
@@ -70,19 +70,19 @@ abbrev pub reading : {F : Type 0} → (held : F → List ℕ → Option (List �
 reading held faults asked old new
     = record { held = held old; before = faults old; now = faults new; asks = Adds asked old new }
 
--- the count of one of their names rose, or stands at its last value, and the files before it are accepted
+-- the fault count of a file's name rose or is at its last value, and the files before it are accepted
 abbrev pub FilesFailed : Reading → (before : List Value) → List (List ℕ × Kind) → Type 0
 FilesFailed r before [] = ⊥
 FilesFailed r before (file ∷ files) =
     Rose (r.before file.0) (r.now file.0)
     ⊎ ((v : Value) × Accepted file.1 before (r.held file.0) v × FilesFailed r (before ++ v ∷ []) files)
 
--- it is told what each of them holds
+-- what each file holds is known
 abbrev pub FilesTold : (List ℕ → Option (List ℕ)) → List (List ℕ × Kind) → Type 0
 FilesTold held files = AllByRecursion (λ (file : List ℕ × Kind). IsSome (held file.0)) files
 
--- These are reads of the files in their order: any number of the first and then, only where that file is accepted,
--- those of the files after it.
+-- These are reads of the files in their order: any number of the first and then, only if that file is accepted, reads
+-- of the files after it.
 abbrev pub AsksInOrder : (List ℕ → Option (List ℕ)) → (before : List Value) → List (List ℕ × Kind)
     → (reads : List PieceRead)
     → Type 0
@@ -92,16 +92,16 @@ AsksInOrder held before (file ∷ files) reads =
     × ((later ≡ [])
     ⊎ ((v : Value) × Accepted file.1 before (held file.0) v × AsksInOrder held (before ++ v ∷ []) files later))
 
--- Reads are of these files in their order, and of no other.
+-- Reads ask for these files in their order, and for no other file.
 pub record AsksFiles (r : Reading) (before : List Value) (files : List (List ℕ × Kind)) : Type 0 where
   pub reads : List PieceRead
   pub asked : r.asks reads
   pub in_order : AsksInOrder r.held before files reads
 
--- 3. Standard input, behind files by their names, where a command reads it as input of a kind.
+-- 3. Standard input, after files by their names, if a command reads it as an input of a kind.
 
--- What it has left when its reading starts, as far as that is told, and how often reads of it had failed then and have
--- now.
+-- What standard input has left when its reading starts, if that is known, and how many reads of it had failed then and
+-- have failed now.
 pub record Drawing : Type 0 where
   pub left : Option (List ℕ)
   pub before : ℕ
@@ -110,7 +110,7 @@ pub record Drawing : Type 0 where
 abbrev pub drawing : {I : Type 0} → (left : I → Option (List ℕ)) → (faults : I → ℕ) → (old new : I) → Drawing
 drawing left faults old new = record { left = left old; before = faults old; now = faults new }
 
--- this stands, unless each of the files is accepted
+-- this holds, unless each of the files is accepted
 abbrev pub DrawnBehind : (List ℕ → Option (List ℕ)) → List (List ℕ × Kind) → Type 0 → Type 0
 DrawnBehind held files Undrawn = Undrawn ⊎ ((values : List Value) × FilesAccepted held [] files values)
 
@@ -122,7 +122,7 @@ InputsAccepted held left files (Some kind) values =
     (before : List Value) × (last : Value) × (values ≡ before ++ last ∷ []) × FilesAccepted held [] files before
     × Accepted kind before left last
 
--- one of them is refused, and those before it are accepted
+-- one input is refused, and the inputs before it are accepted
 abbrev pub InputsRefused : (List ℕ → Option (List ℕ)) → (left : Option (List ℕ)) → List (List ℕ × Kind) → Option Kind
     → Refusal → Type 0
 InputsRefused held left files None r = FilesRefused held [] files r
@@ -130,13 +130,13 @@ InputsRefused held left files (Some kind) r =
     FilesRefused held [] files r
     ⊎ ((before : List Value) × FilesAccepted held [] files before × InputRefused kind before 0 left r)
 
--- the count of one of them rose, or stands at its last value, and those before it are accepted
+-- the fault count of an input rose or is at its last value, and the inputs before it are accepted
 abbrev pub InputsFailed : Reading → Drawing → List (List ℕ × Kind) → Option Kind → Type 0
 InputsFailed r d files None = FilesFailed r [] files
 InputsFailed r d files (Some kind) = FilesFailed r [] files
     ⊎ ((before : List Value) × FilesAccepted r.held [] files before × Rose d.before d.now)
 
--- it is told what each of them holds
+-- what each input holds is known
 abbrev pub InputsTold : (List ℕ → Option (List ℕ)) → (left : Option (List ℕ)) → List (List ℕ × Kind) → Option Kind
     → Type 0
 InputsTold held left files None = FilesTold held files
@@ -144,7 +144,7 @@ InputsTold held left files (Some kind) = FilesTold held files × IsSome left
 
 -- 4. Inputs that have to be refused.
 
--- one of the files is refused and those before it are accepted; what it holds, and what each before it holds, is told
+-- one file is refused, and the files before it are accepted; what it and each file before it hold is known
 abbrev pub ToldFilesRefused : (List ℕ → Option (List ℕ)) → (before : List Value) → List (List ℕ × Kind) → Refusal
     → Type 0
 ToldFilesRefused held before [] r = ⊥
@@ -153,7 +153,7 @@ ToldFilesRefused held before (file ∷ files) r =
     × (InputRefused file.1 before (length before + 1) (held file.0) r
     ⊎ ((v : Value) × Accepted file.1 before (held file.0) v × ToldFilesRefused held (before ++ v ∷ []) files r))
 
--- the same of standard input behind them
+-- Standard input is refused, and the files before it are accepted; what each of these inputs holds is known.
 pub record ToldInputRefused (held : List ℕ → Option (List ℕ)) (left : Option (List ℕ)) (files : List (List ℕ × Kind))
     (kind : Kind) (r : Refusal) : Type 0 where
   pub told : FilesTold held files
@@ -168,9 +168,9 @@ ToldInputsRefused held left files None r = ToldFilesRefused held [] files r
 ToldInputsRefused held left files (Some kind) r = ToldFilesRefused held [] files r
     ⊎ ToldInputRefused held left files kind r
 
--- 5. What their reading answers.
+-- 5. What the reading of inputs answers.
 
--- Why it stops: by a refusal, by a fault of the files, or by want of memory.
+-- Why the reading stops: a refusal, a fault of the files, or a lack of memory.
 abbrev pub Stops : (Refusal → Type 0) → Type 0 → Stop → Type 0
 Stops Refuses Fails (stop.Refused r) = Refuses r
 Stops Refuses Fails stop.ReadFault = Fails

@@ -41,7 +41,7 @@ pub data Value : Type 0 where
   an_events : List NetItem → Value
   a_text : List ℕ → Value
 
--- the most bytes that an input of a kind has
+-- the most bytes that an input of a kind may have
 abbrev pub limit_of : Kind → ℕ
 limit_of image_file = 33554432
 limit_of schedule_file = 8388608
@@ -52,7 +52,7 @@ limit_of links_file = 65536
 limit_of events_file = 8388608
 limit_of text_input = 1048576
 
--- the bytes of an input mean a value, behind inputs of the values before
+-- the bytes of an input mean a value, after inputs with the values before
 abbrev pub Accepts : Kind → (before : List Value) → List ℕ → Value → Type 0
 Accepts image_file before bytes (an_image i) = Spells bytes i
 Accepts schedule_file before bytes (a_list items) = Means bytes items
@@ -65,7 +65,7 @@ Accepts events_file before bytes (an_events items) = event.Means bytes items
 Accepts text_input before bytes (a_text text) = text ≡ bytes
 Accepts _ before bytes _ = ⊥
 
--- they mean none, and this is why the input of a number is refused
+-- the bytes of an input mean no value, and this is why the input with this number is refused
 abbrev pub Faults : Kind → (before : List Value) → (number : ℕ) → List ℕ → Refusal → Type 0
 Faults image_file before number bytes r = (fault : ImageFault) × (offset : ℕ) × (r ≡ refusal.Image number fault offset)
     × (image_fault bytes ≡ Some (number_of fault, offset))

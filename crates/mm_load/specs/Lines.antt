@@ -13,7 +13,7 @@ use Rattle.mm_load.specs.declared.status.Refusal.TheVariants.{Crosses, Held, Pri
 use Rattle.mm_load.specs.declared.status.Status.{Status}
 use Rattle.mm_load.specs.declared.status.Status.TheVariants.{Done, Usage, Refused, ReadFault, WriteFault, NoMemory}
 
--- what a fault of linking names: a name, a slot, or nothing
+-- what a fault of linking names: a name, a slot, or `-` if it names neither
 abbrev pub named_by : LinkFault → List ℕ
 named_by (Twice name) = name
 named_by (Undefined name) = name
@@ -23,7 +23,7 @@ named_by NoThread = codes "-"
 named_by (Handler slot) = decimal slot
 named_by TooLarge = codes "-"
 
--- the line of an answer
+-- the line of an answer; nothing if the command is done
 abbrev pub line_of : Status → List ℕ
 line_of Done = []
 line_of Usage = codes "mmachine: usage\n"

@@ -1,4 +1,4 @@
--- Why a command stops, by what the crates below answer.
+-- Why a command stops, given what the crates below answer.
 use Rattle.std.specs.Prelude.{ℕ, Result, Ok, Err}
 use Rattle.mm_io.specs.declared.read.ReadError.{ReadError}
 use Rattle.mm_io.specs.declared.read.ReadError.TheVariants as error
@@ -13,29 +13,29 @@ use Rattle.mm_load.specs.declared.status.Refusal.TheVariants.{TooLong, Link, NoG
 use Rattle.mm_load.specs.declared.status.Stop.{Stop}
 use Rattle.mm_load.specs.declared.status.Stop.TheVariants as stop
 
--- how a command ends whose text was written so
+-- how a command ends after the write of its text
 abbrev pub end_of : Result (Unit {0}) WriteFailed → Result (Unit {0}) Stop
 end_of (Ok done) = Ok done
 end_of (Err fault) = Err stop.WriteFault
 
--- why a command stops where a file cannot be read
+-- why a command stops if a file cannot be read
 abbrev pub stop_of_error : ReadError → ℕ → Stop
 stop_of_error error.ReadFault file = stop.ReadFault
 stop_of_error error.TooLong file = stop.Refused (TooLong file)
 stop_of_error error.NoMemory file = stop.NoMemory
 
--- why it stops where objects do not link
+-- why a command stops if objects do not link
 abbrev pub stop_of_link : LinkError → Stop
 stop_of_link (linking.Fault fault) = stop.Refused (Link fault)
 stop_of_link linking.NoMemory = stop.NoMemory
 
--- why it stops where groups cannot be extracted
+-- why a command stops if groups cannot be extracted
 abbrev pub stop_of_extract : ExtractError → Stop
 stop_of_extract extracting.NoGroup = stop.Refused NoGroup
 stop_of_extract (extracting.Crosses slot) = stop.Refused (Crosses slot)
 stop_of_extract extracting.NoMemory = stop.NoMemory
 
--- why it stops where a range cannot be swept
+-- why a command stops if a range cannot be swept
 abbrev pub stop_of_sweep : SweepError → Stop
 stop_of_sweep (sweeping.Held slot) = stop.Refused (Held slot)
 stop_of_sweep (sweeping.Privileged group) = stop.Refused (Privileged group)

@@ -1,5 +1,4 @@
-//! The inputs of a command: what kinds there are, how each is read and parsed, why that is refused, and the line that
-//! says so.
+//! The inputs of a command: their kinds, how each is read and parsed, why it is refused, and the line that says so.
 #![tactic(auto)]
 
 mod lines;

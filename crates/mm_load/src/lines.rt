@@ -8,7 +8,7 @@ use mm_io::{Sink, WriteFault, write_all};
 use mm_link::LinkFault;
 use mm_text::{Gather, Piece, write_pieces};
 
-/// Writes the line that says why it is not done; nothing where it is.
+/// Writes the line that says why a command is not done. Writes nothing if it is done.
 pub fn write_line<D: Sink>(status: &Status, diag: &mut D) -> Result<(), WriteFault>
     ensures { Writes D.taken D.faults diag.old diag.new (line_of status.now) result }
 {
@@ -168,7 +168,7 @@ fn write_link_fault<D: Sink>(fault: &LinkFault, diag: &mut D) -> Result<(), Writ
     text.finish(diag)
 }
 
-/// Appends what a fault of linking names: a name, a slot, or nothing.
+/// Appends what a fault of linking names: a name, a slot, or `-` if it names neither.
 fn put_named<D: Sink>(text: &mut Gather, diag: &mut D, fault: &LinkFault)
     ensures { Gathers D.taken D.faults diag.old diag.new text.old text.new (named_by fault.now) }
 {

@@ -50,7 +50,7 @@ const EVENTS_LIMIT: u64 = 8_388_608;
 /// The most bytes of standard input.
 const INPUT_LIMIT: u64 = 1_048_576;
 
-/// All bytes of the file of a number.
+/// Reads all bytes of a file, the command's file `number`.
 fn read_file<F: Files>(
     alloc: Global,
     files: &mut F,
@@ -84,7 +84,7 @@ fn stop_of(error: ReadError, file: u8) -> Stop
     }
 }
 
-/// Reads and parses an image file, the file of a number.
+/// Reads and parses an image file, the command's file `number`.
 pub fn load_image<F: Files>(
     alloc: Global,
     files: &mut F,
@@ -109,7 +109,7 @@ pub fn load_image<F: Files>(
     }
 }
 
-/// Reads and parses a schedule file, the file of a number.
+/// Reads and parses a schedule file, the command's file `number`.
 pub fn load_schedule<F: Files>(
     alloc: Global,
     files: &mut F,
@@ -133,7 +133,7 @@ pub fn load_schedule<F: Files>(
     }
 }
 
-/// Reads and assembles a source file, the file of a number.
+/// Reads and assembles a source file, the command's file `number`.
 pub fn load_source<F: Files>(
     alloc: Global,
     files: &mut F,
@@ -162,7 +162,7 @@ pub fn load_source<F: Files>(
     }
 }
 
-/// Reads and parses an object file, the file of a number.
+/// Reads and parses an object file, the command's file `number`.
 pub fn load_object<F: Files>(
     alloc: Global,
     files: &mut F,
@@ -187,14 +187,14 @@ pub fn load_object<F: Files>(
     }
 }
 
-/// A state that a machine of an image can have, beside the slot that round robin issued last.
+/// What a checkpoint file holds: a state of a machine, and the slot that round robin issued last.
 #[derive(Drop)]
 pub struct Checkpoint {
     pub snapshot: Snapshot,
     pub last: Option<u8>,
 }
 
-/// Reads a checkpoint file, the second file, against the image of the first, and parses it.
+/// Reads and parses a checkpoint file, the command's second file, against the image of the first.
 pub fn load_checkpoint<F: Files>(
     alloc: Global,
     files: &mut F,
@@ -218,7 +218,7 @@ pub fn load_checkpoint<F: Files>(
     }
 }
 
-/// Reads and parses a file of links, the file of a number.
+/// Reads and parses a file of links, the command's file `number`.
 pub fn load_links<F: Files>(
     alloc: Global,
     files: &mut F,
@@ -242,7 +242,7 @@ pub fn load_links<F: Files>(
     }
 }
 
-/// Reads and parses a file of events, the file of a number. It is refused as a schedule is.
+/// Reads and parses a file of events, the command's file `number`. Its faults are refused as those of a schedule.
 pub fn load_events<F: Files>(
     alloc: Global,
     files: &mut F,
@@ -266,7 +266,7 @@ pub fn load_events<F: Files>(
     }
 }
 
-/// The order of a schedule file, the file of a number, or round robin where there is none.
+/// Reads the order of a schedule file, the command's file `number`. Round robin if there is no file.
 pub fn load_order<F: Files>(
     alloc: Global,
     files: &mut F,
@@ -286,7 +286,7 @@ pub fn load_order<F: Files>(
     }
 }
 
-/// Reads standard input to its end, which has number 0.
+/// Reads standard input, which has number 0, to its end.
 pub fn load_input<I: Source>(alloc: Global, input: &mut I) -> Result<Vec<u8>, Stop>
     ensures read { (before : List Value)
         → InputRead (drawing I.left I.faults input.old input.new) before text_input (λ text. a_text text.items) result }
@@ -298,7 +298,7 @@ pub fn load_input<I: Source>(alloc: Global, input: &mut I) -> Result<Vec<u8>, St
     }
 }
 
-/// Reads and parses object files one after the other, the first of them the file of a number.
+/// Reads and parses object files in their order. The first is the command's file `first`.
 pub fn load_objects<F: Files>(
     alloc: Global,
     files: &mut F,
@@ -322,7 +322,7 @@ pub fn load_objects<F: Files>(
     Ok(objects)
 }
 
-/// Reads and parses image files one after the other, the first of them the file of a number.
+/// Reads and parses image files in their order. The first is the command's file `first`.
 pub fn load_images<F: Files>(
     alloc: Global,
     files: &mut F,

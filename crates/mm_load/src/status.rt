@@ -12,63 +12,64 @@ use mm_object::ObjectFault;
 use mm_sweep::SweepError;
 use mm_word::NoMemory;
 
-/// Why a command is refused. A file is counted from 1 among the command's file words.
+/// Why a command is refused. Files are counted from 1 among the command's file words.
 #[derive(Drop)]
 pub enum Refusal {
     /// The file is longer than its limit.
     TooLong {
         file: u8,
     },
-    /// The file spells no image: its first fault, and where that stands.
+    /// The file spells no image: its first fault, and the offset of that.
     Image {
         file: u8,
         fault: ImageFault,
         offset: u64,
     },
-    /// The file is no schedule: where its fault stands.
+    /// The file is no schedule: the offset of its fault.
     Schedule {
         file: u8,
         offset: u64,
     },
-    /// The file spells no object: its first fault, and where that stands.
+    /// The file spells no object: its first fault, and the offset of that.
     Object {
         file: u8,
         fault: ObjectFault,
         offset: u64,
     },
-    /// The source means no object: its first fault, and where that stands, counted from 1 in lines and bytes.
+    /// The source means no object: its first fault, with the line and the column in bytes, both counted from 1.
     Asm {
         fault: AsmFault,
         line: u32,
         column: u32,
     },
-    /// The file is no checkpoint of the image: where its fault stands.
+    /// The file is no checkpoint of the image: the offset of its fault.
     Checkpoint {
         file: u8,
         offset: u64,
     },
-    /// The file is no list of links: where its fault stands.
+    /// The file is no list of links: the offset of its fault.
     Links {
         file: u8,
         offset: u64,
     },
     /// The objects do not link: their first fault.
     Link(LinkFault),
-    /// No slot of the image is of one of the groups.
+    /// No slot of the image belongs to one of the groups.
     NoGroup,
-    /// A slot of one of the groups, the least such, has its handler in another group.
+    /// The handler of a slot of the groups is outside of the groups: the least such slot.
     Crosses {
         slot: u8,
     },
-    /// The segment of a slot's instruction pointer, of the least such slot, meets the range that is to be swept.
+    /// The segment of a slot's instruction pointer meets the range that is to be swept: the least such slot.
     Held {
         slot: u8,
     },
-    /// None does, but a group, the least such, is privileged, whatever is entered: what is swept it can make again.
+    /// No instruction pointer meets the range, but a group is privileged, whatever is entered, and can make again what
+    /// is swept: the least such group.
     Privileged {
         group: u8,
     },
-    /// A link, the least such, names a node that is not there.
+    /// A link names a node that is not there: the least such link.
     NoNode {
         link: u8,
     },
@@ -79,8 +80,7 @@ pub enum Refusal {
 pub enum Status {
     /// All input was read, and the whole text was written.
     Done,
-    /// The words are in no row of the table of commands: none has so many, or a number is out of its range, or they do
-    /// not fit together.
+    /// The words are in no row of the table of commands.
     Usage,
     Refused(Refusal),
     /// A file could not be read.
@@ -100,7 +100,7 @@ pub enum Stop {
     NoMemory,
 }
 
-/// How a command ends whose text was written so.
+/// How a command ends after the write of its text.
 pub fn ended(wrote: Result<(), WriteFault>) -> Result<(), Stop>
     ensures { result ≡ end_of wrote }
 {

@@ -1,4 +1,4 @@
--- What differs between two states that follow each other, as lines.
+-- The differences between two successive states, as lines.
 use Rattle.std.specs.Prelude.{ℕ, ◌*◌, Bool, true, false, ◌&&◌, ◌==◌, nat_lt, if◌then◌else◌, List, [], ◌∷◌, ◌++◌, length}
 use Rattle.std.specs.Prelude.{drop, map, Option, Some, None}
 use Rattle.std.specs.List.{flat_map, range_with_len}
@@ -17,7 +17,7 @@ use Rattle.mm_log.specs.Lines.Line.{Points, Stands, Holds, Empties, Issues, Queu
 
 -- 1. A slot.
 
--- its instruction pointer, or whether it is past its segment
+-- the line of the instruction pointer, if the pointer or `past` changed
 abbrev pub pointer_changes : Slot → Slot → List Line
 pointer_changes was now =
     if same_word (Ptr was.ip) (Ptr now.ip) && same_bit was.past now.past then [] else Points now.number now.ip now.past
@@ -37,13 +37,13 @@ state_changes was now = if same_state was.state now.state then [] else Stands no
 abbrev pub register_now : Slot → ℕ → Line
 register_now now r = if is_empty now r then Empties now.number r else Holds now.number r (register now r)
 
--- a register's word, or whether it waits for a load
+-- the line of a register, if its word changed or it began or ended a wait for a load
 abbrev pub register_changes : Slot → Slot → ℕ → List Line
 register_changes was now r =
     if same_word (register was r) (register now r) && same_bit (is_empty was r) (is_empty now r) then []
     else register_now now r ∷ []
 
--- the pending loads that were added
+-- the pending loads that were added to a slot
 abbrev pub load_changes : Slot → Slot → List Line
 load_changes was now = map (Issues now.number) (drop (length was.pending) now.pending)
 
@@ -56,7 +56,7 @@ abbrev pub changes_between : Option Slot → Option Slot → List Line
 changes_between (Some was) (Some now) = slot_changes was now
 changes_between _ _ = []
 
--- what is told of each number of a slot or group, ascending
+-- the lines for each number of a slot or group, ascending
 abbrev pub each_number : (ℕ → List Line) → List Line
 each_number f = flat_map f (range_with_len 0 64)
 
@@ -69,7 +69,7 @@ slots_changed was now = each_number (λ n. changes_between (slot_at was n) (slot
 abbrev pub queued_at : Core → Core → ℕ → List Line
 queued_at was now h = map (Queues h) (drop (length (queue_at was h)) (queue_at now h))
 
--- the queue is shorter: its first event was read
+-- the read of a queue's first event, if the queue is shorter now
 abbrev pub read_at : Core → Core → ℕ → List Line
 read_at was now h = if nat_lt (length (queue_at now h)) (length (queue_at was h)) then Reads h ∷ [] else []
 
@@ -87,7 +87,7 @@ pages_mapped was now = flat_map (λ page. if is_mapped was page.0 then [] else M
 abbrev pub pages_removed : Memory → Memory → List Line
 pages_removed was now = flat_map (λ page. if is_mapped now page.0 then [] else Removes page.0 ∷ []) was.pages
 
--- the cells of a page that was mapped before
+-- the changed cells of a page that was mapped before
 abbrev pub cells_changed_in : Option (List Cell) → ℕ × List Cell → List Line
 cells_changed_in None page = []
 cells_changed_in (Some was) page = map (λ c. Sets c.0 c.1) (changes_from (page.0 * 4096) page.1 was)
@@ -95,7 +95,7 @@ cells_changed_in (Some was) page = map (λ c. Sets c.0 c.1) (changes_from (page.
 abbrev pub cells_changed : Memory → Memory → List Line
 cells_changed was now = flat_map (λ page. cells_changed_in (page_at was page.0) page) now.pages
 
--- 4. All that differs, in the order of the log.
+-- 4. All differences, in the order of the log.
 unfoldable pub changes : State → State → List Line
 changes was now =
     slots_changed was.core now.core ++ each_number (queued_at was.core now.core)

@@ -7,12 +7,12 @@ use Rattle.mm_model.specs.Run.{run}
 use Rattle.mm_log.specs.Log.{log}
 use Rattle.mm_log.specs.Replay.{replay}
 
--- a state but for its number of cycles
+-- a state except for its number of cycles
 abbrev pub but_cycles : State → State
 but_cycles s = record s { cycles = 0 }
 
--- The lines up to any cycle are a front part of the log; carried out from the machine's start, they make the state that
--- the items up to that cycle make, but for the number of cycles.
+-- The lines up to any cycle are a prefix of the log. Carried out from the machine's start, they make the state that the
+-- items up to that cycle make, except for the number of cycles.
 pub record Replays (i : Image) (items later : List ℕ) : Type 0 where
   pub front : log (start i) (items ++ later) ≡ log (start i) items ++ log (run (start i) items) later
   pub state : but_cycles (replay (start i) (log (start i) items)) ≡ but_cycles (run (start i) items)

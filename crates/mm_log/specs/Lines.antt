@@ -14,7 +14,7 @@ use Rattle.mm_model.specs.Lines.{newline, word_text, state_text, past_text, cell
 use Rattle.mm_model.specs.Trace.{step_line}
 
 pub data Line : Type 0 where
-  -- the line of a cycle in a trace, after which its slot has taken so many turns
+  -- the line of a cycle in a trace, and the number of turns that its slot has taken after it
   Traced : (turns : ℕ) (step : Step) → Line
   -- a slot's instruction pointer, and whether it is past its segment
   Points : (slot : ℕ) (ip : Pointer) (past : Bool) → Line
@@ -32,17 +32,18 @@ pub data Line : Type 0 where
   Reads : (handler : ℕ) → Line
   -- a group puts out a byte
   Puts : (group : ℕ) (byte : ℕ) → Line
-  -- a page is mapped, or removed
+  -- a page is mapped
   Maps : (page : ℕ) → Line
+  -- a page is removed
   Removes : (page : ℕ) → Line
   -- the cell of a word
   Sets : (word : ℕ) (cell : Cell) → Line
 
--- how a line of a register begins, up to its word
+-- the prefix of a register's line, up to its word
 abbrev pub register_text : ℕ → ℕ → List ℕ
 register_text slot reg = codes "r " ++ decimal slot ++ codes " " ++ decimal reg ++ codes " "
 
--- slot, cause, instruction pointer, address operand and data operand of an event
+-- the slot, cause, instruction pointer, address operand and data operand of an event
 abbrev pub event_text : Event → List ℕ
 event_text e =
     decimal e.slot ++ codes " " ++ decimal (number_of e.cause) ++ codes " " ++ word_text (Ptr e.ip) ++ codes " "

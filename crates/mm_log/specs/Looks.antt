@@ -1,4 +1,4 @@
--- What a turn comes to, before it is taken.
+-- What a turn comes to, as it is before the turn.
 use Rattle.std.specs.Prelude.{ℕ, ◌-◌, nat_le, nat_lt, if◌then◌else◌, pos, length, Option, Some, None, Result, Ok, Err}
 use Rattle.mm_word.specs.declared.perm.Kind.TheVariants.{Fetch}
 use Rattle.mm_word.specs.declared.cause.Cause.{Cause}
@@ -18,7 +18,7 @@ use Rattle.mm_log.specs.declared.before.There.{There}
 use Rattle.mm_log.specs.declared.before.There.TheVariants as there
 use Rattle.mm_log.specs.declared.before.Before.{Before}
 
--- the slot that an item names, or whose port it is
+-- the given slot or, if there is none, the slot whose port an item is
 abbrev pub or_port : Core → ℕ → Option Slot → Option Slot
 or_port core n (Some s) = Some s
 or_port core n None = if nat_le 128 n then slot_at core (n - 128) else None
@@ -26,7 +26,7 @@ or_port core n None = if nat_le 128 n then slot_at core (n - 128) else None
 abbrev pub own_of : Core → ℕ → Option Slot
 own_of core n = or_port core n (slot_at core n)
 
--- the instruction that a cell holds
+-- the instruction that a cell holds, if it holds one
 abbrev pub in_cell : Option Cell → Option Instr
 in_cell None = None
 in_cell (Some c) = instr_in c.word
@@ -35,15 +35,16 @@ abbrev pub found_by : Memory → Result Touch Cause → Option Instr
 found_by m (Err c) = None
 found_by m (Ok f) = in_cell (cell_at m f.addr)
 
--- the instruction that the turn of a slot comes to, if it does not fault before
+-- the instruction that the turn of a slot comes to, if the turn does not fault before
 abbrev pub comes_to : Memory → Slot → Option Instr
 comes_to m s = if s.past then None else found_by m (check_result (Ptr s.ip) (pos 0) Fetch)
 
--- the operands of the event of a fault
+-- the address operand of the event of a fault
 abbrev pub address_told : Option Instr → Slot → Word
 address_told None s = Int 0
 address_told (Some i) s = addr_operand i s
 
+-- the data operand of the event of a fault
 abbrev pub value_told : Option Instr → Slot → Word
 value_told None s = Int 0
 value_told (Some i) s = value_operand i s
@@ -56,7 +57,7 @@ abbrev pub slot_there : Option Slot → There
 slot_there None = there.Nothing
 slot_there (Some s) = there.Slot s
 
--- what an instruction asks for besides its slot, as it stands
+-- what an instruction asks for besides its slot, as it is before the turn
 abbrev pub there_at : Core → Memory → Ask → There
 there_at core m (Reach a pre) = cell_there a (cell_at m a.addr)
 there_at core m (MapPage p) = there.Page p (is_mapped m p)
@@ -68,7 +69,7 @@ abbrev pub there_for : Core → Memory → Option Instr → Slot → There
 there_for core m None s = there.Nothing
 there_for core m (Some i) s = there_at core m (ask i s)
 
--- what the cycle of an item of this slot can change, as it stands before
+-- what the cycle of an item of this slot can change, as it is before the cycle
 abbrev pub looked_at : Core → Memory → Slot → Before
 looked_at core m s = record {
   own = s;
@@ -81,6 +82,6 @@ abbrev pub looks_at : Core → Memory → Option Slot → Option Before
 looks_at core m None = None
 looks_at core m (Some s) = Some (looked_at core m s)
 
--- nothing where the item names no slot and no port of one
+-- what the cycle of an item can change; nothing if the item names no slot and is no slot's port
 abbrev pub looks : Core → Memory → ℕ → Option Before
 looks core m n = looks_at core m (own_of core n)

@@ -1,11 +1,10 @@
--- The registers and the number that the operands of an instruction name for an event, gathered one operand after the
--- other.
+-- The registers and the number that the operands of an instruction name for an event, gathered operand by operand.
 use Rattle.std.specs.Prelude.{Some, pos}
 use Rattle.mm_isa.specs.declared.operand.Operand.{Operand}
 use Rattle.mm_isa.specs.declared.operand.Operand.TheVariants.{Ra, Rb, Imm, Distance, RegisterNumber}
 use Rattle.mm_log.specs.declared.operands.Named.{Named}
 
--- with one operand more
+-- what operands name, with one more operand
 abbrev pub named_too : Named → Operand → Named
 named_too n (Ra r) = record n { ra = Some r }
 named_too n (Rb r) = record n { rb = Some r }

@@ -1,4 +1,4 @@
--- The state that another becomes when the lines of a log are carried out.
+-- The state that results when the lines of a log are carried out on a state.
 use Rattle.std.specs.Prelude.{ℕ, Bool, true, false, ◌==◌, if◌then◌else◌, List, [], ◌∷◌, ◌++◌, map, slice_set}
 use Rattle.mm_word.specs.declared.word.Word.{Word}
 use Rattle.mm_word.specs.declared.word.Word.TheVariants.{Int}
@@ -13,14 +13,14 @@ use Rattle.mm_log.specs.Lines.{Line}
 use Rattle.mm_log.specs.Lines.Line.{Traced, Points, Stands, Holds, Empties, Issues, Queues, Reads, Puts, Maps, Removes}
 use Rattle.mm_log.specs.Lines.Line.{Sets}
 
--- 1. What is changed of one slot.
+-- 1. Changes of one slot.
 
--- without the first load for a register
+-- pending loads without the first one for a register
 abbrev pub without_load : ℕ → List Pending → List Pending
 without_load r [] = []
 without_load r (p ∷ loads) = if p.reg == r then loads else p ∷ without_load r loads
 
--- a register holds a word; where it waited for a load, that load is pending no more
+-- a register holds a word; if it waited for a load, that load is no longer pending
 abbrev pub holding : ℕ → Word → Slot → Slot
 holding r w s = record s {
   regs = slice_set s.regs r w;
@@ -32,7 +32,7 @@ holding r w s = record s {
 abbrev pub emptied : ℕ → Slot → Slot
 emptied r s = record s { regs = slice_set s.regs r (Int 0); empty = slice_set s.empty r true }
 
--- whether a cycle that ends so is a turn of its slot
+-- whether a cycle with this end is a turn of its slot
 abbrev pub is_turn : Tick → Bool
 is_turn Did = true
 is_turn Blocked = true
@@ -43,15 +43,15 @@ abbrev pub with_turns : Bool → ℕ → Slot → Slot
 with_turns true turns s = record s { turns = turns }
 with_turns false turns s = s
 
--- 2. What is changed of a state.
+-- 2. Changes of a state.
 
--- of the slot of a number
+-- a state with the slot of this number changed
 abbrev pub on_slot : State → ℕ → (Slot → Slot) → State
 on_slot s n change = record s {
   core = record s.core { rows = map (at_number n (λ row. record row { slot = change row.slot })) s.core.rows };
 }
 
--- of its queue
+-- a state with the queue of this number changed
 abbrev pub on_queue : State → ℕ → (List Event → List Event) → State
 on_queue s n change = record s {
   core = record s.core { rows = map (at_number n (λ row. record row { queue = change row.queue })) s.core.rows };
@@ -61,7 +61,7 @@ abbrev pub without_first : List Event → List Event
 without_first [] = []
 without_first (e ∷ events) = events
 
--- what a line makes of a state
+-- the state after a line is carried out
 unfoldable pub carry_out : State → Line → State
 carry_out s (Traced turns step) = on_slot s step.slot (with_turns (is_turn step.tick) turns)
 carry_out s (Points n p b) = on_slot s n (λ x. record x { ip = p; past = b })
@@ -76,7 +76,7 @@ carry_out s (Maps p) = record s { memory = map_page s.memory p }
 carry_out s (Removes p) = record s { memory = unmap_page s.memory p }
 carry_out s (Sets w c) = record s { memory = put_cell s.memory w c }
 
--- what lines make of a state, in their order
+-- the state after lines are carried out in their order
 unfoldable pub replay : State → List Line → State
 replay s [] = s
 replay s (line ∷ lines) = replay (carry_out s line) lines

@@ -1,4 +1,4 @@
--- What is told of a cycle, from what was looked at before it.
+-- The lines of what a cycle changed, given what the look before it found.
 use Rattle.std.specs.Prelude.{ℕ, ◌/◌, ◌%◌, Bool, ◌&&◌, nat_lt, not, if◌then◌else◌, List, [], ◌∷◌, ◌++◌, drop, map}
 use Rattle.std.specs.Prelude.{Option, Some, None}
 use Rattle.mm_word.specs.declared.cause.Cause.{Cause}
@@ -22,16 +22,16 @@ use Rattle.mm_log.specs.Lines.Line.{Stands, Queues, Reads, Puts, Maps, Removes, 
 use Rattle.mm_log.specs.Changes.{changes_between}
 use Rattle.mm_log.specs.Looks.{address_told, value_told}
 
--- what changed of a slot
+-- the changes of a slot
 abbrev pub seen_of : Core → Slot → List Line
 seen_of later was = changes_between (Some was) (slot_at later was.number)
 
--- what is told of two slots, the lesser number first; of one alone where they are the same
+-- the lines of two slots, those of the lesser number first; those of one alone if the slots are the same
 abbrev pub in_order : ℕ → ℕ → List Line → List Line → List Line
 in_order own other first second =
     (if nat_lt other own then second else []) ++ first ++ (if nat_lt own other then second else [])
 
--- the slot of an event that was read, which the first register names
+-- the slot of an event that was read; the first register that it was read into names it
 abbrev pub slot_in : ℕ → Option Slot → Option ℕ
 slot_in rd None = None
 slot_in rd (Some now) = Some (word_bits (register now rd) / 256 % 256)
@@ -56,7 +56,7 @@ with_there later b tick _ = with_taken later b.own (read_in b.instr tick (slot_a
 abbrev pub slots_seen : Core → Before → Tick → List Line
 slots_seen later b tick = with_there later b tick b.there
 
--- the event that was queued
+-- the event that a fault queued, if there is a handler
 abbrev pub queued_for : Option Instr → Slot → Cause → Option ℕ → List Line
 queued_for instr s c None = []
 queued_for instr s c (Some h) = Queues h (event_of s c (address_told instr s) (value_told instr s)) ∷ []
@@ -100,7 +100,7 @@ seen later b tick =
     slots_seen later.core b tick ++ queued_seen b tick ++ read_seen b.instr b.own.number tick ++ out_seen later.core b
     ++ (page_seen later.memory b.there ++ cell_seen later.memory b.there)
 
--- nothing where nothing was looked at
+-- the lines of what a cycle changed; no line if the look before it found no slot
 abbrev pub seen_by : State → Option Before → Tick → List Line
 seen_by later None tick = []
 seen_by later (Some b) tick = seen later b tick

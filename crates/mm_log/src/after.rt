@@ -1,4 +1,4 @@
-//! What changed after a cycle.
+//! The lines of what a cycle changed.
 #![tactic(auto)]
 
 ghost use Rattle.std.specs.Prelude.{◌≡◌, ◌/◌, ◌%◌, ◌&&◌, ◌++◌, ◌∷◌, [], drop, nat_lt, not, if◌then◌else◌, Some};
@@ -33,7 +33,7 @@ use mm_model::{Event, Slot, SlotState, Tick};
 use mm_text::Gather;
 use mm_word::{Access, Cause, Cell};
 
-/// Appends the lines of what changed of a slot.
+/// Appends the lines of a slot's changes.
 fn put_own<M: Memory, O: Sink>(text: &mut Gather, out: &mut O, machine: &Machine<M>, was: &Slot)
     ensures { Gathers O.taken O.faults out.old out.new text.old text.new
         (text_of (seen_of (state_of machine.now).core was.now)) }
@@ -43,14 +43,14 @@ fn put_own<M: Memory, O: Sink>(text: &mut Gather, out: &mut O, machine: &Machine
     }
 }
 
-/// The slot of an event that was read, which the first register names.
+/// The slot of an event that was read. The first register that the event was read into names it.
 fn slot_in(register: EvtReg, now: &Slot) -> u8
     ensures { result ≡ word_bits (register_of now.now register) / 256 % 256 }
 {
     (now.register(register.number()).bits() / 256 % 256) as u8
 }
 
-/// The slot of the event that an instruction read.
+/// The slot of the event that an instruction read, if it is one that reads.
 fn read_by(instr: &Option<Instr>, now: &Slot) -> Option<u8>
     ensures { result ≡ read_by_of instr.now (Some now.now) }
 {
@@ -60,7 +60,7 @@ fn read_by(instr: &Option<Instr>, now: &Slot) -> Option<u8>
     }
 }
 
-/// The number of the slot whose event a turn read.
+/// The slot of the event that a turn read, if it read one.
 fn read_slot<M: Memory>(
     machine: &Machine<M>,
     own: &Slot,
@@ -78,7 +78,7 @@ fn read_slot<M: Memory>(
     }
 }
 
-/// Appends the lines of what changed of a slot, where it has the lesser number.
+/// Appends the lines of the changes of `was`, if its number is less than that of `own`.
 fn put_own_before<M: Memory, O: Sink>(
     text: &mut Gather,
     out: &mut O,
@@ -94,7 +94,7 @@ fn put_own_before<M: Memory, O: Sink>(
     }
 }
 
-/// Appends the lines of what changed of a slot, where it has the greater number.
+/// Appends the lines of the changes of `was`, if its number is greater than that of `own`.
 fn put_own_behind<M: Memory, O: Sink>(
     text: &mut Gather,
     out: &mut O,
@@ -110,7 +110,7 @@ fn put_own_behind<M: Memory, O: Sink>(
     }
 }
 
-/// Appends the lines of what changed of two slots.
+/// Appends the lines of the changes of two slots, ascending by number.
 fn put_two<M: Memory, O: Sink>(
     text: &mut Gather,
     out: &mut O,
@@ -127,7 +127,7 @@ fn put_two<M: Memory, O: Sink>(
     put_own_behind(text, out, machine, other, own);
 }
 
-/// Appends the line of a slot that was taken, where it has the lesser number.
+/// Appends the line of a taken slot, if its number is less than that of `own`.
 fn put_taken_before<O: Sink>(text: &mut Gather, out: &mut O, slot: u8, own: &Slot)
     ensures { Gathers O.taken O.faults out.old out.new text.old text.new
         (text_of (if nat_lt slot own.now.number then Stands slot Taken ∷ [] else [])) }
@@ -137,7 +137,7 @@ fn put_taken_before<O: Sink>(text: &mut Gather, out: &mut O, slot: u8, own: &Slo
     }
 }
 
-/// Appends the line of a slot that was taken, where it has the greater number.
+/// Appends the line of a taken slot, if its number is greater than that of `own`.
 fn put_taken_behind<O: Sink>(text: &mut Gather, out: &mut O, slot: u8, own: &Slot)
     ensures { Gathers O.taken O.faults out.old out.new text.old text.new
         (text_of (if nat_lt own.now.number slot then Stands slot Taken ∷ [] else [])) }
@@ -147,7 +147,7 @@ fn put_taken_behind<O: Sink>(text: &mut Gather, out: &mut O, slot: u8, own: &Slo
     }
 }
 
-/// Appends the lines of what changed of a slot, and that of another that was taken.
+/// Appends the lines of a slot's changes and the line of a taken slot, ascending by number.
 fn put_both<M: Memory, O: Sink>(
     text: &mut Gather,
     out: &mut O,
@@ -217,7 +217,7 @@ fn event_of(slot: &Slot, instr: &Option<Instr>, cause: Cause) -> Event
     }
 }
 
-/// Appends the line of the event that was queued.
+/// Appends the line of the event that a fault queued, if one was queued.
 fn put_queued<O: Sink>(text: &mut Gather, out: &mut O, before: &Before, tick: Tick)
     ensures { Gathers O.taken O.faults out.old out.new text.old text.new (text_of (queued_seen before.now tick)) }
 {
@@ -231,7 +231,7 @@ fn put_queued<O: Sink>(text: &mut Gather, out: &mut O, before: &Before, tick: Ti
     put_event(text, out, handler, &event);
 }
 
-/// Appends the line of the event that an instruction read.
+/// Appends the line of the event that an instruction read, if it is one that reads.
 fn put_read_by<O: Sink>(text: &mut Gather, out: &mut O, instr: &Option<Instr>, own: u8)
     ensures { Gathers O.taken O.faults out.old out.new text.old text.new (text_of (read_own instr.now own)) }
 {
@@ -240,7 +240,7 @@ fn put_read_by<O: Sink>(text: &mut Gather, out: &mut O, instr: &Option<Instr>, o
     }
 }
 
-/// Appends the line of the event that was read.
+/// Appends the line of the event that a turn read, if it read one.
 fn put_read<O: Sink>(text: &mut Gather, out: &mut O, before: &Before, tick: Tick)
     ensures { Gathers O.taken O.faults out.old out.new text.old text.new
         (text_of (read_seen before.now.instr before.now.own.number tick)) }
@@ -260,7 +260,7 @@ fn put_bytes<O: Sink>(text: &mut Gather, out: &mut O, group: u8, bytes: &[u8])
     }
 }
 
-/// Appends the lines of the bytes that were put out.
+/// Appends the lines of the bytes that the slot's group put out.
 fn put_out<M: Memory, O: Sink>(
     text: &mut Gather,
     out: &mut O,
@@ -278,7 +278,7 @@ fn put_out<M: Memory, O: Sink>(
     }
 }
 
-/// Appends the line of a page that was mapped, where it was.
+/// Appends the line that a page was mapped, if it is mapped now and was not before.
 fn put_mapped<O: Sink>(text: &mut Gather, out: &mut O, page: u64, was: bool, now: bool)
     ensures { Gathers O.taken O.faults out.old out.new text.old text.new
         (text_of (if now && not was then Maps page ∷ [] else [])) }
@@ -288,7 +288,7 @@ fn put_mapped<O: Sink>(text: &mut Gather, out: &mut O, page: u64, was: bool, now
     }
 }
 
-/// Appends the line of a page that was removed, where it was.
+/// Appends the line that a page was removed, if it was mapped before and is not now.
 fn put_removed<O: Sink>(text: &mut Gather, out: &mut O, page: u64, was: bool, now: bool)
     ensures { Gathers O.taken O.faults out.old out.new text.old text.new
         (text_of (if was && not now then Removes page ∷ [] else [])) }
@@ -298,7 +298,7 @@ fn put_removed<O: Sink>(text: &mut Gather, out: &mut O, page: u64, was: bool, no
     }
 }
 
-/// Appends the line of a page that was mapped or removed.
+/// Appends the line of a page that was mapped or removed, if it was.
 fn put_page<O: Sink>(text: &mut Gather, out: &mut O, page: u64, was: bool, now: bool)
     ensures { Gathers O.taken O.faults out.old out.new text.old text.new (text_of (page_told page was now)) }
 {
@@ -306,7 +306,7 @@ fn put_page<O: Sink>(text: &mut Gather, out: &mut O, page: u64, was: bool, now: 
     put_removed(text, out, page, was, now);
 }
 
-/// Appends the line of a cell that changed.
+/// Appends the line of a cell, if the cell changed.
 fn put_changed<O: Sink>(text: &mut Gather, out: &mut O, word: u64, was: &Cell, now: &Cell)
     ensures { Gathers O.taken O.faults out.old out.new text.old text.new
         (text_of (cell_now word was.now (Some now.now))) }
@@ -316,7 +316,7 @@ fn put_changed<O: Sink>(text: &mut Gather, out: &mut O, word: u64, was: &Cell, n
     }
 }
 
-/// Appends the line of the cell of an access, where it changed.
+/// Appends the line of the cell of an access, if the cell changed.
 fn put_reached<M: Inspect, O: Sink>(
     text: &mut Gather,
     out: &mut O,
@@ -332,7 +332,7 @@ fn put_reached<M: Inspect, O: Sink>(
     }
 }
 
-/// Appends the lines of what changed of the memory.
+/// Appends the lines of the changes of the memory.
 fn put_memory<M: Inspect, O: Sink>(
     text: &mut Gather,
     out: &mut O,
@@ -350,7 +350,7 @@ fn put_memory<M: Inspect, O: Sink>(
     }
 }
 
-/// Appends the lines of what a cycle changed, of what was looked at before it.
+/// Appends the lines of what a cycle changed, given what the look before it found.
 fn put_seen<M: Inspect, O: Sink>(
     text: &mut Gather,
     out: &mut O,
@@ -368,7 +368,7 @@ fn put_seen<M: Inspect, O: Sink>(
     put_memory(text, out, machine, &before.there);
 }
 
-/// Appends the lines of what a cycle changed; none where nothing was looked at.
+/// Appends the lines of what a cycle changed. Appends nothing if the look before it found no slot.
 pub(crate) fn put_changes<M: Inspect, O: Sink>(
     text: &mut Gather,
     out: &mut O,

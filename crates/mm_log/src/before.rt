@@ -1,4 +1,4 @@
-//! What the cycle of an item can change, as it stands before.
+//! What the cycle of an item can change, as it is before the cycle.
 
 ghost use Rattle.std.specs.Prelude.{◌≡◌, ◌-◌, nat_le, nat_lt, if◌then◌else◌, None};
 ghost use Rattle.std.specs.Option.{option_copied};
@@ -20,7 +20,7 @@ use mm_mem::{Inspect, Memory};
 use mm_model::Slot;
 use mm_word::{Access, Cause, Cell, Kind, Perm, Post, Word, check};
 
-/// What an instruction asks for besides its slot, as it stands.
+/// What an instruction asks for besides its slot, as it is before the turn.
 #[derive(Drop)]
 pub(crate) enum There {
     Nothing,
@@ -32,20 +32,20 @@ pub(crate) enum There {
     Slot(Slot),
 }
 
-/// What the cycle of an item can change, as it stands before.
+/// What the cycle of an item can change, as it is before the cycle.
 #[derive(Drop)]
 pub(crate) struct Before {
-    /// The slot that the item names or whose port it is.
+    /// The slot that the item names, or whose port the item is.
     pub own: Slot,
-    /// The instruction that its turn comes to.
+    /// The instruction that the slot's turn comes to.
     pub instr: Option<Instr>,
-    /// What that asks for besides its slot.
+    /// What the instruction asks for besides its slot.
     pub there: There,
-    /// How many bytes the slot's group has put out.
+    /// The number of bytes that the slot's group has put out.
     pub output: usize,
 }
 
-/// The slot that an item names or whose port it is.
+/// The slot that an item names, or whose port the item is.
 fn slot_of<M: Memory>(machine: &Machine<M>, item: u8) -> Option<&Slot>
     ensures { option_copied result ≡ own_of (state_of machine.now).core item }
 {
@@ -55,7 +55,7 @@ fn slot_of<M: Memory>(machine: &Machine<M>, item: u8) -> Option<&Slot>
     }
 }
 
-/// The slot whose port an item is.
+/// The slot whose port an item is, if there is one.
 fn port_of<M: Memory>(machine: &Machine<M>, item: u8) -> Option<&Slot>
     ensures { option_copied result
         ≡ (if nat_le 128 item then slot_at (state_of machine.now).core (item - 128) else None) }
@@ -66,7 +66,7 @@ fn port_of<M: Memory>(machine: &Machine<M>, item: u8) -> Option<&Slot>
     machine.slot(item - 128)
 }
 
-/// The instruction that a word spells.
+/// The instruction that a word spells, if it spells one.
 fn instruction_in(word: Word) -> Option<Instr>
     ensures { result ≡ instr_in word }
 {
@@ -83,7 +83,7 @@ pub(crate) fn cell_of<M: Inspect>(machine: &Machine<M>, access: Access) -> Optio
     machine.memory().peek(access.addr())
 }
 
-/// The instruction that the cell of an access holds.
+/// The instruction that the cell of an access holds, if it holds one.
 fn instruction_at<M: Inspect>(machine: &Machine<M>, access: Access) -> Option<Instr>
     ensures { result ≡ in_cell (cell_at (state_of machine.now).memory access.addr) }
 {
@@ -93,7 +93,7 @@ fn instruction_at<M: Inspect>(machine: &Machine<M>, access: Access) -> Option<In
     }
 }
 
-/// The instruction that the turn of a slot comes to, if it does not fault before.
+/// The instruction that the turn of a slot comes to, if the turn does not fault before.
 fn instruction_of<M: Inspect>(machine: &Machine<M>, slot: &Slot) -> Option<Instr>
     ensures { result ≡ comes_to (state_of machine.now).memory slot.now }
 {
@@ -106,7 +106,7 @@ fn instruction_of<M: Inspect>(machine: &Machine<M>, slot: &Slot) -> Option<Instr
     }
 }
 
-/// The cell of an access.
+/// The cell of an access as what an instruction asks for; nothing if the cell's page is not mapped.
 fn cell_there<M: Inspect>(machine: &Machine<M>, access: Access) -> There
     ensures { result ≡ cell_there_of access (cell_at (state_of machine.now).memory access.addr) }
 {
@@ -151,7 +151,7 @@ pub(crate) fn is_mapped<M: Inspect>(machine: &Machine<M>, page: u64) -> bool
     page < 1 << 42 && memory.peek(page * 4096).is_some()
 }
 
-/// A page, where the slot is privileged and there can be such a page.
+/// A page, if the slot is privileged and such a page can exist.
 fn page_there<M: Inspect>(machine: &Machine<M>, slot: &Slot, page: u64) -> There
     ensures { result ≡ there_at (state_of machine.now).core (state_of machine.now).memory
         (page_asked slot.now.ip.perm page (MapPage page)) }
@@ -162,7 +162,7 @@ fn page_there<M: Inspect>(machine: &Machine<M>, slot: &Slot, page: u64) -> There
     There::Page(page, is_mapped(machine, page))
 }
 
-/// The slot of a number.
+/// The slot with this number, if it exists.
 fn slot_there<M: Memory>(machine: &Machine<M>, number: u64) -> There
     ensures { result ≡ (if nat_lt number 64 then slot_there_of (slot_at (state_of machine.now).core number) else
         there.Nothing) }
@@ -176,7 +176,7 @@ fn slot_there<M: Memory>(machine: &Machine<M>, number: u64) -> There
     }
 }
 
-/// What an instruction asks for besides its slot, as it stands.
+/// What an instruction asks for besides its slot, as it is before the turn.
 #[tactic(auto, unfolding(mm_model::specs::Ask::ask))]
 fn asked_there<M: Inspect>(machine: &Machine<M>, slot: &Slot, instr: &Instr) -> There
     ensures { result ≡ there_at (state_of machine.now).core (state_of machine.now).memory (ask instr.now slot.now) }
@@ -224,7 +224,7 @@ fn look_at<M: Inspect>(machine: &Machine<M>, slot: &Slot) -> Before
     }
 }
 
-/// What the cycle of an item can change; nothing where the item names no slot and no port of one.
+/// What the cycle of an item can change. `None` if the item names no slot and is no slot's port.
 pub(crate) fn look<M: Inspect>(machine: &Machine<M>, item: u8) -> Option<Before>
     ensures { result ≡ looks (state_of machine.now).core (state_of machine.now).memory item }
 {

@@ -1,4 +1,4 @@
-//! The commit log of a run: the line of each turn, and behind it all that the turn changed.
+//! The commit log of a run: the line of each turn, followed by all that the turn changed.
 #![tactic(auto)]
 
 mod after;

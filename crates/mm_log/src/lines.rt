@@ -153,7 +153,7 @@ pub(crate) fn put_set<O: Sink>(text: &mut Gather, out: &mut O, word: u64, cell: 
     put_cell(text, out, word, cell);
 }
 
-// Appends a line's name with its blank, a number and a blank.
+// Appends a line's name, which ends in a blank, then a number and a blank.
 fn put_front<O: Sink>(text: &mut Gather, out: &mut O, name: &str, number: u8)
     ensures { Gathers O.taken O.faults out.old out.new text.old text.new (name.now ++ decimal number ++ codes " ") }
 {
@@ -174,7 +174,7 @@ fn put_end<O: Sink>(text: &mut Gather, out: &mut O, past: bool)
     text.put_piece(out, &Piece::Text(if past { " past\n" } else { "\n" }));
 }
 
-// Appends slot, cause, instruction pointer, address operand and data operand of an event.
+// Appends the slot, cause, instruction pointer, address operand and data operand of an event.
 fn put_told<O: Sink>(text: &mut Gather, out: &mut O, event: &Event)
     ensures { Gathers O.taken O.faults out.old out.new text.old text.new (event_text event.now) }
 {
@@ -186,7 +186,7 @@ fn put_told<O: Sink>(text: &mut Gather, out: &mut O, event: &Event)
     put_word(text, out, event.value_op);
 }
 
-// Appends the number of a slot and that of its fault, each with a blank.
+// Appends the number of a slot and the number of its fault, each followed by a blank.
 fn put_fault<O: Sink>(text: &mut Gather, out: &mut O, slot: u8, cause: Cause)
     ensures { Gathers O.taken O.faults out.old out.new text.old text.new
         (decimal slot ++ codes " " ++ decimal (number_of cause) ++ codes " ") }
@@ -202,7 +202,7 @@ fn put_fault<O: Sink>(text: &mut Gather, out: &mut O, slot: u8, cause: Cause)
     );
 }
 
-// Appends the front of a register's line.
+// Appends the prefix of a register's line.
 fn put_register_front<O: Sink>(text: &mut Gather, out: &mut O, slot: u8, register: u8)
     ensures { Gathers O.taken O.faults out.old out.new text.old text.new (register_text slot register) }
 {

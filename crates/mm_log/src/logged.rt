@@ -19,7 +19,8 @@ use mm_report::put_step;
 use mm_sched::{Order, Robin};
 use mm_text::Gather;
 
-/// Issues so many cycles in an order, fewer where its items end or no slot runs, and appends the lines of each.
+/// Issues up to `count` cycles in an order, and appends the lines of each. Stops early if the items end or no slot
+/// runs.
 pub fn issue_logged<M: Inspect, O: Sink>(
     machine: &mut Machine<M>,
     order: &Order,
@@ -43,7 +44,7 @@ pub fn issue_logged<M: Inspect, O: Sink>(
     }
 }
 
-/// One cycle, and its lines.
+/// Makes one cycle, and appends its lines.
 fn cycle_logged<M: Inspect, O: Sink>(
     machine: &mut Machine<M>,
     item: u8,
@@ -64,7 +65,7 @@ fn cycle_logged<M: Inspect, O: Sink>(
     put_changes(text, out, machine, &before, step.tick);
 }
 
-/// How many turns a slot has taken; none where it is not there.
+/// The number of turns that a slot has taken; zero if the slot is not there.
 fn turns_of<M: Memory>(machine: &Machine<M>, slot: u8) -> u64
     ensures { result ≡ turns_of_slot (slot_at (state_of machine.now).core slot) }
 {
@@ -92,7 +93,7 @@ fn log_list<M: Inspect, O: Sink>(
     }
 }
 
-/// Issues so many cycles of round robin, fewer only where no slot runs, and appends the lines of each.
+/// Issues up to `count` cycles of round robin, and appends the lines of each. Stops early only if no slot runs.
 fn log_robin<M: Inspect, O: Sink>(
     machine: &mut Machine<M>,
     count: u64,

@@ -1,4 +1,4 @@
-//! The operands of an instruction that an event tells.
+//! The operands of an instruction that an event holds.
 #![tactic(auto, unfolding(mm_model::specs::Operands::addr_operand, mm_model::specs::Operands::value_operand))]
 
 ghost use Rattle.std.specs.Prelude.{◌≡◌};
@@ -10,12 +10,12 @@ use mm_isa::{Instr, Operand, Reg, Visitor};
 use mm_model::Slot;
 use mm_word::Word;
 
-// What an instruction names, made from its row.
+// What an instruction names for an event, made from its row.
 #[derive(Clone, Copy)]
 struct Named {
     ra: Option<Reg>,
     rb: Option<Reg>,
-    // The number of imm, 0 where the operation has none.
+    // The number of `imm`; 0 if the operation has none.
     imm: i64,
 }
 
@@ -69,7 +69,7 @@ fn names(instr: &Instr) -> Named
     })
 }
 
-// The word of a register that is named.
+// The word of a register.
 fn word_in(slot: &Slot, register: Reg) -> Word
     ensures { result ≡ register_of slot.now register }
 {
@@ -95,7 +95,7 @@ fn data_operand(instr: &Instr, slot: &Slot) -> Word
     }
 }
 
-/// The address operand of the event of a fault: the word of ra, else integer 0.
+/// The address operand of the event of a fault: the word of `ra` if the instruction names one, else integer 0.
 pub(crate) fn address_told(instr: &Option<Instr>, slot: &Slot) -> Word
     ensures { result ≡ address_told_of instr.now slot.now }
 {
@@ -105,7 +105,8 @@ pub(crate) fn address_told(instr: &Option<Instr>, slot: &Slot) -> Word
     }
 }
 
-/// Its data operand: the word of rb, else the number of imm; integer 0 where there is no instruction.
+/// The data operand of the event of a fault: the word of `rb` if the instruction names one, else the number of `imm`.
+/// Integer 0 if there is no instruction.
 pub(crate) fn value_told(instr: &Option<Instr>, slot: &Slot) -> Word
     ensures { result ≡ value_told_of instr.now slot.now }
 {

@@ -1,4 +1,4 @@
-//! What changed of a slot.
+//! The lines of a slot's changes.
 #![tactic(auto)]
 
 ghost use Rattle.std.specs.Prelude.{◌≡◌, ◌<◌, drop, length};
@@ -19,14 +19,14 @@ use mm_model::{Pending, Slot, SlotState};
 use mm_text::Gather;
 use mm_word::{GuardedPtr, Word};
 
-// Whether tag and bits of two words are equal.
+// Whether two words are equal in tag and bits.
 pub(crate) fn is_same_word(a: Word, b: Word) -> bool
     ensures { result ≡ same_word_of a b }
 {
     a == b
 }
 
-// Whether the bits of two pointers are equal.
+// Whether two pointers are equal in bits.
 fn is_same_pointer(a: GuardedPtr, b: GuardedPtr) -> bool
     ensures { result ≡ same_word_of (Ptr a) (Ptr b) }
 {
@@ -52,7 +52,7 @@ fn is_same_state(a: SlotState, b: SlotState) -> bool
     }
 }
 
-/// Appends the line of the instruction pointer, where it or `past` changed.
+/// Appends the line of the instruction pointer, if the pointer or `past` changed.
 fn put_pointer_change<O: Sink>(text: &mut Gather, out: &mut O, was: &Slot, now: &Slot)
     ensures { Gathers O.taken O.faults out.old out.new text.old text.new (text_of (pointer_changes was.now now.now)) }
 {
@@ -61,7 +61,7 @@ fn put_pointer_change<O: Sink>(text: &mut Gather, out: &mut O, was: &Slot, now: 
     }
 }
 
-/// Appends the line of the state, where it changed.
+/// Appends the line of the state, if the state changed.
 fn put_state_change<O: Sink>(text: &mut Gather, out: &mut O, was: &Slot, now: &Slot)
     ensures { Gathers O.taken O.faults out.old out.new text.old text.new (text_of (state_changes was.now now.now)) }
 {
@@ -70,7 +70,7 @@ fn put_state_change<O: Sink>(text: &mut Gather, out: &mut O, was: &Slot, now: &S
     }
 }
 
-/// Appends the line of a register.
+/// Appends the line of a register as it is now.
 fn put_register_now<O: Sink>(text: &mut Gather, out: &mut O, now: &Slot, register: u8)
     requires { register < 16 }
     ensures { Gathers O.taken O.faults out.old out.new text.old text.new (line_text (register_now now.now register)) }
@@ -82,7 +82,7 @@ fn put_register_now<O: Sink>(text: &mut Gather, out: &mut O, now: &Slot, registe
     }
 }
 
-/// Appends the line of a register, where its word changed, or whether it waits for a load.
+/// Appends the line of a register, if its word changed or it began or ended a wait for a load.
 fn put_register_change<O: Sink>(
     text: &mut Gather,
     out: &mut O,
@@ -130,7 +130,7 @@ fn put_load_changes<O: Sink>(text: &mut Gather, out: &mut O, was: &Slot, now: &S
     }
 }
 
-/// Appends the lines of all that changed of a slot.
+/// Appends the lines of all changes of a slot.
 pub(crate) fn put_slot_changes<O: Sink>(text: &mut Gather, out: &mut O, was: &Slot, now: &Slot)
     ensures { Gathers O.taken O.faults out.old out.new text.old text.new (text_of (slot_changes_of was.now now.now)) }
 {

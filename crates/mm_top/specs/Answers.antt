@@ -23,8 +23,8 @@ pub data Outcome : Type 0 where
   refuse : Refusal → Outcome
   write : List ℕ → Outcome
 
--- what a row comes to, by what the memory tells of uses, and by what the files hold and standard input has left, as far
--- as that is told
+-- what a row comes to, given what the memory tells of uses and, if that is known, what the files hold and standard
+-- input has left
 abbrev pub Gives : (List Use → Option Counts) → (List ℕ → Option (List ℕ)) → (left : Option (List ℕ)) → Row → Outcome
     → Type 0
 Gives tells held left row (refuse r) =
@@ -33,7 +33,7 @@ Gives tells held left row (refuse r) =
 Gives tells held left row (write text) = (values : List Value)
     × InputsAccepted held left (files_of row) (input_of row) values × Yields tells row values text
 
--- What words come to: they are in a row that comes to it.
+-- What words come to: they are in a row that has this outcome.
 pub record ComesTo (tells : List Use → Option Counts) (held : List ℕ → Option (List ℕ)) (left : Option (List ℕ))
     (words : List (List ℕ)) (outcome : Outcome) : Type 0 where
   pub row : Row
@@ -42,8 +42,8 @@ pub record ComesTo (tells : List Use → Option Counts) (held : List ℕ → Opt
 
 -- 2. What a call starts and ends with.
 
--- What a sink had taken when its writing starts and has taken now, and how often writes of it had failed then and have
--- now.
+-- What a sink had taken when its writing starts and has taken now, and how many writes of it had failed then and have
+-- failed now.
 pub record Writing : Type 0 where
   pub taken_before : Option (List ℕ)
   pub taken : Option (List ℕ)
@@ -66,23 +66,23 @@ call tells files input out = record { tells = tells; files = files; input = inpu
 
 -- 3. Why an answer comes.
 
--- the count of one of the row's inputs rose, or stands at its last value, and each input before it was accepted
+-- the fault count of one of the row's inputs rose or is at its last value, and each input before it was accepted
 abbrev pub ReadFailed : Reading → Drawing → List (List ℕ) → Type 0
 ReadFailed files input words = (row : Row) × Asks words row × InputsFailed files input (files_of row) (input_of row)
 
--- nothing is written at these answers
+-- a call with this answer writes nothing
 abbrev pub WritesNothing : Status → Type 0
 WritesNothing Done = ⊥
 WritesNothing WriteFault = ⊥
 WritesNothing _ = ⊤
 
--- A sink took a front part of a line, and all of it where the count did not rise and does not stand at its last value.
+-- A sink took a prefix of a line, and all of it if its fault count did not rise and is not at its last value.
 pub record TookLine (old new : Option (List ℕ)) (before now : ℕ) (line : List ℕ) : Type 0 where
   pub part : TookPart old new line
   pub whole : ¬ Rose before now → new ≡ append_known old line
 
--- What completeness asks: the words are in a row, its inputs are told and accepted, none of the row's own refusals
--- stands, and no count that the row depends on rose or stands at its last value.
+-- What completeness asks: the words are in a row, its inputs are known and accepted, the row declines their values with
+-- no refusal, and no fault count that the row depends on rose or is at its last value.
 pub record NothingFails (c : Call) (words : List (List ℕ)) : Type 0 where
   pub row : Row
   pub asks : Asks words row
@@ -93,8 +93,8 @@ pub record NothingFails (c : Call) (words : List (List ℕ)) : Type 0 where
   pub read : ¬ InputsFailed c.files c.input (files_of row) (input_of row)
   pub written : ¬ Rose c.out.before c.out.now
 
--- why a refusal has to come: an input is refused, those before it are accepted, and what these hold is told; or what
--- all hold is told, all are accepted, and the row declines their values
+-- why a refusal has to come: an input is refused, the inputs before it are accepted, and what all these hold is known;
+-- or what all inputs hold is known, all are accepted, and the row declines their values
 abbrev pub ToldToRefuse : (List ℕ → Option (List ℕ)) → (left : Option (List ℕ)) → Row → Refusal → Type 0
 ToldToRefuse held left row r =
     ToldInputsRefused held left (files_of row) (input_of row) r
@@ -117,7 +117,7 @@ RefusedUnless r _ = ⊥
 
 -- 4. What the parts of the program answer.
 
--- How a command ends: with a whole text that it is to write, or because it is refused, reading or writing fails, or
+-- How a command ends: with the whole text that it is to write, or because it is refused, reading or writing fails, or
 -- memory runs out.
 abbrev pub Ends : Writing → (Refuses : Refusal → Type 0) → (Fails : Type 0) → (IsText : List ℕ → Type 0)
     → Result (Unit {0}) Stop → Type 0
@@ -129,11 +129,12 @@ Ends out Refuses Fails IsText (Err stop.WriteFault) =
     (text : List ℕ) × IsText text × TookPart out.taken_before out.taken text × Rose out.before out.now
 Ends out Refuses Fails IsText (Err stop.NoMemory) = out.taken ≡ out.taken_before
 
--- how a command ends once its inputs are read, where it refuses nothing
+-- how a command ends after its inputs are read, if it refuses nothing
 abbrev pub EndsWith : Writing → (IsText : List ℕ → Type 0) → Result (Unit {0}) Stop → Type 0
 EndsWith out IsText result = Ends out (λ r. ⊥) ⊥ IsText result
 
--- How a row's command ends that reads files alone. `Text` says what it writes, by the values of the files.
+-- How the command of a row ends if it reads files alone. `Text` says what the command writes, given the values of the
+-- files.
 pub record CommandEnds (files : Reading) (out : Writing) (Text : Row → List Value → List ℕ → Type 0) (row : Row)
     (result : Result (Unit {0}) Stop) : Type 0 where
   pub ends : Ends out (λ r. FilesRefused files.held [] (files_of row) r

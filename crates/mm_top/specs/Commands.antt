@@ -1,4 +1,4 @@
--- What each command comes to, by its words and the values of its inputs.
+-- What each command comes to, given its words and the values of its inputs.
 use Rattle.std.specs.Prelude.{◌≡◌, ℕ, Bool, List, [], ◌∷◌, ◌++◌, map, length, take, Option, None, Some}
 use Rattle.mm_model.specs.declared.counts.Counts.{Counts}
 use Rattle.mm_model.specs.Uses.{Use}
@@ -53,33 +53,33 @@ use Rattle.mm_top.specs.Saving.{last_issued, saved_after, Continues}
 abbrev pub report_after : (List Use → Option Counts) → model.Image → List ℕ → List ℕ
 report_after tells i items = report (machine.run (model.start i) items) i (tells (machine.uses (model.start i) items))
 
--- the report of the groups' own part of a run under a list: the image without the slots of other groups, and the items
--- of the list's first so many that are theirs
+-- the report of the groups' own part of a run under a list: the image without the slots of other groups, and the
+-- groups' items among the first `cycles` of the list
 abbrev pub own_report : (List Use → Option Counts) → model.Image → List ℕ → ℕ → (ℕ → Bool) → List ℕ
 own_report tells i list cycles c = report_after tells (alone i c) (only i (first_items list cycles) c)
 
--- the text is the one spelling of the groups' own image: their slots, and what they can touch
+-- the text is the spelling of the groups' own image: their slots, and what they can touch
 abbrev pub IsExtract : model.Image → (ℕ → Bool) → List ℕ → Type 0
 IsExtract i c text = (own : model.Image) × Extracts i c own × Spells text own
 
--- why objects are refused: they do not link, and this is their first fault
+-- objects are refused because they do not link: this is their first fault
 abbrev pub LinkRefused : List Object → Refusal → Type 0
 LinkRefused objects r = (fault : LinkFault) × (r ≡ refusal.Link fault) × (link_fault objects ≡ Some fault)
 
--- the text is the one spelling of the image that objects link to
+-- the text is the spelling of the image that objects link to
 abbrev pub IsLinked : List Object → List ℕ → Type 0
 IsLinked objects text = (i : model.Image) × Linked objects i × Spells text i
 
--- the replies to the lines of an input, in a session of an image under an order, which can go back as far as it began
+-- the replies to the lines of an input, in a session of an image under an order, which can go back to its start
 abbrev pub replies_to : model.Image → Order → (input : List ℕ) → List ℕ
 replies_to i order input = let first = session.begun order (model.start i) in (recorded first first input).text
 
--- the values are those of an order and, behind it, of an input, and the text is the replies to that
+-- the values are those of an order and then of an input, and the text is the replies to that input
 abbrev pub IsDialogue : model.Image → List Value → List ℕ → Type 0
 IsDialogue i values text = (order : Order) × (input : List ℕ) × (values ≡ values_of order ++ a_text input ∷ [])
     × (text ≡ replies_to i order input)
 
--- the summary of a generated image's run under so many cycles of round robin, over every memory
+-- the summary of a generated image's run under up to `cycles` cycles of round robin, over every memory
 abbrev pub soaked : (number size cycles : ℕ) → List ℕ
 soaked number size cycles =
     let i = generated number size in
@@ -87,7 +87,7 @@ soaked number size cycles =
 
 -- 2. The commands.
 
--- a command with these words, whose inputs have these values, is refused
+-- a command with these words is refused, given these values of its inputs
 abbrev pub DeclinesAt : Command → List Word → List Value → Refusal → Type 0
 DeclinesAt Solo (image ∷ groups_word groups ∷ words) (an_image i ∷ lists) r = GroupsRefused i (among groups) r
 DeclinesAt Extract (image ∷ groups_word groups ∷ []) (an_image i ∷ []) r = GroupsRefused i (among groups) r
@@ -97,7 +97,7 @@ DeclinesAt Net words (a_links links ∷ an_events events ∷ values) r =
     (images : List model.Image) × (values ≡ map an_image images) × JoinRefused links (length images) r
 DeclinesAt _ _ _ r = ⊥
 
--- one that runs nothing writes a text
+-- a command that runs nothing writes a text
 abbrev pub YieldsAloneAt : Command → List Word → List Value → List ℕ → Type 0
 YieldsAloneAt Grants (image ∷ []) (an_image i ∷ []) text = IsAudit i None text
 YieldsAloneAt Grants (image ∷ groups_word groups ∷ []) (an_image i ∷ []) text = IsAudit i (Some groups) text
@@ -114,7 +114,7 @@ YieldsAloneAt Sweep (image ∷ range_word base log ∷ []) (an_image i ∷ []) t
 YieldsAloneAt Holders (image ∷ range_word base log ∷ []) (an_image i ∷ []) text = text ≡ holding.holders (base, log) i
 YieldsAloneAt _ _ _ text = ⊥
 
--- one writes a text, where the memory tells so much of uses
+-- a command writes a text, given what the memory tells of uses
 abbrev pub YieldsAt : (List Use → Option Counts) → Command → List Word → List Value → List ℕ → Type 0
 YieldsAt tells Run (image ∷ number_word cycles ∷ words) (an_image i ∷ lists) text =
     (items : List ℕ) × Issues i cycles lists items × (text ≡ report_after tells i items)
@@ -138,13 +138,15 @@ YieldsAt tells Net (first ∷ second ∷ number_word cycles ∷ words) (a_links 
     × (text ≡ net_text tells links images (take cycles events))
 YieldsAt tells command words values text = YieldsAloneAt command words values text
 
--- the same of a row
+-- a row is refused
 abbrev pub Declines : Row → List Value → Refusal → Type 0
 Declines row values r = DeclinesAt row.command row.words values r
 
+-- a row that runs nothing writes a text
 abbrev pub YieldsAlone : Row → List Value → List ℕ → Type 0
 YieldsAlone row values text = YieldsAloneAt row.command row.words values text
 
+-- a row writes a text, given what the memory tells of uses
 abbrev pub Yields : (List Use → Option Counts) → Row → List Value → List ℕ → Type 0
 Yields tells row values text = YieldsAt tells row.command row.words values text
 

@@ -16,24 +16,25 @@ use Rattle.mm_log.specs.Log.{log_text}
 use Rattle.mm_log.specs.Laws.{Replays}
 use Rattle.mm_top.specs.Commands.{run, trace, log, report_after}
 
--- What `run` did, where it is done.
+-- What a `run` that is done did.
 pub record RunIsProved (tells : List Use → Option Counts) (held : List ℕ → Option (List ℕ)) (image : List ℕ)
     (cycles : ℕ) (schedule : Option (List ℕ)) (written : List ℕ) : Type 0 where
-  -- the image that the first file spells, the list of the second, if there is one, and the items that were issued
+  -- the image that the first file spells, the list of the second file if there is one, and the items that were issued
   pub i : Image
   pub lists : List Value
   pub items : List ℕ
   pub reads : FilesAccepted held [] (files_of (run image cycles schedule)) (an_image i ∷ lists)
   pub issues : Issues i cycles lists items
-  -- It writes the flat machine's report.
+  -- The text is the report of the flat machine.
   pub writes : written ≡ report_after tells i items
-  -- Every word that a thread touches lies in a segment that is granted to its group, what lies behind an enter pointer
-  -- only once it was entered at its own address.
+  -- Every word that a thread touches lies in a segment that is granted to its group. What an enter pointer leads to is
+  -- granted only once the pointer was entered at its own address.
   pub reaches : Reaches i items
-  -- The sections of groups that stand apart are those of a run without the others, under the items restricted to them.
+  -- The sections of groups that stand apart are those of a run without the others, under the items restricted to these
+  -- groups.
   pub isolates : (c : ℕ → Bool) → HasSlot i c → Apart i All c → Isolates i items written c
 
--- What `trace` did, where it is done.
+-- What a `trace` that is done did.
 pub record TraceIsProved (tells : List Use → Option Counts) (held : List ℕ → Option (List ℕ)) (image : List ℕ)
     (cycles : ℕ) (schedule : Option (List ℕ)) (written : List ℕ) : Type 0 where
   pub i : Image
@@ -41,14 +42,14 @@ pub record TraceIsProved (tells : List Use → Option Counts) (held : List ℕ �
   pub items : List ℕ
   pub reads : FilesAccepted held [] (files_of (trace image cycles schedule)) (an_image i ∷ lists)
   pub issues : Issues i cycles lists items
-  -- It writes the line of each turn, with what the turn touched and entered, and then the report.
+  -- The text is the line of each turn, with what the turn touched and entered, and then the report.
   pub writes : written ≡ trace_of (start i) items ++ report_after tells i items
-  -- Every word that a thread touches lies in a segment that is granted to its group, as above.
+  -- Every word that a thread touches lies in a segment that is granted to its group, as for `run`.
   pub reaches : Reaches i items
-  -- The sections of groups that stand apart are those of a run without the others, as above.
+  -- The sections of groups that stand apart are those of a run without the others, as for `run`.
   pub isolates : (c : ℕ → Bool) → HasSlot i c → Apart i All c → Isolates i items written c
 
--- What `log` did, where it is done.
+-- What a `log` that is done did.
 pub record LogIsProved (tells : List Use → Option Counts) (held : List ℕ → Option (List ℕ)) (image : List ℕ)
     (cycles : ℕ) (schedule : Option (List ℕ)) (written : List ℕ) : Type 0 where
   pub i : Image
@@ -56,11 +57,12 @@ pub record LogIsProved (tells : List Use → Option Counts) (held : List ℕ →
   pub items : List ℕ
   pub reads : FilesAccepted held [] (files_of (log image cycles schedule)) (an_image i ∷ lists)
   pub issues : Issues i cycles lists items
-  -- It writes the line of each turn, after each of these the lines of all that the turn changed, and then the report.
+  -- The text is the line of each turn, each followed by the lines of all that the turn changed, and then the report.
   pub writes : written ≡ log_text (start i) items ++ report_after tells i items
-  -- The lines up to any cycle, carried out from the machine's start, make the state that the run has then.
+  -- The lines up to any cycle, carried out from the machine's start, make the state that the run has then, except for
+  -- the number of cycles.
   pub replays : (front later : List ℕ) → items ≡ front ++ later → Replays i front later
-  -- Every word that a thread touches lies in a segment that is granted to its group, as above.
+  -- Every word that a thread touches lies in a segment that is granted to its group, as for `run`.
   pub reaches : Reaches i items
-  -- The sections of groups that stand apart are those of a run without the others, as above.
+  -- The sections of groups that stand apart are those of a run without the others, as for `run`.
   pub isolates : (c : ℕ → Bool) → HasSlot i c → Apart i All c → Isolates i items written c

@@ -8,8 +8,8 @@ use Rattle.mm_model.specs.Run.{uses}
 use Rattle.mm_model.specs.Report.{count_line}
 use Rattle.mm_top.specs.Commands.{report_after}
 
--- the report of every list of items over the one memory is that over the other, with the line of what the run's uses
--- count behind it. The items of every order and number of cycles are such a list
+-- for every list of items, the report over the one memory is the report over the other, followed by the count line of
+-- the run's uses. The items of every order and number of cycles are such a list
 abbrev pub CountsStandBehind : (List Use → Option Counts) → (List Use → Option Counts) → Type 0
 CountsStandBehind counting plain =
     (i : Image) (items : List ℕ) → report_after counting i items ≡ report_after plain i items

@@ -15,30 +15,30 @@ use Rattle.mm_top.specs.Orders.{Issues}
 use Rattle.mm_top.specs.Saving.{last_issued}
 use Rattle.mm_top.specs.Commands.{save, continue, Yields}
 
--- What `continue` writes after so many cycles more, where `save` wrote what it goes on from.
+-- What `continue` writes after up to `b` further cycles from what `save` wrote.
 pub record IsOneRun (tells : List Use → Option Counts) (i : Image) (a b : ℕ) (lists more : List Value) (text : List ℕ) :
     Type 0 where
-  -- the items that were issued before, and those behind them
+  -- the items that were issued before the save, and the items after it
   pub items : List ℕ
   pub further : List ℕ
   pub issues : Issues i a lists items
-  -- It is the report of the image's run under both, with the counts of the second part's uses alone.
+  -- The text is the report of the image's run under both, with the counts of the second part's uses alone.
   pub whole : text ≡ report (run (start i) (items ++ further)) i (tells (uses (run (start i) items) further))
-  -- Without a schedule of its own the second part is round robin from there, behind the slot that the first part issued
-  -- last; under a schedule it issued none as such, and round robin begins anew.
+  -- If the second part has no schedule, it is round robin from the saved state, after the slot that round robin issued
+  -- last. If the first part had a schedule, there is no such slot, and round robin begins anew.
   pub unlisted : more ≡ [] → further ≡ robin_from (run (start i) items) (last_issued lists items) b
-  -- In round robin these are the items of one round robin of all the cycles.
+  -- If both parts are round robin, their items are those of one round robin of all cycles.
   pub robin : lists ≡ [] → more ≡ [] → items ++ further ≡ robin_from (start i) None (a + b)
-  -- Behind a schedule of its own the second part is the first so many of that.
+  -- If the second part has a schedule, its items are the first `b` of the schedule, or all if the schedule has fewer.
   pub listed : (list : List ℕ) → more ≡ a_list list ∷ [] → further ≡ first_items list b
 
--- What `save` wrote after so many cycles is read by `continue`, which goes on with the run that was saved.
+-- What `save` wrote after up to `a` cycles is read by `continue`, which goes on with the run that was saved.
 pub record IsSaved (tells : List Use → Option Counts) (i : Image) (a : ℕ) (lists : List Value) (ck : List ℕ) : Type 0
   where
-    -- A file can hold it, and it is not too long to be read.
+    -- The text consists of bytes, and is not too long to be read.
     pub bytes : IsBytes ck
     pub short : length ck ≤ limit_of checkpoint_file
-    -- It is read as a checkpoint of the image, and as no other.
+    -- The text is read as one checkpoint of the image, and as no other.
     pub checkpoint : Saved
     pub accepted : Accepts checkpoint_file (an_image i ∷ []) ck (a_checkpoint checkpoint)
     pub alone : (c : Saved) → Accepts checkpoint_file (an_image i ∷ []) ck (a_checkpoint c) → c ≡ checkpoint
@@ -46,7 +46,7 @@ pub record IsSaved (tells : List Use → Option Counts) (i : Image) (a : ℕ) (l
         → Yields tells (continue again file b other) (an_image i ∷ a_checkpoint checkpoint ∷ more) text
         → IsOneRun tells i a b lists more text
 
--- so it is of whatever `save` writes
+-- whatever `save` writes is read as a checkpoint, and the run goes on from it
 abbrev pub SavesGoOn : Type 0
 SavesGoOn = (tells : List Use → Option Counts) (i : Image) (a : ℕ) (image : List ℕ) (schedule : Option (List ℕ))
     (lists : List Value) (ck : List ℕ)

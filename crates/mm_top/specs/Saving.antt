@@ -16,7 +16,7 @@ use Rattle.mm_load.specs.Kinds.{Value, a_list}
 
 -- 1. What is saved.
 
--- the slot that round robin issued last; none of a list's items counts as such
+-- the slot that round robin issued last; none if there is a list
 abbrev pub last_issued : (lists : List Value) → List ℕ → Option ℕ
 last_issued [] items = last_item None items
 last_issued (list ∷ lists) items = None
@@ -27,13 +27,13 @@ saved_after i items last = spelling (saved_form (run (start i) items) last)
 
 -- 2. What goes on.
 
--- a state of a machine of the image that has this saved form
+-- a state of a machine of the image has this saved form
 pub record HasState (i : Image) (c : Saved) (s : State) : Type 0 where
   pub alike : IsAlike (start i) s
   pub saved : saved_form s c.last ≡ c
 
--- the further items: so many cycles of round robin from a state on, behind the slot issued last, or a list's first so
--- many
+-- the further items: up to `cycles` cycles of round robin from a state on, after the slot that was issued last; or the
+-- first `cycles` items of a list, or all if the list has fewer
 abbrev pub Further : State → (last : Option ℕ) → (cycles : ℕ) → (lists : List Value) → List ℕ → Type 0
 Further s last cycles [] items = items ≡ robin_from s last cycles
 Further s last cycles (a_list list ∷ []) items = items ≡ first_items list cycles
@@ -50,14 +50,15 @@ Continues tells i c cycles lists text =
     (s : State) × HasState i c s
     × ((items : List ℕ) × Further s c.last cycles lists items × (text ≡ further_report tells i s items))
 
--- 3. By orders.
+-- 3. Items of an order.
 
--- the items that an order issues from a state on, behind the slot issued last, at most so many
+-- the items that an order issues from a state on, up to `count`, after the slot that was issued last
 abbrev pub items_behind : Order → State → (last : Option ℕ) → ℕ → List ℕ
 items_behind order.Robin s last count = robin_from s last count
 items_behind (order.List list) s last count = first_items list count
 
--- the slot that an order's round robin issued last, behind that one
+-- the slot that an order's round robin has issued last after these items, given the one that it issued last before;
+-- none for a list
 abbrev pub last_behind : Order → (last : Option ℕ) → List ℕ → Option ℕ
 last_behind order.Robin last items = last_item last items
 last_behind (order.List list) last items = None

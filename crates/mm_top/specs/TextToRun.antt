@@ -11,7 +11,7 @@ use Rattle.mm_load.specs.Kinds.{Value, an_image, an_object, Accepts}
 use Rattle.mm_top.specs.Commands.{asm, link, run, Yields, YieldsAlone, report_after}
 use Rattle.mm_top.specs.Orders.{Issues}
 
--- `asm` of a text that means an object wrote a file, and from the file a value is read.
+-- The text means an object, `asm` wrote a file of it, and a value is read from the file.
 pub record Assembles (text : List ℕ) (o : Object) (file : List ℕ) (v : Object) : Type 0 where
   pub name : List ℕ
   pub means : Accepts source_file [] text (an_object o)
@@ -19,7 +19,7 @@ pub record Assembles (text : List ℕ) (o : Object) (file : List ℕ) (v : Objec
   pub before : List Value
   pub read : Accepts object_file before file (an_object v)
 
--- so did it of each text
+-- `asm` wrote a file of each text, and a value is read from each file
 abbrev pub AssembleAll : (texts : List (List ℕ)) (objects : List Object) (files : List (List ℕ)) (values : List Object)
     → Type 0
 AssembleAll [] [] [] [] = ⊤
@@ -27,21 +27,21 @@ AssembleAll (text ∷ texts) (o ∷ objects) (file ∷ files) (v ∷ values) = A
     × AssembleAll texts objects files values
 AssembleAll _ _ _ _ = ⊥
 
--- What is read back, and what is run, where `link` wrote an image of such values.
+-- What is read back and what is run, if `link` wrote an image of such values.
 pub record RunsTexts (objects values : List Object) (i : Image) : Type 0 where
   -- The values are the objects that the texts mean.
   pub same : values ≡ objects
-  -- The image is the one that they link to.
+  -- The image is the one that the objects link to.
   pub linked : Linked objects i
-  -- So what `run` writes of it is the report of that image's run.
+  -- What `run` writes of the image is the report of the run of the objects' image.
   pub runs : (tells : List Use → Option Counts) (name : List ℕ) (cycles : ℕ) (schedule : Option (List ℕ))
       (lists : List Value) (text : List ℕ)
       → Yields tells (run name cycles schedule) (an_image i ∷ lists) text
       → (items : List ℕ) × Issues (image_of objects) cycles lists items
       × (text ≡ report_after tells (image_of objects) items)
 
--- where texts mean objects, and `link` writes an image from the files that `asm` wrote of them, the image that is read
--- from it is the one that the objects link to
+-- if texts mean objects, and `link` writes an image from the files that `asm` wrote of the texts, the image that is
+-- read from it is the one that the objects link to, and `run` writes the report of its run
 abbrev pub TextsAreRun : Type 0
 TextsAreRun = (texts : List (List ℕ)) (objects : List Object) (files : List (List ℕ)) (values : List Object)
     (names : List (List ℕ)) (bytes : List ℕ) (i : Image)

@@ -26,7 +26,7 @@ pub fn asm<F: Files, O: Sink>(
     write_object(alloc, &object, out)
 }
 
-/// Writes the one spelling of an object.
+/// Writes the spelling of an object.
 fn write_object<O: Sink>(alloc: Global, object: &Object, out: &mut O) -> Result<(), Stop>
     ensures { EndsWith (writing O.taken O.faults out.old out.new) (λ text. Spells text object.now) result }
 {

@@ -9,8 +9,8 @@ use mm_machine::Machine;
 use mm_mem::Memory;
 use mm_sched::Order;
 
-/// Issues so many cycles in an order, whose round robin goes on behind a slot, fewer where its items end or no slot
-/// runs. Gives the slot that round robin issued last, which a list has none of.
+/// Issues up to `count` cycles in an order. Its round robin goes on after the slot `after`. Stops early if the items
+/// end or no slot runs. Gives the slot that round robin issued last; `None` for a list.
 pub fn issue<M: Memory>(
     machine: &mut Machine<M>,
     order: &Order,

@@ -28,7 +28,7 @@ pub fn extract<F: Files, O: Sink>(
     write_extract(alloc, &image, groups_at(words, 1), out)
 }
 
-/// Writes the one spelling of the groups' own image.
+/// Writes the spelling of the groups' own image.
 fn write_extract<O: Sink>(
     alloc: Global,
     image: &Image,

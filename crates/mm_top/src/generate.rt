@@ -1,4 +1,4 @@
-//! `gen`: the image of a number.
+//! `gen`: the image that is generated from a number.
 
 ghost use Rattle.std.specs.Prelude.{◌≤◌, []};
 ghost use Rattle.mm_model.specs.Spelling.{Spells};
@@ -20,7 +20,7 @@ pub fn generate<O: Sink>(alloc: Global, words: &[Word<'_>], out: &mut O) -> Resu
     write_generated(alloc, number_at(words, 0), number_at(words, 1) as u8, out)
 }
 
-/// Writes the one spelling of the image of a number, with so many slots.
+/// Writes the spelling of the image that is generated from a number, with `size` slots.
 fn write_generated<O: Sink>(alloc: Global, number: u64, size: u8, out: &mut O) -> Result<(), Stop>
     requires some { 1 ≤ size }
     requires few { size ≤ 16 }

@@ -1,4 +1,4 @@
-//! `continue`: the report of an image that goes on from a checkpoint, after so many cycles more.
+//! `continue`: the report of an image's run that goes on from a checkpoint.
 
 ghost use Rattle.std.specs.Prelude.{◌≤◌};
 ghost use Rattle.mm_checkpoint.specs.Checkpoints.{IsCheckpoint, saved_of};
@@ -38,7 +38,7 @@ pub fn go_on<M: Boot + Reset, F: Files, O: Sink>(
     write_further::<M, O>(alloc, &image, &checkpoint, &order, number_at(words, 2), out)
 }
 
-/// Writes the report of an image that goes on from a checkpoint, after so many cycles more in an order.
+/// Writes the report of an image that goes on from a checkpoint, after up to `cycles` further cycles in an order.
 fn write_further<M: Boot + Reset, O: Sink>(
     alloc: Global,
     image: &Image,

@@ -33,7 +33,7 @@ pub fn grants<F: Files, O: Sink>(
     write_grants(alloc, &image, groups_perhaps_at(words, 1), out)
 }
 
-/// Writes the audit of an image, with the answer of the groups where there are such.
+/// Writes the audit of an image, with the answer for the groups if groups are given.
 fn write_grants<O: Sink>(
     alloc: Global,
     image: &Image,
@@ -48,7 +48,7 @@ fn write_grants<O: Sink>(
     Ok(())
 }
 
-/// The same, of what each group can reach.
+/// Writes the audit of an image, given what each group can reach.
 fn write_text<O: Sink>(
     survey: &Survey,
     image: &Image,

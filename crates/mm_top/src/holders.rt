@@ -1,4 +1,4 @@
-//! `holders`: who holds a pointer whose segment meets a range.
+//! `holders`: the holders of pointers whose segments meet a range.
 
 ghost use Rattle.std.specs.Prelude.{◌≡◌};
 ghost use Rattle.mm_sweep.specs.Holders.{holders};
@@ -30,7 +30,7 @@ pub fn holders<F: Files, O: Sink>(
     write_holders(&image, base, log, out)
 }
 
-/// Writes who holds a pointer whose segment meets a range.
+/// Writes the holders of pointers whose segments meet a range.
 fn write_holders<O: Sink>(image: &Image, base: u64, log: u8, out: &mut O) -> Result<(), Stop>
     requires { IsRange base log }
     ensures { EndsWith (writing O.taken O.faults out.old out.new) (λ text. text ≡ holders (base, log) image.now)

@@ -1,16 +1,16 @@
-//! What holds of commands that are used one after the other.
+//! What holds of commands that are used one after the other. The functions do nothing: their contracts are the laws.
 ghost use Rattle.mm_top.specs.SaveToRun.{SavesGoOn};
 ghost use Rattle.mm_top.specs.TextToRun.{TextsAreRun};
 
-/// A law: where texts mean objects, the image that `link` writes from the files that `asm` writes of them is the one
-/// that the objects link to, and what `run` writes of it is the report of that image's run. Nothing is done.
+/// The law of texts that are run. If texts mean objects, and `link` writes an image from the files that `asm` writes of
+/// the texts, the image is the one that the objects link to. What `run` writes of the image is the report of its run.
 pub fn texts_are_run()
     ensures { TextsAreRun }
 {}
 
-/// A law: what `save` writes is a file that is read as one checkpoint of the image, and `continue` writes of that the
-/// report of the one run that goes on from where the saved one ended, with the counts of the further cycles alone; in
-/// round robin that is the run of all cycles. Nothing is done.
+/// The law of saved runs. What `save` writes is read as one checkpoint of the image. From that checkpoint `continue`
+/// writes the report of the one run that goes on from the end of the saved run, with the counts of the further cycles
+/// alone. In round robin that is the run of all cycles.
 pub fn saves_go_on()
     ensures { SavesGoOn }
 {}

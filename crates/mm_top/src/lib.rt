@@ -1,8 +1,7 @@
 //! All that the program does: the commands, and the one call that does what words ask, [`mmachine`].
 //!
-//! The contract of [`mmachine`] stands in src/top.rt, with the headline among its clauses. The table of commands is
-//! that of `mm_cli`, the kinds of files are those of `mm_load`, and what each command comes to stands in
-//! specs/Commands.antt.
+//! The contract of [`mmachine`] is in src/top.rt, and the headline is among its clauses. The table of commands is in
+//! `mm_cli`, the kinds of files are in `mm_load`, and specs/Commands.antt says what each command comes to.
 #![tactic(auto)]
 
 mod asm;

@@ -1,4 +1,4 @@
-//! `link`: the image of objects.
+//! `link`: the image that objects link to.
 
 ghost use Rattle.std.specs.Prelude.{◌≤◌, length};
 ghost use Rattle.mm_load.specs.Files.{reading};
@@ -27,7 +27,7 @@ pub fn link<F: Files, O: Sink>(
     write_linked(alloc, &objects, out)
 }
 
-/// Writes the one spelling of the image that objects link to.
+/// Writes the spelling of the image that objects link to.
 fn write_linked<O: Sink>(alloc: Global, objects: &[Object], out: &mut O) -> Result<(), Stop>
     requires some { 1 ≤ length objects.now }
     requires few { length objects.now ≤ 16 }

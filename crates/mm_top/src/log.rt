@@ -1,4 +1,4 @@
-//! `log`: the line of each turn of an image with all that the turn changed, and then the report.
+//! `log`: the line of each turn of an image, followed by all that the turn changed, and then the report.
 ghost use Rattle.std.specs.Prelude.{◌≡◌, ◌≤◌, ◌++◌, ◌^◌, ◌+◌, List, ℕ};
 ghost use Rattle.mm_io.specs.Sinks.{Writes};
 ghost use Rattle.mm_model.specs.Image.{Image as ImageValue, start};
@@ -39,7 +39,7 @@ pub fn log<M: Boot, F: Files, O: Sink>(
     write_log::<M, O>(alloc, &image, &order, number_at(words, 1), out)
 }
 
-/// Writes the lines of the log of `cycles` cycles in an order, and then the report.
+/// Writes the lines of the log of up to `cycles` cycles in an order, and then the report.
 fn write_log<M: Boot, O: Sink>(
     alloc: Global,
     image: &Image,

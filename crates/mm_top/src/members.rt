@@ -10,7 +10,8 @@ use arrayvec::ArrayVec;
 use mm_image::Image;
 use mm_model::Slot;
 
-/// What items name the image's slots: their numbers and, where the image is split, those of their ports.
+/// The items that name an image's slots: the numbers of the slots and, if the image is split, the numbers of their
+/// ports.
 pub fn members(image: &Image) -> ArrayVec<u8, 128>
     ensures { result.items ≡ members_of image.now }
 {
@@ -22,7 +23,7 @@ pub fn members(image: &Image) -> ArrayVec<u8, 128>
     members
 }
 
-/// Appends the numbers of the slots, each this much greater.
+/// Appends the numbers of the slots, with `from` added to each.
 fn push_numbers(members: &mut ArrayVec<u8, 128>, slots: &[Slot], from: u8)
     requires room { array_vec_len members.old + length slots.now ≤ 128 }
     requires few { AllByRecursion (λ (s : SlotValue). from + s.number < 256) slots.now }

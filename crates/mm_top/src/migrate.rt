@@ -30,7 +30,7 @@ pub fn migrate<F: Files, O: Sink>(
     write_migrated(alloc, &image, mode_at(words, 1), out)
 }
 
-/// Writes the one spelling of an image as version 2 in a mode.
+/// Writes the spelling of an image as version 2 in a mode.
 fn write_migrated<O: Sink>(
     alloc: Global,
     image: &Image,

@@ -40,7 +40,7 @@ pub fn run_net<M: Boot, F: Files, O: Sink>(
     write_net::<M, O>(alloc, links, &events, &images, number_at(words, 2), out)
 }
 
-/// Writes what a net of images has come to after the first so many events: the report of each node, and what each link
+/// Writes what a net of images comes to after up to `cycles` events: the report of each node, and what each link
 /// carried.
 fn write_net<M: Boot, O: Sink>(
     alloc: Global,
@@ -67,7 +67,7 @@ fn write_net<M: Boot, O: Sink>(
     ended(report(&net, images, out))
 }
 
-/// The least link that names a node that is not there, where there are so many.
+/// The least link that names a node that is not there, given the number of nodes.
 fn lacking_link(links: &[Link], count: usize) -> Option<u8>
     requires { length links.now ≤ 64 }
     ensures { MatchOption result (NoneLacking links.now count) (λ l. FirstLacking links.now count l) }
@@ -95,7 +95,7 @@ fn boot_nodes<M: Boot>(alloc: Global, images: &[Image]) -> Result<Vec<Machine<M>
     Ok(nodes)
 }
 
-/// How many of the items have a link take: at most so many integers are sent.
+/// The number of items by which a link takes. Each of them sends at most one integer.
 fn count_sends(items: &[NetItem]) -> u32
     requires { length items.now ≤ 1000000 }
     ensures count { result ≡ count_by is_send items.now }
@@ -104,14 +104,14 @@ fn count_sends(items: &[NetItem]) -> u32
     items.iter().filter(|item| is_send(item)).count() as u32
 }
 
-/// Whether a link takes.
+/// Whether a link takes by this item.
 fn is_send(item: &NetItem) -> bool
     ensures { result ≡ is_send item.now }
 {
     matches!(item, NetItem::Send { .. })
 }
 
-/// Issues the items, where there is room for what they send.
+/// Issues the items. There has to be room for what they send.
 fn issue_items<M: Memory>(net: &mut Net<M>, items: &[NetItem])
     requires few { steps_of net.old + length items.now ≤ 2 ^ 32 }
     requires room { sent_count (net_of net.old) + count_by is_send items.now ≤ room_of net.old }

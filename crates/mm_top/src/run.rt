@@ -1,4 +1,4 @@
-//! `run`: the report of an image after so many cycles.
+//! `run`: the report of an image's run.
 
 ghost use Rattle.std.specs.Prelude.{◌≡◌, ◌≤◌};
 ghost use Rattle.mm_model.specs.Image.{start};
@@ -36,7 +36,7 @@ pub fn run<M: Boot, F: Files, O: Sink>(
     write_run::<M, O>(alloc, &image, &order, number_at(words, 1), out)
 }
 
-/// Writes the report of an image after so many cycles in an order.
+/// Writes the report of an image after up to `cycles` cycles in an order.
 fn write_run<M: Boot, O: Sink>(
     alloc: Global,
     image: &Image,

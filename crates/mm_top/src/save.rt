@@ -1,4 +1,4 @@
-//! `save`: the checkpoint of an image after so many cycles.
+//! `save`: the checkpoint of an image's run.
 
 ghost use Rattle.std.specs.Prelude.{◌≡◌, ◌≤◌};
 ghost use Rattle.mm_model.specs.Image.{start};
@@ -37,7 +37,7 @@ pub fn save<M: Boot, F: Files, O: Sink>(
     write_saved::<M, O>(alloc, &image, &order, number_at(words, 1), out)
 }
 
-/// Writes the checkpoint of an image after so many cycles in an order.
+/// Writes the checkpoint of an image after up to `cycles` cycles in an order.
 fn write_saved<M: Boot, O: Sink>(
     alloc: Global,
     image: &Image,

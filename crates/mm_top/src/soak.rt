@@ -1,4 +1,4 @@
-//! `soak`: what a generated image comes to after so many cycles.
+//! `soak`: the summary of a generated image's run.
 
 ghost use Rattle.std.specs.Prelude.{◌≡◌, ◌≤◌, []};
 ghost use Rattle.mm_cli.specs.Said.{AreOf, row};
@@ -29,7 +29,7 @@ pub fn soak<M: Boot, O: Sink>(alloc: Global, words: &[Word<'_>], out: &mut O) ->
     )
 }
 
-/// Writes what the image of a number, with so many slots, comes to after so many cycles.
+/// Writes what the image that is generated from a number, with `size` slots, comes to after up to `cycles` cycles.
 fn write_soaked<M: Boot, O: Sink>(
     alloc: Global,
     number: u64,

@@ -44,7 +44,7 @@ pub fn solo<M: Boot, F: Files, O: Sink>(
     )
 }
 
-/// Writes the report of some groups of an image, alone, under their items of a list's first so many.
+/// Writes the report of some groups of an image, alone, under their items among the first `cycles` of a list.
 fn write_solo<M: Boot, O: Sink>(
     alloc: Global,
     image: Image,

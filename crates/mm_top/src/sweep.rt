@@ -32,7 +32,7 @@ pub fn sweep<F: Files, O: Sink>(
     write_swept(alloc, &image, base, log, out)
 }
 
-/// Writes the one spelling of a swept image.
+/// Writes the spelling of a swept image.
 fn write_swept<O: Sink>(
     alloc: Global,
     image: &Image,

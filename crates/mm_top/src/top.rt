@@ -39,10 +39,10 @@ use mm_load::{Refusal, Status, Stop, write_line};
 use mm_mem::{Boot, Reset};
 use std::alloc::Global;
 
-/// Does what the words ask, writes the result to `out`, and one line to `diag` where it is not done.
+/// Does what the words ask, and writes the result to `out`. Writes one line to `diag` if it is not done.
 ///
-/// `words` are the command line without the program's name. `M` is the type of the memory that every command which runs
-/// an image makes and runs on.
+/// `words` are the command line without the program's name. `M` is the type of memory on which each command runs an
+/// image.
 #[tactic(auto, using(crate::proofs::Verdicts::read_fault, crate::proofs::Verdicts::write_fault, crate::proofs::Verdicts::silent))]
 pub fn mmachine<M: Boot + Reset, F: Files, I: Source, O: Sink, D: Sink>(
     alloc: Global,
@@ -61,8 +61,8 @@ pub fn mmachine<M: Boot + Reset, F: Files, I: Source, O: Sink, D: Sink>(
         (texts words.now) }
     ensures write_fault { result ≡ Status.WriteFault → Rose (O.faults out.old) (O.faults out.new) }
 
-    // What is read: nothing where the words are in no row, and else the row's files alone, each once those before it
-    // were accepted, and behind them standard input, to its end, where the row reads that.
+    // What is read: nothing if the words are in no row. Otherwise only the row's files, each once the files before it
+    // were accepted; and after them standard input to its end, if the row reads it.
     ensures unread { result ≡ Status.Usage → files.new ≡ files.old }
     ensures asks { (row : Row) → Asks (texts words.now) row
         → AsksFiles (reading F.held F.faults F.asked files.old files.new) [] (files_of row) }
@@ -84,26 +84,27 @@ pub fn mmachine<M: Boot + Reset, F: Files, I: Source, O: Sink, D: Sink>(
         (line_of result) }
     ensures silent { result ≡ Status.Done → D.taken diag.new ≡ D.taken diag.old }
 
-    // The headline, of each run that is done.
+    // The headline holds of each run that is done.
     ensures headline { result ≡ Status.Done → (image : List ℕ) (cycles : ℕ) (schedule : Option (List ℕ))
         → Asks (texts words.now) (run image cycles schedule)
         → (written : List ℕ) × RunIsProved M.tells (F.held files.old) image cycles schedule written
         × (O.taken out.new ≡ append_known (O.taken out.old) written) }
 
-    // Its second and its third part, of each trace that is done.
+    // The second and the third part of the headline hold of each trace that is done.
     ensures reach { result ≡ Status.Done → (image : List ℕ) (cycles : ℕ) (schedule : Option (List ℕ))
         → Asks (texts words.now) (trace image cycles schedule)
         → (written : List ℕ) × TraceIsProved M.tells (F.held files.old) image cycles schedule written
         × (O.taken out.new ≡ append_known (O.taken out.old) written) }
 
-    // The same of each log that is done; and carried out, its lines up to any cycle make the state of the run.
+    // The second and the third part of the headline hold of each log that is done. Carried out, the log's lines up to
+    // any cycle make the state of the run then, except for the number of cycles.
     ensures replay { result ≡ Status.Done → (image : List ℕ) (cycles : ℕ) (schedule : Option (List ℕ))
         → Asks (texts words.now) (log image cycles schedule)
         → (written : List ℕ) × LogIsProved M.tells (F.held files.old) image cycles schedule written
         × (O.taken out.new ≡ append_known (O.taken out.old) written) }
 
-    // Where a refusal has to come, it comes, unless a read failed or memory ran out; and where nothing fails, it is
-    // done, or memory ran out.
+    // A refusal that has to come does come, unless a read failed or memory ran out. If nothing fails, the command is
+    // done or memory ran out.
     ensures refuses { (r : Refusal) → HasToRefuse (F.held files.old) (I.left input.old) (texts words.now) r
         → RefusedUnless r result }
     ensures complete { NothingFails
@@ -148,7 +149,7 @@ fn answer<M: Boot + Reset, F: Files, I: Source, O: Sink>(
     by_row::<M, F, I, O>(alloc, words, files, input, out)
 }
 
-/// The same, by the row of the table that the words are in.
+/// Does what the words ask, by the row of the table that they are in. `Usage` if they are in no row.
 fn by_row<M: Boot + Reset, F: Files, I: Source, O: Sink>(
     alloc: Global,
     words: &[String],

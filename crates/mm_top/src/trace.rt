@@ -40,7 +40,7 @@ pub fn trace<M: Boot, F: Files, O: Sink>(
     write_trace::<M, O>(alloc, &image, &order, number_at(words, 1), out)
 }
 
-/// Writes the line of each of so many cycles in an order, and then the report.
+/// Writes the line of each of up to `cycles` cycles in an order, and then the report.
 fn write_trace<M: Boot, O: Sink>(
     alloc: Global,
     image: &Image,
@@ -58,7 +58,7 @@ fn write_trace<M: Boot, O: Sink>(
     ended(report(&machine, image, out))
 }
 
-/// Issues so many cycles in an order, and writes the line of each.
+/// Issues up to `count` cycles in an order, and writes the line of each.
 fn write_lines<M: Memory, O: Sink>(
     machine: &mut Machine<M>,
     order: &Order,

@@ -16,7 +16,7 @@ use mm_report::put_step;
 use mm_sched::{Order, Robin};
 use mm_text::Gather;
 
-/// Issues so many cycles in an order, fewer where its items end or no slot runs, and appends the line of each.
+/// Issues up to `count` cycles in an order, and appends the line of each. Stops early if the items end or no slot runs.
 pub fn issue_traced<M: Memory, O: Sink>(
     machine: &mut Machine<M>,
     order: &Order,
@@ -40,7 +40,7 @@ pub fn issue_traced<M: Memory, O: Sink>(
     }
 }
 
-/// One cycle, and its line.
+/// Makes one cycle, and appends its line.
 fn cycle_traced<M: Memory, O: Sink>(
     machine: &mut Machine<M>,
     item: u8,
@@ -59,7 +59,7 @@ fn cycle_traced<M: Memory, O: Sink>(
     put_step(text, out, &step, turns);
 }
 
-/// How many turns a slot has taken; none where it is not there.
+/// The number of turns that a slot has taken; zero if the slot is not there.
 fn turns_of<M: Memory>(machine: &Machine<M>, slot: u8) -> u64
     ensures { result ≡ turns_of_slot (slot_at (state_of machine.now).core slot) }
 {
@@ -87,7 +87,7 @@ fn trace_list<M: Memory, O: Sink>(
     }
 }
 
-/// Issues so many cycles of round robin, fewer only where no slot runs, and appends the line of each.
+/// Issues up to `count` cycles of round robin, and appends the line of each. Stops early only if no slot runs.
 fn trace_robin<M: Memory, O: Sink>(
     machine: &mut Machine<M>,
     count: u64,
