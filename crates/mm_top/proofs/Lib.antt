@@ -9,7 +9,6 @@ pub mod Reported
 pub mod Headlines
 pub mod TracedRuns
 pub mod TracedSections
-mod LoggedSections
 pub mod OwnItems
 pub mod Migrated
 pub mod CountsBehind
