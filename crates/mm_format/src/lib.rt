@@ -1,0 +1,9 @@
+//! Formats of files: one description for the spelling, the first fault and the value.
+#![tactic(auto)]
+
+mod header;
+pub mod laws;
+mod reader;
+
+pub use header::Header;
+pub use reader::{Fault, ReadError, Reader};
