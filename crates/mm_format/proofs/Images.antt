@@ -1,6 +1,6 @@
 -- The image file is a format.
 use Rattle.std.proofs.Common.{◌≡◌, ℕ, zero, suc, ◌+◌, ◌*◌, ◌-◌, ◌^◌, ◌<◌, ◌≤◌, Bool, true, false, not, cond, nat_lt, List, [], ◌∷◌}
-use Rattle.std.proofs.Common.{length, take, drop, map, refl, sym, ap, ◌∙◌, arith}
+use Rattle.std.proofs.Common.{length, take, drop, map, Some, None, eqb-true, refl, sym, ap, ◌∙◌, arith}
 use Rattle.std.specs.Prelude.{◌==◌, ◌&&◌, ◌||◌, nat_le}
 use Rattle.std.specs.List.{range_with_len}
 use Rattle.std.proofs.lemmas.List.{take_all}
@@ -10,14 +10,14 @@ use Rattle.mm_word.specs.declared.word.Word.TheVariants.{Int, Ptr}
 use Rattle.mm_word.specs.declared.word.Cell.{Cell}
 use Rattle.mm_word.specs.Pointer.{Pointer, pointer_of, bits_of, spells_pointer}
 use Rattle.mm_word.specs.Word.{word_bits, is_pointer}
+use Rattle.mm_model.specs.declared.slot.SlotState.TheVariants.{Running, Halted}
 use Rattle.mm_model.specs.Flags.{flags, number_of_flags}
 use Rattle.mm_model.specs.Slot.{Slot}
 use Rattle.mm_model.specs.Image.{Image, slot_limit}
 use Rattle.mm_model.specs.Places.{IsBytes, bit_at}
 use Rattle.mm_model.specs.Spelling.{handler_byte, state_byte, bitmap}
-use Rattle.mm_model.proofs.ImageBytes.Clean.{neither, not_not, is_above}
+use Rattle.mm_model.proofs.ImageBytes.Clean.{neither, not_not, is_above, is_not}
 use Rattle.mm_model.proofs.ImageBytes.CleanWords.{bits_again}
-use Rattle.mm_model.proofs.ImageBytes.CleanRecords.{handler_again, state_again}
 use Rattle.mm_model.proofs.ImageBytes.Bitmaps.{number_of_flags-flags, bitmap-part}
 use Rattle.mm_model.proofs.ImageBytes.Ranges.{map-map}
 use Rattle.mm_format.specs.declared.header.Header.{Header}
@@ -75,6 +75,14 @@ ip_is =
 
 -- 2. Slots.
 
+handler_again : (none : Bool) (h : ℕ) → (h == 255) ≡ none → handler_byte (cond none None (Some h)) ≡ h
+handler_again true h e = sym (eqb-true h 255 e)
+handler_again false h e = refl
+
+state_again : (running : Bool) (n : ℕ) → n ≤ 1 → (n == 0) ≡ running → state_byte (cond running Running (Halted None)) ≡ n
+state_again true n le e = sym (eqb-true n 0 e)
+state_again false n le e = let ne = is_not n 0 e in omega arith
+
 pub slot_is : (limit least : ℕ) → IsFormat (slot limit least)
 unfolding slot
 slot_is limit least =
@@ -95,7 +103,9 @@ slot_is limit least =
 
 pub slots_is : (version count : ℕ) → IsFormat (slots version count)
 unfolding slots
-slots_is version count = late_is _ _ (times_is (slot (slot_limit version)) (λ _ s. s.number + 1) (slot_is (slot_limit version)) count 0)
+slots_is version count =
+    late_is _ (λ all. handler_tests all 0 all)
+    (times_is (slot (slot_limit version)) (λ _ s. s.number + 1) (slot_is (slot_limit version)) count 0)
 
 -- 3. Pages.
 
@@ -131,9 +141,9 @@ pub slots_long : (version count : ℕ) (xs : List Slot) → (slots version count
 unfolding slots
 slots_long version count xs fits = times_long (slot (slot_limit version)) (λ _ s. s.number + 1) count 0 xs fits.0
 
-same_header : (h : Header) (i : Image) → i.version ≡ h.version → length i.slots ≡ h.slots → i.memory.frames ≡ h.frames
-    → length i.memory.pages ≡ h.pages → i.split ≡ h.split → header_in i ≡ h
-same_header h i version slots frames pages split = cc
+same_header : (v s f p : ℕ) (b : Bool) (i : Image) → i.version ≡ v → length i.slots ≡ s → i.memory.frames ≡ f
+    → length i.memory.pages ≡ p → i.split ≡ b → header_in i ≡ record { version = v; slots = s; frames = f; pages = p; split = b }
+same_header v s f p b i version counted frames pages split = cc
 
 pub image_is : IsFormat image
 unfolding image
@@ -143,6 +153,6 @@ image_is =
     then_is _ _ (times_is page (λ _ p. p.0 + 1) page_is head.pages 0) (λ ps _. done_is _)
     (λ a i fits e. ap (λ (i : Image). i.memory.pages) e))
     (λ a i fits e. ap (λ (i : Image). i.slots) e.1))
-    (λ a i fits e. same_header a i (ap (λ (i : Image). i.version) e.1.1) (slots_long a.version a.slots i.slots e.0)
+    (λ a i fits e. same_header a.version a.slots a.frames a.pages a.split i (ap (λ (i : Image). i.version) e.1.1) (slots_long a.version a.slots i.slots e.0)
     (ap (λ (i : Image). i.memory.frames) e.1.1) (times_long page (λ _ p. p.0 + 1) a.pages 0 i.memory.pages e.1.0)
     (ap (λ (i : Image). i.split) e.1.1))

@@ -5,3 +5,5 @@ pub mod Says
 pub mod Headers
 pub mod Lists
 pub mod Images
+pub mod ImagesSay
+pub mod ImagesFit

@@ -77,7 +77,9 @@ module _ {A : Type 0} where
   pub says_done : (v : A) (bytes : List ℕ) (at : ℕ) → Says (λ bytes at. Got v at) bytes at [] v at
   says_done v bytes at = record { is = refl }
 
-  -- a list
+-- 2. Lists.
+
+module _ {A : Type 0} where
   pub says_cons : (f : Format A) (rest : A → Format (List A)) {bytes : List ℕ} {at : ℕ} {ps qs : List Place} {a : A} {next : ℕ} {others : List A} {end : ℕ} → Says f.read bytes at ps a next
       → Says (rest a).read bytes next qs others end → Says (cons f rest).read bytes at (ps ++ qs) (a ∷ others) end
   unfolding cons
@@ -99,11 +101,11 @@ module _ {A : Type 0} where
       → ((k : ℕ) → Says (f (state k)).read bytes (offset k) (places k) (value k) (offset (k + 1))) → ((k : ℕ) → onward (state k) (value k) ≡ state (k + 1)) → (from n : ℕ)
       → Says (times f onward n (state from)).read bytes (offset from) (in_turn places from n) (map value (range_with_len from n)) (offset (from + n))
   unfolding in_turn
-  says_times f onward bytes state offset places value each step from zero = says_moved refl (ap offset {x = from} (omega arith)) (says_done [] bytes (offset from))
-  says_times f onward bytes state offset places value each step from (suc n) =
+  says_times f onward bytes state offset places value record_is step from zero = says_moved refl (ap offset {x = from} (omega arith)) (says_done [] bytes (offset from))
+  says_times f onward bytes state offset places value record_is step from (suc n) =
       let there : from + 1 + n ≡ from + suc n = omega arith in
-      let others = says_moved refl (ap offset there) (says_times f onward bytes state offset places value each step (from + 1) n) in
-      says_cons (f (state from)) (λ a. times f onward n (onward (state from) a)) (each from) (rw (step from) others)
+      let others = says_moved refl (ap offset there) (says_times f onward bytes state offset places value record_is step (from + 1) n) in
+      says_cons (f (state from)) (λ a. times f onward n (onward (state from) a)) (record_is from) (rw (step from) others)
 
   pub says_each : {B : Type 0} (f : B → Format A) (bytes : List ℕ) (tag : ℕ → B) (offset : ℕ → ℕ) (places : ℕ → List Place) (value : ℕ → A)
       → ((k : ℕ) → Says (f (tag k)).read bytes (offset k) (places k) (value k) (offset (k + 1))) → (from n : ℕ)
