@@ -105,7 +105,7 @@ bytes_bitmap : (count : ℕ) (fs : List Bool) → IsBytes (bitmap count fs)
 bytes_bitmap zero fs i = omega arith
 bytes_bitmap (suc count) fs zero =
     let small = number_of_flags-below (take 8 fs) in
-    let few : 2 ^ length (take 8 fs) ≤ 2 ^ 8 = pow_mono (omega (arith, length-take 8 fs)) in
+    let few : 2 ^ length (take 8 fs) ≤ 2 ^ 8 = pow_mono {i = length (take 8 fs)} {j = 8} (omega (arith, length-take 8 fs)) in
     omega (arith, small, few)
 bytes_bitmap (suc count) fs (suc i) = bytes_bitmap count (drop 8 fs) i
 
@@ -178,13 +178,13 @@ module _ (limit : ℕ) (all : List Slot) where
       let state = state_again s.state f.begins in
       let h = handler_again s.handler handler in (
         (omega (arith, f.number), or_false _ _ (not_le s.number limit f.number) (not_lt s.number least order)),
-        (omega (arith, f.group), not_le s.group limit f.group),
-        h.0,
-        (omega (arith, state.0), not_lt 1 (state_byte s.state) state.0),
-        fits_ip s.ip f.ip f.executable,
-        fits_mask (map is_pointer s.regs) (length-map s.regs is_pointer ∙ f.registers),
-        fit_words s.regs f.words,
-        same_slot s.number s.group s.handler _ s.regs s.ip s.past s.turns s.state _ s.empty s.pending h.1 f.past f.turns state.1 f.empty f.pending,
+        ((omega (arith, f.group), not_le s.group limit f.group),
+        (h.0,
+        ((omega (arith, state.0), not_lt 1 (state_byte s.state) state.0),
+        (fits_ip s.ip f.ip f.executable,
+        (fits_mask (map is_pointer s.regs) (length-map s.regs is_pointer ∙ f.registers),
+        (fit_words s.regs f.words,
+        same_slot s.number s.group s.handler _ s.regs s.ip s.past s.turns s.state _ s.empty s.pending h.1 f.past f.turns state.1 f.empty f.pending)))))),
       )
 
   -- each number is at least so much and above the one before
@@ -195,14 +195,14 @@ module _ (limit : ℕ) (all : List Slot) where
   rises : (least : ℕ) (xs : List Slot) → Rise least xs → IsStrictlyIncreasing (numbers_of xs)
   rises least [] rise k lt = absurd (omega arith)
   rises least (s ∷ []) rise k lt = absurd (omega arith)
-  rises least (s ∷ t ∷ xs) rise zero lt = rise.1.0
+  rises least (s ∷ t ∷ xs) rise zero lt = omega (arith, rise.1.0)
   rises least (s ∷ t ∷ xs) rise (suc k) lt =
       let next : suc k + 1 ≡ suc (k + 1) = omega arith in
       subst (λ n. slice_index (numbers_of (s ∷ t ∷ xs)) (suc k) < slice_index (numbers_of (s ∷ t ∷ xs)) n) (sym next) (rises (s.number + 1) (t ∷ xs) rise.1 k (omega arith))
 
   rise_from : (least : ℕ) (s : Slot) (xs : List Slot) → least ≤ s.number → IsStrictlyIncreasing (numbers_of (s ∷ xs)) → Rise least (s ∷ xs)
   rise_from least s [] low up = (low, tt)
-  rise_from least s (t ∷ xs) low up = (low, rise_from (s.number + 1) t xs (up 0 (omega arith)) (λ k lt.
+  rise_from least s (t ∷ xs) low up = (low, rise_from (s.number + 1) t xs (omega (arith, up 0 (omega arith))) (λ k lt.
       let next : suc k + 1 ≡ suc (k + 1) = omega arith in
       subst (λ n. slice_index (numbers_of (s ∷ t ∷ xs)) (suc k) < slice_index (numbers_of (s ∷ t ∷ xs)) n) next (up (suc k) (omega arith))))
 
@@ -265,10 +265,10 @@ fits_page : (least : ℕ) (p : ℕ × List Cell) → IsPage p → HoldsWords p �
 unfolding page
 fits_page least p whole words order = (
   (omega (arith, whole.number), or_false _ _ (not_le p.0 (2 ^ 42) whole.number) (not_lt p.0 least order)),
-  fits_bits _ (length-map p.1 (λ (c : Cell). is_pointer c.word) ∙ whole.cells),
-  fits_bits _ (length-map p.1 (λ (c : Cell). c.full) ∙ whole.cells),
-  subst (λ tags. (each word tags).Fits (map (λ (c : Cell). c.word) p.1)) (map-map is_pointer (λ (c : Cell). c.word) p.1) (fit_words (map (λ (c : Cell). c.word) p.1) (words_cells p.1 words)),
-  ap (λ cs. (p.0, cs)) (cells_again p.1),
+  (fits_bits _ (length-map p.1 (λ (c : Cell). is_pointer c.word) ∙ whole.cells),
+  (fits_bits _ (length-map p.1 (λ (c : Cell). c.full) ∙ whole.cells),
+  (subst (λ tags. (each word tags).Fits (map (λ (c : Cell). c.word) p.1)) (map-map is_pointer (λ (c : Cell). c.word) p.1) (fit_words (map (λ (c : Cell). c.word) p.1) (words_cells p.1 words)),
+  ap (λ cs. (p.0, cs)) (cells_again p.1)))),
 )
 
 pub record PagesAre (least : ℕ) (xs : List (ℕ × List Cell)) : Type 0 where
@@ -350,16 +350,16 @@ fits_image i is =
     let are : SlotsAre limit i.slots 0 i.slots = record { rise = rise_all limit i.slots i.slots is.rising; fresh = is.fresh } in (
       (
         ((refl, magic), refl),
-        (version, small.2),
-        (omega (arith, is.few_slots, small.0), or_false _ _ (not_zero _ is.some_slots) (not_lt _ _ is.few_slots)),
-        (omega (arith, is.few_frames, small.1), or_false _ _ (not_zero _ is.some_frames) (not_lt _ _ is.few_frames)),
-        (omega (arith, is.paged.fitting, is.few_frames, small.1), not_lt _ _ is.paged.fitting),
-        (mode.0, mode.1),
-        same i.version (length i.slots) i.memory.frames (length i.memory.pages) i.split _ mode.2,
+        ((version, small.2),
+        ((omega (arith, is.few_slots, small.0), or_false _ _ (not_zero _ is.some_slots) (not_lt _ _ is.few_slots)),
+        ((omega (arith, is.few_frames, small.1), or_false _ _ (not_zero _ is.some_frames) (not_lt _ _ is.few_frames)),
+        ((omega (arith, is.paged.fitting, is.few_frames, small.1), not_lt _ _ is.paged.fitting),
+        ((mode.0, mode.1),
+        same i.version (length i.slots) i.memory.frames (length i.memory.pages) i.split _ mode.2))))),
       ),
-      (fit_slots limit i.slots 0 i.slots small.0 are (handlers_small limit i.slots i.slots small.0 is.fresh is.fresh), handlers_right limit i.slots 0 i.slots is.fresh),
-      fit_pages 0 i.memory.pages (record { rise = rising_from_sorted i.memory.pages is.paged.pages.rising; whole = is.paged.pages.whole; words = is.words }),
-      refl,
+      ((fit_slots limit i.slots 0 i.slots small.0 are (handlers_small limit i.slots i.slots small.0 is.fresh is.fresh), handlers_right limit i.slots 0 i.slots is.fresh),
+      (fit_pages 0 i.memory.pages (record { rise = rising_from_sorted i.memory.pages is.paged.pages.rising; whole = is.paged.pages.whole; words = is.words }),
+      refl)),
     )
   where
     magic : IsBytes (codes "MMI1")

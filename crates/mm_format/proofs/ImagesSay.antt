@@ -146,7 +146,7 @@ module _ (bytes : List ℕ) where
 
   -- 4. The whole.
 
-  says_image : Says image.read bytes 0 (header_places bytes ++ ((slots_places bytes (version_of bytes) (slots_of bytes) ++ handlers_places bytes (slots_at bytes (slots_of bytes))) ++ pages_places bytes (slots_of bytes) (pages_of bytes)))
+  pub says_image : Says image.read bytes 0 (header_places bytes ++ ((slots_places bytes (version_of bytes) (slots_of bytes) ++ handlers_places bytes (slots_at bytes (slots_of bytes))) ++ pages_places bytes (slots_of bytes) (pages_of bytes)))
       (image_of bytes) (page_offset (slots_of bytes) (pages_of bytes))
   unfolding image image_of
   says_image =

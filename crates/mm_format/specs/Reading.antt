@@ -11,7 +11,15 @@ number_of faults.Short = 1
 number_of faults.Magic = 2
 number_of faults.Version = 3
 number_of faults.Count = 4
+number_of faults.SlotOrder = 5
+number_of faults.Group = 6
+number_of faults.Handler = 7
+number_of faults.State = 8
+number_of faults.Pointer = 9
+number_of faults.Ip = 10
+number_of faults.PageOrder = 11
 number_of faults.Frames = 12
+number_of faults.Trailing = 13
 
 -- an error is the fault that reading gives, unless memory ran out
 abbrev pub Fails : {A : Type 0} → Outcome A → ReadError → Type 0

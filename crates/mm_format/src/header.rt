@@ -9,7 +9,7 @@ use crate::reader::{Fault, ReadError, Reader, refuse_if};
 use std::alloc::AllocError;
 
 /// How many slots a version has at most.
-pub(crate) fn slot_limit(version: u16) -> u16
+pub(crate) fn slot_limit(version: u16) -> u8
     ensures { result ≡ slot_limit version }
 {
     if version == 1 { 16 } else { 64 }
@@ -46,7 +46,7 @@ pub fn read_header(reader: &mut Reader) -> Result<Header, ReadError>
     refuse_if(!(version == 1 || version == 2), Fault::Version, at)?;
     let at = reader.at;
     let slots = reader.u16()?;
-    refuse_if(slots == 0 || slots > slot_limit(version), Fault::Count, at)?;
+    refuse_if(slots == 0 || slots > u16::from(slot_limit(version)), Fault::Count, at)?;
     let at = reader.at;
     let frames = reader.u16()?;
     refuse_if(frames == 0 || frames > frame_limit(version), Fault::Frames, at)?;

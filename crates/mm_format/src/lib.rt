@@ -4,6 +4,7 @@
 mod header;
 pub mod laws;
 mod reader;
+mod slots;
 
 pub use header::Header;
 pub use reader::{Fault, ReadError, Reader};

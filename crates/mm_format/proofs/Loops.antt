@@ -1,0 +1,69 @@
+-- Lists, as loops read them.
+use Rattle.std.proofs.Common.{◌≡◌, ℕ, zero, suc, ◌+◌, ◌-◌, ◌≤◌, ◌<◌, List, [], ◌∷◌, ◌++◌, drop, length, get_or, refl, sym, ap, subst, ◌∙◌}
+use Rattle.std.proofs.Common.{append_assoc, arith}
+use Rattle.std.proofs.lemmas.List.{append-nil, drop_more, drop_all}
+use Rattle.mm_format.specs.declared.reader.ReadError.{ReadError}
+use Rattle.mm_format.specs.declared.reader.ReadError.TheVariants as errors
+use Rattle.mm_format.specs.Formats.{Outcome, Format, after, cons, done, times, each}
+use Rattle.mm_format.specs.Formats.Outcome.{Got, Bad}
+use Rattle.mm_format.specs.Reading.{number_of, Fails}
+
+module _ {A : Type 0} where
+  -- what was read before, and what is still read
+  abbrev pub prefixed : List A → Outcome (List A) → Outcome (List A)
+  prefixed front read = after read (λ others end. Got (front ++ others) end)
+
+  regroup : (front : List A) (x : A) (o : Outcome (List A)) → prefixed front (after o (λ others end. Got (x ∷ others) end)) ≡ prefixed (front ++ x ∷ []) o
+  regroup front x (Got others end) = ap (λ xs. Got xs end) (sym (append_assoc front (x ∷ []) others))
+  regroup front x (Bad n p) = refl
+
+  pub nothing_before : (o : Outcome (List A)) → prefixed [] o ≡ o
+  nothing_before (Got xs end) = refl
+  nothing_before (Bad n p) = refl
+
+  pub is_read : (front : List A) (at : ℕ) (total : Outcome (List A)) → prefixed front (Got [] at) ≡ total → total ≡ Got front at
+  is_read front at total so_far = sym so_far ∙ ap (λ xs. Got xs at) (append-nil front)
+
+  module _ (f : Format A) (rest : A → Format (List A)) (bytes : List ℕ) (at : ℕ) (front : List A) (total : Outcome (List A)) (so_far : prefixed front ((cons f rest).read bytes at) ≡ total) where
+    pub one_more : (a : A) (next : ℕ) → f.read bytes at ≡ Got a next → prefixed (front ++ a ∷ []) ((rest a).read bytes next) ≡ total
+    unfolding cons
+    one_more a next e =
+        sym (regroup front a ((rest a).read bytes next))
+        ∙ sym (ap (λ o. prefixed front (after o (λ x n. after ((rest x).read bytes n) (λ others end. Got (x ∷ others) end)))) e)
+        ∙ so_far
+
+    pub stops : (e : ReadError) → Fails (f.read bytes at) e → Fails total e
+    unfolding cons
+    stops errors.NoMemory fails = tt
+    stops (errors.Fault kind offset) fails =
+        sym so_far ∙ ap (λ o. prefixed front (after o (λ x n. after ((rest x).read bytes n) (λ others end. Got (x ∷ others) end)))) fails
+
+-- the loop over a count
+module _ {S A : Type 0} (f : S → Format A) (onward : S → A → S) (count k : ℕ) (s : S) (bytes : List ℕ) (at : ℕ) (front : List A) (total : Outcome (List A)) (so_far : prefixed front ((times f onward (count - k) s).read bytes at) ≡ total) where
+  unrolled : k < count → prefixed front ((cons (f s) (λ a. times f onward (count - (k + 1)) (onward s a))).read bytes at) ≡ total
+  unrolled lt = subst (λ n. prefixed front ((times f onward n s).read bytes at) ≡ total) (omega arith) so_far
+
+  pub times_more : k < count → (a : A) (next : ℕ) → (f s).read bytes at ≡ Got a next
+      → prefixed (front ++ a ∷ []) ((times f onward (count - (k + 1)) (onward s a)).read bytes next) ≡ total
+  times_more lt a next e = one_more (f s) (λ a. times f onward (count - (k + 1)) (onward s a)) bytes at front total (unrolled lt) a next e
+
+  pub times_stop : k < count → (e : ReadError) → Fails ((f s).read bytes at) e → Fails total e
+  times_stop lt e fails = stops (f s) (λ a. times f onward (count - (k + 1)) (onward s a)) bytes at front total (unrolled lt) e fails
+
+  pub times_read : count ≤ k → total ≡ Got front at
+  times_read le = is_read front at total (subst (λ n. prefixed front ((times f onward n s).read bytes at) ≡ total) (omega arith) so_far)
+
+-- the loop over a list
+module _ {B A : Type 0} (f : B → Format A) (bs : List B) (k : ℕ) (d : B) (bytes : List ℕ) (at : ℕ) (front : List A) (total : Outcome (List A)) (so_far : prefixed front ((each f (drop k bs)).read bytes at) ≡ total) where
+  each_unrolled : k < length bs → prefixed front ((cons (f (get_or bs k d)) (λ _. each f (drop (k + 1) bs))).read bytes at) ≡ total
+  each_unrolled lt = subst (λ xs. prefixed front ((each f xs).read bytes at) ≡ total) (drop_more bs k d lt) so_far
+
+  pub each_more : k < length bs → (a : A) (next : ℕ) → (f (get_or bs k d)).read bytes at ≡ Got a next
+      → prefixed (front ++ a ∷ []) ((each f (drop (k + 1) bs)).read bytes next) ≡ total
+  each_more lt a next e = one_more (f (get_or bs k d)) (λ _. each f (drop (k + 1) bs)) bytes at front total (each_unrolled lt) a next e
+
+  pub each_stop : k < length bs → (e : ReadError) → Fails ((f (get_or bs k d)).read bytes at) e → Fails total e
+  each_stop lt e fails = stops (f (get_or bs k d)) (λ _. each f (drop (k + 1) bs)) bytes at front total (each_unrolled lt) e fails
+
+  pub each_read : length bs ≤ k → total ≡ Got front at
+  each_read le = is_read front at total (subst (λ xs. prefixed front ((each f xs).read bytes at) ≡ total) (drop_all k bs le) so_far)
