@@ -23,7 +23,7 @@ use Rattle.mm_model.proofs.ImageBytes.Ranges.{map-map}
 use Rattle.mm_format.specs.declared.header.Header.{Header}
 use Rattle.mm_format.specs.Formats.{Format, IsFormat, u16, u64, byte, raw, each, times, late}
 use Rattle.mm_format.specs.Headers.{header}
-use Rattle.mm_format.specs.Images.{mask, bits_in, bits, word, ip, slot, cells_of, page, handler_tests, slots, header_in, image}
+use Rattle.mm_format.specs.Images.{mask, flags_of, bits_in, bits, word, ip, slot, cells_of, page, handler_tests, slots, header_in, image}
 use Rattle.mm_format.proofs.Formats.{byte_is, u16_is, u64_is, raw_is, test_is, then_is, done_is}
 use Rattle.mm_format.proofs.Headers.{header_is}
 use Rattle.mm_format.proofs.Lists.{times_is, times_long, each_is, each_long, late_is}
@@ -31,7 +31,7 @@ use Rattle.mm_format.proofs.Lists.{times_is, times_long, each_is, each_long, lat
 -- 1. Flags and words.
 
 pub mask_is : IsFormat mask
-unfolding mask
+unfolding mask flags_of
 mask_is = then_is _ _ u16_is (λ n _. done_is _) (λ n fs small e. ap number_of_flags e ∙ number_of_flags-flags 16 n small)
 
 bits_back : (size : ℕ) (bytes : List ℕ) → length bytes ≡ size → IsBytes bytes → bitmap size (bits_in size bytes) ≡ bytes

@@ -36,7 +36,7 @@ use Rattle.mm_model.proofs.ImageBytes.SpelledRecords.{is_spelled, not_le, not_lt
 use Rattle.mm_model.proofs.ImageBytes.SpelledSlots.{handler_small, handler_good}
 use Rattle.mm_format.specs.Formats.{each, times, cons, first_late}
 use Rattle.mm_format.specs.Headers.{header}
-use Rattle.mm_format.specs.Images.{mask, bits_in, bits, word, ip, slot, cells_of, page, handler_tests, slots, header_in, image}
+use Rattle.mm_format.specs.Images.{mask, flags_of, bits_in, bits, word, ip, slot, cells_of, page, handler_tests, slots, header_in, image}
 use Rattle.mm_format.proofs.Images.{bits_long, words_tags}
 use Rattle.mm_format.proofs.Lists.{times_long}
 
@@ -81,7 +81,7 @@ fits_ip p h fetch =
 -- 2. Flags.
 
 fits_mask : (fs : List Bool) → length fs ≡ 16 → mask.Fits fs
-unfolding mask
+unfolding mask flags_of
 fits_mask fs long =
     (subst (λ n. number_of_flags fs < 2 ^ n) long (number_of_flags-below fs), sym (ap (λ n. flags n (number_of_flags fs)) (sym long) ∙ again fs))
   where
@@ -147,7 +147,7 @@ handler_again (Some h) small = let other : (h == 255) ≡ false = grind (arith, 
 
 module _ (limit : ℕ) (all : List Slot) where
   slot_fits : (least : ℕ) (s : Slot) → (slot limit least).Fits s → is_bad_handler all s ≡ false → IsFresh limit all s
-  unfolding slot mask
+  unfolding slot mask flags_of
   slot_fits least s fits right =
       let is = fits.1.1.1.1.1.1.1 in
       let p = ip_fits s.ip fits.1.1.1.1.0 in

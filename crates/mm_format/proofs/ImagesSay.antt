@@ -22,7 +22,7 @@ use Rattle.mm_model.proofs.ImageBytes.Bitmaps.{bits-flags}
 use Rattle.mm_model.proofs.ImageBytes.Ranges.{map-same}
 use Rattle.mm_format.specs.Formats.{Outcome, whole, answer, file, each, times}
 use Rattle.mm_format.specs.Headers.{header, header_of}
-use Rattle.mm_format.specs.Images.{mask, bits_in, bits, word, ip, slot, cells_of, page, handler_tests, slots, image}
+use Rattle.mm_format.specs.Images.{mask, flags_of, bits_in, bits, word, ip, slot, cells_of, page, handler_tests, slots, image}
 use Rattle.mm_format.proofs.Headers.{header_says}
 use Rattle.mm_format.proofs.Says.{Says, says_moved, says_value, says_field, says_test, says_then, says_done, says_times, says_each, says_late, place_of}
 
@@ -33,7 +33,7 @@ module _ (bytes : List ℕ) where
   -- 1. Flags and words.
 
   says_mask : (at next : ℕ) → at + 2 ≡ next → Says mask.read bytes at (Field at 2 ∷ []) (map (mask_bit_at bytes at) (range_with_len 0 16)) next
-  unfolding mask
+  unfolding mask flags_of
   says_mask at next there =
       says_value (sym (bits-flags 16 (number_at bytes at 2)))
       (says_then _ _ (says_field (number 2) 2 bytes at next there) (says_done (flags 16 (number_at bytes at 2)) bytes next) refl)

@@ -41,7 +41,9 @@ module _ {A : Type 0} where
 -- the loop over a count
 module _ {S A : Type 0} (f : S → Format A) (onward : S → A → S) (count k : ℕ) (s : S) (bytes : List ℕ) (at : ℕ) (front : List A) (total : Outcome (List A)) (so_far : prefixed front ((times f onward (count - k) s).read bytes at) ≡ total) where
   unrolled : k < count → prefixed front ((cons (f s) (λ a. times f onward (count - (k + 1)) (onward s a))).read bytes at) ≡ total
-  unrolled lt = subst (λ n. prefixed front ((times f onward n s).read bytes at) ≡ total) (omega arith) so_far
+  unrolled lt =
+      let some : count - k ≡ suc (count - (k + 1)) = omega arith in
+      subst (λ n. prefixed front ((times f onward n s).read bytes at) ≡ total) some so_far
 
   pub times_more : k < count → (a : A) (next : ℕ) → (f s).read bytes at ≡ Got a next
       → prefixed (front ++ a ∷ []) ((times f onward (count - (k + 1)) (onward s a)).read bytes next) ≡ total
@@ -51,7 +53,9 @@ module _ {S A : Type 0} (f : S → Format A) (onward : S → A → S) (count k :
   times_stop lt e fails = stops (f s) (λ a. times f onward (count - (k + 1)) (onward s a)) bytes at front total (unrolled lt) e fails
 
   pub times_read : count ≤ k → total ≡ Got front at
-  times_read le = is_read front at total (subst (λ n. prefixed front ((times f onward n s).read bytes at) ≡ total) (omega arith) so_far)
+  times_read le =
+      let none : count - k ≡ 0 = omega arith in
+      is_read front at total (subst (λ n. prefixed front ((times f onward n s).read bytes at) ≡ total) none so_far)
 
 -- the loop over a list
 module _ {B A : Type 0} (f : B → Format A) (bs : List B) (k : ℕ) (d : B) (bytes : List ℕ) (at : ℕ) (front : List A) (total : Outcome (List A)) (so_far : prefixed front ((each f (drop k bs)).read bytes at) ≡ total) where

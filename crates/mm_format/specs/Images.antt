@@ -19,11 +19,15 @@ use Rattle.mm_format.specs.declared.header.Header.{Header}
 use Rattle.mm_format.specs.Formats.{Format, Late, byte, u16, u64, raw, test, late, part, done, ◌>>=◌, times, each}
 use Rattle.mm_format.specs.Headers.{header}
 
+-- sixteen flags of a number
+unfoldable pub flags_of : ℕ → List Bool
+flags_of bits = flags 16 bits
+
 -- sixteen flags in two bytes
 unfoldable pub mask : Format (List Bool)
 mask = do
   bits ← part number_of_flags u16
-  done (flags 16 bits)
+  done (flags_of bits)
 
 -- the flags of so many bytes
 unfoldable pub bits_in : (size : ℕ) → List ℕ → List Bool

@@ -5,10 +5,9 @@ ghost use Rattle.std.specs.List.{AllByRecursion};
 ghost use Rattle.mm_word.specs.Perm.{can_fetch};
 ghost use Rattle.mm_word.specs.Pointer.{IsWellFormed};
 ghost use Rattle.mm_word.specs.Word.{IsWord};
-ghost use Rattle.mm_model.specs.Flags.{flags};
 ghost use Rattle.mm_model.specs.Image.{slot_limit};
 ghost use Rattle.mm_format.specs.Formats.{each, times};
-ghost use Rattle.mm_format.specs.Images.{word, ip, slot};
+ghost use Rattle.mm_format.specs.Images.{word, ip, slot, flags_of};
 ghost use Rattle.mm_format.specs.Reading.{Reads};
 
 use crate::header::slot_limit;
@@ -63,7 +62,7 @@ impl Reader<'_> {
 
     /// Sixteen registers with these tags.
     pub fn registers(&mut self, tags: u16) -> Result<[Word; 16], ReadError>
-        ensures read { Reads (λ regs. regs) ((each word (flags 16 tags)).read self.old.bytes.now self.old.at)
+        ensures read { Reads (λ regs. regs) ((each word (flags_of tags)).read self.old.bytes.now self.old.at)
             self.new.at result }
         ensures same { self.new.bytes.now ≡ self.old.bytes.now }
         ensures words { IfOk result (λ regs. AllByRecursion IsWord regs) }

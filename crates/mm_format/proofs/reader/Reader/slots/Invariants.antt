@@ -3,7 +3,7 @@ use Rattle.mm_model.specs.Image.{slot_limit}
 use Rattle.mm_format.specs.Formats.{times}
 use Rattle.mm_format.specs.Images.{slot}
 use Rattle.mm_format.proofs.Loops.{prefixed}
-use Rattle.mm_format.proofs.slots.Reader.slots.Given as goal
+use Rattle.mm_format.proofs.reader.Reader.slots.Given as goal
 
 abbrev pub invariant-loop : goal.invariant-loop
 invariant-loop l = record {
