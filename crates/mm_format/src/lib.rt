@@ -4,7 +4,9 @@
 mod header;
 pub mod laws;
 mod reader;
+mod run;
 mod slots;
 
 pub use header::Header;
+pub use run::{Run, read_run};
 pub use reader::{Fault, ReadError, Reader};

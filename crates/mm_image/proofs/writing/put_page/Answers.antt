@@ -1,10 +1,25 @@
-use Rattle.std.proofs.Common.{◌++◌, append_assoc}
-use Rattle.mm_model.specs.Spelling.{page_record}
+use Rattle.std.proofs.Common.{◌++◌, ℕ, List, map, ap, ◌∙◌}
+use Rattle.std.specs.Int.{w64, to_be_bytes}
+use Rattle.mm_word.specs.declared.word.Cell.{Cell}
+use Rattle.mm_word.specs.Word.{is_pointer}
+use Rattle.mm_model.specs.Spelling.{bitmap, words_spelling, page_record}
+use Rattle.mm_image.proofs.Written.{both_written}
 use Rattle.mm_image.proofs.writing.put_page.Goals as goal
 
 pub returns : goal.returns
 unfolding page_record
 returns c =
-    rw (c.in_ok-put_cells.ensures, c.in_ok-put_full_bits.ensures, c.in_ok-put_tags.ensures,
-    c.in_ok-extend_from_slice.ensures.items, c.to_be_bytes.ensures, c.number.ensures.number, c.cells.ensures.cells,
-    c.cells-2.ensures.cells, c.cells-3.ensures.cells) (simp append_assoc)
+    let old = c.args.out.now.items in
+    let page = c.args.page.now in
+    let n1 = c.extend_from_slice.new.self.items in
+    let n2 = c.put_tags.new.out.items in
+    let n3 = c.put_full_bits.new.out.items in
+    let n4 = c.put_cells.new.out.items in
+    let number = to_be_bytes w64 page.0 in
+    let tags = bitmap 64 (map (λ (c : Cell). is_pointer c.word) page.1) in
+    let full = bitmap 64 (map (λ (c : Cell). c.full) page.1) in
+    let words = words_spelling (map (λ (c : Cell). c.word) page.1) in
+    let e1 = c.in_ok-extend_from_slice.ensures.items ∙ ap (λ (t : List ℕ). old ++ t) (c.to_be_bytes.ensures ∙ ap (to_be_bytes w64) c.number.ensures.number) in
+    let e2 = both_written old n1 n2 number tags e1 (c.in_ok-put_tags.ensures ∙ ap (λ (cells : List Cell). n1 ++ bitmap 64 (map (λ (c : Cell). is_pointer c.word) cells)) c.cells.ensures.cells) in
+    let e3 = both_written old n2 n3 (number ++ tags) full e2 (c.in_ok-put_full_bits.ensures ∙ ap (λ (cells : List Cell). n2 ++ bitmap 64 (map (λ (c : Cell). c.full) cells)) c.cells-2.ensures.cells) in
+    both_written old n3 n4 (number ++ tags ++ full) words e3 (c.in_ok-put_cells.ensures ∙ ap (λ (cells : List Cell). n3 ++ words_spelling (map (λ (c : Cell). c.word) cells)) c.cells-3.ensures.cells)
