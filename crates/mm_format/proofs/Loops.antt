@@ -4,7 +4,7 @@ use Rattle.std.proofs.Common.{append_assoc, arith}
 use Rattle.std.proofs.lemmas.List.{append-nil, drop_more, drop_all}
 use Rattle.mm_format.specs.declared.reader.ReadError.{ReadError}
 use Rattle.mm_format.specs.declared.reader.ReadError.TheVariants as errors
-use Rattle.mm_format.specs.Formats.{Outcome, Format, after, cons, done, times, each}
+use Rattle.mm_format.specs.Formats.{Outcome, Format, after, cons, done, times, each, runs}
 use Rattle.mm_format.specs.Formats.Outcome.{Got, Bad}
 use Rattle.mm_format.specs.Reading.{number_of, Fails}
 
@@ -71,3 +71,42 @@ module _ {B A : Type 0} (f : B → Format A) (bs : List B) (k : ℕ) (d : B) (by
 
   pub each_read : length bs ≤ k → total ≡ Got front at
   each_read le = is_read front at total (subst (λ xs. prefixed front ((each f xs).read bytes at) ≡ total) (drop_all k bs le) so_far)
+
+-- the loop over any records
+module _ {S A : Type 0} (read : S → List ℕ → ℕ → Outcome A) (onward : S → A → S) (count k : ℕ) (s : S) (bytes : List ℕ) (at : ℕ) (front : List A) (total : Outcome (List A)) (so_far : prefixed front (runs read onward (count - k) s bytes at) ≡ total) where
+  abbrev others : A → ℕ → Outcome (List A)
+  others a next = after (runs read onward (count - (k + 1)) (onward s a) bytes next) (λ xs end. Got (a ∷ xs) end)
+
+  runs_unrolled : k < count → prefixed front (after (read s bytes at) others) ≡ total
+  runs_unrolled lt =
+      let some : count - k ≡ suc (count - (k + 1)) = omega arith in
+      subst (λ n. prefixed front (runs read onward n s bytes at) ≡ total) some so_far
+
+  pub runs_more : k < count → (a : A) (next : ℕ) → read s bytes at ≡ Got a next
+      → prefixed (front ++ a ∷ []) (runs read onward (count - (k + 1)) (onward s a) bytes next) ≡ total
+  runs_more lt a next e =
+      sym (regroup front a (runs read onward (count - (k + 1)) (onward s a) bytes next))
+      ∙ sym (ap (λ o. prefixed front (after o others)) e) ∙ runs_unrolled lt
+
+  pub runs_stop : k < count → (e : ReadError) → Fails (read s bytes at) e → Fails total e
+  runs_stop lt errors.NoMemory fails = tt
+  runs_stop lt (errors.Fault kind offset) fails =
+      sym (runs_unrolled lt) ∙ ap (λ o. prefixed front (after o others)) fails
+
+  pub runs_read : count ≤ k → total ≡ Got front at
+  runs_read le =
+      let none : count - k ≡ 0 = omega arith in
+      is_read front at total (subst (λ n. prefixed front (runs read onward n s bytes at) ≡ total) none so_far)
+
+-- a format's list is read so
+pub times_runs : {S A : Type 0} (f : S → Format A) (onward : S → A → S) (n : ℕ) (s : S) (bytes : List ℕ) (at : ℕ)
+    → (times f onward n s).read bytes at ≡ runs (λ t. (f t).read) onward n s bytes at
+unfolding cons
+times_runs f onward zero s bytes at = refl
+times_runs f onward (suc n) s bytes at = go ((f s).read bytes at) (λ a next. times_runs f onward n (onward s a) bytes next)
+  where
+    go : (o : Outcome A) → ((a : A) (next : ℕ) → (times f onward n (onward s a)).read bytes next ≡ runs (λ t. (f t).read) onward n (onward s a) bytes next)
+        → after o (λ a next. after ((times f onward n (onward s a)).read bytes next) (λ xs end. Got (a ∷ xs) end))
+        ≡ after o (λ a next. after (runs (λ t. (f t).read) onward n (onward s a) bytes next) (λ xs end. Got (a ∷ xs) end))
+    go (Got a next) same = ap (λ o. after o (λ xs end. Got (a ∷ xs) end)) (same a next)
+    go (Bad k p) same = refl

@@ -9,4 +9,5 @@ mod slots;
 
 pub use header::Header;
 pub use run::{Run, read_run};
+pub use slots::SlotRun;
 pub use reader::{Fault, ReadError, Reader};

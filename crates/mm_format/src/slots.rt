@@ -12,6 +12,7 @@ ghost use Rattle.mm_format.specs.Reading.{Reads};
 
 use crate::header::slot_limit;
 use crate::reader::{Fault, ReadError, Reader, failed, refuse_if};
+use crate::run::Run;
 use arrayvec::ArrayVec;
 use mm_model::{Slot, SlotState};
 use mm_word::{GuardedPtr, Kind, Word};
@@ -136,5 +137,28 @@ impl Reader<'_> {
             slots.push(slot)?;
         }
         Ok(slots)
+    }
+}
+
+/// What stands before a slot: the limit of numbers, and the least that the next may have.
+pub struct SlotRun {
+    pub limit: u8,
+    pub least: u8,
+}
+
+impl Run for SlotRun {
+    ghost use Rattle.std.specs.Prelude.{◌+◌};
+    ghost use Rattle.mm_format.specs.Images.{slot};
+
+    type Item = Slot;
+
+    ghost reads = { λ s. (slot s.limit s.least).read };
+
+    ghost onward = { λ s x. record { limit = s.limit; least = x.number + 1 } };
+
+    fn item(&mut self, reader: &mut Reader) -> Result<Slot, ReadError> {
+        let slot = reader.slot(self.limit, self.least)?;
+        self.least = slot.number + 1;
+        Ok(slot)
     }
 }
