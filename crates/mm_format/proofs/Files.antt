@@ -1,5 +1,6 @@
 -- Whole files: what a format is there and back.
-use Rattle.std.proofs.Common.{◌≡◌, ◌↔◌, ℕ, ◌+◌, ◌≤◌, Bool, true, false, cond, ltb, List, length, take, drop, refl, sym, ap, ◌∙◌, arith}
+use Rattle.std.proofs.Common.{◌≡◌, ◌↔◌, ℕ, ◌+◌, ◌≤◌, Bool, true, false, cond, ltb, List, length, take, drop, refl}
+use Rattle.std.proofs.Common.{sym, ap, ◌∙◌, arith}
 use Rattle.std.proofs.lemmas.Bool.{ltb-false, le-ltb}
 use Rattle.std.proofs.lemmas.List.{take_all}
 use Rattle.mm_model.specs.Places.{IsBytes}
@@ -18,7 +19,8 @@ module _ {A : Type 0} (f : Format A) (is : IsFormat f) where
   all_of bytes text stands le = sym (take_all (length text) bytes le) ∙ stands
 
   -- what is read without a fault is spelled by the bytes
-  pub spelled_by : (trailing : ℕ) (bytes : List ℕ) → IsBytes bytes → (a : A) (next : ℕ) → file f trailing bytes ≡ Got a next
+  pub spelled_by : (trailing : ℕ) (bytes : List ℕ) → IsBytes bytes → (a : A) (next : ℕ) → file f trailing bytes
+      ≡ Got a next
       → f.Fits a × (bytes ≡ f.spell a)
   spelled_by trailing bytes fits a next e =
       let s = after_got (f.read bytes 0) (λ x n. cond (ltb n (length bytes)) (Bad trailing n) (Got x n)) a next e in
@@ -27,7 +29,8 @@ module _ {A : Type 0} (f : Format A) (is : IsFormat f) where
       rw (← t.0) (r.0, all_of bytes (f.spell s.0) r.1 (omega (arith, t.1, r.2)))
 
   -- what fits and is spelled by the bytes is read
-  pub read_whole : (trailing : ℕ) (bytes : List ℕ) (a : A) → f.Fits a → bytes ≡ f.spell a → file f trailing bytes ≡ Got a (length bytes)
+  pub read_whole : (trailing : ℕ) (bytes : List ℕ) (a : A) → f.Fits a → bytes ≡ f.spell a → file f trailing bytes
+      ≡ Got a (length bytes)
   read_whole trailing bytes a fits same =
       let long : length (f.spell a) ≡ length bytes = ap length (sym same) in
       let front : Stands bytes 0 (f.spell a) = take_all (length (f.spell a)) bytes (omega (arith, long)) ∙ same in
@@ -43,7 +46,8 @@ module _ {A : Type 0} (f : Format A) (is : IsFormat f) where
       let text = f.spell a in
       let front : Stands text 0 text = take_all (length text) text (omega arith) in
       let first = is.complete text 0 a fits front (omega arith) in
-      let second = is.complete text 0 b others (ap (λ t. take (length t) text) (sym same) ∙ front ∙ same) (omega arith) in
+      let second = is.complete text 0 b others (ap (λ t. take (length t) text) (sym same) ∙ front ∙ same)
+      (omega arith) in
       value (sym first ∙ second)
     where
       value : {m n : ℕ} → Got a m ≡ Got b n → a ≡ b

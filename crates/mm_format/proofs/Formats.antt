@@ -55,7 +55,8 @@ tried_got : {A : Type 0} (number at : ℕ) (bad : A → Bool) (o : Outcome A) (a
 tried_got number at bad (Bad n p) a next e = absurd cc
 tried_got number at bad (Got x n) a next e = go (bad x) refl e
   where
-    go : (b : Bool) → bad x ≡ b → cond b (Bad number at) (Got x n) ≡ Got a next → (Got x n ≡ Got a next) × (bad a ≡ false)
+    go : (b : Bool) → bad x ≡ b → cond b (Bad number at) (Got x n) ≡ Got a next → (Got x n ≡ Got a next)
+        × (bad a ≡ false)
     go true is e = absurd cc
     go false is e = let same : x ≡ a = cc in (e, ap bad (sym same) ∙ is)
 
@@ -97,7 +98,8 @@ module _ (size : ℕ) where
       let w = is_whole _ _ _ _ _ _ e in
       let le = ltb-false _ _ w.0 in
       let long = length-part bytes at size le in
-      rw (← w.1) ((long, IsBytes-part bytes at size fits), ap (λ n. take n (drop at bytes)) long, omega (arith, w.2, long));
+      rw (← w.1) ((long, IsBytes-part bytes at size fits), ap (λ n. take n (drop at bytes)) long,
+          omega (arith, w.2, long));
     complete = λ bytes at a fits stands low.
       let le : at + size ≤ length bytes = omega (arith, ends_within bytes at a stands low, fits.0) in
       whole_is (λ bytes at. take size (drop at bytes)) bytes at le
@@ -170,14 +172,16 @@ literal_read text number xs fits = sym ((bytes_eq-Decides xs text).0 (same (byte
 pub done_is : {B : Type 0} (value : B) → IsFormat (done value)
 done_is value = record {
   sound = λ bytes fits at b next e. (cc, refl, omega (arith, place e));
-  complete = λ bytes at b fits stands low. let there : at ≡ at + 0 = omega arith in ap (λ v. Got v at) (sym fits) ∙ ap (Got b) there;
+  complete = λ bytes at b fits stands low. let there : at ≡ at + 0 = omega arith in ap (λ v. Got v at) (sym fits)
+      ∙ ap (Got b) there;
 }
   where
     place : {b : _} {at next : ℕ} → Got value at ≡ Got b next → at ≡ next
     place e = cc
 
 pub then_is : {A B : Type 0} (p : Part B A) (rest : A → Format B) → IsFormat p.format
-    → ((a : A) → p.format.Fits a → IsFormat (rest a)) → ((a : A) (b : B) → p.format.Fits a → (rest a).Fits b → p.of b ≡ a)
+    → ((a : A) → p.format.Fits a → IsFormat (rest a))
+        → ((a : A) (b : B) → p.format.Fits a → (rest a).Fits b → p.of b ≡ a)
     → IsFormat (p >>= rest)
 then_is p rest first then reads = record {
   sound = λ bytes fits at b next e.

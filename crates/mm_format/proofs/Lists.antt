@@ -14,9 +14,12 @@ got_both e = (cc, cc)
 
 -- 1. Lists.
 
-module _ {A : Type 0} (f : Format A) (rest : A → Format (List A)) (first : IsFormat f) (others : (a : A) → f.Fits a → IsFormat (rest a)) where
-  read_again : (bytes : List ℕ) (at : ℕ) (xs : List A) → cons_fits f rest xs → Stands bytes at (cons_spell f rest xs) → at ≤ length bytes
-      → after (f.read bytes at) (λ a next. after ((rest a).read bytes next) (λ os end. Got (a ∷ os) end)) ≡ Got xs (at + length (cons_spell f rest xs))
+module _ {A : Type 0} (f : Format A) (rest : A → Format (List A)) (first : IsFormat f)
+    (others : (a : A) → f.Fits a → IsFormat (rest a)) where
+  read_again : (bytes : List ℕ) (at : ℕ) (xs : List A) → cons_fits f rest xs → Stands bytes at (cons_spell f rest xs)
+      → at ≤ length bytes
+      → after (f.read bytes at) (λ a next. after ((rest a).read bytes next) (λ os end. Got (a ∷ os) end))
+          ≡ Got xs (at + length (cons_spell f rest xs))
   read_again bytes at [] fits stands low = absurd fits
   read_again bytes at (a ∷ os) fits stands low =
       let x = f.spell a in
@@ -32,14 +35,16 @@ module _ {A : Type 0} (f : Format A) (rest : A → Format (List A)) (first : IsF
   unfolding cons
   cons_is = record {
     sound = λ bytes fits at xs end e.
-      let s = after_got (f.read bytes at) (λ a next. after ((rest a).read bytes next) (λ os n. Got (a ∷ os) n)) xs end e in
+      let s = after_got (f.read bytes at) (λ a next. after ((rest a).read bytes next) (λ os n. Got (a ∷ os) n)) xs end
+      e in
       let t = after_got ((rest s.0).read bytes s.1) (λ os n. Got (s.0 ∷ os) n) xs end s.3 in
       let p = first.sound bytes fits at s.0 s.1 s.2 in
       let q = (others s.0 p.0).sound bytes fits s.1 t.0 t.1 t.2 in
       let x = f.spell s.0 in
       let y = (rest s.0).spell t.0 in
       let same = got_both t.3 in
-      subst (λ ys. cons_fits f rest ys × Stands bytes at (cons_spell f rest ys) × (end ≡ at + length (cons_spell f rest ys))) same.0 (
+      subst (λ ys. cons_fits f rest ys × Stands bytes at (cons_spell f rest ys)
+          × (end ≡ at + length (cons_spell f rest ys))) same.0 (
         (p.0, q.0),
         stand_both bytes at x y p.1 (subst (λ n. Stands bytes n y) p.2 q.1),
         omega (arith, p.2, q.2, same.1, length-append x y),
@@ -94,7 +99,8 @@ pub none_anywhere : (at from : ℕ) (tests : List Late) → first_late at tests 
 none_anywhere at from [] e = refl
 none_anywhere at from (t ∷ tests) e = go t.bad (none_anywhere at from tests) e
   where
-    go : (b : Bool) → (first_late at tests ≡ None → first_late from tests ≡ None) → cond b (Some (t.number, at + t.offset)) (first_late at tests) ≡ None
+    go : (b : Bool) → (first_late at tests ≡ None → first_late from tests ≡ None)
+        → cond b (Some (t.number, at + t.offset)) (first_late at tests) ≡ None
         → cond b (Some (t.number, from + t.offset)) (first_late from tests) ≡ None
     go true others e = absurd cc
     go false others e = others e

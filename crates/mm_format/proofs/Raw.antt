@@ -1,5 +1,6 @@
 -- Numbers, as code reads them from a field.
-use Rattle.std.proofs.Common.{◌≡◌, ℕ, ◌+◌, ◌*◌, Bool, true, false, cond, ltb, List, [], ◌∷◌, length, get_or, take, drop, refl, sym, ap, ◌∙◌, arith}
+use Rattle.std.proofs.Common.{◌≡◌, ℕ, ◌+◌, ◌*◌, Bool, true, false, cond, ltb, List, [], ◌∷◌, length, get_or, take}
+use Rattle.std.proofs.Common.{drop, refl, sym, ap, ◌∙◌, arith}
 use Rattle.std.specs.Int.{w16, w32, w64, from_be_bytes}
 use Rattle.std.proofs.lemmas.Bool.{ltb-false}
 use Rattle.mm_model.specs.Places.{number_at}
@@ -10,11 +11,13 @@ use Rattle.mm_format.specs.Formats.Outcome.{Got, Bad}
 use Rattle.mm_format.proofs.Formats.{is_whole}
 
 module _ (bytes : List ℕ) (at : ℕ) where
-  same_bad : {A B : Type 0} (b : Bool) (end n k p : ℕ) (v : A) (w : B) → cond b (Bad 1 end) (Got v n) ≡ Bad k p → cond b (Bad 1 end) (Got w n) ≡ Bad k p
+  same_bad : {A B : Type 0} (b : Bool) (end n k p : ℕ) (v : A) (w : B) → cond b (Bad 1 end) (Got v n) ≡ Bad k p
+      → cond b (Bad 1 end) (Got w n) ≡ Bad k p
   same_bad true end n k p v w e = cc
   same_bad false end n k p v w e = absurd cc
 
-  same_got : {A B : Type 0} (b : Bool) (end n next : ℕ) (v a : A) (w : B) → cond b (Bad 1 end) (Got v n) ≡ Got a next → cond b (Bad 1 end) (Got w n) ≡ Got w next
+  same_got : {A B : Type 0} (b : Bool) (end n next : ℕ) (v a : A) (w : B) → cond b (Bad 1 end) (Got v n) ≡ Got a next
+      → cond b (Bad 1 end) (Got w n) ≡ Got w next
   same_got true end n next v a w e = absurd cc
   same_got false end n next v a w e = cc
 
@@ -34,7 +37,8 @@ module _ (bytes : List ℕ) (at : ℕ) where
   u32_bad k p e = same_bad _ _ _ k p _ _ e
 
   pub u32_got : (xs : List ℕ) (next : ℕ) → (raw 4).read bytes at ≡ Got xs next
-      → u32.read bytes at ≡ Got (from_be_bytes w32 (get_or xs 0 0 ∷ get_or xs 1 0 ∷ get_or xs 2 0 ∷ get_or xs 3 0 ∷ [])) next
+      → u32.read bytes at ≡ Got
+          (from_be_bytes w32 (get_or xs 0 0 ∷ get_or xs 1 0 ∷ get_or xs 2 0 ∷ get_or xs 3 0 ∷ [])) next
   unfolding number_at
   u32_got xs next e =
       let w = is_whole _ _ _ _ _ _ e in
@@ -46,7 +50,9 @@ module _ (bytes : List ℕ) (at : ℕ) where
   u64_bad k p e = same_bad _ _ _ k p _ _ e
 
   pub u64_got : (xs : List ℕ) (next : ℕ) → (raw 8).read bytes at ≡ Got xs next
-      → u64.read bytes at ≡ Got (from_be_bytes w64 (get_or xs 0 0 ∷ get_or xs 1 0 ∷ get_or xs 2 0 ∷ get_or xs 3 0 ∷ get_or xs 4 0 ∷ get_or xs 5 0 ∷ get_or xs 6 0 ∷ get_or xs 7 0 ∷ [])) next
+      → u64.read bytes at ≡ Got
+          (from_be_bytes w64 (get_or xs 0 0 ∷ get_or xs 1 0 ∷ get_or xs 2 0 ∷ get_or xs 3 0 ∷ get_or xs 4 0 ∷ get_or
+          xs 5 0 ∷ get_or xs 6 0 ∷ get_or xs 7 0 ∷ [])) next
   unfolding number_at
   u64_got xs next e =
       let w = is_whole _ _ _ _ _ _ e in
@@ -57,7 +63,8 @@ module _ (bytes : List ℕ) (at : ℕ) where
   pub byte_bad : (k p : ℕ) → (raw 1).read bytes at ≡ Bad k p → byte.read bytes at ≡ Bad k p
   byte_bad k p e = same_bad _ _ _ k p _ _ e
 
-  pub byte_got : (xs : List ℕ) (next : ℕ) → (raw 1).read bytes at ≡ Got xs next → byte.read bytes at ≡ Got (get_or xs 0 0) next
+  pub byte_got : (xs : List ℕ) (next : ℕ) → (raw 1).read bytes at ≡ Got xs next → byte.read bytes at
+      ≡ Got (get_or xs 0 0) next
   unfolding number_at
   byte_got xs next e =
       let w = is_whole _ _ _ _ _ _ e in

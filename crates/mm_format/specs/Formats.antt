@@ -1,5 +1,6 @@
 -- Formats of files: of one description, how a value is spelled, what is read from bytes, and the first fault.
-use Rattle.std.specs.Prelude.{◌≡◌, ◌↔◌, ℕ, zero, suc, ◌+◌, ◌^◌, ◌<◌, ◌≤◌, Bool, true, false, not, nat_lt, if◌then◌else◌, List, [], ◌∷◌}
+use Rattle.std.specs.Prelude.{◌≡◌, ◌↔◌, ℕ, zero, suc, ◌+◌, ◌^◌, ◌<◌, ◌≤◌, Bool, true, false, not, nat_lt}
+use Rattle.std.specs.Prelude.{if◌then◌else◌, List, [], ◌∷◌}
 use Rattle.std.specs.Prelude.{◌++◌, length, take, drop, Option, Some, None}
 use Rattle.std.specs.Int.{w16, w32, w64, to_be_bytes}
 use Rattle.std.specs.Str.{bytes_eq}
@@ -113,7 +114,8 @@ part of format = record { of = of; format = format }
 -- what the bytes of a file say: the fault of this number stands where they go on after the last field
 abbrev pub file : {A : Type 0} → Format A → (trailing : ℕ) → (bytes : List ℕ) → Outcome A
 file f trailing bytes =
-    after (f.read bytes 0) (λ a next. if nat_lt next (length bytes) then Outcome.Bad trailing next else Outcome.Got a next)
+    after (f.read bytes 0)
+        (λ a next. if nat_lt next (length bytes) then Outcome.Bad trailing next else Outcome.Got a next)
 
 -- A file without a fault is one that spells a value that fits, and that value is read.
 abbrev pub RoundTrips : {A : Type 0} → Format A → Type 0
@@ -140,7 +142,8 @@ unfoldable pub cons : {A : Type 0} → Format A → (A → Format (List A)) → 
 cons f rest = record {
   Fits = cons_fits f rest;
   spell = cons_spell f rest;
-  read = λ bytes at. after (f.read bytes at) (λ a next. after ((rest a).read bytes next) (λ others end. Outcome.Got (a ∷ others) end));
+  read = λ bytes at. after (f.read bytes at)
+      (λ a next. after ((rest a).read bytes next) (λ others end. Outcome.Got (a ∷ others) end));
 }
 
 -- so many values, the format of each by what stands before it
@@ -184,4 +187,5 @@ late f tests = record {
 abbrev pub runs : {S A : Type 0} → (S → List ℕ → ℕ → Outcome A) → (S → A → S) → ℕ → S → List ℕ → ℕ → Outcome (List A)
 runs read onward zero s bytes at = Outcome.Got [] at
 runs read onward (suc n) s bytes at =
-    after (read s bytes at) (λ a next. after (runs read onward n (onward s a) bytes next) (λ others end. Outcome.Got (a ∷ others) end))
+    after (read s bytes at)
+        (λ a next. after (runs read onward n (onward s a) bytes next) (λ others end. Outcome.Got (a ∷ others) end))

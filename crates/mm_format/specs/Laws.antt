@@ -12,7 +12,8 @@ use Rattle.mm_format.specs.Images.{image}
 -- the header read by its format is the header as the places and their first fault say it
 abbrev pub HeadersAreRead : Type 0
 HeadersAreRead =
-    (bytes : List ℕ) → header.read bytes 0 ≡ answer (first_bad (length bytes) (header_places bytes)) (header_of bytes) 16
+    (bytes : List ℕ) → header.read bytes 0
+    ≡ answer (first_bad (length bytes) (header_places bytes)) (header_of bytes) 16
 
 -- the values that have a spelling are the images
 abbrev pub ImagesFit : Type 0

@@ -66,7 +66,6 @@ pub fn read_header(reader: &mut Reader) -> Result<Header, ReadError>
 }
 
 /// Appends the header.
-#[tactic(auto, using(std::proofs::Common::append_assoc, crate::proofs::Headers::mode_byte), unfolding(crate::specs::Headers::header))]
 pub fn put_header(out: &mut Vec<u8>, h: &Header) -> Result<(), AllocError>
     ensures { OnOk result (out.new.items ≡ out.old.items ++ header.spell h.now) }
 {

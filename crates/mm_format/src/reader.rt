@@ -128,7 +128,8 @@ pub(crate) fn failed(fault: Fault, at: usize) -> ReadError
 
 /// Refuses where the test holds.
 pub(crate) fn refuse_if(wrong: bool, kind: Fault, at: usize) -> Result<(), ReadError>
-    ensures fault { Reads (λ _. false) (if wrong then Outcome.Bad (number_of kind) at else Outcome.Got false 0) 0 result }
+    ensures fault { Reads (λ _. false)
+        (if wrong then Outcome.Bad (number_of kind) at else Outcome.Got false 0) 0 result }
     ensures right { OnOk result (wrong ≡ false) }
 {
     if wrong {

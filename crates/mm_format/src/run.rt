@@ -1,6 +1,6 @@
 //! Records one behind the other.
 
-ghost use Rattle.std.specs.Prelude.{◌≡◌, IfOk};
+ghost use Rattle.std.specs.Prelude.{◌≡◌, IfOk, vec_len};
 ghost use Rattle.mm_format.specs.Formats.{runs};
 ghost use Rattle.mm_format.specs.Reading.{Reads};
 
@@ -37,6 +37,7 @@ pub fn read_run<R: Run>(
     ensures read { Reads (λ v. v.items) (runs R.reads R.onward count run.old reader.old.bytes.now reader.old.at)
         reader.new.at result }
     ensures same { reader.new.bytes.now ≡ reader.old.bytes.now }
+    ensures count { IfOk result (λ v. vec_len v ≡ count) }
 {
     let mut items = Vec::new(alloc);
     for _ in 0..count {

@@ -12,7 +12,7 @@ ghost use Rattle.mm_format.specs.Reading.{Reads};
 
 use crate::header::slot_limit;
 use crate::reader::{Fault, ReadError, Reader, failed, refuse_if};
-use crate::run::Run;
+use crate::run::{Run, read_run};
 use arrayvec::ArrayVec;
 use mm_model::{Slot, SlotState};
 use mm_word::{GuardedPtr, Kind, Word};
@@ -128,19 +128,16 @@ impl Reader<'_> {
         ensures same { self.new.bytes.now ≡ self.old.bytes.now }
         ensures count { IfOk result (λ slots. vec_len slots ≡ count) }
     {
-        let limit = slot_limit(version);
-        let mut slots = Vec::with_capacity(alloc, usize::from(count))?;
-        let mut least = 0;
-        for _ in 0..count {
-            let slot = self.slot(limit, least)?;
-            least = slot.number + 1;
-            slots.push(slot)?;
-        }
-        Ok(slots)
+        let mut run = SlotRun {
+            limit: slot_limit(version),
+            least: 0,
+        };
+        read_run(alloc, self, &mut run, usize::from(count))
     }
 }
 
 /// What stands before a slot: the limit of numbers, and the least that the next may have.
+#[derive(Drop)]
 pub struct SlotRun {
     pub limit: u8,
     pub least: u8,
