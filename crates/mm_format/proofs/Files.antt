@@ -1,12 +1,12 @@
 -- Whole files: what a format is there and back.
-use Rattle.std.proofs.Common.{◌≡◌, ◌↔◌, ℕ, ◌+◌, ◌≤◌, Bool, true, false, cond, ltb, List, length, take, drop, refl}
+use Rattle.std.proofs.Common.{◌≡◌, ℕ, ◌+◌, ◌≤◌, Bool, true, false, cond, ltb, List, length, take, refl}
 use Rattle.std.proofs.Common.{sym, ap, ◌∙◌, arith}
 use Rattle.std.proofs.lemmas.Bool.{ltb-false, le-ltb}
 use Rattle.std.proofs.lemmas.List.{take_all}
 use Rattle.mm_model.specs.Places.{IsBytes}
-use Rattle.mm_format.specs.Formats.{Outcome, Format, IsFormat, Stands, file, RoundTrips, IsOneToOne}
+use Rattle.mm_format.specs.Formats.{Format, IsFormat, Stands, file, RoundTrips, IsOneToOne}
 use Rattle.mm_format.specs.Formats.Outcome.{Got, Bad}
-use Rattle.mm_format.proofs.Formats.{after_got, ends_within}
+use Rattle.mm_format.proofs.Formats.{after_got}
 
 module _ {A : Type 0} (f : Format A) (is : IsFormat f) where
   ended : (bytes : List ℕ) (trailing : ℕ) (b : Bool) (end : ℕ) (a c : A) (next : ℕ) → ltb end (length bytes) ≡ b

@@ -1,5 +1,5 @@
 -- What each way to make a format keeps.
-use Rattle.std.proofs.Common.{◌≡◌, ℕ, zero, suc, ◌+◌, ◌*◌, ◌-◌, ◌^◌, ◌<◌, ◌≤◌, Bool, true, false, not, cond, ltb}
+use Rattle.std.proofs.Common.{◌≡◌, ℕ, ◌+◌, ◌^◌, ◌<◌, ◌≤◌, Bool, true, false, not, cond}
 use Rattle.std.proofs.Common.{List, [], ◌∷◌, ◌++◌, length, take, drop, refl, sym, ap, subst, ◌∙◌, arith}
 use Rattle.std.specs.Int.{w16, w32, w64, to_be_bytes}
 use Rattle.std.specs.Str.{bytes_eq}
@@ -79,32 +79,35 @@ module _ (size : ℕ) where
   pub number_is : (digits : ℕ → List ℕ) → IsDigits digits → IsFormat (number size digits)
   number_is digits is = record {
     sound = λ bytes fits at a next e.
-      let w = is_whole _ _ _ _ _ _ e in
-      let le = ltb-false _ _ w.0 in
-      let here : Stands bytes at (digits (number_at bytes at size)) =
-      ap (λ n. take n (drop at bytes)) (is.long _) ∙ sym (is.back bytes at fits le) in
-      rw (← w.1) (is.below bytes at fits le, here, omega (arith, w.2, is.long (number_at bytes at size)));
+        let w = is_whole _ _ _ _ _ _ e in
+        let le = ltb-false _ _ w.0 in
+        let here : Stands bytes at (digits (number_at bytes at size)) =
+        ap (λ n. take n (drop at bytes)) (is.long _) ∙ sym (is.back bytes at fits le) in
+        rw (← w.1) (is.below bytes at fits le, here, omega (arith, w.2, is.long (number_at bytes at size)));
     complete = λ bytes at a fits stands low.
-      let long = is.long a in
-      let here : take size (drop at bytes) ≡ digits a = ap (λ n. take n (drop at bytes)) (sym long) ∙ stands in
-      let le : at + size ≤ length bytes = omega (arith, ends_within bytes at (digits a) stands low, long) in
-      whole_is (λ bytes at. number_at bytes at size) bytes at le
-      ∙ ap (λ n. Got n (at + size)) (is.again bytes at a fits here) ∙ ap (λ n. Got a (at + n)) (sym long);
+        let long = is.long a in
+        let here : take size (drop at bytes) ≡ digits a = ap (λ n. take n (drop at bytes)) (sym long) ∙ stands in
+        let le : at + size ≤ length bytes = omega (arith, ends_within bytes at (digits a) stands low, long) in
+        whole_is (λ bytes at. number_at bytes at size) bytes at le
+        ∙ ap (λ n. Got n (at + size)) (is.again bytes at a fits here) ∙ ap (λ n. Got a (at + n)) (sym long);
   }
 
   pub raw_is : IsFormat (raw size)
   raw_is = record {
     sound = λ bytes fits at a next e.
-      let w = is_whole _ _ _ _ _ _ e in
-      let le = ltb-false _ _ w.0 in
-      let long = length-part bytes at size le in
-      rw (← w.1) ((long, IsBytes-part bytes at size fits), ap (λ n. take n (drop at bytes)) long,
-          omega (arith, w.2, long));
+        let w = is_whole _ _ _ _ _ _ e in
+        let le = ltb-false _ _ w.0 in
+        let long = length-part bytes at size le in
+        rw (← w.1) (
+          (long, IsBytes-part bytes at size fits),
+          ap (λ n. take n (drop at bytes)) long,
+          omega (arith, w.2, long),
+        );
     complete = λ bytes at a fits stands low.
-      let le : at + size ≤ length bytes = omega (arith, ends_within bytes at a stands low, fits.0) in
-      whole_is (λ bytes at. take size (drop at bytes)) bytes at le
-      ∙ ap (λ xs. Got xs (at + size)) (ap (λ n. take n (drop at bytes)) (sym fits.0) ∙ stands)
-      ∙ ap (λ n. Got a (at + n)) (sym fits.0);
+        let le : at + size ≤ length bytes = omega (arith, ends_within bytes at a stands low, fits.0) in
+        whole_is (λ bytes at. take size (drop at bytes)) bytes at le
+        ∙ ap (λ xs. Got xs (at + size)) (ap (λ n. take n (drop at bytes)) (sym fits.0) ∙ stands)
+        ∙ ap (λ n. Got a (at + n)) (sym fits.0);
   }
 
 below_32 : (bytes : List ℕ) (at : ℕ) → IsBytes bytes → at + 4 ≤ length bytes → number_at bytes at 4 < 256 ^ 4
@@ -150,9 +153,9 @@ u64_is = number_is 8 (to_be_bytes w64) (record {
 pub test_is : {A : Type 0} (f : Format A) → IsFormat f → (number : ℕ) (bad : A → Bool) → IsFormat (test f number bad)
 test_is f is number bad = record {
   sound = λ bytes fits at a next e.
-    let t = tried_got number at bad (f.read bytes at) a next e in
-    let s = is.sound bytes fits at a next t.0 in
-    ((s.0, t.1), s.1, s.2);
+      let t = tried_got number at bad (f.read bytes at) a next e in
+      let s = is.sound bytes fits at a next t.0 in
+      ((s.0, t.1), s.1, s.2);
   complete = λ bytes at a fits stands low. rw (is.complete bytes at a fits.0 stands low, fits.1) refl;
 }
 
@@ -181,26 +184,26 @@ done_is value = record {
 
 pub then_is : {A B : Type 0} (p : Part B A) (rest : A → Format B) → IsFormat p.format
     → ((a : A) → p.format.Fits a → IsFormat (rest a))
-        → ((a : A) (b : B) → p.format.Fits a → (rest a).Fits b → p.of b ≡ a)
+    → ((a : A) (b : B) → p.format.Fits a → (rest a).Fits b → p.of b ≡ a)
     → IsFormat (p >>= rest)
 then_is p rest first then reads = record {
   sound = λ bytes fits at b next e.
-    let s = after_got (p.format.read bytes at) (λ a n. (rest a).read bytes n) b next e in
-    let f = first.sound bytes fits at s.0 s.1 s.2 in
-    let g = (then s.0 f.0).sound bytes fits s.1 b next s.3 in
-    let x = p.format.spell s.0 in
-    let y = (rest s.0).spell b in
-    rw (reads s.0 b f.0 g.0) (
-      (f.0, g.0),
-      stand_both bytes at x y f.1 (subst (λ n. Stands bytes n y) f.2 g.1),
-      omega (arith, f.2, g.2, length-append x y),
-    );
+      let s = after_got (p.format.read bytes at) (λ a n. (rest a).read bytes n) b next e in
+      let f = first.sound bytes fits at s.0 s.1 s.2 in
+      let g = (then s.0 f.0).sound bytes fits s.1 b next s.3 in
+      let x = p.format.spell s.0 in
+      let y = (rest s.0).spell b in
+      rw (reads s.0 b f.0 g.0) (
+        (f.0, g.0),
+        stand_both bytes at x y f.1 (subst (λ n. Stands bytes n y) f.2 g.1),
+        omega (arith, f.2, g.2, length-append x y),
+      );
   complete = λ bytes at b fits stands low.
-    let x = p.format.spell (p.of b) in
-    let y = (rest (p.of b)).spell b in
-    let here = stands_first bytes at x y stands in
-    rw (first.complete bytes at (p.of b) fits.0 here low)
-    ((then (p.of b) fits.0).complete bytes (at + length x) b fits.1 (stands_second bytes at x y stands)
-    (ends_within bytes at x here low)
-    ∙ ap (Got b) (omega (arith, length-append x y)));
+      let x = p.format.spell (p.of b) in
+      let y = (rest (p.of b)).spell b in
+      let here = stands_first bytes at x y stands in
+      rw (first.complete bytes at (p.of b) fits.0 here low)
+      ((then (p.of b) fits.0).complete bytes (at + length x) b fits.1 (stands_second bytes at x y stands)
+      (ends_within bytes at x here low)
+      ∙ ap (Got b) (omega (arith, length-append x y)));
 }

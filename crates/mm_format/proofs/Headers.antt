@@ -1,17 +1,13 @@
 -- The header of an image file as a format.
-use Rattle.std.proofs.Common.{◌≡◌, ℕ, ◌-◌, ◌≤◌, Bool, true, false, not, nat_lt, List, refl, ap, sym, ◌∙◌, codes}
-use Rattle.std.proofs.Common.{arith, inl, inr}
-use Rattle.std.specs.Prelude.{◌==◌, ◌||◌, length, take, drop}
+use Rattle.std.proofs.Common.{◌≡◌, ℕ, ◌-◌, Bool, true, false, not, nat_lt, List, refl, ap, ◌∙◌, codes}
+use Rattle.std.proofs.Common.{arith}
+use Rattle.std.specs.Prelude.{◌==◌, ◌||◌, take, drop}
 use Rattle.std.specs.Int.{from_bool}
 use Rattle.std.proofs.lemmas.Bool.Decides.{nat_tests}
-use Rattle.mm_model.specs.Places.{first_bad, number_at}
-use Rattle.mm_model.specs.Image.{slot_limit, frame_limit}
+use Rattle.mm_model.specs.Places.{number_at}
 use Rattle.mm_model.specs.Spelling.{mode_of}
-use Rattle.mm_model.specs.ImageReading.{version_of, slots_of, frames_of, pages_of, mode_number}
 use Rattle.mm_model.specs.ImageFaults.{header_places}
-use Rattle.mm_model.proofs.ImageBytes.Clean.{is_above}
-use Rattle.mm_format.specs.declared.header.Header.{Header}
-use Rattle.mm_format.specs.Formats.{Format, IsFormat, raw, u16, u32, test, literal}
+use Rattle.mm_format.specs.Formats.{IsFormat, u16, u32}
 use Rattle.mm_format.specs.Headers.{header, header_of}
 use Rattle.mm_format.specs.Laws.{HeadersAreRead}
 use Rattle.mm_format.proofs.Formats.{literal_is, literal_read, u16_is, u32_is, test_is, then_is, done_is}

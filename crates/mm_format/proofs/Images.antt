@@ -1,18 +1,17 @@
 -- The image file is a format.
-use Rattle.std.proofs.Common.{◌≡◌, ℕ, zero, suc, ◌+◌, ◌*◌, ◌-◌, ◌^◌, ◌<◌, ◌≤◌, Bool, true, false, not, cond, nat_lt}
+use Rattle.std.proofs.Common.{◌≡◌, ℕ, ◌+◌, ◌*◌, ◌≤◌, Bool, true, false, not, cond}
 use Rattle.std.proofs.Common.{List, [], ◌∷◌}
-use Rattle.std.proofs.Common.{length, take, drop, map, Some, None, eqb-true, refl, sym, ap, ◌∙◌, arith}
-use Rattle.std.specs.Prelude.{◌==◌, ◌&&◌, ◌||◌, nat_le}
-use Rattle.std.specs.List.{range_with_len}
+use Rattle.std.proofs.Common.{length, map, Some, None, eqb-true, refl, sym, ap, ◌∙◌, arith}
+use Rattle.std.specs.Prelude.{◌==◌, ◌&&◌}
 use Rattle.std.proofs.lemmas.List.{take_all}
 use Rattle.std.proofs.lemmas.List.FromFn.{length-map-range_with_len}
 use Rattle.mm_word.specs.declared.word.Word.{Word}
 use Rattle.mm_word.specs.declared.word.Word.TheVariants.{Int, Ptr}
 use Rattle.mm_word.specs.declared.word.Cell.{Cell}
-use Rattle.mm_word.specs.Pointer.{Pointer, pointer_of, bits_of, spells_pointer}
+use Rattle.mm_word.specs.Pointer.{pointer_of, bits_of, spells_pointer}
 use Rattle.mm_word.specs.Word.{word_bits, is_pointer}
 use Rattle.mm_model.specs.declared.slot.SlotState.TheVariants.{Running, Halted}
-use Rattle.mm_model.specs.Flags.{flags, number_of_flags}
+use Rattle.mm_model.specs.Flags.{number_of_flags}
 use Rattle.mm_model.specs.Slot.{Slot}
 use Rattle.mm_model.specs.Image.{Image, slot_limit}
 use Rattle.mm_model.specs.Places.{IsBytes, bit_at}
@@ -21,9 +20,7 @@ use Rattle.mm_model.proofs.ImageBytes.Clean.{neither, not_not, is_above, is_not}
 use Rattle.mm_model.proofs.ImageBytes.CleanWords.{bits_again}
 use Rattle.mm_model.proofs.ImageBytes.Bitmaps.{number_of_flags-flags, bitmap-part}
 use Rattle.mm_model.proofs.ImageBytes.Ranges.{map-map}
-use Rattle.mm_format.specs.declared.header.Header.{Header}
 use Rattle.mm_format.specs.Formats.{Format, IsFormat, u16, u64, byte, raw, each, times, late}
-use Rattle.mm_format.specs.Headers.{header}
 use Rattle.mm_format.specs.Images.{mask, flags_of, bits_in, bits, word, ip, slot, cells_of, page, handler_tests}
 use Rattle.mm_format.specs.Images.{slots, header_in, image}
 use Rattle.mm_format.proofs.Formats.{byte_is, u16_is, u64_is, raw_is, test_is, then_is, done_is}
@@ -45,7 +42,7 @@ pub bits_is : (size : ℕ) → IsFormat (bits size)
 unfolding bits
 bits_is size =
     then_is _ _ (raw_is size) (λ bytes _. done_is _)
-        (λ bytes fs fits e. ap (bitmap size) e ∙ bits_back size bytes fits.0 fits.1)
+    (λ bytes fs fits e. ap (bitmap size) e ∙ bits_back size bytes fits.0 fits.1)
 
 pub bits_long : (size : ℕ) (fs : List Bool) → (bits size).Fits fs → length fs ≡ 8 * size
 unfolding bits bits_in
@@ -156,7 +153,7 @@ slots_long version count xs fits = times_long (slot (slot_limit version)) (λ _ 
 
 same_header : (v s f p : ℕ) (b : Bool) (i : Image) → i.version ≡ v → length i.slots ≡ s → i.memory.frames ≡ f
     → length i.memory.pages ≡ p → i.split ≡ b → header_in i
-        ≡ record { version = v; slots = s; frames = f; pages = p; split = b }
+    ≡ record { version = v; slots = s; frames = f; pages = p; split = b }
 same_header v s f p b i version counted frames pages split = cc
 
 pub image_is : IsFormat image

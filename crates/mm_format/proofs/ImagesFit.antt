@@ -4,18 +4,17 @@ use Rattle.std.proofs.Common.{not, cond, nat_lt}
 use Rattle.std.proofs.Common.{List, [], ◌∷◌, ◌++◌, length, take, drop, map, get_or, Option, Some, None, refl, sym, ap}
 use Rattle.std.proofs.Common.{subst}
 use Rattle.std.proofs.Common.{◌∙◌, arith, inl, inr, eqb-true, eq-eqb, codes}
-use Rattle.std.specs.Prelude.{◌==◌, ◌&&◌, ◌||◌, nat_le, IfSome, slice_index, ◌⊎◌, Contains}
+use Rattle.std.specs.Prelude.{◌==◌, ◌||◌, IfSome, slice_index, ◌⊎◌}
 use Rattle.std.specs.List.{AllByRecursion, range_with_len}
 use Rattle.std.specs.List.Sorted.{IsStrictlyIncreasing}
 use Rattle.std.proofs.Math.Pow.{pow_mono}
 use Rattle.std.proofs.lemmas.Bool.Decides.{nat_tests}
-use Rattle.std.proofs.lemmas.List.{length-map, length-take, take_all, get_or-map}
-use Rattle.std.proofs.lemmas.Slice.Eq.{bytes_eq-Decides}
+use Rattle.std.proofs.lemmas.List.{length-map, length-take, take_all}
 use Rattle.mm_word.specs.declared.word.Word.{Word}
 use Rattle.mm_word.specs.declared.word.Word.TheVariants.{Int, Ptr}
 use Rattle.mm_word.specs.declared.word.Cell.{Cell}
 use Rattle.mm_word.specs.Perm.{can_fetch}
-use Rattle.mm_word.specs.Pointer.{Pointer, IsWellFormed, pointer_of, bits_of, spells_pointer}
+use Rattle.mm_word.specs.Pointer.{Pointer, IsWellFormed, pointer_of, bits_of}
 use Rattle.mm_word.specs.Word.{IsWord, word_bits, is_pointer}
 use Rattle.mm_word.proofs.Packing.{code_of-in_range, pointer_of-bits_of}
 use Rattle.mm_model.specs.declared.slot.SlotState.{SlotState}
@@ -26,11 +25,11 @@ use Rattle.mm_model.specs.Memory.{IsPage}
 use Rattle.mm_model.specs.Slot.{Slot}
 use Rattle.mm_model.specs.Image.{Image, slot_limit, frame_limit, none_empty}
 use Rattle.mm_model.specs.Places.{IsBytes, bit_at}
-use Rattle.mm_model.specs.Spelling.{Begins, numbers_of, IsOther, IsFresh, IsImage, HoldsWords, mode_of, handler_byte}
+use Rattle.mm_model.specs.Spelling.{Begins, numbers_of, IsFresh, IsImage, HoldsWords, mode_of, handler_byte}
 use Rattle.mm_model.specs.Spelling.{state_byte, bitmap}
 use Rattle.mm_model.specs.ImageFaults.{is_bad_handler}
 use Rattle.mm_model.proofs.ImageBytes.Apart.{number_of_flags-below, bit_at-bitmap}
-use Rattle.mm_model.proofs.ImageBytes.Clean.{neither, not_not, is_above, is_below, is_not}
+use Rattle.mm_model.proofs.ImageBytes.Clean.{neither, not_not, is_above, is_below}
 use Rattle.mm_model.proofs.ImageBytes.CleanRecords.{handler_is_other}
 use Rattle.mm_model.proofs.ImageBytes.CleanWords.{well_formed}
 use Rattle.mm_model.proofs.ImageBytes.Ranges.{map-map, range-list}
@@ -40,9 +39,8 @@ use Rattle.mm_model.proofs.ImageBytes.SpelledSlots.{handler_small, handler_good}
 use Rattle.mm_format.specs.Formats.{each, times, cons, first_late}
 use Rattle.mm_format.specs.Headers.{header}
 use Rattle.mm_format.specs.Images.{mask, flags_of, bits_in, bits, word, ip, slot, cells_of, page, handler_tests}
-use Rattle.mm_format.specs.Images.{slots, header_in, image}
-use Rattle.mm_format.proofs.Images.{bits_long, words_tags}
-use Rattle.mm_format.proofs.Lists.{times_long}
+use Rattle.mm_format.specs.Images.{slots, image}
+use Rattle.mm_format.proofs.Images.{bits_long}
 
 -- 1. Words and pointers.
 
@@ -75,22 +73,29 @@ unfolding ip
 ip_fits p fits =
     let tests = neither _ _ fits.0.1 in
     subst (λ (q : Pointer). IsWellFormed q × (can_fetch q.perm ≡ true)) (sym fits.1)
-        (well_formed (bits_of p) (not_not _ tests.0), not_not _ tests.1)
+    (well_formed (bits_of p) (not_not _ tests.0), not_not _ tests.1)
 
 fits_ip : (p : Pointer) → IsWellFormed p → can_fetch p.perm ≡ true → ip.Fits p
 unfolding ip
 fits_ip p h fetch =
-    let same = pointer_of-bits_of p h in
-    ((small_bits p h, ap (λ b. not b || not (can_fetch (pointer_of (bits_of p)).perm)) (is_spelled p h)
-    ∙ ap (λ (q : Pointer). not (can_fetch q.perm)) same ∙ ap not fetch), sym same)
+    let same = pointer_of-bits_of p h in (
+      (
+        small_bits p h,
+        ap (λ b. not b || not (can_fetch (pointer_of (bits_of p)).perm)) (is_spelled p h)
+            ∙ ap (λ (q : Pointer). not (can_fetch q.perm)) same ∙ ap not fetch,
+      ),
+      sym same,
+    )
 
 -- 2. Flags.
 
 fits_mask : (fs : List Bool) → length fs ≡ 16 → mask.Fits fs
 unfolding mask flags_of
-fits_mask fs long =
-    (subst (λ n. number_of_flags fs < 2 ^ n) long (number_of_flags-below fs), sym
-    (ap (λ n. flags n (number_of_flags fs)) (sym long) ∙ again fs))
+fits_mask fs long = (
+  subst (λ n. number_of_flags fs < 2 ^ n) long (number_of_flags-below fs),
+  sym
+      (ap (λ n. flags n (number_of_flags fs)) (sym long) ∙ again fs),
+)
   where
     half : (b : Bool) (n : ℕ) → (cond b 1 0 + 2 * n) / 2 ≡ n
     half true n = omega arith
@@ -183,10 +188,32 @@ module _ (limit : ℕ) (all : List Slot) where
       (state begun : SlotState) (empty : List Bool) (pending : List Pending)
       → h ≡ k → past ≡ false → turns ≡ 0 → state ≡ begun → empty ≡ none_empty → pending ≡ []
       → Rattle.std.proofs.Common.◌≡◌ {A = Slot}
-          (record { number = n; group = g; handler = h; regs = regs; ip = p; past = past; turns = turns; state =
-          state; empty = empty; pending = pending })
-      (record { number = n; group = g; handler = k; regs = regs; ip = p; past = false; turns = 0; state =
-      begun; empty = none_empty; pending = [] })
+      (record {
+        number = n;
+        group = g;
+        handler = h;
+        regs = regs;
+        ip = p;
+        past = past;
+        turns = turns;
+        state =
+            state;
+        empty = empty;
+        pending = pending;
+      })
+      (record {
+        number = n;
+        group = g;
+        handler = k;
+        regs = regs;
+        ip = p;
+        past = false;
+        turns = 0;
+        state =
+            begun;
+        empty = none_empty;
+        pending = [];
+      })
   same_slot n g h k regs p past turns state begun empty pending a b c d e f = cc
 
   fits_slot : (least : ℕ) (s : Slot) → limit ≤ 64 → IsFresh limit all s → IfSome s.handler (λ h. h < 64)
@@ -196,14 +223,26 @@ module _ (limit : ℕ) (all : List Slot) where
       let state = state_again s.state f.begins in
       let h = handler_again s.handler handler in (
         (omega (arith, f.number), or_false _ _ (not_le s.number limit f.number) (not_lt s.number least order)),
-        ((omega (arith, f.group), not_le s.group limit f.group),
-        (h.0,
-        ((omega (arith, state.0), not_lt 1 (state_byte s.state) state.0),
-        (fits_ip s.ip f.ip f.executable,
-        (fits_mask (map is_pointer s.regs) (length-map s.regs is_pointer ∙ f.registers),
-        (fit_words s.regs f.words,
-        same_slot s.number s.group s.handler _ s.regs s.ip s.past s.turns s.state _ s.empty s.pending h.1 f.past
-            f.turns state.1 f.empty f.pending)))))),
+        (
+          (omega (arith, f.group), not_le s.group limit f.group),
+          (
+            h.0,
+            (
+              (omega (arith, state.0), not_lt 1 (state_byte s.state) state.0),
+              (
+                fits_ip s.ip f.ip f.executable,
+                (
+                  fits_mask (map is_pointer s.regs) (length-map s.regs is_pointer ∙ f.registers),
+                  (
+                    fit_words s.regs f.words,
+                    same_slot s.number s.group s.handler _ s.regs s.ip s.past s.turns s.state _ s.empty s.pending h.1 f.past
+                        f.turns state.1 f.empty f.pending,
+                  ),
+                ),
+              ),
+            ),
+          ),
+        ),
       )
 
   -- each number is at least so much and above the one before
@@ -218,15 +257,18 @@ module _ (limit : ℕ) (all : List Slot) where
   rises least (s ∷ t ∷ xs) rise (suc k) lt =
       let next : suc k + 1 ≡ suc (k + 1) = omega arith in
       subst (λ n. slice_index (numbers_of (s ∷ t ∷ xs)) (suc k) < slice_index (numbers_of (s ∷ t ∷ xs)) n) (sym next)
-          (rises (s.number + 1) (t ∷ xs) rise.1 k (omega arith))
+      (rises (s.number + 1) (t ∷ xs) rise.1 k (omega arith))
 
   rise_from : (least : ℕ) (s : Slot) (xs : List Slot) → least ≤ s.number → IsStrictlyIncreasing (numbers_of (s ∷ xs))
       → Rise least (s ∷ xs)
   rise_from least s [] low up = (low, tt)
-  rise_from least s (t ∷ xs) low up = (low, rise_from (s.number + 1) t xs (omega (arith, up 0 (omega arith))) (λ k lt.
-      let next : suc k + 1 ≡ suc (k + 1) = omega arith in
-      subst (λ n. slice_index (numbers_of (s ∷ t ∷ xs)) (suc k) < slice_index (numbers_of (s ∷ t ∷ xs)) n) next
-          (up (suc k) (omega arith))))
+  rise_from least s (t ∷ xs) low up = (
+    low,
+    rise_from (s.number + 1) t xs (omega (arith, up 0 (omega arith))) (λ k lt.
+        let next : suc k + 1 ≡ suc (k + 1) = omega arith in
+        subst (λ n. slice_index (numbers_of (s ∷ t ∷ xs)) (suc k) < slice_index (numbers_of (s ∷ t ∷ xs)) n) next
+        (up (suc k) (omega arith))),
+  )
 
   rise_all : (xs : List Slot) → IsStrictlyIncreasing (numbers_of xs) → Rise 0 xs
   rise_all [] up = tt
@@ -244,8 +286,11 @@ module _ (limit : ℕ) (all : List Slot) where
   slots_fit (suc n) least k (s ∷ xs) fits right =
       let t = one (is_bad_handler all s) (7, 142 * k + 2) (first_late 0 (handler_tests all (k + 1) xs)) right in
       let others = slots_fit n (s.number + 1) (k + 1) xs fits.1 t.1 in
-      record { rise = (is_above _ _ (neither _ _ fits.0.0.1).1, others.rise); fresh =
-      (slot_fits least s fits.0 t.0, others.fresh) }
+      record {
+        rise = (is_above _ _ (neither _ _ fits.0.0.1).1, others.rise);
+        fresh =
+            (slot_fits least s fits.0 t.0, others.fresh);
+      }
     where
       one : (b : Bool) (p : ℕ × ℕ) (o : Option (ℕ × ℕ)) → cond b (Some (p.0, 0 + p.1)) o ≡ None → (b ≡ false)
           × (o ≡ None)
@@ -254,12 +299,14 @@ module _ (limit : ℕ) (all : List Slot) where
 
   fit_slots : (least : ℕ) (xs : List Slot) → limit ≤ 64 → SlotsAre least xs
       → AllByRecursion (λ (s : Slot). IfSome s.handler (λ h. h < 64)) xs
-          → (times (slot limit) (λ _ s. s.number + 1) (length xs) least).Fits xs
+      → (times (slot limit) (λ _ s. s.number + 1) (length xs) least).Fits xs
   unfolding cons
   fit_slots least [] small are handlers = refl
-  fit_slots least (s ∷ xs) small are handlers =
-      (fits_slot least s small are.fresh.0 handlers.0 are.rise.0, fit_slots (s.number + 1) xs small
-      (record { rise = are.rise.1; fresh = are.fresh.1 }) handlers.1)
+  fit_slots least (s ∷ xs) small are handlers = (
+    fits_slot least s small are.fresh.0 handlers.0 are.rise.0,
+    fit_slots (s.number + 1) xs small
+        (record { rise = are.rise.1; fresh = are.fresh.1 }) handlers.1,
+  )
 
   handlers_right : (k : ℕ) (xs : List Slot) → AllByRecursion (IsFresh limit all) xs
       → first_late 0 (handler_tests all k xs) ≡ None
@@ -271,9 +318,11 @@ module _ (limit : ℕ) (all : List Slot) where
   handlers_small : (xs : List Slot) → limit ≤ 64 → AllByRecursion (IsFresh limit all) all
       → AllByRecursion (IsFresh limit all) xs → AllByRecursion (λ (s : Slot). IfSome s.handler (λ h. h < 64)) xs
   handlers_small [] small everyone fresh = tt
-  handlers_small (s ∷ xs) small everyone fresh =
-      (handler_small limit all s.number s.handler small everyone fresh.0.handler, handlers_small xs small everyone
-      fresh.1)
+  handlers_small (s ∷ xs) small everyone fresh = (
+    handler_small limit all s.number s.handler small everyone fresh.0.handler,
+    handlers_small xs small everyone
+        fresh.1,
+  )
 
 -- 4. Pages.
 
@@ -295,20 +344,32 @@ cells_again (c ∷ cells) = ap (λ cs. c ∷ cs) (cells_again cells)
 page_fits : (least : ℕ) (p : ℕ × List Cell) → (page least).Fits p → IsPage p × HoldsWords p × (least ≤ p.0)
 unfolding page
 page_fits least p fits =
-    let tests = neither _ _ fits.0.1 in
-    (record { number = is_below _ _ tests.0; cells = sym (length-map p.1 (λ (c : Cell). c.full))
-    ∙ bits_long 64 _ fits.1.1.0 }, cells_words p.1 (words_fit _ _ fits.1.1.1.0), is_above _ _ tests.1)
+    let tests = neither _ _ fits.0.1 in (
+      record {
+        number = is_below _ _ tests.0;
+        cells = sym (length-map p.1 (λ (c : Cell). c.full))
+            ∙ bits_long 64 _ fits.1.1.0;
+      },
+      cells_words p.1 (words_fit _ _ fits.1.1.1.0),
+      is_above _ _ tests.1,
+    )
 
 fits_page : (least : ℕ) (p : ℕ × List Cell) → IsPage p → HoldsWords p → least ≤ p.0 → (page least).Fits p
 unfolding page
 fits_page least p whole words order = (
   (omega (arith, whole.number), or_false _ _ (not_le p.0 (2 ^ 42) whole.number) (not_lt p.0 least order)),
-  (fits_bits _ (length-map p.1 (λ (c : Cell). is_pointer c.word) ∙ whole.cells),
-  (fits_bits _ (length-map p.1 (λ (c : Cell). c.full) ∙ whole.cells),
-  (subst (λ tags. (each word tags).Fits (map (λ (c : Cell). c.word) p.1))
-      (map-map is_pointer (λ (c : Cell). c.word) p.1)
-      (fit_words (map (λ (c : Cell). c.word) p.1) (words_cells p.1 words)),
-  ap (λ cs. (p.0, cs)) (cells_again p.1)))),
+  (
+    fits_bits _ (length-map p.1 (λ (c : Cell). is_pointer c.word) ∙ whole.cells),
+    (
+      fits_bits _ (length-map p.1 (λ (c : Cell). c.full) ∙ whole.cells),
+      (
+        subst (λ tags. (each word tags).Fits (map (λ (c : Cell). c.word) p.1))
+            (map-map is_pointer (λ (c : Cell). c.word) p.1)
+            (fit_words (map (λ (c : Cell). c.word) p.1) (words_cells p.1 words)),
+        ap (λ cs. (p.0, cs)) (cells_again p.1),
+      ),
+    ),
+  ),
 )
 
 pub record PagesAre (least : ℕ) (xs : List (ℕ × List Cell)) : Type 0 where
@@ -330,9 +391,11 @@ fit_pages : (least : ℕ) (xs : List (ℕ × List Cell)) → PagesAre least xs
     → (times page (λ _ p. p.0 + 1) (length xs) least).Fits xs
 unfolding cons
 fit_pages least [] are = refl
-fit_pages least (p ∷ xs) are =
-    (fits_page least p are.whole.0 are.words.0 are.rise.0, fit_pages (p.0 + 1) xs
-    (record { rise = are.rise.1; whole = are.whole.1; words = are.words.1 }))
+fit_pages least (p ∷ xs) are = (
+  fits_page least p are.whole.0 are.words.0 are.rise.0,
+  fit_pages (p.0 + 1) xs
+      (record { rise = are.rise.1; whole = are.whole.1; words = are.words.1 }),
+)
 
 -- 5. The whole.
 
@@ -383,8 +446,10 @@ image_fits i fits =
       fresh = are.fresh;
       some_frames = some _ frame_count.0;
       few_frames = is_above _ _ frame_count.1;
-      paged = record { pages = record { rising = sorted_from 0 i.memory.pages pages.rise; whole = pages.whole };
-          fitting = is_above _ _ h.1.1.1.0.1 };
+      paged = record {
+        pages = record { rising = sorted_from 0 i.memory.pages pages.rise; whole = pages.whole };
+        fitting = is_above _ _ h.1.1.1.0.1;
+      };
       words = pages.words;
     }
 
@@ -400,20 +465,41 @@ fits_image i is =
     record { rise = rise_all limit i.slots i.slots is.rising; fresh = is.fresh } in (
       (
         ((refl, magic), refl),
-        ((version, small.2),
-        ((omega (arith, is.few_slots, small.0), or_false _ _ (not_zero _ is.some_slots) (not_lt _ _ is.few_slots)),
-        ((omega (arith, is.few_frames, small.1), or_false _ _ (not_zero _ is.some_frames) (not_lt _ _ is.few_frames)),
-        ((omega (arith, is.paged.fitting, is.few_frames, small.1), not_lt _ _ is.paged.fitting),
-        ((mode.0, mode.1),
-        same i.version (length i.slots) i.memory.frames (length i.memory.pages) i.split _ mode.2))))),
+        (
+          (version, small.2),
+          (
+            (omega (arith, is.few_slots, small.0), or_false _ _ (not_zero _ is.some_slots) (not_lt _ _ is.few_slots)),
+            (
+              (omega (arith, is.few_frames, small.1), or_false _ _ (not_zero _ is.some_frames) (not_lt _ _ is.few_frames)),
+              (
+                (omega (arith, is.paged.fitting, is.few_frames, small.1), not_lt _ _ is.paged.fitting),
+                (
+                  (mode.0, mode.1),
+                  same i.version (length i.slots) i.memory.frames (length i.memory.pages) i.split _ mode.2,
+                ),
+              ),
+            ),
+          ),
+        ),
       ),
-      ((fit_slots limit i.slots 0 i.slots small.0 are
-      (handlers_small limit i.slots i.slots small.0 is.fresh is.fresh), handlers_right limit i.slots 0 i.slots
-      is.fresh),
-      (fit_pages 0 i.memory.pages
-      (record { rise = rising_from_sorted i.memory.pages is.paged.pages.rising; whole = is.paged.pages.whole; words =
-      is.words }),
-      refl)),
+      (
+        (
+          fit_slots limit i.slots 0 i.slots small.0 are
+              (handlers_small limit i.slots i.slots small.0 is.fresh is.fresh),
+          handlers_right limit i.slots 0 i.slots
+              is.fresh,
+        ),
+        (
+          fit_pages 0 i.memory.pages
+              (record {
+                rise = rising_from_sorted i.memory.pages is.paged.pages.rising;
+                whole = is.paged.pages.whole;
+                words =
+                    is.words;
+              }),
+          refl,
+        ),
+      ),
     )
   where
     magic : IsBytes (codes "MMI1")
@@ -425,6 +511,6 @@ fits_image i is =
 
     same : (v s f p : ℕ) (b c : Bool) → b ≡ c
         → Rattle.std.proofs.Common.◌≡◌ {A = Rattle.mm_format.specs.declared.header.Header.Header}
-            (record { version = v; slots = s; frames = f; pages = p; split = b })
-            (record { version = v; slots = s; frames = f; pages = p; split = c })
+        (record { version = v; slots = s; frames = f; pages = p; split = b })
+        (record { version = v; slots = s; frames = f; pages = p; split = c })
     same v s f p b c e = cc

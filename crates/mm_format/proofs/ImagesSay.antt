@@ -1,33 +1,31 @@
 -- The image as a format says what the places and values of image files say.
-use Rattle.std.proofs.Common.{◌≡◌, ℕ, zero, suc, ◌+◌, ◌*◌, ◌/◌, ◌%◌, ◌-◌, ◌^◌, ◌<◌, ◌≤◌, Bool, true, false, not, cond}
-use Rattle.std.proofs.Common.{nat_lt, List, [], ◌∷◌, ◌++◌}
-use Rattle.std.proofs.Common.{length, take, drop, map, Option, Some, None, refl, sym, ap, subst, ◌∙◌, arith}
-use Rattle.std.specs.Prelude.{◌==◌, ◌&&◌, ◌||◌, nat_le}
+use Rattle.std.proofs.Common.{◌≡◌, ℕ, zero, suc, ◌+◌, ◌*◌, ◌/◌, ◌%◌, ◌-◌, ◌^◌, ◌<◌, Bool}
+use Rattle.std.proofs.Common.{List, [], ◌∷◌, ◌++◌}
+use Rattle.std.proofs.Common.{take, drop, map, refl, sym, ap, subst, ◌∙◌, arith}
+use Rattle.std.specs.Prelude.{◌==◌}
 use Rattle.std.specs.List.{range_with_len, fold}
 use Rattle.std.proofs.lemmas.List.{append-nil, take-take, drop-take, drop-drop}
 use Rattle.std.proofs.lemmas.List.FromFn.{length-map-range_with_len}
 use Rattle.mm_word.specs.declared.word.Word.{Word}
-use Rattle.mm_word.specs.declared.word.Cell.{Cell}
 use Rattle.mm_word.specs.Pointer.{pointer_of}
 use Rattle.mm_model.specs.Flags.{flags}
 use Rattle.mm_model.specs.Slot.{Slot}
-use Rattle.mm_model.specs.Image.{Image, slot_limit}
-use Rattle.mm_model.specs.Places.{Place, first_bad, in_turn, number_at, bit_at, mask_bit_at, word_at, least_number}
+use Rattle.mm_model.specs.Image.{slot_limit}
+use Rattle.mm_model.specs.Places.{in_turn, number_at, bit_at, mask_bit_at, word_at, least_number}
 use Rattle.mm_model.specs.Places.{word_places, ip_places}
-use Rattle.mm_model.specs.Places.{page_cell_at, cells_at, cell_places, cells_places, page_record_at}
-use Rattle.mm_model.specs.Places.{page_record_places, end_places}
+use Rattle.mm_model.specs.Places.{cells_at, cell_places, page_record_at}
+use Rattle.mm_model.specs.Places.{page_record_places}
 use Rattle.mm_model.specs.Places.Place.{Field, Test}
-use Rattle.mm_model.specs.ImageReading.{slot_offset, page_offset, version_of, slots_of, frames_of, pages_of}
-use Rattle.mm_model.specs.ImageReading.{mode_number}
+use Rattle.mm_model.specs.ImageReading.{slot_offset, page_offset, version_of, slots_of, pages_of}
 use Rattle.mm_model.specs.ImageReading.{register_at, registers_at, slot_record_at, slot_at, slots_at, page_at}
 use Rattle.mm_model.specs.ImageReading.{pages_at, image_of}
 use Rattle.mm_model.specs.ImageFaults.{is_bad_handler, header_places, register_places, registers_places}
 use Rattle.mm_model.specs.ImageFaults.{slot_record_places}
 use Rattle.mm_model.specs.ImageFaults.{slot_places, slots_places, handler_places, handlers_places, page_places}
-use Rattle.mm_model.specs.ImageFaults.{pages_places, image_fault}
+use Rattle.mm_model.specs.ImageFaults.{pages_places}
 use Rattle.mm_model.proofs.ImageBytes.Bitmaps.{bits-flags}
 use Rattle.mm_model.proofs.ImageBytes.Ranges.{map-same}
-use Rattle.mm_format.specs.Formats.{Outcome, whole, answer, file, each, times}
+use Rattle.mm_format.specs.Formats.{each, times}
 use Rattle.mm_format.specs.Headers.{header, header_of}
 use Rattle.mm_format.specs.Images.{mask, flags_of, bits_in, bits, word, ip, slot, cells_of, page, handler_tests}
 use Rattle.mm_format.specs.Images.{slots, image}
@@ -113,7 +111,7 @@ module _ (bytes : List ℕ) where
 
   says_slot_records : (version count : ℕ)
       → Says (times (slot (slot_limit version)) (λ _ s. s.number + 1) count 0).read bytes 16
-          (slots_places bytes version count) (slots_at bytes count) (16 + 142 * count)
+      (slots_places bytes version count) (slots_at bytes count) (16 + 142 * count)
   unfolding slots_at
   says_slot_records version count =
       says_moved refl (ap slot_offset {x = 0 + count} (omega arith))
@@ -124,7 +122,7 @@ module _ (bytes : List ℕ) where
 
   handlers : (all : List Slot) (from n : ℕ)
       → map (place_of 16) (handler_tests all from (map (slot_at bytes) (range_with_len from n)))
-          ≡ in_turn (handler_places bytes all) from n
+      ≡ in_turn (handler_places bytes all) from n
   unfolding in_turn
   handlers all from zero = refl
   handlers all from (suc n) =
@@ -144,19 +142,19 @@ module _ (bytes : List ℕ) where
 
   says_slots : (version count : ℕ)
       → Says (slots version count).read bytes 16
-          (slots_places bytes version count ++ handlers_places bytes (slots_at bytes count)) (slots_at bytes count)
-          (16 + 142 * count)
+      (slots_places bytes version count ++ handlers_places bytes (slots_at bytes count)) (slots_at bytes count)
+      (16 + 142 * count)
   unfolding slots
   says_slots version count =
       subst (λ ps. Says (slots version count).read bytes 16 (slots_places bytes version count ++ ps)
-          (slots_at bytes count) (16 + 142 * count)) (handlers_all count)
+      (slots_at bytes count) (16 + 142 * count)) (handlers_all count)
       (says_late _ (λ all. handler_tests all 0 all) (says_slot_records version count))
 
   -- 3. Pages.
 
   cells_by : (f : ℕ → Word) (g : ℕ → Bool) (from n : ℕ)
       → cells_of (map f (range_with_len from n)) (map g (range_with_len from n))
-          ≡ map (λ k. record { word = f k; full = g k }) (range_with_len from n)
+      ≡ map (λ k. record { word = f k; full = g k }) (range_with_len from n)
   cells_by f g from zero = refl
   cells_by f g from (suc n) = ap (λ cs. record { word = f from; full = g from } ∷ cs) (cells_by f g (from + 1) n)
 
@@ -179,7 +177,7 @@ module _ (bytes : List ℕ) where
 
   says_pages : (before count : ℕ)
       → Says (times page (λ _ p. p.0 + 1) count 0).read bytes (16 + 142 * before) (pages_places bytes before count)
-          (pages_at bytes before count) (page_offset before count)
+      (pages_at bytes before count) (page_offset before count)
   unfolding pages_at
   says_pages before count =
       let least : ℕ → ℕ = least_number bytes (page_offset before) 8 in

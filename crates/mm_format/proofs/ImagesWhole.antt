@@ -1,5 +1,5 @@
 -- The laws of image files, by their format.
-use Rattle.std.proofs.Common.{◌≡◌, ℕ, ◌+◌, ◌*◌, Bool, true, false, cond, ltb, List, [], ◌∷◌, ◌++◌, length, map}
+use Rattle.std.proofs.Common.{◌≡◌, ℕ, ◌+◌, Bool, true, false, cond, ltb, List, [], ◌∷◌, ◌++◌, length, map}
 use Rattle.std.proofs.Common.{Option, Some, None, refl, sym, ap}
 use Rattle.std.proofs.Common.{◌∙◌, append_assoc}
 use Rattle.std.specs.Option.{option_or}
@@ -14,17 +14,16 @@ use Rattle.mm_model.specs.Flags.{number_of_flags}
 use Rattle.mm_model.specs.Slot.{Slot}
 use Rattle.mm_model.specs.Image.{Image, slot_limit}
 use Rattle.mm_model.specs.Places.{Place, place_fault, first_bad, IsBytes, end_places}
-use Rattle.mm_model.specs.Places.Place.{Test}
 use Rattle.mm_model.specs.ImageReading.{page_offset, version_of, slots_of, pages_of, slots_at, image_of}
 use Rattle.mm_model.specs.ImageFaults.{header_places, slots_places, handlers_places, pages_places, image_fault}
 use Rattle.mm_model.specs.Spelling.{handler_byte, state_byte, words_spelling, bitmap, slot_record, page_record}
 use Rattle.mm_model.specs.Spelling.{spelling, IsImage, Spells}
 use Rattle.mm_model.specs.Spelling as model
 use Rattle.mm_model.proofs.Places.{first_bad-append}
-use Rattle.mm_format.specs.Formats.{Outcome, after, answer, file, cons, each, times}
+use Rattle.mm_format.specs.Formats.{after, answer, file, each, times}
 use Rattle.mm_format.specs.Formats.Outcome.{Got, Bad}
 use Rattle.mm_format.specs.Headers.{header}
-use Rattle.mm_format.specs.Images.{mask, bits, word, ip, slot, page, slots, header_in, image}
+use Rattle.mm_format.specs.Images.{mask, bits, word, ip, slot, page, slots, image}
 use Rattle.mm_format.proofs.Files.{spelled_by, read_whole}
 use Rattle.mm_format.proofs.Images.{image_is}
 use Rattle.mm_format.proofs.ImagesSay.{says_image}
@@ -77,7 +76,7 @@ module _ (bytes : List ℕ) where
   before =
       header_places bytes
       ++ ((slots_places bytes (version_of bytes) (slots_of bytes) ++ handlers_places bytes
-          (slots_at bytes (slots_of bytes)))
+      (slots_at bytes (slots_of bytes)))
       ++ pages_places bytes (slots_of bytes) (pages_of bytes))
 
   in_order : image_fault bytes ≡ first_bad (length bytes) (before ++ end_places bytes 13 end)
@@ -105,8 +104,8 @@ module _ (bytes : List ℕ) where
 
       go : (o : Option (ℕ × ℕ)) (b : Bool)
           → after (answer o (image_of bytes) end) (λ a n. cond (ltb n (length bytes)) (Bad 13 n) (Got a n))
-              ≡ answer (option_or o (option_or (cond (ltb end (length bytes)) (Some (13, end)) None) None))
-                  (image_of bytes) end
+          ≡ answer (option_or o (option_or (cond (ltb end (length bytes)) (Some (13, end)) None) None))
+          (image_of bytes) end
       go (Some x) b = refl
       go None b = last (ltb end (length bytes))
 
@@ -121,8 +120,8 @@ module _ (bytes : List ℕ) where
   read_again : (i : Image) → IsImage i → bytes ≡ spelling i → (image_fault bytes ≡ None) × (image_of bytes ≡ i)
   read_again i is spelled =
       found (image_fault bytes)
-          (sym file_says ∙ read_whole image image_is 13 bytes i (fits_image i is)
-          (spelled ∙ sym (image_spelled i)))
+      (sym file_says ∙ read_whole image image_is 13 bytes i (fits_image i is)
+      (spelled ∙ sym (image_spelled i)))
     where
       found : (o : Option (ℕ × ℕ)) → answer o (image_of bytes) end ≡ Got i (length bytes) → (o ≡ None)
           × (image_of bytes ≡ i)

@@ -1,12 +1,11 @@
 -- Lists, and tests that are made late.
-use Rattle.std.proofs.Common.{◌≡◌, ℕ, zero, suc, ◌+◌, ◌≤◌, ◌<◌, Bool, true, false, cond, List, [], ◌∷◌, ◌++◌, length}
-use Rattle.std.proofs.Common.{take, drop, map, Option, Some, None, refl, sym, ap, subst, ◌∙◌, arith}
+use Rattle.std.proofs.Common.{◌≡◌, ℕ, zero, suc, ◌+◌, ◌≤◌, Bool, true, false, cond, List, [], ◌∷◌, ◌++◌, length}
+use Rattle.std.proofs.Common.{Option, Some, None, refl, sym, ap, subst, ◌∙◌, arith}
 use Rattle.std.specs.List.{flat_map}
 use Rattle.std.proofs.lemmas.List.{length-append}
-use Rattle.mm_model.specs.Places.{IsBytes}
-use Rattle.mm_format.specs.Formats.{Outcome, Format, IsFormat, Stands, Late, first_late, after, answer, late, done}
+use Rattle.mm_format.specs.Formats.{Format, IsFormat, Stands, Late, first_late, after, answer, late}
 use Rattle.mm_format.specs.Formats.{cons_fits, cons_spell, cons, times, each}
-use Rattle.mm_format.specs.Formats.Outcome.{Got, Bad}
+use Rattle.mm_format.specs.Formats.Outcome.{Got}
 use Rattle.mm_format.proofs.Formats.{after_got, ends_within, stand_both, stands_first, stands_second, done_is}
 
 got_both : {A : Type 0} {a b : A} {m n : ℕ} → Got a m ≡ Got b n → (a ≡ b) × (m ≡ n)
@@ -19,7 +18,7 @@ module _ {A : Type 0} (f : Format A) (rest : A → Format (List A)) (first : IsF
   read_again : (bytes : List ℕ) (at : ℕ) (xs : List A) → cons_fits f rest xs → Stands bytes at (cons_spell f rest xs)
       → at ≤ length bytes
       → after (f.read bytes at) (λ a next. after ((rest a).read bytes next) (λ os end. Got (a ∷ os) end))
-          ≡ Got xs (at + length (cons_spell f rest xs))
+      ≡ Got xs (at + length (cons_spell f rest xs))
   read_again bytes at [] fits stands low = absurd fits
   read_again bytes at (a ∷ os) fits stands low =
       let x = f.spell a in
@@ -28,27 +27,27 @@ module _ {A : Type 0} (f : Format A) (rest : A → Format (List A)) (first : IsF
       rw (
         first.complete bytes at a fits.0 here low,
         (others a fits.0).complete bytes (at + length x) os fits.1 (stands_second bytes at x y stands)
-        (ends_within bytes at x here low),
+            (ends_within bytes at x here low),
       ) (ap (Got (a ∷ os)) (omega (arith, length-append x y)))
 
   pub cons_is : IsFormat (cons f rest)
   unfolding cons
   cons_is = record {
     sound = λ bytes fits at xs end e.
-      let s = after_got (f.read bytes at) (λ a next. after ((rest a).read bytes next) (λ os n. Got (a ∷ os) n)) xs end
-      e in
-      let t = after_got ((rest s.0).read bytes s.1) (λ os n. Got (s.0 ∷ os) n) xs end s.3 in
-      let p = first.sound bytes fits at s.0 s.1 s.2 in
-      let q = (others s.0 p.0).sound bytes fits s.1 t.0 t.1 t.2 in
-      let x = f.spell s.0 in
-      let y = (rest s.0).spell t.0 in
-      let same = got_both t.3 in
-      subst (λ ys. cons_fits f rest ys × Stands bytes at (cons_spell f rest ys)
-          × (end ≡ at + length (cons_spell f rest ys))) same.0 (
-        (p.0, q.0),
-        stand_both bytes at x y p.1 (subst (λ n. Stands bytes n y) p.2 q.1),
-        omega (arith, p.2, q.2, same.1, length-append x y),
-      );
+        let s = after_got (f.read bytes at) (λ a next. after ((rest a).read bytes next) (λ os n. Got (a ∷ os) n)) xs end
+        e in
+        let t = after_got ((rest s.0).read bytes s.1) (λ os n. Got (s.0 ∷ os) n) xs end s.3 in
+        let p = first.sound bytes fits at s.0 s.1 s.2 in
+        let q = (others s.0 p.0).sound bytes fits s.1 t.0 t.1 t.2 in
+        let x = f.spell s.0 in
+        let y = (rest s.0).spell t.0 in
+        let same = got_both t.3 in
+        subst (λ ys. cons_fits f rest ys × Stands bytes at (cons_spell f rest ys)
+        × (end ≡ at + length (cons_spell f rest ys))) same.0 (
+          (p.0, q.0),
+          stand_both bytes at x y p.1 (subst (λ n. Stands bytes n y) p.2 q.1),
+          omega (arith, p.2, q.2, same.1, length-append x y),
+        );
     complete = λ bytes at xs fits stands low. read_again bytes at xs fits stands low;
   }
 
@@ -113,12 +112,12 @@ module _ {A : Type 0} (f : Format A) (tests : A → List Late) where
   pub late_is : IsFormat f → IsFormat (late f tests)
   late_is is = record {
     sound = λ bytes fits at a next e.
-      let s = after_got (f.read bytes at) (λ x n. answer (first_late at (tests x)) x n) a next e in
-      let t = answered (first_late at (tests s.0)) s.0 a s.1 next s.3 in
-      let p = is.sound bytes fits at s.0 s.1 s.2 in
-      subst (λ x. (late f tests).Fits x × Stands bytes at (f.spell x) × (next ≡ at + length (f.spell x))) t.1
-      ((p.0, none_anywhere at 0 (tests s.0) t.0), p.1, sym t.2 ∙ p.2);
+        let s = after_got (f.read bytes at) (λ x n. answer (first_late at (tests x)) x n) a next e in
+        let t = answered (first_late at (tests s.0)) s.0 a s.1 next s.3 in
+        let p = is.sound bytes fits at s.0 s.1 s.2 in
+        subst (λ x. (late f tests).Fits x × Stands bytes at (f.spell x) × (next ≡ at + length (f.spell x))) t.1
+        ((p.0, none_anywhere at 0 (tests s.0) t.0), p.1, sym t.2 ∙ p.2);
     complete = λ bytes at a fits stands low.
-      rw (is.complete bytes at a fits.0 stands low)
-      (ap (λ o. answer o a (at + length (f.spell a))) (none_anywhere 0 at (tests a) fits.1));
+        rw (is.complete bytes at a fits.0 stands low)
+        (ap (λ o. answer o a (at + length (f.spell a))) (none_anywhere 0 at (tests a) fits.1));
   }

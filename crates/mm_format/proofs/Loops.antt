@@ -5,9 +5,9 @@ use Rattle.std.proofs.Common.{append_assoc, arith}
 use Rattle.std.proofs.lemmas.List.{append-nil, drop_more, drop_all}
 use Rattle.mm_format.specs.declared.reader.ReadError.{ReadError}
 use Rattle.mm_format.specs.declared.reader.ReadError.TheVariants as errors
-use Rattle.mm_format.specs.Formats.{Outcome, Format, after, cons, done, times, each, runs}
+use Rattle.mm_format.specs.Formats.{Outcome, Format, after, cons, times, each, runs}
 use Rattle.mm_format.specs.Formats.Outcome.{Got, Bad}
-use Rattle.mm_format.specs.Reading.{number_of, Fails}
+use Rattle.mm_format.specs.Reading.{Fails}
 
 module _ {A : Type 0} where
   -- what was read before, and what is still read
@@ -43,7 +43,7 @@ module _ {A : Type 0} where
     stops errors.NoMemory fails = tt
     stops (errors.Fault kind offset) fails =
         sym so_far ∙ ap (λ o. prefixed front
-            (after o (λ x n. after ((rest x).read bytes n) (λ others end. Got (x ∷ others) end)))) fails
+        (after o (λ x n. after ((rest x).read bytes n) (λ others end. Got (x ∷ others) end)))) fails
 
 -- the loop over a count
 module _ {S A : Type 0} (f : S → Format A) (onward : S → A → S) (count k : ℕ) (s : S) (bytes : List ℕ) (at : ℕ)
@@ -136,11 +136,11 @@ runs_told {A = A} to read onward onto same (suc n) s bytes at =
   where
     go : (o : Outcome A)
         → ((a : A) (next : ℕ) → runs (λ s. read (to s)) onward n (onward s a) bytes next
-            ≡ runs read onto n (onto (to s) a) bytes next)
+        ≡ runs read onto n (onto (to s) a) bytes next)
         → after o (λ a next. after (runs (λ s. read (to s)) onward n (onward s a) bytes next)
-            (λ xs end. Got (a ∷ xs) end))
-            ≡ after o (λ a next. after (runs read onto n (onto (to s) a) bytes next)
-                (λ xs end. Got (a ∷ xs) end))
+        (λ xs end. Got (a ∷ xs) end))
+        ≡ after o (λ a next. after (runs read onto n (onto (to s) a) bytes next)
+        (λ xs end. Got (a ∷ xs) end))
     go (Got a next) others = ap (λ o. after o (λ xs end. Got (a ∷ xs) end)) (others a next)
     go (Bad k p) others = refl
 
@@ -156,6 +156,6 @@ times_runs {A = A} f onward (suc n) s bytes at =
         ≡ runs (λ t. (f t).read) onward n (onward s a) bytes next)
         → after o (λ a next. after ((times f onward n (onward s a)).read bytes next) (λ xs end. Got (a ∷ xs) end))
         ≡ after o (λ a next. after (runs (λ t. (f t).read) onward n (onward s a) bytes next)
-            (λ xs end. Got (a ∷ xs) end))
+        (λ xs end. Got (a ∷ xs) end))
     go (Got a next) same = ap (λ o. after o (λ xs end. Got (a ∷ xs) end)) (same a next)
     go (Bad k p) same = refl

@@ -1,12 +1,12 @@
 -- Numbers, as code reads them from a field.
-use Rattle.std.proofs.Common.{◌≡◌, ℕ, ◌+◌, ◌*◌, Bool, true, false, cond, ltb, List, [], ◌∷◌, length, get_or, take}
-use Rattle.std.proofs.Common.{drop, refl, sym, ap, ◌∙◌, arith}
+use Rattle.std.proofs.Common.{◌≡◌, ℕ, ◌+◌, ◌*◌, Bool, true, false, cond, List, [], ◌∷◌, length, get_or}
+use Rattle.std.proofs.Common.{sym, ap, ◌∙◌, arith}
 use Rattle.std.specs.Int.{w16, w32, w64, from_be_bytes}
 use Rattle.std.proofs.lemmas.Bool.{ltb-false}
 use Rattle.mm_model.specs.Places.{number_at}
 use Rattle.mm_model.proofs.ImageBytes.Numbers.{number_is_2, number_is_4, number_is_8}
 use Rattle.mm_model.proofs.ImageBytes.Parts.{length-part}
-use Rattle.mm_format.specs.Formats.{Outcome, Format, whole, raw, byte, u16, u32, u64}
+use Rattle.mm_format.specs.Formats.{raw, byte, u16, u32, u64}
 use Rattle.mm_format.specs.Formats.Outcome.{Got, Bad}
 use Rattle.mm_format.proofs.Formats.{is_whole}
 
@@ -38,7 +38,7 @@ module _ (bytes : List ℕ) (at : ℕ) where
 
   pub u32_got : (xs : List ℕ) (next : ℕ) → (raw 4).read bytes at ≡ Got xs next
       → u32.read bytes at ≡ Got
-          (from_be_bytes w32 (get_or xs 0 0 ∷ get_or xs 1 0 ∷ get_or xs 2 0 ∷ get_or xs 3 0 ∷ [])) next
+      (from_be_bytes w32 (get_or xs 0 0 ∷ get_or xs 1 0 ∷ get_or xs 2 0 ∷ get_or xs 3 0 ∷ [])) next
   unfolding number_at
   u32_got xs next e =
       let w = is_whole _ _ _ _ _ _ e in
@@ -51,8 +51,8 @@ module _ (bytes : List ℕ) (at : ℕ) where
 
   pub u64_got : (xs : List ℕ) (next : ℕ) → (raw 8).read bytes at ≡ Got xs next
       → u64.read bytes at ≡ Got
-          (from_be_bytes w64 (get_or xs 0 0 ∷ get_or xs 1 0 ∷ get_or xs 2 0 ∷ get_or xs 3 0 ∷ get_or xs 4 0 ∷ get_or
-          xs 5 0 ∷ get_or xs 6 0 ∷ get_or xs 7 0 ∷ [])) next
+      (from_be_bytes w64 (get_or xs 0 0 ∷ get_or xs 1 0 ∷ get_or xs 2 0 ∷ get_or xs 3 0 ∷ get_or xs 4 0 ∷ get_or
+      xs 5 0 ∷ get_or xs 6 0 ∷ get_or xs 7 0 ∷ [])) next
   unfolding number_at
   u64_got xs next e =
       let w = is_whole _ _ _ _ _ _ e in

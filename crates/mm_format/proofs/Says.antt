@@ -1,5 +1,5 @@
 -- Reading at a place says what a list of places and a value say.
-use Rattle.std.proofs.Common.{◌≡◌, ℕ, zero, suc, ◌+◌, ◌≤◌, Bool, true, false, cond, ltb, List, [], ◌∷◌, ◌++◌, length}
+use Rattle.std.proofs.Common.{◌≡◌, ℕ, zero, suc, ◌+◌, Bool, true, false, cond, ltb, List, [], ◌∷◌, ◌++◌, length}
 use Rattle.std.proofs.Common.{map}
 use Rattle.std.proofs.Common.{Option, Some, None, refl, sym, ap, subst, ◌∙◌, arith}
 use Rattle.std.specs.List.{range_with_len}
@@ -29,7 +29,7 @@ late_bad end at (t ∷ tests) = go t.bad (late_bad end at tests)
   where
     go : (b : Bool) → first_bad end (map (place_of at) tests) ≡ first_late at tests
         → option_or (cond b (Some (t.number, at + t.offset)) None) (first_bad end (map (place_of at) tests))
-            ≡ cond b (Some (t.number, at + t.offset)) (first_late at tests)
+        ≡ cond b (Some (t.number, at + t.offset)) (first_late at tests)
     go true others = refl
     go false others = others
 
@@ -65,8 +65,8 @@ module _ {A : Type 0} where
   unfolding place_fault
   says_test read {bytes = bytes} {at = at} {ps = ps} {v = v} {next = next} number bad s order = record {
     is = ap (tried number at bad) s.is ∙ go (first_bad (length bytes) ps) (bad v) refl
-    ∙ ap (λ o. answer o v next)
-    (sym (ap (first_bad (length bytes)) order ∙ first_bad-append (length bytes) ps (Test number at (bad v) ∷ [])));
+        ∙ ap (λ o. answer o v next)
+        (sym (ap (first_bad (length bytes)) order ∙ first_bad-append (length bytes) ps (Test number at (bad v) ∷ [])));
   }
     where
       go : (o : Option (ℕ × ℕ)) (b : Bool) → bad v ≡ b → tried number at bad (answer o v next)
@@ -79,12 +79,12 @@ module _ {A : Type 0} where
   pub says_then : {B : Type 0} (first : List ℕ → ℕ → Outcome A) (rest : A → List ℕ → ℕ → Outcome B) {bytes : List ℕ}
       {at : ℕ} {ps qs all : List Place} {a : A} {next : ℕ} {b : B} {end : ℕ} → Says first bytes at ps a next
       → Says (rest a) bytes next qs b end → all ≡ ps ++ qs
-          → Says (λ bytes at. after (first bytes at) (λ x n. rest x bytes n)) bytes at all b end
+      → Says (λ bytes at. after (first bytes at) (λ x n. rest x bytes n)) bytes at all b end
   says_then first rest {bytes = bytes} {ps = ps} {qs = qs} {a = a} {next = next} {b = b} {end = end} s t order =
       record {
-    is = ap (λ o. after o (λ x n. rest x bytes n)) s.is ∙ go (first_bad (length bytes) ps)
-    ∙ ap (λ o. answer o b end) (sym (ap (first_bad (length bytes)) order ∙ first_bad-append (length bytes) ps qs));
-  }
+        is = ap (λ o. after o (λ x n. rest x bytes n)) s.is ∙ go (first_bad (length bytes) ps)
+            ∙ ap (λ o. answer o b end) (sym (ap (first_bad (length bytes)) order ∙ first_bad-append (length bytes) ps qs));
+      }
     where
       go : (o : Option (ℕ × ℕ)) → after (answer o a next) (λ x n. rest x bytes n)
           ≡ answer (option_or o (first_bad (length bytes) qs)) b end
@@ -103,10 +103,10 @@ module _ {A : Type 0} where
   unfolding cons
   says_cons f rest {bytes = bytes} {ps = ps} {qs = qs} {a = a} {next = next} {others = others} {end = end} s t =
       record {
-    is = ap (λ o. after o (λ x n. after ((rest x).read bytes n) (λ os m. Got (x ∷ os) m))) s.is
-        ∙ go (first_bad (length bytes) ps)
-    ∙ ap (λ o. answer o (a ∷ others) end) (sym (first_bad-append (length bytes) ps qs));
-  }
+        is = ap (λ o. after o (λ x n. after ((rest x).read bytes n) (λ os m. Got (x ∷ os) m))) s.is
+            ∙ go (first_bad (length bytes) ps)
+            ∙ ap (λ o. answer o (a ∷ others) end) (sym (first_bad-append (length bytes) ps qs));
+      }
     where
       last : (o : Option (ℕ × ℕ)) → after (answer o others end) (λ os m. Got (a ∷ os) m) ≡ answer o (a ∷ others) end
       last (Some x) = refl
@@ -114,7 +114,7 @@ module _ {A : Type 0} where
 
       go : (o : Option (ℕ × ℕ))
           → after (answer o a next) (λ x n. after ((rest x).read bytes n) (λ os m. Got (x ∷ os) m))
-              ≡ answer (option_or o (first_bad (length bytes) qs)) (a ∷ others) end
+          ≡ answer (option_or o (first_bad (length bytes) qs)) (a ∷ others) end
       go (Some x) = refl
       go None = ap (λ o. after o (λ os m. Got (a ∷ os) m)) t.is ∙ last (first_bad (length bytes) qs)
 
@@ -122,9 +122,9 @@ module _ {A : Type 0} where
   pub says_times : {S : Type 0} (f : S → Format A) (onward : S → A → S) (bytes : List ℕ) (state : ℕ → S)
       (offset : ℕ → ℕ) (places : ℕ → List Place) (value : ℕ → A)
       → ((k : ℕ) → Says (f (state k)).read bytes (offset k) (places k) (value k) (offset (k + 1)))
-          → ((k : ℕ) → onward (state k) (value k) ≡ state (k + 1)) → (from n : ℕ)
+      → ((k : ℕ) → onward (state k) (value k) ≡ state (k + 1)) → (from n : ℕ)
       → Says (times f onward n (state from)).read bytes (offset from) (in_turn places from n)
-          (map value (range_with_len from n)) (offset (from + n))
+      (map value (range_with_len from n)) (offset (from + n))
   unfolding in_turn
   says_times f onward bytes state offset places value record_is step from zero =
       says_moved refl (ap offset {x = from} (omega arith)) (says_done [] bytes (offset from))
@@ -139,7 +139,7 @@ module _ {A : Type 0} where
       (places : ℕ → List Place) (value : ℕ → A)
       → ((k : ℕ) → Says (f (tag k)).read bytes (offset k) (places k) (value k) (offset (k + 1))) → (from n : ℕ)
       → Says (each f (map tag (range_with_len from n))).read bytes (offset from) (in_turn places from n)
-          (map value (range_with_len from n)) (offset (from + n))
+      (map value (range_with_len from n)) (offset (from + n))
   unfolding in_turn
   says_each f bytes tag offset places value one from zero =
       says_moved refl (ap offset {x = from} (omega arith)) (says_done [] bytes (offset from))
@@ -151,12 +151,12 @@ module _ {A : Type 0} where
   pub says_late : (read : List ℕ → ℕ → Outcome A) (tests : A → List Late) {bytes : List ℕ} {at : ℕ} {ps : List Place}
       {v : A} {next : ℕ} → Says read bytes at ps v next
       → Says (λ bytes at. after (read bytes at) (λ a n. answer (first_late at (tests a)) a n)) bytes at
-          (ps ++ map (place_of at) (tests v)) v next
+      (ps ++ map (place_of at) (tests v)) v next
   says_late read tests {bytes = bytes} {at = at} {ps = ps} {v = v} {next = next} s = record {
     is = ap (λ o. after o (λ a n. answer (first_late at (tests a)) a n)) s.is ∙ go (first_bad (length bytes) ps)
-    ∙ ap (λ o. answer o v next)
-    (ap (option_or (first_bad (length bytes) ps)) (sym (late_bad (length bytes) at (tests v)))
-    ∙ sym (first_bad-append (length bytes) ps (map (place_of at) (tests v))));
+        ∙ ap (λ o. answer o v next)
+        (ap (option_or (first_bad (length bytes) ps)) (sym (late_bad (length bytes) at (tests v)))
+        ∙ sym (first_bad-append (length bytes) ps (map (place_of at) (tests v))));
   }
     where
       go : (o : Option (ℕ × ℕ)) → after (answer o v next) (λ a n. answer (first_late at (tests a)) a n)

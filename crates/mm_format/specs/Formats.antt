@@ -1,5 +1,5 @@
 -- Formats of files: of one description, how a value is spelled, what is read from bytes, and the first fault.
-use Rattle.std.specs.Prelude.{◌≡◌, ◌↔◌, ℕ, zero, suc, ◌+◌, ◌^◌, ◌<◌, ◌≤◌, Bool, true, false, not, nat_lt}
+use Rattle.std.specs.Prelude.{◌≡◌, ◌↔◌, ℕ, zero, suc, ◌+◌, ◌^◌, ◌<◌, ◌≤◌, Bool, false, not, nat_lt}
 use Rattle.std.specs.Prelude.{if◌then◌else◌, List, [], ◌∷◌}
 use Rattle.std.specs.Prelude.{◌++◌, length, take, drop, Option, Some, None}
 use Rattle.std.specs.Int.{w16, w32, w64, to_be_bytes}
@@ -115,7 +115,7 @@ part of format = record { of = of; format = format }
 abbrev pub file : {A : Type 0} → Format A → (trailing : ℕ) → (bytes : List ℕ) → Outcome A
 file f trailing bytes =
     after (f.read bytes 0)
-        (λ a next. if nat_lt next (length bytes) then Outcome.Bad trailing next else Outcome.Got a next)
+    (λ a next. if nat_lt next (length bytes) then Outcome.Bad trailing next else Outcome.Got a next)
 
 -- A file without a fault is one that spells a value that fits, and that value is read.
 abbrev pub RoundTrips : {A : Type 0} → Format A → Type 0
@@ -188,4 +188,4 @@ abbrev pub runs : {S A : Type 0} → (S → List ℕ → ℕ → Outcome A) → 
 runs read onward zero s bytes at = Outcome.Got [] at
 runs read onward (suc n) s bytes at =
     after (read s bytes at)
-        (λ a next. after (runs read onward n (onward s a) bytes next) (λ others end. Outcome.Got (a ∷ others) end))
+    (λ a next. after (runs read onward n (onward s a) bytes next) (λ others end. Outcome.Got (a ∷ others) end))

@@ -1,5 +1,5 @@
 -- The header of an image file, row by row.
-use Rattle.std.specs.Prelude.{◌≡◌, ℕ, ◌+◌, ◌-◌, Bool, not, ◌||◌, ◌==◌, nat_lt, List, codes}
+use Rattle.std.specs.Prelude.{ℕ, ◌-◌, not, ◌||◌, ◌==◌, nat_lt, List, codes}
 use Rattle.mm_model.specs.Image.{slot_limit, frame_limit}
 use Rattle.mm_model.specs.Spelling.{mode_of}
 use Rattle.mm_model.specs.ImageReading.{version_of, slots_of, frames_of, pages_of, mode_number}

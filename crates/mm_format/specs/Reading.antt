@@ -4,7 +4,7 @@ use Rattle.mm_format.specs.declared.reader.Fault.{Fault}
 use Rattle.mm_format.specs.declared.reader.Fault.TheVariants as faults
 use Rattle.mm_format.specs.declared.reader.ReadError.{ReadError}
 use Rattle.mm_format.specs.declared.reader.ReadError.TheVariants as errors
-use Rattle.mm_format.specs.Formats.{Outcome, Format}
+use Rattle.mm_format.specs.Formats.{Outcome}
 
 abbrev pub number_of : Fault → ℕ
 number_of faults.Short = 1

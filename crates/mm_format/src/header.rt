@@ -46,10 +46,18 @@ pub fn read_header(reader: &mut Reader) -> Result<Header, ReadError>
     refuse_if(!(version == 1 || version == 2), Fault::Version, at)?;
     let at = reader.at;
     let slots = reader.u16()?;
-    refuse_if(slots == 0 || slots > u16::from(slot_limit(version)), Fault::Count, at)?;
+    refuse_if(
+        slots == 0 || slots > u16::from(slot_limit(version)),
+        Fault::Count,
+        at,
+    )?;
     let at = reader.at;
     let frames = reader.u16()?;
-    refuse_if(frames == 0 || frames > frame_limit(version), Fault::Frames, at)?;
+    refuse_if(
+        frames == 0 || frames > frame_limit(version),
+        Fault::Frames,
+        at,
+    )?;
     let at = reader.at;
     let pages = reader.u16()?;
     refuse_if(pages > frames, Fault::Frames, at)?;

@@ -116,12 +116,7 @@ impl Reader<'_> {
     }
 
     /// So many slots, with ascending numbers.
-    pub fn slots(
-        &mut self,
-        alloc: Global,
-        version: u16,
-        count: u16,
-    ) -> Result<Vec<Slot>, ReadError>
+    pub fn slots(&mut self, alloc: Global, version: u16, count: u16) -> Result<Vec<Slot>, ReadError>
         ensures read { Reads (λ slots. slots.items)
             ((times (slot (slot_limit version)) (λ _ s. s.number + 1) count 0).read self.old.bytes.now self.old.at)
             self.new.at result }

@@ -1,4 +1,4 @@
-use Rattle.std.proofs.Common.{◌≡◌, ◌/◌, ◌%◌, ◌^◌, ◌<◌, ℕ, Bool, false, get_or, length, take, refl, sym, ap, subst}
+use Rattle.std.proofs.Common.{◌≡◌, ◌/◌, ◌%◌, ◌^◌, ◌<◌, ℕ, false, get_or, length, take, refl, sym, ap, subst}
 use Rattle.std.proofs.Common.{◌∙◌, arith, length-set}
 use Rattle.std.specs.Prelude.{◌==◌}
 use Rattle.std.proofs.lemmas.Result.{err_from_is_err_and}
@@ -28,7 +28,7 @@ returns-in_err-word-clause-read c =
     let fails = subst (λ b. Fails ((word b).read bytes l.self.at) c.in_err-word.field-0.0)
     (c.is_set.ensures ∙ flag c.args.tags l.r c.loop-r-test.true) c.in_err-word.ensures.read in
     rw (p.1, p.2) (each_stop word (flags_of c.args.tags) l.r false bytes l.self.at (take l.r l.regs) _
-        l.invariant.read (omega (arith, long c.args.tags, c.loop-r-test.true)) c.in_err-word.field-0.0 fails)
+    l.invariant.read (omega (arith, long c.args.tags, c.loop-r-test.true)) c.in_err-word.field-0.0 fails)
 
 pub returns-in_err-word-clause-same : goal.returns-in_err-word-clause-same
 returns-in_err-word-clause-same c = c.in_err-word.ensures.same ∙ c.loop-r.invariant.same
@@ -42,10 +42,13 @@ loop-r-preserved c =
     let read = subst (λ b. (word b).read bytes l.self.at ≡ Got w next)
     (c.is_set.ensures ∙ flag c.args.tags l.r c.loop-r-test.true) c.in_ok-word.ensures.read in
     record {
-      read = rw (c.in_ok-word.ensures.same, take_more_set l.regs l.r w
-          (omega (arith, l.invariant.count, c.loop-r-test.true)))
-      (each_more word (flags_of c.args.tags) l.r false bytes l.self.at (take l.r l.regs) _ l.invariant.read
-      (omega (arith, long c.args.tags, c.loop-r-test.true)) w next read);
+      read = rw (
+        c.in_ok-word.ensures.same,
+        take_more_set l.regs l.r w
+            (omega (arith, l.invariant.count, c.loop-r-test.true)),
+      )
+          (each_more word (flags_of c.args.tags) l.r false bytes l.self.at (take l.r l.regs) _ l.invariant.read
+          (omega (arith, long c.args.tags, c.loop-r-test.true)) w next read);
       same = c.in_ok-word.ensures.same ∙ l.invariant.same;
       words = each_set IsWord l.regs l.r w l.invariant.words c.in_ok-word.ensures.holds;
       count = length-set l.regs l.r w ∙ l.invariant.count;
@@ -55,5 +58,5 @@ pub returns-clause-read : goal.returns-clause-read
 returns-clause-read c =
     let l = c.loop-r in
     each_read word (flags_of c.args.tags) l.r false l.self.bytes.now l.self.at (take l.r l.regs) _ l.invariant.read
-        (omega (arith, long c.args.tags, c.loop-r-test.false))
+    (omega (arith, long c.args.tags, c.loop-r-test.false))
     ∙ ap (λ regs. Got regs l.self.at) (take_all l.r l.regs (omega (arith, l.invariant.count, c.loop-r-test.false)))

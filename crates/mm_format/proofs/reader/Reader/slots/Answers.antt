@@ -1,4 +1,4 @@
-use Rattle.std.proofs.Common.{◌≡◌, ◌+◌, ℕ, refl, ◌∙◌}
+use Rattle.std.proofs.Common.{◌+◌, ℕ, refl, ◌∙◌}
 use Rattle.mm_model.specs.Image.{slot_limit}
 use Rattle.mm_format.specs.declared.slots.SlotRun.{SlotRun}
 use Rattle.mm_format.specs.Images.{slot}
