@@ -235,8 +235,8 @@ module _ (limit : ℕ) (all : List Slot) where
                   fits_mask (map is_pointer s.regs) (length-map s.regs is_pointer ∙ f.registers),
                   (
                     fit_words s.regs f.words,
-                    same_slot s.number s.group s.handler _ s.regs s.ip s.past s.turns s.state _ s.empty s.pending h.1 f.past
-                        f.turns state.1 f.empty f.pending,
+                    same_slot s.number s.group s.handler _ s.regs s.ip s.past s.turns s.state _ s.empty s.pending h.1
+                        f.past f.turns state.1 f.empty f.pending,
                   ),
                 ),
               ),
@@ -470,7 +470,8 @@ fits_image i is =
           (
             (omega (arith, is.few_slots, small.0), or_false _ _ (not_zero _ is.some_slots) (not_lt _ _ is.few_slots)),
             (
-              (omega (arith, is.few_frames, small.1), or_false _ _ (not_zero _ is.some_frames) (not_lt _ _ is.few_frames)),
+              (omega (arith, is.few_frames, small.1),
+              or_false _ _ (not_zero _ is.some_frames) (not_lt _ _ is.few_frames)),
               (
                 (omega (arith, is.paged.fitting, is.few_frames, small.1), not_lt _ _ is.paged.fitting),
                 (

@@ -83,7 +83,8 @@ module _ {A : Type 0} where
   says_then first rest {bytes = bytes} {ps = ps} {qs = qs} {a = a} {next = next} {b = b} {end = end} s t order =
       record {
         is = ap (λ o. after o (λ x n. rest x bytes n)) s.is ∙ go (first_bad (length bytes) ps)
-            ∙ ap (λ o. answer o b end) (sym (ap (first_bad (length bytes)) order ∙ first_bad-append (length bytes) ps qs));
+            ∙ ap (λ o. answer o b end)
+            (sym (ap (first_bad (length bytes)) order ∙ first_bad-append (length bytes) ps qs));
       }
     where
       go : (o : Option (ℕ × ℕ)) → after (answer o a next) (λ x n. rest x bytes n)

@@ -1,8 +1,8 @@
 //! Formats of files: one description of each, by which a value is spelled and read, and the first fault found.
 //!
 //! A format (`specs/Formats`) says which values have a spelling, how each is spelled, and what is read from bytes at a
-//! place. It is made of fields, tests, parts one behind the other, lists, and tests that are made late. Each way to make
-//! one keeps that what is read is spelled where it was read, and that what is spelled is read.
+//! place. It is made of fields, tests, parts one behind the other, lists, and tests that are made late. Each way to
+//! make one keeps that what is read is spelled where it was read, and that what is spelled is read.
 //!
 //! | a row | what it is |
 //! |---|---|

@@ -6,7 +6,8 @@ use Rattle.mm_format.proofs.run.read_run.Goals as goal
 pub loop-init : goal.loop-init
 loop-init g c = record {
   read = rw c.new-items.ensures.items
-      (runs_begin g.R.Run.reads g.R.Run.onward c.args.count c.args.run.now c.args.reader.now.bytes.now c.args.reader.now.at);
+      (runs_begin g.R.Run.reads g.R.Run.onward c.args.count c.args.run.now c.args.reader.now.bytes.now
+      c.args.reader.now.at);
   same = refl;
   count = c.new-items.ensures.len;
 }
