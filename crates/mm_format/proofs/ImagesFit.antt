@@ -470,8 +470,10 @@ fits_image i is =
           (
             (omega (arith, is.few_slots, small.0), or_false _ _ (not_zero _ is.some_slots) (not_lt _ _ is.few_slots)),
             (
-              (omega (arith, is.few_frames, small.1),
-              or_false _ _ (not_zero _ is.some_frames) (not_lt _ _ is.few_frames)),
+              (
+                omega (arith, is.few_frames, small.1),
+                or_false _ _ (not_zero _ is.some_frames) (not_lt _ _ is.few_frames),
+              ),
               (
                 (omega (arith, is.paged.fitting, is.few_frames, small.1), not_lt _ _ is.paged.fitting),
                 (

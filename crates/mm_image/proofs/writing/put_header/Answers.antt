@@ -9,9 +9,22 @@ mode_byte false = refl
 
 pub returns : goal.returns
 returns c =
-    rw (c.in_ok-extend_from_slice-6.ensures.items, c.in_ok-extend_from_slice-5.ensures.items,
-    c.in_ok-extend_from_slice-4.ensures.items, c.in_ok-extend_from_slice-3.ensures.items,
-    c.in_ok-extend_from_slice-2.ensures.items, c.in_ok-extend_from_slice.ensures.items,
-    c.to_be_bytes.ensures, c.version.ensures.version, c.to_be_bytes-2.ensures, c.slots.ensures.slots,
-    c.to_be_bytes-3.ensures, c.frames.ensures.frames, c.to_be_bytes-4.ensures, c.pages.ensures.pages,
-    c.to_be_bytes-5.ensures, c.split.ensures.split, mode_byte c.args.img.now.split) (simp append_assoc)
+    rw (
+      c.in_ok-extend_from_slice-6.ensures.items,
+      c.in_ok-extend_from_slice-5.ensures.items,
+      c.in_ok-extend_from_slice-4.ensures.items,
+      c.in_ok-extend_from_slice-3.ensures.items,
+      c.in_ok-extend_from_slice-2.ensures.items,
+      c.in_ok-extend_from_slice.ensures.items,
+      c.to_be_bytes.ensures,
+      c.version.ensures.version,
+      c.to_be_bytes-2.ensures,
+      c.slots.ensures.slots,
+      c.to_be_bytes-3.ensures,
+      c.frames.ensures.frames,
+      c.to_be_bytes-4.ensures,
+      c.pages.ensures.pages,
+      c.to_be_bytes-5.ensures,
+      c.split.ensures.split,
+      mode_byte c.args.img.now.split,
+    ) (simp append_assoc)

@@ -8,6 +8,16 @@ unfolding slot_record
 returns c =
     let ip = ap (λ (x : Slot). x.ip) c.slot.view_is in
     let regs = ap (λ (x : Slot). x.regs) c.slot.view_is in
-    rw (c.in_ok-put_words.ensures, c.in_ok-extend_from_slice-3.ensures.items, c.in_ok-extend_from_slice-2.ensures.items,
-    c.in_ok-extend_from_slice.ensures.items, c.slot_head.ensures, c.to_be_bytes.ensures, c.bits.ensures.bits,
-    c.to_be_bytes-2.ensures, c.tags_of.ensures.value, ip, regs) (simp append_assoc)
+    rw (
+      c.in_ok-put_words.ensures,
+      c.in_ok-extend_from_slice-3.ensures.items,
+      c.in_ok-extend_from_slice-2.ensures.items,
+      c.in_ok-extend_from_slice.ensures.items,
+      c.slot_head.ensures,
+      c.to_be_bytes.ensures,
+      c.bits.ensures.bits,
+      c.to_be_bytes-2.ensures,
+      c.tags_of.ensures.value,
+      ip,
+      regs,
+    ) (simp append_assoc)
