@@ -10,8 +10,8 @@ use Rattle.mm_image.specs.declared.fault.ImageError.TheVariants.{Fault, NoMemory
 use Rattle.mm_image.specs.Faults.{Gives, Fails, IsUnlessNoMemory, FailsUnlessNoMemory, number_of}
 use Rattle.mm_model.specs.ImageReading.{image_of}
 use Rattle.mm_model.proofs.ImageBytes.Parts.{IsBytes}
-use Rattle.mm_model.proofs.ImageBytes.CleanImage.{clean_spells}
-use Rattle.mm_model.proofs.ImageBytes.SpelledImage.{spelled_clean, image_same}
+use Rattle.mm_format.proofs.ImagesWhole.{clean_spells}
+use Rattle.mm_format.proofs.ImagesWhole.{spelled_clean, image_same}
 
 abbrev Answer : Type 0
 Answer = Result Image ImageError

@@ -8,7 +8,7 @@ use Rattle.mm_model.specs.ImageFaults.{image_fault}
 use Rattle.mm_image.specs.declared.fault.ImageFault.{ImageFault}
 use Rattle.mm_image.specs.declared.fault.ImageFault.TheVariants as faults
 use Rattle.mm_image.specs.Faults.{number_of}
-use Rattle.mm_model.proofs.ImageBytes.SpelledImage.{spelled_clean, image_same}
+use Rattle.mm_format.proofs.ImagesWhole.{spelled_clean, image_same}
 use Rattle.mm_sched.proofs.Texts.{never_both, fault_unique, means_unique}
 use Rattle.mm_line.specs.declared.fault.Fault.{Fault}
 use Rattle.mm_line.specs.declared.fault.Fault.TheVariants as text_faults

@@ -6,8 +6,6 @@ pub mod Bitmaps
 pub mod Clean
 pub mod CleanWords
 pub mod CleanRecords
-pub mod CleanImage
 pub mod Apart
 pub mod SpelledRecords
 pub mod SpelledSlots
-pub mod SpelledImage

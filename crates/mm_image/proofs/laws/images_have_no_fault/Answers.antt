@@ -1,6 +1,6 @@
 use Rattle.mm_model.specs.ImageReading.{image_of}
-use Rattle.mm_model.proofs.ImageBytes.CleanImage.{clean_spells}
-use Rattle.mm_model.proofs.ImageBytes.SpelledImage.{spelled_clean}
+use Rattle.mm_format.proofs.ImagesWhole.{clean_spells}
+use Rattle.mm_format.proofs.ImagesWhole.{spelled_clean}
 use Rattle.mm_image.proofs.laws.images_have_no_fault.Goals as goal
 
 pub returns : goal.returns

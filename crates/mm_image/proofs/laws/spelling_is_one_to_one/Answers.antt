@@ -1,6 +1,6 @@
 use Rattle.std.proofs.Common.{refl, sym, ◌∙◌}
 use Rattle.mm_model.specs.Spelling.{spelling}
-use Rattle.mm_model.proofs.ImageBytes.SpelledImage.{image_same}
+use Rattle.mm_format.proofs.ImagesWhole.{image_same}
 use Rattle.mm_image.proofs.laws.spelling_is_one_to_one.Goals as goal
 
 pub returns-clause-one : goal.returns-clause-one

@@ -2,7 +2,7 @@ use Rattle.std.proofs.Common.{◌≡◌, List, None, sym, subst, arith}
 use Rattle.std.proofs.lemmas.Result.{err_from_is_err_and}
 use Rattle.mm_model.specs.Slot.{Slot}
 use Rattle.mm_model.specs.Spelling.{IsImage}
-use Rattle.mm_model.proofs.ImageBytes.CleanImage.{clean_spells}
+use Rattle.mm_format.proofs.ImagesWhole.{clean_spells}
 use Rattle.mm_image.specs.Faults.{Fails}
 use Rattle.mm_image.proofs.Steps.{T, at_header, at_slots, at_handlers, at_pages, at_end, at_none, same_image}
 use Rattle.mm_image.proofs.reading.read_parts.Goals as goal

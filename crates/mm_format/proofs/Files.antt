@@ -1,0 +1,54 @@
+-- Whole files: what a format is there and back.
+use Rattle.std.proofs.Common.{◌≡◌, ℕ, ◌+◌, ◌≤◌, Bool, true, false, cond, ltb, List, length, take, refl}
+use Rattle.std.proofs.Common.{sym, ap, ◌∙◌, arith}
+use Rattle.std.proofs.lemmas.Bool.{ltb-false, le-ltb}
+use Rattle.std.proofs.lemmas.List.{take_all}
+use Rattle.mm_model.specs.Places.{IsBytes}
+use Rattle.mm_format.specs.Formats.{Format, IsFormat, Stands, file, RoundTrips, IsOneToOne}
+use Rattle.mm_format.specs.Formats.Outcome.{Got, Bad}
+use Rattle.mm_format.proofs.Formats.{after_got}
+
+module _ {A : Type 0} (f : Format A) (is : IsFormat f) where
+  ended : (bytes : List ℕ) (trailing : ℕ) (b : Bool) (end : ℕ) (a c : A) (next : ℕ) → ltb end (length bytes) ≡ b
+      → cond b (Bad trailing end) (Got a end) ≡ Got c next → (a ≡ c) × (length bytes ≤ end)
+  ended bytes trailing true end a c next is e = absurd cc
+  ended bytes trailing false end a c next is e = (cc, ltb-false end (length bytes) is)
+
+  -- a text is the bytes exactly where it stands at their front and they end with it
+  all_of : (bytes text : List ℕ) → Stands bytes 0 text → length bytes ≤ length text → bytes ≡ text
+  all_of bytes text stands le = sym (take_all (length text) bytes le) ∙ stands
+
+  -- what is read without a fault is spelled by the bytes
+  pub spelled_by : (trailing : ℕ) (bytes : List ℕ) → IsBytes bytes → (a : A) (next : ℕ) → file f trailing bytes
+      ≡ Got a next
+      → f.Fits a × (bytes ≡ f.spell a)
+  spelled_by trailing bytes fits a next e =
+      let s = after_got (f.read bytes 0) (λ x n. cond (ltb n (length bytes)) (Bad trailing n) (Got x n)) a next e in
+      let t = ended bytes trailing (ltb s.1 (length bytes)) s.1 s.0 a next refl s.3 in
+      let r = is.sound bytes fits 0 s.0 s.1 s.2 in
+      rw (← t.0) (r.0, all_of bytes (f.spell s.0) r.1 (omega (arith, t.1, r.2)))
+
+  -- what fits and is spelled by the bytes is read
+  pub read_whole : (trailing : ℕ) (bytes : List ℕ) (a : A) → f.Fits a → bytes ≡ f.spell a → file f trailing bytes
+      ≡ Got a (length bytes)
+  read_whole trailing bytes a fits same =
+      let long : length (f.spell a) ≡ length bytes = ap length (sym same) in
+      let front : Stands bytes 0 (f.spell a) = take_all (length (f.spell a)) bytes (omega (arith, long)) ∙ same in
+      rw (is.complete bytes 0 a fits front (omega arith))
+      (rw (le-ltb (0 + length (f.spell a)) (length bytes) (omega (arith, long))) (ap (Got a) (omega (arith, long))))
+
+  pub round_trips : RoundTrips f
+  round_trips trailing bytes fits a =
+      (λ e. spelled_by trailing bytes fits a (length bytes) e, λ p. read_whole trailing bytes a p.0 p.1)
+
+  pub one_to_one : IsOneToOne f
+  one_to_one a b fits others same =
+      let text = f.spell a in
+      let front : Stands text 0 text = take_all (length text) text (omega arith) in
+      let first = is.complete text 0 a fits front (omega arith) in
+      let second = is.complete text 0 b others (ap (λ t. take (length t) text) (sym same) ∙ front ∙ same)
+      (omega arith) in
+      value (sym first ∙ second)
+    where
+      value : {m n : ℕ} → Got a m ≡ Got b n → a ≡ b
+      value e = cc

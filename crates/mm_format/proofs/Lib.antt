@@ -1,0 +1,11 @@
+pub mod Formats
+pub mod Files
+pub mod Raw
+pub mod Loops
+pub mod Says
+pub mod Headers
+pub mod Lists
+pub mod Images
+pub mod ImagesSay
+pub mod ImagesFit
+pub mod ImagesWhole

@@ -1,0 +1,16 @@
+use Rattle.mm_format.specs.Headers.{header}
+use Rattle.mm_format.proofs.Files.{round_trips, one_to_one}
+use Rattle.mm_format.proofs.Headers.{header_is, header_says}
+use Rattle.mm_format.proofs.laws.header_is_a_format.Goals as goal
+
+pub returns-clause-format : goal.returns-clause-format
+returns-clause-format c = header_is
+
+pub returns-clause-round_trip : goal.returns-clause-round_trip
+returns-clause-round_trip c = round_trips header header_is
+
+pub returns-clause-one_to_one : goal.returns-clause-one_to_one
+returns-clause-one_to_one c = one_to_one header header_is
+
+pub returns-clause-read : goal.returns-clause-read
+returns-clause-read c = header_says

@@ -1,0 +1,24 @@
+use Rattle.mm_format.specs.Images.{image}
+use Rattle.mm_format.proofs.Files.{round_trips, one_to_one}
+use Rattle.mm_format.proofs.Images.{image_is}
+use Rattle.mm_format.proofs.ImagesFit.{image_fits, fits_image}
+use Rattle.mm_format.proofs.ImagesWhole.{image_spelled, file_says}
+use Rattle.mm_format.proofs.laws.image_is_a_format.Goals as goal
+
+pub returns-clause-format : goal.returns-clause-format
+returns-clause-format c = image_is
+
+pub returns-clause-round_trip : goal.returns-clause-round_trip
+returns-clause-round_trip c = round_trips image image_is
+
+pub returns-clause-one_to_one : goal.returns-clause-one_to_one
+returns-clause-one_to_one c = one_to_one image image_is
+
+pub returns-clause-fits : goal.returns-clause-fits
+returns-clause-fits c = λ i. (image_fits i, fits_image i)
+
+pub returns-clause-spelled : goal.returns-clause-spelled
+returns-clause-spelled c = image_spelled
+
+pub returns-clause-read : goal.returns-clause-read
+returns-clause-read c = file_says

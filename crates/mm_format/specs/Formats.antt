@@ -1,0 +1,191 @@
+-- Formats of files: of one description, how a value is spelled, what is read from bytes, and the first fault.
+use Rattle.std.specs.Prelude.{◌≡◌, ◌↔◌, ℕ, zero, suc, ◌+◌, ◌^◌, ◌<◌, ◌≤◌, Bool, false, not, nat_lt}
+use Rattle.std.specs.Prelude.{if◌then◌else◌, List, [], ◌∷◌}
+use Rattle.std.specs.Prelude.{◌++◌, length, take, drop, Option, Some, None}
+use Rattle.std.specs.Int.{w16, w32, w64, to_be_bytes}
+use Rattle.std.specs.Str.{bytes_eq}
+use Rattle.mm_model.specs.Places.{IsBytes, number_at}
+
+-- 1. Formats.
+
+-- what is read at a place: a value and where the next field begins, or the number and the place of the first fault
+pub data Outcome (A : Type 0) : Type 0 where
+  Got : A → (next : ℕ) → Outcome A
+  Bad : (number at : ℕ) → Outcome A
+
+-- which values have a spelling, how each is spelled, and what is read from bytes at a place
+pub record Format (A : Type 0) : Type 1 where
+  pub Fits : A → Type 0
+  pub spell : A → List ℕ
+  pub read : (bytes : List ℕ) (at : ℕ) → Outcome A
+
+-- the bytes have the text at this place
+abbrev pub Stands : (bytes : List ℕ) (at : ℕ) (text : List ℕ) → Type 0
+Stands bytes at text = take (length text) (drop at bytes) ≡ text
+
+-- What a format has to be: what is read is spelled where it was read and fits, and what fits is read where it is
+-- spelled.
+pub record IsFormat {A : Type 0} (f : Format A) : Type 0 where
+  pub sound : (bytes : List ℕ) → IsBytes bytes → (at : ℕ) (a : A) (next : ℕ) → f.read bytes at ≡ Outcome.Got a next
+      → f.Fits a × Stands bytes at (f.spell a) × (next ≡ at + length (f.spell a))
+  pub complete : (bytes : List ℕ) (at : ℕ) (a : A) → f.Fits a → Stands bytes at (f.spell a)
+      → at ≤ length bytes → f.read bytes at ≡ Outcome.Got a (at + length (f.spell a))
+
+-- 2. Fields.
+
+-- so many bytes, which have to be whole: fault 1 stands at the end of the file
+abbrev pub whole : {A : Type 0} → (List ℕ → ℕ → A) → (size : ℕ) → (bytes : List ℕ) (at : ℕ) → Outcome A
+whole value size bytes at =
+    if nat_lt (length bytes) (at + size) then Outcome.Bad 1 (length bytes) else Outcome.Got (value bytes at) (at + size)
+
+-- a number of so many bytes, spelled by these digits
+abbrev pub number : (size : ℕ) (digits : ℕ → List ℕ) → Format ℕ
+number size digits =
+    record { Fits = λ n. n < 256 ^ size; spell = digits; read = whole (λ bytes at. number_at bytes at size) size }
+
+abbrev pub byte : Format ℕ
+byte = number 1 (λ n. n ∷ [])
+
+abbrev pub u16 : Format ℕ
+u16 = number 2 (to_be_bytes w16)
+
+abbrev pub u32 : Format ℕ
+u32 = number 4 (to_be_bytes w32)
+
+abbrev pub u64 : Format ℕ
+u64 = number 8 (to_be_bytes w64)
+
+-- so many bytes as they are
+abbrev pub raw : (size : ℕ) → Format (List ℕ)
+raw size = record {
+  Fits = λ xs. (length xs ≡ size) × IsBytes xs;
+  spell = λ xs. xs;
+  read = whole (λ bytes at. take size (drop at bytes)) size;
+}
+
+-- 3. Tests.
+
+abbrev pub tried : {A : Type 0} → (number at : ℕ) (bad : A → Bool) → Outcome A → Outcome A
+tried number at bad (Outcome.Got a next) = if bad a then Outcome.Bad number at else Outcome.Got a next
+tried number at bad (Outcome.Bad n place) = Outcome.Bad n place
+
+-- a value that is not bad: else the fault of this number stands where it begins
+abbrev pub test : {A : Type 0} → Format A → (number : ℕ) (bad : A → Bool) → Format A
+test f number bad = record {
+  Fits = λ a. f.Fits a × (bad a ≡ false);
+  spell = f.spell;
+  read = λ bytes at. tried number at bad (f.read bytes at);
+}
+
+-- this text, else the fault of this number
+abbrev pub literal : (text : List ℕ) (number : ℕ) → Format (List ℕ)
+literal text number = test (raw (length text)) number (λ xs. not (bytes_eq xs text))
+
+-- 4. One part behind the other.
+
+-- a part of a value, and how it is spelled
+pub record Part (B A : Type 0) : Type 1 where
+  pub of : B → A
+  pub format : Format A
+
+abbrev pub after : {A B : Type 0} → Outcome A → (A → ℕ → Outcome B) → Outcome B
+after (Outcome.Got a next) rest = rest a next
+after (Outcome.Bad number at) rest = Outcome.Bad number at
+
+-- a part, and behind it the rest, which may depend on what the part is
+infixl 10 ◌>>=◌
+abbrev pub ◌>>=◌ : {A B : Type 0} → Part B A → (A → Format B) → Format B
+part >>= rest = record {
+  Fits = λ b. part.format.Fits (part.of b) × (rest (part.of b)).Fits b;
+  spell = λ b. part.format.spell (part.of b) ++ (rest (part.of b)).spell b;
+  read = λ bytes at. after (part.format.read bytes at) (λ a next. (rest a).read bytes next);
+}
+
+-- the value is complete
+abbrev pub done : {B : Type 0} → B → Format B
+done value = record { Fits = λ b. b ≡ value; spell = λ b. []; read = λ bytes at. Outcome.Got value at }
+
+-- the same with a name: a part by a getter
+abbrev pub part : {A B : Type 0} → (B → A) → Format A → Part B A
+part of format = record { of = of; format = format }
+
+-- 5. Whole files.
+
+-- what the bytes of a file say: the fault of this number stands where they go on after the last field
+abbrev pub file : {A : Type 0} → Format A → (trailing : ℕ) → (bytes : List ℕ) → Outcome A
+file f trailing bytes =
+    after (f.read bytes 0)
+    (λ a next. if nat_lt next (length bytes) then Outcome.Bad trailing next else Outcome.Got a next)
+
+-- A file without a fault is one that spells a value that fits, and that value is read.
+abbrev pub RoundTrips : {A : Type 0} → Format A → Type 0
+RoundTrips {A} f =
+    (trailing : ℕ) (bytes : List ℕ) → IsBytes bytes → (a : A)
+    → (file f trailing bytes ≡ Outcome.Got a (length bytes)) ↔ (f.Fits a × (bytes ≡ f.spell a))
+
+-- No two values have one spelling.
+abbrev pub IsOneToOne : {A : Type 0} → Format A → Type 0
+IsOneToOne {A} f = (a b : A) → f.Fits a → f.Fits b → f.spell a ≡ f.spell b → a ≡ b
+
+-- 6. Lists.
+
+abbrev pub cons_fits : {A : Type 0} → Format A → (A → Format (List A)) → List A → Type 0
+cons_fits f rest [] = ⊥
+cons_fits f rest (a ∷ others) = f.Fits a × (rest a).Fits others
+
+abbrev pub cons_spell : {A : Type 0} → Format A → (A → Format (List A)) → List A → List ℕ
+cons_spell f rest [] = []
+cons_spell f rest (a ∷ others) = f.spell a ++ (rest a).spell others
+
+-- a first value, and behind it the others
+unfoldable pub cons : {A : Type 0} → Format A → (A → Format (List A)) → Format (List A)
+cons f rest = record {
+  Fits = cons_fits f rest;
+  spell = cons_spell f rest;
+  read = λ bytes at. after (f.read bytes at)
+      (λ a next. after ((rest a).read bytes next) (λ others end. Outcome.Got (a ∷ others) end));
+}
+
+-- so many values, the format of each by what stands before it
+abbrev pub times : {S A : Type 0} → (S → Format A) → (S → A → S) → ℕ → S → Format (List A)
+times f onward zero s = done []
+times f onward (suc n) s = cons (f s) (λ a. times f onward n (onward s a))
+
+-- a value for each of a list
+abbrev pub each : {B A : Type 0} → (B → Format A) → List B → Format (List A)
+each f [] = done []
+each f (b ∷ bs) = cons (f b) (λ _. each f bs)
+
+-- 7. Tests that are made after a part was read.
+
+-- the fault of this number stands so far from the beginning where it is bad
+pub record Late : Type 0 where
+  pub number : ℕ
+  pub offset : ℕ
+  pub bad : Bool
+
+abbrev pub first_late : (at : ℕ) → List Late → Option (ℕ × ℕ)
+first_late at [] = None
+first_late at (t ∷ tests) = if t.bad then Some (t.number, at + t.offset) else first_late at tests
+
+-- a value where there is no fault
+abbrev pub answer : {A : Type 0} → Option (ℕ × ℕ) → A → (next : ℕ) → Outcome A
+answer None value next = Outcome.Got value next
+answer (Some fault) value next = Outcome.Bad fault.0 fault.1
+
+-- the first of these faults, if there is one
+abbrev pub late : {A : Type 0} → Format A → (A → List Late) → Format A
+late f tests = record {
+  Fits = λ a. f.Fits a × (first_late 0 (tests a) ≡ None);
+  spell = f.spell;
+  read = λ bytes at. after (f.read bytes at) (λ a next. answer (first_late at (tests a)) a next);
+}
+
+-- 8. Reading alone.
+
+-- so many records, each read with what stands before it
+abbrev pub runs : {S A : Type 0} → (S → List ℕ → ℕ → Outcome A) → (S → A → S) → ℕ → S → List ℕ → ℕ → Outcome (List A)
+runs read onward zero s bytes at = Outcome.Got [] at
+runs read onward (suc n) s bytes at =
+    after (read s bytes at)
+    (λ a next. after (runs read onward n (onward s a) bytes next) (λ others end. Outcome.Got (a ∷ others) end))
