@@ -14,7 +14,7 @@ module _ {A : Type 0} (f : Format A) (is : IsFormat f) where
   ended bytes trailing true end a c next is e = absurd cc
   ended bytes trailing false end a c next is e = (cc, ltb-false end (length bytes) is)
 
-  -- a text is the bytes exactly where it stands at their front and they end with it
+  -- a text at the front of the bytes is all of them if they end with it
   all_of : (bytes text : List ℕ) → Stands bytes 0 text → length bytes ≤ length text → bytes ≡ text
   all_of bytes text stands le = sym (take_all (length text) bytes le) ∙ stands
 

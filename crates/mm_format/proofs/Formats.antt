@@ -15,7 +15,7 @@ use Rattle.mm_format.specs.Formats.{Outcome, Format, IsFormat, Stands, whole, nu
 use Rattle.mm_format.specs.Formats.{tried, test, literal, Part, after, ◌>>=◌, done}
 use Rattle.mm_format.specs.Formats.Outcome.{Got, Bad}
 
--- 1. Texts that stand at a place.
+-- 1. Texts at a place.
 
 module _ (bytes : List ℕ) (at : ℕ) where
   pub ends_within : (text : List ℕ) → Stands bytes at text → at ≤ length bytes → at + length text ≤ length bytes
@@ -170,7 +170,7 @@ literal_read text number xs fits = sym ((bytes_eq-Decides xs text).0 (same (byte
     same true e = refl
     same false e = absurd cc
 
--- 5. One part behind the other.
+-- 5. One part after the other.
 
 pub done_is : {B : Type 0} (value : B) → IsFormat (done value)
 done_is value = record {

@@ -1,8 +1,7 @@
 -- The header of an image file as a format.
-use Rattle.std.proofs.Common.{◌≡◌, ℕ, ◌-◌, Bool, true, false, not, nat_lt, List, refl, ap, ◌∙◌, codes}
+use Rattle.std.proofs.Common.{◌≡◌, ℕ, ◌-◌, Bool, false, not, nat_lt, List, refl, ap, ◌∙◌, codes}
 use Rattle.std.proofs.Common.{arith}
 use Rattle.std.specs.Prelude.{◌==◌, ◌||◌, take, drop}
-use Rattle.std.specs.Int.{from_bool}
 use Rattle.std.proofs.lemmas.Bool.Decides.{nat_tests}
 use Rattle.mm_model.specs.Places.{number_at}
 use Rattle.mm_model.specs.Spelling.{mode_of}
@@ -12,10 +11,6 @@ use Rattle.mm_format.specs.Headers.{header, header_of}
 use Rattle.mm_format.specs.Laws.{HeadersAreRead}
 use Rattle.mm_format.proofs.Formats.{literal_is, literal_read, u16_is, u32_is, test_is, then_is, done_is}
 use Rattle.mm_format.proofs.Says.{Says, says_field, says_test, says_then, says_done}
-
-pub mode_byte : (b : Bool) → from_bool b ≡ mode_of b
-mode_byte true = refl
-mode_byte false = refl
 
 mode_again : (version mode : ℕ) → not (version == 1 || version == 2) ≡ false → nat_lt (version - 1) mode ≡ false
     → mode_of (mode == 1) ≡ mode

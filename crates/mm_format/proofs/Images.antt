@@ -48,7 +48,7 @@ pub bits_long : (size : ℕ) (fs : List Bool) → (bits size).Fits fs → length
 unfolding bits bits_in
 bits_long size fs fits = ap length fits.1 ∙ length-map-range_with_len (bit_at (bitmap size fs) 0) 0 (8 * size)
 
-word_again : (tagged : Bool) (n : ℕ) → (tagged && not (spells_pointer n)) ≡ false
+pub word_again : (tagged : Bool) (n : ℕ) → (tagged && not (spells_pointer n)) ≡ false
     → word_bits (cond tagged (Ptr (pointer_of n)) (Int n)) ≡ n
 word_again true n e = bits_again n (not_not _ e)
 word_again false n e = refl

@@ -44,20 +44,20 @@ use Rattle.mm_format.proofs.Images.{bits_long}
 
 -- 1. Words and pointers.
 
-small_bits : (p : Pointer) → IsWellFormed p → bits_of p < 2 ^ 64
+pub small_bits : (p : Pointer) → IsWellFormed p → bits_of p < 2 ^ 64
 small_bits p h = omega (arith, (code_of-in_range p.perm).1, h.log_in_range, h.addr_in_range)
 
-word_fits : (tagged : Bool) (w : Word) → (word tagged).Fits w → IsWord w
+pub word_fits : (tagged : Bool) (w : Word) → (word tagged).Fits w → IsWord w
 unfolding word
 word_fits true w fits = subst IsWord (sym fits.1) (well_formed (word_bits w) (not_not _ fits.0.1))
 word_fits false w fits = subst IsWord (sym fits.1) fits.0.0
 
-fits_word : (w : Word) → IsWord w → (word (is_pointer w)).Fits w
+pub fits_word : (w : Word) → IsWord w → (word (is_pointer w)).Fits w
 unfolding word
 fits_word (Int n) small = ((small, refl), refl)
 fits_word (Ptr p) h = ((small_bits p h, ap not (is_spelled p h)), ap Ptr (sym (pointer_of-bits_of p h)))
 
-words_fit : (tags : List Bool) (words : List Word) → (each word tags).Fits words → AllByRecursion IsWord words
+pub words_fit : (tags : List Bool) (words : List Word) → (each word tags).Fits words → AllByRecursion IsWord words
 unfolding cons
 words_fit [] words fits = subst (AllByRecursion IsWord) (sym fits) tt
 words_fit (b ∷ tags) [] fits = absurd fits
@@ -68,14 +68,14 @@ unfolding cons
 fit_words [] all = refl
 fit_words (w ∷ words) all = (fits_word w all.0, fit_words words all.1)
 
-ip_fits : (p : Pointer) → ip.Fits p → IsWellFormed p × (can_fetch p.perm ≡ true)
+pub ip_fits : (p : Pointer) → ip.Fits p → IsWellFormed p × (can_fetch p.perm ≡ true)
 unfolding ip
 ip_fits p fits =
     let tests = neither _ _ fits.0.1 in
     subst (λ (q : Pointer). IsWellFormed q × (can_fetch q.perm ≡ true)) (sym fits.1)
     (well_formed (bits_of p) (not_not _ tests.0), not_not _ tests.1)
 
-fits_ip : (p : Pointer) → IsWellFormed p → can_fetch p.perm ≡ true → ip.Fits p
+pub fits_ip : (p : Pointer) → IsWellFormed p → can_fetch p.perm ≡ true → ip.Fits p
 unfolding ip
 fits_ip p h fetch =
     let same = pointer_of-bits_of p h in (
@@ -89,7 +89,7 @@ fits_ip p h fetch =
 
 -- 2. Flags.
 
-fits_mask : (fs : List Bool) → length fs ≡ 16 → mask.Fits fs
+pub fits_mask : (fs : List Bool) → length fs ≡ 16 → mask.Fits fs
 unfolding mask flags_of
 fits_mask fs long = (
   subst (λ n. number_of_flags fs < 2 ^ n) long (number_of_flags-below fs),
@@ -142,7 +142,7 @@ fits_bits fs long =
 
 -- 3. Slots.
 
-or_false : (a b : Bool) → a ≡ false → b ≡ false → (a || b) ≡ false
+pub or_false : (a b : Bool) → a ≡ false → b ≡ false → (a || b) ≡ false
 or_false a b e h = ap (λ x. x || b) e ∙ h
 
 begins : (b : Bool) → Begins (cond b Running (Halted None))
@@ -377,7 +377,7 @@ pub record PagesAre (least : ℕ) (xs : List (ℕ × List Cell)) : Type 0 where
   pub whole : AllByRecursion IsPage xs
   pub words : AllByRecursion HoldsWords xs
 
-pages_fit : (n least : ℕ) (xs : List (ℕ × List Cell)) → (times page (λ _ p. p.0 + 1) n least).Fits xs
+pub pages_fit : (n least : ℕ) (xs : List (ℕ × List Cell)) → (times page (λ _ p. p.0 + 1) n least).Fits xs
     → PagesAre least xs
 unfolding cons
 pages_fit zero least xs fits = subst (PagesAre least) (sym fits) (record { rise = tt; whole = tt; words = tt })
@@ -387,7 +387,7 @@ pages_fit (suc n) least (p ∷ xs) fits =
     let others = pages_fit n (p.0 + 1) xs fits.1 in
     record { rise = (one.2, others.rise); whole = (one.0, others.whole); words = (one.1, others.words) }
 
-fit_pages : (least : ℕ) (xs : List (ℕ × List Cell)) → PagesAre least xs
+pub fit_pages : (least : ℕ) (xs : List (ℕ × List Cell)) → PagesAre least xs
     → (times page (λ _ p. p.0 + 1) (length xs) least).Fits xs
 unfolding cons
 fit_pages least [] are = refl

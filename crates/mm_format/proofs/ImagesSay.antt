@@ -39,7 +39,7 @@ module _ (bytes : List ℕ) where
 
   -- 1. Flags and words.
 
-  says_mask : (at next : ℕ) → at + 2 ≡ next
+  pub says_mask : (at next : ℕ) → at + 2 ≡ next
       → Says mask.read bytes at (Field at 2 ∷ []) (map (mask_bit_at bytes at) (range_with_len 0 16)) next
   unfolding mask flags_of
   says_mask at next there =
@@ -70,13 +70,13 @@ module _ (bytes : List ℕ) where
       (says_then _ _ (says_field (λ bytes at. take size (drop at bytes)) size bytes at next there)
       (says_done (bits_in size (take size (drop at bytes))) bytes next) refl)
 
-  says_word : (tagged : Bool) (at next : ℕ) → at + 8 ≡ next
+  pub says_word : (tagged : Bool) (at next : ℕ) → at + 8 ≡ next
       → Says (word tagged).read bytes at (word_places bytes tagged at) (word_at bytes tagged at) next
   unfolding word
   says_word tagged at next there = says_then _ _ (says_test _ 9 _ (says_field (number 8) 8 bytes at next there) refl)
       (says_done _ bytes next) refl
 
-  says_ip : (at next : ℕ) → at + 8 ≡ next
+  pub says_ip : (at next : ℕ) → at + 8 ≡ next
       → Says ip.read bytes at (ip_places bytes at) (pointer_of (number_at bytes at 8)) next
   unfolding ip
   says_ip at next there = says_then _ _ (says_test _ 10 _ (says_field (number 8) 8 bytes at next there) refl)
@@ -158,7 +158,7 @@ module _ (bytes : List ℕ) where
   cells_by f g from zero = refl
   cells_by f g from (suc n) = ap (λ cs. record { word = f from; full = g from } ∷ cs) (cells_by f g (from + 1) n)
 
-  says_page : (least at : ℕ)
+  pub says_page : (least at : ℕ)
       → Says (page least).read bytes at (page_record_places bytes least at) (page_record_at bytes at) (at + 4232)
   unfolding page cells_at
   says_page least at =

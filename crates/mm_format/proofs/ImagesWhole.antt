@@ -32,7 +32,7 @@ use Rattle.mm_format.proofs.Lists.{each_spell, times_spell}
 
 -- 1. The spelling.
 
-word_spelled : (tagged : Bool) (w : Word) → (word tagged).spell w ≡ to_be_bytes w64 (word_bits w)
+pub word_spelled : (tagged : Bool) (w : Word) → (word tagged).spell w ≡ to_be_bytes w64 (word_bits w)
 unfolding word
 word_spelled tagged w = refl
 
@@ -45,7 +45,7 @@ slot_spelled limit least s =
     ∙ each_spell word (λ w. to_be_bytes w64 (word_bits w)) word_spelled (map is_pointer s.regs) s.regs
     (sym (length-map s.regs is_pointer)))
 
-page_spelled : (least : ℕ) (p : ℕ × List Cell) → (page least).spell p ≡ page_record p
+pub page_spelled : (least : ℕ) (p : ℕ × List Cell) → (page least).spell p ≡ page_record p
 unfolding page bits page_record
 page_spelled least p =
     let words = map (λ (c : Cell). c.word) p.1 in

@@ -1,7 +1,5 @@
 pub mod Formats
 pub mod Files
-pub mod Raw
-pub mod Loops
 pub mod Says
 pub mod Headers
 pub mod Lists

@@ -75,7 +75,7 @@ module _ {A : Type 0} where
       go None true e = ap (λ t. cond t (Bad number at) (Got v next)) e
       go None false e = ap (λ t. cond t (Bad number at) (Got v next)) e
 
-  -- one part behind the other
+  -- one part after the other
   pub says_then : {B : Type 0} (first : List ℕ → ℕ → Outcome A) (rest : A → List ℕ → ℕ → Outcome B) {bytes : List ℕ}
       {at : ℕ} {ps qs all : List Place} {a : A} {next : ℕ} {b : B} {end : ℕ} → Says first bytes at ps a next
       → Says (rest a) bytes next qs b end → all ≡ ps ++ qs
@@ -119,7 +119,7 @@ module _ {A : Type 0} where
       go (Some x) = refl
       go None = ap (λ o. after o (λ os m. Got (a ∷ os) m)) t.is ∙ last (first_bad (length bytes) qs)
 
-  -- records of a list, by their numbers: each is read with what stands before it
+  -- records of a list, by their numbers: each is read with what comes before it
   pub says_times : {S : Type 0} (f : S → Format A) (onward : S → A → S) (bytes : List ℕ) (state : ℕ → S)
       (offset : ℕ → ℕ) (places : ℕ → List Place) (value : ℕ → A)
       → ((k : ℕ) → Says (f (state k)).read bytes (offset k) (places k) (value k) (offset (k + 1)))

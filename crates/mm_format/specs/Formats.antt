@@ -19,12 +19,11 @@ pub record Format (A : Type 0) : Type 1 where
   pub spell : A → List ℕ
   pub read : (bytes : List ℕ) (at : ℕ) → Outcome A
 
--- the bytes have the text at this place
+-- the text is what the bytes have at this place
 abbrev pub Stands : (bytes : List ℕ) (at : ℕ) (text : List ℕ) → Type 0
 Stands bytes at text = take (length text) (drop at bytes) ≡ text
 
--- What a format has to be: what is read is spelled where it was read and fits, and what fits is read where it is
--- spelled.
+-- what a format has to be: what is read fits and is spelled where it was read; what fits is read where it is spelled
 pub record IsFormat {A : Type 0} (f : Format A) : Type 0 where
   pub sound : (bytes : List ℕ) → IsBytes bytes → (at : ℕ) (a : A) (next : ℕ) → f.read bytes at ≡ Outcome.Got a next
       → f.Fits a × Stands bytes at (f.spell a) × (next ≡ at + length (f.spell a))
@@ -33,12 +32,12 @@ pub record IsFormat {A : Type 0} (f : Format A) : Type 0 where
 
 -- 2. Fields.
 
--- so many bytes, which have to be whole: fault 1 stands at the end of the file
+-- a field of this size, which has to be whole: else fault 1 is at the end of the file
 abbrev pub whole : {A : Type 0} → (List ℕ → ℕ → A) → (size : ℕ) → (bytes : List ℕ) (at : ℕ) → Outcome A
 whole value size bytes at =
     if nat_lt (length bytes) (at + size) then Outcome.Bad 1 (length bytes) else Outcome.Got (value bytes at) (at + size)
 
--- a number of so many bytes, spelled by these digits
+-- a number of this size in bytes, spelled by these digits
 abbrev pub number : (size : ℕ) (digits : ℕ → List ℕ) → Format ℕ
 number size digits =
     record { Fits = λ n. n < 256 ^ size; spell = digits; read = whole (λ bytes at. number_at bytes at size) size }
@@ -55,7 +54,7 @@ u32 = number 4 (to_be_bytes w32)
 abbrev pub u64 : Format ℕ
 u64 = number 8 (to_be_bytes w64)
 
--- so many bytes as they are
+-- this count of bytes, as they are
 abbrev pub raw : (size : ℕ) → Format (List ℕ)
 raw size = record {
   Fits = λ xs. (length xs ≡ size) × IsBytes xs;
@@ -69,7 +68,7 @@ abbrev pub tried : {A : Type 0} → (number at : ℕ) (bad : A → Bool) → Out
 tried number at bad (Outcome.Got a next) = if bad a then Outcome.Bad number at else Outcome.Got a next
 tried number at bad (Outcome.Bad n place) = Outcome.Bad n place
 
--- a value that is not bad: else the fault of this number stands where it begins
+-- a value that is not bad: else the fault of this number is where it begins
 abbrev pub test : {A : Type 0} → Format A → (number : ℕ) (bad : A → Bool) → Format A
 test f number bad = record {
   Fits = λ a. f.Fits a × (bad a ≡ false);
@@ -81,7 +80,7 @@ test f number bad = record {
 abbrev pub literal : (text : List ℕ) (number : ℕ) → Format (List ℕ)
 literal text number = test (raw (length text)) number (λ xs. not (bytes_eq xs text))
 
--- 4. One part behind the other.
+-- 4. One part after the other.
 
 -- a part of a value, and how it is spelled
 pub record Part (B A : Type 0) : Type 1 where
@@ -92,7 +91,7 @@ abbrev pub after : {A B : Type 0} → Outcome A → (A → ℕ → Outcome B) �
 after (Outcome.Got a next) rest = rest a next
 after (Outcome.Bad number at) rest = Outcome.Bad number at
 
--- a part, and behind it the rest, which may depend on what the part is
+-- a part, and after it the rest, which may depend on what the part is
 infixl 10 ◌>>=◌
 abbrev pub ◌>>=◌ : {A B : Type 0} → Part B A → (A → Format B) → Format B
 part >>= rest = record {
@@ -105,25 +104,25 @@ part >>= rest = record {
 abbrev pub done : {B : Type 0} → B → Format B
 done value = record { Fits = λ b. b ≡ value; spell = λ b. []; read = λ bytes at. Outcome.Got value at }
 
--- the same with a name: a part by a getter
+-- the part that a function takes from a value
 abbrev pub part : {A B : Type 0} → (B → A) → Format A → Part B A
 part of format = record { of = of; format = format }
 
 -- 5. Whole files.
 
--- what the bytes of a file say: the fault of this number stands where they go on after the last field
+-- what the bytes of a file say: if they go on after the last field, the fault of this number is there
 abbrev pub file : {A : Type 0} → Format A → (trailing : ℕ) → (bytes : List ℕ) → Outcome A
 file f trailing bytes =
     after (f.read bytes 0)
     (λ a next. if nat_lt next (length bytes) then Outcome.Bad trailing next else Outcome.Got a next)
 
--- A file without a fault is one that spells a value that fits, and that value is read.
+-- a file has no fault exactly if it spells a value that fits, and that value is read
 abbrev pub RoundTrips : {A : Type 0} → Format A → Type 0
 RoundTrips {A} f =
     (trailing : ℕ) (bytes : List ℕ) → IsBytes bytes → (a : A)
     → (file f trailing bytes ≡ Outcome.Got a (length bytes)) ↔ (f.Fits a × (bytes ≡ f.spell a))
 
--- No two values have one spelling.
+-- different values have different spellings
 abbrev pub IsOneToOne : {A : Type 0} → Format A → Type 0
 IsOneToOne {A} f = (a b : A) → f.Fits a → f.Fits b → f.spell a ≡ f.spell b → a ≡ b
 
@@ -137,7 +136,7 @@ abbrev pub cons_spell : {A : Type 0} → Format A → (A → Format (List A)) �
 cons_spell f rest [] = []
 cons_spell f rest (a ∷ others) = f.spell a ++ (rest a).spell others
 
--- a first value, and behind it the others
+-- a first value, and after it the others
 unfoldable pub cons : {A : Type 0} → Format A → (A → Format (List A)) → Format (List A)
 cons f rest = record {
   Fits = cons_fits f rest;
@@ -146,7 +145,7 @@ cons f rest = record {
       (λ a next. after ((rest a).read bytes next) (λ others end. Outcome.Got (a ∷ others) end));
 }
 
--- so many values, the format of each by what stands before it
+-- this count of values, the format of each by what comes before it
 abbrev pub times : {S A : Type 0} → (S → Format A) → (S → A → S) → ℕ → S → Format (List A)
 times f onward zero s = done []
 times f onward (suc n) s = cons (f s) (λ a. times f onward n (onward s a))
@@ -158,7 +157,7 @@ each f (b ∷ bs) = cons (f b) (λ _. each f bs)
 
 -- 7. Tests that are made after a part was read.
 
--- the fault of this number stands so far from the beginning where it is bad
+-- if it is bad, the fault of this number is at this offset from the beginning
 pub record Late : Type 0 where
   pub number : ℕ
   pub offset : ℕ
@@ -168,7 +167,7 @@ abbrev pub first_late : (at : ℕ) → List Late → Option (ℕ × ℕ)
 first_late at [] = None
 first_late at (t ∷ tests) = if t.bad then Some (t.number, at + t.offset) else first_late at tests
 
--- a value where there is no fault
+-- a value, if there is no fault
 abbrev pub answer : {A : Type 0} → Option (ℕ × ℕ) → A → (next : ℕ) → Outcome A
 answer None value next = Outcome.Got value next
 answer (Some fault) value next = Outcome.Bad fault.0 fault.1
@@ -180,12 +179,3 @@ late f tests = record {
   spell = f.spell;
   read = λ bytes at. after (f.read bytes at) (λ a next. answer (first_late at (tests a)) a next);
 }
-
--- 8. Reading alone.
-
--- so many records, each read with what stands before it
-abbrev pub runs : {S A : Type 0} → (S → List ℕ → ℕ → Outcome A) → (S → A → S) → ℕ → S → List ℕ → ℕ → Outcome (List A)
-runs read onward zero s bytes at = Outcome.Got [] at
-runs read onward (suc n) s bytes at =
-    after (read s bytes at)
-    (λ a next. after (runs read onward n (onward s a) bytes next) (λ others end. Outcome.Got (a ∷ others) end))

@@ -16,7 +16,7 @@ header = do
   mode ← part (λ h. mode_of h.split) (test u32 4 (λ n. nat_lt (version - 1) n))
   done (record { version = version; slots = slots; frames = frames; pages = pages; split = mode == 1 })
 
--- what today's definition reads
+-- the header that the fields say
 abbrev pub header_of : List ℕ → Header
 header_of bytes = record {
   version = version_of bytes;

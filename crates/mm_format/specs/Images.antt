@@ -30,11 +30,11 @@ mask = do
   bits ← part number_of_flags u16
   done (flags_of bits)
 
--- the flags of so many bytes
+-- the flags of this count of bytes
 unfoldable pub bits_in : (size : ℕ) → List ℕ → List Bool
 bits_in size bytes = map (bit_at bytes 0) (range_with_len 0 (8 * size))
 
--- a bitmap of so many bytes
+-- a bitmap of this count of bytes
 unfoldable pub bits : (size : ℕ) → Format (List Bool)
 bits size = do
   bytes ← part (bitmap size) (raw size)

@@ -23,7 +23,7 @@ ImagesFit = (i : Image) → image.Fits i ↔ IsImage i
 abbrev pub ImagesAreSpelled : Type 0
 ImagesAreSpelled = (i : Image) → image.spell i ≡ spelling i
 
--- what is read is the first fault of the places of an image file, and where there is none the image that its fields say
+-- what is read is the first fault of the places of an image file, or, if there is none, the image that its fields say
 abbrev pub ImagesAreRead : Type 0
 ImagesAreRead =
     (bytes : List ℕ)

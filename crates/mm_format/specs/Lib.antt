@@ -1,5 +1,4 @@
 pub mod Formats
 pub mod Headers
 pub mod Images
-pub mod Reading
 pub mod Laws

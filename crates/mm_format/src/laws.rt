@@ -6,7 +6,7 @@ ghost use Rattle.mm_format.specs.Headers.{header};
 ghost use Rattle.mm_format.specs.Images.{image};
 ghost use Rattle.mm_format.specs.Laws.{HeadersAreRead, ImagesFit, ImagesAreSpelled, ImagesAreRead};
 
-/// The header of an image file has a format, which says what its list of places and values says.
+/// The header of an image file has a format, and it says what the header's places and values say.
 pub fn header_is_a_format()
     ensures format { IsFormat header }
     ensures round_trip { RoundTrips header }
@@ -14,7 +14,7 @@ pub fn header_is_a_format()
     ensures read { HeadersAreRead }
 {}
 
-/// The image file has a format, which says what its list of places, its values and its spelling say.
+/// The image file has a format, and it says what the places, the values and the spelling of images say.
 pub fn image_is_a_format()
     ensures format { IsFormat image }
     ensures round_trip { RoundTrips image }

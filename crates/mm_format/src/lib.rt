@@ -1,17 +1,18 @@
-//! Formats of files: one description of each, by which a value is spelled and read, and the first fault found.
+//! Formats of files: one description of each, which says how a value is spelled, what bytes are read as, and which fault
+//! is the first.
 //!
 //! A format (`specs/Formats`) says which values have a spelling, how each is spelled, and what is read from bytes at a
-//! place. It is made of fields, tests, parts one behind the other, lists, and tests that are made late. Each way to
-//! make one keeps that what is read is spelled where it was read, and that what is spelled is read.
+//! place. It is made of fields, tests, parts one after the other, lists, and tests that are made later. Each way to make
+//! one keeps two facts: what is read is spelled where it was read, and what is spelled is read.
 //!
 //! | a row | what it is |
 //! |---|---|
-//! | `byte`, `u16`, `u32`, `u64`, `raw size` | a field of so many bytes, which has to be whole |
-//! | `test format number bad` | the fault of this number at the beginning, where the value is bad |
+//! | `byte`, `u16`, `u32`, `u64`, `raw size` | a field of this size, which has to be whole |
+//! | `test format number bad` | the fault of this number at the beginning if the value is bad |
 //! | `literal text number` | this text |
 //! | `x ← part of format`, then the rest | a part of the value, on which the rest may depend |
 //! | `done value` | the value is complete |
-//! | `times format onward count state` | so many values, each by what stands before it |
+//! | `times format onward count state` | a count of values, each by what comes before it |
 //! | `each format list` | a value for each of a list |
 //! | `late format tests` | tests of a part that was read, each at its place |
 //!
@@ -20,11 +21,5 @@
 
 mod header;
 pub mod laws;
-mod reader;
-mod run;
-mod slots;
 
-pub use header::{Header, put_header, read_header};
-pub use reader::{Fault, ReadError, Reader};
-pub use run::{Run, read_run};
-pub use slots::SlotRun;
+pub use header::Header;

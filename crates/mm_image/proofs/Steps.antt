@@ -8,11 +8,11 @@ use Rattle.mm_model.specs.ImageReading.{page_offset, slots_at, pages_at, image_o
 use Rattle.mm_model.specs.ImageFaults.{slots_places, handlers_places, pages_places, image_fault}
 use Rattle.mm_model.proofs.Places.{Found, clean_both}
 use Rattle.mm_model.proofs.ImageBytes.Clean.{H, in_parts}
-use Rattle.mm_image.specs.declared.header.Header.{Header}
+use Rattle.mm_format.specs.declared.header.Header.{Header}
 use Rattle.mm_image.specs.declared.fault.ImageError.{ImageError}
 use Rattle.mm_image.specs.Faults.{Fails}
 use Rattle.mm_image.specs.Images.{image_from}
-use Rattle.mm_image.specs.Reading.{header_of}
+use Rattle.mm_format.specs.Headers.{header_of}
 use Rattle.mm_image.proofs.Over.{fails, behind}
 
 module _ (bytes : List ℕ) where

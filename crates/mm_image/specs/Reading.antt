@@ -1,10 +1,8 @@
 -- What the code that reads an image keeps between its fields.
-use Rattle.std.specs.Prelude.{◌≡◌, ◌<◌, ◌==◌, slice_index_or, ℕ, Bool, false, List, []}
+use Rattle.std.specs.Prelude.{◌≡◌, ◌<◌, slice_index_or, ℕ, Bool, false, List, []}
 use Rattle.mm_model.specs.Slot.{Slot}
 use Rattle.mm_model.specs.Image.{none_empty}
-use Rattle.mm_model.specs.ImageReading.{version_of, slots_of, frames_of, pages_of, mode_number}
 use Rattle.mm_model.specs.ImageFaults.{has_number}
-use Rattle.mm_image.specs.declared.header.Header.{Header}
 
 -- the slot has taken no turn and waits for nothing
 pub record HasNotRun (s : Slot) : Type 0 where
@@ -16,13 +14,3 @@ pub record HasNotRun (s : Slot) : Type 0 where
 -- a table says of each number whether a slot of the list has it
 abbrev pub HoldsNumbers : List Bool → List Slot → Type 0
 HoldsNumbers present slots = (n : ℕ) → n < 256 → slice_index_or present n false ≡ has_number slots n
-
-abbrev pub header_of : List ℕ → Header
-header_of bytes =
-    record {
-      version = version_of bytes;
-      slots = slots_of bytes;
-      frames = frames_of bytes;
-      pages = pages_of bytes;
-      split = mode_number bytes == 1;
-    }

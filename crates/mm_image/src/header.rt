@@ -3,12 +3,13 @@
 ghost use Rattle.std.specs.Prelude.{◌≡◌, length};
 ghost use Rattle.mm_model.specs.Image.{slot_limit, frame_limit};
 ghost use Rattle.mm_image.specs.Faults.{Gives};
-ghost use Rattle.mm_image.specs.Reading.{header_of};
+ghost use Rattle.mm_format.specs.Headers.{header_of};
 ghost use Rattle.mm_model.specs.Places.{first_bad};
 ghost use Rattle.mm_model.specs.ImageFaults.{header_places};
 
 use crate::fault::{ImageError, ImageFault};
 use crate::fields::Reader;
+use mm_format::Header;
 
 /// The most slots that a version has, and the limit of its numbers of slots and groups.
 pub(crate) fn slot_limit(version: u16) -> u8
@@ -22,16 +23,6 @@ pub(crate) fn frame_limit(version: u16) -> u16
     ensures { result ≡ frame_limit version }
 {
     if version == 1 { 256 } else { 4096 }
-}
-
-/// The fields of the header.
-#[derive(Clone, Copy)]
-pub(crate) struct Header {
-    pub version: u16,
-    pub slots: u16,
-    pub frames: u16,
-    pub pages: u16,
-    pub split: bool,
 }
 
 impl Reader<'_> {
