@@ -1,10 +1,11 @@
 -- Whole files: what a format is there and back.
-use Rattle.std.proofs.Common.{◌≡◌, ℕ, ◌+◌, ◌≤◌, Bool, true, false, cond, ltb, List, length, take, refl}
+use Rattle.std.proofs.Common.{◌≡◌, ℕ, ◌+◌, ◌≤◌, Bool, true, false, cond, ltb, List, length, take, Option, Some, None}
+use Rattle.std.proofs.Common.{refl}
 use Rattle.std.proofs.Common.{sym, ap, ◌∙◌, arith}
 use Rattle.std.proofs.lemmas.Bool.{ltb-false, le-ltb}
 use Rattle.std.proofs.lemmas.List.{take_all}
 use Rattle.mm_model.specs.Places.{IsBytes}
-use Rattle.mm_format.specs.Formats.{Format, IsFormat, Stands, file, RoundTrips, IsOneToOne}
+use Rattle.mm_format.specs.Formats.{Format, IsFormat, Stands, answer, file, RoundTrips, IsOneToOne}
 use Rattle.mm_format.specs.Formats.Outcome.{Got, Bad}
 use Rattle.mm_format.proofs.Formats.{after_got}
 
@@ -52,3 +53,17 @@ module _ {A : Type 0} (f : Format A) (is : IsFormat f) where
     where
       value : {m n : ℕ} → Got a m ≡ Got b n → a ≡ b
       value e = cc
+
+  -- bytes that are read as this list of tests and this value say
+  module _ (trailing : ℕ) (bytes : List ℕ) (fault : Option (ℕ × ℕ)) (value : A) (end : ℕ)
+      (says : file f trailing bytes ≡ answer fault value end) where
+    pub spelled_clean : IsBytes bytes → fault ≡ None → f.Fits value × (bytes ≡ f.spell value)
+    spelled_clean fits none =
+        spelled_by trailing bytes fits value end (says ∙ ap (λ o. answer o value end) none)
+
+    pub read_again : (a : A) → f.Fits a → bytes ≡ f.spell a → (fault ≡ None) × (value ≡ a)
+    read_again a fits same = found fault (sym says ∙ read_whole trailing bytes a fits same)
+      where
+        found : (o : Option (ℕ × ℕ)) → answer o value end ≡ Got a (length bytes) → (o ≡ None) × (value ≡ a)
+        found None e = (refl, cc)
+        found (Some x) e = absurd cc

@@ -11,7 +11,7 @@ use Rattle.mm_model.proofs.ImageBytes.Numbers.{number_is_4}
 use Rattle.mm_model.proofs.ImageBytes.Parts.{join_at, length-part, IsBytes-part, one_byte, two_bytes, four_bytes}
 use Rattle.mm_model.proofs.ImageBytes.Parts.{eight_bytes, below_8, below_16, below_64}
 use Rattle.mm_model.proofs.ImageBytes.Apart.{split, number_in_1, number_in_2, number_in_4, number_in_8}
-use Rattle.mm_format.specs.Formats.{Outcome, Format, IsFormat, Stands, whole, number, byte, u16, u32, u64, raw}
+use Rattle.mm_format.specs.Formats.{Outcome, Format, IsFormat, Stands, whole, number, byte, u16, u32, u64, text, raw}
 use Rattle.mm_format.specs.Formats.{tried, test, literal, Part, after, ◌>>=◌, done}
 use Rattle.mm_format.specs.Formats.Outcome.{Got, Bad}
 
@@ -92,22 +92,26 @@ module _ (size : ℕ) where
         ∙ ap (λ n. Got n (at + size)) (is.again bytes at a fits here) ∙ ap (λ n. Got a (at + n)) (sym long);
   }
 
-  pub raw_is : IsFormat (raw size)
-  raw_is = record {
+  pub text_is : IsFormat (text size)
+  text_is = record {
     sound = λ bytes fits at a next e.
         let w = is_whole _ _ _ _ _ _ e in
         let le = ltb-false _ _ w.0 in
         let long = length-part bytes at size le in
-        rw (← w.1) (
-          (long, IsBytes-part bytes at size fits),
-          ap (λ n. take n (drop at bytes)) long,
-          omega (arith, w.2, long),
-        );
+        rw (← w.1) (long, ap (λ n. take n (drop at bytes)) long, omega (arith, w.2, long));
     complete = λ bytes at a fits stands low.
-        let le : at + size ≤ length bytes = omega (arith, ends_within bytes at a stands low, fits.0) in
+        let le : at + size ≤ length bytes = omega (arith, ends_within bytes at a stands low, fits) in
         whole_is (λ bytes at. take size (drop at bytes)) bytes at le
-        ∙ ap (λ xs. Got xs (at + size)) (ap (λ n. take n (drop at bytes)) (sym fits.0) ∙ stands)
-        ∙ ap (λ n. Got a (at + n)) (sym fits.0);
+        ∙ ap (λ xs. Got xs (at + size)) (ap (λ n. take n (drop at bytes)) (sym fits) ∙ stands)
+        ∙ ap (λ n. Got a (at + n)) (sym fits);
+  }
+
+  pub raw_is : IsFormat (raw size)
+  raw_is = record {
+    sound = λ bytes fits at a next e.
+        let t = text_is.sound bytes fits at a next e in
+        ((t.0, subst IsBytes (is_whole _ _ _ _ _ _ e).1 (IsBytes-part bytes at size fits)), t.1, t.2);
+    complete = λ bytes at a fits stands low. text_is.complete bytes at a fits.0 stands low;
   }
 
 below_32 : (bytes : List ℕ) (at : ℕ) → IsBytes bytes → at + 4 ≤ length bytes → number_at bytes at 4 < 256 ^ 4
@@ -159,12 +163,11 @@ test_is f is number bad = record {
   complete = λ bytes at a fits stands low. rw (is.complete bytes at a fits.0 stands low, fits.1) refl;
 }
 
-pub literal_is : (text : List ℕ) (number : ℕ) → IsFormat (literal text number)
-literal_is text number =
-    test_is (raw (length text)) (raw_is (length text)) number (λ xs. not (bytes_eq xs text))
+pub literal_is : (letters : List ℕ) (number : ℕ) → IsFormat (literal letters number)
+literal_is letters number = test_is _ (text_is (length letters)) number (λ xs. not (bytes_eq xs letters))
 
-pub literal_read : (text : List ℕ) (number : ℕ) (xs : List ℕ) → (literal text number).Fits xs → text ≡ xs
-literal_read text number xs fits = sym ((bytes_eq-Decides xs text).0 (same (bytes_eq xs text) fits.1))
+pub literal_read : (letters : List ℕ) (number : ℕ) (xs : List ℕ) → (literal letters number).Fits xs → letters ≡ xs
+literal_read letters number xs fits = sym ((bytes_eq-Decides xs letters).0 (same (bytes_eq xs letters) fits.1))
   where
     same : (b : Bool) → not b ≡ false → b ≡ true
     same true e = refl

@@ -1,5 +1,5 @@
 -- The header of an image file as a format.
-use Rattle.std.proofs.Common.{◌≡◌, ℕ, ◌-◌, Bool, false, not, nat_lt, List, refl, ap, ◌∙◌, codes}
+use Rattle.std.proofs.Common.{◌≡◌, ℕ, ◌-◌, false, not, nat_lt, List, refl, ap, ◌∙◌, codes}
 use Rattle.std.proofs.Common.{arith}
 use Rattle.std.specs.Prelude.{◌==◌, ◌||◌, take, drop}
 use Rattle.std.proofs.lemmas.Bool.Decides.{nat_tests}

@@ -464,7 +464,7 @@ fits_image i is =
     let are : SlotsAre limit i.slots 0 i.slots =
     record { rise = rise_all limit i.slots i.slots is.rising; fresh = is.fresh } in (
       (
-        ((refl, magic), refl),
+        (refl, refl),
         (
           (version, small.2),
           (
@@ -505,13 +505,6 @@ fits_image i is =
       ),
     )
   where
-    magic : IsBytes (codes "MMI1")
-    magic zero = omega arith
-    magic (suc zero) = omega arith
-    magic (suc (suc zero)) = omega arith
-    magic (suc (suc (suc zero))) = omega arith
-    magic (suc (suc (suc (suc k)))) = omega arith
-
     same : (v s f p : ℕ) (b c : Bool) → b ≡ c
         → Rattle.std.proofs.Common.◌≡◌ {A = Rattle.mm_format.specs.declared.header.Header.Header}
         (record { version = v; slots = s; frames = f; pages = p; split = b })

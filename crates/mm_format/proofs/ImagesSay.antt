@@ -17,11 +17,11 @@ use Rattle.mm_model.specs.Places.{cells_at, cell_places, page_record_at}
 use Rattle.mm_model.specs.Places.{page_record_places}
 use Rattle.mm_model.specs.Places.Place.{Field, Test}
 use Rattle.mm_model.specs.ImageReading.{slot_offset, page_offset, version_of, slots_of, pages_of}
-use Rattle.mm_model.specs.ImageReading.{register_at, registers_at, slot_record_at, slot_at, slots_at, page_at}
+use Rattle.mm_model.specs.ImageReading.{register_at, registers_at, slot_record_at, slot_at, slots_at}
 use Rattle.mm_model.specs.ImageReading.{pages_at, image_of}
 use Rattle.mm_model.specs.ImageFaults.{is_bad_handler, header_places, register_places, registers_places}
 use Rattle.mm_model.specs.ImageFaults.{slot_record_places}
-use Rattle.mm_model.specs.ImageFaults.{slot_places, slots_places, handler_places, handlers_places, page_places}
+use Rattle.mm_model.specs.ImageFaults.{slot_places, slots_places, handler_places, handlers_places}
 use Rattle.mm_model.specs.ImageFaults.{pages_places}
 use Rattle.mm_model.proofs.ImageBytes.Bitmaps.{bits-flags}
 use Rattle.mm_model.proofs.ImageBytes.Ranges.{map-same}
@@ -175,17 +175,24 @@ module _ (bytes : List ℕ) where
       (says_then _ _ words (says_done _ bytes (at + 4232))
       (sym (append-nil _))) refl) refl) refl)
 
+  -- pages whose records begin at these offsets
+  pub says_pages_from : (offset : ℕ → ℕ) → ((k : ℕ) → offset k + 4232 ≡ offset (k + 1)) → (count : ℕ)
+      → Says (times page (λ _ p. p.0 + 1) count 0).read bytes (offset 0)
+      (in_turn (λ k. page_record_places bytes (least_number bytes offset 8 k) (offset k)) 0 count)
+      (map (λ k. page_record_at bytes (offset k)) (range_with_len 0 count)) (offset count)
+  says_pages_from offset step count =
+      let least : ℕ → ℕ = least_number bytes offset 8 in
+      says_moved refl (ap offset {x = 0 + count} (omega arith))
+      (says_times page (λ _ p. p.0 + 1) bytes least offset (λ k. page_record_places bytes (least k) (offset k))
+      (λ k. page_record_at bytes (offset k)) (λ k. says_moved refl (step k) (says_page (least k) (offset k)))
+      (λ k. let next : k + 1 ≡ suc k = omega arith in sym (ap least next)) 0 count)
+
   says_pages : (before count : ℕ)
       → Says (times page (λ _ p. p.0 + 1) count 0).read bytes (16 + 142 * before) (pages_places bytes before count)
       (pages_at bytes before count) (page_offset before count)
   unfolding pages_at
   says_pages before count =
-      let least : ℕ → ℕ = least_number bytes (page_offset before) 8 in
-      says_moved (omega arith) (ap (page_offset before) {x = 0 + count} (omega arith))
-      (says_times page (λ _ p. p.0 + 1) bytes least (page_offset before) (page_places bytes before)
-      (page_at bytes before)
-      (λ k. says_moved refl (omega arith) (says_page (least k) (page_offset before k)))
-      (λ k. let next : k + 1 ≡ suc k = omega arith in sym (ap least next)) 0 count)
+      says_moved (omega arith) refl (says_pages_from (page_offset before) (λ k. omega arith) count)
 
   -- 4. The whole.
 

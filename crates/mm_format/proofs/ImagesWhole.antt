@@ -1,8 +1,6 @@
 -- The laws of image files, by their format.
-use Rattle.std.proofs.Common.{◌≡◌, ℕ, ◌+◌, Bool, true, false, cond, ltb, List, [], ◌∷◌, ◌++◌, length, map}
-use Rattle.std.proofs.Common.{Option, Some, None, refl, sym, ap}
+use Rattle.std.proofs.Common.{◌≡◌, ℕ, ◌+◌, Bool, List, [], ◌∷◌, ◌++◌, length, map, None, refl, sym, ap}
 use Rattle.std.proofs.Common.{◌∙◌, append_assoc}
-use Rattle.std.specs.Option.{option_or}
 use Rattle.std.specs.List.{flat_map}
 use Rattle.std.specs.Int.{w16, w64, to_be_bytes}
 use Rattle.std.proofs.lemmas.List.{append-nil, length-map}
@@ -13,18 +11,17 @@ use Rattle.mm_word.specs.Word.{word_bits, is_pointer}
 use Rattle.mm_model.specs.Flags.{number_of_flags}
 use Rattle.mm_model.specs.Slot.{Slot}
 use Rattle.mm_model.specs.Image.{Image, slot_limit}
-use Rattle.mm_model.specs.Places.{Place, place_fault, first_bad, IsBytes, end_places}
+use Rattle.mm_model.specs.Places.{Place, first_bad, IsBytes, end_places}
 use Rattle.mm_model.specs.ImageReading.{page_offset, version_of, slots_of, pages_of, slots_at, image_of}
 use Rattle.mm_model.specs.ImageFaults.{header_places, slots_places, handlers_places, pages_places, image_fault}
 use Rattle.mm_model.specs.Spelling.{handler_byte, state_byte, words_spelling, bitmap, slot_record, page_record}
 use Rattle.mm_model.specs.Spelling.{spelling, IsImage, Spells}
 use Rattle.mm_model.specs.Spelling as model
-use Rattle.mm_model.proofs.Places.{first_bad-append}
-use Rattle.mm_format.specs.Formats.{after, answer, file, each, times}
-use Rattle.mm_format.specs.Formats.Outcome.{Got, Bad}
+use Rattle.mm_format.specs.Formats.{answer, file, each, times}
 use Rattle.mm_format.specs.Headers.{header}
 use Rattle.mm_format.specs.Images.{mask, bits, word, ip, slot, page, slots, image}
-use Rattle.mm_format.proofs.Files.{spelled_by, read_whole}
+use Rattle.mm_format.proofs.Files.{spelled_clean, read_again}
+use Rattle.mm_format.proofs.Says.{says_file}
 use Rattle.mm_format.proofs.Images.{image_is}
 use Rattle.mm_format.proofs.ImagesSay.{says_image}
 use Rattle.mm_format.proofs.ImagesFit.{image_fits, fits_image}
@@ -90,46 +87,22 @@ module _ (bytes : List ℕ) where
       (sym (append_assoc (s ++ t) p e ∙ append_assoc s t (p ++ e)))
 
   pub file_says : file image 13 bytes ≡ answer (image_fault bytes) (image_of bytes) end
-  unfolding place_fault
-  file_says =
-      ap (λ o. after o (λ a n. cond (ltb n (length bytes)) (Bad 13 n) (Got a n))) (says_image bytes).is
-      ∙ go (first_bad (length bytes) before) (ltb end (length bytes))
-      ∙ ap (λ o. answer o (image_of bytes) end)
-      (sym (in_order ∙ first_bad-append (length bytes) before (end_places bytes 13 end)))
-    where
-      last : (b : Bool) → cond b (Bad 13 end) (Got (image_of bytes) end)
-          ≡ answer (option_or (cond b (Some (13, end)) None) None) (image_of bytes) end
-      last true = refl
-      last false = refl
-
-      go : (o : Option (ℕ × ℕ)) (b : Bool)
-          → after (answer o (image_of bytes) end) (λ a n. cond (ltb n (length bytes)) (Bad 13 n) (Got a n))
-          ≡ answer (option_or o (option_or (cond (ltb end (length bytes)) (Some (13, end)) None) None))
-          (image_of bytes) end
-      go (Some x) b = refl
-      go None b = last (ltb end (length bytes))
+  file_says = says_file image 13 (says_image bytes) ∙ ap (λ o. answer o (image_of bytes) end) (sym in_order)
 
   -- 3. The laws.
 
   pub clean_spells : IsBytes bytes → image_fault bytes ≡ None → Spells bytes (image_of bytes)
   clean_spells fits none =
-      let s = spelled_by image image_is 13 bytes fits (image_of bytes) end
-      (file_says ∙ ap (λ o. answer o (image_of bytes) end) none) in
+      let s = spelled_clean image image_is 13 bytes (image_fault bytes) (image_of bytes) end file_says fits none in
       record { image = image_fits (image_of bytes) s.0; spelled = s.1 ∙ image_spelled (image_of bytes) }
 
-  read_again : (i : Image) → IsImage i → bytes ≡ spelling i → (image_fault bytes ≡ None) × (image_of bytes ≡ i)
-  read_again i is spelled =
-      found (image_fault bytes)
-      (sym file_says ∙ read_whole image image_is 13 bytes i (fits_image i is)
-      (spelled ∙ sym (image_spelled i)))
-    where
-      found : (o : Option (ℕ × ℕ)) → answer o (image_of bytes) end ≡ Got i (length bytes) → (o ≡ None)
-          × (image_of bytes ≡ i)
-      found None e = (refl, cc)
-      found (Some x) e = absurd cc
+  again : (i : Image) → IsImage i → bytes ≡ spelling i → (image_fault bytes ≡ None) × (image_of bytes ≡ i)
+  again i is spelled =
+      read_again image image_is 13 bytes (image_fault bytes) (image_of bytes) end file_says i (fits_image i is)
+      (spelled ∙ sym (image_spelled i))
 
-  pub spelled_clean : (i : Image) → IsImage i → bytes ≡ spelling i → image_fault bytes ≡ None
-  spelled_clean i is spelled = (read_again i is spelled).0
+  pub spelled_none : (i : Image) → IsImage i → bytes ≡ spelling i → image_fault bytes ≡ None
+  spelled_none i is spelled = (again i is spelled).0
 
   pub image_same : (i : Image) → IsImage i → bytes ≡ spelling i → image_of bytes ≡ i
-  image_same i is spelled = (read_again i is spelled).1
+  image_same i is spelled = (again i is spelled).1

@@ -4,10 +4,11 @@ use Rattle.std.proofs.Common.{map}
 use Rattle.std.proofs.Common.{Option, Some, None, refl, sym, ap, subst, ◌∙◌, arith}
 use Rattle.std.specs.List.{range_with_len}
 use Rattle.std.specs.Option.{option_or}
-use Rattle.mm_model.specs.Places.{Place, place_fault, first_bad, in_turn}
+use Rattle.mm_model.specs.Places.{Place, place_fault, first_bad, in_turn, end_places}
 use Rattle.mm_model.specs.Places.Place.{Field, Test}
 use Rattle.mm_model.proofs.Places.{first_bad-append}
-use Rattle.mm_format.specs.Formats.{Outcome, Format, whole, tried, after, answer, Late, first_late, cons, times, each}
+use Rattle.mm_format.specs.Formats.{Outcome, Format, whole, tried, after, answer, file, Late, first_late, cons, times}
+use Rattle.mm_format.specs.Formats.{each}
 use Rattle.mm_format.specs.Formats.Outcome.{Got, Bad}
 
 -- how a value is read
@@ -94,6 +95,27 @@ module _ {A : Type 0} where
 
   pub says_done : (v : A) (bytes : List ℕ) (at : ℕ) → Says (λ bytes at. Got v at) bytes at [] v at
   says_done v bytes at = record { is = refl }
+
+  -- a whole file
+  pub says_file : (f : Format A) (trailing : ℕ) {bytes : List ℕ} {ps : List Place} {v : A} {end : ℕ}
+      → Says f.read bytes 0 ps v end
+      → file f trailing bytes ≡ answer (first_bad (length bytes) (ps ++ end_places bytes trailing end)) v end
+  unfolding place_fault
+  says_file f trailing {bytes = bytes} {ps = ps} {v = v} {end = end} s =
+      ap (λ o. after o (λ a n. cond (ltb n (length bytes)) (Bad trailing n) (Got a n))) s.is
+      ∙ go (first_bad (length bytes) ps)
+      ∙ ap (λ o. answer o v end) (sym (first_bad-append (length bytes) ps (end_places bytes trailing end)))
+    where
+      last : (b : Bool) → cond b (Bad trailing end) (Got v end)
+          ≡ answer (option_or (cond b (Some (trailing, end)) None) None) v end
+      last true = refl
+      last false = refl
+
+      go : (o : Option (ℕ × ℕ))
+          → after (answer o v end) (λ a n. cond (ltb n (length bytes)) (Bad trailing n) (Got a n))
+          ≡ answer (option_or o (option_or (cond (ltb end (length bytes)) (Some (trailing, end)) None) None)) v end
+      go (Some x) = refl
+      go None = last (ltb end (length bytes))
 
 -- 2. Lists.
 

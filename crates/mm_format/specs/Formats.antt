@@ -54,6 +54,14 @@ u32 = number 4 (to_be_bytes w32)
 abbrev pub u64 : Format ℕ
 u64 = number 8 (to_be_bytes w64)
 
+-- this count of bytes, as they are, of whatever numbers a value has
+abbrev pub text : (size : ℕ) → Format (List ℕ)
+text size = record {
+  Fits = λ xs. length xs ≡ size;
+  spell = λ xs. xs;
+  read = whole (λ bytes at. take size (drop at bytes)) size;
+}
+
 -- this count of bytes, as they are
 abbrev pub raw : (size : ℕ) → Format (List ℕ)
 raw size = record {
@@ -77,8 +85,8 @@ test f number bad = record {
 }
 
 -- this text, else the fault of this number
-abbrev pub literal : (text : List ℕ) (number : ℕ) → Format (List ℕ)
-literal text number = test (raw (length text)) number (λ xs. not (bytes_eq xs text))
+abbrev pub literal : (letters : List ℕ) (number : ℕ) → Format (List ℕ)
+literal letters number = test (text (length letters)) number (λ xs. not (bytes_eq xs letters))
 
 -- 4. One part after the other.
 

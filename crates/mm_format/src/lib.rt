@@ -7,7 +7,7 @@
 //!
 //! | a row | what it is |
 //! |---|---|
-//! | `byte`, `u16`, `u32`, `u64`, `raw size` | a field of this size, which has to be whole |
+//! | `byte`, `u16`, `u32`, `u64`, `text size`, `raw size` | a field of this size, which has to be whole |
 //! | `test format number bad` | the fault of this number at the beginning if the value is bad |
 //! | `literal text number` | this text |
 //! | `x ← part of format`, then the rest | a part of the value, on which the rest may depend |

@@ -10,8 +10,7 @@ use Rattle.mm_image.specs.declared.fault.ImageError.TheVariants.{Fault, NoMemory
 use Rattle.mm_image.specs.Faults.{Gives, Fails, IsUnlessNoMemory, FailsUnlessNoMemory, number_of}
 use Rattle.mm_model.specs.ImageReading.{image_of}
 use Rattle.mm_model.proofs.ImageBytes.Parts.{IsBytes}
-use Rattle.mm_format.proofs.ImagesWhole.{clean_spells}
-use Rattle.mm_format.proofs.ImagesWhole.{spelled_clean, image_same}
+use Rattle.mm_format.proofs.ImagesWhole.{clean_spells, spelled_none, image_same}
 
 abbrev Answer : Type 0
 Answer = Result Image ImageError
@@ -30,7 +29,7 @@ module _ (bytes : List ℕ) where
 
   pub is_again : (r : Answer) → Given r → (i : Image) → Spells bytes i → IsUnlessNoMemory i r
   is_again (Ok j) h i s = h.1 ∙ image_same bytes i s.image s.spelled
-  is_again (Err e) h i s = again_fails e (spelled_clean bytes i s.image s.spelled) h
+  is_again (Err e) h i s = again_fails e (spelled_none bytes i s.image s.spelled) h
 
   fault_of : (e : ImageError) (kind : ImageFault) (offset : ℕ) → e ≡ Fault kind offset → Fails (image_fault bytes) e → image_fault bytes ≡ Some (number_of kind, offset)
   fault_of e kind offset same h = subst (Fails (image_fault bytes)) same h

@@ -8,7 +8,7 @@ use Rattle.mm_model.specs.ImageFaults.{image_fault}
 use Rattle.mm_image.specs.declared.fault.ImageFault.{ImageFault}
 use Rattle.mm_image.specs.declared.fault.ImageFault.TheVariants as faults
 use Rattle.mm_image.specs.Faults.{number_of}
-use Rattle.mm_format.proofs.ImagesWhole.{spelled_clean, image_same}
+use Rattle.mm_format.proofs.ImagesWhole.{spelled_none, image_same}
 use Rattle.mm_sched.proofs.Texts.{never_both, fault_unique, means_unique}
 use Rattle.mm_line.specs.declared.fault.Fault.{Fault}
 use Rattle.mm_line.specs.declared.fault.Fault.TheVariants as text_faults
@@ -80,7 +80,7 @@ one_image_fault bytes number kind other offset place one two =
     cc
 
 no_fault : (bytes : List ℕ) (i : Image) → Spells bytes i → image_fault bytes ≡ None
-no_fault bytes i s = spelled_clean bytes i s.image s.spelled
+no_fault bytes i s = spelled_none bytes i s.image s.spelled
 
 pub one_spelled : (bytes : List ℕ) (i j : Image) → Spells bytes i → Spells bytes j → i ≡ j
 one_spelled bytes i j one other = sym (image_same bytes i one.image one.spelled) ∙ image_same bytes j other.image other.spelled
@@ -217,7 +217,7 @@ value_or_fault schedule_file before number bytes r (a_list xs) sound (offset, is
 value_or_fault source_file before number bytes r (an_object o) sound (kind, line, column, is, fault) means =
     let none : first_fault bytes ≡ None = meaning_has_no_fault bytes o means in cc
 value_or_fault object_file before number bytes r (an_object o) sound (kind, offset, is, fault) means =
-    let none : object_fault bytes ≡ None = objects.spelled_clean bytes o means.object means.spelled in cc
+    let none : object_fault bytes ≡ None = objects.spelled_none bytes o means.object means.spelled in cc
 value_or_fault checkpoint_file (an_image i ∷ []) number bytes r (a_checkpoint c) sound (offset, is, fault) (p, last, saves, same) =
     let none : save_fault i bytes ≡ None = checkpoints.no_fault i bytes sound.0 (record { parts = p; last = last; saves = saves }) in cc
 value_or_fault links_file before number bytes r (a_links ls) sound (offset, is, fault) means = texts.never_both links.Says links.AreLinks links_grammar bytes ls offset means fault

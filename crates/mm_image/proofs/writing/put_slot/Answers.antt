@@ -1,4 +1,4 @@
-use Rattle.std.proofs.Common.{◌++◌, ap, append_assoc}
+use Rattle.std.proofs.Common.{ap, append_assoc}
 use Rattle.mm_model.specs.Slot.{Slot}
 use Rattle.mm_model.specs.Spelling.{slot_record}
 use Rattle.mm_image.proofs.writing.put_slot.Goals as goal
