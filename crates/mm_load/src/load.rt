@@ -2,7 +2,7 @@
 ghost use Rattle.std.specs.Prelude.{◌≡◌, ◌+◌, ◌<◌, ◌≤◌, ◌^◌, ◌∷◌, [], List, length, map, IfOk, IfErr, OnOk};
 ghost use Rattle.std.specs.Option.{option_map};
 ghost use Rattle.std.specs.Io.KnownBytes.{IsAtEnd};
-ghost use Rattle.mm_io.specs.Files.{Rose, NoneFell, Holds, AsksOnly};
+ghost use Rattle.mm_io.specs.Files.{Rose, NoneFell, Holds, AsksOnly, AsksWhole};
 ghost use Rattle.mm_checkpoint.specs.Checkpoints.{saved_of, IsCheckpoint};
 ghost use Rattle.mm_cli.specs.declared.table.Kind.TheVariants.{Image as image_file, Schedule as schedule_file};
 ghost use Rattle.mm_cli.specs.declared.table.Kind.TheVariants.{Source as source_file, Object as object_file};
@@ -67,6 +67,7 @@ fn read_file<F: Files>(
     ensures kept { F.held files.new ≡ F.held files.old }
     ensures later { NoneFell (F.faults files.old) (F.faults files.new) }
     ensures asks { AsksOnly F.asked files.old files.new name.now }
+    ensures whole { IfOk result (λ bytes. AsksWhole F.asked files.old files.new name.now (length bytes.items)) }
 {
     match read_all(alloc, files, name, limit) {
         Ok(bytes) => Ok(bytes),
@@ -85,6 +86,7 @@ fn stop_of(error: ReadError, file: u8) -> Stop
 }
 
 /// Reads and parses an image file, the command's file `number`.
+#[tactic(auto, using(crate::proofs::Reading::whole_one))]
 pub fn load_image<F: Files>(
     alloc: Global,
     files: &mut F,
@@ -110,6 +112,7 @@ pub fn load_image<F: Files>(
 }
 
 /// Reads and parses a schedule file, the command's file `number`.
+#[tactic(auto, using(crate::proofs::Reading::whole_one))]
 pub fn load_schedule<F: Files>(
     alloc: Global,
     files: &mut F,
@@ -134,6 +137,7 @@ pub fn load_schedule<F: Files>(
 }
 
 /// Reads and assembles a source file, the command's file `number`.
+#[tactic(auto, using(crate::proofs::Reading::whole_one))]
 pub fn load_source<F: Files>(
     alloc: Global,
     files: &mut F,
@@ -163,6 +167,7 @@ pub fn load_source<F: Files>(
 }
 
 /// Reads and parses an object file, the command's file `number`.
+#[tactic(auto, using(crate::proofs::Reading::whole_one))]
 pub fn load_object<F: Files>(
     alloc: Global,
     files: &mut F,
@@ -195,6 +200,7 @@ pub struct Checkpoint {
 }
 
 /// Reads and parses a checkpoint file, the command's second file, against the image of the first.
+#[tactic(auto, using(crate::proofs::Reading::whole_one))]
 pub fn load_checkpoint<F: Files>(
     alloc: Global,
     files: &mut F,
@@ -219,6 +225,7 @@ pub fn load_checkpoint<F: Files>(
 }
 
 /// Reads and parses a file of links, the command's file `number`.
+#[tactic(auto, using(crate::proofs::Reading::whole_one))]
 pub fn load_links<F: Files>(
     alloc: Global,
     files: &mut F,
@@ -243,6 +250,7 @@ pub fn load_links<F: Files>(
 }
 
 /// Reads and parses a file of events, the command's file `number`. Its faults are refused as those of a schedule.
+#[tactic(auto, using(crate::proofs::Reading::whole_one))]
 pub fn load_events<F: Files>(
     alloc: Global,
     files: &mut F,
