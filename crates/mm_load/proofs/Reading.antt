@@ -200,9 +200,9 @@ pub asks_one : {a : Reading} {before : List Value} {name : List ℕ} {kind : Kin
 asks_one reads of asked = record { reads = reads; asked = asked; in_order = (reads, [], sym (append-nil reads), of, inl refl) }
 
 -- and read whole
-pub whole_one : {a : Reading} {name : List ℕ} {kind : Kind} {reads : List PieceRead} {bytes : List ℕ} → Holds (a.held name) bytes → FrontToEnd name (length bytes) reads
+pub whole_one : {a : Reading} {name : List ℕ} {kind : Kind} (reads : List PieceRead) (bytes : List ℕ) → Holds (a.held name) bytes → FrontToEnd name (length bytes) reads
     → a.asks reads → ReadsWhole a ((name, kind) ∷ [])
-whole_one {reads = reads} {bytes = bytes} holds through asked =
+whole_one reads bytes holds through asked =
     record { reads = reads; asked = asked; through = (bytes, reads, [], sym (append-nil reads), holds, through, refl) }
 
 -- and its bytes mean nothing
