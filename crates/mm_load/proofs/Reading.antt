@@ -5,7 +5,7 @@ use Rattle.mm_load.specs.declared.status.Refusal.{Refusal}
 use Rattle.mm_load.specs.declared.status.Stop.{Stop}
 use Rattle.mm_load.specs.declared.status.Stop.TheVariants as stop
 use Rattle.mm_cli.specs.declared.table.Kind.{Kind}
-use Rattle.mm_load.specs.Kinds.{Value, Faults, limit_of}
+use Rattle.mm_load.specs.Kinds.{Value, Accepts, Faults, limit_of}
 use Rattle.mm_load.specs.Files.{Reading, FilesAccepted, FilesRefused, FilesFailed, FilesRead, AsksInOrder, AsksFiles, GoThrough, ReadsWhole, Stops}
 
 -- 1. Files behind others.
@@ -200,12 +200,24 @@ pub asks_one : {a : Reading} {before : List Value} {name : List ℕ} {kind : Kin
 asks_one reads of asked = record { reads = reads; asked = asked; in_order = (reads, [], sym (append-nil reads), of, inl refl) }
 
 -- and read whole
-pub whole_one : {a : Reading} {name : List ℕ} {kind : Kind} (reads : List PieceRead) (bytes : List ℕ) → Holds (a.held name) bytes → FrontToEnd name (length bytes) reads
+whole_one : {a : Reading} {name : List ℕ} {kind : Kind} (reads : List PieceRead) (bytes : List ℕ) → Holds (a.held name) bytes → FrontToEnd name (length bytes) reads
     → a.asks reads → ReadsWhole a ((name, kind) ∷ [])
 whole_one reads bytes holds through asked =
     record { reads = reads; asked = asked; through = (bytes, reads, [], sym (append-nil reads), holds, through, refl) }
 
--- and its bytes mean nothing
+-- and its bytes mean a value
+pub accepted_file : {T : Type 0} {a : Reading} {before : List Value} {name : List ℕ} {kind : Kind} (value : T → Value) (t : T) {bytes text : List ℕ} {mine whole : List PieceRead}
+    → text ≡ bytes → Holds (a.held name) bytes → length bytes ≤ limit_of kind → Accepts kind before text (value t)
+    → AreOf name mine → a.asks mine → FrontToEnd name (length bytes) whole → a.asks whole
+    → FilesRead a before ((name, kind) ∷ []) (λ (x : T). value x ∷ []) (Ok t)
+accepted_file {before = before} {kind = kind} value t {bytes = bytes} {mine = mine} {whole = whole} same holds short means of asked through also = record {
+  accepted = (record { bytes = bytes; holds = holds; short = short; means = subst (λ (b : List ℕ). Accepts kind before b (value t)) same means }, tt);
+  stopped = tt;
+  asked = asks_one mine of asked;
+  whole = whole_one whole bytes holds through also;
+}
+
+-- or nothing
 pub refused_file : {T : Type 0} {a : Reading} {before : List Value} {name : List ℕ} {kind : Kind} {values : T → List Value}
     {r : Refusal} (reads : List PieceRead) (bytes : List ℕ)
     → Holds (a.held name) bytes → length bytes ≤ limit_of kind → Faults kind before (length before + 1) bytes r

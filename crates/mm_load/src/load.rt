@@ -86,7 +86,6 @@ fn stop_of(error: ReadError, file: u8) -> Stop
 }
 
 /// Reads and parses an image file, the command's file `number`.
-#[tactic(auto, using(crate::proofs::Reading::whole_one))]
 pub fn load_image<F: Files>(
     alloc: Global,
     files: &mut F,
@@ -112,7 +111,6 @@ pub fn load_image<F: Files>(
 }
 
 /// Reads and parses a schedule file, the command's file `number`.
-#[tactic(auto, using(crate::proofs::Reading::whole_one))]
 pub fn load_schedule<F: Files>(
     alloc: Global,
     files: &mut F,
@@ -137,7 +135,6 @@ pub fn load_schedule<F: Files>(
 }
 
 /// Reads and assembles a source file, the command's file `number`.
-#[tactic(auto, using(crate::proofs::Reading::whole_one))]
 pub fn load_source<F: Files>(
     alloc: Global,
     files: &mut F,
@@ -167,7 +164,6 @@ pub fn load_source<F: Files>(
 }
 
 /// Reads and parses an object file, the command's file `number`.
-#[tactic(auto, using(crate::proofs::Reading::whole_one))]
 pub fn load_object<F: Files>(
     alloc: Global,
     files: &mut F,
@@ -200,7 +196,6 @@ pub struct Checkpoint {
 }
 
 /// Reads and parses a checkpoint file, the command's second file, against the image of the first.
-#[tactic(auto, using(crate::proofs::Reading::whole_one))]
 pub fn load_checkpoint<F: Files>(
     alloc: Global,
     files: &mut F,
@@ -225,7 +220,6 @@ pub fn load_checkpoint<F: Files>(
 }
 
 /// Reads and parses a file of links, the command's file `number`.
-#[tactic(auto, using(crate::proofs::Reading::whole_one))]
 pub fn load_links<F: Files>(
     alloc: Global,
     files: &mut F,
@@ -250,7 +244,6 @@ pub fn load_links<F: Files>(
 }
 
 /// Reads and parses a file of events, the command's file `number`. Its faults are refused as those of a schedule.
-#[tactic(auto, using(crate::proofs::Reading::whole_one))]
 pub fn load_events<F: Files>(
     alloc: Global,
     files: &mut F,
