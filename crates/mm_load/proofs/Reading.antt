@@ -206,11 +206,11 @@ whole_one reads bytes holds through asked =
     record { reads = reads; asked = asked; through = (bytes, reads, [], sym (append-nil reads), holds, through, refl) }
 
 -- and its bytes mean a value
-pub accepted_file : {T : Type 0} {a : Reading} {before : List Value} {name : List ℕ} {kind : Kind} (value : T → Value) (t : T) {bytes text : List ℕ} {mine whole : List PieceRead}
+pub accepted_file : {T : Type 0} {a : Reading} {before : List Value} {name : List ℕ} {kind : Kind} (value : T → Value) (t : T) {bytes text : List ℕ} (mine whole : List PieceRead)
     → text ≡ bytes → Holds (a.held name) bytes → length bytes ≤ limit_of kind → Accepts kind before text (value t)
     → AreOf name mine → a.asks mine → FrontToEnd name (length bytes) whole → a.asks whole
     → FilesRead a before ((name, kind) ∷ []) (λ (x : T). value x ∷ []) (Ok t)
-accepted_file {before = before} {kind = kind} value t {bytes = bytes} {mine = mine} {whole = whole} same holds short means of asked through also = record {
+accepted_file {before = before} {kind = kind} value t {bytes = bytes} mine whole same holds short means of asked through also = record {
   accepted = (record { bytes = bytes; holds = holds; short = short; means = subst (λ (b : List ℕ). Accepts kind before b (value t)) same means }, tt);
   stopped = tt;
   asked = asks_one mine of asked;

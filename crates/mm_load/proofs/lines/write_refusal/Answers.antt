@@ -1,7 +1,7 @@
 use Rattle.mm_load.proofs.lines.write_refusal.Goals as goal
 
 pub returns-in-Image : goal.returns-in-Image
-returns-in-Image g c = rw (c.in-Image.is, ← c.number.ensures) c.write_numbered-in-Image.ensures
+returns-in-Image g c = rw (c.in-Image.is, ← c.number.ensures) c.write_numbered.ensures
 
 pub returns-in-Schedule : goal.returns-in-Schedule
 returns-in-Schedule g c = rw (c.in-Schedule.is) c.write_placed-in-Schedule.ensures

@@ -16,6 +16,6 @@ returns-in-Err-Fault-clause-read g c =
 
 pub returns-in-Ok-clause-read : goal.returns-in-Ok-clause-read
 returns-in-Ok-clause-read g c =
-    accepted_file (λ (x : Checkpoint). a_checkpoint (saved_of x.snapshot x.last)) (record { snapshot = c.in-Ok.snapshot; last = c.in-Ok.last }) c.deref.ensures.value c.in_ok-bytes.ensures.bytes
+    accepted_file (λ (x : Checkpoint). a_checkpoint (saved_of x.snapshot x.last)) (record { snapshot = c.in-Ok.snapshot; last = c.in-Ok.last }) _ _ c.deref.ensures.value c.in_ok-bytes.ensures.bytes
     c.in_ok-bytes.ensures.short (c.in-Ok.snapshot, c.in-Ok.last, c.in-Ok.ensures.saves, refl)
     c.in_ok-bytes.ensures.asks.of_name c.in_ok-bytes.ensures.asks.asks c.in_ok-bytes.ensures.whole.whole c.in_ok-bytes.ensures.whole.asks

@@ -15,5 +15,5 @@ returns-in-Err-Fault-clause-read g c before counted =
 
 pub returns-in-Ok-clause-read : goal.returns-in-Ok-clause-read
 returns-in-Ok-clause-read g c before counted =
-    accepted_file a_links c.in-Ok.links c.deref.ensures.value c.in_ok-bytes.ensures.bytes c.in_ok-bytes.ensures.short c.in-Ok.ensures.means
+    accepted_file a_links c.in-Ok.links _ _ c.deref.ensures.value c.in_ok-bytes.ensures.bytes c.in_ok-bytes.ensures.short c.in-Ok.ensures.means
     c.in_ok-bytes.ensures.asks.of_name c.in_ok-bytes.ensures.asks.asks c.in_ok-bytes.ensures.whole.whole c.in_ok-bytes.ensures.whole.asks

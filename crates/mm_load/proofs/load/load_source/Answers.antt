@@ -17,5 +17,5 @@ returns-in-Err-Fault g c before counted =
 
 pub returns-in-Ok : goal.returns-in-Ok
 returns-in-Ok g c before counted =
-    accepted_file an_object c.in-Ok.object c.deref.ensures.value c.in_ok-bytes.ensures.bytes c.in_ok-bytes.ensures.short c.in-Ok.ensures.means
+    accepted_file an_object c.in-Ok.object _ _ c.deref.ensures.value c.in_ok-bytes.ensures.bytes c.in_ok-bytes.ensures.short c.in-Ok.ensures.means
     c.in_ok-bytes.ensures.asks.of_name c.in_ok-bytes.ensures.asks.asks c.in_ok-bytes.ensures.whole.whole c.in_ok-bytes.ensures.whole.asks
