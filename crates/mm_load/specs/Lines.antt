@@ -23,28 +23,20 @@ named_by NoThread = codes "-"
 named_by (Handler slot) = decimal slot
 named_by TooLarge = codes "-"
 
--- the line of a file that is refused, up to its name, and the rest of the line
-abbrev pub in_file : (file : ℕ) → (rest : List ℕ) → List ℕ
-in_file file rest = codes "mmachine: file " ++ decimal file ++ rest
-
--- the rest of a line that ends with an offset
-abbrev pub placed : (fault : List ℕ) → (offset : ℕ) → List ℕ
-placed fault offset = fault ++ decimal offset ++ codes "\n"
-
--- the rest of a line that ends with the number of a fault and an offset
-abbrev pub numbered : (fault : List ℕ) → (number offset : ℕ) → List ℕ
-numbered fault number offset = fault ++ decimal number ++ codes " at " ++ decimal offset ++ codes "\n"
+-- the front of the line of a file that is refused
+abbrev pub in_file : ℕ → List ℕ
+in_file file = codes "mmachine: file " ++ decimal file
 
 -- the line of an answer; nothing if the command is done
 abbrev pub line_of : Status → List ℕ
 line_of Done = []
 line_of Usage = codes "mmachine: usage\n"
-line_of (Refused (TooLong file)) = in_file file (codes " too long\n")
+line_of (Refused (TooLong file)) = in_file file ++ codes " too long\n"
 line_of (Refused (Image file fault offset)) =
-    in_file file (numbered (codes " image fault ") (number_of fault) offset)
-line_of (Refused (Schedule file offset)) = in_file file (placed (codes " schedule fault at ") offset)
+    in_file file ++ codes " image fault " ++ decimal (number_of fault) ++ codes " at " ++ decimal offset ++ codes "\n"
+line_of (Refused (Schedule file offset)) = in_file file ++ codes " schedule fault at " ++ decimal offset ++ codes "\n"
 line_of (Refused (Object file fault offset)) =
-    in_file file (numbered (codes " object fault ") (object_number fault) offset)
+    in_file file ++ codes " object fault " ++ decimal (object_number fault) ++ codes " at " ++ decimal offset ++ codes "\n"
 line_of (Refused (Link fault)) = codes "mmachine: link fault " ++ decimal (link_number fault) ++ codes " "
     ++ named_by fault ++ codes "\n"
 line_of (Refused (Asm fault line column)) =
@@ -54,8 +46,8 @@ line_of (Refused NoGroup) = codes "mmachine: no group\n"
 line_of (Refused (Crosses slot)) = codes "mmachine: crosses slot " ++ decimal slot ++ codes "\n"
 line_of (Refused (Held slot)) = codes "mmachine: held slot " ++ decimal slot ++ codes "\n"
 line_of (Refused (Privileged group)) = codes "mmachine: privileged group " ++ decimal group ++ codes "\n"
-line_of (Refused (Checkpoint file offset)) = in_file file (placed (codes " checkpoint fault at ") offset)
-line_of (Refused (Links file offset)) = in_file file (placed (codes " links fault at ") offset)
+line_of (Refused (Checkpoint file offset)) = in_file file ++ codes " checkpoint fault at " ++ decimal offset ++ codes "\n"
+line_of (Refused (Links file offset)) = in_file file ++ codes " links fault at " ++ decimal offset ++ codes "\n"
 line_of (Refused (NoNode link)) = codes "mmachine: no node link " ++ decimal link ++ codes "\n"
 line_of ReadFault = codes "mmachine: read fault\n"
 line_of WriteFault = codes "mmachine: write fault\n"

@@ -1,8 +1,8 @@
 //! The line that an answer writes to standard error.
 ghost use Rattle.mm_io.specs.Sinks.{Writes};
 ghost use Rattle.mm_text.specs.Gathers.{Gathers};
-ghost use Rattle.std.specs.Prelude.{◌++◌, decimal};
-ghost use Rattle.mm_load.specs.Lines.{in_file, line_of, named_by, numbered, placed};
+ghost use Rattle.std.specs.Prelude.{◌++◌, codes, decimal};
+ghost use Rattle.mm_load.specs.Lines.{in_file, line_of, named_by};
 
 use crate::status::{Refusal, Status};
 use mm_io::{Sink, WriteFault, write_all};
@@ -99,7 +99,7 @@ fn write_placed<D: Sink>(
     fault: &str,
     offset: u64,
 ) -> Result<(), WriteFault>
-    ensures { Writes D.taken D.faults diag.old diag.new (in_file file (placed fault.now offset)) result }
+    ensures { Writes D.taken D.faults diag.old diag.new (in_file file ++ fault.now ++ decimal offset ++ codes "\n") result }
 {
     write_pieces(
         diag,
@@ -122,7 +122,7 @@ fn write_numbered<D: Sink>(
     offset: u64,
 ) -> Result<(), WriteFault>
     ensures { Writes D.taken D.faults diag.old diag.new
-        (in_file file (numbered fault.now number offset)) result }
+        (in_file file ++ fault.now ++ decimal number ++ codes " at " ++ decimal offset ++ codes "\n") result }
 {
     write_pieces(
         diag,
