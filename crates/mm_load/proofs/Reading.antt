@@ -1,12 +1,12 @@
 -- Files that are read one after the other.
 use Rattle.std.proofs.Common.{◌≡◌, ℕ, ◌+◌, ◌≤◌, inl, inr, List, [], ◌∷◌, ◌++◌, length, Option, Result, Ok, Err, refl, sym, ap, ◌∙◌, subst, arith, append_assoc, append-nil}
-use Rattle.mm_io.specs.Files.{Rose, NoneFell, Holds, PieceRead, AreOf}
+use Rattle.mm_io.specs.Files.{Rose, NoneFell, Holds, PieceRead, AreOf, FrontToEnd}
 use Rattle.mm_load.specs.declared.status.Refusal.{Refusal}
 use Rattle.mm_load.specs.declared.status.Stop.{Stop}
 use Rattle.mm_load.specs.declared.status.Stop.TheVariants as stop
 use Rattle.mm_cli.specs.declared.table.Kind.{Kind}
-use Rattle.mm_load.specs.Kinds.{Value, Faults, limit_of}
-use Rattle.mm_load.specs.Files.{Reading, FilesAccepted, FilesRefused, FilesFailed, FilesRead, AsksInOrder, AsksFiles, Stops}
+use Rattle.mm_load.specs.Kinds.{Value, Accepts, Faults, limit_of}
+use Rattle.mm_load.specs.Files.{Reading, FilesAccepted, FilesRefused, FilesFailed, FilesRead, AsksInOrder, AsksFiles, GoThrough, ReadsWhole, Stops}
 
 -- 1. Files behind others.
 
@@ -85,6 +85,12 @@ module _ (held : List ℕ → Option (List ℕ)) (ys : List (List ℕ × Kind)) 
         ),
       )
 
+through_then : (held : List ℕ → Option (List ℕ)) (ys xs : List (List ℕ × Kind)) (reads more : List PieceRead) → GoThrough held xs reads
+    → GoThrough held ys more → GoThrough held (xs ++ ys) (reads ++ more)
+through_then held ys [] reads more none back = subst (λ (ns : List PieceRead). GoThrough held ys (ns ++ more)) (sym none) back
+through_then held ys (x ∷ xs) reads more (bytes, mine, later, is, holds, through, rest) back =
+    (bytes, mine, later ++ more, ap (λ (ns : List PieceRead). ns ++ more) is ∙ append_assoc mine later more, holds, through, through_then held ys xs later more rest back)
+
 module _ (a : Reading) (ys : List (List ℕ × Kind)) where
   failed_first : (before : List Value) (xs : List (List ℕ × Kind)) → FilesFailed a before xs → FilesFailed a before (xs ++ ys)
   failed_first before [] failed = absurd failed
@@ -144,6 +150,16 @@ asked_then {a = a} {before = before} {xs = xs} {ys = ys} {values = values} {t = 
       (subst (λ (held : List ℕ → Option (List ℕ)). AsksInOrder held (before ++ values t) ys back.asked.reads) on.kept back.asked.in_order);
 }
 
+-- both go through their files
+whole_then : {a b : Reading} {asks : List PieceRead → Type 0} {xs ys : List (List ℕ × Kind)} → ReadsWhole a xs → ReadsWhole b ys → GoesOn a b asks
+    → ReadsWhole (both a b asks) (xs ++ ys)
+whole_then {a = a} {xs = xs} {ys = ys} front back on = record {
+  reads = front.reads ++ back.reads;
+  asked = on.asked front.reads back.reads front.asked back.asked;
+  through = through_then a.held ys xs front.reads back.reads front.through
+      (subst (λ (held : List ℕ → Option (List ℕ)). GoThrough held ys back.reads) on.kept back.through);
+}
+
 -- the files behind were read too, or their reading stopped
 pub files_then : {T U : Type 0} {a b : Reading} {asks : List PieceRead → Type 0} {before : List Value} {xs ys : List (List ℕ × Kind)} {values : T → List Value} {others : U → List Value} {t : T} {result : Result U Stop}
     → FilesRead a before xs values (Ok t) → FilesRead b (before ++ values t) ys others result → GoesOn a b asks
@@ -153,11 +169,13 @@ files_then {a = a} {b = b} {before = before} {xs = xs} {ys = ys} {values = value
       (subst (λ (held : List ℕ → Option (List ℕ)). FilesAccepted held (before ++ values t) ys (others u)) on.kept back.accepted);
   stopped = back.stopped;
   asked = asked_then front back on;
+  whole = whole_then front.whole back.whole on;
 }
 files_then {a = a} {b = b} {asks = asks} {before = before} {xs = xs} {ys = ys} {values = values} {t = t} {result = Err s} front back on = record {
   accepted = back.accepted;
   stopped = stops_then a b asks on before xs ys (values t) s front.accepted back.stopped;
   asked = asked_then front back on;
+  whole = tt;
 }
 
 -- the reading of files stops where that of the first of them does
@@ -181,7 +199,25 @@ pub asks_one : {a : Reading} {before : List Value} {name : List ℕ} {kind : Kin
     → a.asks reads → AsksFiles a before ((name, kind) ∷ [])
 asks_one reads of asked = record { reads = reads; asked = asked; in_order = (reads, [], sym (append-nil reads), of, inl refl) }
 
--- and its bytes mean nothing
+-- and read whole
+whole_one : {a : Reading} {name : List ℕ} {kind : Kind} (reads : List PieceRead) (bytes : List ℕ) → Holds (a.held name) bytes → FrontToEnd name (length bytes) reads
+    → a.asks reads → ReadsWhole a ((name, kind) ∷ [])
+whole_one reads bytes holds through asked =
+    record { reads = reads; asked = asked; through = (bytes, reads, [], sym (append-nil reads), holds, through, refl) }
+
+-- and its bytes mean a value
+pub accepted_file : {T : Type 0} {a : Reading} {before : List Value} {name : List ℕ} {kind : Kind} (value : T → Value) (t : T) {bytes text : List ℕ} (mine whole : List PieceRead)
+    → text ≡ bytes → Holds (a.held name) bytes → length bytes ≤ limit_of kind → Accepts kind before text (value t)
+    → AreOf name mine → a.asks mine → FrontToEnd name (length bytes) whole → a.asks whole
+    → FilesRead a before ((name, kind) ∷ []) (λ (x : T). value x ∷ []) (Ok t)
+accepted_file {before = before} {kind = kind} value t {bytes = bytes} mine whole same holds short means of asked through also = record {
+  accepted = (record { bytes = bytes; holds = holds; short = short; means = subst (λ (b : List ℕ). Accepts kind before b (value t)) same means }, tt);
+  stopped = tt;
+  asked = asks_one mine of asked;
+  whole = whole_one whole bytes holds through also;
+}
+
+-- or nothing
 pub refused_file : {T : Type 0} {a : Reading} {before : List Value} {name : List ℕ} {kind : Kind} {values : T → List Value}
     {r : Refusal} (reads : List PieceRead) (bytes : List ℕ)
     → Holds (a.held name) bytes → length bytes ≤ limit_of kind → Faults kind before (length before + 1) bytes r
@@ -191,4 +227,5 @@ refused_file reads bytes holds short fault of asked = record {
   accepted = tt;
   stopped = inl (inr (record { bytes = bytes; holds = holds; short = short; fault = fault }));
   asked = asks_one reads of asked;
+  whole = tt;
 }

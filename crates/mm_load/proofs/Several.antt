@@ -44,7 +44,7 @@ module _ {A : Type 0} (kind : Kind) (value : A → Value) where
       let values : map value items ++ value item ∷ [] ≡ map value more = sym (ap (map value) also ∙ map-append value items (item ∷ [])) in
       let P : List (List ℕ × Kind) → Type 0 = λ files. FilesRead {T = Unit {0}} (both a b asks) before files (λ t. map value items ++ value item ∷ []) (Ok tt) in
       let Q : List Value → Type 0 = λ vs. FilesRead {T = Unit {0}} (both a b asks) before (files_named kind (take (at + 1) names)) (λ t. vs) (Ok tt) in
-      subst Q values (subst P (sym (next_named names at name lt is)) (record { accepted = whole.accepted; stopped = tt; asked = whole.asked }))
+      subst Q values (subst P (sym (next_named names at name lt is)) (record { accepted = whole.accepted; stopped = tt; asked = whole.asked; whole = whole.whole }))
 
   -- what was asked for so far is asked for of all
   pub values_asked : {T : Type 0} {a b : Reading} {asks : List PieceRead → Type 0} {before : List Value} (names : List (String Global)) (at : ℕ) (name : String Global) (items : List A)
@@ -71,4 +71,5 @@ module _ {A : Type 0} (kind : Kind) (value : A → Value) where
         stopped = subst Q (sym same)
             (subst P (all_named names at) (stops_first (both a b asks) (files_named kind (drop (at + 1) names)) before (files_named kind (take (at + 1) names)) s first));
         asked = values_asked names at name items (λ x. value x ∷ []) (Err s) lt is front back on;
+        whole = tt;
       }

@@ -1,11 +1,11 @@
 -- The inputs of a command, each read and parsed before the next: its files, and after them standard input if the
 -- command reads it.
 use Rattle.std.specs.Prelude.{◌≡◌, ◌⊎◌, ℕ, ◌+◌, ◌≤◌, List, [], ◌∷◌, ◌++◌, length, map, String, string_bytes, Option}
-use Rattle.std.specs.Prelude.{Some, None, IsSome, Result, IfOk, IfErr, ⊤}
+use Rattle.std.specs.Prelude.{Some, None, IsSome, Result, IfOk, IfErr, OnOk, ⊤}
 use Rattle.std.specs.declared.alloc.Global.{Global}
 use Rattle.std.specs.List.{AllByRecursion}
 use Rattle.mm_word.specs.Adding.{Adds}
-use Rattle.mm_io.specs.Files.{Rose, Holds, IsLonger, PieceRead, AreOf}
+use Rattle.mm_io.specs.Files.{Rose, Holds, IsLonger, PieceRead, AreOf, FrontToEnd}
 use Rattle.mm_load.specs.declared.status.Refusal.{Refusal}
 use Rattle.mm_load.specs.declared.status.Refusal.TheVariants.{TooLong}
 use Rattle.mm_load.specs.declared.status.Stop.{Stop}
@@ -98,6 +98,19 @@ pub record AsksFiles (r : Reading) (before : List Value) (files : List (List ℕ
   pub asked : r.asks reads
   pub in_order : AsksInOrder r.held before files reads
 
+-- These reads go through the files in their order, each from its front to its end.
+abbrev pub GoThrough : (List ℕ → Option (List ℕ)) → List (List ℕ × Kind) → (reads : List PieceRead) → Type 0
+GoThrough held [] reads = reads ≡ []
+GoThrough held (file ∷ files) reads =
+    (bytes : List ℕ) × (mine : List PieceRead) × (later : List PieceRead) × (reads ≡ mine ++ later)
+    × Holds (held file.0) bytes × FrontToEnd file.0 (length bytes) mine × GoThrough held files later
+
+-- Reads went through each of these files, and no other was read.
+pub record ReadsWhole (r : Reading) (files : List (List ℕ × Kind)) : Type 0 where
+  pub reads : List PieceRead
+  pub asked : r.asks reads
+  pub through : GoThrough r.held files reads
+
 -- 3. Standard input, after files by their names, if a command reads it as an input of a kind.
 
 -- What standard input has left when its reading starts, if that is known, and how many reads of it had failed then and
@@ -177,13 +190,15 @@ Stops Refuses Fails stop.ReadFault = Fails
 Stops Refuses Fails stop.WriteFault = ⊥
 Stops Refuses Fails stop.NoMemory = ⊤
 
--- The reading of files answers their values, or why it stops, and asks for their names in order.
+-- The reading of files answers their values, and then has read each from its front to its end; or it answers why it
+-- stops. It asks for their names in order.
 pub record FilesRead {T : Type 0} (r : Reading) (before : List Value) (files : List (List ℕ × Kind))
     (values : T → List Value)
     (result : Result T Stop) : Type 0 where
   pub accepted : IfOk result (λ t. FilesAccepted r.held before files (values t))
   pub stopped : IfErr result (Stops (FilesRefused r.held before files) (FilesFailed r before files))
   pub asked : AsksFiles r before files
+  pub whole : OnOk result (ReadsWhole r files)
 
 -- The reading of standard input answers its value, or why it stops.
 pub record InputRead {T : Type 0} (d : Drawing) (before : List Value) (kind : Kind) (value : T → Value)

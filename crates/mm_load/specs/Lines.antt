@@ -23,19 +23,20 @@ named_by NoThread = codes "-"
 named_by (Handler slot) = decimal slot
 named_by TooLarge = codes "-"
 
+-- the front of the line of a file that is refused
+abbrev pub in_file : ℕ → List ℕ
+in_file file = codes "mmachine: file " ++ decimal file
+
 -- the line of an answer; nothing if the command is done
 abbrev pub line_of : Status → List ℕ
 line_of Done = []
 line_of Usage = codes "mmachine: usage\n"
-line_of (Refused (TooLong file)) = codes "mmachine: file " ++ decimal file ++ codes " too long\n"
+line_of (Refused (TooLong file)) = in_file file ++ codes " too long\n"
 line_of (Refused (Image file fault offset)) =
-    codes "mmachine: file " ++ decimal file ++ codes " image fault " ++ decimal (number_of fault) ++ codes " at "
-    ++ decimal offset ++ codes "\n"
-line_of (Refused (Schedule file offset)) = codes "mmachine: file " ++ decimal file ++ codes " schedule fault at "
-    ++ decimal offset ++ codes "\n"
+    in_file file ++ codes " image fault " ++ decimal (number_of fault) ++ codes " at " ++ decimal offset ++ codes "\n"
+line_of (Refused (Schedule file offset)) = in_file file ++ codes " schedule fault at " ++ decimal offset ++ codes "\n"
 line_of (Refused (Object file fault offset)) =
-    codes "mmachine: file " ++ decimal file ++ codes " object fault " ++ decimal (object_number fault) ++ codes " at "
-    ++ decimal offset ++ codes "\n"
+    in_file file ++ codes " object fault " ++ decimal (object_number fault) ++ codes " at " ++ decimal offset ++ codes "\n"
 line_of (Refused (Link fault)) = codes "mmachine: link fault " ++ decimal (link_number fault) ++ codes " "
     ++ named_by fault ++ codes "\n"
 line_of (Refused (Asm fault line column)) =
@@ -45,10 +46,8 @@ line_of (Refused NoGroup) = codes "mmachine: no group\n"
 line_of (Refused (Crosses slot)) = codes "mmachine: crosses slot " ++ decimal slot ++ codes "\n"
 line_of (Refused (Held slot)) = codes "mmachine: held slot " ++ decimal slot ++ codes "\n"
 line_of (Refused (Privileged group)) = codes "mmachine: privileged group " ++ decimal group ++ codes "\n"
-line_of (Refused (Checkpoint file offset)) = codes "mmachine: file " ++ decimal file ++ codes " checkpoint fault at "
-    ++ decimal offset ++ codes "\n"
-line_of (Refused (Links file offset)) = codes "mmachine: file " ++ decimal file ++ codes " links fault at "
-    ++ decimal offset ++ codes "\n"
+line_of (Refused (Checkpoint file offset)) = in_file file ++ codes " checkpoint fault at " ++ decimal offset ++ codes "\n"
+line_of (Refused (Links file offset)) = in_file file ++ codes " links fault at " ++ decimal offset ++ codes "\n"
 line_of (Refused (NoNode link)) = codes "mmachine: no node link " ++ decimal link ++ codes "\n"
 line_of ReadFault = codes "mmachine: read fault\n"
 line_of WriteFault = codes "mmachine: write fault\n"

@@ -1,7 +1,8 @@
 //! The line that an answer writes to standard error.
 ghost use Rattle.mm_io.specs.Sinks.{Writes};
 ghost use Rattle.mm_text.specs.Gathers.{Gathers};
-ghost use Rattle.mm_load.specs.Lines.{line_of, named_by};
+ghost use Rattle.std.specs.Prelude.{◌++◌, codes, decimal};
+ghost use Rattle.mm_load.specs.Lines.{in_file, line_of, named_by};
 
 use crate::status::{Refusal, Status};
 use mm_io::{Sink, WriteFault, write_all};
@@ -27,47 +28,31 @@ fn write_refusal<D: Sink>(refusal: &Refusal, diag: &mut D) -> Result<(), WriteFa
     ensures { Writes D.taken D.faults diag.old diag.new (line_of (Status.Refused refusal.now)) result }
 {
     match refusal {
-        Refusal::TooLong { file } => write_pieces(
-            diag,
-            &[
-                Piece::Text("mmachine: file "),
-                Piece::Decimal(*file as u64),
-                Piece::Text(" too long\n"),
-            ],
-        ),
+        Refusal::TooLong { file } => write_named(diag, "mmachine: file ", *file, " too long\n"),
         Refusal::Image {
             file,
             fault,
             offset,
-        } => write_pieces(
-            diag,
-            &[
-                Piece::Text("mmachine: file "),
-                Piece::Decimal(*file as u64),
-                Piece::Text(" image fault "),
-                Piece::Decimal(fault.number() as u64),
-                Piece::Text(" at "),
-                Piece::Decimal(*offset),
-                Piece::Text("\n"),
-            ],
-        ),
+        } => write_numbered(diag, *file, " image fault ", fault.number(), *offset),
         Refusal::Object {
             file,
             fault,
             offset,
-        } => write_pieces(
-            diag,
-            &[
-                Piece::Text("mmachine: file "),
-                Piece::Decimal(*file as u64),
-                Piece::Text(" object fault "),
-                Piece::Decimal(fault.number() as u64),
-                Piece::Text(" at "),
-                Piece::Decimal(*offset),
-                Piece::Text("\n"),
-            ],
-        ),
-        Refusal::Link(fault) => write_link_fault(fault, diag),
+        } => write_numbered(diag, *file, " object fault ", fault.number(), *offset),
+        Refusal::Checkpoint { file, offset } => {
+            write_placed(diag, *file, " checkpoint fault at ", *offset)
+        }
+        Refusal::Links { file, offset } => write_placed(diag, *file, " links fault at ", *offset),
+        Refusal::Schedule { file, offset } => {
+            write_placed(diag, *file, " schedule fault at ", *offset)
+        }
+        Refusal::Crosses { slot } => write_named(diag, "mmachine: crosses slot ", *slot, "\n"),
+        Refusal::Held { slot } => write_named(diag, "mmachine: held slot ", *slot, "\n"),
+        Refusal::Privileged { group } => {
+            write_named(diag, "mmachine: privileged group ", *group, "\n")
+        }
+        Refusal::NoNode { link } => write_named(diag, "mmachine: no node link ", *link, "\n"),
+        Refusal::NoGroup => write_all(diag, b"mmachine: no group\n"),
         Refusal::Asm {
             fault,
             line,
@@ -84,70 +69,73 @@ fn write_refusal<D: Sink>(refusal: &Refusal, diag: &mut D) -> Result<(), WriteFa
                 Piece::Text("\n"),
             ],
         ),
-        Refusal::NoGroup => write_all(diag, b"mmachine: no group\n"),
-        Refusal::Crosses { slot } => write_pieces(
-            diag,
-            &[
-                Piece::Text("mmachine: crosses slot "),
-                Piece::Decimal(*slot as u64),
-                Piece::Text("\n"),
-            ],
-        ),
-        Refusal::Held { slot } => write_pieces(
-            diag,
-            &[
-                Piece::Text("mmachine: held slot "),
-                Piece::Decimal(*slot as u64),
-                Piece::Text("\n"),
-            ],
-        ),
-        Refusal::Privileged { group } => write_pieces(
-            diag,
-            &[
-                Piece::Text("mmachine: privileged group "),
-                Piece::Decimal(*group as u64),
-                Piece::Text("\n"),
-            ],
-        ),
-        Refusal::Checkpoint { file, offset } => write_pieces(
-            diag,
-            &[
-                Piece::Text("mmachine: file "),
-                Piece::Decimal(*file as u64),
-                Piece::Text(" checkpoint fault at "),
-                Piece::Decimal(*offset),
-                Piece::Text("\n"),
-            ],
-        ),
-        Refusal::Links { file, offset } => write_pieces(
-            diag,
-            &[
-                Piece::Text("mmachine: file "),
-                Piece::Decimal(*file as u64),
-                Piece::Text(" links fault at "),
-                Piece::Decimal(*offset),
-                Piece::Text("\n"),
-            ],
-        ),
-        Refusal::NoNode { link } => write_pieces(
-            diag,
-            &[
-                Piece::Text("mmachine: no node link "),
-                Piece::Decimal(*link as u64),
-                Piece::Text("\n"),
-            ],
-        ),
-        Refusal::Schedule { file, offset } => write_pieces(
-            diag,
-            &[
-                Piece::Text("mmachine: file "),
-                Piece::Decimal(*file as u64),
-                Piece::Text(" schedule fault at "),
-                Piece::Decimal(*offset),
-                Piece::Text("\n"),
-            ],
-        ),
+        Refusal::Link(fault) => write_link_fault(fault, diag),
     }
+}
+
+/// Writes a line that names a file, a slot, a group or a link by its number.
+fn write_named<'a, D: Sink>(
+    diag: &mut D,
+    before: &'a str,
+    number: u8,
+    after: &'a str,
+) -> Result<(), WriteFault>
+    ensures { Writes D.taken D.faults diag.old diag.new (before.now ++ decimal number ++ after.now) result }
+{
+    write_pieces(
+        diag,
+        &[
+            Piece::Text(before),
+            Piece::Decimal(number as u64),
+            Piece::Text(after),
+        ],
+    )
+}
+
+/// Writes the line of a fault at an offset of a file. `fault` says which, up to the offset.
+fn write_placed<D: Sink>(
+    diag: &mut D,
+    file: u8,
+    fault: &str,
+    offset: u64,
+) -> Result<(), WriteFault>
+    ensures { Writes D.taken D.faults diag.old diag.new (in_file file ++ fault.now ++ decimal offset ++ codes "\n") result }
+{
+    write_pieces(
+        diag,
+        &[
+            Piece::Text("mmachine: file "),
+            Piece::Decimal(file as u64),
+            Piece::Text(fault),
+            Piece::Decimal(offset),
+            Piece::Text("\n"),
+        ],
+    )
+}
+
+/// Writes the line of a fault with a number at an offset of a file. `fault` says which, up to the number.
+fn write_numbered<D: Sink>(
+    diag: &mut D,
+    file: u8,
+    fault: &str,
+    number: u8,
+    offset: u64,
+) -> Result<(), WriteFault>
+    ensures { Writes D.taken D.faults diag.old diag.new
+        (in_file file ++ fault.now ++ decimal number ++ codes " at " ++ decimal offset ++ codes "\n") result }
+{
+    write_pieces(
+        diag,
+        &[
+            Piece::Text("mmachine: file "),
+            Piece::Decimal(file as u64),
+            Piece::Text(fault),
+            Piece::Decimal(number as u64),
+            Piece::Text(" at "),
+            Piece::Decimal(offset),
+            Piece::Text("\n"),
+        ],
+    )
 }
 
 /// Writes the line of a fault of linking.

@@ -2,7 +2,7 @@
 ghost use Rattle.std.specs.Prelude.{◌≡◌, ◌+◌, ◌<◌, ◌≤◌, ◌^◌, ◌∷◌, [], List, length, map, IfOk, IfErr, OnOk};
 ghost use Rattle.std.specs.Option.{option_map};
 ghost use Rattle.std.specs.Io.KnownBytes.{IsAtEnd};
-ghost use Rattle.mm_io.specs.Files.{Rose, NoneFell, Holds, AsksOnly};
+ghost use Rattle.mm_io.specs.Files.{Rose, NoneFell, Holds, AsksOnly, AsksWhole};
 ghost use Rattle.mm_checkpoint.specs.Checkpoints.{saved_of, IsCheckpoint};
 ghost use Rattle.mm_cli.specs.declared.table.Kind.TheVariants.{Image as image_file, Schedule as schedule_file};
 ghost use Rattle.mm_cli.specs.declared.table.Kind.TheVariants.{Source as source_file, Object as object_file};
@@ -67,6 +67,7 @@ fn read_file<F: Files>(
     ensures kept { F.held files.new ≡ F.held files.old }
     ensures later { NoneFell (F.faults files.old) (F.faults files.new) }
     ensures asks { AsksOnly F.asked files.old files.new name.now }
+    ensures whole { IfOk result (λ bytes. AsksWhole F.asked files.old files.new name.now (length bytes.items)) }
 {
     match read_all(alloc, files, name, limit) {
         Ok(bytes) => Ok(bytes),

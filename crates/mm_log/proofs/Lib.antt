@@ -17,4 +17,4 @@ pub mod OneSlot
 pub mod Placed
 pub mod Taking
 pub mod Whole
-pub mod LoggedRuns
+pub mod ToldRuns

@@ -4,5 +4,5 @@ pub mod Log
 pub mod Replay
 pub mod Laws
 pub mod Looks
-pub mod Named
 pub mod Seen
+pub mod Telling

@@ -1,4 +1,4 @@
-//! The commit log of a run: the line of each turn, followed by all that the turn changed.
+//! The trace of a run, and its commit log: the line of each turn, followed by all that the turn changed.
 #![tactic(auto)]
 
 mod after;
@@ -8,5 +8,8 @@ mod lines;
 mod logged;
 mod operands;
 mod slots;
+mod telling;
+mod traced;
 
 pub use logged::issue_logged;
+pub use traced::issue_traced;

@@ -23,5 +23,6 @@ mod state;
 mod tables;
 
 pub use mm_model::{Event, Pending, Slot, SlotState, Step, Tick};
+pub use operands::{addr_operand, value_operand};
 pub use output::Output;
 pub use state::{Core, turn};

@@ -87,7 +87,7 @@ fn names(instr: &Instr) -> Named
 }
 
 /// The address operand of an event: the word of register ra, or integer 0 if the instruction has none.
-pub(crate) fn addr_operand(instr: &Instr, slot: &Slot) -> Word
+pub fn addr_operand(instr: &Instr, slot: &Slot) -> Word
     ensures { result ≡ addr_operand instr.now slot.now }
 {
     match names(instr).ra {
@@ -97,7 +97,7 @@ pub(crate) fn addr_operand(instr: &Instr, slot: &Slot) -> Word
 }
 
 /// The data operand of an event: the word of register rb, or the number of imm if the instruction has none.
-pub(crate) fn value_operand(instr: &Instr, slot: &Slot) -> Word
+pub fn value_operand(instr: &Instr, slot: &Slot) -> Word
     ensures { result ≡ value_operand instr.now slot.now }
 {
     let named = names(instr);

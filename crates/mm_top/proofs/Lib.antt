@@ -7,7 +7,6 @@ pub mod SavedForms
 pub mod SavedRuns
 pub mod Reported
 pub mod Headlines
-pub mod TracedRuns
 pub mod TracedSections
 pub mod OwnItems
 pub mod Migrated

@@ -1,6 +1,6 @@
 -- The answer to a row, by how its files are read and how the command ends with their values.
 use Rattle.std.proofs.Common.{◌≡◌, inl, inr, ℕ, List, [], ◌++◌, Option, None, Some, Result, Ok, Err, refl, sym, subst}
-use Rattle.std.specs.Result.{IsErrAnd}
+use Rattle.std.specs.Result.{IsErrAnd, OnOk}
 use Rattle.mm_word.specs.Adding.{adds_none}
 use Rattle.mm_io.specs.Files.{PieceRead}
 use Rattle.mm_load.specs.declared.status.Refusal.{Refusal}
@@ -8,7 +8,7 @@ use Rattle.mm_load.specs.declared.status.Stop.{Stop}
 use Rattle.mm_load.specs.declared.status.Stop.TheVariants as stop
 use Rattle.mm_cli.specs.declared.table.Kind.{Kind}
 use Rattle.mm_load.specs.Kinds.{Value}
-use Rattle.mm_load.specs.Files.{Reading, reading, FilesAccepted, FilesRefused, FilesFailed, FilesRead, AsksFiles, Stops}
+use Rattle.mm_load.specs.Files.{Reading, reading, FilesAccepted, FilesRefused, FilesFailed, FilesRead, AsksFiles, ReadsWhole, Stops}
 use Rattle.mm_load.proofs.Reading.{stops_first, asks_of_all}
 use Rattle.mm_cli.specs.Words.{files_in, groups_word, perhaps}
 use Rattle.mm_cli.specs.Table.{Row, files_of}
@@ -18,10 +18,10 @@ use Rattle.mm_top.specs.Answers.{CommandEnds, Ends, EndsWith, Writing}
 -- the reading of its files stops
 stopped : (files : Reading) (out : Writing) (Text : Row → List Value → List ℕ → Type 0) (row : Row) (s : Stop) → Stops (FilesRefused files.held [] (files_of row)) (FilesFailed files [] (files_of row)) s
     → AsksFiles files [] (files_of row) → out.taken ≡ out.taken_before → CommandEnds files out Text row (Err s)
-stopped files out Text row (stop.Refused r) says asked same = record { ends = (inl says, same); asked = asked }
-stopped files out Text row stop.ReadFault says asked same = record { ends = (says, same); asked = asked }
+stopped files out Text row (stop.Refused r) says asked same = record { ends = (inl says, same); asked = asked; whole = tt }
+stopped files out Text row stop.ReadFault says asked same = record { ends = (says, same); asked = asked; whole = tt }
 stopped files out Text row stop.WriteFault says asked same = absurd says
-stopped files out Text row stop.NoMemory says asked same = record { ends = same; asked = asked }
+stopped files out Text row stop.NoMemory says asked same = record { ends = same; asked = asked; whole = tt }
 
 pub row_stops : {T : Type 0} {files : Reading} {out : Writing} {Text : Row → List Value → List ℕ → Type 0} {row : Row} {xs : List (List ℕ × Kind)} {values : T → List Value} {s : Stop} (ys : List (List ℕ × Kind)) (result : Result (Unit {0}) Stop)
     → FilesRead files [] xs values (Err s) → files_of row ≡ xs ++ ys → out.taken ≡ out.taken_before → IsErrAnd result (λ e. e ≡ s) → CommandEnds files out Text row result
@@ -34,14 +34,14 @@ row_stops {files = files} {out = out} {Text = Text} {row = row} {xs = xs} {s = s
 
 -- they are read, and the command ends with their values
 ends_read : (files : Reading) (out : Writing) (Text : Row → List Value → List ℕ → Type 0) (row : Row) (values : List Value) (Refuses : Refusal → Type 0) (IsText : List ℕ → Type 0) (result : Result (Unit {0}) Stop)
-    → FilesAccepted files.held [] (files_of row) values → AsksFiles files [] (files_of row) → Ends out Refuses ⊥ IsText result
+    → FilesAccepted files.held [] (files_of row) values → AsksFiles files [] (files_of row) → ReadsWhole files (files_of row) → Ends out Refuses ⊥ IsText result
     → ((r : Refusal) → Refuses r → Declines row values r) → ((text : List ℕ) → IsText text → Text row values text) → CommandEnds files out Text row result
-ends_read files out Text row values Refuses IsText (Ok done) accepted asked (text, is, took) refuses writes = record { ends = (text, (values, accepted, writes text is), took); asked = asked }
-ends_read files out Text row values Refuses IsText (Err (stop.Refused r)) accepted asked (is, same) refuses writes = record { ends = (inr (values, accepted, refuses r is), same); asked = asked }
-ends_read files out Text row values Refuses IsText (Err stop.ReadFault) accepted asked ends refuses writes = absurd ends.0
-ends_read files out Text row values Refuses IsText (Err stop.WriteFault) accepted asked (text, is, part, rose) refuses writes =
-    record { ends = (text, (values, accepted, writes text is), part, rose); asked = asked }
-ends_read files out Text row values Refuses IsText (Err stop.NoMemory) accepted asked ends refuses writes = record { ends = ends; asked = asked }
+ends_read files out Text row values Refuses IsText (Ok done) accepted asked whole (text, is, took) refuses writes = record { ends = (text, (values, accepted, writes text is), took); asked = asked; whole = whole }
+ends_read files out Text row values Refuses IsText (Err (stop.Refused r)) accepted asked whole (is, same) refuses writes = record { ends = (inr (values, accepted, refuses r is), same); asked = asked; whole = tt }
+ends_read files out Text row values Refuses IsText (Err stop.ReadFault) accepted asked whole ends refuses writes = absurd ends.0
+ends_read files out Text row values Refuses IsText (Err stop.WriteFault) accepted asked whole (text, is, part, rose) refuses writes =
+    record { ends = (text, (values, accepted, writes text is), part, rose); asked = asked; whole = tt }
+ends_read files out Text row values Refuses IsText (Err stop.NoMemory) accepted asked whole ends refuses writes = record { ends = ends; asked = asked; whole = tt }
 
 pub row_ends : {T : Type 0} {files : Reading} {out : Writing} {Text : Row → List Value → List ℕ → Type 0} {row : Row} {xs : List (List ℕ × Kind)} {values : T → List Value} {t : T} (Refuses : Refusal → Type 0) (IsText : List ℕ → Type 0)
     {result : Result (Unit {0}) Stop} → FilesRead files [] xs values (Ok t) → files_of row ≡ xs → Ends out Refuses ⊥ IsText result
@@ -49,7 +49,8 @@ pub row_ends : {T : Type 0} {files : Reading} {out : Writing} {Text : Row → Li
 row_ends {files = files} {out = out} {Text = Text} {row = row} {values = values} {t = t} Refuses IsText {result = result} read all ends refuses writes =
     let P : List (List ℕ × Kind) → Type 0 = λ fs. FilesAccepted files.held [] fs (values t) in
     let R : List (List ℕ × Kind) → Type 0 = λ fs. AsksFiles files [] fs in
-    ends_read files out Text row (values t) Refuses IsText result (subst P (sym all) read.accepted) (subst R (sym all) read.asked) ends refuses writes
+    ends_read files out Text row (values t) Refuses IsText result (subst P (sym all) read.accepted) (subst R (sym all) read.asked)
+    (subst (λ (fs : List (List ℕ × Kind)). ReadsWhole files fs) (sym all) read.whole) ends refuses writes
 
 -- a row that reads nothing
 pub row_alone : {F : Type 0} (held : F → List ℕ → Option (List ℕ)) (faults : F → List ℕ → ℕ) (asked : F → List PieceRead → Type 0) (files : F) {out : Writing}
@@ -58,8 +59,10 @@ pub row_alone : {F : Type 0} (held : F → List ℕ → Option (List ℕ)) (faul
 row_alone held faults asked files {out = out} Text row IsText {result = result} none ends writes =
     let r = reading held faults asked files files in
     let nothing : AsksFiles r [] [] = record { reads = []; asked = adds_none files; in_order = refl } in
+    let whole : ReadsWhole r [] = record { reads = []; asked = adds_none files; through = refl } in
     ends_read r out Text row [] (λ r. ⊥) IsText result (subst (λ (fs : List (List ℕ × Kind)). FilesAccepted r.held [] fs []) (sym none) tt)
-    (subst (λ (fs : List (List ℕ × Kind)). AsksFiles r [] fs) (sym none) nothing) ends (λ r no. absurd no) writes
+    (subst (λ (fs : List (List ℕ × Kind)). AsksFiles r [] fs) (sym none) nothing) (subst (λ (fs : List (List ℕ × Kind)). ReadsWhole r fs) (sym none) whole)
+    ends (λ r no. absurd no) writes
 
 -- groups name no file
 pub groups_files : (groups : Option (List ℕ)) → files_in (perhaps groups_word groups) ≡ []

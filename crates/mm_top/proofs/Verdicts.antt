@@ -1,5 +1,6 @@
 -- What the clauses of the top call say, from what the answer to the words says.
 use Rattle.std.proofs.Common.{◌≡◌, ◌↔◌, ℕ, List, [], Option, Result, Ok, Err, inl, inr, refl, sym, ap, ◌∙◌, subst, append-nil}
+use Rattle.std.specs.Result.{OnOk}
 use Rattle.std.specs.Io.KnownBytes.{append_known}
 use Rattle.mm_io.specs.Files.{Rose}
 use Rattle.mm_io.specs.Sinks.{TookPart, Writes}
@@ -9,7 +10,7 @@ use Rattle.mm_load.specs.declared.status.Status.{Status}
 use Rattle.mm_load.specs.declared.status.Status.TheVariants.{Done, Usage, Refused, ReadFault, WriteFault, NoMemory}
 use Rattle.mm_load.specs.declared.status.Stop.{Stop}
 use Rattle.mm_load.specs.declared.status.Stop.TheVariants as stop
-use Rattle.mm_load.specs.Files.{AsksFiles}
+use Rattle.mm_load.specs.Files.{AsksFiles, ReadsWhole}
 use Rattle.mm_cli.specs.Table.{Row, Asks, InNoRow, files_of}
 use Rattle.mm_load.specs.Lines.{line_of}
 use Rattle.mm_top.specs.Answers.{Answers, Call, ComesTo, ReadFailed, RowEnds, TookLine, refuse, write, status_of}
@@ -78,6 +79,15 @@ pub asks : {c : Call} {words : List (List ℕ)} {status : Status} → Answers c 
 asks {c = c} {words = words} answers row in_row = elim answers.cases [
   | inl none ↦ absurd (none.0 row in_row)
   | inr says ↦ subst (λ (x : Row). AsksFiles c.files [] (files_of x)) (one_row words says.row row says.asks in_row) says.asked
+]
+
+pub whole : {c : Call} {words : List (List ℕ)} {status : Status} → Answers c words status → status ≡ Done → (row : Row) → Asks words row → ReadsWhole c.files (files_of row)
+whole {c = c} {words = words} answers same row in_row = elim answers.cases [
+  | inl none ↦ absurd (none.0 row in_row)
+  | inr says ↦
+      let ok : says.result ≡ Ok tt = result_of says.result (Ok tt) (sym says.answers ∙ same) in
+      subst (λ (x : Row). ReadsWhole c.files (files_of x)) (one_row words says.row row says.asks in_row)
+      (subst (λ (x : Result (Unit {0}) Stop). OnOk x (ReadsWhole c.files (files_of says.row))) ok says.whole)
 ]
 
 pub done : {c : Call} {words : List (List ℕ)} {status : Status} → Answers c words status → status ≡ Done

@@ -1,5 +1,5 @@
 -- What a call answers, and why.
-use Rattle.std.specs.Prelude.{◌≡◌, ◌⊎◌, ℕ, List, [], Option, Result, Ok, Err, ⊤}
+use Rattle.std.specs.Prelude.{◌≡◌, ◌⊎◌, ℕ, List, [], Option, Result, Ok, Err, OnOk, ⊤}
 use Rattle.std.specs.Io.KnownBytes.{append_known}
 use Rattle.mm_io.specs.Files.{Rose}
 use Rattle.mm_io.specs.Sinks.{TookPart}
@@ -12,7 +12,7 @@ use Rattle.mm_load.specs.declared.status.Stop.{Stop}
 use Rattle.mm_load.specs.declared.status.Stop.TheVariants as stop
 use Rattle.mm_load.specs.Kinds.{Value}
 use Rattle.mm_load.specs.Files.{Reading, Drawing, FilesAccepted, FilesRefused, FilesFailed, AsksFiles, InputsAccepted}
-use Rattle.mm_load.specs.Files.{InputsRefused, InputsFailed, InputsTold, ToldInputsRefused}
+use Rattle.mm_load.specs.Files.{InputsRefused, InputsFailed, InputsTold, ReadsWhole, ToldInputsRefused}
 use Rattle.mm_cli.specs.Table.{Row, files_of, input_of, Asks, InNoRow}
 use Rattle.mm_top.specs.Commands.{Declines, Yields}
 
@@ -143,6 +143,7 @@ pub record CommandEnds (files : Reading) (out : Writing) (Text : Row → List Va
       (λ text. (values : List Value) × FilesAccepted files.held [] (files_of row) values × Text row values text)
       result
   pub asked : AsksFiles files [] (files_of row)
+  pub whole : OnOk result (ReadsWhole files (files_of row))
 
 -- how the command of a row ends
 abbrev pub RowEnds : Call → Row → Result (Unit {0}) Stop → Type 0
@@ -166,6 +167,7 @@ pub record RowAnswers (c : Call) (words : List (List ℕ)) (status : Status) : T
   pub asks : Asks words row
   pub ends : RowEnds c row result
   pub asked : AsksFiles c.files [] (files_of row)
+  pub whole : OnOk result (ReadsWhole c.files (files_of row))
   pub answers : status ≡ status_of result
 
 -- What an answer to words says.

@@ -2,7 +2,7 @@
 
 ghost use Rattle.std.specs.Prelude.{◌≡◌, [], OnOk};
 ghost use Rattle.std.specs.Io.KnownBytes.{IsAtEnd};
-ghost use Rattle.mm_load.specs.Files.{AsksFiles, DrawnBehind, reading, drawing};
+ghost use Rattle.mm_load.specs.Files.{AsksFiles, DrawnBehind, ReadsWhole, reading, drawing};
 ghost use Rattle.mm_cli.specs.Table.{files_of};
 ghost use Rattle.mm_cli.specs.Said.{row};
 ghost use Rattle.mm_top.specs.Commands.{replies_to};
@@ -34,6 +34,8 @@ pub fn debug<M: Boot + Reset, F: Files, I: Source, O: Sink>(
         (row Command.Debug words.now) result }
     ensures asked { AsksFiles (reading F.held F.faults F.asked files.old files.new) []
         (files_of (row Command.Debug words.now)) }
+    ensures whole { OnOk result (ReadsWhole (reading F.held F.faults F.asked files.old files.new)
+        (files_of (row Command.Debug words.now))) }
     ensures drawn { DrawnBehind (F.held files.old) (files_of (row Command.Debug words.now)) (input.new ≡ input.old) }
     ensures read { OnOk result (IsAtEnd (I.left input.new)) }
 {

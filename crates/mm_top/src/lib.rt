@@ -28,7 +28,6 @@ mod solo;
 mod sweep;
 mod top;
 mod trace;
-mod traced;
 
 pub use laws::{saves_go_on, texts_are_run};
 pub use memories::counts_stand_behind;

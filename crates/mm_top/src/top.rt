@@ -5,7 +5,7 @@ ghost use Rattle.std.specs.Io.KnownBytes.{append_known, IsAtEnd};
 ghost use Rattle.mm_io.specs.Files.{Rose};
 ghost use Rattle.mm_io.specs.Sinks.{TookPart};
 ghost use Rattle.mm_load.specs.declared.status.Refusal.{Refusal};
-ghost use Rattle.mm_load.specs.Files.{AsksFiles, DrawnBehind, drawing, reading};
+ghost use Rattle.mm_load.specs.Files.{AsksFiles, DrawnBehind, ReadsWhole, drawing, reading};
 ghost use Rattle.mm_cli.specs.Words.{texts};
 ghost use Rattle.mm_cli.specs.Table.{InNoRow, Asks, LeaveInput, Row, files_of, input_of};
 ghost use Rattle.mm_cli.specs.Said.{AreOf, row};
@@ -62,10 +62,13 @@ pub fn mmachine<M: Boot + Reset, F: Files, I: Source, O: Sink, D: Sink>(
     ensures write_fault { result ≡ Status.WriteFault → Rose (O.faults out.old) (O.faults out.new) }
 
     // What is read: nothing if the words are in no row. Otherwise only the row's files, each once the files before it
-    // were accepted; and after them standard input to its end, if the row reads it.
+    // were accepted; and after them standard input to its end, if the row reads it. If the command is done, each file
+    // was read once, from its front to its end.
     ensures unread { result ≡ Status.Usage → files.new ≡ files.old }
     ensures asks { (row : Row) → Asks (texts words.now) row
         → AsksFiles (reading F.held F.faults F.asked files.old files.new) [] (files_of row) }
+    ensures whole { result ≡ Status.Done → (row : Row) → Asks (texts words.now) row
+        → ReadsWhole (reading F.held F.faults F.asked files.old files.new) (files_of row) }
     ensures undrawn { LeaveInput (texts words.now) → input.new ≡ input.old }
     ensures drawn { (row : Row) → Asks (texts words.now) row
         → DrawnBehind (F.held files.old) (files_of row) (input.new ≡ input.old) }
@@ -133,6 +136,8 @@ fn answer<M: Boot + Reset, F: Files, I: Source, O: Sink>(
         → ComesTo M.tells (F.held files.old) (I.left input.old) (texts words.now) (refuse r) }
     ensures asks { (row : Row) → Asks (texts words.now) row
         → AsksFiles (reading F.held F.faults F.asked files.old files.new) [] (files_of row) }
+    ensures whole { result ≡ Status.Done → (row : Row) → Asks (texts words.now) row
+        → ReadsWhole (reading F.held F.faults F.asked files.old files.new) (files_of row) }
     ensures refuses { (r : Refusal) → HasToRefuse (F.held files.old) (I.left input.old) (texts words.now) r
         → RefusedUnless r result }
     ensures complete { NothingFails
@@ -194,6 +199,8 @@ fn by_command<M: Boot + Reset, F: Files, I: Source, O: Sink>(
         (row command words.now) result }
     ensures asked { AsksFiles (reading F.held F.faults F.asked files.old files.new) []
         (files_of (row command words.now)) }
+    ensures whole { OnOk result (ReadsWhole (reading F.held F.faults F.asked files.old files.new)
+        (files_of (row command words.now))) }
     ensures undrawn { input_of (row command words.now) ≡ None → input.new ≡ input.old }
     ensures drawn { DrawnBehind (F.held files.old) (files_of (row command words.now)) (input.new ≡ input.old) }
     ensures read { OnOk result (IsSome (input_of (row command words.now)) → IsAtEnd (I.left input.new)) }

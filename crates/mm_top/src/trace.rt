@@ -12,13 +12,13 @@ ghost use Rattle.mm_top.specs.Commands.{report_after, Yields};
 ghost use Rattle.mm_top.specs.Answers.{CommandEnds, EndsWith, writing};
 
 use crate::boot::boot;
-use crate::traced::issue_traced;
 use mm_cli::{Command, Word, name_at, name_perhaps_at, number_at};
 use mm_image::Image;
 use mm_io::{Files, Sink, WriteFault};
 use mm_load::{Stop, ended, load_image, load_order};
+use mm_log::issue_traced;
 use mm_machine::Machine;
-use mm_mem::{Boot, Memory};
+use mm_mem::{Boot, Inspect};
 use mm_report::report;
 use mm_sched::Order;
 use mm_text::Gather;
@@ -59,7 +59,7 @@ fn write_trace<M: Boot, O: Sink>(
 }
 
 /// Issues up to `count` cycles in an order, and writes the line of each.
-fn write_lines<M: Memory, O: Sink>(
+fn write_lines<M: Inspect, O: Sink>(
     machine: &mut Machine<M>,
     order: &Order,
     count: u64,

@@ -2,7 +2,8 @@ use Rattle.std.proofs.Common.{ℕ, List, Err, ap, ◌∙◌, subst}
 use Rattle.mm_net.specs.Events.{FaultsAt}
 use Rattle.mm_net.specs.declared.fault.NetError.{NetError}
 use Rattle.mm_load.specs.declared.status.Refusal.TheVariants as refusal
-use Rattle.mm_load.proofs.Reading.{refused_file}
+use Rattle.mm_load.specs.Kinds.{an_events}
+use Rattle.mm_load.proofs.Reading.{accepted_file, refused_file}
 use Rattle.mm_load.proofs.load.load_events.Goals as goal
 
 pub returns-in-Err-Fault-clause-read : goal.returns-in-Err-Fault-clause-read
@@ -11,3 +12,8 @@ returns-in-Err-Fault-clause-read g c before counted =
     let P : List ℕ → Type 0 = λ bytes. FaultsAt bytes offset in
     let says = subst P c.deref.ensures.value (c.read_events.ensures.fault offset (c.in-Err-Fault.is ∙ ap (λ (e : NetError). Err e) c.in-Err-Fault.field-0-is)) in
     refused_file _ _ c.in_ok-bytes.ensures.bytes c.in_ok-bytes.ensures.short (offset, ap (λ (n : ℕ). refusal.Schedule n offset) counted, says) c.read_file.ensures.asks.of_name c.read_file.ensures.asks.asks
+
+pub returns-in-Ok-clause-read : goal.returns-in-Ok-clause-read
+returns-in-Ok-clause-read g c before counted =
+    accepted_file an_events c.in-Ok.events _ _ c.deref.ensures.value c.in_ok-bytes.ensures.bytes c.in_ok-bytes.ensures.short c.in-Ok.ensures.means
+    c.in_ok-bytes.ensures.asks.of_name c.in_ok-bytes.ensures.asks.asks c.in_ok-bytes.ensures.whole.whole c.in_ok-bytes.ensures.whole.asks

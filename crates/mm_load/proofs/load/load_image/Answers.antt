@@ -3,7 +3,8 @@ use Rattle.mm_model.specs.ImageFaults.{image_fault}
 use Rattle.mm_image.specs.declared.fault.ImageError.{ImageError}
 use Rattle.mm_image.specs.Faults.{number_of}
 use Rattle.mm_load.specs.declared.status.Refusal.TheVariants as refusal
-use Rattle.mm_load.proofs.Reading.{refused_file}
+use Rattle.mm_load.specs.Kinds.{an_image}
+use Rattle.mm_load.proofs.Reading.{accepted_file, refused_file}
 use Rattle.mm_load.proofs.load.load_image.Goals as goal
 
 pub returns-in-Err-Fault-clause-read : goal.returns-in-Err-Fault-clause-read
@@ -14,3 +15,8 @@ returns-in-Err-Fault-clause-read g c before counted =
     let says = subst P c.deref.ensures.value (c.read.ensures.fault fault offset (c.in-Err-Fault.is ∙ ap (λ (e : ImageError). Err e) c.in-Err-Fault.field-0-is)) in
     refused_file _ _ c.in_ok-bytes.ensures.bytes c.in_ok-bytes.ensures.short (fault, offset, ap (λ (n : ℕ). refusal.Image n fault offset) counted, says)
     c.read_file.ensures.asks.of_name c.read_file.ensures.asks.asks
+
+pub returns-in-Ok-clause-read : goal.returns-in-Ok-clause-read
+returns-in-Ok-clause-read g c before counted =
+    accepted_file an_image c.in-Ok.image _ _ c.deref.ensures.value c.in_ok-bytes.ensures.bytes c.in_ok-bytes.ensures.short c.in-Ok.ensures.spelled
+    c.in_ok-bytes.ensures.asks.of_name c.in_ok-bytes.ensures.asks.asks c.in_ok-bytes.ensures.whole.whole c.in_ok-bytes.ensures.whole.asks

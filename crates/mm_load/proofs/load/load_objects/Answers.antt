@@ -30,6 +30,7 @@ returns-in_default-clause-read g c before counted =
     record {
       accepted = tt;
       stopped = tt;
+      whole = tt;
       asked = values_asked object_file an_object c.args.names.now c.loop-at.at c.index-names-at.result objects _ _ c.loop-at-test.true c.index-names-at.is (c.loop-at.invariant.read before counted)
           (subst P c.as_str.ensures.value (c.in_ok-object.ensures.read (before ++ map an_object objects) number))
           (record { kept = c.loop-at.invariant.kept; counts = refl; later = c.loop-at.invariant.later; asked = λ names more one two. adds_both one two });

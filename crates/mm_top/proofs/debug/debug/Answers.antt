@@ -74,6 +74,11 @@ returns-clause-asked g c =
     (files_then {asks = Adds g.F.Files.asked c.args.files.now c.load_order.new.files} (named c.name_at.ensures (c.in_ok-image.ensures.read [] refl)) (schedule_named c.name_perhaps_at.ensures (c.in_ok-order.ensures (an_image c.in_ok-image.image ∷ []) refl))
     (record { kept = c.load_image.ensures.kept; counts = refl; later = c.load_image.ensures.later; asked = λ names more one two. adds_both one two })).asked
 
+pub returns-clause-whole : goal.returns-clause-whole
+returns-clause-whole g c =
+    whole_read c.write_replies.result ((files_then {asks = Adds g.F.Files.asked c.args.files.now c.load_order.new.files} (named c.name_at.ensures (c.in_ok-image.ensures.read [] refl)) (schedule_named c.name_perhaps_at.ensures (c.in_ok-order.ensures (an_image c.in_ok-image.image ∷ []) refl))
+    (record { kept = c.load_image.ensures.kept; counts = refl; later = c.load_image.ensures.later; asked = λ names more one two. adds_both one two })).whole)
+
 pub returns-clause-drawn : goal.returns-clause-drawn
 returns-clause-drawn g c =
     inr (

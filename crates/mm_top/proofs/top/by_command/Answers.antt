@@ -30,3 +30,13 @@ pub returns-in-Soak-clause-asked : goal.returns-in-Soak-clause-asked
 returns-in-Soak-clause-asked g c =
     rw c.in-Soak.is
     (row_alone g.F.Files.held g.F.Files.faults g.F.Files.asked c.args.files.now (Yields g.M.Inspect.tells) (row Soak c.args.words.now) _ refl c.soak.ensures (λ text is. is)).asked
+
+pub returns-in-Gen-clause-whole : goal.returns-in-Gen-clause-whole
+returns-in-Gen-clause-whole g c =
+    rw c.in-Gen.is
+    (row_alone g.F.Files.held g.F.Files.faults g.F.Files.asked c.args.files.now (Yields g.M.Inspect.tells) (row Gen c.args.words.now) _ refl c.generate.ensures (λ text is. is)).whole
+
+pub returns-in-Soak-clause-whole : goal.returns-in-Soak-clause-whole
+returns-in-Soak-clause-whole g c =
+    rw c.in-Soak.is
+    (row_alone g.F.Files.held g.F.Files.faults g.F.Files.asked c.args.files.now (Yields g.M.Inspect.tells) (row Soak c.args.words.now) _ refl c.soak.ensures (λ text is. is)).whole

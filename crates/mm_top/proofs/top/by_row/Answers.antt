@@ -24,6 +24,7 @@ returns-in-Some-clause-answers g c =
             asks = subst P (sym c.as_slice-said.ensures.value) c.in-Some.ensures;
             ends = c.by_command.ensures.ends;
             asked = c.by_command.ensures.asked;
+            whole = c.by_command.ensures.whole;
             answers = c.status.ensures;
           }
           );
