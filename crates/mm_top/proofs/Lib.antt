@@ -9,6 +9,7 @@ pub mod Reported
 pub mod Headlines
 pub mod TracedRuns
 pub mod TracedSections
+pub mod LoggedSections
 pub mod OwnItems
 pub mod Migrated
 pub mod CountsBehind
