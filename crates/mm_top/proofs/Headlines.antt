@@ -16,6 +16,7 @@ use Rattle.mm_top.specs.Commands.{run, trace, log}
 use Rattle.mm_top.specs.Answers.{Answers, Call, Gives, write}
 use Rattle.mm_top.specs.Headline.{RunIsProved, TraceIsProved, LogIsProved}
 use Rattle.mm_top.proofs.TracedSections.{traces_isolate}
+use Rattle.mm_top.proofs.LoggedSections.{logs_isolate}
 use Rattle.mm_top.proofs.Verdicts.{done}
 use Rattle.mm_cli.proofs.Rows.{one_row}
 
@@ -67,6 +68,10 @@ log_proved tells held left image cycles schedule text (an_image i ∷ lists, acc
   writes = is;
   replays = λ front later same. logs_replay i front later accepted.0.means.image;
   reaches = runs_reach i items accepted.0.means.image;
+  isolates =
+      λ c has apart.
+      let P : List ℕ → Type 0 = λ written. Isolates i items written c in
+      subst P (sym is) (logs_isolate i items (tells (machine.uses (model.start i) items)) c accepted.0.means.image has apart);
 }
 log_proved tells held left image cycles schedule text ([], accepted, writes) = absurd writes
 log_proved tells held left image cycles schedule text (v ∷ lists, accepted, writes) = absurd (assumption (accepted, writes))

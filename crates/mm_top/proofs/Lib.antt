@@ -8,6 +8,7 @@ pub mod SavedRuns
 pub mod Reported
 pub mod Headlines
 pub mod TracedSections
+pub mod LoggedSections
 pub mod OwnItems
 pub mod Migrated
 pub mod CountsBehind

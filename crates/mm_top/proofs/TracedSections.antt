@@ -20,7 +20,7 @@ use Rattle.mm_laws.proofs.WholeRuns.{runs_isolate}
 
 -- 1. The lines of a trace are whole.
 
-both : (a b : List ℕ) → EndsALine a → EndsALine b → EndsALine (a ++ b)
+pub both : (a b : List ℕ) → EndsALine a → EndsALine b → EndsALine (a ++ b)
 both a b first (inl none) = subst EndsALine (sym (ap (λ (t : List ℕ). a ++ t) none ∙ append-nil a)) first
 both a b first (inr (rest, is)) = inr (a ++ rest, ap (λ (t : List ℕ). a ++ t) is ∙ sym (append_assoc a rest newline))
 
@@ -31,7 +31,7 @@ turn_ends turns step outcome = inr (
   refl,
 )
 
-step_ends : (turns : ℕ) (step : Step) (tick : Tick) → EndsALine (step_line turns step tick)
+pub step_ends : (turns : ℕ) (step : Step) (tick : Tick) → EndsALine (step_line turns step tick)
 unfolding step_line
 step_ends turns step Idle = inl refl
 step_ends turns step Did = turn_ends turns step (codes "did")
@@ -51,7 +51,7 @@ trace_ends s items = lines_end s items
 
 -- 2. So what stands behind them are lines of the whole.
 
-later : (first line text : List ℕ) → EndsALine first → IsLineOf line text → IsLineOf line (first ++ text)
+pub later : (first line text : List ℕ) → EndsALine first → IsLineOf line text → IsLineOf line (first ++ text)
 later first line text ends is = record {
   before = first ++ is.before;
   behind = is.behind;

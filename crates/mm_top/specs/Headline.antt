@@ -64,3 +64,5 @@ pub record LogIsProved (tells : List Use → Option Counts) (held : List ℕ →
   pub replays : (front later : List ℕ) → items ≡ front ++ later → Replays i front later
   -- Every word that a thread touches lies in a segment that is granted to its group, as for `run`.
   pub reaches : Reaches i items
+  -- The sections of groups that stand apart are those of a run without the others, as for `run`.
+  pub isolates : (c : ℕ → Bool) → HasSlot i c → Apart i All c → Isolates i items written c

@@ -99,8 +99,8 @@ pub fn mmachine<M: Boot + Reset, F: Files, I: Source, O: Sink, D: Sink>(
         → (written : List ℕ) × TraceIsProved M.tells (F.held files.old) image cycles schedule written
         × (O.taken out.new ≡ append_known (O.taken out.old) written) }
 
-    // The second part of the headline holds of each log that is done. Carried out, the log's lines up to
-    // any cycle make the state of the run then, except for the number of cycles.
+    // The second and the third part of the headline hold of each log that is done. Carried out, the log's
+    // lines up to any cycle make the state of the run then, except for the number of cycles.
     ensures replay { result ≡ Status.Done → (image : List ℕ) (cycles : ℕ) (schedule : Option (List ℕ))
         → Asks (texts words.now) (log image cycles schedule)
         → (written : List ℕ) × LogIsProved M.tells (F.held files.old) image cycles schedule written
