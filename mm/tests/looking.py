@@ -1,5 +1,5 @@
-"""Looks at a page of `mm view` in a browser: what it shows turn by turn, how it is used by keys alone, what a screen reader is told, and whether
-it fits windows of all sizes. `.ci/view` does this with every page."""
+"""Looks at a page of `mm view` in a browser: what it shows turn by turn, how it is used by keys alone, what a screen
+reader is told, and whether it fits windows of all sizes. `.ci/view` does this with every page."""
 
 from __future__ import annotations
 
@@ -17,7 +17,7 @@ WIDTHS = ((320, 640), (375, 812), (768, 1024), (1280, 720), (1920, 1080))
 PHONE = 500
 # What Tab has to reach: by an id, by what a button does, or by what it is.
 REACHED = {"timeline", "home", "next", "cycle", "keys", "a word", "lines"}
-NAMED = ("button", "slider", "combobox", "spinbutton", "checkbox", "heading", "region", "navigation", "table", "article")
+NAMED = ("button", "slider", "spinbutton", "checkbox", "heading", "region", "navigation", "table")
 # The roles of which a page may have none.
 SPARE = ("article", "combobox")
 LANDMARKS = ("main", "banner", "contentinfo")
@@ -31,7 +31,8 @@ TURNS = "TURNS.map((it) => [it.slot, it.outcome, it.fault, it.fetch, it.address]
 CUT = """[...document.querySelectorAll('button, select')].filter((it) => it.offsetParent && it.textContent
   && it.scrollWidth > it.clientWidth + 2).map((it) => it.textContent)"""
 # Keys, one after the other; `+` before a key is Shift.
-KEYS = ("End", "ArrowLeft", "Home", "ArrowRight", "ArrowRight", "ArrowRight", "ArrowDown", "ArrowUp", "PageDown", "PageUp")
+KEYS = ("End", "ArrowLeft", "Home", "ArrowRight", "ArrowRight", "ArrowRight", "ArrowDown", "ArrowUp")
+KEYS += ("PageDown", "PageUp")
 KEYS += ("+ArrowRight", "+ArrowRight", "+ArrowLeft", "f", "e", "b", "a", "f", "e", "b", "a", "+f", "+e", "+b", "+a")
 Test = Callable[[Turn], bool]
 
@@ -85,7 +86,9 @@ class Cursor:
 class Page:
     """A page in a browser, with the run that it shows: the image, and the words for its schedule."""
 
-    def __init__(self, browser: Browser, program: Program, built: Built, order: Sequence[str], path: str, name: str) -> None:
+    def __init__(
+        self, browser: Browser, program: Program, built: Built, order: Sequence[str], path: str, name: str
+    ) -> None:
         self.browser, self.program, self.built, self.order = browser, program, built, list(order)
         self.path, self.name = path, name
         self.wrong: list[str] = []
@@ -198,8 +201,9 @@ class Page:
                 role, name = (node.get(key, {}).get("value", "") for key in ("role", "name"))
                 roles.setdefault(role, []).append(name)
         for role in NAMED:
-            if role not in SPARE and role not in roles:
+            if role not in roles:
                 self.fail(f"there is no {role}")
+        for role in (*NAMED, *SPARE):
             if any(not name.strip() for name in roles.get(role, [])):
                 self.fail(f"a {role} has no name")
         for role in LANDMARKS:
@@ -254,7 +258,7 @@ CARD = '.card[data-slot="1"]'
 
 
 def follow_gate_lesson(page: Page) -> None:
-    """The lesson on gates, followed on the page alone: each thing that it tells to look at is seen there, by keys and a click."""
+    """The lesson on gates, followed on the page alone: each thing that it tells to look at is seen there."""
 
     def register(name: str) -> str:
         return f'{CARD} tr[data-register="{name}"]'
@@ -268,7 +272,8 @@ def follow_gate_lesson(page: Page) -> None:
     page.shows("#turn", ["jal r6, r5", "enters gate at door", "in cons"])
     page.shows(register("r5"), ["eu 2^6", "door"])
     click("r5")
-    page.shows(f"{CARD} .fields", ["0101", "5: enter-user (eu)", "2^6 = 64 bytes", "0x1000c8 = base + 8", "0x1000c0 gate"])
+    fields = ["0101", "5: enter-user (eu)", "2^6 = 64 bytes", "0x1000c8 = base + 8", "0x1000c0 gate"]
+    page.shows(f"{CARD} .fields", fields)
     click("r5")
     for shown in GATE_TURNS:
         page.browser.key("ArrowRight", shift=True)

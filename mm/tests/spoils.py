@@ -1,4 +1,4 @@
-"""Ways to spoil a page of `mm view`, each of which `.ci/view` has to find: in its data, in what it says, in how it is used."""
+"""Ways to spoil a page of `mm view`, each of which `.ci/view` has to find: in its data, in what it says, in its use."""
 
 from __future__ import annotations
 

@@ -160,7 +160,8 @@ def _lines_of_file(path: str) -> list[str]:
 
 
 def from_c(text: SourceText, places: Mapping[str, int]) -> Json:
-    """From which line of a source on it was made of which line of C: that file's place among the sources, and the line's number."""
+    """From which line of a source on it was made of which line of C: that file's place among the sources, and the
+    line's number."""
     notes = text.notes
     if notes is None:
         return []
