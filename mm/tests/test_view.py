@@ -12,6 +12,7 @@ from mm.log.taken import QUIET_TURNS, Window, cut_quiet, fill
 from mm.outputs.report import Report, SlotState
 from mm.machine.words import Word
 from mm.tests.pages import pages
+from mm.tests.spoils import QUEUES, SPOILS, spoiled_pages
 from mm.tests.support import folder, mm, needs_log, path_of, read, write
 from mm.tests.test_log import CHANGES, LOG, small_image
 from mm.log.changes import read_change
@@ -183,6 +184,14 @@ class Links(unittest.TestCase):
     def test_every_page_is_listed(self):
         listed = re.findall(r"\]\((\w+)\.html\)", read("docs", "view", "README.md"))
         self.assertEqual(sorted(listed), sorted(pages()))
+
+
+class Spoiled(unittest.TestCase):
+    def test_each_spoil_changes_its_page(self):
+        for name, spoils in (("counter", SPOILS), ("server", QUEUES)):
+            page = read("docs", "view", f"{name}.html")
+            for said, spoiled in spoiled_pages(page, spoils):
+                self.assertNotEqual(spoiled, page, said)
 
 
 @needs_log
