@@ -4,14 +4,17 @@ reader is told, and whether it fits windows of all sizes. `.ci/view` does this w
 from __future__ import annotations
 
 import os
+from itertools import zip_longest
 from typing import Any, Callable, Optional, Sequence
 
 from mm.build import Built
+from mm.formats.schedule import read_schedule
 from mm.machine.program import Program
 from mm.outputs.report import read_report
-from mm.outputs.trace import Turn, read_turn
+from mm.outputs.trace import Turn, numbered, read_turn
 from mm.tests.browser import Browser
 from mm.tests.seen import Seen
+from mm.tests.support import read_bytes
 
 WIDTHS = ((320, 640), (375, 812), (768, 1024), (1280, 720), (1920, 1080))
 PHONE = 500
@@ -27,7 +30,10 @@ FOCUS = """(() => {
   return [it.dataset.key && 'a word' || it.id || it.dataset.go || it.className || it.tagName,
     (style.outlineStyle !== 'none' && parseFloat(style.outlineWidth) > 0) || style.boxShadow !== 'none'];
 })()"""
-TURNS = "TURNS.map((it) => [it.slot, it.outcome, it.fault, it.fetch, it.address])"
+TURNS = """TURNS.map((it) => [it.cycle, it.slot, it.number, it.outcome, it.fault, it.fetch, it.access, it.address,
+  it.entered])"""
+# Of a run of so many turns each is looked at, of a longer one each tenth.
+EACH_TURN = 80
 CUT = """[...document.querySelectorAll('button, select')].filter((it) => it.offsetParent && it.textContent
   && it.scrollWidth > it.clientWidth + 2).map((it) => it.textContent)"""
 # Keys, one after the other; `+` before a key is Shift.
@@ -83,6 +89,14 @@ class Cursor:
         return max(0, min(count, place + steps[key]))
 
 
+def turn_form(cycle: int, turn: Turn) -> list[Any]:
+    """A turn of a trace as a page has it."""
+    number = turn.number if turn.delivered is None else turn.delivered
+    places = [-1 if at is None else at for at in (turn.fetch, turn.address)]
+    entered = str(turn.entered) if turn.entered else None
+    return [cycle, turn.slot, number, turn.outcome, turn.fault or 0, places[0], turn.access, places[1], entered]
+
+
 class Page:
     """A page in a browser, with the run that it shows: the image, and the words for its schedule."""
 
@@ -112,10 +126,11 @@ class Page:
     def count(self) -> int:
         return int(self.browser.run("TURNS.length"))
 
-    def walk(self, every: int = 10) -> None:
-        """Each so many turns, and the end; and that its turns are those of the trace."""
+    def walk(self) -> None:
+        """Each turn, of long runs each tenth, and the end; and that its turns are those of the trace."""
         self.compare_turns()
         self.browser.run("document.querySelectorAll('details').forEach((it) => { it.open = true; })")
+        every = 1 if self.count <= EACH_TURN else 10
         for place in [*range(0, self.count, every), self.count]:
             self.go(place)
             self.compare(place)
@@ -123,13 +138,15 @@ class Page:
 
     def compare_turns(self) -> None:
         words = ["trace", self.built.path, str(self.browser.run("RUN.last")), *self.order]
-        self.turns = [turn for turn in map(read_turn, self.program.run(words).text.splitlines()) if turn]
-        wanted = [
-            [turn.slot, turn.outcome, turn.fault or 0, *(-1 if at is None else at for at in (turn.fetch, turn.address))]
-            for turn in self.turns
-        ]
-        if self.browser.run(TURNS) != wanted:
-            self.fail("its turns are not those of the trace")
+        turns = filter(None, map(read_turn, self.program.run(words).text.splitlines()))
+        schedule = read_schedule(read_bytes(self.order[0])) if self.order else None
+        cycles = list(numbered(turns, schedule))
+        self.turns = [turn for _, turn in cycles]
+        wanted = [turn_form(cycle, turn) for cycle, turn in cycles]
+        shown = self.browser.run(TURNS)
+        for place, (one, other) in enumerate(zip_longest(shown, wanted), 1):
+            if one != other:
+                return self.fail(f"turn {place} is {one}, and of the trace {other}")
 
     def compare(self, place: int) -> None:
         """What is shown at a place, against the report there."""
@@ -220,6 +237,7 @@ class Page:
     def sizes(self, pictures: Optional[str]) -> None:
         """In windows of all sizes, light and dark, nothing is wider than the window, and no button is cut."""
         self.go(min(self.count, 12))
+        self.browser.run("document.activeElement.blur(); scrollTo(0, 0)")
         for dark in (False, True):
             for width, height in WIDTHS:
                 phone = width < PHONE

@@ -82,6 +82,7 @@ function buildMemory() {
     part.touch = title[title.length - 1];
     const table = el("table", { class: "cells" },
       el("caption", { class: "unseen" }, region ? region.name : `page ${hex(page)}`),
+      el("colgroup", {}, ["place", "bit", "word"].map((name) => el("col", { class: name }))),
       el("thead", { class: "unseen" }, el("tr", {},
         ["place", "bit", "word"].map((text) => el("th", { scope: "col" }, text)))), part.body);
     if (!code && addresses.length <= LONG) {

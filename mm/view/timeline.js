@@ -134,7 +134,7 @@ const timeline = {
     this.lane = Math.round(size * (lanes <= 4 ? 2.7 : lanes <= 8 ? 2.1 : lanes <= 16 ? 1.6 : 1.2));
     this.axis = Math.round(size * 1.5);
     this.width = byId("timeline").clientWidth;
-    if (!this.zoomed) this.box = Math.min(2.1 * size, Math.max(1.25 * size, this.width / Math.max(1, TURNS.length)));
+    if (!this.zoomed) this.box = Math.min(2.1 * size, Math.max(1.35 * size, this.width / Math.max(1, TURNS.length)));
     byId("lane-names").querySelectorAll("li").forEach((item) => { item.style.height = `${this.lane}px`; });
   },
 
@@ -195,7 +195,7 @@ const timeline = {
     drawOutcome(pen, turn.outcome, code, x, y, width, height);
     pen.textAlign = "center";
     pen.textBaseline = "middle";
-    const mark = markOf(turn), size = Math.min(this.letters * 0.85, width * (mark.length > 1 ? 0.68 : 1.1),
+    const mark = markOf(turn), size = Math.min(this.letters * 0.85, width * (mark.length > 1 ? 0.56 : 1.1),
       height * 0.8);
     if (mark && size >= 8) {
       pen.font = `600 ${size}px ${FONT}`;
@@ -253,13 +253,15 @@ const timeline = {
     if (!this.overview || this.overview.width !== width) this.overview = this.paintOverview(width, height);
     const pen = prepare(byId("whole"), width, height), each = width / TURNS.length;
     pen.drawImage(this.overview, 0, 0, width, height);
-    pen.fillStyle = colours["accent-soft"];
-    pen.globalAlpha = 0.55;
-    pen.fillRect(this.first * each, 0, Math.max(3, this.shown * each), height);
+    const left = this.first * each, wide = Math.max(3, this.shown * each);
+    pen.fillStyle = colours.pane;
+    pen.globalAlpha = 0.6;
+    pen.fillRect(0, 0, left, height);
+    pen.fillRect(left + wide, 0, width - left - wide, height);
     pen.globalAlpha = 1;
     pen.strokeStyle = colours.accent;
     pen.lineWidth = 1.5;
-    pen.strokeRect(this.first * each + 0.75, 0.75, Math.max(3, this.shown * each) - 1.5, height - 1.5);
+    pen.strokeRect(left + 0.75, 0.75, wide - 1.5, height - 1.5);
     pen.fillStyle = colours.accent;
     pen.fillRect(Math.max(0, (this.place - 0.5) * each - 1), 0, 2.5, height);
   },
