@@ -32,8 +32,8 @@ function deeds(turn, before) {
     const cell = before.cell(turn.address), place = showAddress(turn.address);
     if (turn.access === "store") said.push(`stores to ${place}`);
     else {
-      const how = turn.access === "load" ? "loads" : "loads, and sets the bit of,";
-      said.push(`${how} ${place}${cell ? `: ${wordText(cell[0])}` : ""}`);
+      const bit = turn.access === "load" ? "" : ", and sets its bit";
+      said.push(`loads ${place}${bit}${cell ? `: ${wordText(cell[0])}` : ""}`);
     }
   }
   for (const [kind, a, b, c] of turn.changes) {
