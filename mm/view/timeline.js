@@ -183,14 +183,14 @@ const timeline = {
     pen.fillStyle = colours.accent;
     if (this.place) {
       pen.fillRect(x, this.height - 3, this.box, 3);
-      pen.fillRect(x, 0, this.box, 3);
+      pen.fillRect(x, 0, this.box, 2);
     } else pen.fillRect(-this.first * this.box, 0, 4, this.height);
   },
 
   drawTurn(pen, at) {
     const turn = TURNS[at], code = codeOf(RAN[at]), gap = this.box > 6 ? 1.5 : this.box > 3 ? 0.5 : 0;
     const x = (at - this.first) * this.box + gap, width = this.box - 2 * gap;
-    const top = SLOTS.indexOf(turn.slot) * this.lane, above = Math.round(this.lane * 0.24);
+    const top = SLOTS.indexOf(turn.slot) * this.lane, above = Math.round(this.lane * 0.27);
     const y = top + above, height = this.lane - above - 4;
     drawOutcome(pen, turn.outcome, code, x, y, width, height);
     pen.textAlign = "center";
@@ -204,9 +204,10 @@ const timeline = {
     }
     if (turn.entered) this.drawEntry(pen, x + width / 2, y - 1);
     if (turn.fault && width > 5) {
-      pen.font = `700 ${Math.min(above * 0.95, this.letters * 0.75)}px ${FONT}`;
+      const high = Math.min(above * 0.85, this.letters * 0.75);
+      pen.font = `700 ${high}px ${FONT}`;
       pen.fillStyle = colours.ink;
-      pen.fillText(turn.fault, x + width / 2, top + above / 2 + 1);
+      pen.fillText(turn.fault, x + width / 2, top + above - high / 2);
     }
     if (at === this.place - 1) {
       pen.strokeStyle = colours.accent;
