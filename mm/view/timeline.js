@@ -200,7 +200,7 @@ const timeline = {
     if (mark && size >= 8) {
       pen.font = `600 ${size}px ${FONT}`;
       pen.fillStyle = turn.outcome === "blocked" ? colours.ink : colours["on-tint"];
-      pen.fillText(mark, x + width / 2, y + height / 2 + 1);
+      pen.fillText(mark, x + width / 2, y + height / 2 + (code.kind === "gate" ? 3 : 1));
     }
     if (turn.entered) this.drawEntry(pen, x + width / 2, y - 1);
     if (turn.fault && width > 5) {
