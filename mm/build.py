@@ -25,7 +25,8 @@ from mm.status import Status, Stop
 
 MOST_ERRORS = 20
 C_SUFFIX = ".c"
-OUR_SUFFIXES = (".asm", ".obj", ".img", ".mms", ".schedule", ".links", ".events")
+NET_SUFFIXES = (".links", ".events")
+OUR_SUFFIXES = (".asm", ".obj", ".img", ".mms", ".schedule", *NET_SUFFIXES)
 
 
 class Refused(Stop):
@@ -204,6 +205,7 @@ class Workshop:
     def build(self, names: Sequence[str], others: Sequence[str] = ()) -> Built:
         """The image of files: an image as it is, or sources and objects linked. `others` are files that an image's names are taken from."""
         datas = [read_file(name) for name in names]
+        refuse_nets(names, datas)
         datas = self._translated(names, datas)
         kinds = [FileKind.of(data) for data in datas]
         if FileKind.IMAGE in kinds:
@@ -260,6 +262,18 @@ class Workshop:
             return
         if made.data == built.data:
             built.symbols, built.units, built.placed = made.symbols, made.units, made.placed
+
+
+def refuse_nets(names: Sequence[str], datas: Sequence[bytes]) -> None:
+    """Refuses the links and events of a net where one machine is wanted."""
+    for name, data in zip(names, datas):
+        if name.endswith(NET_SUFFIXES) and FileKind.of(data) is FileKind.TEXT:
+            message = "this is a text for a net, and here one machine is wanted"
+            hints = [
+                "`mm net LINKS EVENTS FILE..` runs a net, and tells what comes of each node",
+                "pages, traces, waves and the debugger show one machine: give them the file of one node, which then runs without the others",
+            ]
+            raise Refused(Status.USAGE, [Diagnostic(name, message, hints=hints)])
 
 
 def give_names(built: Built, units: Sequence[Unit]) -> None:

@@ -59,8 +59,8 @@ class GateCall:
         text = self.speller.at(Memory(self.built.image), turn.fetch or 0).replace(", any, keep", "")
         picture.rect(x, y + 2, wide, ROW - 4, code.tint if code else "field", rx=4)
         if inside:
-            picture.rect(x, y + 5, wide, 2.5, "on-tint")
-        picture.text(x + 8, y + ROW / 2 + 5, text, 14, "on-tint", bold=True)
+            picture.rect(x, y + 4, wide, 2.5, "on-tint")
+        picture.text(x + 8, y + ROW / 2 + (8 if inside else 5), text, 14, "on-tint", bold=True)
         said = self.changed(cycle, turn) or (f"stores to {self.built.symbols.show(turn.address)}"
             if turn.access == "store" and turn.address else "")
         picture.text(MARGIN + 232, y + ROW / 2 + 5, said, 13)

@@ -82,7 +82,9 @@ class Reach:
         picture.arrow(x, y + HIGH, across, to_y)
         part = 0.5 if to_y - y < APART * 1.5 else 0.25
         at_x, at_y = x + (across - x) * part, y + HIGH + (to_y - y - HIGH) * part
-        picture.text(at_x + 7, at_y + 4, name.strip(), 13, "accent", "start", True)
+        # The name stands on the side from which the arrow turns away.
+        beside = 8 if across < x else -8 if across > x else 0
+        picture.text(at_x + 7, at_y + 4 + beside, name.strip(), 13, "accent", "start", True)
 
 
 def draw(built: Built, title: str) -> Picture:

@@ -27,7 +27,7 @@ FLAGS = (
     "--hide-scrollbars",
     "--force-color-profile=srgb",
 )
-SECONDS = 30
+SECONDS = 120
 
 
 def find_browser() -> Optional[str]:
@@ -44,11 +44,11 @@ class Browser:
     """A running browser with one page."""
 
     def __init__(self, path: str) -> None:
-        self.room = tempfile.TemporaryDirectory(prefix="mm-browser-")
+        self.room = tempfile.mkdtemp(prefix="mm-browser-")
         there, self.to = os.pipe()
         self.back, back = os.pipe()
         sandbox = ["--no-sandbox"] if os.geteuid() == 0 else []
-        words = [path, *FLAGS, *sandbox, f"--user-data-dir={self.room.name}", "about:blank"]
+        words = [path, *FLAGS, *sandbox, f"--user-data-dir={self.room}", "about:blank"]
         # The browser reads from descriptor 3 and writes to 4.
         script = f'exec "$@" 3<&{there} 4>&{back}'
         self.process = subprocess.Popen(
@@ -65,6 +65,13 @@ class Browser:
         self.complaints: list[str] = []
         # What pages asked for.
         self.asked: list[str] = []
+        try:
+            self._attach()
+        except Failed:
+            self.close()
+            raise
+
+    def _attach(self) -> None:
         target = self.call("Target.createTarget", url="about:blank")["targetId"]
         self.session = self.call("Target.attachToTarget", targetId=target, flatten=True)["sessionId"]
         for domain in ("Page", "Runtime", "Log", "Network", "Accessibility"):
@@ -80,18 +87,18 @@ class Browser:
         try:
             self.session = ""
             self.call("Browser.close")
-            self.process.wait(10)
+            self.process.wait(SECONDS)
         except (Failed, OSError, subprocess.TimeoutExpired):
             self.process.kill()
             self.process.wait()
         os.close(self.to)
         os.close(self.back)
-        self.room.cleanup()
+        shutil.rmtree(self.room, ignore_errors=True)
 
     def _message(self, until: float) -> Any:
         while b"\0" not in self.rest:
             if not select.select([self.back], [], [], max(0, until - time.monotonic()))[0]:
-                raise Failed(f"no answer in {SECONDS} seconds")
+                raise Failed(f"the browser gives no answer in {SECONDS} seconds")
             more = os.read(self.back, 1 << 16)
             if not more:
                 raise Failed("the browser has ended")

@@ -9,6 +9,7 @@ from mm.machine.causes import Cause
 from mm.machine.words import Cell, Word
 from mm.names.numbers import counted
 from mm.outputs.report import Report, SlotState
+from mm.outputs.trace import Turn
 from mm.tests.browser import Browser
 from mm.views.spell import Memory, Speller, bytes_as_text
 
@@ -23,7 +24,9 @@ READ = """(() => {
     slots: all(document, '.card').map((card) => ({ slot: Number(card.dataset.slot), state: text(all(card, '.state')[1]), words: rows(card), pending: text(card.querySelector('.pending')) })),
     cells: all(document, '.cells tr[data-address]').map((row) => [Number(row.dataset.address), text(row.cells[1]), text(row.cells[2])]),
     outputs: all(document, '.group-out').map((group) => [Number(group.dataset.group), group.querySelector('.text') ? group.querySelector('.text').textContent : '""']),
-    queues: all(document, '#events > div').map((queue) => [Number(queue.dataset.queue), queue.querySelectorAll('li').length]),
+    queues: all(document, '#events > div').map((queue) => [Number(queue.dataset.queue), all(queue, 'li').map(text)]),
+    turn: text(document.getElementById('turn')),
+    line: text(document.querySelector('#lines li.now')),
   };
 })()"""
 STATES = {"waiting": "faulted, waits for its handler", "taken": "faulted, its handler has it"}
@@ -49,6 +52,50 @@ class Seen:
         outputs = [[group, bytes_as_text(data)] for group, data in report.outputs.items()]
         if sorted(self.shown["outputs"]) != outputs:
             yield f"outputs: {self.shown['outputs']} and not {outputs}"
+        yield from self._queues(report)
+
+    def _queues(self, report: Report) -> Iterator[str]:
+        """The queue of a handler has an event of each slot that waits for it."""
+        handlers = {slot.number: slot.handler for slot in self.image.slots}
+        wanted: dict[int, set[str]] = {handler: set() for handler in handlers.values() if handler in handlers}
+        for slot in report.slots:
+            if slot.state == "waiting":
+                wanted[handlers[slot.number]].add(f"slot {slot.number}")
+        shown = {handler: {event.split(",")[0] for event in events} for handler, events in self.shown["queues"]}
+        if shown != wanted:
+            yield f"queues: {shown} and not {wanted}"
+
+    def turn_differences(self, cycle: int, turn: Optional[Turn]) -> Iterator[str]:
+        """What is said otherwise of a turn than the trace has it: who took it, where, and its line."""
+        if turn is None:
+            return
+        wanted = [f"Cycle {cycle}: slot {turn.slot}, its turn {turn.number}"]
+        if turn.delivered is not None:
+            wanted = [f"Cycle {cycle}: the port of slot {turn.slot}", f"a load arrives in r{turn.delivered}"]
+        if turn.fetch is not None:
+            wanted.append(f"at {self.speller.symbols.show(turn.fetch)}")
+        if turn.fault:
+            wanted.append(f"fault {turn.fault} {Cause.of_number(turn.fault).title}")
+        for words in wanted:
+            if words not in self.shown["turn"]:
+                yield f"the turn does not say {words!r} but {self.shown['turn'][:200]!r}"
+        if f"Cycle {cycle}, slot {turn.slot}" not in self.shown["said"]:
+            yield f"a screen reader is told {self.shown['said']!r}"
+        yield from self._line(turn)
+
+    def _line(self, turn: Turn) -> Iterator[str]:
+        """The line that is marked in the source."""
+        symbols, address = self.speller.symbols, turn.fetch
+        origin = symbols.origin(address) if address is not None else None
+        if address is None or origin is None:
+            return
+        made = symbols.c_line(address)
+        text = made.text if made and made.text else origin.text
+        number = made.line if made and made.text else origin.line
+        shown = "".join((self.shown["line"] or "").split())
+        # Between the number and the text stand the slots that are there.
+        if not (shown.startswith(str(number)) and shown.endswith("".join(text.split()))):
+            yield f"the marked line is {self.shown['line']!r} and not {number}: {text!r}"
 
     def _slots(self, report: Report) -> Iterator[str]:
         cards = {card["slot"]: card for card in self.shown["slots"]}

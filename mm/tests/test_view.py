@@ -11,7 +11,9 @@ from mm.log.replay import Machine
 from mm.log.taken import QUIET_TURNS, Window, cut_quiet, fill
 from mm.outputs.report import Report, SlotState
 from mm.machine.words import Word
-from mm.tests.support import folder, mm, needs_log, read, write
+from mm.tests.pages import pages
+from mm.tests.spoils import QUEUES, SPOILS, spoiled_pages
+from mm.tests.support import folder, mm, needs_log, path_of, read, write
 from mm.tests.test_log import CHANGES, LOG, small_image
 from mm.log.changes import read_change
 from mm.view.data import change_form, machine_form, step_form
@@ -160,6 +162,38 @@ class Colours(unittest.TestCase):
                         )
 
 
+class Links(unittest.TestCase):
+    """Each lesson and each example leads to the page of its run."""
+
+    def documents(self):
+        for folder in ("examples", os.path.join("examples", "c"), os.path.join("docs", "course")):
+            for name in sorted(os.listdir(path_of(folder))):
+                if name.endswith(".md") and name != "README.md":
+                    yield os.path.join(folder, name)
+
+    def test_every_document_has_its_page(self):
+        linked = set()
+        for document in self.documents():
+            found = re.findall(r"\]\(((?:\.\./)+(?:docs/)?view/(\w+)\.html)\)", read(document))
+            self.assertTrue(found, f"{document} links to no page of its run")
+            for path, name in found:
+                self.assertTrue(os.path.exists(path_of(os.path.dirname(document), path)), f"{document}: {path}")
+                linked.add(name)
+        self.assertEqual(linked, set(pages()))
+
+    def test_every_page_is_listed(self):
+        listed = re.findall(r"\]\((\w+)\.html\)", read("docs", "view", "README.md"))
+        self.assertEqual(sorted(listed), sorted(pages()))
+
+
+class Spoiled(unittest.TestCase):
+    def test_each_spoil_changes_its_page(self):
+        for name, spoils in (("counter", SPOILS), ("server", QUEUES)):
+            page = read("docs", "view", f"{name}.html")
+            for said, spoiled in spoiled_pages(page, spoils):
+                self.assertNotEqual(spoiled, page, said)
+
+
 @needs_log
 class Command(unittest.TestCase):
     def test_counter(self):
@@ -195,6 +229,18 @@ class Command(unittest.TestCase):
         with folder() as room:
             path = os.path.join(room, "there", "page.html")
             self.assertEqual(mm("view", "examples/hello.asm", "-o", path).status, 4)
+        net = mm("view", "examples/nodes.links", "examples/nodes.events", "examples/ask.asm", "examples/answer.asm")
+        self.assertEqual((net.status, net.out), (1, ""))
+        self.assertIn("this is a text for a net, and here one machine is wanted", net.err)
+
+    def test_lines_of_c(self):
+        data = data_of(mm("view", "examples/c/overflow.asm").out)
+        source, *files = data["names"]["sources"]
+        self.assertEqual([file["path"] for file in files], ["examples/c/overflow.c", "examples/c/say.h"])
+        self.assertEqual(files[0]["lines"], read("examples", "c", "overflow.c").splitlines())
+        made = [mark for mark in source["from"] if len(mark) == 3]
+        self.assertIn("name[i] = from[i];", {files[place - 1]["lines"][line - 1].strip() for _, place, line in made})
+        self.assertNotIn("c", source)
 
 
 if __name__ == "__main__":

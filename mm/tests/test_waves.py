@@ -3,11 +3,16 @@
 import re
 import unittest
 
+from mm.build import Workshop
 from mm.log.read import read_log
 from mm.log.replay import Machine
-from mm.tests.support import mm, needs_log
+from mm.machine.program import find_program
+from mm.machine.words import Word
+from mm.outputs.report import read_report
+from mm.tests.pages import prepared
+from mm.tests.support import folder, mm, needs_log, path_of
 from mm.tests.test_log import LOG, small_image
-from mm.waves.vcd import Dump, dump, short_name
+from mm.waves.vcd import STATES, Dump, dump, short_name
 
 VAR = re.compile(r"\$var wire (\d+) (\S+) (\w+)(?: \[(\d+):0\])? \$end")
 
@@ -54,6 +59,34 @@ def values_of(machine, step):
     return {f"machine.{scope}.{name}": value for scope in made.scopes() for name, _, value in made.of(scope, step)}
 
 
+# The words of `mm vcd` whose dumps are compared with reports: gates and outputs, a handler with its queue, loads that arrive later, faults.
+REPORTED = (
+    ["examples/counter.asm", "--schedule", "examples/counter.schedule"],
+    ["examples/letterbox.asm", "--schedule", "examples/letterbox.schedule"],
+    ["examples/kernel.asm", "--schedule", "examples/kernel.schedule"],
+    ["examples/server.asm"],
+    ["examples/faults.asm"],
+    ["split", "--schedule", "examples/split.schedule"],
+)
+
+
+def values_reported(report):
+    """What a dump has to say of a report: of each slot and each group, the values by their names."""
+    found = {}
+    for slot in report.slots:
+        scope, ip = f"machine.slot{slot.number}.", slot.ip.pointer
+        found |= {scope + "ip": ip.address, scope + "privileged": int(ip.permission.short == "xp")}
+        found |= {scope + "past": int(slot.past), scope + "fault": slot.fault or 0, scope + "pending": len(slot.pending)}
+        found[scope + "state"] = STATES.index(slot.state)
+        for number in range(16):
+            word = slot.registers.get(number, Word(0))
+            found[f"{scope}r{number}"] = None if word is None else word.bits
+            found[f"{scope}r{number}_tag"] = None if word is None else int(word.tagged)
+    for group, data in report.outputs.items():
+        found |= {f"machine.group{group}.bytes": len(data), f"machine.group{group}.last": data[-1] if data else None}
+    return found
+
+
 class Waves(unittest.TestCase):
     def test_short_names(self):
         names = [short_name(number) for number in range(20_000)]
@@ -82,6 +115,25 @@ class Waves(unittest.TestCase):
         self.assertEqual(late[1][1], whole[5][1])
         after = list(Reader(list(dump(Machine(small_image()), iter(steps), 50, "a test"))).moments)
         self.assertEqual([time for time, _ in after], [49, 50])
+
+    @needs_log
+    def test_reports(self):
+        """What a dump says at the end of a cycle is what `run` reports of as many cycles."""
+        for words in REPORTED:
+            with self.subTest(words=words), folder() as room:
+                self.compare(prepared(["split:examples/split.asm" if word == "split" else word for word in words], room))
+
+    def compare(self, words):
+        moments = dict(Reader(mm("vcd", *words).out.splitlines()).moments)
+        workshop = Workshop(find_program())
+        self.addCleanup(workshop.close)
+        image = workshop.build([path_of(words[0])]).path
+        order = [path_of(words[-1])] if "--schedule" in words else []
+        for cycle in range(max(moments) + 1):
+            values = moments[max(time for time in moments if time <= cycle)]
+            report = read_report(workshop.program.run(["run", image, str(cycle), *order]).text.splitlines())
+            wanted = values_reported(report)
+            self.assertEqual({name: values.get(name) for name in wanted}, wanted, f"{words[0]}, cycle {cycle}")
 
     @needs_log
     def test_command(self):

@@ -6,7 +6,7 @@ accesses are their places in `OUTCOMES` and `ACCESSES`, and a change begins with
 from __future__ import annotations
 
 import os
-from typing import Any, Optional, Sequence
+from typing import Any, Mapping, Optional, Sequence
 
 from mm.build import Built
 from mm.formats.image import PAGE_BYTES, PAGE_WORDS
@@ -30,6 +30,7 @@ from mm.machine.isa import OPERATIONS, Kind
 from mm.machine.words import Cell, Permission, Word
 from mm.names.symbols import Region, Symbols
 from mm.outputs.audit import Audit
+from mm.source.text import SourceText
 from mm.source.tokens import readable
 from mm.views.audit import AuditView
 from mm.views.spell import Memory, Speller
@@ -149,12 +150,43 @@ def region_form(region: Region, sources: Sequence[Json]) -> Json:
     }
 
 
+def _lines_of_file(path: str) -> list[str]:
+    """The lines of a file of C; none where it is not there any more."""
+    try:
+        with open(path, encoding="utf-8", errors="replace") as file:
+            return file.read().splitlines()
+    except OSError:
+        return []
+
+
+def from_c(text: SourceText, places: Mapping[str, int]) -> Json:
+    """From which line of a source on it was made of which line of C: that file's place among the sources, and the
+    line's number."""
+    notes = text.notes
+    if notes is None:
+        return []
+    return [
+        [start, places[line.path], line.line] if line and line.path in places else [start]
+        for start, line in zip(notes.starts, notes.lines)
+    ]
+
+
+def sources_form(symbols: Symbols) -> list[Json]:
+    """The sources, and after them the files of C that they were made of."""
+    texts = {region.source.path: region.source for region in symbols.regions if region.source}
+    named = {line.path for text in texts.values() if text.notes for line in text.notes.lines if line}
+    files = {path: lines for path in sorted(named) if (lines := _lines_of_file(path))}
+    places = {path: len(texts) + at for at, path in enumerate(files)}
+    made = [
+        {"path": path, "lines": [readable(line) for line in text.lines], "from": from_c(text, places)}
+        for path, text in sorted(texts.items())
+    ]
+    return made + [{"path": path, "lines": lines, "c": 1} for path, lines in files.items()]
+
+
 def names_form(symbols: Symbols) -> Json:
     """The names of addresses, and the sources."""
-    texts = {region.source.path: region.source for region in symbols.regions if region.source}
-    sources = [
-        {"path": path, "lines": [readable(line) for line in text.lines]} for path, text in sorted(texts.items())
-    ]
+    sources = sources_form(symbols)
     return {
         "regions": [region_form(region, sources) for region in symbols.regions],
         "labels": [[address, name] for address, name in zip(symbols.label_places, symbols.label_names)],

@@ -36,8 +36,14 @@ function gapRow(words) {
   return el("tr", { class: "gap" }, el("td", { colspan: 3 }, `… ${several(words, "word")} that nobody touches`));
 }
 
+// The name of a word in its segment; of a long one only how far it is from the segment's beginning.
+function placeIn(address) {
+  const name = showAddress(address), region = regionAt(address);
+  return region && name.length > 14 && name.startsWith(`${region.name}+`) ? name.slice(region.name.length) : name;
+}
+
 function memoryRow(address) {
-  const row = el("tr", { "data-address": address }, el("th", { scope: "row" }, showAddress(address)),
+  const row = el("tr", { "data-address": address }, el("th", { scope: "row" }, placeIn(address)),
     el("td", { class: "bit" }), el("td", { class: "value" }));
   memory.rows.set(address, { row, word: undefined, full: undefined });
   return row;
@@ -82,6 +88,7 @@ function buildMemory() {
     part.touch = title[title.length - 1];
     const table = el("table", { class: "cells" },
       el("caption", { class: "unseen" }, region ? region.name : `page ${hex(page)}`),
+      el("colgroup", {}, ["place", "bit", "word"].map((name) => el("col", { class: name }))),
       el("thead", { class: "unseen" }, el("tr", {},
         ["place", "bit", "word"].map((text) => el("th", { scope: "col" }, text)))), part.body);
     if (!code && addresses.length <= LONG) {

@@ -11,7 +11,8 @@ function showOutputs(place, now) {
     const last = (list, join) => (isNew ? [list.slice(0, -1).join(join) + (list.length > 1 ? join : ""),
       el("mark", {}, list[list.length - 1])] : [list.join(join)]);
     return el("div", { class: "group-out", "data-group": group, "data-bytes": length },
-      el("h3", {}, `group ${group} `, el("span", { class: "soft" }, length ? several(length, "byte") : "nothing yet")),
+      el("h3", {}, `group ${group}`, el("span", { class: "unseen" }, ":"), " ",
+        el("span", { class: "soft" }, length ? several(length, "byte") : "nothing yet")),
       length ? el("p", { class: "text" }, from ? "… " : "", '"', ...last(letters, ""), '"') : null,
       length ? el("p", { class: "raw" }, ...last(digits, " ")) : null);
   }));
@@ -24,8 +25,8 @@ function showQueues(now) {
   byId("events").replaceChildren(...HANDLERS.map((handler) => {
     const { queue } = now.slots.get(handler);
     return el("div", { "data-queue": handler, "data-length": queue.length },
-      el("h3", {}, `slot ${handler} `, el("span", { class: "soft" }, queue.length ? several(queue.length, "event")
-        : "no event")),
+      el("h3", {}, `slot ${handler}`, el("span", { class: "unseen" }, ":"), " ",
+        el("span", { class: "soft" }, queue.length ? several(queue.length, "event") : "no event")),
       queue.length ? el("ol", {}, queue.map(([slot, cause, ip, address, data]) => el("li", {},
         `slot ${slot}, ${causeText(cause)} at ${showAddress(pointerOf(ip).address)}`,
         el("span", { class: "soft" }, ` (operands ${wordText(address)} and ${wordText(data)})`)))) : null);

@@ -134,7 +134,7 @@ const timeline = {
     this.lane = Math.round(size * (lanes <= 4 ? 2.7 : lanes <= 8 ? 2.1 : lanes <= 16 ? 1.6 : 1.2));
     this.axis = Math.round(size * 1.5);
     this.width = byId("timeline").clientWidth;
-    if (!this.zoomed) this.box = Math.min(2.1 * size, Math.max(1.25 * size, this.width / Math.max(1, TURNS.length)));
+    if (!this.zoomed) this.box = Math.min(2.1 * size, Math.max(1.35 * size, this.width / Math.max(1, TURNS.length)));
     byId("lane-names").querySelectorAll("li").forEach((item) => { item.style.height = `${this.lane}px`; });
   },
 
@@ -183,30 +183,31 @@ const timeline = {
     pen.fillStyle = colours.accent;
     if (this.place) {
       pen.fillRect(x, this.height - 3, this.box, 3);
-      pen.fillRect(x, 0, this.box, 3);
+      pen.fillRect(x, 0, this.box, 2);
     } else pen.fillRect(-this.first * this.box, 0, 4, this.height);
   },
 
   drawTurn(pen, at) {
     const turn = TURNS[at], code = codeOf(RAN[at]), gap = this.box > 6 ? 1.5 : this.box > 3 ? 0.5 : 0;
     const x = (at - this.first) * this.box + gap, width = this.box - 2 * gap;
-    const top = SLOTS.indexOf(turn.slot) * this.lane, above = Math.round(this.lane * 0.24);
+    const top = SLOTS.indexOf(turn.slot) * this.lane, above = Math.round(this.lane * 0.27);
     const y = top + above, height = this.lane - above - 4;
     drawOutcome(pen, turn.outcome, code, x, y, width, height);
     pen.textAlign = "center";
     pen.textBaseline = "middle";
-    const mark = markOf(turn), size = Math.min(this.letters * 0.85, width * (mark.length > 1 ? 0.68 : 1.1),
+    const mark = markOf(turn), size = Math.min(this.letters * 0.85, width * (mark.length > 1 ? 0.56 : 1.1),
       height * 0.8);
     if (mark && size >= 8) {
       pen.font = `600 ${size}px ${FONT}`;
       pen.fillStyle = turn.outcome === "blocked" ? colours.ink : colours["on-tint"];
-      pen.fillText(mark, x + width / 2, y + height / 2 + 1);
+      pen.fillText(mark, x + width / 2, y + height / 2 + (code.kind === "gate" ? 3 : 1));
     }
     if (turn.entered) this.drawEntry(pen, x + width / 2, y - 1);
     if (turn.fault && width > 5) {
-      pen.font = `700 ${Math.min(above * 0.95, this.letters * 0.75)}px ${FONT}`;
+      const high = Math.min(above * 0.85, this.letters * 0.75);
+      pen.font = `700 ${high}px ${FONT}`;
       pen.fillStyle = colours.ink;
-      pen.fillText(turn.fault, x + width / 2, top + above / 2 + 1);
+      pen.fillText(turn.fault, x + width / 2, top + above - high / 2);
     }
     if (at === this.place - 1) {
       pen.strokeStyle = colours.accent;
@@ -253,13 +254,15 @@ const timeline = {
     if (!this.overview || this.overview.width !== width) this.overview = this.paintOverview(width, height);
     const pen = prepare(byId("whole"), width, height), each = width / TURNS.length;
     pen.drawImage(this.overview, 0, 0, width, height);
-    pen.fillStyle = colours["accent-soft"];
-    pen.globalAlpha = 0.55;
-    pen.fillRect(this.first * each, 0, Math.max(3, this.shown * each), height);
+    const left = this.first * each, wide = Math.max(3, this.shown * each);
+    pen.fillStyle = colours.pane;
+    pen.globalAlpha = 0.6;
+    pen.fillRect(0, 0, left, height);
+    pen.fillRect(left + wide, 0, width - left - wide, height);
     pen.globalAlpha = 1;
     pen.strokeStyle = colours.accent;
     pen.lineWidth = 1.5;
-    pen.strokeRect(this.first * each + 0.75, 0.75, Math.max(3, this.shown * each) - 1.5, height - 1.5);
+    pen.strokeRect(left + 0.75, 0.75, wide - 1.5, height - 1.5);
     pen.fillStyle = colours.accent;
     pen.fillRect(Math.max(0, (this.place - 0.5) * each - 1), 0, 2.5, height);
   },

@@ -32,8 +32,8 @@ function deeds(turn, before) {
     const cell = before.cell(turn.address), place = showAddress(turn.address);
     if (turn.access === "store") said.push(`stores to ${place}`);
     else {
-      const how = turn.access === "load" ? "loads" : "loads, and sets the bit of,";
-      said.push(`${how} ${place}${cell ? `: ${wordText(cell[0])}` : ""}`);
+      const bit = turn.access === "load" ? "" : ", and sets its bit";
+      said.push(`loads ${place}${bit}${cell ? `: ${wordText(cell[0])}` : ""}`);
     }
   }
   for (const [kind, a, b, c] of turn.changes) {
@@ -70,9 +70,9 @@ const cellText = ([word, full]) => wordText(word) + (full ? "" : ", empty");
 
 function placeText(turn) {
   if (turn.fetch < 0) return "";
-  const origin = originOf(turn.fetch);
-  const line = origin ? `: line ${origin.line} of ${RUN.names.sources[origin.source].path}` : "";
-  return `at ${showAddress(turn.fetch)}${line}`;
+  const origin = originOf(turn.fetch), made = origin && madeOf(origin);
+  const lines = [origin, made].filter(Boolean).map(lineText).join(", made of ");
+  return `at ${showAddress(turn.fetch)}${lines ? `: ${lines}` : ""}`;
 }
 
 function showTurn(place, before, now) {
@@ -116,9 +116,13 @@ function sayTurn(place, before) {
   return `Cycle ${turn.cycle}, slot ${turn.slot}${at}: ${[turnText(turn, before), ...more].join("; ")}`;
 }
 
-// The source: each line once, and marks at those where slots stand.
+// The source: each line once, and marks at those where slots stand. Where it was made of C, the lines of C are shown,
+// until another file is chosen.
 const HEAD = /^(\s*(?:[A-Za-z_]\w*:)?\s*)(\.?[A-Za-z_]\w*)?/;
-const source = { lists: [], shown: null, marked: [] };
+const source = { lists: [], shown: null, marked: [], low: false };
+
+const lineOfC = (text, at) => el("li", { "data-line": at + 1 }, el("span", { class: "number" }, `${at + 1}`),
+  el("span", { class: "stand" }), el("span", {}, text));
 
 function sourceLine(text, at) {
   const cut = text.indexOf(";"), code = cut < 0 ? text : text.slice(0, cut), [, label, head = ""] = HEAD.exec(code);
@@ -129,11 +133,19 @@ function sourceLine(text, at) {
 
 function buildSources() {
   const { sources } = RUN.names;
-  source.lists = sources.map(({ lines }) => el("ol", {}, lines.map(sourceLine)));
+  source.lists = sources.map(({ lines, c }) => el("ol", {}, lines.map(c ? lineOfC : sourceLine)));
   byId("file").replaceChildren(...sources.map(({ path }, at) => el("option", { value: at }, path)));
   byId("files").hidden = sources.length < 2;
   byId("source-title").textContent = sources.length === 1 ? sources[0].path : sources.length ? "Source" : "Code";
-  byId("file").addEventListener("change", () => openSource(Number(byId("file").value)));
+  byId("file").addEventListener("change", () => chooseSource(Number(byId("file").value)));
+}
+
+// Opens a file that somebody chose; from then on lines of C are shown, or lines of what was made of them.
+function chooseSource(at) {
+  source.low = !RUN.names.sources[at].c;
+  openSource(at);
+  render();
+  if (source.shown !== at) openSource(at);
 }
 
 function openSource(at) {
@@ -163,11 +175,17 @@ const standing = (machine, address) => [...machine.slots.values()].filter((slot)
   && Number(pointerOf(slot.ip).address) === address)
   .map((slot) => `s${slot.slot}`).join("");
 
+// The line that is shown for an address: of C if there is one and it is wanted, else of the source.
+function shownLine(address) {
+  const origin = originOf(address);
+  return (origin && !source.low && madeOf(origin)) || origin;
+}
+
 function showSource(place, now) {
   const turn = place ? TURNS[place - 1] : null;
   const fetch = turn && turn.fetch >= 0 ? turn.fetch
     : Number(pointerOf(now.slots.get(turn ? turn.slot : SLOTS[0]).ip).address);
-  const origin = originOf(fetch);
+  const origin = shownLine(fetch);
   if (!origin) return source.shown !== null && !turn ? null : listing(now, fetch);
   openSource(origin.source);
   source.marked.forEach((item) => {
@@ -186,7 +204,7 @@ function showSource(place, now) {
     source.marked.push(item);
   };
   for (const slot of now.slots.values()) {
-    const stands = originOf(Number(pointerOf(slot.ip).address));
+    const stands = shownLine(Number(pointerOf(slot.ip).address));
     if (stands) mark(stands, `s${slot.slot}`, false);
   }
   if (turn) mark(origin, "", true);
