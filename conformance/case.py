@@ -17,8 +17,8 @@ NUMBERS = {name: number for number, name in enumerate(CAUSES, 1)}
 
 @dataclass(frozen=True)
 class Case:
-    """An image, and how long it is run in which order: round robin where there is no schedule. `shows` are beginnings of lines
-    that its log must have, so that a case tests what its name says."""
+    """An image, and how long it is run in which order: round robin where there is no schedule. `shows` are beginnings
+    of lines that its log must have, so that a case tests what its name says."""
 
     name: str
     image: Image

@@ -11,8 +11,8 @@ TURNS = ("t ", "m ")
 
 
 def first_difference(log, text, counts):
-    """The place of the first line that differs and the line that came, or none where nothing does. The report is compared where there is
-    one, and its counts only where they are asked for."""
+    """The place of the first line that differs and the line that came, or none where nothing does. The report is
+    compared where there is one, and its counts only where they are asked for."""
     wanted, came = log.splitlines(), text.splitlines()
     if not any(line.startswith("cycles ") for line in came):
         wanted = wanted[: report_at(wanted)]
@@ -38,11 +38,16 @@ def told(case, log, at, came, in_full):
     head = f"{case.name}: line {at + 1} differs"
     if not in_full:
         return [head]
-    return [head, f"  wanted  {wanted or 'no more lines'}", f"  came    {'no more lines' if came is None else came}", *around(case, lines, at)]
+    return [
+        head,
+        f"  wanted  {wanted or 'no more lines'}",
+        f"  came    {'no more lines' if came is None else came}",
+        *around(case, lines, at),
+    ]
 
 
 def around(case, lines, at):
-    """The turn that a place of a log is in, its instruction with the registers that it names, and the turn before it."""
+    """The turn that a place of a log is in, its instruction with the registers that it names, and the turn before."""
     end = report_at(lines)
     starts = [place for place in range(min(at + 1, end)) if lines[place].startswith(TURNS)]
     if at >= end:
@@ -52,7 +57,8 @@ def around(case, lines, at):
         machine.carry_out(Step(read_turn(lines[start]), tuple(map(read_change, lines[start + 1 : stop]))))
     told = [f"  in      {lines[starts[-1]]}", *instruction_of(machine, read_turn(lines[starts[-1]]))]
     if len(starts) > 1:
-        told += [f"  after   {lines[starts[-2]]}", *(f"          {line}" for line in lines[starts[-2] + 1 : starts[-1]])]
+        told.append(f"  after   {lines[starts[-2]]}")
+        told += [f"          {line}" for line in lines[starts[-2] + 1 : starts[-1]]]
     return told
 
 
@@ -98,5 +104,7 @@ def text_of(word):
     if word is None:
         return "empty"
     found = word.pointer
-    return f"{word}  {found.permission.short}, 2^{found.log} bytes at {found.base:014x}, {found.address:014x}" if found else str(word)
+    if not found:
+        return str(word)
+    return f"{word}  {found.permission.short}, 2^{found.log} bytes from {found.base:014x}, at {found.address:014x}"
 

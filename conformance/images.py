@@ -110,7 +110,9 @@ class Slot:
         tags = sum(1 << number for number, word in enumerate(words) if isinstance(word, Pointer))
         group = self.number if self.group is None else self.group
         handler = NO_HANDLER if self.handler is None else self.handler
-        numbers = [(self.number, 1), (group, 1), (handler, 1), (int(self.halted), 1), (bits_of(self.entry), 8), (tags, 2)]
+        numbers = [
+            (self.number, 1), (group, 1), (handler, 1), (int(self.halted), 1), (bits_of(self.entry), 8), (tags, 2)
+        ]
         return spelled(numbers + [(bits_of(word), 8) for word in words])
 
 
@@ -134,8 +136,8 @@ def page_record(page, cells):
 
 @dataclass(frozen=True)
 class Image:
-    """A machine before its run. Mapped are the pages of all cells and code, and those of `pages`; there are as many frames
-    as mapped pages, and `spare` more, unless `frames` says how many."""
+    """A machine before its run. Mapped are the pages of all cells and code, and those of `pages`; there are as many
+    frames as mapped pages, and `spare` more, unless `frames` says how many."""
 
     slots: tuple[Slot, ...]
     cells: dict[int, Content] = field(default_factory=dict)

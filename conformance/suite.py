@@ -1,8 +1,8 @@
 """The suite: its cases, the files that they make, and the logs that are stored of them.
 
-The logs are kept as `mmachine log` writes them, theme by theme, in files of `logs/` that are compressed: lines of logs are much
-alike, and take a fortieth of their size so. A log is a text between two lines `== NAME KEY`, where KEY is a checksum of
-the case's image, schedule and cycles, so that a log of another image is seen to be one."""
+The logs are kept as `mmachine log` writes them, theme by theme, in files of `logs/` that are compressed: lines of
+logs are much alike, and take a fortieth of their size so. A log is a text between two lines `== NAME KEY`, where KEY
+is a checksum of the case's image, schedule and cycles, so that a log of another image is seen to be one."""
 
 import hashlib
 import importlib
@@ -43,7 +43,8 @@ def key_of(case, data):
 
 
 def write_case(case, folder):
-    """Writes the image and the schedule into a folder: the image's bytes, and the names of both; the last one is none in round robin."""
+    """Writes the image and the schedule into a folder: the image's bytes, and the names of both; the last one is none
+    in round robin."""
     data = case.image.data
     image = os.path.join(folder, f"{case.name}.img")
     with open(image, "wb") as file:
@@ -88,8 +89,8 @@ def all_stored():
 
 
 def turns_and_report(text):
-    """The lines of a log before its report, and those of its report without the counts of the cache. An implementation that
-    writes no report has none."""
+    """The lines of a log before its report, and those of its report without the counts of the cache. An implementation
+    that writes no report has none."""
     lines = text.splitlines()
     at = next((place for place, line in enumerate(lines) if line.startswith("cycles ")), len(lines))
     return lines[:at], lines[at:]

@@ -11,24 +11,59 @@ GIVEN = {
     "add": {"small": (2, 3), "carries-out": (MOST, 1), "into-the-sign": (HIGH - 1, 1), "two-signs": (HIGH, HIGH)},
     "sub": {"small": (5, 3), "borrows": (0, 1), "out-of-the-sign": (HIGH, 1), "itself": (MOST, MOST)},
     "mul": {"small": (6, 7), "wraps": (1 << 32, 1 << 32), "most": (MOST, MOST), "high-half-is-lost": (HIGH + 1, 3)},
-    "divu": {"small": (7, 2), "is-unsigned": (MOST, 2), "by-the-most": (MOST - 1, MOST), "by-one": (MOST, 1), "of-zero": (0, 5),
-             "minus-one-by-minus-one": (MOST, MOST), "least-by-minus-one": (HIGH, MOST)},
-    "remu": {"small": (7, 2), "is-unsigned": (MOST, 10), "by-the-most": (MOST - 1, MOST), "by-one": (MOST, 1), "of-zero": (0, 5),
-             "least-by-minus-one": (HIGH, MOST)},
+    "divu": {
+        "small": (7, 2),
+        "is-unsigned": (MOST, 2),
+        "by-the-most": (MOST - 1, MOST),
+        "by-one": (MOST, 1),
+        "of-zero": (0, 5),
+        "minus-one-by-minus-one": (MOST, MOST),
+        "least-by-minus-one": (HIGH, MOST),
+    },
+    "remu": {
+        "small": (7, 2),
+        "is-unsigned": (MOST, 10),
+        "by-the-most": (MOST - 1, MOST),
+        "by-one": (MOST, 1),
+        "of-zero": (0, 5),
+        "least-by-minus-one": (HIGH, MOST),
+    },
     "and": {"some": (0b1100, 0b1010), "none": (MOST, 0), "all": (MOST, MOST), "high": (HIGH + 1, HIGH)},
     "or": {"some": (0b1100, 0b1010), "none": (0, 0), "all": (MOST, 0), "high": (HIGH, 1)},
     "xor": {"some": (0b1100, 0b1010), "itself": (MOST, MOST), "all": (MOST, 0), "high": (HIGH, HIGH + 1)},
     "eq": {"same": (5, 5), "other": (5, 6), "other-high": (5, HIGH + 5), "other-half": (5, (1 << 32) + 5)},
     "ltu": {"less": (1, 2), "same": (2, 2), "greater": (2, 1), "is-unsigned": (1, MOST), "most-is-not-less": (MOST, 0)},
-    "lts": {"less": (1, 2), "same": (2, 2), "greater": (2, 1), "is-signed": (1, MOST), "least": (HIGH, HIGH - 1),
-            "minus-one-is-less": (MOST, 0)},
+    "lts": {
+        "less": (1, 2),
+        "same": (2, 2),
+        "greater": (2, 1),
+        "is-signed": (1, MOST),
+        "least": (HIGH, HIGH - 1),
+        "minus-one-is-less": (MOST, 0),
+    },
 }
-SHIFTS = {"by-none": (HIGH + 5, 0), "by-one": (HIGH + 5, 1), "by-31": (HIGH + 5, 31), "by-32": (HIGH + 5, 32), "by-63": (HIGH + 5, 63),
-          "by-64-is-by-none": (HIGH + 5, 64), "by-65-is-by-one": (HIGH + 5, 65), "by-most-is-by-63": (HIGH + 5, MOST),
-          "without-a-sign": (HIGH - 1, 4), "low-byte-of-the-amount-is-not-enough": (HIGH + 5, 128 + 3)}
+SHIFTS = {
+    "by-none": (HIGH + 5, 0),
+    "by-one": (HIGH + 5, 1),
+    "by-31": (HIGH + 5, 31),
+    "by-32": (HIGH + 5, 32),
+    "by-63": (HIGH + 5, 63),
+    "by-64-is-by-none": (HIGH + 5, 64),
+    "by-65-is-by-one": (HIGH + 5, 65),
+    "by-most-is-by-63": (HIGH + 5, MOST),
+    "without-a-sign": (HIGH - 1, 4),
+    "low-byte-of-the-amount-is-not-enough": (HIGH + 5, 128 + 3),
+}
 GIVEN.update({name: SHIFTS for name in ("shl", "shr", "sar")})
-IMMEDIATES = {"of-none": (7, 0), "of-minus-one": (7, -1), "most": (1, 2**31 - 1), "least": (1, -(2**31)), "carries-out": (MOST, 1),
-              "borrows": (0, -1), "extends-the-sign": (1 << 40, -(2**31))}
+IMMEDIATES = {
+    "of-none": (7, 0),
+    "of-minus-one": (7, -1),
+    "most": (1, 2**31 - 1),
+    "least": (1, -(2**31)),
+    "carries-out": (MOST, 1),
+    "borrows": (0, -1),
+    "extends-the-sign": (1 << 40, -(2**31)),
+}
 
 
 def of_two_registers():
@@ -62,7 +97,12 @@ def plain():
     yield does("halt-stays", "halt", shows="state 0 halted")
     yield runs("halt-for-good", [Slot(0, ("halt", "nop"))], "0*3", ["t 0 1 did"])
     yield does("nop-changes-no-register", "nop", {register: register for register in range(16)})
-    for what, word in {"an-integer": HIGH + 5, "a-pointer": ALL_DATA, "bits-of-a-pointer": ALL_DATA.bits, "a-key": pointer("key", 54, 0)}.items():
+    for what, word in {
+        "an-integer": HIGH + 5,
+        "a-pointer": ALL_DATA,
+        "bits-of-a-pointer": ALL_DATA.bits,
+        "a-key": pointer("key", 54, 0),
+    }.items():
         yield does(f"mov-{what}", "mov r3, r1", {1: word, 3: 7})
         yield does(f"isptr-{what}", "isptr r3, r1", {1: word, 3: 7})
         yield does(f"out-{what}", "out r1", {1: word})
@@ -82,7 +122,9 @@ def plain():
     for byte in (0, 0x7F, 0x80, 0xFF, 0x100, 0x1234):
         yield does(f"out-of-{byte:x}", "out r1", {1: byte}, shows=f"out 0 {byte % 256:02x}")
     for number in (0, 1, 15):
-        yield runs(f"self-of-slot-{number}", [Slot(number, ("self r3",), {3: ALL_DATA})], f"{number}", [f"t {number} 1 did"])
+        yield runs(
+            f"self-of-slot-{number}", [Slot(number, ("self r3",), {3: ALL_DATA})], f"{number}", [f"t {number} 1 did"]
+        )
     yield runs("self-of-slot-63", [Slot(63, ("self r3",), at=0x100000)], "63", ["t 63 1 did"], version=2)
     yield runs("self-is-no-group", [Slot(3, ("self r3",), group=9)], "3", ["r 3 3 i0000000000000003"])
 

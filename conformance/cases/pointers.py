@@ -10,8 +10,8 @@ MAY_MOVE = ("ro", "rw", "xu", "xp")
 
 
 def moved(name, what, start, by, to=None):
-    """A pointer moved by the three operations that move one: it comes to an address, or the fault is Bounds. `lea` and `leai` go
-    from its address, `leab` from its segment's base, which `name` says."""
+    """A pointer moved by the three operations that move one: it comes to an address, or the fault is Bounds. `lea` and
+    `leai` go from its address, `leab` from its segment's base, which `name` says."""
     ways = {"lea": "lea r3, r1, r2", "leab": "leab r3, r1, r2", "leai": f"leai r3, r1, {by}"}
     code = ways[name]
     if to is None:
@@ -55,7 +55,9 @@ def from_the_address():
     yield moved("lea", "by-the-most", ALL_DATA, HIGH - 1)
     yield moved("lea", "by-the-least", ALL_DATA, -HIGH)
     yield moved("lea", "sum-past-64-bits-wraps-not", pointer("rw", 54, TOP_ADDRESS - 8), HIGH - 8)
-    yield fails("lea-by-the-bits-of-a-pointer", "Bounds", "lea r3, r1, r2", {1: pointer("rw", 54, 0), 2: pointer("ro", 0, 0)})
+    yield fails(
+        "lea-by-the-bits-of-a-pointer", "Bounds", "lea r3, r1, r2", {1: pointer("rw", 54, 0), 2: pointer("ro", 0, 0)}
+    )
     yield does("lea-by-minus-five-as-64-bits", "lea r3, r1, r2", {1: pointer("rw", 54, 5), 2: WORDS - 5})
 
 
@@ -121,20 +123,42 @@ def restricting():
             else:
                 yield fails(name, "Perm", "restrict r3, r1, r2", registers)
     rw = pointer("rw", 12, DATA)
-    for what, code in {"0": 0, "8": 8, "9": 9, "15": 15, "17": 17, "257": 257, "1-and-2-to-the-32": (1 << 32) + 1, "most": WORDS - 1,
-                       "1-in-the-place-of-a-pointer": 1 << 60}.items():
+    for what, code in {
+        "0": 0,
+        "8": 8,
+        "9": 9,
+        "15": 15,
+        "17": 17,
+        "257": 257,
+        "1-and-2-to-the-32": (1 << 32) + 1,
+        "most": WORDS - 1,
+        "1-in-the-place-of-a-pointer": 1 << 60,
+    }.items():
         yield fails(f"restrict-to-code-{what}", "Malformed", "restrict r3, r1, r2", {1: rw, 2: code, 3: 7})
-    yield fails("restrict-to-the-bits-of-a-pointer", "Malformed", "restrict r3, r1, r2", {1: rw, 2: pointer("ro", 0, 0)})
+    yield fails(
+        "restrict-to-the-bits-of-a-pointer", "Malformed", "restrict r3, r1, r2", {1: rw, 2: pointer("ro", 0, 0)}
+    )
     yield fails("restrict-of-an-integer", "NotPointer", "restrict r3, r1, r2", {1: DATA, 2: 1})
     yield fails("restrict-notpointer-before-malformed", "NotPointer", "restrict r3, r1, r2", {1: rw.bits, 2: 8})
-    yield fails("restrict-notpointer-before-perm", "NotPointer", "restrict r3, r1, r2", {1: pointer("key", 12, DATA).bits, 2: 1})
-    yield fails("restrict-malformed-before-perm", "Malformed", "restrict r3, r1, r2", {1: pointer("eu", 12, DATA), 2: 8})
-    yield does("restrict-keeps-length-and-address", "restrict r3, r1, r2", {1: pointer("xp", 54, TOP_ADDRESS - 1), 2: 6})
+    yield fails(
+        "restrict-notpointer-before-perm", "NotPointer", "restrict r3, r1, r2", {1: pointer("key", 12, DATA).bits, 2: 1}
+    )
+    yield fails(
+        "restrict-malformed-before-perm", "Malformed", "restrict r3, r1, r2", {1: pointer("eu", 12, DATA), 2: 8}
+    )
+    yield does(
+        "restrict-keeps-length-and-address", "restrict r3, r1, r2", {1: pointer("xp", 54, TOP_ADDRESS - 1), 2: 6}
+    )
     yield does("restrict-of-length-0", "restrict r3, r1, r2", {1: pointer("xp", 0, 0), 2: 3})
     yield does("restrict-into-its-pointer", "restrict r1, r1, r2", {1: rw, 2: 1})
     yield does("restrict-into-its-code", "restrict r2, r1, r2", {1: rw, 2: 1})
     yield does("restrict-of-the-last-registers", "restrict r15, r14, r13", {14: rw, 13: 7})
-    yield fails("restrict-twice-gives-nothing-back", "Perm", "restrict r3, r1, r2; ldi r2, 2; restrict r3, r3, r2", {1: rw, 2: 1})
+    yield fails(
+        "restrict-twice-gives-nothing-back",
+        "Perm",
+        "restrict r3, r1, r2; ldi r2, 2; restrict r3, r3, r2",
+        {1: rw, 2: 1},
+    )
 
 
 def narrowing():
@@ -151,20 +175,34 @@ def narrowing():
         yield fails(f"subseg-of-length-{log}-to-itself", "Bounds", "subseg r3, r1, r2", {1: start, 2: log})
         yield fails(f"subseg-of-length-{log}-to-one-more", "Bounds", "subseg r3, r1, r2", {1: start, 2: log + 1})
     yield fails("subseg-of-length-0-to-0", "Bounds", "subseg r3, r1, r2", {1: pointer("rw", 0, DATA), 2: 0})
-    for what, log in {"55": 55, "63": 63, "64": 64, "64-and-3": 67, "256-and-3": 259, "2-to-the-32-and-3": (1 << 32) + 3, "minus-one": WORDS - 1,
-                      "least": HIGH}.items():
+    for what, log in {
+        "55": 55,
+        "63": 63,
+        "64": 64,
+        "64-and-3": 67,
+        "256-and-3": 259,
+        "2-to-the-32-and-3": (1 << 32) + 3,
+        "minus-one": WORDS - 1,
+        "least": HIGH,
+    }.items():
         yield fails(f"subseg-to-length-{what}", "Bounds", "subseg r3, r1, r2", {1: pointer("rw", 54, DATA), 2: log})
     for log in (0, 2, 3, 53):
-        yield does(f"subseg-at-the-top-to-length-{log}", "subseg r3, r1, r2", {1: pointer("rw", 54, TOP_ADDRESS - 1), 2: log})
+        yield does(
+            f"subseg-at-the-top-to-length-{log}", "subseg r3, r1, r2", {1: pointer("rw", 54, TOP_ADDRESS - 1), 2: log}
+        )
     yield fails("subseg-to-the-bits-of-a-pointer", "Bounds", "subseg r3, r1, r2", {1: ALL_DATA, 2: pointer("ro", 0, 0)})
     yield fails("subseg-of-an-integer", "NotPointer", "subseg r3, r1, r2", {1: DATA, 2: 3})
-    yield fails("subseg-notpointer-before-perm", "NotPointer", "subseg r3, r1, r2", {1: pointer("key", 12, DATA).bits, 2: 3})
+    yield fails(
+        "subseg-notpointer-before-perm", "NotPointer", "subseg r3, r1, r2", {1: pointer("key", 12, DATA).bits, 2: 3}
+    )
     yield fails("subseg-notpointer-before-bounds", "NotPointer", "subseg r3, r1, r2", {1: ALL_DATA.bits, 2: 12})
     yield fails("subseg-perm-before-bounds", "Perm", "subseg r3, r1, r2", {1: pointer("key", 12, DATA), 2: 12})
     yield does("subseg-into-its-pointer", "subseg r1, r1, r2", {1: ALL_DATA, 2: 3})
     yield does("subseg-into-its-length", "subseg r2, r1, r2", {1: ALL_DATA, 2: 3})
     yield does("subseg-of-the-last-registers", "subseg r15, r14, r13", {14: ALL_DATA, 13: 5})
-    yield does("subseg-is-another-segment", "lea r3, r1, r2; subseg r4, r3, r5; leab r4, r4, r6", {1: ALL_DATA, 2: 0x808, 5: 3})
+    yield does(
+        "subseg-is-another-segment", "lea r3, r1, r2; subseg r4, r3, r5; leab r4, r4, r6", {1: ALL_DATA, 2: 0x808, 5: 3}
+    )
 
 
 def making():
@@ -173,16 +211,30 @@ def making():
             bits = pointer(permission.short, log, TOP_ADDRESS - 1).bits
             yield does(f"setptr-{permission.short}-of-length-{log}", "setptr r3, r1", {1: bits}, permission="xp")
     for code in (0, 8, 9, 15):
-        yield fails(f"setptr-of-code-{code}", "Malformed", "setptr r3, r1", {1: code << 60 | 12 << 54 | DATA, 3: 7}, permission="xp")
+        yield fails(
+            f"setptr-of-code-{code}",
+            "Malformed",
+            "setptr r3, r1",
+            {1: code << 60 | 12 << 54 | DATA, 3: 7},
+            permission="xp",
+        )
     for log in (55, 56, 63):
-        yield fails(f"setptr-of-length-{log}", "Malformed", "setptr r3, r1", {1: 2 << 60 | log << 54 | DATA}, permission="xp")
+        yield fails(
+            f"setptr-of-length-{log}", "Malformed", "setptr r3, r1", {1: 2 << 60 | log << 54 | DATA}, permission="xp"
+        )
     yield does("setptr-of-a-pointer", "setptr r3, r1", {1: ALL_DATA}, permission="xp")
     yield does("setptr-of-address-zero", "setptr r1, r1", {1: 1 << 60}, permission="xp")
     yield fails("setptr-in-user-code", "Priv", "setptr r3, r1", {1: ALL_DATA.bits, 3: 7})
     yield fails("setptr-of-a-pointer-in-user-code", "Priv", "setptr r3, r1", {1: ALL_DATA})
     yield fails("setptr-priv-before-malformed", "Priv", "setptr r3, r1", {1: 0})
     yield does("setptr-of-the-last-registers", "setptr r15, r14", {14: ALL_DATA.bits}, permission="xp")
-    yield does("setptr-and-load-through-it", "setptr r1, r1; ld r2, r1, 0, any, keep", {1: ALL_DATA.bits}, permission="xp", cells={DATA: 77})
+    yield does(
+        "setptr-and-load-through-it",
+        "setptr r1, r1; ld r2, r1, 0, any, keep",
+        {1: ALL_DATA.bits},
+        permission="xp",
+        cells={DATA: 77},
+    )
 
 
 def cases():
