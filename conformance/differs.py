@@ -42,13 +42,15 @@ def told(case, log, at, came, in_full):
         head,
         f"  wanted  {wanted or 'no more lines'}",
         f"  came    {'no more lines' if came is None else came}",
-        *around(case, lines, at),
+        *around(case, lines, at, came),
     ]
 
 
-def around(case, lines, at):
+def around(case, lines, at, came):
     """The turn that a place of a log is in, its instruction with the registers that it names, and the turn before."""
     end = report_at(lines)
+    if at == end and came and not came.startswith("cycles "):
+        at = end - 1
     starts = [place for place in range(min(at + 1, end)) if lines[place].startswith(TURNS)]
     if at >= end:
         return ["  in the report, after all turns are as they should be"]
