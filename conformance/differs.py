@@ -34,26 +34,34 @@ def told(case, log, at, came, in_full):
     if at is None:
         return [f"{case.name}: {came}"]
     lines = log.splitlines()
-    wanted = lines[at] if at < len(lines) else None
     head = f"{case.name}: line {at + 1} differs"
     if not in_full:
         return [head]
     return [
         head,
-        f"  wanted  {wanted or 'no more lines'}",
+        f"  wanted  {wanted_at(lines, at, came)}",
         f"  came    {'no more lines' if came is None else came}",
         *around(case, lines, at, came),
     ]
 
 
+def wanted_at(lines, at, came):
+    """The line of a place of a stored log; at its report, if another line of a turn came, that no more turns are wanted."""
+    if at >= len(lines):
+        return "no more lines"
+    more = at == report_at(lines) and came is not None and not came.startswith("cycles ")
+    return "no more lines of turns" if more else lines[at]
+
+
 def around(case, lines, at, came):
     """The turn that a place of a log is in, its instruction with the registers that it names, and the turn before."""
     end = report_at(lines)
-    if at == end and came and not came.startswith("cycles "):
-        at = end - 1
+    is_change = came and not came.startswith((*TURNS, "cycles "))
+    if is_change and (at == end or lines[at : at + 1] and lines[at].startswith(TURNS)):
+        at -= 1  # a change more in the turn before
     starts = [place for place in range(min(at + 1, end)) if lines[place].startswith(TURNS)]
-    if at >= end:
-        return ["  in the report, after all turns are as they should be"]
+    if at >= end or not starts:
+        return ["  in the report, after all turns are as they should be" if at >= end else "  before any turn"]
     machine = Machine(read_image(case.image.data))
     for start, stop in zip(starts, starts[1:]):
         machine.carry_out(Step(read_turn(lines[start]), tuple(map(read_change, lines[start + 1 : stop]))))

@@ -24,17 +24,22 @@ def cases_of(theme):
     return list(importlib.import_module(f"cases.{theme}").cases())
 
 
-def all_cases(patterns=()):
-    """The cases whose names match one of the patterns, or all, with their themes."""
+def all_cases(patterns=(), skipped=()):
+    """The cases whose names match one of the patterns, or all, with their themes, without those that are skipped."""
     found, names = [], set()
     for theme in THEMES:
         for case in cases_of(theme):
             if case.name in names:
                 raise Wrong(f"two cases are named {case.name}")
             names.add(case.name)
-            if not patterns or any(fnmatch(case.name, pattern) for pattern in patterns):
+            if (not patterns or matches(case.name, patterns)) and not matches(case.name, skipped):
                 found.append((theme, case))
     return found
+
+
+def matches(name, patterns):
+    """Whether a name matches one of the patterns."""
+    return any(fnmatch(name, pattern) for pattern in patterns)
 
 
 def key_of(case, data):
