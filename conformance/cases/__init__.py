@@ -1,0 +1,1 @@
+"""The cases, theme by theme."""
