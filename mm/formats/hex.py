@@ -49,13 +49,13 @@ def _pages(image: Image) -> Iterator[str]:
 
 
 def about_slot(slot: Slot) -> int:
-    """What a slot is: its group in bits 7 to 0, its handler in bits 15 to 8, whether it is halted, and that it is there."""
+    """What a slot is: its group, its handler, whether it is halted, and that it is there."""
     handler = NO_HANDLER if slot.handler is None else slot.handler
     return THERE | (HALTED if slot.halted else 0) | handler << 8 | slot.group
 
 
 def _slots(image: Image) -> Iterator[str]:
-    """The machine, and 32 words for each of the 64 slots: what it is, its instruction pointer, and from 16 on its registers."""
+    """The machine, and of each slot what it is, its instruction pointer, and its registers."""
     yield f"@{MACHINE:x} // the machine"
     yield word_text(Word(int(image.split) << 32 | image.version << 16 | image.frames))
     for number in range(SLOTS):
