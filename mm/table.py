@@ -51,6 +51,7 @@ CLANG = Option("--clang", "C: a word for Clang, as -DSIZE=3; may be given again"
 C = (LEVEL, HEAP, STACK, CLANG)
 SLOT = Option("--slot", "the slot and the group of the program's thread, 0 to 15; else 0", "N")
 PREFIX = Option("--prefix", "what the names of the program's segments begin with", "NAME")
+PART = Option("--part", "memory, frames, pages or slots; else memory (docs/HARDWARE.md)", "NAME")
 RUNNING = (CYCLES, SCHEDULE, TURNS, NAMES)
 FILES = "FILE.."
 
@@ -75,6 +76,7 @@ COMMANDS = (
     Command("asm", "SOURCE", "the object of a source", (OUTPUT,), most=1, module="make"),
     Command("link", FILES, "the image of sources and objects", (OUTPUT,), module="make"),
     Command("migrate", "FILE.. MODE", "an image of version 2, in which loads answer at once (plain) or later (split)", (OUTPUT,), least=2, module="make"),
+    Command("hex", FILES, "an image for Verilog's $readmemh: its memory, its frames with their pages, or its slots", (PART, OUTPUT, *C)),
     Command("gen", "NUMBER SIZE", "the generated image of a number", (OUTPUT,), least=2, most=2, module="make"),
     Command("soak", "NUMBER SIZE", "run that image, and write a summary", (CYCLES,), least=2, most=2, module="make"),
     Command("help", "[TOPIC]", "what a command, an operation, a fault or another topic is", (), least=0),

@@ -3,7 +3,7 @@
 from __future__ import annotations
 
 from dataclasses import dataclass
-from typing import Iterator, Optional
+from typing import Iterator, Mapping, Optional
 
 from mm.formats.bytesreader import BytesReader, bit_of
 from mm.machine.words import Cell, Pointer, Word
@@ -81,7 +81,7 @@ def _slot(reader: BytesReader) -> Slot:
 
 
 def read_image(data: bytes) -> Image:
-    """The image that bytes spell. `mmachine` has accepted them before: only what would mislead a reader is tested here."""
+    """The image that bytes spell. `mmachine` has accepted them before: only what would mislead a reader is tested."""
     reader = BytesReader(data)
     if reader.take(4) != b"MMI1":
         raise ValueError("this is no image")
@@ -90,3 +90,32 @@ def read_image(data: bytes) -> Image:
     found = tuple(_slot(reader) for _ in range(slots))
     kept = [Page(reader.number(8), reader.take(64), reader.take(64), reader.take(PAGE_BYTES)) for _ in range(pages)]
     return Image(version, frames, split, found, {page.number: page for page in kept})
+
+
+def _slot_bytes(slot: Slot) -> bytes:
+    handler = NO_HANDLER if slot.handler is None else slot.handler
+    mask = sum(word.tagged << register for register, word in enumerate(slot.registers))
+    words = b"".join(word.bits.to_bytes(8, "big") for word in slot.registers)
+    head = bytes([slot.number, slot.group, handler, int(slot.halted)])
+    return head + slot.ip.bits.to_bytes(8, "big") + mask.to_bytes(2, "big") + words
+
+
+def image_bytes(image: Image) -> bytes:
+    """The bytes that spell an image."""
+    counts = (image.version, len(image.slots), image.frames, len(image.pages))
+    head = b"MMI1" + b"".join(count.to_bytes(2, "big") for count in counts) + int(image.split).to_bytes(4, "big")
+    pages = (
+        number.to_bytes(8, "big") + page.tags + page.full + page.words for number, page in sorted(image.pages.items())
+    )
+    return b"".join([head, *map(_slot_bytes, image.slots), *pages])
+
+
+def page_of(number: int, cells: Mapping[int, Cell]) -> Page:
+    """The page with these cells at their places; all others hold 0, full."""
+    tags, full, words = bytearray(64), bytearray(b"\xff" * 64), bytearray(PAGE_BYTES)
+    for place, cell in cells.items():
+        tags[place >> 3] |= cell.word.tagged << (place & 7)
+        if not cell.full:
+            full[place >> 3] &= ~(1 << (place & 7)) & 0xFF
+        words[8 * place : 8 * place + 8] = cell.word.bits.to_bytes(8, "big")
+    return Page(number, bytes(tags), bytes(full), bytes(words))

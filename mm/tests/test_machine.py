@@ -60,7 +60,8 @@ class Words(unittest.TestCase):
 
 class Operations(unittest.TestCase):
     def test_table_is_that_of_the_page(self):
-        rows = re.findall(r"^\| ([0-9A-F]{2}) \| (\w+) \| ([^|]*) \| ([^|]*) \|", read("docs", "INSTRUCTIONS.md"), re.M)
+        row = r"^\| \[([0-9A-F]{2})\] \| \[(\w+)\] \| ([^|]*) \| ([^|]*) \|"
+        rows = re.findall(row, read("docs", "INSTRUCTIONS.md"), re.M)
         self.assertEqual([name for _, name, _, _ in rows], list(OPERATIONS))
         fields = {"imm": "imm", "c": "pre", "ra c": "ra"}
         for number, name, said, tests in rows:

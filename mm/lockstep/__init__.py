@@ -1,0 +1,13 @@
+"""Two programs side by side on random images: what `tools/lockstep` does (docs/HARDWARE.md).
+
+    dice      random choices that are the same with every Python
+    world     pages, areas of memory, numbers and pointers of a random image
+    code      random instructions, and what slots that handle faults run
+    case      the image and the schedule of a number
+    programs  a program as a command, and the lines that it writes as it runs
+    compare   two logs turn by turn, up to the first difference
+    shorten   a schedule cut down while the two still differ
+    tell      the report of a difference
+    tally     how often each operation had each outcome
+    options   the words of the command
+    main      the command"""

@@ -1,0 +1,176 @@
+"""`tools/lockstep`: cases one after another or some at a time, and what came of them."""
+
+from __future__ import annotations
+
+import argparse
+import multiprocessing
+import os
+import signal
+import sys
+from dataclasses import dataclass, field
+from typing import Callable, Iterator, Optional, Sequence, TypeVar
+
+from mm.formats.image import read_image
+from mm.formats.schedule import read_schedule
+from mm.lockstep.case import Case, case_of, items_of, schedule_text
+from mm.lockstep.compare import Difference, Pair, item_of, turns_of
+from mm.lockstep.options import read_options
+from mm.lockstep.programs import CYCLES, IMAGE, SCHEDULE, CannotRun, Command, Room, room
+from mm.lockstep.shorten import Shortener
+from mm.lockstep.tally import Tally
+from mm.lockstep.tell import kept, machine_of, report
+from mm.log.read import LogReader, NoLog
+from mm.log.replay import Machine
+from mm.machine.program import find_program
+from mm.names.numbers import counted
+from mm.status import Stop
+
+Made = TypeVar("Made")
+SAME, DIFFERS, NOT_RUN = 0, 1, 2
+
+
+@dataclass
+class Came:
+    """What came of a case: how many turns are the same, and the report of a difference."""
+
+    name: str
+    turns: int = 0
+    lines: list[str] = field(default_factory=list)
+    cannot: str = ""
+
+
+class Work:
+    """What is done with each case. It goes to other processes whole."""
+
+    def __init__(self, options: argparse.Namespace) -> None:
+        self.options = options
+        self.path = os.path.abspath(options.model) if options.model else find_program().path
+
+    @property
+    def model(self) -> Command:
+        return Command("model", [self.path, "log", IMAGE, CYCLES, SCHEDULE], self.options.seconds)
+
+    def case(self, number: int) -> Case:
+        if self.options.image is None:
+            return case_of(self.options.seed, number)
+        with open(self.options.image, "rb") as file:
+            image = file.read()
+        name = os.path.splitext(os.path.basename(self.options.image))[0]
+        return Case(name, image, self.items()[: self.options.cycles])
+
+    def items(self) -> tuple[int, ...]:
+        """The schedule of a given image: its own, or what the model does in round robin."""
+        if self.options.schedule:
+            with open(self.options.schedule, "rb") as file:
+                return items_of(read_schedule(file.read()))
+        robin = Command("model", [self.path, "log", IMAGE, CYCLES], self.options.seconds)
+        with robin.run(self.options.image, self.options.cycles, "") as running:
+            found = [item_of(turn) for turn in turns_of(running.lines)]
+        return tuple(item for item in found if item is not None)
+
+    def compare(self, number: int) -> Came:
+        """Runs both programs on a case, and where they differ looks for a shorter schedule."""
+        case = self.case(number)
+        pair = Pair(self.model, Command("other", self.options.command, self.options.seconds), self.options.follow)
+        with room() as files:
+            try:
+                found = pair.run(case, case.items, files)
+                came = Came(case.name, pair.turns)
+                if found:
+                    came.lines = self.difference(pair, case, found, files)
+            except CannotRun as error:
+                return Came(case.name, cannot=str(error))
+        return came
+
+    def difference(self, pair: Pair, case: Case, found: Difference, files: Room) -> list[str]:
+        """The report of a difference, after its schedule was cut down."""
+        shortened = Shortener(lambda items: pair.run(case, items, files), case.items, found)
+        note = counted(len(case.items), "item")
+        if not self.options.follow:
+            ended = shortened.run()
+            more = "no item can be left out" if ended else "it may get shorter yet"
+            note = f"{counted(len(shortened.items), 'item')} of {len(case.items)}, {more}"
+        items, found = shortened.items, shortened.found
+        machine = None if self.options.follow else machine_of(self.model, case, items, found, files)
+        return report(case, items, found, note, kept(self.options.keep, case, items), machine)
+
+    def tally(self, number: int) -> Tally:
+        """Counts the outcomes of the model on a case."""
+        case, tally = self.case(number), Tally()
+        with room() as files:
+            image = files.file("case.img", case.image)
+            schedule = files.file("case.schedule", schedule_text(case.items).encode("ascii"))
+            with self.model.run(image, len(case.items), schedule) as running:
+                tally.count(Machine(read_image(case.image)), LogReader(running.lines).steps())
+        return tally
+
+
+def numbers_of(options: argparse.Namespace) -> range:
+    return range(1) if options.image else range(options.first, options.first + options.count)
+
+
+def _stoppable() -> None:
+    """In a process of its own: the end comes as an exception, so that programs that run are stopped too."""
+    signal.signal(signal.SIGTERM, lambda *_: sys.exit(1))
+    signal.signal(signal.SIGINT, signal.SIG_IGN)
+
+
+def each(options: argparse.Namespace, work: Callable[[int], Made]) -> Iterator[Made]:
+    """What comes of each number, in their order."""
+    numbers = numbers_of(options)
+    if options.jobs == 1 or len(numbers) < 2:
+        yield from map(work, numbers)
+        return
+    with multiprocessing.Pool(options.jobs, _stoppable) as pool:
+        yield from pool.imap(work, numbers)
+
+
+def write_cases(options: argparse.Namespace) -> int:
+    """The images and schedules of the cases as files."""
+    os.makedirs(options.write, exist_ok=True)
+    for number in numbers_of(options):
+        case = case_of(options.seed, number)
+        with open(os.path.join(options.write, f"{case.name}.img"), "wb") as file:
+            file.write(case.image)
+        with open(os.path.join(options.write, f"{case.name}.schedule"), "w", encoding="ascii") as file:
+            file.write(schedule_text(case.items))
+    return SAME
+
+
+def tally_cases(options: argparse.Namespace) -> int:
+    whole = Tally()
+    for tally in each(options, Work(options).tally):
+        whole.add(tally)
+    print("\n".join(whole.lines()))
+    return SAME
+
+
+def compare_cases(options: argparse.Namespace) -> int:
+    """Compares case by case, up to the first that differs or all of them."""
+    differ: list[str] = []
+    cases = turns = 0
+    for came in each(options, Work(options).compare):
+        if came.cannot:
+            print(f"lockstep: {came.cannot}", file=sys.stderr)
+            return NOT_RUN
+        cases, turns = cases + 1, turns + came.turns
+        if came.lines:
+            differ.append(came.name)
+            print("\n".join(came.lines), flush=True)
+            if not options.all:
+                break
+    what = f"different: {' '.join(differ)}" if differ else "no difference"
+    print(f"lockstep: {counted(cases, 'case')}, {counted(turns, 'turn')}, {what}")
+    return DIFFERS if differ else SAME
+
+
+def main(given: Optional[Sequence[str]] = None) -> int:
+    options = read_options(sys.argv[1:] if given is None else given)
+    try:
+        if options.write is not None:
+            return write_cases(options)
+        return tally_cases(options) if options.tally else compare_cases(options)
+    except (OSError, ValueError, NoLog, Stop) as error:
+        told = error.lines[0] if isinstance(error, Stop) and error.lines else f"lockstep: {error}"
+        print(told, file=sys.stderr)
+        return NOT_RUN

@@ -1,0 +1,68 @@
+"""The words of `tools/lockstep`."""
+
+from __future__ import annotations
+
+import argparse
+from typing import Sequence
+
+from mm.formats.schedule import MOST
+from mm.lockstep.programs import IMAGE
+
+ABOUT = """\
+Runs two programs side by side on random images, mmachine and yours, compares their commit logs turn by turn as they
+come, and stops at the first difference. Then it cuts the schedule down while the two still differ, keeps the image and
+that schedule as files, and tells both sides with the instruction and what it reads."""
+COMMAND = """\
+COMMAND.. is your program. In its words {image}, {cycles} and {schedule} stand for the name of an image file, a number,
+and the name of a schedule file. It writes its commit log (docs/COMMITS.md) to the standard output. It may leave out the
+report at the end, and in the report the line of counts.
+
+Cases are numbered, and a case depends on its seed and its number alone. The exit status is 0 if all cases are the same,
+1 if one differs, and 2 if a program cannot be run or the words are wrong. docs/HARDWARE.md tells more."""
+
+
+def parser() -> argparse.ArgumentParser:
+    found = argparse.ArgumentParser(
+        prog="tools/lockstep",
+        usage="tools/lockstep [OPTIONS] COMMAND..\n       tools/lockstep --tally | --write FOLDER [OPTIONS]",
+        description=ABOUT,
+        epilog=COMMAND,
+        formatter_class=argparse.RawDescriptionHelpFormatter,
+    )
+    add = found.add_argument
+    add("--seed", type=int, default=1, metavar="N", help="another row of cases; else 1")
+    add("--first", type=int, default=0, metavar="N", help="the number of the first case; else 0")
+    add("--count", type=int, default=100, metavar="N", help="how many cases; else 100")
+    add("--jobs", type=int, default=1, metavar="N", help="how many cases at a time; else 1")
+    add("--all", action="store_true", help="go on after a difference, and tell which cases differ")
+    add("--follow", action="store_true", help="your program decides the order of turns")
+    add("--image", metavar="FILE", help="this image alone, in place of random ones")
+    add("--schedule", metavar="FILE", help="the schedule of --image; else round robin")
+    add("--cycles", type=int, default=10_000, metavar="N", help="how many cycles of --image at most; else 10000")
+    add("--keep", default=".", metavar="FOLDER", help="where the files of a difference go; else this folder")
+    add("--seconds", type=int, default=60, metavar="N", help="after how long a program is stopped; else 60")
+    add("--model", metavar="FILE", help="which mmachine; else $MMACHINE, this checkout's, or that on the path")
+    add("--write", metavar="FOLDER", help="write the images and schedules of the cases, and run nothing")
+    add("--tally", action="store_true", help="run the model alone, and count operations by outcomes")
+    add("command", nargs=argparse.REMAINDER, metavar="COMMAND", help=argparse.SUPPRESS)
+    return found
+
+
+def read_options(given: Sequence[str]) -> argparse.Namespace:
+    """The options; words that are wrong end the program."""
+    made = parser()
+    options = made.parse_args(list(given))
+    if options.command[:1] == ["--"]:
+        del options.command[0]
+    alone = options.tally or options.write is not None
+    if bool(options.command) == alone:
+        made.error("say which program to compare with, or --tally or --write")
+    if options.command and not any(IMAGE in word for word in options.command):
+        made.error(f"no word of the command has {IMAGE}")
+    if options.schedule and not options.image:
+        made.error("--schedule belongs to --image")
+    if options.jobs < 1 or options.count < 0 or options.first < 0 or options.seconds < 1:
+        made.error("a number is out of its range")
+    if not 0 <= options.cycles <= MOST:
+        made.error(f"--cycles is 0 to {MOST}")
+    return options

@@ -1,0 +1,97 @@
+"""A program as a command: it is run on an image and a schedule, and its log is read as it is written."""
+
+from __future__ import annotations
+
+import contextlib
+import os
+import subprocess
+import tempfile
+import threading
+from dataclasses import dataclass, field
+from typing import IO, Iterator, Sequence
+
+IMAGE, CYCLES, SCHEDULE = "{image}", "{cycles}", "{schedule}"
+SAID_BYTES = 2000
+
+
+class CannotRun(Exception):
+    """A program that cannot be started."""
+
+
+@dataclass
+class Running:
+    """A program that runs: the lines of its log, and once these are read how it ended, if not well."""
+
+    lines: Iterator[str]
+    wrong: list[str] = field(default_factory=list)
+
+
+class Command:
+    """The words of a command, in which `{image}`, `{cycles}` and `{schedule}` stand for a case."""
+
+    def __init__(self, name: str, words: Sequence[str], seconds: int) -> None:
+        self.name, self.words, self.seconds = name, list(words), seconds
+
+    def words_for(self, image: str, cycles: int, schedule: str) -> list[str]:
+        found = {IMAGE: image, CYCLES: str(cycles), SCHEDULE: schedule}
+        words = []
+        for word in self.words:
+            for mark, value in found.items():
+                word = word.replace(mark, value)
+            words.append(word)
+        return words
+
+    @contextlib.contextmanager
+    def run(self, image: str, cycles: int, schedule: str) -> Iterator[Running]:
+        """Starts the program. It is stopped at the end, however much of its log was read."""
+        words = self.words_for(image, cycles, schedule)
+        with tempfile.TemporaryFile() as said:
+            try:
+                started = subprocess.Popen(words, stdin=subprocess.DEVNULL, stdout=subprocess.PIPE, stderr=said)
+            except OSError as error:
+                raise CannotRun(f"{words[0]} cannot be run: {error.strerror}") from None
+            late = threading.Event()
+            timer = threading.Timer(self.seconds, lambda: (late.set(), started.kill()))
+            timer.start()
+            try:
+                running = Running(iter(()))
+                running.lines = self._lines(started, said, late, running)
+                yield running
+            finally:
+                timer.cancel()
+                started.kill()
+                started.stdout.close()
+                started.wait()
+
+    def _lines(
+        self, started: subprocess.Popen[bytes], said: IO[bytes], late: threading.Event, running: Running
+    ) -> Iterator[str]:
+        for line in started.stdout:
+            yield line.decode("latin-1").rstrip("\n")
+        status = started.wait()
+        if late.is_set():
+            running.wrong.append(f"it was stopped after {self.seconds} seconds")
+        elif status:
+            running.wrong.append(f"it ended with status {status}")
+        if running.wrong:
+            said.seek(0)
+            running.wrong += said.read(SAID_BYTES).decode("utf-8", "replace").splitlines()
+
+
+@dataclass
+class Room:
+    """A folder for the files of one case."""
+
+    path: str
+
+    def file(self, name: str, data: bytes) -> str:
+        path = os.path.join(self.path, name)
+        with open(path, "wb") as file:
+            file.write(data)
+        return path
+
+
+@contextlib.contextmanager
+def room() -> Iterator[Room]:
+    with tempfile.TemporaryDirectory() as path:
+        yield Room(path)
