@@ -7,7 +7,6 @@ use Rattle.mm_link.specs.declared.fault.LinkFault.{LinkFault}
 use Rattle.mm_link.specs.declared.fault.LinkFault.TheVariants.{Twice, Undefined, Offset, SlotTwice, NoThread, Handler}
 use Rattle.mm_link.specs.declared.fault.LinkFault.TheVariants.{TooLarge}
 use Rattle.mm_link.specs.Faults.{number_of as link_number}
-use Rattle.mm_load.specs.declared.status.Refusal.{Refusal}
 use Rattle.mm_load.specs.declared.status.Refusal.TheVariants.{TooLong, Image, Schedule, Object, Asm, Link, NoGroup}
 use Rattle.mm_load.specs.declared.status.Refusal.TheVariants.{Crosses, Held, Privileged, Checkpoint, Links, NoNode}
 use Rattle.mm_load.specs.declared.status.Status.{Status}

@@ -5,8 +5,8 @@ use Rattle.mm_text.specs.Gathers.{Gathered, Gathers, Became}
 use Rattle.mm_model.specs.declared.step.Step.{Step}
 use Rattle.mm_model.specs.State.{State, slot_at}
 use Rattle.mm_model.specs.Run.{turn_of, after, run}
-use Rattle.mm_model.specs.Trace.{trace, traced, trace_line, step_line, turns_of}
-use Rattle.mm_log.specs.Log.{cycle_log, log, log_text, text_of}
+use Rattle.mm_model.specs.Trace.{trace, traced, step_line, turns_of}
+use Rattle.mm_log.specs.Log.{cycle_log, log, log_text}
 use Rattle.mm_log.specs.Telling.{text_of_run, traced_cycle, logged_cycle}
 use Rattle.mm_log.proofs.Told.{text_append}
 

@@ -1,6 +1,6 @@
 -- The answer to a row, by how its files are read and how the command ends with their values.
 use Rattle.std.proofs.Common.{◌≡◌, inl, inr, ℕ, List, [], ◌++◌, Option, None, Some, Result, Ok, Err, refl, sym, subst}
-use Rattle.std.specs.Result.{IsErrAnd, OnOk}
+use Rattle.std.specs.Result.{IsErrAnd}
 use Rattle.mm_word.specs.Adding.{adds_none}
 use Rattle.mm_io.specs.Files.{PieceRead}
 use Rattle.mm_load.specs.declared.status.Refusal.{Refusal}
