@@ -95,6 +95,8 @@ SPOILS: tuple[tuple[str, Spoil], ...] = (
     ("what a screen reader is told", of_text("`Cycle ${turn.cycle}, slot", "`Cycle ${turn.cycle + 1}, slot")),
     ("the key End", of_text('"to the end", ACTIONS.end]', '"to the end", ACTIONS.home]')),
     ("the key e", of_text("entry: (turn) => Boolean(turn.entered)", "entry: (turn) => turn.outcome === 'did'")),
+    ("the button for one turn on", of_text("next: () => goTo(cursor.place + 1)", "next: () => goTo(cursor.place + 2)")),
+    ("a click on the timeline", of_text("(this.first + x / this.box) + 1", "(this.first + x / this.box)")),
     ("the list of keys", of_text("help.showModal()", "help.hidden = true")),
     ("a word that Enter does not open", of_text("if (word) toggle", "if (word && event.detail) toggle")),
     ("a focus that is not seen", of_text("</style>", "*:focus-visible { outline: none !important; }</style>")),
