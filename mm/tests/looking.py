@@ -48,6 +48,8 @@ MIDDLE = """(() => { const it = document.querySelector(%r).getBoundingClientRect
   return [it.left + it.width / 2, it.top + it.height / 2]; })()"""
 BOX = """(() => { const it = document.getElementById('timeline').getBoundingClientRect();
   return [it.left + (%d - 0.5 - timeline.first) * timeline.box, it.top + 20]; })()"""
+CHOOSE = """(() => { const it = document.getElementById('file'); it.value = %d;
+  it.dispatchEvent(new Event('change')); })()"""
 Test = Callable[[Turn], bool]
 
 
@@ -156,8 +158,8 @@ class Page:
             if one != other:
                 return self.fail(f"turn {place} is {one}, and of the trace {other}")
 
-    def compare(self, place: int) -> None:
-        """What is shown at a place, against the report there."""
+    def compare(self, place: int, low: bool = False) -> None:
+        """What is shown at a place, against the report there; `low` where lines of C are not wanted."""
         cycle = self.browser.run(f"{place} ? TURNS[{place} - 1].cycle : RUN.first - 1")
         answer = self.program.run(["run", self.built.path, str(cycle), *self.order])
         seen = Seen(self.browser, self.built)
@@ -165,9 +167,18 @@ class Page:
         if (seen.shown["place"], seen.shown["now"]) != (place, place):
             self.fail(f"it is at {seen.shown['place']} and not at {place}")
         turn = self.turns[place - 1] if 0 < place <= len(self.turns) else None
-        found = [*seen.differences(read_report(answer.text.splitlines())), *seen.turn_differences(cycle, turn)]
+        found = [*seen.differences(read_report(answer.text.splitlines())), *seen.turn_differences(cycle, turn, low)]
         for difference in found:
             self.fail(f"cycle {cycle}: {difference}")
+
+    def sources(self) -> None:
+        """Where a source was made of C, its own lines can be chosen, and then the lines of C again."""
+        files = self.browser.run("RUN.names.sources.map((it) => Boolean(it.c))")
+        for low in (True, False) if True in files else ():
+            self.browser.run(CHOOSE % files.index(not low))
+            for place in (1, self.count // 2, self.count):
+                self.go(place)
+                self.compare(place, low)
 
     @property
     def place(self) -> int:
