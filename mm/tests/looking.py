@@ -40,6 +40,16 @@ CUT = """[...document.querySelectorAll('button, select')].filter((it) => it.offs
 KEYS = ("End", "ArrowLeft", "Home", "ArrowRight", "ArrowRight", "ArrowRight", "ArrowDown", "ArrowUp")
 KEYS += ("PageDown", "PageUp")
 KEYS += ("+ArrowRight", "+ArrowRight", "+ArrowLeft", "f", "e", "b", "a", "f", "e", "b", "a", "+f", "+e", "+b", "+a")
+# Buttons, and the key that does the same.
+BUTTONS = {"home": "Home", "next": "ArrowRight", "back": "ArrowLeft", "end": "End", "same": "+ArrowRight"}
+BUTTONS |= {"fault": "f", "entry": "e", "blocked": "b", "access": "a"}
+# The middle of a thing in the window; of the timeline the box of a turn.
+MIDDLE = """(() => { const it = document.querySelector(%r).getBoundingClientRect();
+  return [it.left + it.width / 2, it.top + it.height / 2]; })()"""
+BOX = """(() => { const it = document.getElementById('timeline').getBoundingClientRect();
+  return [it.left + (%d - 0.5 - timeline.first) * timeline.box, it.top + 20]; })()"""
+CHOOSE = """(() => { const it = document.getElementById('file'); it.value = %d;
+  it.dispatchEvent(new Event('change')); })()"""
 Test = Callable[[Turn], bool]
 
 
@@ -148,8 +158,8 @@ class Page:
             if one != other:
                 return self.fail(f"turn {place} is {one}, and of the trace {other}")
 
-    def compare(self, place: int) -> None:
-        """What is shown at a place, against the report there."""
+    def compare(self, place: int, low: bool = False) -> None:
+        """What is shown at a place, against the report there; `low` where lines of C are not wanted."""
         cycle = self.browser.run(f"{place} ? TURNS[{place} - 1].cycle : RUN.first - 1")
         answer = self.program.run(["run", self.built.path, str(cycle), *self.order])
         seen = Seen(self.browser, self.built)
@@ -157,23 +167,53 @@ class Page:
         if (seen.shown["place"], seen.shown["now"]) != (place, place):
             self.fail(f"it is at {seen.shown['place']} and not at {place}")
         turn = self.turns[place - 1] if 0 < place <= len(self.turns) else None
-        found = [*seen.differences(read_report(answer.text.splitlines())), *seen.turn_differences(cycle, turn)]
+        found = [*seen.differences(read_report(answer.text.splitlines())), *seen.turn_differences(cycle, turn, low)]
         for difference in found:
             self.fail(f"cycle {cycle}: {difference}")
 
-    def by_keyboard(self) -> None:
-        """Each key leads where it has to, by the trace."""
+    def sources(self) -> None:
+        """Where a source was made of C, its own lines can be chosen, and then the lines of C again."""
+        files = self.browser.run("RUN.names.sources.map((it) => Boolean(it.c))")
+        for low in (True, False) if True in files else ():
+            self.browser.run(CHOOSE % files.index(not low))
+            for place in (1, self.count // 2, self.count):
+                self.go(place)
+                self.compare(place, low)
+
+    @property
+    def place(self) -> int:
+        return int(self.browser.run("cursor.place"))
+
+    def leads(self, what: str, key: str, do: Callable[[], None]) -> None:
+        """Whether something leads where a key has to, by the trace."""
         word = int(self.browser.run("document.getElementById('word').value || -1"))
-        cursor = Cursor(self.turns, [slot.number for slot in self.built.image.slots], word)
+        cursor, before = Cursor(self.turns, [slot.number for slot in self.built.image.slots], word), self.place
+        do()
+        wanted = cursor.after(before, key.lstrip("+"), key.startswith("+"))
+        if self.place != wanted:
+            self.fail(f"{what} leads from {before} to {self.place}, and not to {wanted}")
+
+    def by_keyboard(self) -> None:
+        """Each key leads where it has to."""
         self.browser.run("document.getElementById('timeline').focus()")
-        for said in KEYS:
-            key, before = said.lstrip("+"), int(self.browser.run("cursor.place"))
-            self.browser.key(key, shift=said != key)
-            place, wanted = self.browser.run("cursor.place"), cursor.after(before, key, said != key)
-            if place != wanted:
-                self.fail(f"the key {said} leads from {before} to {place}, and not to {wanted}")
+        for key in KEYS:
+            self.leads(f"the key {key}", key, lambda: self.browser.key(key.lstrip("+"), shift=key.startswith("+")))
         self.tab_through()
         self.list_of_keys()
+
+    def by_mouse(self) -> None:
+        """Each button that is on leads where its key does, and a click on the box of a turn leads there."""
+        self.browser.run("document.activeElement.blur(); scrollTo(0, 0)")
+        for button, key in BUTTONS.items():
+            name = f'[data-go="{button}"]'
+            if not self.browser.run(f"document.querySelector('{name}').disabled"):
+                self.leads(f"the button {button}", key, lambda: self.browser.click(*self.browser.run(MIDDLE % name)))
+        for place in (self.count, self.count - 1, 1, 2) if self.count > 1 else ():
+            self.go(place)
+            wanted = place - 1 if place > 1 else place + 1
+            self.browser.click(*self.browser.run(BOX % wanted))
+            if self.place != wanted:
+                self.fail(f"a click on the box of turn {wanted} leads to {self.place}")
 
     def list_of_keys(self) -> None:
         self.browser.key("?", shift=True)

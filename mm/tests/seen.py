@@ -65,8 +65,9 @@ class Seen:
         if shown != wanted:
             yield f"queues: {shown} and not {wanted}"
 
-    def turn_differences(self, cycle: int, turn: Optional[Turn]) -> Iterator[str]:
-        """What is said otherwise of a turn than the trace has it: who took it, where, and its line."""
+    def turn_differences(self, cycle: int, turn: Optional[Turn], low: bool) -> Iterator[str]:
+        """What is said otherwise of a turn than the trace has it: who took it, where, and its line; `low` where lines of
+        C are not wanted."""
         if turn is None:
             return
         wanted = [f"Cycle {cycle}: slot {turn.slot}, its turn {turn.number}"]
@@ -81,15 +82,15 @@ class Seen:
                 yield f"the turn does not say {words!r} but {self.shown['turn'][:200]!r}"
         if f"Cycle {cycle}, slot {turn.slot}" not in self.shown["said"]:
             yield f"a screen reader is told {self.shown['said']!r}"
-        yield from self._line(turn)
+        yield from self._line(turn, low)
 
-    def _line(self, turn: Turn) -> Iterator[str]:
+    def _line(self, turn: Turn, low: bool) -> Iterator[str]:
         """The line that is marked in the source."""
         symbols, address = self.speller.symbols, turn.fetch
         origin = symbols.origin(address) if address is not None else None
         if address is None or origin is None:
             return
-        made = symbols.c_line(address)
+        made = None if low else symbols.c_line(address)
         text = made.text if made and made.text else origin.text
         number = made.line if made and made.text else origin.line
         shown = "".join((self.shown["line"] or "").split())

@@ -79,6 +79,12 @@ def of_line(data: Any) -> None:
     lines[:] = [line and line + 1 for line in lines]
 
 
+def of_c(data: Any) -> None:
+    """The words come from other lines of C."""
+    for mark in data["names"]["sources"][0]["from"]:
+        mark[2:] = [line + 1 for line in mark[2:]]
+
+
 SPOILS: tuple[tuple[str, Spoil], ...] = (
     ("one register", of_change(RegisterSet, 3, other_word)),
     ("one instruction pointer", of_change(IpSet, 2, lambda word: word[:-2] + f"{int(word[-2:], 16) ^ 8:02x}")),
@@ -95,6 +101,8 @@ SPOILS: tuple[tuple[str, Spoil], ...] = (
     ("what a screen reader is told", of_text("`Cycle ${turn.cycle}, slot", "`Cycle ${turn.cycle + 1}, slot")),
     ("the key End", of_text('"to the end", ACTIONS.end]', '"to the end", ACTIONS.home]')),
     ("the key e", of_text("entry: (turn) => Boolean(turn.entered)", "entry: (turn) => turn.outcome === 'did'")),
+    ("the button for one turn on", of_text("next: () => goTo(cursor.place + 1)", "next: () => goTo(cursor.place + 2)")),
+    ("a click on the timeline", of_text("(this.first + x / this.box) + 1", "(this.first + x / this.box)")),
     ("the list of keys", of_text("help.showModal()", "help.hidden = true")),
     ("a word that Enter does not open", of_text("if (word) toggle", "if (word && event.detail) toggle")),
     ("a focus that is not seen", of_text("</style>", "*:focus-visible { outline: none !important; }</style>")),
@@ -105,12 +113,17 @@ SPOILS: tuple[tuple[str, Spoil], ...] = (
     ("something from the network", script("fetch('http://127.0.0.1:9/').catch(() => 0)")),
     ("a page that is too wide", of_text("<footer>", '<div style="width:3000px">wide</div><footer>')),
 )
-# Spoils of what the counter has not: of the page of the server.
+# Spoils of what the counter has not: of the page of the server, and of a program in C.
 QUEUES: tuple[tuple[str, Spoil], ...] = (
     ("one event", of_change(EventQueued, 2, lambda slot: slot + 1)),
     ("an event that nobody takes", of_text("slot.queue.shift()", "slot.queue.slice()")),
     ("a fault", of_text("`fault ${number} ", "`fault ${number + 1} ")),
 )
+LINES_OF_C: tuple[tuple[str, Spoil], ...] = (
+    ("other lines of C", of_data(of_c)),
+    ("lines of C alone", of_text("!source.low && madeOf(origin)", "madeOf(origin)")),
+)
+SPOILED = {"counter": SPOILS, "server": QUEUES, "overflow": LINES_OF_C}
 
 
 def spoiled_pages(page: str, spoils: tuple[tuple[str, Spoil], ...]) -> Iterator[tuple[str, str]]:

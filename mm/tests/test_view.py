@@ -12,7 +12,7 @@ from mm.log.taken import QUIET_TURNS, Window, cut_quiet, fill
 from mm.outputs.report import Report, SlotState
 from mm.machine.words import Word
 from mm.tests.pages import pages
-from mm.tests.spoils import QUEUES, SPOILS, spoiled_pages
+from mm.tests.spoils import SPOILED, spoiled_pages
 from mm.tests.support import folder, mm, needs_log, path_of, read, write
 from mm.tests.test_log import CHANGES, LOG, small_image
 from mm.log.changes import read_change
@@ -188,7 +188,7 @@ class Links(unittest.TestCase):
 
 class Spoiled(unittest.TestCase):
     def test_each_spoil_changes_its_page(self):
-        for name, spoils in (("counter", SPOILS), ("server", QUEUES)):
+        for name, spoils in SPOILED.items():
             page = read("docs", "view", f"{name}.html")
             for said, spoiled in spoiled_pages(page, spoils):
                 self.assertNotEqual(spoiled, page, said)

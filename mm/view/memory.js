@@ -3,7 +3,7 @@
 // when they are opened; and only what differs is shown anew.
 
 const memory = { rows: new Map(), parts: [], marked: [], now: null };
-const ALWAYS = 64, LONG = 48;
+const ALWAYS = 64, LONG = 48, LONG_NAME = 11;
 
 // The addresses that have a row, ascending: those of sources, those that some turn touches or changes, and those that
 // hold something.
@@ -39,7 +39,9 @@ function gapRow(words) {
 // The name of a word in its segment; of a long one only how far it is from the segment's beginning.
 function placeIn(address) {
   const name = showAddress(address), region = regionAt(address);
-  return region && name.length > 14 && name.startsWith(`${region.name}+`) ? name.slice(region.name.length) : name;
+  if (!region || name.length <= LONG_NAME) return name;
+  if (name === region.name) return "+0";
+  return name.startsWith(`${region.name}+`) ? name.slice(region.name.length) : name;
 }
 
 function memoryRow(address) {

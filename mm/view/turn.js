@@ -208,11 +208,11 @@ function showSource(place, now) {
     if (stands) mark(stands, `s${slot.slot}`, false);
   }
   if (turn) mark(origin, "", true);
-  scrollTo(source.lists[origin.source].children[origin.line - 1]);
+  scrollSource(source.lists[origin.source].children[origin.line - 1]);
 }
 
 // Scrolls the source alone, and never the page.
-function scrollTo(item) {
+function scrollSource(item) {
   const box = byId("lines"), top = item.offsetTop;
   if (top < box.scrollTop + 40
     || top > box.scrollTop + box.clientHeight - 60) box.scrollTop = top - box.clientHeight / 2.5;
