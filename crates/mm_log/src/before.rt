@@ -94,7 +94,7 @@ fn instruction_at<M: Inspect>(machine: &Machine<M>, access: Access) -> Option<In
 }
 
 /// The instruction that the turn of a slot comes to, if the turn does not fault before.
-fn instruction_of<M: Inspect>(machine: &Machine<M>, slot: &Slot) -> Option<Instr>
+pub(crate) fn instruction_of<M: Inspect>(machine: &Machine<M>, slot: &Slot) -> Option<Instr>
     ensures { result ≡ comes_to (state_of machine.now).memory slot.now }
 {
     if slot.past {
@@ -126,7 +126,7 @@ fn access_there<M: Inspect>(machine: &Machine<M>, access: Result<Access, Cause>)
     }
 }
 
-fn load_kind(post: Post) -> Kind
+pub(crate) fn load_kind(post: Post) -> Kind
     ensures { result ≡ load_kind_of post }
 {
     match post {
@@ -136,7 +136,7 @@ fn load_kind(post: Post) -> Kind
 }
 
 /// The word of a register.
-fn word_of(slot: &Slot, register: Reg) -> Word
+pub(crate) fn word_of(slot: &Slot, register: Reg) -> Word
     ensures { result ≡ register_of slot.now register }
 {
     slot.register(register.number())
