@@ -201,6 +201,8 @@ fn put_slots<M: Memory, O: Sink>(
 }
 
 /// The event of a fault of a slot.
+#[cold]
+#[inline(never)]
 #[tactic(auto, unfolding(mm_model::specs::Turn::event_of))]
 fn event_of(slot: &Slot, instr: &Option<Instr>, cause: Cause) -> Event
     ensures { result ≡ event_of_fault slot.now cause (address_told_of instr.now slot.now)
@@ -218,6 +220,7 @@ fn event_of(slot: &Slot, instr: &Option<Instr>, cause: Cause) -> Event
 }
 
 /// Appends the line of the event that a fault queued, if one was queued.
+#[inline(always)]
 pub(crate) fn put_queued<O: Sink>(
     text: &mut Gather,
     out: &mut O,
@@ -267,6 +270,7 @@ fn put_bytes<O: Sink>(text: &mut Gather, out: &mut O, group: u8, bytes: &[u8])
 }
 
 /// Appends the lines of the bytes that a group has put out since it had put out `before` bytes.
+#[inline(always)]
 pub(crate) fn put_out<M: Memory, O: Sink>(
     text: &mut Gather,
     out: &mut O,

@@ -1,7 +1,7 @@
 //! Turns whose instruction writes one register at most, and is about nothing else but a cell: nearly all.
 #![tactic(auto)]
 
-ghost use Rattle.std.specs.Prelude.{◌≡◌, ◌+◌, ◌<◌, ◌≤◌, ◌++◌, [], true, false, length, drop, IfSome, Some};
+ghost use Rattle.std.specs.Prelude.{◌≡◌, ◌<◌, [], true, false, drop, IfSome, Some};
 ghost use Rattle.std.specs.List.{flat_map};
 ghost use Rattle.mm_text.specs.Gathers.{Gathers};
 ghost use Rattle.mm_word.specs.declared.word.Pre.{Pre as PreValue};
@@ -16,19 +16,19 @@ ghost use Rattle.mm_log.specs.Lines.Line.{Issues, Puts};
 ghost use Rattle.mm_log.specs.Log.{text_of};
 ghost use Rattle.mm_log.specs.Seen.{queued_by};
 ghost use Rattle.mm_log.specs.Local.{written_by as written_by_of, IsNear, held_of, with_touch, cell_asked as cell_asked_of};
-ghost use Rattle.mm_log.specs.Local.{local_of, IsLocal, pointer_left, state_left, register_left, held_left, slot_left, told_of, cell_left};
+ghost use Rattle.mm_log.specs.Local.{local_of, IsLocal, pointer_left, state_left, held_left, slot_left, told_of, cell_left};
 ghost use Rattle.mm_log.specs.Local.{local_seen};
 
 use crate::after::{put_out, put_queued, put_reached};
 use crate::before::{cell_of, instruction_of, load_kind, word_of};
-use crate::lines::{put_standing, write_pointer};
-use crate::slots::{is_same_bit, is_same_pointer, is_same_word, put_loads, write_register_now};
+use crate::lines::put_standing;
+use crate::slots::{put_loads, put_pointer_left, put_register_left};
 use mm_io::Sink;
 use mm_isa::{Instr, Reg};
 use mm_machine::Machine;
 use mm_mem::{Inspect, Memory};
 use mm_model::{Slot, SlotState, Tick};
-use mm_text::{Gather, Line};
+use mm_text::Gather;
 use mm_word::{Access, Cause, Cell, GuardedPtr, Kind, Word, check};
 
 /// Which registers of its slot an instruction writes.
@@ -195,61 +195,12 @@ pub(crate) fn look_near<M: Inspect>(machine: &Machine<M>, item: u8) -> Option<Lo
     }
 }
 
-/// Puts the line of the instruction pointer before the text so far, if it changed.
-fn write_pointer_left(line: &mut Line, was: &Local, now: &Slot)
-    requires { length line.old + 30 ≤ 64 }
-    ensures { line.new ≡ text_of (pointer_left was.now.ip false now.now) ++ line.old }
-{
-    if !(is_same_pointer(was.ip, now.ip) && is_same_bit(false, now.past)) {
-        write_pointer(line, now.number, now.ip, now.past);
-    }
-}
-
-/// Puts the line of the register that was written before the text so far, if it changed.
-fn write_changed(line: &mut Line, held: &Held, now: &Slot)
-    requires { length line.old + 28 ≤ 64 }
-    ensures text { line.new
-        ≡ text_of (register_left held.now.word held.now.empty now.now held.now.register) ++ line.old }
-    ensures short { length line.new ≤ length line.old + 28 }
-{
-    let register = held.register.number();
-    let same = is_same_word(held.word, now.register(register))
-        && is_same_bit(held.empty, now.is_empty(register));
-    if !same {
-        write_register_now(line, now, register);
-    }
-}
-
-/// Puts the line of the register that was written before the text so far, if there is one and it changed.
-fn write_held(line: &mut Line, held: &Option<Held>, now: &Slot)
-    requires { length line.old + 28 ≤ 64 }
-    ensures text { line.new ≡ text_of (held_left held.now now.now) ++ line.old }
-    ensures short { length line.new ≤ length line.old + 28 }
-{
-    if let Some(held) = held {
-        write_changed(line, held, now);
-    }
-}
-
-/// Appends the lines of the instruction pointer and of the register that was written, as one text.
-fn put_moved<O: Sink>(text: &mut Gather, out: &mut O, was: &Local, now: &Slot)
-    ensures { Gathers O.taken O.faults out.old out.new text.old text.new
-        (text_of (pointer_left was.now.ip false now.now) ++ text_of (held_left was.now.held now.now)) }
-{
-    let mut line = Line::new();
-    write_held(&mut line, &was.held, now);
-    write_pointer_left(&mut line, was, now);
-    text.put_bytes(out, line.as_bytes());
-}
-
 /// Appends the line of the instruction pointer, if it changed.
-fn put_pointer_left<O: Sink>(text: &mut Gather, out: &mut O, was: &Local, now: &Slot)
+fn put_pointer_of<O: Sink>(text: &mut Gather, out: &mut O, was: &Local, now: &Slot)
     ensures { Gathers O.taken O.faults out.old out.new text.old text.new
         (text_of (pointer_left was.now.ip false now.now)) }
 {
-    let mut line = Line::new();
-    write_pointer_left(&mut line, was, now);
-    text.put_bytes(out, line.as_bytes());
+    put_pointer_left(text, out, was.ip, false, now);
 }
 
 /// Appends the line of the state, if the slot runs no more.
@@ -266,31 +217,8 @@ fn put_stop<O: Sink>(text: &mut Gather, out: &mut O, now: &Slot)
 fn put_held<O: Sink>(text: &mut Gather, out: &mut O, held: &Option<Held>, now: &Slot)
     ensures { Gathers O.taken O.faults out.old out.new text.old text.new (text_of (held_left held.now now.now)) }
 {
-    let mut line = Line::new();
-    write_held(&mut line, held, now);
-    text.put_bytes(out, line.as_bytes());
-}
-
-/// Appends the lines of the slot's changes, but for loads, where the slot runs no more.
-fn put_stopped<O: Sink>(text: &mut Gather, out: &mut O, was: &Local, now: &Slot)
-    ensures { Gathers O.taken O.faults out.old out.new text.old text.new
-        (text_of (pointer_left was.now.ip false now.now) ++ text_of (state_left Running now.now)
-        ++ text_of (held_left was.now.held now.now)) }
-{
-    put_pointer_left(text, out, was, now);
-    put_stop(text, out, now);
-    put_held(text, out, &was.held, now);
-}
-
-/// Appends the lines of the slot's changes, but for loads.
-fn put_without_loads<O: Sink>(text: &mut Gather, out: &mut O, was: &Local, now: &Slot)
-    ensures { Gathers O.taken O.faults out.old out.new text.old text.new
-        (text_of (pointer_left was.now.ip false now.now) ++ text_of (state_left Running now.now)
-        ++ text_of (held_left was.now.held now.now)) }
-{
-    match now.state {
-        SlotState::Running => put_moved(text, out, was, now),
-        _ => put_stopped(text, out, was, now),
+    if let Some(held) = held {
+        put_register_left(text, out, held.word, held.empty, now, held.register.number());
     }
 }
 
@@ -299,14 +227,18 @@ fn put_all_loads<O: Sink>(text: &mut Gather, out: &mut O, now: &Slot)
     ensures { Gathers O.taken O.faults out.old out.new text.old text.new
         (flat_map (λ load. line_text (Issues now.now.number load)) now.now.pending) }
 {
-    put_loads(text, out, now.number, &now.pending);
+    if !now.pending.is_empty() {
+        put_loads(text, out, now.number, &now.pending);
+    }
 }
 
 /// Appends the lines of the slot's changes.
 fn put_slot_left<O: Sink>(text: &mut Gather, out: &mut O, was: &Local, now: &Slot)
     ensures { Gathers O.taken O.faults out.old out.new text.old text.new (text_of (slot_left was.now now.now)) }
 {
-    put_without_loads(text, out, was, now);
+    put_pointer_of(text, out, was, now);
+    put_stop(text, out, now);
+    put_held(text, out, &was.held, now);
     put_all_loads(text, out, now);
 }
 
@@ -368,7 +300,8 @@ fn put_cell_left<M: Inspect, O: Sink>(
         (text_of (cell_left (state_of machine.now).memory cell.now)) }
 {
     if let Some((access, was)) = cell {
-        put_reached(text, out, machine, *access, was);
+        let was = *was;
+        put_reached(text, out, machine, *access, &was);
     }
 }
 
