@@ -1,20 +1,21 @@
 //! The lines of a commit log.
 #![tactic(auto, unfolding(crate::specs::Lines::line_text))]
 
-ghost use Rattle.std.specs.Prelude.{◌++◌, codes, decimal};
+ghost use Rattle.std.specs.Prelude.{◌≡◌, ◌+◌, ◌≤◌, ◌++◌, codes, decimal, length};
 ghost use Rattle.mm_text.specs.Gathers.{Gathers};
 ghost use Rattle.mm_word.specs.Cause.{number_of};
-ghost use Rattle.mm_model.specs.Lines.{past_text};
+ghost use Rattle.mm_model.specs.Lines.{word_text};
 ghost use Rattle.mm_log.specs.Lines.{line_text, register_text, event_text};
 ghost use Rattle.mm_log.specs.Lines.Line.{Points, Stands, Holds, Empties, Issues, Queues, Reads, Puts, Maps, Removes};
 ghost use Rattle.mm_log.specs.Lines.Line.{Sets};
 
 use mm_io::Sink;
 use mm_model::{Event, Pending, SlotState};
-use mm_text::{Gather, Piece, put_cell, put_state, put_word};
+use mm_text::{Gather, Line, Piece, put_state, put_word};
 use mm_word::{Cause, Cell, GuardedPtr, Word};
 
 /// Appends `ip S P`, or `ip S P past`.
+#[tactic(auto, using(mm_text::proofs::LineLengths::line_lengths), unfolding(crate::specs::Lines::line_text))]
 pub(crate) fn put_pointer<O: Sink>(
     text: &mut Gather,
     out: &mut O,
@@ -24,9 +25,13 @@ pub(crate) fn put_pointer<O: Sink>(
 )
     ensures { Gathers O.taken O.faults out.old out.new text.old text.new (line_text (Points slot ip past)) }
 {
-    put_front(text, out, "ip ", slot);
-    put_word(text, out, Word::Ptr(ip));
-    put_end(text, out, past);
+    let mut line = Line::new();
+    line.put_text(if past { " past\n" } else { "\n" });
+    write_word(&mut line, Word::Ptr(ip));
+    line.put_byte(b' ');
+    line.put_decimal(slot);
+    line.put_text("ip ");
+    text.put_bytes(out, line.as_bytes());
 }
 
 /// Appends `state S STATE`.
@@ -39,6 +44,7 @@ pub(crate) fn put_standing<O: Sink>(text: &mut Gather, out: &mut O, slot: u8, st
 }
 
 /// Appends `r S K WORD`.
+#[tactic(auto, using(mm_text::proofs::LineLengths::line_lengths), unfolding(crate::specs::Lines::line_text))]
 pub(crate) fn put_register<O: Sink>(
     text: &mut Gather,
     out: &mut O,
@@ -48,9 +54,15 @@ pub(crate) fn put_register<O: Sink>(
 )
     ensures { Gathers O.taken O.faults out.old out.new text.old text.new (line_text (Holds slot register word)) }
 {
-    put_register_front(text, out, slot, register);
-    put_word(text, out, word);
-    text.put_piece(out, &Piece::Text("\n"));
+    let mut line = Line::new();
+    line.put_byte(b'\n');
+    write_word(&mut line, word);
+    line.put_byte(b' ');
+    line.put_decimal(register);
+    line.put_byte(b' ');
+    line.put_decimal(slot);
+    line.put_text("r ");
+    text.put_bytes(out, line.as_bytes());
 }
 
 /// Appends `r S K empty`.
@@ -147,10 +159,27 @@ pub(crate) fn put_gone_page<O: Sink>(text: &mut Gather, out: &mut O, page: u64)
 }
 
 /// Appends `cell A WORD full` or `cell A WORD empty`.
+#[tactic(auto, using(mm_text::proofs::LineLengths::line_lengths), unfolding(crate::specs::Lines::line_text))]
 pub(crate) fn put_set<O: Sink>(text: &mut Gather, out: &mut O, word: u64, cell: &Cell)
     ensures { Gathers O.taken O.faults out.old out.new text.old text.new (line_text (Sets word cell.now)) }
 {
-    put_cell(text, out, word, cell);
+    let mut line = Line::new();
+    line.put_text(if cell.full { " full\n" } else { " empty\n" });
+    write_word(&mut line, cell.word);
+    line.put_byte(b' ');
+    line.put_hex(word, 14);
+    line.put_text("cell ");
+    text.put_bytes(out, line.as_bytes());
+}
+
+// Puts the text of a word before the text so far.
+#[tactic(auto, using(mm_text::proofs::LineLengths::line_lengths))]
+fn write_word(line: &mut Line, word: Word)
+    requires { length line.old + 17 ≤ 64 }
+    ensures { line.new ≡ word_text word ++ line.old }
+{
+    line.put_hex(word.bits(), 16);
+    line.put_byte(if word.is_pointer() { b'p' } else { b'i' });
 }
 
 // Appends a line's name, which ends in a blank, then a number and a blank.
@@ -165,13 +194,6 @@ fn put_front<O: Sink>(text: &mut Gather, out: &mut O, name: &str, number: u8)
             Piece::Text(" "),
         ],
     );
-}
-
-// Ends the line of an instruction pointer.
-fn put_end<O: Sink>(text: &mut Gather, out: &mut O, past: bool)
-    ensures { Gathers O.taken O.faults out.old out.new text.old text.new (past_text past) }
-{
-    text.put_piece(out, &Piece::Text(if past { " past\n" } else { "\n" }));
 }
 
 // Appends the slot, cause, instruction pointer, address operand and data operand of an event.

@@ -11,6 +11,7 @@ ghost use Rattle.mm_log.specs.Lines.{line_text};
 ghost use Rattle.mm_log.specs.Lines.Line.{Issues};
 ghost use Rattle.mm_log.specs.Changes.{pointer_changes, same_state as same_state_of, state_changes, register_now};
 ghost use Rattle.mm_log.specs.Changes.{register_changes, slot_changes as slot_changes_of};
+ghost use Rattle.mm_log.specs.Local.{pointer_left, register_left};
 ghost use Rattle.mm_log.specs.Log.{text_of};
 
 use crate::lines::{put_empty, put_load, put_pointer, put_register, put_standing};
@@ -52,13 +53,26 @@ fn is_same_state(a: SlotState, b: SlotState) -> bool
     }
 }
 
+/// Appends the line of the instruction pointer of a slot, if the pointer or `past` was another.
+pub(crate) fn put_pointer_left<O: Sink>(
+    text: &mut Gather,
+    out: &mut O,
+    ip: GuardedPtr,
+    past: bool,
+    now: &Slot,
+)
+    ensures { Gathers O.taken O.faults out.old out.new text.old text.new (text_of (pointer_left ip past now.now)) }
+{
+    if !(is_same_pointer(ip, now.ip) && is_same_bit(past, now.past)) {
+        put_pointer(text, out, now.number, now.ip, now.past);
+    }
+}
+
 /// Appends the line of the instruction pointer, if the pointer or `past` changed.
 fn put_pointer_change<O: Sink>(text: &mut Gather, out: &mut O, was: &Slot, now: &Slot)
     ensures { Gathers O.taken O.faults out.old out.new text.old text.new (text_of (pointer_changes was.now now.now)) }
 {
-    if !(is_same_pointer(was.ip, now.ip) && is_same_bit(was.past, now.past)) {
-        put_pointer(text, out, now.number, now.ip, now.past);
-    }
+    put_pointer_left(text, out, was.ip, was.past, now);
 }
 
 /// Appends the line of the state, if the state changed.
@@ -82,6 +96,25 @@ fn put_register_now<O: Sink>(text: &mut Gather, out: &mut O, now: &Slot, registe
     }
 }
 
+/// Appends the line of a register of a slot, if it held another word or if it began or ended a wait for a load.
+pub(crate) fn put_register_left<O: Sink>(
+    text: &mut Gather,
+    out: &mut O,
+    word: Word,
+    empty: bool,
+    now: &Slot,
+    register: u8,
+)
+    requires { register < 16 }
+    ensures { Gathers O.taken O.faults out.old out.new text.old text.new
+        (text_of (register_left word empty now.now register)) }
+{
+    let same = is_same_word(word, now.register(register)) && is_same_bit(empty, now.is_empty(register));
+    if !same {
+        put_register_now(text, out, now, register);
+    }
+}
+
 /// Appends the line of a register, if its word changed or it began or ended a wait for a load.
 fn put_register_change<O: Sink>(
     text: &mut Gather,
@@ -94,11 +127,14 @@ fn put_register_change<O: Sink>(
     ensures { Gathers O.taken O.faults out.old out.new text.old text.new
         (text_of (register_changes was.now now.now register)) }
 {
-    let same = is_same_word(was.register(register), now.register(register))
-        && is_same_bit(was.is_empty(register), now.is_empty(register));
-    if !same {
-        put_register_now(text, out, now, register);
-    }
+    put_register_left(
+        text,
+        out,
+        was.register(register),
+        was.is_empty(register),
+        now,
+        register,
+    );
 }
 
 fn put_register_changes<O: Sink>(text: &mut Gather, out: &mut O, was: &Slot, now: &Slot)
@@ -110,7 +146,7 @@ fn put_register_changes<O: Sink>(text: &mut Gather, out: &mut O, was: &Slot, now
     }
 }
 
-fn put_loads<O: Sink>(text: &mut Gather, out: &mut O, slot: u8, loads: &[Pending])
+pub(crate) fn put_loads<O: Sink>(text: &mut Gather, out: &mut O, slot: u8, loads: &[Pending])
     ensures { Gathers O.taken O.faults out.old out.new text.old text.new
         (flat_map (λ load. line_text (Issues slot load)) loads.now) }
 {
