@@ -34,9 +34,6 @@ module _ (i : Image) (bytes : List ℕ) where
   told_memory (images.Fault kind at) none h = cc
   told_memory images.NoMemory none h = refl
 
-  pub no_fault_found : first_fault i bytes ≡ None → (offset : ℕ) → save_fault i bytes ≡ Some offset → ⊥
-  no_fault_found none offset some = let there : None ≡ Some offset = sym (ap (option_map (λ (fault : ℕ × ℕ). fault.1)) none) ∙ some in cc
-
   -- parts that are read without a fault are saved by the bytes
   pub are_saved : IsImage i → IsBytes bytes → (p : Parts) (last : Option ℕ) → first_fault i bytes ≡ None → saved_of p last ≡ saved_at i bytes → Saves bytes i p last
   are_saved img fits p last none same = record {

@@ -217,7 +217,7 @@ value_or_fault schedule_file before number bytes r (a_list xs) sound (offset, is
 value_or_fault source_file before number bytes r (an_object o) sound (kind, line, column, is, fault) means =
     let none : first_fault bytes ≡ None = meaning_has_no_fault bytes o means in cc
 value_or_fault object_file before number bytes r (an_object o) sound (kind, offset, is, fault) means =
-    let none : object_fault bytes ≡ None = objects.spelled_none bytes o means.object means.spelled in cc
+    let none : object_fault bytes ≡ None = objects.spelled_clean bytes o means.object means.spelled in cc
 value_or_fault checkpoint_file (an_image i ∷ []) number bytes r (a_checkpoint c) sound (offset, is, fault) (p, last, saves, same) =
     let none : save_fault i bytes ≡ None = checkpoints.no_fault i bytes sound.0 (record { parts = p; last = last; saves = saves }) in cc
 value_or_fault links_file before number bytes r (a_links ls) sound (offset, is, fault) means = texts.never_both links.Says links.AreLinks links_grammar bytes ls offset means fault
