@@ -15,9 +15,9 @@ use Rattle.mm_checkpoint.specs.Reading.{saved_at}
 use Rattle.mm_checkpoint.specs.Faults.{first_fault, save_fault}
 use Rattle.mm_checkpoint.specs.Laws.{SomeSaved}
 use Rattle.mm_checkpoint.specs.Steps.{told}
-use Rattle.mm_checkpoint.proofs.CleanWhole.{clean_spelled, clean_checkpoint}
+use Rattle.mm_checkpoint.proofs.FormatWhole.{clean_spelled, clean_checkpoint}
 use Rattle.mm_checkpoint.proofs.Made.{made_parts, made_saved}
-use Rattle.mm_checkpoint.proofs.SpelledWhole.{spelled_same}
+use Rattle.mm_checkpoint.proofs.FormatWhole.{spelled_same}
 
 module _ (i : Image) (bytes : List ℕ) where
   -- an error is told of the first fault
@@ -34,18 +34,15 @@ module _ (i : Image) (bytes : List ℕ) where
   told_memory (images.Fault kind at) none h = cc
   told_memory images.NoMemory none h = refl
 
-  pub no_fault_found : first_fault i bytes ≡ None → (offset : ℕ) → save_fault i bytes ≡ Some offset → ⊥
-  no_fault_found none offset some = let there : None ≡ Some offset = sym (ap (option_map (λ (fault : ℕ × ℕ). fault.1)) none) ∙ some in cc
-
   -- parts that are read without a fault are saved by the bytes
   pub are_saved : IsImage i → IsBytes bytes → (p : Parts) (last : Option ℕ) → first_fault i bytes ≡ None → saved_of p last ≡ saved_at i bytes → Saves bytes i p last
   are_saved img fits p last none same = record {
-    checkpoint = clean_checkpoint i bytes p last img fits none same;
+    checkpoint = clean_checkpoint i bytes img p last fits none same;
     spelled = clean_spelled i bytes img fits none ∙ ap spelling (sym same);
   }
 
   pub are_again : IsImage i → (p q : Parts) (last also : Option ℕ) → saved_of p last ≡ saved_at i bytes → Saves bytes i q also → saved_of p last ≡ saved_of q also
-  are_again img p q last also same saves = same ∙ spelled_same i bytes q also img saves
+  are_again img p q last also same saves = same ∙ spelled_same i bytes img q also saves
 
 -- bytes without a fault are some checkpoint
 fault_none : (f : Option (ℕ × ℕ)) → option_map (λ (fault : ℕ × ℕ). fault.1) f ≡ None → f ≡ None

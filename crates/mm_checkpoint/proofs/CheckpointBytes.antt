@@ -6,9 +6,6 @@ use Rattle.std.specs.List.{flat_map, AllByRecursion}
 use Rattle.std.proofs.lemmas.List.{length-append, length-map}
 use Rattle.std.proofs.lemmas.List.Sums.{count_by-le-length}
 use Rattle.std.proofs.Math.Pow.{pow_mono}
-use Rattle.mm_word.specs.declared.cause.Cause.{Cause}
-use Rattle.mm_word.specs.declared.cause.Cause.TheVariants.{NotPointer, Perm, Bounds, Align, NoPage, Sync, Illegal, Priv, DivZero, Malformed, Trap, NoSlot, OutFull}
-use Rattle.mm_word.specs.Cause.{number_of}
 use Rattle.mm_word.specs.Pointer.{bits_of}
 use Rattle.mm_word.specs.declared.word.Word.{Word}
 use Rattle.mm_word.specs.declared.word.Word.TheVariants.{Int}
@@ -16,16 +13,14 @@ use Rattle.mm_word.specs.declared.word.Cell.{Cell}
 use Rattle.mm_word.specs.Word.{word_bits, is_pointer}
 use Rattle.mm_model.specs.declared.event.Event.{Event}
 use Rattle.mm_model.specs.declared.slot.Pending.{Pending}
-use Rattle.mm_model.specs.declared.slot.SlotState.{SlotState}
-use Rattle.mm_model.specs.declared.slot.SlotState.TheVariants.{Running, Waiting, Taken, Halted}
 use Rattle.mm_model.specs.Flags.{flags, one_if, number_of_flags}
-use Rattle.mm_model.specs.Slot.{Slot}
+use Rattle.mm_model.specs.Slot.{Slot, is_empty}
 use Rattle.mm_model.specs.Image.{Image, frame_limit}
 use Rattle.mm_model.specs.Fits.{identity_of}
 use Rattle.mm_model.specs.Places.{IsBytes}
 use Rattle.mm_model.specs.Spelling.{IsImage, words_spelling, bitmap, page_record}
 use Rattle.mm_model.specs.Typed.{IsTypedSlot}
-use Rattle.mm_model.proofs.CoreRows.{slot_limit-few}
+use Rattle.mm_model.proofs.CoreRows.{each_map, slot_limit-few}
 use Rattle.mm_model.proofs.ImageBytes.Apart.{number_of_flags-below}
 use Rattle.mm_thread.specs.Output.{Output}
 use Rattle.mm_machine.specs.Snapshot.{Parts, IsPending}
@@ -33,10 +28,11 @@ use Rattle.mm_checkpoint.specs.Checkpoints.{Saved, saved_of, IsCheckpoint, last_
 use Rattle.mm_checkpoint.specs.Laws.{CheckpointsAreShort}
 use Rattle.mm_checkpoint.proofs.FewOutputs.{few_outputs}
 use Rattle.mm_checkpoint.proofs.OutputBytes.{AreBytes}
-use Rattle.mm_checkpoint.proofs.SpelledPages.{pages_long}
-use Rattle.mm_checkpoint.proofs.SpelledParts.{length-records}
-use Rattle.mm_checkpoint.proofs.SpelledPending.{pending_set, is_entry}
-use Rattle.mm_checkpoint.proofs.SpelledText.{length-slot_record}
+use Rattle.mm_checkpoint.proofs.CleanLoads.{all_small}
+use Rattle.mm_checkpoint.proofs.FormatFits.{loads_fit, fit_loads}
+use Rattle.mm_checkpoint.proofs.Lengths.{length-records, pages_long, length-slot_record}
+use Rattle.mm_checkpoint.proofs.SpelledPending.{pending_set}
+use Rattle.mm_checkpoint.proofs.SpelledStates.{state_small, cause_small}
 use Rattle.mm_checkpoint.proofs.Waits.{few_events}
 
 -- 1. Lists of bytes.
@@ -57,10 +53,6 @@ each_part spell (x ∷ xs) h = joined (spell x) (flat_map spell xs) h.0 (each_pa
 all_of : {A : Type 0} (P : A → Type 0) → ((x : A) → P x) → (xs : List A) → AllByRecursion P xs
 all_of P h [] = tt
 all_of P h (x ∷ xs) = (h x, all_of P h xs)
-
-by_places : {A : Type 0} (P : A → Type 0) (xs : List A) → ((k : ℕ) (d : A) → k < length xs → P (get_or xs k d)) → AllByRecursion P xs
-by_places P [] h = tt
-by_places P (x ∷ xs) h = (h 0 x (omega arith), by_places P xs (λ k d lt. h (suc k) d (omega arith)))
 
 low_byte : (n : ℕ) → n % 256 < 256
 low_byte n = omega arith
@@ -86,35 +78,6 @@ tagged_bytes w = (one_if_byte (is_pointer w), number_bytes 8 (word_bits w))
 
 -- 2. The record of a slot.
 
-state_small : (state : SlotState) → state_byte state < 256
-state_small Running = omega arith
-state_small Waiting = omega arith
-state_small Taken = omega arith
-state_small (Halted c) = omega arith
-
-number_small : (c : Cause) → number_of c < 256
-number_small NotPointer = omega arith
-number_small Perm = omega arith
-number_small Bounds = omega arith
-number_small Align = omega arith
-number_small NoPage = omega arith
-number_small Sync = omega arith
-number_small Illegal = omega arith
-number_small Priv = omega arith
-number_small DivZero = omega arith
-number_small Malformed = omega arith
-number_small Trap = omega arith
-number_small NoSlot = omega arith
-number_small OutFull = omega arith
-
-cause_small : (state : SlotState) (event : Option Event) → cause_byte state event < 256
-cause_small Running event = omega arith
-cause_small Waiting None = omega arith
-cause_small Waiting (Some event) = number_small event.cause
-cause_small Taken event = omega arith
-cause_small (Halted None) event = omega arith
-cause_small (Halted (Some c)) event = number_small c
-
 place_few : (events : List (ℕ × Event)) (queue slot : ℕ) → place_in events queue slot ≤ length events
 place_few [] queue slot = omega arith
 place_few (x ∷ events) queue slot = by (x.1.slot == slot) (x.0 == queue) (place_few events queue slot)
@@ -124,7 +87,7 @@ place_few (x ∷ events) queue slot = by (x.1.slot == slot) (x.0 == queue) (plac
     by false true le = omega arith
     by false false le = omega arith
 
-place_small : (events : List (ℕ × Event)) (s : Slot) → length events ≤ 64 → place_byte events s < 256
+pub place_small : (events : List (ℕ × Event)) (s : Slot) → length events ≤ 64 → place_byte events s < 256
 place_small events s few = by (state_byte s.state == 1) (place_few events (elim s.handler [ None ↦ 0 | Some handler ↦ handler ]) s.number)
   where
     by : {n : ℕ} (b : Bool) → n ≤ length events → cond b n 0 < 256
@@ -146,10 +109,14 @@ module _ (events : List (ℕ × Event)) (s : Slot) (few : length events ≤ 64) 
   slot_length = let long = length-slot_record events s typed.registers in omega (arith, long, few_pending)
 
   entries_bytes : AreBytes (flat_map pending_record s.pending)
+  unfolding is_empty
   entries_bytes =
+      let n = number_of_flags s.empty in
+      let fits = fit_loads s.empty typed.flags [] s.pending (λ r. (pending r).loads) typed.loads in
       each_part pending_record s.pending
-      (by_places (λ (p : Pending). AreBytes (pending_record p)) s.pending
-      (λ k d lt. let is = is_entry s typed.flags pending k d lt in let small = is.register in (omega (arith, small), tagged_bytes (get_or s.pending k d).word)))
+      (each_map (λ (p : Pending). p.reg < 16) (λ (p : Pending). AreBytes (pending_record p))
+      (λ p small. (omega arith, tagged_bytes p.word)) s.pending
+      (all_small (flags 16 n) [] s.pending (loads_fit n (length s.pending) [] s.pending fits).0))
 
   slot_bytes : AreBytes (slot_record events s)
   unfolding slot_record
@@ -239,7 +206,7 @@ page_bytes page =
 
 -- 4. The whole.
 
-last_small : (last : Option ℕ) → IfSome last (λ n. n < 64) → last_byte last < 256
+pub last_small : (last : Option ℕ) → IfSome last (λ n. n < 64) → last_byte last < 256
 last_small None small = omega arith
 last_small (Some n) small = omega arith
 
@@ -258,7 +225,7 @@ header_bytes c small =
     (number_bytes 8 c.cycles))
     (number_bytes 2 (length c.pages))
 
-frames_few : (version : ℕ) → frame_limit version ≤ 4096
+pub frames_few : (version : ℕ) → frame_limit version ≤ 4096
 frames_few version = by (version == 1)
   where
     by : (b : Bool) → cond b 256 4096 ≤ 4096
@@ -269,14 +236,14 @@ module _ (i : Image) (p : Parts) (last : Option ℕ) (image : IsImage i) (checkp
   abbrev c : Saved
   c = saved_of p last
 
-  few_slots : length p.slots ≤ 64
+  pub few_slots : length p.slots ≤ 64
   few_slots =
       let same : length p.slots ≡ length i.slots = sym (length-map p.slots identity_of) ∙ ap length checkpoint.slots ∙ length-map i.slots identity_of in
       let few = image.few_slots in
       let limit = slot_limit-few i.version in
       omega (arith, same, few, limit)
 
-  queued : length p.events ≤ 64
+  pub queued : length p.events ≤ 64
   queued = let few = few_events p checkpoint.rules in omega (arith, few, few_slots)
 
   pub checkpoint_bytes : AllByRecursion (λ (o : ℕ × List ℕ). AreBytes o.1) c.outputs → AreBytes (spelling c)

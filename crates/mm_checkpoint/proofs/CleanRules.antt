@@ -41,7 +41,7 @@ pub record IsRight (i : Image) (c : Saved) : Type 0 where
   pub plain : i.split ≡ false → AllByRecursion (λ (s : Slot). s.pending ≡ []) c.slots
   pub issued : IfSome c.last (λ n. n < 64)
 
-limit_small : (version : ℕ) → output_limit version ≤ 65536
+pub limit_small : (version : ℕ) → output_limit version ≤ 65536
 limit_small version = by (version == 1)
   where
     by : (b : Bool) → cond b 4096 65536 ≤ 65536

@@ -1,13 +1,11 @@
 -- The bytes of a slot's state and of its cause.
-use Rattle.std.proofs.Common.{◌≡◌, ℕ, zero, suc, ◌<◌, ◌≤◌, Bool, true, false, not, cond, Option, Some, refl, sym, ap, ◌∙◌, arith, eqb-true}
+use Rattle.std.proofs.Common.{◌≡◌, ℕ, zero, suc, ◌<◌, ◌≤◌, Bool, true, false, not, Option, Some, refl, sym, ap, ◌∙◌, arith, eqb-true}
 use Rattle.std.specs.Prelude.{◌==◌, ◌&&◌, ◌||◌, unwrap_or, slice_get}
-use Rattle.std.proofs.lemmas.Bool.Decides.{nat_tests}
 use Rattle.mm_word.specs.declared.cause.Cause.{Cause}
 use Rattle.mm_word.specs.declared.cause.Cause.TheVariants.{NotPointer, Perm, Bounds, Align, NoPage, Sync, Illegal, Priv, DivZero, Malformed, Trap, NoSlot, OutFull}
 use Rattle.mm_word.specs.Cause.{number_of}
-use Rattle.mm_model.specs.declared.slot.SlotState.TheVariants.{Running, Waiting, Taken, Halted}
+use Rattle.mm_model.specs.declared.slot.SlotState.TheVariants.{Waiting, Halted}
 use Rattle.mm_model.specs.declared.event.Event.{Event}
-use Rattle.mm_model.specs.Fits.{is_waiting}
 use Rattle.mm_model.proofs.ImageBytes.Clean.{neither, not_not, is_above, is_not}
 use Rattle.mm_checkpoint.specs.Checkpoints.{state_byte, cause_byte}
 use Rattle.mm_checkpoint.specs.Reading.{causes, cause_of, state_of}
@@ -65,21 +63,6 @@ state_again (suc zero) ca le = refl
 state_again (suc (suc zero)) ca le = refl
 state_again (suc (suc (suc zero))) ca le = refl
 state_again (suc (suc (suc (suc n)))) ca le = absurd (omega arith)
-
-pub waits_again : (st ca : ℕ) → is_waiting (state_of st ca) ≡ (st == 1)
-waits_again zero ca = refl
-waits_again (suc zero) ca = refl
-waits_again (suc (suc zero)) ca = refl
-waits_again (suc (suc (suc n))) ca = grind (arith, nat_tests)
-
-is_two : (a b c : Bool) (cause : Option Cause) → cond a Running (cond b Waiting (cond c Taken (Halted cause))) ≡ Taken → c ≡ true
-is_two true b c cause e = absurd cc
-is_two false true c cause e = absurd cc
-is_two false false true cause e = refl
-is_two false false false cause e = absurd cc
-
-pub taken_again : (st ca : ℕ) → state_of st ca ≡ Taken → st ≡ 2
-taken_again st ca e = eqb-true st 2 (is_two (st == 0) (st == 1) (st == 2) (cause_of ca) e)
 
 -- 3. The byte of a cause, where the event of a slot that waits is known.
 

@@ -5,10 +5,10 @@ use Rattle.mm_model.specs.Image.{Image}
 use Rattle.mm_model.specs.Spelling.{IsImage}
 use Rattle.mm_checkpoint.specs.Faults.{save_fault}
 use Rattle.mm_checkpoint.specs.Laws.{SomeSaved, CheckpointsAreOne}
-use Rattle.mm_checkpoint.proofs.SpelledWhole.{spelled_clean, spelled_same}
+use Rattle.mm_checkpoint.proofs.FormatWhole.{spelled_clean, spelled_same}
 
 pub no_fault : (i : Image) (bytes : List ℕ) → IsImage i → SomeSaved i bytes → save_fault i bytes ≡ None
-no_fault i bytes image some = ap (option_map (λ (fault : ℕ × ℕ). fault.1)) (spelled_clean i bytes some.parts some.last image some.saves)
+no_fault i bytes image some = ap (option_map (λ (fault : ℕ × ℕ). fault.1)) (spelled_clean i bytes image some.parts some.last some.saves)
 
 pub are_one : CheckpointsAreOne
-are_one i bytes p q last also image saves saves_also = sym (spelled_same i bytes p last image saves) ∙ spelled_same i bytes q also image saves_also
+are_one i bytes p q last also image saves saves_also = sym (spelled_same i bytes image p last saves) ∙ spelled_same i bytes image q also saves_also

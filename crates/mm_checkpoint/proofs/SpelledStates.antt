@@ -1,5 +1,5 @@
 -- The bytes of a slot's state, and of the event that it waits with.
-use Rattle.std.proofs.Common.{◌≡◌, ◌≢◌, ℕ, true, false, nat_lt, inl, inr, List, ◌++◌, length, Option, Some, None, refl, sym, ap, subst, ◌∙◌, arith}
+use Rattle.std.proofs.Common.{◌≡◌, ◌≢◌, ℕ, ◌<◌, Bool, true, false, nat_lt, inl, inr, List, ◌++◌, length, Option, Some, None, refl, sym, ap, subst, ◌∙◌, arith}
 use Rattle.std.specs.Prelude.{◌==◌, ◌||◌, is_some}
 use Rattle.std.specs.Option.{option_map}
 use Rattle.mm_word.specs.declared.cause.Cause.{Cause}
@@ -12,11 +12,13 @@ use Rattle.mm_model.specs.declared.slot.SlotState.{SlotState}
 use Rattle.mm_model.specs.declared.slot.SlotState.TheVariants.{Running, Waiting, Taken, Halted}
 use Rattle.mm_model.specs.Slot.{Slot}
 use Rattle.mm_model.specs.Fits.{is_waiting}
-use Rattle.mm_checkpoint.specs.Checkpoints.{state_byte, event_of, cause_byte, tagged_word, operands}
+use Rattle.mm_word.specs.Word.{IsWord}
+use Rattle.mm_model.proofs.ImageBytes.Clean.{is_above}
+use Rattle.mm_checkpoint.specs.Checkpoints.{state_byte, event_of, cause_byte}
 use Rattle.mm_checkpoint.specs.Reading.{cause_of, state_of}
 use Rattle.mm_checkpoint.specs.Faults.{is_bad_state, is_bad_cause}
 use Rattle.mm_checkpoint.proofs.SpelledOwn.{Owns}
-use Rattle.mm_checkpoint.proofs.SpelledWords.{IsZeroUnless}
+use Rattle.mm_checkpoint.specs.Format.{address_in, value_in}
 
 -- 1. Causes.
 
@@ -66,6 +68,23 @@ known_cause NoSlot = refl
 known_cause OutFull = refl
 
 -- 2. States.
+
+pub state_small : (state : SlotState) → state_byte state < 256
+state_small Running = omega arith
+state_small Waiting = omega arith
+state_small Taken = omega arith
+state_small (Halted c) = omega arith
+
+number_small : (c : Cause) → number_of c < 256
+number_small c = let le = is_above 13 _ (known_cause c) in omega arith
+
+pub cause_small : (state : SlotState) (event : Option Event) → cause_byte state event < 256
+cause_small Running event = omega arith
+cause_small Waiting None = omega arith
+cause_small Waiting (Some event) = number_small event.cause
+cause_small Taken event = omega arith
+cause_small (Halted None) event = omega arith
+cause_small (Halted (Some c)) event = number_small c
 
 pub byte_waits : (state : SlotState) → (state_byte state == 1) ≡ is_waiting state
 byte_waits Running = refl
@@ -122,21 +141,10 @@ module _ (events : List (ℕ × Event)) (s : Slot) (owns : Owns events s) where
 
 -- 3. Operands.
 
-abbrev pub address_in : Option Event → Word
-address_in None = Int 0
-address_in (Some event) = event.addr_op
-
-abbrev pub value_in : Option Event → Word
-value_in None = Int 0
-value_in (Some event) = event.value_op
-
-pub operands_are : (o : Option Event) → operands o ≡ tagged_word (address_in o) ++ tagged_word (value_in o)
-operands_are None = refl
-operands_are (Some event) = refl
-
-pub length-operands : (o : Option Event) → length (operands o) ≡ 18
-length-operands None = refl
-length-operands (Some event) = refl
+-- a word, and integer 0 if it does not count
+pub record IsZeroUnless (counts : Bool) (w : Word) : Type 0 where
+  pub word : IsWord w
+  pub zero : counts ≡ false → w ≡ Int 0
 
 module _ (events : List (ℕ × Event)) (s : Slot) where
   pub address_fits : Owns events s → IsZeroUnless (is_waiting s.state) (address_in (event_of events s.number))

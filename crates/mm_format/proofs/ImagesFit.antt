@@ -111,7 +111,7 @@ fits_mask fs long = (
         (odd b (number_of_flags fs)) ∙ ap (λ n. b ∷ flags (length fs) n) (half b (number_of_flags fs))
         ∙ ap (λ xs. b ∷ xs) (again fs)
 
-long_bitmap : (count : ℕ) (fs : List Bool) → length (bitmap count fs) ≡ count
+pub long_bitmap : (count : ℕ) (fs : List Bool) → length (bitmap count fs) ≡ count
 long_bitmap zero fs = refl
 long_bitmap (suc count) fs = ap suc (long_bitmap count (drop 8 fs))
 
@@ -162,6 +162,36 @@ handler_again : (h : Option ℕ) → IfSome h (λ n. n < 64) → (handler_byte h
 handler_again None small = (omega arith, refl)
 handler_again (Some h) small = let other : (h == 255) ≡ false = grind (arith, nat_tests) in
     (omega arith, ap (λ b. cond b None (Some h)) (sym other))
+
+-- numbers that rise from a least one on
+module _ {A : Type 0} (key : A → ℕ) where
+  abbrev pub Rise : ℕ → List A → Type 0
+  Rise least [] = Unit {0}
+  Rise least (x ∷ xs) = (least ≤ key x) × Rise (key x + 1) xs
+
+  pub rises : (least : ℕ) (xs : List A) → Rise least xs → IsStrictlyIncreasing (map key xs)
+  rises least [] rise k lt = absurd (omega arith)
+  rises least (x ∷ []) rise k lt = absurd (omega arith)
+  rises least (x ∷ y ∷ xs) rise zero lt = omega (arith, rise.1.0)
+  rises least (x ∷ y ∷ xs) rise (suc k) lt =
+      let next : suc k + 1 ≡ suc (k + 1) = omega arith in
+      subst (λ n. slice_index (map key (x ∷ y ∷ xs)) (suc k) < slice_index (map key (x ∷ y ∷ xs)) n) (sym next)
+      (rises (key x + 1) (y ∷ xs) rise.1 k (omega arith))
+
+  rise_from : (least : ℕ) (x : A) (xs : List A) → least ≤ key x → IsStrictlyIncreasing (map key (x ∷ xs))
+      → Rise least (x ∷ xs)
+  rise_from least x [] low up = (low, tt)
+  rise_from least x (y ∷ xs) low up = (
+    low,
+    rise_from (key x + 1) y xs (omega (arith, up 0 (omega arith))) (λ k lt.
+        let next : suc k + 1 ≡ suc (k + 1) = omega arith in
+        subst (λ n. slice_index (map key (x ∷ y ∷ xs)) (suc k) < slice_index (map key (x ∷ y ∷ xs)) n) next
+        (up (suc k) (omega arith))),
+  )
+
+  pub rise_all : (xs : List A) → IsStrictlyIncreasing (map key xs) → Rise 0 xs
+  rise_all [] up = tt
+  rise_all (x ∷ xs) up = rise_from 0 x xs (omega arith) up
 
 module _ (limit : ℕ) (all : List Slot) where
   slot_fits : (least : ℕ) (s : Slot) → (slot limit least).Fits s → is_bad_handler all s ≡ false → IsFresh limit all s
@@ -245,37 +275,8 @@ module _ (limit : ℕ) (all : List Slot) where
         ),
       )
 
-  -- each number is at least so much and above the one before
-  abbrev pub Rise : ℕ → List Slot → Type 0
-  Rise least [] = Unit {0}
-  Rise least (s ∷ xs) = (least ≤ s.number) × Rise (s.number + 1) xs
-
-  rises : (least : ℕ) (xs : List Slot) → Rise least xs → IsStrictlyIncreasing (numbers_of xs)
-  rises least [] rise k lt = absurd (omega arith)
-  rises least (s ∷ []) rise k lt = absurd (omega arith)
-  rises least (s ∷ t ∷ xs) rise zero lt = omega (arith, rise.1.0)
-  rises least (s ∷ t ∷ xs) rise (suc k) lt =
-      let next : suc k + 1 ≡ suc (k + 1) = omega arith in
-      subst (λ n. slice_index (numbers_of (s ∷ t ∷ xs)) (suc k) < slice_index (numbers_of (s ∷ t ∷ xs)) n) (sym next)
-      (rises (s.number + 1) (t ∷ xs) rise.1 k (omega arith))
-
-  rise_from : (least : ℕ) (s : Slot) (xs : List Slot) → least ≤ s.number → IsStrictlyIncreasing (numbers_of (s ∷ xs))
-      → Rise least (s ∷ xs)
-  rise_from least s [] low up = (low, tt)
-  rise_from least s (t ∷ xs) low up = (
-    low,
-    rise_from (s.number + 1) t xs (omega (arith, up 0 (omega arith))) (λ k lt.
-        let next : suc k + 1 ≡ suc (k + 1) = omega arith in
-        subst (λ n. slice_index (numbers_of (s ∷ t ∷ xs)) (suc k) < slice_index (numbers_of (s ∷ t ∷ xs)) n) next
-        (up (suc k) (omega arith))),
-  )
-
-  rise_all : (xs : List Slot) → IsStrictlyIncreasing (numbers_of xs) → Rise 0 xs
-  rise_all [] up = tt
-  rise_all (s ∷ xs) up = rise_from 0 s xs (omega arith) up
-
   pub record SlotsAre (least : ℕ) (xs : List Slot) : Type 0 where
-    pub rise : Rise least xs
+    pub rise : Rise (λ (s : Slot). s.number) least xs
     pub fresh : AllByRecursion (IsFresh limit all) xs
 
   slots_fit : (n least k : ℕ) (xs : List Slot) → (times (slot limit) (λ _ s. s.number + 1) n least).Fits xs
@@ -442,7 +443,7 @@ image_fits i fits =
       mode = mode_fits i.version i.split h.1.1.1.1.0.1;
       some_slots = some _ slot_count.0;
       few_slots = is_above _ _ slot_count.1;
-      rising = rises (slot_limit i.version) i.slots 0 i.slots are.rise;
+      rising = rises (λ (s : Slot). s.number) 0 i.slots are.rise;
       fresh = are.fresh;
       some_frames = some _ frame_count.0;
       few_frames = is_above _ _ frame_count.1;
@@ -462,7 +463,7 @@ fits_image i is =
     let version : i.version < 2 ^ 16 = elim is.version [ inl one ↦ omega (arith, one) | inr two ↦ omega (arith, two) ]
     in
     let are : SlotsAre limit i.slots 0 i.slots =
-    record { rise = rise_all limit i.slots i.slots is.rising; fresh = is.fresh } in (
+    record { rise = rise_all (λ (s : Slot). s.number) i.slots is.rising; fresh = is.fresh } in (
       (
         (refl, refl),
         (

@@ -23,7 +23,7 @@ pub record Says {A : Type 0} (read : List ℕ → ℕ → Outcome A) (bytes : Li
 abbrev pub place_of : ℕ → Late → Place
 place_of at t = Test t.number (at + t.offset) t.bad
 
-late_bad : (end at : ℕ) (tests : List Late) → first_bad end (map (place_of at) tests) ≡ first_late at tests
+pub late_bad : (end at : ℕ) (tests : List Late) → first_bad end (map (place_of at) tests) ≡ first_late at tests
 unfolding place_fault
 late_bad end at [] = refl
 late_bad end at (t ∷ tests) = go t.bad (late_bad end at tests)

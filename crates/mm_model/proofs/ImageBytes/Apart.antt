@@ -1,7 +1,6 @@
 -- The parts of a text that the bytes have.
-use Rattle.std.proofs.Common.{◌≡◌, ℕ, zero, suc, ◌+◌, ◌*◌, ◌/◌, ◌%◌, ◌^◌, ◌<◌, Bool, true, false, cond, List, [], ◌∷◌, ◌++◌, length, get_or, take, drop, refl, sym, ap, ◌∙◌, arith}
+use Rattle.std.proofs.Common.{[], ◌≡◌, ℕ, zero, suc, ◌+◌, ◌*◌, ◌/◌, ◌%◌, ◌^◌, ◌<◌, Bool, true, false, cond, List, ◌∷◌, ◌++◌, length, get_or, take, drop, refl, sym, ap, ◌∙◌, arith}
 use Rattle.std.specs.Prelude.{◌==◌}
-use Rattle.std.specs.List.{flat_map, AllByRecursion}
 use Rattle.std.specs.Int.{w16, w32, w64, to_be_bytes, from_be_bytes}
 use Rattle.std.proofs.lemmas.Bool.Decides.{nat_tests}
 use Rattle.std.proofs.lemmas.List.{take_at, drop_at, take-take, drop-take, drop-drop, get_or-take, get_or-drop, length-take, length-drop}
@@ -24,21 +23,6 @@ module _ (bytes : List ℕ) where
     front = sym (take-take m (m + n) (drop at bytes) (omega arith)) ∙ ap (take m) e ∙ take_at a b m len;
     back = ap (take n) (sym (drop-drop m at bytes)) ∙ sym (drop-take m n (drop at bytes)) ∙ ap (drop m) e ∙ drop_at a b m len;
   }
-
-  -- records of one size
-  pub apart : {A : Type 0} (spell : A → List ℕ) (size : ℕ) (xs : List A) → AllByRecursion (λ x. length (spell x) ≡ size) xs → (at : ℕ) → part bytes at (size * length xs) ≡ flat_map spell xs
-      → (k : ℕ) (d : A) → k < length xs → part bytes (at + size * k) size ≡ spell (get_or xs k d)
-  apart spell size [] long at e k d lt = absurd (omega arith)
-  apart spell size (x ∷ xs) long at e zero d lt =
-      let all : size * suc (length xs) ≡ size + size * length xs = omega arith in
-      let two = split at size (size * length xs) (spell x) (flat_map spell xs) (ap (part bytes at) (sym all) ∙ e) long.0 in
-      let here : at + size * 0 ≡ at = omega arith in
-      ap (λ n. part bytes n size) here ∙ two.front
-  apart spell size (x ∷ xs) long at e (suc k) d lt =
-      let all : size * suc (length xs) ≡ size + size * length xs = omega arith in
-      let two = split at size (size * length xs) (spell x) (flat_map spell xs) (ap (part bytes at) (sym all) ∙ e) long.0 in
-      let there : at + size * suc k ≡ at + size + size * k = omega arith in
-      ap (λ n. part bytes n size) there ∙ apart spell size xs long.1 (at + size) two.back k d (omega arith)
 
   -- 2. Numbers.
 

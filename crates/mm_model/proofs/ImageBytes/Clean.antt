@@ -1,12 +1,12 @@
--- What is known of parts without a fault.
-use Rattle.std.proofs.Common.{◌≡◌, ℕ, ◌^◌, ◌<◌, ◌≤◌, Bool, true, false, not, nat_lt, List, ◌++◌, length, None, refl, arith}
+-- Tests that do not hold, and the first fault of an image in its parts.
+use Rattle.std.proofs.Common.{◌≡◌, ℕ, ◌<◌, ◌≤◌, Bool, true, false, not, nat_lt, List, ◌++◌, length, refl, arith}
 use Rattle.std.specs.Prelude.{◌||◌, ◌==◌, nat_le}
 use Rattle.std.specs.Option.{option_or}
 use Rattle.std.proofs.lemmas.Bool.Decides.{nat_tests}
-use Rattle.mm_model.specs.Places.{Place, first_bad, number_at, cells_places, page_record_places, end_places}
+use Rattle.mm_model.specs.Places.{Place, first_bad, end_places}
 use Rattle.mm_model.specs.ImageReading.{page_offset, version_of, slots_of, pages_of, slots_at}
 use Rattle.mm_model.specs.ImageFaults.{header_places, slots_places, handlers_places, pages_places, image_fault}
-use Rattle.mm_model.proofs.Places.{Found, first_bad-append, clean_at, clean_from, is_right}
+use Rattle.mm_model.proofs.Places.{Found, first_bad-append}
 
 pub neither : (a b : Bool) → (a || b) ≡ false → (a ≡ false) × (b ≡ false)
 neither true b e = absurd cc
@@ -29,20 +29,7 @@ module _ (bytes : List ℕ) where
   abbrev end : ℕ
   end = length bytes
 
-  -- 1. The record of a page.
-
-  pub record IsCleanPage (least at : ℕ) : Type 0 where
-    pub number : number_at bytes at 8 < 2 ^ 42
-    pub order : least ≤ number_at bytes at 8
-    pub cells : first_bad end (cells_places bytes at) ≡ None
-
-  pub clean_page : (least at : ℕ) → first_bad end (page_record_places bytes least at) ≡ None → IsCleanPage least at
-  clean_page least at e =
-      let p = clean_at end (page_record_places bytes least at) e in
-      let order = neither _ _ (is_right end _ _ _ (p 1)) in
-      record { number = is_below _ _ order.0; order = is_above _ _ order.1; cells = clean_from end (page_record_places bytes least at) e 4 }
-
-  -- 4. The whole: header, slots, handlers, pages and end.
+  -- The whole: header, slots, handlers, pages and end.
 
   abbrev pub H : Found
   H = first_bad end (header_places bytes)

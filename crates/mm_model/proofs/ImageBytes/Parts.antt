@@ -1,10 +1,9 @@
 -- Parts of bytes: so many from a place on.
-use Rattle.std.proofs.Common.{◌≡◌, ℕ, zero, suc, ◌+◌, ◌*◌, ◌-◌, ◌^◌, ◌<◌, ◌≤◌, List, [], ◌∷◌, ◌++◌, length, take, drop, sym, ap, ◌∙◌, arith, inl, inr}
-use Rattle.std.specs.List.{flat_map, range_with_len}
-use Rattle.std.specs.Int.{w16, w32, w64, from_be_bytes, to_be_bytes}
+use Rattle.std.proofs.Common.{[], ◌≡◌, ℕ, ◌+◌, ◌-◌, ◌^◌, ◌<◌, ◌≤◌, List, ◌∷◌, ◌++◌, length, take, drop, sym, ap, ◌∙◌, arith, inl, inr}
+use Rattle.std.specs.Int.{w16, w32, w64, to_be_bytes}
 use Rattle.std.proofs.Math.Seq.{take-add}
 use Rattle.std.proofs.lemmas.Bool.{cases_lt}
-use Rattle.std.proofs.lemmas.List.{drop-drop, drop_more, length-take, length-drop, get_or-take, get_or-drop, get_or_past, take-take, drop-take}
+use Rattle.std.proofs.lemmas.List.{drop-drop, drop_more, length-take, length-drop, get_or-take, get_or-drop, get_or_past}
 use Rattle.std.proofs.lemmas.Nat.{be_bytes_2, be_bytes_4, be_bytes_8}
 use Rattle.mm_model.specs.Places.{number_at}
 use Rattle.mm_model.proofs.ImageBytes.Numbers.{number_is_2, number_is_4, number_is_8, field_1}
@@ -33,13 +32,6 @@ join bytes at a b = ap (λ (t : List ℕ). part bytes at a ++ take b t) (sym (dr
 pub join_at : (bytes : List ℕ) (at next a b n : ℕ) (x y : List ℕ) → x ≡ part bytes at a → y ≡ part bytes next b → at + a ≡ next → a + b ≡ n → x ++ y ≡ part bytes at n
 join_at bytes at next a b n x y p q place size =
     ap (λ (t : List ℕ). t ++ y) p ∙ ap (λ (t : List ℕ). part bytes at a ++ t) q ∙ ap (λ (k : ℕ). part bytes at a ++ part bytes k b) (sym place) ∙ join bytes at a b ∙ ap (part bytes at) size
-
--- records of one size, one behind the other
-pub join_records : (bytes : List ℕ) (spell : ℕ → List ℕ) (at size i n : ℕ) → ((k : ℕ) → i ≤ k → k < i + n → spell k ≡ part bytes (at + size * k) size) → flat_map spell (range_with_len i n) ≡ part bytes (at + size * i) (size * n)
-join_records bytes spell at size i zero h = ap (part bytes (at + size * i)) {x = 0} (omega arith)
-join_records bytes spell at size i (suc n) h =
-    join_at bytes (at + size * i) (at + size * (i + 1)) size (size * n) (size * suc n) (spell i) (flat_map spell (range_with_len (i + 1) n)) (h i (omega arith) (omega arith))
-    (join_records bytes spell at size (i + 1) n (λ k low high. h k (omega arith) (omega arith))) (omega arith) (omega arith)
 
 -- 2. What fields say of their parts.
 
@@ -78,15 +70,3 @@ unfolding number_at
 below_64 bytes at fits le =
     let f = IsBytes-part bytes at 8 fits in
     rw (number_is_8 (part bytes at 8) (length-part bytes at 8 le)) (omega (arith, f 0, f 1, f 2, f 3, f 4, f 5, f 6, f 7))
-
--- 3. A field within a part that is known.
-
-pub number_at-within : (bytes text : List ℕ) (at o size : ℕ) → part bytes at (length text) ≡ text → o + size ≤ length text → number_at bytes (at + o) size ≡ number_at text o size
-unfolding number_at
-number_at-within bytes text at o size is le =
-    let rest : ℕ = length text - o in
-    let split : length text ≡ o + rest = omega arith in
-    let inner : drop o text ≡ take rest (drop (at + o) bytes) =
-    ap (drop o) (sym is) ∙ ap (λ (n : ℕ). drop o (take n (drop at bytes))) split ∙ drop-take o rest (drop at bytes) ∙ ap (take rest) (drop-drop o at bytes) in
-    let same : take size (drop o text) ≡ take size (drop (at + o) bytes) = ap (take size) inner ∙ take-take size rest (drop (at + o) bytes) (omega arith) in
-    ap (λ (xs : List ℕ). Rattle.std.specs.List.fold (λ n b. n * 256 + b) 0 xs) (sym same)

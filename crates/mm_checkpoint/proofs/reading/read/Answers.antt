@@ -4,7 +4,7 @@ use Rattle.mm_model.specs.Places.{IsBytes}
 use Rattle.mm_machine.specs.Snapshot.{Parts, parts_of}
 use Rattle.mm_checkpoint.specs.Checkpoints.{Saves, saved_of}
 use Rattle.mm_checkpoint.proofs.Answered.{told_fault, told_first, told_memory, are_saved, are_again}
-use Rattle.mm_checkpoint.proofs.SpelledWhole.{spelled_clean}
+use Rattle.mm_checkpoint.proofs.FormatWhole.{spelled_clean}
 use Rattle.mm_checkpoint.proofs.reading.read.Goals as goal
 
 pub returns-in_err-parts-clause-again : goal.returns-in_err-parts-clause-again
@@ -12,7 +12,7 @@ returns-in_err-parts-clause-again c =
     let p = err_from_is_err_and c.from_residual.result c.from_residual.ensures.1 in
     let i = c.args.img.now in
     let bytes = c.args.bytes.now in
-    rw (p.1, p.2) (λ q also saves. told_memory i bytes c.in_err-parts.field-0.0 (spelled_clean i bytes q also c.in_err-parts.ensures.image saves) c.in_err-parts.ensures.parts)
+    rw (p.1, p.2) (λ q also saves. told_memory i bytes c.in_err-parts.field-0.0 (spelled_clean i bytes c.in_err-parts.ensures.image q also saves) c.in_err-parts.ensures.parts)
 
 pub returns-in_err-parts-clause-fault : goal.returns-in_err-parts-clause-fault
 returns-in_err-parts-clause-fault c =

@@ -1,0 +1,202 @@
+-- The checkpoint of an image as a format: a row of its table is a line.
+use Rattle.std.specs.Prelude.{ℕ, ◌+◌, ◌*◌, Bool, not, ◌&&◌, ◌||◌, ◌==◌, nat_lt, nat_le, if◌then◌else◌, List, [], ◌∷◌}
+use Rattle.std.specs.Prelude.{◌++◌, map, length, codes, option_map, unwrap_or, is_some, Option, Some, None}
+use Rattle.mm_word.specs.declared.cause.Cause.TheVariants.{NotPointer}
+use Rattle.mm_word.specs.declared.word.Word.{Word}
+use Rattle.mm_word.specs.declared.word.Word.TheVariants.{Int, Ptr}
+use Rattle.mm_word.specs.declared.word.Cell.{Cell}
+use Rattle.mm_word.specs.Pointer.{pointer_of, spells_pointer}
+use Rattle.mm_word.specs.Word.{word_bits, is_pointer}
+use Rattle.mm_model.specs.declared.slot.Pending.{Pending}
+use Rattle.mm_model.specs.declared.event.Event.{Event}
+use Rattle.mm_model.specs.Flags.{flags, number_of_flags, one_if}
+use Rattle.mm_model.specs.Slot.{Slot}
+use Rattle.mm_model.specs.Image.{Image, output_limit}
+use Rattle.mm_format.specs.Formats.{Format, Late, byte, u16, u32, u64, text, test, literal, part, done, ◌>>=◌, each}
+use Rattle.mm_format.specs.Formats.{times, late}
+use Rattle.mm_format.specs.Images.{mask, ip, word, page}
+use Rattle.mm_checkpoint.specs.declared.header.Header.{Header}
+use Rattle.mm_checkpoint.specs.declared.waiting.Waiter.{Waiter}
+use Rattle.mm_checkpoint.specs.Checkpoints.{Saved, last_byte, state_byte, cause_byte}
+use Rattle.mm_checkpoint.specs.Reading.{cause_of, state_of, handler_of, in_order, events_of, slots_start, groups_of}
+use Rattle.mm_checkpoint.specs.Faults.{is_bad_state, is_bad_cause, bits_set, is_bad_place}
+use Rattle.mm_checkpoint.specs.Steps.{is_bad_entry}
+
+-- 1. The header.
+
+unfoldable pub header : (frames : ℕ) → Format Header
+header frames = do
+  magic ← part (λ h. codes "MMS1") (literal (codes "MMS1") 2)
+  version ← part (λ h. 1) (test u16 3 (λ n. not (n == 1)))
+  last ← part (λ h. last_byte h.last) (test byte 4 (λ n. nat_le 64 n && not (n == 255)))
+  zero ← part (λ h. 0) (test byte 4 (λ n. not (n == 0)))
+  cycles ← part (λ h. h.cycles) (test u64 4 (λ n. nat_lt 1000000 n))
+  pages ← part (λ h. h.pages) (test u16 12 (λ n. nat_lt frames n))
+  done (record { last = if last == 255 then None else Some last; cycles = cycles; pages = pages })
+
+-- 2. Words.
+
+-- a word whose bits have to pass a further test
+unfoldable pub word_with : (tagged : Bool) (bad : ℕ → Bool) → Format Word
+word_with tagged bad = do
+  bits ← part word_bits (test (test u64 9 (λ n. tagged && not (spells_pointer n))) 9 bad)
+  done (if tagged then Ptr (pointer_of bits) else Int bits)
+
+-- a word after its tag, a number up to this
+unfoldable pub tagged : (most : ℕ) → (Bool → Format Word) → Format Word
+tagged most word_by = do
+  tag ← part (λ w. one_if (is_pointer w)) (test byte 4 (nat_lt most))
+  word ← part (λ w. w) (word_by (tag == 1))
+  done word
+
+-- a register, which holds integer 0 if it is empty
+abbrev pub register : Bool × Bool → Format Word
+register masks = word_with masks.0 (λ n. masks.1 && (masks.0 || not (n == 0)))
+
+-- an operand: a word if the slot waits, else integer 0
+abbrev pub operand : (waits : Bool) → Format Word
+operand waits = tagged (one_if waits) (λ tag. word_with tag (λ n. not waits && not (n == 0)))
+
+-- a pending load, after others
+unfoldable pub load : (empty : ℕ) (earlier : List Pending) → Format Pending
+load empty earlier = do
+  register ← part (λ p. p.reg) (test byte 4 (is_bad_entry empty earlier))
+  word ← part (λ p. p.word) (tagged 1 word)
+  done (record { reg = register; word = word })
+
+-- pairs of the flags at the same place of two lists
+abbrev pub beside : List Bool → List Bool → List (Bool × Bool)
+beside [] bs = []
+beside (a ∷ rest) [] = []
+beside (a ∷ rest) (b ∷ bs) = (a, b) ∷ beside rest bs
+
+-- 3. The record of a slot.
+
+-- an event, and the count of those before it in the queue of its slot's handler
+pub record Queued : Type 0 where
+  pub place : ℕ
+  pub event : Event
+
+-- a slot, and its event if it waits
+pub record SlotRow : Type 0 where
+  pub slot : Slot
+  pub queued : Option Queued
+
+abbrev pub event_in : SlotRow → Option Event
+event_in r = option_map (λ q. q.event) r.queued
+
+abbrev pub place_in_row : Option Queued → ℕ
+place_in_row None = 0
+place_in_row (Some q) = q.place
+
+abbrev pub address_in : Option Event → Word
+address_in None = Int 0
+address_in (Some event) = event.addr_op
+
+abbrev pub value_in : Option Event → Word
+value_in None = Int 0
+value_in (Some event) = event.value_op
+
+unfoldable pub slot_row : (split : Bool) (cycles : ℕ) → Slot → Format SlotRow
+slot_row split cycles s = do
+  state ← part (λ r. state_byte r.slot.state) (test byte 8 (is_bad_state (is_some s.handler)))
+  cause ← part (λ r. cause_byte r.slot.state (event_in r)) (test byte 4 (is_bad_cause state))
+  place ← part (λ r. place_in_row r.queued) (test byte 7 (λ n. not (state == 1) && not (n == 0)))
+  past ← part (λ r. one_if r.slot.past) (test byte 4 (nat_lt 1))
+  turns ← part (λ r. r.slot.turns) (test u64 4 (nat_lt cycles))
+  ip ← part (λ r. r.slot.ip) ip
+  tags ← part (λ r. map is_pointer r.slot.regs) mask
+  empty ← part (λ r. number_of_flags r.slot.empty) (test u16 4 (λ n. not split && not (n == 0)))
+  regs ← part (λ r. r.slot.regs) (each register (beside tags (flags 16 empty)))
+  address ← part (λ r. address_in (event_in r)) (operand (state == 1))
+  value ← part (λ r. value_in (event_in r)) (operand (state == 1))
+  count ← part (λ r. length r.slot.pending) (test byte 4 (λ n. not (n == bits_set empty)))
+  pending ← part (λ r. r.slot.pending) (times (load empty) (λ earlier p. earlier ++ p ∷ []) count [])
+  done (record {
+    slot = record {
+      number = s.number;
+      group = s.group;
+      handler = s.handler;
+      regs = regs;
+      ip = ip;
+      past = past == 1;
+      turns = turns;
+      state = state_of state cause;
+      empty = flags 16 empty;
+      pending = pending;
+    };
+    queued = if state == 1 then Some (record {
+      place = place;
+      event = record {
+        slot = s.number;
+        cause = unwrap_or (cause_of cause) NotPointer;
+        ip = ip;
+        addr_op = address;
+        value_op = value;
+      };
+    }) else None;
+  })
+
+-- the slot of a record that begins at an offset, if it waits
+abbrev pub waiter_in : (at : ℕ) → Slot → Option Queued → List Waiter
+waiter_in at s None = []
+waiter_in at s (Some q) = record { handler = handler_of s; place = q.place; at = at + 2; event = q.event } ∷ []
+
+-- the slots that wait, of records from an offset on
+abbrev pub waiters_in : (at : ℕ) → List SlotRow → List Waiter
+waiters_in at [] = []
+waiters_in at (r ∷ rows) = waiter_in at r.slot r.queued ++ waiters_in (at + 171 + 10 * length r.slot.pending) rows
+
+-- the places of waiters in their order, each tested against all and against those before it
+abbrev pub queue_tests : (all earlier : List Waiter) → List Waiter → List Late
+queue_tests all earlier [] = []
+queue_tests all earlier (w ∷ waiters) =
+    record { number = 7; offset = w.at; bad = is_bad_place all earlier w }
+    ∷ queue_tests all (earlier ++ w ∷ []) waiters
+
+-- 4. The whole.
+
+-- the header, and the records of the image's slots
+pub record Front : Type 0 where
+  pub head : Header
+  pub rows : List SlotRow
+
+unfoldable pub front : Image → Format Front
+front i = do
+  head ← part (λ f. f.head) (header i.memory.frames)
+  rows ← part (λ f. f.rows) (each (slot_row i.split head.cycles) i.slots)
+  done (record { head = head; rows = rows })
+
+-- the slots that wait
+abbrev pub waiting_in : Front → List Waiter
+waiting_in f = waiters_in slots_start f.rows
+
+unfoldable pub output : (limit group : ℕ) → Format (ℕ × List ℕ)
+output limit group = do
+  size ← part (λ o. length o.1) (test u32 4 (nat_lt limit))
+  bytes ← part (λ o. o.1) (text size)
+  done (group, bytes)
+
+-- what a file says
+pub record Contents : Type 0 where
+  pub front : Front
+  pub outputs : List (ℕ × List ℕ)
+  pub pages : List (ℕ × List Cell)
+
+unfoldable pub checkpoint : Image → Format Contents
+checkpoint i = do
+  front ← part (λ c. c.front) (late (front i) (λ f. queue_tests (waiting_in f) [] (waiting_in f)))
+  outputs ← part (λ c. c.outputs) (each (output (output_limit i.version)) (groups_of i.slots))
+  pages ← part (λ c. c.pages) (times page (λ _ p. p.0 + 1) front.head.pages 0)
+  done (record { front = front; outputs = outputs; pages = pages })
+
+-- the parts of a checkpoint that they are
+abbrev pub saved_in : Contents → Saved
+saved_in c = record {
+  slots = map (λ r. r.slot) c.front.rows;
+  events = events_of (in_order (waiting_in c.front));
+  outputs = c.outputs;
+  pages = c.pages;
+  cycles = c.front.head.cycles;
+  last = c.front.head.last;
+}
