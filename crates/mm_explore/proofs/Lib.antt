@@ -1,0 +1,9 @@
+pub mod Uncounted
+pub mod Orders
+pub mod Members
+pub mod Goings
+pub mod Movings
+pub mod Coverings
+pub mod Finals
+pub mod Found
+pub mod Earliest

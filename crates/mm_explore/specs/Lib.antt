@@ -1,0 +1,7 @@
+pub mod Pairs
+pub mod Configurations
+pub mod Schedules
+pub mod Explored
+pub mod Findings
+pub mod Texts
+pub mod Laws
