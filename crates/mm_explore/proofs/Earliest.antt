@@ -68,13 +68,13 @@ module _ (i : Image) (img : IsImage i) where
       -- no covered turn before it has the fault
       none_covered : (y : Extension) → Before (extended y) (extended x) → has_fault slot cause (turn_at i y).step ≡ true → Cover i list y.schedule → ⊥
       unfolding explored_turns
-      none_covered y before yes c =
+      none_covered y before fault c =
           let z : Extension = record { schedule = c.by; item = y.item } in
           let on = (alike i c.by y.schedule c.same).each y.item in
-          let fault : has_fault slot cause (turn_at i z).step ≡ true = ap (has_fault slot cause) on.step ∙ yes in
-          let there = explores i list c.by y.item c.inside (faulting_moves (run (start i) c.by) y.item slot cause fault) in
+          let again : has_fault slot cause (turn_at i z).step ≡ true = ap (has_fault slot cause) on.step ∙ fault in
+          let there = explores i list c.by y.item c.inside (faulting_moves (run (start i) c.by) y.item slot cause again) in
           let early : Before (extended z) (extended x) = up_to_before (extended z) (extended y) (extended x) (up_to_both c.by y.schedule y.item c.early) before in
-          elim (first_found Earlier (λ y. has_fault slot cause (turn_at i y).step) (explored_turns i list) (turns_in_order list k.in_order) x z is there fault) [
+          elim (first_found Earlier (λ y. has_fault slot cause (turn_at i y).step) (explored_turns i list) (turns_in_order list k.in_order) x z is there again) [
             | inl same ↦ before_self (extended x) (subst (λ (w : Extension). Before (extended w) (extended x)) (sym same) early)
             | inr later ↦ before_self (extended x) (before_up_to (extended x) (extended z) (extended x) later (inr early))
           ]

@@ -18,14 +18,15 @@ use Rattle.mm_explore.specs.Laws.{GoesOnAlike, GoOnAlike, IsFound, ExploredIsAll
 use Rattle.mm_explore.proofs.Members.{none_in, in_map, in_flat, all_at, finds_some}
 use Rattle.mm_explore.proofs.Goings.{same_outcomes}
 use Rattle.mm_explore.proofs.Movings.{moves_or_idles}
-use Rattle.mm_explore.proofs.Coverings.{alike, leads_alike, more}
+use Rattle.mm_explore.proofs.Coverings.{alike, leads_alike}
+use Rattle.mm_explore.proofs.Orders.{more}
 use Rattle.mm_explore.proofs.Finals.{final_in, first_of}
 
 -- a cycle with an access, or with a fault, is that of a move
 pub touching_moves : (s : State) (n : ℕ) (a : Touch) → Contains (touches (turn_of s n).step) a → Contains (moves s) n
 unfolding idle
 touching_moves s n a inside = elim (moves_or_idles s n) [
-  | inl yes ↦ yes
+  | inl fault ↦ fault
   | inr k ↦ absurd (none_in a (subst (λ (t : Turned). Contains (touches t.step) a) k.1 inside))
 ]
 
@@ -33,16 +34,15 @@ no_fault : (a b : Bool) → b ≡ false → (a && b) ≡ true → ⊥
 no_fault true b e f = both_ways b e f
 no_fault false b e f = cc
 
-pub faulting_moves : (s : State) (n slot cause : ℕ) → has_fault slot cause (turn_of s n).step ≡ true → Contains (moves s) n
+idle_has_none : (s : State) (k slot cause : ℕ) → has_fault slot cause (idle s.core s.memory k).step ≡ true → ⊥
 unfolding idle
-faulting_moves s n slot cause yes = elim (moves_or_idles s n) [
+idle_has_none s k slot cause e = no_fault (k == slot) false refl e
+
+pub faulting_moves : (s : State) (n slot cause : ℕ) → has_fault slot cause (turn_of s n).step ≡ true → Contains (moves s) n
+faulting_moves s n slot cause fault = elim (moves_or_idles s n) [
   | inl move ↦ move
-  | inr k ↦ absurd (idles k.0 (sym (ap (λ (t : Turned). has_fault slot cause t.step) k.1) ∙ yes))
+  | inr k ↦ absurd (idle_has_none s k.0 slot cause (sym (ap (λ (t : Turned). has_fault slot cause t.step) k.1) ∙ fault))
 ]
-  where
-    idles : (k : ℕ) → has_fault slot cause (idle s.core s.memory k).step ≡ true → ⊥
-    unfolding idle
-    idles k e = no_fault (k == slot) false refl e
 
 -- a move from a schedule of the list is a turn explored
 pub explores : (i : Image) (list : List (List ℕ)) (t : List ℕ) (n : ℕ) → Contains list t → Contains (moves (run (start i) t)) n
@@ -80,9 +80,9 @@ module _ (i : Image) (list : List (List ℕ)) (t s : List ℕ) (inside : Contain
   }
 
   pub faults : (n slot cause : ℕ) → has_fault slot cause (turn_of there n).step ≡ true → IsSome (first_fault i list slot cause)
-  faults n slot cause yes =
+  faults n slot cause fault =
       finds_some (λ x. has_fault slot cause (turn_at i x).step) (explored_turns i list) (record { schedule = t; item = n })
-      (move_of n (faulting_moves there n slot cause yes)) (ap (has_fault slot cause) (on n).step ∙ yes)
+      (move_of n (faulting_moves there n slot cause fault)) (ap (has_fault slot cause) (on n).step ∙ fault)
 
   pub ends : (finals : List (List ℕ)) → AreFinal i list finals → IsFinal i t → (one : List ℕ) × Contains (firsts i finals) one × (outcome_at i one ≡ outcome_at i s)
   ends finals are final =
@@ -97,6 +97,6 @@ explored_is_all i limit list k all s =
       least = (t, one.1, all_at (IsLeast i) list t k.least one.1, one.2);
       touched = λ n a made. reaches i list t s one.1 one.2 any_kind n a made refl;
       wrote = λ n a made kind. reaches i list t s one.1 one.2 writes n a made kind;
-      fault = λ n slot cause yes. faults i list t s one.1 one.2 n slot cause yes;
+      fault = λ n slot cause fault. faults i list t s one.1 one.2 n slot cause fault;
       outcome = λ finals are rests. ends i list t s one.1 one.2 finals are (final_alike i s t one.2 (λ m move. rests m));
     }

@@ -3,7 +3,7 @@ use Rattle.std.proofs.Common.{◌≡◌, ◌⊎◌, inl, inr, ℕ, ◌+◌, ◌-
 use Rattle.std.specs.Prelude.{Contains}
 use Rattle.std.specs.List.{AllByRecursion, filter}
 use Rattle.std.proofs.lemmas.Bool.{both_ways}
-use Rattle.std.proofs.lemmas.List.{Contains-append_left, Contains-append_right, Contains-append_cases}
+use Rattle.std.proofs.lemmas.List.Elements.{Contains-append_left, Contains-append_right, Contains-append_cases}
 use Rattle.mm_model.specs.declared.slot.Pending.{Pending}
 use Rattle.mm_model.specs.Memory.{Memory}
 use Rattle.mm_model.specs.Slot.{Slot}
@@ -55,10 +55,10 @@ module _ (core : Core) (m : Memory) (n : ℕ) where
 
   runs_here : (s : Slot) → slot_at core n ≡ Some s → is_running s.state ≡ true → Contains (moves here) n
   unfolding slot_at moves
-  runs_here s at yes =
+  runs_here s at going =
       let k = row_of core.rows n s at in
       let number : Row → ℕ = λ row. row.slot.number in
-      let one = in_map number (filter runs core.rows) k.row (in_filter runs core.rows k.row k.inside (ap (λ (x : Slot). is_running x.state) k.slot ∙ yes)) in
+      let one = in_map number (filter runs core.rows) k.row (in_filter runs core.rows k.row k.inside (ap (λ (x : Slot). is_running x.state) k.slot ∙ going)) in
       Contains-append_left (running_slots core.rows) (if core.split then loaded_ports core.rows else []) n (subst (Contains (running_slots core.rows)) k.number one)
 
   loads_here : (s : Slot) (p : Pending) (loads : List Pending) → core.split ≡ true → 128 ≤ n → slot_at core (n - 128) ≡ Some s → s.pending ≡ p ∷ loads → Contains (moves here) n
@@ -82,7 +82,7 @@ module _ (core : Core) (m : Memory) (n : ℕ) where
   by_slot : (b : Bool) → (core.split && nat_le 128 n) ≡ b → (o : Option Slot) → (b ≡ true → slot_at core (n - 128) ≡ o) → (b ≡ false → o ≡ None) → MoveOr (taken_by_port core m n o)
   by_slot b test None at none = inr (n, refl)
   by_slot true test (Some s) at none = by_loads s (both_first core.split (nat_le 128 n) test) (leb-true 128 n (both_second core.split (nat_le 128 n) test)) (at refl) s.pending refl
-  by_slot false test (Some s) at none = let no = none refl in cc
+  by_slot false test (Some s) at none = let absent = none refl in cc
 
   by_port : (b : Bool) → (core.split && nat_le 128 n) ≡ b → MoveOr (taken_by_port core m n (if b then slot_at core (n - 128) else None))
   by_port true test = by_slot true test (slot_at core (n - 128)) (λ e. refl) (λ e. absurd (both_ways true e refl))
@@ -110,8 +110,8 @@ unfolding configuration after idle
 idle_leads s n k e = ap (λ (t : Turned). let u : State = record { core = uncounted t.core; memory = t.memory; cycles = 0 } in u) e
 
 pub others_are_idle : OthersAreIdle
-others_are_idle s n no = elim (moves_or_idles s n) [
-  | inl yes ↦ absurd (no yes)
+others_are_idle s n never = elim (moves_or_idles s n) [
+  | inl move ↦ absurd (never move)
   | inr k ↦ idle_leads s n k.0 k.1
 ]
 

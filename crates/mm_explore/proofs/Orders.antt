@@ -184,19 +184,20 @@ none_less (a ∷ s) h = h
 abbrev AtItem : (List ℕ → Type 0) → ℕ → ℕ → Type 0
 AtItem P n b = (u : List ℕ) → length u ≡ n → P (b ∷ u)
 
+lesser_items : (P : List ℕ → Type 0) (n b : ℕ) → ((k : ℕ) → k < b → AtItem P n k) → (v : List ℕ) → ((s : List ℕ) → length s ≡ n → IsLess s v → P (b ∷ s))
+    → (s : List ℕ) → length s ≡ suc n → IsLess s (b ∷ v) → P s
+lesser_items P n b lower v inner [] size less = absurd less
+lesser_items P n b lower v inner (k ∷ s) size (inl lt) = lower k lt s (omega (arith, size))
+lesser_items P n b lower v inner (k ∷ s) size (inr h) = subst (λ z. P (z ∷ s)) (sym h.0) (inner s (omega (arith, size)) h.1)
+
+at_item : (P : List ℕ → Type 0) (n : ℕ) → Lesser P (suc n) → (b : ℕ) → ((k : ℕ) → k < b → AtItem P n k) → Lesser (λ v. P (b ∷ v)) n
+at_item P n step b lower v same inner = step (b ∷ v) (ap suc same) (λ s size less. lesser_items P n b lower v inner s size less)
+
 less_rec : (n : ℕ) (P : List ℕ → Type 0) → Lesser P n → (t : List ℕ) → length t ≡ n → P t
 less_rec zero P step [] e = step [] e (λ s long less. absurd (none_less s less))
 less_rec zero P step (a ∷ t) e = absurd (omega (arith, e))
 less_rec (suc n) P step [] e = absurd (omega (arith, e))
-less_rec (suc n) P step (a ∷ t) e = number_rec (AtItem P n) each a t (omega (arith, e))
-  where
-    each : (b : ℕ) → ((k : ℕ) → k < b → AtItem P n k) → AtItem P n b
-    each b lower u long = less_rec n (λ v. P (b ∷ v)) (λ v same inner. step (b ∷ v) (ap suc same) (λ s size less. by v inner s size less)) u long
-      where
-        by : (v : List ℕ) → ((s : List ℕ) → length s ≡ n → IsLess s v → P (b ∷ s)) → (s : List ℕ) → length s ≡ suc n → IsLess s (b ∷ v) → P s
-        by v inner [] size less = absurd less
-        by v inner (k ∷ s) size (inl lt) = lower k lt s (omega (arith, size))
-        by v inner (k ∷ s) size (inr h) = subst (λ z. P (z ∷ s)) (sym h.0) (inner s (omega (arith, size)) h.1)
+less_rec (suc n) P step (a ∷ t) e = number_rec (AtItem P n) (λ b lower u long. less_rec n (λ v. P (b ∷ v)) (at_item P n step b lower) u long) a t (omega (arith, e))
 
 module _ (P : List ℕ → Type 0) (step : (t : List ℕ) → ((s : List ℕ) → Before s t → P s) → P t) where
   abbrev OfLength : ℕ → Type 0
