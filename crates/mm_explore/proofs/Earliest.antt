@@ -21,7 +21,7 @@ use Rattle.mm_explore.proofs.Found.{faulting_moves, explores, final_alike}
 
 -- 1. The turns explored are in the order of their schedules.
 
-abbrev Earlier : Extension → Extension → Type 0
+abbrev pub Earlier : Extension → Extension → Type 0
 Earlier x y = Before (extended x) (extended y)
 
 module _ (i : Image) (img : IsImage i) where
@@ -44,7 +44,7 @@ module _ (i : Image) (img : IsImage i) where
       let from = map_in make (moves (run (start i) t)) x inside in
       ap (λ (y : Extension). y.schedule) from.gives
 
-  turns_in_order : (list : List (List ℕ)) → EachPair Before list → EachPair Earlier (flat_map (extensions i) list)
+  pub turns_in_order : (list : List (List ℕ)) → EachPair Before list → EachPair Earlier (flat_map (extensions i) list)
   turns_in_order [] up = tt
   turns_in_order (t ∷ list) up =
       pairs_both Earlier (extensions i t) (flat_map (extensions i) list) (own_in_order t) (turns_in_order list up.1) (λ x y left right.

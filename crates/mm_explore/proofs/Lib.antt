@@ -7,3 +7,4 @@ pub mod Coverings
 pub mod Finals
 pub mod Found
 pub mod Earliest
+pub mod Searches

@@ -105,7 +105,7 @@ pub moves_or_idles : (s : State) (n : ℕ) → Contains (moves s) n ⊎ ((k : �
 unfolding moves
 moves_or_idles s n = move_or_idle s.core s.memory n
 
-idle_leads : (s : State) (n k : ℕ) → turn_of s n ≡ idle s.core s.memory k → configuration (after s n) ≡ configuration s
+pub idle_leads : (s : State) (n k : ℕ) → turn_of s n ≡ idle s.core s.memory k → configuration (after s n) ≡ configuration s
 unfolding configuration after idle
 idle_leads s n k e = ap (λ (t : Turned). let u : State = record { core = uncounted t.core; memory = t.memory; cycles = 0 } in u) e
 
