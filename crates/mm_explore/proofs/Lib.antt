@@ -8,3 +8,4 @@ pub mod Finals
 pub mod Found
 pub mod Earliest
 pub mod Searches
+pub mod Ones

@@ -2,6 +2,7 @@
 //!
 //! These functions do nothing when they run: the contract of each is a law.
 ghost use Rattle.mm_explore.specs.Laws.{ConfigurationsGoOn, OthersAreIdle, ExploredIsAll, FindingsAreMet};
+ghost use Rattle.mm_explore.specs.Laws.{ExplorationsAreOne};
 
 /// States of one configuration have the same moves, and the cycle of an item has in both the same outcome, the same
 /// accesses and the same entry, and leads to one configuration.
@@ -23,4 +24,9 @@ pub fn explored_is_all()
 /// Each fault and each outcome that is found is met by its schedule, and by none before it.
 pub fn findings_are_met()
     ensures { FindingsAreMet }
+{}
+
+/// The text of an exploration is determined by the image and the number of configurations.
+pub fn explorations_are_one()
+    ensures { ExplorationsAreOne }
 {}
