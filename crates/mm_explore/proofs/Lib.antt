@@ -9,3 +9,6 @@ pub mod Found
 pub mod Earliest
 pub mod Searches
 pub mod Ones
+pub mod WordForms
+pub mod SlotForms
+pub mod PartForms

@@ -4,4 +4,5 @@ pub mod Schedules
 pub mod Explored
 pub mod Findings
 pub mod Texts
+pub mod Kept
 pub mod Laws
