@@ -12,3 +12,4 @@ pub mod Ones
 pub mod WordForms
 pub mod SlotForms
 pub mod PartForms
+pub mod Keepables

@@ -5,4 +5,5 @@ pub mod Explored
 pub mod Findings
 pub mod Texts
 pub mod Kept
+pub mod Assembled
 pub mod Laws
