@@ -13,3 +13,4 @@ pub mod WordForms
 pub mod SlotForms
 pub mod PartForms
 pub mod Keepables
+pub mod Assembling
