@@ -14,3 +14,4 @@ pub mod SlotForms
 pub mod PartForms
 pub mod Keepables
 pub mod Assembling
+pub mod KeptRuns

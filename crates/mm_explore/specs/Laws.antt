@@ -1,5 +1,5 @@
 -- What holds of every exploration.
-use Rattle.std.specs.Prelude.{◌≡◌, ℕ, ◌≤◌, Bool, true, List, [], ◌∷◌, ◌++◌, Contains, Option, Some, IsSome}
+use Rattle.std.specs.Prelude.{◌≡◌, ◌↔◌, ℕ, ◌≤◌, Bool, true, List, [], ◌∷◌, ◌++◌, Contains, Option, Some, IsSome}
 use Rattle.mm_word.specs.declared.perm.Kind.{Kind}
 use Rattle.mm_word.specs.Access.{Touch}
 use Rattle.mm_model.specs.State.{State}
@@ -13,6 +13,7 @@ use Rattle.mm_explore.specs.Explored.{leads_to, IsLeast, IsExplored, IsAll}
 use Rattle.mm_explore.specs.Findings.{Extension, extended, turn_at, any_kind, writes, Reaches, has_fault, first_fault}
 use Rattle.mm_explore.specs.Findings.{IsFinal, AreFinal, outcome_at, same_outcome, firsts}
 use Rattle.mm_explore.specs.Texts.{Explores}
+use Rattle.mm_explore.specs.Kept.{kept}
 
 -- 1. States of one configuration go on alike.
 
@@ -89,3 +90,9 @@ FindingsAreMet = (i : Image) (limit : ℕ) (list : List (List ℕ)) → IsImage 
 abbrev pub ExplorationsAreOne : Type 0
 ExplorationsAreOne = (i : Image) (limit : ℕ) (text other : List ℕ) → Explores i limit text → Explores i limit other
     → text ≡ other
+
+-- 5. What is kept of the states of two runs is the same exactly if they are of one configuration.
+
+abbrev pub KeptFormsAreConfigurations : Type 0
+KeptFormsAreConfigurations = (i : Image) (a b : List ℕ) → IsImage i
+    → (kept i (run (start i) a) ≡ kept i (run (start i) b)) ↔ (leads_to i a ≡ leads_to i b)

@@ -2,7 +2,7 @@
 //!
 //! These functions do nothing when they run: the contract of each is a law.
 ghost use Rattle.mm_explore.specs.Laws.{ConfigurationsGoOn, OthersAreIdle, ExploredIsAll, FindingsAreMet};
-ghost use Rattle.mm_explore.specs.Laws.{ExplorationsAreOne};
+ghost use Rattle.mm_explore.specs.Laws.{ExplorationsAreOne, KeptFormsAreConfigurations};
 
 /// States of one configuration have the same moves, and the cycle of an item has in both the same outcome, the same
 /// accesses and the same entry, and leads to one configuration.
@@ -29,4 +29,9 @@ pub fn findings_are_met()
 /// The text of an exploration is determined by the image and the number of configurations.
 pub fn explorations_are_one()
     ensures { ExplorationsAreOne }
+{}
+
+/// What is kept of the states of two runs of an image is the same exactly if they are of one configuration.
+pub fn kept_forms_are_configurations()
+    ensures { KeptFormsAreConfigurations }
 {}
