@@ -1,0 +1,102 @@
+-- In a list that is all, what comes of every run is found.
+use Rattle.std.proofs.Common.{◌≡◌, ◌⊎◌, inl, inr, ℕ, ◌==◌, Bool, true, false, ◌&&◌, List, [], ◌∷◌, ◌++◌, Option, Some, None, refl, sym, ap, ◌∙◌, subst}
+use Rattle.std.specs.Prelude.{Contains, IsSome}
+use Rattle.std.specs.List.{AllByRecursion}
+use Rattle.std.proofs.lemmas.Bool.{both_ways}
+use Rattle.mm_word.specs.declared.perm.Kind.{Kind}
+use Rattle.mm_word.specs.Access.{Touch}
+use Rattle.mm_model.specs.declared.step.Step.{Step}
+use Rattle.mm_model.specs.State.{State}
+use Rattle.mm_model.specs.Image.{Image, start}
+use Rattle.mm_model.specs.Turn.{Turned, idle}
+use Rattle.mm_model.specs.Run.{turn_of, after, run}
+use Rattle.mm_model.specs.Trace.{touches, group_in}
+use Rattle.mm_explore.specs.Configurations.{moves}
+use Rattle.mm_explore.specs.Explored.{leads_to, IsLeast, IsExplored, IsAll}
+use Rattle.mm_explore.specs.Findings.{Extension, extended, turn_at, extensions, explored_turns, any_kind, writes, Reaches, has_fault, first_fault, IsFinal, AreFinal, outcome_at, firsts}
+use Rattle.mm_explore.specs.Laws.{GoesOnAlike, GoOnAlike, IsFound, ExploredIsAll}
+use Rattle.mm_explore.proofs.Members.{none_in, in_map, in_flat, all_at, finds_some}
+use Rattle.mm_explore.proofs.Goings.{same_outcomes}
+use Rattle.mm_explore.proofs.Movings.{moves_or_idles}
+use Rattle.mm_explore.proofs.Coverings.{alike, leads_alike}
+use Rattle.mm_explore.proofs.Orders.{more}
+use Rattle.mm_explore.proofs.Finals.{final_in, first_of}
+
+-- a cycle with an access, or with a fault, is that of a move
+pub touching_moves : (s : State) (n : ℕ) (a : Touch) → Contains (touches (turn_of s n).step) a → Contains (moves s) n
+unfolding idle
+touching_moves s n a inside = elim (moves_or_idles s n) [
+  | inl fault ↦ fault
+  | inr k ↦ absurd (none_in a (subst (λ (t : Turned). Contains (touches t.step) a) k.1 inside))
+]
+
+no_fault : (a b : Bool) → b ≡ false → (a && b) ≡ true → ⊥
+no_fault true b e f = both_ways b e f
+no_fault false b e f = cc
+
+idle_has_none : (s : State) (k slot cause : ℕ) → has_fault slot cause (idle s.core s.memory k).step ≡ true → ⊥
+unfolding idle
+idle_has_none s k slot cause e = no_fault (k == slot) false refl e
+
+pub faulting_moves : (s : State) (n slot cause : ℕ) → has_fault slot cause (turn_of s n).step ≡ true → Contains (moves s) n
+faulting_moves s n slot cause fault = elim (moves_or_idles s n) [
+  | inl move ↦ move
+  | inr k ↦ absurd (idle_has_none s k.0 slot cause (sym (ap (λ (t : Turned). has_fault slot cause t.step) k.1) ∙ fault))
+]
+
+-- a move from a schedule of the list is a turn explored
+pub explores : (i : Image) (list : List (List ℕ)) (t : List ℕ) (n : ℕ) → Contains list t → Contains (moves (run (start i) t)) n
+    → Contains (explored_turns i list) (record { schedule = t; item = n })
+unfolding explored_turns
+explores i list t n inside move =
+    let make : ℕ → Extension = λ m. record { schedule = t; item = m } in
+    in_flat (extensions i) list t (make n) inside (in_map make (moves (run (start i) t)) n move)
+
+-- a schedule after which no item changes the configuration leaves a final one
+pub final_alike : (i : Image) (s t : List ℕ) → leads_to i t ≡ leads_to i s → ((m : ℕ) → Contains (moves (run (start i) s)) m → leads_to i (more s m) ≡ leads_to i s) → IsFinal i t
+final_alike i s t e rests m move =
+    let same = (alike i t s e).moves in
+    leads_alike i t s m e ∙ rests m (subst (λ l. Contains l m) same move) ∙ sym e
+
+module _ (i : Image) (list : List (List ℕ)) (t s : List ℕ) (inside : Contains list t) (e : leads_to i t ≡ leads_to i s) where
+  abbrev there : State
+  there = run (start i) s
+
+  on : (n : ℕ) → GoesOnAlike (run (start i) t) there n
+  on n = (alike i t s e).each n
+
+  move_of : (n : ℕ) → Contains (moves there) n → Contains (explored_turns i list) (record { schedule = t; item = n })
+  move_of n move = explores i list t n inside (subst (λ l. Contains l n) (sym (alike i t s e).moves) move)
+
+  pub reaches : (passes : Kind → Bool) (n : ℕ) (a : Touch) → Contains (touches (turn_of there n).step) a → passes a.kind ≡ true → Reaches passes i list (group_in (turn_of there n)) a.addr
+  reaches passes n a made kind = record {
+    turn = record { schedule = t; item = n };
+    explored = move_of n (touching_moves there n a made);
+    access = a;
+    made = subst (λ (x : Step). Contains (touches x) a) (sym (on n).step) made;
+    kind = kind;
+    by = (on n).group;
+    at = refl;
+  }
+
+  pub faults : (n slot cause : ℕ) → has_fault slot cause (turn_of there n).step ≡ true → IsSome (first_fault i list slot cause)
+  faults n slot cause fault =
+      finds_some (λ x. has_fault slot cause (turn_at i x).step) (explored_turns i list) (record { schedule = t; item = n })
+      (move_of n (faulting_moves there n slot cause fault)) (ap (has_fault slot cause) (on n).step ∙ fault)
+
+  pub ends : (finals : List (List ℕ)) → AreFinal i list finals → IsFinal i t → (one : List ℕ) × Contains (firsts i finals) one × (outcome_at i one ≡ outcome_at i s)
+  ends finals are final =
+      let k = first_of i finals t (final_in i list finals are t inside final) in
+      (k.0, k.1, sym k.2 ∙ same_outcomes (run (start i) t) there e)
+
+pub explored_is_all : ExploredIsAll
+explored_is_all i limit list k all s =
+    let one = all s in
+    let t = one.0 in
+    record {
+      least = (t, one.1, all_at (IsLeast i) list t k.least one.1, one.2);
+      touched = λ n a made. reaches i list t s one.1 one.2 any_kind n a made refl;
+      wrote = λ n a made kind. reaches i list t s one.1 one.2 writes n a made kind;
+      fault = λ n slot cause fault. faults i list t s one.1 one.2 n slot cause fault;
+      outcome = λ finals are rests. ends i list t s one.1 one.2 finals are (final_alike i s t one.2 (λ m move. rests m));
+    }

@@ -1,0 +1,109 @@
+-- States of one configuration go on alike, and what is read of a configuration.
+use Rattle.std.proofs.Common.{◌≡◌, ℕ, ◌+◌, Bool, true, false, cond, ◌||◌, if◌then◌else◌, List, [], ◌∷◌, ◌++◌, map, Option, Some, None, refl, sym, ap, ◌∙◌}
+use Rattle.std.specs.List.{filter, list_any, range_with_len}
+use Rattle.mm_model.specs.declared.step.Step.{Step}
+use Rattle.mm_model.specs.declared.slot.SlotState.{SlotState}
+use Rattle.mm_model.specs.Memory.{Memory}
+use Rattle.mm_model.specs.Uses.{Use}
+use Rattle.mm_model.specs.Slot.{Slot}
+use Rattle.mm_model.specs.State.{Row, Core, State, slot_at, output_of}
+use Rattle.mm_model.specs.Turn.{Turned, turn}
+use Rattle.mm_model.specs.Run.{turn_of, state_of, after, run}
+use Rattle.mm_model.specs.Trace.{group_of, group_in}
+use Rattle.mm_model.specs.Report.{is_of, groups_of}
+use Rattle.mm_explore.specs.Configurations.{uncounted_slot, uncounted_row, uncounted, configuration, runs, has_load, running_slots, loaded_ports, moves}
+use Rattle.mm_explore.specs.Findings.{Outcome, is_none, outcome_of}
+use Rattle.mm_explore.specs.Laws.{GoesOnAlike, GoOnAlike, ConfigurationsGoOn}
+use Rattle.mm_explore.proofs.Uncounted.{uncounted_one, slot_at_so, SameTurn, turns_alike}
+
+-- 1. What is read of the rows without counts.
+
+filter_bare : (p : Row → Bool) → ((row : Row) → p (uncounted_row row) ≡ p row) → (rows : List Row) → filter p (map uncounted_row rows) ≡ map uncounted_row (filter p rows)
+filter_bare p h [] = refl
+filter_bare p h (row ∷ rows) =
+    ap (λ l. cond (p (uncounted_row row)) (uncounted_row row ∷ l) l) (filter_bare p h rows)
+    ∙ ap (λ b. cond b (uncounted_row row ∷ map uncounted_row (filter p rows)) (map uncounted_row (filter p rows))) (h row)
+    ∙ by (p row)
+  where
+    by : (b : Bool) → cond b (uncounted_row row ∷ map uncounted_row (filter p rows)) (map uncounted_row (filter p rows)) ≡ map uncounted_row (cond b (row ∷ filter p rows) (filter p rows))
+    by true = refl
+    by false = refl
+
+map_bare : {Y : Type 0} (f : Row → Y) → ((row : Row) → f (uncounted_row row) ≡ f row) → (rows : List Row) → map f (map uncounted_row rows) ≡ map f rows
+map_bare f h [] = refl
+map_bare f h (row ∷ rows) = ap (λ x. x ∷ map f (map uncounted_row rows)) (h row) ∙ ap (λ l. f row ∷ l) (map_bare f h rows)
+
+any_bare : (g : ℕ) (rows : List Row) → list_any (is_of g) (map uncounted_row rows) ≡ list_any (is_of g) rows
+any_bare g [] = refl
+any_bare g (row ∷ rows) = ap (λ b. is_of g row || b) (any_bare g rows)
+
+running_bare : (rows : List Row) → running_slots (map uncounted_row rows) ≡ running_slots rows
+running_bare rows =
+    ap (map (λ (row : Row). row.slot.number)) (filter_bare runs (λ row. refl) rows)
+    ∙ map_bare (λ (row : Row). row.slot.number) (λ row. refl) (filter runs rows)
+
+loaded_bare : (rows : List Row) → loaded_ports (map uncounted_row rows) ≡ loaded_ports rows
+loaded_bare rows =
+    ap (map (λ (row : Row). 128 + row.slot.number)) (filter_bare has_load (λ row. refl) rows)
+    ∙ map_bare (λ (row : Row). 128 + row.slot.number) (λ row. refl) (filter has_load rows)
+
+-- the moves of a configuration
+pub moves_bare : (s : State) → moves (configuration s) ≡ moves s
+unfolding moves configuration
+moves_bare s =
+    ap (λ l. l ++ (if s.core.split then loaded_ports (map uncounted_row s.core.rows) else [])) (running_bare s.core.rows)
+    ∙ ap (λ l. running_slots s.core.rows ++ (if s.core.split then l else [])) (loaded_bare s.core.rows)
+
+filter_same : {X : Type 0} (p q : X → Bool) → ((x : X) → p x ≡ q x) → (xs : List X) → filter p xs ≡ filter q xs
+filter_same p q h [] = refl
+filter_same p q h (x ∷ xs) = ap (λ l. cond (p x) (x ∷ l) l) (filter_same p q h xs) ∙ ap (λ b. cond b (x ∷ filter q xs) (filter q xs)) (h x)
+
+groups_bare : (core : Core) → groups_of (uncounted core) ≡ groups_of core
+groups_bare core = filter_same (λ g. list_any (is_of g) (map uncounted_row core.rows)) (λ g. list_any (is_of g) core.rows) (λ g. any_bare g core.rows) (range_with_len 0 64)
+
+-- the outcome of a configuration
+pub outcome_bare : (s : State) → outcome_of (configuration s) ≡ outcome_of s
+unfolding outcome_of configuration output_of
+outcome_bare s =
+    let core = s.core in
+    let make : List ℕ → List SlotState → List (List ℕ) → Outcome = λ ms states outputs. record { ended = is_none ms; states = states; outputs = outputs } in
+    ap (λ ms. make ms (map (λ (row : Row). row.slot.state) (map uncounted_row core.rows)) (map (output_of core) (groups_of (uncounted core)))) (moves_bare s)
+    ∙ ap (λ states. make (moves s) states (map (output_of core) (groups_of (uncounted core)))) (map_bare (λ (row : Row). row.slot.state) (λ row. refl) core.rows)
+    ∙ ap (λ gs. make (moves s) (map (λ (row : Row). row.slot.state) core.rows) (map (output_of core) gs)) (groups_bare core)
+
+pub same_outcomes : (s t : State) → configuration s ≡ configuration t → outcome_of s ≡ outcome_of t
+same_outcomes s t e = sym (outcome_bare s) ∙ ap outcome_of e ∙ outcome_bare t
+
+-- 2. The cycle of an item in states of one configuration.
+
+group_so : (o : Option Slot) → group_of (uncounted_one o) ≡ group_of o
+group_so None = refl
+group_so (Some s) = refl
+
+group_bare : (t : Turned) → group_of (slot_at (uncounted t.core) t.step.slot) ≡ group_in t
+group_bare t = ap group_of (slot_at_so t.core t.step.slot) ∙ group_so (slot_at t.core t.step.slot)
+
+turns_same : (s t : State) (n : ℕ) → configuration s ≡ configuration t → SameTurn (turn_of s n) (turn_of t n)
+unfolding configuration
+turns_same s t n e =
+    let cores : uncounted s.core ≡ uncounted t.core = ap (λ (x : State). x.core) e in
+    let memories : s.memory ≡ t.memory = ap (λ (x : State). x.memory) e in
+    turns_alike s.core t.core s.memory n cores
+    ∙ ap (λ m. record (turn t.core m n) { core = uncounted (turn t.core m n).core }) memories
+
+goes_on : (s t : State) (n : ℕ) → configuration s ≡ configuration t → GoesOnAlike s t n
+unfolding configuration after
+goes_on s t n e =
+    let same = turns_same s t n e in
+    record {
+      step = ap (λ (x : Turned). x.step) same;
+      uses = ap (λ (x : Turned). x.uses) same;
+      group = sym (group_bare (turn_of s n)) ∙ ap (λ (x : Turned). group_of (slot_at x.core x.step.slot)) same ∙ group_bare (turn_of t n);
+      leads = ap (λ (x : Turned). let u : State = record { core = x.core; memory = x.memory; cycles = 0 } in u) same;
+    }
+
+pub configurations_go_on : ConfigurationsGoOn
+configurations_go_on s t e = record {
+  moves = sym (moves_bare s) ∙ ap moves e ∙ moves_bare t;
+  each = λ n. goes_on s t n e;
+}

@@ -1,0 +1,142 @@
+-- The parts of a state of a machine of the image can be kept as their difference from the image.
+use Rattle.std.proofs.Common.{◌≡◌, ◌⊎◌, inl, inr, ℕ, ◌+◌, ◌*◌, ◌<◌, ◌≤◌, Bool, true, false, if◌then◌else◌, List, [], ◌∷◌, ◌++◌, map, length, replicate, Option, Some, None, refl, sym, ap, ◌∙◌, subst, arith}
+use Rattle.std.specs.Prelude.{◌==◌}
+use Rattle.std.specs.List.{AllByRecursion, flat_map}
+use Rattle.mm_word.specs.declared.word.Word.{Word}
+use Rattle.mm_word.specs.declared.word.Cell.{Cell}
+use Rattle.mm_word.specs.Word.{IsWord}
+use Rattle.mm_model.specs.declared.event.Event.{Event}
+use Rattle.mm_model.specs.declared.slot.Pending.{Pending}
+use Rattle.mm_model.specs.Memory.{Memory, page_at}
+use Rattle.mm_model.specs.Slot.{Slot}
+use Rattle.mm_model.specs.State.{Row, Core, State, row_in, queue_of, queue_at, output_of}
+use Rattle.mm_model.specs.Image.{Image, start, slot_limit}
+use Rattle.mm_model.specs.Spelling.{IsFresh, HoldsWords, IsImage}
+use Rattle.mm_model.specs.Report.{same_cell, changes_from, cells_or_zero, changes, groups_of}
+use Rattle.mm_model.specs.Fits.{IsSlot, slots_of, SlotHoldsWords, EventHoldsWords, RowHoldsWords, IsState, LoadsMatch, identity_of, Fits, IsKept}
+use Rattle.mm_model.proofs.CoreRows.{each_map, each_both}
+use Rattle.mm_model.proofs.Shortness.{pending_short}
+use Rattle.mm_thread.specs.Output.{Output}
+use Rattle.mm_machine.specs.Snapshot.{queued, queued_at}
+use Rattle.mm_explore.specs.Configurations.{uncounted_slot}
+use Rattle.mm_explore.specs.Kept.{Parts, output_part, parts_of, numbers_of, parts_from, kept}
+use Rattle.mm_explore.specs.Assembled.{IsStateOf}
+use Rattle.mm_explore.proofs.SlotForms.{IsKeepable, IsUnused, AreKeepable}
+use Rattle.mm_explore.proofs.PartForms.{CanKeep, parts_read}
+
+-- 1. Slots.
+
+-- what is known of a slot of a state
+record IsHeld (s : Slot) : Type 0 where
+  slot : IsSlot s
+  words : SlotHoldsWords s
+  loads : LoadsMatch s
+
+keepable : (limit : ℕ) (all : List Slot) (b s : Slot) → identity_of s ≡ identity_of b → IsFresh limit all b → IsHeld s → IsKeepable b (uncounted_slot s)
+keepable limit all b s same f h = record {
+  number = sym (ap (λ (x : ℕ × ℕ × Option ℕ). x.0) same);
+  group = sym (ap (λ (x : ℕ × ℕ × Option ℕ). x.1) same);
+  handler = sym (ap (λ (x : ℕ × ℕ × Option ℕ). x.2) same);
+  base_count = f.registers;
+  count = h.slot.registers;
+  base_words = f.words;
+  words = h.words.registers;
+  base_ip = f.ip;
+  ip = h.words.ip;
+  fetches = h.slot.executable;
+  flags = h.slot.flags;
+  few = let few = pending_short s h.slot h.loads in omega (arith, few);
+  loads = h.words.pending;
+}
+
+unused : (limit : ℕ) (all : List Slot) (b : Slot) → IsFresh limit all b → IsUnused b
+unused limit all b f = record { flags = f.empty; loads = f.pending }
+
+keepables : (limit : ℕ) (all base slots : List Slot) → map identity_of slots ≡ map identity_of base → AllByRecursion (IsFresh limit all) base → AllByRecursion IsHeld slots → AreKeepable base (map uncounted_slot slots)
+keepables limit all [] [] same f h = tt
+keepables limit all [] (s ∷ slots) same f h = cc
+keepables limit all (b ∷ base) [] same f h = cc
+keepables limit all (b ∷ base) (s ∷ slots) same f h =
+    let head : identity_of s ≡ identity_of b = cc in
+    let rest : map identity_of slots ≡ map identity_of base = cc in
+    ((keepable limit all b s head f.0 h.0, unused limit all b f.0), keepables limit all base slots rest f.1 h.1)
+
+slots_hold : (rows : List Row) → AllByRecursion RowHoldsWords rows → AllByRecursion SlotHoldsWords (map (λ (row : Row). row.slot) rows)
+slots_hold [] h = tt
+slots_hold (row ∷ rows) h = (h.0.slot, slots_hold rows h.1)
+
+held : (i : Image) (s : State) → IsStateOf i s → AllByRecursion IsHeld (slots_of s.core)
+held i s h =
+    each_both (λ (x : Slot). IsSlot x × SlotHoldsWords x) LoadsMatch IsHeld (λ x k m. record { slot = k.0; words = k.1; loads = m }) (slots_of s.core)
+    (each_both IsSlot SlotHoldsWords (λ (x : Slot). IsSlot x × SlotHoldsWords x) (λ x a b. (a, b)) (slots_of s.core) h.state.core.slots (slots_hold s.core.rows h.state.rows))
+    h.fits.matched.loads
+
+uncounted_twice : (slots : List Slot) → map uncounted_slot (map uncounted_slot slots) ≡ map uncounted_slot slots
+uncounted_twice [] = refl
+uncounted_twice (s ∷ slots) = ap (λ l. uncounted_slot s ∷ l) (uncounted_twice slots)
+
+-- 2. Events.
+
+queue_holds : (rows : List Row) (n : ℕ) → AllByRecursion RowHoldsWords rows → AllByRecursion EventHoldsWords (queue_of (row_in rows n))
+queue_holds [] n h = tt
+queue_holds (row ∷ rows) n h = by (row.slot.number == n) (queue_holds rows n h.1)
+  where
+    by : (b : Bool) → AllByRecursion EventHoldsWords (queue_of (row_in rows n)) → AllByRecursion EventHoldsWords (queue_of (if b then Some row else row_in rows n))
+    by true rest = h.0.events
+    by false rest = rest
+
+tagged_hold : (n : ℕ) (es : List Event) (rest : List (ℕ × Event)) → AllByRecursion EventHoldsWords es → AllByRecursion (λ (x : ℕ × Event). EventHoldsWords x.1) rest
+    → AllByRecursion (λ (x : ℕ × Event). EventHoldsWords x.1) (map (λ (e : Event). (n, e)) es ++ rest)
+tagged_hold n [] rest h k = k
+tagged_hold n (e ∷ es) rest h k = (h.0, tagged_hold n es rest h.1 k)
+
+queued_hold : (core : Core) → AllByRecursion RowHoldsWords core.rows → (slots : List Slot) → AllByRecursion (λ (x : ℕ × Event). EventHoldsWords x.1) (flat_map (queued_at core) slots)
+unfolding queue_at
+queued_hold core h [] = tt
+queued_hold core h (s ∷ slots) = tagged_hold s.number (queue_of (row_in core.rows s.number)) (flat_map (queued_at core) slots) (queue_holds core.rows s.number h) (queued_hold core h slots)
+
+-- 3. Cells.
+
+abbrev WordsIn : List (ℕ × Cell) → Type 0
+WordsIn cells = AllByRecursion (λ (x : ℕ × Cell). IsWord x.1.word) cells
+
+both_hold : (xs ys : List (ℕ × Cell)) → WordsIn xs → WordsIn ys → WordsIn (xs ++ ys)
+both_hold [] ys h k = k
+both_hold (x ∷ xs) ys h k = (h.0, both_hold xs ys h.1 k)
+
+changes_hold : (w : ℕ) (cells was : List Cell) → AllByRecursion (λ (c : Cell). IsWord c.word) cells → WordsIn (changes_from w cells was)
+changes_hold w [] was h = tt
+changes_hold w (c ∷ cells) [] h = tt
+changes_hold w (c ∷ cells) (d ∷ was) h = both_hold (if same_cell c d then [] else (w, c) ∷ []) (changes_from (w + 8) cells was) (by (same_cell c d)) (changes_hold (w + 8) cells was h.1)
+  where
+    by : (b : Bool) → WordsIn (if b then [] else (w, c) ∷ [])
+    by true = tt
+    by false = (h.0, tt)
+
+pages_hold : (image : Memory) (pages : List (ℕ × List Cell)) → AllByRecursion HoldsWords pages
+    → WordsIn (flat_map (λ page. changes_from (page.0 * 4096) page.1 (cells_or_zero (page_at image page.0))) pages)
+pages_hold image [] h = tt
+pages_hold image (page ∷ pages) h =
+    both_hold (changes_from (page.0 * 4096) page.1 (cells_or_zero (page_at image page.0))) (flat_map (λ page. changes_from (page.0 * 4096) page.1 (cells_or_zero (page_at image page.0))) pages)
+    (changes_hold (page.0 * 4096) page.1 (cells_or_zero (page_at image page.0)) h.0) (pages_hold image pages h.1)
+
+-- 4. All parts.
+
+pub can_keep : (i : Image) (s : State) → IsImage i → IsStateOf i s → CanKeep i (parts_of i s)
+unfolding parts_of
+can_keep i s img h = record {
+  slots = keepables (slot_limit i.version) i.slots i.slots (slots_of s.core) h.fits.same_slots img.fresh (held i s h);
+  uncounted = uncounted_twice (slots_of s.core);
+  events = queued_hold s.core h.state.rows (slots_of s.core);
+  output = output_of s.core;
+  outputs = refl;
+  cells = pages_hold i.memory s.memory.pages h.state.cells;
+}
+
+-- the parts of a state are read from the numbers by which it is kept
+pub parts_again : (i : Image) (s : State) → IsImage i → IsStateOf i s → parts_from i (kept i s) ≡ parts_of i s
+parts_again i s img h = parts_read i (parts_of i s) (can_keep i s img h)
+
+-- so what is kept of two states is the same only if their parts are
+pub kept_tells : (i : Image) (s t : State) → IsImage i → IsStateOf i s → IsStateOf i t → kept i s ≡ kept i t → parts_of i s ≡ parts_of i t
+kept_tells i s t img h k e = sym (parts_again i s img h) ∙ ap (parts_from i) e ∙ parts_again i t img k

@@ -1,0 +1,17 @@
+pub mod Uncounted
+pub mod Orders
+pub mod Members
+pub mod Goings
+pub mod Movings
+pub mod Coverings
+pub mod Finals
+pub mod Found
+pub mod Earliest
+pub mod Searches
+pub mod Ones
+pub mod WordForms
+pub mod SlotForms
+pub mod PartForms
+pub mod Keepables
+pub mod Assembling
+pub mod KeptRuns

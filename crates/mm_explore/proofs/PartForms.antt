@@ -1,0 +1,198 @@
+-- The parts of a configuration, read again from their numbers.
+use Rattle.std.proofs.Common.{◌≡◌, ℕ, zero, suc, ◌+◌, ◌*◌, ◌/◌, ◌%◌, ◌<◌, Bool, true, false, if◌then◌else◌, nat_eq, List, [], ◌∷◌, ◌++◌, map, length, take, drop, refl, sym, ap, ◌∙◌, subst, arith, eqb-true, eq-eqb, append_assoc, append-nil}
+use Rattle.std.specs.Prelude.{◌==◌}
+use Rattle.std.specs.List.{AllByRecursion, flat_map}
+use lib.Pointwise.{pointwise, pointwise_decides}
+use Rattle.mm_word.specs.declared.word.Word.{Word}
+use Rattle.mm_word.specs.declared.word.Cell.{Cell}
+use Rattle.mm_word.specs.Pointer.{Pointer, IsWellFormed, pointer_of, bits_of}
+use Rattle.mm_word.specs.Cause.{number_of}
+use Rattle.mm_word.specs.Word.{IsWord, word_bits, is_pointer}
+use Rattle.mm_word.proofs.Packing.{pointer_of-bits_of}
+use Rattle.mm_model.specs.declared.event.Event.{Event}
+use Rattle.mm_model.specs.Fits.{EventHoldsWords}
+use Rattle.mm_model.specs.Flags.{one_if}
+use Rattle.mm_model.specs.Image.{Image, start}
+use Rattle.mm_model.specs.Report.{groups_of}
+use Rattle.mm_model.specs.Slot.{Slot}
+use Rattle.mm_thread.specs.Output.{Output}
+use Rattle.mm_machine.specs.Snapshot.{page_numbers}
+use Rattle.mm_explore.specs.Configurations.{uncounted_slot}
+use Rattle.mm_explore.specs.Kept.{Parts, first_number, behind, word_of, word_form, word_from, cause_at, event_form, event_from, events_by, events_form, events_from, output_form, outputs_form, outputs_from, pages_form, pages_by, pages_from, cell_form, cells_form, cells_from, slots_form, slots_from, numbers_of, parts_with_pages, parts_with_outputs, parts_with_events, parts_with_slots, parts_from}
+use Rattle.mm_explore.proofs.WordForms.{word_again, word_read}
+use Rattle.mm_explore.proofs.SlotForms.{cause_back, AreKeepable, slots_read}
+
+-- 1. Events.
+
+abbrev event_with : ℕ → ℕ → Rattle.mm_word.specs.declared.cause.Cause.Cause → Pointer → Word → Word × List ℕ → (ℕ × Event) × List ℕ
+event_with queue slot cause ip addr value = ((queue, record { slot = slot; cause = cause; ip = ip; addr_op = addr; value_op = value.0 }), value.1)
+
+event_read : (x : ℕ × Event) (ns : List ℕ) → EventHoldsWords x.1 → event_from (event_form x ++ ns) ≡ (x, ns)
+event_read x ns h =
+    let e = x.1 in
+    let tail = word_form e.value_op ++ ns in
+    let cause = cause_back e.cause in
+    let ip = pointer_of-bits_of e.ip h.ip in
+    let addr = word_read e.addr_op tail h.address in
+    let value = word_read e.value_op ns h.value in
+    ap (λ l. let a = word_from l in event_with x.0 e.slot (cause_at (number_of e.cause)) (pointer_of (bits_of e.ip)) a.0 (word_from a.1)) (append_assoc (word_form e.addr_op) (word_form e.value_op) ns)
+    ∙ ap (λ (a : Word × List ℕ). event_with x.0 e.slot (cause_at (number_of e.cause)) (pointer_of (bits_of e.ip)) a.0 (word_from a.1)) addr
+    ∙ (λ j. event_with x.0 e.slot (cause j) (ip j) e.addr_op (value j))
+
+events_walked : (events : List (ℕ × Event)) (ns : List ℕ) → AllByRecursion (λ (x : ℕ × Event). EventHoldsWords x.1) events
+    → events_by (length events) (flat_map event_form events ++ ns) ≡ (events, ns)
+events_walked [] ns h = refl
+events_walked (x ∷ events) ns h =
+    let tail = flat_map event_form events ++ ns in
+    let make : (ℕ × Event) × List ℕ → List (ℕ × Event) × List ℕ = λ one. let later = events_by (length events) one.1 in (one.0 ∷ later.0, later.1) in
+    ap (λ l. make (event_from l)) (append_assoc (event_form x) (flat_map event_form events) ns)
+    ∙ ap make (event_read x tail h.0)
+    ∙ ap (λ (r : List (ℕ × Event) × List ℕ). (x ∷ r.0, r.1)) (events_walked events ns h.1)
+
+pub events_read : (events : List (ℕ × Event)) (ns : List ℕ) → AllByRecursion (λ (x : ℕ × Event). EventHoldsWords x.1) events → events_from (events_form events ++ ns) ≡ (events, ns)
+unfolding events_from events_form
+events_read events ns h = events_walked events ns h
+
+-- 2. Outputs.
+
+take_all : (xs ys : List ℕ) → take (length xs) (xs ++ ys) ≡ xs
+take_all [] ys = refl
+take_all (x ∷ xs) ys = ap (λ l. x ∷ l) (take_all xs ys)
+
+drop_all : (xs ys : List ℕ) → drop (length xs) (xs ++ ys) ≡ ys
+drop_all [] ys = refl
+drop_all (x ∷ xs) ys = drop_all xs ys
+
+pub outputs_read : (groups : List ℕ) (f : ℕ → List ℕ) (ns : List ℕ)
+    → outputs_from groups (outputs_form (map (λ g. let o : Output = record { group = g; bytes = f g } in o) groups) ++ ns)
+    ≡ (map (λ g. let o : Output = record { group = g; bytes = f g } in o) groups, ns)
+outputs_read [] f ns = refl
+outputs_read (g ∷ groups) f ns =
+    let part : ℕ → Output = λ g. record { group = g; bytes = f g } in
+    let tail = outputs_form (map part groups) ++ ns in
+    let make : List ℕ → List ℕ → List Output × List ℕ = λ bytes rest. let later = outputs_from groups rest in let o : Output = record { group = g; bytes = bytes } in (o ∷ later.0, later.1) in
+    ap (λ l. outputs_from (g ∷ groups) l) (append_assoc (output_form (part g)) (outputs_form (map part groups)) ns)
+    ∙ (λ j. make (take_all (f g) tail j) (drop_all (f g) tail j))
+    ∙ ap (λ (r : List Output × List ℕ). (part g ∷ r.0, r.1)) (outputs_read groups f ns)
+
+-- 3. Pages and cells.
+
+numbers_decide : (a b : ℕ) → (nat_eq a b ≡ true → a ≡ b) × (a ≡ b → nat_eq a b ≡ true)
+numbers_decide a b = (eqb-true a b, eq-eqb a b)
+
+pub pages_read : (base pages ns : List ℕ) → pages_from base (pages_form base pages ++ ns) ≡ (pages, ns)
+unfolding pages_from pages_form
+pages_read base pages ns = by (pointwise nat_eq pages base) refl
+  where
+    by : (same : Bool) → pointwise nat_eq pages base ≡ same
+        → pages_by base (first_number ((if same then 0 ∷ [] else suc (length pages) ∷ pages) ++ ns)) (behind ((if same then 0 ∷ [] else suc (length pages) ∷ pages) ++ ns)) ≡ (pages, ns)
+    by true is = ap (λ l. (l, ns)) (sym ((pointwise_decides numbers_decide pages base).0 is))
+    by false is = λ j. (take_all pages ns j, drop_all pages ns j)
+
+head_word : (a b w : ℕ) → a < 2 → b < 2 → (a + 2 * (b + 2 * w)) / 4 ≡ w
+head_word a b w low high = omega (arith, low, high)
+
+head_tag : (a b w : ℕ) → a < 2 → b < 2 → (a + 2 * (b + 2 * w)) / 2 % 2 ≡ b
+head_tag a b w low high = omega (arith, low, high)
+
+head_full : (a b w : ℕ) → a < 2 → (a + 2 * (b + 2 * w)) % 2 ≡ a
+head_full a b w low = omega (arith, low)
+
+one_small : (b : Bool) → one_if b < 2
+one_small true = omega arith
+one_small false = omega arith
+
+one_back : (b : Bool) → (one_if b == 1) ≡ b
+one_back true = refl
+one_back false = refl
+
+pub cells_read : (cells : List (ℕ × Cell)) → AllByRecursion (λ (x : ℕ × Cell). IsWord x.1.word) cells → cells_from (cells_form cells) ≡ cells
+cells_read [] h = refl
+cells_read (x ∷ cells) h =
+    let full = one_if x.1.full in
+    let tag = one_if (is_pointer x.1.word) in
+    let small_full = one_small x.1.full in
+    let small_tag = one_small (is_pointer x.1.word) in
+    let make : ℕ → Bool → Bool → List (ℕ × Cell) = λ w t f. (w, record { word = word_of t (word_bits x.1.word); full = f }) ∷ cells_from (cells_form cells) in
+    let word = head_word full tag x.0 small_full small_tag in
+    let tagged = ap (λ n. n == 1) (head_tag full tag x.0 small_full small_tag) ∙ one_back (is_pointer x.1.word) in
+    let is_full = ap (λ n. n == 1) (head_full full tag x.0 small_full) ∙ one_back x.1.full in
+    (λ j. make (word j) (tagged j) (is_full j))
+    ∙ ap (λ w. (x.0, record { word = w; full = x.1.full }) ∷ cells_from (cells_form cells)) (word_again x.1.word h.0)
+    ∙ ap (λ l. x ∷ l) (cells_read cells h.1)
+
+-- 4. All parts.
+
+-- parts that can be kept as their difference from the image
+pub record CanKeep (i : Image) (p : Parts) : Type 0 where
+  pub slots : AreKeepable i.slots p.slots
+  pub uncounted : map uncounted_slot p.slots ≡ p.slots
+  pub events : AllByRecursion (λ (x : ℕ × Event). EventHoldsWords x.1) p.events
+  pub output : ℕ → List ℕ
+  pub outputs : p.outputs ≡ map (λ g. let o : Output = record { group = g; bytes = output g } in o) (groups_of (start i).core)
+  pub cells : AllByRecursion (λ (x : ℕ × Cell). IsWord x.1.word) p.cells
+
+slots_first : (i : Image) (ns : List ℕ) → parts_from i ns ≡ parts_with_slots i (slots_from i.slots ns)
+unfolding parts_from
+slots_first i ns = refl
+
+events_first : (i : Image) (slots : List Slot × List ℕ) → parts_with_slots i slots ≡ parts_with_events i slots.0 (events_from slots.1)
+unfolding parts_with_slots
+events_first i slots = refl
+
+outputs_first : (i : Image) (slots : List Slot) (events : List (ℕ × Event) × List ℕ)
+    → parts_with_events i slots events ≡ parts_with_outputs i slots events.0 (outputs_from (groups_of (start i).core) events.1)
+unfolding parts_with_events
+outputs_first i slots events = refl
+
+pages_first : (i : Image) (slots : List Slot) (events : List (ℕ × Event)) (outputs : List Output × List ℕ)
+    → parts_with_outputs i slots events outputs ≡ parts_with_pages slots events outputs.0 (pages_from (page_numbers i.memory.pages) outputs.1)
+unfolding parts_with_outputs
+pages_first i slots events outputs = refl
+
+module _ (i : Image) (p : Parts) (k : CanKeep i p) where
+  abbrev cells_left : List ℕ
+  cells_left = cells_form p.cells
+
+  abbrev pages_left : List ℕ
+  pages_left = pages_form (page_numbers i.memory.pages) p.pages ++ cells_left
+
+  abbrev outputs_left : List ℕ
+  outputs_left = outputs_form p.outputs ++ pages_left
+
+  abbrev events_left : List ℕ
+  events_left = events_form p.events ++ outputs_left
+
+  outputs_again : (ns : List ℕ) → outputs_from (groups_of (start i).core) (outputs_form p.outputs ++ ns) ≡ (p.outputs, ns)
+  outputs_again ns =
+      ap (λ (os : List Output). outputs_from (groups_of (start i).core) (outputs_form os ++ ns)) k.outputs
+      ∙ outputs_read (groups_of (start i).core) k.output ns
+      ∙ ap (λ (os : List Output). (os, ns)) (sym k.outputs)
+
+  slots_again : slots_from i.slots (slots_form i.slots p.slots ++ events_left) ≡ (p.slots, events_left)
+  slots_again = slots_read i.slots p.slots events_left k.slots ∙ ap (λ (l : List Slot). (l, events_left)) k.uncounted
+
+  numbers_are : numbers_of i p ≡ slots_form i.slots p.slots ++ events_left
+  unfolding numbers_of
+  numbers_are = refl
+
+  step_slots : parts_from i (numbers_of i p) ≡ parts_with_slots i (p.slots, events_left)
+  step_slots = ap (parts_from i) numbers_are ∙ slots_first i (slots_form i.slots p.slots ++ events_left) ∙ ap (parts_with_slots i) slots_again
+
+  step_events : parts_with_slots i (p.slots, events_left) ≡ parts_with_events i p.slots (p.events, outputs_left)
+  step_events = events_first i (p.slots, events_left) ∙ ap (parts_with_events i p.slots) (events_read p.events outputs_left k.events)
+
+  step_outputs : parts_with_events i p.slots (p.events, outputs_left) ≡ parts_with_outputs i p.slots p.events (p.outputs, pages_left)
+  step_outputs = outputs_first i p.slots (p.events, outputs_left) ∙ ap (parts_with_outputs i p.slots p.events) (outputs_again pages_left)
+
+  step_pages : parts_with_outputs i p.slots p.events (p.outputs, pages_left) ≡ parts_with_pages p.slots p.events p.outputs (p.pages, cells_left)
+  step_pages = pages_first i p.slots p.events (p.outputs, pages_left) ∙ ap (parts_with_pages p.slots p.events p.outputs) (pages_read (page_numbers i.memory.pages) p.pages cells_left)
+
+  step_cells : parts_with_pages p.slots p.events p.outputs (p.pages, cells_left) ≡ p
+  unfolding parts_with_pages
+  step_cells =
+      let make : List (ℕ × Cell) → Parts = λ l. record { slots = p.slots; events = p.events; outputs = p.outputs; pages = p.pages; cells = l } in
+      ap make (cells_read p.cells k.cells)
+
+  pub parts_read : parts_from i (numbers_of i p) ≡ p
+  parts_read = step_slots ∙ step_events ∙ step_outputs ∙ step_pages ∙ step_cells

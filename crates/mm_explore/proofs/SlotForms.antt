@@ -1,0 +1,336 @@
+-- Slots, read again from their differences from the image's.
+use Rattle.std.proofs.Common.{◌≡◌, ℕ, zero, suc, ◌+◌, ◌*◌, ◌-◌, ◌/◌, ◌%◌, ◌^◌, ◌<◌, ◌≤◌, Bool, true, false, not, ◌&&◌, ◌||◌, if◌then◌else◌, List, [], ◌∷◌, ◌++◌, map, length, Option, Some, None, refl, sym, ap, ◌∙◌, subst, arith, eqb-true, append_assoc}
+use Rattle.std.specs.Prelude.{◌==◌, replicate}
+use Rattle.std.specs.List.{AllByRecursion, flat_map, list_any}
+use Rattle.mm_word.specs.declared.cause.Cause.{Cause}
+use Rattle.mm_word.specs.declared.cause.Cause.TheVariants.{NotPointer, Perm, Bounds, Align, NoPage, Sync, Illegal, Priv, DivZero, Malformed, Trap, NoSlot, OutFull}
+use Rattle.mm_word.specs.declared.word.Word.{Word}
+use Rattle.mm_word.specs.declared.word.Word.TheVariants.{Ptr}
+use Rattle.mm_word.specs.Cause.{number_of}
+use Rattle.mm_word.specs.Perm.{can_fetch}
+use Rattle.mm_word.specs.Pointer.{Pointer, IsWellFormed, bits_of}
+use Rattle.mm_word.specs.Word.{IsWord, word_bits, is_pointer}
+use Rattle.mm_model.specs.declared.slot.SlotState.{SlotState}
+use Rattle.mm_model.specs.declared.slot.SlotState.TheVariants.{Running, Waiting, Taken, Halted}
+use Rattle.mm_model.specs.declared.slot.Pending.{Pending}
+use Rattle.mm_model.specs.Effect.{same_word}
+use Rattle.mm_model.specs.Flags.{one_if, flags, number_of_flags}
+use Rattle.mm_model.specs.Report.{same_bit}
+use Rattle.mm_model.specs.Slot.{Slot}
+use Rattle.mm_explore.specs.Configurations.{uncounted_slot, are_some}
+use Rattle.mm_explore.specs.Findings.{state_number, same_state}
+use Rattle.mm_explore.specs.Kept.{first_number, behind, packed, changed_flags, changed_bits, words_from, load_form, loads_from, cause_at, state_at, ip_of, slot_head, slot_masks, slot_form, slot_from, is_base, slot_flags, slot_forms, slots_by, slots_form, slots_from}
+use Rattle.mm_explore.proofs.WordForms.{flags_again, flags_of, flags_below, ip_again, words_same, AreWords, words_read, length-changed, loads_read}
+
+-- 1. States.
+
+pub cause_back : (c : Cause) → cause_at (number_of c) ≡ c
+cause_back NotPointer = refl
+cause_back Perm = refl
+cause_back Bounds = refl
+cause_back Align = refl
+cause_back NoPage = refl
+cause_back Sync = refl
+cause_back Illegal = refl
+cause_back Priv = refl
+cause_back DivZero = refl
+cause_back Malformed = refl
+cause_back Trap = refl
+cause_back NoSlot = refl
+cause_back OutFull = refl
+
+fault_back : (c : Cause) → state_at (3 + number_of c) ≡ Halted (Some c)
+fault_back NotPointer = refl
+fault_back Perm = refl
+fault_back Bounds = refl
+fault_back Align = refl
+fault_back NoPage = refl
+fault_back Sync = refl
+fault_back Illegal = refl
+fault_back Priv = refl
+fault_back DivZero = refl
+fault_back Malformed = refl
+fault_back Trap = refl
+fault_back NoSlot = refl
+fault_back OutFull = refl
+
+pub state_back : (s : SlotState) → state_at (state_number s) ≡ s
+state_back Running = refl
+state_back Waiting = refl
+state_back Taken = refl
+state_back (Halted None) = refl
+state_back (Halted (Some c)) = fault_back c
+
+cause_small : (c : Cause) → number_of c ≤ 13
+cause_small NotPointer = omega arith
+cause_small Perm = omega arith
+cause_small Bounds = omega arith
+cause_small Align = omega arith
+cause_small NoPage = omega arith
+cause_small Sync = omega arith
+cause_small Illegal = omega arith
+cause_small Priv = omega arith
+cause_small DivZero = omega arith
+cause_small Malformed = omega arith
+cause_small Trap = omega arith
+cause_small NoSlot = omega arith
+cause_small OutFull = omega arith
+
+state_small : (s : SlotState) → state_number s < 32
+state_small Running = omega arith
+state_small Waiting = omega arith
+state_small Taken = omega arith
+state_small (Halted None) = omega arith
+state_small (Halted (Some c)) = let small = cause_small c in omega (arith, small)
+
+-- 2. The numbers of a head and of masks.
+
+head_state : (a b c d : ℕ) → a < 32 → (a + 32 * (b + 2 * (c + 32 * d))) % 32 ≡ a
+head_state a b c d lt = omega (arith, lt)
+
+head_past : (a b c d : ℕ) → a < 32 → b < 2 → (a + 32 * (b + 2 * (c + 32 * d))) / 32 % 2 ≡ b
+head_past a b c d lt low = omega (arith, lt, low)
+
+head_loads : (a b c d : ℕ) → a < 32 → b < 2 → c < 32 → (a + 32 * (b + 2 * (c + 32 * d))) / 64 % 32 ≡ c
+head_loads a b c d lt low few = omega (arith, lt, low, few)
+
+head_empty : (a b c d : ℕ) → a < 32 → b < 2 → c < 32 → (a + 32 * (b + 2 * (c + 32 * d))) / 2048 ≡ d
+head_empty a b c d lt low few = omega (arith, lt, low, few)
+
+masks_low : (a b : ℕ) → a < 65536 → (a + 65536 * b) % 65536 ≡ a
+masks_low a b lt = omega (arith, lt)
+
+masks_high : (a b : ℕ) → a < 65536 → (a + 65536 * b) / 65536 ≡ b
+masks_high a b lt = omega (arith, lt)
+
+one_small : (b : Bool) → one_if b < 2
+one_small true = omega arith
+one_small false = omega arith
+
+one_back : (b : Bool) → (one_if b == 1) ≡ b
+one_back true = refl
+one_back false = refl
+
+length-pointers : (words : List Word) → length (map is_pointer words) ≡ length words
+length-pointers [] = refl
+length-pointers (w ∷ words) = ap suc (length-pointers words)
+
+flags_16 : (bs : List Bool) → length bs ≡ 16 → number_of_flags bs < 65536
+flags_16 bs e = let P : ℕ → Type 0 = λ n. number_of_flags bs < 2 ^ n in subst P e (flags_below bs)
+
+-- 3. One slot.
+
+-- a slot that can be kept as its difference from another
+pub record IsKeepable (base s : Slot) : Type 0 where
+  pub number : base.number ≡ s.number
+  pub group : base.group ≡ s.group
+  pub handler : base.handler ≡ s.handler
+  pub base_count : length base.regs ≡ 16
+  pub count : length s.regs ≡ 16
+  pub base_words : AreWords base.regs
+  pub words : AreWords s.regs
+  pub base_ip : IsWellFormed base.ip
+  pub ip : IsWellFormed s.ip
+  pub fetches : can_fetch s.ip.perm ≡ true
+  pub flags : length s.empty ≡ 16
+  pub few : length s.pending < 32
+  pub loads : AllByRecursion (λ (p : Pending). IsWord p.word) s.pending
+
+module _ (base : Slot) where
+  abbrev finished : SlotState → Bool → List Bool → Pointer → List Word → List Pending × List ℕ → Slot × List ℕ
+  finished state past empty ip regs loads =
+      (record base { regs = regs; ip = ip; past = past; turns = 0; state = state; empty = empty; pending = loads.0 }, loads.1)
+
+  abbrev gathered : SlotState → Bool → ℕ → List Bool → Pointer → List Word × List ℕ → Slot × List ℕ
+  gathered state past count empty ip words = finished state past empty ip words.0 (loads_from count words.1)
+
+  abbrev made : SlotState → Bool → ℕ → List Bool → (changed tagged : List Bool) → Pointer → List ℕ → Slot × List ℕ
+  made state past count empty changed tagged ip tail = gathered state past count empty ip (words_from changed tagged base.regs tail)
+
+  module _ (s : Slot) (k : IsKeepable base s) (ns : List ℕ) where
+    abbrev a : ℕ
+    a = state_number s.state
+
+    abbrev b : ℕ
+    b = one_if s.past
+
+    abbrev c : ℕ
+    c = length s.pending
+
+    abbrev d : ℕ
+    d = number_of_flags s.empty
+
+    abbrev changed : List Bool
+    changed = changed_flags base.regs s.regs
+
+    abbrev tagged : List Bool
+    tagged = map is_pointer s.regs
+
+    long_changed : length changed ≡ 16
+    long_changed = length-changed base.regs s.regs (k.base_count ∙ sym k.count) ∙ k.count
+
+    abbrev tail : List ℕ
+    tail = (changed_bits base.regs s.regs ++ flat_map load_form s.pending) ++ ns
+
+    opened : slot_from base (slot_form base s ++ ns)
+        ≡ made (state_at (slot_head s % 32)) (slot_head s / 32 % 2 == 1) (slot_head s / 64 % 32) (flags 16 (slot_head s / 2048))
+        (flags 16 (slot_masks base s % 65536)) (flags 16 (slot_masks base s / 65536)) (ip_of base.ip (bits_of s.ip)) tail
+    unfolding slot_from slot_form
+    opened = refl
+
+    small_a : a < 32
+    small_a = state_small s.state
+
+    small_b : b < 2
+    small_b = one_small s.past
+
+    state_is : state_at (slot_head s % 32) ≡ s.state
+    state_is = ap state_at (head_state a b c d small_a) ∙ state_back s.state
+
+    past_is : (slot_head s / 32 % 2 == 1) ≡ s.past
+    past_is = ap (λ n. n == 1) (head_past a b c d small_a small_b) ∙ one_back s.past
+
+    count_is : slot_head s / 64 % 32 ≡ length s.pending
+    count_is = head_loads a b c d small_a small_b k.few
+
+    empty_is : flags 16 (slot_head s / 2048) ≡ s.empty
+    empty_is = ap (flags 16) (head_empty a b c d small_a small_b k.few) ∙ flags_of 16 s.empty k.flags
+
+    changed_is : flags 16 (slot_masks base s % 65536) ≡ changed
+    changed_is = ap (flags 16) (masks_low (number_of_flags changed) (number_of_flags tagged) (flags_16 changed long_changed)) ∙ flags_of 16 changed long_changed
+
+    tagged_is : flags 16 (slot_masks base s / 65536) ≡ tagged
+    tagged_is =
+        ap (flags 16) (masks_high (number_of_flags changed) (number_of_flags tagged) (flags_16 changed long_changed))
+        ∙ flags_of 16 tagged (length-pointers s.regs ∙ k.count)
+
+    ip_is : ip_of base.ip (bits_of s.ip) ≡ s.ip
+    ip_is = ip_again base.ip s.ip k.ip k.fetches
+
+    made_is : made (state_at (slot_head s % 32)) (slot_head s / 32 % 2 == 1) (slot_head s / 64 % 32) (flags 16 (slot_head s / 2048))
+        (flags 16 (slot_masks base s % 65536)) (flags 16 (slot_masks base s / 65536)) (ip_of base.ip (bits_of s.ip)) tail
+        ≡ made s.state s.past (length s.pending) s.empty changed tagged s.ip tail
+    made_is = λ j. made (state_is j) (past_is j) (count_is j) (empty_is j) (changed_is j) (tagged_is j) (ip_is j) tail
+
+    words_are : words_from changed tagged base.regs tail ≡ (s.regs, flat_map load_form s.pending ++ ns)
+    words_are =
+        ap (words_from changed tagged base.regs) (append_assoc (changed_bits base.regs s.regs) (flat_map load_form s.pending) ns)
+        ∙ words_read base.regs s.regs (flat_map load_form s.pending ++ ns) (k.base_count ∙ sym k.count) k.base_words k.words
+
+    abbrev with_identity : ℕ → ℕ → Option ℕ → Slot × List ℕ
+    with_identity number group handler = (record s { number = number; group = group; handler = handler; turns = 0 }, ns)
+
+    pub slot_read : slot_from base (slot_form base s ++ ns) ≡ (uncounted_slot s, ns)
+    slot_read =
+        opened ∙ made_is ∙ ap (gathered s.state s.past (length s.pending) s.empty s.ip) words_are
+        ∙ ap (finished s.state s.past s.empty s.ip s.regs) (loads_read s.pending ns k.loads)
+        ∙ (λ j. with_identity (k.number j) (k.group j) (k.handler j))
+
+-- 4. A slot that is as in the image.
+
+both_are : (x y : Bool) → (x && y) ≡ true → (x ≡ true) × (y ≡ true)
+both_are true y e = (refl, e)
+both_are false y e = cc
+
+not_so : (x : Bool) → not x ≡ true → x ≡ false
+not_so true e = cc
+not_so false e = refl
+
+bits_same : (x y : Bool) → same_bit x y ≡ true → x ≡ y
+bits_same true y e = sym e
+bits_same false true e = cc
+bits_same false false e = refl
+
+none_set : (bs : List Bool) → list_any (λ b. b) bs ≡ false → bs ≡ replicate (length bs) false
+none_set [] e = refl
+none_set (true ∷ bs) e = cc
+none_set (false ∷ bs) e = ap (λ l. false ∷ l) (none_set bs e)
+
+no_loads : (loads : List Pending) → are_some loads ≡ false → loads ≡ []
+no_loads [] e = refl
+no_loads (p ∷ loads) e = cc
+
+states_same : (x y : SlotState) → same_state x y ≡ true → x ≡ y
+states_same x y e = sym (state_back x) ∙ ap state_at (eqb-true (state_number x) (state_number y) e) ∙ state_back y
+
+none_changed : (base words : List Word) → length base ≡ length words → AreWords base → AreWords words → list_any (λ b. b) (changed_flags base words) ≡ false → base ≡ words
+none_changed [] [] e h k none = refl
+none_changed [] (w ∷ words) e h k none = absurd (omega (arith, e))
+none_changed (b ∷ base) [] e h k none = absurd (omega (arith, e))
+none_changed (b ∷ base) (w ∷ words) e h k none = by (same_word b w) refl none (none_changed base words (omega (arith, e)) h.1 k.1)
+  where
+    by : (same : Bool) → same_word b w ≡ same → (not same || list_any (λ b. b) (changed_flags base words)) ≡ false
+        → (list_any (λ b. b) (changed_flags base words) ≡ false → base ≡ words) → (b ∷ base) ≡ (w ∷ words)
+    by true is none rest = ap (λ l. b ∷ l) (rest none) ∙ ap (λ x. x ∷ words) (words_same b w h.0 k.0 is)
+    by false is none rest = cc
+
+-- what a slot of an image has besides
+pub record IsUnused (base : Slot) : Type 0 where
+  pub flags : base.empty ≡ replicate 16 false
+  pub loads : base.pending ≡ []
+
+pub base_same : (base s : Slot) → IsKeepable base s → IsUnused base → is_base base s ≡ true → uncounted_slot base ≡ uncounted_slot s
+base_same base s k u e =
+    let one = both_are (same_state base.state s.state) _ e in
+    let two = both_are (same_word (Ptr base.ip) (Ptr s.ip)) _ one.1 in
+    let three = both_are (same_bit base.past s.past) _ two.1 in
+    let four = both_are (not (list_any (λ b. b) s.empty)) _ three.1 in
+    let five = both_are (not (are_some s.pending)) _ four.1 in
+    let state = states_same base.state s.state one.0 in
+    let pointers = words_same (Ptr base.ip) (Ptr s.ip) k.base_ip k.ip two.0 in
+    let ip : base.ip ≡ s.ip = cc in
+    let past = bits_same base.past s.past three.0 in
+    let empty : base.empty ≡ s.empty = u.flags ∙ sym (none_set s.empty (not_so _ four.0) ∙ ap (λ n. replicate n false) k.flags) in
+    let pending : base.pending ≡ s.pending = u.loads ∙ sym (no_loads s.pending (not_so _ five.0)) in
+    let regs = none_changed base.regs s.regs (k.base_count ∙ sym k.count) k.base_words k.words (not_so _ five.1) in
+    λ j. record {
+      number = k.number j;
+      group = k.group j;
+      handler = k.handler j;
+      regs = regs j;
+      ip = ip j;
+      past = past j;
+      turns = 0;
+      state = state j;
+      empty = empty j;
+      pending = pending j;
+    }
+
+-- 5. All slots.
+
+-- each slot of a list can be kept as its difference from the one at its place of another
+abbrev pub AreKeepable : List Slot → List Slot → Type 0
+AreKeepable [] [] = Unit {0}
+AreKeepable [] (s ∷ slots) = ⊥
+AreKeepable (b ∷ base) [] = ⊥
+AreKeepable (b ∷ base) (s ∷ slots) = (IsKeepable b s × IsUnused b) × AreKeepable base slots
+
+slots_walked : (base slots : List Slot) (ns : List ℕ) → AreKeepable base slots
+    → slots_by (slot_flags base slots) base (slot_forms base slots ++ ns) ≡ (map uncounted_slot slots, ns)
+slots_walked [] [] ns h = refl
+slots_walked [] (s ∷ slots) ns h = absurd h
+slots_walked (b ∷ base) [] ns h = absurd h
+slots_walked (b ∷ base) (s ∷ slots) ns h = by (is_base b s) refl (slots_walked base slots ns h.1)
+  where
+    by : (same : Bool) → is_base b s ≡ same → slots_by (slot_flags base slots) base (slot_forms base slots ++ ns) ≡ (map uncounted_slot slots, ns)
+        → slots_by (not same ∷ slot_flags base slots) (b ∷ base) ((if same then slot_forms base slots else slot_form b s ++ slot_forms base slots) ++ ns)
+        ≡ (uncounted_slot s ∷ map uncounted_slot slots, ns)
+    by true is rest = ap (λ (r : List Slot × List ℕ). (uncounted_slot b ∷ r.0, r.1)) rest ∙ ap (λ x. (x ∷ map uncounted_slot slots, ns)) (base_same b s h.0.0 h.0.1 is)
+    by false is rest =
+        let tail = slot_forms base slots ++ ns in
+        let make : Slot × List ℕ → List Slot × List ℕ = λ one. let later = slots_by (slot_flags base slots) base one.1 in (one.0 ∷ later.0, later.1) in
+        ap (λ l. make (slot_from b l)) (append_assoc (slot_form b s) (slot_forms base slots) ns)
+        ∙ ap make (slot_read b s h.0.0 tail)
+        ∙ ap (λ (r : List Slot × List ℕ). (uncounted_slot s ∷ r.0, r.1)) rest
+
+length-slot_flags : (base slots : List Slot) → AreKeepable base slots → length (slot_flags base slots) ≡ length base
+length-slot_flags [] [] h = refl
+length-slot_flags [] (s ∷ slots) h = absurd h
+length-slot_flags (b ∷ base) [] h = absurd h
+length-slot_flags (b ∷ base) (s ∷ slots) h = ap suc (length-slot_flags base slots h.1)
+
+pub slots_read : (base slots : List Slot) (ns : List ℕ) → AreKeepable base slots → slots_from base (slots_form base slots ++ ns) ≡ (map uncounted_slot slots, ns)
+unfolding slots_from slots_form
+slots_read base slots ns h =
+    ap (λ fs. slots_by fs base (slot_forms base slots ++ ns)) (flags_of (length base) (slot_flags base slots) (length-slot_flags base slots h))
+    ∙ slots_walked base slots ns h

@@ -1,0 +1,116 @@
+-- Words, flags and registers, read again from their numbers.
+use Rattle.std.proofs.Common.{◌≡◌, ℕ, zero, suc, ◌+◌, ◌*◌, ◌-◌, ◌/◌, ◌%◌, ◌^◌, ◌<◌, ◌≤◌, Bool, true, false, not, ◌&&◌, if◌then◌else◌, List, [], ◌∷◌, ◌++◌, map, length, refl, sym, ap, ◌∙◌, subst, arith, eqb-true, append_assoc}
+use Rattle.std.specs.Prelude.{◌==◌, is_some}
+use Rattle.std.specs.List.{AllByRecursion, flat_map}
+use Rattle.std.proofs.lemmas.Bool.{cases_Bool, le-leb}
+use Rattle.mm_word.specs.declared.word.Word.{Word}
+use Rattle.mm_word.specs.declared.word.Word.TheVariants.{Int, Ptr}
+use Rattle.mm_word.specs.Perm.{can_fetch, code_of, perm_of}
+use Rattle.mm_word.specs.Pointer.{Pointer, IsWellFormed, pointer_of, bits_of, spells_pointer}
+use Rattle.mm_word.specs.Word.{IsWord, word_bits, is_pointer}
+use Rattle.mm_word.proofs.Packing.{perm_of-code_of, code_of-in_range, fields_of_bits, pointer_of-bits_of, bits_of-injective}
+use Rattle.mm_model.specs.declared.slot.Pending.{Pending}
+use Rattle.mm_model.specs.Effect.{same_word}
+use Rattle.mm_model.specs.Flags.{one_if, flags, number_of_flags}
+use Rattle.mm_explore.specs.Kept.{first_number, behind, packed, word_of, word_form, word_from, changed_flags, changed_bits, words_from, load_form, loads_from, ip_of}
+
+-- 1. Flags.
+
+low_flag : (b : Bool) (m : ℕ) → ((one_if b + 2 * m) % 2 == 1) ≡ b
+low_flag true m = let e : (1 + 2 * m) % 2 ≡ 1 = omega arith in ap (λ n. n == 1) e
+low_flag false m = let e : (0 + 2 * m) % 2 ≡ 0 = omega arith in ap (λ n. n == 1) e
+
+high_flags : (b : Bool) (m : ℕ) → (one_if b + 2 * m) / 2 ≡ m
+high_flags true m = omega arith
+high_flags false m = omega arith
+
+pub flags_again : (bs : List Bool) → flags (length bs) (number_of_flags bs) ≡ bs
+flags_again [] = refl
+flags_again (b ∷ bs) =
+    let m = number_of_flags bs in
+    ap (λ c. c ∷ flags (length bs) ((one_if b + 2 * m) / 2)) (low_flag b m)
+    ∙ ap (λ n. b ∷ flags (length bs) n) (high_flags b m)
+    ∙ ap (λ l. b ∷ l) (flags_again bs)
+
+pub flags_of : (k : ℕ) (bs : List Bool) → length bs ≡ k → flags k (number_of_flags bs) ≡ bs
+flags_of k bs e = ap (λ n. flags n (number_of_flags bs)) (sym e) ∙ flags_again bs
+
+one_below : (b : Bool) → one_if b ≤ 1
+one_below true = omega arith
+one_below false = omega arith
+
+pub flags_below : (bs : List Bool) → number_of_flags bs < 2 ^ length bs
+flags_below [] = omega arith
+flags_below (b ∷ bs) =
+    let rest = flags_below bs in
+    let low = one_below b in
+    let twice : 2 ^ suc (length bs) ≡ 2 * 2 ^ length bs = omega arith in
+    omega (arith, rest, low, twice)
+
+-- 2. Words.
+
+pub spells_own : (p : Pointer) → IsWellFormed p → spells_pointer (bits_of p) ≡ true
+spells_own p h =
+    let r = code_of-in_range p.perm in
+    let f = fields_of_bits (code_of p.perm) p.log p.addr r.1 h.log_in_range h.addr_in_range in
+    rw (f.0, f.1, perm_of-code_of p.perm) (le-leb p.log 54 h.log_in_range)
+
+pub word_again : (w : Word) → IsWord w → word_of (is_pointer w) (word_bits w) ≡ w
+word_again (Int bits) h = refl
+word_again (Ptr p) h =
+    ap (λ b. if b then Ptr (pointer_of (bits_of p)) else Int (bits_of p)) (spells_own p h) ∙ ap Ptr (pointer_of-bits_of p h)
+
+tag_again : (b : Bool) → (one_if b == 1) ≡ b
+tag_again true = refl
+tag_again false = refl
+
+pub word_read : (w : Word) (ns : List ℕ) → IsWord w → word_from (word_form w ++ ns) ≡ (w, ns)
+word_read w ns h =
+    ap (λ b. (word_of b (word_bits w), ns)) (tag_again (is_pointer w)) ∙ ap (λ x. (x, ns)) (word_again w h)
+
+pub ip_again : (other p : Pointer) → IsWellFormed p → can_fetch p.perm ≡ true → ip_of other (bits_of p) ≡ p
+ip_again other p h fetches =
+    ap (λ b. if b && can_fetch (pointer_of (bits_of p)).perm then pointer_of (bits_of p) else other) (spells_own p h)
+    ∙ ap (λ (q : Pointer). if can_fetch q.perm then q else other) (pointer_of-bits_of p h)
+    ∙ ap (λ b. if b then p else other) fetches
+
+pub words_same : (a b : Word) → IsWord a → IsWord b → same_word a b ≡ true → a ≡ b
+words_same (Int a) (Int b) h k e = ap Int (eqb-true a b e)
+words_same (Int a) (Ptr q) h k e = cc
+words_same (Ptr p) (Int b) h k e = cc
+words_same (Ptr p) (Ptr q) h k e = ap Ptr (bits_of-injective p q h k (eqb-true (bits_of p) (bits_of q) e))
+
+-- 3. The registers of a slot.
+
+abbrev pub AreWords : List Word → Type 0
+AreWords words = AllByRecursion IsWord words
+
+pub words_read : (base words : List Word) (ns : List ℕ) → length base ≡ length words → AreWords base → AreWords words
+    → words_from (changed_flags base words) (map is_pointer words) base (changed_bits base words ++ ns) ≡ (words, ns)
+words_read [] [] ns e h k = refl
+words_read [] (w ∷ words) ns e h k = absurd (omega (arith, e))
+words_read (b ∷ base) [] ns e h k = absurd (omega (arith, e))
+words_read (b ∷ base) (w ∷ words) ns e h k = by (same_word b w) refl (words_read base words ns (omega (arith, e)) h.1 k.1)
+  where
+    by : (same : Bool) → same_word b w ≡ same
+        → words_from (changed_flags base words) (map is_pointer words) base (changed_bits base words ++ ns) ≡ (words, ns)
+        → words_from (not same ∷ changed_flags base words) (is_pointer w ∷ map is_pointer words) (b ∷ base)
+        ((if same then changed_bits base words else word_bits w ∷ changed_bits base words) ++ ns) ≡ (w ∷ words, ns)
+    by true is rest = ap (λ (r : List Word × List ℕ). (b ∷ r.0, r.1)) rest ∙ ap (λ x. (x ∷ words, ns)) (words_same b w h.0 k.0 is)
+    by false is rest = ap (λ (r : List Word × List ℕ). (word_of (is_pointer w) (word_bits w) ∷ r.0, r.1)) rest ∙ ap (λ x. (x ∷ words, ns)) (word_again w k.0)
+
+pub length-changed : (base words : List Word) → length base ≡ length words → length (changed_flags base words) ≡ length words
+length-changed [] [] e = refl
+length-changed [] (w ∷ words) e = absurd (omega (arith, e))
+length-changed (b ∷ base) [] e = absurd (omega (arith, e))
+length-changed (b ∷ base) (w ∷ words) e = ap suc (length-changed base words (omega (arith, e)))
+
+pub loads_read : (loads : List Pending) (ns : List ℕ) → AllByRecursion (λ (p : Pending). IsWord p.word) loads
+    → loads_from (length loads) (flat_map load_form loads ++ ns) ≡ (loads, ns)
+loads_read [] ns h = refl
+loads_read (p ∷ loads) ns h =
+    let tail = flat_map load_form loads ++ ns in
+    let make : Word × List ℕ → List Pending × List ℕ = λ w. let later = loads_from (length loads) w.1 in (record { reg = p.reg; word = w.0 } ∷ later.0, later.1) in
+    ap (λ l. make (word_from l)) (append_assoc (word_form p.word) (flat_map load_form loads) ns)
+    ∙ ap make (word_read p.word tail h.0)
+    ∙ ap (λ (r : List Pending × List ℕ). (p ∷ r.0, r.1)) (loads_read loads ns h.1)

@@ -1,0 +1,300 @@
+-- The parts of a configuration, and the numbers by which it is kept: its difference from the image.
+use Rattle.std.specs.Prelude.{ℕ, zero, suc, ◌+◌, ◌*◌, ◌-◌, ◌/◌, ◌%◌, Bool, true, false, not, ◌&&◌, ◌==◌, nat_eq}
+use Rattle.std.specs.Prelude.{if◌then◌else◌, List, [], ◌∷◌, ◌++◌, map, length, take, drop, Option, Some, None}
+use Rattle.std.specs.List.{flat_map, list_any}
+use lib.Pointwise.{pointwise}
+use Rattle.mm_word.specs.declared.cause.Cause.{Cause}
+use Rattle.mm_word.specs.declared.cause.Cause.TheVariants.{NotPointer, Perm, Bounds, Align, NoPage, Sync, Illegal, Priv}
+use Rattle.mm_word.specs.declared.cause.Cause.TheVariants.{DivZero, Malformed, Trap, NoSlot, OutFull}
+use Rattle.mm_word.specs.declared.word.Word.{Word}
+use Rattle.mm_word.specs.declared.word.Word.TheVariants.{Int, Ptr}
+use Rattle.mm_word.specs.declared.word.Cell.{Cell}
+use Rattle.mm_word.specs.Cause.{number_of}
+use Rattle.mm_word.specs.Perm.{can_fetch}
+use Rattle.mm_word.specs.Pointer.{Pointer, pointer_of, bits_of, spells_pointer}
+use Rattle.mm_word.specs.Word.{word_bits, is_pointer}
+use Rattle.mm_model.specs.declared.slot.SlotState.{SlotState}
+use Rattle.mm_model.specs.declared.slot.SlotState.TheVariants.{Running, Waiting, Taken, Halted}
+use Rattle.mm_model.specs.declared.slot.Pending.{Pending}
+use Rattle.mm_model.specs.declared.event.Event.{Event}
+use Rattle.mm_model.specs.Effect.{same_word}
+use Rattle.mm_model.specs.Fits.{slots_of}
+use Rattle.mm_model.specs.Flags.{one_if, flags, number_of_flags}
+use Rattle.mm_model.specs.Image.{Image, start}
+use Rattle.mm_model.specs.Report.{same_bit, groups_of, changes}
+use Rattle.mm_model.specs.Slot.{Slot}
+use Rattle.mm_model.specs.State.{State, output_of}
+use Rattle.mm_thread.specs.Output.{Output}
+use Rattle.mm_machine.specs.Snapshot.{queued, page_numbers}
+use Rattle.mm_explore.specs.Configurations.{uncounted_slot, are_some}
+use Rattle.mm_explore.specs.Findings.{state_number, same_state}
+
+-- 1. Parts.
+
+pub record Parts : Type 0 where
+  -- the slots, with no counts of turns
+  pub slots : List Slot
+  -- each event with the number of the slot in whose queue it is
+  pub events : List (ℕ × Event)
+  -- the output of each group that has a slot
+  pub outputs : List Output
+  -- the numbers of the mapped pages
+  pub pages : List ℕ
+  -- the cells that differ from the image's, each with its word
+  pub cells : List (ℕ × Cell)
+
+abbrev pub output_part : State → ℕ → Output
+output_part s g = record { group = g; bytes = output_of s.core g }
+
+-- the parts of a state's configuration
+unfoldable pub parts_of : Image → State → Parts
+parts_of i s = record {
+  slots = map uncounted_slot (slots_of s.core);
+  events = queued s.core;
+  outputs = map (output_part s) (groups_of (start i).core);
+  pages = page_numbers s.memory.pages;
+  cells = changes s.memory i.memory;
+}
+
+-- 2. Numbers in a row, and two numbers in one.
+
+-- the first number; 0 if there is none
+abbrev pub first_number : List ℕ → ℕ
+first_number [] = 0
+first_number (n ∷ ns) = n
+
+abbrev pub behind : List ℕ → List ℕ
+behind [] = []
+behind (n ∷ ns) = ns
+
+-- two numbers in one, the low one below n
+abbrev pub packed : (n low high : ℕ) → ℕ
+packed n low high = low + n * high
+
+-- 3. Words.
+
+-- the word of these bits: a pointer if they are tagged and spell one
+abbrev pub word_of : Bool → ℕ → Word
+word_of tagged bits = if tagged && spells_pointer bits then Ptr (pointer_of bits) else Int bits
+
+abbrev pub word_form : Word → List ℕ
+word_form w = one_if (is_pointer w) ∷ word_bits w ∷ []
+
+abbrev pub word_from : List ℕ → Word × List ℕ
+word_from ns = (word_of (first_number ns == 1) (first_number (behind ns)), behind (behind ns))
+
+-- 4. A slot.
+
+-- which words differ
+abbrev pub changed_flags : List Word → List Word → List Bool
+changed_flags (b ∷ base) (w ∷ words) = not (same_word b w) ∷ changed_flags base words
+changed_flags _ _ = []
+
+-- the bits of the words that differ
+abbrev pub changed_bits : List Word → List Word → List ℕ
+changed_bits (b ∷ base) (w ∷ words) =
+    if same_word b w then changed_bits base words else word_bits w ∷ changed_bits base words
+changed_bits _ _ = []
+
+abbrev pub words_from : (changed tagged : List Bool) → List Word → List ℕ → List Word × List ℕ
+words_from (true ∷ changed) (t ∷ tagged) (b ∷ base) ns =
+    let later = words_from changed tagged base (behind ns) in (word_of t (first_number ns) ∷ later.0, later.1)
+words_from (false ∷ changed) (t ∷ tagged) (b ∷ base) ns =
+    let later = words_from changed tagged base ns in (b ∷ later.0, later.1)
+words_from _ _ base ns = (base, ns)
+
+abbrev pub load_form : Pending → List ℕ
+load_form p = p.reg ∷ word_form p.word
+
+abbrev pub loads_from : ℕ → List ℕ → List Pending × List ℕ
+loads_from zero ns = ([], ns)
+loads_from (suc count) ns =
+    let word = word_from (behind ns) in
+    let later = loads_from count word.1 in
+    (record { reg = first_number ns; word = word.0 } ∷ later.0, later.1)
+
+-- the cause of a number
+abbrev pub cause_at : ℕ → Cause
+cause_at n =
+    if n == 1 then NotPointer else if n == 2 then Perm else if n == 3 then Bounds else if n == 4 then Align
+    else if n == 5 then NoPage else if n == 6 then Sync else if n == 7 then Illegal else if n == 8 then Priv
+    else if n == 9 then DivZero else if n == 10 then Malformed else if n == 11 then Trap else if n == 12 then NoSlot
+    else OutFull
+
+-- the state of a number
+abbrev pub state_at : ℕ → SlotState
+state_at n =
+    if n == 0 then Running else if n == 1 then Waiting else if n == 2 then Taken else if n == 3 then Halted None
+    else Halted (Some (cause_at (n - 3)))
+
+-- the instruction pointer of these bits, or another if they spell none
+abbrev pub ip_of : Pointer → ℕ → Pointer
+ip_of other bits = if spells_pointer bits && can_fetch (pointer_of bits).perm then pointer_of bits else other
+
+-- the state, `past`, the count of pending loads and the empty registers of a slot
+abbrev pub slot_head : Slot → ℕ
+slot_head s =
+    packed 32 (state_number s.state) (packed 2 (one_if s.past) (packed 32 (length s.pending) (number_of_flags s.empty)))
+
+-- the registers that differ, and those that hold pointers
+abbrev pub slot_masks : Slot → Slot → ℕ
+slot_masks base s =
+    packed 65536 (number_of_flags (changed_flags base.regs s.regs)) (number_of_flags (map is_pointer s.regs))
+
+unfoldable pub slot_form : Slot → Slot → List ℕ
+slot_form base s =
+    slot_head s ∷ slot_masks base s ∷ bits_of s.ip ∷ changed_bits base.regs s.regs ++ flat_map load_form s.pending
+
+unfoldable pub slot_from : Slot → List ℕ → Slot × List ℕ
+slot_from base ns =
+    let head = first_number ns in
+    let masks = first_number (behind ns) in
+    let words = words_from (flags 16 (masks % 65536)) (flags 16 (masks / 65536)) base.regs (behind (behind (behind ns))) in
+    let loads = loads_from (head / 64 % 32) words.1 in
+    (record base {
+      regs = words.0;
+      ip = ip_of base.ip (first_number (behind (behind ns)));
+      past = head / 32 % 2 == 1;
+      turns = 0;
+      state = state_at (head % 32);
+      empty = flags 16 (head / 2048);
+      pending = loads.0;
+    }, loads.1)
+
+-- 5. Slots.
+
+-- a slot is as in the image
+abbrev pub is_base : Slot → Slot → Bool
+is_base base s =
+    same_state base.state s.state && (same_word (Ptr base.ip) (Ptr s.ip) && (same_bit base.past s.past
+    && (not (list_any (λ b. b) s.empty) && (not (are_some s.pending)
+    && not (list_any (λ b. b) (changed_flags base.regs s.regs))))))
+
+-- which slots differ from the image's
+abbrev pub slot_flags : List Slot → List Slot → List Bool
+slot_flags (b ∷ base) (s ∷ slots) = not (is_base b s) ∷ slot_flags base slots
+slot_flags _ _ = []
+
+abbrev pub slot_forms : List Slot → List Slot → List ℕ
+slot_forms (b ∷ base) (s ∷ slots) =
+    if is_base b s then slot_forms base slots else slot_form b s ++ slot_forms base slots
+slot_forms _ _ = []
+
+abbrev pub slots_by : List Bool → List Slot → List ℕ → List Slot × List ℕ
+slots_by (true ∷ changed) (b ∷ base) ns =
+    let one = slot_from b ns in let later = slots_by changed base one.1 in (one.0 ∷ later.0, later.1)
+slots_by (false ∷ changed) (b ∷ base) ns =
+    let later = slots_by changed base ns in (uncounted_slot b ∷ later.0, later.1)
+slots_by _ base ns = (base, ns)
+
+unfoldable pub slots_form : List Slot → List Slot → List ℕ
+slots_form base slots = number_of_flags (slot_flags base slots) ∷ slot_forms base slots
+
+unfoldable pub slots_from : List Slot → List ℕ → List Slot × List ℕ
+slots_from base ns = slots_by (flags (length base) (first_number ns)) base (behind ns)
+
+-- 6. Events.
+
+abbrev pub event_form : ℕ × Event → List ℕ
+event_form x =
+    x.0 ∷ x.1.slot ∷ number_of x.1.cause ∷ bits_of x.1.ip ∷ word_form x.1.addr_op ++ word_form x.1.value_op
+
+abbrev pub event_from : List ℕ → (ℕ × Event) × List ℕ
+event_from ns =
+    let tail = behind (behind (behind (behind ns))) in
+    let addr = word_from tail in
+    let value = word_from addr.1 in
+    ((first_number ns, record {
+      slot = first_number (behind ns);
+      cause = cause_at (first_number (behind (behind ns)));
+      ip = pointer_of (first_number (behind (behind (behind ns))));
+      addr_op = addr.0;
+      value_op = value.0;
+    }), value.1)
+
+abbrev pub events_by : ℕ → List ℕ → List (ℕ × Event) × List ℕ
+events_by zero ns = ([], ns)
+events_by (suc count) ns =
+    let one = event_from ns in let later = events_by count one.1 in (one.0 ∷ later.0, later.1)
+
+unfoldable pub events_form : List (ℕ × Event) → List ℕ
+events_form events = length events ∷ flat_map event_form events
+
+unfoldable pub events_from : List ℕ → List (ℕ × Event) × List ℕ
+events_from ns = events_by (first_number ns) (behind ns)
+
+-- 7. Outputs.
+
+abbrev pub output_form : Output → List ℕ
+output_form o = length o.bytes ∷ o.bytes
+
+abbrev pub outputs_form : List Output → List ℕ
+outputs_form outputs = flat_map output_form outputs
+
+abbrev pub outputs_from : List ℕ → List ℕ → List Output × List ℕ
+outputs_from [] ns = ([], ns)
+outputs_from (g ∷ groups) ns =
+    let later = outputs_from groups (drop (first_number ns) (behind ns)) in
+    (record { group = g; bytes = take (first_number ns) (behind ns) } ∷ later.0, later.1)
+
+-- 8. Pages and cells.
+
+-- 0 if the pages are those of the image, else one more than how many there are, and their numbers
+unfoldable pub pages_form : List ℕ → List ℕ → List ℕ
+pages_form base pages = if pointwise nat_eq pages base then 0 ∷ [] else suc (length pages) ∷ pages
+
+abbrev pub pages_by : List ℕ → ℕ → List ℕ → List ℕ × List ℕ
+pages_by base zero ns = (base, ns)
+pages_by base (suc count) ns = (take count ns, drop count ns)
+
+unfoldable pub pages_from : List ℕ → List ℕ → List ℕ × List ℕ
+pages_from base ns = pages_by base (first_number ns) (behind ns)
+
+abbrev pub cell_form : ℕ × Cell → List ℕ
+cell_form x = packed 2 (one_if x.1.full) (packed 2 (one_if (is_pointer x.1.word)) x.0) ∷ word_bits x.1.word ∷ []
+
+abbrev pub cells_form : List (ℕ × Cell) → List ℕ
+cells_form cells = flat_map cell_form cells
+
+abbrev pub cells_from : List ℕ → List (ℕ × Cell)
+cells_from (head ∷ bits ∷ ns) =
+    (head / 4, record { word = word_of (head / 2 % 2 == 1) bits; full = head % 2 == 1 }) ∷ cells_from ns
+cells_from _ = []
+
+-- 9. All parts.
+
+-- the numbers of parts
+unfoldable pub numbers_of : Image → Parts → List ℕ
+numbers_of i p =
+    slots_form i.slots p.slots ++ (events_form p.events ++ (outputs_form p.outputs
+    ++ (pages_form (page_numbers i.memory.pages) p.pages ++ cells_form p.cells)))
+
+-- the parts, given those that are read and the numbers behind them
+
+unfoldable pub parts_with_pages : List Slot → List (ℕ × Event) → List Output → List ℕ × List ℕ → Parts
+parts_with_pages slots events outputs pages = record {
+  slots = slots;
+  events = events;
+  outputs = outputs;
+  pages = pages.0;
+  cells = cells_from pages.1;
+}
+
+unfoldable pub parts_with_outputs : Image → List Slot → List (ℕ × Event) → List Output × List ℕ → Parts
+parts_with_outputs i slots events outputs =
+    parts_with_pages slots events outputs.0 (pages_from (page_numbers i.memory.pages) outputs.1)
+
+unfoldable pub parts_with_events : Image → List Slot → List (ℕ × Event) × List ℕ → Parts
+parts_with_events i slots events =
+    parts_with_outputs i slots events.0 (outputs_from (groups_of (start i).core) events.1)
+
+unfoldable pub parts_with_slots : Image → List Slot × List ℕ → Parts
+parts_with_slots i slots = parts_with_events i slots.0 (events_from slots.1)
+
+-- the parts of numbers
+unfoldable pub parts_from : Image → List ℕ → Parts
+parts_from i ns = parts_with_slots i (slots_from i.slots ns)
+
+-- the numbers by which the configuration of a state is kept
+abbrev pub kept : Image → State → List ℕ
+kept i s = numbers_of i (parts_of i s)

@@ -1,0 +1,4 @@
+//! Every schedule of a machine at once: the configurations that it can come to, and what is met on the way.
+#![tactic(auto)]
+
+pub mod laws;
