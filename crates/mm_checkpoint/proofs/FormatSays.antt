@@ -163,8 +163,12 @@ module _ (bytes : List ℕ) where
     where
       by : (b : Bool) → waiter_in at (slot_at bytes s at)
           (cond b (Some (record { place = number_at bytes (at + 2) 1; event = event_at bytes s at })) None)
-          ≡ cond b (record { handler = Rattle.mm_checkpoint.specs.Reading.handler_of s; place = number_at bytes (at + 2) 1;
-          at = at + 2; event = event_at bytes s at } ∷ []) []
+          ≡ cond b (record {
+            handler = Rattle.mm_checkpoint.specs.Reading.handler_of s;
+            place = number_at bytes (at + 2) 1;
+            at = at + 2;
+            event = event_at bytes s at;
+          } ∷ []) []
       by true = refl
       by false = refl
 

@@ -104,9 +104,9 @@ row_spelled split cycles s events r fits agrees =
     ∙ ap (λ x. f ++ (w ++ (a ++ (v ++ (c ++ x))))) (append-nil (loads.spell t.pending)
     ∙ times_spell (load n) _ pending_record (pending_spelled n) (length t.pending) [] t.pending refl)
     ∙ sym (
-      ap (λ x. front (cause_byte t.state x) (place_byte events t) ++ w ++ operands x ++ c ++ p) agrees.event
-      ∙ ap (λ x. front (cause_byte t.state o) x ++ w ++ operands o ++ c ++ p) agrees.place
-      ∙ ap (λ x. f ++ w ++ x ++ c ++ p) (operands_are o) ∙ simp append_assoc
+    ap (λ x. front (cause_byte t.state x) (place_byte events t) ++ w ++ operands x ++ c ++ p) agrees.event
+    ∙ ap (λ x. front (cause_byte t.state o) x ++ w ++ operands o ++ c ++ p) agrees.place
+    ∙ ap (λ x. f ++ w ++ x ++ c ++ p) (operands_are o) ∙ simp append_assoc
     )
 
 rows_spelled : (split : Bool) (cycles : ℕ) (events : List (ℕ × Event)) (slots : List Slot) (rows : List SlotRow)

@@ -58,10 +58,11 @@ own_later row x rows lt e =
 own_queues : (rows : List Row) → IsStrictlyIncreasing (numbers_of (map (λ (row : Row). row.slot) rows)) → AllByRecursion (λ (row : Row). queue_of (row_in rows row.slot.number) ≡ row.queue) rows
 own_queues [] rising = tt
 own_queues (row ∷ rows) rising =
-    let numbers : List ℕ = numbers_of (map (λ (x : Row). x.slot) rows) in
-    (own_here row rows,
+    let numbers : List ℕ = numbers_of (map (λ (x : Row). x.slot) rows) in (
+      own_here row rows,
       each_both (λ (x : Row). row.slot.number < x.slot.number) (λ (x : Row). queue_of (row_in rows x.slot.number) ≡ x.queue) (λ (x : Row). queue_of (row_in (row ∷ rows) x.slot.number) ≡ x.queue)
-      (λ x up is. own_later row x rows up is) rows (above_rows row.slot.number rows (above_first row.slot.number numbers rising)) (own_queues rows (rest_rises row.slot.number numbers rising)))
+          (λ x up is. own_later row x rows up is) rows (above_rows row.slot.number rows (above_first row.slot.number numbers rising)) (own_queues rows (rest_rises row.slot.number numbers rising)),
+    )
 
 rows_made : (events : List (ℕ × Event)) (rows : List Row) → AllByRecursion (λ (row : Row). events_for row.slot.number events ≡ row.queue) rows
     → map (row_with events) (map uncounted_slot (map (λ (row : Row). row.slot) rows)) ≡ map uncounted_row rows
@@ -306,6 +307,7 @@ cells_same c d h k e =
     both : (a b : Bool) → (a && b) ≡ true → (a ≡ true) × (b ≡ true)
     both true b e = (refl, e)
     both false b e = cc
+
     bits_same : (a b : Bool) → same_bit a b ≡ true → a ≡ b
     bits_same true b e = sym e
     bits_same false true e = cc
@@ -319,6 +321,7 @@ find_word (x ∷ es) q k cells c h e here = by (eq_by_cmp nat_cmp q x.0) e (λ l
     get_word [] n k e = cc
     get_word (y ∷ xs) zero k e = let same : y ≡ c = cc in subst (λ (d : Cell). IsWord d.word) same k.0
     get_word (y ∷ xs) (suc n) k e = get_word xs n k.1 e
+
     by : (b : Bool) → cond b (Some x.1) (find nat_cmp q es) ≡ Some cells → (find nat_cmp q es ≡ Some cells → IsWord c.word) → IsWord c.word
     by true is later = let same : x.1 ≡ cells = cc in get_word cells k (subst (λ (l : List Cell). AllByRecursion (λ (d : Cell). IsWord d.word) l) same h.0) here
     by false is later = later is

@@ -225,10 +225,13 @@ module _ (i : Image) (img : IsImage i) (limit : ℕ) where
         none_missing : (t : List ℕ) → IsLeast i t → Contains list t ⊎ ((length list ≡ limit) × AllByRecursion (λ s. Before s t) list)
         none_missing t least = elim (before_cases t next) [
           | inl before ↦ inl (least_inside i list t least (covers_before t before))
-          | inr other ↦ inr (full, all_of (λ s. Before s t) list (λ s inside. elim other [
-            | inl e ↦ subst (Before s) (sym e) (before_next s inside)
-            | inr behind ↦ before_through s next t (before_next s inside) behind
-          ]))
+          | inr other ↦ inr (
+            full,
+            all_of (λ s. Before s t) list (λ s inside. elim other [
+              | inl e ↦ subst (Before s) (sym e) (before_next s inside)
+              | inr behind ↦ before_through s next t (before_next s inside) behind
+            ]),
+          )
         ]
 
         pub search_full : IsSearched i limit list (IsAll i list → ⊥)

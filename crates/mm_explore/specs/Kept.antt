@@ -150,16 +150,18 @@ slot_from base ns =
     let head = first_number ns in
     let masks = first_number (behind ns) in
     let words = words_from (flags 16 (masks % 65536)) (flags 16 (masks / 65536)) base.regs (behind (behind (behind ns))) in
-    let loads = loads_from (head / 64 % 32) words.1 in
-    (record base {
-      regs = words.0;
-      ip = ip_of base.ip (first_number (behind (behind ns)));
-      past = head / 32 % 2 == 1;
-      turns = 0;
-      state = state_at (head % 32);
-      empty = flags 16 (head / 2048);
-      pending = loads.0;
-    }, loads.1)
+    let loads = loads_from (head / 64 % 32) words.1 in (
+      record base {
+        regs = words.0;
+        ip = ip_of base.ip (first_number (behind (behind ns)));
+        past = head / 32 % 2 == 1;
+        turns = 0;
+        state = state_at (head % 32);
+        empty = flags 16 (head / 2048);
+        pending = loads.0;
+      },
+      loads.1,
+    )
 
 -- 5. Slots.
 
@@ -203,14 +205,19 @@ abbrev pub event_from : List ℕ → (ℕ × Event) × List ℕ
 event_from ns =
     let tail = behind (behind (behind (behind ns))) in
     let addr = word_from tail in
-    let value = word_from addr.1 in
-    ((first_number ns, record {
-      slot = first_number (behind ns);
-      cause = cause_at (first_number (behind (behind ns)));
-      ip = pointer_of (first_number (behind (behind (behind ns))));
-      addr_op = addr.0;
-      value_op = value.0;
-    }), value.1)
+    let value = word_from addr.1 in (
+      (
+        first_number ns,
+        record {
+          slot = first_number (behind ns);
+          cause = cause_at (first_number (behind (behind ns)));
+          ip = pointer_of (first_number (behind (behind (behind ns))));
+          addr_op = addr.0;
+          value_op = value.0;
+        },
+      ),
+      value.1,
+    )
 
 abbrev pub events_by : ℕ → List ℕ → List (ℕ × Event) × List ℕ
 events_by zero ns = ([], ns)

@@ -123,7 +123,10 @@ fn cell_there<M: Inspect>(machine: &Machine<M>, access: Access) -> Option<(Acces
     }
 }
 
-fn cell_through<M: Inspect>(machine: &Machine<M>, access: Result<Access, Cause>) -> Option<(Access, Cell)>
+fn cell_through<M: Inspect>(
+    machine: &Machine<M>,
+    access: Result<Access, Cause>,
+) -> Option<(Access, Cell)>
     ensures { (pre : PreValue) → result ≡ cell_asked_of (state_of machine.now).memory (reaching access pre) }
 {
     match access {
@@ -134,7 +137,11 @@ fn cell_through<M: Inspect>(machine: &Machine<M>, access: Result<Access, Cause>)
 
 /// The cell that an instruction asks for, if its page is mapped.
 #[tactic(auto, unfolding(mm_model::specs::Ask::ask))]
-fn cell_asked<M: Inspect>(machine: &Machine<M>, slot: &Slot, instr: &Instr) -> Option<(Access, Cell)>
+fn cell_asked<M: Inspect>(
+    machine: &Machine<M>,
+    slot: &Slot,
+    instr: &Instr,
+) -> Option<(Access, Cell)>
     requires { IsNear (written_by_of instr.now) }
     ensures { result ≡ cell_asked_of (state_of machine.now).memory (ask instr.now slot.now) }
 {
@@ -218,7 +225,14 @@ fn put_held<O: Sink>(text: &mut Gather, out: &mut O, held: &Option<Held>, now: &
     ensures { Gathers O.taken O.faults out.old out.new text.old text.new (text_of (held_left held.now now.now)) }
 {
     if let Some(held) = held {
-        put_register_left(text, out, held.word, held.empty, now, held.register.number());
+        put_register_left(
+            text,
+            out,
+            held.word,
+            held.empty,
+            now,
+            held.register.number(),
+        );
     }
 }
 

@@ -109,7 +109,8 @@ pub(crate) fn put_register_left<O: Sink>(
     ensures { Gathers O.taken O.faults out.old out.new text.old text.new
         (text_of (register_left word empty now.now register)) }
 {
-    let same = is_same_word(word, now.register(register)) && is_same_bit(empty, now.is_empty(register));
+    let same = is_same_word(word, now.register(register))
+        && is_same_bit(empty, now.is_empty(register));
     if !same {
         put_register_now(text, out, now, register);
     }
