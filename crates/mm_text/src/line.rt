@@ -98,13 +98,12 @@ impl Line {
     }
 }
 
+/// The hexadecimal digits, in lower case.
+const GLYPHS: [u8; 16] = *b"0123456789abcdef";
+
 fn glyph(digit: u8) -> u8
     requires { digit < 16 }
     ensures { result ≡ digit_glyph false digit }
 {
-    if digit < 10 {
-        b'0' + digit
-    } else {
-        b'a' + (digit - 10)
-    }
+    GLYPHS[digit as usize]
 }
