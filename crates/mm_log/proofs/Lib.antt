@@ -18,3 +18,6 @@ pub mod Placed
 pub mod Taking
 pub mod Whole
 pub mod LoggedRuns
+pub mod Written
+pub mod Near
+pub mod NearLines

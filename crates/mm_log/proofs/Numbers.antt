@@ -12,14 +12,14 @@ use Rattle.mm_log.proofs.Runs.{flat_none}
 use Rattle.mm_log.proofs.Sames.{pair_self, state_self}
 
 module _ (f : ℕ → List Line) where
-  none_from : (first count : ℕ) → ((k : ℕ) → first ≤ k → f k ≡ []) → flat_map f (range_with_len first count) ≡ []
+  pub none_from : (first count : ℕ) → ((k : ℕ) → first ≤ k → f k ≡ []) → flat_map f (range_with_len first count) ≡ []
   none_from first zero h = refl
   none_from first (suc count) h = ap (λ l. l ++ flat_map f (range_with_len (first + 1) count)) (h first (omega arith)) ∙ none_from (first + 1) count (λ k low. h k (omega arith))
 
   pub no_number : ((k : ℕ) → f k ≡ []) → flat_map f (range_with_len 0 64) ≡ []
   no_number h = none_from 0 64 (λ k low. h k)
 
-  one_from : (a first count : ℕ) → ((k : ℕ) → k ≢ a → f k ≡ []) → first ≤ a → a < first + count → flat_map f (range_with_len first count) ≡ f a
+  pub one_from : (a first count : ℕ) → ((k : ℕ) → k ≢ a → f k ≡ []) → first ≤ a → a < first + count → flat_map f (range_with_len first count) ≡ f a
   one_from a first zero h low high = absurd (omega arith)
   one_from a first (suc count) h low high = elim (cases_eq first a) [
     | inl e ↦

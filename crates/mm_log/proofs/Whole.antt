@@ -44,7 +44,7 @@ use Rattle.mm_log.proofs.OneSlot.{own_at, alone, beside, no_other, serves_one}
 use Rattle.mm_log.proofs.Taking.{no_read_row, evt_slots}
 use Rattle.mm_log.proofs.Ways.{Way, turn_way}
 
-read_none : (o : Option Instr) (now : Option Slot) (tick : Tick) → read_by o now ≡ None → read_in o tick now ≡ None
+pub read_none : (o : Option Instr) (now : Option Slot) (tick : Tick) → read_by o now ≡ None → read_in o tick now ≡ None
 read_none o now Did e = e
 read_none o now Idle e = refl
 read_none o now Blocked e = refl

@@ -6,3 +6,4 @@ pub mod Laws
 pub mod Looks
 pub mod Named
 pub mod Seen
+pub mod Local

@@ -16,7 +16,7 @@ ghost use Rattle.mm_log.specs.Lines.Line.{Stands, Puts, Maps, Removes};
 ghost use Rattle.mm_model.specs.declared.slot.SlotState.TheVariants.{Taken};
 ghost use Rattle.mm_log.specs.Log.{text_of};
 ghost use Rattle.mm_log.specs.Seen.{seen_of, in_order, read_by as read_by_of, read_in, with_taken, slots_seen};
-ghost use Rattle.mm_log.specs.Seen.{queued_seen, read_own, read_seen, page_told, page_seen, cell_now, cell_seen, seen};
+ghost use Rattle.mm_log.specs.Seen.{queued_by, read_own, read_seen, page_told, page_seen, cell_now, cell_seen, seen};
 ghost use Rattle.mm_log.specs.Seen.{seen_by};
 
 use crate::before::{Before, There, cell_of, is_mapped};
@@ -201,6 +201,8 @@ fn put_slots<M: Memory, O: Sink>(
 }
 
 /// The event of a fault of a slot.
+#[cold]
+#[inline(never)]
 #[tactic(auto, unfolding(mm_model::specs::Turn::event_of))]
 fn event_of(slot: &Slot, instr: &Option<Instr>, cause: Cause) -> Event
     ensures { result ≡ event_of_fault slot.now cause (address_told_of instr.now slot.now)
@@ -218,16 +220,23 @@ fn event_of(slot: &Slot, instr: &Option<Instr>, cause: Cause) -> Event
 }
 
 /// Appends the line of the event that a fault queued, if one was queued.
-fn put_queued<O: Sink>(text: &mut Gather, out: &mut O, before: &Before, tick: Tick)
-    ensures { Gathers O.taken O.faults out.old out.new text.old text.new (text_of (queued_seen before.now tick)) }
+#[inline(always)]
+pub(crate) fn put_queued<O: Sink>(
+    text: &mut Gather,
+    out: &mut O,
+    own: &Slot,
+    instr: &Option<Instr>,
+    tick: Tick,
+)
+    ensures { Gathers O.taken O.faults out.old out.new text.old text.new (text_of (queued_by instr.now own.now tick)) }
 {
     let Tick::Faulted(cause) = tick else {
         return;
     };
-    let Some(handler) = before.own.handler else {
+    let Some(handler) = own.handler else {
         return;
     };
-    let event = event_of(&before.own, &before.instr, cause);
+    let event = event_of(own, instr, cause);
     put_event(text, out, handler, &event);
 }
 
@@ -260,8 +269,26 @@ fn put_bytes<O: Sink>(text: &mut Gather, out: &mut O, group: u8, bytes: &[u8])
     }
 }
 
+/// Appends the lines of the bytes that a group has put out since it had put out `before` bytes.
+#[inline(always)]
+pub(crate) fn put_out<M: Memory, O: Sink>(
+    text: &mut Gather,
+    out: &mut O,
+    machine: &Machine<M>,
+    group: u8,
+    before: usize,
+)
+    ensures { Gathers O.taken O.faults out.old out.new text.old text.new
+        (flat_map (λ b. line_text (Puts group b)) (drop before (output_of (state_of machine.now).core group))) }
+{
+    let bytes = machine.output(group);
+    if before < bytes.len() {
+        put_bytes(text, out, group, &bytes[before..]);
+    }
+}
+
 /// Appends the lines of the bytes that the slot's group put out.
-fn put_out<M: Memory, O: Sink>(
+fn put_own_out<M: Memory, O: Sink>(
     text: &mut Gather,
     out: &mut O,
     machine: &Machine<M>,
@@ -271,11 +298,7 @@ fn put_out<M: Memory, O: Sink>(
         (flat_map (λ b. line_text (Puts before.now.own.group b))
         (drop before.now.output (output_of (state_of machine.now).core before.now.own.group))) }
 {
-    let group = before.own.group;
-    let bytes = machine.output(group);
-    if before.output < bytes.len() {
-        put_bytes(text, out, group, &bytes[before.output..]);
-    }
+    put_out(text, out, machine, before.own.group, before.output);
 }
 
 /// Appends the line that a page was mapped, if it is mapped now and was not before.
@@ -317,7 +340,7 @@ fn put_changed<O: Sink>(text: &mut Gather, out: &mut O, word: u64, was: &Cell, n
 }
 
 /// Appends the line of the cell of an access, if the cell changed.
-fn put_reached<M: Inspect, O: Sink>(
+pub(crate) fn put_reached<M: Inspect, O: Sink>(
     text: &mut Gather,
     out: &mut O,
     machine: &Machine<M>,
@@ -362,9 +385,9 @@ fn put_seen<M: Inspect, O: Sink>(
         (text_of (seen (state_of machine.now) before.now tick)) }
 {
     put_slots(text, out, machine, before, tick);
-    put_queued(text, out, before, tick);
+    put_queued(text, out, &before.own, &before.instr, tick);
     put_read(text, out, before, tick);
-    put_out(text, out, machine, before);
+    put_own_out(text, out, machine, before);
     put_memory(text, out, machine, &before.there);
 }
 

@@ -67,6 +67,7 @@ fn port_of<M: Memory>(machine: &Machine<M>, item: u8) -> Option<&Slot>
 }
 
 /// The instruction that a word spells, if it spells one.
+#[inline(always)]
 fn instruction_in(word: Word) -> Option<Instr>
     ensures { result ≡ instr_in word }
 {
@@ -84,6 +85,7 @@ pub(crate) fn cell_of<M: Inspect>(machine: &Machine<M>, access: Access) -> Optio
 }
 
 /// The instruction that the cell of an access holds, if it holds one.
+#[inline(always)]
 fn instruction_at<M: Inspect>(machine: &Machine<M>, access: Access) -> Option<Instr>
     ensures { result ≡ in_cell (cell_at (state_of machine.now).memory access.addr) }
 {
@@ -94,7 +96,8 @@ fn instruction_at<M: Inspect>(machine: &Machine<M>, access: Access) -> Option<In
 }
 
 /// The instruction that the turn of a slot comes to, if the turn does not fault before.
-fn instruction_of<M: Inspect>(machine: &Machine<M>, slot: &Slot) -> Option<Instr>
+#[inline(always)]
+pub(crate) fn instruction_of<M: Inspect>(machine: &Machine<M>, slot: &Slot) -> Option<Instr>
     ensures { result ≡ comes_to (state_of machine.now).memory slot.now }
 {
     if slot.past {
@@ -126,7 +129,7 @@ fn access_there<M: Inspect>(machine: &Machine<M>, access: Result<Access, Cause>)
     }
 }
 
-fn load_kind(post: Post) -> Kind
+pub(crate) fn load_kind(post: Post) -> Kind
     ensures { result ≡ load_kind_of post }
 {
     match post {
@@ -136,7 +139,7 @@ fn load_kind(post: Post) -> Kind
 }
 
 /// The word of a register.
-fn word_of(slot: &Slot, register: Reg) -> Word
+pub(crate) fn word_of(slot: &Slot, register: Reg) -> Word
     ensures { result ≡ register_of slot.now register }
 {
     slot.register(register.number())

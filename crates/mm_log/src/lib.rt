@@ -5,6 +5,7 @@ mod after;
 mod before;
 pub mod laws;
 mod lines;
+mod local;
 mod logged;
 mod operands;
 mod slots;

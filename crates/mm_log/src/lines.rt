@@ -1,17 +1,17 @@
 //! The lines of a commit log.
 #![tactic(auto, unfolding(crate::specs::Lines::line_text))]
 
-ghost use Rattle.std.specs.Prelude.{◌++◌, codes, decimal};
+ghost use Rattle.std.specs.Prelude.{◌≡◌, ◌+◌, ◌≤◌, ◌++◌, codes, decimal, length};
 ghost use Rattle.mm_text.specs.Gathers.{Gathers};
 ghost use Rattle.mm_word.specs.Cause.{number_of};
-ghost use Rattle.mm_model.specs.Lines.{past_text};
+ghost use Rattle.mm_model.specs.Lines.{word_text};
 ghost use Rattle.mm_log.specs.Lines.{line_text, register_text, event_text};
 ghost use Rattle.mm_log.specs.Lines.Line.{Points, Stands, Holds, Empties, Issues, Queues, Reads, Puts, Maps, Removes};
 ghost use Rattle.mm_log.specs.Lines.Line.{Sets};
 
 use mm_io::Sink;
 use mm_model::{Event, Pending, SlotState};
-use mm_text::{Gather, Piece, put_cell, put_state, put_word};
+use mm_text::{Gather, Line, Piece, put_state, put_word};
 use mm_word::{Cause, Cell, GuardedPtr, Word};
 
 /// Appends `ip S P`, or `ip S P past`.
@@ -24,9 +24,23 @@ pub(crate) fn put_pointer<O: Sink>(
 )
     ensures { Gathers O.taken O.faults out.old out.new text.old text.new (line_text (Points slot ip past)) }
 {
-    put_front(text, out, "ip ", slot);
-    put_word(text, out, Word::Ptr(ip));
-    put_end(text, out, past);
+    let mut line = Line::new();
+    write_pointer(&mut line, slot, ip, past);
+    text.put_bytes(out, line.as_bytes());
+}
+
+/// Puts `ip S P` or `ip S P past` before the text so far.
+#[inline(always)]
+#[tactic(auto, using(mm_text::proofs::LineLengths::line_lengths), unfolding(crate::specs::Lines::line_text))]
+pub(crate) fn write_pointer(line: &mut Line, slot: u8, ip: GuardedPtr, past: bool)
+    requires { length line.old + 30 ≤ 64 }
+    ensures { line.new ≡ line_text (Points slot ip past) ++ line.old }
+{
+    line.put_text(if past { " past\n" } else { "\n" });
+    write_word(line, Word::Ptr(ip));
+    line.put_byte(b' ');
+    line.put_decimal(slot);
+    line.put_text("ip ");
 }
 
 /// Appends `state S STATE`.
@@ -38,27 +52,28 @@ pub(crate) fn put_standing<O: Sink>(text: &mut Gather, out: &mut O, slot: u8, st
     text.put_piece(out, &Piece::Text("\n"));
 }
 
-/// Appends `r S K WORD`.
-pub(crate) fn put_register<O: Sink>(
-    text: &mut Gather,
-    out: &mut O,
-    slot: u8,
-    register: u8,
-    word: Word,
-)
-    ensures { Gathers O.taken O.faults out.old out.new text.old text.new (line_text (Holds slot register word)) }
+/// Puts `r S K WORD` before the text so far.
+#[inline(always)]
+#[tactic(auto, using(mm_text::proofs::LineLengths::line_lengths), unfolding(crate::specs::Lines::line_text))]
+pub(crate) fn write_register(line: &mut Line, slot: u8, register: u8, word: Word)
+    requires { length line.old + 28 ≤ 64 }
+    ensures text { line.new ≡ line_text (Holds slot register word) ++ line.old }
+    ensures short { length line.new ≤ length line.old + 28 }
 {
-    put_register_front(text, out, slot, register);
-    put_word(text, out, word);
-    text.put_piece(out, &Piece::Text("\n"));
+    line.put_byte(b'\n');
+    write_word(line, word);
+    write_register_front(line, slot, register);
 }
 
-/// Appends `r S K empty`.
-pub(crate) fn put_empty<O: Sink>(text: &mut Gather, out: &mut O, slot: u8, register: u8)
-    ensures { Gathers O.taken O.faults out.old out.new text.old text.new (line_text (Empties slot register)) }
+/// Puts `r S K empty` before the text so far.
+#[tactic(auto, using(mm_text::proofs::LineLengths::line_lengths), unfolding(crate::specs::Lines::line_text))]
+pub(crate) fn write_empty(line: &mut Line, slot: u8, register: u8)
+    requires { length line.old + 28 ≤ 64 }
+    ensures text { line.new ≡ line_text (Empties slot register) ++ line.old }
+    ensures short { length line.new ≤ length line.old + 28 }
 {
-    put_register_front(text, out, slot, register);
-    text.put_piece(out, &Piece::Text("empty\n"));
+    line.put_text("empty\n");
+    write_register_front(line, slot, register);
 }
 
 /// Appends `load S K WORD`.
@@ -147,10 +162,28 @@ pub(crate) fn put_gone_page<O: Sink>(text: &mut Gather, out: &mut O, page: u64)
 }
 
 /// Appends `cell A WORD full` or `cell A WORD empty`.
+#[tactic(auto, using(mm_text::proofs::LineLengths::line_lengths), unfolding(crate::specs::Lines::line_text))]
 pub(crate) fn put_set<O: Sink>(text: &mut Gather, out: &mut O, word: u64, cell: &Cell)
     ensures { Gathers O.taken O.faults out.old out.new text.old text.new (line_text (Sets word cell.now)) }
 {
-    put_cell(text, out, word, cell);
+    let mut line = Line::new();
+    line.put_text(if cell.full { " full\n" } else { " empty\n" });
+    write_word(&mut line, cell.word);
+    line.put_byte(b' ');
+    line.put_hex(word, 14);
+    line.put_text("cell ");
+    text.put_bytes(out, line.as_bytes());
+}
+
+// Puts the text of a word before the text so far.
+#[inline(always)]
+#[tactic(auto, using(mm_text::proofs::LineLengths::line_lengths))]
+fn write_word(line: &mut Line, word: Word)
+    requires { length line.old + 17 ≤ 64 }
+    ensures { line.new ≡ word_text word ++ line.old }
+{
+    line.put_hex(word.bits(), 16);
+    line.put_byte(if word.is_pointer() { b'p' } else { b'i' });
 }
 
 // Appends a line's name, which ends in a blank, then a number and a blank.
@@ -165,13 +198,6 @@ fn put_front<O: Sink>(text: &mut Gather, out: &mut O, name: &str, number: u8)
             Piece::Text(" "),
         ],
     );
-}
-
-// Ends the line of an instruction pointer.
-fn put_end<O: Sink>(text: &mut Gather, out: &mut O, past: bool)
-    ensures { Gathers O.taken O.faults out.old out.new text.old text.new (past_text past) }
-{
-    text.put_piece(out, &Piece::Text(if past { " past\n" } else { "\n" }));
 }
 
 // Appends the slot, cause, instruction pointer, address operand and data operand of an event.
@@ -202,18 +228,17 @@ fn put_fault<O: Sink>(text: &mut Gather, out: &mut O, slot: u8, cause: Cause)
     );
 }
 
-// Appends the prefix of a register's line.
-fn put_register_front<O: Sink>(text: &mut Gather, out: &mut O, slot: u8, register: u8)
-    ensures { Gathers O.taken O.faults out.old out.new text.old text.new (register_text slot register) }
+// Puts the prefix of a register's line before the text so far.
+#[inline(always)]
+#[tactic(auto, using(mm_text::proofs::LineLengths::line_lengths))]
+fn write_register_front(line: &mut Line, slot: u8, register: u8)
+    requires { length line.old + 10 ≤ 64 }
+    ensures text { line.new ≡ register_text slot register ++ line.old }
+    ensures short { length line.new ≤ length line.old + 10 }
 {
-    text.put(
-        out,
-        &[
-            Piece::Text("r "),
-            Piece::Decimal(slot as u64),
-            Piece::Text(" "),
-            Piece::Decimal(register as u64),
-            Piece::Text(" "),
-        ],
-    );
+    line.put_byte(b' ');
+    line.put_decimal(register);
+    line.put_byte(b' ');
+    line.put_decimal(slot);
+    line.put_text("r ");
 }

@@ -1,7 +1,7 @@
 //! The lines of a slot's changes.
 #![tactic(auto)]
 
-ghost use Rattle.std.specs.Prelude.{◌≡◌, ◌<◌, drop, length};
+ghost use Rattle.std.specs.Prelude.{◌≡◌, ◌+◌, ◌<◌, ◌≤◌, ◌++◌, drop, length};
 ghost use Rattle.std.specs.List.{flat_map, range_with_len};
 ghost use Rattle.mm_text.specs.Gathers.{Gathers};
 ghost use Rattle.mm_word.specs.declared.word.Word.TheVariants.{Ptr};
@@ -13,10 +13,10 @@ ghost use Rattle.mm_log.specs.Changes.{pointer_changes, same_state as same_state
 ghost use Rattle.mm_log.specs.Changes.{register_changes, slot_changes as slot_changes_of};
 ghost use Rattle.mm_log.specs.Log.{text_of};
 
-use crate::lines::{put_empty, put_load, put_pointer, put_register, put_standing};
+use crate::lines::{put_load, put_pointer, put_standing, write_empty, write_register};
 use mm_io::Sink;
 use mm_model::{Pending, Slot, SlotState};
-use mm_text::Gather;
+use mm_text::{Gather, Line};
 use mm_word::{GuardedPtr, Word};
 
 // Whether two words are equal in tag and bits.
@@ -27,7 +27,7 @@ pub(crate) fn is_same_word(a: Word, b: Word) -> bool
 }
 
 // Whether two pointers are equal in bits.
-fn is_same_pointer(a: GuardedPtr, b: GuardedPtr) -> bool
+pub(crate) fn is_same_pointer(a: GuardedPtr, b: GuardedPtr) -> bool
     ensures { result ≡ same_word_of (Ptr a) (Ptr b) }
 {
     a.bits() == b.bits()
@@ -70,16 +70,29 @@ fn put_state_change<O: Sink>(text: &mut Gather, out: &mut O, was: &Slot, now: &S
     }
 }
 
+/// Puts the line of a register as it is now before the text so far.
+#[inline(always)]
+pub(crate) fn write_register_now(line: &mut Line, now: &Slot, register: u8)
+    requires register { register < 16 }
+    requires room { length line.old + 28 ≤ 64 }
+    ensures text { line.new ≡ line_text (register_now now.now register) ++ line.old }
+    ensures short { length line.new ≤ length line.old + 28 }
+{
+    if now.is_empty(register) {
+        write_empty(line, now.number, register);
+    } else {
+        write_register(line, now.number, register, now.register(register));
+    }
+}
+
 /// Appends the line of a register as it is now.
 fn put_register_now<O: Sink>(text: &mut Gather, out: &mut O, now: &Slot, register: u8)
     requires { register < 16 }
     ensures { Gathers O.taken O.faults out.old out.new text.old text.new (line_text (register_now now.now register)) }
 {
-    if now.is_empty(register) {
-        put_empty(text, out, now.number, register);
-    } else {
-        put_register(text, out, now.number, register, now.register(register));
-    }
+    let mut line = Line::new();
+    write_register_now(&mut line, now, register);
+    text.put_bytes(out, line.as_bytes());
 }
 
 /// Appends the line of a register, if its word changed or it began or ended a wait for a load.
@@ -110,7 +123,7 @@ fn put_register_changes<O: Sink>(text: &mut Gather, out: &mut O, was: &Slot, now
     }
 }
 
-fn put_loads<O: Sink>(text: &mut Gather, out: &mut O, slot: u8, loads: &[Pending])
+pub(crate) fn put_loads<O: Sink>(text: &mut Gather, out: &mut O, slot: u8, loads: &[Pending])
     ensures { Gathers O.taken O.faults out.old out.new text.old text.new
         (flat_map (λ load. line_text (Issues slot load)) loads.now) }
 {

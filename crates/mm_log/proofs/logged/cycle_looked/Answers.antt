@@ -1,7 +1,7 @@
 use Rattle.mm_machine.specs.Machine.{state_of}
 use Rattle.mm_text.proofs.Gathering.{gathers_then, gathers_same}
 use Rattle.mm_log.proofs.Whole.{line_is}
-use Rattle.mm_log.proofs.logged.cycle_logged.Goals as goal
+use Rattle.mm_log.proofs.logged.cycle_looked.Goals as goal
 
 pub returns-clause-line : goal.returns-clause-line
 returns-clause-line g c =
