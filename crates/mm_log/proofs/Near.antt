@@ -1,5 +1,5 @@
 -- What the turn of an instruction that writes one register at most leaves of its slot.
-use Rattle.std.proofs.Common.{◌≡◌, ◌⊎◌, ℕ, inl, inr, Bool, true, false, if◌then◌else◌, List, [], ◌∷◌, ◌++◌, Option, Some, None, pos, Result, Ok, Err, refl, sym, ap, ◌∙◌, subst}
+use Rattle.std.proofs.Common.{◌≡◌, ℕ, inl, inr, Bool, true, false, if◌then◌else◌, [], ◌∷◌, ◌++◌, Option, Some, None, pos, refl, sym, ap, ◌∙◌, subst}
 use Rattle.mm_word.specs.declared.perm.Kind.TheVariants.{Fetch}
 use Rattle.mm_word.specs.declared.word.Word.TheVariants.{Ptr}
 use Rattle.mm_word.specs.Access.{check_result}
@@ -13,8 +13,8 @@ use Rattle.mm_model.specs.Memory.{Memory}
 use Rattle.mm_model.specs.Slot.{Slot, register, is_empty}
 use Rattle.mm_model.specs.State.{Core, slot_at, queue_at, put_slot}
 use Rattle.mm_model.specs.Operands.{addr_operand, value_operand}
-use Rattle.mm_model.specs.Ask.{Ask, ask}
-use Rattle.mm_model.specs.Effect.{Effect, effect, delivers, delivered}
+use Rattle.mm_model.specs.Ask.{ask}
+use Rattle.mm_model.specs.Effect.{effect, delivers, delivered}
 use Rattle.mm_model.specs.Effect.Effect.{Does}
 use Rattle.mm_model.specs.Turn.{Turned, reply, slot_after, core_after, stood, is_sync, event_of, core_faulted, faulted, blocked, ended, idle, turn}
 use Rattle.mm_model.specs.Outcomes.{Runs}

@@ -1,8 +1,6 @@
 -- What was looked at before the turn of an instruction that writes one register at most tells all that the turn changes.
-use Rattle.std.proofs.Common.{◌≡◌, ◌≢◌, ℕ, ◌<◌, Bool, true, false, ◌&&◌, if◌then◌else◌, List, [], ◌∷◌, ◌++◌, length, drop, map, Option, Some, None, refl, sym, ap, ◌∙◌, subst, arith, append-nil}
+use Rattle.std.proofs.Common.{◌≡◌, ℕ, ◌<◌, true, false, ◌&&◌, if◌then◌else◌, List, [], ◌∷◌, ◌++◌, length, drop, map, Option, Some, None, refl, sym, ap, ◌∙◌, subst, arith, append-nil}
 use Rattle.std.specs.Prelude.{IfSome}
-use Rattle.std.proofs.Math.Logic.{∥∥₁_elim}
-use Rattle.std.proofs.Props.{props}
 use Rattle.std.specs.List.{flat_map, range_with_len}
 use Rattle.std.proofs.lemmas.List.Folds.{flat_map-map}
 use Rattle.mm_word.specs.declared.word.Cell.{Cell}
@@ -20,7 +18,7 @@ use Rattle.mm_model.specs.Ask.{Ask, ask}
 use Rattle.mm_model.specs.Ask.Ask.{Nothing as AskNothing, Refuse, Reach, MapPage, UnmapPage, NextEvent, Room, Serve}
 use Rattle.mm_model.specs.Effect.{same_word}
 use Rattle.mm_model.specs.Report.{same_bit}
-use Rattle.mm_model.specs.Turn.{Turned, is_running, turn}
+use Rattle.mm_model.specs.Turn.{is_running, turn}
 use Rattle.mm_model.specs.Trace.{turns_of, step_line}
 use Rattle.mm_model.specs.Run.{turn_of, after}
 use Rattle.mm_machine.specs.Kept.{Kept}
@@ -30,11 +28,11 @@ use Rattle.mm_log.specs.declared.local.Writes.TheVariants.{Nothing, One, More}
 use Rattle.mm_log.specs.declared.local.Local.{Local}
 use Rattle.mm_log.specs.Lines.{Line, line_text}
 use Rattle.mm_log.specs.Lines.Line.{Issues, Puts}
-use Rattle.mm_log.specs.Changes.{pointer_changes, state_changes, register_now, register_changes, load_changes, slot_changes, changes_between}
+use Rattle.mm_log.specs.Changes.{state_changes, register_now, register_changes, load_changes, slot_changes, changes_between}
 use Rattle.mm_log.specs.Log.{cycle_log, text_of}
 use Rattle.mm_log.specs.Looks.{cell_there, there_at, there_for, looked_at, looks_at, looks}
-use Rattle.mm_log.specs.Seen.{seen_of, read_in, with_taken, with_there, slots_seen, queued_by, queued_seen, read_seen, out_seen, page_seen, cell_seen, seen, seen_by}
-use Rattle.mm_log.specs.Local.{written_by, IsNear, held_of, with_touch, cell_asked, local_of, IsLocal, pointer_left, state_left, register_left, held_left, slot_left, told_of, cell_left, local_seen}
+use Rattle.mm_log.specs.Seen.{read_in, with_taken, with_there, slots_seen, queued_by, queued_seen, read_seen, out_seen, page_seen, cell_seen, seen, seen_by}
+use Rattle.mm_log.specs.Local.{written_by, IsNear, held_of, with_touch, cell_asked, local_of, IsLocal, pointer_left, state_left, held_left, slot_left, told_of, cell_left, local_seen}
 use Rattle.mm_log.proofs.Told.{text_append}
 use Rattle.mm_log.proofs.Numbers.{none_from, one_from}
 use Rattle.mm_log.proofs.Sames.{pair_self}

@@ -1,5 +1,5 @@
 -- Which registers a row of the table of instructions leaves as they are.
-use Rattle.std.proofs.Common.{◌≡◌, ◌≢◌, ℕ, ◌+◌, ◌%◌, ◌^◌, Bool, true, false, ◌==◌, if◌then◌else◌, List, [], ◌∷◌, Option, Some, None, Result, Ok, Err, refl, slice_index_or, slice_set, get_or-set_other}
+use Rattle.std.proofs.Common.{◌≡◌, ◌≢◌, ℕ, ◌+◌, ◌%◌, ◌^◌, Bool, true, false, ◌==◌, if◌then◌else◌, List, Option, Some, None, Result, Ok, Err, refl, slice_index_or, slice_set, get_or-set_other}
 use Rattle.std.specs.Int.{w64, cast_unsigned, cast_signed}
 use Rattle.mm_word.specs.declared.perm.Kind.TheVariants.{Store}
 use Rattle.mm_word.specs.declared.cause.Cause.{Cause}
@@ -8,7 +8,6 @@ use Rattle.mm_word.specs.declared.word.Pre.{Pre}
 use Rattle.mm_word.specs.declared.word.Post.{Post}
 use Rattle.mm_word.specs.declared.word.Word.{Word}
 use Rattle.mm_word.specs.declared.word.Word.TheVariants.{Int, Ptr}
-use Rattle.mm_word.specs.declared.word.Cell.{Cell}
 use Rattle.mm_word.specs.Access.{Touch, check_result}
 use Rattle.mm_word.specs.Word.{word_bits, is_pointer}
 use Rattle.mm_word.specs.Pointer.{Pointer, lea_result, leab_result, restrict_result, subseg_result, setptr_result, next_result, enter_result}
@@ -20,7 +19,7 @@ use Rattle.mm_model.specs.declared.slot.Pending.{Pending}
 use Rattle.mm_model.specs.Slot.{Slot, register, is_empty}
 use Rattle.mm_model.specs.Ask.{Ask, ask, is_privileged, load_kind, reaching}
 use Rattle.mm_model.specs.Ask.Ask.{Nothing as AskNothing, Refuse, Reach, MapPage, UnmapPage, NextEvent, Room, Serve}
-use Rattle.mm_model.specs.Effect.{Reply, Change, Effect, effect, plain, sets, sets_pointer, sets_number, if_pointer, test, same_word, high_and_low, puts_out, set_by, loads, loaded, stored, at_distance, branches, jumps, links}
+use Rattle.mm_model.specs.Effect.{Reply, Change, Effect, effect, plain, sets, sets_pointer, sets_number, if_pointer, test, same_word, high_and_low, puts_out, loaded, stored, at_distance, branches, jumps, links}
 use Rattle.mm_model.specs.Effect.Reply.{Fine, Refused, Got}
 use Rattle.mm_model.specs.Effect.Effect.{Fault, Block, Deliver, Does}
 use Rattle.mm_model.specs.Turn.{put_all, state_after, with_issue, slot_after}

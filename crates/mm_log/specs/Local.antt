@@ -8,8 +8,8 @@ use Rattle.mm_word.specs.Access.{Touch}
 use Rattle.mm_word.specs.Pointer.{Pointer}
 use Rattle.mm_isa.specs.declared.instr.Instr.{Instr}
 use Rattle.mm_isa.specs.declared.instr.Instr.TheVariants.{Ldi, Ldhi, Mov, Isptr, Eqw, SelfSlot, Alu, Addi, Lea, Leai}
-use Rattle.mm_isa.specs.declared.instr.Instr.TheVariants.{Leab, Restrict, Subseg, Setptr, Ld, Jal, Lip, Evt, Resume, Rreg}
-use Rattle.mm_isa.specs.declared.instr.Instr.TheVariants.{Wreg, Map, Unmap}
+use Rattle.mm_isa.specs.declared.instr.Instr.TheVariants.{Leab, Restrict, Subseg, Setptr, Ld, Jal, Lip, Evt, Resume}
+use Rattle.mm_isa.specs.declared.instr.Instr.TheVariants.{Rreg, Wreg, Map, Unmap}
 use Rattle.mm_model.specs.declared.slot.SlotState.{SlotState}
 use Rattle.mm_model.specs.declared.slot.SlotState.TheVariants.{Running}
 use Rattle.mm_model.specs.declared.step.Tick.{Tick}

@@ -15,7 +15,6 @@ use mm_text::{Gather, Line, Piece, put_state, put_word};
 use mm_word::{Cause, Cell, GuardedPtr, Word};
 
 /// Appends `ip S P`, or `ip S P past`.
-#[tactic(auto, using(mm_text::proofs::LineLengths::line_lengths), unfolding(crate::specs::Lines::line_text))]
 pub(crate) fn put_pointer<O: Sink>(
     text: &mut Gather,
     out: &mut O,
@@ -26,12 +25,22 @@ pub(crate) fn put_pointer<O: Sink>(
     ensures { Gathers O.taken O.faults out.old out.new text.old text.new (line_text (Points slot ip past)) }
 {
     let mut line = Line::new();
+    write_pointer(&mut line, slot, ip, past);
+    text.put_bytes(out, line.as_bytes());
+}
+
+/// Puts `ip S P` or `ip S P past` before the text so far.
+#[inline(always)]
+#[tactic(auto, using(mm_text::proofs::LineLengths::line_lengths), unfolding(crate::specs::Lines::line_text))]
+pub(crate) fn write_pointer(line: &mut Line, slot: u8, ip: GuardedPtr, past: bool)
+    requires { length line.old + 30 ≤ 64 }
+    ensures { line.new ≡ line_text (Points slot ip past) ++ line.old }
+{
     line.put_text(if past { " past\n" } else { "\n" });
-    write_word(&mut line, Word::Ptr(ip));
+    write_word(line, Word::Ptr(ip));
     line.put_byte(b' ');
     line.put_decimal(slot);
     line.put_text("ip ");
-    text.put_bytes(out, line.as_bytes());
 }
 
 /// Appends `state S STATE`.
@@ -43,34 +52,28 @@ pub(crate) fn put_standing<O: Sink>(text: &mut Gather, out: &mut O, slot: u8, st
     text.put_piece(out, &Piece::Text("\n"));
 }
 
-/// Appends `r S K WORD`.
+/// Puts `r S K WORD` before the text so far.
+#[inline(always)]
 #[tactic(auto, using(mm_text::proofs::LineLengths::line_lengths), unfolding(crate::specs::Lines::line_text))]
-pub(crate) fn put_register<O: Sink>(
-    text: &mut Gather,
-    out: &mut O,
-    slot: u8,
-    register: u8,
-    word: Word,
-)
-    ensures { Gathers O.taken O.faults out.old out.new text.old text.new (line_text (Holds slot register word)) }
+pub(crate) fn write_register(line: &mut Line, slot: u8, register: u8, word: Word)
+    requires { length line.old + 28 ≤ 64 }
+    ensures text { line.new ≡ line_text (Holds slot register word) ++ line.old }
+    ensures short { length line.new ≤ length line.old + 28 }
 {
-    let mut line = Line::new();
     line.put_byte(b'\n');
-    write_word(&mut line, word);
-    line.put_byte(b' ');
-    line.put_decimal(register);
-    line.put_byte(b' ');
-    line.put_decimal(slot);
-    line.put_text("r ");
-    text.put_bytes(out, line.as_bytes());
+    write_word(line, word);
+    write_register_front(line, slot, register);
 }
 
-/// Appends `r S K empty`.
-pub(crate) fn put_empty<O: Sink>(text: &mut Gather, out: &mut O, slot: u8, register: u8)
-    ensures { Gathers O.taken O.faults out.old out.new text.old text.new (line_text (Empties slot register)) }
+/// Puts `r S K empty` before the text so far.
+#[tactic(auto, using(mm_text::proofs::LineLengths::line_lengths), unfolding(crate::specs::Lines::line_text))]
+pub(crate) fn write_empty(line: &mut Line, slot: u8, register: u8)
+    requires { length line.old + 28 ≤ 64 }
+    ensures text { line.new ≡ line_text (Empties slot register) ++ line.old }
+    ensures short { length line.new ≤ length line.old + 28 }
 {
-    put_register_front(text, out, slot, register);
-    text.put_piece(out, &Piece::Text("empty\n"));
+    line.put_text("empty\n");
+    write_register_front(line, slot, register);
 }
 
 /// Appends `load S K WORD`.
@@ -173,6 +176,7 @@ pub(crate) fn put_set<O: Sink>(text: &mut Gather, out: &mut O, word: u64, cell: 
 }
 
 // Puts the text of a word before the text so far.
+#[inline(always)]
 #[tactic(auto, using(mm_text::proofs::LineLengths::line_lengths))]
 fn write_word(line: &mut Line, word: Word)
     requires { length line.old + 17 ≤ 64 }
@@ -224,18 +228,17 @@ fn put_fault<O: Sink>(text: &mut Gather, out: &mut O, slot: u8, cause: Cause)
     );
 }
 
-// Appends the prefix of a register's line.
-fn put_register_front<O: Sink>(text: &mut Gather, out: &mut O, slot: u8, register: u8)
-    ensures { Gathers O.taken O.faults out.old out.new text.old text.new (register_text slot register) }
+// Puts the prefix of a register's line before the text so far.
+#[inline(always)]
+#[tactic(auto, using(mm_text::proofs::LineLengths::line_lengths))]
+fn write_register_front(line: &mut Line, slot: u8, register: u8)
+    requires { length line.old + 10 ≤ 64 }
+    ensures text { line.new ≡ register_text slot register ++ line.old }
+    ensures short { length line.new ≤ length line.old + 10 }
 {
-    text.put(
-        out,
-        &[
-            Piece::Text("r "),
-            Piece::Decimal(slot as u64),
-            Piece::Text(" "),
-            Piece::Decimal(register as u64),
-            Piece::Text(" "),
-        ],
-    );
+    line.put_byte(b' ');
+    line.put_decimal(register);
+    line.put_byte(b' ');
+    line.put_decimal(slot);
+    line.put_text("r ");
 }

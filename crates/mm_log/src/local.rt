@@ -1,7 +1,7 @@
 //! Turns whose instruction writes one register at most, and is about nothing else but a cell: nearly all.
 #![tactic(auto)]
 
-ghost use Rattle.std.specs.Prelude.{◌≡◌, ◌<◌, [], true, false, drop, IfSome, Some};
+ghost use Rattle.std.specs.Prelude.{◌≡◌, ◌+◌, ◌<◌, ◌≤◌, ◌++◌, [], true, false, length, drop, IfSome, Some};
 ghost use Rattle.std.specs.List.{flat_map};
 ghost use Rattle.mm_text.specs.Gathers.{Gathers};
 ghost use Rattle.mm_word.specs.declared.word.Pre.{Pre as PreValue};
@@ -15,20 +15,20 @@ ghost use Rattle.mm_log.specs.Lines.{line_text};
 ghost use Rattle.mm_log.specs.Lines.Line.{Issues, Puts};
 ghost use Rattle.mm_log.specs.Log.{text_of};
 ghost use Rattle.mm_log.specs.Seen.{queued_by};
-ghost use Rattle.mm_log.specs.Local.{written_by as written_by_of, IsNear, held_of, with_touch, cell_asked as cell_asked_of};
-ghost use Rattle.mm_log.specs.Local.{local_of, IsLocal, pointer_left, state_left, held_left, slot_left, told_of, cell_left};
-ghost use Rattle.mm_log.specs.Local.{local_seen};
+ghost use Rattle.mm_log.specs.Local.{written_by as written_by_of, IsNear, held_of, with_touch, local_of, IsLocal};
+ghost use Rattle.mm_log.specs.Local.{cell_asked as cell_asked_of, pointer_left, state_left, register_left, held_left};
+ghost use Rattle.mm_log.specs.Local.{slot_left, told_of, cell_left, local_seen};
 
 use crate::after::{put_out, put_queued, put_reached};
 use crate::before::{cell_of, instruction_of, load_kind, word_of};
-use crate::lines::put_standing;
-use crate::slots::{put_loads, put_pointer_left, put_register_left};
+use crate::lines::{put_standing, write_pointer};
+use crate::slots::{is_same_bit, is_same_pointer, is_same_word, put_loads, write_register_now};
 use mm_io::Sink;
 use mm_isa::{Instr, Reg};
 use mm_machine::Machine;
 use mm_mem::{Inspect, Memory};
 use mm_model::{Slot, SlotState, Tick};
-use mm_text::Gather;
+use mm_text::{Gather, Line};
 use mm_word::{Access, Cause, Cell, GuardedPtr, Kind, Word, check};
 
 /// Which registers of its slot an instruction writes.
@@ -49,8 +49,8 @@ pub(crate) struct Held {
     pub empty: bool,
 }
 
-/// What the turn of such an instruction can change, as it is before the turn. The slot runs, is not past its segment and
-/// has no pending loads.
+/// What the turn of such an instruction can change, as it is before the turn. The slot runs, is not past its segment
+/// and has no pending loads.
 #[derive(Drop)]
 pub(crate) struct Local {
     pub number: u8,
@@ -98,7 +98,7 @@ fn written_by(instr: &Instr) -> Writes
     }
 }
 
-/// The register that an instruction writes, as it is before the turn.
+/// The register that the instruction writes, as it is before the turn.
 fn held_before(slot: &Slot, writes: Writes) -> Option<Held>
     ensures held { result ≡ held_of slot.now writes }
     ensures small { IfSome result (λ h. h.register < 16) }
@@ -169,7 +169,7 @@ fn is_free(slot: &Slot) -> bool
     }
 }
 
-/// What the turn of a slot can change that comes to an instruction.
+/// What the turn of a slot can change if it comes to this instruction.
 fn local_at<M: Inspect>(machine: &Machine<M>, slot: &Slot, instr: Instr, writes: Writes) -> Local
     requires is { writes ≡ written_by_of instr }
     requires near { IsNear writes }
@@ -187,7 +187,8 @@ fn local_at<M: Inspect>(machine: &Machine<M>, slot: &Slot, instr: Instr, writes:
     }
 }
 
-/// What the turn of an item can change, if it is a turn of such an instruction.
+/// What the turn of an item can change, if its instruction writes one register at most and is about nothing else but a
+/// cell.
 pub(crate) fn look_near<M: Inspect>(machine: &Machine<M>, item: u8) -> Option<Local>
     ensures { IfSome result (λ q. IsLocal (state_of machine.now).core (state_of machine.now).memory item q) }
 {
@@ -202,12 +203,64 @@ pub(crate) fn look_near<M: Inspect>(machine: &Machine<M>, item: u8) -> Option<Lo
     }
 }
 
+/// Puts the line of the instruction pointer before the text so far, if it changed.
+#[inline(always)]
+fn write_pointer_left(line: &mut Line, was: &Local, now: &Slot)
+    requires { length line.old + 30 ≤ 64 }
+    ensures { line.new ≡ text_of (pointer_left was.now.ip false now.now) ++ line.old }
+{
+    if !(is_same_pointer(was.ip, now.ip) && is_same_bit(false, now.past)) {
+        write_pointer(line, now.number, now.ip, now.past);
+    }
+}
+
+/// Puts the line of the register that was written before the text so far, if it changed.
+#[inline(always)]
+fn write_changed(line: &mut Line, held: &Held, now: &Slot)
+    requires { length line.old + 28 ≤ 64 }
+    ensures text { line.new
+        ≡ text_of (register_left held.now.word held.now.empty now.now held.now.register) ++ line.old }
+    ensures short { length line.new ≤ length line.old + 28 }
+{
+    let register = held.register.number();
+    let same = is_same_word(held.word, now.register(register))
+        && is_same_bit(held.empty, now.is_empty(register));
+    if !same {
+        write_register_now(line, now, register);
+    }
+}
+
+/// Puts the line of the register that was written before the text so far, if there is one and it changed.
+fn write_held(line: &mut Line, held: &Option<Held>, now: &Slot)
+    requires { length line.old + 28 ≤ 64 }
+    ensures text { line.new ≡ text_of (held_left held.now now.now) ++ line.old }
+    ensures short { length line.new ≤ length line.old + 28 }
+{
+    if let Some(held) = held {
+        write_changed(line, held, now);
+    }
+}
+
+/// Appends the lines of the instruction pointer and of the register that was written, as one text.
+fn put_moved<O: Sink>(text: &mut Gather, out: &mut O, was: &Local, held: &Held, now: &Slot)
+    ensures { Gathers O.taken O.faults out.old out.new text.old text.new
+        (text_of (pointer_left was.now.ip false now.now)
+        ++ text_of (register_left held.now.word held.now.empty now.now held.now.register)) }
+{
+    let mut line = Line::new();
+    write_changed(&mut line, held, now);
+    write_pointer_left(&mut line, was, now);
+    text.put_bytes(out, line.as_bytes());
+}
+
 /// Appends the line of the instruction pointer, if it changed.
-fn put_pointer_of<O: Sink>(text: &mut Gather, out: &mut O, was: &Local, now: &Slot)
+fn put_pointer_left<O: Sink>(text: &mut Gather, out: &mut O, was: &Local, now: &Slot)
     ensures { Gathers O.taken O.faults out.old out.new text.old text.new
         (text_of (pointer_left was.now.ip false now.now)) }
 {
-    put_pointer_left(text, out, was.ip, false, now);
+    let mut line = Line::new();
+    write_pointer_left(&mut line, was, now);
+    text.put_bytes(out, line.as_bytes());
 }
 
 /// Appends the line of the state, if the slot runs no more.
@@ -224,15 +277,42 @@ fn put_stop<O: Sink>(text: &mut Gather, out: &mut O, now: &Slot)
 fn put_held<O: Sink>(text: &mut Gather, out: &mut O, held: &Option<Held>, now: &Slot)
     ensures { Gathers O.taken O.faults out.old out.new text.old text.new (text_of (held_left held.now now.now)) }
 {
-    if let Some(held) = held {
-        put_register_left(
-            text,
-            out,
-            held.word,
-            held.empty,
-            now,
-            held.register.number(),
-        );
+    let mut line = Line::new();
+    write_held(&mut line, held, now);
+    text.put_bytes(out, line.as_bytes());
+}
+
+/// Appends the lines of the instruction pointer and of the register that was written, if there is one.
+fn put_running<O: Sink>(text: &mut Gather, out: &mut O, was: &Local, now: &Slot)
+    ensures { Gathers O.taken O.faults out.old out.new text.old text.new
+        (text_of (pointer_left was.now.ip false now.now) ++ text_of (held_left was.now.held now.now)) }
+{
+    match &was.held {
+        Some(held) => put_moved(text, out, was, held, now),
+        None => put_pointer_left(text, out, was, now),
+    }
+}
+
+/// Appends the lines of the changes of a slot that runs no more, but for loads.
+fn put_stopped<O: Sink>(text: &mut Gather, out: &mut O, was: &Local, now: &Slot)
+    ensures { Gathers O.taken O.faults out.old out.new text.old text.new
+        (text_of (pointer_left was.now.ip false now.now) ++ text_of (state_left Running now.now)
+        ++ text_of (held_left was.now.held now.now)) }
+{
+    put_pointer_left(text, out, was, now);
+    put_stop(text, out, now);
+    put_held(text, out, &was.held, now);
+}
+
+/// Appends the lines of the slot's changes, but for loads.
+fn put_without_loads<O: Sink>(text: &mut Gather, out: &mut O, was: &Local, now: &Slot)
+    ensures { Gathers O.taken O.faults out.old out.new text.old text.new
+        (text_of (pointer_left was.now.ip false now.now) ++ text_of (state_left Running now.now)
+        ++ text_of (held_left was.now.held now.now)) }
+{
+    match now.state {
+        SlotState::Running => put_running(text, out, was, now),
+        _ => put_stopped(text, out, was, now),
     }
 }
 
@@ -250,9 +330,7 @@ fn put_all_loads<O: Sink>(text: &mut Gather, out: &mut O, now: &Slot)
 fn put_slot_left<O: Sink>(text: &mut Gather, out: &mut O, was: &Local, now: &Slot)
     ensures { Gathers O.taken O.faults out.old out.new text.old text.new (text_of (slot_left was.now now.now)) }
 {
-    put_pointer_of(text, out, was, now);
-    put_stop(text, out, now);
-    put_held(text, out, &was.held, now);
+    put_without_loads(text, out, was, now);
     put_all_loads(text, out, now);
 }
 

@@ -1,7 +1,7 @@
 //! The lines of a slot's changes.
 #![tactic(auto)]
 
-ghost use Rattle.std.specs.Prelude.{◌≡◌, ◌<◌, drop, length};
+ghost use Rattle.std.specs.Prelude.{◌≡◌, ◌+◌, ◌<◌, ◌≤◌, ◌++◌, drop, length};
 ghost use Rattle.std.specs.List.{flat_map, range_with_len};
 ghost use Rattle.mm_text.specs.Gathers.{Gathers};
 ghost use Rattle.mm_word.specs.declared.word.Word.TheVariants.{Ptr};
@@ -11,13 +11,12 @@ ghost use Rattle.mm_log.specs.Lines.{line_text};
 ghost use Rattle.mm_log.specs.Lines.Line.{Issues};
 ghost use Rattle.mm_log.specs.Changes.{pointer_changes, same_state as same_state_of, state_changes, register_now};
 ghost use Rattle.mm_log.specs.Changes.{register_changes, slot_changes as slot_changes_of};
-ghost use Rattle.mm_log.specs.Local.{pointer_left, register_left};
 ghost use Rattle.mm_log.specs.Log.{text_of};
 
-use crate::lines::{put_empty, put_load, put_pointer, put_register, put_standing};
+use crate::lines::{put_load, put_pointer, put_standing, write_empty, write_register};
 use mm_io::Sink;
 use mm_model::{Pending, Slot, SlotState};
-use mm_text::Gather;
+use mm_text::{Gather, Line};
 use mm_word::{GuardedPtr, Word};
 
 // Whether two words are equal in tag and bits.
@@ -28,7 +27,7 @@ pub(crate) fn is_same_word(a: Word, b: Word) -> bool
 }
 
 // Whether two pointers are equal in bits.
-fn is_same_pointer(a: GuardedPtr, b: GuardedPtr) -> bool
+pub(crate) fn is_same_pointer(a: GuardedPtr, b: GuardedPtr) -> bool
     ensures { result ≡ same_word_of (Ptr a) (Ptr b) }
 {
     a.bits() == b.bits()
@@ -53,26 +52,13 @@ fn is_same_state(a: SlotState, b: SlotState) -> bool
     }
 }
 
-/// Appends the line of the instruction pointer of a slot, if the pointer or `past` was another.
-pub(crate) fn put_pointer_left<O: Sink>(
-    text: &mut Gather,
-    out: &mut O,
-    ip: GuardedPtr,
-    past: bool,
-    now: &Slot,
-)
-    ensures { Gathers O.taken O.faults out.old out.new text.old text.new (text_of (pointer_left ip past now.now)) }
-{
-    if !(is_same_pointer(ip, now.ip) && is_same_bit(past, now.past)) {
-        put_pointer(text, out, now.number, now.ip, now.past);
-    }
-}
-
 /// Appends the line of the instruction pointer, if the pointer or `past` changed.
 fn put_pointer_change<O: Sink>(text: &mut Gather, out: &mut O, was: &Slot, now: &Slot)
     ensures { Gathers O.taken O.faults out.old out.new text.old text.new (text_of (pointer_changes was.now now.now)) }
 {
-    put_pointer_left(text, out, was.ip, was.past, now);
+    if !(is_same_pointer(was.ip, now.ip) && is_same_bit(was.past, now.past)) {
+        put_pointer(text, out, now.number, now.ip, now.past);
+    }
 }
 
 /// Appends the line of the state, if the state changed.
@@ -84,36 +70,29 @@ fn put_state_change<O: Sink>(text: &mut Gather, out: &mut O, was: &Slot, now: &S
     }
 }
 
+/// Puts the line of a register as it is now before the text so far.
+#[inline(always)]
+pub(crate) fn write_register_now(line: &mut Line, now: &Slot, register: u8)
+    requires register { register < 16 }
+    requires room { length line.old + 28 ≤ 64 }
+    ensures text { line.new ≡ line_text (register_now now.now register) ++ line.old }
+    ensures short { length line.new ≤ length line.old + 28 }
+{
+    if now.is_empty(register) {
+        write_empty(line, now.number, register);
+    } else {
+        write_register(line, now.number, register, now.register(register));
+    }
+}
+
 /// Appends the line of a register as it is now.
 fn put_register_now<O: Sink>(text: &mut Gather, out: &mut O, now: &Slot, register: u8)
     requires { register < 16 }
     ensures { Gathers O.taken O.faults out.old out.new text.old text.new (line_text (register_now now.now register)) }
 {
-    if now.is_empty(register) {
-        put_empty(text, out, now.number, register);
-    } else {
-        put_register(text, out, now.number, register, now.register(register));
-    }
-}
-
-/// Appends the line of a register of a slot, if it held another word or if it began or ended a wait for a load.
-pub(crate) fn put_register_left<O: Sink>(
-    text: &mut Gather,
-    out: &mut O,
-    word: Word,
-    empty: bool,
-    now: &Slot,
-    register: u8,
-)
-    requires { register < 16 }
-    ensures { Gathers O.taken O.faults out.old out.new text.old text.new
-        (text_of (register_left word empty now.now register)) }
-{
-    let same = is_same_word(word, now.register(register))
-        && is_same_bit(empty, now.is_empty(register));
-    if !same {
-        put_register_now(text, out, now, register);
-    }
+    let mut line = Line::new();
+    write_register_now(&mut line, now, register);
+    text.put_bytes(out, line.as_bytes());
 }
 
 /// Appends the line of a register, if its word changed or it began or ended a wait for a load.
@@ -128,14 +107,11 @@ fn put_register_change<O: Sink>(
     ensures { Gathers O.taken O.faults out.old out.new text.old text.new
         (text_of (register_changes was.now now.now register)) }
 {
-    put_register_left(
-        text,
-        out,
-        was.register(register),
-        was.is_empty(register),
-        now,
-        register,
-    );
+    let same = is_same_word(was.register(register), now.register(register))
+        && is_same_bit(was.is_empty(register), now.is_empty(register));
+    if !same {
+        put_register_now(text, out, now, register);
+    }
 }
 
 fn put_register_changes<O: Sink>(text: &mut Gather, out: &mut O, was: &Slot, now: &Slot)

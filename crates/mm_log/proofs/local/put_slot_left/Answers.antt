@@ -3,7 +3,4 @@ use Rattle.mm_log.proofs.NearLines.{left_text}
 use Rattle.mm_log.proofs.local.put_slot_left.Goals as goal
 
 pub returns : goal.returns
-returns g c =
-    gathers_same
-    (gathers_then (gathers_then (gathers_then c.put_pointer_of.ensures c.put_stop.ensures) c.put_held.ensures) c.put_all_loads.ensures)
-    (left_text c.args.was.now c.args.now.now)
+returns g c = gathers_same (gathers_then c.put_without_loads.ensures c.put_all_loads.ensures) (left_text c.args.was.now c.args.now.now)
