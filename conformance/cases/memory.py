@@ -16,7 +16,7 @@ CONDITIONS, SETTINGS = ("any", "full", "empty"), ("keep", "full", "empty")
 
 
 def reach(name, what, start, at=0, cause=None, cells=None, **more):
-    """An access by each kind, or by those that `name` says."""
+    """An access of the kind that `name` says, at an offset from a pointer."""
     code = WAYS[name].format(at=at)
     registers = {1: start, 2: STORED, 3: 7}
     cells = AROUND if cells is None else cells
