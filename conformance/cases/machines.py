@@ -11,12 +11,12 @@ def limits():
     for version, slots, frames in ((1, 16, 256), (2, 64, 4096)):
         page = CODE // PAGE_BYTES
         mapped = tuple(range(page, page + frames))
-        last = pointer("rw", 54, (page + frames) * PAGE_BYTES - 8)
+        last = (page + frames) * PAGE_BYTES - 8
         many = [
             Slot(
                 number,
                 ("st r2, r1, 0, any, keep", "ld r3, r2, 0, any, keep", "out r3"),
-                {1: number + 1, 2: pointer("rw", 54, last.address - 8 * number)},
+                {1: number + 1, 2: pointer("rw", 54, last - number * (frames // slots * PAGE_BYTES + 8))},
                 group=slots - 1 - number,
                 at=CODE,
                 log=12,
@@ -38,6 +38,14 @@ def limits():
             [Slot(0, ("map r3, r1",), {1: DATA >> 12}, permission="xp")],
             "0",
             ["t 0 1 did"],
+            frames=frames,
+            version=version,
+        )
+        yield runs(
+            f"image-version-{version}-every-frame-is-mapped",
+            [Slot(0, ("map r3, r1", "addi r1, r1, 1", "bnz r3, -2"), {1: DATA >> 12}, permission="xp")],
+            f"0*{3 * frames}",
+            [f"page {(DATA >> 12) + frames - 2:011x} new", f"t 0 {3 * frames} did"],
             frames=frames,
             version=version,
         )
