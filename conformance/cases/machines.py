@@ -95,17 +95,14 @@ def limits():
         ["r 0 15 i0000000000000001"],
     )
     cells = {
-        DATA + 8 * place: [place, pointer("key", 54, place), Empty(place), Empty(pointer("ro", 3, place))][place % 4]
+        DATA + 8 * place: [place, pointer("key", 54, place), Empty(place), Empty(pointer("ro", 3, place))][mixed(place)]
         for place in range(512)
     }
-    code = [
-        line
-        for place in (0, 1, 2, 3, 7, 8, 63, 64, 510, 511)
-        for line in (f"ld r2, r1, {8 * place}, {'empty' if place % 4 > 1 else 'full'}, keep",)
-    ]
+    places = sorted({*range(10), *range(0, 512, 37), *range(60, 70), *range(250, 260), *range(503, 512)})
+    code = [f"ld r2, r1, {8 * place}, {'empty' if mixed(place) > 1 else 'full'}, keep" for place in places]
     yield runs(
         "image-cells-of-each-kind",
-        [Slot(0, tuple(code), {1: ALL_DATA})],
+        [Slot(0, tuple(code), {1: ALL_DATA}, log=9)],
         f"0*{len(code)}",
         [f"t 0 {len(code)} did"],
         cells=cells,
@@ -134,6 +131,11 @@ def limits():
         "0 1",
         ["t 0 1 did", "t 1 1 faulted 8"],
     )
+
+
+def mixed(place):
+    """A number below 4 for each place, without a period of 8 or 64 places."""
+    return (place * 5 + place // 8 * 3 + place // 64) % 4
 
 
 LOOP = ("addi r1, r1, 1", "br -1")
