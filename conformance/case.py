@@ -4,15 +4,14 @@ from dataclasses import dataclass
 from typing import Optional
 
 from images import Image, Slot, pointer
+from mm.machine.causes import Cause
 
-CAUSES = ("NotPointer", "Perm", "Bounds", "Align", "NoPage", "Sync", "Illegal", "Priv", "DivZero", "Malformed", "Trap",
-          "NoSlot", "OutFull")
+NUMBERS = {cause.title: cause.number for cause in Cause}
 # A page of data, a pointer to all of it, and the last word of it.
 DATA, PAGE_LOG = 0x120000, 12
 LAST_WORD = DATA + 0xFF8
 ALL_DATA = pointer("rw", PAGE_LOG, DATA)
 TOP_ADDRESS = 1 << 54
-NUMBERS = {name: number for number, name in enumerate(CAUSES, 1)}
 
 
 @dataclass(frozen=True)
@@ -40,6 +39,9 @@ def does(name, code, registers=None, shows=None, cells=None, pages=(), version=1
     return Case(name, image, count, f"0*{count}", (shows or f"t 0 {count} did",))
 
 
+READER = Slot(2, ("evt r4", "halt"))
+
+
 def fails(name, cause, code, registers=None, cells=None, pages=(), spare=0, turns=None, **slot):
     """The last instruction is a fault: in slot 0, which has no handler and halts, or is blocked by Sync; and in slot 1,
     whose handler, slot 2, reads the event."""
@@ -51,9 +53,6 @@ def fails(name, cause, code, registers=None, cells=None, pages=(), spare=0, turn
     image = Image(slots, cells or {}, pages, spare=spare)
     shows = (f"t 0 {count} {ends}", f"t 1 {count} faulted {number}", f"event 2 1 {number}", "t 2 1 did")
     return Case(name, image, 2 * count + 1, f"0*{count} 1*{count} 2", shows)
-
-
-READER = Slot(2, ("evt r4", "halt"))
 
 
 def runs(name, slots, schedule, shows=(), cycles=None, **image):

@@ -8,11 +8,13 @@ import hashlib
 import importlib
 import lzma
 import os
+from collections import Counter
 from fnmatch import fnmatch
 
 HERE = os.path.dirname(os.path.abspath(__file__))
 THEMES = ("integers", "pointers", "memory", "jumps", "handlers", "pages", "outputs", "split", "machines")
 HEAD = "== "
+STEP = 89
 
 
 class Wrong(Exception):
@@ -35,6 +37,16 @@ def all_cases(patterns=(), skipped=()):
             if (not patterns or matches(case.name, patterns)) and not matches(case.name, skipped):
                 found.append((theme, case))
     return found
+
+
+def mixed(cases):
+    """The cases with those of all themes in turn, so that few of them show most of what the suite shows."""
+    sizes, seen, placed = Counter(theme for theme, _ in cases), Counter(), []
+    for theme, case in cases:
+        # A step that has no factor in common with most sizes goes through a theme in an order that jumps.
+        seen[theme] += STEP
+        placed.append((seen[theme] % sizes[theme] / sizes[theme], len(placed), theme, case))
+    return [(theme, case) for _, _, theme, case in sorted(placed, key=lambda place: place[:2])]
 
 
 def matches(name, patterns):
@@ -67,7 +79,9 @@ def store_of(theme):
 
 
 def store(theme, logs):
-    """Stores the logs of a theme: a text and a key for each name."""
+    """Stores the logs of a theme, a key and a text for each name, if they are not those that are stored already."""
+    if list(stored(theme).items()) == list(logs.items()):
+        return
     text = "".join(f"{HEAD}{name} {key}\n{log}" for name, (key, log) in logs.items())
     os.makedirs(os.path.join(HERE, "logs"), exist_ok=True)
     with open(store_of(theme), "wb") as file:
@@ -92,10 +106,3 @@ def all_stored():
     """The stored logs of all themes."""
     return {name: entry for theme in THEMES for name, entry in stored(theme).items()}
 
-
-def turns_and_report(text):
-    """The lines of a log before its report, and those of its report without the counts of the cache. An implementation
-    that writes no report has none."""
-    lines = text.splitlines()
-    at = next((place for place, line in enumerate(lines) if line.startswith("cycles ")), len(lines))
-    return lines[:at], lines[at:]

@@ -218,6 +218,12 @@ def resuming():
         "1 0*2 1",
         ["t 1 2 faulted 4"],
     )
+    for what, at, end in (
+        ("to-the-last-byte", 0xF7, "ip 1 p32000000001001ff"), ("to-no-byte", 0xF9, "ip 1 p32000000001001f9 past")
+    ):
+        slot = Slot(1, TRAPS, ip=pointer("xu", 8, CODE + 0x100 + at), handler=0)
+        name = f"resume-skip-of-a-misaligned-pointer-{what}"
+        yield runs(name, [skips, slot], "1 0*2 1", [end, "t 1 2 faulted 3"])
     yield runs(
         "resume-skip-at-the-top-of-the-space",
         [skips, Slot(1, ("trap 1",), at=(1 << 54) - 8, ip=pointer("xu", 54, (1 << 54) - 8), handler=0)],

@@ -1,8 +1,7 @@
 """The plain operations and those of integers."""
 
-from case import ALL_DATA, DATA, does, fails
+from case import ALL_DATA, DATA, does, fails, runs
 from images import WORDS, Slot, pointer
-from case import runs
 
 MOST, HIGH = WORDS - 1, 1 << 63
 OTHER = pointer("ro", 3, DATA + 8)

@@ -3,7 +3,7 @@
 from case import ALL_DATA, DATA, PAGE_LOG, TOP_ADDRESS, does, fails, runs
 from images import CODE, PAGE_BYTES, WORDS, Empty, Slot, instruction, plainest, pointer
 from mm.machine.isa import OPERATIONS
-from mm.machine.words import Permission
+from mm.machine.words import Permission, Pointer
 
 HIGH = 1 << 63
 OWN = pointer("xu", 8, CODE)
@@ -353,15 +353,8 @@ def words():
     for name in ("add", "ld", "st", "br", "jmp", "trap", "map"):
         operation = OPERATIONS[name]
         # A pointer whose bits would be an instruction.
-        word = pointer_of(operation.number << 56)
+        word = Pointer.of_bits(operation.number << 56)
         yield fails(f"illegal-pointer-with-the-bits-of-{name}", "Illegal", [word])
-
-
-def pointer_of(bits):
-    """The pointer that 64 bits spell."""
-    from mm.machine.words import Pointer
-
-    return Pointer.of_bits(bits)
 
 
 def skipped(name, words):

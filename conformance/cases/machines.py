@@ -11,12 +11,12 @@ def limits():
     for version, slots, frames in ((1, 16, 256), (2, 64, 4096)):
         page = CODE // PAGE_BYTES
         mapped = tuple(range(page, page + frames))
-        last = pointer("rw", 54, (page + frames) * PAGE_BYTES - 8)
+        last = (page + frames) * PAGE_BYTES - 8
         many = [
             Slot(
                 number,
                 ("st r2, r1, 0, any, keep", "ld r3, r2, 0, any, keep", "out r3"),
-                {1: number + 1, 2: pointer("rw", 54, last.address - 8 * number)},
+                {1: number + 1, 2: pointer("rw", 54, last - number * (frames // slots * PAGE_BYTES + 8))},
                 group=slots - 1 - number,
                 at=CODE,
                 log=12,
@@ -38,6 +38,14 @@ def limits():
             [Slot(0, ("map r3, r1",), {1: DATA >> 12}, permission="xp")],
             "0",
             ["t 0 1 did"],
+            frames=frames,
+            version=version,
+        )
+        yield runs(
+            f"image-version-{version}-every-frame-is-mapped",
+            [Slot(0, ("map r3, r1", "addi r1, r1, 1", "bnz r3, -2"), {1: DATA >> 12}, permission="xp")],
+            f"0*{3 * frames}",
+            [f"page {(DATA >> 12) + frames - 2:011x} new", f"t 0 {3 * frames} did"],
             frames=frames,
             version=version,
         )
@@ -87,17 +95,14 @@ def limits():
         ["r 0 15 i0000000000000001"],
     )
     cells = {
-        DATA + 8 * place: [place, pointer("key", 54, place), Empty(place), Empty(pointer("ro", 3, place))][place % 4]
+        DATA + 8 * place: [place, pointer("key", 54, place), Empty(place), Empty(pointer("ro", 3, place))][mixed(place)]
         for place in range(512)
     }
-    code = [
-        line
-        for place in (0, 1, 2, 3, 7, 8, 63, 64, 510, 511)
-        for line in (f"ld r2, r1, {8 * place}, {'empty' if place % 4 > 1 else 'full'}, keep",)
-    ]
+    places = sorted({*range(10), *range(0, 512, 37), *range(60, 70), *range(250, 260), *range(503, 512)})
+    code = [f"ld r2, r1, {8 * place}, {'empty' if mixed(place) > 1 else 'full'}, keep" for place in places]
     yield runs(
         "image-cells-of-each-kind",
-        [Slot(0, tuple(code), {1: ALL_DATA})],
+        [Slot(0, tuple(code), {1: ALL_DATA}, log=9)],
         f"0*{len(code)}",
         [f"t 0 {len(code)} did"],
         cells=cells,
@@ -126,6 +131,11 @@ def limits():
         "0 1",
         ["t 0 1 did", "t 1 1 faulted 8"],
     )
+
+
+def mixed(place):
+    """A number below 4 for each place, without a period of 8 or 64 places."""
+    return (place * 5 + place // 8 * 3 + place // 64) % 4
 
 
 LOOP = ("addi r1, r1, 1", "br -1")

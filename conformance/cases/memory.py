@@ -16,7 +16,7 @@ CONDITIONS, SETTINGS = ("any", "full", "empty"), ("keep", "full", "empty")
 
 
 def reach(name, what, start, at=0, cause=None, cells=None, **more):
-    """An access by each kind, or by those that `name` says."""
+    """An access of the kind that `name` says, at an offset from a pointer."""
     code = WAYS[name].format(at=at)
     registers = {1: start, 2: STORED, 3: 7}
     cells = AROUND if cells is None else cells
@@ -173,6 +173,10 @@ def words():
         {1: ALL_DATA},
         cells={DATA + 8 * place: held if place % 3 == 1 else 40 + place for place in range(9)},
     )
+    for after in SETTINGS:
+        code = f"ld r3, r1, 0, any, {after}; ld r4, r1, 0, any, keep"
+        yield does(f"ld-{after}-leaves-a-pointer", code, {1: ALL_DATA}, cells={DATA: held})
+        yield does(f"ld-{after}-leaves-a-pointer-in-an-empty-word", code, {1: ALL_DATA}, cells={DATA: Empty(held)})
     yield does("st-a-pointer", "st r1, r2, 0, any, keep", {1: ALL_DATA, 2: held}, cells=AROUND)
     yield does(
         "st-an-integer-over-a-pointer", "st r1, r2, 0, any, keep", {1: ALL_DATA, 2: held.bits}, cells={DATA: held}
@@ -214,18 +218,36 @@ def words():
         {1: pointer("rw", 8, 0x100000)},
         shows="t 0 2 faulted 7",
     )
-    ring = [f"st r1, r2, {block}, any, keep" for block in (0, 0x1000, 0x2000, 0x40, 0x1040)]
-    back = [f"ld r{3 + place}, r1, {block}, any, keep" for place, block in enumerate((0, 0x1000, 0x2000, 0x40, 0x1040))]
-    yield does("st-in-blocks-of-one-line-of-the-cache", ring + back, {1: pointer("rw", 54, DATA), 2: held},
-               pages=tuple(DATA // PAGE_BYTES + page for page in range(3)))
-    many = [
-        line
-        for page in range(17)
-        for line in (f"st r1, r2, {page * PAGE_BYTES + 64 * page}, any, keep", "addi r2, r2, 1")
-    ]
-    many += [f"ld r3, r1, {page * PAGE_BYTES + 64 * page}, any, keep" for page in range(17)]
-    yield does("st-in-more-pages-than-the-translation-buffer-holds", many, {1: pointer("rw", 54, DATA), 2: 70},
-               pages=tuple(DATA // PAGE_BYTES + page for page in range(17)), log=9)
+
+
+def long_ago():
+    """Words that were stored long ago, with many others in between: what a cache or a translation buffer may lose."""
+    far = [0, 0x1000, 0x2000, 0x40, 0x1040]
+    yield again("st-in-words-4096-bytes-apart-and-load", far, 3)
+    yield again("st-in-each-block-of-two-pages-and-load", [64 * block for block in range(128)], 2)
+    yield again("st-in-twenty-pages-and-load", [PAGE_BYTES * page + 8 for page in range(20)], 20)
+    yield again("st-in-other-blocks-of-twenty-pages-and-load", [(PAGE_BYTES + 64) * page for page in range(20)], 20)
+    yield again("st-in-the-same-words-twice-and-load", [*far, *reversed(far)], 3)
+    held = {1: ALL_DATA, 2: pointer("key", 54, 9)}
+    for name, text in {"ld": "ld r3, r1, {}, empty, full", "st": "st r1, r1, {}, empty, keep"}.items():
+        for what, at in {"of-the-word": 0, "of-its-block": 8, "of-its-page": 64}.items():
+            code = f"st r1, r2, 0, any, keep; {text.format(at)}"
+            load = Slot(1, ("ld r4, r1, 0, any, keep",), held)
+            yield runs(
+                f"{name}-that-fails-by-the-bit-{what}-loses-nothing",
+                [Slot(0, tuple(code.split("; ")), held), load],
+                "0*3 1",
+                ["t 0 3 blocked", "r 1 4 p"],
+                cells=AROUND,
+            )
+
+
+def again(name, places, pages):
+    """Another word is stored at each place, and then each is loaded."""
+    code = [line for at in places for line in (f"st r1, r2, {at}, any, keep", "addi r2, r2, 1")]
+    code += [f"ld r3, r1, {at}, any, keep" for at in places]
+    mapped = tuple(DATA // PAGE_BYTES + page for page in range(pages))
+    return does(name, code, {1: pointer("rw", 54, DATA), 2: 0x70}, pages=mapped, log=12)
 
 
 def between_slots():
@@ -284,4 +306,5 @@ def cases():
     yield from order()
     yield from bits()
     yield from words()
+    yield from long_ago()
     yield from between_slots()

@@ -1,8 +1,8 @@
 """Split machines: loads whose words come later, the registers that wait for them, and ports."""
 
-from case import ALL_DATA, DATA, does, runs
+from case import ALL_DATA, DATA, runs
 from images import CODE, Empty, Slot, instruction, pointer
-from mm.machine.isa import OPERATIONS, Kind
+from mm.machine.isa import OPERATIONS
 
 SPLIT = {"version": 2, "split": True}
 PAGE = DATA >> 12
