@@ -1,6 +1,6 @@
 """Random code: instructions whose operands mostly suit them, loops of slots that handle faults, and gates.
 
-Registers have their uses at first, which instructions mostly keep to: 0 to 3, 4 and 7 hold integers, 5 and 6 pointers to
+Registers have their uses at first, which instructions mostly keep to: 0 to 4 and 7 hold integers, 5 and 6 pointers to
 jump through, 8 to 11 pointers, 12 a slot's number, 13 a page's, 14 a pointer to a table of pointers and 15 one to
 data."""
 
@@ -70,13 +70,14 @@ class Coder:
         dice = self.dice
         if name in ("ld", "st", "leai"):
             return dice.weighed(OFFSETS) if dice.chance(96) else dice.one(FAR)
-        return dice.weighed([(dice.below(17), 6), (-1, 1), (dice.below(64) - 32, 2), (dice.bits(32), 1)])
+        far = dice.one([(1 << 31) - 1, 1 << 31, dice.bits(32)])
+        return dice.weighed([(dice.below(17), 5), (-1, 2), (dice.below(64) - 32, 2), (far, 2)])
 
     def distance(self) -> int:
         """How many words a branch goes: mostly few, forwards or back."""
         dice = self.dice
         near, back, some = dice.between(1, 3), -dice.between(1, 6), dice.between(-40, 40)
-        return dice.weighed([(near, 60), (back, 26), (0, 1), (dice.one(FAR), 5), (some, 8)])
+        return dice.weighed([(near, 74), (back, 12), (0, 1), (dice.one(FAR), 5), (some, 8)])
 
     def spell(self, name: str, *values: int) -> Word:
         return Word(encode(Instruction(OPERATIONS[name], values)))
@@ -112,10 +113,10 @@ class Coder:
         return code[:words]
 
     def worker(self, words: int) -> list[Word]:
-        """Instructions, mostly in a loop."""
+        """Instructions, mostly in a loop. A call in the last word has no place to come back to."""
         code = self.lines(words)
-        if self.dice.chance(80):
-            code[-1] = self.spell("br", 1 - words)
+        again, call = self.spell("br", 1 - words), self.spell("jal", 6, 5)
+        code[-1] = self.dice.weighed([(again, 90), (call, 5), (code[-1], 5)])
         return code
 
     def serve(self) -> list[Word]:
@@ -161,8 +162,9 @@ class Coder:
         """A pointer, and code after it that uses it and goes back to its caller."""
         code = [Word(self.world.pointer().bits, True), self.spell("lip", 7, -1)]
         code.append(self.spell("ld", 8, 7, 0, 0, 0))
-        return code + self.lines(words - 4) + [self.spell("jmp", 6)]
+        code += self.lines(words - 5)
+        return [*code, self.spell("jmp", 6), self.spell("br", -len(code))]
 
     def flood(self, words: int) -> list[Word]:
-        """A loop that puts out bytes."""
+        """A loop that puts out bytes, as many as a group may."""
         return [self.spell("out", self.dice.below(16)) for _ in range(words - 1)] + [self.spell("br", 1 - words)]

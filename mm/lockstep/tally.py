@@ -1,4 +1,4 @@
-"""How often each operation had each outcome: counted from logs, with the machine that a log rebuilds to find instructions."""
+"""How often each operation had each outcome: counted from logs and the machines that they rebuild."""
 
 from __future__ import annotations
 
@@ -29,7 +29,7 @@ def outcome_of(step: Step) -> str:
 
 
 def blocked_by(step: Step) -> str:
-    """Why a turn is blocked: by a load, of its own slot or of the one that it serves, by a bit, or by a lack of events."""
+    """Why a turn is blocked: by a load of its own slot or of the one that it serves, a bit, or a lack of events."""
     for change in step.changes:
         if isinstance(change, RegisterSet):
             return "own load" if change.slot == step.turn.slot else "served slot's load"

@@ -82,7 +82,7 @@ class World:
     def number(self) -> int:
         """A number: small, at an edge, a slot's, a page's, the bits of a pointer, or any."""
         dice = self.dice
-        kind = dice.weighed([("small", 46), ("edge", 20), ("slot", 8), ("page", 10), ("bits", 8), ("any", 8)])
+        kind = dice.weighed([("small", 34), ("edge", 34), ("slot", 6), ("page", 8), ("bits", 8), ("any", 10)])
         if kind == "small":
             return dice.below(17)
         if kind == "edge":
