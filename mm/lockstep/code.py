@@ -46,6 +46,8 @@ class Coder:
 
     def __init__(self, world: World) -> None:
         self.world, self.dice = world, world.dice
+        # The register that was loaded last: in a split machine it has to be waited for.
+        self.loaded = 8
         self.values: dict[Kind, Callable[[str], int]] = {
             Kind.RD: lambda _: self.result(),
             Kind.RD4: lambda _: self.dice.weighed([(0, 6), (8, 1), (self.dice.below(13), 3)]),
@@ -60,7 +62,9 @@ class Coder:
         }
 
     def register(self, usual: tuple[int, ...]) -> int:
-        return self.dice.one(usual if self.dice.chance(90) else ANY)
+        if self.dice.chance(8):
+            return self.loaded
+        return self.dice.one(usual if self.dice.chance(91) else ANY)
 
     def result(self) -> int:
         return self.dice.one(self.dice.weighed(RESULTS))
@@ -88,7 +92,10 @@ class Coder:
             return self.spell("ld", self.dice.between(8, 11), TABLE_REGISTER, 8 * self.dice.below(8), 0, 0)
         # A slot that handles no faults waits for ever at `evt`, so that is seldom met.
         name = "evt" if self.dice.below(6000) == 0 else self.dice.weighed(WEIGHTS)
-        return self.spell(name, *(self.values[kind](name) for kind in OPERATIONS[name].operands))
+        values = [self.values[kind](name) for kind in OPERATIONS[name].operands]
+        if name == "ld":
+            self.loaded = values[0]
+        return self.spell(name, *values)
 
     def junk(self) -> Word:
         """A word that is hardly an instruction: another bit of one, a pointer, or anything."""
