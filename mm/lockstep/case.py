@@ -11,12 +11,12 @@ from mm.lockstep.dice import Dice
 from mm.lockstep.world import CODE, DATA, GATE, LOADING, TABLE, Area, World
 from mm.machine.words import Cell, Permission, Pointer, Word
 
-# How long the schedules of usual cases are, and how many turns it takes to put out as many bytes as a group may.
+# How long the schedules of usual cases are, and how many bytes a group may put out.
 ITEMS = (200, 600)
 FLOOD_WORDS = 64
 OUTPUTS = {1: 4096, 2: 65536}
-# Of how many cases one puts out so much.
-FLOOD_OF = {1: 60, 2: 1200}
+# Of how many cases one puts out as many bytes as a group of version 1 may, and of those of version 2 one all of theirs.
+FLOOD_OF, ALL_OF = 60, 20
 
 
 @dataclass(frozen=True)
@@ -51,7 +51,7 @@ class Maker:
         self.dice = dice = Dice(f"lockstep {seed} {number}")
         self.version = 1 if dice.chance(38) else 2
         self.split = self.version == 2 and dice.chance(72)
-        self.floods = dice.below(FLOOD_OF[self.version]) == 0
+        self.floods = dice.below(FLOOD_OF) == 0
         self.world = World(dice)
         self.coder = Coder(self.world)
         most = 16 if self.version == 1 else 64
@@ -155,7 +155,7 @@ class Maker:
         dice = self.dice
         items: list[int] = []
         if self.floods:
-            limit = OUTPUTS[self.version]
+            limit = OUTPUTS[2 if self.version == 2 and dice.below(ALL_OF) == 0 else 1]
             items += [self.flooder] * (limit + limit // (FLOOD_WORDS - 1) + dice.below(40))
         length = len(items) + dice.between(*ITEMS)
         while len(items) < length:

@@ -103,6 +103,13 @@ class Coder:
         near = Word(self.instruction().bits ^ 1 << dice.below(64))
         return dice.weighed([(near, 5), (Word(dice.bits(64)), 2), (self.world.word(), 3)])
 
+    def compared(self) -> list[Word]:
+        """A comparison of a word with a copy of it, or with the integer of its bits."""
+        dice, spell, of = self.dice, self.spell, self.register(ANY)
+        copy = spell("mov", 4, of) if dice.chance(40) else spell("addi", 4, of, 0)
+        both = (of, 4) if dice.chance(50) else (4, of)
+        return [copy, spell(dice.one(("eqw", "eqw", "eq", "ltu", "lts", "sub")), self.result(), *both)]
+
     def suited(self) -> list[Word]:
         """An operation on a pointer, with a number that suits it."""
         name = self.dice.one(list(SUITABLE))
@@ -113,8 +120,8 @@ class Coder:
         """So many words of code."""
         code: list[Word] = []
         while len(code) < words:
-            if self.dice.chance(7):
-                code += self.suited()
+            if self.dice.chance(8):
+                code += self.compared() if self.dice.chance(25) else self.suited()
             else:
                 code.append(self.junk() if self.dice.chance(3) else self.instruction())
         return code[:words]
@@ -122,7 +129,7 @@ class Coder:
     def worker(self, words: int) -> list[Word]:
         """Instructions, mostly in a loop. A call in the last word has no place to come back to."""
         code = self.lines(words)
-        again, call = self.spell("br", 1 - words), self.spell("jal", 6, 5)
+        again, call = self.spell("br", 1 - words), self.spell("jal", 6, self.register((5, 5, *POINTERS)))
         code[-1] = self.dice.weighed([(again, 90), (call, 5), (code[-1], 5)])
         return code
 
@@ -153,6 +160,9 @@ class Coder:
         code = [spell("evt", 0), spell("shr", 12, 0, 4)]
         code += self.pager() if pages and dice.chance(30) else []
         code += self.serve()
+        if dice.chance(4):
+            # The number is no slot's then, or is waited for in a split machine.
+            code.append(dice.one((spell("addi", 12, 12, dice.one((64, 128, 256, 65536))), spell("ld", 12, 15, 0, 0, 0))))
         if dice.chance(97):
             code.append(spell("resume", 12, dice.weighed([(0, 10), (1, 87), (2, 3)])))
         return code

@@ -13,7 +13,6 @@ from mm.machine.isa import OPERATIONS, Instruction, decode
 
 FETCH, PORT = "(fetch)", "(port)"
 DID, BLOCKED = "did", "blocked"
-OUTCOMES = (DID, BLOCKED, *(cause.title for cause in Cause))
 Cell = tuple[str, str]
 
 
@@ -104,11 +103,13 @@ class Tally:
         """The table, and below it the ways."""
         yield f"{self.cases} cases, {self.turns} turns"
         yield ""
-        yield "| operation | " + " | ".join(OUTCOMES) + " |"
-        yield "|---" * (len(OUTCOMES) + 1) + "|"
+        yield "| operation | done | blocked | faulted |"
+        yield "|---|---|---|---|"
         for name in (FETCH, *OPERATIONS, PORT):
-            numbers = (str(self.cells[name, outcome] or "") for outcome in OUTCOMES)
-            yield f"| {name} | " + " | ".join(numbers) + " |"
+            done, blocked = (str(self.cells[name, outcome] or "") for outcome in (DID, BLOCKED))
+            faults = ((cause.title, self.cells[name, cause.title]) for cause in Cause)
+            faulted = ", ".join(f"{title} {count}" for title, count in faults if count)
+            yield f"| {name} | {done} | {blocked} | {faulted} |"
         yield ""
         for name in (FETCH, *OPERATIONS, PORT):
             ways = sorted((way, count) for (of, way), count in self.ways.items() if of == name)
