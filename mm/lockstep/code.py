@@ -162,7 +162,8 @@ class Coder:
         code += self.serve()
         if dice.chance(4):
             # The number is no slot's then, or is waited for in a split machine.
-            code.append(dice.one((spell("addi", 12, 12, dice.one((64, 128, 256, 65536))), spell("ld", 12, 15, 0, 0, 0))))
+            far = spell("addi", 12, 12, dice.one((64, 128, 256, 65536)))
+            code.append(dice.one((far, spell("ld", 12, 15, 0, 0, 0))))
         if dice.chance(97):
             code.append(spell("resume", 12, dice.weighed([(0, 10), (1, 87), (2, 3)])))
         return code

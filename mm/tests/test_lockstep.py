@@ -209,7 +209,7 @@ class Command(unittest.TestCase):
             status, out, _ = lockstep(*words)
             self.assertEqual((status, out.splitlines()[0][:9]), (1, "case 1-7:"))
             status, out, _ = lockstep("--all", "--jobs", "2", *words)
-            self.assertEqual((status, out.split("turns, ")[-1]), (1, "different: 1-7 1-8 1-9 1-10\n"))
+            self.assertEqual((status, out.split(", ")[-1]), (1, "different: 1-7 1-8 1-9 1-10\n"))
 
     def test_a_program_that_hangs(self):
         with folder() as room:
