@@ -86,7 +86,7 @@ class Work:
         """The report of a difference, after its schedule was cut down."""
         shortened = Shortener(lambda items: pair.run(case, items, files), case.items, found)
         note = counted(len(case.items), "item")
-        if not self.options.follow:
+        if not (self.options.follow or self.options.whole):
             ended = shortened.run()
             more = "no item can be left out" if ended else "it may get shorter yet"
             note = f"{counted(len(shortened.items), 'item')} of {len(case.items)}, {more}"

@@ -23,7 +23,7 @@ from mm.log.replay import Machine
 from mm.machine.isa import OPERATIONS, decode
 from mm.machine.program import find_program
 from mm.machine.words import Word
-from mm.tests.support import folder, needs_log, path_of, read_bytes, write
+from mm.tests.support import folder, needs_log, path_of, read, read_bytes, write
 from mm.tests.test_log import LOG, small_image
 
 # What the cases 0 to 49 of seed 1 are. It changes with the generator: then numbers that were written down mean others.
@@ -210,6 +210,19 @@ class Command(unittest.TestCase):
             self.assertEqual((status, out.splitlines()[0][:9]), (1, "case 1-7:"))
             status, out, _ = lockstep("--all", "--jobs", "2", *words)
             self.assertEqual((status, out.split(", ")[-1]), (1, "different: 1-7 1-8 1-9 1-10\n"))
+
+    def test_logs_that_were_written_before(self):
+        with folder() as room:
+            lockstep("--write", room, "--first", "2", "--count", "1")
+            image, schedule = (os.path.join(room, f"1-2.{kind}") for kind in ("img", "schedule"))
+            log = write(room, "1-2.log", find_program().run(["log", image, "1000000", schedule]).text)
+            words = ["--whole", "--keep", room, "--image", image, "--schedule", schedule]
+            words += ["cat", log]
+            self.assertEqual(lockstep(*words)[0], 0)
+            text = read(room, "1-2.log").replace("ip", "IP", 3)
+            write(room, "1-2.log", text)
+            status, out, _ = lockstep(*words)
+            self.assertEqual((status, "no item can be left out" in out), (1, False))
 
     def test_a_program_that_hangs(self):
         with folder() as room:
