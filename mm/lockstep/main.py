@@ -170,6 +170,8 @@ def main(given: Optional[Sequence[str]] = None) -> int:
         if options.write is not None:
             return write_cases(options)
         return tally_cases(options) if options.tally else compare_cases(options)
+    except KeyboardInterrupt:
+        return 128 + signal.SIGINT
     except (OSError, ValueError, NoLog, Stop) as error:
         told = error.lines[0] if isinstance(error, Stop) and error.lines else f"lockstep: {error}"
         print(told, file=sys.stderr)

@@ -226,7 +226,7 @@ class Command(unittest.TestCase):
 
     def test_a_program_that_hangs(self):
         with folder() as room:
-            path = self.script(room, "#!/bin/sh\nexec sleep 30\n")
+            path = self.script(room, "#!/bin/sh\nsleep 30\necho t 0 1 did\n")
             words = ["--keep", room, "--seconds", "1", "--count", "1", "--follow", path, "{image}"]
             status, out, _ = lockstep(*words)
             self.assertEqual(status, 1)
