@@ -8,7 +8,6 @@ from __future__ import annotations
 
 from typing import Callable
 
-from mm.lockstep.dice import Dice
 from mm.lockstep.world import World
 from mm.machine.isa import OPERATIONS, Instruction, Kind, encode
 from mm.machine.words import Word

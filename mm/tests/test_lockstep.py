@@ -22,7 +22,6 @@ from mm.log.read import read_log
 from mm.log.replay import Machine
 from mm.machine.isa import OPERATIONS, decode
 from mm.machine.program import find_program
-from mm.machine.words import Word
 from mm.tests.support import folder, needs_log, path_of, read, read_bytes, write
 from mm.tests.test_log import LOG, small_image
 
