@@ -11,12 +11,12 @@ from mm.lockstep.dice import Dice
 from mm.lockstep.world import CODE, DATA, GATE, LOADING, TABLE, Area, World
 from mm.machine.words import Cell, Permission, Pointer, Word
 
-# How long the schedules of usual cases are, and how many turns it takes to put out as many bytes as a group may.
-ITEMS = (400, 1000)
+# How long the schedules of usual cases are, and how many bytes a group may put out.
+ITEMS = (200, 600)
 FLOOD_WORDS = 64
 OUTPUTS = {1: 4096, 2: 65536}
-# Of how many cases one puts out so much.
-FLOOD_OF = {1: 60, 2: 1200}
+# Of how many cases one puts out as many bytes as a group of version 1 may, and of those of version 2 one all of theirs.
+FLOOD_OF, ALL_OF = 60, 20
 
 
 @dataclass(frozen=True)
@@ -51,7 +51,7 @@ class Maker:
         self.dice = dice = Dice(f"lockstep {seed} {number}")
         self.version = 1 if dice.chance(38) else 2
         self.split = self.version == 2 and dice.chance(72)
-        self.floods = dice.below(FLOOD_OF[self.version]) == 0
+        self.floods = dice.below(FLOOD_OF) == 0
         self.world = World(dice)
         self.coder = Coder(self.world)
         most = 16 if self.version == 1 else 64
@@ -65,12 +65,12 @@ class Maker:
         self.privileged: dict[Area, bool] = {}
 
     def lay(self) -> None:
-        """Lays out data, code and gates: first all areas, then what is in them, since they have pointers to one another."""
+        """Lays out data, code and gates: first the areas, and then what is in them: pointers to one another."""
         dice, world, coder = self.dice, self.world, self.coder
         floods = [world.place(CODE, 9)] if self.floods else []
-        workers = [world.place(CODE, dice.between(5, 8)) for _ in range(dice.between(1, 4))]
+        workers = [world.place(CODE, dice.between(6, 9)) for _ in range(dice.between(1, 4))]
         kernels = [world.place(CODE, dice.between(7, 8)) for _ in self.kernels[:2]]
-        gates = [world.place(GATE, dice.between(5, 6)) for _ in range(dice.between(1, 2))]
+        gates = [world.place(GATE, dice.between(6, 7)) for _ in range(dice.between(1, 2))]
         data = [world.place(DATA, dice.between(3, 7)) for _ in range(dice.between(1, 3))]
         tables = [world.place(TABLE, 6) for _ in range(dice.between(1, 2))]
         self.workers = floods + workers
@@ -148,14 +148,14 @@ class Maker:
         if dice.chance(4):
             return dice.below(256)
         workers = [number for number in self.numbers if number not in self.kernels] or self.numbers
-        return dice.one(self.kernels if self.kernels and dice.chance(min(60, 25 + 8 * len(workers))) else workers)
+        return dice.one(self.kernels if self.kernels and dice.chance(min(55, 20 + 6 * len(workers))) else workers)
 
     def items(self) -> tuple[int, ...]:
         """A schedule: rounds over all slots, and runs of equal items."""
         dice = self.dice
         items: list[int] = []
         if self.floods:
-            limit = OUTPUTS[self.version]
+            limit = OUTPUTS[2 if self.version == 2 and dice.below(ALL_OF) == 0 else 1]
             items += [self.flooder] * (limit + limit // (FLOOD_WORDS - 1) + dice.below(40))
         length = len(items) + dice.between(*ITEMS)
         while len(items) < length:

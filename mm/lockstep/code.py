@@ -1,6 +1,6 @@
 """Random code: instructions whose operands mostly suit them, loops of slots that handle faults, and gates.
 
-Registers have their uses at first, which instructions mostly keep to: 0 to 3, 4 and 7 hold integers, 5 and 6 pointers to
+Registers have their uses at first, which instructions mostly keep to: 0 to 4 and 7 hold integers, 5 and 6 pointers to
 jump through, 8 to 11 pointers, 12 a slot's number, 13 a page's, 14 a pointer to a table of pointers and 15 one to
 data."""
 
@@ -8,7 +8,6 @@ from __future__ import annotations
 
 from typing import Callable
 
-from mm.lockstep.dice import Dice
 from mm.lockstep.world import World
 from mm.machine.isa import OPERATIONS, Instruction, Kind, encode
 from mm.machine.words import Word
@@ -46,6 +45,8 @@ class Coder:
 
     def __init__(self, world: World) -> None:
         self.world, self.dice = world, world.dice
+        # The register that was loaded last: in a split machine it has to be waited for.
+        self.loaded = 8
         self.values: dict[Kind, Callable[[str], int]] = {
             Kind.RD: lambda _: self.result(),
             Kind.RD4: lambda _: self.dice.weighed([(0, 6), (8, 1), (self.dice.below(13), 3)]),
@@ -60,7 +61,9 @@ class Coder:
         }
 
     def register(self, usual: tuple[int, ...]) -> int:
-        return self.dice.one(usual if self.dice.chance(90) else ANY)
+        if self.dice.chance(8):
+            return self.loaded
+        return self.dice.one(usual if self.dice.chance(91) else ANY)
 
     def result(self) -> int:
         return self.dice.one(self.dice.weighed(RESULTS))
@@ -70,13 +73,14 @@ class Coder:
         dice = self.dice
         if name in ("ld", "st", "leai"):
             return dice.weighed(OFFSETS) if dice.chance(96) else dice.one(FAR)
-        return dice.weighed([(dice.below(17), 6), (-1, 1), (dice.below(64) - 32, 2), (dice.bits(32), 1)])
+        far = dice.one([(1 << 31) - 1, 1 << 31, dice.bits(32)])
+        return dice.weighed([(dice.below(17), 5), (-1, 2), (dice.below(64) - 32, 2), (far, 2)])
 
     def distance(self) -> int:
         """How many words a branch goes: mostly few, forwards or back."""
         dice = self.dice
         near, back, some = dice.between(1, 3), -dice.between(1, 6), dice.between(-40, 40)
-        return dice.weighed([(near, 60), (back, 26), (0, 1), (dice.one(FAR), 5), (some, 8)])
+        return dice.weighed([(near, 74), (back, 12), (0, 1), (dice.one(FAR), 5), (some, 8)])
 
     def spell(self, name: str, *values: int) -> Word:
         return Word(encode(Instruction(OPERATIONS[name], values)))
@@ -87,13 +91,23 @@ class Coder:
             return self.spell("ld", self.dice.between(8, 11), TABLE_REGISTER, 8 * self.dice.below(8), 0, 0)
         # A slot that handles no faults waits for ever at `evt`, so that is seldom met.
         name = "evt" if self.dice.below(6000) == 0 else self.dice.weighed(WEIGHTS)
-        return self.spell(name, *(self.values[kind](name) for kind in OPERATIONS[name].operands))
+        values = [self.values[kind](name) for kind in OPERATIONS[name].operands]
+        if name == "ld":
+            self.loaded = values[0]
+        return self.spell(name, *values)
 
     def junk(self) -> Word:
         """A word that is hardly an instruction: another bit of one, a pointer, or anything."""
         dice = self.dice
         near = Word(self.instruction().bits ^ 1 << dice.below(64))
         return dice.weighed([(near, 5), (Word(dice.bits(64)), 2), (self.world.word(), 3)])
+
+    def compared(self) -> list[Word]:
+        """A comparison of a word with a copy of it, or with the integer of its bits."""
+        dice, spell, of = self.dice, self.spell, self.register(ANY)
+        copy = spell("mov", 4, of) if dice.chance(40) else spell("addi", 4, of, 0)
+        both = (of, 4) if dice.chance(50) else (4, of)
+        return [copy, spell(dice.one(("eqw", "eqw", "eq", "ltu", "lts", "sub")), self.result(), *both)]
 
     def suited(self) -> list[Word]:
         """An operation on a pointer, with a number that suits it."""
@@ -105,17 +119,17 @@ class Coder:
         """So many words of code."""
         code: list[Word] = []
         while len(code) < words:
-            if self.dice.chance(7):
-                code += self.suited()
+            if self.dice.chance(8):
+                code += self.compared() if self.dice.chance(25) else self.suited()
             else:
                 code.append(self.junk() if self.dice.chance(3) else self.instruction())
         return code[:words]
 
     def worker(self, words: int) -> list[Word]:
-        """Instructions, mostly in a loop."""
+        """Instructions, mostly in a loop. A call in the last word has no place to come back to."""
         code = self.lines(words)
-        if self.dice.chance(80):
-            code[-1] = self.spell("br", 1 - words)
+        again, call = self.spell("br", 1 - words), self.spell("jal", 6, self.register((5, 5, *POINTERS)))
+        code[-1] = self.dice.weighed([(again, 90), (call, 5), (code[-1], 5)])
         return code
 
     def serve(self) -> list[Word]:
@@ -145,6 +159,10 @@ class Coder:
         code = [spell("evt", 0), spell("shr", 12, 0, 4)]
         code += self.pager() if pages and dice.chance(30) else []
         code += self.serve()
+        if dice.chance(4):
+            # The number is no slot's then, or is waited for in a split machine.
+            far = spell("addi", 12, 12, dice.one((64, 128, 256, 65536)))
+            code.append(dice.one((far, spell("ld", 12, 15, 0, 0, 0))))
         if dice.chance(97):
             code.append(spell("resume", 12, dice.weighed([(0, 10), (1, 87), (2, 3)])))
         return code
@@ -161,8 +179,9 @@ class Coder:
         """A pointer, and code after it that uses it and goes back to its caller."""
         code = [Word(self.world.pointer().bits, True), self.spell("lip", 7, -1)]
         code.append(self.spell("ld", 8, 7, 0, 0, 0))
-        return code + self.lines(words - 4) + [self.spell("jmp", 6)]
+        code += self.lines(words - 5)
+        return [*code, self.spell("jmp", 6), self.spell("br", -len(code))]
 
     def flood(self, words: int) -> list[Word]:
-        """A loop that puts out bytes."""
+        """A loop that puts out bytes, as many as a group may."""
         return [self.spell("out", self.dice.below(16)) for _ in range(words - 1)] + [self.spell("br", 1 - words)]

@@ -86,7 +86,7 @@ class Work:
         """The report of a difference, after its schedule was cut down."""
         shortened = Shortener(lambda items: pair.run(case, items, files), case.items, found)
         note = counted(len(case.items), "item")
-        if not self.options.follow:
+        if not (self.options.follow or self.options.whole):
             ended = shortened.run()
             more = "no item can be left out" if ended else "it may get shorter yet"
             note = f"{counted(len(shortened.items), 'item')} of {len(case.items)}, {more}"
@@ -170,6 +170,8 @@ def main(given: Optional[Sequence[str]] = None) -> int:
         if options.write is not None:
             return write_cases(options)
         return tally_cases(options) if options.tally else compare_cases(options)
+    except KeyboardInterrupt:
+        return 128 + signal.SIGINT
     except (OSError, ValueError, NoLog, Stop) as error:
         told = error.lines[0] if isinstance(error, Stop) and error.lines else f"lockstep: {error}"
         print(told, file=sys.stderr)

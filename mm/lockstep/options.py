@@ -35,6 +35,7 @@ def parser() -> argparse.ArgumentParser:
     add("--count", type=int, default=100, metavar="N", help="how many cases; else 100")
     add("--jobs", type=int, default=1, metavar="N", help="how many cases at a time; else 1")
     add("--all", action="store_true", help="go on after a difference, and tell which cases differ")
+    add("--whole", action="store_true", help="leave the schedule of a difference as it is")
     add("--follow", action="store_true", help="your program decides the order of turns")
     add("--image", metavar="FILE", help="this image alone, in place of random ones")
     add("--schedule", metavar="FILE", help="the schedule of --image; else round robin")
@@ -57,7 +58,7 @@ def read_options(given: Sequence[str]) -> argparse.Namespace:
     alone = options.tally or options.write is not None
     if bool(options.command) == alone:
         made.error("say which program to compare with, or --tally or --write")
-    if options.command and not any(IMAGE in word for word in options.command):
+    if options.command and not options.whole and not any(IMAGE in word for word in options.command):
         made.error(f"no word of the command has {IMAGE}")
     if options.schedule and not options.image:
         made.error("--schedule belongs to --image")

@@ -4,6 +4,7 @@ from __future__ import annotations
 
 import contextlib
 import os
+import signal
 import subprocess
 import tempfile
 import threading
@@ -16,6 +17,13 @@ SAID_BYTES = 2000
 
 class CannotRun(Exception):
     """A program that cannot be started."""
+
+
+def stop(started: subprocess.Popen[bytes]) -> None:
+    """Stops a program that has not ended, with the programs that it started."""
+    if started.poll() is None:
+        with contextlib.suppress(ProcessLookupError):
+            os.killpg(started.pid, signal.SIGKILL)
 
 
 @dataclass
@@ -47,11 +55,13 @@ class Command:
         words = self.words_for(image, cycles, schedule)
         with tempfile.TemporaryFile() as said:
             try:
-                started = subprocess.Popen(words, stdin=subprocess.DEVNULL, stdout=subprocess.PIPE, stderr=said)
+                started = subprocess.Popen(
+                    words, stdin=subprocess.DEVNULL, stdout=subprocess.PIPE, stderr=said, start_new_session=True
+                )
             except OSError as error:
                 raise CannotRun(f"{words[0]} cannot be run: {error.strerror}") from None
             late = threading.Event()
-            timer = threading.Timer(self.seconds, lambda: (late.set(), started.kill()))
+            timer = threading.Timer(self.seconds, lambda: (late.set(), stop(started)))
             timer.start()
             try:
                 running = Running(iter(()))
@@ -59,7 +69,7 @@ class Command:
                 yield running
             finally:
                 timer.cancel()
-                started.kill()
+                stop(started)
                 started.stdout.close()
                 started.wait()
 

@@ -1,4 +1,4 @@
-"""How often each operation had each outcome: counted from logs, with the machine that a log rebuilds to find instructions."""
+"""How often each operation had each outcome: counted from logs and the machines that they rebuild."""
 
 from __future__ import annotations
 
@@ -13,7 +13,6 @@ from mm.machine.isa import OPERATIONS, Instruction, decode
 
 FETCH, PORT = "(fetch)", "(port)"
 DID, BLOCKED = "did", "blocked"
-OUTCOMES = (DID, BLOCKED, *(cause.title for cause in Cause))
 Cell = tuple[str, str]
 
 
@@ -29,7 +28,7 @@ def outcome_of(step: Step) -> str:
 
 
 def blocked_by(step: Step) -> str:
-    """Why a turn is blocked: by a load, of its own slot or of the one that it serves, by a bit, or by a lack of events."""
+    """Why a turn is blocked: by a load of its own slot or of the one that it serves, a bit, or a lack of events."""
     for change in step.changes:
         if isinstance(change, RegisterSet):
             return "own load" if change.slot == step.turn.slot else "served slot's load"
@@ -104,11 +103,13 @@ class Tally:
         """The table, and below it the ways."""
         yield f"{self.cases} cases, {self.turns} turns"
         yield ""
-        yield "| operation | " + " | ".join(OUTCOMES) + " |"
-        yield "|---" * (len(OUTCOMES) + 1) + "|"
+        yield "| operation | done | blocked | faulted |"
+        yield "|---|---|---|---|"
         for name in (FETCH, *OPERATIONS, PORT):
-            numbers = (str(self.cells[name, outcome] or "") for outcome in OUTCOMES)
-            yield f"| {name} | " + " | ".join(numbers) + " |"
+            done, blocked = (str(self.cells[name, outcome] or "") for outcome in (DID, BLOCKED))
+            faults = ((cause.title, self.cells[name, cause.title]) for cause in Cause)
+            faulted = ", ".join(f"{title} {count}" for title, count in faults if count)
+            yield f"| {name} | {done} | {blocked} | {faulted} |"
         yield ""
         for name in (FETCH, *OPERATIONS, PORT):
             ways = sorted((way, count) for (of, way), count in self.ways.items() if of == name)

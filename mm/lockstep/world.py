@@ -65,12 +65,13 @@ class World:
         self.slots: list[int] = []
 
     def place(self, kind: str, log: int) -> Area:
-        """A new area. An area that finds no room shares the end of a page with others."""
+        """A new area. Some areas, and those that find no room, are the end of a page, and may share it."""
         page, size = self.dice.one(self.pages), 1 << log
         at = (self.free[page] + size - 1) // size * size
-        if at + size > PAGE_BYTES:
+        if at + size > PAGE_BYTES or self.dice.chance(15):
             at = PAGE_BYTES - size
-        self.free[page] = at + size
+        else:
+            self.free[page] = at + size
         area = Area(kind, page * PAGE_BYTES + at, log)
         self.areas.append(area)
         return area
@@ -82,7 +83,7 @@ class World:
     def number(self) -> int:
         """A number: small, at an edge, a slot's, a page's, the bits of a pointer, or any."""
         dice = self.dice
-        kind = dice.weighed([("small", 46), ("edge", 20), ("slot", 8), ("page", 10), ("bits", 8), ("any", 8)])
+        kind = dice.weighed([("small", 34), ("edge", 34), ("slot", 6), ("page", 8), ("bits", 8), ("any", 10)])
         if kind == "small":
             return dice.below(17)
         if kind == "edge":

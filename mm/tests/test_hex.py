@@ -65,7 +65,8 @@ class ReadBack(unittest.TestCase):
             found, digits = read_hex(PARTS["slots"](image))
             self.assertEqual(digits, {17})
             machine = found[MACHINE]
-            self.assertEqual((machine & 0xFFFF, machine >> 16 & 0xFFFF, machine >> 32), (image.frames, image.version, image.split))
+            numbers = (machine & 0xFFFF, machine >> 16 & 0xFFFF, machine >> 32)
+            self.assertEqual(numbers, (image.frames, image.version, image.split))
             for number in range(SLOTS):
                 about, slot = found[32 * number], image.slot(number)
                 self.assertEqual(about >> 17, int(slot is not None))

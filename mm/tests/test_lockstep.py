@@ -1,4 +1,4 @@
-"""Two programs side by side: the cases, the comparison, shorter schedules, the counts, and a program that is spoiled."""
+"""Two programs side by side: cases, comparison, shorter schedules, counts, and a program that is spoiled."""
 
 import contextlib
 import hashlib
@@ -22,12 +22,11 @@ from mm.log.read import read_log
 from mm.log.replay import Machine
 from mm.machine.isa import OPERATIONS, decode
 from mm.machine.program import find_program
-from mm.machine.words import Word
-from mm.tests.support import folder, needs_log, path_of, read_bytes, write
+from mm.tests.support import folder, needs_log, path_of, read, read_bytes, write
 from mm.tests.test_log import LOG, small_image
 
-# What the cases 0 to 49 of seed 1 are. It changes with the generator: then numbers that were written down mean other cases.
-CASES = "PIN"
+# What the cases 0 to 49 of seed 1 are. It changes with the generator: then numbers that were written down mean others.
+CASES = "d0fac9b542b052c7"
 
 
 class Cases(unittest.TestCase):
@@ -41,7 +40,8 @@ class Cases(unittest.TestCase):
             case = case_of(2, number)
             image = read_image(case.image)
             self.assertEqual(image_bytes(image), case.image)
-            for word in [word for slot in image.slots for word in slot.registers] + [cell.word for _, cell in image.cells()]:
+            words = [word for slot in image.slots for word in slot.registers]
+            for word in [*words, *(cell.word for _, cell in image.cells())]:
                 self.assertTrue(word.pointer or not word.tagged)
             self.assertEqual(items_of(read_schedule(schedule_text(case.items).encode())), case.items)
 
@@ -119,8 +119,8 @@ class Shortened(unittest.TestCase):
             self.assertEqual(list(shortener.items), wanted)
 
     def test_tries_end(self):
-        shortener = Shortener(lambda items: Difference(0, [], None, None) if len(set(items)) == 3000 else None,
-            tuple(range(3000)), Difference(0, [], None, None))
+        found = Difference(0, [], None, None)
+        shortener = Shortener(lambda items: found if len(set(items)) == 3000 else None, tuple(range(3000)), found)
         self.assertFalse(shortener.run())
 
 
@@ -208,12 +208,26 @@ class Command(unittest.TestCase):
             status, out, _ = lockstep(*words)
             self.assertEqual((status, out.splitlines()[0][:9]), (1, "case 1-7:"))
             status, out, _ = lockstep("--all", "--jobs", "2", *words)
-            self.assertEqual((status, out.split("turns, ")[-1]), (1, "different: 1-7 1-8 1-9 1-10\n"))
+            self.assertEqual((status, out.split(", ")[-1]), (1, "different: 1-7 1-8 1-9 1-10\n"))
+
+    def test_logs_that_were_written_before(self):
+        with folder() as room:
+            lockstep("--write", room, "--first", "2", "--count", "1")
+            image, schedule = (os.path.join(room, f"1-2.{kind}") for kind in ("img", "schedule"))
+            log = write(room, "1-2.log", find_program().run(["log", image, "1000000", schedule]).text)
+            words = ["--whole", "--keep", room, "--image", image, "--schedule", schedule]
+            words += ["cat", log]
+            self.assertEqual(lockstep(*words)[0], 0)
+            text = read(room, "1-2.log").replace("ip", "IP", 3)
+            write(room, "1-2.log", text)
+            status, out, _ = lockstep(*words)
+            self.assertEqual((status, "no item can be left out" in out), (1, False))
 
     def test_a_program_that_hangs(self):
         with folder() as room:
-            path = self.script(room, "#!/bin/sh\nexec sleep 30\n")
-            status, out, _ = lockstep("--keep", room, "--seconds", "1", "--count", "1", "--follow", path, "{image}")
+            path = self.script(room, "#!/bin/sh\nsleep 30\necho t 0 1 did\n")
+            words = ["--keep", room, "--seconds", "1", "--count", "1", "--follow", path, "{image}"]
+            status, out, _ = lockstep(*words)
             self.assertEqual(status, 1)
             self.assertIn("it was stopped after 1 seconds", out)
 
