@@ -3,3 +3,4 @@ pub mod Worked
 pub mod WorkedSchedules
 pub mod WorkedReach
 pub mod WorkedWords
+pub mod WorkedCommands

@@ -12,11 +12,17 @@ ghost use Rattle.mm_examples.specs.Worked.{CountsHello, CountsGated, CountsSweep
 ghost use Rattle.mm_examples.specs.WorkedSchedules.{MeansItems, MeansNothing, MeansAbsentSlots, SkipsComments};
 ghost use Rattle.mm_examples.specs.WorkedSchedules.{CountsTooMany, ListsTooMany, CountsNone, LeadsWithZero};
 ghost use Rattle.mm_examples.specs.WorkedSchedules.{KeepsOneGroup, KeepsIdleItems, KeepsPorts, RobinBeginsLate};
+ghost use Rattle.mm_examples.specs.WorkedCommands.{TableIsWrittenOut};
 ghost use Rattle.mm_examples.specs.WorkedReach.{TouchesItsCode, NoGroupWrites, WritesNoCode, TwoGroupsStandApart};
 ghost use Rattle.mm_examples.specs.WorkedReach.{BothCanWrite, NeitherStandsApart};
 ghost use Rattle.mm_examples.specs.WorkedWords.{MakesPointers, MakesNone, Moves, MovesFromTheBase, Restricts, Shortens};
 ghost use Rattle.mm_examples.specs.WorkedWords.{Advances, JumpsTo, Accesses, IntegersAreNoPointers, ReadsWords};
 ghost use Rattle.mm_examples.specs.WorkedWords.{ReadsArithmetic, ReadsNone, Calculates};
+
+/// The program's table of commands, written out.
+pub fn table_of_commands()
+    ensures { TableIsWrittenOut }
+{}
 
 /// Examples of pointers, accesses, instruction words and arithmetic.
 #[tactic(auto, using(crate::proofs::OfWords::makes_pointers, crate::proofs::OfWords::makes_none, crate::proofs::OfWords::moves, crate::proofs::OfWords::moves_from_the_base, crate::proofs::OfWords::restricts, crate::proofs::OfWords::shortens, crate::proofs::OfWords::advances, crate::proofs::OfWords::jumps_to, crate::proofs::OfWords::accesses, crate::proofs::OfWords::integers_are_no_pointers, crate::proofs::OfWords::reads_words, crate::proofs::OfWords::reads_arithmetic, crate::proofs::OfWords::reads_none, crate::proofs::OfWords::calculates))]

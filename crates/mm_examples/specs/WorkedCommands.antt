@@ -1,0 +1,48 @@
+-- The table of commands, written out: of each command its name, what stands at the places after the name, and what may
+-- come after these.
+use Rattle.std.specs.Prelude.{◌≡◌, ℕ, List, [], ◌∷◌, codes}
+use Rattle.mm_cli.specs.declared.table.Command.{Command}
+use Rattle.mm_cli.specs.declared.table.Command.TheVariants as command
+use Rattle.mm_cli.specs.declared.table.Kind.TheVariants as kind
+use Rattle.mm_cli.specs.declared.table.Place.{Place}
+use Rattle.mm_cli.specs.declared.table.Place.TheVariants.{File, Number, Groups, Mode, Range}
+use Rattle.mm_cli.specs.declared.table.Last.{Last}
+use Rattle.mm_cli.specs.declared.table.Last.TheVariants.{Nothing, Perhaps, Several}
+use Rattle.mm_cli.specs.Table.{Listed, table}
+
+abbrev image : Place
+image = File kind.Image
+
+-- the number of cycles, up to 1,000,000
+abbrev cycles : Place
+cycles = Number 0 1000000
+
+abbrev perhaps_a_schedule : Last
+perhaps_a_schedule = Perhaps (File kind.Schedule)
+
+abbrev row : List ℕ → Command → List Place → Last → Listed
+row name command places last = record { name = name; command = command; places = places; last = last }
+
+abbrev pub rows : List Listed
+rows = row (codes "run") command.Run (image ∷ cycles ∷ []) perhaps_a_schedule
+    ∷ row (codes "trace") command.Trace (image ∷ cycles ∷ []) perhaps_a_schedule
+    ∷ row (codes "log") command.Log (image ∷ cycles ∷ []) perhaps_a_schedule
+    ∷ row (codes "solo") command.Solo (image ∷ Groups ∷ cycles ∷ File kind.Schedule ∷ []) Nothing
+    ∷ row (codes "grants") command.Grants (image ∷ []) (Perhaps Groups)
+    ∷ row (codes "extract") command.Extract (image ∷ Groups ∷ []) Nothing
+    ∷ row (codes "asm") command.Asm (File kind.Source ∷ []) Nothing
+    ∷ row (codes "link") command.Link [] (Several kind.Object 16)
+    ∷ row (codes "dis") command.Dis (File kind.Object ∷ []) Nothing
+    ∷ row (codes "debug") command.Debug (image ∷ []) perhaps_a_schedule
+    ∷ row (codes "gen") command.Gen (Number 0 18446744073709551615 ∷ Number 1 16 ∷ []) Nothing
+    ∷ row (codes "soak") command.Soak (Number 0 18446744073709551615 ∷ Number 1 16 ∷ cycles ∷ []) Nothing
+    ∷ row (codes "migrate") command.Migrate (image ∷ Mode ∷ []) Nothing
+    ∷ row (codes "sweep") command.Sweep (image ∷ Range ∷ []) Nothing
+    ∷ row (codes "holders") command.Holders (image ∷ Range ∷ []) Nothing
+    ∷ row (codes "save") command.Save (image ∷ cycles ∷ []) perhaps_a_schedule
+    ∷ row (codes "continue") command.Continue (image ∷ File kind.Checkpoint ∷ cycles ∷ []) perhaps_a_schedule
+    ∷ row (codes "net") command.Net (File kind.Links ∷ File kind.Events ∷ cycles ∷ []) (Several kind.Image 8)
+    ∷ []
+
+abbrev pub TableIsWrittenOut : Type 0
+TableIsWrittenOut = table ≡ rows
