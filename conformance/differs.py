@@ -46,7 +46,7 @@ def told(case, log, at, came, in_full):
 
 
 def wanted_at(lines, at, came):
-    """The line of a place of a stored log; at its report, if another line of a turn came, that no more turns are wanted."""
+    """The line of a place of a stored log; at its report, if another line of a turn came, that no more are wanted."""
     if at >= len(lines):
         return "no more lines"
     more = at == report_at(lines) and came is not None and not came.startswith("cycles ")
