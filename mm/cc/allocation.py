@@ -20,6 +20,9 @@ class Allocation:
         self.home: dict[int, int] = {}
         self.slot: dict[int, int] = {}
         self.slots = 0
+        events = any(block.events for block in code.blocks)
+        self.own = {register: list(interval.ranges) for register, interval in self.live.intervals.items()
+                    } if events else {}
         self._give_fixed_ranges()
         self._join_moves()
         self._mark_calls()
@@ -39,6 +42,10 @@ class Allocation:
 
     def has_slot(self, register: int) -> bool:
         return self.root(register) in self.slot
+
+    def holds(self, register: int, place: int) -> bool:
+        """Whether a register of the code still has its value at a place of the function."""
+        return any(start <= place < end for start, end in self.own.get(register, ()))
 
     def _give_fixed_ranges(self) -> None:
         """A fixed value is made at the beginning of the function, so it is live from there on to where liveness finds

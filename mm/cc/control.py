@@ -9,6 +9,7 @@ from mm.cc.ends import Ends
 from mm.cc.forms import RAW, SIGNED, ZEROED, bits_of
 from mm.cc.ir import Block, FloatType, Instruction, IntType, Local, PointerType, Type, Value, VectorType
 from mm.cc.pointers import Pointer, is_twice
+from mm.cc.variables import event_of
 from mm.cc.untranslated import Untranslated
 from mm.cc.wide import has_floats, is_plain, is_wide
 
@@ -138,7 +139,9 @@ class Translator(Ends):
             if made.op == "phi":
                 self.forms_of_several(made)
             elif made.op == "debug":
-                continue
+                event = event_of(made, self)
+                if event is not None:
+                    self.block.events.append((len(self.block.body), event))
             else:
                 if made.debug is not None:
                     self.line = made.debug

@@ -5,9 +5,10 @@ from __future__ import annotations
 from typing import Callable, Optional, Union
 
 from mm.cc.allocation import Allocation
-from mm.cc.code import FRAME, LINK, SCRATCH, SECOND, STACK, Code, Fixed, LocalObject, Op
+from mm.cc.code import FRAME, LINK, SCRATCH, SECOND, STACK, Code, Fixed, LocalObject, Op, Variable
 from mm.cc.frame import Frame
 from mm.cc.text import Line, TextBlock
+from mm.cc.variables import Places
 
 THREE = {"add", "sub", "mul", "divu", "remu", "and", "or", "xor", "shl", "shr", "sar", "eq", "ltu", "lts", "eqw", "lea",
          "leab", "restrict", "subseg"}
@@ -25,14 +26,18 @@ class Emission:
         self.base = FRAME if code.dynamic else STACK
         self.blocks: list[TextBlock] = []
         self.origin: Optional[str] = None
+        self.variables: tuple[tuple[Variable, str], ...] = ()
         self.used_link = False
 
     def text(self) -> list[TextBlock]:
+        places, place = Places(self.code, self.allocation, self.frame), 0
         for block in self.code.blocks:
             self.blocks.append(TextBlock(block.label))
-            for op in block.body:
-                self.origin = op.line
+            places.begin(block)
+            for number, op in enumerate(block.body):
+                self.origin, self.variables = op.line, places.at(number, place)
                 self.operation(op)
+                place += 2
         self.blocks[0].notes = self.notes()
         return self.blocks
 
@@ -44,13 +49,15 @@ class Emission:
         old = f"at {frame.old}" if frame.aligned else f"by {frame.size}"
         found = [f"frame back {link} caller {old}"]
         for made in self.code.objects:
-            found.append(f"local {made.name} {made.size} at {made.at + made.place} log {made.log}")
+            name, type_ = made.name.split() if made.variable else (made.name, "0")
+            said = f" type {type_}{made.said}" if made.variable else ""
+            found.append(f"local {name} {made.size} at {made.at + made.place} log {made.log}{said}")
         return found
 
     # Lines
 
     def put(self, op: str, *operands: object, target: Optional[str] = None) -> None:
-        self.blocks[-1].lines.append(Line(op, ", ".join(map(str, operands)), target, self.origin))
+        self.blocks[-1].lines.append(Line(op, ", ".join(map(str, operands)), target, self.origin, self.variables))
 
     def reg(self, op: str, *registers: int) -> None:
         self.put(op, *[f"r{register}" for register in registers])

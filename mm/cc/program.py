@@ -4,13 +4,14 @@ from __future__ import annotations
 
 import re
 from dataclasses import dataclass
-from typing import Optional
+from typing import Any, Optional
 
 from mm.cc.code import log_of, place_in
 from mm.cc.control import Translator
+from mm.cc.ctypes import Types
 from mm.cc.data import Constants, Place, Words
 from mm.cc.ir import ArrayType, BlockAddress, Function, Global, GlobalObject, IntType, Module, Value
-from mm.cc.lines import Lines
+from mm.cc.lines import FunctionNotes, Lines
 from mm.cc.lowering import Names
 from mm.cc.options import Options
 from mm.cc.pointers import Known
@@ -128,6 +129,7 @@ class Program:
         self.pool: dict[str, str] = {}
         self.counter = 0
         self.undefined: list[str] = []
+        self.types = Types()
         # Doors and shared words of other programs, by their names here.
         self.foreign: set[str] = set()
         for module in modules:
@@ -284,17 +286,33 @@ class Program:
             if (name, block_name) in module.addressed:
                 self.blocks[id(module), name, block_name] = label
                 addressed.append(label)
-        lines = names.lines
+        notes = FunctionNotes(names.lines, self.types)
         for block in code.blocks:
             for op in block.body:
-                op.line = lines.of(op.line)
+                op.line = notes.place(op.line)
+        for made in code.objects:
+            if made.variable is not None:
+                made.name, made.said = notes.variable(made.variable)
         blocks = emit(code, self.fresh, addressed)
-        begins = lines.of_function(function.debug)
+        self._note(blocks, function, notes)
+        self.texts.append(blocks)
+
+    @staticmethod
+    def _note(blocks: list[TextBlock], function: Function, notes: FunctionNotes) -> None:
+        """Says where a function begins, and where variables are; nothing of a function whose lines are not known."""
+        begins = notes.lines.of_function(function.debug)
+        said: dict[tuple[Any, ...], tuple[str, ...]] = {(): ()}
+        for block in blocks:
+            for line in block.lines:
+                if line.variables not in said:
+                    made = [(*notes.variable(variable), where) for variable, where in line.variables]
+                    said[line.variables] = tuple(f"{name} {where}{frame}" for name, frame, where in made)
+                line.variables = said[line.variables]
         if begins:
-            blocks[0].notes.insert(0, f"function {begins}")
+            head = f"function {notes.lines.name_of(function.debug or '')} at {begins}"
+            blocks[0].notes = [head, *notes.inlined, *blocks[0].notes]
         else:
             blocks[0].notes.clear()
-        self.texts.append(blocks)
 
     # Data
 

@@ -1,0 +1,177 @@
+"""Variables of C, for the debugger: what LLVM's text says of them, and where each is at each operation of a function."""
+
+from __future__ import annotations
+
+import re
+from dataclasses import dataclass
+from typing import Iterable, Optional
+
+from mm.cc.allocation import Allocation
+from mm.cc.code import Code, CodeBlock, Fixed, Variable, Where
+from mm.cc.frame import Frame
+from mm.cc.ir import Instruction, IntType, Local, Number, Value
+from mm.cc.lowering import Lowering, signed
+from mm.cc.reading import Reader
+from mm.cc.untranslated import Untranslated
+
+# `call void @llvm.dbg.value(metadata i32 %i, metadata !44, metadata !DIExpression()), !dbg !51`, or since LLVM 19
+# `#dbg_value(i32 %i, !44, !DIExpression(), !51)`.
+SAID = re.compile(r"(?:@llvm\.dbg\.|#dbg_)(value|declare)\((?:metadata )?(.*), (?:metadata )?(!\d+), "
+                  r"(?:metadata )?!DIExpression\(([^()]*)\)(?:\).*!dbg (!\d+)|, (!\d+)\))")
+FURTHER = re.compile(r"DW_OP_plus_uconst, (\d+), DW_OP_stack_value")
+
+State = dict[Variable, Where]
+
+
+@dataclass(frozen=True)
+class Event:
+    """A variable that is somewhere from here on, or nowhere."""
+
+    variable: Variable
+    where: Optional[Where]
+
+
+def event_of(made: Instruction, lowering: Lowering) -> Optional[Event]:
+    """What an instruction for debuggers says. A variable that is an object of the frame all the time gives the object
+    its name."""
+    match = SAID.search(made.condition)
+    if match is None:
+        return None
+    variable = Variable(match[3], match[5] or match[6])
+    try:
+        value = None if match[2].startswith("!") else Reader(match[2]).typed()
+    except Untranslated:
+        value = None
+    if match[1] == "declare" and isinstance(value, Local) and value.name in lowering.promoted:
+        return Event(variable, place_of(value, lowering))
+    found = place_of(value, lowering) if value is not None else None
+    if match[1] == "declare":
+        return _declared(variable, found, lowering)
+    if match[4] == "DW_OP_deref" and found is not None:
+        return Event(variable, Where(found.parts, found.number, True))
+    further = FURTHER.fullmatch(match[4])
+    if further and found is not None:
+        return Event(variable, Where(found.parts, found.number + int(further[1])))
+    return Event(variable, None if match[4] else found)
+
+
+def _declared(variable: Variable, found: Optional[Where], lowering: Lowering) -> Optional[Event]:
+    """A variable that is in memory all the time."""
+    if found is None:
+        return None
+    fixed = lowering.code.fixed.get(found.parts[0][0]) if len(found.parts) == 1 else None
+    if fixed is not None and fixed.kind == "local" and not found.number:
+        lowering.code.objects[fixed.number].variable = variable
+        return None
+    return Event(variable, Where(found.parts, found.number, True))
+
+
+def place_of(value: Value, lowering: Lowering) -> Optional[Where]:
+    """Where a value is. No operation is made for it."""
+    if isinstance(value, Number) and isinstance(value.type, IntType):
+        return Where((), signed(value.number, value.type.bits))
+    if not isinstance(value, Local):
+        return None
+    if value.name in lowering.numbers:
+        return Where((tuple(dict.fromkeys(lowering.numbers[value.name].values())),))
+    pointer = lowering.pointers.get(value.name)
+    if pointer is None:
+        return None
+    parts = [(pointer.base,)] if pointer.offset is None else [(pointer.base,), (pointer.offset,)]
+    return Where(tuple(parts), pointer.constant)
+
+
+def states(code: Code) -> dict[str, State]:
+    """Where variables are at the beginning of each block, as far as all ways to it agree."""
+    leads: dict[str, list[str]] = {block.label: [] for block in code.blocks}
+    for block in code.blocks:
+        for label in block.next:
+            leads[label].append(block.label)
+    blocks = {block.label: block for block in code.blocks}
+    before: dict[str, State] = {code.blocks[0].label: {}}
+    after: dict[str, State] = {}
+    work = [code.blocks[0].label]
+    while work:
+        label = work.pop()
+        known = [after[lead] for lead in leads[label] if lead in after]
+        if label != code.blocks[0].label:
+            before[label] = _common(known)
+        new = _after(blocks[label], before[label])
+        if after.get(label) != new:
+            after[label] = new
+            work += [following for following in blocks[label].next if following not in work]
+    return before
+
+
+def _common(known: list[State]) -> State:
+    first, *others = known
+    return {variable: where for variable, where in first.items()
+            if all(other.get(variable) == where for other in others)}
+
+
+def change(state: State, event: Event) -> None:
+    if event.where is None:
+        state.pop(event.variable, None)
+    else:
+        state[event.variable] = event.where
+
+
+def _after(block: CodeBlock, state: State) -> State:
+    state = dict(state)
+    for _, event in block.events:
+        change(state, event)
+    return state
+
+
+class Places:
+    """Where the variables of a function are at each of its operations."""
+
+    def __init__(self, code: Code, allocation: Allocation, frame: Frame) -> None:
+        self.code, self.allocation, self.frame = code, allocation, frame
+        self.there = any(block.events for block in code.blocks)
+        self.before = states(code) if self.there else {}
+        self.state: State = {}
+        self.waiting: list[tuple[int, Event]] = []
+
+    def begin(self, block: CodeBlock) -> None:
+        self.state = dict(self.before.get(block.label, {}))
+        self.waiting = list(block.events)
+
+    def at(self, number: int, place: int) -> tuple[tuple[Variable, str], ...]:
+        """The variables that have a place at operation `number` of a block, which is `place` in the function."""
+        while self.waiting and self.waiting[0][0] <= number:
+            change(self.state, self.waiting.pop(0)[1])
+        if not self.state:
+            return ()
+        found = [(variable, self.text(where, place)) for variable, where in self.state.items()]
+        return tuple((variable, text) for variable, text in found if text is not None)
+
+    def text(self, where: Where, place: int) -> Optional[str]:
+        """`r7`, `s24+8`, `@table+16`; with `*` where that is the address of the variable."""
+        terms = [self.term(registers, place) for registers in where.parts]
+        if None in terms:
+            return None
+        if where.number or not terms:
+            terms.append(str(where.number))
+        return ("*" if where.memory else "") + "+".join(filter(None, terms))
+
+    def term(self, registers: Iterable[int], place: int) -> Optional[str]:
+        for register in registers:
+            fixed = self.code.fixed.get(register)
+            if fixed is not None:
+                return self.fixed(fixed)
+            if self.allocation.holds(register, place):
+                home = self.allocation.of(register)
+                if home is not None:
+                    return f"r{home}"
+                if self.allocation.has_slot(register) and not self.code.dynamic:
+                    return f"s{self.frame.slots + 8 * self.allocation.slot_of(register)}"
+        return None
+
+    def fixed(self, fixed: Fixed) -> Optional[str]:
+        if fixed.kind == "int":
+            return str(fixed.number)
+        if fixed.kind == "local":
+            made = self.code.objects[fixed.number]
+            return None if self.code.dynamic else f"f{made.at + made.place}"
+        return f"@{fixed.name}"
