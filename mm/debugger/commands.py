@@ -5,12 +5,14 @@ from __future__ import annotations
 from dataclasses import dataclass
 from typing import Callable, Iterable, Iterator
 
+from mm.debugger.cexpressions import c_thing
 from mm.debugger.evaluate import count_of, place_of, slot_of, span, value_of
 from mm.debugger.points import PointKind
 from mm.debugger.session import Halt, Session
 from mm.debugger.show import Show
 from mm.machine.isa import OPERATIONS
 from mm.machine.words import Pointer
+from mm.names.expressions import NoAddress
 from mm.outputs.trace import Turn
 from mm.views.listing import map_lines
 
@@ -33,7 +35,10 @@ class Debugger:
     def stop(self, halt: Halt) -> Iterator[str]:
         yield from self.show.stop(halt)
         for text in self.displays:
-            yield f"{text} = {self.show.word(value_of(text, self.session))}"
+            try:
+                yield f"{text} = {value_text(text, self)}"
+            except NoAddress as error:
+                yield str(error)
 
 
 @dataclass(frozen=True)
@@ -195,8 +200,17 @@ def _slot(debugger: Debugger, rest: str) -> Lines:
 
 def _print(debugger: Debugger, rest: str) -> Lines:
     if not rest:
-        raise Wrong("say what: `p r5`, `p count`, `p &box`, `p 0x100100`")
-    yield f"{rest} = {debugger.show.word(value_of(rest, debugger.session))}"
+        raise Wrong("say what: `p r5`, `p count`, `p &box`, `p 0x100100`; in C `p i`, `p name[3]`, `p list->next`")
+    yield f"{rest} = {value_text(rest, debugger)}"
+
+
+def value_text(text: str, debugger: Debugger) -> str:
+    """A variable of C, or else a word."""
+    values = debugger.session.values
+    thing = c_thing(text, values) if values and not text.startswith("&") else None
+    if thing is not None and values is not None:
+        return f"{values.spell(thing)}   ({thing.types.title(thing.type)})" if thing.type else values.spell(thing)
+    return debugger.show.word(value_of(text, debugger.session))
 
 
 def _display(debugger: Debugger, rest: str) -> Lines:
@@ -229,6 +243,57 @@ def _list(debugger: Debugger, rest: str) -> Lines:
 
 def _where(debugger: Debugger, rest: str) -> Lines:
     yield from debugger.show.stop(Halt())
+    yield from debugger.show.calls()
+
+
+def _locals(debugger: Debugger, rest: str) -> Lines:
+    """The variables of C; where there are none, the registers."""
+    values = debugger.session.values
+    if values is None or not values.frames:
+        yield from _registers(debugger, rest)
+        return
+    found = {name: values.spell(thing) for name, thing in reversed(list(values.locals()))}
+    for name, said in sorted(found.items()):
+        yield f"  {name} = {said}"
+    if not found:
+        yield f"no variable of {values.frames[0].name} has a place here"
+
+
+def _step_line(debugger: Debugger, rest: str) -> Lines:
+    """Lines of C of the current slot, into calls."""
+    return _by_lines(debugger, rest, False)
+
+
+def _next_line(debugger: Debugger, rest: str) -> Lines:
+    """Lines of C of the current slot; what a line calls is done on the way."""
+    return _by_lines(debugger, rest, True)
+
+
+def _by_lines(debugger: Debugger, rest: str, over: bool) -> Lines:
+    session = debugger.session
+    halt = Halt()
+    for _ in range(count_of(rest)):
+        halt = session.follow(_other_line(debugger, over))
+        if halt.point or halt.ended:
+            break
+    return debugger.stop(halt)
+
+
+def _other_line(debugger: Debugger, over: bool) -> Callable[[Turn], bool]:
+    """Whether a turn begins another line than that of now: of any function, or of one that is being carried out."""
+    symbols, values = debugger.session.symbols, debugger.session.values
+    frames = values.frames if values else []
+    now = frames[0].line if frames else None
+    labels = {frame.function.label for frame in frames}
+
+    def other(turn: Turn) -> bool:
+        line = symbols.c_line(turn.fetch) if turn.fetch is not None else None
+        if line is None or line == now or turn.fetch is None:
+            return False
+        function = symbols.c_function(turn.fetch)
+        return not over or not labels or function is not None and function.label in labels
+
+    return other
 
 
 def _output(debugger: Debugger, rest: str) -> Lines:
@@ -243,13 +308,13 @@ INFO: dict[str, tuple[str, Callable[[Debugger, str], Lines]]] = {
         "names with their addresses",
         lambda debugger, rest: map_lines(debugger.session.symbols, debugger.show.style),
     ),
+    "locals": ("variables of C; else registers", _locals),
     "output": ("what each group has put out", _output),
     "line": ("where this slot stands", _where),
 }
 INFO_NAMES = {
     "threads": "slots",
     "watchpoints": "breakpoints",
-    "locals": "registers",
     "frame": "line",
     "program": "line",
     "variables": "symbols",
@@ -286,6 +351,8 @@ def _help(debugger: Debugger, rest: str) -> Lines:
 ENTRIES = (
     Entry(("step", "s", "si", "stepi"), "[N]", "N cycles on, whichever slots they belong to", "", _step),
     Entry(("next", "n", "ni", "nexti"), "[N]", "N turns of this slot on; a call counts as one", "", _next),
+    Entry(("stepline", "sl"), "[N]", "to the next line of C, into calls", "", _step_line),
+    Entry(("nextline", "nl"), "[N]", "to the next line of C of this function, or of one that called it", "", _next_line),
     Entry(("continue", "c"), "", "on to the next stop", "", _continue),
     Entry(("until", "u", "advance"), "[PLACE]", "on until this slot comes to a place, or past a loop", "place", _until),
     Entry(("finish", "fin"), "", "on until this slot leaves its segment, as a gate", "", _finish),
@@ -302,11 +369,11 @@ ENTRIES = (
     Entry(("delete", "d"), "[N]", "remove a break or a watch, or all; 0 is the stop at faults", "", _delete),
     Entry(("regs", "registers"), "[S]", "the registers of a slot", "", _registers),
     Entry(("slot", "thread", "t"), "[S]", "look at another slot", "", _slot),
-    Entry(("print", "p", "inspect"), "WHAT", "a register (r5, ip), the word at a name, or with & the name's address", "value", _print),
+    Entry(("print", "p", "inspect"), "WHAT", "a register (r5, ip), the word at a name, with & its address; a variable of C: i, a[2], p->x", "value", _print),
     Entry(("display",), "[WHAT]", "the same at each stop; nothing ends it", "value", _display),
     Entry(("x",), "/N[i] PLACE", "N words of memory, with i as instructions; a register stands for where it points", "value", _examine),
     Entry(("list", "l"), "[PLACE]", "the source around this slot, or around a place", "place", _list),
-    Entry(("where", "bt", "backtrace", "frame"), "", "where the run stands", "", _where),
+    Entry(("where", "bt", "backtrace", "frame"), "", "where the run stands; in C the functions that wait", "", _where),
     Entry(("output", "o"), "", "what each group has put out", "", _output),
     Entry(("info", "i"), "WHAT", ", ".join(INFO), "info", _info),
     Entry(("help", "h"), "[WHAT]", "this list, a command or an operation", "help", _help),

@@ -11,6 +11,7 @@ from mm.machine.words import Cell, Word
 from mm.names.numbers import counted
 from mm.outputs.report import SlotState
 from mm.source.tokens import readable
+from mm.views.cview import CView
 from mm.views.report import ReportView
 from mm.views.spell import Memory, bytes_as_text
 from mm.views.style import Style
@@ -73,7 +74,8 @@ class Show:
             cause = Cause.of_number(halt.turn.fault)
             slot = self.session.report.slot(halt.turn.slot)
             if cause and slot:
-                yield self.style.bad(f"fault {cause.number} {cause.title}: {cause.meaning}")
+                said = CView(slot, self.session.memory, self.session.speller).fault(cause)
+                yield self.style.bad(said or f"fault {cause.number} {cause.title}: {cause.meaning}")
                 yield from (f"  {line}" for line in why(cause, slot, self.session.memory, self.session.speller))
         elif point.kind.before:
             yield self.style.good(f"break {point.number}: {point.text or self.session.symbols.show(point.address)}")
@@ -166,7 +168,12 @@ class Show:
         return f"{speller.pointer(pointer)}   ({pointer.permission.full}, {speller.reach(pointer)}, at 0x{pointer.address:x})"
 
     def source(self, address: int) -> Iterator[str]:
-        """The source around the line of an address, or the instructions around it."""
+        """The source around the line of an address, that in C where it is there, or the instructions around it."""
+        of_c = self.session.symbols.c_line(address)
+        if of_c and of_c.file:
+            yield str(of_c)
+            yield from self.lines(of_c.file, of_c.line, of_c.line)
+            return
         origin = self.session.symbols.origin(address)
         region = self.session.symbols.region(address)
         if origin and region and region.source:
@@ -174,6 +181,13 @@ class Show:
             return
         first = max(address - 8 * AROUND, region.base if region else 0)
         yield from self.memory(first, 2 * AROUND + 1, True)
+
+    def calls(self) -> Iterator[str]:
+        """The functions of C that are being carried out, the innermost first."""
+        values = self.session.values
+        found = [call for frame in (values.frames if values else []) for call in frame.calls()]
+        for number, (name, line) in enumerate(found):
+            yield f"  #{number}  {name}" + (f"  {self.style.soft(str(line) + ':')}  {line.text}" if line else "")
 
     def lines(self, lines: list[str], middle: int, marked: Optional[int]) -> Iterator[str]:
         for number in range(max(1, middle - AROUND), min(len(lines), middle + AROUND) + 1):

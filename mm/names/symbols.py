@@ -9,7 +9,7 @@ from typing import Optional, Sequence
 
 from mm.formats.object import Object, Segment
 from mm.machine.isa import OPERATIONS
-from mm.names.clines import CFunction, CLine, CObject
+from mm.names.clines import CFunction, CLine, CNotes, CObject
 from mm.names.layout import Placed
 from mm.source.text import SourceSegment, SourceText
 from mm.source.tokens import readable
@@ -139,16 +139,20 @@ class Symbols:
 
     def c_line(self, address: int) -> Optional[CLine]:
         """The line of C that the word at an address comes from."""
-        return self.c_place(address)[1]
+        found = self.c_notes(address)
+        return found[0].line_at(found[1]) if found else None
 
-    def c_place(self, address: int) -> tuple[Optional[CFunction], Optional[CLine]]:
-        """The function of C, or of its library, that an address is in, and its line."""
+    def c_function(self, address: int) -> Optional[CFunction]:
+        """The function of C, or of its library, that an address is in."""
+        found = self.c_notes(address)
+        return found[0].function_at(found[1]) if found else None
+
+    def c_notes(self, address: int) -> Optional[tuple[CNotes, int]]:
+        """The comments of the translator of C in the source that an address is of, and the line there."""
         region = self.region(address)
         line = region.line_of(address) if region else None
         notes = region.source.notes if region and region.source else None
-        if notes is None or line is None:
-            return None, None
-        return notes.function_at(line), notes.line_at(line)
+        return (notes, line) if notes is not None and line is not None else None
 
     def c_global(self, region: Region) -> Optional[CObject]:
         """The global that a segment is."""
@@ -171,7 +175,15 @@ class Symbols:
         if dot:
             region = next((region for region in self.regions if region.name == outer), None)
             return [symbol for symbol in self.named(inner) if region and region.base <= symbol.address < region.end]
-        return [symbol for symbol in self.symbols if symbol.name == name]
+        found = [symbol for symbol in self.symbols if symbol.name == name]
+        return found or [symbol for symbol in self.symbols if symbol.name in self._labels_of_c(name)]
+
+    def _labels_of_c(self, name: str) -> set[str]:
+        """The labels of functions, and the segments of globals, that have a name in C alone."""
+        notes = {id(region.source.notes): region.source.notes for region in self.regions
+                 if region.source and region.source.notes}
+        labels = {made.label for each in notes.values() for made in each.functions if made.name == name and made.begins}
+        return labels | {segment for each in notes.values() for segment, made in each.globals.items() if made.name == name}
 
     def place_of_line(self, path: str, line: int) -> Optional[int]:
         """The address of the first word that a line of a source makes, or the next line that makes one."""

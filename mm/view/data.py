@@ -31,7 +31,9 @@ from mm.machine.words import Cell, Permission, Word
 from mm.names.symbols import Region, Symbols
 from mm.outputs.audit import Audit
 from mm.source.tokens import readable
+from mm.view.cdata import c_form
 from mm.views.audit import AuditView
+from mm.views.cview import CView
 from mm.views.spell import Memory, Speller
 from mm.views.style import Style
 from mm.views.why import why
@@ -155,8 +157,10 @@ def names_form(symbols: Symbols) -> Json:
     sources = [
         {"path": path, "lines": [readable(line) for line in text.lines]} for path, text in sorted(texts.items())
     ]
+    regions = [region_form(region, sources) for region in symbols.regions]
     return {
-        "regions": [region_form(region, sources) for region in symbols.regions],
+        "c": c_form(symbols, sources),
+        "regions": regions,
         "labels": [[address, name] for address, name in zip(symbols.label_places, symbols.label_names)],
         "sources": sources,
     }
@@ -190,7 +194,9 @@ def reasons(window: Window, symbols: Symbols) -> Json:
         cause = Cause.of_number(step.turn.fault) if step.turn.fault else None
         if cause:
             slot = machine.slots[step.turn.slot].report()
-            found[place] = why(cause, slot, Memory(machine.image, machine.cells), speller)
+            memory = Memory(machine.image, machine.cells)
+            of_c = CView(slot, memory, speller).fault(cause)
+            found[place] = [*([of_c] if of_c else []), *why(cause, slot, memory, speller)]
     return found
 
 

@@ -87,12 +87,13 @@ function showTurn(place, before, now) {
   const turn = TURNS[place - 1], code = codeOf(RAN[place - 1]), reasons = RUN.why[place - 1] || [];
   const title = turn.outcome === "delivered" ? `Cycle ${turn.cycle}: the port of slot ${turn.slot}`
     : `Cycle ${turn.cycle}: slot ${turn.slot}, its turn ${turn.number}`;
-  const rows = changesOf(turn, before, now);
+  const rows = changesOf(turn, before, now), ofC = turn.fetch >= 0 ? cPlace(turn.fetch) : null;
   pane.replaceChildren(...[
     el("h2", { id: "turn-title" }, title),
     el("p", { class: "what" }, el("code", {}, turnText(turn, before))),
     el("p", { class: "where" }, el("span", { class: "swatch", style: `--tint:var(--tint-${code.tint})`,
       "aria-hidden": "true" }), `in ${codeText(code)}, `, placeText(turn)),
+    ofC ? el("p", { class: "where" }, cText(ofC)) : null,
     turn.fault ? el("div", { class: "fault" },
       el("p", {}, el("strong", {}, `${causeText(turn.fault)}: `), CAUSES.get(turn.fault).meaning),
       reasons.map((line) => el("p", {}, line))) : null,
@@ -103,6 +104,7 @@ function showTurn(place, before, now) {
       el("tbody", {}, rows.map(([what, was, is]) => el("tr", {}, el("th", { scope: "row" }, what),
         el("td", { class: "mono" }, was), el("td", { class: "mono" }, is)))))
       : el("p", { class: "soft" }, turn.fault ? "No register and no word changed." : ""),
+    cVariables(now.slots.get(turn.slot), now),
   ].filter(Boolean));
 }
 
@@ -118,10 +120,16 @@ function sayTurn(place, before) {
 
 // The source: each line once, and marks at those where slots stand.
 const HEAD = /^(\s*(?:[A-Za-z_]\w*:)?\s*)(\.?[A-Za-z_]\w*)?/;
-const source = { lists: [], shown: null, marked: [] };
+const source = { lists: [], shown: null, marked: [], inC: true };
 
-function sourceLine(text, at) {
-  const cut = text.indexOf(";"), code = cut < 0 ? text : text.slice(0, cut), [, label, head = ""] = HEAD.exec(code);
+// The line to show for an address: that of C, unless another source was chosen.
+function lineAt(address) {
+  const ofC = source.inC ? cPlace(address) : null;
+  return ofC && RUN.names.sources[ofC.source].lines.length ? ofC : originOf(address);
+}
+
+function sourceLine(text, at, inC) {
+  const cut = inC ? -1 : text.indexOf(";"), code = cut < 0 ? text : text.slice(0, cut), [, label, head = ""] = inC ? ["", ""] : HEAD.exec(code);
   return el("li", { "data-line": at + 1 }, el("span", { class: "number" }, `${at + 1}`), el("span", { class: "stand" }),
     el("span", {}, label, head ? el("span", { class: "head" }, head) : "", code.slice(label.length + head.length),
       cut < 0 ? "" : el("span", { class: "comment" }, text.slice(cut))));
@@ -129,11 +137,16 @@ function sourceLine(text, at) {
 
 function buildSources() {
   const { sources } = RUN.names;
-  source.lists = sources.map(({ lines }) => el("ol", {}, lines.map(sourceLine)));
+  source.lists = sources.map(({ lines, c }) => el("ol", {}, lines.map((text, at) => sourceLine(text, at, c))));
   byId("file").replaceChildren(...sources.map(({ path }, at) => el("option", { value: at }, path)));
   byId("files").hidden = sources.length < 2;
   byId("source-title").textContent = sources.length === 1 ? sources[0].path : sources.length ? "Source" : "Code";
-  byId("file").addEventListener("change", () => openSource(Number(byId("file").value)));
+  byId("file").addEventListener("change", () => {
+    const at = Number(byId("file").value);
+    source.inC = Boolean(sources[at].c);
+    openSource(at);
+    if (C) render();
+  });
 }
 
 function openSource(at) {
@@ -167,7 +180,7 @@ function showSource(place, now) {
   const turn = place ? TURNS[place - 1] : null;
   const fetch = turn && turn.fetch >= 0 ? turn.fetch
     : Number(pointerOf(now.slots.get(turn ? turn.slot : SLOTS[0]).ip).address);
-  const origin = originOf(fetch);
+  const origin = lineAt(fetch);
   if (!origin) return source.shown !== null && !turn ? null : listing(now, fetch);
   openSource(origin.source);
   source.marked.forEach((item) => {
@@ -178,6 +191,7 @@ function showSource(place, now) {
   source.marked = [];
   const mark = (from, text, isNow) => {
     const item = source.lists[from.source].children[from.line - 1];
+    if (!item) return;
     if (isNow) {
       item.classList.add("now");
       item.setAttribute("aria-current", "true");
@@ -186,11 +200,12 @@ function showSource(place, now) {
     source.marked.push(item);
   };
   for (const slot of now.slots.values()) {
-    const stands = originOf(Number(pointerOf(slot.ip).address));
+    const stands = lineAt(Number(pointerOf(slot.ip).address));
     if (stands) mark(stands, `s${slot.slot}`, false);
   }
   if (turn) mark(origin, "", true);
-  scrollTo(source.lists[origin.source].children[origin.line - 1]);
+  const item = source.lists[origin.source].children[origin.line - 1];
+  if (item) scrollTo(item);
 }
 
 // Scrolls the source alone, and never the page.
