@@ -149,7 +149,11 @@ def _set_break(debugger: Debugger, rest: str, once: bool = False) -> Lines:
         yield f"{point.number}: break where a slot comes into {name}"
         return
     typed = "" if place == name else f"{place} "
-    yield f"{point.number}: break {typed}at {name}" + (f", {origin}: {origin.code}" if origin else "")
+    line = session.symbols.c_line(address)
+    of_c = f", {line}: {line.text}" if line else ""
+    copies = len(session.symbols.places_of_inlined(place)) if of_c and not session.symbols.named(place) else 0
+    more = f" (the first of {copies} places where `{place}` was put into others)" if copies > 1 else ""
+    yield f"{point.number}: break {typed}at {name}" + (of_c or (f", {origin}: {origin.code}" if origin else "")) + more
 
 
 def _set_once(debugger: Debugger, rest: str) -> Lines:

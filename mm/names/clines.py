@@ -179,6 +179,15 @@ class CNotes:
         at = bisect.bisect_right(self.function_starts, number) - 1
         return self.functions[at] if at >= 0 else None
 
+    def inlined_at(self, name: str) -> list[int]:
+        """The lines of the source where a function begins that was put into others, once for each of these."""
+        found: dict[tuple[str, int], int] = {}
+        for line, start in zip(self.lines, self.starts):
+            function = self.function_at(start) if line is not None and line.inner else None
+            if line is not None and function is not None and function.inner_name(line.inner) == name:
+                found.setdefault((function.label, line.inner), start + 1)
+        return list(found.values())
+
     def first_of(self, path: str, line: int) -> Optional[int]:
         """The first line of the source that comes from a line of C, or from the next one that has code."""
         found = [(made.line, start) for made, start in zip(self.lines, self.starts)

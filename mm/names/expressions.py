@@ -67,6 +67,8 @@ def span_of(text: str, symbols: Symbols) -> tuple[int, int]:
         address, length = number, 8
     elif line:
         address, length = _of_line(line[1], int(line[2]), symbols), 8
+    elif match and not symbols.named(match[1]) and symbols.places_of_inlined(match[1]):
+        address, length = symbols.places_of_inlined(match[1])[0], 8
     elif match:
         symbol = _symbol(match[1], symbols)
         by = number_of(match[3]) if match[3] else 0

@@ -169,6 +169,16 @@ class Symbols:
                     return found
         return None
 
+    def places_of_inlined(self, name: str) -> list[int]:
+        """The addresses where a function of C begins that was put into others."""
+        found = []
+        for region in self.regions:
+            notes = region.source.notes if region.source else None
+            for line in notes.inlined_at(name) if notes and region.source else []:
+                runs = [run for run in region.source.segments[region.index].runs if run.line >= line]
+                found += [region.base + 8 * run.place for run in runs[:1]]
+        return found
+
     def named(self, name: str) -> list[Symbol]:
         """All that has a name. `SEGMENT.NAME` says which of several labels is meant."""
         outer, dot, inner = name.partition(".")
