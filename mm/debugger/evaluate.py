@@ -80,13 +80,24 @@ def place_of(text: str, session: Session) -> tuple[int, int]:
 
 
 def session_line(number: int, session: Session) -> int:
-    """The address of a line of the source that this slot runs."""
+    """The address of a line of the source that this slot runs, of that in C where there is one."""
     slot = session.current
     ip = slot.ip.pointer if slot else None
     region = session.symbols.region(ip.address) if ip else None
     if region is None or region.source is None:
         raise NoAddress(f"line {number} of which source? Say FILE:{number}")
-    return address_of(f"{region.source.path}:{number}", session.symbols)
+    path = c_path(session) or region.source.path
+    return address_of(f"{path}:{number}", session.symbols)
+
+
+def c_path(session: Session) -> Optional[str]:
+    """The file of C that the current slot runs; before its `main` that of `main`."""
+    values = session.values
+    found = [frame.line.path for frame in values.frames if frame.line] if values else []
+    if found or values is None or not values.frames:
+        return found[0] if found else None
+    begins = [made.begins.path for made in values.frames[0].notes.functions if made.begins]
+    return begins[0] if begins else None
 
 
 def value_of(text: str, session: Session) -> Word:
