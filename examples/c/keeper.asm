@@ -326,27 +326,97 @@ L16:
   ld r15, r15, 72, any, keep
   jmp r14
 keeper_mm_set_register:
-  mov r3, r2
-  mov r2, r0
+  mov r3, r1
   ldi r13, 16
-  ltu r0, r1, r13
-  bz r0, L24
+  ltu r1, r3, r13
+  bz r1, L39
+  ldi r13, 3
+  shl r1, r3, r13
+  lip r12, L40
+  lea r12, r12, r1
+  jmp r12
+L40:
+  br L23
+  br L24
+  br L25
+  br L26
+  br L27
+  br L28
+  br L29
+  br L30
+  br L31
+  br L32
+  br L33
+  br L34
+  br L35
+  br L36
+  br L37
+  br L38
 L23:
-  wreg r2, r3, 0
+  wreg r0, r2, 0
+  br L39
 L24:
+  wreg r0, r2, 1
+  br L39
+L25:
+  wreg r0, r2, 2
+  br L39
+L26:
+  wreg r0, r2, 3
+  br L39
+L27:
+  wreg r0, r2, 4
+  br L39
+L28:
+  wreg r0, r2, 5
+  br L39
+L29:
+  wreg r0, r2, 6
+  br L39
+L30:
+  wreg r0, r2, 7
+  br L39
+L31:
+  wreg r0, r2, 8
+  br L39
+L32:
+  wreg r0, r2, 9
+  br L39
+L33:
+  wreg r0, r2, 10
+  br L39
+L34:
+  wreg r0, r2, 11
+  br L39
+L35:
+  wreg r0, r2, 12
+  br L39
+L36:
+  wreg r0, r2, 13
+  br L39
+L37:
+  wreg r0, r2, 14
+  br L39
+L38:
+  wreg r0, r2, 15
+L39:
   jmp r14
 keeper_mm_resume:
-  mov r3, r0
-  mov r2, r1
-  ldi r0, 1
-  eq r1, r2, r0
-  bnz r1, L26
-  ldi r0, 2
-L26:
-  bnz r2, L27
-  ldi r0, 0
-L27:
-  resume r3, retry
+  mov r2, r0
+  bz r1, L42
+  ldi r13, 1
+  eq r0, r1, r13
+  bnz r0, L43
+  br L44
+L42:
+  resume r2, retry
+  br L45
+L43:
+  resume r2, skip
+  br L45
+L44:
+  resume r2, kill
+L45:
   jmp r14
 keeper_putchar:
   out r0
@@ -366,18 +436,18 @@ keeper_fwrite:
   ldi r8, 7
   ldi r3, 56
   mul r4, r9, r1
-  bz r4, L30
-L32:
+  bz r4, L48
+L50:
   mov r2, r6
-  br L31
-L30:
+  br L49
+L48:
   mov r0, r9
   ld r7, r15, 0, any, keep
   ld r8, r15, 8, any, keep
   ld r9, r15, 16, any, keep
   leai r15, r15, 24
   jmp r14
-L31:
+L49:
   lea r1, r5, r2
   and r0, r1, r8
   sub r0, r6, r0
@@ -390,8 +460,8 @@ L31:
   out r0
   addi r2, r2, 1
   eq r0, r2, r4
-  bnz r0, L30
-  br L31
+  bnz r0, L48
+  br L49
 keeper___mm_event:
   mov r12, r0
   evt r0
