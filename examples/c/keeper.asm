@@ -52,7 +52,7 @@ L2:
   lip r14, 2
   br keeper_mm_event
   ;@ line examples/c/keeper.c:19 in 1
-  ;@ var event 6 f160 in 1
+  ;@ var event 6 f160:5 in 1
   ld r8, r15, 160, any, keep
   ldi r13, 8
   sar r12, r8, r13

@@ -82,7 +82,7 @@ L29:
   lip r14, 2
   br memcpy
   ;@ line examples/c/say.h:8 in 1
-  ;@ var text 4 f128 in 1
+  ;@ var text 4 f128:5 in 1
   lip r12, P_3
   ld r12, r12, 0, any, keep
   ld r1, r12, 0, any, keep
@@ -126,13 +126,13 @@ L31:
   lip r14, 2
   br fputs
   ;@ line examples/c/strings.c:8 in 3
-  ;@ var text 5 f128 in 3
-  ;@ var first 5 f128 in 3
+  ;@ var text 5 f128:5 in 3
+  ;@ var first 5 f128:5 in 3
   mov r0, r8
   lip r14, 2
   br strlen
   mov r1, r0
-  ;@ var last 5 f128+r1+-1 in 3
+  ;@ var last 5 f128:5+r1+-1 in 3
   add r0, r8, r1
   addi r0, r0, -1
   ltu r0, r8, r0
@@ -143,7 +143,7 @@ L19:
   ldi r5, 0
 L2:
   ;@ line examples/c/strings.c:9 in 3
-  ;@ var first 5 f128+r5 in 3
+  ;@ var first 5 f128:5+r5 in 3
   ldi r13, -8
   and r0, r5, r13
   leab r0, r8, r0
@@ -185,8 +185,8 @@ L2:
   xor r0, r1, r0
   st r3, r0, 0, any, keep
   ;@ line examples/c/strings.c:8 in 3
-  ;@ var first 5 f128+r5+1 in 3
-  ;@ var last 5 f128+r6+-1 in 3
+  ;@ var first 5 f128:5+r5+1 in 3
+  ;@ var last 5 f128:5+r6+-1 in 3
   add r0, r8, r5
   addi r1, r0, 1
   add r0, r8, r6
@@ -197,13 +197,13 @@ L20:
   addi r6, r6, -1
   ;@ var last 5 - in 3
   addi r5, r5, 1
-  ;@ var last 5 f128+r6+-1 in 3
+  ;@ var last 5 f128:5+r6+-1 in 3
   br L2
 L3:
   ;@ line examples/c/say.h:8 in 4
   ;@ var first 5 - in 3
   ;@ var last 5 - in 3
-  ;@ var text 4 f128 in 4
+  ;@ var text 4 f128:5 in 4
   lip r12, P_3
   ld r12, r12, 0, any, keep
   ld r1, r12, 0, any, keep

@@ -147,7 +147,7 @@ class Places:
         return tuple((variable, text) for variable, text in found if text is not None)
 
     def text(self, where: Where, place: int) -> Optional[str]:
-        """`r7`, `s24+8`, `@table+16`; with `*` where that is the address of the variable."""
+        """`r7`, `s24+8`, `@table+16`, `f160:5`; with `*` where that is the address of the variable."""
         terms = [self.term(registers, place) for registers in where.parts]
         if None in terms:
             return None
@@ -173,5 +173,5 @@ class Places:
             return str(fixed.number)
         if fixed.kind == "local":
             made = self.code.objects[fixed.number]
-            return None if self.code.dynamic else f"f{made.at + made.place}"
+            return None if self.code.dynamic else f"f{made.at + made.place}:{made.log}"
         return f"@{fixed.name}"

@@ -143,6 +143,8 @@ def _set_break(debugger: Debugger, rest: str, once: bool = False) -> Lines:
         yield f"{point.number}: {point}"
         return
     address, length = place_of(place, session)
+    if any(symbol.address == address for symbol in session.symbols.named(place)):
+        address = session.symbols.c_body(address) or address
     point = session.add(PointKind.BREAK, place, address, length, slot, once)
     name, origin = session.symbols.show(address), session.symbols.origin(address)
     if length > 8:

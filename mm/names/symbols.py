@@ -142,6 +142,16 @@ class Symbols:
         found = self.c_notes(address)
         return found[0].line_at(found[1]) if found else None
 
+    def c_body(self, address: int) -> Optional[int]:
+        """The first address of a function of C that is of one of its lines, after what makes its frame. `address` is that
+        of the function."""
+        found, region = self.c_notes(address), self.region(address)
+        function = found[0].function_at(found[1]) if found else None
+        if found is None or region is None or function is None or not function.begins:
+            return None
+        first = next((at for at in range(address, region.base + 8 * region.words, 8) if self.c_line(at)), None)
+        return first if first is not None and self.c_function(first) is function else None
+
     def c_function(self, address: int) -> Optional[CFunction]:
         """The function of C, or of its library, that an address is in."""
         found = self.c_notes(address)
@@ -171,13 +181,10 @@ class Symbols:
 
     def places_of_inlined(self, name: str) -> list[int]:
         """The addresses where a function of C begins that was put into others."""
-        found = []
-        for region in self.regions:
-            notes = region.source.notes if region.source else None
-            for line in notes.inlined_at(name) if notes and region.source else []:
-                runs = [run for run in region.source.segments[region.index].runs if run.line >= line]
-                found += [region.base + 8 * run.place for run in runs[:1]]
-        return found
+        sources = {region.source.path: region.source.notes for region in self.regions if region.source}
+        found = [self.place_of_line(path, line) for path, notes in sources.items() if notes
+                 for line in notes.inlined_at(name)]
+        return sorted(place for place in found if place is not None)
 
     def named(self, name: str) -> list[Symbol]:
         """All that has a name. `SEGMENT.NAME` says which of several labels is meant."""

@@ -108,12 +108,15 @@ class Debugged(unittest.TestCase):
         self.assertIn("struct entry *[16]", said[2])
 
     def test_two_programs(self):
-        said = self.session(["break serve", "continue", "print *event", "where", "continue", "slot 0", "where"],
-                            "examples/c/worker.asm", "examples/c/keeper.asm")
-        self.assertIn("keeper.c:", said[0])
-        self.assertIn("what = 9", said[2])
-        self.assertIn("main", said[3])
-        self.assertIn("worker.c:", said[6])
+        said = self.session(["delete 0", "break serve", "continue", "print *event", "print event->what", "where", "slot 0",
+                             "where"], "examples/c/worker.asm", "examples/c/keeper.asm")
+        self.assertIn("keeper.c:19: long slot = MM_SLOT(*event);", said[1])
+        self.assertNotIn("the first of", said[1])
+        self.assertIn("{what = 9, at = xu 2^11 worker_main+", said[3])
+        self.assertIn("event->what = 9   (long)", said[4])
+        self.assertIn("#0  serve  examples/c/keeper.c:19:", said[5])
+        self.assertIn("#1  main  examples/c/keeper.c:", said[5])
+        self.assertIn("#0  main  examples/c/worker.c:13:", said[7])
 
 
 @needs_log

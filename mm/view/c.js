@@ -17,14 +17,15 @@ function cText({ source, line, name }) {
   return `${path}:${line}, in ${name}${text ? `: ${text}` : ""}`;
 }
 
-// A term of a place: a register, the word at a distance from the stack pointer, that distance itself, or a number.
+// A term of a place: a register, the word at a distance from the stack pointer, the object that begins there, or a
+// number.
 function cTerm(term, slot, machine) {
   if (term[0] === "r") return slot.registers[Number(term.slice(1))];
   const stack = pointerOf(slot.registers[15]);
   if (term[0] !== "s" && term[0] !== "f") return `i${BigInt.asUintN(64, BigInt(term)).toString(16).padStart(16, "0")}`;
   if (!stack) return null;
-  const at = stack.address + BigInt(term.slice(1));
-  if (term[0] === "f") return `i${at.toString(16).padStart(16, "0")}`;
+  const [by, log] = term.slice(1).split(":"), at = stack.address + BigInt(by);
+  if (term[0] === "f") return `p${(2n << 60n | BigInt(log) << 54n | at).toString(16).padStart(16, "0")}`;
   const cell = machine.cell(Number(at));
   return cell && cell[0];
 }

@@ -74,7 +74,7 @@ class CData:
     def _variables(self, number: int, inner: int, function: CFunction, notes: CNotes) -> Iterator[Json]:
         for made in function.objects:
             if made.inner == inner and made.type:
-                yield [made.name, f"*f{made.at}", self._type(made.type, notes.types)]
+                yield [made.name, f"*f{made.at}:{made.log}", self._type(made.type, notes.types)]
         for variable in function.variables_at(number):
             if variable.inner == inner:
                 yield [variable.name, self._where(variable.where, notes), self._type(variable.type, notes.types)]

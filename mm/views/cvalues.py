@@ -5,7 +5,7 @@ from __future__ import annotations
 from dataclasses import dataclass
 from typing import Iterator, Optional
 
-from mm.machine.words import WORD_MASK, Pointer, Word
+from mm.machine.words import WORD_MASK, Permission, Pointer, Word
 from mm.names.clines import CFrame, CNotes, CVariable
 from mm.names.ctypes import CField, CType, CTypes
 from mm.outputs.report import SlotState
@@ -100,7 +100,8 @@ class CValues:
         return CThing(notes.types, variable.type, value=value)
 
     def term(self, text: str, frame: CFrame, notes: CNotes) -> Optional[Word]:
-        """`r7`, the word at `s24`, the place `f24` of the frame, the beginning of the global `@name`, or a number."""
+        """`r7`, the word at `s24`, the object at `f24:5` of the frame with a segment of 2^5 bytes, the global `@name`,
+        or a number."""
         kind, rest = text[0], text[1:]
         if kind == "r":
             return self.slot.register(int(rest))
@@ -108,11 +109,13 @@ class CValues:
             cell = self.memory.cell(frame.stack + int(rest))
             return cell.word if cell else None
         if kind == "f":
-            return Word(frame.stack + int(rest))
+            at, _, log = rest.partition(":")
+            return Word(Pointer(Permission.RW, int(log), frame.stack + int(at)).bits, True)
         if kind == "@":
             region = next((region for region in self.speller.symbols.regions if region.name == rest), None)
             made = notes.globals.get(rest)
-            return Word(region.base + (made.at if made else 0)) if region else None
+            at_global = made.at if made else 0
+            return Word(Pointer(Permission.RW, region.log, region.base + at_global).bits, True) if region else None
         return Word(int(text) & WORD_MASK)
 
     @staticmethod
