@@ -38,7 +38,7 @@ line:
   ;@ inlined 4 say at examples/c/calculator.c:107
   ;@ inlined 5 say_number at examples/c/calculator.c:108
   ;@ frame back 64 caller at 72
-  ;@ local digits 20 at 104 log 5 type 2 in 5
+  ;@ local digits 20 at 104 log 5 type 9 in 5
   ldi r13, 31
   and r13, r15, r13
   ldi r12, -128
@@ -69,7 +69,7 @@ line:
   lip r10, P_7
   ld r10, r10, 0, any, keep
   ;@ line examples/c/calculator.c:98
-  ;@ var text 3 r3
+  ;@ var text 1 r3
   st r4, r3, 0, any, keep
   ;@ line examples/c/calculator.c:99
   ld r0, r9, -4, any, keep
@@ -95,7 +95,7 @@ line:
   sar r12, r0, r13
   st r15, r12, 16, any, keep
   ;@ line examples/c/calculator.c:101
-  ;@ var name 4 s16
+  ;@ var name 3 s16
   ldi r13, 3
   add r2, r3, r13
   isptr r0, r3
@@ -107,7 +107,7 @@ line:
   bnz r1, L18
   lea r2, r3, r13
 L18:
-  ;@ var text 3 -
+  ;@ var text 1 -
   st r4, r2, 0, any, keep
   ;@ line examples/c/calculator.c:102
   lip r14, 2
@@ -117,8 +117,8 @@ L18:
   addi r12, r12, -97
   st r15, r12, 8, any, keep
   ;@ line examples/c/calculator.c:22 in 1
-  ;@ var code 5 2 in 1
-  ;@ var operand 6 s8 in 1
+  ;@ var code 4 2 in 1
+  ;@ var operand 5 s8 in 1
   ld r0, r9, -4, any, keep
   sar r3, r0, r8
   addi r4, r3, 1
@@ -147,8 +147,8 @@ L18:
   ld r13, r15, 8, any, keep
   st r0, r13, 0, any, keep
   ;@ line examples/c/calculator.c:22 in 2
-  ;@ var code 5 7 in 2
-  ;@ var operand 6 0 in 2
+  ;@ var code 4 7 in 2
+  ;@ var operand 5 0 in 2
   addi r2, r3, 2
   ld r0, r9, -4, any, keep
   shl r0, r0, r8
@@ -177,7 +177,7 @@ L18:
   ldi r9, 0
 L3:
   ;@ line examples/c/calculator.c:77 in 3
-  ;@ var now 7 @program+r9 in 3
+  ;@ var now 6 @program+r9 in 3
   lea r0, r11, r9
   ld r0, r0, 0, any, keep
   shl r0, r0, r8
@@ -308,18 +308,18 @@ L7:
   lea r0, r10, r0
   st r0, r1, 0, any, keep
 L8:
-  ;@ var now 7 @program+r9+16 in 3
+  ;@ var now 6 @program+r9+16 in 3
   addi r9, r9, 16
   ;@ line examples/c/calculator.c:76 in 3
   br L3
 L9:
   ;@ line examples/c/calculator.c:106
-  ;@ var now 7 - in 3
+  ;@ var now 6 - in 3
   ld r0, r15, 16, any, keep
   lip r14, 2
   br putchar
   ;@ line examples/c/say.h:8 in 4
-  ;@ var name 4 -
+  ;@ var name 3 -
   lip r12, P_10
   ld r12, r12, 0, any, keep
   ld r3, r12, 0, any, keep
@@ -333,14 +333,14 @@ L9:
   ld r12, r15, 8, any, keep
   ldi r13, 3
   shl r0, r12, r13
-  ;@ var operand 6 - in 1
+  ;@ var operand 5 - in 1
   lip r12, P_8
   ld r12, r12, 0, any, keep
   lea r0, r12, r0
   ld r0, r0, 0, any, keep
   ;@ line examples/c/say.h:15 in 5
-  ;@ var number 6 r0 in 5
-  ;@ var length 4 0 in 5
+  ;@ var number 5 r0 in 5
+  ;@ var length 3 0 in 5
   ldi r12, 0
   sub r2, r12, r0
   ldi r13, 0
@@ -350,10 +350,10 @@ L9:
   mov r7, r0
 L19:
   ;@ line examples/c/say.h:16 in 5
-  ;@ var rest 9 r7 in 5
+  ;@ var rest 8 r7 in 5
   ldi r13, 0
   lts r0, r0, r13
-  ;@ var number 6 - in 5
+  ;@ var number 5 - in 5
   bz r0, L11
 L10:
   ;@ line examples/c/say.h:17 in 5
@@ -364,7 +364,7 @@ L11:
   ldi r1, 0
 L12:
   ;@ line examples/c/say.h:20 in 5
-  ;@ var length 4 r1 in 5
+  ;@ var length 3 r1 in 5
   ldi r13, 10
   divu r5, r7, r13
   ldi r13, 10
@@ -374,7 +374,7 @@ L12:
   ldi r13, 48
   or r4, r0, r13
   addi r6, r1, 1
-  ;@ var length 4 r6 in 5
+  ;@ var length 3 r6 in 5
   addi r1, r1, 8
   ldi r13, -8
   and r0, r1, r13
@@ -390,25 +390,25 @@ L12:
   shl r0, r0, r2
   xor r0, r1, r0
   st r3, r0, 0, any, keep
-  ;@ var rest 9 r5 in 5
+  ;@ var rest 8 r5 in 5
   ldi r13, 10
   ltu r0, r7, r13
   bnz r0, L13
 L16:
   mov r1, r6
-  ;@ var length 4 - in 5
+  ;@ var length 3 - in 5
   mov r7, r5
-  ;@ var rest 9 - in 5
+  ;@ var rest 8 - in 5
   br L12
 L13:
   ;@ line examples/c/say.h:21 in 5
-  ;@ var length 4 r6 in 5
+  ;@ var length 3 r6 in 5
   shl r0, r6, r8
-  ;@ var length 4 - in 5
+  ;@ var length 3 - in 5
   sar r7, r0, r8
 L14:
   ;@ line examples/c/say.h:22 in 5
-  ;@ var length 4 r7 in 5
+  ;@ var length 3 r7 in 5
   addi r7, r7, -1
   addi r1, r7, 8
   ldi r13, -8
@@ -429,7 +429,7 @@ L14:
   bnz r7, L14
 L15:
   ;@ line examples/c/calculator.c:109
-  ;@ var length 4 - in 5
+  ;@ var length 3 - in 5
   ldi r0, 10
   lip r14, 2
   br putchar
@@ -617,12 +617,12 @@ L57:
   ldi r7, 6
 L58:
   ;@ line examples/c/calculator.c:52 in 1
-  ;@ var code 5 r7 in 1
+  ;@ var code 4 r7 in 1
   lip r14, 2
   br factor
   ;@ line examples/c/calculator.c:22 in 3
-  ;@ var code 5 r7 in 3
-  ;@ var operand 6 0 in 3
+  ;@ var code 4 r7 in 3
+  ;@ var operand 5 0 in 3
   lip r12, P_4
   ld r12, r12, 0, any, keep
   ld r0, r12, -4, any, keep
@@ -645,8 +645,8 @@ L58:
   lea r0, r12, r2
   ld r1, r0, 0, any, keep
   xor r0, r1, r7
-  ;@ var code 5 - in 1
-  ;@ var code 5 - in 3
+  ;@ var code 4 - in 1
+  ;@ var code 4 - in 3
   ldi r13, 0
   ldhi r13, 4294967295
   and r0, r0, r13
@@ -666,7 +666,7 @@ L58:
   br L27
 L32:
   ;@ line examples/c/calculator.c:27 in 4
-  ;@ var operand 6 - in 3
+  ;@ var operand 5 - in 3
   ld r5, r8, 0, any, keep
   ldi r13, 7
   and r0, r5, r13
@@ -872,12 +872,12 @@ L62:
   ldi r7, 6
 L63:
   ;@ line examples/c/calculator.c:52 in 5
-  ;@ var code 5 r7 in 5
+  ;@ var code 4 r7 in 5
   lip r14, 2
   br factor
   ;@ line examples/c/calculator.c:22 in 7
-  ;@ var code 5 r7 in 7
-  ;@ var operand 6 0 in 7
+  ;@ var code 4 r7 in 7
+  ;@ var operand 5 0 in 7
   lip r12, P_4
   ld r12, r12, 0, any, keep
   ld r0, r12, -4, any, keep
@@ -900,8 +900,8 @@ L63:
   lea r0, r12, r2
   ld r1, r0, 0, any, keep
   xor r0, r1, r7
-  ;@ var code 5 - in 5
-  ;@ var code 5 - in 7
+  ;@ var code 4 - in 5
+  ;@ var code 4 - in 7
   ldi r13, 0
   ldhi r13, 4294967295
   and r0, r0, r13
@@ -921,7 +921,7 @@ L63:
   br L37
 L42:
   ;@ line examples/c/calculator.c:61
-  ;@ var operand 6 - in 7
+  ;@ var operand 5 - in 7
   ld r12, r15, 0, any, keep
   ldi r13, 43
   eq r0, r12, r13
@@ -930,8 +930,8 @@ L42:
   ldi r4, 4
 L64:
   ;@ line examples/c/calculator.c:22 in 8
-  ;@ var code 5 r4 in 8
-  ;@ var operand 6 0 in 8
+  ;@ var code 4 r4 in 8
+  ;@ var operand 5 0 in 8
   lip r12, P_4
   ld r12, r12, 0, any, keep
   ld r0, r12, -4, any, keep
@@ -954,7 +954,7 @@ L64:
   lea r0, r12, r2
   ld r1, r0, 0, any, keep
   xor r0, r1, r4
-  ;@ var code 5 - in 8
+  ;@ var code 4 - in 8
   ldi r13, 0
   ldhi r13, 4294967295
   and r0, r0, r13
@@ -974,7 +974,7 @@ L64:
   br L32
 L43:
   ;@ line examples/c/calculator.c:65
-  ;@ var operand 6 - in 8
+  ;@ var operand 5 - in 8
   ld r7, r15, 8, any, keep
   ld r8, r15, 16, any, keep
   ld r9, r15, 24, any, keep
@@ -1113,8 +1113,8 @@ L70:
   br strtol
   mov r4, r0
   ;@ line examples/c/calculator.c:22 in 2
-  ;@ var code 5 0 in 2
-  ;@ var operand 6 r4 in 2
+  ;@ var code 4 0 in 2
+  ;@ var operand 5 r4 in 2
   lip r12, P_4
   ld r12, r12, 0, any, keep
   ld r0, r12, -4, any, keep
@@ -1154,11 +1154,11 @@ L70:
   lea r0, r12, r0
   st r0, r4, 0, any, keep
   ;@ line examples/c/calculator.c:42
-  ;@ var operand 6 - in 2
+  ;@ var operand 5 - in 2
   br L72
 L71:
   ;@ line examples/c/calculator.c:43
-  ;@ var code 5 - in 2
+  ;@ var code 4 - in 2
   ldi r13, 1
   add r2, r3, r13
   isptr r0, r3
@@ -1182,8 +1182,8 @@ L80:
   sar r0, r0, r6
   addi r4, r0, -97
   ;@ line examples/c/calculator.c:22 in 3
-  ;@ var code 5 1 in 3
-  ;@ var operand 6 r4 in 3
+  ;@ var code 4 1 in 3
+  ;@ var operand 5 r4 in 3
   lip r12, P_4
   ld r12, r12, 0, any, keep
   ld r0, r12, -4, any, keep
@@ -1224,8 +1224,8 @@ L80:
   st r0, r4, 0, any, keep
 L72:
   ;@ line examples/c/calculator.c:45
-  ;@ var code 5 - in 3
-  ;@ var operand 6 - in 3
+  ;@ var code 4 - in 3
+  ;@ var operand 5 - in 3
   ld r7, r15, 0, any, keep
   ld r8, r15, 8, any, keep
   ld r9, r15, 16, any, keep
@@ -1471,24 +1471,24 @@ div_:
   mov r3, r1
   ldi r1, 63
   ;@ line examples/c/calculator.c:70
-  ;@ var a 6 r0
-  ;@ var b 6 r3
+  ;@ var a 5 r0
+  ;@ var b 5 r3
   bnz r3, L115
 L117:
-  ;@ var a 6 -
-  ;@ var b 6 -
+  ;@ var a 5 -
+  ;@ var b 5 -
   ldi r0, 0
   br L116
 L115:
-  ;@ var a 6 r0
-  ;@ var b 6 r3
+  ;@ var a 5 r0
+  ;@ var b 5 r3
   sar r2, r0, r1
   xor r0, r0, r2
-  ;@ var a 6 -
+  ;@ var a 5 -
   sub r4, r0, r2
   sar r1, r3, r1
   xor r0, r3, r1
-  ;@ var b 6 -
+  ;@ var b 5 -
   sub r0, r0, r1
   divu r0, r4, r0
   xor r1, r2, r1
@@ -1500,31 +1500,31 @@ mul:
   ;@ function mul at examples/c/calculator.c:69
   ;@ frame back - caller by 0
   ;@ line examples/c/calculator.c:69
-  ;@ var a 6 r0
-  ;@ var b 6 r1
+  ;@ var a 5 r0
+  ;@ var b 5 r1
   mul r0, r1, r0
-  ;@ var a 6 -
-  ;@ var b 6 -
+  ;@ var a 5 -
+  ;@ var b 5 -
   jmp r14
 sub:
   ;@ function sub at examples/c/calculator.c:68
   ;@ frame back - caller by 0
   ;@ line examples/c/calculator.c:68
-  ;@ var a 6 r0
-  ;@ var b 6 r1
+  ;@ var a 5 r0
+  ;@ var b 5 r1
   sub r0, r0, r1
-  ;@ var a 6 -
-  ;@ var b 6 -
+  ;@ var a 5 -
+  ;@ var b 5 -
   jmp r14
 add:
   ;@ function add at examples/c/calculator.c:67
   ;@ frame back - caller by 0
   ;@ line examples/c/calculator.c:67
-  ;@ var a 6 r0
-  ;@ var b 6 r1
+  ;@ var a 5 r0
+  ;@ var b 5 r1
   add r0, r1, r0
-  ;@ var a 6 -
-  ;@ var b 6 -
+  ;@ var a 5 -
+  ;@ var b 5 -
   jmp r14
 P_0: .ptr ro _str+1
 P_1: .ptr ro _str_1+1
@@ -1550,13 +1550,13 @@ P_11: .ptr ro _str_3+4
   .int 0x202a202979202b20
   .int 0x2979202d207828
 .segment at 3
-  ;@ global at 8 at 0 type 3
+  ;@ global at 8 at 0 type 1
 .segment length 3
-  ;@ global length 4 at 4 type 4
+  ;@ global length 4 at 4 type 3
 .segment program 10
   ;@ global program 1024 at 0 type 10
 .segment top 3
-  ;@ global top 4 at 4 type 4
+  ;@ global top 4 at 4 type 3
 .segment operations 5
   ;@ global operations 32 at 0 type 12
   .ptr xu add
@@ -1579,17 +1579,17 @@ P_11: .ptr ro _str_3+4
 .segment stack 16
 .thread 0 0 none xu start
 .reg 15 ptr rw stack+65472
-;@ type 1 base i1 char
-;@ type 2 array 20 1
-;@ type 3 pointer 1
-;@ type 4 base i4 int
-;@ type 5 enum u4 code PUSH=0 LOAD=1 STORE=2 ADD=3 SUB=4 MUL=5 DIV=6 END=7
-;@ type 6 base i8 long
-;@ type 7 pointer 8
-;@ type 8 struct 16 instruction code:0:5 operand:64:6
-;@ type 9 base u8 unsigned long
-;@ type 10 array 64 8
+;@ type 1 pointer 2
+;@ type 2 base i1 char
+;@ type 3 base i4 int
+;@ type 4 enum u4 code PUSH=0 LOAD=1 STORE=2 ADD=3 SUB=4 MUL=5 DIV=6 END=7
+;@ type 5 base i8 long
+;@ type 6 pointer 7
+;@ type 7 struct 16 instruction code:0:4 operand:64:5
+;@ type 8 base u8 unsigned long
+;@ type 9 array 20 2
+;@ type 10 array 64 7
 ;@ type 11 pointer 0
 ;@ type 12 array 4 11
-;@ type 13 array 16 6
-;@ type 14 array 26 6
+;@ type 13 array 16 5
+;@ type 14 array 26 5

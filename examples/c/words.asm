@@ -11,9 +11,9 @@ main:
   ;@ inlined 2 say at examples/c/words.c:55
   ;@ inlined 3 say_number at examples/c/words.c:57
   ;@ frame back 56 caller at 64
-  ;@ local digits 20 at 104 log 5 type 2 in 3
-  ;@ local text 79 at 304 log 7 type 3
-  ;@ local asked 40 at 152 log 6 type 5
+  ;@ local digits 20 at 104 log 5 type 9 in 3
+  ;@ local text 79 at 304 log 7 type 10
+  ;@ local asked 40 at 152 log 6 type 11
   ldi r13, 127
   and r13, r15, r13
   ldi r12, -384
@@ -56,11 +56,11 @@ main:
   ld r0, r15, 0, any, keep
   lip r14, 2
   br strtok
-  ;@ var word 6 r0
+  ;@ var word 1 r0
   bnz r0, L3
 L2:
   ;@ line examples/c/words.c:53
-  ;@ var word 6 -
+  ;@ var word 1 -
   ldi r12, 0
   st r15, r12, 152, any, keep
   ldi r12, 0
@@ -86,19 +86,19 @@ L2:
   lip r12, P_7
   ld r12, r12, 0, any, keep
   st r15, r12, 184, any, keep
-  ;@ var i 7 0
+  ;@ var i 3 0
   ldi r12, 0
   st r15, r12, 0, any, keep
   ;@ line examples/c/words.c:54
   br L8
 L3:
   ;@ line examples/c/words.c:52
-  ;@ var i 7 -
-  ;@ var word 6 r0
+  ;@ var i 3 -
+  ;@ var word 1 r0
   lip r14, 2
   br find
   mov r2, r0
-  ;@ var word 6 -
+  ;@ var word 1 -
   ld r0, r2, 16, any, keep
   addi r0, r0, 1
   ld r1, r2, 16, any, keep
@@ -113,13 +113,13 @@ L3:
   ldi r0, 0
   lip r14, 2
   br strtok
-  ;@ var word 6 r0
+  ;@ var word 1 r0
   bz r0, L2
   br L3
 L4:
   ;@ line examples/c/words.c:54
-  ;@ var word 6 -
-  ;@ var i 7 r10 in 1
+  ;@ var word 1 -
+  ;@ var i 3 r10 in 1
   ldi r13, 3
   shl r8, r10, r13
   ;@ line examples/c/words.c:40 in 1
@@ -128,7 +128,7 @@ L4:
   bz r7, L6
 L5:
   ;@ line examples/c/words.c:42 in 1
-  ;@ var gone 8 r7 in 1
+  ;@ var gone 4 r7 in 1
   ld r1, r7, 0, any, keep
   lea r0, r9, r8
   st r0, r1, 0, any, keep
@@ -141,7 +141,7 @@ L5:
   lip r14, 2
   br free
   ;@ line examples/c/words.c:40 in 1
-  ;@ var gone 8 - in 1
+  ;@ var gone 4 - in 1
   lea r0, r9, r8
   ld r7, r0, 0, any, keep
   bnz r7, L5
@@ -153,7 +153,7 @@ L6:
   bz r0, L4
 L7:
   ;@ line examples/c/words.c:61
-  ;@ var i 7 - in 1
+  ;@ var i 3 - in 1
   ldi r0, 0
   ld r7, r15, 16, any, keep
   ld r8, r15, 24, any, keep
@@ -165,7 +165,7 @@ L7:
   jmp r14
 L8:
   ;@ line examples/c/words.c:55
-  ;@ var i 7 s0
+  ;@ var i 3 s0
   ld r12, r15, 0, any, keep
   ldi r13, 3
   shl r0, r12, r13
@@ -173,7 +173,7 @@ L8:
   lea r0, r12, r0
   ld r7, r0, 0, any, keep
   ;@ line examples/c/say.h:8 in 2
-  ;@ var text 4 r7 in 2
+  ;@ var text 6 r7 in 2
   lip r12, P_8
   ld r12, r12, 0, any, keep
   ld r1, r12, 0, any, keep
@@ -188,15 +188,15 @@ L8:
   mov r0, r7
   lip r14, 2
   br find
-  ;@ var text 4 - in 2
+  ;@ var text 6 - in 2
   ld r0, r0, 16, any, keep
   ldi r13, 32
   shl r0, r0, r13
   ldi r13, 32
   sar r0, r0, r13
   ;@ line examples/c/say.h:15 in 3
-  ;@ var number 10 r0 in 3
-  ;@ var length 7 0 in 3
+  ;@ var number 7 r0 in 3
+  ;@ var length 3 0 in 3
   ldi r12, 0
   sub r2, r12, r0
   ldi r13, 0
@@ -206,10 +206,10 @@ L8:
   mov r7, r0
 L24:
   ;@ line examples/c/say.h:16 in 3
-  ;@ var rest 11 r7 in 3
+  ;@ var rest 8 r7 in 3
   ldi r13, 0
   lts r0, r0, r13
-  ;@ var number 10 - in 3
+  ;@ var number 7 - in 3
   bz r0, L10
 L9:
   ;@ line examples/c/say.h:17 in 3
@@ -220,7 +220,7 @@ L10:
   ldi r1, 0
 L11:
   ;@ line examples/c/say.h:20 in 3
-  ;@ var length 7 r1 in 3
+  ;@ var length 3 r1 in 3
   divu r5, r7, r10
   mul r0, r5, r10
   sub r0, r7, r0
@@ -228,7 +228,7 @@ L11:
   ldi r13, 48
   or r4, r0, r13
   addi r6, r1, 1
-  ;@ var length 7 r6 in 3
+  ;@ var length 3 r6 in 3
   addi r1, r1, 8
   and r0, r1, r11
   leab r3, r8, r0
@@ -242,26 +242,26 @@ L11:
   shl r0, r0, r2
   xor r0, r1, r0
   st r3, r0, 0, any, keep
-  ;@ var rest 11 r5 in 3
+  ;@ var rest 8 r5 in 3
   ltu r0, r7, r10
   bnz r0, L12
 L17:
   mov r1, r6
-  ;@ var length 7 - in 3
+  ;@ var length 3 - in 3
   mov r7, r5
-  ;@ var rest 11 - in 3
+  ;@ var rest 8 - in 3
   br L11
 L12:
   ;@ line examples/c/say.h:21 in 3
-  ;@ var length 7 r6 in 3
+  ;@ var length 3 r6 in 3
   ldi r13, 32
   shl r0, r6, r13
-  ;@ var length 7 - in 3
+  ;@ var length 3 - in 3
   ldi r13, 32
   sar r7, r0, r13
 L13:
   ;@ line examples/c/say.h:22 in 3
-  ;@ var length 7 r7 in 3
+  ;@ var length 3 r7 in 3
   addi r7, r7, -1
   addi r1, r7, 8
   and r0, r1, r11
@@ -280,7 +280,7 @@ L13:
   bnz r7, L13
 L14:
   ;@ line examples/c/words.c:58
-  ;@ var length 7 - in 3
+  ;@ var length 3 - in 3
   mov r0, r10
   lip r14, 2
   br putchar
@@ -293,7 +293,7 @@ L14:
   eq r0, r12, r13
   bz r0, L8
 L19:
-  ;@ var i 7 -
+  ;@ var i 3 -
   ldi r10, 0
   br L4
 free:
@@ -396,8 +396,8 @@ find:
   lip r8, P_1
   ld r8, r8, 0, any, keep
   ;@ line examples/c/words.c:19 in 1
-  ;@ var word 4 r9
-  ;@ var word 4 r9 in 1
+  ;@ var word 6 r9
+  ;@ var word 6 r9 in 1
   ;@ var h 12 -2128831035 in 1
   and r0, r9, r4
   sub r0, r11, r0
@@ -417,13 +417,13 @@ L43:
 L35:
   ;@ line examples/c/words.c:20 in 1
   ;@ var h 12 r3 in 1
-  ;@ var word 4 r9+r2 in 1
+  ;@ var word 6 r9+r2 in 1
   xor r0, r3, r0
   ;@ var h 12 - in 1
   mul r3, r0, r7
   ;@ line examples/c/words.c:19 in 1
   ;@ var h 12 r3 in 1
-  ;@ var word 4 r9+r2+1 in 1
+  ;@ var word 6 r9+r2+1 in 1
   addi r0, r2, 1
   lea r1, r9, r0
   and r0, r1, r4
@@ -440,7 +440,7 @@ L45:
   br L35
 L36:
   ;@ line examples/c/words.c:21 in 1
-  ;@ var word 4 - in 1
+  ;@ var word 6 - in 1
   ;@ var h 12 r3 in 1
   ldi r13, 15
   and r0, r3, r13
@@ -485,7 +485,7 @@ L41:
   br malloc
   mov r7, r0
   ;@ line examples/c/words.c:31
-  ;@ var made 8 r7
+  ;@ var made 4 r7
   st r7, r11, 0, any, keep
   ;@ line examples/c/words.c:32
   mov r0, r9
@@ -499,7 +499,7 @@ L41:
   mov r1, r9
   lip r14, 2
   br strcpy
-  ;@ var word 4 -
+  ;@ var word 6 -
   st r7, r8, 8, any, keep
   ;@ line examples/c/words.c:33
   ld r1, r7, 16, any, keep
@@ -515,7 +515,7 @@ L41:
   st r0, r7, 0, any, keep
 L42:
   ;@ line examples/c/words.c:35
-  ;@ var made 8 -
+  ;@ var made 4 -
   mov r0, r7
   ld r7, r15, 8, any, keep
   ld r8, r15, 16, any, keep
@@ -1289,17 +1289,17 @@ P_12: .ptr rw strtok_rest+0
 .segment stack 16
 .thread 0 0 none xu start
 .reg 15 ptr rw stack+65472
-;@ type 1 base i1 char
-;@ type 2 array 20 1
-;@ type 3 array 79 1
-;@ type 4 pointer 1
-;@ type 5 array 5 4
-;@ type 6 pointer 1
-;@ type 7 base i4 int
-;@ type 8 pointer 9
-;@ type 9 struct 24 entry next:0:8 word:64:6 count:128:7
-;@ type 10 base i8 long
-;@ type 11 base u8 unsigned long
+;@ type 1 pointer 2
+;@ type 2 base i1 char
+;@ type 3 base i4 int
+;@ type 4 pointer 5
+;@ type 5 struct 24 entry next:0:4 word:64:1 count:128:3
+;@ type 6 pointer 2
+;@ type 7 base i8 long
+;@ type 8 base u8 unsigned long
+;@ type 9 array 20 2
+;@ type 10 array 79 2
+;@ type 11 array 5 6
 ;@ type 12 base u4 unsigned int
-;@ type 13 pointer 8
-;@ type 14 array 16 8
+;@ type 13 pointer 4
+;@ type 14 array 16 4

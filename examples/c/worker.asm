@@ -11,9 +11,9 @@ worker_main:
   ;@ inlined 2 say at examples/c/worker.c:14
   ;@ inlined 3 say at examples/c/worker.c:17
   ;@ frame back 40 caller at 48
-  ;@ local digits 20 at 104 log 5 type 2 in 1
+  ;@ local digits 20 at 104 log 5 type 5 in 1
   ;@ local nothing 8 at 56 log 3 type 3
-  ;@ local at 8 at 64 log 3 type 4
+  ;@ local at 8 at 64 log 3 type 1
   ldi r13, 31
   and r13, r15, r13
   ldi r12, -128
@@ -46,7 +46,7 @@ worker_main:
 L2:
   ;@ line examples/c/say.h:20 in 1
   ;@ var rest 3 r5 in 1
-  ;@ var length 5 r1 in 1
+  ;@ var length 2 r1 in 1
   divu r6, r5, r9
   mul r0, r6, r9
   sub r0, r5, r0
@@ -54,7 +54,7 @@ L2:
   ldi r13, 48
   or r4, r0, r13
   addi r7, r1, 1
-  ;@ var length 5 r7 in 1
+  ;@ var length 2 r7 in 1
   addi r1, r1, 8
   and r0, r1, r10
   leab r3, r8, r0
@@ -73,21 +73,21 @@ L2:
   bnz r0, L3
 L6:
   mov r1, r7
-  ;@ var length 5 - in 1
+  ;@ var length 2 - in 1
   mov r5, r6
   ;@ var rest 3 - in 1
   br L2
 L3:
   ;@ line examples/c/say.h:21 in 1
-  ;@ var length 5 r7 in 1
+  ;@ var length 2 r7 in 1
   ldi r13, 32
   shl r0, r7, r13
-  ;@ var length 5 - in 1
+  ;@ var length 2 - in 1
   ldi r13, 32
   sar r7, r0, r13
 L4:
   ;@ line examples/c/say.h:22 in 1
-  ;@ var length 5 r7 in 1
+  ;@ var length 2 r7 in 1
   addi r7, r7, -1
   addi r1, r7, 8
   and r0, r1, r10
@@ -104,7 +104,7 @@ L4:
   bnz r7, L4
 L5:
   ;@ line examples/c/say.h:8 in 2
-  ;@ var length 5 - in 1
+  ;@ var length 2 - in 1
   lip r12, P_0
   ld r12, r12, 0, any, keep
   ld r1, r12, 0, any, keep
@@ -219,9 +219,9 @@ P_2: .ptr ro worker__str_1+4
 .segment worker_stack 16
 .thread 0 0 1 xu start
 .reg 15 ptr rw worker_stack+65472
-;@ type 1 base i1 char
-;@ type 2 array 20 1
+;@ type 1 base i8 long
+;@ type 2 base i4 int
 ;@ type 3 base u8 unsigned long
-;@ type 4 base i8 long
-;@ type 5 base i4 int
-;@ type 6 array 4 4
+;@ type 4 base i1 char
+;@ type 5 array 20 4
+;@ type 6 array 4 1

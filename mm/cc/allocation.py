@@ -8,6 +8,9 @@ from typing import Optional
 from mm.cc.code import ARGUMENTS, FIRST_KEPT, FRAME, LAST_KEPT, VARIADIC, Call, Code
 from mm.cc.liveness import Interval, Liveness, Range
 
+# After every place of a function.
+NEVER = 1 << 60
+
 
 class Allocation:
     """Where each register of the code is: a register of the machine, or a slot of the frame; fixed values may be in
@@ -43,9 +46,11 @@ class Allocation:
     def has_slot(self, register: int) -> bool:
         return self.root(register) in self.slot
 
-    def holds(self, register: int, place: int) -> bool:
-        """Whether a register of the code still has its value at a place of the function."""
-        return any(start <= place < end for start, end in self.own.get(register, ()))
+    def range_at(self, register: int, place: int) -> Range:
+        """Where a register of the code has its value, from the first such range on that ends after a place."""
+        ranges = self.own.get(register, [])
+        at = bisect_right(ranges, place, key=lambda found: found[1])
+        return ranges[at] if at < len(ranges) else (NEVER, NEVER)
 
     def _give_fixed_ranges(self) -> None:
         """A fixed value is made at the beginning of the function, so it is live from there on to where liveness finds

@@ -3,7 +3,7 @@
 from __future__ import annotations
 
 from dataclasses import dataclass, field
-from typing import Any, Optional
+from typing import Any, NamedTuple, Optional
 
 # The registers. Arguments come in the first six; those from FIRST_KEPT to LAST_KEPT are kept by a function that is
 # called.
@@ -37,8 +37,7 @@ class Call:
     twice: bool = False
 
 
-@dataclass(frozen=True)
-class Variable:
+class Variable(NamedTuple):
     """A variable of C: what LLVM's text says of it and of the place where it is declared, by their numbers there."""
 
     node: str
@@ -110,9 +109,7 @@ class LocalObject:
     log: int
     place: int
     at: int = 0
-    # The variable that it is, and what a comment says of that at its end.
     variable: Optional[Variable] = None
-    said: str = ""
 
 
 @dataclass

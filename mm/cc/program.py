@@ -4,7 +4,7 @@ from __future__ import annotations
 
 import re
 from dataclasses import dataclass
-from typing import Any, Optional
+from typing import Optional
 
 from mm.cc.code import log_of, place_in
 from mm.cc.control import Translator
@@ -290,24 +290,14 @@ class Program:
         for block in code.blocks:
             for op in block.body:
                 op.line = notes.place(op.line)
-        for made in code.objects:
-            if made.variable is not None:
-                made.name, made.said = notes.variable(made.variable)
-        blocks = emit(code, self.fresh, addressed)
+        blocks = emit(code, self.fresh, notes.variable, addressed)
         self._note(blocks, function, notes)
         self.texts.append(blocks)
 
     @staticmethod
     def _note(blocks: list[TextBlock], function: Function, notes: FunctionNotes) -> None:
-        """Says where a function begins, and where variables are; nothing of a function whose lines are not known."""
+        """Says where a function begins; nothing of a function whose lines are not known."""
         begins = notes.lines.of_function(function.debug)
-        said: dict[tuple[Any, ...], tuple[str, ...]] = {(): ()}
-        for block in blocks:
-            for line in block.lines:
-                if line.variables not in said:
-                    made = [(*notes.variable(variable), where) for variable, where in line.variables]
-                    said[line.variables] = tuple(f"{name} {where}{frame}" for name, frame, where in made)
-                line.variables = said[line.variables]
         if begins:
             head = f"function {notes.lines.name_of(function.debug or '')} at {begins}"
             blocks[0].notes = [head, *notes.inlined, *blocks[0].notes]

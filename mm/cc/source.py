@@ -119,13 +119,14 @@ class SourceWriter:
     @staticmethod
     def changes(old: tuple[str, ...], new: tuple[str, ...]) -> Iterator[str]:
         """What is said of variables that are somewhere else from here on, or nowhere."""
-        there = {variable_of(said) for said in new}
+        gone, come = set(old) - set(new), set(new) - set(old)
+        there = {variable_of(said) for said in come}
         for said in old:
-            if variable_of(said) not in there:
+            if said in gone and variable_of(said) not in there:
                 name, type_, frame = variable_of(said)
                 yield f"  {MARK} var {name} {type_} -{frame}"
         for said in new:
-            if said not in old:
+            if said in come:
                 yield f"  {MARK} var {said}"
 
     def global_target(self, name: str) -> str:

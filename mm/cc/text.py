@@ -2,7 +2,7 @@
 
 from __future__ import annotations
 
-from typing import Any, Iterable, Optional
+from typing import Iterable, Optional
 
 
 class Line:
@@ -12,7 +12,7 @@ class Line:
     __slots__ = ("op", "operands", "target", "origin", "variables")
 
     def __init__(self, op: str, operands: str, target: Optional[str], origin: Optional[str],
-                 variables: tuple[Any, ...] = ()) -> None:
+                 variables: tuple[str, ...] = ()) -> None:
         self.op, self.operands, self.target, self.origin = op, operands, target, origin
         self.variables = variables
 

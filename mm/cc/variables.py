@@ -4,9 +4,9 @@ from __future__ import annotations
 
 import re
 from dataclasses import dataclass
-from typing import Iterable, Optional
+from typing import Callable, Iterable, Optional
 
-from mm.cc.allocation import Allocation
+from mm.cc.allocation import NEVER, Allocation
 from mm.cc.code import Code, CodeBlock, Fixed, Variable, Where
 from mm.cc.frame import Frame
 from mm.cc.ir import Instruction, IntType, Local, Number, Value
@@ -123,50 +123,88 @@ def _after(block: CodeBlock, state: State) -> State:
     return state
 
 
-class Places:
-    """Where the variables of a function are at each of its operations."""
+# What is said of a variable: its name and its type, and of which function it is if that was put into this one.
+Naming = Callable[[Variable], tuple[str, str]]
 
-    def __init__(self, code: Code, allocation: Allocation, frame: Frame) -> None:
-        self.code, self.allocation, self.frame = code, allocation, frame
-        self.there = any(block.events for block in code.blocks)
-        self.before = states(code) if self.there else {}
+
+class Places:
+    """Where the variables of a function are at each of its operations. A variable is looked at again where something is
+    said of it, and where a register that holds it ends to do so."""
+
+    def __init__(self, code: Code, allocation: Allocation, frame: Frame, naming: Naming) -> None:
+        self.code, self.allocation, self.frame, self.naming = code, allocation, frame, naming
+        there = any(block.events for block in code.blocks)
+        self.before = states(code) if there else {}
         self.state: State = {}
         self.waiting: list[tuple[int, Event]] = []
+        # What is said of each variable that has a place, until which place that holds, and the first of these places.
+        self.said: dict[Variable, str] = {}
+        self.until: dict[Variable, int] = {}
+        self.next = NEVER
+        self.now: tuple[str, ...] = ()
 
-    def begin(self, block: CodeBlock) -> None:
+    def begin(self, block: CodeBlock, place: int) -> None:
         self.state = dict(self.before.get(block.label, {}))
-        self.waiting = list(block.events)
+        self.waiting = block.events[::-1]
+        self.said, self.until = {}, {}
+        self.look(list(self.state), place)
 
-    def at(self, number: int, place: int) -> tuple[tuple[Variable, str], ...]:
-        """The variables that have a place at operation `number` of a block, which is `place` in the function."""
-        while self.waiting and self.waiting[0][0] <= number:
-            change(self.state, self.waiting.pop(0)[1])
-        if not self.state:
-            return ()
-        found = [(variable, self.text(where, place)) for variable, where in self.state.items()]
-        return tuple((variable, text) for variable, text in found if text is not None)
+    def at(self, number: int, place: int) -> tuple[str, ...]:
+        """What is said of variables at operation `number` of a block, which is `place` in the function."""
+        due: list[Variable] = []
+        while self.waiting and self.waiting[-1][0] <= number:
+            event = self.waiting.pop()[1]
+            change(self.state, event)
+            due.append(event.variable)
+        if place >= self.next:
+            due += [variable for variable, until in self.until.items() if until <= place]
+        if due:
+            self.look(due, place)
+        return self.now
 
-    def text(self, where: Where, place: int) -> Optional[str]:
-        """`r7`, `s24+8`, `@table+16`, `f160:5`; with `*` where that is the address of the variable."""
-        terms = [self.term(registers, place) for registers in where.parts]
-        if None in terms:
-            return None
+    def look(self, variables: Iterable[Variable], place: int) -> None:
+        for variable in variables:
+            self.said.pop(variable, None)
+            self.until.pop(variable, None)
+            where = self.state.get(variable)
+            if where is None:
+                continue
+            text, self.until[variable] = self.text(where, place)
+            if text is not None:
+                name, frame = self.naming(variable)
+                self.said[variable] = f"{name} {text}{frame}"
+        self.next = min(self.until.values(), default=NEVER)
+        self.now = tuple(self.said.values())
+
+    def text(self, where: Where, place: int) -> tuple[Optional[str], int]:
+        """`r7`, `s24+8`, `@table+16`, `f160:5`; with `*` where that is the address of the variable. And until where it is
+        so."""
+        found = [self.term(registers, place) for registers in where.parts]
+        until = min((end for _, end in found), default=NEVER)
+        terms = [term for term, _ in found if term is not None]
+        if len(terms) < len(found):
+            return None, until
         if where.number or not terms:
             terms.append(str(where.number))
-        return ("*" if where.memory else "") + "+".join(filter(None, terms))
+        return ("*" if where.memory else "") + "+".join(terms), until
 
-    def term(self, registers: Iterable[int], place: int) -> Optional[str]:
+    def term(self, registers: Iterable[int], place: int) -> tuple[Optional[str], int]:
+        later = NEVER
         for register in registers:
             fixed = self.code.fixed.get(register)
             if fixed is not None:
-                return self.fixed(fixed)
-            if self.allocation.holds(register, place):
-                home = self.allocation.of(register)
-                if home is not None:
-                    return f"r{home}"
-                if self.allocation.has_slot(register) and not self.code.dynamic:
-                    return f"s{self.frame.slots + 8 * self.allocation.slot_of(register)}"
-        return None
+                return self.fixed(fixed), NEVER
+            start, end = self.allocation.range_at(register, place)
+            if start > place:
+                later = min(later, start)
+                continue
+            home = self.allocation.of(register)
+            if home is not None:
+                return f"r{home}", end
+            if self.allocation.has_slot(register) and not self.code.dynamic:
+                return f"s{self.frame.slots + 8 * self.allocation.slot_of(register)}", end
+            later = min(later, end)
+        return None, later
 
     def fixed(self, fixed: Fixed) -> Optional[str]:
         if fixed.kind == "int":

@@ -290,14 +290,14 @@ def _other_line(debugger: Debugger, over: bool) -> Callable[[Turn], bool]:
     symbols, values = debugger.session.symbols, debugger.session.values
     frames = values.frames if values else []
     now = frames[0].line if frames else None
-    labels = {frame.function.label for frame in frames}
+    waiting = {(frame.function.label, line.inner) for frame in frames for line in frame.lines()}
 
     def other(turn: Turn) -> bool:
         line = symbols.c_line(turn.fetch) if turn.fetch is not None else None
         if line is None or line == now or turn.fetch is None:
             return False
         function = symbols.c_function(turn.fetch)
-        return not over or not labels or function is not None and function.label in labels
+        return not over or not waiting or function is not None and (function.label, line.inner) in waiting
 
     return other
 

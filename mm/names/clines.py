@@ -20,6 +20,8 @@ FUNCTION = re.compile(r"function (\S+) at (.*):(\d+)")
 INLINED = re.compile(r"inlined (\d+) (\S+) at (.*):(\d+)(?: in (\d+))?")
 VARIABLE = re.compile(r"var (\S+) (\d+) (\S+)(?: in (\d+))?")
 NOWHERE = "-"
+# What is carried out before `main`.
+START = "start"
 MOST_FRAMES = 100
 
 
@@ -215,14 +217,20 @@ class CFrame:
     def name(self) -> str:
         return self.function.inner_name(self.line.inner if self.line else 0)
 
+    def lines(self) -> Iterator[CLine]:
+        """The line here, and those of the calls of functions that were put into this one: the innermost first."""
+        line = self.line
+        while line is not None:
+            yield line
+            inlined = self.function.inlined.get(line.inner)
+            line = inlined.call if inlined else None
+
     def calls(self) -> Iterator[tuple[str, Optional[CLine]]]:
         """The functions that have their code here, each with its line: the innermost first."""
-        line = self.line
-        while line is not None and line.inner in self.function.inlined:
-            inlined = self.function.inlined[line.inner]
-            yield inlined.name, line
-            line = inlined.call
-        yield self.function.name, line
+        if self.line is None and self.function.label != START:
+            yield self.function.name, None
+        for line in self.lines():
+            yield self.function.inner_name(line.inner), line
 
 
 Place = Callable[[int], Optional[tuple[CNotes, int]]]

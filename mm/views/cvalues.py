@@ -47,13 +47,16 @@ class CValues:
     # Names
 
     def named(self, name: str) -> Optional[CThing]:
-        """A variable of the function that is carried out, an object of one that waits for it, or a global."""
-        for thing_name, thing in self.locals():
-            if thing_name == name:
-                return thing
+        """A variable of the function that is carried out, or of one that it was put into, an object of one that waits for
+        it, or a global."""
+        inners = [line.inner for line in self.frames[0].lines()] if self.frames else []
+        for inner in inners or [0]:
+            for thing_name, thing in self.locals(inner):
+                if thing_name == name:
+                    return thing
         for frame in self.frames:
             for made in frame.function.objects:
-                if made.name == name and frame.notes:
+                if made.name == name:
                     return CThing(frame.notes.types, made.type, frame.stack + made.at)
         return self.global_(name)
 
@@ -67,12 +70,13 @@ class CValues:
                 return CThing(region.source.notes.types, made.type, region.base + made.at)
         return None
 
-    def locals(self) -> Iterator[tuple[str, CThing]]:
-        """The variables of the function in whose line the slot stands, that have a place now."""
+    def locals(self, of: Optional[int] = None) -> Iterator[tuple[str, CThing]]:
+        """The variables of the function in whose line the slot stands, that have a place now; or of one that has its code
+        there too."""
         frame = self.frames[0] if self.frames else None
-        if frame is None or frame.notes is None:
+        if frame is None:
             return
-        inner = frame.line.inner if frame.line else 0
+        inner = of if of is not None else frame.line.inner if frame.line else 0
         for made in frame.function.objects:
             if made.inner == inner and made.type:
                 yield made.name, CThing(frame.notes.types, made.type, frame.stack + made.at)
