@@ -5,8 +5,8 @@ from __future__ import annotations
 from dataclasses import dataclass
 from typing import Callable, Iterable, Iterator
 
-from mm.debugger.cexpressions import c_thing
-from mm.debugger.evaluate import count_of, place_of, slot_of, span, value_of
+from mm.debugger.evaluate import count_of, place_of, slot_of, span
+from mm.debugger.of_c import by_lines, local_lines, value_text
 from mm.debugger.points import PointKind
 from mm.debugger.session import Halt, Session
 from mm.debugger.show import Show
@@ -210,15 +210,6 @@ def _print(debugger: Debugger, rest: str) -> Lines:
     yield f"{rest} = {value_text(rest, debugger)}"
 
 
-def value_text(text: str, debugger: Debugger) -> str:
-    """A variable of C, or else a word."""
-    values = debugger.session.values
-    thing = c_thing(text, values) if values and not text.startswith("&") else None
-    if thing is not None and values is not None:
-        return f"{values.spell(thing)}   ({thing.types.title(thing.type)})" if thing.type else values.spell(thing)
-    return debugger.show.word(value_of(text, debugger.session))
-
-
 def _display(debugger: Debugger, rest: str) -> Lines:
     if not rest:
         debugger.displays.clear()
@@ -252,56 +243,6 @@ def _where(debugger: Debugger, rest: str) -> Lines:
     yield from debugger.show.calls()
 
 
-def _locals(debugger: Debugger, rest: str) -> Lines:
-    """The variables of C; where there are none, the registers."""
-    values = debugger.session.values
-    if values is None or not values.frames:
-        yield from _registers(debugger, rest)
-        return
-    found = {name: values.spell(thing) for name, thing in reversed(list(values.locals()))}
-    for name, said in sorted(found.items()):
-        yield f"  {name} = {said}"
-    if not found:
-        yield f"no variable of {values.frames[0].name} has a place here"
-
-
-def _step_line(debugger: Debugger, rest: str) -> Lines:
-    """Lines of C of the current slot, into calls."""
-    return _by_lines(debugger, rest, False)
-
-
-def _next_line(debugger: Debugger, rest: str) -> Lines:
-    """Lines of C of the current slot; what a line calls is done on the way."""
-    return _by_lines(debugger, rest, True)
-
-
-def _by_lines(debugger: Debugger, rest: str, over: bool) -> Lines:
-    session = debugger.session
-    halt = Halt()
-    for _ in range(count_of(rest)):
-        halt = session.follow(_other_line(debugger, over))
-        if halt.point or halt.ended:
-            break
-    return debugger.stop(halt)
-
-
-def _other_line(debugger: Debugger, over: bool) -> Callable[[Turn], bool]:
-    """Whether a turn begins another line than that of now: of any function, or of one that is being carried out."""
-    symbols, values = debugger.session.symbols, debugger.session.values
-    frames = values.frames if values else []
-    now = frames[0].line if frames else None
-    waiting = {(frame.function.label, line.inner) for frame in frames for line in frame.lines()}
-
-    def other(turn: Turn) -> bool:
-        line = symbols.c_line(turn.fetch) if turn.fetch is not None else None
-        if line is None or line == now or turn.fetch is None:
-            return False
-        function = symbols.c_function(turn.fetch)
-        return not over or not waiting or function is not None and (function.label, line.inner) in waiting
-
-    return other
-
-
 def _output(debugger: Debugger, rest: str) -> Lines:
     return debugger.show.output()
 
@@ -314,7 +255,7 @@ INFO: dict[str, tuple[str, Callable[[Debugger, str], Lines]]] = {
         "names with their addresses",
         lambda debugger, rest: map_lines(debugger.session.symbols, debugger.show.style),
     ),
-    "locals": ("variables of C; else registers", _locals),
+    "locals": ("variables of C; else registers", lambda debugger, rest: local_lines(debugger) or _registers(debugger, rest)),
     "output": ("what each group has put out", _output),
     "line": ("where this slot stands", _where),
 }
@@ -357,8 +298,8 @@ def _help(debugger: Debugger, rest: str) -> Lines:
 ENTRIES = (
     Entry(("step", "s", "si", "stepi"), "[N]", "N cycles on, whichever slots they belong to", "", _step),
     Entry(("next", "n", "ni", "nexti"), "[N]", "N turns of this slot on; a call counts as one", "", _next),
-    Entry(("stepline", "sl"), "[N]", "to the next line of C, into calls", "", _step_line),
-    Entry(("nextline", "nl"), "[N]", "to the next line of C of this function, or of one that called it", "", _next_line),
+    Entry(("stepline", "sl"), "[N]", "to the next line of C, into calls", "", lambda debugger, rest: by_lines(debugger, rest, False)),
+    Entry(("nextline", "nl"), "[N]", "to the next line of C of this function, or of one that called it", "", lambda debugger, rest: by_lines(debugger, rest, True)),
     Entry(("continue", "c"), "", "on to the next stop", "", _continue),
     Entry(("until", "u", "advance"), "[PLACE]", "on until this slot comes to a place, or past a loop", "place", _until),
     Entry(("finish", "fin"), "", "on until this slot leaves its segment, as a gate", "", _finish),
