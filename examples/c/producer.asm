@@ -79,6 +79,7 @@ producer_mm_put:
 P_0: .ptr rw ring+0
 P_1: .ptr ro producer__str+9
 .segment ring 5
+  ;@ global ring 32 at 0 type 3
   .empty .int 0
   .empty .int 0
   .empty .int 0
@@ -92,3 +93,5 @@ P_1: .ptr ro producer__str+9
 .thread 0 0 none xu start
 .reg 15 ptr rw producer_stack+65472
 ;@ type 1 base i4 int
+;@ type 2 base i8 long
+;@ type 3 array 4 2

@@ -57,7 +57,8 @@ class Types:
         elif tag == "DW_TAG_enumeration_type":
             letter = LETTERS.get(fields_of(debug.get(base or "", "")).get("encoding", ""), "u")
             values = [fields_of(debug[part]) for part in self._elements(fields, debug)]
-            self._add(key, f"enum {letter}{size} {name} " + " ".join(f"{value['name']}={value['value']}" for value in values))
+            pairs = [f"{value['name']}={value['value']}" for value in values]
+            self._add(key, " ".join([f"enum {letter}{size} {name}", *pairs]))
         elif tag == "DW_TAG_array_type":
             self._array(key, fields, debug)
         elif tag in ("DW_TAG_structure_type", "DW_TAG_union_type"):

@@ -20,7 +20,8 @@ Source = Union[int, tuple[str, int], Fixed]
 class Emission:
     """Writes the text of a function."""
 
-    def __init__(self, code: Code, allocation: Allocation, link: bool, fresh: Callable[[], str], naming: Naming) -> None:
+    def __init__(self, code: Code, allocation: Allocation, link: bool, fresh: Callable[[], str],
+                 naming: Naming) -> None:
         self.code, self.allocation, self.link, self.here, self.naming = code, allocation, link, fresh, naming
         self.frame = Frame(code, allocation, link)
         self.base = FRAME if code.dynamic else STACK

@@ -145,13 +145,13 @@ class SourceWriter:
         words = segment.words
         assert words is not None
         lines = [f".segment {segment.name} {segment.known.log}"]
-        if segment.made.name.startswith(EMPTY):
-            return lines + ["  .empty .int 0"] * (1 << segment.known.log - 3)
         if not segment.made.internal or not segment.made.name.startswith("."):
             name, type_ = self.program.types.of_global(segment.made.debug, segment.module.debug)
             name = name or segment.made.name.rpartition(".")[2]
             said = f" type {type_}" if type_ else ""
             lines.append(f"  {MARK} global {name} {segment.size} at {segment.known.place}{said}")
+        if segment.made.name.startswith(EMPTY):
+            return lines + ["  .empty .int 0"] * (1 << segment.known.log - 3)
         zeros = 0
         data = words.data
         for at in range(0, len(data), 8):

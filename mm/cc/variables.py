@@ -1,4 +1,4 @@
-"""Variables of C, for the debugger: what LLVM's text says of them, and where each is at each operation of a function."""
+"""Variables of C, for the debugger: what LLVM's text says of them, and where each is at each operation."""
 
 from __future__ import annotations
 
@@ -177,8 +177,8 @@ class Places:
         self.now = tuple(self.said.values())
 
     def text(self, where: Where, place: int) -> tuple[Optional[str], int]:
-        """`r7`, `s24+8`, `@table+16`, `f160:5`; with `*` where that is the address of the variable. And until where it is
-        so."""
+        """`r7`, `s24+8`, `@table+16`, `f160:5`; with `*` where that is the address of the variable. And until where it
+        is so."""
         found = [self.term(registers, place) for registers in where.parts]
         until = min((end for _, end in found), default=NEVER)
         terms = [term for term, _ in found if term is not None]

@@ -1,5 +1,5 @@
-"""Names of C: what a source tells of variables and types, and the debugger and the page of a run by them. No compiler is
-needed: the stored sources of the examples are taken."""
+"""Names of C: what a source tells of variables and types, and the debugger and the page of a run by them. No compiler
+is needed: the stored sources of the examples are taken."""
 
 import os
 import re
@@ -39,8 +39,8 @@ class Notes(unittest.TestCase):
         self.assertEqual(types.get(3).fields[2].bits, 3)
 
     def test_variables_come_and_go(self):
-        notes = CNotes(["f:", "  ;@ function f at a.c:1", "  ;@ var i 1 r3", "  nop", "  ;@ var i 1 r4", "  ;@ var j 1 7",
-                        "  nop", "  ;@ var i 1 -", "  nop", "g:", "  nop"])
+        notes = CNotes(["f:", "  ;@ function f at a.c:1", "  ;@ var i 1 r3", "  nop", "  ;@ var i 1 r4",
+                        "  ;@ var j 1 7", "  nop", "  ;@ var i 1 -", "  nop", "g:", "  nop"])
         function = notes.function_at(4)
         self.assertEqual(function.name, "f")
         wheres = [[(made.name, made.where) for made in function.variables_at(number)] for number in (2, 4, 7, 9)]
@@ -108,8 +108,8 @@ class Debugged(unittest.TestCase):
         self.assertIn("struct entry *[16]", said[2])
 
     def test_two_programs(self):
-        said = self.session(["delete 0", "break serve", "continue", "print *event", "print event->what", "where", "slot 0",
-                             "where"], "examples/c/worker.asm", "examples/c/keeper.asm")
+        said = self.session(["delete 0", "break serve", "continue", "print *event", "print event->what", "where",
+                             "slot 0", "where"], "examples/c/worker.asm", "examples/c/keeper.asm")
         self.assertIn("keeper.c:19: long slot = MM_SLOT(*event);", said[1])
         self.assertNotIn("the first of", said[1])
         self.assertIn("{what = 9, at = xu 2^11 worker_main+", said[3])

@@ -47,8 +47,8 @@ class CValues:
     # Names
 
     def named(self, name: str) -> Optional[CThing]:
-        """A variable of the function that is carried out, or of one that it was put into, an object of one that waits for
-        it, or a global."""
+        """A variable of the function that is carried out, or of one that it was put into, an object of one that waits
+        for it, or a global."""
         inners = [line.inner for line in self.frames[0].lines()] if self.frames else []
         for inner in inners or [0]:
             for thing_name, thing in self.locals(inner):
@@ -71,8 +71,8 @@ class CValues:
         return None
 
     def locals(self, of: Optional[int] = None) -> Iterator[tuple[str, CThing]]:
-        """The variables of the function in whose line the slot stands, that have a place now; or of one that has its code
-        there too."""
+        """The variables of the function in whose line the slot stands, that have a place now; or of one that has its
+        code there too."""
         frame = self.frames[0] if self.frames else None
         if frame is None:
             return
@@ -207,7 +207,8 @@ class CValues:
             data = self.bytes(thing.address, kind.count)
             return bytes_as_text(data.rstrip(b"\0")) if data is not None else "on no page"
         shown = min(kind.count, MOST_ELEMENTS) if depth < 3 else 0
-        parts = [self.spell(CThing(thing.types, kind.inner, thing.address + at * size), depth + 1) for at in range(shown)]
+        places = [thing.address + at * size for at in range(shown)]
+        parts = [self.spell(CThing(thing.types, kind.inner, place), depth + 1) for place in places]
         return "{" + ", ".join(parts + [".."] * (shown < kind.count)) + "}"
 
     def member(self, thing: CThing, part: CField) -> CThing:
