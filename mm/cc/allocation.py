@@ -24,8 +24,12 @@ class Allocation:
         self.slot: dict[int, int] = {}
         self.slots = 0
         events = any(block.events for block in code.blocks)
-        self.own = {register: list(interval.ranges) for register, interval in self.live.intervals.items()
-                    } if events else {}
+        # Of each register, for the debugger, its own ranges, before any are joined, and where these end.
+        self.own: dict[int, list[Range]] = {}
+        self.own_ends: dict[int, list[int]] = {}
+        for register, interval in self.live.intervals.items() if events else ():
+            self.own[register] = list(interval.ranges)
+            self.own_ends[register] = [end for _, end in interval.ranges]
         self._give_fixed_ranges()
         self._join_moves()
         self._mark_calls()
@@ -48,8 +52,8 @@ class Allocation:
 
     def range_at(self, register: int, place: int) -> Range:
         """Where a register of the code has its value, from the first such range on that ends after a place."""
+        at = bisect_right(self.own_ends.get(register, ()), place)
         ranges = self.own.get(register, [])
-        at = bisect_right(ranges, place, key=lambda found: found[1])
         return ranges[at] if at < len(ranges) else (NEVER, NEVER)
 
     def _give_fixed_ranges(self) -> None:

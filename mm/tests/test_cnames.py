@@ -9,6 +9,7 @@ from mm.names.clines import CNotes
 from mm.names.ctypes import CTypes
 from mm.machine.program import CHECKOUT
 from mm.tests.support import mm, needs_log, needs_program, read
+from mm.tests.test_cc import source
 from mm.tests.test_debugger import answers
 from mm.tests.test_view import data_of
 
@@ -21,6 +22,27 @@ type 5 enum u4 colour red=0 blue=1
 type 6 base u8 unsigned long
 type 7 array 2 2
 type 8 pointer 4""".splitlines()
+
+
+# LLVM's text with what it says for debuggers; @SAID@ is written in two ways.
+MODULE = """define i32 @main(i32 %n) !dbg !4 {
+  %a = mul i32 %n, %n, !dbg !9
+  @SAID@
+  %b = mul i32 %a, %n, !dbg !10
+  %c = add i32 %b, %a, !dbg !10
+  ret i32 %c, !dbg !11
+}
+!1 = !DIFile(filename: "a.c", directory: "/")
+!3 = !DIBasicType(name: "unsigned int", size: 32, encoding: DW_ATE_unsigned)
+!4 = distinct !DISubprogram(name: "main", scope: !1, file: !1, line: 3, unit: !2)
+!7 = distinct !DILexicalBlock(scope: !4, file: !1, line: 3, column: 1)
+!8 = !DILocalVariable(name: "square", scope: !7, file: !1, line: 4, type: !3)
+!9 = !DILocation(line: 4, column: 2, scope: !7)
+!10 = !DILocation(line: 5, column: 2, scope: !7)
+!11 = !DILocation(line: 6, column: 2, scope: !7)
+"""
+SAID = ("call void @llvm.dbg.value(metadata i32 %a, metadata !8, metadata !DIExpression()), !dbg !9",
+        "  #dbg_value(i32 %a, !8, !DIExpression(), !9)")
 
 
 def notes_of(name):
@@ -37,6 +59,17 @@ class Notes(unittest.TestCase):
                           "int[2][3]", "struct node **"])
         self.assertEqual([types.size(number) for number in range(9)], [0, 4, 12, 24, 8, 4, 8, 24, 8])
         self.assertEqual(types.get(3).fields[2].bits, 3)
+
+    def test_both_ways_to_say_where_a_variable_is(self):
+        made = [source(MODULE.replace("@SAID@", said)) for said in SAID]
+        self.assertEqual(made[0], made[1])
+        notes = CNotes(made[0].splitlines())
+        function = next(function for function in notes.functions if function.name == "main")
+        (first, there), (last, gone) = function.variables
+        self.assertEqual((there.name, notes.types.title(there.type), gone.where), ("square", "unsigned int", "-"))
+        self.assertRegex(there.where, r"r\d+")
+        self.assertEqual(str(notes.line_at(first)), "a.c:5")
+        self.assertGreater(last, first)
 
     def test_variables_come_and_go(self):
         notes = CNotes(["f:", "  ;@ function f at a.c:1", "  ;@ var i 1 r3", "  nop", "  ;@ var i 1 r4",
