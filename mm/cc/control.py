@@ -9,6 +9,7 @@ from mm.cc.ends import Ends
 from mm.cc.forms import RAW, SIGNED, ZEROED, bits_of
 from mm.cc.ir import Block, FloatType, Instruction, IntType, Local, PointerType, Type, Value, VectorType
 from mm.cc.pointers import Pointer, is_twice
+from mm.cc.reading import FLOATING, FLOAT_CASTS
 from mm.cc.variables import event_of
 from mm.cc.untranslated import Untranslated
 from mm.cc.wide import has_floats, is_plain, is_wide
@@ -178,7 +179,8 @@ class Translator(Ends):
     def instruction(self, made: Instruction) -> None:
         handler = self.HANDLERS.get(made.op)
         if handler is None:
-            raise Untranslated("floating point" if made.op.startswith("f") else f"the operation {made.op}")
+            floats = made.op in FLOATING or made.op in FLOAT_CASTS
+            raise Untranslated("floating point" if floats else f"the operation {made.op}")
         getattr(self, handler)(made)
 
     HANDLERS = {
