@@ -4,7 +4,7 @@ from __future__ import annotations
 
 from typing import Optional
 
-from mm.cc.code import Code, CodeBlock, Fixed, Op
+from mm.cc.code import Code, CodeBlock, Fixed, Op, Variable
 from mm.cc.forms import RAW, SIGNED, ZEROED, Forms, bits_of
 from mm.cc.ir import (
     ArrayType,
@@ -61,6 +61,10 @@ class Names:
 
     def resolve(self, value: Value) -> Value:
         """What an alias stands for."""
+        raise NotImplementedError
+
+    def declare(self, name: str, variable: Variable) -> None:
+        """A global that is a variable of a function, as an array that is never changed."""
         raise NotImplementedError
 
 

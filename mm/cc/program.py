@@ -6,7 +6,7 @@ import re
 from dataclasses import dataclass
 from typing import Optional
 
-from mm.cc.code import log_of, place_in
+from mm.cc.code import Variable, log_of, place_in
 from mm.cc.control import Translator
 from mm.cc.ctypes import Types
 from mm.cc.data import Constants, Place, Words
@@ -80,6 +80,7 @@ class ModuleNames(Names):
         self.layouts = module.layouts()
         self.constants = Constants(self.layouts, self.resolve)
         self.lines = Lines(module)
+        self.declared: dict[str, Variable] = {}
 
     def fresh(self) -> str:
         return self.program.fresh()
@@ -110,6 +111,18 @@ class ModuleNames(Names):
                 break
             value = module.aliases[value.name]
         return value
+
+    def declare(self, name: str, variable: Variable) -> None:
+        self.declared.setdefault(name, variable)
+
+    def told(self, made: GlobalObject) -> tuple[str, int]:
+        """The name of a global in C, and the number of its type."""
+        debug, types = self.module.debug, self.program.types
+        if made.name in self.declared:
+            node = self.declared[made.name].node
+            return self.lines.name_of(node), types.of_variable(node, debug)
+        name, type_ = types.of_global(made.debug, debug)
+        return name or made.name.rpartition(".")[2], type_
 
 
 class Program:

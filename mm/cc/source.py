@@ -146,8 +146,7 @@ class SourceWriter:
         assert words is not None
         lines = [f".segment {segment.name} {segment.known.log}"]
         if not segment.made.internal or not segment.made.name.startswith("."):
-            name, type_ = self.program.types.of_global(segment.made.debug, segment.module.debug)
-            name = name or segment.made.name.rpartition(".")[2]
+            name, type_ = self.program.names[id(segment.module)].told(segment.made)
             said = f" type {type_}" if type_ else ""
             lines.append(f"  {MARK} global {name} {segment.size} at {segment.known.place}{said}")
         if segment.made.name.startswith(EMPTY):

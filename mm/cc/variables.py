@@ -9,7 +9,7 @@ from typing import Callable, Iterable, Optional
 from mm.cc.allocation import NEVER, Allocation
 from mm.cc.code import Code, CodeBlock, Fixed, Variable, Where
 from mm.cc.frame import Frame
-from mm.cc.ir import Instruction, IntType, Local, Number, Value
+from mm.cc.ir import Global, Instruction, IntType, Local, Number, Value
 from mm.cc.lowering import Lowering, signed
 from mm.cc.reading import Reader
 from mm.cc.untranslated import Untranslated
@@ -45,6 +45,9 @@ def event_of(made: Instruction, lowering: Lowering) -> Optional[Event]:
     if match[1] == "declare" and isinstance(value, Local) and value.name in lowering.promoted:
         return Event(variable, place_of(value, lowering))
     found = place_of(value, lowering) if value is not None else None
+    if match[1] == "declare" and isinstance(value, Global):
+        lowering.names.declare(value.name, variable)
+        return None
     if match[1] == "declare":
         return _declared(variable, found, lowering)
     if match[4] == "DW_OP_deref" and found is not None:

@@ -6,7 +6,7 @@ from dataclasses import dataclass
 from typing import Callable, Iterable, Iterator
 
 from mm.debugger.evaluate import count_of, place_of, slot_of, span
-from mm.debugger.of_c import by_lines, local_lines, value_text
+from mm.debugger.of_c import by_lines, c_text, local_lines, value_text
 from mm.debugger.points import PointKind
 from mm.debugger.session import Halt, Session
 from mm.debugger.show import Show
@@ -168,7 +168,7 @@ def _set_watch(kind: PointKind) -> Callable[[Debugger, str], Lines]:
         address, length = span(place, debugger.session)
         point = debugger.session.add(kind, place, address & ~7, length, slot)
         now = debugger.show.cell(debugger.session.memory.cell(point.address)) if length == 8 else f"{length // 8} words"
-        yield f"{point.number}: {kind.title} {place}, now {now}"
+        yield f"{point.number}: {kind.title} {place}, now {c_text(place, debugger) or now}"
 
     return run
 

@@ -2,7 +2,7 @@
 
 from __future__ import annotations
 
-from typing import TYPE_CHECKING, Callable, Iterable
+from typing import TYPE_CHECKING, Callable, Iterable, Optional
 
 from mm.debugger.cexpressions import c_thing
 from mm.debugger.evaluate import count_of, value_of
@@ -13,13 +13,18 @@ if TYPE_CHECKING:
     from mm.debugger.commands import Debugger
 
 
-def value_text(text: str, debugger: Debugger) -> str:
-    """A variable of C, or else a word."""
+def c_text(text: str, debugger: Debugger) -> Optional[str]:
+    """What a variable of C holds; none where the text names none."""
     values = debugger.session.values
     thing = c_thing(text, values) if values and not text.startswith("&") else None
-    if thing is not None and values is not None:
-        return f"{values.spell(thing)}   ({thing.types.title(thing.type)})" if thing.type else values.spell(thing)
-    return debugger.show.word(value_of(text, debugger.session))
+    if thing is None or values is None:
+        return None
+    return f"{values.spell(thing)}   ({thing.types.title(thing.type)})" if thing.type else values.spell(thing)
+
+
+def value_text(text: str, debugger: Debugger) -> str:
+    """A variable of C, or else a word."""
+    return c_text(text, debugger) or debugger.show.word(value_of(text, debugger.session))
 
 
 def local_lines(debugger: Debugger) -> list[str]:

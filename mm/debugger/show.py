@@ -4,6 +4,7 @@ from __future__ import annotations
 
 from typing import Iterator, Optional
 
+from mm.debugger.cexpressions import c_thing
 from mm.debugger.points import PointKind
 from mm.debugger.session import Halt, Session
 from mm.machine.causes import Cause
@@ -11,6 +12,7 @@ from mm.machine.words import Cell, Word
 from mm.names.numbers import counted
 from mm.outputs.report import SlotState
 from mm.source.tokens import readable
+from mm.views.cvalues import CValues
 from mm.views.cview import CView
 from mm.views.report import ReportView
 from mm.views.spell import Memory, bytes_as_text
@@ -80,15 +82,29 @@ class Show:
         elif point.kind.before:
             yield self.style.good(f"break {point.number}: {point.text or self.session.symbols.show(point.address)}")
         elif point.kind.has_place and halt.turn and halt.turn.address is not None:
-            yield self.style.good(f"{point.kind.title} {point.number}: {point.text}") + self.change(halt.turn.address)
+            change = self.c_change(point.text) or self.change(halt.turn.address)
+            yield self.style.good(f"{point.kind.title} {point.number}: {point.text}") + change
         else:
             yield self.style.good(f"{point.kind.title} {point.number}")
 
+    @property
+    def memory_before(self) -> Memory:
+        """The memory before the last cycle."""
+        return Memory(self.session.built.image, self.session.history.report(self.session.total - 1).cells)
+
+    def c_change(self, text: str) -> Optional[str]:
+        """What a variable of C was before the last cycle, and what it is; none where the text names none."""
+        slot, values = self.session.current, self.session.values
+        thing = c_thing(text, values) if values and not text.startswith("&") else None
+        if thing is None or not thing.type or slot is None or values is None:
+            return None
+        before = CValues(slot, self.memory_before, self.session.speller).spell(thing)
+        after = values.spell(thing)
+        return f"  {text} is {after}" if before == after else f"  {text} was {before}, and is {after}"
+
     def change(self, address: int) -> str:
         """What a word was before the last cycle, and what it is."""
-        before = Memory(self.session.built.image, self.session.history.report(self.session.total - 1).cells).cell(
-            address
-        )
+        before = self.memory_before.cell(address)
         after = self.session.memory.cell(address)
         name = self.session.symbols.show(address)
         if before == after:
