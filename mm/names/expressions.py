@@ -49,7 +49,11 @@ def _of_line(path: str, line: int, symbols: Symbols) -> int:
     if of_c is not None:
         return of_c
     paths = sorted({region.source.path for region in symbols.regions if region.source})
-    meant = [known for known in paths if known == path or known.endswith("/" + path)]
+    in_c = symbols.c_paths()
+    meant = [known for known in [*paths, *in_c] if known == path or known.endswith("/" + path)]
+    if len(meant) == 1 and meant[0] in in_c:
+        raise NoAddress(f"no code comes from line {line} of {meant[0]} or one after it")
+    paths += in_c
     if len(meant) != 1:
         raise NoAddress(f"there is no source `{path}`; the sources are {', '.join(paths) or 'not known'}")
     address = symbols.place_of_line(meant[0], line)

@@ -168,6 +168,12 @@ class Symbols:
         """The global that a segment is."""
         return region.source.notes.globals.get(region.name) if region.source and region.source.notes else None
 
+    def c_paths(self) -> list[str]:
+        """The files of C that code comes from."""
+        notes = {id(region.source.notes): region.source.notes for region in self.regions
+                 if region.source and region.source.notes}
+        return sorted({line.path for each in notes.values() for line in each.lines if line is not None})
+
     def place_of_c_line(self, path: str, line: int) -> Optional[int]:
         """The address of the first word of a line of C, or of the next one that has code."""
         for region in self.regions:
