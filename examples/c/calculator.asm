@@ -174,6 +174,7 @@ L18:
   lea r0, r11, r0
   ldi r13, 0
   st r0, r13, 0, any, keep
+  ;@ var now 6 @program in 3
   ldi r9, 0
 L3:
   ;@ line examples/c/calculator.c:77 in 3
@@ -320,6 +321,7 @@ L9:
   br putchar
   ;@ line examples/c/say.h:8 in 4
   ;@ var name 3 -
+  ;@ var text 1 @_str_3 in 4
   lip r12, P_10
   ld r12, r12, 0, any, keep
   ld r3, r12, 0, any, keep

@@ -17,8 +17,8 @@ keeper_main:
   ;@ inlined 8 say_number at examples/c/keeper.c:34 in 1
   ;@ inlined 9 say at examples/c/keeper.c:35 in 1
   ;@ frame back 64 caller at 72
-  ;@ local digits 20 at 104 log 5 type 8 in 8
-  ;@ local digits 20 at 136 log 5 type 8 in 3
+  ;@ local digits 20 at 104 log 5 type 9 in 8
+  ;@ local digits 20 at 136 log 5 type 9 in 3
   ;@ local event 32 at 160 log 5 type 2
   ldi r13, 31
   and r13, r15, r13
@@ -59,6 +59,7 @@ L2:
   st r15, r12, 0, any, keep
   ;@ line examples/c/say.h:8 in 2
   ;@ var slot 3 s0 in 1
+  ;@ var text 5 @keeper__str in 2
   lip r12, P_0
   ld r12, r12, 0, any, keep
   ld r3, r12, 0, any, keep
@@ -70,7 +71,7 @@ L2:
   br keeper_fwrite
   ;@ line examples/c/say.h:15 in 3
   ;@ var number 3 s0 in 3
-  ;@ var length 5 0 in 3
+  ;@ var length 7 0 in 3
   ldi r12, 0
   ld r13, r15, 0, any, keep
   sub r1, r12, r13
@@ -81,7 +82,7 @@ L2:
   ld r7, r15, 0, any, keep
 L21:
   ;@ line examples/c/say.h:16 in 3
-  ;@ var rest 6 r7 in 3
+  ;@ var rest 8 r7 in 3
   ldi r13, 0
   lts r0, r8, r13
   bz r0, L4
@@ -94,7 +95,7 @@ L4:
   ldi r1, 0
 L5:
   ;@ line examples/c/say.h:20 in 3
-  ;@ var length 5 r1 in 3
+  ;@ var length 7 r1 in 3
   divu r5, r7, r10
   mul r0, r5, r10
   sub r0, r7, r0
@@ -102,7 +103,7 @@ L5:
   ldi r13, 48
   or r4, r0, r13
   addi r6, r1, 1
-  ;@ var length 5 r6 in 3
+  ;@ var length 7 r6 in 3
   addi r1, r1, 8
   ldi r13, -8
   and r0, r1, r13
@@ -117,26 +118,26 @@ L5:
   shl r0, r0, r2
   xor r0, r1, r0
   st r3, r0, 0, any, keep
-  ;@ var rest 6 r5 in 3
+  ;@ var rest 8 r5 in 3
   ltu r0, r7, r10
   bnz r0, L6
 L17:
   mov r1, r6
-  ;@ var length 5 - in 3
+  ;@ var length 7 - in 3
   mov r7, r5
-  ;@ var rest 6 - in 3
+  ;@ var rest 8 - in 3
   br L5
 L6:
   ;@ line examples/c/say.h:21 in 3
-  ;@ var length 5 r6 in 3
+  ;@ var length 7 r6 in 3
   ldi r13, 32
   shl r0, r6, r13
-  ;@ var length 5 - in 3
+  ;@ var length 7 - in 3
   ldi r13, 32
   sar r7, r0, r13
 L7:
   ;@ line examples/c/say.h:22 in 3
-  ;@ var length 5 r7 in 3
+  ;@ var length 7 r7 in 3
   addi r7, r7, -1
   addi r1, r7, 8
   ldi r13, -8
@@ -154,7 +155,7 @@ L7:
   bnz r7, L7
 L8:
   ;@ line examples/c/keeper.c:22 in 1
-  ;@ var length 5 - in 3
+  ;@ var length 7 - in 3
   ld r0, r15, 160, any, keep
   shl r0, r0, r11
   sar r1, r0, r11
@@ -167,6 +168,7 @@ L8:
   br L12
 L9:
   ;@ line examples/c/say.h:8 in 4
+  ;@ var text 5 @keeper__str_1 in 4
   lip r12, P_0
   ld r12, r12, 0, any, keep
   ld r3, r12, 0, any, keep
@@ -191,6 +193,7 @@ L9:
   br keeper_mm_set_register
   ldi r1, 0
 L10:
+  ;@ var text 5 - in 4
   ld r0, r15, 0, any, keep
   lip r14, 2
   br keeper_mm_resume
@@ -202,6 +205,7 @@ L11:
   ;@ line examples/c/say.h:8 in 6
   ;@ var slot 3 s0 in 1
   ;@ var number 3 s0 in 3
+  ;@ var text 5 @keeper__str_2 in 6
   lip r12, P_0
   ld r12, r12, 0, any, keep
   ld r3, r12, 0, any, keep
@@ -216,6 +220,8 @@ L11:
   br L10
 L12:
   ;@ line examples/c/say.h:8 in 7
+  ;@ var text 5 - in 6
+  ;@ var text 5 @keeper__str_3 in 7
   lip r12, P_0
   ld r12, r12, 0, any, keep
   ld r3, r12, 0, any, keep
@@ -230,13 +236,13 @@ L12:
   ldi r13, 255
   and r5, r0, r13
   ;@ var number 3 r5 in 8
-  ;@ var length 5 0 in 8
-  ;@ var rest 6 r5 in 8
+  ;@ var length 7 0 in 8
+  ;@ var rest 8 r5 in 8
   ldi r1, 0
 L13:
   ;@ line examples/c/say.h:20 in 8
   ;@ var number 3 - in 8
-  ;@ var length 5 r1 in 8
+  ;@ var length 7 r1 in 8
   divu r6, r5, r10
   mul r0, r6, r10
   sub r0, r5, r0
@@ -244,7 +250,7 @@ L13:
   ldi r13, 48
   or r4, r0, r13
   addi r7, r1, 1
-  ;@ var length 5 r7 in 8
+  ;@ var length 7 r7 in 8
   addi r1, r1, 8
   ldi r13, -8
   and r0, r1, r13
@@ -260,26 +266,26 @@ L13:
   shl r0, r0, r2
   xor r0, r1, r0
   st r3, r0, 0, any, keep
-  ;@ var rest 6 r6 in 8
+  ;@ var rest 8 r6 in 8
   ltu r0, r5, r10
   bnz r0, L14
 L19:
   mov r1, r7
-  ;@ var length 5 - in 8
+  ;@ var length 7 - in 8
   mov r5, r6
-  ;@ var rest 6 - in 8
+  ;@ var rest 8 - in 8
   br L13
 L14:
   ;@ line examples/c/say.h:21 in 8
-  ;@ var length 5 r7 in 8
+  ;@ var length 7 r7 in 8
   ldi r13, 32
   shl r0, r7, r13
-  ;@ var length 5 - in 8
+  ;@ var length 7 - in 8
   ldi r13, 32
   sar r7, r0, r13
 L15:
   ;@ line examples/c/say.h:22 in 8
-  ;@ var length 5 r7 in 8
+  ;@ var length 7 r7 in 8
   addi r7, r7, -1
   addi r1, r7, 8
   ldi r13, -8
@@ -298,7 +304,8 @@ L15:
   bnz r7, L15
 L16:
   ;@ line examples/c/say.h:8 in 9
-  ;@ var length 5 - in 8
+  ;@ var length 7 - in 8
+  ;@ var text 5 @keeper__str_4 in 9
   lip r12, P_0
   ld r12, r12, 0, any, keep
   ld r3, r12, 0, any, keep
@@ -516,7 +523,8 @@ P_5: .ptr ro keeper__str_4+1
 ;@ type 2 struct 32 mm_event what:0:3 at:64:4 address:128:4 data:192:4
 ;@ type 3 base i8 long
 ;@ type 4 pointer 0
-;@ type 5 base i4 int
-;@ type 6 base u8 unsigned long
-;@ type 7 base i1 char
-;@ type 8 array 20 7
+;@ type 5 pointer 6
+;@ type 6 base i1 char
+;@ type 7 base i4 int
+;@ type 8 base u8 unsigned long
+;@ type 9 array 20 6

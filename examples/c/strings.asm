@@ -343,12 +343,14 @@ L34:
   lip r14, 2
   br fputs
   ;@ var n 5 0 in 8
+  ;@ var text 1 @_str_7 in 8
   ldi r8, 65
   ldi r7, 0
   ldi r9, 0
   ;@ line examples/c/strings.c:19 in 8
   br L12
 L10:
+  ;@ var text 1 - in 8
   ;@ var n 5 r5 in 8
   ldi r13, 63
   sar r1, r5, r13

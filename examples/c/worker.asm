@@ -11,7 +11,7 @@ worker_main:
   ;@ inlined 2 say at examples/c/worker.c:14
   ;@ inlined 3 say at examples/c/worker.c:17
   ;@ frame back 40 caller at 48
-  ;@ local digits 20 at 104 log 5 type 5 in 1
+  ;@ local digits 20 at 104 log 5 type 6 in 1
   ;@ local nothing 8 at 56 log 3 type 3
   ;@ local at 8 at 64 log 3 type 1
   ldi r13, 31
@@ -123,6 +123,7 @@ L5:
   ldi r13, 50
   st r0, r13, 0, any, keep
   ;@ line examples/c/say.h:8 in 3
+  ;@ var text 4 @worker__str_1 in 3
   lip r12, P_0
   ld r12, r12, 0, any, keep
   ld r3, r12, 0, any, keep
@@ -204,7 +205,7 @@ P_2: .ptr ro worker__str_1+4
   ;@ global stdout 8 at 0
   .ptr rw worker_files+8
 .segment worker_table 5
-  ;@ global table 32 at 0 type 6
+  ;@ global table 32 at 0 type 7
   .int 0xa
   .int 0x14
   .int 0x1e
@@ -222,6 +223,7 @@ P_2: .ptr ro worker__str_1+4
 ;@ type 1 base i8 long
 ;@ type 2 base i4 int
 ;@ type 3 base u8 unsigned long
-;@ type 4 base i1 char
-;@ type 5 array 20 4
-;@ type 6 array 4 1
+;@ type 4 pointer 5
+;@ type 5 base i1 char
+;@ type 6 array 20 5
+;@ type 7 array 4 1

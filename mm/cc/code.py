@@ -47,11 +47,12 @@ class Variable(NamedTuple):
 @dataclass(frozen=True)
 class Where:
     """Where a variable is: the sum of values and a number, or in memory there. Each value is in several registers, not
-    always in all of them."""
+    always in all of them. The address of a global may be a part too."""
 
     parts: tuple[tuple[int, ...], ...] = ()
     number: int = 0
     memory: bool = False
+    global_: str = ""
 
 
 class Op:

@@ -50,7 +50,7 @@ class Emission:
         old = f"at {frame.old}" if frame.aligned else f"by {frame.size}"
         found = [f"frame back {link} caller {old}"]
         for made in self.code.objects:
-            named, frame_of = self.naming(made.variable) if made.variable else (made.name, "")
+            named, frame_of = self.naming.variable(made.variable) if made.variable else (made.name, "")
             name, _, type_ = named.partition(" ")
             said = f" type {type_}{frame_of}" if type_ else ""
             found.append(f"local {name} {made.size} at {made.at + made.place} log {made.log}{said}")

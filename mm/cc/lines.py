@@ -3,7 +3,7 @@
 from __future__ import annotations
 
 import re
-from typing import Optional
+from typing import Callable, Optional
 
 from mm.cc.code import Variable
 from mm.cc.ctypes import Types
@@ -74,8 +74,8 @@ class FunctionNotes:
     """What is said of a function in comments: its lines, its variables, and the functions that were put into it, which
     have numbers from 1 on."""
 
-    def __init__(self, lines: Lines, types: Types) -> None:
-        self.lines, self.types = lines, types
+    def __init__(self, lines: Lines, types: Types, segment: Callable[[str], Optional[str]]) -> None:
+        self.lines, self.types, self.segment_of = lines, types, segment
         self.inner: dict[tuple[str, str], int] = {}
         self.inlined: list[str] = []
         self.said: dict[Variable, tuple[str, str]] = {}
@@ -95,6 +95,11 @@ class FunctionNotes:
         """`ov.c:7`, `ov.c:7 in 2`."""
         found = self.lines.of(location)
         return f"{found}{self.frame(location)}" if found and location else None
+
+    def segment(self, name: str) -> Optional[str]:
+        """`@table`, for a global of that segment."""
+        found = self.segment_of(name)
+        return f"@{found}" if found else None
 
     def variable(self, variable: Variable) -> tuple[str, str]:
         """The name and the type of a variable, and ` in 2`."""

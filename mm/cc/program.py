@@ -104,6 +104,11 @@ class ModuleNames(Names):
         found = self.program.want_global(self.module, name)
         return found.name, found.known
 
+    def known_segment(self, name: str) -> Optional[str]:
+        """The segment of a global that is part of the program already."""
+        found = self.program.segments.get((id(self.program.home(self.module, name)), name))
+        return found.name if found else None
+
     def resolve(self, value: Value) -> Value:
         while isinstance(value, Global):
             module = self.program.home(self.module, value.name) or self.module
@@ -299,11 +304,11 @@ class Program:
             if (name, block_name) in module.addressed:
                 self.blocks[id(module), name, block_name] = label
                 addressed.append(label)
-        notes = FunctionNotes(names.lines, self.types)
+        notes = FunctionNotes(names.lines, self.types, names.known_segment)
         for block in code.blocks:
             for op in block.body:
                 op.line = notes.place(op.line)
-        blocks = emit(code, self.fresh, notes.variable, addressed)
+        blocks = emit(code, self.fresh, notes, addressed)
         self._note(blocks, function, notes)
         self.texts.append(blocks)
 

@@ -3,14 +3,15 @@
 from __future__ import annotations
 
 import re
-from dataclasses import dataclass
-from typing import Callable, Iterable, Optional
+from dataclasses import dataclass, replace
+from typing import Iterable, Optional, Protocol
 
 from mm.cc.allocation import NEVER, Allocation
 from mm.cc.code import Code, CodeBlock, Fixed, Variable, Where
 from mm.cc.frame import Frame
-from mm.cc.ir import Global, Instruction, IntType, Local, Number, Value
+from mm.cc.ir import Expression, Global, Instruction, IntType, Local, Number, Value, Zero
 from mm.cc.lowering import Lowering, signed
+from mm.cc.pointers import Pointer
 from mm.cc.reading import Reader
 from mm.cc.untranslated import Untranslated
 
@@ -51,10 +52,10 @@ def event_of(made: Instruction, lowering: Lowering) -> Optional[Event]:
     if match[1] == "declare":
         return _declared(variable, found, lowering)
     if match[4] == "DW_OP_deref" and found is not None:
-        return Event(variable, Where(found.parts, found.number, True))
+        return Event(variable, replace(found, memory=True))
     further = FURTHER.fullmatch(match[4])
     if further and found is not None:
-        return Event(variable, Where(found.parts, found.number + int(further[1])))
+        return Event(variable, replace(found, number=found.number + int(further[1])))
     return Event(variable, None if match[4] else found)
 
 
@@ -62,17 +63,19 @@ def _declared(variable: Variable, found: Optional[Where], lowering: Lowering) ->
     """A variable that is in memory all the time."""
     if found is None:
         return None
-    fixed = lowering.code.fixed.get(found.parts[0][0]) if len(found.parts) == 1 else None
+    fixed = lowering.code.fixed.get(found.parts[0][0]) if len(found.parts) == 1 and not found.global_ else None
     if fixed is not None and fixed.kind == "local" and not found.number:
         lowering.code.objects[fixed.number].variable = variable
         return None
-    return Event(variable, Where(found.parts, found.number, True))
+    return Event(variable, replace(found, memory=True))
 
 
 def place_of(value: Value, lowering: Lowering) -> Optional[Where]:
     """Where a value is. No operation is made for it."""
     if isinstance(value, Number) and isinstance(value.type, IntType):
         return Where((), signed(value.number, value.type.bits))
+    if isinstance(value, (Global, Expression)):
+        return _constant_place(value, lowering)
     if not isinstance(value, Local):
         return None
     if value.name in lowering.numbers:
@@ -82,6 +85,19 @@ def place_of(value: Value, lowering: Lowering) -> Optional[Where]:
         return None
     parts = [(pointer.base,)] if pointer.offset is None else [(pointer.base,), (pointer.offset,)]
     return Where(tuple(parts), pointer.constant)
+
+
+def _constant_place(value: Value, lowering: Lowering) -> Optional[Where]:
+    """The place of a global, or in one."""
+    if isinstance(value, Global):
+        return None if lowering.names.is_function(value.name) else Where(global_=value.name)
+    if not isinstance(value, Expression) or value.op not in ("bitcast", "getelementptr"):
+        return None
+    start = _constant_place(value.parts[0], lowering)
+    if start is None or not all(isinstance(index, (Number, Zero)) for index in value.parts[1:]):
+        return None
+    by = lowering.moved(Pointer(0), value.source, value.parts[1:]).constant if value.op == "getelementptr" else 0
+    return Where(number=start.number + by, global_=start.global_)
 
 
 def states(code: Code) -> dict[str, State]:
@@ -126,8 +142,14 @@ def _after(block: CodeBlock, state: State) -> State:
     return state
 
 
-# What is said of a variable: its name and its type, and of which function it is if that was put into this one.
-Naming = Callable[[Variable], tuple[str, str]]
+class Naming(Protocol):
+    """How variables and globals are called in the source."""
+
+    def variable(self, variable: Variable) -> tuple[str, str]:
+        """The name and the type of a variable, and of which function it is if that was put into this one."""
+
+    def segment(self, name: str) -> Optional[str]:
+        """The segment of a global; none where the program has none for it."""
 
 
 class Places:
@@ -174,7 +196,7 @@ class Places:
                 continue
             text, self.until[variable] = self.text(where, place)
             if text is not None:
-                name, frame = self.naming(variable)
+                name, frame = self.naming.variable(variable)
                 self.said[variable] = f"{name} {text}{frame}"
         self.next = min(self.until.values(), default=NEVER)
         self.now = tuple(self.said.values())
@@ -183,6 +205,8 @@ class Places:
         """`r7`, `s24+8`, `@table+16`, `f160:5`; with `*` where that is the address of the variable. And until where it
         is so."""
         found = [self.term(registers, place) for registers in where.parts]
+        if where.global_:
+            found.append((self.naming.segment(where.global_), NEVER))
         until = min((end for _, end in found), default=NEVER)
         terms = [term for term, _ in found if term is not None]
         if len(terms) < len(found):
