@@ -88,6 +88,9 @@ class Lowering:
         self.block = CodeBlock(self.code.label)
         self.labels = {block.name: names.fresh() for block in function.blocks}
         self.variadic_words: Optional[int] = None
+        # Objects for arguments that are handed over by value, by size, alignment and place in a call.
+        self.copies: dict[tuple[int, int, int], Pointer] = {}
+        self.copied = 0
         self.made = {made.name: made for block in function.blocks for made in block.body if made.name}
         self.users: dict[str, list[Instruction]] = {}
         for block in function.blocks:
