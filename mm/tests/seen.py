@@ -65,9 +65,9 @@ class Seen:
         if shown != wanted:
             yield f"queues: {shown} and not {wanted}"
 
-    def turn_differences(self, cycle: int, turn: Optional[Turn], low: bool) -> Iterator[str]:
-        """What is said otherwise of a turn than the trace has it: who took it, where, and its line; `low` where lines of
-        C are not wanted."""
+    def turn_differences(self, cycle: int, turn: Optional[Turn], in_c: bool) -> Iterator[str]:
+        """What is said otherwise of a turn than the trace has it: who took it, where, and its line; `in_c` where lines
+        of C are wanted."""
         if turn is None:
             return
         wanted = [f"Cycle {cycle}: slot {turn.slot}, its turn {turn.number}"]
@@ -75,6 +75,7 @@ class Seen:
             wanted = [f"Cycle {cycle}: the port of slot {turn.slot}", f"a load arrives in r{turn.delivered}"]
         if turn.fetch is not None:
             wanted.append(f"at {self.speller.symbols.show(turn.fetch)}")
+            wanted += self._of_c(turn.fetch)
         if turn.fault:
             wanted.append(f"fault {turn.fault} {Cause.of_number(turn.fault).title}")
         for words in wanted:
@@ -82,17 +83,22 @@ class Seen:
                 yield f"the turn does not say {words!r} but {self.shown['turn'][:200]!r}"
         if f"Cycle {cycle}, slot {turn.slot}" not in self.shown["said"]:
             yield f"a screen reader is told {self.shown['said']!r}"
-        yield from self._line(turn, low)
+        yield from self._line(turn, in_c)
 
-    def _line(self, turn: Turn, low: bool) -> Iterator[str]:
+    def _of_c(self, address: int) -> Iterator[str]:
+        """The line of C at an address, and its function."""
+        line, function = self.speller.symbols.c_line(address), self.speller.symbols.c_function(address)
+        if line and function:
+            yield " ".join(f"{line}, in {function.inner_name(line.inner)}: {line.text}".split())
+
+    def _line(self, turn: Turn, in_c: bool) -> Iterator[str]:
         """The line that is marked in the source."""
         symbols, address = self.speller.symbols, turn.fetch
         origin = symbols.origin(address) if address is not None else None
         if address is None or origin is None:
             return
-        made = None if low else symbols.c_line(address)
-        text = made.text if made and made.text else origin.text
-        number = made.line if made and made.text else origin.line
+        made = symbols.c_line(address) if in_c else None
+        text, number = (made.text, made.line) if made and made.file else (origin.text, origin.line)
         shown = "".join((self.shown["line"] or "").split())
         # Between the number and the text stand the slots that are there.
         if not (shown.startswith(str(number)) and shown.endswith("".join(text.split()))):

@@ -81,8 +81,8 @@ def of_line(data: Any) -> None:
 
 def of_c(data: Any) -> None:
     """The words come from other lines of C."""
-    for mark in data["names"]["sources"][0]["from"]:
-        mark[2:] = [line + 1 for line in mark[2:]]
+    for line in data["names"]["c"]["lines"]:
+        line[1] += 1
 
 
 SPOILS: tuple[tuple[str, Spoil], ...] = (
@@ -121,7 +121,10 @@ QUEUES: tuple[tuple[str, Spoil], ...] = (
 )
 LINES_OF_C: tuple[tuple[str, Spoil], ...] = (
     ("other lines of C", of_data(of_c)),
-    ("lines of C alone", of_text("!source.low && madeOf(origin)", "madeOf(origin)")),
+    ("lines of C alone", of_text("source.inC ? cPlace(address) : null", "cPlace(address)")),
+    ("no lines of C", of_text("source.inC ? cPlace(address) : null", "null")),
+    ("a file that is chosen and not shown", of_text("render();\n  openSource(at);", "render();")),
+    ("a function of C", of_text("in ${name}${text", "in ${name}_${text")),
 )
 SPOILED = {"counter": SPOILS, "server": QUEUES, "overflow": LINES_OF_C}
 

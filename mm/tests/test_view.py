@@ -238,9 +238,13 @@ class Command(unittest.TestCase):
         source, *files = data["names"]["sources"]
         self.assertEqual([file["path"] for file in files], ["examples/c/overflow.c", "examples/c/say.h"])
         self.assertEqual(files[0]["lines"], read("examples", "c", "overflow.c").splitlines())
-        made = [mark for mark in source["from"] if len(mark) == 3]
-        self.assertIn("name[i] = from[i];", {files[place - 1]["lines"][line - 1].strip() for _, place, line in made})
+        lines = data["names"]["c"]["lines"]
+        made = {(files[place - 1]["lines"][line - 1].strip(), name) for place, line, name in lines}
+        self.assertIn(("name[i] = from[i];", "read_name"), made)
         self.assertNotIn("c", source)
+
+    def test_a_program_without_c_has_no_tables_of_it(self):
+        self.assertIsNone(data_of(mm("view", "examples/counter.asm").out)["names"]["c"])
 
 
 if __name__ == "__main__":
