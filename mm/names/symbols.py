@@ -168,6 +168,11 @@ class Symbols:
         """The global that a segment is."""
         return region.source.notes.globals.get(region.name) if region.source and region.source.notes else None
 
+    def c_region(self, name: str, notes: CNotes) -> Optional[Region]:
+        """The segment of a global by its name in a source; another source may have one of the same name."""
+        named = (region for region in self.regions if region.name == name and region.source)
+        return next((region for region in named if region.source and region.source.notes is notes), None)
+
     def c_paths(self) -> list[str]:
         """The files of C that code comes from."""
         notes = {id(region.source.notes): region.source.notes for region in self.regions

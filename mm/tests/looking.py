@@ -167,8 +167,9 @@ class Page:
         if (seen.shown["place"], seen.shown["now"]) != (place, place):
             self.fail(f"it is at {seen.shown['place']} and not at {place}")
         turn = self.turns[place - 1] if 0 < place <= len(self.turns) else None
-        found = [*seen.differences(read_report(answer.text.splitlines())), *seen.turn_differences(cycle, turn, in_c)]
-        for difference in found:
+        report = read_report(answer.text.splitlines())
+        found = [*seen.differences(report), *seen.turn_differences(cycle, turn, in_c)]
+        for difference in [*found, *seen.variable_differences(report, turn)]:
             self.fail(f"cycle {cycle}: {difference}")
 
     def sources(self) -> None:

@@ -85,6 +85,13 @@ def of_c(data: Any) -> None:
         line[1] += 1
 
 
+def of_register(data: Any) -> None:
+    """Variables of C are in other registers."""
+    for state in data["names"]["c"]["states"]:
+        for variable in state:
+            variable[1] = re.sub(r"r(\d+)", lambda found: f"r{(int(found[1]) + 1) % 13}", variable[1])
+
+
 SPOILS: tuple[tuple[str, Spoil], ...] = (
     ("one register", of_change(RegisterSet, 3, other_word)),
     ("one instruction pointer", of_change(IpSet, 2, lambda word: word[:-2] + f"{int(word[-2:], 16) ^ 8:02x}")),
@@ -124,6 +131,8 @@ LINES_OF_C: tuple[tuple[str, Spoil], ...] = (
     ("lines of C alone", of_text("source.inC ? cPlace(address) : null", "cPlace(address)")),
     ("no lines of C", of_text("source.inC ? cPlace(address) : null", "null")),
     ("a file that is chosen and not shown", of_text("render();\n  openSource(at);", "render();")),
+    ("variables of C in other registers", of_data(of_register)),
+    ("the numbers of variables of C", of_text('how === "int" ? BigInt.asIntN(long, cut) : cut', "cut + 1n")),
     ("a function of C", of_text("in ${name}${text", "in ${name}_${text")),
 )
 SPOILED = {"counter": SPOILS, "server": QUEUES, "overflow": LINES_OF_C}

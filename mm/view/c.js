@@ -17,15 +17,19 @@ function cText({ source, line, name }) {
   return `${path}:${line}, in ${name}${text ? `: ${text}` : ""}`;
 }
 
-// A term of a place: a register, the word at a distance from the stack pointer, the object that begins there, or a
-// number.
+const cWord = (kind, bits) => kind + BigInt.asUintN(64, bits).toString(16).padStart(16, "0");
+
+// A term of a place: a register, the word at a distance from the stack pointer, the object that begins there, the word
+// of a pointer to a global, or a number; null where it is nowhere.
 function cTerm(term, slot, machine) {
+  if (term === "-") return null;
   if (term[0] === "r") return slot.registers[Number(term.slice(1))];
+  if (term[0] === "p") return term;
+  if (term[0] !== "s" && term[0] !== "f") return cWord("i", BigInt(term));
   const stack = pointerOf(slot.registers[15]);
-  if (term[0] !== "s" && term[0] !== "f") return `i${BigInt.asUintN(64, BigInt(term)).toString(16).padStart(16, "0")}`;
   if (!stack) return null;
   const [by, log] = term.slice(1).split(":"), at = stack.address + BigInt(by);
-  if (term[0] === "f") return `p${(2n << 60n | BigInt(log) << 54n | at).toString(16).padStart(16, "0")}`;
+  if (term[0] === "f") return cWord("p", 2n << 60n | BigInt(log) << 54n | at);
   const cell = machine.cell(Number(at));
   return cell && cell[0];
 }
@@ -36,7 +40,7 @@ function cSum(words) {
   const [first, ...others] = words;
   const by = others.reduce((sum, word) => sum + BigInt.asIntN(64, bitsOf(word)), 0n), pointer = pointerOf(first);
   const stays = pointer && pointer.address + by >= pointer.base && pointer.address + by < pointer.end;
-  return (stays ? "p" : "i") + BigInt.asUintN(64, bitsOf(first) + by).toString(16).padStart(16, "0");
+  return cWord(stays ? "p" : "i", bitsOf(first) + by);
 }
 
 // The bytes from an address on as a number; null where no page is.
@@ -50,10 +54,24 @@ function cBytes(machine, address, size) {
   return found;
 }
 
+// The name of a value of an enumeration, whose numbers have a sign if one of them is below 0.
+function cValueName(bits, long, names) {
+  const number = Object.keys(names).some((key) => key[0] === "-") ? BigInt.asIntN(long, bits) : bits;
+  return names[number] || `${number}`;
+}
+
 function cNumber(bits, [, , size, how, bit, width]) {
-  const long = BigInt(width || 8 * Math.min(size, 8)), cut = BigInt.asUintN(Number(long), bits >> BigInt(bit));
-  const number = how === "int" ? BigInt.asIntN(Number(long), cut) : cut;
-  return integerText(`i${BigInt.asUintN(64, number).toString(16).padStart(16, "0")}`);
+  const long = width || 8 * Math.min(size, 8), cut = BigInt.asUintN(long, bits >> BigInt(bit));
+  if (how === "other") return `the bits ${hex(cut)}`;
+  if (typeof how === "object") return cValueName(cut, long, how);
+  if (how === "uint" && cut >= 65536n) return `${cut} ${hex(cut)}`;
+  return integerText(cWord("i", how === "int" ? BigInt.asIntN(long, cut) : cut));
+}
+
+// A word as a leaf of its type.
+function cWordText(word, leaf) {
+  if (tagged(word)) return wordText(word);
+  return leaf[3] === "pointer" ? `no pointer (${integerText(word)})` : cNumber(bitsOf(word), leaf);
 }
 
 function cTextOf(machine, address, size) {
@@ -67,12 +85,10 @@ function cTextOf(machine, address, size) {
 function cLeaf(machine, start, leaf) {
   const [, at, size, how] = leaf, address = start + at;
   if (how === "text") return cTextOf(machine, address, size);
-  if (size === 8 && address % 8 === 0) {
-    const cell = machine.cell(address);
-    if (!cell || how === "pointer" || tagged(cell[0])) return cell ? wordText(cell[0]) : "on no page";
-  }
+  const cell = size === 8 && address % 8 === 0 ? machine.cell(address) : null;
+  if (cell) return cWordText(cell[0], leaf);
   const bits = cBytes(machine, address, size);
-  return bits === null ? "on no page" : cNumber(bits, leaf);
+  return bits === null ? "on no page" : cWordText(cWord("i", bits), leaf);
 }
 
 // The rows of a variable: its parts and what they hold.
@@ -84,8 +100,8 @@ function cRows([name, where, type], slot, machine) {
     const pointer = pointerOf(word), start = Number(pointer ? pointer.address : bitsOf(word));
     return leaves.map((leaf) => [name + leaf[0], cLeaf(machine, start, leaf)]);
   }
-  const [leaf] = leaves;
-  return [[name, tagged(word) || leaf[3] === "pointer" ? wordText(word) : cNumber(bitsOf(word), leaf)]];
+  const part = (at) => (at ? cWord("i", bitsOf(word) >> BigInt(8 * at)) : word);
+  return leaves.filter(([, at]) => at < 8).map((leaf) => [name + leaf[0], cWordText(part(leaf[1]), leaf)]);
 }
 
 // The variables of the function in whose line a slot stands, as a table; null where there are none.

@@ -2,17 +2,20 @@
 
 `places` has an entry `[address, line, state]` wherever one of the two changes, with -1 for none: the places of an entry
 of `lines`, `[source, line, function]`, and of `states`, a list of variables `[name, where, type]`. A type is a list of
-leaves `[name, byte, size, how, bit, bits]`; `how` is int, uint, pointer, text, other."""
+leaves `[name, byte, size, how, bit, bits]`; `how` is int, uint, pointer, text, other, or the names of the values of an
+enumeration."""
 
 from __future__ import annotations
 
 from typing import Any, Iterator, Optional
 
+from mm.machine.words import Permission, Pointer, Word
 from mm.names.clines import CFunction, CLine, CNotes
-from mm.names.ctypes import CTypes
+from mm.names.ctypes import CType, CTypes
 from mm.names.symbols import Region, Symbols
 
 MOST_LEAVES = 24
+NOWHERE = "-"
 Json = Any
 Leaf = list[Json]
 
@@ -80,15 +83,16 @@ class CData:
                 yield [variable.name, self._where(variable.where, notes), self._type(variable.type, notes.types)]
 
     def _where(self, where: str, notes: CNotes) -> str:
-        """A place, with the addresses of globals as numbers."""
+        """A place, with the pointers of globals as words."""
         star, terms = ("*", where[1:]) if where.startswith("*") else ("", where)
-        found = [str(self._global(term[1:], notes)) if term.startswith("@") else term for term in terms.split("+")]
+        found = [self._global(term[1:], notes) if term.startswith("@") else term for term in terms.split("+")]
         return star + "+".join(found)
 
-    def _global(self, name: str, notes: CNotes) -> int:
-        region = next((region for region in self.symbols.regions if region.name == name), None)
-        made = notes.globals.get(name)
-        return (region.base if region else 0) + (made.at if made else 0)
+    def _global(self, name: str, notes: CNotes) -> str:
+        region, made = self.symbols.c_region(name, notes), notes.globals.get(name)
+        if region is None:
+            return NOWHERE
+        return str(Word(Pointer(Permission.RW, region.log, region.base + (made.at if made else 0)).bits, True))
 
     def _type(self, number: int, types: CTypes) -> int:
         found = leaves(number, types)[:MOST_LEAVES]
@@ -106,8 +110,8 @@ def leaves(number: int, types: CTypes, name: str = "", at: int = 0) -> list[Leaf
             if part.bits is None:
                 parts += leaves(part.type, types, f"{name}.{part.name}", at + part.at // 8)
             else:
-                size = types.size(part.type)
-                parts.append([f"{name}.{part.name}", at + part.at // 8, size, "int", part.at % 8, part.bits])
+                size, how = types.size(part.type), how_of(types.get(part.type))
+                parts.append([f"{name}.{part.name}", at + part.at // 8, size, how, part.at % 8, part.bits])
         return parts
     if found.kind == "array":
         inner, size = types.get(found.inner), types.size(found.inner)
@@ -115,8 +119,16 @@ def leaves(number: int, types: CTypes, name: str = "", at: int = 0) -> list[Leaf
             return [[name, at, found.count, "text", 0, 0]]
         return [leaf for place in range(min(found.count, MOST_LEAVES))
                 for leaf in leaves(found.inner, types, f"{name}[{place}]", at + place * size)]
-    how = "pointer" if found.kind == "pointer" else "other" if found.floating else "int" if found.signed else "uint"
-    return [[name, at, found.size, how, 0, 0]]
+    return [[name, at, found.size, how_of(found), 0, 0]]
+
+
+def how_of(type_: Optional[CType]) -> Json:
+    """How a number or a pointer is written."""
+    if type_ is None:
+        return "int"
+    if type_.kind == "enum":
+        return {str(number): name for number, name in type_.values.items()}
+    return "pointer" if type_.kind == "pointer" else "other" if type_.floating else "int" if type_.signed else "uint"
 
 
 def c_form(symbols: Symbols, sources: list[Json]) -> Optional[Json]:

@@ -116,8 +116,7 @@ class CValues:
             at, _, log = rest.partition(":")
             return Word(Pointer(Permission.RW, int(log), frame.stack + int(at)).bits, True)
         if kind == "@":
-            region = next((region for region in self.speller.symbols.regions if region.name == rest), None)
-            made = notes.globals.get(rest)
+            region, made = self.speller.symbols.c_region(rest, notes), notes.globals.get(rest)
             at_global = made.at if made else 0
             return Word(Pointer(Permission.RW, region.log, region.base + at_global).bits, True) if region else None
         return Word(int(text) & WORD_MASK)
