@@ -12,6 +12,7 @@ from mm.tests.support import mm, needs_log, needs_program, read
 from mm.tests.test_cc import source
 from mm.tests.test_debugger import answers
 from mm.tests.test_view import data_of
+from mm.view.cdata import leaves
 
 STORED = sorted(name for name in os.listdir(os.path.join(CHECKOUT, "examples", "c")) if name.endswith(".asm"))
 TYPES = """type 1 base i4 int
@@ -59,6 +60,16 @@ class Notes(unittest.TestCase):
                           "int[2][3]", "struct node **"])
         self.assertEqual([types.size(number) for number in range(9)], [0, 4, 12, 24, 8, 4, 8, 24, 8])
         self.assertEqual(types.get(3).fields[2].bits, 3)
+
+    def test_leaves_of_types(self):
+        types = CTypes()
+        for line in [*TYPES, "type 9 struct 8 flags kind:0:5 low:32:6:3 high:35:1:2", "type 10 struct 0 nothing"]:
+            types.add(line.split()[1:])
+        names = {"0": "red", "1": "blue"}
+        self.assertEqual(leaves(9, types), [[".kind", 0, 4, names, 0, 0], [".low", 4, 8, "uint", 0, 3],
+                                            [".high", 4, 4, "int", 3, 2]])
+        self.assertEqual(leaves(7, types)[-1], ["[1][2]", 20, 4, "int", 0, 0])
+        self.assertEqual(leaves(10, types), [])
 
     def test_both_ways_to_say_where_a_variable_is(self):
         made = [source(MODULE.replace("@SAID@", said)) for said in SAID]

@@ -243,9 +243,6 @@ class Command(unittest.TestCase):
         self.assertIn(("name[i] = from[i];", "read_name"), made)
         self.assertNotIn("c", source)
 
-    def test_a_program_without_c_has_no_tables_of_it(self):
-        self.assertIsNone(data_of(mm("view", "examples/counter.asm").out)["names"]["c"])
-
 
 if __name__ == "__main__":
     unittest.main()
