@@ -174,6 +174,8 @@ class Translator(Ends):
             from mm.cc.ir import POINTER, Global
 
             return self.pointer(Global(POINTER, base[1:])).base
+        if base in self.bases.constants:
+            return self.pointer(self.bases.constants[base]).base
         return self.pointers[base].base if base in self.pointers else self.numbers[base][RAW]
 
     def instruction(self, made: Instruction) -> None:

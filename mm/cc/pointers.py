@@ -72,6 +72,8 @@ class Bases:
                     if isinstance(made.operands[0].type, PointerType):
                         self.several[made.operands[1].name].append(made.operands[0])
         self.promoted = promoted
+        # Constants that are bases, as the address of a label is.
+        self.constants: dict[str, Value] = {}
         self.base = self._find_bases()
         self.moved = self._find_moved()
 
@@ -120,7 +122,9 @@ class Bases:
                 return "null"
             if isinstance(value, Undefined):
                 return None
-            return "?" + str(id(value))
+            key = f"?{id(value)}"
+            self.constants[key] = value
+            return key
 
     def _find_moved(self) -> set[str]:
         """The values that come from several places and may stand elsewhere than at their base."""

@@ -108,6 +108,26 @@ define i32 @main() {
   %e = sub i64 %d, 1
   ret i64 %e
 }"""),
+    (0, """@none = global [0 x i32] zeroinitializer, align 4
+@kept = global ptr @none
+define i32 @main() {
+  %p = load ptr, ptr @kept
+  %q = icmp eq ptr %p, null
+  %n = zext i1 %q to i32
+  ret i32 %n
+}"""),
+    (5, """@zero = global i64 0
+define i32 @main() {
+entry:
+  %z = load i64, ptr @zero
+  %p = getelementptr i8, ptr blockaddress(@main, %end), i64 %z
+  br label %jump
+jump:
+  %to = phi ptr [ %p, %entry ]
+  indirectbr ptr %to, [label %end]
+end:
+  ret i32 5
+}"""),
 )
 
 
