@@ -12,7 +12,7 @@ from mm.names.numbers import counted
 from mm.outputs.refusal import Refusal
 from mm.source import wants
 from mm.source.lines import Line, read_line
-from mm.source.tokens import Token, TokenKind, tokens_of
+from mm.source.tokens import Token, TokenKind, readable, tokens_of
 from mm.source.text import SourceSegment, SourceText, read_source
 from mm.source.wants import DIRECTIVES, OPERANDS
 
@@ -71,7 +71,9 @@ class Explained:
 
 
 def _bad_byte(at: Explained) -> str:
-    return f"`{at.said[at.column - 1:at.column].encode('latin-1').decode('utf-8', 'replace')}` begins nothing that a source can have"
+    letter = readable(at.said[at.column - 1 :])[:1]
+    shown = f"`{letter}`" if letter.isprintable() and not letter.isspace() else f"U+{ord(letter):04X}"
+    return f"{shown} begins nothing that a source can have"
 
 
 def _syntax(at: Explained) -> str:
@@ -161,6 +163,8 @@ def _hint_for_label(at: Explained) -> Optional[str]:
     name = at.token.text if at.token else ""
     segment, label = at.source.segment(name), at.source.labels.get(name)
     if segment or label:
+        if at.head == "lip":
+            return f"`lip` makes pointers into its own segment alone: a pointer to `{name}` comes from `.reg 5 ptr rw {name}` after the `.thread`, or from a `.ptr` in memory"
         what = f"it is in segment `{at.source.segments[label.segment].name}`" if label else "it is a segment"
         return f"{what}: go to another segment by `jmp` or `jal` through a pointer (`.reg 5 ptr xu {name}`, or `eu` for a gate)"
     near = nearest(name, list(at.source.labels))

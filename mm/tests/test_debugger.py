@@ -45,6 +45,19 @@ class Sessions(unittest.TestCase):
         self.assertIn("break door at door  (met 2 times)", said[6])
         self.assertIn("cycle 36, the end of the run", said[8])
 
+    def test_other_words(self):
+        said = self.session(
+            ["watch", "brk door", "set r1 5", "info breaks", "info regs", "b door slot 1", "foo"],
+            "examples/counter.asm",
+        )
+        self.assertIn("say which word: `watch count`", said[0])
+        self.assertIn("do you mean `break`?", said[1])
+        self.assertIn("never changed", said[2])
+        self.assertIn("0  fault", said[3])
+        self.assertIn("r1   rw 2^3 box", said[4])
+        self.assertIn("break at door of slot 1, ", said[5])
+        self.assertIn("`help` lists them", said[6])
+
     def test_places(self):
         said = self.session(
             [
