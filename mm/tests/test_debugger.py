@@ -47,7 +47,7 @@ class Sessions(unittest.TestCase):
 
     def test_other_words(self):
         said = self.session(
-            ["watch", "brk door", "set r1 5", "info breaks", "info regs", "b door slot 1", "foo"],
+            ["watch", "brk door", "set r1 5", "info breaks", "info regs", "b door slot 1", "foo", "p &box", "p r2"],
             "examples/counter.asm",
         )
         self.assertIn("say which word: `watch count`", said[0])
@@ -57,6 +57,7 @@ class Sessions(unittest.TestCase):
         self.assertIn("r1   rw 2^3 box", said[4])
         self.assertIn("break at door of slot 1, ", said[5])
         self.assertIn("`help` lists them", said[6])
+        self.assertEqual(said[7:], ["&box = 1048832 0x100100", "r2 = 1   (0x1)"])
 
     def test_places(self):
         said = self.session(

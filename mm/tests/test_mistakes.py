@@ -164,6 +164,7 @@ class Files(unittest.TestCase):
             "slot 1 runs by a pointer into the range", self.refused(2, "sweep", "examples/letterbox.asm", "reader")
         )
         self.assertIn("do you mean `box`?", self.refused(1, "holders", "examples/letterbox.asm", "bx"))
+        self.assertIn("one word, the last: `box,3`", self.refused(1, "holders", "examples/letterbox.asm", "box", "3"))
         self.assertIn("begins at a multiple", self.refused(1, "holders", "examples/letterbox.asm", "box,12"))
         self.assertIn("no checkpoint", self.refused(2, "continue", "examples/hello.asm", "examples/hello.asm"))
 
@@ -171,6 +172,7 @@ class Files(unittest.TestCase):
         with folder() as room:
             links = write(room, "my.links", "0.sent>1.nothing\n")
             events = write(room, "my.events", "0:0*7 +0\n")
+            self.assertIn("no.links: error", self.refused(3, "net", "no.links", "no.events", "no.asm"))
             self.assertIn("nothing", self.refused(1, "net", links, events, "examples/ask.asm", "examples/answer.asm"))
             write(room, "my.links", "0.sent>1.got\n")
             write(room, "my.events", "0:0*7 go\n")
