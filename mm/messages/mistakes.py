@@ -3,12 +3,12 @@
 from __future__ import annotations
 
 import re
-from dataclasses import dataclass
 from typing import Callable, Optional
 
 from mm.machine.isa import OPERATIONS
-from mm.machine.words import BY_SHORT
+from mm.messages.directives import DIRECTIVE_MISTAKES
 from mm.messages.others import DIRECTIVE_HINTS, OPERATION_HINTS
+from mm.messages.scene import Scene
 from mm.source.tokens import BEYOND, value_of_digits
 from mm.source.wants import DIRECTIVES, OPERANDS
 
@@ -18,22 +18,6 @@ NAME = r"[A-Za-z_][A-Za-z0-9_]*"
 MARK = "\xef\xbb\xbf"
 
 
-@dataclass(frozen=True)
-class Scene:
-    """A fault of a line: its number, the column, the text of the line without its comment, its directive or operation, and the token that was found."""
-
-    fault: int
-    column: int
-    code: str
-    head: str
-    found: str
-
-    @property
-    def rest(self) -> str:
-        """What is written after the directive or operation."""
-        return self.code.split(self.head, 1)[1].strip() if self.head and self.head in self.code else self.code.strip()
-
-
 def _other(scene: Scene) -> Optional[str]:
     """A word of another assembler, or one that is written in capital letters."""
     if scene.fault != 3 or scene.found != scene.head:
@@ -41,6 +25,8 @@ def _other(scene: Scene) -> Optional[str]:
     low = scene.head.lower()
     if low != scene.head and (low in OPERANDS or low.startswith(".")):
         return f"operations and directives are written in small letters: `{low}`"
+    if f".{low}" in DIRECTIVES:
+        return f"a directive begins with a dot: `.{low}`"
     if re.match(r"(=|:=|equ\b|EQU\b|set\b)", scene.rest):
         return DIRECTIVE_HINTS[".equ"]
     return OPERATION_HINTS.get(low) or DIRECTIVE_HINTS.get(low)
@@ -93,7 +79,9 @@ def _offset_in_brackets(scene: Scene) -> Optional[str]:
 def _register_name(scene: Scene) -> Optional[str]:
     if re.fullmatch(r"R\d+", scene.found):
         return f"registers are written in small letters: `{scene.found.lower()}`"
-    if re.fullmatch(r"r\d+", scene.found) and scene.fault == 2 and int(scene.found[1:]) > 15:
+    if re.fullmatch(r"r0+\d+", scene.found) and scene.fault == 2:
+        return f"registers are written without more digits: `r{int(scene.found[1:])}`"
+    if re.fullmatch(r"r\d*", scene.found) and scene.fault == 2 and int(scene.found[1:] or 16) > 15:
         return "there are sixteen registers, r0 to r15"
     if re.fullmatch(r"(x|a|t|s|R|e|w)\d+|sp|ra|fp|lr|pc|zero|[er][abcds][xpi]", scene.found) and scene.fault == 2:
         return "registers have no other names than r0 to r15, and r0 is one like all others"
@@ -120,6 +108,8 @@ def _marks(scene: Scene) -> Optional[str]:
         return "a comment begins with `;`"
     if re.match(r"-\s*[A-Za-z_]|-\s+\d", rest):
         return "a minus sign stands right before the digits of a number"
+    if re.match(r"\.\d", rest):
+        return "numbers have no fractions"
     if ord(rest[0]) > 127:
         if scene.code[scene.column - 1 :].startswith(MARK):
             return "the file begins with a byte order mark: save it as plain UTF-8, without one"
@@ -142,6 +132,10 @@ def _conditions(scene: Scene) -> Optional[str]:
     offset = parts[2] if len(parts) > 2 and re.fullmatch(r"-?\d+|0x[0-9a-fA-F]+", parts[2]) else "0"
     if len(parts) < 5:
         return f"write `{scene.head} {', '.join(registers)}, {offset}, any, keep`: the offset, then what the synchronisation bit must be, then what it becomes"
+    if scene.fault == 2 and _is_register(scene.found) and scene.found == parts[2]:
+        return f"the offset is a number: write `lea r4, {parts[1 if scene.head == 'ld' else 0]}, {parts[2]}` before it, and use r4 as the pointer"
+    if scene.fault == 3 and scene.found != scene.found.lower():
+        return f"the conditions are written in small letters: `{scene.found.lower()}`"
     if "keep" in parts[3] or "any" in parts[4]:
         return "first comes what the bit must be (any, full, empty), then what it becomes (keep, full, empty)"
     return None
@@ -261,61 +255,6 @@ def _label(scene: Scene) -> Optional[str]:
     return None
 
 
-def _segment(scene: Scene) -> Optional[str]:
-    if scene.head != ".segment":
-        return None
-    if scene.fault == 2 and not scene.found:
-        return "the length is wanted too, as a power of two of bytes: `.segment main 6` has 2^6 = 64 bytes, room for 8 words"
-    if scene.fault == 4 and re.fullmatch(r"\d+|0x[0-9A-Fa-f]+", scene.found):
-        length = value_of_digits(scene.found)
-        if 8 < length <= 1 << 20:
-            return f"the number is the logarithm of the length: for {length} bytes write {max(3, (length - 1).bit_length())}"
-    return None
-
-
-def _thread(scene: Scene) -> Optional[str]:
-    if scene.head != ".thread" or scene.fault not in (2, 3, 4):
-        return None
-    words = scene.rest.split()
-    if len(words) > 2 and words[2] in ("xu", "xp", "ro", "rw", "eu", "ep"):
-        return "after slot and group comes the handler, `none` where there is none: `.thread 0 0 none xu main`"
-    if scene.fault == 3:
-        return "a thread runs code: `xu` as a user, `xp` privileged"
-    if scene.fault == 4 and len(words) > 2 and words[0] == words[2]:
-        return "a thread cannot handle its own faults: name another slot, or `none`"
-    return "write `.thread SLOT GROUP HANDLER PERMISSION NAME`, as `.thread 0 0 none xu main`"
-
-
-def _reg(scene: Scene) -> Optional[str]:
-    if scene.head != ".reg" or scene.fault not in (2, 3):
-        return None
-    words = scene.rest.replace(",", " ").split()
-    if words and re.fullmatch(r"[rR]\d+", words[0]):
-        return f"the register is a number here: `.reg {words[0][1:]} {' '.join(words[1:])}`"
-    if len(words) == 2 and re.fullmatch(r"-?\d+|0x\w+", words[1]):
-        return f"say that it is a number: `.reg {words[0]} int {words[1]}`"
-    if len(words) == 2:
-        return f"say that it is a pointer and what it may: `.reg {words[0]} ptr rw {words[1]}`"
-    if len(words) == 3 and words[1] == "ptr":
-        return f"the permission is missing: `.reg {words[0]} ptr rw {words[2]}`"
-    return None
-
-
-def _pointer(scene: Scene) -> Optional[str]:
-    words = scene.rest.split()
-    if scene.head == ".ptr" and scene.fault in (2, 3) and len(words) == 1:
-        return f"say what the pointer may: `.ptr rw {words[0]}`, or ro, xu, eu .."
-    if scene.head == ".int" and scene.fault == 2 and re.fullmatch(r"[A-Za-z_]\w*", scene.found):
-        return f"`.int` holds a number; a pointer to `{scene.found}` is `.ptr rw {scene.found}`"
-    if scene.head == ".int" and scene.fault == 4:
-        return "a word has 64 bits: at most 16 digits after `0x`"
-    if scene.head in (".ptr", ".reg") and len(words) > 1 and words[-1] in BY_SHORT and scene.found == words[-2]:
-        return f"the permission comes first: `{scene.head} {' '.join([*words[:-2], words[-1], words[-2]])}`"
-    if scene.fault == 3 and scene.found in ("r", "w", "x", "rx", "rwx", "read", "write", "exec", "wr"):
-        return "permissions are ro (read), rw (read and write), xu (execute), eu (enter), xp, ep and key"
-    return None
-
-
 def _numbers(scene: Scene) -> Optional[str]:
     value = value_of_digits(scene.found) if scene.head == "ldi" and scene.fault == 4 else BEYOND
     if abs(value) < 1 << 64:
@@ -323,6 +262,8 @@ def _numbers(scene: Scene) -> Optional[str]:
         return f"`ldi` takes 32 bits: write `ldi r1, 0x{high:x}` and then `ldhi r1, 0x{low:x}`"
     if scene.head == "evt" and scene.fault == 4:
         return "an event fills four registers, this one and the three after it: r12 is the last that can be named"
+    if scene.fault == 2 and re.match(r"\+\s*\d", scene.code[scene.column - 1 :]):
+        return "a number has no plus sign before it"
     instead = {"addi": "`add`", "leai": "`lea`", "ld": "`lea` before the `ld`", "st": "`lea` before the `st`"}
     if scene.head in instead and scene.fault == 4:
         return f"put the number into a register by `ldi` and `ldhi` (mm help idioms), and write {instead[scene.head]}"
@@ -344,10 +285,7 @@ HINTS: list[Callable[[Scene], Optional[str]]] = [
     _two_operands,
     _two_statements,
     _label,
-    _segment,
-    _thread,
-    _reg,
-    _pointer,
+    *DIRECTIVE_MISTAKES,
     _numbers,
     _words_after,
     _name_as_operand,
