@@ -6,7 +6,7 @@ start:
   br main
   halt
 main:
-  ;@ function examples/c/calculator.c:112
+  ;@ function main at examples/c/calculator.c:112
   ;@ frame back 0 caller by 8
   leai r15, r15, -8
   st r15, r14, 0, any, keep
@@ -31,9 +31,14 @@ main:
   leai r15, r15, 8
   jmp r14
 line:
-  ;@ function examples/c/calculator.c:96
+  ;@ function line at examples/c/calculator.c:96
+  ;@ inlined 1 put at examples/c/calculator.c:103
+  ;@ inlined 2 put at examples/c/calculator.c:104
+  ;@ inlined 3 carry_out at examples/c/calculator.c:105
+  ;@ inlined 4 say at examples/c/calculator.c:107
+  ;@ inlined 5 say_number at examples/c/calculator.c:108
   ;@ frame back 64 caller at 72
-  ;@ local digits.i 20 at 104 log 5
+  ;@ local digits 20 at 104 log 5 type 9 in 5
   ldi r13, 31
   and r13, r15, r13
   ldi r12, -128
@@ -64,6 +69,7 @@ line:
   lip r10, P_7
   ld r10, r10, 0, any, keep
   ;@ line examples/c/calculator.c:98
+  ;@ var text 1 r3
   st r4, r3, 0, any, keep
   ;@ line examples/c/calculator.c:99
   ld r0, r9, -4, any, keep
@@ -89,6 +95,7 @@ line:
   sar r12, r0, r13
   st r15, r12, 16, any, keep
   ;@ line examples/c/calculator.c:101
+  ;@ var name 3 s16
   ldi r13, 3
   add r2, r3, r13
   isptr r0, r3
@@ -100,6 +107,7 @@ line:
   bnz r1, L18
   lea r2, r3, r13
 L18:
+  ;@ var text 1 -
   st r4, r2, 0, any, keep
   ;@ line examples/c/calculator.c:102
   lip r14, 2
@@ -108,7 +116,9 @@ L18:
   ld r12, r15, 16, any, keep
   addi r12, r12, -97
   st r15, r12, 8, any, keep
-  ;@ line examples/c/calculator.c:22
+  ;@ line examples/c/calculator.c:22 in 1
+  ;@ var code 4 2 in 1
+  ;@ var operand 5 s8 in 1
   ld r0, r9, -4, any, keep
   sar r3, r0, r8
   addi r4, r3, 1
@@ -136,6 +146,9 @@ L18:
   lea r0, r11, r0
   ld r13, r15, 8, any, keep
   st r0, r13, 0, any, keep
+  ;@ line examples/c/calculator.c:22 in 2
+  ;@ var code 4 7 in 2
+  ;@ var operand 5 0 in 2
   addi r2, r3, 2
   ld r0, r9, -4, any, keep
   shl r0, r0, r8
@@ -161,9 +174,11 @@ L18:
   lea r0, r11, r0
   ldi r13, 0
   st r0, r13, 0, any, keep
+  ;@ var now 6 @program in 3
   ldi r9, 0
 L3:
-  ;@ line examples/c/calculator.c:77
+  ;@ line examples/c/calculator.c:77 in 3
+  ;@ var now 6 @program+r9 in 3
   lea r0, r11, r9
   ld r0, r0, 0, any, keep
   shl r0, r0, r8
@@ -180,7 +195,7 @@ L3:
   bnz r0, L9
   br L7
 L4:
-  ;@ line examples/c/calculator.c:79
+  ;@ line examples/c/calculator.c:79 in 3
   addi r0, r9, 8
   lea r0, r11, r0
   ld r4, r0, 0, any, keep
@@ -197,10 +212,10 @@ L4:
   shl r0, r3, r13
   lea r0, r10, r0
   st r0, r4, 0, any, keep
-  ;@ line examples/c/calculator.c:80
+  ;@ line examples/c/calculator.c:80 in 3
   br L8
 L5:
-  ;@ line examples/c/calculator.c:82
+  ;@ line examples/c/calculator.c:82 in 3
   addi r0, r9, 8
   lea r0, r11, r0
   ld r0, r0, 0, any, keep
@@ -223,10 +238,10 @@ L5:
   shl r0, r3, r13
   lea r0, r10, r0
   st r0, r4, 0, any, keep
-  ;@ line examples/c/calculator.c:83
+  ;@ line examples/c/calculator.c:83 in 3
   br L8
 L6:
-  ;@ line examples/c/calculator.c:85
+  ;@ line examples/c/calculator.c:85 in 3
   ld r0, r7, -4, any, keep
   sar r0, r0, r8
   addi r2, r0, -1
@@ -249,10 +264,10 @@ L6:
   ld r12, r12, 0, any, keep
   lea r0, r12, r0
   st r0, r1, 0, any, keep
-  ;@ line examples/c/calculator.c:86
+  ;@ line examples/c/calculator.c:86 in 3
   br L8
 L7:
-  ;@ line examples/c/calculator.c:90
+  ;@ line examples/c/calculator.c:90 in 3
   ld r0, r7, -4, any, keep
   sar r4, r0, r8
   addi r5, r4, -1
@@ -262,7 +277,7 @@ L7:
   shl r0, r5, r8
   or r0, r1, r0
   st r7, r0, -4, any, keep
-  ;@ line examples/c/calculator.c:91
+  ;@ line examples/c/calculator.c:91 in 3
   addi r0, r2, -3
   ldi r13, 0
   ldhi r13, 4294967295
@@ -294,15 +309,19 @@ L7:
   lea r0, r10, r0
   st r0, r1, 0, any, keep
 L8:
+  ;@ var now 6 @program+r9+16 in 3
   addi r9, r9, 16
-  ;@ line examples/c/calculator.c:76
+  ;@ line examples/c/calculator.c:76 in 3
   br L3
 L9:
   ;@ line examples/c/calculator.c:106
+  ;@ var now 6 - in 3
   ld r0, r15, 16, any, keep
   lip r14, 2
   br putchar
-  ;@ line examples/c/say.h:8
+  ;@ line examples/c/say.h:8 in 4
+  ;@ var name 3 -
+  ;@ var text 1 @_str_3 in 4
   lip r12, P_10
   ld r12, r12, 0, any, keep
   ld r3, r12, 0, any, keep
@@ -316,11 +335,14 @@ L9:
   ld r12, r15, 8, any, keep
   ldi r13, 3
   shl r0, r12, r13
+  ;@ var operand 5 - in 1
   lip r12, P_8
   ld r12, r12, 0, any, keep
   lea r0, r12, r0
   ld r0, r0, 0, any, keep
-  ;@ line examples/c/say.h:15
+  ;@ line examples/c/say.h:15 in 5
+  ;@ var number 5 r0 in 5
+  ;@ var length 3 0 in 5
   ldi r12, 0
   sub r2, r12, r0
   ldi r13, 0
@@ -329,28 +351,32 @@ L9:
   bnz r1, L19
   mov r7, r0
 L19:
-  ;@ line examples/c/say.h:16
+  ;@ line examples/c/say.h:16 in 5
+  ;@ var rest 8 r7 in 5
   ldi r13, 0
   lts r0, r0, r13
+  ;@ var number 5 - in 5
   bz r0, L11
 L10:
-  ;@ line examples/c/say.h:17
+  ;@ line examples/c/say.h:17 in 5
   ldi r0, 45
   lip r14, 2
   br putchar
 L11:
   ldi r1, 0
 L12:
-  ;@ line examples/c/say.h:20
+  ;@ line examples/c/say.h:20 in 5
+  ;@ var length 3 r1 in 5
   ldi r13, 10
   divu r5, r7, r13
   ldi r13, 10
   mul r0, r5, r13
   sub r0, r7, r0
-  ;@ line examples/c/say.h:19
+  ;@ line examples/c/say.h:19 in 5
   ldi r13, 48
   or r4, r0, r13
   addi r6, r1, 1
+  ;@ var length 3 r6 in 5
   addi r1, r1, 8
   ldi r13, -8
   and r0, r1, r13
@@ -366,19 +392,25 @@ L12:
   shl r0, r0, r2
   xor r0, r1, r0
   st r3, r0, 0, any, keep
+  ;@ var rest 8 r5 in 5
   ldi r13, 10
   ltu r0, r7, r13
   bnz r0, L13
 L16:
   mov r1, r6
+  ;@ var length 3 - in 5
   mov r7, r5
+  ;@ var rest 8 - in 5
   br L12
 L13:
-  ;@ line examples/c/say.h:21
+  ;@ line examples/c/say.h:21 in 5
+  ;@ var length 3 r6 in 5
   shl r0, r6, r8
+  ;@ var length 3 - in 5
   sar r7, r0, r8
 L14:
-  ;@ line examples/c/say.h:22
+  ;@ line examples/c/say.h:22 in 5
+  ;@ var length 3 r7 in 5
   addi r7, r7, -1
   addi r1, r7, 8
   ldi r13, -8
@@ -395,10 +427,11 @@ L14:
   sar r0, r0, r13
   lip r14, 2
   br putchar
-  ;@ line examples/c/say.h:21
+  ;@ line examples/c/say.h:21 in 5
   bnz r7, L14
 L15:
   ;@ line examples/c/calculator.c:109
+  ;@ var length 3 - in 5
   ldi r0, 10
   lip r14, 2
   br putchar
@@ -456,7 +489,15 @@ putchar:
   and r0, r0, r13
   jmp r14
 sum:
-  ;@ function examples/c/calculator.c:57
+  ;@ function sum at examples/c/calculator.c:57
+  ;@ inlined 1 product at examples/c/calculator.c:59
+  ;@ inlined 2 next at examples/c/calculator.c:50 in 1
+  ;@ inlined 3 put at examples/c/calculator.c:53 in 1
+  ;@ inlined 4 next at examples/c/calculator.c:60
+  ;@ inlined 5 product at examples/c/calculator.c:62
+  ;@ inlined 6 next at examples/c/calculator.c:50 in 5
+  ;@ inlined 7 put at examples/c/calculator.c:53 in 5
+  ;@ inlined 8 put at examples/c/calculator.c:63
   ;@ frame back 48 caller by 56
   leai r15, r15, -56
   st r15, r7, 8, any, keep
@@ -470,11 +511,11 @@ sum:
   ldi r10, 0
   ldi r9, 56
   ldi r11, 32
-  ;@ line examples/c/calculator.c:49
+  ;@ line examples/c/calculator.c:49 in 1
   lip r14, 2
   br factor
 L27:
-  ;@ line examples/c/calculator.c:27
+  ;@ line examples/c/calculator.c:27 in 2
   ld r5, r8, 0, any, keep
   ldi r13, 7
   and r0, r5, r13
@@ -493,7 +534,7 @@ L27:
 L44:
   mov r4, r10
 L28:
-  ;@ line examples/c/calculator.c:28
+  ;@ line examples/c/calculator.c:28 in 2
   addi r3, r4, 1
   add r2, r5, r3
   isptr r0, r5
@@ -506,7 +547,7 @@ L28:
   lea r2, r5, r3
 L56:
   st r8, r2, 0, any, keep
-  ;@ line examples/c/calculator.c:27
+  ;@ line examples/c/calculator.c:27 in 2
   addi r0, r4, 1
   lea r1, r5, r0
   ldi r13, 7
@@ -527,7 +568,7 @@ L46:
   addi r4, r4, 1
   br L28
 L29:
-  ;@ line examples/c/calculator.c:50
+  ;@ line examples/c/calculator.c:50 in 1
   ldi r13, 42
   eq r0, r1, r13
   bnz r0, L31
@@ -547,7 +588,7 @@ L30:
   eq r0, r0, r13
   bz r0, L32
 L31:
-  ;@ line examples/c/calculator.c:51
+  ;@ line examples/c/calculator.c:51 in 1
   ld r3, r8, 0, any, keep
   ldi r13, 1
   add r2, r3, r13
@@ -577,10 +618,13 @@ L57:
   bnz r0, L58
   ldi r7, 6
 L58:
-  ;@ line examples/c/calculator.c:52
+  ;@ line examples/c/calculator.c:52 in 1
+  ;@ var code 4 r7 in 1
   lip r14, 2
   br factor
-  ;@ line examples/c/calculator.c:22
+  ;@ line examples/c/calculator.c:22 in 3
+  ;@ var code 4 r7 in 3
+  ;@ var operand 5 0 in 3
   lip r12, P_4
   ld r12, r12, 0, any, keep
   ld r0, r12, -4, any, keep
@@ -603,6 +647,8 @@ L58:
   lea r0, r12, r2
   ld r1, r0, 0, any, keep
   xor r0, r1, r7
+  ;@ var code 4 - in 1
+  ;@ var code 4 - in 3
   ldi r13, 0
   ldhi r13, 4294967295
   and r0, r0, r13
@@ -618,10 +664,11 @@ L58:
   ld r12, r12, 0, any, keep
   lea r0, r12, r0
   st r0, r10, 0, any, keep
-  ;@ line examples/c/calculator.c:50
+  ;@ line examples/c/calculator.c:50 in 1
   br L27
 L32:
-  ;@ line examples/c/calculator.c:27
+  ;@ line examples/c/calculator.c:27 in 4
+  ;@ var operand 5 - in 3
   ld r5, r8, 0, any, keep
   ldi r13, 7
   and r0, r5, r13
@@ -640,7 +687,7 @@ L32:
 L48:
   mov r4, r10
 L33:
-  ;@ line examples/c/calculator.c:28
+  ;@ line examples/c/calculator.c:28 in 4
   addi r3, r4, 1
   add r2, r5, r3
   isptr r0, r5
@@ -653,7 +700,7 @@ L33:
   lea r2, r5, r3
 L59:
   st r8, r2, 0, any, keep
-  ;@ line examples/c/calculator.c:27
+  ;@ line examples/c/calculator.c:27 in 4
   addi r0, r4, 1
   lea r1, r5, r0
   ldi r13, 7
@@ -719,11 +766,11 @@ L60:
   ldi r13, 255
   and r12, r0, r13
   st r15, r12, 0, any, keep
-  ;@ line examples/c/calculator.c:49
+  ;@ line examples/c/calculator.c:49 in 5
   lip r14, 2
   br factor
 L37:
-  ;@ line examples/c/calculator.c:27
+  ;@ line examples/c/calculator.c:27 in 6
   ld r5, r8, 0, any, keep
   ldi r13, 7
   and r0, r5, r13
@@ -742,7 +789,7 @@ L37:
 L52:
   mov r4, r10
 L38:
-  ;@ line examples/c/calculator.c:28
+  ;@ line examples/c/calculator.c:28 in 6
   addi r3, r4, 1
   add r2, r5, r3
   isptr r0, r5
@@ -755,7 +802,7 @@ L38:
   lea r2, r5, r3
 L61:
   st r8, r2, 0, any, keep
-  ;@ line examples/c/calculator.c:27
+  ;@ line examples/c/calculator.c:27 in 6
   addi r0, r4, 1
   lea r1, r5, r0
   ldi r13, 7
@@ -776,7 +823,7 @@ L54:
   addi r4, r4, 1
   br L38
 L39:
-  ;@ line examples/c/calculator.c:50
+  ;@ line examples/c/calculator.c:50 in 5
   ldi r13, 42
   eq r0, r1, r13
   bnz r0, L41
@@ -796,7 +843,7 @@ L40:
   eq r0, r0, r13
   bz r0, L42
 L41:
-  ;@ line examples/c/calculator.c:51
+  ;@ line examples/c/calculator.c:51 in 5
   ld r3, r8, 0, any, keep
   ldi r13, 1
   add r2, r3, r13
@@ -826,10 +873,13 @@ L62:
   bnz r0, L63
   ldi r7, 6
 L63:
-  ;@ line examples/c/calculator.c:52
+  ;@ line examples/c/calculator.c:52 in 5
+  ;@ var code 4 r7 in 5
   lip r14, 2
   br factor
-  ;@ line examples/c/calculator.c:22
+  ;@ line examples/c/calculator.c:22 in 7
+  ;@ var code 4 r7 in 7
+  ;@ var operand 5 0 in 7
   lip r12, P_4
   ld r12, r12, 0, any, keep
   ld r0, r12, -4, any, keep
@@ -852,6 +902,8 @@ L63:
   lea r0, r12, r2
   ld r1, r0, 0, any, keep
   xor r0, r1, r7
+  ;@ var code 4 - in 5
+  ;@ var code 4 - in 7
   ldi r13, 0
   ldhi r13, 4294967295
   and r0, r0, r13
@@ -867,10 +919,11 @@ L63:
   ld r12, r12, 0, any, keep
   lea r0, r12, r0
   st r0, r10, 0, any, keep
-  ;@ line examples/c/calculator.c:50
+  ;@ line examples/c/calculator.c:50 in 5
   br L37
 L42:
   ;@ line examples/c/calculator.c:61
+  ;@ var operand 5 - in 7
   ld r12, r15, 0, any, keep
   ldi r13, 43
   eq r0, r12, r13
@@ -878,7 +931,9 @@ L42:
   bnz r0, L64
   ldi r4, 4
 L64:
-  ;@ line examples/c/calculator.c:22
+  ;@ line examples/c/calculator.c:22 in 8
+  ;@ var code 4 r4 in 8
+  ;@ var operand 5 0 in 8
   lip r12, P_4
   ld r12, r12, 0, any, keep
   ld r0, r12, -4, any, keep
@@ -901,6 +956,7 @@ L64:
   lea r0, r12, r2
   ld r1, r0, 0, any, keep
   xor r0, r1, r4
+  ;@ var code 4 - in 8
   ldi r13, 0
   ldhi r13, 4294967295
   and r0, r0, r13
@@ -920,6 +976,7 @@ L64:
   br L32
 L43:
   ;@ line examples/c/calculator.c:65
+  ;@ var operand 5 - in 8
   ld r7, r15, 8, any, keep
   ld r8, r15, 16, any, keep
   ld r9, r15, 24, any, keep
@@ -929,7 +986,10 @@ L43:
   leai r15, r15, 56
   jmp r14
 factor:
-  ;@ function examples/c/calculator.c:34
+  ;@ function factor at examples/c/calculator.c:34
+  ;@ inlined 1 next at examples/c/calculator.c:36
+  ;@ inlined 2 put at examples/c/calculator.c:41
+  ;@ inlined 3 put at examples/c/calculator.c:43
   ;@ frame back 40 caller by 48
   leai r15, r15, -48
   st r15, r7, 0, any, keep
@@ -945,7 +1005,7 @@ factor:
   ldi r6, 56
   ldi r8, 255
   ldi r9, 32
-  ;@ line examples/c/calculator.c:27
+  ;@ line examples/c/calculator.c:27 in 1
   ld r5, r7, 0, any, keep
   and r0, r5, r10
   ldi r12, 0
@@ -962,7 +1022,7 @@ factor:
 L73:
   ldi r4, 0
 L66:
-  ;@ line examples/c/calculator.c:28
+  ;@ line examples/c/calculator.c:28 in 1
   addi r3, r4, 1
   add r2, r5, r3
   isptr r0, r5
@@ -975,7 +1035,7 @@ L66:
   lea r2, r5, r3
 L77:
   st r7, r2, 0, any, keep
-  ;@ line examples/c/calculator.c:27
+  ;@ line examples/c/calculator.c:27 in 1
   addi r0, r4, 1
   lea r1, r5, r0
   and r0, r1, r10
@@ -1054,7 +1114,9 @@ L70:
   lip r14, 2
   br strtol
   mov r4, r0
-  ;@ line examples/c/calculator.c:22
+  ;@ line examples/c/calculator.c:22 in 2
+  ;@ var code 4 0 in 2
+  ;@ var operand 5 r4 in 2
   lip r12, P_4
   ld r12, r12, 0, any, keep
   ld r0, r12, -4, any, keep
@@ -1094,9 +1156,11 @@ L70:
   lea r0, r12, r0
   st r0, r4, 0, any, keep
   ;@ line examples/c/calculator.c:42
+  ;@ var operand 5 - in 2
   br L72
 L71:
   ;@ line examples/c/calculator.c:43
+  ;@ var code 4 - in 2
   ldi r13, 1
   add r2, r3, r13
   isptr r0, r3
@@ -1119,7 +1183,9 @@ L80:
   shl r0, r0, r6
   sar r0, r0, r6
   addi r4, r0, -97
-  ;@ line examples/c/calculator.c:22
+  ;@ line examples/c/calculator.c:22 in 3
+  ;@ var code 4 1 in 3
+  ;@ var operand 5 r4 in 3
   lip r12, P_4
   ld r12, r12, 0, any, keep
   ld r0, r12, -4, any, keep
@@ -1160,6 +1226,8 @@ L80:
   st r0, r4, 0, any, keep
 L72:
   ;@ line examples/c/calculator.c:45
+  ;@ var code 4 - in 3
+  ;@ var operand 5 - in 3
   ld r7, r15, 0, any, keep
   ld r8, r15, 8, any, keep
   ld r9, r15, 16, any, keep
@@ -1400,21 +1468,29 @@ L113:
   leai r15, r15, 56
   jmp r14
 div_:
-  ;@ function examples/c/calculator.c:70
+  ;@ function div_ at examples/c/calculator.c:70
   ;@ frame back - caller by 0
   mov r3, r1
   ldi r1, 63
   ;@ line examples/c/calculator.c:70
+  ;@ var a 5 r0
+  ;@ var b 5 r3
   bnz r3, L115
 L117:
+  ;@ var a 5 -
+  ;@ var b 5 -
   ldi r0, 0
   br L116
 L115:
+  ;@ var a 5 r0
+  ;@ var b 5 r3
   sar r2, r0, r1
   xor r0, r0, r2
+  ;@ var a 5 -
   sub r4, r0, r2
   sar r1, r3, r1
   xor r0, r3, r1
+  ;@ var b 5 -
   sub r0, r0, r1
   divu r0, r4, r0
   xor r1, r2, r1
@@ -1423,22 +1499,34 @@ L115:
 L116:
   jmp r14
 mul:
-  ;@ function examples/c/calculator.c:69
+  ;@ function mul at examples/c/calculator.c:69
   ;@ frame back - caller by 0
   ;@ line examples/c/calculator.c:69
+  ;@ var a 5 r0
+  ;@ var b 5 r1
   mul r0, r1, r0
+  ;@ var a 5 -
+  ;@ var b 5 -
   jmp r14
 sub:
-  ;@ function examples/c/calculator.c:68
+  ;@ function sub at examples/c/calculator.c:68
   ;@ frame back - caller by 0
   ;@ line examples/c/calculator.c:68
+  ;@ var a 5 r0
+  ;@ var b 5 r1
   sub r0, r0, r1
+  ;@ var a 5 -
+  ;@ var b 5 -
   jmp r14
 add:
-  ;@ function examples/c/calculator.c:67
+  ;@ function add at examples/c/calculator.c:67
   ;@ frame back - caller by 0
   ;@ line examples/c/calculator.c:67
+  ;@ var a 5 r0
+  ;@ var b 5 r1
   add r0, r1, r0
+  ;@ var a 5 -
+  ;@ var b 5 -
   jmp r14
 P_0: .ptr ro _str+1
 P_1: .ptr ro _str_1+1
@@ -1464,23 +1552,23 @@ P_11: .ptr ro _str_3+4
   .int 0x202a202979202b20
   .int 0x2979202d207828
 .segment at 3
-  ;@ global at 8 at 0
+  ;@ global at 8 at 0 type 1
 .segment length 3
-  ;@ global length 4 at 4
+  ;@ global length 4 at 4 type 3
 .segment program 10
-  ;@ global program 1024 at 0
+  ;@ global program 1024 at 0 type 10
 .segment top 3
-  ;@ global top 4 at 4
+  ;@ global top 4 at 4 type 3
 .segment operations 5
-  ;@ global operations 32 at 0
+  ;@ global operations 32 at 0 type 12
   .ptr xu add
   .ptr xu sub
   .ptr xu mul
   .ptr xu div_
 .segment c_stack 7
-  ;@ global stack 128 at 0
+  ;@ global stack 128 at 0 type 13
 .segment variables 8
-  ;@ global variables 208 at 48
+  ;@ global variables 208 at 48 type 14
 .segment stdout 3
   ;@ global stdout 8 at 0
   .ptr rw files+8
@@ -1493,3 +1581,17 @@ P_11: .ptr ro _str_3+4
 .segment stack 16
 .thread 0 0 none xu start
 .reg 15 ptr rw stack+65472
+;@ type 1 pointer 2
+;@ type 2 base i1 char
+;@ type 3 base i4 int
+;@ type 4 enum u4 code PUSH=0 LOAD=1 STORE=2 ADD=3 SUB=4 MUL=5 DIV=6 END=7
+;@ type 5 base i8 long
+;@ type 6 pointer 7
+;@ type 7 struct 16 instruction code:0:4 operand:64:5
+;@ type 8 base u8 unsigned long
+;@ type 9 array 20 2
+;@ type 10 array 64 7
+;@ type 11 pointer 0
+;@ type 12 array 4 11
+;@ type 13 array 16 5
+;@ type 14 array 26 5

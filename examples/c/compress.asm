@@ -6,10 +6,16 @@ start:
   br main
   halt
 main:
-  ;@ function examples/c/compress.c:51
+  ;@ function main at examples/c/compress.c:51
+  ;@ inlined 1 pack at examples/c/compress.c:53
+  ;@ inlined 2 unpack at examples/c/compress.c:54
+  ;@ inlined 3 say_number at examples/c/compress.c:55
+  ;@ inlined 4 say at examples/c/compress.c:56
+  ;@ inlined 5 say_number at examples/c/compress.c:57
+  ;@ inlined 6 say at examples/c/compress.c:58
   ;@ frame back 80 caller at 88
-  ;@ local digits.i21 20 at 104 log 5
-  ;@ local digits.i 20 at 136 log 5
+  ;@ local digits 20 at 104 log 5 type 9 in 5
+  ;@ local digits 20 at 136 log 5 type 9 in 3
   ldi r13, 31
   and r13, r15, r13
   ldi r12, -160
@@ -34,11 +40,20 @@ main:
   lip r8, P_0
   ld r8, r8, 0, any, keep
   ldi r10, 250
+  ;@ var from 1 @c_text in 1
+  ;@ var size 3 178 in 1
+  ;@ var at 3 0 in 1
+  ;@ var made 3 0 in 1
   ldi r12, 0
   st r15, r12, 16, any, keep
   ldi r11, 0
 L2:
-  ;@ line examples/c/compress.c:17
+  ;@ line examples/c/compress.c:17 in 1
+  ;@ var made 3 s16 in 1
+  ;@ var at 3 r11 in 1
+  ;@ var back 3 1 in 1
+  ;@ var where 3 0 in 1
+  ;@ var best 3 0 in 1
   ldi r12, 0
   lts r0, r12, r11
   bnz r0, L3
@@ -85,24 +100,38 @@ L56:
   st r15, r12, 0, any, keep
   ldi r9, 0
 L4:
+  ;@ var back 3 r5 in 1
+  ;@ var where 3 s0 in 1
+  ;@ var best 3 r9 in 1
+  ;@ var same 3 0 in 1
   ldi r3, 0
-  ;@ line examples/c/compress.c:19
+  ;@ line examples/c/compress.c:19 in 1
   br L6
 L5:
-  ;@ line examples/c/compress.c:24
+  ;@ line examples/c/compress.c:24 in 1
+  ;@ var back 3 - in 1
+  ;@ var where 3 - in 1
+  ;@ var best 3 - in 1
+  ;@ var same 3 - in 1
   ldi r12, 3
   lts r0, r12, r2
   bnz r0, L11
   br L12
 L6:
-  ;@ line examples/c/compress.c:19
+  ;@ line examples/c/compress.c:19 in 1
+  ;@ var back 3 r5 in 1
+  ;@ var where 3 s0 in 1
+  ;@ var best 3 r9 in 1
+  ;@ var same 3 r3 in 1
   add r2, r3, r11
   eq r0, r3, r6
   bz r0, L7
 L36:
+  ;@ var same 3 - in 1
   mov r0, r7
   br L10
 L7:
+  ;@ var same 3 r3 in 1
   addi r1, r2, 72
   ldi r13, -8
   and r0, r1, r13
@@ -127,44 +156,54 @@ L7:
   eq r0, r4, r0
   bz r0, L9
 L8:
-  ;@ line examples/c/compress.c:20
+  ;@ line examples/c/compress.c:20 in 1
   addi r3, r3, 1
-  ;@ line examples/c/compress.c:19
+  ;@ line examples/c/compress.c:19 in 1
   eq r0, r3, r10
   bz r0, L6
 L37:
+  ;@ var same 3 - in 1
   mov r0, r10
   br L10
 L9:
+  ;@ var same 3 r3 in 1
   ldi r13, 32
   shl r0, r3, r13
+  ;@ var same 3 - in 1
   ldi r13, 32
   sar r0, r0, r13
 L10:
-  ;@ line examples/c/compress.c:21
+  ;@ line examples/c/compress.c:21 in 1
   lts r1, r9, r0
   mov r2, r0
   bnz r1, L57
   mov r2, r9
 L57:
   lts r0, r9, r0
+  ;@ var best 3 - in 1
   mov r1, r5
   bnz r0, L58
   ld r1, r15, 0, any, keep
 L58:
-  ;@ line examples/c/compress.c:17
+  ;@ line examples/c/compress.c:17 in 1
+  ;@ var best 3 r2 in 1
+  ;@ var where 3 r1 in 1
   addi r5, r5, 1
   ld r13, r15, 8, any, keep
   eq r0, r5, r13
   bnz r0, L5
 L40:
+  ;@ var back 3 - in 1
   st r15, r1, 0, any, keep
+  ;@ var where 3 - in 1
   mov r9, r2
+  ;@ var best 3 - in 1
   br L4
 L11:
-  ;@ line examples/c/compress.c:25
+  ;@ line examples/c/compress.c:25 in 1
   ld r12, r15, 16, any, keep
   addi r6, r12, 1
+  ;@ var made 3 r6 in 1
   ld r12, r15, 16, any, keep
   ldi r13, -8
   and r0, r12, r13
@@ -183,10 +222,11 @@ L11:
   shl r0, r0, r4
   xor r0, r3, r0
   st r5, r0, 0, any, keep
-  ;@ line examples/c/compress.c:26
+  ;@ line examples/c/compress.c:26 in 1
   ld r12, r15, 16, any, keep
   addi r12, r12, 2
   st r15, r12, 0, any, keep
+  ;@ var made 3 s0 in 1
   ldi r13, -8
   and r0, r6, r13
   lip r12, P_1
@@ -202,11 +242,15 @@ L11:
   shl r0, r0, r4
   xor r0, r3, r0
   st r5, r0, 0, any, keep
+  ;@ var at 3 - in 1
+  ;@ var made 3 - in 1
   mov r4, r2
-  ;@ line examples/c/compress.c:29
+  ;@ line examples/c/compress.c:29 in 1
   br L13
 L12:
-  ;@ line examples/c/compress.c:30
+  ;@ line examples/c/compress.c:30 in 1
+  ;@ var made 3 s16 in 1
+  ;@ var at 3 r11+1 in 1
   addi r1, r11, 72
   ldi r13, -8
   and r0, r1, r13
@@ -215,10 +259,13 @@ L12:
   shl r1, r1, r13
   ld r0, r0, 0, any, keep
   shr r4, r0, r1
+  ;@ var made 3 s16+1 in 1
   ld r12, r15, 16, any, keep
   st r15, r12, 0, any, keep
+  ;@ var made 3 - in 1
   ldi r2, 1
 L13:
+  ;@ var at 3 - in 1
   ld r12, r15, 0, any, keep
   ldi r13, -8
   and r0, r12, r13
@@ -240,12 +287,20 @@ L13:
   addi r12, r12, 1
   st r15, r12, 16, any, keep
   add r11, r2, r11
-  ;@ line examples/c/compress.c:15
+  ;@ line examples/c/compress.c:15 in 1
+  ;@ var made 3 s16 in 1
+  ;@ var at 3 r11 in 1
   ldi r13, 178
   lts r0, r11, r13
   bnz r0, L2
 L14:
-  ;@ line examples/c/compress.c:39
+  ;@ line examples/c/compress.c:39 in 2
+  ;@ var at 3 - in 1
+  ;@ var size 3 s16
+  ;@ var size 3 s16 in 2
+  ;@ var to 4 @unpacked in 2
+  ;@ var made 3 0 in 2
+  ;@ var at 3 0 in 2
   ldi r12, -1
   ld r13, r15, 0, any, keep
   lts r0, r12, r13
@@ -257,7 +312,9 @@ L42:
   ldi r6, 0
   ldi r7, 0
 L15:
-  ;@ line examples/c/compress.c:40
+  ;@ line examples/c/compress.c:40 in 2
+  ;@ var at 3 r6 in 2
+  ;@ var made 3 r7 in 2
   ldi r13, -8
   and r0, r6, r13
   lip r12, P_1
@@ -283,7 +340,8 @@ L16:
   shr r0, r0, r1
   ldi r13, 255
   and r10, r0, r13
-  ;@ line examples/c/compress.c:44
+  ;@ line examples/c/compress.c:44 in 2
+  ;@ var i 3 0 in 2
   bz r10, L21
 L17:
   addi r1, r6, 1
@@ -298,12 +356,16 @@ L17:
   shr r0, r0, r1
   ldi r13, 255
   and r9, r0, r13
+  ;@ var made 3 - in 2
   ldi r5, 0
   br L22
 L18:
-  ;@ line examples/c/compress.c:41
+  ;@ line examples/c/compress.c:41 in 2
+  ;@ var i 3 - in 2
+  ;@ var made 3 r7 in 2
   addi r6, r6, 1
   addi r5, r7, 1
+  ;@ var made 3 r5 in 2
   addi r1, r7, 72
   ldi r13, -8
   and r0, r1, r13
@@ -322,23 +384,29 @@ L18:
   st r3, r0, 0, any, keep
   mov r7, r5
 L19:
-  ;@ line examples/c/compress.c:39
+  ;@ line examples/c/compress.c:39 in 2
+  ;@ var made 3 r7 in 2
   ld r12, r15, 0, any, keep
   lts r0, r12, r6
   bnz r0, L23
   br L15
 L20:
-  ;@ line examples/c/compress.c:46
+  ;@ line examples/c/compress.c:46 in 2
   ldi r13, 32
   shl r0, r7, r13
+  ;@ var made 3 - in 2
   ldi r13, 32
   sar r7, r0, r13
 L21:
   addi r6, r6, 3
-  ;@ line examples/c/compress.c:39
+  ;@ line examples/c/compress.c:39 in 2
+  ;@ var at 3 - in 2
   br L19
 L22:
-  ;@ line examples/c/compress.c:45
+  ;@ line examples/c/compress.c:45 in 2
+  ;@ var at 3 r6 in 2
+  ;@ var i 3 r5 in 2
+  ;@ var made 3 r7 in 2
   sub r0, r7, r9
   addi r1, r0, 72
   ldi r13, -8
@@ -366,26 +434,37 @@ L22:
   shl r0, r0, r2
   xor r0, r1, r0
   st r3, r0, 0, any, keep
-  ;@ line examples/c/compress.c:44
+  ;@ line examples/c/compress.c:44 in 2
   addi r5, r5, 1
   addi r7, r7, 1
   eq r0, r5, r10
   bnz r0, L20
   br L22
 L23:
+  ;@ var at 3 - in 2
+  ;@ var i 3 - in 2
+  ;@ var made 3 - in 2
+  ;@ var back 3 r7
+  ;@ var number 5 178 in 3
+  ;@ var length 3 0 in 3
+  ;@ var rest 6 178 in 3
   ldi r2, 0
   ldi r1, 178
 L24:
-  ;@ line examples/c/say.h:20
+  ;@ line examples/c/say.h:20 in 3
+  ;@ var rest 6 r1 in 3
+  ;@ var length 3 r2 in 3
   ldi r13, 10
   divu r6, r1, r13
   ldi r13, 10
   mul r0, r6, r13
   sub r0, r1, r0
-  ;@ line examples/c/say.h:19
+  ;@ line examples/c/say.h:19 in 3
+  ;@ var rest 6 - in 3
   ldi r13, 48
   or r4, r0, r13
   addi r5, r2, 1
+  ;@ var length 3 r5 in 3
   addi r1, r2, 8
   ldi r13, -8
   and r0, r1, r13
@@ -401,17 +480,21 @@ L24:
   shl r0, r0, r2
   xor r0, r1, r0
   st r3, r0, 0, any, keep
+  ;@ var rest 6 r6 in 3
   ldi r13, 3
   eq r0, r5, r13
   bnz r0, L48
 L49:
   mov r2, r5
+  ;@ var length 3 - in 3
   mov r1, r6
+  ;@ var rest 6 - in 3
   br L24
 L48:
   ldi r9, 3
 L25:
-  ;@ line examples/c/say.h:22
+  ;@ line examples/c/say.h:22 in 3
+  ;@ var length 3 r9 in 3
   addi r9, r9, -1
   addi r1, r9, 8
   ldi r13, -8
@@ -428,10 +511,12 @@ L25:
   sar r0, r0, r13
   lip r14, 2
   br putchar
-  ;@ line examples/c/say.h:21
+  ;@ line examples/c/say.h:21 in 3
   bnz r9, L25
 L26:
-  ;@ line examples/c/say.h:8
+  ;@ line examples/c/say.h:8 in 4
+  ;@ var length 3 - in 3
+  ;@ var text 7 @_str in 4
   lip r12, P_3
   ld r12, r12, 0, any, keep
   ld r3, r12, 0, any, keep
@@ -441,7 +526,9 @@ L26:
   ldi r2, 1
   lip r14, 2
   br fwrite
-  ;@ line examples/c/say.h:15
+  ;@ line examples/c/say.h:15 in 5
+  ;@ var number 5 s16 in 5
+  ;@ var length 3 0 in 5
   ldi r12, 0
   ld r13, r15, 16, any, keep
   sub r1, r12, r13
@@ -452,29 +539,36 @@ L26:
   bnz r0, L59
   ld r9, r15, 16, any, keep
 L59:
-  ;@ line examples/c/say.h:16
+  ;@ line examples/c/say.h:16 in 5
+  ;@ var made 3 - in 1
+  ;@ var size 3 -
+  ;@ var size 3 - in 2
+  ;@ var number 5 - in 5
+  ;@ var rest 6 r9 in 5
   ld r12, r15, 0, any, keep
   ldi r13, -1
   lts r0, r12, r13
   bz r0, L28
 L27:
-  ;@ line examples/c/say.h:17
+  ;@ line examples/c/say.h:17 in 5
   ldi r0, 45
   lip r14, 2
   br putchar
 L28:
   ldi r1, 0
 L29:
-  ;@ line examples/c/say.h:20
+  ;@ line examples/c/say.h:20 in 5
+  ;@ var length 3 r1 in 5
   ldi r13, 10
   divu r5, r9, r13
   ldi r13, 10
   mul r0, r5, r13
   sub r0, r9, r0
-  ;@ line examples/c/say.h:19
+  ;@ line examples/c/say.h:19 in 5
   ldi r13, 48
   or r4, r0, r13
   addi r6, r1, 1
+  ;@ var length 3 r6 in 5
   addi r1, r1, 8
   ldi r13, -8
   and r0, r1, r13
@@ -490,21 +584,27 @@ L29:
   shl r0, r0, r2
   xor r0, r1, r0
   st r3, r0, 0, any, keep
+  ;@ var rest 6 r5 in 5
   ldi r13, 10
   ltu r0, r9, r13
   bnz r0, L30
 L51:
   mov r1, r6
+  ;@ var length 3 - in 5
   mov r9, r5
+  ;@ var rest 6 - in 5
   br L29
 L30:
-  ;@ line examples/c/say.h:21
+  ;@ line examples/c/say.h:21 in 5
+  ;@ var length 3 r6 in 5
   ldi r13, 32
   shl r0, r6, r13
+  ;@ var length 3 - in 5
   ldi r13, 32
   sar r9, r0, r13
 L31:
-  ;@ line examples/c/say.h:22
+  ;@ line examples/c/say.h:22 in 5
+  ;@ var length 3 r9 in 5
   addi r9, r9, -1
   addi r1, r9, 8
   ldi r13, -8
@@ -521,12 +621,14 @@ L31:
   sar r0, r0, r13
   lip r14, 2
   br putchar
-  ;@ line examples/c/say.h:21
+  ;@ line examples/c/say.h:21 in 5
   bnz r9, L31
 L32:
   ;@ line examples/c/compress.c:58
+  ;@ var length 3 - in 5
   ldi r13, 178
   eq r0, r7, r13
+  ;@ var back 3 -
   bnz r0, L33
 L53:
   ldi r5, 0
@@ -548,7 +650,8 @@ L33:
 L60:
   ldi r5, 0
 L34:
-  ;@ line examples/c/say.h:8
+  ;@ line examples/c/say.h:8 in 6
+  ;@ var text 7 r4+r5 in 6
   lip r12, P_3
   ld r12, r12, 0, any, keep
   ld r3, r12, 0, any, keep
@@ -562,6 +665,7 @@ L34:
   bnz r1, L61
   lea r2, r4, r5
 L61:
+  ;@ var text 7 - in 6
   mov r0, r2
   mov r1, r3
   lip r14, 2
@@ -731,7 +835,7 @@ P_4: .ptr ro _str+1
 P_5: .ptr ro _str_2+0
 P_6: .ptr ro _str_1+9
 .segment c_text 8
-  ;@ global text 179 at 72
+  ;@ global text 179 at 72 type 10
   .fill 9
   .int 0x65746e696f702061
   .int 0x2061207361682072
@@ -757,9 +861,9 @@ P_6: .ptr ro _str_1+9
   .int 0x616f6c20746f6e6e
   .int 0x2e64
 .segment packed 9
-  ;@ global packed 512 at 0
+  ;@ global packed 512 at 0 type 11
 .segment unpacked 8
-  ;@ global unpacked 179 at 72
+  ;@ global unpacked 179 at 72 type 12
 .segment stdout 3
   ;@ global stdout 8 at 0
   .ptr rw files+8
@@ -781,3 +885,15 @@ P_6: .ptr ro _str_1+9
 .segment stack 16
 .thread 0 0 none xu start
 .reg 15 ptr rw stack+65472
+;@ type 1 pointer 2
+;@ type 2 base u1 unsigned char
+;@ type 3 base i4 int
+;@ type 4 pointer 2
+;@ type 5 base i8 long
+;@ type 6 base u8 unsigned long
+;@ type 7 pointer 8
+;@ type 8 base i1 char
+;@ type 9 array 20 8
+;@ type 10 array 179 8
+;@ type 11 array 512 2
+;@ type 12 array 179 2

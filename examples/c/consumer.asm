@@ -6,7 +6,7 @@ start:
   br consumer_main
   halt
 consumer_main:
-  ;@ function examples/c/consumer.c:7
+  ;@ function main at examples/c/consumer.c:7
   ;@ frame back 40 caller by 48
   leai r15, r15, -48
   st r15, r7, 0, any, keep
@@ -21,15 +21,19 @@ consumer_main:
   ldi r10, 3
   ldi r11, 54
   ;@ line examples/c/consumer.c:10
+  ;@ var i 1 0
   mov r0, r8
   lip r14, 2
   br consumer_mm_take
   ;@ line examples/c/consumer.c:11
+  ;@ var letter 2 r0
   bz r0, L3
 L4:
+  ;@ var letter 2 -
   ldi r7, 0
 L2:
   ;@ line examples/c/consumer.c:13
+  ;@ var i 1 r7
   shl r0, r0, r9
   sar r0, r0, r9
   lip r14, 2
@@ -52,9 +56,12 @@ L6:
   lip r14, 2
   br consumer_mm_take
   ;@ line examples/c/consumer.c:11
+  ;@ var letter 2 r0
   bnz r0, L2
 L3:
   ;@ line examples/c/consumer.c:15
+  ;@ var i 1 -
+  ;@ var letter 2 -
   ldi r0, 0
   ld r7, r15, 0, any, keep
   ld r8, r15, 8, any, keep
@@ -76,3 +83,5 @@ P_0: .ptr rw ring+0
 .segment consumer_stack 16
 .thread 1 1 none xu start
 .reg 15 ptr rw consumer_stack+65472
+;@ type 1 base i4 int
+;@ type 2 base i8 long

@@ -1,6 +1,6 @@
 .segment gate_text 6
 gate_mm_door_count:
-  ;@ function examples/c/gate.c:6
+  ;@ function count at examples/c/gate.c:6
   ;@ frame back - caller by 0
   lip r1, P_0
   ld r1, r1, 0, any, keep
@@ -11,7 +11,7 @@ gate_mm_door_count:
   jmp r14
 P_0: .ptr rw gate_visitors+0
 .segment gate_visitors 3
-  ;@ global visitors 8 at 0
+  ;@ global visitors 8 at 0 type 1
 .segment gate_turn 3
   .ptr rw gate_door_stack+65472
 .segment door_count 9
@@ -53,3 +53,4 @@ P_0: .ptr rw gate_visitors+0
   jmp r14
   trap 14
 .segment gate_door_stack 16
+;@ type 1 base i8 long

@@ -6,9 +6,11 @@ start:
   br guest_main
   halt
 guest_main:
-  ;@ function examples/c/guest.c:7
+  ;@ function main at examples/c/guest.c:7
+  ;@ inlined 1 say_number at examples/c/guest.c:10
+  ;@ inlined 2 say at examples/c/guest.c:11
   ;@ frame back 48 caller at 56
-  ;@ local digits.i 20 at 72 log 5
+  ;@ local digits 20 at 72 log 5 type 5 in 1
   ldi r13, 31
   and r13, r15, r13
   ldi r12, -96
@@ -28,12 +30,14 @@ guest_main:
   ldi r9, 10
   ldi r10, 3
   ldi r11, -8
+  ;@ var i 1 0
   ldi r12, 0
   st r15, r12, 0, any, keep
   ;@ line examples/c/guest.c:9
   br L3
 L2:
   ;@ line examples/c/guest.c:13
+  ;@ var i 1 -
   ldi r0, 0
   ld r7, r15, 8, any, keep
   ld r8, r15, 16, any, keep
@@ -45,10 +49,13 @@ L2:
   jmp r14
 L3:
   ;@ line examples/c/guest.c:10
+  ;@ var i 1 s0
   lip r13, P_0
   ld r13, r13, 0, any, keep
   jal r14, r13
-  ;@ line examples/c/say.h:15
+  ;@ line examples/c/say.h:15 in 1
+  ;@ var number 2 r0 in 1
+  ;@ var length 1 0 in 1
   ldi r12, 0
   sub r2, r12, r0
   ldi r13, 0
@@ -57,26 +64,30 @@ L3:
   bnz r1, L13
   mov r7, r0
 L13:
-  ;@ line examples/c/say.h:16
+  ;@ line examples/c/say.h:16 in 1
+  ;@ var rest 3 r7 in 1
   ldi r13, 0
   lts r0, r0, r13
+  ;@ var number 2 - in 1
   bz r0, L5
 L4:
-  ;@ line examples/c/say.h:17
+  ;@ line examples/c/say.h:17 in 1
   ldi r0, 45
   lip r14, 2
   br guest_putchar
 L5:
   ldi r1, 0
 L6:
-  ;@ line examples/c/say.h:20
+  ;@ line examples/c/say.h:20 in 1
+  ;@ var length 1 r1 in 1
   divu r5, r7, r9
   mul r0, r5, r9
   sub r0, r7, r0
-  ;@ line examples/c/say.h:19
+  ;@ line examples/c/say.h:19 in 1
   ldi r13, 48
   or r4, r0, r13
   addi r6, r1, 1
+  ;@ var length 1 r6 in 1
   addi r1, r1, 8
   and r0, r1, r11
   leab r3, r8, r0
@@ -89,20 +100,26 @@ L6:
   shl r0, r0, r2
   xor r0, r1, r0
   st r3, r0, 0, any, keep
+  ;@ var rest 3 r5 in 1
   ltu r0, r7, r9
   bnz r0, L7
 L10:
   mov r1, r6
+  ;@ var length 1 - in 1
   mov r7, r5
+  ;@ var rest 3 - in 1
   br L6
 L7:
-  ;@ line examples/c/say.h:21
+  ;@ line examples/c/say.h:21 in 1
+  ;@ var length 1 r6 in 1
   ldi r13, 32
   shl r0, r6, r13
+  ;@ var length 1 - in 1
   ldi r13, 32
   sar r7, r0, r13
 L8:
-  ;@ line examples/c/say.h:22
+  ;@ line examples/c/say.h:22 in 1
+  ;@ var length 1 r7 in 1
   addi r7, r7, -1
   addi r1, r7, 8
   and r0, r1, r11
@@ -116,10 +133,11 @@ L8:
   sar r0, r0, r13
   lip r14, 2
   br guest_putchar
-  ;@ line examples/c/say.h:21
+  ;@ line examples/c/say.h:21 in 1
   bnz r7, L8
 L9:
-  ;@ line examples/c/say.h:8
+  ;@ line examples/c/say.h:8 in 2
+  ;@ var length 1 - in 1
   lip r12, P_1
   ld r12, r12, 0, any, keep
   ld r1, r12, 0, any, keep
@@ -156,3 +174,8 @@ P_1: .ptr rw guest_stdout+0
 .segment guest_stack 16
 .thread 0 0 none xu start
 .reg 15 ptr rw guest_stack+65472
+;@ type 1 base i4 int
+;@ type 2 base i8 long
+;@ type 3 base u8 unsigned long
+;@ type 4 base i1 char
+;@ type 5 array 20 4

@@ -6,7 +6,11 @@ start:
   br main
   halt
 main:
-  ;@ function examples/c/overflow.c:13
+  ;@ function main at examples/c/overflow.c:13
+  ;@ inlined 1 read_name at examples/c/overflow.c:15
+  ;@ inlined 2 say at examples/c/overflow.c:16
+  ;@ inlined 3 read_name at examples/c/overflow.c:17
+  ;@ inlined 4 say at examples/c/overflow.c:18
   ;@ frame back 40 caller by 48
   leai r15, r15, -48
   st r15, r7, 0, any, keep
@@ -23,10 +27,12 @@ main:
   lip r6, P_1
   ld r6, r6, 0, any, keep
   ldi r11, 6
+  ;@ var i 1 0 in 1
   ldi r4, 0
   ldi r5, 67
 L2:
-  ;@ line examples/c/overflow.c:10
+  ;@ line examples/c/overflow.c:10 in 1
+  ;@ var i 1 r4 in 1
   and r0, r4, r8
   leab r3, r9, r0
   shl r2, r4, r7
@@ -37,7 +43,7 @@ L2:
   shl r0, r0, r2
   xor r0, r1, r0
   st r3, r0, 0, any, keep
-  ;@ line examples/c/overflow.c:9
+  ;@ line examples/c/overflow.c:9 in 1
   addi r4, r4, 1
   addi r1, r4, 1
   and r0, r1, r8
@@ -49,6 +55,7 @@ L2:
   bz r0, L2
 L3:
   ;@ line examples/c/overflow.c:16
+  ;@ var i 1 - in 1
   lip r12, P_2
   ld r12, r12, 0, any, keep
   ld r0, r12, 0, any, keep
@@ -58,7 +65,8 @@ L3:
   lip r4, P_4
   ld r4, r4, 0, any, keep
 L8:
-  ;@ line examples/c/say.h:8
+  ;@ line examples/c/say.h:8 in 2
+  ;@ var text 2 r4+0 in 2
   lip r12, P_5
   ld r12, r12, 0, any, keep
   ld r3, r12, 0, any, keep
@@ -73,14 +81,17 @@ L8:
   bnz r1, L9
   lea r2, r4, r13
 L9:
+  ;@ var text 2 - in 2
   mov r0, r2
   mov r1, r3
   lip r14, 2
   br fputs
+  ;@ var i 1 0 in 3
   ldi r4, 0
   ldi r5, 65
 L4:
-  ;@ line examples/c/overflow.c:10
+  ;@ line examples/c/overflow.c:10 in 3
+  ;@ var i 1 r4 in 3
   and r0, r4, r8
   leab r3, r9, r0
   shl r2, r4, r7
@@ -91,7 +102,7 @@ L4:
   shl r0, r0, r2
   xor r0, r1, r0
   st r3, r0, 0, any, keep
-  ;@ line examples/c/overflow.c:9
+  ;@ line examples/c/overflow.c:9 in 3
   addi r4, r4, 1
   addi r1, r4, 6
   and r0, r1, r8
@@ -106,6 +117,7 @@ L4:
   bz r0, L4
 L5:
   ;@ line examples/c/overflow.c:18
+  ;@ var i 1 - in 3
   lip r12, P_2
   ld r12, r12, 0, any, keep
   ld r0, r12, 0, any, keep
@@ -115,7 +127,8 @@ L5:
   lip r4, P_4
   ld r4, r4, 0, any, keep
 L10:
-  ;@ line examples/c/say.h:8
+  ;@ line examples/c/say.h:8 in 4
+  ;@ var text 2 r4+0 in 4
   lip r12, P_5
   ld r12, r12, 0, any, keep
   ld r3, r12, 0, any, keep
@@ -130,6 +143,7 @@ L10:
   bnz r1, L11
   lea r2, r4, r13
 L11:
+  ;@ var text 2 - in 4
   mov r0, r2
   mov r1, r3
   lip r14, 2
@@ -196,11 +210,11 @@ P_4: .ptr ro _str_2+11
 P_5: .ptr rw stdout+0
 P_6: .ptr ro _str_3+6
 .segment name 3
-  ;@ global name 8 at 0
+  ;@ global name 8 at 0 type 4
 .segment _str 3
   .int 0x72657472614300
 .segment allowed 3
-  ;@ global allowed 8 at 0
+  ;@ global allowed 8 at 0 type 5
 .segment _str_2 5
   .fill 1
   .int 0x6420656874000000
@@ -222,3 +236,8 @@ P_6: .ptr ro _str_3+6
 .segment stack 16
 .thread 0 0 none xu start
 .reg 15 ptr rw stack+65472
+;@ type 1 base i4 int
+;@ type 2 pointer 3
+;@ type 3 base i1 char
+;@ type 4 array 8 3
+;@ type 5 base i8 long

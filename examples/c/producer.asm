@@ -6,7 +6,7 @@ start:
   br producer_main
   halt
 producer_main:
-  ;@ function examples/c/producer.c:8
+  ;@ function main at examples/c/producer.c:8
   ;@ frame back 40 caller by 48
   leai r15, r15, -48
   st r15, r7, 0, any, keep
@@ -21,9 +21,11 @@ producer_main:
   lip r11, P_1
   ld r11, r11, 0, any, keep
   ldi r9, 56
+  ;@ var i 1 0
   ldi r7, 0
 L2:
   ;@ line examples/c/producer.c:12
+  ;@ var i 1 r7
   and r0, r7, r8
   shl r4, r0, r8
   addi r1, r7, 9
@@ -52,11 +54,13 @@ L5:
   ;@ line examples/c/producer.c:11
   addi r1, r7, 1
   ;@ line examples/c/producer.c:13
+  ;@ var i 1 r1
   ldi r13, 22
   eq r0, r7, r13
   bnz r0, L3
 L4:
   mov r7, r1
+  ;@ var i 1 -
   br L2
 L3:
   ;@ line examples/c/producer.c:14
@@ -75,6 +79,7 @@ producer_mm_put:
 P_0: .ptr rw ring+0
 P_1: .ptr ro producer__str+9
 .segment ring 5
+  ;@ global ring 32 at 0 type 3
   .empty .int 0
   .empty .int 0
   .empty .int 0
@@ -87,3 +92,6 @@ P_1: .ptr ro producer__str+9
 .segment producer_stack 16
 .thread 0 0 none xu start
 .reg 15 ptr rw producer_stack+65472
+;@ type 1 base i4 int
+;@ type 2 base i8 long
+;@ type 3 array 4 2

@@ -6,14 +6,19 @@ start:
   br main
   halt
 main:
-  ;@ function examples/c/sort.c:54
+  ;@ function main at examples/c/sort.c:54
+  ;@ inlined 1 by_insertion at examples/c/sort.c:59
+  ;@ inlined 2 next_number at examples/c/sort.c:58
+  ;@ inlined 3 say_number at examples/c/sort.c:63
+  ;@ inlined 4 say at examples/c/sort.c:66
+  ;@ inlined 5 say at examples/c/sort.c:70
   ;@ frame back 80 caller at 88
-  ;@ local digits.i 20 at 104 log 5
-  ;@ local first 96 at 288 log 7
-  ;@ local second 96 at 416 log 7
-  ;@ local third 96 at 544 log 7
-  ;@ local room 96 at 672 log 7
-  ;@ local names 48 at 144 log 6
+  ;@ local digits 20 at 104 log 5 type 6 in 3
+  ;@ local first 96 at 288 log 7 type 7
+  ;@ local second 96 at 416 log 7 type 7
+  ;@ local third 96 at 544 log 7 type 7
+  ;@ local room 96 at 672 log 7 type 7
+  ;@ local names 48 at 144 log 6 type 8
   ldi r13, 127
   and r13, r15, r13
   ldi r12, -768
@@ -55,6 +60,7 @@ main:
   ldi r11, 2
   ldi r10, 4
   ;@ line examples/c/sort.c:56
+  ;@ var i 1 0
   lip r12, P_0
   ld r12, r12, 0, any, keep
   ld r0, r12, -4, any, keep
@@ -64,6 +70,7 @@ main:
   ;@ line examples/c/sort.c:57
   br L8
 L2:
+  ;@ var i 1 -
   lip r12, P_0
   ld r12, r12, 0, any, keep
   ld r0, r12, -4, any, keep
@@ -80,7 +87,8 @@ L2:
   ldi r12, 1
   st r15, r12, 0, any, keep
 L3:
-  ;@ line examples/c/sort.c:19
+  ;@ line examples/c/sort.c:19 in 1
+  ;@ var i 1 s0 in 1
   ld r12, r15, 0, any, keep
   shl r0, r12, r11
   lea r0, r8, r0
@@ -95,9 +103,12 @@ L31:
 L32:
   ldi r14, 32
   sar r6, r6, r14
+  ;@ var x 1 r6 in 1
+  ;@ var j 1 s0 in 1
   ld r4, r15, 0, any, keep
 L4:
-  ;@ line examples/c/sort.c:20
+  ;@ line examples/c/sort.c:20 in 1
+  ;@ var j 1 r4 in 1
   addi r5, r4, -1
   and r0, r5, r7
   shl r0, r0, r11
@@ -116,7 +127,7 @@ L34:
   lts r0, r6, r3
   bz r0, L6
 L5:
-  ;@ line examples/c/sort.c:21
+  ;@ line examples/c/sort.c:21 in 1
   shl r0, r4, r11
   lea r2, r8, r0
   and r0, r2, r10
@@ -138,18 +149,22 @@ L35:
   or r0, r0, r1
   st r2, r0, -4, any, keep
 L36:
-  ;@ line examples/c/sort.c:20
+  ;@ line examples/c/sort.c:20 in 1
+  ;@ var j 1 r5 in 1
   ldi r12, 1
   lts r0, r12, r4
   bnz r0, L23
 L24:
+  ;@ var j 1 - in 1
   ldi r4, 0
   br L6
 L23:
+  ;@ var j 1 r5 in 1
   mov r4, r5
+  ;@ var j 1 - in 1
   br L4
 L6:
-  ;@ line examples/c/sort.c:22
+  ;@ line examples/c/sort.c:22 in 1
   ldi r13, 32
   shl r0, r4, r13
   ldi r13, 32
@@ -175,7 +190,8 @@ L37:
   or r0, r0, r1
   st r2, r0, -4, any, keep
 L38:
-  ;@ line examples/c/sort.c:18
+  ;@ line examples/c/sort.c:18 in 1
+  ;@ var x 1 - in 1
   ld r12, r15, 0, any, keep
   addi r12, r12, 1
   st r15, r12, 0, any, keep
@@ -185,6 +201,7 @@ L38:
   bz r0, L3
 L7:
   ;@ line examples/c/sort.c:60
+  ;@ var i 1 - in 1
   ld r0, r15, 8, any, keep
   ld r1, r15, 32, any, keep
   ldi r2, 0
@@ -198,16 +215,18 @@ L7:
   lip r3, compare
   lip r14, 2
   br qsort
+  ;@ var i 1 0
   ldi r12, 0
   st r15, r12, 0, any, keep
   ;@ line examples/c/sort.c:62
   br L10
 L8:
-  ;@ line examples/c/sort.c:12
+  ;@ line examples/c/sort.c:12 in 2
+  ;@ var i 1 r4
   mul r0, r5, r6
   addi r5, r0, 12345
   and r0, r5, r7
-  ;@ line examples/c/sort.c:13
+  ;@ line examples/c/sort.c:13 in 2
   ldi r13, 16
   shr r0, r0, r13
   ldi r13, 1000
@@ -286,6 +305,7 @@ L44:
   br L8
 L9:
   ;@ line examples/c/sort.c:66
+  ;@ var i 1 -
   mov r0, r8
   ld r1, r15, 8, any, keep
   ldi r2, 96
@@ -299,6 +319,7 @@ L29:
   br L18
 L10:
   ;@ line examples/c/sort.c:63
+  ;@ var i 1 s0
   ld r12, r15, 0, any, keep
   shl r0, r12, r11
   lea r1, r8, r0
@@ -313,7 +334,9 @@ L45:
 L46:
   ldi r14, 32
   sar r0, r0, r14
-  ;@ line examples/c/say.h:15
+  ;@ line examples/c/say.h:15 in 3
+  ;@ var number 2 r0 in 3
+  ;@ var length 1 0 in 3
   ldi r12, 0
   sub r2, r12, r0
   ldi r13, 0
@@ -322,28 +345,32 @@ L46:
   bnz r1, L47
   mov r7, r0
 L47:
-  ;@ line examples/c/say.h:16
+  ;@ line examples/c/say.h:16 in 3
+  ;@ var rest 3 r7 in 3
   ldi r13, 0
   lts r0, r0, r13
+  ;@ var number 2 - in 3
   bz r0, L12
 L11:
-  ;@ line examples/c/say.h:17
+  ;@ line examples/c/say.h:17 in 3
   ldi r0, 45
   lip r14, 2
   br putchar
 L12:
   ldi r1, 0
 L13:
-  ;@ line examples/c/say.h:20
+  ;@ line examples/c/say.h:20 in 3
+  ;@ var length 1 r1 in 3
   ldi r13, 10
   divu r5, r7, r13
   ldi r13, 10
   mul r0, r5, r13
   sub r0, r7, r0
-  ;@ line examples/c/say.h:19
+  ;@ line examples/c/say.h:19 in 3
   ldi r13, 48
   or r4, r0, r13
   addi r6, r1, 1
+  ;@ var length 1 r6 in 3
   addi r1, r1, 8
   ldi r13, -8
   and r0, r1, r13
@@ -358,21 +385,27 @@ L13:
   shl r0, r0, r2
   xor r0, r1, r0
   st r3, r0, 0, any, keep
+  ;@ var rest 3 r5 in 3
   ldi r13, 10
   ltu r0, r7, r13
   bnz r0, L14
 L26:
   mov r1, r6
+  ;@ var length 1 - in 3
   mov r7, r5
+  ;@ var rest 3 - in 3
   br L13
 L14:
-  ;@ line examples/c/say.h:21
+  ;@ line examples/c/say.h:21 in 3
+  ;@ var length 1 r6 in 3
   ldi r13, 32
   shl r0, r6, r13
+  ;@ var length 1 - in 3
   ldi r13, 32
   sar r7, r0, r13
 L15:
-  ;@ line examples/c/say.h:22
+  ;@ line examples/c/say.h:22 in 3
+  ;@ var length 1 r7 in 3
   addi r7, r7, -1
   addi r1, r7, 8
   ldi r13, -8
@@ -388,15 +421,17 @@ L15:
   sar r0, r0, r13
   lip r14, 2
   br putchar
-  ;@ line examples/c/say.h:21
+  ;@ line examples/c/say.h:21 in 3
   bnz r7, L15
 L16:
   ;@ line examples/c/sort.c:64
+  ;@ var length 1 - in 3
   ld r12, r15, 0, any, keep
   addi r7, r12, 1
   ld r12, r15, 0, any, keep
   ldi r13, 23
   eq r1, r12, r13
+  ;@ var i 1 -
   ldi r0, 10
   bnz r1, L48
   ldi r0, 32
@@ -404,11 +439,13 @@ L48:
   lip r14, 2
   br putchar
   ;@ line examples/c/sort.c:62
+  ;@ var i 1 r7
   ldi r13, 24
   eq r0, r7, r13
   bnz r0, L9
 L28:
   st r15, r7, 0, any, keep
+  ;@ var i 1 -
   br L10
 L17:
   ;@ line examples/c/sort.c:66
@@ -425,7 +462,8 @@ L17:
 L49:
   ldi r3, 0
 L18:
-  ;@ line examples/c/say.h:8
+  ;@ line examples/c/say.h:8 in 4
+  ;@ var text 4 r2+r3 in 4
   lip r12, P_3
   ld r12, r12, 0, any, keep
   ld r5, r12, 0, any, keep
@@ -439,6 +477,7 @@ L18:
   bnz r1, L50
   lea r4, r2, r3
 L50:
+  ;@ var text 4 - in 4
   mov r0, r4
   mov r3, r5
   ldi r1, 10
@@ -483,11 +522,13 @@ L50:
   lip r3, compare_names
   lip r14, 2
   br qsort
+  ;@ var i 1 0
   ldi r7, 0
   ;@ line examples/c/sort.c:69
   br L20
 L19:
   ;@ line examples/c/sort.c:73
+  ;@ var i 1 -
   ldi r0, 0
   ld r7, r15, 40, any, keep
   ld r8, r15, 48, any, keep
@@ -499,18 +540,21 @@ L19:
   jmp r14
 L20:
   ;@ line examples/c/sort.c:70
+  ;@ var i 1 r7
   ldi r13, 3
   shl r0, r7, r13
   ld r12, r15, 24, any, keep
   lea r0, r12, r0
   ld r0, r0, 0, any, keep
-  ;@ line examples/c/say.h:8
+  ;@ line examples/c/say.h:8 in 5
+  ;@ var text 4 r0 in 5
   lip r12, P_3
   ld r12, r12, 0, any, keep
   ld r1, r12, 0, any, keep
   lip r14, 2
   br fputs
   ;@ line examples/c/sort.c:71
+  ;@ var text 4 - in 5
   ldi r13, 5
   eq r1, r7, r13
   ldi r0, 10
@@ -570,13 +614,17 @@ L54:
   bz r0, L53
   br L54
 compare_names:
-  ;@ function examples/c/sort.c:49
+  ;@ function compare_names at examples/c/sort.c:49
   ;@ frame back 0 caller by 8
   leai r15, r15, -8
   st r15, r14, 0, any, keep
   ;@ line examples/c/sort.c:51
+  ;@ var a 9 r0
+  ;@ var b 9 r1
   ld r0, r0, 0, any, keep
+  ;@ var a 9 -
   ld r1, r1, 0, any, keep
+  ;@ var b 9 -
   lip r14, 2
   br strcmp
   ld r14, r15, 0, any, keep
@@ -1957,12 +2005,14 @@ L120:
   bnz r0, L101
   br L100
 compare:
-  ;@ function examples/c/sort.c:44
+  ;@ function compare at examples/c/sort.c:44
   ;@ frame back - caller by 0
   mov r2, r1
   ldi r3, 4
   ldi r4, 32
   ;@ line examples/c/sort.c:46
+  ;@ var a 9 r0
+  ;@ var b 9 r2
   and r1, r0, r3
   bnz r1, L170
   ld r1, r0, 0, any, keep
@@ -1972,6 +2022,7 @@ L170:
   ld r1, r0, -4, any, keep
 L171:
   sar r1, r1, r4
+  ;@ var a 9 -
   and r0, r2, r3
   bnz r0, L172
   ld r0, r2, 0, any, keep
@@ -1981,10 +2032,12 @@ L172:
   ld r0, r2, -4, any, keep
 L173:
   sar r0, r0, r4
+  ;@ var b 9 -
   sub r0, r1, r0
   jmp r14
 by_merging:
-  ;@ function examples/c/sort.c:34
+  ;@ function by_merging at examples/c/sort.c:34
+  ;@ inlined 1 merge at examples/c/sort.c:41
   ;@ frame back 80 caller by 88
   leai r15, r15, -88
   st r15, r7, 40, any, keep
@@ -2005,6 +2058,10 @@ by_merging:
   and r12, r7, r13
   st r15, r12, 32, any, keep
   ;@ line examples/c/sort.c:36
+  ;@ var a 10 r11
+  ;@ var room 10 s16
+  ;@ var from 1 r7
+  ;@ var to 1 s0
   ld r12, r15, 0, any, keep
   sub r12, r12, r7
   st r15, r12, 24, any, keep
@@ -2024,6 +2081,7 @@ L175:
   sub r12, r0, r1
   st r15, r12, 8, any, keep
   ;@ line examples/c/sort.c:39
+  ;@ var middle 1 s8
   mov r0, r11
   mov r2, r7
   ld r1, r15, 16, any, keep
@@ -2037,7 +2095,15 @@ L175:
   ld r3, r15, 0, any, keep
   lip r14, 2
   br by_merging
-  ;@ line examples/c/sort.c:29
+  ;@ line examples/c/sort.c:29 in 1
+  ;@ var a 10 r11 in 1
+  ;@ var room 10 s16 in 1
+  ;@ var from 1 r7 in 1
+  ;@ var middle 1 s8 in 1
+  ;@ var to 1 s0 in 1
+  ;@ var i 1 r7 in 1
+  ;@ var j 1 s8 in 1
+  ;@ var k 1 r7 in 1
   ld r13, r15, 0, any, keep
   lts r0, r7, r13
   bz r0, L183
@@ -2045,7 +2111,11 @@ L176:
   mov r6, r7
   ld r3, r15, 8, any, keep
 L177:
-  ;@ line examples/c/sort.c:30
+  ;@ line examples/c/sort.c:30 in 1
+  ;@ var from 1 s32
+  ;@ var from 1 s32 in 1
+  ;@ var k 1 r6 in 1
+  ;@ var j 1 r3 in 1
   ld r13, r15, 8, any, keep
   lts r0, r7, r13
   bz r0, L181
@@ -2080,13 +2150,20 @@ L189:
   bnz r0, L181
 L180:
   addi r5, r7, 1
+  ;@ var i 1 - in 1
   mov r4, r3
+  ;@ var j 1 - in 1
   mov r3, r7
   br L182
 L181:
+  ;@ var i 1 r7 in 1
+  ;@ var j 1 r3 in 1
   addi r4, r3, 1
+  ;@ var j 1 r4 in 1
   mov r5, r7
 L182:
+  ;@ var i 1 - in 1
+  ;@ var j 1 - in 1
   shl r0, r3, r8
   lea r0, r11, r0
   and r3, r0, r9
@@ -2097,6 +2174,8 @@ L190:
   ld r3, r0, -4, any, keep
   shr r3, r3, r10
 L191:
+  ;@ var j 1 r4 in 1
+  ;@ var i 1 r5 in 1
   shl r0, r6, r8
   ld r12, r15, 16, any, keep
   lea r2, r12, r0
@@ -2117,21 +2196,30 @@ L192:
   or r0, r0, r1
   st r2, r0, -4, any, keep
 L193:
-  ;@ line examples/c/sort.c:29
+  ;@ line examples/c/sort.c:29 in 1
   addi r6, r6, 1
   ld r13, r15, 0, any, keep
   eq r0, r6, r13
   bnz r0, L183
 L185:
+  ;@ var k 1 - in 1
   mov r3, r4
+  ;@ var j 1 - in 1
   mov r7, r5
+  ;@ var i 1 - in 1
   br L177
 L183:
-  ;@ line examples/c/sort.c:31
+  ;@ line examples/c/sort.c:31 in 1
+  ;@ var to 1 -
+  ;@ var middle 1 -
+  ;@ var middle 1 - in 1
+  ;@ var to 1 - in 1
   ld r12, r15, 32, any, keep
   shl r5, r12, r8
   ld r12, r15, 32, any, keep
   shl r2, r12, r8
+  ;@ var from 1 -
+  ;@ var from 1 - in 1
   ld r12, r15, 24, any, keep
   shl r4, r12, r8
   ld r12, r15, 16, any, keep
@@ -2145,6 +2233,8 @@ L183:
   bnz r1, L194
   lea r3, r12, r2
 L194:
+  ;@ var room 10 -
+  ;@ var room 10 - in 1
   add r2, r11, r5
   isptr r0, r11
   bz r0, L195
@@ -2155,6 +2245,8 @@ L194:
   bnz r1, L195
   lea r2, r11, r5
 L195:
+  ;@ var a 10 -
+  ;@ var a 10 - in 1
   mov r0, r2
   mov r1, r3
   mov r2, r4
@@ -2367,7 +2459,7 @@ P_7: .ptr ro _str_5+2
 P_8: .ptr ro _str_6+4
 P_9: .ptr ro _str_7+7
 .segment seed 3
-  ;@ global seed 4 at 4
+  ;@ global seed 4 at 4 type 11
   .int 0x303900000000
 .segment _str_1 4
   .int 0x6c6c610000000000
@@ -2398,3 +2490,14 @@ P_9: .ptr ro _str_7+7
 .segment stack 16
 .thread 0 0 none xu start
 .reg 15 ptr rw stack+65472
+;@ type 1 base i4 int
+;@ type 2 base i8 long
+;@ type 3 base u8 unsigned long
+;@ type 4 pointer 5
+;@ type 5 base i1 char
+;@ type 6 array 20 5
+;@ type 7 array 24 1
+;@ type 8 array 6 4
+;@ type 9 pointer 0
+;@ type 10 pointer 1
+;@ type 11 base u4 unsigned int

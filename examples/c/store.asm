@@ -1,6 +1,7 @@
 .segment store_text 11
 store_mm_door_look_in:
-  ;@ function examples/c/store.c:33
+  ;@ function look_in at examples/c/store.c:33
+  ;@ inlined 1 drawer_of at examples/c/store.c:35
   ;@ frame back 48 caller by 56
   leai r15, r15, -56
   st r15, r7, 8, any, keep
@@ -15,31 +16,45 @@ store_mm_door_look_in:
   ldi r9, 0
   lip r11, P_1
   ld r11, r11, 0, any, keep
-  ;@ line examples/c/store.c:13
+  ;@ line examples/c/store.c:13 in 1
+  ;@ var key 1 s0
+  ;@ var key 1 s0 in 1
+  ;@ var i 2 0 in 1
   ld r0, r10, -4, any, keep
   ldi r13, 32
   sar r0, r0, r13
   lts r0, r9, r0
   bnz r0, L7
 L8:
+  ;@ var key 1 -
+  ;@ var key 1 - in 1
   mov r8, r9
   mov r0, r9
   br L4
 L7:
+  ;@ var key 1 s0
+  ;@ var key 1 s0 in 1
   mov r7, r9
   br L3
 L2:
+  ;@ var i 2 r7 in 1
   ld r0, r10, -4, any, keep
   ldi r13, 32
   sar r0, r0, r13
   lts r0, r7, r0
   bnz r0, L3
 L11:
+  ;@ var key 1 -
+  ;@ var key 1 - in 1
+  ;@ var i 2 - in 1
   mov r8, r9
   mov r0, r9
   br L4
 L3:
-  ;@ line examples/c/store.c:14
+  ;@ line examples/c/store.c:14 in 1
+  ;@ var key 1 s0
+  ;@ var key 1 s0 in 1
+  ;@ var i 2 r7 in 1
   ldi r13, 3
   shl r8, r7, r13
   add r2, r11, r8
@@ -57,21 +72,28 @@ L13:
   br store_mm_key
   ld r12, r15, 0, any, keep
   eqw r0, r12, r0
-  ;@ line examples/c/store.c:13
+  ;@ line examples/c/store.c:13 in 1
   addi r7, r7, 1
-  ;@ line examples/c/store.c:14
+  ;@ line examples/c/store.c:14 in 1
   bz r0, L2
 L9:
+  ;@ var key 1 -
+  ;@ var key 1 - in 1
+  ;@ var i 2 - in 1
   mov r0, r11
 L4:
   ;@ line examples/c/store.c:36
+  ;@ var drawer 3 r0+r8
   add r1, r0, r8
   bnz r1, L5
 L12:
+  ;@ var drawer 3 -
   ldi r0, -1
   br L6
 L5:
+  ;@ var drawer 3 r0+r8
   lea r0, r0, r8
+  ;@ var drawer 3 -
   ld r0, r0, 0, any, keep
 L6:
   ld r7, r15, 8, any, keep
@@ -87,7 +109,8 @@ store_mm_key:
   restrict r0, r0, r13
   jmp r14
 store_mm_door_put_in:
-  ;@ function examples/c/store.c:24
+  ;@ function put_in at examples/c/store.c:24
+  ;@ inlined 1 drawer_of at examples/c/store.c:26
   ;@ frame back 56 caller by 64
   leai r15, r15, -64
   st r15, r7, 16, any, keep
@@ -103,31 +126,46 @@ store_mm_door_put_in:
   ldi r11, 0
   lip r10, P_1
   ld r10, r10, 0, any, keep
-  ;@ line examples/c/store.c:13
+  ;@ line examples/c/store.c:13 in 1
+  ;@ var key 1 s0
+  ;@ var value 4 s8
+  ;@ var key 1 s0 in 1
+  ;@ var i 2 0 in 1
   ld r0, r9, -4, any, keep
   ldi r13, 32
   sar r0, r0, r13
   lts r0, r11, r0
   bnz r0, L21
 L22:
+  ;@ var key 1 -
+  ;@ var key 1 - in 1
   mov r8, r11
   mov r0, r11
   br L18
 L21:
+  ;@ var key 1 s0
+  ;@ var key 1 s0 in 1
   mov r7, r11
   br L17
 L16:
+  ;@ var i 2 r7 in 1
   ld r0, r9, -4, any, keep
   ldi r13, 32
   sar r0, r0, r13
   lts r0, r7, r0
   bnz r0, L17
 L25:
+  ;@ var key 1 -
+  ;@ var key 1 - in 1
+  ;@ var i 2 - in 1
   mov r8, r11
   mov r0, r11
   br L18
 L17:
-  ;@ line examples/c/store.c:14
+  ;@ line examples/c/store.c:14 in 1
+  ;@ var key 1 s0
+  ;@ var key 1 s0 in 1
+  ;@ var i 2 r7 in 1
   ldi r13, 3
   shl r8, r7, r13
   add r2, r10, r8
@@ -145,24 +183,34 @@ L27:
   br store_mm_key
   ld r12, r15, 0, any, keep
   eqw r0, r12, r0
-  ;@ line examples/c/store.c:13
+  ;@ line examples/c/store.c:13 in 1
   addi r7, r7, 1
-  ;@ line examples/c/store.c:14
+  ;@ line examples/c/store.c:14 in 1
   bz r0, L16
 L23:
+  ;@ var key 1 -
+  ;@ var key 1 - in 1
+  ;@ var i 2 - in 1
   mov r0, r10
 L18:
   ;@ line examples/c/store.c:27
+  ;@ var drawer 3 r0+r8
   add r1, r0, r8
   bnz r1, L19
 L26:
+  ;@ var value 4 -
+  ;@ var drawer 3 -
   ldi r0, -1
   br L20
 L19:
   ;@ line examples/c/store.c:29
+  ;@ var value 4 s8
+  ;@ var drawer 3 r0+r8
   lea r0, r0, r8
+  ;@ var drawer 3 -
   ld r13, r15, 8, any, keep
   st r0, r13, 0, any, keep
+  ;@ var value 4 -
   mov r0, r11
 L20:
   ;@ line examples/c/store.c:31
@@ -175,7 +223,7 @@ L20:
   leai r15, r15, 64
   jmp r14
 store_mm_door_open_drawer:
-  ;@ function examples/c/store.c:19
+  ;@ function open_drawer at examples/c/store.c:19
   ;@ frame back 0 caller by 8
   leai r15, r15, -8
   st r15, r14, 0, any, keep
@@ -223,9 +271,9 @@ L30:
 P_0: .ptr rw store_used+4
 P_1: .ptr rw store_drawers+0
 .segment store_used 3
-  ;@ global used 4 at 4
+  ;@ global used 4 at 4 type 2
 .segment store_drawers 6
-  ;@ global drawers 64 at 0
+  ;@ global drawers 64 at 0 type 5
 .segment store_turn 3
   .ptr rw store_door_stack+65472
 .segment door_open_drawer 9
@@ -343,3 +391,8 @@ P_1: .ptr rw store_drawers+0
   jmp r14
   trap 14
 .segment store_door_stack 16
+;@ type 1 pointer 0
+;@ type 2 base i4 int
+;@ type 3 pointer 4
+;@ type 4 base i8 long
+;@ type 5 array 8 4

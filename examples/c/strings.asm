@@ -6,11 +6,23 @@ start:
   br main
   halt
 main:
-  ;@ function examples/c/strings.c:28
+  ;@ function main at examples/c/strings.c:28
+  ;@ inlined 1 say at examples/c/strings.c:32
+  ;@ inlined 2 say at examples/c/strings.c:33
+  ;@ inlined 3 turn_round at examples/c/strings.c:34
+  ;@ inlined 4 say at examples/c/strings.c:35
+  ;@ inlined 5 say at examples/c/strings.c:36
+  ;@ inlined 6 say_number at examples/c/strings.c:37
+  ;@ inlined 7 say at examples/c/strings.c:38
+  ;@ inlined 8 is_palindrome at examples/c/strings.c:39
+  ;@ inlined 9 say at examples/c/strings.c:39
+  ;@ inlined 10 say_number at examples/c/strings.c:40
+  ;@ inlined 11 say_number at examples/c/strings.c:41
+  ;@ inlined 12 say at examples/c/strings.c:42
   ;@ frame back 48 caller at 56
-  ;@ local letters.i 32 at 64 log 5
-  ;@ local digits.i 20 at 104 log 5
-  ;@ local room 32 at 128 log 5
+  ;@ local letters 32 at 64 log 5 type 7 in 8
+  ;@ local digits 20 at 104 log 5 type 8 in 6
+  ;@ local room 32 at 128 log 5 type 7
   ldi r13, 31
   and r13, r15, r13
   ldi r12, -160
@@ -69,7 +81,8 @@ L29:
   ldi r2, 9
   lip r14, 2
   br memcpy
-  ;@ line examples/c/say.h:8
+  ;@ line examples/c/say.h:8 in 1
+  ;@ var text 1 f128:5 in 1
   lip r12, P_3
   ld r12, r12, 0, any, keep
   ld r1, r12, 0, any, keep
@@ -91,7 +104,8 @@ L29:
   lip r4, P_6
   ld r4, r4, 0, any, keep
 L30:
-  ;@ line examples/c/say.h:8
+  ;@ line examples/c/say.h:8 in 2
+  ;@ var text 1 r4+0 in 2
   lip r12, P_3
   ld r12, r12, 0, any, keep
   ld r3, r12, 0, any, keep
@@ -106,31 +120,38 @@ L30:
   bnz r1, L31
   lea r2, r4, r13
 L31:
+  ;@ var text 1 - in 2
   mov r0, r2
   mov r1, r3
   lip r14, 2
   br fputs
-  ;@ line examples/c/strings.c:8
+  ;@ line examples/c/strings.c:8 in 3
+  ;@ var text 3 f128:5 in 3
+  ;@ var first 3 f128:5 in 3
   mov r0, r8
   lip r14, 2
   br strlen
   mov r1, r0
+  ;@ var last 3 f128:5+r1+-1 in 3
   add r0, r8, r1
   addi r0, r0, -1
   ltu r0, r8, r0
   bz r0, L3
 L19:
   addi r6, r1, -1
+  ;@ var last 3 - in 3
   ldi r5, 0
 L2:
-  ;@ line examples/c/strings.c:9
+  ;@ line examples/c/strings.c:9 in 3
+  ;@ var first 3 f128:5+r5 in 3
   ldi r13, -8
   and r0, r5, r13
   leab r0, r8, r0
   shl r1, r5, r11
   ld r0, r0, 0, any, keep
   shr r7, r0, r1
-  ;@ line examples/c/strings.c:10
+  ;@ line examples/c/strings.c:10 in 3
+  ;@ var kept 2 r7 in 3
   ldi r13, -8
   and r0, r6, r13
   leab r0, r8, r0
@@ -149,7 +170,7 @@ L2:
   shl r0, r0, r2
   xor r0, r1, r0
   st r3, r0, 0, any, keep
-  ;@ line examples/c/strings.c:11
+  ;@ line examples/c/strings.c:11 in 3
   ldi r13, -8
   and r0, r6, r13
   leab r3, r8, r0
@@ -157,12 +178,15 @@ L2:
   ld r1, r3, 0, any, keep
   shr r0, r1, r2
   xor r0, r0, r7
+  ;@ var kept 2 - in 3
   ldi r13, 255
   and r0, r0, r13
   shl r0, r0, r2
   xor r0, r1, r0
   st r3, r0, 0, any, keep
-  ;@ line examples/c/strings.c:8
+  ;@ line examples/c/strings.c:8 in 3
+  ;@ var first 3 f128:5+r5+1 in 3
+  ;@ var last 3 f128:5+r6+-1 in 3
   add r0, r8, r5
   addi r1, r0, 1
   add r0, r8, r6
@@ -171,16 +195,22 @@ L2:
   bz r0, L3
 L20:
   addi r6, r6, -1
+  ;@ var last 3 - in 3
   addi r5, r5, 1
+  ;@ var last 3 f128:5+r6+-1 in 3
   br L2
 L3:
-  ;@ line examples/c/say.h:8
+  ;@ line examples/c/say.h:8 in 4
+  ;@ var last 3 - in 3
+  ;@ var first 3 - in 3
+  ;@ var text 1 f128:5 in 4
   lip r12, P_3
   ld r12, r12, 0, any, keep
   ld r1, r12, 0, any, keep
   mov r0, r8
   lip r14, 2
   br fputs
+  ;@ line examples/c/say.h:8 in 5
   lip r12, P_3
   ld r12, r12, 0, any, keep
   ld r1, r12, 0, any, keep
@@ -191,7 +221,9 @@ L3:
   mov r0, r8
   lip r14, 2
   br strlen
-  ;@ line examples/c/say.h:15
+  ;@ line examples/c/say.h:15 in 6
+  ;@ var number 4 r0 in 6
+  ;@ var length 5 0 in 6
   ldi r12, 0
   sub r2, r12, r0
   ldi r13, 0
@@ -200,28 +232,32 @@ L3:
   bnz r1, L32
   mov r7, r0
 L32:
-  ;@ line examples/c/say.h:16
+  ;@ line examples/c/say.h:16 in 6
+  ;@ var rest 6 r7 in 6
   ldi r13, 0
   lts r0, r0, r13
+  ;@ var number 4 - in 6
   bz r0, L5
 L4:
-  ;@ line examples/c/say.h:17
+  ;@ line examples/c/say.h:17 in 6
   ldi r0, 45
   lip r14, 2
   br putchar
 L5:
   ldi r1, 0
 L6:
-  ;@ line examples/c/say.h:20
+  ;@ line examples/c/say.h:20 in 6
+  ;@ var length 5 r1 in 6
   ldi r13, 10
   divu r5, r7, r13
   ldi r13, 10
   mul r0, r5, r13
   sub r0, r7, r0
-  ;@ line examples/c/say.h:19
+  ;@ line examples/c/say.h:19 in 6
   ldi r13, 48
   or r4, r0, r13
   addi r6, r1, 1
+  ;@ var length 5 r6 in 6
   addi r1, r1, 8
   ldi r13, -8
   and r0, r1, r13
@@ -235,21 +271,27 @@ L6:
   shl r0, r0, r2
   xor r0, r1, r0
   st r3, r0, 0, any, keep
+  ;@ var rest 6 r5 in 6
   ldi r13, 10
   ltu r0, r7, r13
   bnz r0, L7
 L21:
   mov r1, r6
+  ;@ var length 5 - in 6
   mov r7, r5
+  ;@ var rest 6 - in 6
   br L6
 L7:
-  ;@ line examples/c/say.h:21
+  ;@ line examples/c/say.h:21 in 6
+  ;@ var length 5 r6 in 6
   ldi r13, 32
   shl r0, r6, r13
+  ;@ var length 5 - in 6
   ldi r13, 32
   sar r7, r0, r13
 L8:
-  ;@ line examples/c/say.h:22
+  ;@ line examples/c/say.h:22 in 6
+  ;@ var length 5 r7 in 6
   addi r7, r7, -1
   addi r1, r7, 8
   ldi r13, -8
@@ -264,10 +306,11 @@ L8:
   sar r0, r0, r13
   lip r14, 2
   br putchar
-  ;@ line examples/c/say.h:21
+  ;@ line examples/c/say.h:21 in 6
   bnz r7, L8
 L9:
   ;@ line examples/c/strings.c:38
+  ;@ var length 5 - in 6
   mov r0, r8
   ldi r1, 122
   lip r14, 2
@@ -278,7 +321,8 @@ L9:
   lip r4, P_8
   ld r4, r4, 0, any, keep
 L33:
-  ;@ line examples/c/say.h:8
+  ;@ line examples/c/say.h:8 in 7
+  ;@ var text 1 r4+0 in 7
   lip r12, P_3
   ld r12, r12, 0, any, keep
   ld r3, r12, 0, any, keep
@@ -293,16 +337,21 @@ L33:
   bnz r1, L34
   lea r2, r4, r13
 L34:
+  ;@ var text 1 - in 7
   mov r0, r2
   mov r1, r3
   lip r14, 2
   br fputs
+  ;@ var n 5 0 in 8
+  ;@ var text 1 @_str_7 in 8
   ldi r8, 65
   ldi r7, 0
   ldi r9, 0
-  ;@ line examples/c/strings.c:19
+  ;@ line examples/c/strings.c:19 in 8
   br L12
 L10:
+  ;@ var text 1 - in 8
+  ;@ var n 5 r5 in 8
   ldi r13, 63
   sar r1, r5, r13
   xor r0, r5, r1
@@ -314,12 +363,13 @@ L10:
   ldi r13, 0
   ldhi r13, 4294967295
   and r6, r4, r13
-  ;@ line examples/c/strings.c:22
+  ;@ line examples/c/strings.c:22 in 8
+  ;@ var i 5 0 in 8
   ldi r12, 1
   lts r0, r12, r5
   bz r0, L18
 L11:
-  ;@ line examples/c/strings.c:23
+  ;@ line examples/c/strings.c:23 in 8
   ld r0, r15, 64, any, keep
   ldi r13, 255
   and r2, r0, r13
@@ -337,30 +387,39 @@ L11:
   shr r0, r0, r1
   ldi r13, 255
   and r0, r0, r13
+  ;@ var i 5 1 in 8
   eq r0, r2, r0
   bnz r0, L26
 L27:
+  ;@ var n 5 - in 8
   ldi r0, 1
   br L18
 L26:
+  ;@ var n 5 r5 in 8
   ldi r2, 1
   br L15
 L12:
-  ;@ line examples/c/strings.c:20
+  ;@ line examples/c/strings.c:20 in 8
+  ;@ var i 5 - in 8
+  ;@ var n 5 r7 in 8
+  ;@ var text 1 @_str_7+r9 in 8
   mov r0, r8
   lip r14, 2
   br isalpha
   bnz r0, L13
 L23:
   mov r5, r7
+  ;@ var n 5 - in 8
   br L14
 L13:
-  ;@ line examples/c/strings.c:21
+  ;@ line examples/c/strings.c:21 in 8
+  ;@ var n 5 r7 in 8
   mov r0, r8
   lip r14, 2
   br tolower
   mov r4, r0
   addi r5, r7, 1
+  ;@ var n 5 r5 in 8
   ldi r13, -8
   and r0, r7, r13
   ld r12, r15, 0, any, keep
@@ -375,7 +434,8 @@ L13:
   xor r0, r1, r0
   st r3, r0, 0, any, keep
 L14:
-  ;@ line examples/c/strings.c:19
+  ;@ line examples/c/strings.c:19 in 8
+  ;@ var text 1 @_str_7+r9+1 in 8
   addi r1, r9, 2
   ldi r13, -8
   and r0, r1, r13
@@ -392,14 +452,20 @@ L14:
   bnz r0, L10
 L24:
   addi r9, r9, 1
+  ;@ var text 1 - in 8
   mov r7, r5
+  ;@ var n 5 - in 8
+  ;@ var text 1 @_str_7+r9+1 in 8
   br L12
 L15:
-  ;@ line examples/c/strings.c:22
+  ;@ line examples/c/strings.c:22 in 8
+  ;@ var text 1 - in 8
+  ;@ var n 5 r5 in 8
+  ;@ var i 5 r2 in 8
   eq r0, r2, r6
   bnz r0, L17
 L16:
-  ;@ line examples/c/strings.c:23
+  ;@ line examples/c/strings.c:23 in 8
   ldi r13, -8
   and r0, r2, r13
   ld r12, r15, 0, any, keep
@@ -425,16 +491,19 @@ L16:
   shr r0, r0, r1
   ldi r13, 255
   and r0, r0, r13
-  ;@ line examples/c/strings.c:22
+  ;@ line examples/c/strings.c:22 in 8
   addi r1, r2, 1
-  ;@ line examples/c/strings.c:23
+  ;@ line examples/c/strings.c:23 in 8
+  ;@ var i 5 r1 in 8
   eq r0, r3, r0
   bz r0, L17
 L28:
   mov r2, r1
+  ;@ var i 5 - in 8
   br L15
 L17:
-  ;@ line examples/c/strings.c:22
+  ;@ line examples/c/strings.c:22 in 8
+  ;@ var n 5 - in 8
   lts r0, r2, r4
 L18:
   ;@ line examples/c/strings.c:39
@@ -444,7 +513,8 @@ L18:
   lip r4, P_10
   ld r4, r4, 0, any, keep
 L35:
-  ;@ line examples/c/say.h:8
+  ;@ line examples/c/say.h:8 in 9
+  ;@ var text 1 r4+0 in 9
   lip r12, P_3
   ld r12, r12, 0, any, keep
   ld r3, r12, 0, any, keep
@@ -459,22 +529,30 @@ L35:
   bnz r1, L36
   lea r2, r4, r13
 L36:
+  ;@ var text 1 - in 9
   mov r0, r2
   mov r1, r3
   lip r14, 2
   br fputs
-  ;@ line examples/c/say.h:17
+  ;@ line examples/c/say.h:17 in 10
+  ;@ var number 4 -1 in 10
+  ;@ var length 5 0 in 10
+  ;@ var rest 6 1 in 10
   ldi r0, 45
   lip r14, 2
   br putchar
-  ;@ line examples/c/say.h:22
+  ;@ line examples/c/say.h:22 in 10
+  ;@ var rest 6 - in 10
   ldi r0, 49
   lip r14, 2
   br putchar
+  ;@ line examples/c/say.h:22 in 11
+  ;@ var number 4 0 in 11
+  ;@ var length 5 0 in 11
   ldi r0, 48
   lip r14, 2
   br putchar
-  ;@ line examples/c/say.h:8
+  ;@ line examples/c/say.h:8 in 12
   lip r12, P_3
   ld r12, r12, 0, any, keep
   ld r1, r12, 0, any, keep
@@ -1003,3 +1081,11 @@ P_10: .ptr ro _str_8+2
 .segment stack 16
 .thread 0 0 none xu start
 .reg 15 ptr rw stack+65472
+;@ type 1 pointer 2
+;@ type 2 base i1 char
+;@ type 3 pointer 2
+;@ type 4 base i8 long
+;@ type 5 base i4 int
+;@ type 6 base u8 unsigned long
+;@ type 7 array 32 2
+;@ type 8 array 20 2

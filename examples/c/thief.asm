@@ -6,9 +6,11 @@ start:
   br thief_main
   halt
 thief_main:
-  ;@ function examples/c/thief.c:7
+  ;@ function main at examples/c/thief.c:7
+  ;@ inlined 1 say_number at examples/c/thief.c:9
+  ;@ inlined 2 say at examples/c/thief.c:10
   ;@ frame back 40 caller at 48
-  ;@ local digits.i 20 at 72 log 5
+  ;@ local digits 20 at 72 log 5 type 5 in 1
   ldi r13, 31
   and r13, r15, r13
   ldi r12, -96
@@ -32,7 +34,9 @@ thief_main:
   lip r13, P_0
   ld r13, r13, 0, any, keep
   jal r14, r13
-  ;@ line examples/c/say.h:15
+  ;@ line examples/c/say.h:15 in 1
+  ;@ var number 1 r0 in 1
+  ;@ var length 2 0 in 1
   ldi r12, 0
   sub r2, r12, r0
   ldi r13, 0
@@ -41,26 +45,30 @@ thief_main:
   bnz r1, L10
   mov r7, r0
 L10:
-  ;@ line examples/c/say.h:16
+  ;@ line examples/c/say.h:16 in 1
+  ;@ var rest 3 r7 in 1
   ldi r13, 0
   lts r0, r0, r13
+  ;@ var number 1 - in 1
   bz r0, L3
 L2:
-  ;@ line examples/c/say.h:17
+  ;@ line examples/c/say.h:17 in 1
   ldi r0, 45
   lip r14, 2
   br thief_putchar
 L3:
   ldi r1, 0
 L4:
-  ;@ line examples/c/say.h:20
+  ;@ line examples/c/say.h:20 in 1
+  ;@ var length 2 r1 in 1
   divu r5, r7, r8
   mul r0, r5, r8
   sub r0, r7, r0
-  ;@ line examples/c/say.h:19
+  ;@ line examples/c/say.h:19 in 1
   ldi r13, 48
   or r4, r0, r13
   addi r6, r1, 1
+  ;@ var length 2 r6 in 1
   addi r1, r1, 8
   and r0, r1, r11
   leab r3, r9, r0
@@ -73,20 +81,26 @@ L4:
   shl r0, r0, r2
   xor r0, r1, r0
   st r3, r0, 0, any, keep
+  ;@ var rest 3 r5 in 1
   ltu r0, r7, r8
   bnz r0, L5
 L8:
   mov r1, r6
+  ;@ var length 2 - in 1
   mov r7, r5
+  ;@ var rest 3 - in 1
   br L4
 L5:
-  ;@ line examples/c/say.h:21
+  ;@ line examples/c/say.h:21 in 1
+  ;@ var length 2 r6 in 1
   ldi r13, 32
   shl r0, r6, r13
+  ;@ var length 2 - in 1
   ldi r13, 32
   sar r7, r0, r13
 L6:
-  ;@ line examples/c/say.h:22
+  ;@ line examples/c/say.h:22 in 1
+  ;@ var length 2 r7 in 1
   addi r7, r7, -1
   addi r1, r7, 8
   and r0, r1, r11
@@ -100,10 +114,11 @@ L6:
   sar r0, r0, r13
   lip r14, 2
   br thief_putchar
-  ;@ line examples/c/say.h:21
+  ;@ line examples/c/say.h:21 in 1
   bnz r7, L6
 L7:
-  ;@ line examples/c/say.h:8
+  ;@ line examples/c/say.h:8 in 2
+  ;@ var length 2 - in 1
   lip r12, P_1
   ld r12, r12, 0, any, keep
   ld r1, r12, 0, any, keep
@@ -148,3 +163,8 @@ P_1: .ptr rw thief_stdout+0
 .segment thief_stack 16
 .thread 1 1 none xu start
 .reg 15 ptr rw thief_stack+65472
+;@ type 1 base i8 long
+;@ type 2 base i4 int
+;@ type 3 base u8 unsigned long
+;@ type 4 base i1 char
+;@ type 5 array 20 4

@@ -6,11 +6,14 @@ start:
   br main
   halt
 main:
-  ;@ function examples/c/words.c:48
+  ;@ function main at examples/c/words.c:48
+  ;@ inlined 1 forget_all at examples/c/words.c:60
+  ;@ inlined 2 say at examples/c/words.c:55
+  ;@ inlined 3 say_number at examples/c/words.c:57
   ;@ frame back 56 caller at 64
-  ;@ local digits.i 20 at 104 log 5
-  ;@ local text 79 at 304 log 7
-  ;@ local asked 40 at 152 log 6
+  ;@ local digits 20 at 104 log 5 type 9 in 3
+  ;@ local text 79 at 304 log 7 type 10
+  ;@ local asked 40 at 152 log 6 type 11
   ldi r13, 127
   and r13, r15, r13
   ldi r12, -384
@@ -53,9 +56,11 @@ main:
   ld r0, r15, 0, any, keep
   lip r14, 2
   br strtok
+  ;@ var word 1 r0
   bnz r0, L3
 L2:
   ;@ line examples/c/words.c:53
+  ;@ var word 1 -
   ldi r12, 0
   st r15, r12, 152, any, keep
   ldi r12, 0
@@ -81,15 +86,19 @@ L2:
   lip r12, P_7
   ld r12, r12, 0, any, keep
   st r15, r12, 184, any, keep
+  ;@ var i 3 0
   ldi r12, 0
   st r15, r12, 0, any, keep
   ;@ line examples/c/words.c:54
   br L8
 L3:
   ;@ line examples/c/words.c:52
+  ;@ var i 3 -
+  ;@ var word 1 r0
   lip r14, 2
   br find
   mov r2, r0
+  ;@ var word 1 -
   ld r0, r2, 16, any, keep
   addi r0, r0, 1
   ld r1, r2, 16, any, keep
@@ -104,41 +113,47 @@ L3:
   ldi r0, 0
   lip r14, 2
   br strtok
+  ;@ var word 1 r0
   bz r0, L2
   br L3
 L4:
   ;@ line examples/c/words.c:54
+  ;@ var word 1 -
+  ;@ var i 3 r10 in 1
   ldi r13, 3
   shl r8, r10, r13
-  ;@ line examples/c/words.c:40
+  ;@ line examples/c/words.c:40 in 1
   lea r0, r9, r8
   ld r7, r0, 0, any, keep
   bz r7, L6
 L5:
-  ;@ line examples/c/words.c:42
+  ;@ line examples/c/words.c:42 in 1
+  ;@ var gone 4 r7 in 1
   ld r1, r7, 0, any, keep
   lea r0, r9, r8
   st r0, r1, 0, any, keep
-  ;@ line examples/c/words.c:43
+  ;@ line examples/c/words.c:43 in 1
   ld r0, r7, 8, any, keep
   lip r14, 2
   br free
-  ;@ line examples/c/words.c:44
+  ;@ line examples/c/words.c:44 in 1
   mov r0, r7
   lip r14, 2
   br free
-  ;@ line examples/c/words.c:40
+  ;@ line examples/c/words.c:40 in 1
+  ;@ var gone 4 - in 1
   lea r0, r9, r8
   ld r7, r0, 0, any, keep
   bnz r7, L5
 L6:
-  ;@ line examples/c/words.c:39
+  ;@ line examples/c/words.c:39 in 1
   addi r10, r10, 1
   ldi r13, 16
   eq r0, r10, r13
   bz r0, L4
 L7:
   ;@ line examples/c/words.c:61
+  ;@ var i 3 - in 1
   ldi r0, 0
   ld r7, r15, 16, any, keep
   ld r8, r15, 24, any, keep
@@ -150,13 +165,15 @@ L7:
   jmp r14
 L8:
   ;@ line examples/c/words.c:55
+  ;@ var i 3 s0
   ld r12, r15, 0, any, keep
   ldi r13, 3
   shl r0, r12, r13
   ld r12, r15, 8, any, keep
   lea r0, r12, r0
   ld r7, r0, 0, any, keep
-  ;@ line examples/c/say.h:8
+  ;@ line examples/c/say.h:8 in 2
+  ;@ var text 6 r7 in 2
   lip r12, P_8
   ld r12, r12, 0, any, keep
   ld r1, r12, 0, any, keep
@@ -171,12 +188,15 @@ L8:
   mov r0, r7
   lip r14, 2
   br find
+  ;@ var text 6 - in 2
   ld r0, r0, 16, any, keep
   ldi r13, 32
   shl r0, r0, r13
   ldi r13, 32
   sar r0, r0, r13
-  ;@ line examples/c/say.h:15
+  ;@ line examples/c/say.h:15 in 3
+  ;@ var number 7 r0 in 3
+  ;@ var length 3 0 in 3
   ldi r12, 0
   sub r2, r12, r0
   ldi r13, 0
@@ -185,26 +205,30 @@ L8:
   bnz r1, L24
   mov r7, r0
 L24:
-  ;@ line examples/c/say.h:16
+  ;@ line examples/c/say.h:16 in 3
+  ;@ var rest 8 r7 in 3
   ldi r13, 0
   lts r0, r0, r13
+  ;@ var number 7 - in 3
   bz r0, L10
 L9:
-  ;@ line examples/c/say.h:17
+  ;@ line examples/c/say.h:17 in 3
   ldi r0, 45
   lip r14, 2
   br putchar
 L10:
   ldi r1, 0
 L11:
-  ;@ line examples/c/say.h:20
+  ;@ line examples/c/say.h:20 in 3
+  ;@ var length 3 r1 in 3
   divu r5, r7, r10
   mul r0, r5, r10
   sub r0, r7, r0
-  ;@ line examples/c/say.h:19
+  ;@ line examples/c/say.h:19 in 3
   ldi r13, 48
   or r4, r0, r13
   addi r6, r1, 1
+  ;@ var length 3 r6 in 3
   addi r1, r1, 8
   and r0, r1, r11
   leab r3, r8, r0
@@ -218,20 +242,26 @@ L11:
   shl r0, r0, r2
   xor r0, r1, r0
   st r3, r0, 0, any, keep
+  ;@ var rest 8 r5 in 3
   ltu r0, r7, r10
   bnz r0, L12
 L17:
   mov r1, r6
+  ;@ var length 3 - in 3
   mov r7, r5
+  ;@ var rest 8 - in 3
   br L11
 L12:
-  ;@ line examples/c/say.h:21
+  ;@ line examples/c/say.h:21 in 3
+  ;@ var length 3 r6 in 3
   ldi r13, 32
   shl r0, r6, r13
+  ;@ var length 3 - in 3
   ldi r13, 32
   sar r7, r0, r13
 L13:
-  ;@ line examples/c/say.h:22
+  ;@ line examples/c/say.h:22 in 3
+  ;@ var length 3 r7 in 3
   addi r7, r7, -1
   addi r1, r7, 8
   and r0, r1, r11
@@ -246,10 +276,11 @@ L13:
   sar r0, r0, r13
   lip r14, 2
   br putchar
-  ;@ line examples/c/say.h:21
+  ;@ line examples/c/say.h:21 in 3
   bnz r7, L13
 L14:
   ;@ line examples/c/words.c:58
+  ;@ var length 3 - in 3
   mov r0, r10
   lip r14, 2
   br putchar
@@ -262,6 +293,7 @@ L14:
   eq r0, r12, r13
   bz r0, L8
 L19:
+  ;@ var i 3 -
   ldi r10, 0
   br L4
 free:
@@ -345,7 +377,8 @@ L31:
   bz r0, L30
   br L31
 find:
-  ;@ function examples/c/words.c:24
+  ;@ function find at examples/c/words.c:24
+  ;@ inlined 1 hash at examples/c/words.c:26
   ;@ frame back 48 caller by 56
   leai r15, r15, -56
   st r15, r7, 8, any, keep
@@ -362,7 +395,10 @@ find:
   ldi r7, 16777619
   lip r8, P_1
   ld r8, r8, 0, any, keep
-  ;@ line examples/c/words.c:19
+  ;@ line examples/c/words.c:19 in 1
+  ;@ var word 6 r9
+  ;@ var word 6 r9 in 1
+  ;@ var h 12 -2128831035 in 1
   and r0, r9, r4
   sub r0, r11, r0
   lea r0, r9, r0
@@ -379,10 +415,15 @@ L43:
   ldi r0, 5
   br L37
 L35:
-  ;@ line examples/c/words.c:20
+  ;@ line examples/c/words.c:20 in 1
+  ;@ var h 12 r3 in 1
+  ;@ var word 6 r9+r2 in 1
   xor r0, r3, r0
+  ;@ var h 12 - in 1
   mul r3, r0, r7
-  ;@ line examples/c/words.c:19
+  ;@ line examples/c/words.c:19 in 1
+  ;@ var h 12 r3 in 1
+  ;@ var word 6 r9+r2+1 in 1
   addi r0, r2, 1
   lea r1, r9, r0
   and r0, r1, r4
@@ -395,19 +436,25 @@ L35:
   bz r0, L36
 L45:
   addi r2, r2, 1
+  ;@ var h 12 - in 1
   br L35
 L36:
-  ;@ line examples/c/words.c:21
+  ;@ line examples/c/words.c:21 in 1
+  ;@ var word 6 - in 1
+  ;@ var h 12 r3 in 1
   ldi r13, 15
   and r0, r3, r13
 L37:
   ;@ line examples/c/words.c:26
+  ;@ var h 12 - in 1
   shl r10, r0, r6
   ;@ line examples/c/words.c:27
+  ;@ var place 13 @chains+r10
   lea r0, r8, r10
   ld r7, r0, 0, any, keep
   bnz r7, L38
 L46:
+  ;@ var place 13 -
   st r15, r8, 0, any, keep
   br L41
 L38:
@@ -419,21 +466,26 @@ L38:
   bz r0, L42
 L39:
   ;@ line examples/c/words.c:27
+  ;@ var place 13 r7
   ld r0, r7, 0, any, keep
   bz r0, L40
 L49:
+  ;@ var place 13 -
   mov r7, r0
+  ;@ var place 13 r7
   br L38
 L40:
   mov r10, r11
   st r15, r7, 0, any, keep
 L41:
   ;@ line examples/c/words.c:30
+  ;@ var place 13 -
   ldi r0, 24
   lip r14, 2
   br malloc
   mov r7, r0
   ;@ line examples/c/words.c:31
+  ;@ var made 4 r7
   st r7, r11, 0, any, keep
   ;@ line examples/c/words.c:32
   mov r0, r9
@@ -447,6 +499,7 @@ L41:
   mov r1, r9
   lip r14, 2
   br strcpy
+  ;@ var word 6 -
   st r7, r8, 8, any, keep
   ;@ line examples/c/words.c:33
   ld r1, r7, 16, any, keep
@@ -462,6 +515,7 @@ L41:
   st r0, r7, 0, any, keep
 L42:
   ;@ line examples/c/words.c:35
+  ;@ var made 4 -
   mov r0, r7
   ld r7, r15, 8, any, keep
   ld r8, r15, 16, any, keep
@@ -1219,7 +1273,7 @@ P_12: .ptr rw strtok_rest+0
   ;@ global stdout 8 at 0
   .ptr rw files+8
 .segment chains 7
-  ;@ global chains 128 at 0
+  ;@ global chains 128 at 0 type 14
 .segment heap 16
   ;@ global __mm_heap 65536 at 0
 .segment unused 8
@@ -1235,3 +1289,17 @@ P_12: .ptr rw strtok_rest+0
 .segment stack 16
 .thread 0 0 none xu start
 .reg 15 ptr rw stack+65472
+;@ type 1 pointer 2
+;@ type 2 base i1 char
+;@ type 3 base i4 int
+;@ type 4 pointer 5
+;@ type 5 struct 24 entry next:0:4 word:64:1 count:128:3
+;@ type 6 pointer 2
+;@ type 7 base i8 long
+;@ type 8 base u8 unsigned long
+;@ type 9 array 20 2
+;@ type 10 array 79 2
+;@ type 11 array 5 6
+;@ type 12 base u4 unsigned int
+;@ type 13 pointer 4
+;@ type 14 array 16 4

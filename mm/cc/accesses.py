@@ -6,7 +6,19 @@ from typing import Optional
 
 from mm.cc.code import LocalObject
 from mm.cc.forms import RAW, SIGNED, ZEROED
-from mm.cc.ir import ArrayType, Instruction, IntType, Local, PointerType, StructType, Type, Undefined, Value, VectorType
+from mm.cc.ir import (
+    ArrayType,
+    Global,
+    Instruction,
+    IntType,
+    Local,
+    PointerType,
+    StructType,
+    Type,
+    Undefined,
+    Value,
+    VectorType,
+)
 from mm.cc.lowering import Lowering
 from mm.cc.pointers import Pointer
 from mm.cc.untranslated import Untranslated
@@ -276,10 +288,18 @@ class Accesses(Lowering):
         if isinstance(place, Local) and place.name in self.promoted:
             self.load_promoted(made, place.name)
             return
-        assert made.name is not None or made.name is None
         name = made.name or f"?{self.code.registers}"
+        if self.only_asked(made):
+            self.define(name, made.type, self.constant(0))
+            return
         align = made.align or self.layouts.align(made.type)
         self.load_value(self.pointer(place), made.type, align, name)
+
+    def only_asked(self, made: Instruction) -> bool:
+        """Whether a load is made for `__builtin_constant_p` alone, which C does not carry out."""
+        users = self.users.get(made.name or "", [])
+        return isinstance(made.type, IntType) and made.type.bits <= WORD * 8 and bool(users) and all(
+            isinstance(user.callee, Global) and user.callee.name.startswith("llvm.is.constant") for user in users)
 
     def load_promoted(self, made: Instruction, name: str) -> None:
         assert made.name is not None

@@ -8,6 +8,9 @@ from typing import Optional
 from mm.cc.code import ARGUMENTS, FIRST_KEPT, FRAME, LAST_KEPT, VARIADIC, Call, Code
 from mm.cc.liveness import Interval, Liveness, Range
 
+# After every place of a function.
+NEVER = 1 << 60
+
 
 class Allocation:
     """Where each register of the code is: a register of the machine, or a slot of the frame; fixed values may be in
@@ -20,6 +23,13 @@ class Allocation:
         self.home: dict[int, int] = {}
         self.slot: dict[int, int] = {}
         self.slots = 0
+        events = any(block.events for block in code.blocks)
+        # Of each register, for the debugger, its own ranges, before any are joined, and where these end.
+        self.own: dict[int, list[Range]] = {}
+        self.own_ends: dict[int, list[int]] = {}
+        for register, interval in self.live.intervals.items() if events else ():
+            self.own[register] = list(interval.ranges)
+            self.own_ends[register] = [end for _, end in interval.ranges]
         self._give_fixed_ranges()
         self._join_moves()
         self._mark_calls()
@@ -39,6 +49,12 @@ class Allocation:
 
     def has_slot(self, register: int) -> bool:
         return self.root(register) in self.slot
+
+    def range_at(self, register: int, place: int) -> Range:
+        """Where a register of the code has its value, from the first such range on that ends after a place."""
+        at = bisect_right(self.own_ends.get(register, ()), place)
+        ranges = self.own.get(register, [])
+        return ranges[at] if at < len(ranges) else (NEVER, NEVER)
 
     def _give_fixed_ranges(self) -> None:
         """A fixed value is made at the beginning of the function, so it is live from there on to where liveness finds

@@ -44,6 +44,7 @@ class Calls(Arithmetic):
     # Calls of functions
 
     def call_function(self, made: Instruction, callee: Value) -> None:
+        self.copied = 0
         registers: list[int] = []
         named = made.signature.parameters if made.signature and made.signature.variadic else None
         variadic = bool(named)
@@ -71,7 +72,7 @@ class Calls(Arithmetic):
         value, type_ = argument.value, self.layouts.plain(argument.value.type)
         if argument.by_value is not None:
             size = self.layouts.size(argument.by_value)
-            copy = self.local_object("argument", size, max(WORD, self.layouts.align(argument.by_value)))
+            copy = self.room_for_copy(size, max(WORD, self.layouts.align(argument.by_value)))
             self.copy_object(copy, self.pointer(value), size, self.layouts.align(argument.by_value))
             return [self.whole(copy)]
         if isinstance(type_, PointerType):
@@ -81,6 +82,14 @@ class Calls(Arithmetic):
         if isinstance(type_, VoidType):
             return []
         return [register for part in self.group(value) for register in self.argument(Argument(part))]
+
+    def room_for_copy(self, size: int, align: int) -> Pointer:
+        """An object of the frame for an argument. Calls share it: nobody needs it after the call."""
+        self.copied += 1
+        key = size, align, self.copied
+        if key not in self.copies:
+            self.copies[key] = self.local_object("argument", size, align)
+        return self.copies[key]
 
     def copy_object(self, to: Pointer, source: Pointer, size: int, align: int) -> None:
         if align % WORD == 0 and size % WORD == 0 and size <= WORD * MOST_WORDS_INLINE:

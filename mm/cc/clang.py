@@ -55,7 +55,7 @@ def text_of(path: str, level: str = "1", more: Sequence[str] = ()) -> str:
 def module_of(path: str, level: str = "1", more: Sequence[str] = (), lines: bool = False) -> Module:
     """The module of a file, with its lines and the names of its locals where these are wanted."""
     if lines:
-        more = ["-gline-tables-only", "-fno-discard-value-names", *more]
+        more = ["-g", "-fno-discard-value-names", *more]
     return read_module(text_of(path, level, more), path)
 
 

@@ -3,7 +3,7 @@
 from __future__ import annotations
 
 from dataclasses import dataclass, field
-from typing import Optional
+from typing import Any, NamedTuple, Optional
 
 # The registers. Arguments come in the first six; those from FIRST_KEPT to LAST_KEPT are kept by a function that is
 # called.
@@ -35,6 +35,24 @@ class Call:
     words: list[int] = field(default_factory=list)
     results: list[int] = field(default_factory=list)
     twice: bool = False
+
+
+class Variable(NamedTuple):
+    """A variable of C: what LLVM's text says of it and of the place where it is declared, by their numbers there."""
+
+    node: str
+    location: str
+
+
+@dataclass(frozen=True)
+class Where:
+    """Where a variable is: the sum of values and a number, or in memory there. Each value is in several registers, not
+    always in all of them. The address of a global may be a part too."""
+
+    parts: tuple[tuple[int, ...], ...] = ()
+    number: int = 0
+    memory: bool = False
+    global_: str = ""
 
 
 class Op:
@@ -78,6 +96,8 @@ class CodeBlock:
     body: list[Op] = field(default_factory=list)
     next: list[str] = field(default_factory=list)
     depth: int = 0
+    # Where variables are, each from an operation of the block on.
+    events: list[Any] = field(default_factory=list)
 
 
 @dataclass
@@ -90,6 +110,7 @@ class LocalObject:
     log: int
     place: int
     at: int = 0
+    variable: Optional[Variable] = None
 
 
 @dataclass
@@ -105,8 +126,6 @@ class Code:
     dynamic: bool = False
     twice: bool = False
     variadic: bool = False
-    # Registers that hold a variable of the program, for the debugger.
-    variables: dict[int, str] = field(default_factory=dict)
 
     def new(self) -> int:
         self.registers += 1

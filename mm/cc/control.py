@@ -9,6 +9,8 @@ from mm.cc.ends import Ends
 from mm.cc.forms import RAW, SIGNED, ZEROED, bits_of
 from mm.cc.ir import Block, FloatType, Instruction, IntType, Local, PointerType, Type, Value, VectorType
 from mm.cc.pointers import Pointer, is_twice
+from mm.cc.reading import FLOATING, FLOAT_CASTS
+from mm.cc.variables import event_of
 from mm.cc.untranslated import Untranslated
 from mm.cc.wide import has_floats, is_plain, is_wide
 
@@ -138,7 +140,9 @@ class Translator(Ends):
             if made.op == "phi":
                 self.forms_of_several(made)
             elif made.op == "debug":
-                continue
+                event = event_of(made, self)
+                if event is not None:
+                    self.block.events.append((len(self.block.body), event))
             else:
                 if made.debug is not None:
                     self.line = made.debug
@@ -175,7 +179,8 @@ class Translator(Ends):
     def instruction(self, made: Instruction) -> None:
         handler = self.HANDLERS.get(made.op)
         if handler is None:
-            raise Untranslated("floating point" if made.op.startswith("f") else f"the operation {made.op}")
+            floats = made.op in FLOATING or made.op in FLOAT_CASTS
+            raise Untranslated("floating point" if floats else f"the operation {made.op}")
         getattr(self, handler)(made)
 
     HANDLERS = {

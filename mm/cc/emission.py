@@ -8,6 +8,7 @@ from mm.cc.allocation import Allocation
 from mm.cc.code import FRAME, LINK, SCRATCH, SECOND, STACK, Code, Fixed, LocalObject, Op
 from mm.cc.frame import Frame
 from mm.cc.text import Line, TextBlock
+from mm.cc.variables import Naming, Places
 
 THREE = {"add", "sub", "mul", "divu", "remu", "and", "or", "xor", "shl", "shr", "sar", "eq", "ltu", "lts", "eqw", "lea",
          "leab", "restrict", "subseg"}
@@ -19,20 +20,25 @@ Source = Union[int, tuple[str, int], Fixed]
 class Emission:
     """Writes the text of a function."""
 
-    def __init__(self, code: Code, allocation: Allocation, link: bool, fresh: Callable[[], str]) -> None:
-        self.code, self.allocation, self.link, self.here = code, allocation, link, fresh
+    def __init__(self, code: Code, allocation: Allocation, link: bool, fresh: Callable[[], str],
+                 naming: Naming) -> None:
+        self.code, self.allocation, self.link, self.here, self.naming = code, allocation, link, fresh, naming
         self.frame = Frame(code, allocation, link)
         self.base = FRAME if code.dynamic else STACK
         self.blocks: list[TextBlock] = []
         self.origin: Optional[str] = None
+        self.variables: tuple[str, ...] = ()
         self.used_link = False
 
     def text(self) -> list[TextBlock]:
+        places, place = Places(self.code, self.allocation, self.frame, self.naming), 0
         for block in self.code.blocks:
             self.blocks.append(TextBlock(block.label))
-            for op in block.body:
-                self.origin = op.line
+            places.begin(block, place)
+            for number, op in enumerate(block.body):
+                self.origin, self.variables = op.line, places.at(number, place)
                 self.operation(op)
+                place += 2
         self.blocks[0].notes = self.notes()
         return self.blocks
 
@@ -44,13 +50,16 @@ class Emission:
         old = f"at {frame.old}" if frame.aligned else f"by {frame.size}"
         found = [f"frame back {link} caller {old}"]
         for made in self.code.objects:
-            found.append(f"local {made.name} {made.size} at {made.at + made.place} log {made.log}")
+            named, frame_of = self.naming.variable(made.variable) if made.variable else (made.name, "")
+            name, _, type_ = named.partition(" ")
+            said = f" type {type_}{frame_of}" if type_ else ""
+            found.append(f"local {name} {made.size} at {made.at + made.place} log {made.log}{said}")
         return found
 
     # Lines
 
     def put(self, op: str, *operands: object, target: Optional[str] = None) -> None:
-        self.blocks[-1].lines.append(Line(op, ", ".join(map(str, operands)), target, self.origin))
+        self.blocks[-1].lines.append(Line(op, ", ".join(map(str, operands)), target, self.origin, self.variables))
 
     def reg(self, op: str, *registers: int) -> None:
         self.put(op, *[f"r{register}" for register in registers])

@@ -1,16 +1,19 @@
-"""Where code comes from in C: the file and the line of a debug location of LLVM's text."""
+"""Where code comes from in C: the file, the line and the function of a debug location of LLVM's text."""
 
 from __future__ import annotations
 
 import re
-from typing import Optional
+from typing import Callable, Optional
 
+from mm.cc.code import Variable
+from mm.cc.ctypes import Types
 from mm.cc.ir import Module
 
-LOCATION = re.compile(r"!DILocation\(line: (\d+)(?:, column: \d+)?, scope: (!\d+)")
+LOCATION = re.compile(r"!DILocation\(line: (\d+)(?:, column: \d+)?, scope: (!\d+)(?:, inlinedAt: (!\d+))?")
 SCOPE = re.compile(r"\bscope: (!\d+)")
 FILE = re.compile(r"\bfile: (!\d+)")
-NAME = re.compile(r'filename: "([^"]*)"')
+NAME = re.compile(r'\bname: "([^"]*)"')
+FILE_NAME = re.compile(r'filename: "([^"]*)"')
 LINE = re.compile(r"\bline: (\d+)")
 
 
@@ -41,7 +44,7 @@ class Lines:
         if scope not in self.files:
             said = self.debug.get(scope, "")
             file, outer = FILE.search(said), SCOPE.search(said)
-            name = NAME.search(self.debug.get(file[1], "")) if file else None
+            name = FILE_NAME.search(self.debug.get(file[1], "")) if file else None
             self.files[scope] = name[1] if name else self.file_of(outer[1]) if outer else None
         return self.files[scope]
 
@@ -50,3 +53,58 @@ class Lines:
         said = self.debug.get(subprogram or "", "")
         line, file = LINE.search(said), self.file_of(subprogram) if subprogram else None
         return f"{file}:{line[1]}" if line and file else None
+
+    def name_of(self, node: str) -> str:
+        name = NAME.search(self.debug.get(node, ""))
+        return name[1] if name else "?"
+
+    def call_of(self, location: str) -> Optional[tuple[str, str]]:
+        """The function that a location is in and the location of its call, if it was put into another one there."""
+        match = LOCATION.search(self.debug.get(location, ""))
+        return (self.function_of(match[2]), match[3]) if match and match[3] else None
+
+    def function_of(self, scope: str) -> str:
+        """The function that a scope is in, by its number."""
+        said = self.debug.get(scope, "")
+        outer = SCOPE.search(said)
+        return scope if "!DISubprogram(" in said or not outer else self.function_of(outer[1])
+
+
+class FunctionNotes:
+    """What is said of a function in comments: its lines, its variables, and the functions that were put into it, which
+    have numbers from 1 on."""
+
+    def __init__(self, lines: Lines, types: Types, segment: Callable[[str], Optional[str]]) -> None:
+        self.lines, self.types, self.segment_of = lines, types, segment
+        self.inner: dict[tuple[str, str], int] = {}
+        self.inlined: list[str] = []
+        self.said: dict[Variable, tuple[str, str]] = {}
+
+    def frame(self, location: str) -> str:
+        """` in 2`, for a place in the second of the functions that were put into this one."""
+        call = self.lines.call_of(location)
+        if call is None:
+            return ""
+        if call not in self.inner:
+            number = self.inner[call] = len(self.inner) + 1
+            at, outer = self.lines.of(call[1]) or "?:0", self.frame(call[1])
+            self.inlined.append(f"inlined {number} {self.lines.name_of(call[0])} at {at}{outer}")
+        return f" in {self.inner[call]}"
+
+    def place(self, location: Optional[str]) -> Optional[str]:
+        """`ov.c:7`, `ov.c:7 in 2`."""
+        found = self.lines.of(location)
+        return f"{found}{self.frame(location)}" if found and location else None
+
+    def segment(self, name: str) -> Optional[str]:
+        """`@table`, for a global of that segment."""
+        found = self.segment_of(name)
+        return f"@{found}" if found else None
+
+    def variable(self, variable: Variable) -> tuple[str, str]:
+        """The name and the type of a variable, and ` in 2`."""
+        found = self.said.get(variable)
+        if found is None:
+            name, type_ = self.lines.name_of(variable.node), self.types.of_variable(variable.node, self.lines.debug)
+            found = self.said[variable] = f"{name} {type_}", self.frame(variable.location)
+        return found

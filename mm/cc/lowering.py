@@ -4,7 +4,7 @@ from __future__ import annotations
 
 from typing import Optional
 
-from mm.cc.code import Code, CodeBlock, Fixed, Op
+from mm.cc.code import Code, CodeBlock, Fixed, Op, Variable
 from mm.cc.forms import RAW, SIGNED, ZEROED, Forms, bits_of
 from mm.cc.ir import (
     ArrayType,
@@ -63,6 +63,10 @@ class Names:
         """What an alias stands for."""
         raise NotImplementedError
 
+    def declare(self, name: str, variable: Variable) -> None:
+        """A global that is a variable of a function, as an array that is never changed."""
+        raise NotImplementedError
+
 
 class Lowering:
     """Makes the code of one function: registers for its values, blocks, and the ends of blocks. Its parts are in
@@ -84,6 +88,9 @@ class Lowering:
         self.block = CodeBlock(self.code.label)
         self.labels = {block.name: names.fresh() for block in function.blocks}
         self.variadic_words: Optional[int] = None
+        # Objects for arguments that are handed over by value, by size, alignment and place in a call.
+        self.copies: dict[tuple[int, int, int], Pointer] = {}
+        self.copied = 0
         self.made = {made.name: made for block in function.blocks for made in block.body if made.name}
         self.users: dict[str, list[Instruction]] = {}
         for block in function.blocks:

@@ -77,6 +77,9 @@ class Operations(Calls):
 
     @staticmethod
     def plain(value: Value) -> int:
+        """A number that is part of the operation itself."""
+        if not isinstance(value, (Number, Zero)):
+            raise Untranslated("an operation of the machine with a number that is not constant")
         return value.number if isinstance(value, Number) else 0
 
     def effect(self, op: str, arguments: list[Value]) -> None:

@@ -6,11 +6,12 @@ import re
 from dataclasses import dataclass
 from typing import Optional
 
-from mm.cc.code import log_of, place_in
+from mm.cc.code import Variable, log_of, place_in
 from mm.cc.control import Translator
+from mm.cc.ctypes import Types
 from mm.cc.data import Constants, Place, Words
 from mm.cc.ir import ArrayType, BlockAddress, Function, Global, GlobalObject, IntType, Module, Value
-from mm.cc.lines import Lines
+from mm.cc.lines import FunctionNotes, Lines
 from mm.cc.lowering import Names
 from mm.cc.options import Options
 from mm.cc.pointers import Known
@@ -79,6 +80,7 @@ class ModuleNames(Names):
         self.layouts = module.layouts()
         self.constants = Constants(self.layouts, self.resolve)
         self.lines = Lines(module)
+        self.declared: dict[str, Variable] = {}
 
     def fresh(self) -> str:
         return self.program.fresh()
@@ -102,6 +104,11 @@ class ModuleNames(Names):
         found = self.program.want_global(self.module, name)
         return found.name, found.known
 
+    def known_segment(self, name: str) -> Optional[str]:
+        """The segment of a global that is part of the program already."""
+        found = self.program.segments.get((id(self.program.home(self.module, name)), name))
+        return found.name if found else None
+
     def resolve(self, value: Value) -> Value:
         while isinstance(value, Global):
             module = self.program.home(self.module, value.name) or self.module
@@ -109,6 +116,18 @@ class ModuleNames(Names):
                 break
             value = module.aliases[value.name]
         return value
+
+    def declare(self, name: str, variable: Variable) -> None:
+        self.declared.setdefault(name, variable)
+
+    def told(self, made: GlobalObject) -> tuple[str, int]:
+        """The name of a global in C, and the number of its type."""
+        debug, types = self.module.debug, self.program.types
+        if made.name in self.declared:
+            node = self.declared[made.name].node
+            return self.lines.name_of(node), types.of_variable(node, debug)
+        name, type_ = types.of_global(made.debug, debug)
+        return name or made.name.rpartition(".")[2], type_
 
 
 class Program:
@@ -128,6 +147,7 @@ class Program:
         self.pool: dict[str, str] = {}
         self.counter = 0
         self.undefined: list[str] = []
+        self.types = Types()
         # Doors and shared words of other programs, by their names here.
         self.foreign: set[str] = set()
         for module in modules:
@@ -284,17 +304,23 @@ class Program:
             if (name, block_name) in module.addressed:
                 self.blocks[id(module), name, block_name] = label
                 addressed.append(label)
-        lines = names.lines
+        notes = FunctionNotes(names.lines, self.types, names.known_segment)
         for block in code.blocks:
             for op in block.body:
-                op.line = lines.of(op.line)
-        blocks = emit(code, self.fresh, addressed)
-        begins = lines.of_function(function.debug)
+                op.line = notes.place(op.line)
+        blocks = emit(code, self.fresh, notes, addressed)
+        self._note(blocks, function, notes)
+        self.texts.append(blocks)
+
+    @staticmethod
+    def _note(blocks: list[TextBlock], function: Function, notes: FunctionNotes) -> None:
+        """Says where a function begins; nothing of a function whose lines are not known."""
+        begins = notes.lines.of_function(function.debug)
         if begins:
-            blocks[0].notes.insert(0, f"function {begins}")
+            head = f"function {notes.lines.name_of(function.debug or '')} at {begins}"
+            blocks[0].notes = [head, *notes.inlined, *blocks[0].notes]
         else:
             blocks[0].notes.clear()
-        self.texts.append(blocks)
 
     # Data
 

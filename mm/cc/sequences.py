@@ -8,6 +8,7 @@ from mm.cc.allocation import Allocation
 from mm.cc.calling import Calling
 from mm.cc.code import LINK, SCRATCH, SECOND, STACK, Code, Op
 from mm.cc.text import TextBlock, tidy
+from mm.cc.variables import Naming
 
 
 class Sequences(Calling):
@@ -162,13 +163,13 @@ class Sequences(Calling):
         self.bring(STACK, self.source(op.a))
 
 
-def emit(code: Code, fresh: Callable[[], str], addressed: Iterable[str] = ()) -> list[TextBlock]:
+def emit(code: Code, fresh: Callable[[], str], naming: Naming, addressed: Iterable[str] = ()) -> list[TextBlock]:
     """The text of a function. The way back is saved where its register is needed for something else. `addressed` are
     labels that data name."""
     allocation = Allocation(code)
     link = bool(code.objects) or any(op.name == "call" for block in code.blocks for op in block.body)
-    made = Sequences(code, allocation, link, fresh)
+    made = Sequences(code, allocation, link, fresh, naming)
     blocks = made.text()
     if made.used_link and not link:
-        blocks = Sequences(code, allocation, True, fresh).text()
+        blocks = Sequences(code, allocation, True, fresh, naming).text()
     return tidy(blocks, addressed)

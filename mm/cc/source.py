@@ -2,7 +2,7 @@
 
 from __future__ import annotations
 
-from typing import Optional
+from typing import Iterator, Optional
 
 from mm.cc.doors import check, doors_of, stub, thread_of
 from mm.cc.ir import Function
@@ -43,11 +43,11 @@ class SourceWriter:
         first = self.start(label)
         pool = [f"{name}: .ptr {target}" for target, name in self.pool.items()]
         lines = [f".segment {program.prefix}text {self.log_of_text(first + body, pool)}", *first, *body, *pool]
-        for part in data:
-            lines += part
+        lines += [line for part in data for line in part]
         lines += self.doors(entered)
         if label is not None:
             lines += self.thread()
+        lines += [f"{MARK} {note}" for note in program.types.notes()]
         return "\n".join(lines) + "\n"
 
     @staticmethod
@@ -98,8 +98,9 @@ class SourceWriter:
         return found
 
     def text(self, blocks: list[TextBlock]) -> list[str]:
-        lines = []
-        origin = None
+        lines: list[str] = []
+        origin: Optional[str] = None
+        variables: tuple[str, ...] = ()
         for block in blocks:
             lines.append(f"{block.label}:")
             lines += [f"  {MARK} {note}" for note in block.notes]
@@ -109,8 +110,24 @@ class SourceWriter:
                 if line.origin is not None and line.origin != origin:
                     origin = line.origin
                     lines.append(f"  {MARK} line {origin}")
+                if line.variables is not variables:
+                    lines += self.changes(variables, line.variables)
+                    variables = line.variables
                 lines.append(str(line))
         return lines
+
+    @staticmethod
+    def changes(old: tuple[str, ...], new: tuple[str, ...]) -> Iterator[str]:
+        """What is said of variables that are somewhere else from here on, or nowhere."""
+        gone, come = set(old) - set(new), set(new) - set(old)
+        there = {variable_of(said) for said in come}
+        for said in old:
+            if said in gone and variable_of(said) not in there:
+                name, type_, frame = variable_of(said)
+                yield f"  {MARK} var {name} {type_} -{frame}"
+        for said in new:
+            if said in come:
+                yield f"  {MARK} var {said}"
 
     def global_target(self, name: str) -> str:
         segment = self.by_name[name]
@@ -128,11 +145,12 @@ class SourceWriter:
         words = segment.words
         assert words is not None
         lines = [f".segment {segment.name} {segment.known.log}"]
+        if not segment.made.internal or not segment.made.name.startswith("."):
+            name, type_ = self.program.names[id(segment.module)].told(segment.made)
+            said = f" type {type_}" if type_ else ""
+            lines.append(f"  {MARK} global {name} {segment.size} at {segment.known.place}{said}")
         if segment.made.name.startswith(EMPTY):
             return lines + ["  .empty .int 0"] * (1 << segment.known.log - 3)
-        if not segment.made.internal or not segment.made.name.startswith("."):
-            name = segment.made.name.rpartition(".")[2] if "." in segment.made.name else segment.made.name
-            lines.append(f"  {MARK} global {name} {segment.size} at {segment.known.place}")
         zeros = 0
         data = words.data
         for at in range(0, len(data), 8):
@@ -154,6 +172,12 @@ class SourceWriter:
                 self.late.append((text, f"rw {segment.name}+{at}", by))
                 lines.append("  .int 0")
         return lines
+
+
+def variable_of(said: str) -> tuple[str, str, str]:
+    """The name, the type and the function of a variable, of what is said of it."""
+    name, type_, _, *frame = said.split(" ")
+    return name, type_, "".join(f" {word}" for word in frame)
 
 
 def write_source(program: Program, options: Options) -> str:

@@ -6,12 +6,15 @@ from typing import Iterable, Optional
 
 
 class Line:
-    """A line of text: an operation, its operands, and the label that it goes to, if it goes to one."""
+    """A line of text: an operation, its operands, and the label that it goes to, if it goes to one; where it comes
+    from in C, and where variables are."""
 
-    __slots__ = ("op", "operands", "target", "origin")
+    __slots__ = ("op", "operands", "target", "origin", "variables")
 
-    def __init__(self, op: str, operands: str, target: Optional[str], origin: Optional[str]) -> None:
+    def __init__(self, op: str, operands: str, target: Optional[str], origin: Optional[str],
+                 variables: tuple[str, ...] = ()) -> None:
         self.op, self.operands, self.target, self.origin = op, operands, target, origin
+        self.variables = variables
 
     def __str__(self) -> str:
         if self.target is None:

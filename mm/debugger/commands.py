@@ -5,13 +5,14 @@ from __future__ import annotations
 from dataclasses import dataclass
 from typing import Callable, Iterable, Iterator
 
-from mm.debugger.evaluate import count_of, place_of, slot_of, span, value_of
+from mm.debugger.evaluate import count_of, place_of, slot_of, span
+from mm.debugger.of_c import by_lines, c_text, local_lines, value_text
 from mm.debugger.points import PointKind
 from mm.debugger.session import Halt, Session
 from mm.debugger.show import Show
 from mm.machine.isa import OPERATIONS
 from mm.machine.words import Pointer
-from mm.names.expressions import nearest
+from mm.names.expressions import NoAddress, nearest
 from mm.outputs.trace import Turn
 from mm.views.listing import map_lines
 
@@ -34,7 +35,10 @@ class Debugger:
     def stop(self, halt: Halt) -> Iterator[str]:
         yield from self.show.stop(halt)
         for text in self.displays:
-            yield f"{text} = {self.show.word(value_of(text, self.session))}"
+            try:
+                yield f"{text} = {value_text(text, self)}"
+            except NoAddress as error:
+                yield str(error)
 
 
 @dataclass(frozen=True)
@@ -139,6 +143,8 @@ def _set_break(debugger: Debugger, rest: str, once: bool = False) -> Lines:
         yield f"{point.number}: {point}"
         return
     address, length = place_of(place, session)
+    if any(symbol.address == address for symbol in session.symbols.named(place)):
+        address = session.symbols.c_body(address) or address
     point = session.add(PointKind.BREAK, place, address, length, slot, once)
     name, origin = session.symbols.show(address), session.symbols.origin(address)
     if length > 8:
@@ -146,7 +152,12 @@ def _set_break(debugger: Debugger, rest: str, once: bool = False) -> Lines:
         return
     typed = "" if place == name else f"{place} "
     alone = "" if slot is None else f" of slot {slot}"
-    yield f"{point.number}: break {typed}at {name}{alone}" + (f", {origin}: {origin.code}" if origin else "")
+    line = session.symbols.c_line(address)
+    of_c = f", {line}: {line.text}" if line else ""
+    copies = len(session.symbols.places_of_inlined(place)) if of_c and not session.symbols.named(place) else 0
+    more = f" (the first of {copies} places where `{place}` was put into others)" if copies > 1 else ""
+    said = of_c or (f", {origin}: {origin.code}" if origin else "")
+    yield f"{point.number}: break {typed}at {name}{alone}{said}{more}"
 
 
 def _set_once(debugger: Debugger, rest: str) -> Lines:
@@ -161,7 +172,7 @@ def _set_watch(kind: PointKind) -> Callable[[Debugger, str], Lines]:
         address, length = span(place, debugger.session)
         point = debugger.session.add(kind, place, address & ~7, length, slot)
         now = debugger.show.cell(debugger.session.memory.cell(point.address)) if length == 8 else f"{length // 8} words"
-        yield f"{point.number}: {kind.title} {place}, now {now}"
+        yield f"{point.number}: {kind.title} {place}, now {c_text(place, debugger) or now}"
 
     return run
 
@@ -199,8 +210,8 @@ def _slot(debugger: Debugger, rest: str) -> Lines:
 
 def _print(debugger: Debugger, rest: str) -> Lines:
     if not rest:
-        raise Wrong("say what: `p r5`, `p count`, `p &box`, `p 0x100100`")
-    yield f"{rest} = {debugger.show.word(value_of(rest, debugger.session))}"
+        raise Wrong("say what: `p r5`, `p count`, `p &box`, `p 0x100100`; in C `p i`, `p name[3]`, `p list->next`")
+    yield f"{rest} = {value_text(rest, debugger)}"
 
 
 def _display(debugger: Debugger, rest: str) -> Lines:
@@ -233,6 +244,7 @@ def _list(debugger: Debugger, rest: str) -> Lines:
 
 def _where(debugger: Debugger, rest: str) -> Lines:
     yield from debugger.show.stop(Halt())
+    yield from debugger.show.calls()
 
 
 def _output(debugger: Debugger, rest: str) -> Lines:
@@ -247,6 +259,7 @@ INFO: dict[str, tuple[str, Callable[[Debugger, str], Lines]]] = {
         "names with their addresses",
         lambda debugger, rest: map_lines(debugger.session.symbols, debugger.show.style),
     ),
+    "locals": ("variables of C; else registers", lambda debugger, rest: local_lines(debugger) or _registers(debugger, rest)),
     "output": ("what each group has put out", _output),
     "line": ("where this slot stands", _where),
 }
@@ -257,7 +270,6 @@ INFO_NAMES = {
     "watchpoints": "breakpoints",
     "regs": "registers",
     "names": "symbols",
-    "locals": "registers",
     "frame": "line",
     "program": "line",
     "variables": "symbols",
@@ -294,6 +306,8 @@ def _help(debugger: Debugger, rest: str) -> Lines:
 ENTRIES = (
     Entry(("step", "s", "si", "stepi"), "[N]", "N cycles on, whichever slots they belong to", "", _step),
     Entry(("next", "n", "ni", "nexti"), "[N]", "N turns of this slot on; a call counts as one", "", _next),
+    Entry(("stepline", "sl"), "[N]", "to the next line of C, into calls", "", lambda debugger, rest: by_lines(debugger, rest, False)),
+    Entry(("nextline", "nl"), "[N]", "to the next line of C of this function, or of one that called it", "", lambda debugger, rest: by_lines(debugger, rest, True)),
     Entry(("continue", "c"), "", "on to the next stop", "", _continue),
     Entry(("until", "u", "advance"), "[PLACE]", "on until this slot comes to a place, or past a loop", "place", _until),
     Entry(("finish", "fin"), "", "on until this slot leaves its segment, as a gate", "", _finish),
@@ -310,11 +324,11 @@ ENTRIES = (
     Entry(("delete", "d"), "[N]", "remove a break or a watch, or all; 0 is the stop at faults", "", _delete),
     Entry(("regs", "registers"), "[S]", "the registers of a slot", "", _registers),
     Entry(("slot", "thread", "t"), "[S]", "look at another slot", "", _slot),
-    Entry(("print", "p", "inspect"), "WHAT", "a register (r5, ip), the word at a name, or with & the name's address", "value", _print),
+    Entry(("print", "p", "inspect"), "WHAT", "a register (r5, ip), the word at a name, with & its address; a variable of C: i, a[2], p->x", "value", _print),
     Entry(("display",), "[WHAT]", "the same at each stop; nothing ends it", "value", _display),
     Entry(("x",), "/N[i] PLACE", "N words of memory, with i as instructions; a register stands for where it points", "value", _examine),
     Entry(("list", "l"), "[PLACE]", "the source around this slot, or around a place", "place", _list),
-    Entry(("where", "bt", "backtrace", "frame"), "", "where the run stands", "", _where),
+    Entry(("where", "bt", "backtrace", "frame"), "", "where the run stands; in C the functions that wait", "", _where),
     Entry(("output", "o"), "", "what each group has put out", "", _output),
     Entry(("info", "i"), "WHAT", ", ".join(INFO), "info", _info),
     Entry(("help", "h"), "[WHAT]", "this list, a command or an operation", "help", _help),

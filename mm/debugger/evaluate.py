@@ -5,6 +5,7 @@ from __future__ import annotations
 import re
 from typing import Optional
 
+from mm.debugger.cexpressions import c_thing
 from mm.debugger.session import Session
 from mm.machine.words import Word
 from mm.names.expressions import NoAddress, address_of, span_of
@@ -54,7 +55,11 @@ def _register(text: str, session: Session) -> Optional[Word]:
 
 
 def span(text: str, session: Session) -> tuple[int, int]:
-    """The address of a place and how many bytes it covers; a register stands for where it points."""
+    """The address of a place and how many bytes it covers; a register stands for where it points, a variable of C for
+    where it is."""
+    of_c = _c_span(text.strip().lstrip("&"), session)
+    if of_c:
+        return of_c
     match = OFFSET.fullmatch(text.strip())
     if not match or session.symbols.named(text.strip()):
         return span_of(text, session.symbols)
@@ -63,6 +68,16 @@ def span(text: str, session: Session) -> tuple[int, int]:
     if pointer is None:
         raise NoAddress(f"{match[1]} is no pointer: it is {session.speller.register(word)}")
     return pointer.address + (number_of(match[2].replace(" ", "").lstrip("+")) or 0 if match[2] else 0), 8
+
+
+def _c_span(text: str, session: Session) -> Optional[tuple[int, int]]:
+    """The words that a variable of C is in; none where the text names none, or one that is in no memory."""
+    values = session.values
+    thing = c_thing(text, values) if values else None
+    if thing is None or thing.address is None or not thing.type:
+        return None
+    first, end = thing.address & ~7, thing.address + max(thing.size, 1)
+    return first, -(-(end - first) // 8) * 8
 
 
 def place_of(text: str, session: Session) -> tuple[int, int]:
@@ -80,20 +95,33 @@ def place_of(text: str, session: Session) -> tuple[int, int]:
 
 
 def session_line(number: int, session: Session) -> int:
-    """The address of a line of the source that this slot runs."""
+    """The address of a line of the source that this slot runs, of that in C where there is one."""
     slot = session.current
     ip = slot.ip.pointer if slot else None
     region = session.symbols.region(ip.address) if ip else None
     if region is None or region.source is None:
         raise NoAddress(f"line {number} of which source? Say FILE:{number}")
-    return address_of(f"{region.source.path}:{number}", session.symbols)
+    path = c_path(session) or region.source.path
+    return address_of(f"{path}:{number}", session.symbols)
+
+
+def c_path(session: Session) -> Optional[str]:
+    """The file of C that the current slot runs; before its `main` that of `main`."""
+    values = session.values
+    found = [frame.line.path for frame in values.frames if frame.line] if values else []
+    if found or values is None or not values.frames:
+        return found[0] if found else None
+    begins = [made.begins.path for made in values.frames[0].notes.functions if made.begins]
+    return begins[0] if begins else None
 
 
 def value_of(text: str, session: Session) -> Word:
     """The word that a person means: a register, the word at a name, a name's address with `&`, or a number."""
     text = text.strip()
     if text.startswith("&"):
-        return Word(address_of(text, session.symbols))
+        thing = c_thing(text[1:], session.values) if session.values else None
+        at = thing.address if thing is not None else None
+        return Word(at if at is not None else address_of(text, session.symbols))
     if OFFSET.fullmatch(text) and not session.symbols.named(text):
         found = _register(text, session) if "+" not in text and "-" not in text else None
         if found:

@@ -13,6 +13,7 @@ from mm.debugger.points import Point, PointKind, pattern_of
 from mm.names.symbols import Symbols
 from mm.outputs.report import Report, SlotState
 from mm.outputs.trace import Turn
+from mm.views.cvalues import CValues
 from mm.views.spell import Memory, Speller
 
 ANY_TURN = re.compile("^t ")
@@ -51,6 +52,12 @@ class Session:
     @property
     def current(self) -> Optional[SlotState]:
         return self.report.slot(self.slot)
+
+    @property
+    def values(self) -> Optional[CValues]:
+        """The variables of C that the current slot's code can see."""
+        slot = self.current
+        return CValues(slot, self.memory, self.speller) if slot else None
 
     @property
     def last_turn(self) -> Optional[Turn]:

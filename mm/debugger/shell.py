@@ -28,10 +28,12 @@ class Completer:
         entry = BY_NAME.get(word.partition("/")[0])
         kind = entry.completes if entry else ""
         names = [symbol.name for symbol in self.debugger.session.symbols.symbols]
+        values = self.debugger.session.values
+        variables = [name for name, _ in values.locals()] if values else []
         registers = [f"r{number}" for number in range(16)] + ["ip"]
         offered = {
             "place": names + ["fault", "entry"],
-            "value": names + registers,
+            "value": names + registers + variables,
             "info": list(INFO),
             "help": [*BY_NAME, *OPERATIONS],
         }

@@ -4,6 +4,7 @@ from __future__ import annotations
 
 from typing import Iterator, Optional
 
+from mm.debugger.cexpressions import c_thing
 from mm.debugger.points import PointKind
 from mm.debugger.session import Halt, Session
 from mm.machine.causes import Cause
@@ -11,6 +12,8 @@ from mm.machine.words import Cell, Word
 from mm.names.numbers import counted
 from mm.outputs.report import SlotState
 from mm.source.tokens import readable
+from mm.views.cvalues import CValues
+from mm.views.cview import CView
 from mm.views.report import ReportView
 from mm.views.spell import Memory, bytes_as_text
 from mm.views.style import Style
@@ -73,20 +76,35 @@ class Show:
             cause = Cause.of_number(halt.turn.fault)
             slot = self.session.report.slot(halt.turn.slot)
             if cause and slot:
-                yield self.style.bad(f"fault {cause.number} {cause.title}: {cause.meaning}")
+                said = CView(slot, self.session.memory, self.session.speller).fault(cause)
+                yield self.style.bad(said or f"fault {cause.number} {cause.title}: {cause.meaning}")
                 yield from (f"  {line}" for line in why(cause, slot, self.session.memory, self.session.speller))
         elif point.kind.before:
             yield self.style.good(f"break {point.number}: {point.text or self.session.symbols.show(point.address)}")
         elif point.kind.has_place and halt.turn and halt.turn.address is not None:
-            yield self.style.good(f"{point.kind.title} {point.number}: {point.text}") + self.change(halt.turn.address)
+            change = self.c_change(point.text) or self.change(halt.turn.address)
+            yield self.style.good(f"{point.kind.title} {point.number}: {point.text}") + change
         else:
             yield self.style.good(f"{point.kind.title} {point.number}")
 
+    @property
+    def memory_before(self) -> Memory:
+        """The memory before the last cycle."""
+        return Memory(self.session.built.image, self.session.history.report(self.session.total - 1).cells)
+
+    def c_change(self, text: str) -> Optional[str]:
+        """What a variable of C was before the last cycle, and what it is; none where the text names none."""
+        slot, values = self.session.current, self.session.values
+        thing = c_thing(text, values) if values and not text.startswith("&") else None
+        if thing is None or not thing.type or slot is None or values is None:
+            return None
+        before = CValues(slot, self.memory_before, self.session.speller).spell(thing)
+        after = values.spell(thing)
+        return f"  {text} is {after}" if before == after else f"  {text} was {before}, and is {after}"
+
     def change(self, address: int) -> str:
         """What a word was before the last cycle, and what it is."""
-        before = Memory(self.session.built.image, self.session.history.report(self.session.total - 1).cells).cell(
-            address
-        )
+        before = self.memory_before.cell(address)
         after = self.session.memory.cell(address)
         name = self.session.symbols.show(address)
         if before == after:
@@ -167,7 +185,12 @@ class Show:
         return f"{speller.pointer(pointer)}   ({pointer.permission.full}, {speller.reach(pointer)}, at 0x{pointer.address:x})"
 
     def source(self, address: int) -> Iterator[str]:
-        """The source around the line of an address, or the instructions around it."""
+        """The source around the line of an address, that in C where it is there, or the instructions around it."""
+        of_c = self.session.symbols.c_line(address)
+        if of_c and of_c.file:
+            yield str(of_c)
+            yield from self.lines(of_c.file, of_c.line, of_c.line)
+            return
         origin = self.session.symbols.origin(address)
         region = self.session.symbols.region(address)
         if origin and region and region.source:
@@ -175,6 +198,13 @@ class Show:
             return
         first = max(address - 8 * AROUND, region.base if region else 0)
         yield from self.memory(first, 2 * AROUND + 1, True)
+
+    def calls(self) -> Iterator[str]:
+        """The functions of C that are being carried out, the innermost first."""
+        values = self.session.values
+        found = [call for frame in (values.frames if values else []) for call in frame.calls()]
+        for number, (name, line) in enumerate(found):
+            yield f"  #{number}  {name}" + (f"  {self.style.soft(str(line) + ':')}  {line.text}" if line else "")
 
     def lines(self, lines: list[str], middle: int, marked: Optional[int]) -> Iterator[str]:
         for number in range(max(1, middle - AROUND), min(len(lines), middle + AROUND) + 1):

@@ -1,5 +1,5 @@
-"""What the translator of C says of its source in comments: lines of C, objects with their C names, and frames of the
-stack."""
+"""What the translator of C says of its source in comments: lines of C, functions, objects and variables with their C
+names and types, and frames of the stack."""
 
 from __future__ import annotations
 
@@ -8,33 +8,48 @@ import re
 from dataclasses import dataclass, field
 from typing import Callable, Iterator, Optional
 
+from mm.names.ctypes import CTypes
+
 MARK = ";@ "
 BLOCK = re.compile(r"(L|P_)\d+")
 LABEL = re.compile(r"([A-Za-z_]\w*):")
 FRAME = re.compile(r"frame back (-|\d+) caller (at|by) (\d+)")
-OBJECT = re.compile(r"(?:local|global) (\S+) (\d+) at (\d+)(?: log (\d+))?")
-LINE = re.compile(r"line (.*):(\d+)")
+OBJECT = re.compile(r"(?:local|global) (\S+) (\d+) at (\d+)(?: log (\d+))?(?: type (\d+))?(?: in (\d+))?")
+LINE = re.compile(r"line (.*):(\d+)(?: in (\d+))?")
+FUNCTION = re.compile(r"function (\S+) at (.*):(\d+)")
+INLINED = re.compile(r"inlined (\d+) (\S+) at (.*):(\d+)(?: in (\d+))?")
+VARIABLE = re.compile(r"var (\S+) (\d+) (\S+)(?: in (\d+))?")
+NOWHERE = "-"
+# What is carried out before `main`.
+START = "start"
 MOST_FRAMES = 100
 
 
 @dataclass(frozen=True)
 class CLine:
-    """A line of a file of C."""
+    """A line of a file of C, and the function that it is of: 0 for that in which it stands, else one that was put into
+    that."""
 
     path: str
     line: int
+    inner: int = field(default=0, compare=False)
 
     def __str__(self) -> str:
         return f"{self.path}:{self.line}"
 
     @property
-    def text(self) -> str:
-        """The line itself, where the file is still there."""
+    def file(self) -> list[str]:
+        """The lines of the file, where it is still there."""
         try:
             with open(self.path, encoding="utf-8", errors="replace") as file:
-                lines = file.read().splitlines()
+                return file.read().splitlines()
         except OSError:
-            return ""
+            return []
+
+    @property
+    def text(self) -> str:
+        """The line itself."""
+        lines = self.file
         return lines[self.line - 1].strip() if 0 < self.line <= len(lines) else ""
 
 
@@ -46,16 +61,56 @@ class CObject:
     size: int
     at: int
     log: int = 0
+    type: int = 0
+    inner: int = 0
+
+
+@dataclass(frozen=True)
+class CVariable:
+    """A variable: its type, where it is, and the function that it is of."""
+
+    name: str
+    type: int
+    where: str
+    inner: int = 0
+
+
+@dataclass(frozen=True)
+class CInlined:
+    """A function that was put into another one: its name, and the line of the call."""
+
+    name: str
+    call: CLine
 
 
 @dataclass
 class CFunction:
-    """A function: where its frame keeps the way back and the caller's frame, and its named objects."""
+    """A function: its label and its C name, where it begins, where its frame keeps the way back and the caller's frame,
+    its named objects, the functions that were put into it, and where its variables are, by lines of the source."""
 
-    name: str
+    label: str
+    name: str = ""
+    begins: Optional[CLine] = None
     back: Optional[int] = None
     caller: tuple[str, int] = ("by", 0)
     objects: list[CObject] = field(default_factory=list)
+    inlined: dict[int, CInlined] = field(default_factory=dict)
+    variables: list[tuple[int, CVariable]] = field(default_factory=list)
+
+    def inner_name(self, inner: int) -> str:
+        found = self.inlined.get(inner)
+        return found.name if found else self.name
+
+    def variables_at(self, number: int) -> list[CVariable]:
+        """The variables that are somewhere at a line of the source."""
+        known: dict[tuple[str, int], CVariable] = {}
+        for line, variable in self.variables:
+            if line > number:
+                break
+            known.pop((variable.name, variable.inner), None)
+            if variable.where != NOWHERE:
+                known[variable.name, variable.inner] = variable
+        return list(known.values())
 
 
 class CNotes:
@@ -67,6 +122,7 @@ class CNotes:
         self.function_starts: list[int] = []
         self.functions: list[CFunction] = []
         self.globals: dict[str, CObject] = {}
+        self.types = CTypes()
         segment = ""
         for number, said in enumerate(lines, 1):
             label = LABEL.match(said)
@@ -76,7 +132,7 @@ class CNotes:
             elif label and not BLOCK.fullmatch(label[1]):
                 self._mark(number, None)
                 self.function_starts.append(number)
-                self.functions.append(CFunction(label[1]))
+                self.functions.append(CFunction(label[1], label[1]))
             elif MARK in said:
                 self._note(said.partition(MARK)[2].strip(), number, segment)
 
@@ -88,18 +144,33 @@ class CNotes:
         self.lines.append(line)
 
     def _note(self, note: str, number: int, segment: str) -> None:
-        line, frame, made = LINE.fullmatch(note), FRAME.fullmatch(note), OBJECT.fullmatch(note)
+        line, made = LINE.fullmatch(note), OBJECT.fullmatch(note)
         if line:
-            self._mark(number, CLine(line[1], int(line[2])))
-        elif frame and self.functions:
-            self.functions[-1].back = None if frame[1] == "-" else int(frame[1])
-            self.functions[-1].caller = (frame[2], int(frame[3]))
+            self._mark(number, CLine(line[1], int(line[2]), int(line[3] or 0)))
+        elif note.startswith("type "):
+            self.types.add(note.split()[1:])
+        elif made and note.startswith("global"):
+            self.globals[segment] = _object(made)
+        elif self.functions:
+            self._of_function(self.functions[-1], note, number)
+
+    @staticmethod
+    def _of_function(function: CFunction, note: str, number: int) -> None:
+        begins, frame, made = FUNCTION.fullmatch(note), FRAME.fullmatch(note), OBJECT.fullmatch(note)
+        inlined, variable = INLINED.fullmatch(note), VARIABLE.fullmatch(note)
+        if begins:
+            function.name, function.begins = begins[1], CLine(begins[2], int(begins[3]))
+        elif frame:
+            function.back = None if frame[1] == "-" else int(frame[1])
+            function.caller = (frame[2], int(frame[3]))
         elif made:
-            found = CObject(made[1], int(made[2]), int(made[3]), int(made[4] or 0))
-            if note.startswith("global"):
-                self.globals[segment] = found
-            elif self.functions:
-                self.functions[-1].objects.append(found)
+            function.objects.append(_object(made))
+        elif inlined:
+            call = CLine(inlined[3], int(inlined[4]), int(inlined[5] or 0))
+            function.inlined[int(inlined[1])] = CInlined(inlined[2], call)
+        elif variable:
+            found = CVariable(variable[1], int(variable[2]), variable[3], int(variable[4] or 0))
+            function.variables.append((number, found))
 
     def line_at(self, number: int) -> Optional[CLine]:
         """The line of C that a line of the source comes from."""
@@ -110,11 +181,24 @@ class CNotes:
         at = bisect.bisect_right(self.function_starts, number) - 1
         return self.functions[at] if at >= 0 else None
 
+    def inlined_at(self, name: str) -> list[int]:
+        """The lines of the source where a function begins that was put into others, once for each of these."""
+        found: dict[tuple[str, int], int] = {}
+        for line, start in zip(self.lines, self.starts):
+            function = self.function_at(start) if line is not None and line.inner else None
+            if line is not None and function is not None and function.inner_name(line.inner) == name:
+                found.setdefault((function.label, line.inner), start + 1)
+        return list(found.values())
+
     def first_of(self, path: str, line: int) -> Optional[int]:
         """The first line of the source that comes from a line of C, or from the next one that has code."""
         found = [(made.line, start) for made, start in zip(self.lines, self.starts)
                  if made is not None and made.line >= line and (made.path == path or made.path.endswith("/" + path))]
         return min(found)[1] + 1 if found else None
+
+
+def _object(made: re.Match[str]) -> CObject:
+    return CObject(made[1], int(made[2]), int(made[3]), int(made[4] or 0), int(made[5] or 0), int(made[6] or 0))
 
 
 @dataclass(frozen=True)
@@ -125,19 +209,43 @@ class CFrame:
     stack: int
     function: CFunction
     line: Optional[CLine]
+    # The comments of its source, and the line there.
+    notes: CNotes
+    number: int
+
+    @property
+    def name(self) -> str:
+        return self.function.inner_name(self.line.inner if self.line else 0)
+
+    def lines(self) -> Iterator[CLine]:
+        """The line here, and those of the calls of functions that were put into this one: the innermost first."""
+        line = self.line
+        while line is not None:
+            yield line
+            inlined = self.function.inlined.get(line.inner)
+            line = inlined.call if inlined else None
+
+    def calls(self) -> Iterator[tuple[str, Optional[CLine]]]:
+        """The functions that have their code here, each with its line: the innermost first."""
+        if self.line is None and self.function.label != START:
+            yield self.function.name, None
+        for line in self.lines():
+            yield self.function.inner_name(line.inner), line
 
 
-Function = Callable[[int], tuple[Optional[CFunction], Optional[CLine]]]
+Place = Callable[[int], Optional[tuple[CNotes, int]]]
 Word = Callable[[int], Optional[int]]
 
 
-def frames(address: int, stack: int, function: Function, word: Word) -> Iterator[CFrame]:
-    """The functions that are being carried out, the innermost first. `word` gives the address in a word of memory."""
+def frames(address: int, stack: int, place: Place, word: Word) -> Iterator[CFrame]:
+    """The functions that are being carried out, the innermost first. `place` gives the line of the source, `word` the
+    address in a word of memory."""
     for _ in range(MOST_FRAMES):
-        known, line = function(address)
-        if known is None:
+        found = place(address)
+        known = found[0].function_at(found[1]) if found else None
+        if known is None or found is None:
             return
-        yield CFrame(address, stack, known, line)
+        yield CFrame(address, stack, known, found[0].line_at(found[1]), *found)
         kind, by = known.caller
         back = word(stack + known.back) if known.back is not None else None
         caller = stack + by if kind == "by" else word(stack + by)

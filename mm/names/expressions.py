@@ -49,7 +49,11 @@ def _of_line(path: str, line: int, symbols: Symbols) -> int:
     if of_c is not None:
         return of_c
     paths = sorted({region.source.path for region in symbols.regions if region.source})
-    meant = [known for known in paths if known == path or known.endswith("/" + path)]
+    in_c = symbols.c_paths()
+    meant = [known for known in [*paths, *in_c] if known == path or known.endswith("/" + path)]
+    if len(meant) == 1 and meant[0] in in_c:
+        raise NoAddress(f"no code comes from line {line} of {meant[0]} or one after it")
+    paths += in_c
     if len(meant) != 1:
         raise NoAddress(f"there is no source `{path}`; the sources are {', '.join(paths) or 'not known'}")
     address = symbols.place_of_line(meant[0], line)
@@ -67,6 +71,8 @@ def span_of(text: str, symbols: Symbols) -> tuple[int, int]:
         address, length = number, 8
     elif line:
         address, length = _of_line(line[1], int(line[2]), symbols), 8
+    elif match and not symbols.named(match[1]) and symbols.places_of_inlined(match[1]):
+        address, length = symbols.places_of_inlined(match[1])[0], 8
     elif match:
         symbol = _symbol(match[1], symbols)
         by = number_of(match[3]) if match[3] else 0

@@ -9,7 +9,7 @@ from typing import Optional, Sequence
 
 from mm.formats.object import Object, Segment
 from mm.machine.isa import OPERATIONS
-from mm.names.clines import CFunction, CLine, CObject
+from mm.names.clines import CFunction, CLine, CNotes, CObject
 from mm.names.layout import Placed
 from mm.source.text import SourceSegment, SourceText
 from mm.source.tokens import readable
@@ -139,20 +139,45 @@ class Symbols:
 
     def c_line(self, address: int) -> Optional[CLine]:
         """The line of C that the word at an address comes from."""
-        return self.c_place(address)[1]
+        found = self.c_notes(address)
+        return found[0].line_at(found[1]) if found else None
 
-    def c_place(self, address: int) -> tuple[Optional[CFunction], Optional[CLine]]:
-        """The function of C, or of its library, that an address is in, and its line."""
+    def c_body(self, address: int) -> Optional[int]:
+        """The first address of a function of C that is of one of its lines, after what makes its frame. `address` is
+        that of the function."""
+        found, region = self.c_notes(address), self.region(address)
+        function = found[0].function_at(found[1]) if found else None
+        if found is None or region is None or function is None or not function.begins:
+            return None
+        first = next((at for at in range(address, region.base + 8 * region.words, 8) if self.c_line(at)), None)
+        return first if first is not None and self.c_function(first) is function else None
+
+    def c_function(self, address: int) -> Optional[CFunction]:
+        """The function of C, or of its library, that an address is in."""
+        found = self.c_notes(address)
+        return found[0].function_at(found[1]) if found else None
+
+    def c_notes(self, address: int) -> Optional[tuple[CNotes, int]]:
+        """The comments of the translator of C in the source that an address is of, and the line there."""
         region = self.region(address)
         line = region.line_of(address) if region else None
         notes = region.source.notes if region and region.source else None
-        if notes is None or line is None:
-            return None, None
-        return notes.function_at(line), notes.line_at(line)
+        return (notes, line) if notes is not None and line is not None else None
 
     def c_global(self, region: Region) -> Optional[CObject]:
         """The global that a segment is."""
         return region.source.notes.globals.get(region.name) if region.source and region.source.notes else None
+
+    def c_region(self, name: str, notes: CNotes) -> Optional[Region]:
+        """The segment of a global by its name in a source; another source may have one of the same name."""
+        named = (region for region in self.regions if region.name == name and region.source)
+        return next((region for region in named if region.source and region.source.notes is notes), None)
+
+    def c_paths(self) -> list[str]:
+        """The files of C that code comes from."""
+        notes = {id(region.source.notes): region.source.notes for region in self.regions
+                 if region.source and region.source.notes}
+        return sorted({line.path for each in notes.values() for line in each.lines if line is not None})
 
     def place_of_c_line(self, path: str, line: int) -> Optional[int]:
         """The address of the first word of a line of C, or of the next one that has code."""
@@ -165,13 +190,30 @@ class Symbols:
                     return found
         return None
 
+    def places_of_inlined(self, name: str) -> list[int]:
+        """The addresses where a function of C begins that was put into others."""
+        sources = {region.source.path: region.source.notes for region in self.regions if region.source}
+        found = [self.place_of_line(path, line) for path, notes in sources.items() if notes
+                 for line in notes.inlined_at(name)]
+        return sorted(place for place in found if place is not None)
+
     def named(self, name: str) -> list[Symbol]:
         """All that has a name. `SEGMENT.NAME` says which of several labels is meant."""
         outer, dot, inner = name.partition(".")
         if dot:
             region = next((region for region in self.regions if region.name == outer), None)
             return [symbol for symbol in self.named(inner) if region and region.base <= symbol.address < region.end]
-        return [symbol for symbol in self.symbols if symbol.name == name]
+        found = [symbol for symbol in self.symbols if symbol.name == name]
+        return found or [symbol for symbol in self.symbols if symbol.name in self._labels_of_c(name)]
+
+    def _labels_of_c(self, name: str) -> set[str]:
+        """The labels of functions, and the segments of globals, that have a name in C alone."""
+        notes = {id(region.source.notes): region.source.notes for region in self.regions
+                 if region.source and region.source.notes}
+        functions = [made for each in notes.values() for made in each.functions]
+        labels = {made.label for made in functions if made.name == name and made.begins}
+        globals_ = [item for each in notes.values() for item in each.globals.items()]
+        return labels | {segment for segment, made in globals_ if made.name == name}
 
     def place_of_line(self, path: str, line: int) -> Optional[int]:
         """The address of the first word that a line of a source makes, or the next line that makes one."""

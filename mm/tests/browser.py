@@ -40,6 +40,10 @@ class Failed(Exception):
     """The browser has answered with an error, or not at all."""
 
 
+class NoAnswer(Failed):
+    """The browser has not answered in time, or has ended."""
+
+
 class Browser:
     """A running browser with one page."""
 
@@ -98,10 +102,10 @@ class Browser:
     def _message(self, until: float) -> Any:
         while b"\0" not in self.rest:
             if not select.select([self.back], [], [], max(0, until - time.monotonic()))[0]:
-                raise Failed(f"the browser gives no answer in {SECONDS} seconds")
+                raise NoAnswer(f"the browser gives no answer in {SECONDS} seconds")
             more = os.read(self.back, 1 << 16)
             if not more:
-                raise Failed("the browser has ended")
+                raise NoAnswer("the browser has ended")
             self.rest += more
         text, self.rest = self.rest.split(b"\0", 1)
         return json.loads(text)

@@ -158,8 +158,8 @@ class Page:
             if one != other:
                 return self.fail(f"turn {place} is {one}, and of the trace {other}")
 
-    def compare(self, place: int, low: bool = False) -> None:
-        """What is shown at a place, against the report there; `low` where lines of C are not wanted."""
+    def compare(self, place: int, in_c: bool = True) -> None:
+        """What is shown at a place, against the report there; `in_c` where lines of C are wanted."""
         cycle = self.browser.run(f"{place} ? TURNS[{place} - 1].cycle : RUN.first - 1")
         answer = self.program.run(["run", self.built.path, str(cycle), *self.order])
         seen = Seen(self.browser, self.built)
@@ -167,18 +167,28 @@ class Page:
         if (seen.shown["place"], seen.shown["now"]) != (place, place):
             self.fail(f"it is at {seen.shown['place']} and not at {place}")
         turn = self.turns[place - 1] if 0 < place <= len(self.turns) else None
-        found = [*seen.differences(read_report(answer.text.splitlines())), *seen.turn_differences(cycle, turn, low)]
-        for difference in found:
+        report = read_report(answer.text.splitlines())
+        found = [*seen.differences(report), *seen.turn_differences(cycle, turn, in_c)]
+        for difference in [*found, *seen.variable_differences(report, turn)]:
             self.fail(f"cycle {cycle}: {difference}")
 
     def sources(self) -> None:
-        """Where a source was made of C, its own lines can be chosen, and then the lines of C again."""
+        """Where a source was made of C, its own lines can be chosen, and then the lines of C again; what is chosen is
+        shown."""
         files = self.browser.run("RUN.names.sources.map((it) => Boolean(it.c))")
-        for low in (True, False) if True in files else ():
-            self.browser.run(CHOOSE % files.index(not low))
+        for in_c in (False, True) if True in files else ():
             for place in (1, self.count // 2, self.count):
                 self.go(place)
-                self.compare(place, low)
+                self.choose(files.index(in_c))
+                self.go(max(0, place - 1))
+                self.go(place)
+                self.compare(place, in_c)
+
+    def choose(self, file: int) -> None:
+        """Chooses a file, which is shown then."""
+        self.browser.run(CHOOSE % file)
+        if self.browser.run("source.shown") != file:
+            self.fail(f"file {file} is chosen, and {self.browser.run('source.shown')} is shown")
 
     @property
     def place(self) -> int:

@@ -2,6 +2,7 @@
 
 from __future__ import annotations
 
+from itertools import islice, zip_longest
 from typing import Any, Iterator, Mapping, Optional
 
 from mm.build import Built
@@ -11,6 +12,8 @@ from mm.names.numbers import counted
 from mm.outputs.report import Report, SlotState
 from mm.outputs.trace import Turn
 from mm.tests.browser import Browser
+from mm.view.cdata import MOST_LEAVES
+from mm.views.cvalues import CThing, CValues
 from mm.views.spell import Memory, Speller, bytes_as_text
 
 # What is shown: texts as a reader sees them.
@@ -26,6 +29,7 @@ READ = """(() => {
     outputs: all(document, '.group-out').map((group) => [Number(group.dataset.group), group.querySelector('.text') ? group.querySelector('.text').textContent : '""']),
     queues: all(document, '#events > div').map((queue) => [Number(queue.dataset.queue), all(queue, 'li').map(text)]),
     turn: text(document.getElementById('turn')),
+    variables: all(document, '.variables tbody tr').map((row) => [text(row.cells[0]), text(row.cells[1])]),
     line: text(document.querySelector('#lines li.now')),
   };
 })()"""
@@ -36,6 +40,22 @@ def state_seen(slot: SlotState) -> str:
     cause = Cause.of_number(slot.fault) if slot.fault else None
     state = f"stopped by fault {cause.number} {cause.title}" if cause else STATES.get(slot.state, slot.state)
     return f"{state}, {counted(slot.turns, 'turn')}"
+
+
+def parts(values: CValues, name: str, thing: CThing) -> Iterator[tuple[str, str]]:
+    """The parts of a variable of C, and what the debugger says of each."""
+    kind = thing.kind
+    inner = thing.types.get(kind.inner)
+    if kind.kind in ("struct", "union"):
+        for part in kind.fields:
+            yield from parts(values, f"{name}.{part.name}", values.member(thing, part))
+    elif kind.kind == "array" and thing.address is not None and not (inner and (inner.kind, inner.size) == ("base", 1)):
+        size = thing.types.size(kind.inner)
+        for place in range(kind.count):
+            part = CThing(thing.types, kind.inner, thing.address + place * size)
+            yield from parts(values, f"{name}[{place}]", part)
+    else:
+        yield name, " ".join(values.spell(thing).split())
 
 
 class Seen:
@@ -65,9 +85,25 @@ class Seen:
         if shown != wanted:
             yield f"queues: {shown} and not {wanted}"
 
-    def turn_differences(self, cycle: int, turn: Optional[Turn], low: bool) -> Iterator[str]:
-        """What is said otherwise of a turn than the trace has it: who took it, where, and its line; `low` where lines of
-        C are not wanted."""
+    def variable_differences(self, report: Report, turn: Optional[Turn]) -> Iterator[str]:
+        """Which variables of C are shown otherwise than the debugger has them. Of a text the page shows the pointer
+        alone."""
+        slot = next((slot for slot in report.slots if turn and slot.number == turn.slot), None)
+        if slot is None:
+            return
+        values = CValues(slot, Memory(self.image, report.cells), self.speller)
+        if not values.frames:
+            return
+        known = values.locals() if values.frames[0].line else ()
+        here = [part for name, thing in known for part in islice(parts(values, name, thing), MOST_LEAVES)]
+        shown = [(name, text) for name, text in self.shown["variables"] if text != "not there"]
+        for (name, text), (wanted, value) in zip_longest(shown, here, fillvalue=("nothing", "")):
+            if name != wanted or text != value and not value.startswith(f'{text} "'):
+                yield f"variable {name} is {text!r}, and of the debugger {wanted} {value!r}"
+
+    def turn_differences(self, cycle: int, turn: Optional[Turn], in_c: bool) -> Iterator[str]:
+        """What is said otherwise of a turn than the trace has it: who took it, where, and its line; `in_c` where lines
+        of C are wanted."""
         if turn is None:
             return
         wanted = [f"Cycle {cycle}: slot {turn.slot}, its turn {turn.number}"]
@@ -75,6 +111,7 @@ class Seen:
             wanted = [f"Cycle {cycle}: the port of slot {turn.slot}", f"a load arrives in r{turn.delivered}"]
         if turn.fetch is not None:
             wanted.append(f"at {self.speller.symbols.show(turn.fetch)}")
+            wanted += self._of_c(turn.fetch)
         if turn.fault:
             wanted.append(f"fault {turn.fault} {Cause.of_number(turn.fault).title}")
         for words in wanted:
@@ -82,17 +119,22 @@ class Seen:
                 yield f"the turn does not say {words!r} but {self.shown['turn'][:200]!r}"
         if f"Cycle {cycle}, slot {turn.slot}" not in self.shown["said"]:
             yield f"a screen reader is told {self.shown['said']!r}"
-        yield from self._line(turn, low)
+        yield from self._line(turn, in_c)
 
-    def _line(self, turn: Turn, low: bool) -> Iterator[str]:
+    def _of_c(self, address: int) -> Iterator[str]:
+        """The line of C at an address, and its function."""
+        line, function = self.speller.symbols.c_line(address), self.speller.symbols.c_function(address)
+        if line and function:
+            yield " ".join(f"{line}, in {function.inner_name(line.inner)}: {line.text}".split())
+
+    def _line(self, turn: Turn, in_c: bool) -> Iterator[str]:
         """The line that is marked in the source."""
         symbols, address = self.speller.symbols, turn.fetch
         origin = symbols.origin(address) if address is not None else None
         if address is None or origin is None:
             return
-        made = None if low else symbols.c_line(address)
-        text = made.text if made and made.text else origin.text
-        number = made.line if made and made.text else origin.line
+        made = symbols.c_line(address) if in_c else None
+        text, number = (made.text, made.line) if made and made.file else (origin.text, origin.line)
         shown = "".join((self.shown["line"] or "").split())
         # Between the number and the text stand the slots that are there.
         if not (shown.startswith(str(number)) and shown.endswith("".join(text.split()))):

@@ -81,8 +81,15 @@ def of_line(data: Any) -> None:
 
 def of_c(data: Any) -> None:
     """The words come from other lines of C."""
-    for mark in data["names"]["sources"][0]["from"]:
-        mark[2:] = [line + 1 for line in mark[2:]]
+    for line in data["names"]["c"]["lines"]:
+        line[1] += 1
+
+
+def of_register(data: Any) -> None:
+    """Variables of C are in other registers."""
+    for state in data["names"]["c"]["states"]:
+        for variable in state:
+            variable[1] = re.sub(r"r(\d+)", lambda found: f"r{(int(found[1]) + 1) % 13}", variable[1])
 
 
 SPOILS: tuple[tuple[str, Spoil], ...] = (
@@ -121,7 +128,12 @@ QUEUES: tuple[tuple[str, Spoil], ...] = (
 )
 LINES_OF_C: tuple[tuple[str, Spoil], ...] = (
     ("other lines of C", of_data(of_c)),
-    ("lines of C alone", of_text("!source.low && madeOf(origin)", "madeOf(origin)")),
+    ("lines of C alone", of_text("source.inC ? cPlace(address) : null", "cPlace(address)")),
+    ("no lines of C", of_text("source.inC ? cPlace(address) : null", "null")),
+    ("a file that is chosen and not shown", of_text("render();\n  openSource(at);", "render();")),
+    ("variables of C in other registers", of_data(of_register)),
+    ("the numbers of variables of C", of_text('how === "int" ? BigInt.asIntN(long, cut) : cut', "cut + 1n")),
+    ("a function of C", of_text("in ${name}${text", "in ${name}_${text")),
 )
 SPOILED = {"counter": SPOILS, "server": QUEUES, "overflow": LINES_OF_C}
 

@@ -26,6 +26,8 @@ EXAMPLES = (
     (("gate", "guest", "thief"), {0: "2 3 4 ", 1: "1 "}),
     (("store", "ann", "ben"), {0: "1234", 1: "77 -1 -1 -1"}),
     (("producer", "consumer"), {0: "", 1: "guarded pointers in C\n"}),
+    (("worker", "keeper"), {0: "100\n", 1: "slot 0 divides by zero: by 1 instead\nslot 0 calls: it goes on\n"
+                                           "slot 0 has fault 3: it is ended\n"}),
 )
 # Functions `main`, with what they give. The second column is LLVM's text.
 VALUES = (

@@ -238,8 +238,9 @@ class Command(unittest.TestCase):
         source, *files = data["names"]["sources"]
         self.assertEqual([file["path"] for file in files], ["examples/c/overflow.c", "examples/c/say.h"])
         self.assertEqual(files[0]["lines"], read("examples", "c", "overflow.c").splitlines())
-        made = [mark for mark in source["from"] if len(mark) == 3]
-        self.assertIn("name[i] = from[i];", {files[place - 1]["lines"][line - 1].strip() for _, place, line in made})
+        lines = data["names"]["c"]["lines"]
+        made = {(files[place - 1]["lines"][line - 1].strip(), name) for place, line, name in lines}
+        self.assertIn(("name[i] = from[i];", "read_name"), made)
         self.assertNotIn("c", source)
 
 

@@ -6,7 +6,7 @@ accesses are their places in `OUTCOMES` and `ACCESSES`, and a change begins with
 from __future__ import annotations
 
 import os
-from typing import Any, Mapping, Optional, Sequence
+from typing import Any, Optional, Sequence
 
 from mm.build import Built
 from mm.formats.image import PAGE_BYTES, PAGE_WORDS
@@ -30,9 +30,10 @@ from mm.machine.isa import OPERATIONS, Kind
 from mm.machine.words import Cell, Permission, Word
 from mm.names.symbols import Region, Symbols
 from mm.outputs.audit import Audit
-from mm.source.text import SourceText
 from mm.source.tokens import readable
+from mm.view.cdata import c_form
 from mm.views.audit import AuditView
+from mm.views.cview import CView
 from mm.views.spell import Memory, Speller
 from mm.views.style import Style
 from mm.views.why import why
@@ -150,45 +151,16 @@ def region_form(region: Region, sources: Sequence[Json]) -> Json:
     }
 
 
-def _lines_of_file(path: str) -> list[str]:
-    """The lines of a file of C; none where it is not there any more."""
-    try:
-        with open(path, encoding="utf-8", errors="replace") as file:
-            return file.read().splitlines()
-    except OSError:
-        return []
-
-
-def from_c(text: SourceText, places: Mapping[str, int]) -> Json:
-    """From which line of a source on it was made of which line of C: that file's place among the sources, and the
-    line's number."""
-    notes = text.notes
-    if notes is None:
-        return []
-    return [
-        [start, places[line.path], line.line] if line and line.path in places else [start]
-        for start, line in zip(notes.starts, notes.lines)
-    ]
-
-
-def sources_form(symbols: Symbols) -> list[Json]:
-    """The sources, and after them the files of C that they were made of."""
-    texts = {region.source.path: region.source for region in symbols.regions if region.source}
-    named = {line.path for text in texts.values() if text.notes for line in text.notes.lines if line}
-    files = {path: lines for path in sorted(named) if (lines := _lines_of_file(path))}
-    places = {path: len(texts) + at for at, path in enumerate(files)}
-    made = [
-        {"path": path, "lines": [readable(line) for line in text.lines], "from": from_c(text, places)}
-        for path, text in sorted(texts.items())
-    ]
-    return made + [{"path": path, "lines": lines, "c": 1} for path, lines in files.items()]
-
-
 def names_form(symbols: Symbols) -> Json:
     """The names of addresses, and the sources."""
-    sources = sources_form(symbols)
+    texts = {region.source.path: region.source for region in symbols.regions if region.source}
+    sources = [
+        {"path": path, "lines": [readable(line) for line in text.lines]} for path, text in sorted(texts.items())
+    ]
+    regions = [region_form(region, sources) for region in symbols.regions]
     return {
-        "regions": [region_form(region, sources) for region in symbols.regions],
+        "c": c_form(symbols, sources),
+        "regions": regions,
         "labels": [[address, name] for address, name in zip(symbols.label_places, symbols.label_names)],
         "sources": sources,
     }
@@ -222,7 +194,9 @@ def reasons(window: Window, symbols: Symbols) -> Json:
         cause = Cause.of_number(step.turn.fault) if step.turn.fault else None
         if cause:
             slot = machine.slots[step.turn.slot].report()
-            found[place] = why(cause, slot, Memory(machine.image, machine.cells), speller)
+            memory = Memory(machine.image, machine.cells)
+            of_c = CView(slot, memory, speller).fault(cause)
+            found[place] = [*([of_c] if of_c else []), *why(cause, slot, memory, speller)]
     return found
 
 

@@ -10,7 +10,7 @@ from typing import Any
 
 MARK = re.compile(r"\{\{(\w+)\}\}")
 FOLDER = os.path.dirname(os.path.abspath(__file__))
-SCRIPTS = ("words.js", "replay.js", "timeline.js", "turn.js", "slots.js", "memory.js", "others.js", "main.js")
+SCRIPTS = ("words.js", "replay.js", "c.js", "timeline.js", "turn.js", "slots.js", "memory.js", "others.js", "main.js")
 
 
 def part(name: str) -> str:

@@ -70,9 +70,9 @@ const cellText = ([word, full]) => wordText(word) + (full ? "" : ", empty");
 
 function placeText(turn) {
   if (turn.fetch < 0) return "";
-  const origin = originOf(turn.fetch), made = origin && madeOf(origin);
-  const lines = [origin, made].filter(Boolean).map(lineText).join(", made of ");
-  return `at ${showAddress(turn.fetch)}${lines ? `: ${lines}` : ""}`;
+  const origin = originOf(turn.fetch);
+  const line = origin ? `: line ${origin.line} of ${RUN.names.sources[origin.source].path}` : "";
+  return `at ${showAddress(turn.fetch)}${line}`;
 }
 
 function showTurn(place, before, now) {
@@ -87,12 +87,13 @@ function showTurn(place, before, now) {
   const turn = TURNS[place - 1], code = codeOf(RAN[place - 1]), reasons = RUN.why[place - 1] || [];
   const title = turn.outcome === "delivered" ? `Cycle ${turn.cycle}: the port of slot ${turn.slot}`
     : `Cycle ${turn.cycle}: slot ${turn.slot}, its turn ${turn.number}`;
-  const rows = changesOf(turn, before, now);
+  const rows = changesOf(turn, before, now), ofC = turn.fetch >= 0 ? cPlace(turn.fetch) : null;
   pane.replaceChildren(...[
     el("h2", { id: "turn-title" }, title),
     el("p", { class: "what" }, el("code", {}, turnText(turn, before))),
     el("p", { class: "where" }, el("span", { class: "swatch", style: `--tint:var(--tint-${code.tint})`,
       "aria-hidden": "true" }), `in ${codeText(code)}, `, placeText(turn)),
+    ofC ? el("p", { class: "where" }, cText(ofC)) : null,
     turn.fault ? el("div", { class: "fault" },
       el("p", {}, el("strong", {}, `${causeText(turn.fault)}: `), CAUSES.get(turn.fault).meaning),
       reasons.map((line) => el("p", {}, line))) : null,
@@ -103,6 +104,7 @@ function showTurn(place, before, now) {
       el("tbody", {}, rows.map(([what, was, is]) => el("tr", {}, el("th", { scope: "row" }, what),
         el("td", { class: "mono" }, was), el("td", { class: "mono" }, is)))))
       : el("p", { class: "soft" }, turn.fault ? "No register and no word changed." : ""),
+    cVariables(now.slots.get(turn.slot), now),
   ].filter(Boolean));
 }
 
@@ -119,10 +121,16 @@ function sayTurn(place, before) {
 // The source: each line once, and marks at those where slots stand. Where it was made of C, the lines of C are shown,
 // until another file is chosen.
 const HEAD = /^(\s*(?:[A-Za-z_]\w*:)?\s*)(\.?[A-Za-z_]\w*)?/;
-const source = { lists: [], shown: null, marked: [], low: false };
+const source = { lists: [], shown: null, marked: [], inC: true };
 
 const lineOfC = (text, at) => el("li", { "data-line": at + 1 }, el("span", { class: "number" }, `${at + 1}`),
   el("span", { class: "stand" }), el("span", {}, text));
+
+// The line to show for an address: that of C, unless another source was chosen.
+function lineAt(address) {
+  const ofC = source.inC ? cPlace(address) : null;
+  return ofC && RUN.names.sources[ofC.source].lines.length ? ofC : originOf(address);
+}
 
 function sourceLine(text, at) {
   const cut = text.indexOf(";"), code = cut < 0 ? text : text.slice(0, cut), [, label, head = ""] = HEAD.exec(code);
@@ -134,18 +142,18 @@ function sourceLine(text, at) {
 function buildSources() {
   const { sources } = RUN.names;
   source.lists = sources.map(({ lines, c }) => el("ol", {}, lines.map(c ? lineOfC : sourceLine)));
-  byId("file").replaceChildren(...sources.map(({ path }, at) => el("option", { value: at }, path)));
-  byId("files").hidden = sources.length < 2;
+  byId("file").replaceChildren(...sources.flatMap(({ path, lines }, at) =>
+    (lines.length ? [el("option", { value: at }, path)] : [])));
+  byId("files").hidden = byId("file").length < 2;
   byId("source-title").textContent = sources.length === 1 ? sources[0].path : sources.length ? "Source" : "Code";
-  byId("file").addEventListener("change", () => chooseSource(Number(byId("file").value)));
+  byId("file").addEventListener("change", () => chooseFile(Number(byId("file").value)));
 }
 
 // Opens a file that somebody chose; from then on lines of C are shown, or lines of what was made of them.
-function chooseSource(at) {
-  source.low = !RUN.names.sources[at].c;
-  openSource(at);
+function chooseFile(at) {
+  source.inC = Boolean(RUN.names.sources[at].c);
   render();
-  if (source.shown !== at) openSource(at);
+  openSource(at);
 }
 
 function openSource(at) {
@@ -175,17 +183,11 @@ const standing = (machine, address) => [...machine.slots.values()].filter((slot)
   && Number(pointerOf(slot.ip).address) === address)
   .map((slot) => `s${slot.slot}`).join("");
 
-// The line that is shown for an address: of C if there is one and it is wanted, else of the source.
-function shownLine(address) {
-  const origin = originOf(address);
-  return (origin && !source.low && madeOf(origin)) || origin;
-}
-
 function showSource(place, now) {
   const turn = place ? TURNS[place - 1] : null;
   const fetch = turn && turn.fetch >= 0 ? turn.fetch
     : Number(pointerOf(now.slots.get(turn ? turn.slot : SLOTS[0]).ip).address);
-  const origin = shownLine(fetch);
+  const origin = lineAt(fetch);
   if (!origin) return source.shown !== null && !turn ? null : listing(now, fetch);
   openSource(origin.source);
   source.marked.forEach((item) => {
@@ -196,6 +198,7 @@ function showSource(place, now) {
   source.marked = [];
   const mark = (from, text, isNow) => {
     const item = source.lists[from.source].children[from.line - 1];
+    if (!item) return;
     if (isNow) {
       item.classList.add("now");
       item.setAttribute("aria-current", "true");
@@ -204,11 +207,12 @@ function showSource(place, now) {
     source.marked.push(item);
   };
   for (const slot of now.slots.values()) {
-    const stands = shownLine(Number(pointerOf(slot.ip).address));
+    const stands = lineAt(Number(pointerOf(slot.ip).address));
     if (stands) mark(stands, `s${slot.slot}`, false);
   }
   if (turn) mark(origin, "", true);
-  scrollSource(source.lists[origin.source].children[origin.line - 1]);
+  const item = source.lists[origin.source].children[origin.line - 1];
+  if (item) scrollSource(item);
 }
 
 // Scrolls the source alone, and never the page.

@@ -68,15 +68,6 @@ function originOf(address) {
   return line ? { source: region.source, line } : null;
 }
 
-// The line of C that a line of a source was made of; null where it was made of none.
-function madeOf({ source, line }) {
-  const marks = RUN.names.sources[source].from || [];
-  const [, file, number] = marks[lastUpTo(marks, line, ([start]) => start)] || [];
-  return file === undefined ? null : { source: file, line: number };
-}
-
-const lineText = ({ source, line }) => `line ${line} of ${RUN.names.sources[source].path}`;
-
 function integerText(word) {
   const bits = bitsOf(word), signed = BigInt.asIntN(64, bits);
   if (-65536n < signed && signed < 65536n) {

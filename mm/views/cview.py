@@ -26,7 +26,7 @@ class CView:
         ip, stack = self.slot.ip.pointer, self.slot.register(STACK_REGISTER)
         if ip is None or stack is None or stack.pointer is None:
             return iter(())
-        return frames(ip.address, stack.pointer.address, self.symbols.c_place, self.address_in)
+        return frames(ip.address, stack.pointer.address, self.symbols.c_notes, self.address_in)
 
     def address_in(self, address: int) -> Optional[int]:
         """The address of the pointer in a word of memory."""
@@ -81,7 +81,8 @@ class CView:
             for made in frame.function.objects:
                 start = frame.stack + made.at
                 if made.log == pointer.log and start >> made.log == pointer.base >> made.log:
-                    return f"{made.name}[{target - start}] of {made.size} bytes, in {frame.function.name}"
+                    name = frame.function.inner_name(made.inner)
+                    return f"{made.name}[{target - start}] of {made.size} bytes, in {name}"
         return None
 
     def of_heap(self, pointer: Pointer, target: int) -> Optional[str]:

@@ -143,8 +143,10 @@ def _bounds_of_code(at: Refusal) -> list[str]:
     words = at.instruction.value("imm") if at.instruction and at.name in BRANCHES else 1
     to = here.address + 8 * words
     lines = [f"{show(to)} is outside of the code, which has {at.reach(here)}"]
-    if at.name == "jal":
+    if at.name in ("jal", "lip") and to == here.end:
         lines.append("the way back would be behind the segment: leave a word after a call")
+    elif at.name == "lip":
+        lines.append("a pointer into the code stands inside of it: others come from `.ptr` words and `.reg`")
     elif at.name in BRANCHES:
         lines.append("a branch stays in its segment: reach others by `jmp` or `jal` through a pointer")
     return lines

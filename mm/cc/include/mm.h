@@ -53,7 +53,8 @@ void mm_resume(long slot, int way);
 #define MM_CAUSE(event) ((event).what & 255)
 #define MM_SLOT(event) ((event).what >> 8)
 
-/* One operation each. */
+/* One operation each. The numbers of those marked so are part of the operation, and must be constants. */
+#define MM_CONSTANT __attribute__((nomerge))
 void *__mm_op_subseg(const void *pointer, long log);
 void *__mm_op_restrict(const void *pointer, long permission);
 void *__mm_op_leab(const void *pointer, long offset);
@@ -62,14 +63,14 @@ long __mm_op_eqw(const void *pointer, const void *other);
 long __mm_op_self(void);
 void __mm_op_out(long byte);
 void __mm_op_halt(long status) __attribute__((noreturn));
-void __mm_op_trap(long number);
+void __mm_op_trap(long number) MM_CONSTANT;
 void *__mm_op_ld_full_empty(const void *word);
 void *__mm_op_ld_full_keep(const void *word);
 void __mm_op_st_empty_full(void *word, const void *value);
 void __mm_op_st_any_empty(void *word, const void *value);
 void __mm_op_st_any_full(void *word, const void *value);
-void *__mm_op_rreg(long slot, int number);
-void __mm_op_wreg(long slot, int number, const void *value);
-void __mm_op_resume(long slot, int way);
+void *__mm_op_rreg(long slot, int number) MM_CONSTANT;
+void __mm_op_wreg(long slot, int number, const void *value) MM_CONSTANT;
+void __mm_op_resume(long slot, int way) MM_CONSTANT;
 
 #endif

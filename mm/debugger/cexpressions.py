@@ -1,0 +1,127 @@
+"""Variables of C as a person names them: `i`, `name[3]`, `*p`, `list->next->value`, `&where.y`."""
+
+from __future__ import annotations
+
+import re
+from typing import Optional
+
+from mm.machine.words import Word
+from mm.names.expressions import NoAddress
+from mm.names.numbers import number_of
+from mm.views.cvalues import CThing, CValues
+
+TOKEN = re.compile(r"\s*([A-Za-z_]\w*|0[xX][0-9a-fA-F]+|\d+|->|[][.*&()])")
+
+
+class CExpression:
+    """Reads and evaluates an expression."""
+
+    def __init__(self, text: str, values: CValues) -> None:
+        self.text, self.values = text, values
+        self.tokens: list[str] = []
+        at = 0
+        while at < len(text.rstrip()):
+            match = TOKEN.match(text, at)
+            if match is None:
+                raise NoAddress(f"`{text}` is no expression of names, members (a.b, p->b), elements (a[1]) and `*`")
+            self.tokens.append(match[1])
+            at = match.end()
+        self.at = 0
+
+    def value(self) -> Optional[CThing]:
+        """What it names; none where its first name is no variable of C."""
+        found = self.unary()
+        if found is not None and self.at < len(self.tokens):
+            raise NoAddress(f"`{self.text}` goes on after `{' '.join(self.tokens[:self.at])}`")
+        return found
+
+    @property
+    def token(self) -> str:
+        return self.tokens[self.at] if self.at < len(self.tokens) else ""
+
+    def next(self) -> str:
+        self.at += 1
+        return self.tokens[self.at - 1] if self.at <= len(self.tokens) else ""
+
+    def want(self, token: str) -> None:
+        if self.next() != token:
+            raise NoAddress(f"`{token}` is missing in `{self.text}`")
+
+    def unary(self) -> Optional[CThing]:
+        if self.token == "*":
+            self.next()
+            inner = self.unary()
+            return self.element(inner, 0) if inner is not None else None
+        return self.postfix()
+
+    def postfix(self) -> Optional[CThing]:
+        if self.token == "(":
+            self.next()
+            found = self.unary()
+            self.want(")")
+        else:
+            name = self.next()
+            found = self.values.named(name)
+            if found is None and self.values.is_elsewhere(name):
+                raise NoAddress(f"`{name}` has no place here: it is not there yet, or not needed any more")
+        while found is not None and self.token in ("[", ".", "->"):
+            sign = self.next()
+            if sign == "[":
+                found = self.element(found, self.index())
+                self.want("]")
+            else:
+                found = self.member(self.element(found, 0) if sign == "->" else found, self.next())
+        return found
+
+    def index(self) -> int:
+        number = number_of(self.token)
+        if number is not None:
+            self.next()
+            return number
+        found = self.unary()
+        word = self.values.word(found) if found is not None else None
+        if word is None:
+            raise NoAddress(f"`{self.text}`: the index is no number and no variable")
+        return word.signed
+
+    def element(self, thing: CThing, index: int) -> CThing:
+        kind = thing.kind
+        if kind.kind not in ("array", "pointer"):
+            raise NoAddress(f"`{self.text}`: {thing.types.title(thing.type)} is no array and no pointer")
+        start = thing.address
+        if kind.kind == "pointer":
+            word = self.values.word(thing)
+            pointer = word.pointer if word else None
+            if pointer is None:
+                raise NoAddress(f"`{self.text}`: the pointer is {self.values.spell(thing)}")
+            start = pointer.address
+        return CThing(thing.types, kind.inner, (start or 0) + index * (thing.types.size(kind.inner) or 1))
+
+    def member(self, thing: CThing, name: str) -> CThing:
+        part = next((part for part in thing.kind.fields if part.name == name), None)
+        if part is None:
+            has = ", ".join(part.name for part in thing.kind.fields)
+            raise NoAddress(f"`{self.text}`: {thing.types.title(thing.type)} has no member `{name}`"
+                            + (f"; it has {has}" if has else ""))
+        return self.values.member(thing, part)
+
+
+def c_thing(text: str, values: CValues) -> Optional[CThing]:
+    """What an expression of C names; none where its first name is none of C."""
+    text = text.strip()
+    if not re.match(r"[A-Za-z_(*]", text):
+        return None
+    try:
+        return CExpression(text, values).value()
+    except NoAddress:
+        first = re.search(r"[A-Za-z_]\w*", text)
+        if first and (values.named(first[0]) or values.is_elsewhere(first[0])):
+            raise
+        return None
+
+
+def word_of(thing: CThing, values: CValues) -> Word:
+    found = values.word(thing)
+    if found is None:
+        raise NoAddress("no page is there")
+    return found
