@@ -16,6 +16,7 @@ from mm.messages.diagnostic import Diagnostic
 from mm.messages.files import NamedFile, explain_files
 from mm.messages.links import explain_link
 from mm.messages.sources import explain
+from mm.names.expressions import nearest
 from mm.names.layout import Placed, differences, place
 from mm.names.symbols import Symbols, fits, symbols_of
 from mm.outputs.refusal import Refusal, RefusalKind, read_refusal
@@ -25,7 +26,9 @@ from mm.status import Status, Stop
 
 MOST_ERRORS = 20
 C_SUFFIX = ".c"
+UTF_16 = (b"\xff\xfe", b"\xfe\xff")
 NET_SUFFIXES = (".links", ".events")
+BINARY_SUFFIXES = (".img", ".obj", ".mms")
 OUR_SUFFIXES = (".asm", ".obj", ".img", ".mms", ".schedule", *NET_SUFFIXES)
 
 
@@ -80,16 +83,33 @@ def read_file(name: str) -> bytes:
 
 def _beside(name: str, error: OSError) -> list[str]:
     """Files that may have been meant."""
-    folder, last = os.path.split(name)
+    if isinstance(error, IsADirectoryError):
+        return _inside(name)
     if not isinstance(error, FileNotFoundError):
         return []
+    if name.isdigit():
+        return [f"how many cycles a run has is said by an option: `--cycles {name}`"]
+    folder, last = os.path.split(name)
     try:
-        there = os.listdir(folder or ".")
+        there = sorted(os.listdir(folder or "."))
     except OSError:
         return [f"there is no folder {folder}"]
-    stem = os.path.splitext(last)[0]
-    meant = [stem + suffix for suffix in OUR_SUFFIXES if stem + suffix in there]
-    return [f"there is {os.path.join(folder, meant[0])}"] if meant else []
+    stem, suffix = os.path.splitext(last)
+    near = nearest(stem, [os.path.splitext(one)[0] for one in there if one.endswith((*OUR_SUFFIXES, C_SUFFIX))])
+    meant = [begin + end for begin in (stem, near) for end in (suffix, *OUR_SUFFIXES, C_SUFFIX) if begin]
+    found = [one for one in meant if one in there]
+    if found:
+        return [f"there is {os.path.join(folder, found[0])}"]
+    return [f"names of files are looked up from the folder {os.getcwd()} on"]
+
+
+def _inside(folder: str) -> list[str]:
+    """What of a folder may have been meant."""
+    try:
+        there = sorted(name for name in os.listdir(folder) if name.endswith(".asm"))
+    except OSError:
+        there = []
+    return [f"it is a folder: name a file in it, as {os.path.join(folder, there[0] if there else 'main.asm')}"]
 
 
 class Workshop:
@@ -121,7 +141,11 @@ class Workshop:
                     Diagnostic(
                         name,
                         "this is no text, no image and no object",
-                        hints=["a source is a text; `mm help sources` shows one"],
+                        hints=[
+                            "it is a text in UTF-16: save it as UTF-8"
+                            if data.startswith(UTF_16)
+                            else "a source is a text; `mm help sources` shows one"
+                        ],
                     )
                 ],
             )
@@ -182,7 +206,20 @@ class Workshop:
             if answer.status:
                 raise refused(answer, [NamedFile(name, data)])
             return Unit(name, data, read_object(data))
+        if name.endswith(BINARY_SUFFIXES):
+            return self._misnamed(name, data)
         return self.assemble(name, data)
+
+    def _misnamed(self, name: str, data: bytes) -> Unit:
+        """The object of a source that has the name of an image or an object; if it is no source, it is told that it is neither."""
+        try:
+            if data.strip():
+                return self.assemble(name, data)
+        except Refused:
+            pass
+        said = "the file is empty" if not data else "this is no image, no object and no source"
+        hints = ["an image is what `mm link FILE.. -o IMAGE` writes, an object what `mm asm SOURCE -o OBJECT` writes"]
+        raise Refused(Status.REFUSED, [Diagnostic(name, said, hints=hints)])
 
     def link(self, units: Sequence[Unit]) -> Built:
         """The image of objects, with names that were compared with it."""
@@ -206,6 +243,7 @@ class Workshop:
         """The image of files: an image as it is, or sources and objects linked. `others` are files that an image's names are taken from."""
         datas = [read_file(name) for name in names]
         refuse_nets(names, datas)
+        refuse_schedules(names, datas)
         datas = self._translated(names, datas)
         kinds = [FileKind.of(data) for data in datas]
         if FileKind.IMAGE in kinds:
@@ -274,6 +312,14 @@ def refuse_nets(names: Sequence[str], datas: Sequence[bytes]) -> None:
                 "pages, traces, waves and the debugger show one machine: give them the file of one node, which then runs without the others",
             ]
             raise Refused(Status.USAGE, [Diagnostic(name, message, hints=hints)])
+
+
+def refuse_schedules(names: Sequence[str], datas: Sequence[bytes]) -> None:
+    """Refuses a schedule where a program is wanted."""
+    for name, data in zip(names, datas):
+        if name.endswith(".schedule") and FileKind.of(data) is FileKind.TEXT:
+            hint = f"the order of turns is said by an option: `--schedule {name}`"
+            raise Refused(Status.USAGE, [Diagnostic(name, "this is a schedule, and no program", hints=[hint])])
 
 
 def give_names(built: Built, units: Sequence[Unit]) -> None:

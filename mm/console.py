@@ -8,7 +8,7 @@ from typing import Any, Iterable, Optional
 
 from mm.cc.options import options_of
 from mm.build import Built, Refused, Workshop, read_file, refused
-from mm.formats.schedule import Schedule, read_schedule
+from mm.formats.schedule import PORT, Schedule, read_schedule
 from mm.machine.program import Answer, Program, find_program
 from mm.messages.files import NamedFile
 from mm.status import Status, Stop, usage
@@ -104,6 +104,18 @@ class Console:
             return Order()
         file = NamedFile("--turns", (turns or "").encode()) if name is None else NamedFile(name, read_file(name))
         return Order(file, self.workshop.keep(file.data, ".schedule"))
+
+    def note_order(self, built: Built, order: Order) -> None:
+        """Tells of turns that no slot can take. `mmachine` has accepted the order."""
+        schedule, slots = order.schedule, {slot.number for slot in built.image.slots}
+        if schedule is None:
+            return
+        missing = sorted({item for item, _ in schedule.runs if item % PORT not in slots})
+        if missing:
+            shown = ", ".join(map(str, missing[:8])) + (" .." if len(missing) > 8 else "")
+            self.tell(f"mm: note: nothing is done by turns of slots that have no thread: {shown}")
+        if not schedule.runs:
+            self.tell(f"mm: note: {order.file.name if order.file else 'the schedule'} has no turns")
 
     def cycles(self, default: int) -> int:
         found = cycles_of(self.said.value(CYCLES))

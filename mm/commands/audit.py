@@ -16,6 +16,10 @@ def run(console: Console) -> int:
     groups = console.said.value(GROUPS)
     answer = console.ask(["grants", built.path, *([groups_of(groups)] if groups is not None else [])], [built.file])
     audit = read_audit(answer.text)
+    here = {slot.group for slot in built.image.slots}
+    empty = [group for group in groups_of(groups).split(",") if int(group) not in here] if groups is not None else []
+    if empty:
+        console.tell(f"mm: note: no thread is in group {', '.join(empty)}")
     if console.said.has(JSON):
         console.write_json(audit_form(audit, built.symbols))
         return Status.DONE

@@ -2,10 +2,13 @@
 
 from __future__ import annotations
 
+from mm.build import read_file
 from mm.cc.driver import source_of
 from mm.cc.options import options_of
 from mm.console import Console
 
 
 def run(console: Console) -> int:
+    for name in console.words:
+        read_file(name)  # Clang's message for one that is not there has another form.
     return console.put(source_of(console.words, options_of(console.said)).encode("latin-1", "replace"))

@@ -59,8 +59,8 @@ def run(console: Console) -> int:
     links, events, *names = console.words
     if len(names) > MOST_NODES:
         raise usage(f"mm: net: a net has at most {MOST_NODES} nodes, and {len(names)} files are given")
-    nodes = [console.build([name]) for name in names]
     said, order = read_file(links), read_file(events)
+    nodes = [console.build([name]) for name in names]
     text, moved = numeric(said, nodes)
     files = [NamedFile(links, said, moved=moved), NamedFile(events, order, events=True), *(node.file for node in nodes)]
     words = [

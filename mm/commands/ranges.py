@@ -2,6 +2,8 @@
 
 from __future__ import annotations
 
+import os
+
 from mm.build import Built
 from mm.console import Console
 from mm.machine.words import LONGEST, Word, bytes_in_words
@@ -33,6 +35,17 @@ def range_of(text: str, built: Built) -> tuple[int, int]:
     return address, log
 
 
+def _files_and_range(console: Console) -> tuple[list[str], str]:
+    """The words of a command, of which the last is the range."""
+    *names, text = console.words
+    if len(names) > 1 and number_of(text) is not None and not os.path.exists(names[-1]):
+        raise usage(
+            f"mm: {console.name}: a range is one word, the last: `{names[-1]},{text}`",
+            "    `mm help ranges` says more",
+        )
+    return names, text
+
+
 def _holder(line: str, speller: Speller) -> str:
     """A line of holders with names."""
     words = line.split()
@@ -45,7 +58,7 @@ def _holder(line: str, speller: Speller) -> str:
 
 
 def _holders(console: Console) -> int:
-    *names, text = console.words
+    names, text = _files_and_range(console)
     built = console.build(names)
     base, log = range_of(text, built)
     answer = console.ask(["holders", built.path, str(base), str(log)], [built.file])
@@ -59,7 +72,7 @@ def _holders(console: Console) -> int:
 
 
 def _sweep(console: Console) -> int:
-    *names, text = console.words
+    names, text = _files_and_range(console)
     built = console.build(names)
     base, log = range_of(text, built)
     return console.put(console.ask(["sweep", built.path, str(base), str(log)], [built.file]).out)

@@ -32,6 +32,7 @@ def show(console: Console, built: Built, run: Run, order: str) -> int:
 def _run(console: Console) -> int:
     built, order = console.build(console.words), console.order()
     run = Runner(console, built, order).run_to_end(cycles_of(console.said.value(CYCLES)))
+    console.note_order(built, order)
     return show(console, built, run, str(order))
 
 
@@ -56,7 +57,7 @@ def _solo(console: Console) -> int:
         console,
         built,
         Run(report, {}),
-        f"groups {groups} alone, by their turns of {order.file.name if order.file else 'round robin'}",
+        f"group{'s' if ',' in groups else ''} {groups} alone, by their turns of {order.file.name if order.file else 'round robin'}",
     )
 
 

@@ -21,6 +21,7 @@ def run(console: Console) -> int:
     runner = Runner(console, built, order)
     cycles = cycles_of(console.said.value(CYCLES))
     answer = console.ask(runner.words("trace", FIRST_LOOK if cycles is None else cycles), runner.files)
+    console.note_order(built, order)
     lines, report = split_trace(answer.text)
     memory, speller = Memory(built.image, report.cells), Speller(built.symbols)
     waits = waiting(lines, report, built.image.split)

@@ -12,7 +12,7 @@ from mm.debugger.session import Halt, Session
 from mm.debugger.show import Show
 from mm.machine.isa import OPERATIONS
 from mm.machine.words import Pointer
-from mm.names.expressions import NoAddress
+from mm.names.expressions import NoAddress, nearest
 from mm.outputs.trace import Turn
 from mm.views.listing import map_lines
 
@@ -148,14 +148,16 @@ def _set_break(debugger: Debugger, rest: str, once: bool = False) -> Lines:
     point = session.add(PointKind.BREAK, place, address, length, slot, once)
     name, origin = session.symbols.show(address), session.symbols.origin(address)
     if length > 8:
-        yield f"{point.number}: break where a slot comes into {name}"
+        yield f"{point.number}: break where {'a slot' if slot is None else f'slot {slot}'} comes into {name}"
         return
     typed = "" if place == name else f"{place} "
+    alone = "" if slot is None else f" of slot {slot}"
     line = session.symbols.c_line(address)
     of_c = f", {line}: {line.text}" if line else ""
     copies = len(session.symbols.places_of_inlined(place)) if of_c and not session.symbols.named(place) else 0
     more = f" (the first of {copies} places where `{place}` was put into others)" if copies > 1 else ""
-    yield f"{point.number}: break {typed}at {name}" + (of_c or (f", {origin}: {origin.code}" if origin else "")) + more
+    said = of_c or (f", {origin}: {origin.code}" if origin else "")
+    yield f"{point.number}: break {typed}at {name}{alone}{said}{more}"
 
 
 def _set_once(debugger: Debugger, rest: str) -> Lines:
@@ -165,6 +167,8 @@ def _set_once(debugger: Debugger, rest: str) -> Lines:
 def _set_watch(kind: PointKind) -> Callable[[Debugger, str], Lines]:
     def run(debugger: Debugger, rest: str) -> Lines:
         place, slot = slot_of(rest, debugger.session)
+        if not place:
+            raise Wrong(f"say which word: `{kind.title} count`, `{kind.title} box+8`, `{kind.title} 0x100100`")
         address, length = span(place, debugger.session)
         point = debugger.session.add(kind, place, address & ~7, length, slot)
         now = debugger.show.cell(debugger.session.memory.cell(point.address)) if length == 8 else f"{length // 8} words"
@@ -261,7 +265,11 @@ INFO: dict[str, tuple[str, Callable[[Debugger, str], Lines]]] = {
 }
 INFO_NAMES = {
     "threads": "slots",
+    "breaks": "breakpoints",
+    "watches": "breakpoints",
     "watchpoints": "breakpoints",
+    "regs": "registers",
+    "names": "symbols",
     "frame": "line",
     "program": "line",
     "variables": "symbols",
@@ -327,6 +335,16 @@ ENTRIES = (
     Entry(("quit", "q", "exit"), "", "the end", "", _quit),
 )
 # fmt: on
+OTHER_WORDS = {
+    "set": "a run is looked at and never changed; change the source, and debug it again",
+    "disas": "`x/8i door` shows eight instructions",
+    "disassemble": "`x/8i door` shows eight instructions",
+    "layout": "`list` shows the source, `display r2` a register at each stop",
+    "undisplay": "`display` without a word ends all of them",
+    "clear": "`delete N` removes a break, `info breakpoints` lists them",
+    "stop": "`break PLACE` says where to stop",
+    "kill": "`quit` ends the session",
+}
 BY_NAME = {name: entry for entry in ENTRIES for name in entry.names}
 
 
@@ -339,7 +357,10 @@ def find(word: str) -> Entry:
         return next(iter(found.values()))
     if found:
         raise Wrong(f"`{word}` may be {' or '.join(found)}")
-    raise Wrong(f"there is no command `{word}`: `help` lists them")
+    if word in OTHER_WORDS:
+        raise Wrong(f"there is no command `{word}`: {OTHER_WORDS[word]}")
+    near = nearest(word, list(BY_NAME))
+    raise Wrong(f"there is no command `{word}`" + (f"; do you mean `{near}`?" if near else ": `help` lists them"))
 
 
 def carry_out(debugger: Debugger, line: str) -> Lines:

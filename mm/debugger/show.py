@@ -179,7 +179,8 @@ class Show:
         """A word at length: the number in both bases, or the pointer with its segment."""
         pointer = word.pointer
         if pointer is None:
-            return f"{self.session.speller.word(word)}   (0x{word.bits:x})"
+            text, digits = self.session.speller.word(word), f"0x{word.bits:x}"
+            return text if text.endswith(digits) else f"{text}   ({digits})"
         speller = self.session.speller
         return f"{speller.pointer(pointer)}   ({pointer.permission.full}, {speller.reach(pointer)}, at 0x{pointer.address:x})"
 

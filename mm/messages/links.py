@@ -45,6 +45,9 @@ def _twice(link: Link, name: str) -> list[Diagnostic]:
     message = f"two segments have the name `{name}`"
     if len(places) > 1:
         source, segment = places[1]
+        if source.path == places[0][0].path:
+            hint = "give each file once; for a second thread write a second `.thread`"
+            return [link.whole(f"{source.path} is given twice", [hint])]
         first = f"the other is in {places[0][0].path}, line {places[0][1].line}"
         return [link.at(source, segment.line, segment.column, message, [first + "; rename one of them"])]
     owners = [unit for unit, made, _ in link.units if any(segment.name == name for segment in made.segments)]
@@ -103,7 +106,10 @@ def _slot_twice(link: Link, name: str) -> list[Diagnostic]:
 
 
 def _no_thread(link: Link, _: str) -> list[Diagnostic]:
-    first = next((segment.name for _, made, _ in link.units for segment in made.segments), "main")
+    first = next((segment.name for _, made, _ in link.units for segment in made.segments), None)
+    if first is None:
+        hint = "begin with a segment and a thread: `mm help sources` shows a whole source"
+        return [link.whole("there is nothing in it that could run", [hint])]
     return [
         link.whole(
             "there is no thread, so nothing would run",

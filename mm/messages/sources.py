@@ -5,14 +5,15 @@ from __future__ import annotations
 from typing import Callable, Optional
 
 from mm.messages.diagnostic import Diagnostic
-from mm.messages.mistakes import Scene, hint_of
+from mm.messages.mistakes import hint_of
+from mm.messages.scene import Scene
 from mm.machine.isa import OPERATIONS
 from mm.names.expressions import nearest
 from mm.names.numbers import counted
 from mm.outputs.refusal import Refusal
 from mm.source import wants
 from mm.source.lines import Line, read_line
-from mm.source.tokens import Token, TokenKind, tokens_of
+from mm.source.tokens import Token, TokenKind, readable, tokens_of
 from mm.source.text import SourceSegment, SourceText, read_source
 from mm.source.wants import DIRECTIVES, OPERANDS
 
@@ -71,7 +72,9 @@ class Explained:
 
 
 def _bad_byte(at: Explained) -> str:
-    return f"`{at.said[at.column - 1:at.column].encode('latin-1').decode('utf-8', 'replace')}` begins nothing that a source can have"
+    letter = readable(at.said[at.column - 1 :])[:1]
+    shown = f"`{letter}`" if letter.isprintable() and not letter.isspace() else f"U+{ord(letter):04X}"
+    return f"{shown} begins nothing that a source can have"
 
 
 def _syntax(at: Explained) -> str:
@@ -161,8 +164,12 @@ def _hint_for_label(at: Explained) -> Optional[str]:
     name = at.token.text if at.token else ""
     segment, label = at.source.segment(name), at.source.labels.get(name)
     if segment or label:
+        if at.head == "lip":
+            return f"`lip` makes pointers into its own segment alone: a pointer to `{name}` comes from `.reg 5 ptr rw {name}` after the `.thread`, or from a `.ptr` in memory"
         what = f"it is in segment `{at.source.segments[label.segment].name}`" if label else "it is a segment"
         return f"{what}: go to another segment by `jmp` or `jal` through a pointer (`.reg 5 ptr xu {name}`, or `eu` for a gate)"
+    if name in wants.REGISTERS:
+        return f"`{at.head}` wants a label; a register holds a pointer, and `jmp {name}` goes through it"
     near = nearest(name, list(at.source.labels))
     return f"do you mean `{near}`?" if near else "a label is a name and `:` before a word of the same segment"
 
@@ -183,6 +190,8 @@ def _hint_for_name(at: Explained) -> Optional[str]:
     text = at.token.text if at.token else ""
     if at.want is not None and at.want.choices:
         return None
+    if len(text) > wants.LONGEST_NAME:
+        return "choose a shorter name"
     known = [name for name in DIRECTIVES] if text.startswith(".") else list(OPERANDS)
     near = nearest(text, known)
     return f"do you mean `{near}`?" if near else "`mm help operations` and `mm help directives` list all"
@@ -211,8 +220,8 @@ def explain(source: SourceText, fault: int, number: int, column: int) -> Diagnos
     at = Explained(source, number, column)
     message = MESSAGES[fault](at) if fault in MESSAGES else f"source fault {fault}"
     hint = (hint_of(at.scene(fault)) if fault <= 4 else None) or OWN_HINTS.get(fault, lambda _: None)(at)
-    if hint is None and fault in (2, 4) and at.want is not None:
-        hint = at.usage()
+    if hint is None and fault <= 4:
+        hint = at.usage() or "`mm help sources` shows what stands in a source"
     name = at.token.text if fault == LABEL and at.token else None
     return Diagnostic(source.path, message, number, column, at.said, [hint] if hint else [], name=name)
 

@@ -131,7 +131,7 @@ class Running(unittest.TestCase):
 
     def test_solo_and_pieces(self):
         self.assertIn(
-            "1 cycle, groups 0 alone",
+            "1 cycle, group 0 alone",
             mm("solo", "examples/counter.asm", "0", "-s", "examples/counter.schedule", "-n", "6").out,
         )
         self.assertIn('output "ABC"', mm("solo", "docs/course/apart.asm", "0").out)
@@ -160,6 +160,9 @@ class Looking(unittest.TestCase):
         out = mm("trace", "examples/counter.asm", "--turns", "0 1*5").out
         for text in ("stores to box", "enters eu 2^6 door", "jal r6, r5", "loads and sets the bit of box", "6 cycles"):
             self.assertIn(text, out)
+        out = mm("trace", "examples/counter.asm", "--turns", "1 0*2 0*6").out
+        self.assertIn("ld r2, r1, 0, full, empty       waits for box to be full\n", out)
+        self.assertIn("st r1, r2, 0, empty, full       waits for box to be empty\n", out)
         form = json.loads(mm("trace", "examples/counter.asm", "--turns", "5 0 1*5", "--json").out)
         self.assertEqual(
             [(turn["cycle"], turn["slot"]) for turn in form["turns"]], [(2, 0), (3, 1), (4, 1), (5, 1), (6, 1), (7, 1)]

@@ -45,6 +45,20 @@ class Sessions(unittest.TestCase):
         self.assertIn("break door at door  (met 2 times)", said[6])
         self.assertIn("cycle 36, the end of the run", said[8])
 
+    def test_other_words(self):
+        said = self.session(
+            ["watch", "brk door", "set r1 5", "info breaks", "info regs", "b door slot 1", "foo", "p &box", "p r2"],
+            "examples/counter.asm",
+        )
+        self.assertIn("say which word: `watch count`", said[0])
+        self.assertIn("do you mean `break`?", said[1])
+        self.assertIn("never changed", said[2])
+        self.assertIn("0  fault", said[3])
+        self.assertIn("r1   rw 2^3 box", said[4])
+        self.assertIn("break at door of slot 1, ", said[5])
+        self.assertIn("`help` lists them", said[6])
+        self.assertEqual(said[7:], ["&box = 1048832 0x100100", "r2 = 1   (0x1)"])
+
     def test_places(self):
         said = self.session(
             [

@@ -2,7 +2,7 @@
 
 import unittest
 
-from mm.messages.mistakes import OPERATION_HINTS
+from mm.messages.others import OPERATION_HINTS
 from mm.source.wants import DIRECTIVES, OPERANDS
 from mm.tests.mistakes import MISTAKES
 from mm.tests.support import folder, mm, needs_program, write
@@ -84,7 +84,13 @@ class Files(unittest.TestCase):
             "nothing.schedule: error: cannot be read",
             self.refused(3, "run", "examples/counter.asm", "--schedule", "nothing.schedule"),
         )
-        self.assertIn("examples: error: cannot be read", self.refused(3, "run", "examples"))
+        err = self.refused(3, "run", "examples")
+        self.assertIn("examples: error: cannot be read", err)
+        self.assertIn("it is a folder: name a file in it, as examples/answer.asm", err)
+        self.assertIn("there is examples/counter.asm", self.refused(3, "run", "examples/conuter.asm"))
+        self.assertIn("looked up from the folder", self.refused(3, "run", "nofile.asm"))
+        self.assertIn("`--cycles 100`", self.refused(3, "run", "examples/counter.asm", "100"))
+        self.assertIn("nofile.c: error: cannot be read", self.refused(3, "cc", "nofile.c"))
 
     def test_schedules(self):
         for text, hint in (
@@ -96,9 +102,19 @@ class Files(unittest.TestCase):
             err = self.refused(2, "run", "examples/counter.asm", "--turns", text)
             self.assertIn("--turns:1:", err)
             self.assertIn(hint, err)
+        program, order = "examples/counter.asm", "examples/counter.schedule"
+        self.assertIn(f"`--schedule {order}`", self.refused(1, "run", program, order))
         with folder() as room:
             path = write(room, "my.schedule", "0*3\n1 two\n")
             self.assertIn(f"{path}:2:3: error: `two`", self.refused(2, "run", "examples/counter.asm", "-s", path))
+
+    def test_turns_of_nobody(self):
+        for command in ("run", "trace"):
+            self.assertIn("no thread: 9, 16", mm(command, "examples/counter.asm", "--turns", "0 16 9 1").err)
+            self.assertIn("--turns has no turns", mm(command, "examples/counter.asm", "--turns", "# none").err)
+            self.assertEqual(mm(command, "examples/counter.asm", "-s", "examples/counter.schedule").err, "")
+        self.assertIn("no thread is in group 9", mm("audit", "examples/counter.asm", "--groups", "0,9").err)
+        self.assertEqual(mm("audit", "examples/counter.asm", "--groups", "0,1").err, "")
 
     def test_images_and_objects(self):
         with open("examples/hello.img", "rb") as file:
@@ -118,7 +134,18 @@ class Files(unittest.TestCase):
             self.assertIn("bad.img: error: the file ends within a field", self.refused(2, "run", path))
             with open(path, "wb") as file:
                 file.write(bytes(64))
+            self.assertIn("no image, no object and no source", self.refused(2, "run", path))
+            self.assertIn("the file is empty", self.refused(2, "run", write(room, "none.img", "")))
+            self.assertIn("no image, no object and no source", self.refused(2, "run", write(room, "some.obj", "some")))
+            path = write(room, "bad.asm", "\0")
             self.assertIn("no text, no image and no object", self.refused(2, "run", path))
+            with open(path, "wb") as file:
+                file.write(HEAD_ONE.encode("utf-16"))
+            self.assertIn("save it as UTF-8", self.refused(2, "run", path))
+            with open(path, "wb") as file:
+                file.write(HEAD_ONE.encode("utf-8-sig"))
+            self.assertIn("U+FEFF", self.refused(2, "run", path))
+            self.assertIn("byte order mark", self.refused(2, "run", path))
 
     def test_links_of_sources(self):
         with folder() as room:
@@ -127,7 +154,9 @@ class Files(unittest.TestCase):
             err = self.refused(2, "run", one, two)
             self.assertIn(f"{one}:4:15: error: `second`", err)
             self.assertIn("write `data + 8`", err)
-            self.assertIn("two segments have the name `data`", self.refused(2, "run", two, two))
+            three = write(room, "three.asm", ".segment data 4\n .int 1\n")
+            self.assertIn("two segments have the name `data`", self.refused(2, "run", two, three))
+            self.assertIn(f"{two} is given twice", self.refused(2, "run", two, two))
 
     def test_groups_and_ranges(self):
         self.assertIn("no slot is of one of these groups", self.refused(2, "extract", "examples/hello.asm", "5"))
@@ -135,6 +164,7 @@ class Files(unittest.TestCase):
             "slot 1 runs by a pointer into the range", self.refused(2, "sweep", "examples/letterbox.asm", "reader")
         )
         self.assertIn("do you mean `box`?", self.refused(1, "holders", "examples/letterbox.asm", "bx"))
+        self.assertIn("one word, the last: `box,3`", self.refused(1, "holders", "examples/letterbox.asm", "box", "3"))
         self.assertIn("begins at a multiple", self.refused(1, "holders", "examples/letterbox.asm", "box,12"))
         self.assertIn("no checkpoint", self.refused(2, "continue", "examples/hello.asm", "examples/hello.asm"))
 
@@ -142,6 +172,7 @@ class Files(unittest.TestCase):
         with folder() as room:
             links = write(room, "my.links", "0.sent>1.nothing\n")
             events = write(room, "my.events", "0:0*7 +0\n")
+            self.assertIn("no.links: error", self.refused(3, "net", "no.links", "no.events", "no.asm"))
             self.assertIn("nothing", self.refused(1, "net", links, events, "examples/ask.asm", "examples/answer.asm"))
             write(room, "my.links", "0.sent>1.got\n")
             write(room, "my.events", "0:0*7 go\n")

@@ -16,6 +16,7 @@ def code(*lines, size=6):
 # fmt: off
 ROWS = [
     (1, code("ld r7, r6, 0, any, keep"), "r6 is the integer 0", "a register that nothing was put into is 0"),
+    (1, code("st r5, r1, 0, any, keep").replace(".reg 5 int 9", ""), "r5 is the integer 0", "`st` has the pointer first, and then what is stored: `st r1, r5, ..`"),
     (1, code("addi r6, r1, 0", "ld r7, r6, 0, any, keep"), "its bits are those of rw 2^4 box", "arithmetic"),
     (2, code("ld r7, r3, 0, any, keep"), "r3 is eu 2^6 main: enter-user", "the right to be jumped to alone"),
     (2, code("st r2, r5, 0, any, keep"), "`st` needs the right to store", "the right to load alone"),
@@ -29,7 +30,7 @@ ROWS = [
     (3, code("subseg r7, r1, r5"), "2^9 bytes is not shorter than its 2^4", ""),
     (3, code("br 100"), "is outside of the code, which has all 64 bytes of main", "a branch stays in its segment"),
     (3, code("jal r6, r3", size=3).replace(".reg 3 ptr eu main", ".reg 3 ptr xu main"), "leave a word after a call", "which has all 8 bytes of main"),
-    (3, code("nop", size=3), "ran past the end of its segment", "`halt`"),
+    (3, code("nop", size=3), "main was its last word, ", "mine.asm:2: nop"),
     (4, code("ld r7, r1, 4, any, keep"), "box+4 is 4 bytes past a word", ""),
     (5, code("ldi r6, 0x20c00000", "ldhi r6, 0x00500000", "setptr r6, r6", "ld r7, r6, 0, any, keep").replace("none xu", "none xp"), "no page is mapped at 0x500000", ""),
     (7, code(".int 1"), "is no instruction: 1", ""),

@@ -21,16 +21,25 @@ class TraceView:
     def outcome(self, turn: Turn) -> str:
         """What became of a turn, where it is not simply done."""
         if turn.outcome == "blocked":
-            return self.style.warn("waits")
+            return self.style.warn("waits" + self.waited_for(turn))
         if turn.fault:
             cause = Cause.of_number(turn.fault)
             return self.style.bad(f"fault {turn.fault} {cause.title if cause else ''}".rstrip())
         return ""
 
+    def waited_for(self, turn: Turn) -> str:
+        """What a blocked turn has found otherwise than it wants it, where it tested a word."""
+        if turn.address is None:
+            return ""
+        instruction = self.memory.instruction(turn.fetch) if turn.fetch is not None else None
+        access = instruction is not None and instruction.name in ("ld", "st")
+        wanted = f" to be {instruction.choice('pre')}" if instruction and access else ""
+        return f" for {self.speller.symbols.show(turn.address)}{wanted}"
+
     def effects(self, turn: Turn) -> list[str]:
-        """What a turn accessed and entered."""
+        """What a turn accessed and entered. One that was blocked has done neither."""
         said = []
-        if turn.access and turn.address is not None:
+        if turn.access and turn.address is not None and turn.outcome != "blocked":
             said.append(f"{ACCESSES[turn.access]} {self.speller.symbols.show(turn.address)}")
         if turn.entered:
             said.append(f"enters {self.speller.word(turn.entered)}")

@@ -59,6 +59,10 @@ def _not_pointer(at: Refusal) -> list[str]:
         lines.append(
             f"its bits are those of {at.speller.pointer(spelled)}, but without the tag they are a number: arithmetic and `ldi` make integers alone (move pointers by lea, leai, leab)"
         )
+    elif at.name == "st" and at.word("rb").pointer:
+        lines.append(
+            f"{at.spelled('rb')}: `st` has the pointer first, and then what is stored: `st {at.register('rb')}, {at.register('ra')}, ..`"
+        )
     elif word.bits == 0:
         lines.append(
             f"a register that nothing was put into is 0: give it a pointer by `.reg {at.register('ra')[1:]} ptr rw NAME` after the `.thread`, or see where it was cleared"
@@ -105,8 +109,10 @@ def _rights(permission: Permission) -> str:
 def _bounds(at: Refusal) -> list[str]:
     show = at.speller.symbols.show
     if at.slot.past or at.instruction is None:
+        origin = at.speller.symbols.origin(at.ip.address)
+        last = f", {origin}: {origin.code}" if origin else ""
         return [
-            f"the thread ran past the end of its segment: {show(at.ip.address)} was its last word",
+            f"the thread ran past the end of its segment: {show(at.ip.address)} was its last word{last}",
             "end it with `halt`, or branch back",
         ]
     if at.is_access and at.pointer:
