@@ -30,18 +30,19 @@ use Rattle.mm_model.proofs.FlagLists.{flags-get}
 use Rattle.mm_machine.specs.Snapshot.{IsPending}
 use Rattle.mm_format.specs.Formats.{each, times, cons}
 use Rattle.mm_format.proofs.ImagesFit.{small_bits, word_fits, fits_word, ip_fits, fits_ip, fits_mask, or_false}
-use Rattle.mm_checkpoint.specs.Checkpoints.{state_byte, cause_byte, event_of, place_in, place_byte}
-use Rattle.mm_checkpoint.specs.Reading.{cause_of, state_of}
-use Rattle.mm_checkpoint.specs.Faults.{is_bad_state, is_bad_cause, bits_set, has_entry}
+use Rattle.mm_checkpoint.specs.Checkpoints.{state_byte, cause_byte, event_of, place_byte}
+use Rattle.mm_checkpoint.specs.Reading.{cause_of}
+use Rattle.mm_checkpoint.specs.Faults.{is_bad_state, is_bad_cause, bits_set}
 use Rattle.mm_checkpoint.specs.Steps.{bit_of}
-use Rattle.mm_checkpoint.specs.Format.{word_with, tagged, register, operand, load, beside, Queued, SlotRow, event_in}
-use Rattle.mm_checkpoint.specs.Format.{place_in_row, address_in, value_in, slot_row}
+use Rattle.mm_checkpoint.specs.declared.rows.Queued.{Queued}
+use Rattle.mm_checkpoint.specs.declared.rows.SlotRow.{SlotRow}
+use Rattle.mm_checkpoint.specs.Format.{word_with, tagged, register, operand, load, beside, event_in}
+use Rattle.mm_checkpoint.specs.Format.{place_in_row, address_in, value_in, slot_row, load_count}
 use Rattle.mm_checkpoint.proofs.CleanCounts.{count_append, count_no, count_yes}
 use Rattle.mm_checkpoint.proofs.CleanLoads.{AreNew, one_load}
 use Rattle.mm_checkpoint.proofs.CleanStates.{state_right}
-use Rattle.mm_checkpoint.proofs.FormatIs.{registers_tags}
 use Rattle.mm_checkpoint.proofs.Lists.{moved}
-use Rattle.mm_checkpoint.proofs.SpelledOwn.{IsAwaiting, Owns}
+use Rattle.mm_checkpoint.proofs.SpelledOwn.{Owns}
 use Rattle.mm_checkpoint.proofs.SpelledPending.{sixteen_flags, pending_set, none_empty}
 use Rattle.mm_checkpoint.proofs.SpelledStates.{state_small, cause_small, cause_again, byte_waits, state_again, state_good, cause_good}
 use Rattle.mm_checkpoint.proofs.SpelledStates.{IsZeroUnless, address_fits, value_fits}
@@ -166,8 +167,7 @@ module _ (fs : List Bool) (long : length fs ≡ 16) where
       let set : get_or fs p.reg false ≡ true = by (get_or fs p.reg false) (omega (arith, all, own, total)) in
       let only : one_if (get_or fs p.reg false) ≡ 1 = ap one_if set in
       let small : p.reg < 16 = within set in
-      let bit : bit_of (number_of_flags fs) p.reg ≡ true = flag-get fs p.reg (omega arith) ∙ set in
-      (
+      let bit : bit_of (number_of_flags fs) p.reg ≡ true = flag-get fs p.reg (omega arith) ∙ set in (
         (
           omega arith,
           or_false _ _ (or_false _ _ (not_le p.reg 16 small) (ap not bit))
@@ -250,7 +250,7 @@ no_loads (p ∷ ps) e = absurd (omega arith)
 
 module _ (split : Bool) (cycles : ℕ) (s : Slot) (r : SlotRow) where
   pub row_fits : (slot_row split cycles s).Fits r → IsRow split cycles r × (identity_of r.slot ≡ identity_of s)
-  unfolding slot_row Rattle.mm_format.specs.Images.mask Rattle.mm_format.specs.Images.flags_of register_of is_empty
+  unfolding slot_row load_count Rattle.mm_format.specs.Images.mask Rattle.mm_format.specs.Images.flags_of register_of is_empty
   row_fits fits =
       let rest = fits.1.1.1.1.1 in
       let state = state_right (is_some s.handler) (state_byte r.slot.state) fits.0.1 in
@@ -266,28 +266,30 @@ module _ (split : Bool) (cycles : ℕ) (s : Slot) (r : SlotRow) where
       let is = rest.1.1.1.1.1.1.1.1 in
       let mask : r.slot.empty ≡ flags 16 (number_of_flags r.slot.empty) = ap (λ (r : SlotRow). r.slot.empty) is in
       let same : identity_of r.slot ≡ identity_of s = ap (λ (r : SlotRow). identity_of r.slot) is in
-      let handler : r.slot.handler ≡ s.handler = ap (λ x. x.2) same in
-      (record {
-        typed = record {
-          executable = ip.1;
-          well_formed = ip.0;
-          registers = sym (length-map r.slot.regs is_pointer) ∙ ap length tags.1;
-          words = regs.0;
-          flags = ap length mask;
-          loads = loads.1;
-        };
-        pending = λ k. record {
-          loads = one_load (flags 16 (number_of_flags r.slot.empty)) r.slot.pending loads.0 count k
-              ∙ ap (λ fs. one_if (get_or fs k false)) (sym mask);
-          zero = λ e. regs.1 k (ap (λ fs. get_or fs k false) (sym mask) ∙ e);
-        };
-        turns = is_above _ _ fits.1.1.1.1.0.1;
-        taken = λ e. some_handler r.slot.handler
-            (ap is_some handler ∙ state.handled.1 (ap state_byte e));
-        plain = λ e. no_loads r.slot.pending (count ∙ ap bits_set (none split e empty.1));
-        event = by (state_byte r.slot.state == 1) refl same state.handled.0 (ap (λ (r : SlotRow). r.queued) is) ip.0
-            address value;
-      }, same)
+      let handler : r.slot.handler ≡ s.handler = ap (λ x. x.2) same in (
+        record {
+          typed = record {
+            executable = ip.1;
+            well_formed = ip.0;
+            registers = sym (length-map r.slot.regs is_pointer) ∙ ap length tags.1;
+            words = regs.0;
+            flags = ap length mask;
+            loads = loads.1;
+          };
+          pending = λ k. record {
+            loads = one_load (flags 16 (number_of_flags r.slot.empty)) r.slot.pending loads.0 count k
+                ∙ ap (λ fs. one_if (get_or fs k false)) (sym mask);
+            zero = λ e. regs.1 k (ap (λ fs. get_or fs k false) (sym mask) ∙ e);
+          };
+          turns = is_above _ _ fits.1.1.1.1.0.1;
+          taken = λ e. some_handler r.slot.handler
+              (ap is_some handler ∙ state.handled.1 (ap state_byte e));
+          plain = λ e. no_loads r.slot.pending (count ∙ ap bits_set (none split e empty.1));
+          event = by (state_byte r.slot.state == 1) refl same state.handled.0 (ap (λ (r : SlotRow). r.queued) is) ip.0
+              address value;
+        },
+        same,
+      )
     where
       none : (b : Bool) {n : ℕ} → b ≡ false → (not b && not (n == 0)) ≡ false → n ≡ 0
       none true e right = absurd cc
@@ -342,10 +344,30 @@ same_slot : (n m g k : ℕ) (h j : Option ℕ) (regs : List Word) (p : Pointer) 
     (state again : SlotState) (empty flags : List Bool) (pending : List Pending) → n ≡ m → g ≡ k → h ≡ j → past ≡ over
     → state ≡ again → empty ≡ flags
     → Rattle.std.proofs.Common.◌≡◌ {A = Slot}
-    (record { number = n; group = g; handler = h; regs = regs; ip = p; past = past; turns = turns; state = state;
-    empty = empty; pending = pending })
-    (record { number = m; group = k; handler = j; regs = regs; ip = p; past = over; turns = turns; state = again;
-    empty = flags; pending = pending })
+    (record {
+      number = n;
+      group = g;
+      handler = h;
+      regs = regs;
+      ip = p;
+      past = past;
+      turns = turns;
+      state = state;
+      empty = empty;
+      pending = pending;
+    })
+    (record {
+      number = m;
+      group = k;
+      handler = j;
+      regs = regs;
+      ip = p;
+      past = over;
+      turns = turns;
+      state = again;
+      empty = flags;
+      pending = pending;
+    })
 same_slot n m g k h j regs p past over turns state again empty flags pending a b c d e f = cc
 
 same_queued : (n m s t : ℕ) (c d : Cause) (p q : Pointer) (a b v w : Word) → n ≡ m → s ≡ t → c ≡ d → p ≡ q → a ≡ b
@@ -444,7 +466,7 @@ module _ (split : Bool) (cycles : ℕ) (small : cycles ≤ 1000000) (events : Li
       ∙ sym (ap (λ b. cond b (Some told) None) (byte_waits s.state ∙ idle.rests))
 
   pub fits_row : (slot_row split cycles i).Fits r
-  unfolding slot_row register_of is_empty
+  unfolding slot_row load_count register_of is_empty
   fits_row =
       let t = saved.typed in
       let p = saved.pending in

@@ -1,5 +1,5 @@
 -- How long the parts of a checkpoint's text are.
-use Rattle.std.proofs.Common.{◌≡◌, ℕ, ◌+◌, ◌*◌, List, [], ◌∷◌, ◌++◌, length, map, refl, ap, ◌∙◌, arith}
+use Rattle.std.proofs.Common.{◌≡◌, ℕ, ◌+◌, ◌*◌, List, [], ◌∷◌, ◌++◌, length, map, refl, ◌∙◌, arith}
 use Rattle.std.specs.List.{flat_map, AllByRecursion}
 use Rattle.std.specs.Int.{w16, w64, to_be_bytes}
 use Rattle.std.specs.Prelude.{Option, Some, None}
@@ -45,8 +45,16 @@ length-page_record page whole =
     let full = map (λ (c : Cell). c.full) page.1 in
     let words = map (λ (c : Cell). c.word) page.1 in
     length-append (number ++ bitmap 64 tags ++ bitmap 64 full) (words_spelling words)
-    ∙ omega (arith, length-append (number ++ bitmap 64 tags) (bitmap 64 full), length-append number (bitmap 64 tags),
-    long_bitmap 64 tags, long_bitmap 64 full, length-words words, length-map page.1 (λ (c : Cell). c.word), whole.cells)
+    ∙ omega (
+      arith,
+      length-append (number ++ bitmap 64 tags) (bitmap 64 full),
+      length-append number (bitmap 64 tags),
+      long_bitmap 64 tags,
+      long_bitmap 64 full,
+      length-words words,
+      length-map page.1 (λ (c : Cell). c.word),
+      whole.cells,
+    )
 
 pub pages_long : (pages : List (ℕ × List Cell)) → AllByRecursion IsPage pages
     → AllByRecursion (λ p. length (page_record p) ≡ 4232) pages
@@ -65,6 +73,13 @@ length-slot_record events s regs =
     let count : List ℕ = length s.pending ∷ [] in
     let loads = flat_map pending_record s.pending in
     length-append (fixed ++ words ++ told ++ count) loads
-    ∙ omega (arith, length-append (fixed ++ words ++ told) count, length-append (fixed ++ words) told,
-    length-append fixed words, length-operands (event_of events s.number), length-words s.regs, regs,
-    length-records pending_record 10 s.pending (each_long pending_record 10 (λ p. refl) s.pending))
+    ∙ omega (
+      arith,
+      length-append (fixed ++ words ++ told) count,
+      length-append (fixed ++ words) told,
+      length-append fixed words,
+      length-operands (event_of events s.number),
+      length-words s.regs,
+      regs,
+      length-records pending_record 10 s.pending (each_long pending_record 10 (λ p. refl) s.pending),
+    )

@@ -1,5 +1,7 @@
 pub mod Formats
 pub mod Files
+pub mod Loops
+pub mod Raw
 pub mod Says
 pub mod Headers
 pub mod Lists

@@ -187,3 +187,12 @@ late f tests = record {
   spell = f.spell;
   read = λ bytes at. after (f.read bytes at) (λ a next. answer (first_late at (tests a)) a next);
 }
+
+-- 8. Reading alone.
+
+-- the records of a count, each read with what comes before it
+abbrev pub runs : {S A : Type 0} → (S → List ℕ → ℕ → Outcome A) → (S → A → S) → ℕ → S → List ℕ → ℕ → Outcome (List A)
+runs read onward zero s bytes at = Outcome.Got [] at
+runs read onward (suc n) s bytes at =
+    after (read s bytes at)
+    (λ a next. after (runs read onward n (onward s a) bytes next) (λ others end. Outcome.Got (a ∷ others) end))

@@ -1,4 +1,5 @@
 pub mod Formats
 pub mod Headers
 pub mod Images
+pub mod Reading
 pub mod Laws

@@ -21,5 +21,9 @@
 
 mod header;
 pub mod laws;
+mod reader;
+mod run;
 
 pub use header::Header;
+pub use reader::{FaultKind, ReadError, Reader, failed, refuse_if};
+pub use run::{Run, read_run};

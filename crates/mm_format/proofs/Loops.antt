@@ -1,0 +1,191 @@
+-- Lists, as loops read them.
+use Rattle.std.proofs.Common.{◌≡◌, ℕ, zero, suc, ◌+◌, ◌-◌, ◌≤◌, ◌<◌, Bool, true, false, cond, Option, Some, None, List, [], ◌∷◌, ◌++◌, drop, length, get_or}
+use Rattle.std.proofs.Common.{refl}
+use Rattle.std.proofs.Common.{sym, ap, subst, ◌∙◌}
+use Rattle.std.proofs.Common.{append_assoc, arith}
+use Rattle.std.proofs.lemmas.List.{append-nil, drop_more, drop_all}
+use Rattle.mm_format.specs.declared.reader.ReadError.{ReadError}
+use Rattle.mm_format.specs.declared.reader.ReadError.TheVariants.{Fault, NoMemory}
+use Rattle.mm_format.specs.Formats.{Outcome, Format, after, answer, cons, times, each, runs}
+use Rattle.mm_format.specs.Formats.Outcome.{Got, Bad}
+use Rattle.mm_format.specs.Reading.{Fails, Names}
+
+module _ {A : Type 0} where
+  -- what was read before, and what is still read
+  abbrev pub prefixed : List A → Outcome (List A) → Outcome (List A)
+  prefixed front read = after read (λ others end. Got (front ++ others) end)
+
+  regroup : (front : List A) (x : A) (o : Outcome (List A))
+      → prefixed front (after o (λ others end. Got (x ∷ others) end)) ≡ prefixed (front ++ x ∷ []) o
+  regroup front x (Got others end) = ap (λ xs. Got xs end) (sym (append_assoc front (x ∷ []) others))
+  regroup front x (Bad n p) = refl
+
+  pub nothing_before : (o : Outcome (List A)) → prefixed [] o ≡ o
+  nothing_before (Got xs end) = refl
+  nothing_before (Bad n p) = refl
+
+  pub is_read : (front : List A) (at : ℕ) (total : Outcome (List A)) → prefixed front (Got [] at) ≡ total → total
+      ≡ Got front at
+  is_read front at total so_far = sym so_far ∙ ap (λ xs. Got xs at) (append-nil front)
+
+  module _ (f : Format A) (rest : A → Format (List A)) (bytes : List ℕ) (at : ℕ) (front : List A)
+      (total : Outcome (List A)) (so_far : prefixed front ((cons f rest).read bytes at) ≡ total) where
+    pub one_more : (a : A) (next : ℕ) → f.read bytes at ≡ Got a next
+        → prefixed (front ++ a ∷ []) ((rest a).read bytes next) ≡ total
+    unfolding cons
+    one_more a next e =
+        sym (regroup front a ((rest a).read bytes next))
+        ∙ sym (ap (λ o. prefixed front
+        (after o (λ x n. after ((rest x).read bytes n) (λ others end. Got (x ∷ others) end)))) e)
+        ∙ so_far
+
+    pub stops : {K : Type 0} (number : K → ℕ) (e : ReadError K) → Fails number (f.read bytes at) e → Fails number total e
+    unfolding cons
+    stops number NoMemory fails = tt
+    stops number (Fault kind offset) fails =
+        sym so_far ∙ ap (λ o. prefixed front
+        (after o (λ x n. after ((rest x).read bytes n) (λ others end. Got (x ∷ others) end)))) fails
+
+-- the loop over a count
+module _ {S A : Type 0} (f : S → Format A) (onward : S → A → S) (count k : ℕ) (s : S) (bytes : List ℕ) (at : ℕ)
+    (front : List A) (total : Outcome (List A))
+    (so_far : prefixed front ((times f onward (count - k) s).read bytes at) ≡ total) where
+  unrolled : k < count → prefixed front
+      ((cons (f s) (λ a. times f onward (count - (k + 1)) (onward s a))).read bytes at) ≡ total
+  unrolled lt =
+      let some : count - k ≡ suc (count - (k + 1)) = omega arith in
+      subst (λ n. prefixed front ((times f onward n s).read bytes at) ≡ total) some so_far
+
+  pub times_more : k < count → (a : A) (next : ℕ) → (f s).read bytes at ≡ Got a next
+      → prefixed (front ++ a ∷ []) ((times f onward (count - (k + 1)) (onward s a)).read bytes next) ≡ total
+  times_more lt a next e = one_more (f s) (λ a. times f onward (count - (k + 1)) (onward s a)) bytes at front total
+      (unrolled lt) a next e
+
+  pub times_stop : k < count → {K : Type 0} (number : K → ℕ) (e : ReadError K) → Fails number ((f s).read bytes at) e → Fails number total e
+  times_stop lt number e fails = stops (f s) (λ a. times f onward (count - (k + 1)) (onward s a)) bytes at front total
+      (unrolled lt) number e fails
+
+  pub times_read : count ≤ k → total ≡ Got front at
+  times_read le =
+      let none : count - k ≡ 0 = omega arith in
+      is_read front at total (subst (λ n. prefixed front ((times f onward n s).read bytes at) ≡ total) none so_far)
+
+-- the loop over a list
+module _ {B A : Type 0} (f : B → Format A) (bs : List B) (k : ℕ) (d : B) (bytes : List ℕ) (at : ℕ) (front : List A)
+    (total : Outcome (List A)) (so_far : prefixed front ((each f (drop k bs)).read bytes at) ≡ total) where
+  each_unrolled : k < length bs
+      → prefixed front ((cons (f (get_or bs k d)) (λ _. each f (drop (k + 1) bs))).read bytes at) ≡ total
+  each_unrolled lt = subst (λ xs. prefixed front ((each f xs).read bytes at) ≡ total) (drop_more bs k d lt) so_far
+
+  pub each_more : k < length bs → (a : A) (next : ℕ) → (f (get_or bs k d)).read bytes at ≡ Got a next
+      → prefixed (front ++ a ∷ []) ((each f (drop (k + 1) bs)).read bytes next) ≡ total
+  each_more lt a next e = one_more (f (get_or bs k d)) (λ _. each f (drop (k + 1) bs)) bytes at front total
+      (each_unrolled lt) a next e
+
+  pub each_stop : k < length bs → {K : Type 0} (number : K → ℕ) (e : ReadError K) → Fails number ((f (get_or bs k d)).read bytes at) e → Fails number total e
+  each_stop lt number e fails = stops (f (get_or bs k d)) (λ _. each f (drop (k + 1) bs)) bytes at front total
+      (each_unrolled lt) number e fails
+
+  pub each_read : length bs ≤ k → total ≡ Got front at
+  each_read le = is_read front at total
+      (subst (λ xs. prefixed front ((each f xs).read bytes at) ≡ total) (drop_all k bs le) so_far)
+
+-- the loop over any records
+module _ {S A : Type 0} (read : S → List ℕ → ℕ → Outcome A) (onward : S → A → S) (count k : ℕ) (s : S)
+    (bytes : List ℕ) (at : ℕ) (front : List A) (total : Outcome (List A))
+    (so_far : prefixed front (runs read onward (count - k) s bytes at) ≡ total) where
+  abbrev others : A → ℕ → Outcome (List A)
+  others a next = after (runs read onward (count - (k + 1)) (onward s a) bytes next) (λ xs end. Got (a ∷ xs) end)
+
+  runs_unrolled : k < count → prefixed front (after (read s bytes at) others) ≡ total
+  runs_unrolled lt =
+      let some : count - k ≡ suc (count - (k + 1)) = omega arith in
+      subst (λ n. prefixed front (runs read onward n s bytes at) ≡ total) some so_far
+
+  pub runs_more : k < count → (a : A) (next : ℕ) → read s bytes at ≡ Got a next
+      → prefixed (front ++ a ∷ []) (runs read onward (count - (k + 1)) (onward s a) bytes next) ≡ total
+  runs_more lt a next e =
+      sym (regroup front a (runs read onward (count - (k + 1)) (onward s a) bytes next))
+      ∙ sym (ap (λ o. prefixed front (after o others)) e) ∙ runs_unrolled lt
+
+  pub runs_stop : k < count → {K : Type 0} (number : K → ℕ) (e : ReadError K) → Fails number (read s bytes at) e → Fails number total e
+  runs_stop lt number NoMemory fails = tt
+  runs_stop lt number (Fault kind offset) fails =
+      sym (runs_unrolled lt) ∙ ap (λ o. prefixed front (after o others)) fails
+
+  pub runs_read : count ≤ k → total ≡ Got front at
+  runs_read le =
+      let none : count - k ≡ 0 = omega arith in
+      is_read front at total (subst (λ n. prefixed front (runs read onward n s bytes at) ≡ total) none so_far)
+
+pub runs_begin : {S A : Type 0} (read : S → List ℕ → ℕ → Outcome A) (onward : S → A → S) (count : ℕ) (s : S)
+    (bytes : List ℕ) (at : ℕ)
+    → prefixed [] (runs read onward (count - 0) s bytes at) ≡ runs read onward count s bytes at
+runs_begin read onward count s bytes at =
+    let all : count - 0 ≡ count = omega arith in
+    nothing_before (runs read onward (count - 0) s bytes at) ∙ ap (λ n. runs read onward n s bytes at) all
+
+-- the same records, where what stands before them is told in another way
+pub runs_told : {S T A : Type 0} (to : S → T) (read : T → List ℕ → ℕ → Outcome A) (onward : S → A → S)
+    (onto : T → A → T) → ((s : S) (a : A) → onto (to s) a ≡ to (onward s a))
+    → (n : ℕ) (s : S) (bytes : List ℕ) (at : ℕ)
+    → runs (λ s. read (to s)) onward n s bytes at ≡ runs read onto n (to s) bytes at
+runs_told to read onward onto same zero s bytes at = refl
+runs_told {A = A} to read onward onto same (suc n) s bytes at =
+    go (read (to s) bytes at) (λ a next. runs_told to read onward onto same n (onward s a) bytes next
+    ∙ ap (λ t. runs read onto n t bytes next) (sym (same s a)))
+  where
+    go : (o : Outcome A)
+        → ((a : A) (next : ℕ) → runs (λ s. read (to s)) onward n (onward s a) bytes next
+        ≡ runs read onto n (onto (to s) a) bytes next)
+        → after o (λ a next. after (runs (λ s. read (to s)) onward n (onward s a) bytes next)
+        (λ xs end. Got (a ∷ xs) end))
+        ≡ after o (λ a next. after (runs read onto n (onto (to s) a) bytes next)
+        (λ xs end. Got (a ∷ xs) end))
+    go (Got a next) others = ap (λ o. after o (λ xs end. Got (a ∷ xs) end)) (others a next)
+    go (Bad k p) others = refl
+
+-- a format's list is read so
+pub times_runs : {S A : Type 0} (f : S → Format A) (onward : S → A → S) (n : ℕ) (s : S) (bytes : List ℕ) (at : ℕ)
+    → (times f onward n s).read bytes at ≡ runs (λ t. (f t).read) onward n s bytes at
+unfolding cons
+times_runs f onward zero s bytes at = refl
+times_runs {A = A} f onward (suc n) s bytes at =
+    go ((f s).read bytes at) (λ a next. times_runs f onward n (onward s a) bytes next)
+  where
+    go : (o : Outcome A) → ((a : A) (next : ℕ) → (times f onward n (onward s a)).read bytes next
+        ≡ runs (λ t. (f t).read) onward n (onward s a) bytes next)
+        → after o (λ a next. after ((times f onward n (onward s a)).read bytes next) (λ xs end. Got (a ∷ xs) end))
+        ≡ after o (λ a next. after (runs (λ t. (f t).read) onward n (onward s a) bytes next)
+        (λ xs end. Got (a ∷ xs) end))
+    go (Got a next) same = ap (λ o. after o (λ xs end. Got (a ∷ xs) end)) (same a next)
+    go (Bad k p) same = refl
+
+-- a test that is made late
+pub late_stop : {K A : Type 0} (number : K → ℕ) (bad : Bool) (n at : ℕ) (rest total : Option (ℕ × ℕ)) (v : A) (end : ℕ)
+    → cond bad (Some (n, at)) rest ≡ total → (e : ReadError K)
+    → Fails number (cond bad (Bad n at) (Got false 0)) e → Fails number (answer total v end) e
+late_stop number bad n at rest total v end same NoMemory fails = tt
+late_stop number true n at rest total v end same (Fault kind offset) fails =
+    let one : n ≡ number kind = cc in
+    let two : at ≡ offset = cc in
+    ap (λ o. answer o v end) (sym same) ∙ ap (λ m. Bad m at) one ∙ ap (Bad (number kind)) two
+late_stop number false n at rest total v end same (Fault kind offset) fails = absurd cc
+
+-- what a whole file says, as its first fault and its value
+module _ {K A : Type 0} (number : K → ℕ) (fault : Option (ℕ × ℕ)) (value : A) (end : ℕ) (read : Outcome A)
+    (says : read ≡ answer fault value end) where
+  pub ok_given : (a : A) (next : ℕ) → read ≡ Got a next → (fault ≡ None) × (a ≡ value)
+  ok_given a next e = by fault (sym says ∙ e)
+    where
+      by : (o : Option (ℕ × ℕ)) → answer o value end ≡ Got a next → (o ≡ None) × (a ≡ value)
+      by None e = (refl, cc)
+      by (Some f) e = absurd cc
+
+  pub err_given : (e : ReadError K) → Fails number read e → Names number fault e
+  err_given NoMemory h = tt
+  err_given (Fault kind offset) h = by fault (sym says ∙ h)
+    where
+      by : (o : Option (ℕ × ℕ)) → answer o value end ≡ Bad (number kind) offset → o ≡ Some (number kind, offset)
+      by None e = absurd cc
+      by (Some (n, at)) e = cc
