@@ -4,9 +4,11 @@ use Rattle.std.specs.Option.{option_map}
 use Rattle.mm_model.specs.Image.{Image}
 use Rattle.mm_model.specs.Places.{IsBytes}
 use Rattle.mm_model.specs.Spelling.{IsImage}
-use Rattle.mm_image.specs.declared.fault.ImageError.{ImageError}
-use Rattle.mm_image.specs.declared.fault.ImageError.TheVariants as images
-use Rattle.mm_image.specs.Faults.{Fails}
+use Rattle.mm_format.specs.declared.reader.ReadError.{ReadError}
+use Rattle.mm_format.specs.declared.reader.ReadError.TheVariants as reading
+use Rattle.mm_format.specs.Reading.{Names}
+use Rattle.mm_image.specs.declared.fault.ImageFault.{ImageFault}
+use Rattle.mm_image.specs.Faults.{number_of}
 use Rattle.mm_machine.specs.Snapshot.{Parts}
 use Rattle.mm_checkpoint.specs.declared.fault.SaveError.TheVariants.{Fault, NoMemory}
 use Rattle.mm_checkpoint.specs.Answers.{FailsAt}
@@ -21,18 +23,18 @@ use Rattle.mm_checkpoint.proofs.FormatWhole.{spelled_same}
 
 module _ (i : Image) (bytes : List ℕ) where
   -- an error is told of the first fault
-  pub told_fault : (e : ImageError) (offset : ℕ) → Fails (first_fault i bytes) e → told e ≡ Fault offset → save_fault i bytes ≡ Some offset
-  told_fault (images.Fault kind at) offset h e = let same : at ≡ offset = cc in ap (option_map (λ (fault : ℕ × ℕ). fault.1)) h ∙ ap Some same
-  told_fault images.NoMemory offset h e = absurd cc
+  pub told_fault : (e : ReadError ImageFault) (offset : ℕ) → Names number_of (first_fault i bytes) e → told e ≡ Fault offset → save_fault i bytes ≡ Some offset
+  told_fault (reading.Fault kind at) offset h e = let same : at ≡ offset = cc in ap (option_map (λ (fault : ℕ × ℕ). fault.1)) h ∙ ap Some same
+  told_fault reading.NoMemory offset h e = absurd cc
 
-  pub told_first : (e : ImageError) (offset : ℕ) → Fails (first_fault i bytes) e → save_fault i bytes ≡ Some offset → FailsAt offset (told e)
-  told_first (images.Fault kind at) offset h some = let there : Some at ≡ Some offset = sym (ap (option_map (λ (fault : ℕ × ℕ). fault.1)) h) ∙ some in cc
-  told_first images.NoMemory offset h some = tt
+  pub told_first : (e : ReadError ImageFault) (offset : ℕ) → Names number_of (first_fault i bytes) e → save_fault i bytes ≡ Some offset → FailsAt offset (told e)
+  told_first (reading.Fault kind at) offset h some = let there : Some at ≡ Some offset = sym (ap (option_map (λ (fault : ℕ × ℕ). fault.1)) h) ∙ some in cc
+  told_first reading.NoMemory offset h some = tt
 
   -- where there is none it is want of memory
-  pub told_memory : (e : ImageError) → first_fault i bytes ≡ None → Fails (first_fault i bytes) e → told e ≡ NoMemory
-  told_memory (images.Fault kind at) none h = cc
-  told_memory images.NoMemory none h = refl
+  pub told_memory : (e : ReadError ImageFault) → first_fault i bytes ≡ None → Names number_of (first_fault i bytes) e → told e ≡ NoMemory
+  told_memory (reading.Fault kind at) none h = cc
+  told_memory reading.NoMemory none h = refl
 
   -- parts that are read without a fault are saved by the bytes
   pub are_saved : IsImage i → IsBytes bytes → (p : Parts) (last : Option ℕ) → first_fault i bytes ≡ None → saved_of p last ≡ saved_at i bytes → Saves bytes i p last

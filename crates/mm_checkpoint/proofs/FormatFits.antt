@@ -30,18 +30,19 @@ use Rattle.mm_model.proofs.FlagLists.{flags-get}
 use Rattle.mm_machine.specs.Snapshot.{IsPending}
 use Rattle.mm_format.specs.Formats.{each, times, cons}
 use Rattle.mm_format.proofs.ImagesFit.{small_bits, word_fits, fits_word, ip_fits, fits_ip, fits_mask, or_false}
-use Rattle.mm_checkpoint.specs.Checkpoints.{state_byte, cause_byte, event_of, place_in, place_byte}
-use Rattle.mm_checkpoint.specs.Reading.{cause_of, state_of}
-use Rattle.mm_checkpoint.specs.Faults.{is_bad_state, is_bad_cause, bits_set, has_entry}
+use Rattle.mm_checkpoint.specs.Checkpoints.{state_byte, cause_byte, event_of, place_byte}
+use Rattle.mm_checkpoint.specs.Reading.{cause_of}
+use Rattle.mm_checkpoint.specs.Faults.{is_bad_state, is_bad_cause, bits_set}
 use Rattle.mm_checkpoint.specs.Steps.{bit_of}
-use Rattle.mm_checkpoint.specs.Format.{word_with, tagged, register, operand, load, beside, Queued, SlotRow, event_in}
-use Rattle.mm_checkpoint.specs.Format.{place_in_row, address_in, value_in, slot_row}
+use Rattle.mm_checkpoint.specs.declared.rows.Queued.{Queued}
+use Rattle.mm_checkpoint.specs.declared.rows.SlotRow.{SlotRow}
+use Rattle.mm_checkpoint.specs.Format.{word_with, tagged, register, operand, load, beside, event_in}
+use Rattle.mm_checkpoint.specs.Format.{place_in_row, address_in, value_in, slot_row, load_count}
 use Rattle.mm_checkpoint.proofs.CleanCounts.{count_append, count_no, count_yes}
 use Rattle.mm_checkpoint.proofs.CleanLoads.{AreNew, one_load}
 use Rattle.mm_checkpoint.proofs.CleanStates.{state_right}
-use Rattle.mm_checkpoint.proofs.FormatIs.{registers_tags}
 use Rattle.mm_checkpoint.proofs.Lists.{moved}
-use Rattle.mm_checkpoint.proofs.SpelledOwn.{IsAwaiting, Owns}
+use Rattle.mm_checkpoint.proofs.SpelledOwn.{Owns}
 use Rattle.mm_checkpoint.proofs.SpelledPending.{sixteen_flags, pending_set, none_empty}
 use Rattle.mm_checkpoint.proofs.SpelledStates.{state_small, cause_small, cause_again, byte_waits, state_again, state_good, cause_good}
 use Rattle.mm_checkpoint.proofs.SpelledStates.{IsZeroUnless, address_fits, value_fits}
@@ -249,7 +250,7 @@ no_loads (p ∷ ps) e = absurd (omega arith)
 
 module _ (split : Bool) (cycles : ℕ) (s : Slot) (r : SlotRow) where
   pub row_fits : (slot_row split cycles s).Fits r → IsRow split cycles r × (identity_of r.slot ≡ identity_of s)
-  unfolding slot_row Rattle.mm_format.specs.Images.mask Rattle.mm_format.specs.Images.flags_of register_of is_empty
+  unfolding slot_row load_count Rattle.mm_format.specs.Images.mask Rattle.mm_format.specs.Images.flags_of register_of is_empty
   row_fits fits =
       let rest = fits.1.1.1.1.1 in
       let state = state_right (is_some s.handler) (state_byte r.slot.state) fits.0.1 in
@@ -465,7 +466,7 @@ module _ (split : Bool) (cycles : ℕ) (small : cycles ≤ 1000000) (events : Li
       ∙ sym (ap (λ b. cond b (Some told) None) (byte_waits s.state ∙ idle.rests))
 
   pub fits_row : (slot_row split cycles i).Fits r
-  unfolding slot_row register_of is_empty
+  unfolding slot_row load_count register_of is_empty
   fits_row =
       let t = saved.typed in
       let p = saved.pending in

@@ -1,5 +1,5 @@
 -- The checkpoint's file is a format.
-use Rattle.std.proofs.Common.{◌≡◌, ℕ, ◌+◌, ◌≤◌, Bool, true, false, not, cond, List, [], ◌∷◌, ◌++◌, length, map}
+use Rattle.std.proofs.Common.{◌≡◌, ℕ, ◌+◌, ◌≤◌, Bool, true, false, not, cond, List, [], ◌∷◌, length, map}
 use Rattle.std.proofs.Common.{Option, Some, None, refl, sym, ap, ◌∙◌, arith, eqb-true, eq-eqb, codes}
 use Rattle.std.specs.Prelude.{◌==◌, ◌&&◌, option_map, unwrap_or}
 use Rattle.mm_word.specs.declared.cause.Cause.TheVariants.{NotPointer}
@@ -12,7 +12,7 @@ use Rattle.mm_model.specs.Slot.{Slot}
 use Rattle.mm_model.specs.Image.{Image, output_limit}
 use Rattle.mm_model.proofs.ImageBytes.Clean.{not_not, is_above}
 use Rattle.mm_model.proofs.ImageBytes.Bitmaps.{number_of_flags-flags}
-use Rattle.mm_format.specs.Formats.{Format, IsFormat, u16, u32, u64, byte, each, cons, times, late}
+use Rattle.mm_format.specs.Formats.{Format, IsFormat, u16, u32, u64, byte, each, cons}
 use Rattle.mm_format.specs.Images.{mask, flags_of, word, page}
 use Rattle.mm_format.proofs.Formats.{byte_is, u16_is, u32_is, u64_is, text_is, test_is, literal_is, literal_read}
 use Rattle.mm_format.proofs.Formats.{then_is, done_is}
@@ -21,8 +21,10 @@ use Rattle.mm_format.proofs.Images.{mask_is, word_is, word_tag, word_again, ip_i
 use Rattle.mm_checkpoint.specs.Checkpoints.{last_byte, state_byte, cause_byte}
 use Rattle.mm_checkpoint.specs.Reading.{cause_of, state_of, groups_of}
 use Rattle.mm_checkpoint.specs.Faults.{is_bad_cause}
-use Rattle.mm_checkpoint.specs.Format.{header, word_with, tagged, register, operand, load, beside, Queued, SlotRow}
-use Rattle.mm_checkpoint.specs.Format.{event_in, place_in_row, address_in, value_in, slot_row, queue_tests, Front, front}
+use Rattle.mm_checkpoint.specs.declared.rows.Queued.{Queued}
+use Rattle.mm_checkpoint.specs.declared.rows.SlotRow.{SlotRow}
+use Rattle.mm_checkpoint.specs.Format.{header, word_with, tagged, register, operand, load, beside}
+use Rattle.mm_checkpoint.specs.Format.{event_in, place_in_row, address_in, value_in, slot_row, load_count, queue_tests, Front, front}
 use Rattle.mm_checkpoint.specs.Format.{waiting_in, output, Contents, checkpoint}
 use Rattle.mm_checkpoint.proofs.CleanStates.{state_right, state_again, cause_again}
 
@@ -144,7 +146,7 @@ cause_here st ca q le right is =
     (λ one. (q.event, ap (λ b. option_map (λ (q : Queued). q.event) (cond b (Some q) None)) (eq-eqb st 1 one), is))
 
 pub row_is : (split : Bool) (cycles : ℕ) (s : Slot) → IsFormat (slot_row split cycles s)
-unfolding slot_row
+unfolding slot_row load_count
 row_is split cycles s =
     then_is _ _ (test_is byte byte_is 8 _) (λ state st.
     then_is _ _ (test_is byte byte_is 4 _) (λ cause _.

@@ -1,12 +1,12 @@
 -- The rows of a checkpoint's slots: those that wait, and their events.
 use Rattle.std.proofs.Common.{◌≡◌, ◌≢◌, ℕ, ◌+◌, ◌*◌, ◌<◌, Bool, true, false, cond, inl, inr, List, [], ◌∷◌, ◌++◌, length}
 use Rattle.std.proofs.Common.{map, Option, Some, None, refl, sym, ap, subst, ◌∙◌, arith, eq-eqb}
-use Rattle.std.specs.Prelude.{◌==◌, ◌⊎◌, count_by, is_some, option_map, unwrap_or, IsSomeAnd}
+use Rattle.std.specs.Prelude.{◌⊎◌, count_by, is_some, option_map, unwrap_or, IsSomeAnd}
 use Rattle.std.specs.List.{AllByRecursion}
 use Rattle.std.proofs.lemmas.Bool.{ne_eqb}
 use Rattle.mm_model.specs.declared.event.Event.{Event}
 use Rattle.mm_model.specs.Flags.{one_if}
-use Rattle.mm_model.specs.Fits.{is_waiting, waits_for, identity_of, EventHoldsWords}
+use Rattle.mm_model.specs.Fits.{is_waiting, identity_of, EventHoldsWords}
 use Rattle.mm_model.specs.Turn.{is_handler}
 use Rattle.mm_model.specs.Slot.{Slot}
 use Rattle.mm_model.specs.Places.{first_bad}
@@ -15,10 +15,12 @@ use Rattle.mm_model.proofs.OwnSlots.{Ascends}
 use Rattle.mm_machine.specs.Snapshot.{numbered, IsEventOf, IsAwaited, HasOneEvent, IsTypedEvent}
 use Rattle.mm_format.specs.Formats.{each, cons}
 use Rattle.mm_checkpoint.specs.declared.waiting.Waiter.{Waiter}
-use Rattle.mm_checkpoint.specs.Checkpoints.{state_byte, event_of, place_in, place_byte}
+use Rattle.mm_checkpoint.specs.Checkpoints.{event_of, place_in, place_byte}
 use Rattle.mm_checkpoint.specs.Reading.{handler_of, in_order, events_of}
 use Rattle.mm_checkpoint.specs.Faults.{queue_places}
-use Rattle.mm_checkpoint.specs.Format.{Queued, SlotRow, event_in, place_in_row, slot_row, waiter_in, waiters_in}
+use Rattle.mm_checkpoint.specs.declared.rows.Queued.{Queued}
+use Rattle.mm_checkpoint.specs.declared.rows.SlotRow.{SlotRow}
+use Rattle.mm_checkpoint.specs.Format.{event_in, place_in_row, slot_row, waiter_in, waiters_in}
 use Rattle.mm_checkpoint.proofs.CleanCounts.{none_count, count_append, count_yes, count_no}
 use Rattle.mm_checkpoint.proofs.CleanGroups.{each_unmap}
 use Rattle.mm_checkpoint.proofs.CleanQueues.{is_of, SlotsRise, IsQueuedIn, each_in_order, each_event, count_events}

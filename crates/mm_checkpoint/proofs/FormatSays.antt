@@ -1,12 +1,10 @@
 -- The checkpoint as a format says what the places and values of checkpoints say.
-use Rattle.std.proofs.Common.{◌≡◌, ℕ, zero, suc, ◌+◌, ◌*◌, ◌^◌, ◌/◌, ◌%◌, Bool, true, false, not, cond, List, [], ◌∷◌, ◌++◌}
+use Rattle.std.proofs.Common.{◌≡◌, ℕ, zero, suc, ◌+◌, ◌*◌, Bool, true, false, cond, List, [], ◌∷◌, ◌++◌}
 use Rattle.std.proofs.Common.{length, take, drop, map, Option, Some, None, refl, sym, ap, subst, ◌∙◌, arith, append_assoc}
-use Rattle.std.specs.Prelude.{◌==◌, ◌&&◌}
+use Rattle.std.specs.Prelude.{◌==◌}
 use Rattle.std.specs.List.{range_with_len}
 use Rattle.std.proofs.lemmas.List.{append-nil}
 use Rattle.std.proofs.lemmas.List.FromFn.{map-range_with_len_more, length-map-range_with_len}
-use Rattle.mm_word.specs.declared.word.Word.{Word}
-use Rattle.mm_model.specs.declared.slot.Pending.{Pending}
 use Rattle.mm_model.specs.Flags.{flags}
 use Rattle.mm_model.specs.Slot.{Slot}
 use Rattle.mm_model.specs.Image.{Image, output_limit}
@@ -29,8 +27,10 @@ use Rattle.mm_checkpoint.specs.Faults.{is_bad_place, queue_places, header_places
 use Rattle.mm_checkpoint.specs.Faults.{operand_places, entry_places, slot_places, slots_places, output_places}
 use Rattle.mm_checkpoint.specs.Faults.{outputs_places, pages_places, waiters_of, first_fault}
 use Rattle.mm_checkpoint.specs.Steps.{header_of}
-use Rattle.mm_checkpoint.specs.Format.{header, word_with, tagged, register, operand, load, beside, Queued, SlotRow}
-use Rattle.mm_checkpoint.specs.Format.{slot_row, waiter_in, waiters_in, queue_tests, Front, front, waiting_in, output}
+use Rattle.mm_checkpoint.specs.declared.rows.Queued.{Queued}
+use Rattle.mm_checkpoint.specs.declared.rows.SlotRow.{SlotRow}
+use Rattle.mm_checkpoint.specs.Format.{header, word_with, tagged, register, operand, load, beside}
+use Rattle.mm_checkpoint.specs.Format.{slot_row, load_count, waiter_in, waiters_in, queue_tests, Front, front, waiting_in, output}
 use Rattle.mm_checkpoint.specs.Format.{Contents, checkpoint, saved_in}
 
 module _ (bytes : List ℕ) where
@@ -125,7 +125,7 @@ module _ (bytes : List ℕ) where
   says_row : (split : Bool) (cycles : ℕ) (s : Slot) (at : ℕ)
       → Says (slot_row split cycles s).read bytes at (slot_places bytes split cycles s at) (row_at s at)
       (slot_end bytes at)
-  unfolding slot_row
+  unfolding slot_row load_count
   says_row split cycles s at =
       says_then _ _ (says_test _ 8 _ (says_field (number 1) 1 bytes at (at + 1) refl) refl)
       (says_then _ _ (says_test _ 4 _ (says_field (number 1) 1 bytes (at + 1) (at + 2) (omega arith)) refl)

@@ -1,6 +1,6 @@
 -- Checkpoints and the bytes that spell them, by their format.
-use Rattle.std.proofs.Common.{◌≡◌, ◌≢◌, ℕ, ◌+◌, ◌*◌, ◌^◌, ◌<◌, ◌≤◌, Bool, true, false, not, cond, nat_lt, inl, inr, List, [], ◌∷◌}
-use Rattle.std.proofs.Common.{◌++◌, length, map, Option, Some, None, refl, sym, ap, subst, ◌∙◌, arith, append_assoc, eqb-true}
+use Rattle.std.proofs.Common.{◌≡◌, ◌≢◌, ℕ, ◌+◌, ◌*◌, ◌<◌, ◌≤◌, Bool, true, false, not, cond, inl, inr, List, [], ◌∷◌}
+use Rattle.std.proofs.Common.{◌++◌, length, map, Option, Some, None, refl, sym, ap, subst, ◌∙◌, arith, append_assoc}
 use Rattle.std.specs.Prelude.{◌==◌, ◌&&◌, nat_le, IfSome, option_map, codes}
 use Rattle.std.specs.Int.{w16, w32, w64, to_be_bytes}
 use Rattle.std.specs.List.{flat_map, AllByRecursion, list_any}
@@ -18,10 +18,9 @@ use Rattle.mm_model.specs.Flags.{flags, number_of_flags, one_if}
 use Rattle.mm_model.specs.Fits.{identity_of}
 use Rattle.mm_model.specs.Groups.{has_group}
 use Rattle.mm_model.specs.Image.{Image, output_limit, slot_limit}
-use Rattle.mm_model.specs.Memory.{IsPage}
 use Rattle.mm_model.specs.Places.{IsBytes, first_bad}
 use Rattle.mm_model.specs.Slot.{Slot}
-use Rattle.mm_model.specs.Spelling.{IsImage, IsFresh, HoldsWords, numbers_of, words_spelling, page_record}
+use Rattle.mm_model.specs.Spelling.{IsImage, IsFresh, numbers_of, words_spelling, page_record}
 use Rattle.mm_model.specs.Typed.{IsTypedSlot}
 use Rattle.mm_model.proofs.CoreRows.{each_map, by_identities, slot_limit-few}
 use Rattle.mm_model.proofs.OwnSlots.{Ascends, ascends}
@@ -30,29 +29,29 @@ use Rattle.mm_model.proofs.ImageBytes.Ranges.{map-map}
 use Rattle.mm_model.proofs.ImageBytes.Rising.{AreRisingFrom}
 use Rattle.mm_model.proofs.ImageBytes.SpelledRecords.{not_le, not_lt}
 use Rattle.mm_thread.specs.Output.{Output}
-use Rattle.mm_machine.specs.Snapshot.{Parts, IsSnapshot, IsPending, HasOneEvent, page_numbers}
-use Rattle.mm_format.specs.Formats.{each, times, cons, first_late, late}
+use Rattle.mm_machine.specs.Snapshot.{Parts, IsPending, HasOneEvent}
+use Rattle.mm_format.specs.Formats.{each, times, cons, first_late}
 use Rattle.mm_format.specs.Images.{mask, ip, page}
 use Rattle.mm_format.proofs.Files as files
 use Rattle.mm_format.proofs.ImagesFit.{Rise, rises, rise_all, pages_fit, fit_pages}
-use Rattle.mm_format.proofs.ImagesWhole.{word_spelled, page_spelled}
+use Rattle.mm_format.proofs.ImagesWhole.{page_spelled}
 use Rattle.mm_format.proofs.Lists.{each_long, each_spell, times_long, times_spell}
 use Rattle.mm_format.proofs.Says.{late_bad}
 use Rattle.mm_checkpoint.specs.declared.waiting.Waiter.{Waiter}
 use Rattle.mm_checkpoint.specs.Checkpoints.{Saved, saved_of, Saves, IsCheckpoint, last_byte, state_byte, cause_byte}
-use Rattle.mm_checkpoint.specs.Checkpoints.{event_of, place_byte, tagged_word, operands, pending_record, slot_record}
+use Rattle.mm_checkpoint.specs.Checkpoints.{place_byte, tagged_word, operands, pending_record, slot_record}
 use Rattle.mm_checkpoint.specs.Checkpoints.{output_record, spelling, place_in}
-use Rattle.mm_checkpoint.specs.Checkpoints as model
 use Rattle.mm_checkpoint.specs.Reading.{in_order, events_of, slots_start, groups_of, saved_at}
 use Rattle.mm_checkpoint.specs.Faults.{first_fault, queue_places}
-use Rattle.mm_checkpoint.specs.Format.{header, word_with, tagged, register, load, beside, Queued, SlotRow, event_in}
-use Rattle.mm_checkpoint.specs.Format.{place_in_row, address_in, value_in, slot_row, waiter_in, waiters_in, queue_tests}
-use Rattle.mm_checkpoint.specs.Format.{Front, front, waiting_in, output, Contents, checkpoint, saved_in}
+use Rattle.mm_checkpoint.specs.declared.rows.SlotRow.{SlotRow}
+use Rattle.mm_checkpoint.specs.Format.{header, word_with, tagged, register, load, beside, event_in}
+use Rattle.mm_checkpoint.specs.Format.{place_in_row, address_in, value_in, slot_row, load_count, waiter_in, waiters_in, queue_tests}
+use Rattle.mm_checkpoint.specs.Format.{front, waiting_in, output, Contents, checkpoint, saved_in}
 use Rattle.mm_checkpoint.proofs.CheckpointBytes.{queued, place_small, last_small, frames_few}
 use Rattle.mm_checkpoint.proofs.CleanGroups.{groups_rise, groups_used, groups_shown, any_map, each_unmap}
 use Rattle.mm_checkpoint.proofs.CleanQueues.{events_fall_not}
 use Rattle.mm_checkpoint.proofs.CleanRules.{IsRight, limit_small, is_checkpoint}
-use Rattle.mm_checkpoint.proofs.FormatFits.{IsWaitingRow, IsIdleRow, IsRow, IsSavedSlot, row_of, fits_row}
+use Rattle.mm_checkpoint.proofs.FormatFits.{IsRow, IsSavedSlot, row_of, fits_row}
 use Rattle.mm_checkpoint.proofs.FormatIs.{checkpoint_is}
 use Rattle.mm_checkpoint.proofs.FormatRows.{slots_of, rows_fit, IsSettled, Agrees, each_agrees, one_event, awaited}
 use Rattle.mm_checkpoint.proofs.FormatRows.{typed_events}
@@ -60,7 +59,7 @@ use Rattle.mm_checkpoint.proofs.FormatSays.{contents_at, end_of, tests_are, file
 use Rattle.mm_checkpoint.proofs.SpelledEvents.{owns_each, are_queues}
 use Rattle.mm_checkpoint.proofs.SpelledGroups.{same_groups, groups_same}
 use Rattle.mm_checkpoint.proofs.SpelledOrder.{own, by_slot, map-append}
-use Rattle.mm_checkpoint.proofs.SpelledOwn.{IsAwaiting, IsIdle, Owns}
+use Rattle.mm_checkpoint.proofs.SpelledOwn.{Owns}
 use Rattle.mm_checkpoint.proofs.SpelledQueues.{queues_clean}
 use Rattle.mm_checkpoint.proofs.SpelledRanks.{ranked}
 use Rattle.mm_checkpoint.proofs.SpelledSorted.{erased, same_events}
@@ -82,7 +81,7 @@ register_spelled k w = refl
 row_spelled : (split : Bool) (cycles : ℕ) (s : Slot) (events : List (ℕ × Event)) (r : SlotRow)
     → (slot_row split cycles s).Fits r → Agrees events r
     → (slot_row split cycles s).spell r ≡ slot_record events r.slot
-unfolding slot_row mask ip tagged word_with slot_record
+unfolding slot_row load_count mask ip tagged word_with slot_record
 row_spelled split cycles s events r fits agrees =
     let t = r.slot in
     let o = event_in r in

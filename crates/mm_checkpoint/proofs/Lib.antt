@@ -20,15 +20,13 @@ pub mod GoesOn
 pub mod Inserted
 pub mod Lengths
 pub mod Lists
+pub mod Masks
 pub mod Made
 pub mod OutputBytes
-pub mod Parts
 pub mod Reached
-pub mod Records
 pub mod RobinOn
 pub mod RunCheckpoints
 pub mod RunParts
-pub mod Runs
 pub mod SameState
 pub mod SpelledEvents
 pub mod SpelledGroups
@@ -41,4 +39,3 @@ pub mod SpelledRanks
 pub mod SpelledSorted
 pub mod SpelledStates
 pub mod Waits
-pub mod Wholes

@@ -1,15 +1,14 @@
 -- Pending loads and empty registers, one for each other.
-use Rattle.std.proofs.Common.{◌≡◌, ℕ, zero, suc, ◌+◌, ◌*◌, ◌/◌, ◌%◌, ◌-◌, ◌<◌, ◌≤◌, inl, inr, Bool, true, false, cond, ◌||◌, eqb, List, [], ◌∷◌, length, get_or, take, refl, sym, ap, ◌∙◌, arith}
+use Rattle.std.proofs.Common.{◌≡◌, ℕ, suc, ◌+◌, ◌*◌, ◌/◌, ◌%◌, ◌-◌, ◌<◌, inl, inr, Bool, true, false, cond, eqb, List, [], ◌∷◌, length, get_or, refl, sym, ap, ◌∙◌, arith}
 use Rattle.std.specs.Prelude.{◌==◌, nat_le}
 use Rattle.std.specs.List.{count_by}
-use Rattle.std.proofs.lemmas.Bool.{cases_eq, cases_lt, eq-eqb, ne_eqb}
+use Rattle.std.proofs.lemmas.Bool.{cases_eq, cases_lt, eq-eqb}
 use Rattle.std.proofs.lemmas.Bool.Decides.{nat_tests}
-use Rattle.std.proofs.lemmas.List.{get_or_past}
 use Rattle.mm_model.specs.declared.slot.Pending.{Pending}
 use Rattle.mm_model.specs.Flags.{flags, one_if, number_of_flags}
 use Rattle.mm_model.specs.Slot.{Slot, is_empty}
 use Rattle.mm_machine.specs.Snapshot.{IsPending}
-use Rattle.mm_checkpoint.specs.Faults.{bits_set, has_entry}
+use Rattle.mm_checkpoint.specs.Faults.{bits_set}
 use Rattle.mm_checkpoint.proofs.SpelledOrder.{count}
 use Rattle.mm_checkpoint.proofs.SpelledSorted.{counted}
 

@@ -1,5 +1,5 @@
 -- The bytes of a slot's state, and of the event that it waits with.
-use Rattle.std.proofs.Common.{◌≡◌, ◌≢◌, ℕ, ◌<◌, Bool, true, false, nat_lt, inl, inr, List, ◌++◌, length, Option, Some, None, refl, sym, ap, subst, ◌∙◌, arith}
+use Rattle.std.proofs.Common.{◌≡◌, ◌≢◌, ℕ, ◌<◌, Bool, true, false, nat_lt, inl, inr, List, Option, Some, None, refl, sym, ap, subst, ◌∙◌, arith}
 use Rattle.std.specs.Prelude.{◌==◌, ◌||◌, is_some}
 use Rattle.std.specs.Option.{option_map}
 use Rattle.mm_word.specs.declared.cause.Cause.{Cause}

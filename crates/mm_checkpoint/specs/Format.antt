@@ -16,6 +16,8 @@ use Rattle.mm_format.specs.Formats.{Format, Late, byte, u16, u32, u64, text, tes
 use Rattle.mm_format.specs.Formats.{times, late}
 use Rattle.mm_format.specs.Images.{mask, ip, word, page}
 use Rattle.mm_checkpoint.specs.declared.header.Header.{Header}
+use Rattle.mm_checkpoint.specs.declared.rows.Queued.{Queued}
+use Rattle.mm_checkpoint.specs.declared.rows.SlotRow.{SlotRow}
 use Rattle.mm_checkpoint.specs.declared.waiting.Waiter.{Waiter}
 use Rattle.mm_checkpoint.specs.Checkpoints.{Saved, last_byte, state_byte, cause_byte}
 use Rattle.mm_checkpoint.specs.Reading.{cause_of, state_of, handler_of, in_order, events_of, slots_start, groups_of}
@@ -64,6 +66,10 @@ load empty earlier = do
   word ← part (λ p. p.word) (tagged 1 word)
   done (record { reg = register; word = word })
 
+-- the count of the pending loads of a slot, which is that of its empty registers
+unfoldable pub load_count : (empty : ℕ) → Format ℕ
+load_count empty = test byte 4 (λ n. not (n == bits_set empty))
+
 -- pairs of the flags at the same place of two lists
 abbrev pub beside : List Bool → List Bool → List (Bool × Bool)
 beside [] bs = []
@@ -71,16 +77,6 @@ beside (a ∷ rest) [] = []
 beside (a ∷ rest) (b ∷ bs) = (a, b) ∷ beside rest bs
 
 -- 3. The record of a slot.
-
--- an event, and the count of those before it in the queue of its slot's handler
-pub record Queued : Type 0 where
-  pub place : ℕ
-  pub event : Event
-
--- a slot, and its event if it waits
-pub record SlotRow : Type 0 where
-  pub slot : Slot
-  pub queued : Option Queued
 
 abbrev pub event_in : SlotRow → Option Event
 event_in r = option_map (λ q. q.event) r.queued
@@ -110,7 +106,7 @@ slot_row split cycles s = do
   regs ← part (λ r. r.slot.regs) (each register (beside tags (flags 16 empty)))
   address ← part (λ r. address_in (event_in r)) (operand (state == 1))
   value ← part (λ r. value_in (event_in r)) (operand (state == 1))
-  count ← part (λ r. length r.slot.pending) (test byte 4 (λ n. not (n == bits_set empty)))
+  count ← part (λ r. length r.slot.pending) (load_count empty)
   pending ← part (λ r. r.slot.pending) (times (load empty) (λ earlier p. earlier ++ p ∷ []) count [])
   done (record {
     slot = record {
@@ -167,9 +163,16 @@ front i = do
   rows ← part (λ f. f.rows) (each (slot_row i.split head.cycles) i.slots)
   done (record { head = head; rows = rows })
 
+abbrev pub front_from : Header → List SlotRow → Front
+front_from head rows = record { head = head; rows = rows }
+
 -- the slots that wait
 abbrev pub waiting_in : Front → List Waiter
 waiting_in f = waiters_in slots_start f.rows
+
+-- the places in queues are tested after the last slot, since each is compared with those of other slots
+abbrev pub tested : Image → Format Front
+tested i = late (front i) (λ f. queue_tests (waiting_in f) [] (waiting_in f))
 
 unfoldable pub output : (limit group : ℕ) → Format (ℕ × List ℕ)
 output limit group = do
@@ -185,10 +188,14 @@ pub record Contents : Type 0 where
 
 unfoldable pub checkpoint : Image → Format Contents
 checkpoint i = do
-  front ← part (λ c. c.front) (late (front i) (λ f. queue_tests (waiting_in f) [] (waiting_in f)))
+  front ← part (λ c. c.front) (tested i)
   outputs ← part (λ c. c.outputs) (each (output (output_limit i.version)) (groups_of i.slots))
   pages ← part (λ c. c.pages) (times page (λ _ p. p.0 + 1) front.head.pages 0)
   done (record { front = front; outputs = outputs; pages = pages })
+
+abbrev pub contents_from : Header → List SlotRow → List (ℕ × List ℕ) → List (ℕ × List Cell) → Contents
+contents_from head rows outputs pages =
+    record { front = front_from head rows; outputs = outputs; pages = pages }
 
 -- the parts of a checkpoint that they are
 abbrev pub saved_in : Contents → Saved

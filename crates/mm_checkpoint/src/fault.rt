@@ -2,7 +2,8 @@
 
 ghost use Rattle.std.specs.Prelude.{◌≡◌};
 
-use mm_image::ImageError;
+use mm_format::ReadError;
+use mm_image::ImageFault;
 
 /// Why no checkpoint was read.
 #[derive(Clone, Copy, Debug, PartialEq, Eq)]
@@ -12,15 +13,15 @@ pub enum SaveError {
     NoMemory,
 }
 
-impl From<ImageError> for SaveError {
+impl From<ReadError<ImageFault>> for SaveError {
     ghost use Rattle.mm_checkpoint.specs.Steps.{told};
 
     ghost from_gives = { λ e told_error. told_error ≡ told e };
 
-    fn from(error: ImageError) -> SaveError {
+    fn from(error: ReadError<ImageFault>) -> SaveError {
         match error {
-            ImageError::Fault { offset, .. } => SaveError::Fault { offset },
-            ImageError::NoMemory => SaveError::NoMemory,
+            ReadError::Fault { offset, .. } => SaveError::Fault { offset },
+            ReadError::NoMemory => SaveError::NoMemory,
         }
     }
 }

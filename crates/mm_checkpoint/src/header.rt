@@ -1,12 +1,12 @@
 //! The header of a checkpoint's file.
 
-ghost use Rattle.std.specs.Prelude.{◌≡◌, length};
-ghost use Rattle.mm_image.specs.Faults.{Gives};
-ghost use Rattle.mm_model.specs.Places.{first_bad};
-ghost use Rattle.mm_checkpoint.specs.Steps.{header_of};
-ghost use Rattle.mm_checkpoint.specs.Faults.{header_places};
+ghost use Rattle.std.specs.Prelude.{◌≡◌};
+ghost use Rattle.mm_format.specs.Reading.{Reads};
+ghost use Rattle.mm_image.specs.Faults.{number_of};
+ghost use Rattle.mm_checkpoint.specs.Format.{header};
 
-use mm_image::{ImageError, ImageFault, Reader};
+use mm_format::{ReadError, Reader, refuse_if};
+use mm_image::ImageFault;
 
 /// The only version.
 const VERSION: u16 = 1;
@@ -28,28 +28,35 @@ pub(crate) struct Header {
     pub pages: u16,
 }
 
-/// The header of a checkpoint of an image with this count of frames.
-pub(crate) fn read_header(reader: &Reader<'_>, frames: u32) -> Result<Header, ImageError>
-    ensures { let bytes = reader.now.bytes.now in
-        Gives (λ h. h) (first_bad (length bytes) (header_places bytes frames)) (header_of bytes) result }
+/// Reads the header of a checkpoint of an image with this count of frames.
+#[tactic(auto, unfolding(crate::specs::Format::header))]
+pub(crate) fn read_header(reader: &mut Reader, frames: u32) -> Result<Header, ReadError<ImageFault>>
+    ensures read { Reads number_of (λ h. h) ((header frames).read reader.old.bytes.now reader.old.at) reader.new.at
+        result }
+    ensures same { reader.new.bytes.now ≡ reader.old.bytes.now }
 {
-    reader.whole(0, 4)?;
-    let magic = &reader.bytes[..4];
-    reader.refuse_if(magic != b"MMS1".as_slice(), ImageFault::Magic, 0)?;
-    let version = reader.u16_at(4)?;
-    reader.refuse_if(version != VERSION, ImageFault::Version, 4)?;
-    let last = reader.u8_at(6)?;
-    reader.refuse_if(
+    let at = reader.at;
+    let magic = reader.raw(4)?;
+    refuse_if(magic != b"MMS1".as_slice(), ImageFault::Magic, at)?;
+    let at = reader.at;
+    let version = reader.u16()?;
+    refuse_if(version != VERSION, ImageFault::Version, at)?;
+    let at = reader.at;
+    let last = reader.u8()?;
+    refuse_if(
         last >= SLOT_NUMBERS && last != NO_SLOT,
         ImageFault::Count,
-        6,
+        at,
     )?;
-    let zero = reader.u8_at(7)?;
-    reader.refuse_if(zero != 0, ImageFault::Count, 7)?;
-    let cycles = reader.u64_at(8)?;
-    reader.refuse_if(cycles > CYCLE_LIMIT, ImageFault::Count, 8)?;
-    let pages = reader.u16_at(16)?;
-    reader.refuse_if(u32::from(pages) > frames, ImageFault::Frames, 16)?;
+    let at = reader.at;
+    let zero = reader.u8()?;
+    refuse_if(zero != 0, ImageFault::Count, at)?;
+    let at = reader.at;
+    let cycles = reader.u64()?;
+    refuse_if(cycles > CYCLE_LIMIT, ImageFault::Count, at)?;
+    let at = reader.at;
+    let pages = reader.u16()?;
+    refuse_if(u32::from(pages) > frames, ImageFault::Frames, at)?;
     Ok(Header {
         last: if last == NO_SLOT { None } else { Some(last) },
         cycles,

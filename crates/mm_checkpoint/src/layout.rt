@@ -11,12 +11,3 @@ pub(crate) const ENTRY_BYTES: usize = 10;
 
 /// The length in bytes of the record of a page.
 pub(crate) const PAGE_BYTES: usize = 4232;
-
-/// The offsets in a slot's record of the parts after its instruction pointer.
-pub(crate) const REGISTERS: usize = 24;
-
-pub(crate) const ADDRESS: usize = 152;
-
-pub(crate) const VALUE: usize = 161;
-
-pub(crate) const COUNT: usize = 170;

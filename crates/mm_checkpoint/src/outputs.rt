@@ -4,19 +4,18 @@ ghost use Rattle.std.specs.Prelude.{◌≡◌, ℕ, List, ◌+◌, ◌*◌, ◌�
 ghost use Rattle.std.specs.List.{list_any};
 ghost use Rattle.mm_model.specs.Groups.{has_group};
 ghost use Rattle.mm_model.specs.Image.{output_limit};
-ghost use Rattle.mm_model.specs.Places.{first_bad};
-ghost use Rattle.mm_image.specs.Faults.{Gives};
-ghost use Rattle.mm_checkpoint.specs.Reading.{groups_of, output_length, output_at};
-ghost use Rattle.mm_checkpoint.specs.Steps.{put_out, outputs_from};
-ghost use Rattle.mm_checkpoint.specs.Faults.{output_places, outputs_places};
+ghost use Rattle.mm_format.specs.Formats.{each};
+ghost use Rattle.mm_format.specs.Reading.{Reads};
+ghost use Rattle.mm_image.specs.Faults.{number_of};
+ghost use Rattle.mm_checkpoint.specs.Format.{output};
+ghost use Rattle.mm_checkpoint.specs.Reading.{groups_of};
+ghost use Rattle.mm_checkpoint.specs.Steps.{put_out};
 
-use mm_image::{ImageError, ImageFault, Reader};
+use mm_format::{ReadError, Reader, refuse_if};
+use mm_image::ImageFault;
 use mm_model::Slot;
 use mm_thread::Output;
 use std::alloc::{AllocError, Global};
-
-/// The length in bytes of the field for the length of an output.
-const LENGTH_BYTES: usize = 4;
 
 /// The count of groups that there can be.
 const GROUPS: u8 = 64;
@@ -46,62 +45,43 @@ pub(crate) fn groups_of(alloc: Global, slots: &[Slot]) -> Result<Vec<u8>, AllocE
         .collect(alloc)
 }
 
-/// The outputs of groups, and the offset of their end.
-#[derive(Drop)]
-pub(crate) struct Outputs {
-    pub outputs: Vec<Output>,
-    pub end: usize,
-}
-
-/// The outputs of groups from an offset on, each of at most `limit` bytes.
+/// Reads the outputs of groups, each of at most `limit` bytes.
 pub(crate) fn read_outputs(
     alloc: Global,
-    reader: &Reader<'_>,
+    reader: &mut Reader,
     limit: u32,
     groups: &[u8],
-    start: usize,
-) -> Result<Outputs, ImageError>
-    requires limit { limit ≤ 65536 }
-    requires few { length groups.now ≤ 64 }
-    requires start { start < 2 ^ 18 }
-    ensures outputs { let bytes = reader.now.bytes.now in
-        Gives {Y = List (ℕ × List ℕ) × ℕ} (λ o. (map put_out o.outputs.items, o.end))
-        (first_bad (length bytes) (outputs_places bytes limit groups.now start)) (outputs_from bytes groups.now start)
-        result }
-    ensures end { IfOk result (λ o. o.end < 2 ^ 24) }
+) -> Result<Vec<Output>, ReadError<ImageFault>>
+    ensures read { Reads number_of (λ outputs. map put_out outputs.items)
+        ((each (output limit) groups.now).read reader.old.bytes.now reader.old.at) reader.new.at result }
+    ensures same { reader.new.bytes.now ≡ reader.old.bytes.now }
 {
     let mut outputs = Vec::with_capacity(alloc, groups.len())?;
-    let mut at = start;
     for group in groups {
-        let bytes = read_output(alloc, reader, limit, at)?;
-        at += LENGTH_BYTES + bytes.len();
-        outputs.push(Output {
-            group: *group,
-            bytes,
-        })?;
+        let output = read_output(alloc, reader, limit, *group)?;
+        outputs.push(output)?;
     }
-    Ok(Outputs { outputs, end: at })
+    Ok(outputs)
 }
 
-// The bytes of the output at an offset.
+// Reads the output of a group.
+#[tactic(auto, unfolding(crate::specs::Format::output))]
 fn read_output(
     alloc: Global,
-    reader: &Reader<'_>,
+    reader: &mut Reader,
     limit: u32,
-    at: usize,
-) -> Result<Vec<u8>, ImageError>
-    requires { at < 2 ^ 39 }
-    ensures output { let bytes = reader.now.bytes.now in
-        Gives (λ output. output.items) (first_bad (length bytes) (output_places bytes limit at)) (output_at bytes at)
+    group: u8,
+) -> Result<Output, ReadError<ImageFault>>
+    ensures read { Reads number_of put_out ((output limit group).read reader.old.bytes.now reader.old.at) reader.new.at
         result }
-    ensures short { IfOk result (λ output. length output.items ≤ limit) }
-    ensures length { IfOk result (λ output. length output.items ≡ output_length reader.now.bytes.now at) }
+    ensures same { reader.new.bytes.now ≡ reader.old.bytes.now }
 {
-    let size = reader.u32_at(at)?;
-    reader.refuse_if(size > limit, ImageFault::Count, at)?;
-    let start = at + LENGTH_BYTES;
-    let end = start + size as usize;
-    reader.whole(start, size as usize)?;
-    let output = Vec::from_slice(alloc, &reader.bytes[start..end])?;
-    Ok(output)
+    let at = reader.at;
+    let size = reader.u32()?;
+    refuse_if(size > limit, ImageFault::Count, at)?;
+    let bytes = reader.raw(size as usize)?;
+    Ok(Output {
+        group,
+        bytes: Vec::from_slice(alloc, bytes)?,
+    })
 }

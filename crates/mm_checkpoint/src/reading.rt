@@ -1,25 +1,30 @@
 //! The reader of checkpoints.
 
-ghost use Rattle.std.specs.Prelude.{◌≡◌, ℕ, IfOk, Err, Some, Option};
+ghost use Rattle.std.specs.Prelude.{◌≡◌, ◌≤◌, ℕ, IfOk, Err, Some, Option, map, vec_len};
 ghost use Rattle.mm_model.specs.Spelling.{IsImage};
-ghost use Rattle.mm_image.specs.Faults.{Gives};
+ghost use Rattle.mm_format.specs.Formats.{file};
+ghost use Rattle.mm_format.specs.Reading.{Gives, Reads, ReadsFile};
+ghost use Rattle.mm_image.specs.Faults.{number_of};
 ghost use Rattle.mm_machine.specs.Snapshot.{Parts, parts_of};
 ghost use Rattle.mm_checkpoint.specs.Checkpoints.{Saves, saved_of};
 ghost use Rattle.mm_checkpoint.specs.Reading.{saved_at};
 ghost use Rattle.mm_checkpoint.specs.Faults.{first_fault, save_fault};
 ghost use Rattle.mm_checkpoint.specs.Answers.{IsUnlessNoMemory, FailsUnlessNoMemory};
+ghost use Rattle.mm_checkpoint.specs.Format.{checkpoint, contents_from, front, front_from, tested, waiters_in};
+ghost use Rattle.mm_checkpoint.specs.Steps.{put_out};
+ghost use Rattle.mm_checkpoint.specs.declared.rows.SlotRow.{SlotRow as RowValue};
 
 use crate::fault::SaveError;
-use crate::header::read_header;
+use crate::header::{Header, read_header};
 use crate::outputs::{groups_of, output_limit, read_outputs};
-use crate::pages::{nothing_follows, read_pages};
-use crate::slots::read_slots;
-use crate::waiting::{events_of, in_order, test_places};
-use mm_image::{Image, ImageError, Reader};
+use crate::rows::{SlotRow, read_rows};
+use crate::waiting::{Waiter, events_of, in_order, test_places, waiting_in};
+use mm_format::{ReadError, Reader, refuse_if};
+use mm_image::{Image, ImageFault, read_pages};
 use mm_machine::Snapshot;
 use mm_model::{Event, Page, Slot};
 use mm_thread::Output;
-use std::alloc::Global;
+use std::alloc::{AllocError, Global};
 
 /// The state and the last slot that the bytes of a file spell as a checkpoint of an image, or the offset of the first
 /// fault of the fields in their order. `NoMemory` comes if memory ran out.
@@ -58,31 +63,119 @@ struct Checkpoint {
     last: Option<u8>,
 }
 
-// The checkpoint of a file, read part by part.
-fn read_parts(alloc: Global, img: &Image, bytes: &[u8]) -> Result<Checkpoint, ImageError>
-    ensures parts { Gives
+// The checkpoint of a whole file.
+fn read_parts(alloc: Global, img: &Image, bytes: &[u8]) -> Result<Checkpoint, ReadError<ImageFault>>
+    ensures parts { Gives number_of
         (λ c. saved_of (parts_of c.slots.items c.events.items c.outputs.items c.pages.items c.cycles) c.last)
         (first_fault img.now bytes.now) (saved_at img.now bytes.now) result }
     ensures image { IsImage img.now }
 {
-    let reader = Reader { bytes };
-    let header = read_header(&reader, img.frames())?;
-    let known = img.slots();
-    let records = read_slots(alloc, &reader, img.split(), header.cycles, known)?;
-    test_places(&reader, &records.waiting)?;
-    let groups = groups_of(alloc, known)?;
-    let limit = output_limit(img.version());
-    let outputs = read_outputs(alloc, &reader, limit, &groups, records.end)?;
-    let pages = read_pages(alloc, &reader, outputs.end, header.pages)?;
-    nothing_follows(&reader, outputs.end, header.pages)?;
-    let sorted = in_order(alloc, &records.waiting)?;
+    let file = read_file(alloc, img, bytes)?;
+    let sorted = in_order(alloc, &file.waiting)?;
     let events = events_of(alloc, &sorted)?;
     Ok(Checkpoint {
-        slots: records.slots,
+        slots: slots_of(alloc, file.rows)?,
         events,
-        outputs: outputs.outputs,
-        pages,
-        cycles: header.cycles,
-        last: header.last,
+        outputs: file.outputs,
+        pages: file.pages,
+        cycles: file.head.cycles,
+        last: file.head.last,
     })
+}
+
+// The slots of rows.
+fn slots_of(alloc: Global, rows: Vec<SlotRow>) -> Result<Vec<Slot>, AllocError>
+    ensures { IfOk result (λ slots. slots.items ≡ map (λ (r : RowValue). r.slot) rows.items) }
+{
+    rows.into_iter().map(|row| row.slot).collect(alloc)
+}
+
+/// What a file says, and the slots of it that wait.
+#[derive(Drop)]
+struct File {
+    head: Header,
+    rows: Vec<SlotRow>,
+    waiting: Vec<Waiter>,
+    outputs: Vec<Output>,
+    pages: Vec<Page>,
+}
+
+// What a whole file says of an image.
+fn read_file(alloc: Global, img: &Image, bytes: &[u8]) -> Result<File, ReadError<ImageFault>>
+    ensures read { ReadsFile number_of
+        (λ f. contents_from f.head f.rows.items (map put_out f.outputs.items) f.pages.items)
+        (file (checkpoint img.now) 13 bytes.now) result }
+    ensures waiting { IfOk result (λ f. f.waiting.items ≡ waiters_in 18 f.rows.items) }
+    ensures image { IsImage img.now }
+{
+    let mut reader = Reader { bytes, at: 0 };
+    let file = read_contents(alloc, &mut reader, img)?;
+    refuse_if(bytes.len() > reader.at, ImageFault::Trailing, reader.at)?;
+    Ok(file)
+}
+
+// Reads what a file says of an image.
+#[tactic(auto, unfolding(crate::specs::Format::checkpoint))]
+fn read_contents(
+    alloc: Global,
+    reader: &mut Reader,
+    img: &Image,
+) -> Result<File, ReadError<ImageFault>>
+    requires { reader.old.at ≡ 0 }
+    ensures read { Reads number_of
+        (λ f. contents_from f.head f.rows.items (map put_out f.outputs.items) f.pages.items)
+        ((checkpoint img.now).read reader.old.bytes.now reader.old.at) reader.new.at result }
+    ensures same { reader.new.bytes.now ≡ reader.old.bytes.now }
+    ensures waiting { IfOk result (λ f. f.waiting.items ≡ waiters_in 18 f.rows.items) }
+    ensures image { IsImage img.now }
+{
+    let (head, rows, waiting) = read_tested(alloc, reader, img)?;
+    let groups = groups_of(alloc, img.slots())?;
+    let limit = output_limit(img.version());
+    let outputs = read_outputs(alloc, reader, limit, &groups)?;
+    let pages = read_pages(alloc, reader, head.pages)?;
+    Ok(File {
+        head,
+        rows,
+        waiting,
+        outputs,
+        pages,
+    })
+}
+
+// Reads the header and the records of slots, and tests the places in queues.
+fn read_tested(
+    alloc: Global,
+    reader: &mut Reader,
+    img: &Image,
+) -> Result<(Header, Vec<SlotRow>, Vec<Waiter>), ReadError<ImageFault>>
+    requires { reader.old.at ≡ 0 }
+    ensures read { Reads number_of (λ f. front_from f.0 f.1.items)
+        ((tested img.now).read reader.old.bytes.now reader.old.at) reader.new.at result }
+    ensures same { reader.new.bytes.now ≡ reader.old.bytes.now }
+    ensures waiting { IfOk result (λ f. f.2.items ≡ waiters_in 18 f.1.items) }
+    ensures image { IsImage img.now }
+{
+    let (head, rows) = read_front(alloc, reader, img)?;
+    let waiting = waiting_in(alloc, &rows)?;
+    test_places(&waiting)?;
+    Ok((head, rows, waiting))
+}
+
+// Reads the header and the records of slots.
+#[tactic(auto, unfolding(crate::specs::Format::front))]
+fn read_front(
+    alloc: Global,
+    reader: &mut Reader,
+    img: &Image,
+) -> Result<(Header, Vec<SlotRow>), ReadError<ImageFault>>
+    ensures read { Reads number_of (λ f. front_from f.0 f.1.items)
+        ((front img.now).read reader.old.bytes.now reader.old.at) reader.new.at result }
+    ensures same { reader.new.bytes.now ≡ reader.old.bytes.now }
+    ensures few { IfOk result (λ f. vec_len f.1 ≤ 64) }
+    ensures image { IsImage img.now }
+{
+    let head = read_header(reader, img.frames())?;
+    let rows = read_rows(alloc, reader, img.split(), head.cycles, img.slots())?;
+    Ok((head, rows))
 }

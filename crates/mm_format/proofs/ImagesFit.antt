@@ -25,7 +25,7 @@ use Rattle.mm_model.specs.Memory.{IsPage}
 use Rattle.mm_model.specs.Slot.{Slot}
 use Rattle.mm_model.specs.Image.{Image, slot_limit, frame_limit, none_empty}
 use Rattle.mm_model.specs.Places.{IsBytes, bit_at}
-use Rattle.mm_model.specs.Spelling.{Begins, numbers_of, IsFresh, IsImage, HoldsWords, mode_of, handler_byte}
+use Rattle.mm_model.specs.Spelling.{Begins, IsFresh, IsImage, HoldsWords, mode_of, handler_byte}
 use Rattle.mm_model.specs.Spelling.{state_byte, bitmap}
 use Rattle.mm_model.specs.ImageFaults.{is_bad_handler}
 use Rattle.mm_model.proofs.ImageBytes.Apart.{number_of_flags-below, bit_at-bitmap}
@@ -337,7 +337,7 @@ words_cells : (cells : List Cell) → AllByRecursion (λ (c : Cell). IsWord c.wo
 words_cells [] all = tt
 words_cells (c ∷ cells) all = (all.0, words_cells cells all.1)
 
-cells_again : (cells : List Cell) → cells
+pub cells_again : (cells : List Cell) → cells
     ≡ cells_of (map (λ (c : Cell). c.word) cells) (map (λ (c : Cell). c.full) cells)
 cells_again [] = refl
 cells_again (c ∷ cells) = ap (λ cs. c ∷ cs) (cells_again cells)

@@ -66,7 +66,7 @@ image_spelled i =
 -- 2. The first fault and the value.
 
 module _ (bytes : List ℕ) where
-  abbrev end : ℕ
+  abbrev pub end : ℕ
   end = page_offset (slots_of bytes) (pages_of bytes)
 
   abbrev before : List Place

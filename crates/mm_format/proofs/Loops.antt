@@ -1,13 +1,14 @@
 -- Lists, as loops read them.
-use Rattle.std.proofs.Common.{◌≡◌, ℕ, zero, suc, ◌+◌, ◌-◌, ◌≤◌, ◌<◌, List, [], ◌∷◌, ◌++◌, drop, length, get_or, refl}
+use Rattle.std.proofs.Common.{◌≡◌, ℕ, zero, suc, ◌+◌, ◌-◌, ◌≤◌, ◌<◌, Bool, true, false, cond, Option, Some, None, List, [], ◌∷◌, ◌++◌, drop, length, get_or}
+use Rattle.std.proofs.Common.{refl}
 use Rattle.std.proofs.Common.{sym, ap, subst, ◌∙◌}
 use Rattle.std.proofs.Common.{append_assoc, arith}
 use Rattle.std.proofs.lemmas.List.{append-nil, drop_more, drop_all}
 use Rattle.mm_format.specs.declared.reader.ReadError.{ReadError}
 use Rattle.mm_format.specs.declared.reader.ReadError.TheVariants.{Fault, NoMemory}
-use Rattle.mm_format.specs.Formats.{Outcome, Format, after, cons, times, each, runs}
+use Rattle.mm_format.specs.Formats.{Outcome, Format, after, answer, cons, times, each, runs}
 use Rattle.mm_format.specs.Formats.Outcome.{Got, Bad}
-use Rattle.mm_format.specs.Reading.{Fails}
+use Rattle.mm_format.specs.Reading.{Fails, Names}
 
 module _ {A : Type 0} where
   -- what was read before, and what is still read
@@ -159,3 +160,32 @@ times_runs {A = A} f onward (suc n) s bytes at =
         (λ xs end. Got (a ∷ xs) end))
     go (Got a next) same = ap (λ o. after o (λ xs end. Got (a ∷ xs) end)) (same a next)
     go (Bad k p) same = refl
+
+-- a test that is made late
+pub late_stop : {K A : Type 0} (number : K → ℕ) (bad : Bool) (n at : ℕ) (rest total : Option (ℕ × ℕ)) (v : A) (end : ℕ)
+    → cond bad (Some (n, at)) rest ≡ total → (e : ReadError K)
+    → Fails number (cond bad (Bad n at) (Got false 0)) e → Fails number (answer total v end) e
+late_stop number bad n at rest total v end same NoMemory fails = tt
+late_stop number true n at rest total v end same (Fault kind offset) fails =
+    let one : n ≡ number kind = cc in
+    let two : at ≡ offset = cc in
+    ap (λ o. answer o v end) (sym same) ∙ ap (λ m. Bad m at) one ∙ ap (Bad (number kind)) two
+late_stop number false n at rest total v end same (Fault kind offset) fails = absurd cc
+
+-- what a whole file says, as its first fault and its value
+module _ {K A : Type 0} (number : K → ℕ) (fault : Option (ℕ × ℕ)) (value : A) (end : ℕ) (read : Outcome A)
+    (says : read ≡ answer fault value end) where
+  pub ok_given : (a : A) (next : ℕ) → read ≡ Got a next → (fault ≡ None) × (a ≡ value)
+  ok_given a next e = by fault (sym says ∙ e)
+    where
+      by : (o : Option (ℕ × ℕ)) → answer o value end ≡ Got a next → (o ≡ None) × (a ≡ value)
+      by None e = (refl, cc)
+      by (Some f) e = absurd cc
+
+  pub err_given : (e : ReadError K) → Fails number read e → Names number fault e
+  err_given NoMemory h = tt
+  err_given (Fault kind offset) h = by fault (sym says ∙ h)
+    where
+      by : (o : Option (ℕ × ℕ)) → answer o value end ≡ Bad (number kind) offset → o ≡ Some (number kind, offset)
+      by None e = absurd cc
+      by (Some (n, at)) e = cc

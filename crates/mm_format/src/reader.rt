@@ -1,6 +1,6 @@
 //! A reader of bytes from the front, field by field.
 
-ghost use Rattle.std.specs.Prelude.{◌≡◌, if◌then◌else◌, false, OnOk};
+ghost use Rattle.std.specs.Prelude.{◌≡◌, if◌then◌else◌, false, IfOk, OnOk, length};
 ghost use Rattle.mm_format.specs.Formats.{text, byte, u16, u32, u64, Outcome};
 ghost use Rattle.mm_format.specs.Reading.{Reads};
 
@@ -46,6 +46,7 @@ impl<K, T: Drop> From<AllocFailed<T>> for ReadError<K> {
 }
 
 /// The bytes of a file, and where the next field begins.
+#[derive(Drop)]
 pub struct Reader<'a> {
     pub bytes: &'a [u8],
     pub at: usize,
@@ -57,6 +58,7 @@ impl<'a> Reader<'a> {
         ensures read { Reads K.number (λ xs. xs.now) ((text size).read self.old.bytes.now self.old.at) self.new.at
             result }
         ensures same { self.new.bytes.now ≡ self.old.bytes.now }
+        ensures long { IfOk result (λ xs. length xs.now ≡ size) }
     {
         match self.at.checked_add(size) {
             Some(end) if end <= self.bytes.len() => {

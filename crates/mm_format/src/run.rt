@@ -21,7 +21,7 @@ pub trait Run<K: FaultKind> {
     ghost onward: { Self → Self.Item → Self };
 
     /// Reads a record.
-    fn item(&mut self, reader: &mut Reader) -> Result<Self::Item, ReadError<K>>
+    fn item(&mut self, alloc: Global, reader: &mut Reader) -> Result<Self::Item, ReadError<K>>
         ensures read { Reads K.number (λ x. x) (reads self.old reader.old.bytes.now reader.old.at) reader.new.at result }
         ensures same { reader.new.bytes.now ≡ reader.old.bytes.now }
         ensures next { IfOk result (λ x. self.new ≡ onward self.old x) };
@@ -41,7 +41,7 @@ pub fn read_run<K: FaultKind, R: Run<K>>(
 {
     let mut items = Vec::new(alloc);
     for _ in 0..count {
-        let item = run.item(reader)?;
+        let item = run.item(alloc, reader)?;
         items.push(item)?;
     }
     Ok(items)

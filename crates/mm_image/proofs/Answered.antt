@@ -7,10 +7,17 @@ use Rattle.mm_model.specs.Spelling.{Spells}
 use Rattle.mm_image.specs.declared.fault.ImageFault.{ImageFault}
 use Rattle.mm_image.specs.declared.fault.ImageError.{ImageError}
 use Rattle.mm_image.specs.declared.fault.ImageError.TheVariants.{Fault, NoMemory}
-use Rattle.mm_image.specs.Faults.{Gives, Fails, IsUnlessNoMemory, FailsUnlessNoMemory, number_of}
+use Rattle.mm_format.specs.declared.reader.ReadError.{ReadError}
+use Rattle.mm_format.specs.declared.reader.ReadError.TheVariants as errors
+use Rattle.mm_format.specs.Formats.{file}
+use Rattle.mm_format.specs.Formats.Outcome.{Got}
+use Rattle.mm_format.specs.Images.{image}
+use Rattle.mm_format.specs.Reading as reading
+use Rattle.mm_image.specs.Faults.{Gives, Fails, IsUnlessNoMemory, FailsUnlessNoMemory, number_of, told}
 use Rattle.mm_model.specs.ImageReading.{image_of}
 use Rattle.mm_model.proofs.ImageBytes.Parts.{IsBytes}
-use Rattle.mm_format.proofs.ImagesWhole.{clean_spells, spelled_none, image_same}
+use Rattle.mm_format.proofs.Loops.{ok_given, err_given}
+use Rattle.mm_format.proofs.ImagesWhole.{end, file_says, clean_spells, spelled_none, image_same}
 
 abbrev Answer : Type 0
 Answer = Result Image ImageError
@@ -18,6 +25,16 @@ Answer = Result Image ImageError
 module _ (bytes : List ℕ) where
   abbrev Given : Answer → Type 0
   Given r = Gives (λ (i : Image). i) (image_fault bytes) (image_of bytes) r
+
+  -- what was read of the whole file
+  pub ok_image : (i : Image) → (next : ℕ) × (file image 13 bytes ≡ Got i next) → Given (Ok i)
+  ok_image i read =
+      ok_given number_of (image_fault bytes) (image_of bytes) (end bytes) _ (file_says bytes) i read.0 read.1
+
+  pub err_image : (e : ReadError ImageFault) → reading.Fails number_of (file image 13 bytes) e → Given (Err (told e))
+  err_image errors.NoMemory h = tt
+  err_image (errors.Fault kind offset) h =
+      err_given number_of (image_fault bytes) (image_of bytes) (end bytes) _ (file_says bytes) (errors.Fault kind offset) h
 
   pub is_spelled : IsBytes bytes → (r : Answer) → Given r → IfOk r (λ i. Spells bytes i)
   is_spelled fits (Ok i) h = subst (Spells bytes) (sym h.1) (clean_spells bytes fits h.0)

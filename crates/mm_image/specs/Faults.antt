@@ -1,5 +1,7 @@
 -- The numbers of the faults of image files, and what a reader answers.
 use Rattle.std.specs.Prelude.{◌≡◌, ℕ, Option, Some, None, Result, Ok, Err}
+use Rattle.mm_format.specs.declared.reader.ReadError.{ReadError}
+use Rattle.mm_format.specs.declared.reader.ReadError.TheVariants as reading
 use Rattle.mm_image.specs.declared.fault.ImageFault.{ImageFault}
 use Rattle.mm_image.specs.declared.fault.ImageFault.TheVariants as faults
 use Rattle.mm_image.specs.declared.fault.ImageError.{ImageError}
@@ -19,6 +21,11 @@ number_of faults.Ip = 10
 number_of faults.PageOrder = 11
 number_of faults.Frames = 12
 number_of faults.Trailing = 13
+
+-- the error of a reader of fields, as one of images
+abbrev pub told : ReadError ImageFault → ImageError
+told (reading.Fault kind offset) = errors.Fault kind offset
+told reading.NoMemory = errors.NoMemory
 
 -- the error names the fault, unless memory ran out
 abbrev pub Fails : Option (ℕ × ℕ) → ImageError → Type 0

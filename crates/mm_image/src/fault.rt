@@ -3,6 +3,7 @@
 ghost use Rattle.std.specs.Prelude.{◌≡◌};
 ghost use Rattle.mm_image.specs.declared.fault.ImageError.TheVariants.{NoMemory};
 
+use mm_format::{FaultKind, ReadError};
 use std::alloc::{AllocError, AllocFailed};
 use thiserror::Error;
 
@@ -58,6 +59,29 @@ pub enum ImageError {
     /// Memory ran out.
     #[error("out of memory")]
     NoMemory,
+}
+
+impl FaultKind for ImageFault {
+    ghost use Rattle.mm_image.specs.Faults.{number_of};
+
+    ghost number = { number_of };
+
+    fn short() -> ImageFault {
+        ImageFault::Short
+    }
+}
+
+impl From<ReadError<ImageFault>> for ImageError {
+    ghost use Rattle.mm_image.specs.Faults.{told};
+
+    ghost from_gives = { λ e told_error. told_error ≡ told e };
+
+    fn from(error: ReadError<ImageFault>) -> ImageError {
+        match error {
+            ReadError::Fault { fault, offset } => ImageError::Fault { fault, offset },
+            ReadError::NoMemory => ImageError::NoMemory,
+        }
+    }
 }
 
 impl From<AllocError> for ImageError {

@@ -23,7 +23,6 @@
 #![tactic(auto)]
 
 mod fault;
-mod fields;
 mod fits;
 mod header;
 mod image;
@@ -36,7 +35,8 @@ mod words;
 mod writing;
 
 pub use fault::{ImageError, ImageFault};
-pub use fields::Reader;
 pub use image::Image;
+pub use pages::{read_page, read_pages};
 pub use reading::read;
+pub use words::{is_set, read_ip, read_word, word_of};
 pub use writing::{put_page, put_words, tags_of, write};

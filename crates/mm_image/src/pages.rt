@@ -1,16 +1,16 @@
 //! The records of pages of an image file.
 
-ghost use Rattle.std.specs.Prelude.{◌≡◌, ◌+◌, ◌*◌, ◌^◌, ◌<◌, true, IfOk, None, length, vec_len};
-ghost use Rattle.mm_image.specs.Faults.{Gives};
-ghost use Rattle.mm_model.specs.Places.{place_fault, first_bad, cells_at, cells_places, page_record_at};
-ghost use Rattle.mm_model.specs.Places.{page_record_places, end_places};
-ghost use Rattle.mm_model.specs.Places.Place.{Field};
-ghost use Rattle.mm_model.specs.ImageReading.{pages_at, page_offset};
-ghost use Rattle.mm_model.specs.ImageFaults.{pages_places};
+ghost use Rattle.std.specs.Prelude.{◌≡◌, ◌==◌, ◌+◌, ◌/◌, ◌%◌, ◌^◌, ◌<◌, true, IfOk, length, map, vec_len};
+ghost use Rattle.mm_word.specs.declared.word.Cell.{Cell as CellValue};
+ghost use Rattle.mm_model.specs.Places.{bit_at};
+ghost use Rattle.mm_format.specs.Formats.{each, times};
+ghost use Rattle.mm_format.specs.Images.{word, page, bits_in};
+ghost use Rattle.mm_format.specs.Reading.{Reads};
+ghost use Rattle.mm_image.specs.Faults.{number_of};
 
-use crate::fault::{ImageError, ImageFault};
-use crate::fields::Reader;
-use crate::layout::{HEADER_BYTES, PAGE_BYTES, SLOT_BYTES};
+use crate::fault::ImageFault;
+use crate::words::{is_set, read_word};
+use mm_format::{ReadError, Reader, Run, read_run, refuse_if};
 use mm_model::{CELLS, Page};
 use mm_word::Cell;
 use std::alloc::Global;
@@ -21,84 +21,101 @@ const PAGE_LIMIT: u64 = 1 << 42;
 /// The length in bytes of a page's tags, and of its full bits.
 const BITMAP_BYTES: usize = CELLS / 8;
 
-/// The offset of a page's tags in its record.
-const TAGS: usize = 8;
+// The bit at a place of a bitmap, the lowest of each byte first.
+fn bit(bitmap: &[u8], place: usize) -> bool
+    requires place { place < 512 }
+    requires whole { length bitmap.now ≡ 64 }
+    ensures { result ≡ bit_at bitmap.now 0 place }
+{
+    is_set(u16::from(bitmap[place / 8]), place % 8)
+}
 
-/// The offset of a page's full bits in its record.
-const FULL: usize = TAGS + BITMAP_BYTES;
-
-/// The offset of a page's words in its record.
-const WORDS: usize = FULL + BITMAP_BYTES;
-
-impl Reader<'_> {
-    /// The cells of the page whose record begins here.
-    #[tactic(auto, unfolding(mm_model::specs::Places::cells_at))]
-    pub fn cells(&self, alloc: Global, at: usize) -> Result<Vec<Cell>, ImageError>
-        requires small { at < 2 ^ 39 }
-        requires tags { place_fault (length self.now.bytes.now) (Field (at + 8) 64) ≡ None }
-        requires full { place_fault (length self.now.bytes.now) (Field (at + 72) 64) ≡ None }
-        ensures cells { let bytes = self.now.bytes.now in Gives (λ cells. cells.items)
-            (first_bad (length bytes) (cells_places bytes at)) (cells_at bytes at) result }
-        ensures count { IfOk result (λ cells. vec_len cells ≡ 512) }
-    {
-        let mut cells = Vec::with_capacity(alloc, CELLS)?;
-        for place in 0..CELLS {
-            let tagged = self.bit(at + TAGS, place);
-            let word = self.word(tagged, at + WORDS + 8 * place)?;
-            let full = self.bit(at + FULL, place);
-            cells.push(Cell { word, full })?;
-        }
-        Ok(cells)
+// Reads the words of a page's cells, with these tags and full bits.
+fn read_cells(
+    alloc: Global,
+    reader: &mut Reader,
+    tags: &[u8],
+    full: &[u8],
+) -> Result<Vec<Cell>, ReadError<ImageFault>>
+    requires tags { length tags.now ≡ 64 }
+    requires full { length full.now ≡ 64 }
+    ensures read { Reads number_of (λ cells. map (λ (c : CellValue). c.word) cells.items)
+        ((each word (bits_in 64 tags.now)).read reader.old.bytes.now reader.old.at) reader.new.at result }
+    ensures full { IfOk result (λ cells. map (λ (c : CellValue). c.full) cells.items ≡ bits_in 64 full.now) }
+    ensures same { reader.new.bytes.now ≡ reader.old.bytes.now }
+    ensures count { IfOk result (λ cells. vec_len cells ≡ 512) }
+{
+    let mut cells = Vec::with_capacity(alloc, CELLS)?;
+    for place in 0..CELLS {
+        let word = read_word(reader, bit(tags, place))?;
+        cells.push(Cell {
+            word,
+            full: bit(full, place),
+        })?;
     }
+    Ok(cells)
+}
 
-    /// The page whose record begins here. Its number has to be at least `least`.
-    pub fn page(&self, alloc: Global, least: u64, at: usize) -> Result<Page, ImageError>
-        requires { at < 2 ^ 39 }
-        ensures { let bytes = self.now.bytes.now in Gives (λ p. p)
-            (first_bad (length bytes) (page_record_places bytes least at)) (page_record_at bytes at) result }
-    {
-        let number = self.u64_at(at)?;
-        self.refuse_if(
-            number >= PAGE_LIMIT || number < least,
-            ImageFault::PageOrder,
-            at,
-        )?;
-        self.whole(at + TAGS, BITMAP_BYTES)?;
-        self.whole(at + FULL, BITMAP_BYTES)?;
-        let cells = self.cells(alloc, at)?;
-        match Page::new(number, cells) {
-            Some(page) => Ok(page),
-            None => unreachable!(),
-        }
+/// Reads a page, whose number has to be at least `least`.
+#[tactic(auto, using(crate::proofs::Cells::cells_whole), unfolding(mm_format::specs::Images::page, mm_format::specs::Images::bits))]
+pub fn read_page(
+    alloc: Global,
+    reader: &mut Reader,
+    least: u64,
+) -> Result<Page, ReadError<ImageFault>>
+    ensures read { Reads number_of (λ p. p) ((page least).read reader.old.bytes.now reader.old.at) reader.new.at
+        result }
+    ensures same { reader.new.bytes.now ≡ reader.old.bytes.now }
+{
+    let at = reader.at;
+    let number = reader.u64()?;
+    refuse_if(
+        number >= PAGE_LIMIT || number < least,
+        ImageFault::PageOrder,
+        at,
+    )?;
+    let tags = reader.raw(BITMAP_BYTES)?;
+    let full = reader.raw(BITMAP_BYTES)?;
+    let cells = read_cells(alloc, reader, tags, full)?;
+    match Page::new(number, cells) {
+        Some(page) => Ok(page),
+        None => unreachable!(),
     }
+}
 
-    /// The first `count` pages, after this count of slots. Their numbers have to ascend.
-    pub(crate) fn pages(
-        &self,
-        alloc: Global,
-        slots: u16,
-        count: u16,
-    ) -> Result<Vec<Page>, ImageError>
-        ensures { let bytes = self.now.bytes.now in Gives (λ pages. pages.items)
-            (first_bad (length bytes) (pages_places bytes slots count)) (pages_at bytes slots count) result }
-    {
-        let start = HEADER_BYTES + SLOT_BYTES * usize::from(slots);
-        let mut pages = Vec::with_capacity(alloc, usize::from(count))?;
-        let mut least = 0;
-        for k in 0..usize::from(count) {
-            let page = self.page(alloc, least, start + PAGE_BYTES * k)?;
-            least = page.number() + 1;
-            pages.push(page)?;
-        }
-        Ok(pages)
-    }
+/// What comes before a page: the least number that it may have.
+#[derive(Drop)]
+pub(crate) struct PageRun {
+    pub least: u64,
+}
 
-    /// Fails with `Trailing` if the file goes on after these counts of slots and pages.
-    pub(crate) fn nothing_follows(&self, slots: u16, pages: u16) -> Result<(), ImageError>
-        ensures { let bytes = self.now.bytes.now in Gives (λ _. true)
-            (first_bad (length bytes) (end_places bytes 13 (page_offset slots pages))) true result }
-    {
-        let end = HEADER_BYTES + SLOT_BYTES * usize::from(slots) + PAGE_BYTES * usize::from(pages);
-        self.refuse_if(self.bytes.len() > end, ImageFault::Trailing, end)
+impl Run<ImageFault> for PageRun {
+    ghost use Rattle.std.specs.Prelude.{◌+◌};
+    ghost use Rattle.mm_format.specs.Images.{page};
+
+    type Item = Page;
+
+    ghost reads = { λ s. (page s.least).read };
+
+    ghost onward = { λ s p. record { least = p.0 + 1 } };
+
+    fn item(&mut self, alloc: Global, reader: &mut Reader) -> Result<Page, ReadError<ImageFault>> {
+        let page = read_page(alloc, reader, self.least)?;
+        self.least = page.number() + 1;
+        Ok(page)
     }
+}
+
+/// Reads this count of pages, whose numbers have to ascend.
+pub fn read_pages(
+    alloc: Global,
+    reader: &mut Reader,
+    count: u16,
+) -> Result<Vec<Page>, ReadError<ImageFault>>
+    ensures read { Reads number_of (λ pages. pages.items)
+        ((times page (λ _ p. p.0 + 1) count 0).read reader.old.bytes.now reader.old.at) reader.new.at result }
+    ensures same { reader.new.bytes.now ≡ reader.old.bytes.now }
+{
+    let mut run = PageRun { least: 0 };
+    read_run(alloc, reader, &mut run, usize::from(count))
 }

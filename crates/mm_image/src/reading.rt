@@ -4,13 +4,19 @@ ghost use Rattle.std.specs.Prelude.{◌≡◌, ℕ, IfOk, Some, Err};
 ghost use Rattle.mm_model.specs.Image.{Image as ImageValue};
 ghost use Rattle.mm_model.specs.ImageFaults.{image_fault};
 ghost use Rattle.mm_model.specs.Spelling.{Spells};
-ghost use Rattle.mm_image.specs.Faults.{Gives, IsUnlessNoMemory, FailsUnlessNoMemory, number_of};
-ghost use Rattle.mm_model.specs.ImageReading.{image_of};
+ghost use Rattle.mm_model.specs.Places.{IsBytes};
+ghost use Rattle.mm_format.specs.Formats.{file};
+ghost use Rattle.mm_format.specs.Images.{image};
+ghost use Rattle.mm_format.specs.Reading.{Reads, ReadsFile};
+ghost use Rattle.mm_image.specs.Faults.{IsUnlessNoMemory, FailsUnlessNoMemory, number_of};
 ghost use Rattle.mm_image.specs.declared.fault.ImageFault.{ImageFault};
 
-use crate::fault::ImageError;
-use crate::fields::Reader;
+use crate::fault::{ImageError, ImageFault};
+use crate::header::read_header;
 use crate::image::Image;
+use crate::pages::read_pages;
+use crate::slots::read_slots;
+use mm_format::{ReadError, Reader, refuse_if};
 use std::alloc::Global;
 
 /// The image that the bytes of a file spell, or the first fault that is met when its fields are read from the front.
@@ -25,19 +31,31 @@ pub fn read(alloc: Global, bytes: &[u8]) -> Result<Image, ImageError>
     ensures first { (number offset : ℕ) → image_fault bytes.now ≡ Some (number, offset)
         → FailsUnlessNoMemory (number, offset) result }
 {
-    read_parts(alloc, bytes)
+    let image = read_file(alloc, bytes)?;
+    Ok(image)
 }
 
-// `read`, part by part.
-fn read_parts(alloc: Global, bytes: &[u8]) -> Result<Image, ImageError>
-    ensures { Gives (λ i. i) (image_fault bytes.now) (image_of bytes.now) result }
+// The image of a whole file.
+fn read_file(alloc: Global, bytes: &[u8]) -> Result<Image, ReadError<ImageFault>>
+    ensures { ReadsFile number_of (λ i. i) (file image 13 bytes.now) result }
 {
-    let reader = Reader { bytes };
-    let header = reader.header()?;
-    let slots = reader.slots(alloc, header.version, header.slots)?;
-    reader.handlers(&slots)?;
-    let pages = reader.pages(alloc, header.slots, header.pages)?;
-    reader.nothing_follows(header.slots, header.pages)?;
+    let mut reader = Reader { bytes, at: 0 };
+    let image = read_image(alloc, &mut reader)?;
+    refuse_if(bytes.len() > reader.at, ImageFault::Trailing, reader.at)?;
+    Ok(image)
+}
+
+// Reads an image from the front of a file.
+#[tactic(auto, unfolding(mm_format::specs::Images::image))]
+fn read_image(alloc: Global, reader: &mut Reader) -> Result<Image, ReadError<ImageFault>>
+    requires front { reader.old.at ≡ 0 }
+    requires bytes { IsBytes reader.old.bytes.now }
+    ensures read { Reads number_of (λ i. i) (image.read reader.old.bytes.now reader.old.at) reader.new.at result }
+    ensures same { reader.new.bytes.now ≡ reader.old.bytes.now }
+{
+    let header = read_header(reader)?;
+    let slots = read_slots(alloc, reader, header.version, header.slots)?;
+    let pages = read_pages(alloc, reader, header.pages)?;
     Ok(Image {
         version: header.version,
         split: header.split,

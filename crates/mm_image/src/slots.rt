@@ -1,18 +1,21 @@
 //! The records of slots of an image file.
 
-ghost use Rattle.std.specs.Prelude.{◌≡◌, ℕ, ◌+◌, ◌^◌, ◌<◌, true, false, IfOk, List, length, vec_len, slice_index_or};
+ghost use Rattle.std.specs.Prelude.{◌≡◌, ◌^◌, ◌<◌, ◌+◌, ℕ, true, false, IfOk, List, length, vec_len, slice_index_or};
+ghost use Rattle.mm_model.specs.Image.{slot_limit};
+ghost use Rattle.mm_model.specs.ImageFaults.{is_bad_handler};
 ghost use Rattle.mm_model.specs.Slot.{Slot};
-ghost use Rattle.mm_image.specs.Faults.{Gives};
+ghost use Rattle.mm_format.specs.Formats.{answer, first_late, times};
+ghost use Rattle.mm_format.specs.Images.{slot, slots, handler_tests};
+ghost use Rattle.mm_format.specs.Reading.{Reads};
+ghost use Rattle.mm_image.specs.Faults.{number_of};
 ghost use Rattle.mm_image.specs.Reading.{HoldsNumbers};
-ghost use Rattle.mm_model.specs.Places.{first_bad};
-ghost use Rattle.mm_model.specs.ImageReading.{slot_record_at, slots_at};
-ghost use Rattle.mm_model.specs.ImageFaults.{slot_record_places, slots_places, is_bad_handler, handlers_places};
 
-use crate::fault::{ImageError, ImageFault};
-use crate::fields::Reader;
+use crate::fault::ImageFault;
 use crate::header::slot_limit;
 use crate::layout::{HEADER_BYTES, SLOT_BYTES};
+use crate::words::{read_ip, read_registers};
 use arrayvec::ArrayVec;
+use mm_format::{ReadError, Reader, Run, read_run, refuse_if};
 use mm_model::{Slot, SlotState};
 use std::alloc::Global;
 
@@ -43,85 +46,130 @@ pub(crate) fn is_bad_handler(present: &[bool; 256], slot: &Slot) -> bool
     }
 }
 
-impl Reader<'_> {
-    /// The slot whose record begins here. Its number and group have to be below the limit, and its number at least
-    /// `least`.
-    pub(crate) fn slot(&self, limit: u8, least: u8, at: usize) -> Result<Slot, ImageError>
-        requires { at < 2 ^ 39 }
-        ensures slot { let bytes = self.now.bytes.now in Gives (λ s. s)
-            (first_bad (length bytes) (slot_record_places bytes limit least at)) (slot_record_at bytes at) result }
-        ensures number { IfOk result (λ s. s.number < limit) }
-    {
-        let number = self.u8_at(at)?;
-        self.refuse_if(number >= limit || number < least, ImageFault::SlotOrder, at)?;
-        let group = self.u8_at(at + 1)?;
-        self.refuse_if(group >= limit, ImageFault::Group, at + 1)?;
-        let handler = self.u8_at(at + HANDLER)?;
-        let state = self.u8_at(at + 3)?;
-        self.refuse_if(state > 1, ImageFault::State, at + 3)?;
-        let ip = self.ip(at + 4)?;
-        let tags = self.u16_at(at + 12)?;
-        let regs = self.registers(at, tags)?;
-        Ok(Slot {
-            number,
-            group,
-            handler: if handler == NO_HANDLER {
-                None
-            } else {
-                Some(handler)
-            },
-            regs,
-            ip,
-            past: false,
-            turns: 0,
-            state: if state == 0 {
-                SlotState::Running
-            } else {
-                SlotState::Halted(None)
-            },
-            empty: 0,
-            pending: ArrayVec::new(),
-        })
-    }
+/// Reads a slot. Its number and group have to be below the limit, and its number at least `least`.
+#[tactic(auto, unfolding(mm_format::specs::Images::slot, mm_format::specs::Images::mask))]
+pub(crate) fn read_slot(
+    reader: &mut Reader,
+    limit: u8,
+    least: u8,
+) -> Result<Slot, ReadError<ImageFault>>
+    ensures read { Reads number_of (λ s. s) ((slot limit least).read reader.old.bytes.now reader.old.at) reader.new.at
+        result }
+    ensures same { reader.new.bytes.now ≡ reader.old.bytes.now }
+    ensures number { IfOk result (λ s. s.number < limit) }
+{
+    let at = reader.at;
+    let number = reader.u8()?;
+    refuse_if(number >= limit || number < least, ImageFault::SlotOrder, at)?;
+    let at = reader.at;
+    let group = reader.u8()?;
+    refuse_if(group >= limit, ImageFault::Group, at)?;
+    let handler = reader.u8()?;
+    let at = reader.at;
+    let state = reader.u8()?;
+    refuse_if(state > 1, ImageFault::State, at)?;
+    let ip = read_ip(reader)?;
+    let tags = reader.u16()?;
+    let regs = read_registers(reader, tags)?;
+    Ok(Slot {
+        number,
+        group,
+        handler: if handler == NO_HANDLER {
+            None
+        } else {
+            Some(handler)
+        },
+        regs,
+        ip,
+        past: false,
+        turns: 0,
+        state: if state == 0 {
+            SlotState::Running
+        } else {
+            SlotState::Halted(None)
+        },
+        empty: 0,
+        pending: ArrayVec::new(),
+    })
+}
 
-    /// The first `count` slots. Their numbers have to ascend.
-    pub(crate) fn slots(
-        &self,
-        alloc: Global,
-        version: u16,
-        count: u16,
-    ) -> Result<Vec<Slot>, ImageError>
-        ensures slots { let bytes = self.now.bytes.now in Gives (λ slots. slots.items)
-            (first_bad (length bytes) (slots_places bytes version count)) (slots_at bytes count) result }
-        ensures count { IfOk result (λ slots. vec_len slots ≡ count) }
-    {
-        let limit = slot_limit(version);
-        let mut slots = Vec::with_capacity(alloc, usize::from(count))?;
-        let mut least = 0;
-        for k in 0..usize::from(count) {
-            let slot = self.slot(limit, least, HEADER_BYTES + SLOT_BYTES * k)?;
-            least = slot.number + 1;
-            slots.push(slot)?;
-        }
-        Ok(slots)
-    }
+/// What comes before a slot: the limit of numbers, and the least that the next may have.
+#[derive(Drop)]
+pub(crate) struct SlotRun {
+    pub limit: u8,
+    pub least: u8,
+}
 
-    /// Fails with `Handler` at the first slot whose handler is bad.
-    pub(crate) fn handlers(&self, slots: &[Slot]) -> Result<(), ImageError>
-        requires count { length slots.now < 2 ^ 16 }
-        requires slots { slots.now ≡ slots_at self.now.bytes.now (length slots.now) }
-        ensures { let bytes = self.now.bytes.now in Gives (λ _. true)
-            (first_bad (length bytes) (handlers_places bytes slots.now)) true result }
-    {
-        let present = numbers(slots);
-        for (k, slot) in slots.iter().enumerate() {
-            let wrong = is_bad_handler(&present, slot);
-            self.refuse_if(
-                wrong,
-                ImageFault::Handler,
-                HEADER_BYTES + SLOT_BYTES * k + HANDLER,
-            )?;
-        }
-        Ok(())
+impl Run<ImageFault> for SlotRun {
+    ghost use Rattle.std.specs.Prelude.{◌+◌};
+    ghost use Rattle.mm_format.specs.Images.{slot};
+
+    type Item = Slot;
+
+    ghost reads = { λ s. (slot s.limit s.least).read };
+
+    ghost onward = { λ s x. record { limit = s.limit; least = x.number + 1 } };
+
+    fn item(&mut self, _alloc: Global, reader: &mut Reader) -> Result<Slot, ReadError<ImageFault>> {
+        let slot = read_slot(reader, self.limit, self.least)?;
+        self.least = slot.number + 1;
+        Ok(slot)
     }
+}
+
+// Reads this count of slots, whose numbers have to ascend.
+fn slot_records(
+    alloc: Global,
+    reader: &mut Reader,
+    version: u16,
+    count: u16,
+) -> Result<Vec<Slot>, ReadError<ImageFault>>
+    ensures read { Reads number_of (λ slots. slots.items)
+        ((times (slot (slot_limit version)) (λ _ s. s.number + 1) count 0).read reader.old.bytes.now reader.old.at)
+        reader.new.at result }
+    ensures same { reader.new.bytes.now ≡ reader.old.bytes.now }
+    ensures count { IfOk result (λ slots. vec_len slots ≡ count) }
+{
+    let mut run = SlotRun {
+        limit: slot_limit(version),
+        least: 0,
+    };
+    read_run(alloc, reader, &mut run, usize::from(count))
+}
+
+// Fails with `Handler` at the first slot whose handler is bad.
+fn test_handlers(slots: &[Slot]) -> Result<(), ReadError<ImageFault>>
+    requires { length slots.now < 2 ^ 16 }
+    ensures { Reads number_of (λ _. true) (answer (first_late 16 (handler_tests slots.now 0 slots.now)) true 0) 0
+        result }
+{
+    let present = numbers(slots);
+    for (k, slot) in slots.iter().enumerate() {
+        let wrong = is_bad_handler(&present, slot);
+        refuse_if(
+            wrong,
+            ImageFault::Handler,
+            HEADER_BYTES + (SLOT_BYTES * k + HANDLER),
+        )?;
+    }
+    Ok(())
+}
+
+/// Reads this count of slots, whose numbers have to ascend, and then tests their handlers. The records begin after the
+/// header.
+#[tactic(auto, unfolding(mm_format::specs::Images::slots))]
+pub(crate) fn read_slots(
+    alloc: Global,
+    reader: &mut Reader,
+    version: u16,
+    count: u16,
+) -> Result<Vec<Slot>, ReadError<ImageFault>>
+    requires { reader.old.at ≡ 16 }
+    ensures read { Reads number_of (λ slots. slots.items)
+        ((slots version count).read reader.old.bytes.now reader.old.at) reader.new.at result }
+    ensures same { reader.new.bytes.now ≡ reader.old.bytes.now }
+{
+    let slots = slot_records(alloc, reader, version, count)?;
+    test_handlers(&slots)?;
+    Ok(slots)
 }

@@ -1,88 +1,91 @@
 //! Words of an image file.
 
-ghost use Rattle.std.specs.Prelude.{◌≡◌, ◌==◌, ◌+◌, ◌/◌, ◌%◌, ◌^◌, ◌<◌, true, IfOk, None, length};
+ghost use Rattle.std.specs.Prelude.{◌≡◌, ◌==◌, ◌&&◌, not, ◌/◌, ◌%◌, ◌^◌, ◌<◌, true, IfOk, IfSome, length, Some, None};
+ghost use Rattle.std.specs.Prelude.{if◌then◌else◌};
 ghost use Rattle.std.specs.List.{AllByRecursion};
 ghost use Rattle.mm_word.specs.Perm.{can_fetch};
-ghost use Rattle.mm_word.specs.Pointer.{IsWellFormed, pointer_of};
+ghost use Rattle.mm_word.specs.Pointer.{IsWellFormed, pointer_of, spells_pointer};
 ghost use Rattle.mm_word.specs.Word.{IsWord};
-ghost use Rattle.mm_image.specs.Faults.{Gives};
-ghost use Rattle.mm_model.specs.Places.{place_fault, first_bad, number_at, bit_at, word_at, word_places, ip_places};
-ghost use Rattle.mm_model.specs.Places.Place.{Field};
-ghost use Rattle.mm_model.specs.ImageReading.{registers_at};
-ghost use Rattle.mm_model.specs.ImageFaults.{registers_places};
+ghost use Rattle.mm_word.specs.declared.word.Word.TheVariants.{Int, Ptr};
+ghost use Rattle.mm_format.specs.Formats.{each};
+ghost use Rattle.mm_format.specs.Images.{word, ip, flags_of};
+ghost use Rattle.mm_format.specs.Reading.{Reads};
+ghost use Rattle.mm_image.specs.Faults.{number_of};
 
-use crate::fault::{ImageError, ImageFault};
-use crate::fields::{Reader, fault};
+use crate::fault::ImageFault;
+use mm_format::{ReadError, Reader, failed};
 use mm_word::{GuardedPtr, Kind, Word};
 
 /// A bit of a number, the lowest at place 0.
-pub(crate) fn is_set(bits: u16, place: usize) -> bool
+pub fn is_set(bits: u16, place: usize) -> bool
     requires { place < 16 }
     ensures { result ≡ (bits / 2 ^ place % 2 == 1) }
 {
     bits >> place & 1 == 1
 }
 
-impl Reader<'_> {
-    /// The bit at a place of the bits from an offset on, the lowest of each byte first.
-    pub fn bit(&self, at: usize, place: usize) -> bool
-        requires small { at < 2 ^ 40 }
-        requires place { place < 512 }
-        requires whole { place_fault (length self.now.bytes.now) (Field at 64) ≡ None }
-        ensures { result ≡ bit_at self.now.bytes.now at place }
-    {
-        is_set(u16::from(self.bytes[at + place / 8]), place % 8)
+/// The word of these bits: a pointer if it is tagged. `None` if it is tagged and the bits spell no pointer.
+pub fn word_of(tagged: bool, bits: u64) -> Option<Word>
+    ensures word { result ≡ (if tagged && not (spells_pointer bits) then None else
+        Some (if tagged then Ptr (pointer_of bits) else Int bits)) }
+    ensures holds { IfSome result IsWord }
+{
+    if !tagged {
+        return Some(Word::Int(bits));
     }
+    match mm_word::setptr(bits) {
+        Ok(pointer) => Some(Word::Ptr(pointer)),
+        Err(_) => None,
+    }
+}
 
-    /// The word at an offset: a pointer if it is tagged.
-    #[tactic(auto, unfolding(mm_model::specs::Places::place_fault))]
-    pub fn word(&self, tagged: bool, at: usize) -> Result<Word, ImageError>
-        requires { at < 2 ^ 40 }
-        ensures word { let bytes = self.now.bytes.now in Gives (λ w. w)
-            (first_bad (length bytes) (word_places bytes tagged at)) (word_at bytes tagged at) result }
-        ensures holds { IfOk result IsWord }
-    {
-        let bits = self.u64_at(at)?;
-        if !tagged {
-            return Ok(Word::Int(bits));
-        }
-        match mm_word::setptr(bits) {
-            Ok(pointer) => Ok(Word::Ptr(pointer)),
-            Err(_) => Err(fault(ImageFault::Pointer, at)),
-        }
+/// Reads a word: a pointer if it is tagged.
+#[tactic(auto, unfolding(mm_format::specs::Images::word))]
+pub fn read_word(reader: &mut Reader, tagged: bool) -> Result<Word, ReadError<ImageFault>>
+    ensures read { Reads number_of (λ w. w) ((word tagged).read reader.old.bytes.now reader.old.at) reader.new.at
+        result }
+    ensures same { reader.new.bytes.now ≡ reader.old.bytes.now }
+    ensures holds { IfOk result IsWord }
+{
+    let at = reader.at;
+    let bits = reader.u64()?;
+    match word_of(tagged, bits) {
+        Some(word) => Ok(word),
+        None => Err(failed(ImageFault::Pointer, at)),
     }
+}
 
-    /// The instruction pointer at an offset.
-    #[tactic(auto, unfolding(mm_model::specs::Places::place_fault))]
-    pub fn ip(&self, at: usize) -> Result<GuardedPtr, ImageError>
-        requires { at < 2 ^ 40 }
-        ensures ip { let bytes = self.now.bytes.now in Gives (λ p. p) (first_bad (length bytes) (ip_places bytes at))
-            (pointer_of (number_at bytes at 8)) result }
-        ensures executable { IfOk result (λ p. can_fetch p.perm ≡ true) }
-        ensures well_formed { IfOk result IsWellFormed }
-    {
-        let bits = self.u64_at(at)?;
-        match mm_word::setptr(bits) {
-            Ok(ip) if ip.perm().permits(Kind::Fetch) => Ok(ip),
-            _ => Err(fault(ImageFault::Ip, at)),
-        }
+/// Reads an instruction pointer.
+#[tactic(auto, unfolding(mm_format::specs::Images::ip))]
+pub fn read_ip(reader: &mut Reader) -> Result<GuardedPtr, ReadError<ImageFault>>
+    ensures read { Reads number_of (λ p. p) (ip.read reader.old.bytes.now reader.old.at) reader.new.at result }
+    ensures same { reader.new.bytes.now ≡ reader.old.bytes.now }
+    ensures executable { IfOk result (λ p. can_fetch p.perm ≡ true) }
+    ensures well_formed { IfOk result IsWellFormed }
+{
+    let at = reader.at;
+    let bits = reader.u64()?;
+    match mm_word::setptr(bits) {
+        Ok(ip) if ip.perm().permits(Kind::Fetch) => Ok(ip),
+        _ => Err(failed(ImageFault::Ip, at)),
     }
+}
 
-    /// The registers of the slot whose record begins here, with these tags.
-    #[tactic(auto, unfolding(mm_model::specs::ImageReading::registers_at))]
-    pub fn registers(&self, at: usize, tags: u16) -> Result<[Word; 16], ImageError>
-        requires small { at < 2 ^ 39 }
-        requires tags { tags ≡ number_at self.now.bytes.now (at + 12) 2 }
-        ensures regs { let bytes = self.now.bytes.now in Gives (λ regs. regs)
-            (first_bad (length bytes) (registers_places bytes at)) (registers_at bytes at) result }
-        ensures count { IfOk result (λ regs. length regs ≡ 16) }
-        ensures words { IfOk result (λ regs. AllByRecursion IsWord regs) }
-    {
-        let mut regs = [Word::Int(0); 16];
-        for r in 0..16 {
-            let word = self.word(is_set(tags, r), at + 14 + 8 * r)?;
-            regs[r] = word;
-        }
-        Ok(regs)
+/// Reads sixteen registers with these tags.
+pub(crate) fn read_registers(
+    reader: &mut Reader,
+    tags: u16,
+) -> Result<[Word; 16], ReadError<ImageFault>>
+    ensures read { Reads number_of (λ regs. regs)
+        ((each word (flags_of tags)).read reader.old.bytes.now reader.old.at) reader.new.at result }
+    ensures same { reader.new.bytes.now ≡ reader.old.bytes.now }
+    ensures words { IfOk result (λ regs. AllByRecursion IsWord regs) }
+    ensures count { IfOk result (λ regs. length regs ≡ 16) }
+{
+    let mut regs = [Word::Int(0); 16];
+    for r in 0..16 {
+        let word = read_word(reader, is_set(tags, r))?;
+        regs[r] = word;
     }
+    Ok(regs)
 }

@@ -1,10 +1,14 @@
-use Rattle.std.proofs.Common.{◌+◌, ◌*◌, ◌≤◌, map}
+use Rattle.std.proofs.Common.{◌≡◌, map, drop}
+use Rattle.mm_format.specs.Formats.{each}
+use Rattle.mm_format.proofs.Loops.{prefixed}
+use Rattle.mm_checkpoint.specs.Format.{output}
 use Rattle.mm_checkpoint.specs.Steps.{put_out}
-use Rattle.mm_checkpoint.proofs.Runs.{AreReadOutputs}
 use Rattle.mm_checkpoint.proofs.outputs.read_outputs.Given as goal
 
 abbrev pub invariant-loop-group : goal.invariant-loop-group
 invariant-loop-group l = record {
-  read : AreReadOutputs l.reader.bytes.now l.limit l.groups l.fn.start l.group-index l.at (map put_out l.outputs.items);
-  low : l.at ≤ l.fn.start + 65540 * l.group-index;
+  read : prefixed (map put_out l.outputs.items)
+      ((each (output l.limit) (drop l.group-index l.groups)).read l.reader.bytes.now l.reader.at)
+      ≡ (each (output l.limit) l.groups).read l.initial.reader.bytes.now l.initial.reader.at;
+  same : l.reader.bytes.now ≡ l.initial.reader.bytes.now;
 }

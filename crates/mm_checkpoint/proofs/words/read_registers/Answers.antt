@@ -1,51 +1,80 @@
-use Rattle.std.proofs.Common.{◌≡◌, ℕ, ◌+◌, ◌*◌, ◌/◌, ◌%◌, ◌^◌, ◌<◌, Bool, List, None, length, take, sym, ap, subst, ◌∙◌, arith, length-set}
+use Rattle.std.proofs.Common.{◌≡◌, ℕ, zero, suc, ◌/◌, ◌%◌, ◌^◌, ◌<◌, Bool, false, List, [], ◌∷◌, get_or, length, take}
+use Rattle.std.proofs.Common.{refl, sym, ap, subst, ◌∙◌, arith, length-set}
 use Rattle.std.specs.Prelude.{◌==◌}
 use Rattle.std.proofs.lemmas.Result.{err_from_is_err_and}
 use Rattle.std.proofs.lemmas.List.{take_more_set, take_all}
 use Rattle.mm_word.specs.Word.{IsWord}
-use Rattle.mm_image.specs.Faults.{Fails}
-use Rattle.mm_model.specs.Places.{Place, first_bad, word_at}
-use Rattle.mm_model.proofs.Places.{goes_on, is_done}
+use Rattle.mm_model.specs.Flags.{flags}
 use Rattle.mm_model.proofs.CoreRows.{each_set}
-use Rattle.mm_model.proofs.ImageBytes.Ranges.{one_more, all_read}
-use Rattle.mm_image.proofs.Over.{ends}
-use Rattle.mm_checkpoint.specs.Reading.{register_at, registers_at}
-use Rattle.mm_checkpoint.specs.Faults.{register_places}
-use Rattle.mm_checkpoint.proofs.Parts.{register_part}
+use Rattle.mm_model.proofs.FlagLists.{flags-get}
+use Rattle.mm_format.specs.Formats.Outcome.{Got}
+use Rattle.mm_format.specs.Images.{flags_of}
+use Rattle.mm_format.specs.Reading.{Fails}
+use Rattle.mm_format.proofs.Loops.{each_more, each_stop, each_read}
+use Rattle.mm_image.specs.Faults.{number_of}
+use Rattle.mm_checkpoint.specs.Format.{beside, register}
 use Rattle.mm_checkpoint.proofs.words.read_registers.Goals as goal
 
-pub returns-in_err-word-clause-regs : goal.returns-in_err-word-clause-regs
-returns-in_err-word-clause-regs c =
+abbrev masks : ℕ → ℕ → List (Bool × Bool)
+masks tags empty = beside (flags_of tags) (flags 16 empty)
+
+long : (tags empty : ℕ) → length (masks tags empty) ≡ 16
+unfolding flags_of
+long tags empty = refl
+
+beside_at : (xs bs : List Bool) (k : ℕ) → k < length xs → k < length bs
+    → get_or (beside xs bs) k (false, false) ≡ (get_or xs k false, get_or bs k false)
+beside_at [] bs k lt small = absurd (omega arith)
+beside_at (a ∷ xs) [] k lt small = absurd (omega arith)
+beside_at (a ∷ xs) (b ∷ bs) zero lt small = refl
+beside_at (a ∷ xs) (b ∷ bs) (suc k) lt small = beside_at xs bs k (omega arith) (omega arith)
+
+mask : (tags empty r : ℕ) (t e : Bool) → r < 16 → t ≡ (tags / 2 ^ r % 2 == 1) → e ≡ (empty / 2 ^ r % 2 == 1)
+    → (t, e) ≡ get_or (masks tags empty) r (false, false)
+unfolding flags_of
+mask tags empty r t e lt one two =
+    ap (λ b. (b, e)) (one ∙ sym (flags-get 16 tags r lt)) ∙ ap (λ b. (get_or (flags 16 tags) r false, b))
+    (two ∙ sym (flags-get 16 empty r lt)) ∙ sym (beside_at (flags 16 tags) (flags 16 empty) r lt lt)
+
+pub returns-in_err-word-clause-read : goal.returns-in_err-word-clause-read
+returns-in_err-word-clause-read c =
     let p = err_from_is_err_and c.from_residual.result c.from_residual.ensures.1 in
     let l = c.loop-r in
-    let bytes = c.args.reader.now.bytes.now in
-    let e = c.in_err-word.field-0.0 in
-    let same = register_part bytes c.args.at l.r c.args.tags c.args.empty c.is_set-tagged.result c.is_set.result c.is_set-tagged.ensures c.is_set.ensures c.requires.tags c.requires.empty in
-    let fault = subst (λ (ps : List Place). Fails (first_bad (length bytes) ps) e) same c.in_err-word.ensures.word in
-    rw (p.1, p.2) (ends bytes (register_places bytes c.args.at) 16 l.r l.invariant.faults e c.loop-r-test.true fault)
+    let bytes = l.reader.bytes.now in
+    let fails = subst (λ k. Fails number_of ((register k).read bytes l.reader.at) c.in_err-word.field-0.0)
+    (mask c.args.tags c.args.empty l.r c.is_set.result c.is_set-in-loop-r.result c.loop-r-test.true c.is_set.ensures
+    c.is_set-in-loop-r.ensures) c.in_err-word.ensures.read in
+    rw (p.1, p.2) (each_stop register (masks c.args.tags c.args.empty) l.r (false, false) bytes l.reader.at
+    (take l.r l.regs) _ l.invariant.read (omega (arith, long c.args.tags c.args.empty, c.loop-r-test.true)) number_of
+    c.in_err-word.field-0.0 fails)
+
+pub returns-in_err-word-clause-same : goal.returns-in_err-word-clause-same
+returns-in_err-word-clause-same c = c.in_err-word.ensures.same ∙ c.loop-r.invariant.same
 
 pub loop-r-preserved : goal.loop-r-preserved
 loop-r-preserved c =
     let l = c.loop-r in
-    let bytes = c.args.reader.now.bytes.now in
-    let at = c.args.at + 24 + 8 * l.r in
-    let same = register_part bytes c.args.at l.r c.args.tags c.args.empty c.is_set-tagged.result c.is_set.result c.is_set-tagged.ensures c.is_set.ensures c.requires.tags c.requires.empty in
-    let none = subst (λ (ps : List Place). first_bad (length bytes) ps ≡ None) same c.in_ok-word.ensures.word.0 in
-    let tagged = c.is_set-tagged.ensures ∙ ap (λ (n : ℕ). n / 2 ^ l.r % 2 == 1) c.requires.tags in
-    let word : c.in_ok-word.word ≡ register_at bytes c.args.at l.r = c.in_ok-word.ensures.word.1 ∙ ap (λ (b : Bool). word_at bytes b at) tagged in
-    let room : l.r < length l.regs = omega (arith, l.invariant.count, c.loop-r-test.true) in
+    let w = c.in_ok-word.word in
+    let bytes = l.reader.bytes.now in
+    let next = c.read_register.new.reader.at in
+    let read = subst (λ k. (register k).read bytes l.reader.at ≡ Got w next)
+    (mask c.args.tags c.args.empty l.r c.is_set.result c.is_set-in-loop-r.result c.loop-r-test.true c.is_set.ensures
+    c.is_set-in-loop-r.ensures) c.in_ok-word.ensures.read in
     record {
-      read = take_more_set l.regs l.r c.in_ok-word.word room ∙ one_more (register_at bytes c.args.at) l.r (take l.r l.regs) c.in_ok-word.word l.invariant.read word;
-      faults = goes_on (length bytes) (register_places bytes c.args.at) 16 l.r l.invariant.faults c.loop-r-test.true none;
-      words = each_set IsWord l.regs l.r c.in_ok-word.word l.invariant.words c.in_ok-word.ensures.holds;
-      count = length-set l.regs l.r c.in_ok-word.word ∙ l.invariant.count;
+      read = rw (
+        c.in_ok-word.ensures.same,
+        take_more_set l.regs l.r w (omega (arith, l.invariant.count, c.loop-r-test.true)),
+      )
+          (each_more register (masks c.args.tags c.args.empty) l.r (false, false) bytes l.reader.at (take l.r l.regs) _
+          l.invariant.read (omega (arith, long c.args.tags c.args.empty, c.loop-r-test.true)) w next read);
+      same = c.in_ok-word.ensures.same ∙ l.invariant.same;
+      words = each_set IsWord l.regs l.r w l.invariant.words c.in_ok-word.ensures.holds;
+      count = length-set l.regs l.r w ∙ l.invariant.count;
     }
 
-pub returns-clause-regs : goal.returns-clause-regs
-unfolding registers_at
-returns-clause-regs c =
+pub returns-clause-read : goal.returns-clause-read
+returns-clause-read c =
     let l = c.loop-r in
-    let bytes = c.args.reader.now.bytes.now in (
-      is_done (length bytes) (register_places bytes c.args.at) 16 l.r l.invariant.faults c.loop-r-test.false,
-      sym (take_all l.r l.regs (omega (arith, l.invariant.count, c.loop-r-test.false))) ∙ all_read (register_at bytes c.args.at) 16 l.r (take l.r l.regs) l.invariant.read l.auto.r-end c.loop-r-test.false,
-    )
+    each_read register (masks c.args.tags c.args.empty) l.r (false, false) l.reader.bytes.now l.reader.at
+    (take l.r l.regs) _ l.invariant.read (omega (arith, long c.args.tags c.args.empty, c.loop-r-test.false))
+    ∙ ap (λ regs. Got regs l.reader.at) (take_all l.r l.regs (omega (arith, l.invariant.count, c.loop-r-test.false)))

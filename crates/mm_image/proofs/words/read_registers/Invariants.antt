@@ -1,0 +1,16 @@
+use Rattle.std.proofs.Common.{◌≡◌, take, drop, length}
+use Rattle.std.specs.List.{AllByRecursion}
+use Rattle.mm_word.specs.Word.{IsWord}
+use Rattle.mm_format.specs.Formats.{each}
+use Rattle.mm_format.specs.Images.{word, flags_of}
+use Rattle.mm_format.proofs.Loops.{prefixed}
+use Rattle.mm_image.proofs.words.read_registers.Given as goal
+
+abbrev pub invariant-loop-r : goal.invariant-loop-r
+invariant-loop-r l = record {
+  read : prefixed (take l.r l.regs) ((each word (drop l.r (flags_of l.tags))).read l.reader.bytes.now l.reader.at)
+      ≡ (each word (flags_of l.tags)).read l.initial.reader.bytes.now l.initial.reader.at;
+  same : l.reader.bytes.now ≡ l.initial.reader.bytes.now;
+  words : AllByRecursion IsWord l.regs;
+  count : length l.regs ≡ 16;
+}
