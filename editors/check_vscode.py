@@ -35,7 +35,7 @@ FIRST_LINES = [
 # What a double click takes for one word.
 WORDS = ["ld", "r15", ".segment", "next_one", "-12", "0x1040", "none"]
 BAD_SOURCE = """; three mistakes
-.segment a 4
+.segment a 5
   ld r2, 8(r1)
   MOV r1, r2
   nop $
@@ -131,7 +131,8 @@ def check_messages(expect, patterns):
     expect("vscode: a report has no fault of a source", problems([patterns["mm"]], lines), [])
     faults = problems(patterns["mm-fault"]["patterns"], lines)
     stopped = sum("stopped at" in line for line in lines)
-    expect("vscode: faults of a run", (len(faults), {one["file"] for one in faults}), (stopped, {"examples/faults.asm"}))
+    files = {one["file"] for one in faults}
+    expect("vscode: faults of a run", (len(faults), files), (stopped, {"examples/faults.asm"}))
     expect("vscode: a fault has its reason", all(one["message"].startswith("fault ") for one in faults), True)
 
 
@@ -182,13 +183,30 @@ def check_vsix(expect, package):
     expect("vscode: files of the .vsix", {f"extension/{path}" for path in needed} - names, set())
 
 
+def is_json(expect):
+    """Whether each file that ends so is JSON."""
+    sound = True
+    for path in sorted(glob.glob(os.path.join(FOLDER, "*.json"))):
+        try:
+            read_json(path)
+        except ValueError as error:
+            expect(f"vscode: {os.path.basename(path)}", str(error), "JSON")
+            sound = False
+    return sound
+
+
 def check(expect):
     """Tries all of it. What had to be left out."""
+    if not is_json(expect):
+        return []
     package, configuration = read_json("package.json"), read_json("language-configuration.json")
     about = package["contributes"]
     patterns = {pattern["name"]: pattern for pattern in about["problemPatterns"]}
     used = [matcher["pattern"] for matcher in about["problemMatchers"]]
+    expect("vscode: patterns", list(patterns), ["mm", "mm-fault"])
     expect("vscode: patterns of the matchers", used, [f"${name}" for name in patterns])
+    if set(patterns) != {"mm", "mm-fault"}:
+        return []
     check_language(expect, about["languages"][0], configuration)
     check_lines(expect, patterns)
     check_vsix(expect, package)

@@ -100,8 +100,8 @@ def main(words: Sequence[str]) -> int:
     except Stop as stop:
         print("\n".join(stop.lines), file=sys.stderr)
         return int(stop.status)
-    except subprocess.CalledProcessError:
-        print("tools/package: git has no such commit here", file=sys.stderr)
+    except subprocess.CalledProcessError as error:
+        print(f"tools/package: {error.stderr.decode('utf-8', 'replace').strip()}", file=sys.stderr)
         return REFUSED
     except OSError as error:
         print(f"tools/package: {error.filename}: {error.strerror}", file=sys.stderr)

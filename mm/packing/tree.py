@@ -51,7 +51,7 @@ def _belongs(path: str) -> bool:
 
 def git(top: str, *words: str) -> bytes:
     """What git writes; a `CalledProcessError` if it refuses."""
-    return subprocess.run(["git", "-C", top, *words], stdout=subprocess.PIPE, check=True).stdout
+    return subprocess.run(["git", "-C", top, *words], capture_output=True, check=True).stdout
 
 
 def of_commit(top: str, commit: str) -> dict[str, Entry]:
