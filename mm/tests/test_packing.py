@@ -4,6 +4,7 @@ import contextlib
 import hashlib
 import io
 import os
+import re
 import shutil
 import subprocess
 import sys
@@ -16,7 +17,7 @@ from mm.packing import package as packing
 from mm.packing.places import LIST, PAGES
 from mm.packing.vsix import vsix
 from mm.packing.tree import of_folder
-from mm.tests.support import needs_program, path_of
+from mm.tests.support import needs_program, path_of, read
 
 
 def has_git() -> bool:
@@ -138,6 +139,19 @@ class Installs(unittest.TestCase):
     def test_words(self):
         self.assertEqual([self.tool().returncode, self.tool("--what").returncode], [1, 1])
         self.assertEqual(self.tool("--help").returncode, 0)
+
+
+@needs_program
+class Platform(unittest.TestCase):
+    def test_the_program_is_what_the_page_says(self):
+        with open(find_program().path, "rb") as file:
+            program = file.read()
+        page = read("docs", "INSTALL.md")
+        versions = {tuple(map(int, found)) for found in re.findall(rb"GLIBC_(\d+)\.(\d+)", program)}
+        self.assertEqual("GLIBC_%d.%d" % max(versions), re.search(r"`(GLIBC_[\d.]+)` as the last", page)[1])
+        # The magic, 64 bits, little-endian, and the number of x86-64.
+        self.assertEqual((program[:6], program[18:20]), (b"\x7fELF\2\1", b"\x3e\0"))
+        self.assertAlmostEqual(len(program) / 1000, int(re.search(r"about (\d+) KB", page)[1]), delta=40)
 
 
 @needs_program
