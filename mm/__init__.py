@@ -23,6 +23,7 @@ What it tells of a machine comes from `mmachine`. By itself it reads sources, ob
     views      what people see, and the forms of --json
     debugger   the interactive debugger
     help       texts of `mm help`
+    packing    packages and installs, for `tools/package` and `tools/install`
     tests      tests (`python3 -m unittest discover -s mm/tests -t .`)
 
 A command that comes later is a row of `table` and a module of `commands`; what it draws or translates is a package of its own beside `views`."""

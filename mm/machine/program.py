@@ -14,10 +14,11 @@ from mm.status import Status, Stop
 
 VARIABLE = "MMACHINE"
 BUILT = os.path.join("crates", "mmachine", "out", "mmachine")
+BESIDE = os.path.join("bin", "mmachine")
 CHECKOUT = os.path.dirname(os.path.dirname(os.path.dirname(os.path.abspath(__file__))))
 NOT_THERE = (
     "mm: the program `mmachine` is needed, and was not found.",
-    f"    It was looked for in ${VARIABLE}, in {BUILT} of this checkout, and on the path.",
+    f"    It was looked for in ${VARIABLE}, beside `mm`, in {BUILT} of this checkout, and on the path.",
     "    Build it with `cd crates/mmachine && rt run -- run ../../examples/hello.img 10` (README.md, Quick start),",
     f"    or say where it is: `mm --program FILE ..`, or `export {VARIABLE}=FILE`.",
 )
@@ -81,13 +82,13 @@ def _usable(path: str) -> bool:
 
 
 def find_program(named: Optional[str] = None) -> Program:
-    """The program that was named, that of the environment, that of this checkout, or that on the path."""
+    """The program that was named, that of the environment, that beside `mm`, the checkout's, or that on the path."""
     for path, said in ((named, "--program"), (os.environ.get(VARIABLE), f"${VARIABLE}")):
         if path and not _usable(path):
             raise Stop(Status.NO_PROGRAM, f"mm: {said} says {path}, and there is no program of that name")
         if path:
             return Program(os.path.abspath(path))
-    for path in (os.path.join(CHECKOUT, BUILT), shutil.which("mmachine")):
+    for path in (os.path.join(CHECKOUT, BESIDE), os.path.join(CHECKOUT, BUILT), shutil.which("mmachine")):
         if path and _usable(path):
             return Program(path)
     raise Stop(Status.NO_PROGRAM, *NOT_THERE)
