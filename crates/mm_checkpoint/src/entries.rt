@@ -5,7 +5,7 @@ ghost use Rattle.std.specs.List.{AllByRecursion};
 ghost use Rattle.mm_word.specs.Word.{IsWord};
 ghost use Rattle.mm_model.specs.declared.slot.Pending.{Pending as PendingValue};
 ghost use Rattle.mm_format.specs.Formats.{times};
-ghost use Rattle.mm_format.specs.Reading.{Reads};
+ghost use Rattle.mm_format.specs.Reading.{ReadsAlone};
 ghost use Rattle.mm_image.specs.Faults.{number_of};
 ghost use Rattle.mm_checkpoint.specs.Faults.{bits_set, has_entry};
 ghost use Rattle.mm_checkpoint.specs.Format.{load};
@@ -58,7 +58,7 @@ fn read_load(
     empty: u16,
     earlier: &[Pending],
 ) -> Result<Pending, ReadError<ImageFault>>
-    ensures read { Reads number_of (λ p. p) ((load empty earlier.now).read reader.old.bytes.now reader.old.at)
+    ensures read { ReadsAlone number_of (λ p. p) ((load empty earlier.now).read reader.old.bytes.now reader.old.at)
         reader.new.at result }
     ensures same { reader.new.bytes.now ≡ reader.old.bytes.now }
     ensures holds { IfOk result (λ p. IsWord p.word) }
@@ -81,7 +81,7 @@ pub(crate) fn read_loads(
     count: u8,
 ) -> Result<ArrayVec<Pending, 16>, ReadError<ImageFault>>
     requires { count ≤ 16 }
-    ensures read { Reads number_of (λ p. p.items) ((times (load empty) (λ earlier p. earlier ++ p ∷ []) count []).read
+    ensures read { ReadsAlone number_of (λ p. p.items) ((times (load empty) (λ earlier p. earlier ++ p ∷ []) count []).read
         reader.old.bytes.now reader.old.at) reader.new.at result }
     ensures same { reader.new.bytes.now ≡ reader.old.bytes.now }
     ensures words { IfOk result (λ entries. AllByRecursion (λ (p : PendingValue). IsWord p.word) entries.items) }

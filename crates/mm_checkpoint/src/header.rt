@@ -1,7 +1,7 @@
 //! The header of a checkpoint's file.
 
 ghost use Rattle.std.specs.Prelude.{◌≡◌};
-ghost use Rattle.mm_format.specs.Reading.{Reads};
+ghost use Rattle.mm_format.specs.Reading.{ReadsAlone};
 ghost use Rattle.mm_image.specs.Faults.{number_of};
 ghost use Rattle.mm_checkpoint.specs.Format.{header};
 
@@ -31,7 +31,7 @@ pub(crate) struct Header {
 /// Reads the header of a checkpoint of an image with this count of frames.
 #[tactic(auto, unfolding(crate::specs::Format::header))]
 pub(crate) fn read_header(reader: &mut Reader, frames: u32) -> Result<Header, ReadError<ImageFault>>
-    ensures read { Reads number_of (λ h. h) ((header frames).read reader.old.bytes.now reader.old.at) reader.new.at
+    ensures read { ReadsAlone number_of (λ h. h) ((header frames).read reader.old.bytes.now reader.old.at) reader.new.at
         result }
     ensures same { reader.new.bytes.now ≡ reader.old.bytes.now }
 {

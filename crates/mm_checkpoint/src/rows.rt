@@ -2,7 +2,7 @@
 
 ghost use Rattle.std.specs.Prelude.{◌≡◌, ◌≤◌, IfOk, length, vec_len};
 ghost use Rattle.mm_format.specs.Formats.{each};
-ghost use Rattle.mm_format.specs.Reading.{Reads};
+ghost use Rattle.mm_format.specs.Reading.{Reads, ReadsAlone};
 ghost use Rattle.mm_image.specs.Faults.{number_of};
 ghost use Rattle.mm_checkpoint.specs.Format.{load_count, slot_row};
 
@@ -32,7 +32,7 @@ pub(crate) struct SlotRow {
 // Reads the count of the pending loads of a slot, given the mask of empty registers.
 #[tactic(auto, unfolding(crate::specs::Format::load_count))]
 fn read_count(reader: &mut Reader, empty: u16) -> Result<u8, ReadError<ImageFault>>
-    ensures read { Reads number_of (λ n. n) ((load_count empty).read reader.old.bytes.now reader.old.at) reader.new.at
+    ensures read { ReadsAlone number_of (λ n. n) ((load_count empty).read reader.old.bytes.now reader.old.at) reader.new.at
         result }
     ensures same { reader.new.bytes.now ≡ reader.old.bytes.now }
     ensures few { IfOk result (λ n. n ≤ 16) }
@@ -52,7 +52,7 @@ fn read_row(
     cycles: u64,
     known: &Slot,
 ) -> Result<SlotRow, ReadError<ImageFault>>
-    ensures read { Reads number_of (λ r. r)
+    ensures read { ReadsAlone number_of (λ r. r)
         ((slot_row split cycles known.now).read reader.old.bytes.now reader.old.at) reader.new.at result }
     ensures same { reader.new.bytes.now ≡ reader.old.bytes.now }
 {

@@ -6,7 +6,7 @@ ghost use Rattle.mm_word.specs.Word.{IsWord};
 ghost use Rattle.mm_model.specs.Flags.{flags, one_if};
 ghost use Rattle.mm_format.specs.Formats.{each};
 ghost use Rattle.mm_format.specs.Images.{word, flags_of};
-ghost use Rattle.mm_format.specs.Reading.{Reads};
+ghost use Rattle.mm_format.specs.Reading.{ReadsAlone};
 ghost use Rattle.mm_image.specs.Faults.{number_of};
 ghost use Rattle.mm_checkpoint.specs.Format.{beside, operand, register, tagged};
 
@@ -20,7 +20,7 @@ pub(crate) fn read_registers(
     tags: u16,
     empty: u16,
 ) -> Result<[Word; 16], ReadError<ImageFault>>
-    ensures read { Reads number_of (λ regs. regs) ((each register (beside (flags_of tags) (flags 16 empty))).read
+    ensures read { ReadsAlone number_of (λ regs. regs) ((each register (beside (flags_of tags) (flags 16 empty))).read
         reader.old.bytes.now reader.old.at) reader.new.at result }
     ensures same { reader.new.bytes.now ≡ reader.old.bytes.now }
     ensures count { IfOk result (λ regs. length regs ≡ 16) }
@@ -41,7 +41,7 @@ fn read_register(
     tagged: bool,
     empty: bool,
 ) -> Result<Word, ReadError<ImageFault>>
-    ensures read { Reads number_of (λ w. w) ((register (tagged, empty)).read reader.old.bytes.now reader.old.at)
+    ensures read { ReadsAlone number_of (λ w. w) ((register (tagged, empty)).read reader.old.bytes.now reader.old.at)
         reader.new.at result }
     ensures same { reader.new.bytes.now ≡ reader.old.bytes.now }
     ensures holds { IfOk result IsWord }
@@ -58,7 +58,7 @@ fn read_register(
 /// Reads a word after its tag, which is 0 or 1.
 #[tactic(auto, unfolding(crate::specs::Format::tagged))]
 pub(crate) fn read_tagged(reader: &mut Reader) -> Result<Word, ReadError<ImageFault>>
-    ensures read { Reads number_of (λ w. w) ((tagged 1 word).read reader.old.bytes.now reader.old.at) reader.new.at
+    ensures read { ReadsAlone number_of (λ w. w) ((tagged 1 word).read reader.old.bytes.now reader.old.at) reader.new.at
         result }
     ensures same { reader.new.bytes.now ≡ reader.old.bytes.now }
     ensures holds { IfOk result IsWord }
@@ -80,7 +80,7 @@ fn tag_limit(waits: bool) -> u8
 /// Reads an operand of the event of a slot that waits; integer 0 if the slot does not wait.
 #[tactic(auto, unfolding(crate::specs::Format::tagged, crate::specs::Format::word_with))]
 pub(crate) fn read_operand(reader: &mut Reader, waits: bool) -> Result<Word, ReadError<ImageFault>>
-    ensures read { Reads number_of (λ w. w) ((operand waits).read reader.old.bytes.now reader.old.at) reader.new.at
+    ensures read { ReadsAlone number_of (λ w. w) ((operand waits).read reader.old.bytes.now reader.old.at) reader.new.at
         result }
     ensures same { reader.new.bytes.now ≡ reader.old.bytes.now }
     ensures holds { IfOk result IsWord }

@@ -8,7 +8,7 @@ use Rattle.mm_format.specs.declared.reader.ReadError.{ReadError}
 use Rattle.mm_format.specs.declared.reader.ReadError.TheVariants.{Fault, NoMemory}
 use Rattle.mm_format.specs.Formats.{Outcome, Format, after, answer, cons, times, each, runs}
 use Rattle.mm_format.specs.Formats.Outcome.{Got, Bad}
-use Rattle.mm_format.specs.Reading.{Fails, Names}
+use Rattle.mm_format.specs.Reading.{FailsOr, Fails, Names}
 
 module _ {A : Type 0} where
   -- what was read before, and what is still read
@@ -39,10 +39,10 @@ module _ {A : Type 0} where
         (after o (λ x n. after ((rest x).read bytes n) (λ others end. Got (x ∷ others) end)))) e)
         ∙ so_far
 
-    pub stops : {K : Type 0} (number : K → ℕ) (e : ReadError K) → Fails number (f.read bytes at) e → Fails number total e
+    pub stops : {K : Type 0} (number : K → ℕ) (wants : Type 0) (e : ReadError K) → FailsOr wants number (f.read bytes at) e → FailsOr wants number total e
     unfolding cons
-    stops number NoMemory fails = tt
-    stops number (Fault kind offset) fails =
+    stops number wants NoMemory fails = fails
+    stops number wants (Fault kind offset) fails =
         sym so_far ∙ ap (λ o. prefixed front
         (after o (λ x n. after ((rest x).read bytes n) (λ others end. Got (x ∷ others) end)))) fails
 
@@ -61,9 +61,9 @@ module _ {S A : Type 0} (f : S → Format A) (onward : S → A → S) (count k :
   times_more lt a next e = one_more (f s) (λ a. times f onward (count - (k + 1)) (onward s a)) bytes at front total
       (unrolled lt) a next e
 
-  pub times_stop : k < count → {K : Type 0} (number : K → ℕ) (e : ReadError K) → Fails number ((f s).read bytes at) e → Fails number total e
-  times_stop lt number e fails = stops (f s) (λ a. times f onward (count - (k + 1)) (onward s a)) bytes at front total
-      (unrolled lt) number e fails
+  pub times_stop : k < count → {K : Type 0} (number : K → ℕ) (wants : Type 0) (e : ReadError K) → FailsOr wants number ((f s).read bytes at) e → FailsOr wants number total e
+  times_stop lt number wants e fails = stops (f s) (λ a. times f onward (count - (k + 1)) (onward s a)) bytes at front total
+      (unrolled lt) number wants e fails
 
   pub times_read : count ≤ k → total ≡ Got front at
   times_read le =
@@ -82,9 +82,9 @@ module _ {B A : Type 0} (f : B → Format A) (bs : List B) (k : ℕ) (d : B) (by
   each_more lt a next e = one_more (f (get_or bs k d)) (λ _. each f (drop (k + 1) bs)) bytes at front total
       (each_unrolled lt) a next e
 
-  pub each_stop : k < length bs → {K : Type 0} (number : K → ℕ) (e : ReadError K) → Fails number ((f (get_or bs k d)).read bytes at) e → Fails number total e
-  each_stop lt number e fails = stops (f (get_or bs k d)) (λ _. each f (drop (k + 1) bs)) bytes at front total
-      (each_unrolled lt) number e fails
+  pub each_stop : k < length bs → {K : Type 0} (number : K → ℕ) (wants : Type 0) (e : ReadError K) → FailsOr wants number ((f (get_or bs k d)).read bytes at) e → FailsOr wants number total e
+  each_stop lt number wants e fails = stops (f (get_or bs k d)) (λ _. each f (drop (k + 1) bs)) bytes at front total
+      (each_unrolled lt) number wants e fails
 
   pub each_read : length bs ≤ k → total ≡ Got front at
   each_read le = is_read front at total
@@ -108,9 +108,9 @@ module _ {S A : Type 0} (read : S → List ℕ → ℕ → Outcome A) (onward : 
       sym (regroup front a (runs read onward (count - (k + 1)) (onward s a) bytes next))
       ∙ sym (ap (λ o. prefixed front (after o others)) e) ∙ runs_unrolled lt
 
-  pub runs_stop : k < count → {K : Type 0} (number : K → ℕ) (e : ReadError K) → Fails number (read s bytes at) e → Fails number total e
-  runs_stop lt number NoMemory fails = tt
-  runs_stop lt number (Fault kind offset) fails =
+  pub runs_stop : k < count → {K : Type 0} (number : K → ℕ) (wants : Type 0) (e : ReadError K) → FailsOr wants number (read s bytes at) e → FailsOr wants number total e
+  runs_stop lt number wants NoMemory fails = fails
+  runs_stop lt number wants (Fault kind offset) fails =
       sym (runs_unrolled lt) ∙ ap (λ o. prefixed front (after o others)) fails
 
   pub runs_read : count ≤ k → total ≡ Got front at
@@ -163,14 +163,14 @@ times_runs {A = A} f onward (suc n) s bytes at =
 
 -- a test that is made late
 pub late_stop : {K A : Type 0} (number : K → ℕ) (bad : Bool) (n at : ℕ) (rest total : Option (ℕ × ℕ)) (v : A) (end : ℕ)
-    → cond bad (Some (n, at)) rest ≡ total → (e : ReadError K)
-    → Fails number (cond bad (Bad n at) (Got false 0)) e → Fails number (answer total v end) e
-late_stop number bad n at rest total v end same NoMemory fails = tt
-late_stop number true n at rest total v end same (Fault kind offset) fails =
+    → cond bad (Some (n, at)) rest ≡ total → (wants : Type 0) (e : ReadError K)
+    → FailsOr wants number (cond bad (Bad n at) (Got false 0)) e → FailsOr wants number (answer total v end) e
+late_stop number bad n at rest total v end same wants NoMemory fails = fails
+late_stop number true n at rest total v end same wants (Fault kind offset) fails =
     let one : n ≡ number kind = cc in
     let two : at ≡ offset = cc in
     ap (λ o. answer o v end) (sym same) ∙ ap (λ m. Bad m at) one ∙ ap (Bad (number kind)) two
-late_stop number false n at rest total v end same (Fault kind offset) fails = absurd cc
+late_stop number false n at rest total v end same wants (Fault kind offset) fails = absurd cc
 
 -- what a whole file says, as its first fault and its value
 module _ {K A : Type 0} (number : K → ℕ) (fault : Option (ℕ × ℕ)) (value : A) (end : ℕ) (read : Outcome A)
@@ -189,3 +189,9 @@ module _ {K A : Type 0} (number : K → ℕ) (fault : Option (ℕ × ℕ)) (valu
       by : (o : Option (ℕ × ℕ)) → answer o value end ≡ Bad (number kind) offset → o ≡ Some (number kind, offset)
       by None e = absurd cc
       by (Some (n, at)) e = cc
+
+-- what is never in want of memory fails as what may be
+pub fails_so : {K A : Type 0} (number : K → ℕ) (wants : Type 0) (read : Outcome A) (e : ReadError K) → FailsOr ⊥ number read e
+    → FailsOr wants number read e
+fails_so number wants read NoMemory fails = absurd fails
+fails_so number wants read (Fault kind offset) fails = fails

@@ -4,15 +4,28 @@ use Rattle.mm_format.specs.declared.reader.ReadError.{ReadError}
 use Rattle.mm_format.specs.declared.reader.ReadError.TheVariants.{Fault, NoMemory}
 use Rattle.mm_format.specs.Formats.{Outcome}
 
+-- an error is the fault that reading gives, or memory ran out, which is told to be so
+abbrev pub FailsOr : {K A : Type 0} → (wants : Type 0) → (K → ℕ) → Outcome A → ReadError K → Type 0
+FailsOr wants number read (Fault kind offset) = read ≡ Outcome.Bad (number kind) offset
+FailsOr wants number read NoMemory = wants
+
 -- an error is the fault that reading gives, unless memory ran out
 abbrev pub Fails : {K A : Type 0} → (K → ℕ) → Outcome A → ReadError K → Type 0
-Fails number read (Fault kind offset) = read ≡ Outcome.Bad (number kind) offset
-Fails number read NoMemory = Unit {0}
+Fails number read e = FailsOr (Unit {0}) number read e
+
+abbrev pub ReadsOr : {K X A : Type 0} → (wants : Type 0) → (K → ℕ) → (X → A) → Outcome A → (next : ℕ)
+    → Result X (ReadError K) → Type 0
+ReadsOr wants number view read next (Ok x) = read ≡ Outcome.Got (view x) next
+ReadsOr wants number view read next (Err e) = FailsOr wants number read e
 
 -- what a function returned is what reading gives, with the place where the next field begins
 abbrev pub Reads : {K X A : Type 0} → (K → ℕ) → (X → A) → Outcome A → (next : ℕ) → Result X (ReadError K) → Type 0
-Reads number view read next (Ok x) = read ≡ Outcome.Got (view x) next
-Reads number view read next (Err e) = Fails number read e
+Reads number view read next r = ReadsOr (Unit {0}) number view read next r
+
+-- the same of a function that takes no memory: it is never in want of it
+abbrev pub ReadsAlone : {K X A : Type 0} → (K → ℕ) → (X → A) → Outcome A → (next : ℕ) → Result X (ReadError K)
+    → Type 0
+ReadsAlone number view read next r = ReadsOr ⊥ number view read next r
 
 -- what a function returned is what a whole file says
 abbrev pub ReadsFile : {K X A : Type 0} → (K → ℕ) → (X → A) → Outcome A → Result X (ReadError K) → Type 0

@@ -1,8 +1,8 @@
 //! A reader of bytes from the front, field by field.
 
-ghost use Rattle.std.specs.Prelude.{◌≡◌, if◌then◌else◌, false, IfOk, OnOk, length};
+ghost use Rattle.std.specs.Prelude.{◌≡◌, if◌then◌else◌, false, IfOk, OnOk, OnErr, length};
 ghost use Rattle.mm_format.specs.Formats.{text, byte, u16, u32, u64, Outcome};
-ghost use Rattle.mm_format.specs.Reading.{Reads};
+ghost use Rattle.mm_format.specs.Reading.{ReadsAlone};
 
 use std::alloc::{AllocError, AllocFailed};
 
@@ -55,9 +55,10 @@ pub struct Reader<'a> {
 impl<'a> Reader<'a> {
     /// The bytes of a field of this size.
     pub fn raw<K: FaultKind>(&mut self, size: usize) -> Result<&'a [u8], ReadError<K>>
-        ensures read { Reads K.number (λ xs. xs.now) ((text size).read self.old.bytes.now self.old.at) self.new.at
+        ensures read { ReadsAlone K.number (λ xs. xs.now) ((text size).read self.old.bytes.now self.old.at) self.new.at
             result }
         ensures same { self.new.bytes.now ≡ self.old.bytes.now }
+        ensures stays { OnErr result (self.new.at ≡ self.old.at) }
         ensures long { IfOk result (λ xs. length xs.now ≡ size) }
     {
         match self.at.checked_add(size) {
@@ -73,8 +74,9 @@ impl<'a> Reader<'a> {
     /// The number of one byte.
     #[tactic(auto, using(crate::proofs::Raw::byte_got, crate::proofs::Raw::byte_bad))]
     pub fn u8<K: FaultKind>(&mut self) -> Result<u8, ReadError<K>>
-        ensures read { Reads K.number (λ n. n) (byte.read self.old.bytes.now self.old.at) self.new.at result }
+        ensures read { ReadsAlone K.number (λ n. n) (byte.read self.old.bytes.now self.old.at) self.new.at result }
         ensures same { self.new.bytes.now ≡ self.old.bytes.now }
+        ensures stays { OnErr result (self.new.at ≡ self.old.at) }
     {
         let field = self.raw(1)?;
         Ok(field[0])
@@ -83,8 +85,9 @@ impl<'a> Reader<'a> {
     /// The number of two bytes.
     #[tactic(auto, using(crate::proofs::Raw::u16_got, crate::proofs::Raw::u16_bad))]
     pub fn u16<K: FaultKind>(&mut self) -> Result<u16, ReadError<K>>
-        ensures read { Reads K.number (λ n. n) (u16.read self.old.bytes.now self.old.at) self.new.at result }
+        ensures read { ReadsAlone K.number (λ n. n) (u16.read self.old.bytes.now self.old.at) self.new.at result }
         ensures same { self.new.bytes.now ≡ self.old.bytes.now }
+        ensures stays { OnErr result (self.new.at ≡ self.old.at) }
     {
         let field = self.raw(2)?;
         Ok(u16::from_be_bytes([field[0], field[1]]))
@@ -93,8 +96,9 @@ impl<'a> Reader<'a> {
     /// The number of four bytes.
     #[tactic(auto, using(crate::proofs::Raw::u32_got, crate::proofs::Raw::u32_bad))]
     pub fn u32<K: FaultKind>(&mut self) -> Result<u32, ReadError<K>>
-        ensures read { Reads K.number (λ n. n) (u32.read self.old.bytes.now self.old.at) self.new.at result }
+        ensures read { ReadsAlone K.number (λ n. n) (u32.read self.old.bytes.now self.old.at) self.new.at result }
         ensures same { self.new.bytes.now ≡ self.old.bytes.now }
+        ensures stays { OnErr result (self.new.at ≡ self.old.at) }
     {
         let field = self.raw(4)?;
         Ok(u32::from_be_bytes([field[0], field[1], field[2], field[3]]))
@@ -103,8 +107,9 @@ impl<'a> Reader<'a> {
     /// The number of eight bytes.
     #[tactic(auto, using(crate::proofs::Raw::u64_got, crate::proofs::Raw::u64_bad))]
     pub fn u64<K: FaultKind>(&mut self) -> Result<u64, ReadError<K>>
-        ensures read { Reads K.number (λ n. n) (u64.read self.old.bytes.now self.old.at) self.new.at result }
+        ensures read { ReadsAlone K.number (λ n. n) (u64.read self.old.bytes.now self.old.at) self.new.at result }
         ensures same { self.new.bytes.now ≡ self.old.bytes.now }
+        ensures stays { OnErr result (self.new.at ≡ self.old.at) }
     {
         let field = self.raw(8)?;
         Ok(u64::from_be_bytes([
@@ -125,7 +130,7 @@ pub fn failed<K>(fault: K, at: usize) -> ReadError<K>
 
 /// Fails with this fault if `wrong`.
 pub fn refuse_if<K: FaultKind>(wrong: bool, kind: K, at: usize) -> Result<(), ReadError<K>>
-    ensures fault { Reads K.number (λ _. false)
+    ensures fault { ReadsAlone K.number (λ _. false)
         (if wrong then Outcome.Bad (K.number kind) at else Outcome.Got false 0) 0 result }
     ensures right { OnOk result (wrong ≡ false) }
 {

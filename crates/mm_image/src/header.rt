@@ -3,7 +3,7 @@
 ghost use Rattle.std.specs.Prelude.{◌≡◌};
 ghost use Rattle.mm_model.specs.Image.{slot_limit, frame_limit};
 ghost use Rattle.mm_format.specs.Headers.{header};
-ghost use Rattle.mm_format.specs.Reading.{Reads};
+ghost use Rattle.mm_format.specs.Reading.{ReadsAlone};
 ghost use Rattle.mm_image.specs.Faults.{number_of};
 
 use crate::fault::ImageFault;
@@ -26,7 +26,7 @@ pub(crate) fn frame_limit(version: u16) -> u16
 /// Reads the header.
 #[tactic(auto, unfolding(mm_format::specs::Headers::header))]
 pub(crate) fn read_header(reader: &mut Reader) -> Result<Header, ReadError<ImageFault>>
-    ensures read { Reads number_of (λ h. h) (header.read reader.old.bytes.now reader.old.at) reader.new.at result }
+    ensures read { ReadsAlone number_of (λ h. h) (header.read reader.old.bytes.now reader.old.at) reader.new.at result }
     ensures same { reader.new.bytes.now ≡ reader.old.bytes.now }
 {
     let at = reader.at;

@@ -6,7 +6,7 @@ ghost use Rattle.mm_model.specs.ImageFaults.{is_bad_handler};
 ghost use Rattle.mm_model.specs.Slot.{Slot};
 ghost use Rattle.mm_format.specs.Formats.{answer, first_late, times};
 ghost use Rattle.mm_format.specs.Images.{slot, slots, handler_tests};
-ghost use Rattle.mm_format.specs.Reading.{Reads};
+ghost use Rattle.mm_format.specs.Reading.{Reads, ReadsAlone};
 ghost use Rattle.mm_image.specs.Faults.{number_of};
 ghost use Rattle.mm_image.specs.Reading.{HoldsNumbers};
 
@@ -53,7 +53,7 @@ pub(crate) fn read_slot(
     limit: u8,
     least: u8,
 ) -> Result<Slot, ReadError<ImageFault>>
-    ensures read { Reads number_of (λ s. s) ((slot limit least).read reader.old.bytes.now reader.old.at) reader.new.at
+    ensures read { ReadsAlone number_of (λ s. s) ((slot limit least).read reader.old.bytes.now reader.old.at) reader.new.at
         result }
     ensures same { reader.new.bytes.now ≡ reader.old.bytes.now }
     ensures number { IfOk result (λ s. s.number < limit) }
@@ -140,7 +140,7 @@ fn slot_records(
 // Fails with `Handler` at the first slot whose handler is bad.
 fn test_handlers(slots: &[Slot]) -> Result<(), ReadError<ImageFault>>
     requires { length slots.now < 2 ^ 16 }
-    ensures { Reads number_of (λ _. true) (answer (first_late 16 (handler_tests slots.now 0 slots.now)) true 0) 0
+    ensures { ReadsAlone number_of (λ _. true) (answer (first_late 16 (handler_tests slots.now 0 slots.now)) true 0) 0
         result }
 {
     let present = numbers(slots);

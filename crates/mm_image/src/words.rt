@@ -9,7 +9,7 @@ ghost use Rattle.mm_word.specs.Word.{IsWord};
 ghost use Rattle.mm_word.specs.declared.word.Word.TheVariants.{Int, Ptr};
 ghost use Rattle.mm_format.specs.Formats.{each};
 ghost use Rattle.mm_format.specs.Images.{word, ip, flags_of};
-ghost use Rattle.mm_format.specs.Reading.{Reads};
+ghost use Rattle.mm_format.specs.Reading.{ReadsAlone};
 ghost use Rattle.mm_image.specs.Faults.{number_of};
 
 use crate::fault::ImageFault;
@@ -42,7 +42,7 @@ pub fn word_of(tagged: bool, bits: u64) -> Option<Word>
 /// Reads a word: a pointer if it is tagged.
 #[tactic(auto, unfolding(mm_format::specs::Images::word))]
 pub fn read_word(reader: &mut Reader, tagged: bool) -> Result<Word, ReadError<ImageFault>>
-    ensures read { Reads number_of (λ w. w) ((word tagged).read reader.old.bytes.now reader.old.at) reader.new.at
+    ensures read { ReadsAlone number_of (λ w. w) ((word tagged).read reader.old.bytes.now reader.old.at) reader.new.at
         result }
     ensures same { reader.new.bytes.now ≡ reader.old.bytes.now }
     ensures holds { IfOk result IsWord }
@@ -58,7 +58,7 @@ pub fn read_word(reader: &mut Reader, tagged: bool) -> Result<Word, ReadError<Im
 /// Reads an instruction pointer.
 #[tactic(auto, unfolding(mm_format::specs::Images::ip))]
 pub fn read_ip(reader: &mut Reader) -> Result<GuardedPtr, ReadError<ImageFault>>
-    ensures read { Reads number_of (λ p. p) (ip.read reader.old.bytes.now reader.old.at) reader.new.at result }
+    ensures read { ReadsAlone number_of (λ p. p) (ip.read reader.old.bytes.now reader.old.at) reader.new.at result }
     ensures same { reader.new.bytes.now ≡ reader.old.bytes.now }
     ensures executable { IfOk result (λ p. can_fetch p.perm ≡ true) }
     ensures well_formed { IfOk result IsWellFormed }
@@ -76,7 +76,7 @@ pub(crate) fn read_registers(
     reader: &mut Reader,
     tags: u16,
 ) -> Result<[Word; 16], ReadError<ImageFault>>
-    ensures read { Reads number_of (λ regs. regs)
+    ensures read { ReadsAlone number_of (λ regs. regs)
         ((each word (flags_of tags)).read reader.old.bytes.now reader.old.at) reader.new.at result }
     ensures same { reader.new.bytes.now ≡ reader.old.bytes.now }
     ensures words { IfOk result (λ regs. AllByRecursion IsWord regs) }

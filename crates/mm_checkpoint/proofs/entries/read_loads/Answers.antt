@@ -5,7 +5,7 @@ use Rattle.mm_word.specs.Word.{IsWord}
 use Rattle.mm_model.specs.declared.slot.Pending.{Pending}
 use Rattle.mm_format.specs.Formats.{Format, times}
 use Rattle.mm_format.specs.Formats.Outcome.{Got}
-use Rattle.mm_format.specs.Reading.{Fails}
+use Rattle.mm_format.specs.Reading.{FailsOr}
 use Rattle.mm_format.proofs.Loops.{nothing_before, times_more, times_stop, times_read}
 use Rattle.mm_image.specs.Faults.{number_of}
 use Rattle.mm_checkpoint.specs.Format.{load}
@@ -37,10 +37,10 @@ returns-in_err-entry-clause-read c =
     let empty = c.args.empty in
     let bytes = l.reader.bytes.now in
     let e = c.in_err-entry.field-0.0 in
-    let fails = subst (λ xs. Fails number_of ((load empty xs).read bytes l.reader.at) e) c.as_slice.ensures.value
+    let fails = subst (λ xs. FailsOr ⊥ number_of ((load empty xs).read bytes l.reader.at) e) c.as_slice.ensures.value
     c.in_err-entry.ensures.read in
     rw (p.1, p.2) (times_stop (load empty) push c.args.count l.counter l.entries.items bytes l.reader.at l.entries.items
-    _ l.invariant.read (omega (arith, c.loop-test.true, c.from-end.ensures)) number_of e fails)
+    _ l.invariant.read (omega (arith, c.loop-test.true, c.from-end.ensures)) number_of _ e fails)
 
 pub returns-in_err-entry-clause-same : goal.returns-in_err-entry-clause-same
 returns-in_err-entry-clause-same c = c.in_err-entry.ensures.same ∙ c.loop.invariant.same

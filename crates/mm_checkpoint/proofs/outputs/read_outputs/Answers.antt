@@ -16,7 +16,7 @@ returns-in_err-output-clause-read c =
     let p = err_from_is_err_and c.from_residual-in_err-output.result c.from_residual-in_err-output.ensures.1 in
     let l = c.loop-group in
     rw (p.1, p.2) (each_stop (output c.args.limit) c.args.groups.now l.group-index 0 l.reader.bytes.now l.reader.at
-    (map put_out l.outputs.items) _ l.invariant.read c.loop-group-test.true number_of c.in_err-output.field-0.0
+    (map put_out l.outputs.items) _ l.invariant.read c.loop-group-test.true number_of _ c.in_err-output.field-0.0
     c.in_err-output.ensures.read)
 
 pub returns-in_err-output-clause-same : goal.returns-in_err-output-clause-same

@@ -3,8 +3,8 @@ use Rattle.std.proofs.lemmas.Result.{err_from_is_err_and}
 use Rattle.std.proofs.lemmas.List.{drop_all}
 use Rattle.mm_format.specs.Formats.{each}
 use Rattle.mm_format.specs.Formats.Outcome.{Got}
-use Rattle.mm_format.specs.Reading.{Fails}
-use Rattle.mm_format.proofs.Loops.{prefixed, is_read, each_more, each_stop}
+use Rattle.mm_format.specs.Reading.{FailsOr}
+use Rattle.mm_format.proofs.Loops.{prefixed, is_read, each_more, each_stop, fails_so}
 use Rattle.mm_image.specs.Faults.{number_of}
 use Rattle.mm_checkpoint.specs.Format.{slot_row}
 use Rattle.mm_checkpoint.proofs.rows.read_rows.Goals as goal
@@ -16,9 +16,9 @@ returns-in_err-row-clause-read c =
     let row = slot_row c.args.split c.args.cycles in
     let bytes = l.reader.bytes.now in
     let e = c.in_err-row.field-0.0 in
-    let fails = subst (λ s. Fails number_of ((row s).read bytes l.reader.at) e) c.slot-item.is c.in_err-row.ensures.read in
+    let fails = subst (λ s. FailsOr ⊥ number_of ((row s).read bytes l.reader.at) e) c.slot-item.is c.in_err-row.ensures.read in
     rw (p.1, p.2) (each_stop row c.args.known.now l.slot-index c.slot-item.result bytes l.reader.at l.rows.items _
-    l.invariant.read c.loop-slot-test.true number_of e fails)
+    l.invariant.read c.loop-slot-test.true number_of _ e (fails_so number_of _ _ e fails))
 
 pub returns-in_err-row-clause-same : goal.returns-in_err-row-clause-same
 returns-in_err-row-clause-same c = c.in_err-row.ensures.same ∙ c.loop-slot.invariant.same

@@ -9,7 +9,7 @@ use Rattle.mm_model.proofs.CoreRows.{each_set}
 use Rattle.mm_model.proofs.FlagLists.{flags-get}
 use Rattle.mm_format.specs.Formats.Outcome.{Got}
 use Rattle.mm_format.specs.Images.{flags_of}
-use Rattle.mm_format.specs.Reading.{Fails}
+use Rattle.mm_format.specs.Reading.{FailsOr}
 use Rattle.mm_format.proofs.Loops.{each_more, each_stop, each_read}
 use Rattle.mm_image.specs.Faults.{number_of}
 use Rattle.mm_checkpoint.specs.Format.{beside, register}
@@ -41,11 +41,11 @@ returns-in_err-word-clause-read c =
     let p = err_from_is_err_and c.from_residual.result c.from_residual.ensures.1 in
     let l = c.loop-r in
     let bytes = l.reader.bytes.now in
-    let fails = subst (λ k. Fails number_of ((register k).read bytes l.reader.at) c.in_err-word.field-0.0)
+    let fails = subst (λ k. FailsOr ⊥ number_of ((register k).read bytes l.reader.at) c.in_err-word.field-0.0)
     (mask c.args.tags c.args.empty l.r c.is_set.result c.is_set-in-loop-r.result c.loop-r-test.true c.is_set.ensures
     c.is_set-in-loop-r.ensures) c.in_err-word.ensures.read in
     rw (p.1, p.2) (each_stop register (masks c.args.tags c.args.empty) l.r (false, false) bytes l.reader.at
-    (take l.r l.regs) _ l.invariant.read (omega (arith, long c.args.tags c.args.empty, c.loop-r-test.true)) number_of
+    (take l.r l.regs) _ l.invariant.read (omega (arith, long c.args.tags c.args.empty, c.loop-r-test.true)) number_of _
     c.in_err-word.field-0.0 fails)
 
 pub returns-in_err-word-clause-same : goal.returns-in_err-word-clause-same

@@ -17,7 +17,7 @@ returns-in_err-item-clause-read g c =
     let p = err_from_is_err_and c.from_residual.result c.from_residual.ensures.1 in
     let l = c.loop in
     rw (p.1, p.2) (runs_stop g.R.Run.reads g.R.Run.onward c.args.count l.counter l.run l.reader.bytes.now l.reader.at
-    l.items.items _ l.invariant.read c.loop-test.true g.K.FaultKind.number c.in_err-item.field-0.0
+    l.items.items _ l.invariant.read c.loop-test.true g.K.FaultKind.number _ c.in_err-item.field-0.0
     c.in_err-item.ensures.read)
 
 pub returns-in_err-item-clause-same : goal.returns-in_err-item-clause-same

@@ -7,8 +7,8 @@ use Rattle.mm_word.specs.declared.word.Cell.{Cell}
 use Rattle.mm_model.specs.Places.{bit_at}
 use Rattle.mm_format.specs.Formats.Outcome.{Got}
 use Rattle.mm_format.specs.Images.{word, bits_in}
-use Rattle.mm_format.specs.Reading.{Fails}
-use Rattle.mm_format.proofs.Loops.{each_more, each_stop, each_read}
+use Rattle.mm_format.specs.Reading.{FailsOr}
+use Rattle.mm_format.proofs.Loops.{each_more, each_stop, each_read, fails_so}
 use Rattle.mm_image.specs.Faults.{number_of}
 use Rattle.mm_image.proofs.pages.read_cells.Goals as goal
 
@@ -39,10 +39,11 @@ returns-in_err-word-clause-read c =
     let l = c.loop-place in
     let bytes = l.reader.bytes.now in
     let tags = bits_in 64 c.args.tags.now in
-    let fails = subst (λ b. Fails number_of ((word b).read bytes l.reader.at) c.in_err-word.field-0.0)
+    let fails = subst (λ b. FailsOr ⊥ number_of ((word b).read bytes l.reader.at) c.in_err-word.field-0.0)
     (c.bit.ensures ∙ is_bit c.args.tags.now l.place c.loop-place-test.true) c.in_err-word.ensures.read in
     rw (p.1, p.2) (each_stop word tags l.place false bytes l.reader.at (map word_in l.cells.items) _ l.invariant.read
-    (omega (arith, long c.args.tags.now, c.loop-place-test.true)) number_of c.in_err-word.field-0.0 fails)
+    (omega (arith, long c.args.tags.now, c.loop-place-test.true)) number_of _ c.in_err-word.field-0.0
+    (fails_so number_of _ _ c.in_err-word.field-0.0 fails))
 
 pub returns-in_err-word-clause-same : goal.returns-in_err-word-clause-same
 returns-in_err-word-clause-same c = c.in_err-word.ensures.same ∙ c.loop-place.invariant.same

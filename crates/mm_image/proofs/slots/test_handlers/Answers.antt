@@ -7,7 +7,7 @@ use Rattle.mm_model.specs.ImageFaults.{is_bad_handler}
 use Rattle.mm_format.specs.Formats.{answer, first_late}
 use Rattle.mm_format.specs.Formats.Outcome.{Got, Bad}
 use Rattle.mm_format.specs.Images.{handler_tests}
-use Rattle.mm_format.specs.Reading.{Fails}
+use Rattle.mm_format.specs.Reading.{FailsOr}
 use Rattle.mm_format.proofs.Loops.{late_stop}
 use Rattle.mm_image.specs.Faults.{number_of}
 use Rattle.mm_image.proofs.slots.test_handlers.Goals as goal
@@ -33,10 +33,10 @@ returns-in_err-refuse_if c =
     let s = c.index-slots-k.result in
     let e = c.in_err-refuse_if.field-0.0 in
     let wrong = c.is_bad_handler-wrong.ensures all c.numbers-present.ensures in
-    let fails = subst (λ (b : Bool). Fails number_of (cond b (Bad 7 (place all l.k)) (Got Rattle.std.proofs.Common.false 0)) e) wrong
+    let fails = subst (λ (b : Bool). FailsOr ⊥ number_of (cond b (Bad 7 (place all l.k)) (Got Rattle.std.proofs.Common.false 0)) e) wrong
     c.in_err-refuse_if.ensures.fault in
     rw (p.1, p.2) (late_stop number_of (is_bad_handler all s) 7 (place all l.k) (rest all l.k) _ true 0
-    (sym (step all l.k s c.loop-k-test.true c.index-slots-k.is) ∙ l.invariant) e fails)
+    (sym (step all l.k s c.loop-k-test.true c.index-slots-k.is) ∙ l.invariant) _ e fails)
 
 pub loop-k-preserved : goal.loop-k-preserved
 loop-k-preserved c =

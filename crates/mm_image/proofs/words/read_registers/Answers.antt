@@ -7,7 +7,7 @@ use Rattle.mm_word.specs.Word.{IsWord}
 use Rattle.mm_model.proofs.CoreRows.{each_set}
 use Rattle.mm_model.proofs.FlagLists.{flags-get}
 use Rattle.mm_format.specs.Formats.Outcome.{Got}
-use Rattle.mm_format.specs.Reading.{Fails}
+use Rattle.mm_format.specs.Reading.{FailsOr}
 use Rattle.mm_format.specs.Images.{word, flags_of}
 use Rattle.mm_format.proofs.Loops.{each_more, each_stop, each_read}
 use Rattle.mm_image.specs.Faults.{number_of}
@@ -26,10 +26,10 @@ returns-in_err-word-clause-read c =
     let p = err_from_is_err_and c.from_residual.result c.from_residual.ensures.1 in
     let l = c.loop-r in
     let bytes = l.reader.bytes.now in
-    let fails = subst (λ b. Fails number_of ((word b).read bytes l.reader.at) c.in_err-word.field-0.0)
+    let fails = subst (λ b. FailsOr ⊥ number_of ((word b).read bytes l.reader.at) c.in_err-word.field-0.0)
     (c.is_set.ensures ∙ flag c.args.tags l.r c.loop-r-test.true) c.in_err-word.ensures.read in
     rw (p.1, p.2) (each_stop word (flags_of c.args.tags) l.r false bytes l.reader.at (take l.r l.regs) _
-    l.invariant.read (omega (arith, long c.args.tags, c.loop-r-test.true)) number_of c.in_err-word.field-0.0 fails)
+    l.invariant.read (omega (arith, long c.args.tags, c.loop-r-test.true)) number_of _ c.in_err-word.field-0.0 fails)
 
 pub returns-in_err-word-clause-same : goal.returns-in_err-word-clause-same
 returns-in_err-word-clause-same c = c.in_err-word.ensures.same ∙ c.loop-r.invariant.same
