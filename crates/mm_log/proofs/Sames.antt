@@ -1,7 +1,5 @@
 -- Words, states and cells that are tested to be the same are the same.
 use Rattle.std.proofs.Common.{◌≡◌, ℕ, Bool, true, false, ◌&&◌, nat_eq, if◌then◌else◌, Some, None, refl, sym, ap, ◌∙◌, eqb-true, eq-eqb}
-use Rattle.mm_word.specs.declared.cause.Cause.{Cause}
-use Rattle.mm_word.specs.declared.cause.Cause.TheVariants.{NotPointer, Perm, Bounds, Align, NoPage, Sync, Illegal, Priv, DivZero, Malformed, Trap, NoSlot, OutFull}
 use Rattle.mm_word.specs.declared.word.Word.{Word}
 use Rattle.mm_word.specs.declared.word.Word.TheVariants.{Int, Ptr}
 use Rattle.mm_word.specs.declared.word.Cell.{Cell}
@@ -11,6 +9,7 @@ use Rattle.mm_word.specs.Word.{IsWord}
 use Rattle.mm_word.proofs.Packing.{bits_of-injective}
 use Rattle.mm_model.specs.declared.slot.SlotState.{SlotState}
 use Rattle.mm_model.specs.declared.slot.SlotState.TheVariants.{Running, Waiting, Taken, Halted}
+use Rattle.mm_model.proofs.CauseNumbers.{causes_same}
 use Rattle.mm_model.specs.Effect.{same_word}
 use Rattle.mm_model.specs.Report.{same_bit, same_cell}
 use Rattle.mm_log.specs.Changes.{same_state}
@@ -57,34 +56,6 @@ cells_same c d h k e =
 
 pub pair_self : (w : Word) (b : Bool) → (same_word w w && same_bit b b) ≡ true
 pair_self w b = both_true (same_word w w) (same_bit b b) (word_self w) (bit_self b)
-
--- each fault has a number of its own
-
-cause_at : ℕ → Cause
-cause_at n =
-    if nat_eq n 1 then NotPointer else if nat_eq n 2 then Perm else if nat_eq n 3 then Bounds
-    else if nat_eq n 4 then Align else if nat_eq n 5 then NoPage else if nat_eq n 6 then Sync
-    else if nat_eq n 7 then Illegal else if nat_eq n 8 then Priv else if nat_eq n 9 then DivZero
-    else if nat_eq n 10 then Malformed else if nat_eq n 11 then Trap else if nat_eq n 12 then NoSlot else OutFull
-
-cause_back : (c : Cause) → cause_at (number_of c) ≡ c
-unfolding cause_at
-cause_back NotPointer = refl
-cause_back Perm = refl
-cause_back Bounds = refl
-cause_back Align = refl
-cause_back NoPage = refl
-cause_back Sync = refl
-cause_back Illegal = refl
-cause_back Priv = refl
-cause_back DivZero = refl
-cause_back Malformed = refl
-cause_back Trap = refl
-cause_back NoSlot = refl
-cause_back OutFull = refl
-
-causes_same : (c d : Cause) → nat_eq (number_of c) (number_of d) ≡ true → c ≡ d
-causes_same c d e = sym (cause_back c) ∙ ap cause_at (eqb-true (number_of c) (number_of d) e) ∙ cause_back d
 
 pub states_same : (a b : SlotState) → same_state a b ≡ true → a ≡ b
 states_same Running Running e = refl

@@ -1,4 +1,4 @@
--- Outputs as they are collected group by group, and the cells of a page.
+-- Outputs as they are collected group by group, and pages, slots and events by their places.
 use Rattle.std.proofs.Common.{◌≡◌, ℕ, zero, suc, ◌+◌, ◌*◌, ◌%◌, ◌<◌, ◌^◌, inl, inr, true, false, eqb, ◌||◌, List, [], ◌∷◌, ◌++◌, length, map, take, get_or, Option, Some, None, slice_get, slice_index_or, refl, sym, ap, subst, ◌∙◌, arith}
 use Rattle.std.specs.Prelude.{slice_index}
 use Rattle.std.specs.Option.{is_some}
@@ -8,16 +8,15 @@ use Rattle.std.proofs.lemmas.Bool.{cases_eq}
 use Rattle.std.proofs.lemmas.List.{map-append, take_more, flat_map_more}
 use Rattle.std.proofs.lemmas.List.Folds.{list_any-append}
 use Rattle.mm_word.specs.declared.word.Cell.{Cell}
-use Rattle.mm_model.specs.Memory.{Memory, page_of, place_of, page_at, is_mapped, cell_in, cell_at, zero_cell, IsPage, IsPaged}
+use Rattle.mm_model.specs.Memory.{Memory, IsPaged}
 use Rattle.mm_model.specs.declared.event.Event.{Event}
 use Rattle.mm_model.specs.Slot.{Slot}
 use Rattle.mm_model.specs.State.{Core, queue_at, output_of}
 use Rattle.mm_model.specs.Groups.{has_group}
 use Rattle.mm_model.specs.Fits.{slots_of}
 use Rattle.mm_model.proofs.CoreRows.{each_map, each_push, rest_rises, above_first}
-use Rattle.mm_model.proofs.Memories.{page_whole, cell_at-aligned}
-use Rattle.mm_mem.specs.Places.{IsAt}
-use Rattle.mm_mem.proofs.Flats.{mapped_here, page_here}
+use Rattle.mm_mem.proofs.Flats.{page_here}
+use Rattle.mm_mem.proofs.PagePlaces.{got, any_default, some_same, page_there, at_place, place_mapped}
 use Rattle.mm_thread.specs.Output.{Output}
 use Rattle.mm_machine.specs.Snapshot.{groups_of, has_output, IsOutputOf, queued_at}
 use Rattle.mm_machine.specs.Capture.{cells_of, OutputsBelow}
@@ -76,52 +75,9 @@ module _ (core : Core) (slots : List Slot) (n : ℕ) (os : List Output) (so_far 
     said = so_far.said;
   }
 
--- 2. The cells of a mapped page.
-
-page_there : (m : Memory) (p : ℕ) → is_mapped m p ≡ true → page_at m p ≡ Some (cells_of m p)
-page_there m p mapped = go (page_at m p) refl mapped
-  where
-    go : (o : Option (List Cell)) → page_at m p ≡ o → is_some o ≡ true → page_at m p ≡ Some (cells_of m p)
-    go None e h = cc
-    go (Some cells) e h = rw e refl
-
-pub page_is : (m : Memory) (p : ℕ) → IsPaged m → is_mapped m p ≡ true → IsPage (p, cells_of m p)
-page_is m p paged mapped = page_whole m paged p (cells_of m p) (page_there m p mapped)
-
-got : {X : Type 0} (xs : List X) (i : ℕ) (d : X) → i < length xs → slice_get xs i ≡ Some (slice_index_or xs i d)
-got [] i d h = absurd (omega arith)
-got (x ∷ xs) zero d h = refl
-got (x ∷ xs) (suc i) d h = got xs i d (omega arith)
-
-pub cell_there : (m : Memory) (p i : ℕ) → IsPaged m → is_mapped m p ≡ true → i < 512 → cell_at m (p * 4096 + 8 * i) ≡ Some (slice_index_or (cells_of m p) i zero_cell)
-cell_there m p i paged mapped h =
-    let w : ℕ = p * 4096 + 8 * i in
-    let aligned : w % 8 ≡ 0 = omega arith in
-    let page : page_of w ≡ p = omega arith in
-    let place : place_of w ≡ i = omega arith in
-    cell_at-aligned m w aligned
-    ∙ ap (λ (q : ℕ). cell_in (page_at m q) (place_of w)) page
-    ∙ ap (λ (k : ℕ). cell_in (page_at m p) k) place
-    ∙ ap (λ (o : Option (List Cell)). cell_in o i) (page_there m p mapped)
-    ∙ got (cells_of m p) i zero_cell (let size = (page_is m p paged mapped).cells in omega arith)
-
--- 3. Pages by their places.
-
-some_same : {A : Type 0} {x y : A} → Some x ≡ Some y → x ≡ y
-some_same e = cc
-
-at_place : (es : List (ℕ × List Cell)) (i n : ℕ) → slice_get (map (λ e. e.0) es) i ≡ Some n → IsAt n es i
-at_place [] i n e = cc
-at_place (x ∷ es) zero n e = record { in_range = omega arith; has_number = λ d. some_same e }
-at_place (x ∷ es) (suc i) n e = let later = at_place es i n e in record { in_range = omega (arith, later.in_range); has_number = later.has_number }
+-- 2. A page at its place.
 
 module _ (m : Memory) (i n : ℕ) (paged : IsPaged m) (is : slice_get (map (λ (e : ℕ × List Cell). e.0) m.pages) i ≡ Some n) where
-  pub place_mapped : is_mapped m n ≡ true
-  place_mapped = mapped_here m n i paged (at_place m.pages i n is)
-
-  pub place_number : n < 2 ^ 42
-  place_number = (page_is m n paged place_mapped).number
-
   -- the page of a number, at its place
   pub place_page : get_or m.pages i (n, cells_of m n) ≡ (n, cells_of m n)
   place_page =
@@ -129,13 +85,10 @@ module _ (m : Memory) (i n : ℕ) (paged : IsPaged m) (is : slice_get (map (λ (
       let e : ℕ × List Cell = get_or m.pages i (n, cells_of m n) in
       let number : e.0 ≡ n = here.has_number (n, cells_of m n) in
       let same : e ≡ get_or m.pages i e = any_default m.pages i (n, cells_of m n) e here.in_range in
-      let cells : ◌≡◌ {A = Option (List Cell)} (Some e.1) (Some (cells_of m n)) = sym (page_here m n i e paged here same) ∙ page_there m n place_mapped in
+      let cells : ◌≡◌ {A = Option (List Cell)} (Some e.1) (Some (cells_of m n)) = sym (page_here m n i e paged here same) ∙ page_there m n (place_mapped m i n paged is) in
       ap (λ (k : ℕ). let pair : ℕ × List Cell = (k, e.1) in pair) number ∙ ap (λ (cs : List Cell). let pair : ℕ × List Cell = (n, cs) in pair) (some_same cells)
-    where
-      any_default : {X : Type 0} (xs : List X) (j : ℕ) (d e : X) → j < length xs → get_or xs j d ≡ get_or xs j e
-      any_default xs j d e h = let a = got xs j d h in let b = got xs j e h in cc
 
--- 4. Slots and events by their places.
+-- 3. Slots and events by their places.
 
 got_within : {A : Type 0} (xs : List A) (i : ℕ) (x : A) → slice_get xs i ≡ Some x → i < length xs
 got_within [] i x is = cc

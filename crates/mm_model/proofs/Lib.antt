@@ -16,6 +16,7 @@ pub mod Shortness
 pub mod Places
 pub mod Stops
 pub mod Causes
+pub mod CauseNumbers
 pub mod ImageBytes
 pub mod Filters
 pub mod OwnSlots

@@ -10,38 +10,11 @@ use Rattle.mm_word.specs.declared.word.Cell.{Cell}
 use Rattle.mm_model.specs.Memory.{Memory, page_of, place_of, page_at, is_mapped, cell_in, cell_at, zero_cell, zero_page, IsPage, IsPaged}
 use Rattle.mm_model.specs.Lines.{cell_line}
 use Rattle.mm_model.specs.Report.{same_cell, changes_from, cells_or_zero}
-use Rattle.mm_model.proofs.Memories.{page_whole, cell_at-aligned}
 use Rattle.mm_mem.specs.Places.{IsAt}
 use Rattle.mm_mem.proofs.Places.{held, found_at}
-use Rattle.mm_mem.proofs.Flats.{mapped_here, page_here}
+use Rattle.mm_mem.proofs.Flats.{page_here}
+use Rattle.mm_mem.proofs.PagePlaces.{any_default, at_place}
 use Rattle.mm_report.specs.Changes.{change_line, line_at, contents, cells_of, lines_of, changes_of}
-
-pub page_there : (m : Memory) (p : ℕ) → is_mapped m p ≡ true → page_at m p ≡ Some (cells_of m p)
-page_there m p mapped = go (page_at m p) refl mapped
-  where
-    go : (o : Option (List Cell)) → page_at m p ≡ o → Rattle.std.specs.Option.is_some o ≡ true → page_at m p ≡ Some (cells_of m p)
-    go None e h = cc
-    go (Some cells) e h = rw e refl
-
-pub whole_page : (m : Memory) (p : ℕ) → IsPaged m → is_mapped m p ≡ true → length (cells_of m p) ≡ 512
-whole_page m p paged mapped = (page_whole m paged p (cells_of m p) (page_there m p mapped)).cells
-
-got : {X : Type 0} (xs : List X) (i : ℕ) (d : X) → i < length xs → slice_get xs i ≡ Some (slice_index_or xs i d)
-got [] i d h = absurd (omega arith)
-got (x ∷ xs) zero d h = refl
-got (x ∷ xs) (suc i) d h = got xs i d (omega arith)
-
-pub word_there : (m : Memory) (p i : ℕ) → IsPaged m → is_mapped m p ≡ true → i < 512 → cell_at m (p * 4096 + 8 * i) ≡ Some (slice_index_or (cells_of m p) i zero_cell)
-word_there m p i paged mapped h =
-    let w : ℕ = p * 4096 + 8 * i in
-    let aligned : w % 8 ≡ 0 = omega arith in
-    let page : page_of w ≡ p = omega arith in
-    let place : place_of w ≡ i = omega arith in
-    cell_at-aligned m w aligned
-    ∙ ap (λ (q : ℕ). cell_in (page_at m q) (place_of w)) page
-    ∙ ap (λ (k : ℕ). cell_in (page_at m p) k) place
-    ∙ ap (λ (o : Option (List Cell)). cell_in o i) (page_there m p mapped)
-    ∙ got (cells_of m p) i zero_cell (let size : length (cells_of m p) ≡ 512 = whole_page m p paged mapped in omega arith)
 
 first_line : (same : Bool) (w : ℕ) (c : Cell) (rest : List (ℕ × Cell)) → lines_of ((if same then [] else (w, c) ∷ []) ++ rest) ≡ (if same then [] else cell_line w c) ++ lines_of rest
 first_line true w c rest = refl
@@ -65,9 +38,6 @@ pub lines_by_place : (w n : ℕ) (cells was : List Cell) → length cells ≡ n 
 lines_by_place w n cells was e d =
     lines_from (line_at w cells was) 0 w cells was (e ∙ sym d) (λ j lt. ap (line_at w cells was) (let z : 0 + j ≡ j = omega arith in z))
     ∙ ap (λ (k : ℕ). flat_map (line_at w cells was) (range_with_len 0 k)) e
-
-pub any_default : {X : Type 0} (xs : List X) (i : ℕ) (d e : X) → i < length xs → slice_index_or xs i d ≡ slice_index_or xs i e
-any_default xs i d e h = let a = got xs i d h in let b = got xs i e h in cc
 
 pub zero_there : (i : ℕ) → i < 512 → zero_cell ≡ slice_index_or zero_page i zero_cell
 zero_there i h = sym (get_or-replicate 512 i zero_cell zero_cell h)
@@ -96,24 +66,6 @@ find_whole number (page ∷ pages) h xs e = by (is_eq (nat_cmp number page.0)) e
 -- each of these pages, or a page of zeros, has 512 cells
 pub was_whole : (pages : List (ℕ × List Cell)) (number : ℕ) → AllByRecursion IsPage pages → length (cells_of (contents pages) number) ≡ 512
 was_whole pages number h = size_of (find nat_cmp number pages) (find_whole number pages h)
-
--- the pages of a memory by their places
-
-some_same : {A : Type 0} {x y : A} → Some x ≡ Some y → x ≡ y
-some_same e = cc
-
-at_place : (es : List (ℕ × List Cell)) (i n : ℕ) → slice_get (map (λ e. e.0) es) i ≡ Some n → IsAt n es i
-at_place [] i n e = cc
-at_place (x ∷ es) zero n e = record { in_range = omega arith; has_number = λ d. some_same e }
-at_place (x ∷ es) (suc i) n e = let later = at_place es i n e in record { in_range = omega (arith, later.in_range); has_number = later.has_number }
-
-pub place_number : (m : Memory) (i n : ℕ) → IsPaged m → slice_get (map (λ e. e.0) m.pages) i ≡ Some n → n < 2 ^ 42
-place_number m i n paged e =
-    let mapped : is_mapped m n ≡ true = mapped_here m n i paged (at_place m.pages i n e) in
-    (page_whole m paged n (cells_of m n) (page_there m n mapped)).number
-
-pub place_mapped : (m : Memory) (i n : ℕ) → IsPaged m → slice_get (map (λ e. e.0) m.pages) i ≡ Some n → is_mapped m n ≡ true
-place_mapped m i n paged e = mapped_here m n i paged (at_place m.pages i n e)
 
 -- what changed of a page
 abbrev pub page_changes : Memory → ℕ × List Cell → List (ℕ × Cell)

@@ -16,7 +16,7 @@ use Rattle.mm_model.specs.Report.{page_change, page_lines, pages_of}
 use Rattle.mm_mem.specs.Places.{IsAt}
 use Rattle.mm_mem.proofs.Places.{held, found_at}
 use Rattle.mm_mem.proofs.Flats.{no_cell}
-use Rattle.mm_report.proofs.CellPlaces.{word_there}
+use Rattle.mm_mem.proofs.PagePlaces.{cell_there}
 use Rattle.mm_report.specs.Changes.{contents, cells_of}
 use Rattle.mm_report.specs.Pages.{numbers, first, lesser, behind}
 
@@ -265,7 +265,7 @@ mapped_word m p paged = by (is_mapped m p) refl
   where
     by : (b : Bool) → is_mapped m p ≡ b → is_some (cell_at m (p * 4096)) ≡ is_mapped m p
     by true is =
-        let word : cell_at m (p * 4096 + 8 * 0) ≡ Some (slice_index_or (cells_of m p) 0 zero_cell) = word_there m p 0 paged is (omega arith) in
+        let word : cell_at m (p * 4096 + 8 * 0) ≡ Some (slice_index_or (cells_of m p) 0 zero_cell) = cell_there m p 0 paged is (omega arith) in
         let same : p * 4096 + 8 * 0 ≡ p * 4096 = omega arith in
         let there : cell_at m (p * 4096) ≡ Some (slice_index_or (cells_of m p) 0 zero_cell) = ap (λ (w : ℕ). cell_at m w) (sym same) ∙ word in
         ap is_some there ∙ sym is

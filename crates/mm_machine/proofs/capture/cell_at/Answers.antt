@@ -2,7 +2,7 @@ use Rattle.std.proofs.Common.{◌∙◌, ap, Option}
 use Rattle.std.specs.Option.{unwrap_or}
 use Rattle.mm_word.specs.declared.word.Cell.{Cell}
 use Rattle.mm_model.specs.Memory.{zero_cell}
-use Rattle.mm_machine.proofs.Collecting.{cell_there}
+use Rattle.mm_mem.proofs.PagePlaces.{cell_there}
 use Rattle.mm_machine.proofs.capture.cell_at.Goals as goal
 
 pub returns : goal.returns

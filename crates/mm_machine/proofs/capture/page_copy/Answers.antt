@@ -4,7 +4,7 @@ use Rattle.std.proofs.lemmas.List.{take_more, take_all}
 use Rattle.mm_word.specs.declared.word.Cell.{Cell}
 use Rattle.mm_model.specs.Memory.{zero_cell, IsPage}
 use Rattle.mm_machine.specs.Capture.{cells_of}
-use Rattle.mm_machine.proofs.Collecting.{page_is}
+use Rattle.mm_mem.proofs.PagePlaces.{page_is}
 use Rattle.mm_machine.proofs.capture.page_copy.Goals as goal
 
 pub loop-place-preserved : goal.loop-place-preserved

@@ -5,7 +5,8 @@ use Rattle.mm_word.specs.declared.word.Cell.{Cell}
 use Rattle.mm_model.specs.Memory.{Memory, zero_page}
 use Rattle.mm_text.proofs.Gathering.{gathers_more, gathers_same}
 use Rattle.mm_report.specs.Changes.{contents, lines_of}
-use Rattle.mm_report.proofs.CellPlaces.{place_number, place_mapped, page_changes, changes_here, lines_of_pages}
+use Rattle.mm_mem.proofs.PagePlaces.{place_number, place_mapped}
+use Rattle.mm_report.proofs.CellPlaces.{page_changes, changes_here, lines_of_pages}
 use Rattle.mm_report.proofs.cells.put_cells.Goals as goal
 
 pub put_page_cells-requires-clause-number : goal.put_page_cells-requires-clause-number

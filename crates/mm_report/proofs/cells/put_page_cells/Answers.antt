@@ -6,7 +6,8 @@ use Rattle.mm_word.specs.declared.word.Cell.{Cell}
 use Rattle.mm_model.specs.Memory.{Memory, zero_cell}
 use Rattle.mm_text.proofs.Gathering.{gathers_item, gathers_same}
 use Rattle.mm_report.specs.Changes.{change_line, contents, cells_of, line_at}
-use Rattle.mm_report.proofs.CellPlaces.{lines_by_place, whole_page, was_whole}
+use Rattle.mm_mem.proofs.PagePlaces.{page_is}
+use Rattle.mm_report.proofs.CellPlaces.{lines_by_place, was_whole}
 use Rattle.mm_report.proofs.cells.put_page_cells.Goals as goal
 
 pub loop-index-preserved : goal.loop-index-preserved
@@ -29,4 +30,4 @@ returns g c =
     let was : List Cell = cells_of (contents c.args.pages.now) c.args.number in
     gathers_same c.loop-index.invariant
     (ap (flat_map (line_at (c.args.number * 4096) cells was)) (take_all c.loop-index.index (range_with_len 0 512) (omega arith))
-    ∙ sym (lines_by_place (c.args.number * 4096) 512 cells was (whole_page now c.args.number c.requires.paged c.requires.mapped) (was_whole c.args.pages.now c.args.number c.requires.whole)))
+    ∙ sym (lines_by_place (c.args.number * 4096) 512 cells was (page_is now c.args.number c.requires.paged c.requires.mapped).cells (was_whole c.args.pages.now c.args.number c.requires.whole)))
