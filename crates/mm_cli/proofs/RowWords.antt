@@ -5,11 +5,11 @@ use Rattle.std.proofs.lemmas.List.{take_more, drop_more, take_all, drop_all, len
 use Rattle.std.proofs.lemmas.Bool.{eqb-true}
 use Rattle.mm_cli.specs.declared.table.Kind.{Kind}
 use Rattle.mm_cli.specs.declared.table.Place.{Place}
-use Rattle.mm_cli.specs.declared.table.Place.TheVariants.{File, Number, Groups, Mode, Range}
+use Rattle.mm_cli.specs.declared.table.Place.TheVariants.{File, Number, Groups, Mode, Range, Address, Use}
 use Rattle.mm_cli.specs.declared.table.Last.{Last}
 use Rattle.mm_cli.specs.declared.table.Last.TheVariants.{Nothing, Several}
 use Rattle.mm_cli.specs.declared.words.Word.{Word as Read}
-use Rattle.mm_cli.specs.Words.{Word, file_word, number_word, groups_word, mode_word, range_word, text_list, spelled, spoken, texts, words_of, FitsPlace, FitsLast, FitsRow, IsOfPlace, AreOfLast, AreOfRow}
+use Rattle.mm_cli.specs.Words.{Word, file_word, number_word, groups_word, mode_word, range_word, use_word, text_list, spelled, spoken, texts, words_of, FitsPlace, FitsLast, FitsRow, IsOfPlace, AreOfLast, AreOfRow}
 
 -- 1. What is left after the words of one place.
 
@@ -31,6 +31,10 @@ same_after Mode (mode_word c) (mode_word d) a b one two same = after_one _ _ a b
 same_after Mode (mode_word c) w a b one two same = absurd two
 same_after Range (range_word n l) (range_word m k) a b one two same = after_two _ _ _ _ a b same
 same_after Range (range_word n l) w a b one two same = absurd two
+same_after Address (number_word n) (number_word m) a b one two same = after_one _ _ a b same
+same_after Address (number_word n) w a b one two same = absurd two
+same_after Use (use_word c) (use_word d) a b one two same = after_one _ _ a b same
+same_after Use (use_word c) w a b one two same = absurd two
 same_after p v w a b one two same = absurd one
 
 -- 2. Lists of words.

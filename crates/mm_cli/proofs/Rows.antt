@@ -13,11 +13,11 @@ use denote.Enum.Declared.{tag_of}
 use Rattle.mm_cli.specs.contracts.table.Command.{the_type}
 use Rattle.mm_cli.specs.declared.table.Command.{Command}
 use Rattle.mm_cli.specs.declared.table.Place.{Place}
-use Rattle.mm_cli.specs.declared.table.Place.TheVariants.{File, Number, Groups, Mode, Range}
+use Rattle.mm_cli.specs.declared.table.Place.TheVariants.{File, Number, Groups, Mode, Range, Address, Use}
 use Rattle.mm_cli.specs.declared.table.Last.{Last}
 use Rattle.mm_cli.specs.declared.table.Last.TheVariants.{Nothing, Perhaps, Several}
 use Rattle.mm_cli.specs.declared.words.Word.{Word as Read}
-use Rattle.mm_cli.specs.Words.{AreOfRow, Word, file_word, number_word, groups_word, mode_word, range_word, mode_text, text_list, FitsPlace, FitsLast, FitsRow, room, spelled, spoken, texts}
+use Rattle.mm_cli.specs.Words.{AreOfRow, Word, file_word, number_word, groups_word, mode_word, range_word, use_word, mode_text, use_text, text_list, FitsPlace, FitsLast, FitsRow, room, spelled, spoken, texts}
 use Rattle.mm_cli.specs.Table.{Listed, Row, IsInTable, Asks, Fits, InNoRow, NoneIsNamed, is_same, row_for, table}
 use Rattle.mm_cli.specs.Said.{said, said_by}
 use Rattle.mm_cli.proofs.GroupWords.{one_list}
@@ -205,6 +205,12 @@ one_mode true false same = let clash : true ≡ false = ap (bytes_eq (codes "spl
 one_mode false true same = let clash : true ≡ false = ap (bytes_eq (codes "plain")) same in absurd (cc)
 one_mode false false same = refl
 
+one_use : (a b : Bool) → use_text a ≡ use_text b → a ≡ b
+one_use true true same = refl
+one_use true false same = let clash : true ≡ false = ap (bytes_eq (codes "write")) same in absurd (cc)
+one_use false true same = let clash : true ≡ false = ap (bytes_eq (codes "touch")) same in absurd (cc)
+one_use false false same = refl
+
 first_text : (t u : List ℕ) (a b : List (List ℕ)) → t ∷ a ≡ u ∷ b → t ≡ u
 first_text t u a b same = cc
 
@@ -227,6 +233,11 @@ one_word Range (range_word n l) (range_word m k) a b few one two same =
     let log : l ≡ k = decimal_injective l k (omega (arith, one.2)) (omega (arith, two.2)) (second_text _ _ _ _ a b same) in
     cc
 one_word Range (range_word n l) w a b few one two same = absurd two
+one_word Address (number_word n) (number_word m) a b few one two same =
+    ap (λ (k : ℕ). number_word k) (decimal_injective n m (omega (arith, one.1)) (omega (arith, two.1)) (first_text _ _ a b same))
+one_word Address (number_word n) w a b few one two same = absurd two
+one_word Use (use_word c) (use_word d) a b few one two same = ap (λ (write : Bool). use_word write) (one_use c d (first_text _ _ a b same))
+one_word Use (use_word c) w a b few one two same = absurd two
 one_word p v w a b few one two same = absurd one
 
 not_empty : (w : Word) (ws : List Word) → spelled (w ∷ ws) ≡ [] → ⊥
@@ -235,6 +246,7 @@ not_empty (number_word n) ws none = absurd (cc)
 not_empty (groups_word gs) ws none = absurd (cc)
 not_empty (mode_word split) ws none = absurd (cc)
 not_empty (range_word b l) ws none = absurd (cc)
+not_empty (use_word write) ws none = absurd (cc)
 
 one_last : (last : Last) (vs ws : List Word) → small_last last ≡ true → FitsLast last vs → FitsLast last ws → spelled vs ≡ spelled ws → vs ≡ ws
 one_last Nothing [] [] few one two same = refl

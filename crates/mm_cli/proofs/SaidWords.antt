@@ -4,7 +4,7 @@ use Rattle.std.specs.declared.alloc.Global.{Global}
 use Rattle.std.proofs.lemmas.List.{length-map}
 use Rattle.mm_cli.specs.declared.table.Kind.{Kind}
 use Rattle.mm_cli.specs.declared.table.Place.{Place}
-use Rattle.mm_cli.specs.declared.table.Place.TheVariants.{File, Number, Groups, Mode, Range}
+use Rattle.mm_cli.specs.declared.table.Place.TheVariants.{File, Number, Groups, Mode, Range, Address, Use}
 use Rattle.mm_cli.specs.declared.table.Last.{Last}
 use Rattle.mm_cli.specs.declared.table.Last.TheVariants.{Nothing, Perhaps, Several}
 use Rattle.mm_cli.specs.declared.words.Word.{Word as Read}
@@ -18,6 +18,8 @@ word_said (Number least most) (read.Number n) fits = refl
 word_said Groups (read.Groups groups) fits = refl
 word_said Mode (read.Mode split) fits = refl
 word_said Range (read.Range base log) fits = refl
+word_said Address (read.Number n) fits = refl
+word_said Use (read.Use write) fits = refl
 word_said place word is = absurd is
 
 none_said : (place : Place) → [] ≡ said_last (Perhaps place) None
@@ -31,6 +33,8 @@ one_said Groups (read.Groups groups) fits = refl
 one_said (Number least most) (read.Number n) fits = refl
 one_said Mode (read.Mode split) fits = refl
 one_said Range (read.Range base log) fits = refl
+one_said Address (read.Number n) fits = refl
+one_said Use (read.Use write) fits = refl
 one_said place word is = absurd is
 
 last_said : (last : Last) (words : List Read) → AreOfLast last words → spoken words ≡ said_last last (slice_get words 0)

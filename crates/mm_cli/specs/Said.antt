@@ -3,12 +3,13 @@ use Rattle.std.specs.Prelude.{ℕ, suc, Bool, false, List, [], ◌∷◌, map, s
 use Rattle.std.specs.declared.alloc.Global.{Global}
 use Rattle.mm_cli.specs.declared.table.Command.{Command}
 use Rattle.mm_cli.specs.declared.table.Place.{Place}
-use Rattle.mm_cli.specs.declared.table.Place.TheVariants.{File, Number, Groups, Mode, Range}
+use Rattle.mm_cli.specs.declared.table.Place.TheVariants.{File, Number, Groups, Mode, Range, Address, Use}
 use Rattle.mm_cli.specs.declared.table.Last.{Last}
 use Rattle.mm_cli.specs.declared.table.Last.TheVariants.{Nothing, Perhaps, Several}
 use Rattle.mm_cli.specs.declared.words.Word.{Word as Read}
 use Rattle.mm_cli.specs.declared.words.Word.TheVariants as read
-use Rattle.mm_cli.specs.Words.{Word, file_word, number_word, groups_word, mode_word, range_word, perhaps, texts}
+use Rattle.mm_cli.specs.Words.{Word, file_word, number_word, groups_word, mode_word, range_word, use_word}
+use Rattle.mm_cli.specs.Words.{perhaps, texts}
 use Rattle.mm_cli.specs.Table.{Listed, Row, Fits, row_for}
 
 -- 1. What a word that was read says, if there is one.
@@ -45,6 +46,10 @@ abbrev pub range_of : Option Read → ℕ × ℕ
 range_of (Some (read.Range base log)) = (base, log)
 range_of _ = (0, 0)
 
+abbrev pub use_of : Option Read → Bool
+use_of (Some (read.Use write)) = write
+use_of _ = false
+
 -- 2. What all words of a row say.
 
 -- what the word in a place says
@@ -54,6 +59,8 @@ said_at (Number least most) word = number_word (number_of word)
 said_at Groups word = groups_word (groups_of word)
 said_at Mode word = mode_word (mode_of word)
 said_at Range word = range_word (range_of word).0 (range_of word).1
+said_at Address word = number_word (number_of word)
+said_at Use word = use_word (use_of word)
 
 -- what the last words say
 abbrev pub said_last : Last → Option Read → List Word

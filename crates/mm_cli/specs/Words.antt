@@ -1,12 +1,12 @@
 -- What words say, how it is written, and where it fits.
-use Rattle.std.specs.Prelude.{◌≡◌, ℕ, ◌%◌, ◌^◌, ◌-◌, ◌≤◌, Bool, true, false, List, [], ◌∷◌, ◌++◌, map, length, String}
+use Rattle.std.specs.Prelude.{◌≡◌, ℕ, ◌%◌, ◌^◌, ◌-◌, ◌<◌, ◌≤◌, Bool, true, false, List, [], ◌∷◌, ◌++◌, map, length, String}
 use Rattle.std.specs.Prelude.{string_bytes, codes, decimal, Option, None, Some, ⊤}
 use Rattle.std.specs.declared.alloc.Global.{Global}
 use Rattle.mm_model.specs.Audit.{groups_text}
 use Rattle.mm_cli.specs.GroupList.{AreGroups}
 use Rattle.mm_cli.specs.declared.table.Kind.{Kind}
 use Rattle.mm_cli.specs.declared.table.Place.{Place}
-use Rattle.mm_cli.specs.declared.table.Place.TheVariants.{File, Number, Groups, Mode, Range}
+use Rattle.mm_cli.specs.declared.table.Place.TheVariants.{File, Number, Groups, Mode, Range, Address, Use}
 use Rattle.mm_cli.specs.declared.words.Word.{Word as Read}
 use Rattle.mm_cli.specs.declared.words.Word.TheVariants as read
 use Rattle.mm_cli.specs.declared.table.Last.{Last}
@@ -24,10 +24,16 @@ pub data Word : Type 0 where
   mode_word : (split : Bool) → Word
   -- the base of a range of addresses and the logarithm of its length
   range_word : (base log : ℕ) → Word
+  -- a use of a word: whether it is a write
+  use_word : (write : Bool) → Word
 
 abbrev pub mode_text : Bool → List ℕ
 mode_text false = codes "plain"
 mode_text true = codes "split"
+
+abbrev pub use_text : Bool → List ℕ
+use_text false = codes "touch"
+use_text true = codes "write"
 
 -- the texts of a word: two for a range, else one
 abbrev pub text_list : Word → List (List ℕ)
@@ -36,6 +42,7 @@ text_list (number_word n) = decimal n ∷ []
 text_list (groups_word groups) = groups_text groups ∷ []
 text_list (mode_word split) = mode_text split ∷ []
 text_list (range_word base log) = decimal base ∷ decimal log ∷ []
+text_list (use_word write) = use_text write ∷ []
 
 -- the texts of words, one after the other
 abbrev pub spelled : List Word → List (List ℕ)
@@ -55,12 +62,17 @@ files_in (number_word n ∷ words) = files_in words
 files_in (groups_word groups ∷ words) = files_in words
 files_in (mode_word split ∷ words) = files_in words
 files_in (range_word base log ∷ words) = files_in words
+files_in (use_word write ∷ words) = files_in words
 
 -- 2. Where words fit.
 
 -- a range of `2 ^ log` addresses, at least a word, whose base is a multiple of its length
 abbrev pub IsRange : (base log : ℕ) → Type 0
 IsRange base log = (base ≤ 2 ^ 54 - 1) × (3 ≤ log) × (log ≤ 54) × (base % 2 ^ log ≡ 0)
+
+-- the address of a word
+abbrev pub IsWordAddress : ℕ → Type 0
+IsWordAddress n = (n % 8 ≡ 0) × (n < 2 ^ 54)
 
 -- the word fits in the place
 abbrev pub FitsPlace : Place → Word → Type 0
@@ -69,6 +81,8 @@ FitsPlace (Number least most) (number_word n) = (least ≤ n) × (n ≤ most)
 FitsPlace Groups (groups_word groups) = AreGroups groups
 FitsPlace Mode (mode_word split) = ⊤
 FitsPlace Range (range_word base log) = IsRange base log
+FitsPlace Address (number_word n) = IsWordAddress n
+FitsPlace Use (use_word write) = ⊤
 FitsPlace _ _ = ⊥
 
 -- the words fit in what comes after the places of a row
@@ -99,6 +113,7 @@ words_of (read.Number n) = number_word n ∷ []
 words_of (read.Groups groups) = groups_word groups.items ∷ []
 words_of (read.Mode split) = mode_word split ∷ []
 words_of (read.Range base log) = range_word base log ∷ []
+words_of (read.Use write) = use_word write ∷ []
 
 abbrev pub spoken : List Read → List Word
 spoken [] = []
@@ -119,6 +134,8 @@ IsOfPlace (Number least most) (read.Number n) = (least ≤ n) × (n ≤ most)
 IsOfPlace Groups (read.Groups groups) = AreGroups groups.items
 IsOfPlace Mode (read.Mode split) = ⊤
 IsOfPlace Range (read.Range base log) = IsRange base log
+IsOfPlace Address (read.Number n) = IsWordAddress n
+IsOfPlace Use (read.Use write) = ⊤
 IsOfPlace _ _ = ⊥
 
 -- at most one word was read for what comes after the places of a row: several files are one word

@@ -53,7 +53,7 @@ fn row_named(name: &str) -> Option<&'static Listed<'static>>
 
 /// The row with this number.
 fn row_at(number: usize) -> &'static Listed<'static>
-    requires { number < 18 }
+    requires { number < 20 }
     ensures { slice_get table number ≡ Some (listed result.now) }
 {
     &TABLE[number]

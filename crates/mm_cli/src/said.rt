@@ -2,7 +2,7 @@
 ghost use Rattle.std.specs.Prelude.{◌≡◌, slice_get};
 ghost use Rattle.std.specs.Option.{option_map};
 ghost use Rattle.mm_cli.specs.Said.{name_of, name_perhaps_of, names_of, number_of, groups_of, groups_perhaps_of};
-ghost use Rattle.mm_cli.specs.Said.{mode_of, range_of};
+ghost use Rattle.mm_cli.specs.Said.{mode_of, range_of, use_of};
 
 use crate::words::Word;
 
@@ -36,7 +36,7 @@ pub fn names_at<'a>(words: &[Word<'a>], at: usize) -> &'a [String]
     }
 }
 
-/// The number in a place; zero if no number is there.
+/// The number or address in a place; zero if none is there.
 pub fn number_at(words: &[Word<'_>], at: usize) -> u64
     ensures { result ≡ number_of (slice_get words.now at) }
 {
@@ -83,5 +83,15 @@ pub fn range_at(words: &[Word<'_>], at: usize) -> (u64, u8)
     match words.get(at) {
         Some(Word::Range { base, log }) => (*base, *log),
         _ => (0, 0),
+    }
+}
+
+/// Whether the use in a place is a write. `false` if no use is there.
+pub fn use_at(words: &[Word<'_>], at: usize) -> bool
+    ensures { result ≡ use_of (slice_get words.now at) }
+{
+    match words.get(at) {
+        Some(Word::Use { write }) => *write,
+        _ => false,
     }
 }

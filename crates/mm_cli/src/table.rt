@@ -20,6 +20,8 @@ pub enum Command {
     Save,
     Continue,
     Net,
+    Explore,
+    Why,
 }
 
 /// A kind of input.
@@ -50,6 +52,10 @@ pub enum Place {
     Mode,
     /// Two words: the base of a range of addresses and the logarithm of its length.
     Range,
+    /// The address of a word: a multiple of 8 below 2^54, in decimal digits.
+    Address,
+    /// `touch`, or `write`.
+    Use,
 }
 
 /// What comes after the places of a row.
@@ -85,9 +91,22 @@ const MODE: Place = Place::Mode;
 
 const RANGE: Place = Place::Range;
 
+const ADDRESS: Place = Place::Address;
+
+const USE: Place = Place::Use;
+
+/// One group.
+const GROUP: Place = Place::Number { least: 0, most: 63 };
+
 /// The number of cycles.
 const CYCLES: Place = Place::Number {
     least: 0,
+    most: 1_000_000,
+};
+
+/// The most configurations that are looked at.
+const STATES: Place = Place::Number {
+    least: 1,
     most: 1_000_000,
 };
 
@@ -112,7 +131,7 @@ const NODES: Last = Last::Several {
 };
 
 /// The commands, each with its words.
-pub static TABLE: [Listed<'static>; 18] = [
+pub static TABLE: [Listed<'static>; 20] = [
     (
         "run",
         Command::Run,
@@ -161,4 +180,11 @@ pub static TABLE: [Listed<'static>; 18] = [
         Last::Perhaps(SCHEDULE),
     ),
     ("net", Command::Net, &[LINKS, EVENTS, CYCLES], NODES),
+    ("explore", Command::Explore, &[IMAGE, STATES], Last::Nothing),
+    (
+        "why",
+        Command::Why,
+        &[IMAGE, GROUP, ADDRESS, USE],
+        Last::Nothing,
+    ),
 ];

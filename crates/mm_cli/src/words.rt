@@ -1,7 +1,7 @@
 //! What the words of the command line say.
 ghost use Rattle.std.specs.Prelude.{◌≡◌, ◌≢◌, ◌≤◌, ◌++◌, ◌∷◌, [], ℕ, Bool, List, MatchOption, decimal, string_bytes};
-ghost use Rattle.mm_cli.specs.Words.{Word as Spoken, FitsPlace, IsOfPlace, IsRange, range_word, mode_text, text_list};
-ghost use Rattle.mm_cli.specs.Words.{texts, words_of};
+ghost use Rattle.mm_cli.specs.Words.{Word as Spoken, FitsPlace, IsOfPlace, IsRange, IsWordAddress, range_word, mode_text};
+ghost use Rattle.mm_cli.specs.Words.{use_text, text_list, texts, words_of};
 
 use crate::groups::read_groups;
 use crate::table::{Kind, Place};
@@ -20,6 +20,8 @@ pub enum Word<'a> {
     Mode { split: bool },
     /// The base of a range of addresses and the logarithm of its length.
     Range { base: u64, log: u8 },
+    /// A use of a word: whether it is a write.
+    Use { write: bool },
 }
 
 /// An `ArrayVec` fills its free places with this word.
@@ -83,6 +85,10 @@ fn read_word(place: Place, word: &String) -> Option<Word<'_>>
             split: read_mode(word.as_str())?,
         }),
         Place::Range => None,
+        Place::Address => Some(Word::Number(read_address(word.as_bytes())?)),
+        Place::Use => Some(Word::Use {
+            write: read_use(word.as_str())?,
+        }),
     }
 }
 
@@ -109,6 +115,29 @@ fn read_mode(word: &str) -> Option<bool>
     }
 }
 
+/// Whether a use's word says that it is a write.
+fn read_use(word: &str) -> Option<bool>
+    ensures { MatchOption result ((write : Bool) → word.now ≢ use_text write) (λ write. word.now ≡ use_text write) }
+{
+    match word {
+        "touch" => Some(false),
+        "write" => Some(true),
+        _ => None,
+    }
+}
+
+/// Reads the address of a word: a multiple of 8 below 2^54.
+fn read_address(digits: &[u8]) -> Option<u64>
+    ensures { MatchOption result ((n : ℕ) → IsWordAddress n → digits.now ≢ decimal n)
+        (λ n. (digits.now ≡ decimal n) × IsWordAddress n) }
+{
+    let address = number(digits, MAX_ADDRESS)?;
+    if address % WORD_BYTES != 0 {
+        return None;
+    }
+    Some(address)
+}
+
 /// Reads the base of a range of addresses and the logarithm of its length, 3 to 54. The base is a multiple of the
 /// length.
 fn read_range(base: &[u8], log: &[u8]) -> Option<(u64, u8)>
@@ -126,6 +155,9 @@ fn read_range(base: &[u8], log: &[u8]) -> Option<(u64, u8)>
 
 /// The last address.
 const MAX_ADDRESS: u64 = (1 << 54) - 1;
+
+/// The length of a word.
+const WORD_BYTES: u64 = 8;
 
 /// The logarithm of the length of a word.
 const MIN_LOG: u64 = 3;

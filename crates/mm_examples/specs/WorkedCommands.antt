@@ -5,7 +5,7 @@ use Rattle.mm_cli.specs.declared.table.Command.{Command}
 use Rattle.mm_cli.specs.declared.table.Command.TheVariants as command
 use Rattle.mm_cli.specs.declared.table.Kind.TheVariants as kind
 use Rattle.mm_cli.specs.declared.table.Place.{Place}
-use Rattle.mm_cli.specs.declared.table.Place.TheVariants.{File, Number, Groups, Mode, Range}
+use Rattle.mm_cli.specs.declared.table.Place.TheVariants.{File, Number, Groups, Mode, Range, Address, Use}
 use Rattle.mm_cli.specs.declared.table.Last.{Last}
 use Rattle.mm_cli.specs.declared.table.Last.TheVariants.{Nothing, Perhaps, Several}
 use Rattle.mm_cli.specs.Table.{Listed, table}
@@ -42,6 +42,8 @@ rows = row (codes "run") command.Run (image ∷ cycles ∷ []) perhaps_a_schedul
     ∷ row (codes "save") command.Save (image ∷ cycles ∷ []) perhaps_a_schedule
     ∷ row (codes "continue") command.Continue (image ∷ File kind.Checkpoint ∷ cycles ∷ []) perhaps_a_schedule
     ∷ row (codes "net") command.Net (File kind.Links ∷ File kind.Events ∷ cycles ∷ []) (Several kind.Image 8)
+    ∷ row (codes "explore") command.Explore (image ∷ Number 1 1000000 ∷ []) Nothing
+    ∷ row (codes "why") command.Why (image ∷ Number 0 63 ∷ Address ∷ Use ∷ []) Nothing
     ∷ []
 
 abbrev pub TableIsWrittenOut : Type 0

@@ -1,4 +1,4 @@
-use Rattle.std.proofs.Common.{◌≡◌, ◌∷◌, ◌++◌, [], List, map, inl, inr, sym, ap, append-nil, ◌∙◌, subst, refl}
+use Rattle.std.proofs.Common.{◌≡◌, ◌∷◌, [], List, map, inl, inr, sym, ap, append-nil, ◌∙◌, subst, refl}
 use Rattle.mm_cli.specs.declared.table.Last.{Last}
 use Rattle.mm_cli.specs.declared.table.Last.TheVariants.{Several, Perhaps}
 use Rattle.mm_cli.specs.declared.words.Word.{Word as Read}

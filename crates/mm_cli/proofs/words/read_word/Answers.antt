@@ -1,7 +1,7 @@
 use Rattle.std.proofs.Common.{◌∷◌, [], ℕ, List, refl, sym, ap, ◌∙◌, subst}
 use Rattle.mm_cli.specs.declared.table.Place.{Place}
 use Rattle.mm_cli.specs.declared.words.Word.TheVariants as read
-use Rattle.mm_cli.specs.Words.{file_word, number_word, groups_word, mode_word, FitsPlace, IsOfPlace}
+use Rattle.mm_cli.specs.Words.{file_word, number_word, groups_word, mode_word, use_word, FitsPlace, IsOfPlace}
 use Rattle.mm_cli.proofs.words.read_word.Goals as goal
 
 pub returns-in-File : goal.returns-in-File
@@ -30,3 +30,17 @@ returns-in_ok-read_mode-in-Mode c =
     let said = c.in_ok-read_mode-in-Mode.ensures in
     let fits : FitsPlace c.args.place (mode_word split) = subst (λ (place : Place). FitsPlace place (mode_word split)) (sym c.in-Mode.is) tt in
     (mode_word split, subst (λ (place : Place). IsOfPlace place (read.Mode split)) (sym c.in-Mode.is) tt, refl, fits, ap (λ (text : List ℕ). text ∷ []) (sym c.as_str-in-Mode.ensures.value ∙ said))
+
+pub returns-in_ok-read_address-in-Address : goal.returns-in_ok-read_address-in-Address
+returns-in_ok-read_address-in-Address c =
+    let n = c.in_ok-read_address-in-Address.field-0 in
+    let said = c.in_ok-read_address-in-Address.ensures in
+    let fits : FitsPlace c.args.place (number_word n) = subst (λ (place : Place). FitsPlace place (number_word n)) (sym c.in-Address.is) said.1 in
+    (number_word n, subst (λ (place : Place). IsOfPlace place (read.Number n)) (sym c.in-Address.is) said.1, refl, fits, ap (λ (text : List ℕ). text ∷ []) (sym c.as_bytes-in-Address.ensures.value ∙ said.0))
+
+pub returns-in_ok-read_use-in-Use : goal.returns-in_ok-read_use-in-Use
+returns-in_ok-read_use-in-Use c =
+    let write = c.in_ok-read_use-in-Use.field-0 in
+    let said = c.in_ok-read_use-in-Use.ensures in
+    let fits : FitsPlace c.args.place (use_word write) = subst (λ (place : Place). FitsPlace place (use_word write)) (sym c.in-Use.is) tt in
+    (use_word write, subst (λ (place : Place). IsOfPlace place (read.Use write)) (sym c.in-Use.is) tt, refl, fits, ap (λ (text : List ℕ). text ∷ []) (sym c.as_str-in-Use.ensures.value ∙ said))
