@@ -77,6 +77,7 @@ COMMANDS = (
     Command("link", FILES, "the image of sources and objects", (OUTPUT,), module="make"),
     Command("migrate", "FILE.. MODE", "an image of version 2, in which loads answer at once (plain) or later (split)", (OUTPUT,), least=2, module="make"),
     Command("hex", FILES, "an image for Verilog's $readmemh: its memory, its frames with their pages, or its slots", (PART, OUTPUT, *C)),
+    Command("grade", "EXERCISE FILE..", "whether a program is what an exercise of the course asks for", (*C,), least=2),
     Command("gen", "NUMBER SIZE", "the generated image of a number", (OUTPUT,), least=2, most=2, module="make"),
     Command("soak", "NUMBER SIZE", "run that image, and write a summary", (CYCLES,), least=2, most=2, module="make"),
     Command("help", "[TOPIC]", "what a command, an operation, a fault or another topic is", (), least=0),
