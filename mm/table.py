@@ -51,6 +51,7 @@ CLANG = Option("--clang", "C: a word for Clang, such as -DSIZE=3; may be repeate
 C = (LEVEL, HEAP, STACK, CLANG)
 SLOT = Option("--slot", "the slot and the group of the program's thread, 0 to 15; default: 0", "N")
 PREFIX = Option("--prefix", "what the names of the program's segments begin with", "NAME")
+STATES = Option("--states", "how many configurations are looked at, 1 to 1000000; else 100000", "N")
 PART = Option("--part", "memory, frames, pages or slots; default: memory (docs/HARDWARE.md)", "NAME")
 RUNNING = (CYCLES, SCHEDULE, TURNS, NAMES)
 FILES = "FILE.."
@@ -65,6 +66,7 @@ COMMANDS = (
     Command("symbols", FILES, "list segments and labels with their addresses", (NAMES, JSON, *C)),
     Command("dis", "FILE", "show an image or an object word by word: address, word, instruction and name", (NAMES,), most=1),
     Command("audit", FILES, "say what each group can read and write, whatever its code does", (GROUPS, NAMES, JSON, *C)),
+    Command("explore", FILES, "say what a program can do under any schedule, with a shortest one for each finding", (STATES, NAMES, *C)),
     Command("holders", "FILE.. RANGE", "say who holds a pointer into a range (`mm help ranges`)", (NAMES,), least=2, module="ranges"),
     Command("sweep", "FILE.. RANGE", "make an image in which nobody has a pointer into a range", (OUTPUT, NAMES), least=2, module="ranges"),
     Command("extract", "FILE.. GROUPS", "make an image of some groups and what they can touch", (OUTPUT,), least=2, module="make"),

@@ -2,7 +2,7 @@
 
 _mm() {
     local word=${COMP_WORDS[COMP_CWORD]} before=${COMP_WORDS[COMP_CWORD-1]} command='' at
-    local commands='run debug trace view vcd symbols dis audit holders sweep extract solo net save continue cc asm link migrate hex grade gen soak help'
+    local commands='run debug trace view vcd symbols dis audit explore holders sweep extract solo net save continue cc asm link migrate hex grade gen soak help'
     COMPREPLY=()
     for ((at = 1; at < COMP_CWORD; at++)); do
         case ${COMP_WORDS[at]} in
@@ -14,7 +14,7 @@ _mm() {
     case $before in
         --program | --schedule | --names | --output | -s | -o) compopt -o default; return ;;
         --part) COMPREPLY=($(compgen -W 'memory frames pages slots' -- "$word")); return ;;
-        --cycles | --turns | --groups | --from | -n | -t | -g) return ;;
+        --cycles | --states | --turns | --groups | --from | -n | -t | -g) return ;;
         --optimise | -O) COMPREPLY=($(compgen -W '0 1 2 3 s' -- "$word")); return ;;
         --heap | --stack | --clang | --slot | --prefix) return ;;
     esac
@@ -33,6 +33,7 @@ _mm() {
             symbols) options="$options --names --json --optimise --heap --stack --clang" ;;
             cc) options="$options --optimise --heap --stack --clang --slot --prefix --output" ;;
             hex) options="$options --part --output --optimise --heap --stack --clang" ;;
+            explore) options="$options --states --names --optimise --heap --stack --clang" ;;
             grade) options="$options --optimise --heap --stack --clang" ;;
             dis | holders) options="$options --names" ;;
             audit) options="$options --groups --names --json --optimise --heap --stack --clang" ;;
