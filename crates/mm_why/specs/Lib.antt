@@ -1,0 +1,3 @@
+pub mod Derivations
+pub mod Pruning
+pub mod Text

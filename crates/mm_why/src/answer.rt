@@ -1,0 +1,82 @@
+//! Why a group is granted a word.
+
+use crate::context::Context;
+use crate::give::{give, know, no_work};
+use crate::goal::{Owner, Use, earliest, first_owner, owners};
+use crate::line::Line;
+use crate::prune::prune;
+use crate::rounds::{Rounds, all_rounds};
+use mm_flow::{sharing_edges, spread};
+use mm_graph::{Entries, Graph, built};
+use mm_image::Image;
+use mm_word::NoMemory;
+use std::alloc::Global;
+
+/// For each node the groups that have its pointer by their own slots, by cells that they load and by entries.
+fn own_marks(alloc: Global, graph: &Graph) -> Result<Vec<u64>, NoMemory> {
+    let Ok(mut marks) = Vec::from_slice(alloc, &graph.start) else {
+        return Err(NoMemory);
+    };
+    match spread(alloc, &mut marks, &graph.nodes, &graph.targets, &graph.parents) {
+        Ok(()) => Ok(marks),
+        Err(_) => Err(NoMemory),
+    }
+}
+
+/// Which groups share with which, given what each has of its own.
+fn sharing(alloc: Global, graph: &Graph, marks: &[u64]) -> Result<Rounds, NoMemory> {
+    let mut meets = [0u64; 64];
+    match sharing_edges(alloc, marks, &graph.nodes, &graph.parents, &mut meets) {
+        Ok(()) => all_rounds(alloc, graph.links, meets),
+        Err(_) => Err(NoMemory),
+    }
+}
+
+/// The derivation of a use that comes from an owner.
+fn derivation(
+    alloc: Global,
+    context: &Context<'_>,
+    owner: Owner,
+    group: usize,
+    word: u64,
+    how: Use,
+) -> Result<Vec<Line>, NoMemory> {
+    let mut work = no_work(alloc)?;
+    know(alloc, context, &mut work, owner.group)?;
+    let place = match &work.searches[owner.group] {
+        Some(found) => earliest(&work.lines, found, how, word),
+        None => unreachable!(),
+    };
+    let Some(place) = place else {
+        unreachable!()
+    };
+    let pointer = work.lines[place].pointer;
+    let last = give(alloc, context, &mut work, owner.round, owner.group, pointer, group)?;
+    prune(alloc, &work.lines, last)
+}
+
+/// The derivation by which a group is granted a use of the word at an address, if all entries may be made; `None` if it
+/// is not granted.
+pub fn why(
+    alloc: Global,
+    image: &Image,
+    group: u8,
+    word: u64,
+    how: Use,
+) -> Result<Option<Vec<Line>>, NoMemory> {
+    let Ok(graph) = built(alloc, image, &Entries::All) else {
+        return Err(NoMemory);
+    };
+    let marks = own_marks(alloc, &graph)?;
+    let rounds = sharing(alloc, &graph, &marks)?;
+    let Some(owner) = first_owner(&rounds, owners(&graph, &marks, how, word), group as usize) else {
+        return Ok(None);
+    };
+    let context = Context {
+        image,
+        graph: &graph,
+        rounds: &rounds,
+    };
+    let lines = derivation(alloc, &context, owner, group as usize, word, how)?;
+    Ok(Some(lines))
+}
