@@ -1,5 +1,7 @@
 //! Lists of lines, each of which follows from the image and from earlier lines.
 
+ghost use Rattle.std.specs.Prelude.{◌≡◌, [], ◌∷◌, ◌++◌, IfOk, OnOk, length};
+
 use crate::line::Line;
 use mm_word::{GuardedPtr, NoMemory};
 
@@ -15,7 +17,10 @@ pub fn find(lines: &[Line], group: u8, pointer: GuardedPtr) -> Option<usize> {
 }
 
 /// Adds a line, and gives its index.
-pub fn push(lines: &mut Vec<Line>, line: Line) -> Result<usize, NoMemory> {
+pub fn push(lines: &mut Vec<Line>, line: Line) -> Result<usize, NoMemory>
+    ensures items { OnOk result (lines.new.items ≡ lines.old.items ++ line ∷ []) }
+    ensures place { IfOk result (λ place. place ≡ length lines.old.items) }
+{
     let place = lines.len();
     if lines.push(line).is_err() {
         return Err(NoMemory);

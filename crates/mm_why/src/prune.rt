@@ -1,13 +1,22 @@
 //! Only the lines that the last one needs.
 
-ghost use Rattle.std.specs.Prelude.{◌≡◌, ℕ, ◌+◌, ◌-◌, ◌<◌, ◌≤◌, IfOk, length, slice_index};
+ghost use Rattle.std.specs.Prelude.{◌≡◌, ℕ, ◌+◌, ◌-◌, ◌<◌, ◌≤◌, IfOk, OnOk, length, slice_index, slice_set, true};
 ghost use Rattle.mm_model.specs.Image.{Image as ImageValue};
 ghost use Rattle.mm_why.specs.Derivations.{line_at, Names, EachFollows, NoneTwice, IsDerivation, Says};
-ghost use Rattle.mm_why.specs.Pruning.{NameEarlier, AddsNamed, Needs, moved, HaveKept};
+ghost use Rattle.mm_why.specs.Pruning.{NameEarlier, AddsNamed, Needs, moved, AreKept, HaveKept};
 
 use crate::line::{Line, Rule};
+use crate::lines::push;
 use mm_word::NoMemory;
 use std::alloc::Global;
+
+/// Notes a line.
+fn note(needed: &mut [bool], line: usize)
+    requires { line < length needed.old }
+    ensures { needed.new ≡ slice_set needed.old line true }
+{
+    needed[line] = true;
+}
 
 /// Notes the lines that a rule names.
 fn need(needed: &mut [bool], rule: Rule)
@@ -16,20 +25,27 @@ fn need(needed: &mut [bool], rule: Rule)
 {
     match rule {
         Rule::Register { .. } | Rule::Runs { .. } => {}
-        Rule::Cell { by, .. } | Rule::Below { by } | Rule::Entered { by } | Rule::Made { by } => {
-            needed[by] = true;
-        }
-        Rule::Served { from, .. } => {
-            needed[from] = true;
-        }
+        Rule::Cell { by, .. } => note(needed, by),
+        Rule::Below { by } => note(needed, by),
         Rule::Passed {
             from, store, load, ..
         } => {
-            needed[from] = true;
-            needed[store] = true;
-            needed[load] = true;
+            note(needed, from);
+            note(needed, store);
+            note(needed, load);
         }
+        Rule::Entered { by } => note(needed, by),
+        Rule::Served { from, .. } => note(needed, from),
+        Rule::Made { by } => note(needed, by),
     }
+}
+
+/// The new index of a line.
+fn place_of(places: &[usize], line: usize) -> usize
+    requires { line < length places.now }
+    ensures { result ≡ slice_index places.now line }
+{
+    places[line]
 }
 
 /// The rule with other indices for the lines that it names.
@@ -41,9 +57,11 @@ fn moved(rule: Rule, places: &[usize]) -> Rule
         Rule::Register { .. } | Rule::Runs { .. } => rule,
         Rule::Cell { word, by } => Rule::Cell {
             word,
-            by: places[by],
+            by: place_of(places, by),
         },
-        Rule::Below { by } => Rule::Below { by: places[by] },
+        Rule::Below { by } => Rule::Below {
+            by: place_of(places, by),
+        },
         Rule::Passed {
             word,
             from,
@@ -51,16 +69,33 @@ fn moved(rule: Rule, places: &[usize]) -> Rule
             load,
         } => Rule::Passed {
             word,
-            from: places[from],
-            store: places[store],
-            load: places[load],
+            from: place_of(places, from),
+            store: place_of(places, store),
+            load: place_of(places, load),
         },
-        Rule::Entered { by } => Rule::Entered { by: places[by] },
+        Rule::Entered { by } => Rule::Entered {
+            by: place_of(places, by),
+        },
         Rule::Served { slot, from } => Rule::Served {
             slot,
-            from: places[from],
+            from: place_of(places, from),
         },
-        Rule::Made { by } => Rule::Made { by: places[by] },
+        Rule::Made { by } => Rule::Made {
+            by: place_of(places, by),
+        },
+    }
+}
+
+/// Notes the lines that the line at an index names, if it is needed.
+fn need_at(needed: &mut [bool], lines: &[Line], at: usize)
+    requires small { at < length needed.old }
+    requires fits { length needed.old ≤ length lines.now }
+    requires earlier { NameEarlier lines.now }
+    ensures { (last : ℕ) → Needs lines.now last (at + 1) needed.old → Needs lines.now last at needed.new }
+{
+    if needed[at] {
+        let line = lines[at];
+        need(needed, line.rule);
     }
 }
 
@@ -75,12 +110,33 @@ fn needed_by(alloc: Global, lines: &[Line], last: usize) -> Result<Vec<bool>, No
     };
     needed[last] = true;
     for k in 0..last + 1 {
-        let at = last - k;
-        if needed[at] {
-            need(&mut needed, lines[at].rule);
-        }
+        need_at(&mut needed, lines, last - k);
     }
     Ok(needed)
+}
+
+/// Adds the line at an index, with the new indices in its rule, if it is needed.
+fn keep(
+    places: &mut [usize],
+    out: &mut Vec<Line>,
+    lines: &[Line],
+    needed: &[bool],
+    k: usize,
+) -> Result<(), NoMemory>
+    requires small { k < length needed.now }
+    requires fits { length needed.now ≤ length lines.now }
+    requires earlier { NameEarlier lines.now }
+    requires kept { AreKept lines.now needed.now k places.old out.old.items }
+    ensures { OnOk result (AreKept lines.now needed.now (k + 1) places.new out.new.items) }
+{
+    if !needed[k] {
+        return Ok(());
+    }
+    let line = lines[k];
+    places[k] = out.len();
+    let rule = moved(line.rule, places);
+    push(out, Line { rule, ..line })?;
+    Ok(())
 }
 
 /// The lines that are needed, with the new indices in their rules.
@@ -94,14 +150,7 @@ fn kept(alloc: Global, lines: &[Line], needed: &[bool]) -> Result<Vec<Line>, NoM
     };
     let mut out = Vec::new(alloc);
     for k in 0..needed.len() {
-        if needed[k] {
-            places[k] = out.len();
-            let line = lines[k];
-            let rule = moved(line.rule, &places);
-            if out.push(Line { rule, ..line }).is_err() {
-                return Err(NoMemory);
-            }
-        }
+        keep(&mut places, &mut out, lines, needed, k)?;
     }
     Ok(out)
 }
@@ -114,8 +163,14 @@ pub fn prune(alloc: Global, lines: &[Line], last: usize) -> Result<Vec<Line>, No
         → EachFollows i lines.now
         → NoneTwice lines.now
         → IsDerivation i out.items) }
-    ensures last { IfOk result (λ out. Says out.items (length out.items) (length out.items - 1) (line_at lines.now last).group (line_at lines.now last).pointer) }
+    ensures last { IfOk result (λ out. Says
+        out.items
+        (length out.items)
+        (length out.items - 1)
+        (line_at lines.now last).group
+        (line_at lines.now last).pointer) }
 {
     let needed = needed_by(alloc, lines, last)?;
-    kept(alloc, lines, &needed)
+    let out = kept(alloc, lines, &needed)?;
+    Ok(out)
 }
