@@ -1,3 +1,4 @@
 pub mod Granting
 pub mod Named
 pub mod Pruning
+pub mod Growing

@@ -23,7 +23,7 @@ whole xs rest n e = take_at xs rest n e
 pub same_or_later : (at k : ℕ) → at ≤ k → (at ≡ k) ⊎ (at + 1 ≤ k)
 same_or_later at k le = elim (cases_lt at k) [ inl lt ↦ inr (omega arith) | inr ge ↦ inl (omega arith) ]
 
-same_or_before : (j k : ℕ) → j < k + 1 → (j ≡ k) ⊎ (j < k)
+pub same_or_before : (j k : ℕ) → j < k + 1 → (j ≡ k) ⊎ (j < k)
 same_or_before j k lt = elim (cases_lt j k) [ inl le ↦ inr le | inr ge ↦ inl (omega arith) ]
 
 module _ (lines : List Line) (earlier : NameEarlier lines) (last at : ℕ) (small : at < length lines) where

@@ -1,3 +1,4 @@
 pub mod Derivations
 pub mod Pruning
+pub mod Traces
 pub mod Text
