@@ -2,3 +2,4 @@ pub mod Granting
 pub mod Named
 pub mod Pruning
 pub mod Growing
+pub mod Rounding

@@ -1,4 +1,5 @@
 pub mod Derivations
 pub mod Pruning
 pub mod Traces
+pub mod Rounds
 pub mod Text

@@ -1,6 +1,10 @@
 //! To which groups all that a group has comes, round by round.
 
-use mm_flow::{share, shared_by};
+ghost use Rattle.std.specs.Prelude.{◌≡◌, ◌↔◌, [], ◌∷◌, ◌++◌, IsTrue, IfOk, OnOk};
+ghost use Rattle.std.specs.Int.{bit_at};
+ghost use Rattle.mm_why.specs.Rounds.{IsHanding, OwnSoFar, AreRounds};
+
+use mm_flow::{propagate_shared, share, shared_by};
 use mm_word::NoMemory;
 use std::alloc::Global;
 
@@ -18,22 +22,28 @@ pub struct Rounds {
     pub rounds: Vec<Masks>,
 }
 
+/// Whether a mask has a group.
+pub fn has(mask: u64, group: usize) -> bool
+    ensures { IsTrue result ↔ (bit_at mask group ≡ 1) }
+{
+    group < 64 && (mask >> group) & 1 == 1
+}
+
 /// Each group has what it has.
-fn own() -> Masks {
+fn own() -> Masks
+    ensures { OwnSoFar 64 result }
+{
     let mut masks = [0u64; 64];
     for g in 0..64usize {
-        masks[g] = 1u64 << g;
+        masks[g] |= 1u64 << g;
     }
     masks
 }
 
-/// Whether a mask has a group.
-pub fn has(mask: u64, group: usize) -> bool {
-    group < 64 && (mask >> group) & 1 == 1
-}
-
 /// The groups to which a group hands all that it has, if what each has of its own has come to these groups.
-pub fn handing(links: &Masks, meets: &Masks, now: &Masks) -> Masks {
+fn handing(links: &Masks, meets: &Masks, now: &Masks) -> Masks
+    ensures { IsHanding links.now meets.now now.now result }
+{
     let mut edges = *links;
     for h in 0..64usize {
         let takers = shared_by(meets[h], now);
@@ -42,28 +52,33 @@ pub fn handing(links: &Masks, meets: &Masks, now: &Masks) -> Masks {
     edges
 }
 
-/// The next round.
-fn next(now: &Masks, edges: &Masks) -> Masks {
-    let mut masks = *now;
-    for h in 0..64usize {
-        masks[h] |= shared_by(now[h], edges);
+/// Adds a round.
+fn keep(rounds: &mut Vec<Masks>, now: Masks) -> Result<(), NoMemory>
+    ensures { OnOk result (rounds.new.items ≡ rounds.old.items ++ now ∷ []) }
+{
+    if rounds.push(now).is_err() {
+        return Err(NoMemory);
     }
-    masks
+    Ok(())
 }
 
 /// All rounds, until one changes nothing.
-pub fn all_rounds(alloc: Global, links: Masks, meets: Masks) -> Result<Rounds, NoMemory> {
+pub fn all_rounds(alloc: Global, links: Masks, meets: Masks) -> Result<Rounds, NoMemory>
+    ensures links { IfOk result (λ r. r.links ≡ links) }
+    ensures meets { IfOk result (λ r. r.meets ≡ meets) }
+    ensures rounds { IfOk result (λ r. AreRounds links meets r.rounds.items) }
+{
     let mut rounds = Vec::new(alloc);
     let mut now = own();
     loop {
-        if rounds.push(now).is_err() {
-            return Err(NoMemory);
-        }
+        keep(&mut rounds, now)?;
         let edges = handing(&links, &meets, &now);
-        let after = next(&now, &edges);
-        if after == now {
-            return Ok(Rounds { links, meets, rounds });
+        if !propagate_shared(&mut now, &edges) {
+            return Ok(Rounds {
+                links,
+                meets,
+                rounds,
+            });
         }
-        now = after;
     }
 }
