@@ -3,3 +3,4 @@ pub mod Named
 pub mod Pruning
 pub mod Growing
 pub mod Rounding
+pub mod Reasoning

@@ -2,4 +2,5 @@ pub mod Derivations
 pub mod Pruning
 pub mod Traces
 pub mod Rounds
+pub mod Reasons
 pub mod Text

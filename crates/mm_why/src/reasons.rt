@@ -1,5 +1,11 @@
 //! Why all that a group has comes to another in a round.
 
+ghost use Rattle.std.specs.Prelude.{◌≡◌, ℕ, ◌<◌, [], MatchOption, length};
+ghost use Rattle.std.specs.Int.{bit_at};
+ghost use Rattle.mm_flow.specs.Flow.{Has};
+ghost use Rattle.mm_why.specs.Rounds.{HandsOn, AreRounds, round_at};
+ghost use Rattle.mm_why.specs.Reasons.{IsFirstIn, IsMeeting, NoMeeting, IsHand, IsReason};
+
 use crate::rounds::{Masks, Rounds, has};
 
 /// How a group hands all that it has to another.
@@ -19,87 +25,89 @@ pub struct Reason {
     pub hand: Hand,
 }
 
-/// How far a reason is from the plainest one.
-fn cost(reason: Reason, to: usize) -> usize {
-    match reason.hand {
-        Hand::Linked => 0,
-        Hand::Met { giver, taker } => {
-            1 + (if giver == reason.by { 0 } else { 1 }) + (if taker == to { 0 } else { 1 })
+/// The first group of a mask that has a group in a table.
+fn first_in(mask: u64, table: &Masks, to: usize) -> Option<usize>
+    ensures { MatchOption
+        result
+        ((k : ℕ) → k < 64 → bit_at mask k ≡ 1 → Has table.now k to → ⊥)
+        (IsFirstIn mask table.now to) }
+{
+    for k in 0..64usize {
+        if has(mask, k) && has(table[k], to) {
+            return Some(k);
         }
     }
+    None
 }
 
-/// The plainer of two reasons.
-fn plainer(one: Option<Reason>, other: Reason, to: usize) -> Option<Reason> {
-    match one {
-        Some(reason) => {
-            if cost(other, to) < cost(reason, to) {
-                Some(other)
-            } else {
-                one
-            }
-        }
-        None => Some(other),
-    }
-}
-
-/// The plainest meeting by which one group hands to another in a round.
-fn meeting(meets: &Masks, now: &Masks, by: usize, to: usize) -> Option<Reason> {
-    let mut best = None;
+/// Two groups that meet, of which what the one has has come to the first group, and what the other has to the second.
+fn meeting(meets: &Masks, now: &Masks, by: usize, to: usize) -> Option<(usize, usize)>
+    ensures { MatchOption
+        result
+        (NoMeeting meets.now now.now by to 64)
+        (λ pair. IsMeeting meets.now now.now by to pair.0 pair.1) }
+{
     for giver in 0..64usize {
         if has(now[giver], by) {
-            best = taken(meets[giver], now, giver, by, to, best);
+            if let Some(taker) = first_in(meets[giver], now, to) {
+                return Some((giver, taker));
+            }
         }
     }
-    best
+    None
 }
 
-/// The same for one giver, if it is plainer than what was found.
-fn taken(
-    meets: u64,
-    now: &Masks,
-    giver: usize,
-    by: usize,
-    to: usize,
-    found: Option<Reason>,
-) -> Option<Reason> {
-    let mut best = found;
-    for taker in 0..64usize {
-        if has(meets, taker) && has(now[taker], to) {
-            best = plainer(
-                best,
-                Reason {
+/// A group of a mask that hands to another since two groups meet.
+fn met_by(meets: &Masks, now: &Masks, mask: u64, to: usize) -> Option<Reason>
+    ensures { MatchOption
+        result
+        ((k : ℕ) → k < 64 → bit_at mask k ≡ 1 → NoMeeting meets.now now.now k to 64)
+        (λ r. (r.by < 64) × (bit_at mask r.by ≡ 1) × IsHand [] meets.now now.now r.by to r.hand) }
+{
+    for by in 0..64usize {
+        if has(mask, by) {
+            if let Some((giver, taker)) = meeting(meets, now, by, to) {
+                return Some(Reason {
                     by,
                     hand: Hand::Met { giver, taker },
-                },
-                to,
-            );
+                });
+            }
         }
     }
-    best
+    None
 }
 
-/// Why one group hands to another.
-fn handed(links: &Masks, meets: &Masks, now: &Masks, by: usize, to: usize) -> Option<Reason> {
-    if has(links[by], to) {
+/// Why all that the group `owner` has comes to the group `to` in the round after a given one. A reason that needs no
+/// other group's pointers comes first.
+pub fn reason_for(rounds: &Rounds, round: usize, owner: usize, to: usize) -> Option<Reason>
+    requires rounds { AreRounds rounds.now.links rounds.now.meets rounds.now.rounds.items }
+    requires round { round < length rounds.now.rounds.items }
+    requires owner { owner < 64 }
+    requires to { to < 64 }
+    ensures { MatchOption
+        result
+        (HandsOn rounds.now.links rounds.now.meets (round_at rounds.now.rounds.items round) owner to → ⊥)
+        (IsReason rounds.now.links rounds.now.meets (round_at rounds.now.rounds.items round) owner to) }
+{
+    let now = rounds.rounds[round];
+    let mask = now[owner];
+    if let Some(by) = first_in(mask, &rounds.links, to) {
         return Some(Reason {
             by,
             hand: Hand::Linked,
         });
     }
-    meeting(meets, now, by, to)
-}
-
-/// Why what the group `owner` has of its own comes to the group `to` in the round after a given one.
-pub fn reason_for(rounds: &Rounds, round: usize, owner: usize, to: usize) -> Option<Reason> {
-    let now = rounds.rounds[round];
-    let mut best = None;
-    for by in 0..64usize {
-        if has(now[owner], by) {
-            if let Some(reason) = handed(&rounds.links, &rounds.meets, &now, by, to) {
-                best = plainer(best, reason, to);
-            }
-        }
+    if let Some(by) = first_in(mask, &rounds.meets, to) {
+        return Some(Reason {
+            by,
+            hand: Hand::Met {
+                giver: by,
+                taker: to,
+            },
+        });
     }
-    best
+    match met_by(&rounds.meets, &now, mask, to) {
+        Some(reason) => Some(reason),
+        None => None,
+    }
 }
