@@ -4,3 +4,4 @@ pub mod Pruning
 pub mod Growing
 pub mod Rounding
 pub mod Reasoning
+pub mod Searching

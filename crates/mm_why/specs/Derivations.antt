@@ -12,8 +12,8 @@ use Rattle.mm_model.specs.Reach.Entries.{All}
 use Rattle.mm_why.specs.declared.line.Line.{Line}
 use Rattle.mm_why.specs.declared.line.Rule.{Rule}
 use Rattle.mm_why.specs.declared.line.Rule.TheVariants as rules
-use Rattle.mm_why.specs.declared.goal.Use.{Use}
-use Rattle.mm_why.specs.declared.goal.Use.TheVariants as uses
+use Rattle.mm_why.specs.declared.uses.Use.{Use}
+use Rattle.mm_why.specs.declared.uses.Use.TheVariants as uses
 
 -- the line past the end of a list
 abbrev pub no_line : Line

@@ -3,4 +3,5 @@ pub mod Pruning
 pub mod Traces
 pub mod Rounds
 pub mod Reasons
+pub mod Searches
 pub mod Text

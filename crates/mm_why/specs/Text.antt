@@ -7,7 +7,7 @@ use Rattle.mm_model.specs.Lines.{newline, word_text}
 use Rattle.mm_why.specs.declared.line.Line.{Line}
 use Rattle.mm_why.specs.declared.line.Rule.{Rule}
 use Rattle.mm_why.specs.declared.line.Rule.TheVariants as rules
-use Rattle.mm_why.specs.declared.goal.Use.{Use}
+use Rattle.mm_why.specs.declared.uses.Use.{Use}
 use Rattle.mm_why.specs.Derivations.{IsGranted, Derives}
 
 -- the number of the line at an index: lines are counted from 1 on

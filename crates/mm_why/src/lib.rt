@@ -14,11 +14,7 @@
 //! | only the lines that the last one needs | `prune` |
 #![tactic(auto)]
 
-mod answer;
-mod carriers;
-mod context;
-mod give;
-mod goal;
+mod uses;
 pub mod laws;
 mod line;
 mod lines;
@@ -27,6 +23,5 @@ mod reasons;
 mod rounds;
 mod search;
 
-pub use goal::Use;
+pub use uses::Use;
 pub use line::{Line, Rule};
-pub use answer::why;

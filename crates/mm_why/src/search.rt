@@ -1,29 +1,83 @@
 //! The pointers that one group has by its own slots, by cells that it loads and by entries.
 
+ghost use Rattle.std.specs.Prelude.{◌≡◌, ℕ, ◌+◌, ◌<◌, ◌≤◌, [], ◌∷◌, ◌++◌, OnOk, IfOk, Contains, Some, None, length, slice_index, slice_set, List, IsTrue, false};
+ghost use Rattle.mm_word.specs.declared.word.Word.TheVariants.{Ptr};
+ghost use Rattle.mm_model.specs.Slot.{Slot as SlotValue};
+ghost use Rattle.mm_model.specs.Image.{Image as ImageValue};
+ghost use Rattle.mm_graph.specs.declared.canonical_ptr.CanonicalPtr.{CanonicalPtr as KeyType};
+ghost use Rattle.mm_graph.specs.Key.{IsRising, key_at};
+ghost use Rattle.mm_why.specs.declared.line.Rule.TheVariants.{Cell as FromCell, Entered as ByEntry};
+ghost use Rattle.mm_why.specs.Derivations.{line_at, Follows};
+ghost use Rattle.mm_why.specs.Searches.{stage_of, place_at, IsPlaced, AtNode, Searching, Further, Advances, HeldBy, WordPlaced, SlotPlaced, IsSlotOf, HasWords, RegistersPlaced, IsClosed};
+
 use crate::line::{Line, Rule};
 use crate::lines::push;
 use mm_graph::{CanonicalPtr, Graph, find, standing_in};
 use mm_image::Image;
 use mm_model::Slot;
-use mm_word::{GuardedPtr, NoMemory, Perm, Word, enter};
+use mm_word::{GuardedPtr, NoMemory, Word, enter};
 use std::alloc::Global;
 
-/// What a search has found: for each node the line that grants the group a pointer of the node, and the nodes in the
-/// order in which they were found.
+/// What a search has found: for each node the line that grants the group a pointer for which the node stands, and the
+/// nodes in the order in which they were found.
 #[derive(Drop)]
 pub struct Search {
-    pub group: u8,
-    /// The node of the pointer to the whole memory. If no pointer in the image has one, it is the number after the last.
-    pub whole: usize,
     pub places: Vec<Option<usize>>,
     pub queue: Vec<usize>,
 }
 
-/// The pointer that reads and writes the whole memory.
-pub fn whole() -> GuardedPtr {
-    match GuardedPtr::new(Perm::Rw, 54, 0) {
-        Some(p) => p,
-        None => unreachable!(),
+/// Gives a node its line.
+fn set(places: &mut Vec<Option<usize>>, node: usize, place: usize)
+    requires { node < length places.old.items }
+    ensures { places.new.items ≡ slice_set places.old.items node (Some place) }
+{
+    places[node] = Some(place);
+}
+
+/// Adds a node to the queue.
+fn enqueue(queue: &mut Vec<usize>, node: usize) -> Result<(), NoMemory>
+    ensures { OnOk result (queue.new.items ≡ queue.old.items ++ node ∷ []) }
+{
+    if queue.push(node).is_err() {
+        return Err(NoMemory);
+    }
+    Ok(())
+}
+
+/// Adds the line of a node that has none.
+fn place(
+    search: &mut Search,
+    lines: &mut Vec<Line>,
+    group: u8,
+    node: usize,
+    pointer: GuardedPtr,
+    rule: Rule,
+) -> Result<(), NoMemory>
+    requires { node < length search.old.places.items }
+    ensures len { length search.new.places.items ≡ length search.old.places.items }
+    ensures lines { OnOk result (lines.new.items ≡ lines.old.items ++ record { group = group; pointer = pointer; rule = rule } ∷ []) }
+    ensures places { OnOk result (search.new.places.items ≡ slice_set search.old.places.items node (Some (length lines.old.items))) }
+    ensures queue { OnOk result (search.new.queue.items ≡ search.old.queue.items ++ node ∷ []) }
+{
+    let line = Line {
+        group,
+        pointer,
+        rule,
+    };
+    let at = push(lines, line)?;
+    set(&mut search.places, node, at);
+    enqueue(&mut search.queue, node)
+}
+
+/// Whether a node has a line.
+fn is_placed(places: &Vec<Option<usize>>, node: usize) -> bool
+    requires { node < length places.now.items }
+    ensures placed { IsTrue result → IsPlaced places.now.items node }
+    ensures none { result ≡ false → place_at places.now.items node ≡ None }
+{
+    match places[node] {
+        Some(_) => true,
+        None => false,
     }
 }
 
@@ -31,25 +85,25 @@ pub fn whole() -> GuardedPtr {
 fn reach(
     search: &mut Search,
     lines: &mut Vec<Line>,
+    group: u8,
     node: usize,
     pointer: GuardedPtr,
     rule: Rule,
-) -> Result<(), NoMemory> {
-    if search.places[node].is_some() {
+) -> Result<(), NoMemory>
+    requires { node < length search.old.places.items }
+    ensures len { length search.new.places.items ≡ length search.old.places.items }
+    ensures reached { OnOk result ((i : ImageValue) (keys : List KeyType)
+        → IsRising keys
+        → Searching i keys group (stage_of search.old lines.old.items)
+        → AtNode keys node pointer
+        → Follows i lines.old.items (length lines.old.items) group pointer rule
+        → Advances i keys group (stage_of search.old lines.old.items) (stage_of search.new lines.new.items)
+        × IsPlaced search.new.places.items node) }
+{
+    if is_placed(&search.places, node) {
         return Ok(());
     }
-    let place = push(
-        lines,
-        Line {
-            group: search.group,
-            pointer,
-            rule,
-        },
-    )?;
-    search.places[node] = Some(place);
-    if search.queue.push(node).is_err() {
-        return Err(NoMemory);
-    }
+    place(search, lines, group, node, pointer, rule)?;
     Ok(())
 }
 
@@ -57,146 +111,83 @@ fn reach(
 fn reach_word(
     search: &mut Search,
     lines: &mut Vec<Line>,
-    graph: &Graph,
+    keys: &[CanonicalPtr],
+    group: u8,
     word: Word,
     rule: Rule,
-) -> Result<(), NoMemory> {
+) -> Result<(), NoMemory>
+    requires len { length search.old.places.items ≡ length keys.now }
+    requires rising { IsRising keys.now }
+    ensures len { length search.new.places.items ≡ length keys.now }
+    ensures placed { OnOk result ((i : ImageValue)
+        → Searching i keys.now group (stage_of search.old lines.old.items)
+        → HeldBy i group word rule
+        → Advances i keys.now group (stage_of search.old lines.old.items) (stage_of search.new lines.new.items)
+        × WordPlaced keys.now word search.new.places.items) }
+{
     let Word::Ptr(pointer) = word else {
         return Ok(());
     };
     let Some(key) = standing_in(word) else {
         return Ok(());
     };
-    match find(&graph.keys, key) {
-        Some(node) => reach(search, lines, node, pointer, rule),
+    match find(keys, key) {
+        Some(node) => {
+            reach(search, lines, group, node, pointer, rule)?;
+            Ok(())
+        }
         None => Ok(()),
     }
+}
+
+/// Adds the lines of words that the registers of a slot hold.
+fn reach_registers(
+    search: &mut Search,
+    lines: &mut Vec<Line>,
+    keys: &[CanonicalPtr],
+    group: u8,
+    slot: u8,
+    words: &[Word],
+) -> Result<(), NoMemory>
+    requires len { length search.old.places.items ≡ length keys.now }
+    requires rising { IsRising keys.now }
+    requires few { length words.now ≤ 16 }
+    ensures len { length search.new.places.items ≡ length keys.now }
+    ensures placed { OnOk result ((i : ImageValue) (s : SlotValue)
+        → IsSlotOf i s
+        → HasWords s group slot words.now
+        → Searching i keys.now group (stage_of search.old lines.old.items)
+        → RegistersPlaced i keys.now group words.now (length words.now) (stage_of search.old lines.old.items) (stage_of search.new lines.new.items)) }
+{
+    for k in 0..words.len() {
+        let word = words[k];
+        let rule = Rule::Register {
+            slot,
+            register: k as u8,
+        };
+        reach_word(search, lines, keys, group, word, rule)?;
+    }
+    Ok(())
 }
 
 /// Adds the lines of a slot's pointers.
 fn reach_slot(
     search: &mut Search,
     lines: &mut Vec<Line>,
-    graph: &Graph,
+    keys: &[CanonicalPtr],
     slot: &Slot,
-) -> Result<(), NoMemory> {
-    let number = slot.number;
-    reach_word(search, lines, graph, Word::Ptr(slot.ip), Rule::Runs { slot: number })?;
-    for k in 0..16u8 {
-        let word = slot.regs[k as usize];
-        reach_word(
-            search,
-            lines,
-            graph,
-            word,
-            Rule::Register {
-                slot: number,
-                register: k,
-            },
-        )?;
-    }
+) -> Result<(), NoMemory>
+    requires len { length search.old.places.items ≡ length keys.now }
+    requires rising { IsRising keys.now }
+    ensures len { length search.new.places.items ≡ length keys.now }
+    ensures placed { OnOk result ((i : ImageValue)
+        → IsSlotOf i slot.now
+        → Searching i keys.now slot.now.group (stage_of search.old lines.old.items)
+        → Advances i keys.now slot.now.group (stage_of search.old lines.old.items) (stage_of search.new lines.new.items)
+        × SlotPlaced keys.now slot.now search.new.places.items) }
+{
+    let rule = Rule::Runs { slot: slot.number };
+    reach_word(search, lines, keys, slot.group, Word::Ptr(slot.ip), rule)?;
+    reach_registers(search, lines, keys, slot.group, slot.number, &slot.regs)?;
     Ok(())
-}
-
-/// Adds the lines of the pointers in the cells that the pointer of a line loads.
-fn reach_cells(
-    search: &mut Search,
-    lines: &mut Vec<Line>,
-    image: &Image,
-    graph: &Graph,
-    node: usize,
-    by: usize,
-) -> Result<(), NoMemory> {
-    for k in graph.nodes[node].low..graph.nodes[node].high {
-        let to = graph.targets[k];
-        if search.places[to].is_none() {
-            let word = graph.found[k].word;
-            if let Some(cell) = image.cell(word) {
-                if let Word::Ptr(pointer) = cell.word {
-                    reach(search, lines, to, pointer, Rule::Cell { word, by })?;
-                }
-            }
-        }
-    }
-    Ok(())
-}
-
-/// Adds the line of what an entry by the pointer of a line leaves.
-fn reach_entry(
-    search: &mut Search,
-    lines: &mut Vec<Line>,
-    graph: &Graph,
-    node: usize,
-    by: usize,
-) -> Result<(), NoMemory> {
-    if graph.nodes[node].enters == 0 {
-        return Ok(());
-    }
-    match enter(lines[by].pointer) {
-        Some(pointer) => reach(search, lines, graph.nodes[node].entry, pointer, Rule::Entered { by }),
-        None => Ok(()),
-    }
-}
-
-/// Adds the lines that follow from the line of a node alone.
-fn expand(
-    search: &mut Search,
-    lines: &mut Vec<Line>,
-    image: &Image,
-    graph: &Graph,
-    node: usize,
-) -> Result<(), NoMemory> {
-    if node >= graph.nodes.len() {
-        return Ok(());
-    }
-    let Some(by) = search.places[node] else {
-        return Ok(());
-    };
-    if graph.nodes[node].makes {
-        reach(search, lines, search.whole, whole(), Rule::Made { by })?;
-    }
-    reach_entry(search, lines, graph, node, by)?;
-    reach_cells(search, lines, image, graph, node, by)
-}
-
-/// No node has a line yet.
-fn none_found(alloc: Global, graph: &Graph, group: u8) -> Result<Search, NoMemory> {
-    let nodes = graph.nodes.len();
-    let Ok(places) = (vec![in alloc; None; nodes + 1]) else {
-        return Err(NoMemory);
-    };
-    let whole = match find(&graph.keys, CanonicalPtr::of(whole())) {
-        Some(node) => node,
-        None => nodes,
-    };
-    Ok(Search {
-        group,
-        whole,
-        places,
-        queue: Vec::new(alloc),
-    })
-}
-
-/// Adds a line for each node whose pointer a group has by its own slots, by cells that it loads and by entries, and one
-/// for the whole memory if it is privileged by these. A line comes after those that need fewer lines before them.
-pub fn search_group(
-    alloc: Global,
-    image: &Image,
-    graph: &Graph,
-    group: u8,
-    lines: &mut Vec<Line>,
-) -> Result<Search, NoMemory> {
-    let mut search = none_found(alloc, graph, group)?;
-    for slot in image.slots() {
-        if slot.group == group {
-            reach_slot(&mut search, lines, graph, slot)?;
-        }
-    }
-    let mut at = 0;
-    while at < search.queue.len() {
-        let node = search.queue[at];
-        expand(&mut search, lines, image, graph, node)?;
-        at += 1;
-    }
-    Ok(search)
 }
