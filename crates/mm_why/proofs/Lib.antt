@@ -5,3 +5,5 @@ pub mod Growing
 pub mod Rounding
 pub mod Reasoning
 pub mod Searching
+pub mod GraphFacts
+pub mod Searched

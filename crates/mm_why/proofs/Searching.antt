@@ -8,6 +8,8 @@ use Rattle.mm_word.specs.declared.word.Word.TheVariants.{Int, Ptr}
 use Rattle.mm_word.specs.Pointer.{Pointer, IsWellFormed}
 use Rattle.mm_model.specs.Slot.{Slot, register}
 use Rattle.mm_model.specs.Image.{Image}
+use Rattle.mm_flow.specs.declared.node.Node.{Node}
+use Rattle.mm_flow.specs.Edges.{node_at}
 use Rattle.mm_graph.specs.declared.canonical_ptr.CanonicalPtr.{CanonicalPtr}
 use Rattle.mm_graph.specs.Key.{IsRising, key_at, standing_key, word_key}
 use Rattle.mm_graph.proofs.Rising.{same_place}
@@ -15,7 +17,7 @@ use Rattle.mm_why.specs.declared.line.Line.{Line}
 use Rattle.mm_why.specs.declared.line.Rule.TheVariants as rules
 use Rattle.mm_why.specs.Derivations.{line_at, LineFollows}
 use Rattle.mm_why.specs.Traces.{Extends, IsFresh, Adds}
-use Rattle.mm_why.specs.Searches.{Stage, place_at, IsPlaced, room, AtNode, Searching, Further, Advances, HeldBy, WordPlaced, IsSlotOf, HasWords, RegistersPlaced, SlotPlaced}
+use Rattle.mm_why.specs.Searches.{Stage, place_at, IsPlaced, room, AtNode, Searching, Further, Advances, HeldBy, WordPlaced, IsSlotOf, HasWords, RegistersPlaced, SlotPlaced, IsClosed, Expanding}
 use Rattle.mm_why.proofs.Growing.{adds, extends_trans, extends_same}
 use Rattle.mm_why.proofs.Pruning.{same_or_before}
 
@@ -59,7 +61,18 @@ further_trans a b c x y = record {
 }
 
 pub advances_trans : (i : Image) (keys : List CanonicalPtr) (g : ℕ) (a b c : Stage) → Advances i keys g a b → Advances i keys g b c → Advances i keys g a c
-advances_trans i keys g a b c x y = record { now = y.now; further = further_trans a b c x.further y.further }
+advances_trans i keys g a b c x y = record {
+  now = y.now;
+  further = further_trans a b c x.further y.further;
+  only = λ t lo hi. at t hi (cases_lt t (length b.lines)) lo;
+}
+  where
+    at : (t : ℕ) → t < length c.lines → (t < length b.lines) ⊎ (length b.lines ≤ t) → length a.lines ≤ t → (line_at c.lines t).group ≡ g
+    at t hi (inl lt) lo = ap (λ v. v.group) (y.further.lines.same t lt) ∙ x.only t lo lt
+    at t hi (inr le) lo = y.only t le hi
+
+pub advances_same : (i : Image) (keys : List CanonicalPtr) (g : ℕ) (s : Stage) → Searching i keys g s → Advances i keys g s s
+advances_same i keys g s now = record { now = now; further = further_same s; only = λ t lo hi. absurd (omega (arith, lo, hi)) }
 
 pub stays_placed : (a b : Stage) (k : ℕ) → Further a b → IsPlaced a.places k → IsPlaced b.places k
 stays_placed a b k f h = (h.0, f.places k h.0 h.1)
@@ -145,6 +158,9 @@ module _ (i : Image) (keys : List CanonicalPtr) (g : ℕ) (s : Stage) (rising : 
       queue = λ m lt. get_or_append_left s.queue (k ∷ []) 0 m lt;
       room = let r = room_set s.places k (length s.lines) inside empty in let l = length_push s.queue k in omega (arith, r, l);
     };
+    only = λ t lo hi.
+        let is : t ≡ length s.lines = (let l = length_push s.lines line in omega (arith, l, lo, hi)) in
+        ap (λ v. (line_at new.lines v).group) is ∙ ap (λ v. v.group) added.is ∙ of;
   }, (length s.lines, here))
 
 -- the same for what the code writes
@@ -160,7 +176,7 @@ placed_as i keys g s new k line rising now empty at of follows lines places queu
 
 pub placed_before : (i : Image) (keys : List CanonicalPtr) (g : ℕ) (s : Stage) (k : ℕ) → Searching i keys g s → IsPlaced s.places k
     → Advances i keys g s s × IsPlaced s.places k
-placed_before i keys g s k now h = (record { now = now; further = further_same s }, h)
+placed_before i keys g s k now h = (advances_same i keys g s now, h)
 
 -- the node of a word that was found has its line
 pub word_placed : (keys : List CanonicalPtr) (word : Word) (x : CanonicalPtr) (node : ℕ) (places : List (Option ℕ)) → IsRising keys
@@ -184,7 +200,7 @@ registers_more i keys g words k word a b c is r h = record {
     at n (inr lt) = λ j small x. stays_placed b c j h.0.further (r.regs n lt j small x)
 
 pub registers_start : (i : Image) (keys : List CanonicalPtr) (g : ℕ) (words : List Word) (a : Stage) → Searching i keys g a → RegistersPlaced i keys g words 0 a a
-registers_start i keys g words a now = record { advances = record { now = now; further = further_same a }; regs = λ n lt. absurd (omega arith) }
+registers_start i keys g words a now = record { advances = advances_same i keys g a now; regs = λ n lt. absurd (omega arith) }
 
 -- the word that was read at an index
 pub same_word : (words : List Word) (k : ℕ) (word : Word) → k < length words → word ≡ slice_index_or words k word → word ≡ slice_index_or words k (Int 0)
@@ -208,3 +224,32 @@ pub slot_done : (i : Image) (keys : List CanonicalPtr) (s : Slot) (a b c : Stage
 slot_done i keys s a b c h r =
     (advances_trans i keys s.group a b c h.0 r.advances,
     record { ip = λ k lt e. stays_placed b c k r.advances.further (h.1 k lt e); regs = r.regs })
+
+-- each node from the queue so far leads to nodes with lines
+module _ (i : Image) (keys : List CanonicalPtr) (g : ℕ) (nodes : List Node) (targets : List ℕ) where
+  pub stays_closed : (a b : Stage) (k : ℕ) → Further a b → IsClosed nodes targets a.places k → IsClosed nodes targets b.places k
+  stays_closed a b k f c = record {
+    cells = λ j lo hi. stays_placed a b (slice_index targets j) f (c.cells j lo hi);
+    entry = λ some. stays_placed a b (node_at nodes k).entry f (c.entry some);
+  }
+
+  pub expand_more : (old a b : Stage) (at : ℕ) → Expanding i keys g nodes targets old at a → at < length a.queue
+      → Advances i keys g a b × IsClosed nodes targets b.places (slice_index a.queue at) → Expanding i keys g nodes targets old (at + 1) b
+  expand_more old a b at e lt h = record {
+    advances = advances_trans i keys g old a b e.advances h.0;
+    fits = let q = h.0.further.queue_len in omega (arith, q, lt);
+    closed = λ m small. one m (same_or_before m at small);
+  }
+    where
+      one : (m : ℕ) → (m ≡ at) ⊎ (m < at) → IsClosed nodes targets b.places (slice_index b.queue m)
+      one m (inl is) = subst (IsClosed nodes targets b.places) (sym (ap (slice_index b.queue) is ∙ h.0.further.queue at lt)) h.1
+      one m (inr small) = subst (IsClosed nodes targets b.places) (sym (h.0.further.queue m (omega (arith, small, lt)))) (stays_closed a b (slice_index a.queue m) h.0.further (e.closed m small))
+
+  pub expand_start : (s : Stage) → Searching i keys g s → Expanding i keys g nodes targets s 0 s
+  expand_start s now = record { advances = advances_same i keys g s now; fits = omega arith; closed = λ m small. absurd (omega (arith, small)) }
+
+  -- at the end of the queue each node with a line leads to nodes with lines
+  pub expand_end : (old s : Stage) (at : ℕ) → Expanding i keys g nodes targets old at s → length s.queue ≤ at → (k : ℕ) → IsPlaced s.places k → IsClosed nodes targets s.places k
+  expand_end old s at e le k h =
+      let q = e.advances.now.each k h in
+      subst (IsClosed nodes targets s.places) q.2 (e.closed q.0 (let lt = q.1 in omega (arith, lt, le)))

@@ -4,4 +4,5 @@ pub mod Traces
 pub mod Rounds
 pub mod Reasons
 pub mod Searches
+pub mod Graphs
 pub mod Text

@@ -61,9 +61,11 @@ pub record Further (old new : Stage) : Type 0 where
   pub queue : (m : ℕ) → m < length old.queue → slice_index new.queue m ≡ slice_index old.queue m
   pub room : room new.places + length new.queue ≡ room old.places + length old.queue
 
+-- the search has gone on, by lines of the group alone
 pub record Advances (i : Image) (keys : List CanonicalPtr) (g : ℕ) (old new : Stage) : Type 0 where
   pub now : Searching i keys g new
   pub further : Further old new
+  pub only : (t : ℕ) → length old.lines ≤ t → t < length new.lines → (line_at new.lines t).group ≡ g
 
 -- by the rule the group is granted the pointer of the word, whatever the lines
 abbrev pub HeldBy : Image → ℕ → Word → Rule → Type 0
@@ -99,3 +101,9 @@ pub record RegistersPlaced (i : Image) (keys : List CanonicalPtr) (g : ℕ) (wor
 pub record IsClosed (nodes : List Node) (targets : List ℕ) (places : List (Option ℕ)) (a : ℕ) : Type 0 where
   pub cells : (j : ℕ) → (node_at nodes a).low ≤ j → j < (node_at nodes a).high → IsPlaced places (slice_index targets j)
   pub entry : (node_at nodes a).enters ≢ 0 → IsPlaced places (node_at nodes a).entry
+
+-- the nodes of the queue before an index lead to nodes with lines
+pub record Expanding (i : Image) (keys : List CanonicalPtr) (g : ℕ) (nodes : List Node) (targets : List ℕ) (old : Stage) (at : ℕ) (now : Stage) : Type 0 where
+  pub advances : Advances i keys g old now
+  pub fits : at ≤ length now.queue
+  pub closed : (m : ℕ) → m < at → IsClosed nodes targets now.places (slice_index now.queue m)

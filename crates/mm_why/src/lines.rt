@@ -1,7 +1,7 @@
 //! Lists of lines, each of which follows from the image and from earlier lines.
 
-ghost use Rattle.std.specs.Prelude.{◌≡◌, ◌↔◌, [], ◌∷◌, ◌++◌, IsTrue, IfOk, OnOk, MatchOption, length};
-ghost use Rattle.mm_why.specs.Derivations.{Says};
+ghost use Rattle.std.specs.Prelude.{◌≡◌, ◌↔◌, [], ◌∷◌, ◌++◌, ◌<◌, IsTrue, IfOk, OnOk, MatchOption, length};
+ghost use Rattle.mm_why.specs.Derivations.{line_at, Says};
 ghost use Rattle.mm_why.specs.Traces.{IsFresh, Adds};
 
 use crate::line::Line;
@@ -28,6 +28,15 @@ pub fn find(lines: &[Line], group: u8, pointer: GuardedPtr) -> Option<usize>
         }
     }
     None
+}
+
+/// The pointer of a line.
+pub fn pointer_of(lines: &Vec<Line>, k: usize) -> GuardedPtr
+    requires { k < length lines.now.items }
+    ensures { result ≡ (line_at lines.now.items k).pointer }
+{
+    let line = lines[k];
+    line.pointer
 }
 
 /// Adds a line, and gives its index.
