@@ -9,12 +9,14 @@
 //! | to which groups all that a group has comes, round by round | `rounds`, `reasons` |
 //! | the lines of one group's own pointers, nearest first | `search` |
 //! | by which pointers of two groups the one can store where the other loads | `carriers` |
-//! | the lines by which a pointer comes from group to group | `give` |
-//! | the line whose pointer gives the asked use of the word | `goal` |
+//! | the lines by which a pointer comes from group to group | `work`, `give` |
+//! | the line whose pointer gives the asked use of the word | `uses` |
 //! | only the lines that the last one needs | `prune` |
 #![tactic(auto)]
 
-mod uses;
+mod answer;
+mod carriers;
+mod give;
 pub mod laws;
 mod line;
 mod lines;
@@ -22,6 +24,9 @@ mod prune;
 mod reasons;
 mod rounds;
 mod search;
+mod uses;
+mod work;
 
-pub use uses::Use;
+pub use answer::why;
 pub use line::{Line, Rule};
+pub use uses::Use;

@@ -1,12 +1,13 @@
 //! Why a group is granted a word.
 
-use crate::context::Context;
-use crate::give::{give, know, no_work};
-use crate::goal::{Owner, Use, earliest, first_owner, owners};
+use crate::give::{Context, give, make_whole};
 use crate::line::Line;
+use crate::lines::pointer_of;
 use crate::prune::prune;
-use crate::rounds::{Rounds, all_rounds};
-use mm_flow::{sharing_edges, spread};
+use crate::rounds::{Rounds, all_rounds, has};
+use crate::uses::{Owner, Use, earliest, first_owner, givers};
+use crate::work::{Work, know, no_work};
+use mm_flow::{Right, any, sharing_edges, spread};
 use mm_graph::{Entries, Graph, built};
 use mm_image::Image;
 use mm_word::NoMemory;
@@ -32,25 +33,37 @@ fn sharing(alloc: Global, graph: &Graph, marks: &[u64]) -> Result<Rounds, NoMemo
     }
 }
 
+/// The first of a group's own lines that gives the use; if there is none, the line of its pointer to the whole memory.
+fn own_line(
+    context: Context<'_>,
+    work: &mut Work,
+    owner: usize,
+    word: u64,
+    how: Use,
+) -> Result<usize, NoMemory> {
+    let found = match &work.searches[owner] {
+        Some(search) => earliest(&work.lines, &search.places, how, word),
+        None => unreachable!(),
+    };
+    match found {
+        Some(place) => Ok(place),
+        None => make_whole(context.graph, work, owner),
+    }
+}
+
 /// The derivation of a use that comes from an owner.
 fn derivation(
     alloc: Global,
-    context: &Context<'_>,
+    context: Context<'_>,
     owner: Owner,
     group: usize,
     word: u64,
     how: Use,
 ) -> Result<Vec<Line>, NoMemory> {
     let mut work = no_work(alloc)?;
-    know(alloc, context, &mut work, owner.group)?;
-    let place = match &work.searches[owner.group] {
-        Some(found) => earliest(&work.lines, found, how, word),
-        None => unreachable!(),
-    };
-    let Some(place) = place else {
-        unreachable!()
-    };
-    let pointer = work.lines[place].pointer;
+    know(alloc, context.image, context.graph, &mut work, owner.group)?;
+    let place = own_line(context, &mut work, owner.group, word, how)?;
+    let pointer = pointer_of(&work.lines, place);
     let last = give(alloc, context, &mut work, owner.round, owner.group, pointer, group)?;
     prune(alloc, &work.lines, last)
 }
@@ -69,7 +82,8 @@ pub fn why(
     };
     let marks = own_marks(alloc, &graph)?;
     let rounds = sharing(alloc, &graph, &marks)?;
-    let Some(owner) = first_owner(&rounds, owners(&graph, &marks, how, word), group as usize) else {
+    let owners = givers(&graph, &marks, how, word) | any(&graph.nodes, &marks, Right::Make);
+    let Some(owner) = first_owner(&rounds, owners, group as usize) else {
         return Ok(None);
     };
     let context = Context {
@@ -77,6 +91,6 @@ pub fn why(
         graph: &graph,
         rounds: &rounds,
     };
-    let lines = derivation(alloc, &context, owner, group as usize, word, how)?;
+    let lines = derivation(alloc, context, owner, group as usize, word, how)?;
     Ok(Some(lines))
 }
