@@ -7,3 +7,5 @@ pub mod Reasoning
 pub mod Searching
 pub mod GraphFacts
 pub mod Searched
+pub mod Working
+pub mod Carrying

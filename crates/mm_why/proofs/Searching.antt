@@ -38,11 +38,11 @@ room_set (Some s ∷ places) (suc k) t lt h = room_set places k t (omega arith) 
 same_t : (s t : ℕ) → ◌≡◌ {A = Option ℕ} (Some s) (Some t) → s ≡ t
 same_t s t h = cc
 
-data Which (k j : ℕ) : Type 0 where
+pub data Which (k j : ℕ) : Type 0 where
   same : j ≡ k → Which k j
   other : j ≢ k → Which k j
 
-which : (k j : ℕ) → Which k j
+pub which : (k j : ℕ) → Which k j
 which k j = elim (cases_lt j k) [
   | inl lt ↦ other (λ e. omega (arith, e, lt))
   | inr le ↦ elim (cases_lt k j) [ inl lt ↦ other (λ e. omega (arith, e, lt)) | inr ge ↦ same (omega (arith, le, ge)) ]

@@ -5,4 +5,6 @@ pub mod Rounds
 pub mod Reasons
 pub mod Searches
 pub mod Graphs
+pub mod Works
+pub mod Carrying
 pub mod Text
