@@ -30,15 +30,17 @@ nests p r w a le cp cr h = segment_widens p.log r.log a (w + 0) le (h ∙ sym (c
 
 pub common_at_store : (p r : Pointer) (w : ℕ) → p.log ≤ r.log → StoresAt p w → LoadsAt r w → StoresAt p (base_of p) × LoadsAt r (base_of p)
 common_at_store p r w le st ld =
-    let b = covers_base p (stores_then p (stores_test p w st)).1 in
-    (record { word = b.0; right = st.right; covers = b.1 },
-    record { word = b.0; right = ld.right; covers = λ k lt. nests p r w (base_of p + k) le st.covers ld.covers (b.1 k lt) })
+    let b = covers_base p (stores_then p (stores_test p w st)).1 in (
+      record { word = b.0; right = st.right; covers = b.1 },
+      record { word = b.0; right = ld.right; covers = λ k lt. nests p r w (base_of p + k) le st.covers ld.covers (b.1 k lt) },
+    )
 
 pub common_at_load : (p r : Pointer) (w : ℕ) → r.log ≤ p.log → StoresAt p w → LoadsAt r w → StoresAt p (base_of r) × LoadsAt r (base_of r)
 common_at_load p r w le st ld =
-    let b = covers_base r (loads_then r (loads_test r w ld)).1 in
-    (record { word = b.0; right = st.right; covers = λ k lt. nests r p w (base_of r + k) le ld.covers st.covers (b.1 k lt) },
-    record { word = b.0; right = ld.right; covers = b.1 })
+    let b = covers_base r (loads_then r (loads_test r w ld)).1 in (
+      record { word = b.0; right = st.right; covers = λ k lt. nests r p w (base_of r + k) le ld.covers st.covers (b.1 k lt) },
+      record { word = b.0; right = ld.right; covers = b.1 },
+    )
 
 -- one node more
 
@@ -94,7 +96,7 @@ pair_end g giver taker stores loads k e ls ll ns nl None b = λ s l h. at s l h 
 
 -- one item more
 module _ (par : List ℕ) (places : List (Option ℕ)) (keep : ℕ → Bool) (out : List (Option ℕ)) (k : ℕ) (own upper item : Option ℕ) (n : AreNearest par places keep out) (len : length out ≡ k)
-  (o : IsKept places keep k own) (u : IsOver out (slice_index par k) k upper) (i : IsOneOf own upper item) where
+    (o : IsKept places keep k own) (u : IsOver out (slice_index par k) k upper) (i : IsOneOf own upper item) where
   of_upper : (t : ℕ) → (slice_index par k < k) ⊎ (k ≤ slice_index par k) → upper ≡ Some t → PlacedAbove par places keep k t
   of_upper t (inl lt) e =
       let h = n.only (slice_index par k) t (omega (arith, lt, len)) (sym (u.before lt) ∙ e) in

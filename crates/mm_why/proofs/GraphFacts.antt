@@ -77,14 +77,16 @@ module _ (i : Image) (g : Graph) (graph : IsGraph i g) where
       let same = ap (λ v. get_or v k nothing) graph.found in
       let q = pointer_of_key x.cell.word (get_or (page_keys i.memory.pages) k nothing).key x.holds in
       let t = graph.built.is_targets in
-      let word : found_word g.found.items k ≡ (get_or (page_keys i.memory.pages) k nothing).word = ap (λ v. v.word) same in
-      (q.0, record {
-        aligned = subst (λ v. v % 8 ≡ 0) (sym word) x.aligned;
-        cell = x.cell;
-        at = ap (cell_at i.memory) word ∙ x.at;
-        holds = q.1;
-        node = record { small = t.small k small; stands = q.2 ∙ ap Some (sym (t.at k small)); fits = well_formed i.memory graph.image.words (get_or (page_keys i.memory.pages) k nothing).word x.cell q.0 x.at q.1 };
-      })
+      let word : found_word g.found.items k ≡ (get_or (page_keys i.memory.pages) k nothing).word = ap (λ v. v.word) same in (
+        q.0,
+        record {
+          aligned = subst (λ v. v % 8 ≡ 0) (sym word) x.aligned;
+          cell = x.cell;
+          at = ap (cell_at i.memory) word ∙ x.at;
+          holds = q.1;
+          node = record { small = t.small k small; stands = q.2 ∙ ap Some (sym (t.at k small)); fits = well_formed i.memory graph.image.words (get_or (page_keys i.memory.pages) k nothing).word x.cell q.0 x.at q.1 };
+        },
+      )
 
   pub never_none : (k : ℕ) → k < length g.found.items → cell_at i.memory (found_word g.found.items k) ≡ None → ⊥
   never_none k lt e = let f = (found_at k lt).1 in let bad = sym e ∙ f.at in cc
@@ -142,9 +144,12 @@ module _ (i : Image) (g : Graph) (graph : IsGraph i g) where
       go true yes_entry (Some x) e =
           let same : node ≡ p = stands ∙ entry_itself p (subst (λ v. is_entry v.perm ≡ true) stands yes_entry) in
           let from = entry_from node x e in
-          let to = (each_node a at.small).enters x yes_entry e in
-          (from.to, ap enter_result (sym same) ∙ from.enters, subst (λ v. (v.perm ≡ Eu) ⊎ (v.perm ≡ Ep)) same (entry_then node.perm yes_entry),
-          record { small = (each_node a at.small).small; stands = from.stands ∙ ap Some (sym to.1); fits = enters-well_formed node from.to (key a at.small).well_formed from.enters })
+          let to = (each_node a at.small).enters x yes_entry e in (
+            from.to,
+            ap enter_result (sym same) ∙ from.enters,
+            subst (λ v. (v.perm ≡ Eu) ⊎ (v.perm ≡ Ep)) same (entry_then node.perm yes_entry),
+            record { small = (each_node a at.small).small; stands = from.stands ∙ ap Some (sym to.1); fits = enters-well_formed node from.to (key a at.small).well_formed from.enters },
+          )
 
   pub rising : IsRising keys
   rising = graph.built.is_keys.rising
@@ -196,9 +201,10 @@ module _ (i : Image) (g : Graph) (graph : IsGraph i g) where
     entry_follows now some q is =
         let h = now.placed node by at_by in
         let e = entry_found node (line_at old.lines by).pointer h.2 some in
-        let same : e.0 ≡ q = of_some e.0 q (sym e.1 ∙ is) in
-        (record { by = (line_at old.lines by).pointer; says = record { earlier = h.0; group = h.1; pointer = refl }; enters = e.2; leaves = is },
-        subst (AtNode keys (node_at g.nodes.items node).entry) same e.3)
+        let same : e.0 ≡ q = of_some e.0 q (sym e.1 ∙ is) in (
+          record { by = (line_at old.lines by).pointer; says = record { earlier = h.0; group = h.1; pointer = refl }; enters = e.2; leaves = is },
+          subst (AtNode keys (node_at g.nodes.items node).entry) same e.3,
+        )
       where
         of_some : (x y : Pointer) → ◌≡◌ {A = Option Pointer} (Some x) (Some y) → x ≡ y
         of_some x y h = cc

@@ -9,3 +9,6 @@ pub mod GraphFacts
 pub mod Searched
 pub mod Working
 pub mod Carrying
+pub mod Giving
+pub mod Handing
+pub mod Coming

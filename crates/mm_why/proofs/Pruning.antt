@@ -85,7 +85,7 @@ names_moved f (rules.Made k) j h = ap f h
 -- the lines that are kept
 
 module _ (lines : List Line) (earlier : NameEarlier lines) (needed : List Bool) (k : ℕ) (small : k < length needed)
-  (fits : length needed ≤ length lines) (places : List ℕ) (out : List Line) (kept : AreKept lines needed k places out) where
+    (fits : length needed ≤ length lines) (places : List ℕ) (out : List Line) (kept : AreKept lines needed k places out) where
   abbrev after : List ℕ
   after = slice_set places k (length out)
 
@@ -148,7 +148,7 @@ module _ (lines : List Line) (earlier : NameEarlier lines) (needed : List Bool) 
   keeps_as read rule n new size is is_rule is_new here =
       let same_rule : rule ≡ moved (λ j. get_or after j 0) read.rule = is_rule ∙ ap (λ v. moved (λ j. get_or (slice_set places k v) j 0) read.rule) size in
       let same : record { group = read.group; pointer = read.pointer; rule = rule } ≡ line =
-          (ap (λ v. record { group = read.group; pointer = read.pointer; rule = v }) same_rule ∙ ap (λ v. moved_line after v) is) in
+      (ap (λ v. record { group = read.group; pointer = read.pointer; rule = v }) same_rule ∙ ap (λ v. moved_line after v) is) in
       subst (λ v. AreKept lines needed (k + 1) (slice_set places k v) new) (sym size)
       (subst (AreKept lines needed (k + 1) after) (sym (is_new ∙ ap (λ v. out ++ v ∷ []) same)) (keeps here))
 
@@ -180,7 +180,7 @@ none_kept lines needed places e = record {
 -- the derivation
 
 module _ (lines : List Line) (last : ℕ) (small : last < length lines) (needed : List Bool) (needs : Needs lines last 0 needed)
-  (places : List ℕ) (out : List Line) (kept : AreKept lines needed (length needed) places out) where
+    (places : List ℕ) (out : List Line) (kept : AreKept lines needed (length needed) places out) where
   abbrev place : ℕ → ℕ
   place j = get_or places j 0
 

@@ -70,8 +70,8 @@ nothing_found i keys g lines places queue trace none is_places is_queue = record
 -- the end
 
 module _ (i : Image) (g : Graph) (graph : IsGraph i g) (group : ℕ) (s : Stage) (now : Searching i g.keys.items group s)
-  (slots : (k : ℕ) (x : Slot) → k < length i.slots → slice_index_or i.slots k x ≡ x → x.group ≡ group → SlotPlaced g.keys.items x s.places)
-  (closed : (k : ℕ) → IsPlaced s.places k → IsClosed g.nodes.items g.targets.items s.places k) where
+    (slots : (k : ℕ) (x : Slot) → k < length i.slots → slice_index_or i.slots k x ≡ x → x.group ≡ group → SlotPlaced g.keys.items x s.places)
+    (closed : (k : ℕ) → IsPlaced s.places k → IsClosed g.nodes.items g.targets.items s.places k) where
   small_of : (k : ℕ) → Has g.start.items k group → k < length g.keys.items
   small_of k h = elim (cases_lt k (length g.keys.items)) [
     | inl lt ↦ lt

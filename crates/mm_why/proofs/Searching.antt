@@ -79,7 +79,7 @@ stays_placed a b k f h = (h.0, f.places k h.0 h.1)
 
 -- a node without a line gets one
 module _ (i : Image) (keys : List CanonicalPtr) (g : ℕ) (s : Stage) (rising : IsRising keys) (now : Searching i keys g s) (k : ℕ) (line : Line)
-  (empty : place_at s.places k ≡ None) (at : AtNode keys k line.pointer) (of : line.group ≡ g) (follows : LineFollows i s.lines (length s.lines) line) where
+    (empty : place_at s.places k ≡ None) (at : AtNode keys k line.pointer) (of : line.group ≡ g) (follows : LineFollows i s.lines (length s.lines) line) where
   abbrev new : Stage
   new = record { lines = s.lines ++ line ∷ []; places = slice_set s.places k (Some (length s.lines)); queue = s.queue ++ k ∷ [] }
 
@@ -142,26 +142,29 @@ module _ (i : Image) (keys : List CanonicalPtr) (g : ℕ) (s : Stage) (rising : 
       (q.0, (let l = length_push s.queue k in let lt = q.1 in omega (arith, l, lt)), get_or_append_left s.queue (k ∷ []) 0 q.0 q.1 ∙ q.2)
 
   pub place_more : Advances i keys g s new × IsPlaced new.places k
-  place_more = (record {
-    now = record {
-      len = length-set s.places k (Some (length s.lines)) ∙ now.len;
-      trace = added.keeps i now.trace follows;
-      placed = λ j t h. placed_at j t (which k j) h;
-      lined = λ t lt h. lined_at t (same_or_before t (length s.lines) (let l = length_push s.lines line in omega (arith, l, lt))) h;
-      queued = λ m lt. queued_at m (same_or_before m (length s.queue) (let l = length_push s.queue k in omega (arith, l, lt)));
-      each = λ j h. each_at j (which k j) h;
-    };
-    further = record {
-      lines = added.extends;
-      places = grows;
-      queue_len = let l = length_push s.queue k in omega (arith, l);
-      queue = λ m lt. get_or_append_left s.queue (k ∷ []) 0 m lt;
-      room = let r = room_set s.places k (length s.lines) inside empty in let l = length_push s.queue k in omega (arith, r, l);
-    };
-    only = λ t lo hi.
-        let is : t ≡ length s.lines = (let l = length_push s.lines line in omega (arith, l, lo, hi)) in
-        ap (λ v. (line_at new.lines v).group) is ∙ ap (λ v. v.group) added.is ∙ of;
-  }, (length s.lines, here))
+  place_more = (
+    record {
+      now = record {
+        len = length-set s.places k (Some (length s.lines)) ∙ now.len;
+        trace = added.keeps i now.trace follows;
+        placed = λ j t h. placed_at j t (which k j) h;
+        lined = λ t lt h. lined_at t (same_or_before t (length s.lines) (let l = length_push s.lines line in omega (arith, l, lt))) h;
+        queued = λ m lt. queued_at m (same_or_before m (length s.queue) (let l = length_push s.queue k in omega (arith, l, lt)));
+        each = λ j h. each_at j (which k j) h;
+      };
+      further = record {
+        lines = added.extends;
+        places = grows;
+        queue_len = let l = length_push s.queue k in omega (arith, l);
+        queue = λ m lt. get_or_append_left s.queue (k ∷ []) 0 m lt;
+        room = let r = room_set s.places k (length s.lines) inside empty in let l = length_push s.queue k in omega (arith, r, l);
+      };
+      only = λ t lo hi.
+          let is : t ≡ length s.lines = (let l = length_push s.lines line in omega (arith, l, lo, hi)) in
+          ap (λ v. (line_at new.lines v).group) is ∙ ap (λ v. v.group) added.is ∙ of;
+    },
+    (length s.lines, here),
+  )
 
 -- the same for what the code writes
 pub placed_as : (i : Image) (keys : List CanonicalPtr) (g : ℕ) (s new : Stage) (k : ℕ) (line : Line) → IsRising keys → Searching i keys g s
@@ -221,9 +224,10 @@ ip_held i s h lines top p e =
 
 pub slot_done : (i : Image) (keys : List CanonicalPtr) (s : Slot) (a b c : Stage) → Advances i keys s.group a b × WordPlaced keys (Ptr s.ip) b.places
     → RegistersPlaced i keys s.group s.regs (length s.regs) b c → Advances i keys s.group a c × SlotPlaced keys s c.places
-slot_done i keys s a b c h r =
-    (advances_trans i keys s.group a b c h.0 r.advances,
-    record { ip = λ k lt e. stays_placed b c k r.advances.further (h.1 k lt e); regs = r.regs })
+slot_done i keys s a b c h r = (
+  advances_trans i keys s.group a b c h.0 r.advances,
+  record { ip = λ k lt e. stays_placed b c k r.advances.further (h.1 k lt e); regs = r.regs },
+)
 
 -- each node from the queue so far leads to nodes with lines
 module _ (i : Image) (keys : List CanonicalPtr) (g : ℕ) (nodes : List Node) (targets : List ℕ) where

@@ -65,7 +65,7 @@ no_line i g w group h none t lt e =
 
 -- a group was searched
 module _ (i : Image) (g : Graph) (old new : Work) (group : ℕ) (found : Search) (h : IsWork i g old) (small : group < 64) (none : search_at old.searches.items group ≡ None)
-  (s : IsSearch i g group old.lines.items new.lines.items found.places.items) (is : new.searches.items ≡ slice_set old.searches.items group (Some found)) where
+    (s : IsSearch i g group old.lines.items new.lines.items found.places.items) (is : new.searches.items ≡ slice_set old.searches.items group (Some found)) where
   inside : group < length old.searches.items
   inside = let l = h.len in omega (arith, l, small)
 
@@ -111,16 +111,19 @@ module _ (i : Image) (g : Graph) (old new : Work) (group : ℕ) (found : Search)
 pub added_on : (i : Image) (g : Graph) (old new : Work) (line : Line) (place : ℕ) → IsWork i g old → IsKnown old line.group
     → Follows i old.lines.items (length old.lines.items) line.group line.pointer line.rule → Adds old.lines.items line new.lines.items place
     → new.searches.items ≡ old.searches.items → GoesOn i g old new × Says new.lines.items (length new.lines.items) place line.group line.pointer
-added_on i g old new line place h k follows a is = (record {
-  work = record {
-    trace = a.keeps i h.trace follows;
-    len = ap length is ∙ h.len;
-    known = λ n x e. searched_more g old.lines.items new.lines.items n x.places.items a.extends (h.known n x (ap (λ v. search_at v n) (sym is) ∙ e));
-    owned = λ t lt. owner t (same_or_before t (length old.lines.items) (let l = a.len in omega (arith, l, lt)));
-  };
-  lines = a.extends;
-  known = still;
-}, a.says)
+added_on i g old new line place h k follows a is = (
+  record {
+    work = record {
+      trace = a.keeps i h.trace follows;
+      len = ap length is ∙ h.len;
+      known = λ n x e. searched_more g old.lines.items new.lines.items n x.places.items a.extends (h.known n x (ap (λ v. search_at v n) (sym is) ∙ e));
+      owned = λ t lt. owner t (same_or_before t (length old.lines.items) (let l = a.len in omega (arith, l, lt)));
+    };
+    lines = a.extends;
+    known = still;
+  },
+  a.says,
+)
   where
     still : (n : ℕ) → IsKnown old n → IsKnown new n
     still n x = (x.0, ap (λ v. search_at v n) is ∙ x.1)

@@ -7,4 +7,5 @@ pub mod Searches
 pub mod Graphs
 pub mod Works
 pub mod Carrying
+pub mod Giving
 pub mod Text

@@ -1,6 +1,6 @@
 //! Why a group is granted a word.
 
-use crate::give::{Context, give, make_whole};
+use crate::give::{Context, give, make_whole, places_of};
 use crate::line::Line;
 use crate::lines::pointer_of;
 use crate::prune::prune;
@@ -18,7 +18,13 @@ fn own_marks(alloc: Global, graph: &Graph) -> Result<Vec<u64>, NoMemory> {
     let Ok(mut marks) = Vec::from_slice(alloc, &graph.start) else {
         return Err(NoMemory);
     };
-    match spread(alloc, &mut marks, &graph.nodes, &graph.targets, &graph.parents) {
+    match spread(
+        alloc,
+        &mut marks,
+        &graph.nodes,
+        &graph.targets,
+        &graph.parents,
+    ) {
         Ok(()) => Ok(marks),
         Err(_) => Err(NoMemory),
     }
@@ -35,26 +41,25 @@ fn sharing(alloc: Global, graph: &Graph, marks: &[u64]) -> Result<Rounds, NoMemo
 
 /// The first of a group's own lines that gives the use; if there is none, the line of its pointer to the whole memory.
 fn own_line(
-    context: Context<'_>,
+    context: &Context<'_>,
     work: &mut Work,
     owner: usize,
     word: u64,
     how: Use,
 ) -> Result<usize, NoMemory> {
-    let found = match &work.searches[owner] {
-        Some(search) => earliest(&work.lines, &search.places, how, word),
-        None => unreachable!(),
-    };
-    match found {
+    match earliest(&work.lines, places_of(work, owner), how, word) {
         Some(place) => Ok(place),
-        None => make_whole(context.graph, work, owner),
+        None => {
+            let place = make_whole(context, work, owner)?;
+            Ok(place)
+        }
     }
 }
 
 /// The derivation of a use that comes from an owner.
 fn derivation(
     alloc: Global,
-    context: Context<'_>,
+    context: &Context<'_>,
     owner: Owner,
     group: usize,
     word: u64,
@@ -64,7 +69,15 @@ fn derivation(
     know(alloc, context.image, context.graph, &mut work, owner.group)?;
     let place = own_line(context, &mut work, owner.group, word, how)?;
     let pointer = pointer_of(&work.lines, place);
-    let last = give(alloc, context, &mut work, owner.round, owner.group, pointer, group)?;
+    let last = give(
+        alloc,
+        context,
+        &mut work,
+        owner.round,
+        owner.group,
+        pointer,
+        group,
+    )?;
     prune(alloc, &work.lines, last)
 }
 
@@ -91,6 +104,6 @@ pub fn why(
         graph: &graph,
         rounds: &rounds,
     };
-    let lines = derivation(alloc, context, owner, group as usize, word, how)?;
+    let lines = derivation(alloc, &context, owner, group as usize, word, how)?;
     Ok(Some(lines))
 }

@@ -38,13 +38,7 @@ fn earlier(one: Option<usize>, other: Option<usize>) -> Option<usize>
 {
     match one {
         Some(a) => match other {
-            Some(b) => {
-                if b < a {
-                    Some(b)
-                } else {
-                    Some(a)
-                }
-            }
+            Some(b) => { if b < a { Some(b) } else { Some(a) } }
             None => Some(a),
         },
         None => other,
@@ -78,11 +72,7 @@ fn over(above: &Vec<Option<usize>>, up: usize, k: usize) -> Option<usize>
     requires { length above.now.items ≡ k }
     ensures { IsOver above.now.items up k result }
 {
-    if up < k {
-        item(above, up)
-    } else {
-        None
-    }
+    if up < k { item(above, up) } else { None }
 }
 
 /// Adds an item.

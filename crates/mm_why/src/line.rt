@@ -6,13 +6,23 @@ use mm_word::GuardedPtr;
 #[derive(Clone, Copy, Debug)]
 pub enum Rule {
     /// A register of a slot of the group holds the pointer.
-    Register { slot: u8, register: u8 },
+    Register {
+        slot: u8,
+        register: u8,
+    },
     /// A slot of the group runs by the pointer.
-    Runs { slot: u8 },
+    Runs {
+        slot: u8,
+    },
     /// The pointer of the line `by` loads a word whose cell holds the pointer.
-    Cell { word: u64, by: usize },
+    Cell {
+        word: u64,
+        by: usize,
+    },
     /// The pointer is below that of the line `by`.
-    Below { by: usize },
+    Below {
+        by: usize,
+    },
     /// The group of the line `from` can store the pointer at a word, by the line `store`, that this group can load, by
     /// the line `load`.
     Passed {
@@ -22,11 +32,18 @@ pub enum Rule {
         load: usize,
     },
     /// An entry by the pointer of the line `by` leaves the pointer.
-    Entered { by: usize },
+    Entered {
+        by: usize,
+    },
     /// A slot and its handler are of this group and of that of the line `from`.
-    Served { slot: u8, from: usize },
+    Served {
+        slot: u8,
+        from: usize,
+    },
     /// The line `by` has a pointer of privileged code, which makes any pointer.
-    Made { by: usize },
+    Made {
+        by: usize,
+    },
 }
 
 /// A line of a derivation: a group is granted a pointer, by a rule.

@@ -28,7 +28,10 @@ fn need(needed: &mut [bool], rule: Rule)
         Rule::Cell { by, .. } => note(needed, by),
         Rule::Below { by } => note(needed, by),
         Rule::Passed {
-            from, store, load, ..
+            from,
+            store,
+            load,
+            ..
         } => {
             note(needed, from);
             note(needed, store);

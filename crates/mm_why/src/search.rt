@@ -349,7 +349,14 @@ fn reach_entry(
     }
     match enter(pointer_of(lines, by)) {
         Some(pointer) => {
-            reach(search, lines, group, gate.entry, pointer, Rule::Entered { by })?;
+            reach(
+                search,
+                lines,
+                group,
+                gate.entry,
+                pointer,
+                Rule::Entered { by },
+            )?;
             Ok(())
         }
         None => Ok(()),

@@ -16,11 +16,11 @@ unreachable-requires c =
 pub unreachable-requires-in_default-pointer_in : goal.unreachable-requires-in_default-pointer_in
 unreachable-requires-in_default-pointer_in c =
     let f = found_pointer c.args.image.now c.args.graph.now c.requires.graph c.args.k c.requires.small c.in-Some.cell
-        (ap (cell_at c.args.image.now.memory) (sym c.word_at.ensures) ∙ sym c.cell.ensures ∙ c.in-Some.is) in
+    (ap (cell_at c.args.image.now.memory) (sym c.word_at.ensures) ∙ sym c.cell.ensures ∙ c.in-Some.is) in
     c.in_default-pointer_in.not-Some f.0 (c.pointer_in.ensures f.0 f.1)
 
 pub returns : goal.returns
 returns c =
     let f = found_pointer c.args.image.now c.args.graph.now c.requires.graph c.args.k c.requires.small c.in-Some.cell
-        (ap (cell_at c.args.image.now.memory) (sym c.word_at.ensures) ∙ sym c.cell.ensures ∙ c.in-Some.is) in
+    (ap (cell_at c.args.image.now.memory) (sym c.word_at.ensures) ∙ sym c.cell.ensures ∙ c.in-Some.is) in
     subst (IsFound c.args.image.now c.args.graph.now c.args.k) (same_pointer c.pointer_in.result f.0 c.in-Some-pointer_in.pointer (c.pointer_in.ensures f.0 f.1) c.in-Some-pointer_in.is) f.2

@@ -16,6 +16,6 @@ returns-clause-placed c = λ a at lo hi now.
     let f = c.pointer_at-pointer.ensures in
     let follows = cell_now c.args.image.now c.args.graph.now c.requires.graph c.args.group a c.args.by c.args.k (stage_of c.args.search.now c.args.lines.now.items) c.pointer_at-pointer.result at now f lo hi in
     let h = c.in_ok-reach.ensures.reached c.args.image.now c.args.graph.now.keys.items (rising c.args.image.now c.args.graph.now c.requires.graph) now
-        (subst (λ v. AtNode c.args.graph.now.keys.items v c.pointer_at-pointer.result) (sym c.target_of-to.ensures) f.node)
-        (subst (λ v. Follows c.args.image.now c.args.lines.now.items (length c.args.lines.now.items) c.args.group c.pointer_at-pointer.result (rules.Cell v c.args.by)) (sym c.word_at-word.ensures) follows) in
+    (subst (λ v. AtNode c.args.graph.now.keys.items v c.pointer_at-pointer.result) (sym c.target_of-to.ensures) f.node)
+    (subst (λ v. Follows c.args.image.now c.args.lines.now.items (length c.args.lines.now.items) c.args.group c.pointer_at-pointer.result (rules.Cell v c.args.by)) (sym c.word_at-word.ensures) follows) in
     (h.0, subst (IsPlaced c.reach.new.search.places.items) c.target_of-to.ensures h.1)

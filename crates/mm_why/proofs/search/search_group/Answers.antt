@@ -16,5 +16,5 @@ returns c =
     search_done c.args.image.now c.args.graph.now c.requires.graph c.args.group (stage_of c.in_ok-search.search c.args.lines.now.items)
     (stage_of c.reach_slots.new.search c.reach_slots.new.lines.items) (stage_of c.expand_all.new.search c.expand_all.new.lines.items)
     (subst (λ v. SlotsPlaced c.args.image.now v c.args.group (length c.args.image.now.slots) (stage_of c.in_ok-search.search c.args.lines.now.items)
-        (stage_of c.reach_slots.new.search c.reach_slots.new.lines.items)) c.deref.ensures.value c.in_ok-reach_slots.ensures)
+    (stage_of c.reach_slots.new.search c.reach_slots.new.lines.items)) c.deref.ensures.value c.in_ok-reach_slots.ensures)
     c.in_ok-expand_all.ensures.advances c.in_ok-expand_all.ensures.closed
