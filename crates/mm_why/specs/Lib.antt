@@ -8,4 +8,5 @@ pub mod Graphs
 pub mod Works
 pub mod Carrying
 pub mod Giving
+pub mod Owning
 pub mod Text

@@ -1,8 +1,14 @@
 //! The uses of words, and the pointers that give them.
 
+ghost use Rattle.std.specs.Prelude.{◌≡◌, ℕ, ◌<◌, ◌↔◌, IsTrue, MatchOption, length};
+ghost use Rattle.std.specs.Int.{bit_at};
+ghost use Rattle.mm_flow.specs.Flow.{Has};
+ghost use Rattle.mm_why.specs.Rounds.{AreRounds};
+ghost use Rattle.mm_why.specs.Owning.{asked, CanUse, IsOwner, NoOwner};
+
 use crate::line::Line;
 use crate::lines::pointer_of;
-use crate::rounds::{Rounds, has};
+use crate::rounds::{Masks, Rounds, has};
 use mm_graph::Graph;
 use mm_word::{GuardedPtr, Kind};
 
@@ -13,13 +19,22 @@ pub enum Use {
     Write,
 }
 
+/// What a pointer has to permit.
+fn kind_of(how: Use) -> Kind
+    ensures { result ≡ asked how }
+{
+    match how {
+        Use::Touch => Kind::Load,
+        Use::Write => Kind::Store,
+    }
+}
+
 /// Whether a pointer gives a use of the word at an address.
-fn gives(how: Use, pointer: GuardedPtr, word: u64) -> bool {
-    let right = match how {
-        Use::Touch => pointer.perm().permits(Kind::Load),
-        Use::Write => pointer.perm().permits(Kind::Store),
-    };
-    right && pointer.contains_word(word)
+fn gives(how: Use, pointer: GuardedPtr, word: u64) -> bool
+    ensures { IsTrue result ↔ CanUse how pointer word }
+{
+    let kind = kind_of(how);
+    pointer.perm().permits(kind) && pointer.contains_word(word)
 }
 
 /// The mask of the groups that mark a node whose pointer gives the use.
@@ -41,13 +56,33 @@ pub struct Owner {
     pub round: usize,
 }
 
+/// A group of a mask of which all has come to another in a round.
+fn owner_in(now: &Masks, owners: u64, to: usize) -> Option<usize>
+    ensures { MatchOption
+        result
+        ((h : ℕ) → h < 64 → bit_at owners h ≡ 1 → Has now.now h to → ⊥)
+        (λ h. (h < 64) × (bit_at owners h ≡ 1) × Has now.now h to) }
+{
+    for group in 0..64usize {
+        if has(owners, group) && has(now[group], to) {
+            return Some(group);
+        }
+    }
+    None
+}
+
 /// The owner whose pointers come first to a group.
-pub fn first_owner(rounds: &Rounds, owners: u64, to: usize) -> Option<Owner> {
+pub fn first_owner(rounds: &Rounds, owners: u64, to: usize) -> Option<Owner>
+    requires { AreRounds rounds.now.links rounds.now.meets rounds.now.rounds.items }
+    ensures { MatchOption
+        result
+        (NoOwner rounds.now.rounds.items owners to (length rounds.now.rounds.items))
+        (IsOwner rounds.now.rounds.items owners to) }
+{
     for round in 0..rounds.rounds.len() {
-        for group in 0..64usize {
-            if has(owners, group) && has(rounds.rounds[round][group], to) {
-                return Some(Owner { group, round });
-            }
+        let now = rounds.rounds[round];
+        if let Some(group) = owner_in(&now, owners, to) {
+            return Some(Owner { group, round });
         }
     }
     None
