@@ -12,3 +12,4 @@ pub mod Carrying
 pub mod Giving
 pub mod Handing
 pub mod Coming
+pub mod Owning

@@ -33,7 +33,7 @@ pub fn common_word(store: GuardedPtr, load: GuardedPtr) -> u64
 }
 
 /// The earlier of two places.
-fn earlier(one: Option<usize>, other: Option<usize>) -> Option<usize>
+pub fn earlier(one: Option<usize>, other: Option<usize>) -> Option<usize>
     ensures { IsOneOf one other result }
 {
     match one {
@@ -46,7 +46,7 @@ fn earlier(one: Option<usize>, other: Option<usize>) -> Option<usize>
 }
 
 /// The place at an index.
-fn item(places: &Vec<Option<usize>>, k: usize) -> Option<usize>
+pub fn item(places: &Vec<Option<usize>>, k: usize) -> Option<usize>
     requires { k < length places.now.items }
     ensures { result ≡ place_at places.now.items k }
 {

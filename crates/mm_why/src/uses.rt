@@ -1,11 +1,13 @@
 //! The uses of words, and the pointers that give them.
 
-ghost use Rattle.std.specs.Prelude.{◌≡◌, ℕ, ◌<◌, ◌↔◌, IsTrue, MatchOption, length};
+ghost use Rattle.std.specs.Prelude.{◌≡◌, ℕ, ◌<◌, ◌↔◌, IsTrue, MatchOption, Some, length};
 ghost use Rattle.std.specs.Int.{bit_at};
 ghost use Rattle.mm_flow.specs.Flow.{Has};
 ghost use Rattle.mm_why.specs.Rounds.{AreRounds};
-ghost use Rattle.mm_why.specs.Owning.{asked, CanUse, IsOwner, NoOwner};
+ghost use Rattle.mm_why.specs.Searches.{place_at};
+ghost use Rattle.mm_why.specs.Owning.{asked, CanUse, IsOwner, NoOwner, IsUsable, UsableAt};
 
+use crate::carriers::{earlier, item};
 use crate::line::Line;
 use crate::lines::pointer_of;
 use crate::rounds::{Masks, Rounds, has};
@@ -88,24 +90,46 @@ pub fn first_owner(rounds: &Rounds, owners: u64, to: usize) -> Option<Owner>
     None
 }
 
+/// The line of a node, if its pointer gives the use.
+fn usable_at(
+    lines: &Vec<Line>,
+    places: &Vec<Option<usize>>,
+    how: Use,
+    word: u64,
+    k: usize,
+) -> Option<usize>
+    requires small { k < length places.now.items }
+    requires placed { (t : ℕ) → place_at places.now.items k ≡ Some t → t < length lines.now.items }
+    ensures { UsableAt lines.now.items places.now.items how word k result }
+{
+    match item(places, k) {
+        Some(place) => {
+            if gives(how, pointer_of(lines, place), word) {
+                Some(place)
+            } else {
+                None
+            }
+        }
+        None => None,
+    }
+}
+
 /// The earliest line of a search whose pointer gives the use.
 pub fn earliest(
     lines: &Vec<Line>,
     places: &Vec<Option<usize>>,
     how: Use,
     word: u64,
-) -> Option<usize> {
-    let mut best: Option<usize> = None;
+) -> Option<usize>
+    requires { (k t : ℕ) → place_at places.now.items k ≡ Some t → t < length lines.now.items }
+    ensures { MatchOption
+        result
+        ((t : ℕ) → IsUsable lines.now.items places.now.items how word (length places.now.items) t → ⊥)
+        (IsUsable lines.now.items places.now.items how word (length places.now.items)) }
+{
+    let mut best = None;
     for k in 0..places.len() {
-        if let Some(place) = places[k] {
-            let is_sooner = match best {
-                Some(found) => place < found,
-                None => true,
-            };
-            if is_sooner && gives(how, pointer_of(lines, place), word) {
-                best = Some(place);
-            }
-        }
+        best = earlier(best, usable_at(lines, places, how, word, k));
     }
     best
 }
