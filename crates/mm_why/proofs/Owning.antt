@@ -17,7 +17,7 @@ module _ (lines : List Line) (places : List (Option ℕ)) (how : Use) (word k : 
       at t h (inl e) = o.none t (i.none refl).1 (ap (place_at places) (sym e) ∙ h.at) h.can
       at t h (inr lt) =
           let none : (t : ℕ) → IsUsable lines places how word k t → ⊥ =
-              subst (λ v. MatchOption v ((t : ℕ) → IsUsable lines places how word k t → ⊥) (IsUsable lines places how word k)) (i.none refl).0 b in
+          subst (λ v. MatchOption v ((t : ℕ) → IsUsable lines places how word k t → ⊥) (IsUsable lines places how word k)) (i.none refl).0 b in
           none t (record { node = h.node; small = lt; at = h.at; can = h.can })
   usable_more best own (Some t) b o i = elim (i.some t refl) [
     | inl e ↦

@@ -1,10 +1,10 @@
 -- Which pointers give a use of a word, and which groups have one of their own.
-use Rattle.std.specs.Prelude.{◌≡◌, ℕ, ◌<◌, true, List, length, Option, Some, None}
+use Rattle.std.specs.Prelude.{◌≡◌, ℕ, ◌<◌, Bool, true, ◌&&◌, List, length, Option, Some, None}
 use Rattle.std.specs.Int.{bit_at}
 use Rattle.mm_word.specs.declared.perm.Kind.{Kind}
 use Rattle.mm_word.specs.declared.perm.Kind.TheVariants as kinds
 use Rattle.mm_word.specs.Perm.{allows}
-use Rattle.mm_word.specs.Pointer.{Pointer, Covers}
+use Rattle.mm_word.specs.Pointer.{Pointer, Covers, holds_word}
 use Rattle.mm_flow.specs.Flow.{Has}
 use Rattle.mm_why.specs.declared.line.Line.{Line}
 use Rattle.mm_why.specs.declared.uses.Use.{Use}
@@ -18,6 +18,10 @@ use Rattle.mm_why.specs.Rounds.{round_at}
 abbrev pub asked : Use → Kind
 asked uses.Touch = kinds.Load
 asked uses.Write = kinds.Store
+
+-- whether the pointer permits the use and holds the word
+abbrev pub can_use : Use → Pointer → ℕ → Bool
+can_use how p w = allows p.perm (asked how) && holds_word p w
 
 -- the pointer permits the use and covers the word
 abbrev pub CanUse : Use → Pointer → ℕ → Type 0

@@ -1,11 +1,15 @@
 //! The uses of words, and the pointers that give them.
 
-ghost use Rattle.std.specs.Prelude.{◌≡◌, ℕ, ◌<◌, ◌↔◌, IsTrue, MatchOption, Some, length};
+ghost use Rattle.std.specs.Prelude.{◌≡◌, ℕ, ◌<◌, ◌↔◌, IsTrue, MatchOption, Some, All, length};
 ghost use Rattle.std.specs.Int.{bit_at};
 ghost use Rattle.mm_flow.specs.Flow.{Has};
+ghost use Rattle.mm_flow.specs.Sharing.{kept_mark};
+ghost use Rattle.mm_flow.specs.Reached.{HasSome};
+ghost use Rattle.mm_graph.specs.Key.{IsKey};
+ghost use Rattle.mm_graph.specs.Marked.{node_pointer as pointer_of_node};
 ghost use Rattle.mm_why.specs.Rounds.{AreRounds};
 ghost use Rattle.mm_why.specs.Searches.{place_at};
-ghost use Rattle.mm_why.specs.Owning.{asked, CanUse, IsOwner, NoOwner, IsUsable, UsableAt};
+ghost use Rattle.mm_why.specs.Owning.{asked, can_use, CanUse, IsOwner, NoOwner, IsUsable, UsableAt};
 
 use crate::carriers::{earlier, item};
 use crate::line::Line;
@@ -33,20 +37,43 @@ fn kind_of(how: Use) -> Kind
 
 /// Whether a pointer gives a use of the word at an address.
 fn gives(how: Use, pointer: GuardedPtr, word: u64) -> bool
-    ensures { IsTrue result ↔ CanUse how pointer word }
+    ensures value { result ≡ can_use how pointer word }
+    ensures can { IsTrue result ↔ CanUse how pointer word }
 {
     let kind = kind_of(how);
     pointer.perm().permits(kind) && pointer.contains_word(word)
 }
 
+/// The pointer of a node.
+fn node_pointer(graph: &Graph, k: usize) -> GuardedPtr
+    requires keys { All IsKey graph.now.keys.items }
+    requires small { k < length graph.now.keys.items }
+    ensures { result ≡ pointer_of_node graph.now.keys.items k }
+{
+    let key = graph.keys[k];
+    key.pointer()
+}
+
+/// The mark of a node whose pointer gives the use, or else 0.
+fn given_mark(graph: &Graph, mark: u64, how: Use, word: u64, k: usize) -> u64
+    requires keys { All IsKey graph.now.keys.items }
+    requires small { k < length graph.now.keys.items }
+    ensures { result ≡ kept_mark (can_use how (pointer_of_node graph.now.keys.items k) word) mark }
+{
+    let pointer = node_pointer(graph, k);
+    if gives(how, pointer, word) { mark } else { 0 }
+}
+
 /// The mask of the groups that mark a node whose pointer gives the use.
-pub fn givers(graph: &Graph, marks: &Vec<u64>, how: Use, word: u64) -> u64 {
+pub fn givers(graph: &Graph, marks: &[u64], how: Use, word: u64) -> u64
+    requires keys { All IsKey graph.now.keys.items }
+    requires len { length marks.now ≡ length graph.now.keys.items }
+    ensures { (g : ℕ) → (bit_at result g ≡ 1)
+        ↔ HasSome marks.now (λ k. can_use how (pointer_of_node graph.now.keys.items k) word) g }
+{
     let mut all = 0;
-    for k in 0..graph.keys.len() {
-        let mark = marks[k];
-        if mark & !all != 0 && gives(how, graph.keys[k].pointer(), word) {
-            all |= mark;
-        }
+    for k in 0..marks.len() {
+        all |= given_mark(graph, marks[k], how, word, k);
     }
     all
 }

@@ -12,4 +12,4 @@ pub returns : goal.returns
 returns c =
     let e : c.loop-k.k ≡ length c.args.places.now.items = search rules in
     subst (λ n. MatchOption c.loop-k.best ((t : ℕ) → IsUsable c.args.lines.now.items c.args.places.now.items c.args.how c.args.word n t → ⊥)
-        (IsUsable c.args.lines.now.items c.args.places.now.items c.args.how c.args.word n)) e c.loop-k.invariant
+    (IsUsable c.args.lines.now.items c.args.places.now.items c.args.how c.args.word n)) e c.loop-k.invariant
