@@ -2,7 +2,7 @@
 
 _mm() {
     local word=${COMP_WORDS[COMP_CWORD]} before=${COMP_WORDS[COMP_CWORD-1]} command='' at
-    local commands='run debug trace view vcd symbols dis audit holders sweep extract solo net save continue cc asm link migrate hex gen soak help'
+    local commands='run debug trace view vcd symbols dis audit check-why holders sweep extract solo net save continue cc asm link migrate hex gen soak help'
     COMPREPLY=()
     for ((at = 1; at < COMP_CWORD; at++)); do
         case ${COMP_WORDS[at]} in
@@ -48,6 +48,7 @@ _mm() {
         gen | soak) ;;
         *)
             [ "$command" = migrate ] && COMPREPLY=($(compgen -W 'plain split' -- "$word"))
+            [ "$command" = check-why ] && COMPREPLY=($(compgen -W 'touch write' -- "$word"))
             # The shell's own completion of files, which knows blanks and quotes.
             compopt -o default ;;
     esac
