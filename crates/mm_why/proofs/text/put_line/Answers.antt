@@ -1,4 +1,4 @@
-use Rattle.std.proofs.Common.{◌++◌, codes, decimal}
+use Rattle.std.proofs.Common.{codes, decimal}
 use Rattle.mm_text.proofs.Gathering.{gathers_then}
 use Rattle.mm_why.specs.Text.{number_text}
 use Rattle.mm_why.proofs.Texts.{gathers_words}
