@@ -1,10 +1,10 @@
 //! The text of a derivation.
 
-ghost use Rattle.std.specs.Prelude.{◌++◌, codes, decimal, MatchOption};
+ghost use Rattle.std.specs.Prelude.{◌++◌, decimal};
 ghost use Rattle.mm_model.specs.Digits.{hex};
 ghost use Rattle.mm_io.specs.Sinks.{Writes};
 ghost use Rattle.mm_text.specs.Gathers.{Gathers};
-ghost use Rattle.mm_why.specs.Text.{line_text, lines_text, number_text, rule_text};
+ghost use Rattle.mm_why.specs.Text.{line_text, lines_text, number_text, rule_text, why_text};
 
 use crate::line::{Line, Rule};
 use mm_io::{Sink, WriteFault};
@@ -61,7 +61,12 @@ fn put_rule<O: Sink>(text: &mut Gather, out: &mut O, rule: Rule)
             put_named(text, out, " by ", by);
         }
         Rule::Below { by } => put_named(text, out, "below ", by),
-        Rule::Passed { word, from, store, load } => {
+        Rule::Passed {
+            word,
+            from,
+            store,
+            load,
+        } => {
             put_at(text, out, "passed ", word);
             put_named(text, out, " from ", from);
             put_named(text, out, " store ", store);
@@ -103,6 +108,15 @@ fn put_lines<O: Sink>(text: &mut Gather, out: &mut O, lines: &[Line])
     }
 }
 
+fn put_answer<O: Sink>(text: &mut Gather, out: &mut O, answer: Option<&[Line]>)
+    ensures { Gathers O.taken O.faults out.old out.new text.old text.new (why_text answer.entry) }
+{
+    match answer {
+        Some(lines) => put_lines(text, out, lines),
+        None => text.put(out, &[Piece::Text("no\n")]),
+    }
+}
+
 /// Writes the answer of [`why`](crate::why): the lines of a derivation, numbered from 1 on, or one line `no`. After a
 /// [`WriteFault`] the sink has taken a prefix of the text.
 ///
@@ -117,15 +131,9 @@ fn put_lines<O: Sink>(text: &mut Gather, out: &mut O, lines: &[Line])
 /// | `K group G P served S from J` | line J grants P to a group; slot S and its handler are of that group and of G |
 /// | `K group G P made J` | line J, of G, is a pointer of privileged code |
 pub fn write_why<O: Sink>(answer: Option<&[Line]>, out: &mut O) -> Result<(), WriteFault>
-    ensures { MatchOption
-        answer
-        (Writes O.taken O.faults out.old out.new (codes "no\n") result)
-        (λ lines. Writes O.taken O.faults out.old out.new (lines_text 0 lines.now) result) }
+    ensures { Writes O.taken O.faults out.old out.new (why_text answer.entry) result }
 {
     let mut text = Gather::new();
-    match answer {
-        Some(lines) => put_lines(&mut text, out, lines),
-        None => text.put(out, &[Piece::Text("no\n")]),
-    }
+    put_answer(&mut text, out, answer);
     text.finish(out)
 }

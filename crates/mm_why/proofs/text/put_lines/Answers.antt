@@ -1,9 +1,12 @@
-use Rattle.std.proofs.Common.{ap, sym, arith}
+use Rattle.std.proofs.Common.{rules, ap, sym, arith}
 use Rattle.std.proofs.lemmas.List.{take_all}
 use Rattle.mm_text.proofs.Gathering.{gathers_then, gathers_same}
 use Rattle.mm_why.specs.Text.{lines_text}
-use Rattle.mm_why.proofs.Texts.{lines_text-more}
+use Rattle.mm_why.proofs.Texts.{gathers_none, lines_text-more}
 use Rattle.mm_why.proofs.text.put_lines.Goals as goal
+
+pub loop-k-init : goal.loop-k-init
+loop-k-init g c = gathers_none (search rules)
 
 pub loop-k-preserved : goal.loop-k-preserved
 loop-k-preserved g c =
