@@ -27,4 +27,5 @@ mod worklist;
 
 pub use forest::parents;
 pub use node::{Node, Right};
-pub use reach::{any, saturate};
+pub use reach::{any, saturate, sharing_edges, spread};
+pub use sharing::{propagate_shared, share, shared_by};

@@ -2,7 +2,7 @@
 ghost use Rattle.std.specs.Prelude.{◌≡◌, ℕ, ◌^◌, ◌<◌, ◌≤◌, ◌↔◌, IfOk, length, slice_index};
 ghost use Rattle.std.specs.Int.{bit_at};
 ghost use Rattle.mm_flow.specs.Edges.{right_at};
-ghost use Rattle.mm_flow.specs.Flow.{Fits};
+ghost use Rattle.mm_flow.specs.Flow.{Fits, IsFlow};
 ghost use Rattle.mm_flow.specs.Work.{IsReady};
 ghost use Rattle.mm_flow.specs.Graph.{edges_of};
 ghost use Rattle.mm_flow.specs.Reached.{SharingEdgesFit, HasSome, AreSharingEdges, SharingSoFar, IsReach};
@@ -47,7 +47,7 @@ fn fill(sharing: &mut [u64], writes: &[u64], touches: &[u64])
 }
 
 /// Adds to the links the sharing edges that follow from the marks of the groups.
-fn sharing_edges(
+pub fn sharing_edges(
     alloc: Global,
     marks: &[u64],
     nodes: &[Node],
@@ -90,6 +90,32 @@ fn until_saturated(
             return Ok(());
         }
     }
+}
+
+/// Propagates marks along edges alone. `AllocError` comes if memory ran out.
+pub fn spread(
+    alloc: Global,
+    marks: &mut [u64],
+    nodes: &[Node],
+    targets: &[usize],
+    parents: &[usize],
+) -> Result<(), AllocError>
+    requires edges { Fits (record { nodes = nodes.now; targets = targets.now }) (length marks.old) }
+    requires parents { length parents.now ≡ length marks.old }
+    ensures { IfOk result (λ _. IsFlow (record { nodes = nodes.now; targets = targets.now }) marks.old marks.new) }
+{
+    let after = after(alloc, parents)?;
+    let graph = Graph {
+        nodes,
+        targets,
+        after: &after,
+    };
+    let mut work = Work {
+        propagated: vec![in alloc; 0u64; marks.len()]?,
+        pending: VecDeque::new(alloc),
+    };
+    flow(alloc, marks, &mut work, &graph)?;
+    Ok(())
 }
 
 /// Marks all that each group reaches. `AllocError` comes if memory ran out.

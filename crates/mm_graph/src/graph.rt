@@ -34,13 +34,20 @@ pub struct Marks {
 
 /// A graph before any mark has spread.
 #[derive(Drop)]
-struct Graph {
-    keys: Vec<CanonicalPtr>,
-    nodes: Vec<Node>,
-    targets: Vec<usize>,
-    parents: Vec<usize>,
-    links: [u64; 64],
-    start: Vec<u64>,
+pub struct Graph {
+    /// The pointers in cells, in the order of their addresses.
+    pub found: Vec<Found>,
+    /// The pointers of the nodes, in their order.
+    pub keys: Vec<CanonicalPtr>,
+    pub nodes: Vec<Node>,
+    /// For each pointer in a cell its node.
+    pub targets: Vec<usize>,
+    /// For each node the nearest one whose segment holds its own.
+    pub parents: Vec<usize>,
+    /// For each group the mask of the groups that serve it or that it serves.
+    pub links: [u64; 64],
+    /// For each node the mask of the groups that have its pointer in a slot.
+    pub start: Vec<u64>,
 }
 
 /// The pointers that an image holds: in its cells, and in its slots.
@@ -73,22 +80,25 @@ fn graph_of(
     alloc: Global,
     img: &Image,
     entries: &Entries,
-    held: &Held,
+    held: Held,
     keys: Vec<CanonicalPtr>,
     targets: Vec<usize>,
 ) -> Result<Graph, AllocError>
-    requires found { held.now.found.items ≡ page_keys img.now.memory.pages }
-    requires seeds { held.now.seeds.items ≡ seeds_of img.now.slots }
+    requires found { held.found.items ≡ page_keys img.now.memory.pages }
+    requires seeds { held.seeds.items ≡ seeds_of img.now.slots }
     requires keys { IsKeysOf (page_keys img.now.memory.pages) (seeds_of img.now.slots) keys.items }
     requires targets { IsTargets keys.items (page_keys img.now.memory.pages) targets.items }
     requires image { IsImage img.now }
-    ensures { IfOk result (λ n. IsBuilt img.now (meaning entries.now) n.keys.items n.nodes.items n.targets.items n.parents.items n.links n.start.items) }
+    ensures built { IfOk result (λ n. IsBuilt img.now (meaning entries.now) n.keys.items n.nodes.items n.targets.items n.parents.items n.links n.start.items) }
+    ensures found { IfOk result (λ n. n.found.items ≡ page_keys img.now.memory.pages) }
 {
-    let nodes = nodes_in(alloc, img, entries, &held.found, &keys)?;
+    let Held { found, seeds } = held;
+    let nodes = nodes_in(alloc, img, entries, &found, &keys)?;
     let parents = parents_of(alloc, &keys)?;
     let links = links_of(img.slots());
-    let start = marks_of(alloc, &keys, &held.seeds)?;
+    let start = marks_of(alloc, &keys, &seeds)?;
     Ok(Graph {
+        found,
         keys,
         nodes,
         targets,
@@ -98,16 +108,17 @@ fn graph_of(
     })
 }
 
-/// The graph of an image.
-fn built(alloc: Global, img: &Image, entries: &Entries) -> Result<Graph, AllocError>
+/// The graph of an image, if these entries may be made.
+pub fn built(alloc: Global, img: &Image, entries: &Entries) -> Result<Graph, AllocError>
     requires { IsImage img.now }
-    ensures { IfOk result (λ n. IsBuilt img.now (meaning entries.now) n.keys.items n.nodes.items n.targets.items n.parents.items n.links n.start.items) }
+    ensures built { IfOk result (λ n. IsBuilt img.now (meaning entries.now) n.keys.items n.nodes.items n.targets.items n.parents.items n.links n.start.items) }
+    ensures found { IfOk result (λ n. n.found.items ≡ page_keys img.now.memory.pages) }
 {
     let found = found_in(alloc, img.pages())?;
     let seeds = seeds_in(alloc, img.slots())?;
     let (keys, targets) = keys_and_targets(alloc, &found, &seeds)?;
     let held = Held { found, seeds };
-    let graph = graph_of(alloc, img, entries, &held, keys, targets)?;
+    let graph = graph_of(alloc, img, entries, held, keys, targets)?;
     Ok(graph)
 }
 
@@ -118,6 +129,7 @@ pub fn marked(alloc: Global, img: &Image, entries: &Entries) -> Result<Marks, Al
 {
     let graph = built(alloc, img, entries)?;
     let Graph {
+        found: _found,
         keys,
         nodes,
         targets,

@@ -35,6 +35,8 @@ mod placed;
 mod seed;
 mod targets;
 
-pub use canonical_ptr::CanonicalPtr;
+pub use canonical_ptr::{CanonicalPtr, standing_in};
 pub use entries::Entries;
-pub use graph::{Marks, marked};
+pub use found::Found;
+pub use graph::{Graph, Marks, built, marked};
+pub use order::find;
