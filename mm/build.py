@@ -42,7 +42,7 @@ class Refused(Stop):
 
 @dataclass
 class Unit:
-    """A source or an object: its name, its object, and its text where there is one that fits."""
+    """A source or an object: its name, its object, and its text if there is one that fits."""
 
     name: str
     data: bytes
@@ -251,7 +251,7 @@ class Workshop:
                 image = names[kinds.index(FileKind.IMAGE)]
                 raise Refused(
                     Status.USAGE,
-                    [Diagnostic(image, "an image is linked already: give it alone, or the sources and objects of all")],
+                    [Diagnostic(image, "an image is already linked: name it alone, or name all sources and objects")],
                 )
             return self._image(names[0], datas[0], others)
         if FileKind.CHECKPOINT in kinds:
@@ -306,7 +306,7 @@ def refuse_nets(names: Sequence[str], datas: Sequence[bytes]) -> None:
     """Refuses the links and events of a net where one machine is wanted."""
     for name, data in zip(names, datas):
         if name.endswith(NET_SUFFIXES) and FileKind.of(data) is FileKind.TEXT:
-            message = "this is a text for a net, and here one machine is wanted"
+            message = "this is a text for a net, but the command wants one machine"
             hints = [
                 "`mm net LINKS EVENTS FILE..` runs a net, and tells what comes of each node",
                 "pages, traces, waves and the debugger show one machine: give them the file of one node, which then runs without the others",

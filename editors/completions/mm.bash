@@ -2,7 +2,7 @@
 
 _mm() {
     local word=${COMP_WORDS[COMP_CWORD]} before=${COMP_WORDS[COMP_CWORD-1]} command='' at
-    local commands='run debug trace view vcd symbols dis audit holders sweep extract solo net save continue cc asm link migrate hex gen soak help'
+    local commands='run debug trace view vcd symbols dis audit why check-why explore holders sweep extract solo net save continue cc asm link migrate hex grade gen soak help'
     COMPREPLY=()
     for ((at = 1; at < COMP_CWORD; at++)); do
         case ${COMP_WORDS[at]} in
@@ -14,7 +14,7 @@ _mm() {
     case $before in
         --program | --schedule | --names | --output | -s | -o) compopt -o default; return ;;
         --part) COMPREPLY=($(compgen -W 'memory frames pages slots' -- "$word")); return ;;
-        --cycles | --turns | --groups | --from | -n | -t | -g) return ;;
+        --cycles | --states | --turns | --groups | --from | -n | -t | -g) return ;;
         --optimise | -O) COMPREPLY=($(compgen -W '0 1 2 3 s' -- "$word")); return ;;
         --heap | --stack | --clang | --slot | --prefix) return ;;
     esac
@@ -33,7 +33,10 @@ _mm() {
             symbols) options="$options --names --json --optimise --heap --stack --clang" ;;
             cc) options="$options --optimise --heap --stack --clang --slot --prefix --output" ;;
             hex) options="$options --part --output --optimise --heap --stack --clang" ;;
+            explore) options="$options --states --names --optimise --heap --stack --clang" ;;
+            grade) options="$options --optimise --heap --stack --clang" ;;
             dis | holders) options="$options --names" ;;
+            why) options="$options --names --optimise --heap --stack --clang" ;;
             audit) options="$options --groups --names --json --optimise --heap --stack --clang" ;;
             sweep) options="$options --output --names" ;;
             save) options="$options --cycles --schedule --turns --output" ;;
@@ -48,6 +51,7 @@ _mm() {
         gen | soak) ;;
         *)
             [ "$command" = migrate ] && COMPREPLY=($(compgen -W 'plain split' -- "$word"))
+            [ "$command" = why ] || [ "$command" = check-why ] && COMPREPLY=($(compgen -W 'touch write' -- "$word"))
             # The shell's own completion of files, which knows blanks and quotes.
             compopt -o default ;;
     esac

@@ -57,7 +57,7 @@ def _solo(console: Console) -> int:
         console,
         built,
         Run(report, {}),
-        f"group{'s' if ',' in groups else ''} {groups} alone, by their turns of {order.file.name if order.file else 'round robin'}",
+        f"group{'s' if ',' in groups else ''} {groups} alone, with their turns of {order.file.name if order.file else 'round robin'}",
     )
 
 

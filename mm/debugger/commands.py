@@ -155,7 +155,7 @@ def _set_break(debugger: Debugger, rest: str, once: bool = False) -> Lines:
     line = session.symbols.c_line(address)
     of_c = f", {line}: {line.text}" if line else ""
     copies = len(session.symbols.places_of_inlined(place)) if of_c and not session.symbols.named(place) else 0
-    more = f" (the first of {copies} places where `{place}` was put into others)" if copies > 1 else ""
+    more = f" (the first of {copies} places where `{place}` was inlined)" if copies > 1 else ""
     said = of_c or (f", {origin}: {origin.code}" if origin else "")
     yield f"{point.number}: break {typed}at {name}{alone}{said}{more}"
 
@@ -217,7 +217,7 @@ def _print(debugger: Debugger, rest: str) -> Lines:
 def _display(debugger: Debugger, rest: str) -> Lines:
     if not rest:
         debugger.displays.clear()
-        yield "nothing is shown at a stop any more"
+        yield "no values are shown at stops any more"
         return
     yield from _print(debugger, rest)
     debugger.displays.append(rest)
@@ -252,7 +252,7 @@ def _output(debugger: Debugger, rest: str) -> Lines:
 
 
 INFO: dict[str, tuple[str, Callable[[Debugger, str], Lines]]] = {
-    "slots": ("where each slot stands", _slot),
+    "slots": ("where each slot is", _slot),
     "registers": ("the registers of a slot", _registers),
     "breakpoints": ("breaks and watches", lambda debugger, rest: debugger.show.points()),
     "symbols": (
@@ -261,7 +261,7 @@ INFO: dict[str, tuple[str, Callable[[Debugger, str], Lines]]] = {
     ),
     "locals": ("variables of C; else registers", lambda debugger, rest: local_lines(debugger) or _registers(debugger, rest)),
     "output": ("what each group has put out", _output),
-    "line": ("where this slot stands", _where),
+    "line": ("where this slot is", _where),
 }
 INFO_NAMES = {
     "threads": "slots",
@@ -299,7 +299,7 @@ def _help(debugger: Debugger, rest: str) -> Lines:
         yield f"  {', '.join(entry.names):<30}  {entry.words:<14}  {entry.says}"
     if not rest:
         yield "A place is a name (door), a name and an offset (box+8), a line (7, or counter.asm:20), or a number (0x100100)."
-        yield "An empty line does the last command again. Nothing that is typed changes the run."
+        yield "An empty line repeats the last command. Nothing that you type changes the run."
 
 
 # fmt: off
@@ -307,16 +307,16 @@ ENTRIES = (
     Entry(("step", "s", "si", "stepi"), "[N]", "N cycles on, whichever slots they belong to", "", _step),
     Entry(("next", "n", "ni", "nexti"), "[N]", "N turns of this slot on; a call counts as one", "", _next),
     Entry(("stepline", "sl"), "[N]", "to the next line of C, into calls", "", lambda debugger, rest: by_lines(debugger, rest, False)),
-    Entry(("nextline", "nl"), "[N]", "to the next line of C of this function, or of one that called it", "", lambda debugger, rest: by_lines(debugger, rest, True)),
+    Entry(("nextline", "nl"), "[N]", "to the next line of C of this function, or of its caller", "", lambda debugger, rest: by_lines(debugger, rest, True)),
     Entry(("continue", "c"), "", "on to the next stop", "", _continue),
     Entry(("until", "u", "advance"), "[PLACE]", "on until this slot comes to a place, or past a loop", "place", _until),
-    Entry(("finish", "fin"), "", "on until this slot leaves its segment, as a gate", "", _finish),
+    Entry(("finish", "fin"), "", "on until this slot leaves its segment, for example a gate", "", _finish),
     Entry(("back", "rs", "reverse-step"), "[N]", "N cycles back", "", _back),
     Entry(("reverse", "rc", "reverse-continue"), "", "back to the last stop before here", "", _reverse),
     Entry(("goto",), "N", "to the state after N cycles", "", _goto),
     Entry(("run", "r"), "", "from the start to the first stop", "", _run),
     Entry(("start",), "", "to the start", "", _start),
-    Entry(("break", "b"), "PLACE", "stop before a place; `break fault`, `break entry`; `.. slot N` for one slot alone", "place", _set_break),
+    Entry(("break", "b"), "PLACE", "stop before a place; `break fault`, `break entry`; `.. slot N` for only one slot", "place", _set_break),
     Entry(("tbreak", "tb"), "PLACE", "the same, once", "place", _set_once),
     Entry(("watch", "w"), "NAME", "stop after each write of a word, or of its bit", "place", _set_watch(PointKind.WATCH)),
     Entry(("rwatch", "rw"), "NAME", "stop after each load", "place", _set_watch(PointKind.READ)),
@@ -326,9 +326,9 @@ ENTRIES = (
     Entry(("slot", "thread", "t"), "[S]", "look at another slot", "", _slot),
     Entry(("print", "p", "inspect"), "WHAT", "a register (r5, ip), the word at a name, with & its address; a variable of C: i, a[2], p->x", "value", _print),
     Entry(("display",), "[WHAT]", "the same at each stop; nothing ends it", "value", _display),
-    Entry(("x",), "/N[i] PLACE", "N words of memory, with i as instructions; a register stands for where it points", "value", _examine),
-    Entry(("list", "l"), "[PLACE]", "the source around this slot, or around a place", "place", _list),
-    Entry(("where", "bt", "backtrace", "frame"), "", "where the run stands; in C the functions that wait", "", _where),
+    Entry(("x",), "/N[i] PLACE", "N words of memory, with i as instructions; a register means where it points", "value", _examine),
+    Entry(("list", "l"), "[PLACE]", "the source around this slot's place, or around another place", "place", _list),
+    Entry(("where", "bt", "backtrace", "frame"), "", "where the run is; in C also the functions that wait", "", _where),
     Entry(("output", "o"), "", "what each group has put out", "", _output),
     Entry(("info", "i"), "WHAT", ", ".join(INFO), "info", _info),
     Entry(("help", "h"), "[WHAT]", "this list, a command or an operation", "help", _help),

@@ -20,15 +20,15 @@ MADE_TOPICS = {
     "debugger": "the commands of `mm debug`",
 }
 FIRST_STEPS = """\
-    mm run examples/counter.asm         assemble, link, run, and say what came of it
+    mm run examples/counter.asm         assemble, link, run, and show what came of it
     mm debug examples/bug.asm           step through it, forwards and back
-    mm help sources                     how a source looks"""
+    mm help sources                     what a source looks like"""
 
 
 def overview() -> Iterator[str]:
     yield "usage: mm COMMAND WORDS.. [OPTIONS]"
     yield ""
-    yield "Runs and explains programs of the M-Machine, by the proved program mmachine. FILE.. are sources, objects or one image."
+    yield "Runs and explains programs of the M-Machine, with the proved program mmachine. FILE.. are sources, objects or one image."
     yield ""
     yield from FIRST_STEPS.splitlines()
     yield ""
@@ -37,7 +37,7 @@ def overview() -> Iterator[str]:
     yield ""
     yield from option_lines(GLOBAL_OPTIONS)
     yield ""
-    yield "`mm help TOPIC` says more of a command, an operation (ld), a directive (.segment), a fault (3, Bounds), a permission (eu), and of"
+    yield "`mm help TOPIC` explains a command, an operation (ld), a directive (.segment), a fault (3, Bounds), a permission (eu), and"
     yield "  " + ", ".join([*TOPICS, *MADE_TOPICS])
 
 
@@ -64,7 +64,7 @@ def operation_lines(name: str) -> Iterator[str]:
     operation = OPERATIONS[name]
     yield f"{operation.usage}"
     yield f"    {operation.effect}"
-    yield f"    as: {operation.example}"
+    yield f"    for example: {operation.example}"
     yield f"    operation 0x{operation.number:02x}" + (
         f"; faults, in the order of the tests: {', '.join(operation.tests.split())}"
         if operation.tests
@@ -89,20 +89,20 @@ def operations() -> Iterator[str]:
 def directives() -> Iterator[str]:
     for directive in DIRECTIVES.values():
         yield f"  {directive.usage}"
-        yield f"      {directive.meaning}; as: {directive.example}"
+        yield f"      {directive.meaning}; for example: {directive.example}"
 
 
 def directive_lines(name: str) -> Iterator[str]:
     directive = DIRECTIVES[name]
     yield directive.usage
     yield f"    {directive.meaning}"
-    yield f"    as: {directive.example}"
+    yield f"    for example: {directive.example}"
 
 
 def faults() -> Iterator[str]:
     for cause in Cause:
         yield f"  {cause.number:>2}  {cause.title:<11} {cause.meaning}"
-    yield "A slot that faults is halted, or its handler is told. Sync without a handler is no fault that halts: the slot tries again."
+    yield "A slot that faults halts, or its handler gets an event. Only after Sync a slot without a handler does not halt: it tries again."
 
 
 def cause_lines(cause: Cause) -> Iterator[str]:
@@ -142,7 +142,7 @@ def permission_lines(short: str) -> Iterator[str]:
     ]
     yield f"{short}: {permission.full}, code {permission.code}"
     yield f"    it may {', '.join(can) or 'do nothing: it is a ticket'}"
-    yield f"    `restrict` may make of it: {', '.join(each.short for each in permission.may_become) or 'nothing'}"
+    yield f"    `restrict` can turn it into: {', '.join(each.short for each in permission.may_become) or 'nothing'}"
 
 
 MADE: dict[str, Callable[[], Iterator[str]]] = {
@@ -155,7 +155,7 @@ MADE: dict[str, Callable[[], Iterator[str]]] = {
 
 
 def topic_lines(topic: str) -> Optional[Iterator[str]]:
-    """The text of a topic, or none where it is none. A command comes before an operation of the same name."""
+    """The text of a topic, or none if it is none. A command comes before an operation of the same name."""
     word = topic.lower()
     name = ALIASES.get(word, word)
     cause = Cause.of_number(int(word)) if word.isdigit() else Cause.of_title(word)

@@ -16,7 +16,7 @@ class Topic:
 
 SOURCES = Topic(
     "sources",
-    "how a source looks",
+    "what a source looks like",
     """\
 A source is a text. Each line has an optional label (a name and `:`) and an optional statement; `;` begins a comment.
 
@@ -33,14 +33,14 @@ A source is a text. Each line has an optional label (a name and `:`) and an opti
     .thread 0 0 none xu main    ; slot 0, group 0, no handler, runs main as user code
     .reg 3 ptr rw box           ; its register 3 is a pointer that may read and write the box
 
-`mm help directives` and `mm help operations` list what may stand in a line; docs/ASSEMBLER.md has all rules.""",
+`mm help directives` and `mm help operations` list what you can write in a line; docs/ASSEMBLER.md has all rules.""",
 )
 
 POINTERS = Topic(
     "pointers",
     "what a guarded pointer says",
     """\
-A pointer has a permission, a segment of 2^L bytes and an address in it. `rw 2^3 box` is a pointer that may read and write the 8 bytes at box.
+A pointer has a permission, a segment of 2^L bytes and an address in it. With `rw 2^3 box` you may read and write the 8 bytes at box.
 
     ro   read
     rw   read and write
@@ -48,13 +48,13 @@ A pointer has a permission, a segment of 2^L bytes and an address in it. `rw 2^3
     xp   read, and run as privileged code
     eu   enter as user code: jump to it, and nothing else
     ep   enter as privileged code
-    key  nothing: a ticket that cannot be forged
+    key  nothing: a ticket that nobody can forge
 
-Pointers are tagged words. Arithmetic on one gives an integer: it loses the tag, and nothing makes it a pointer again.
-    lea, leai, leab   move a pointer inside its segment (never to its end: no pointer stands outside)
+Pointers are tagged words. Arithmetic on a pointer gives an integer without the tag, and nothing makes that a pointer again.
+    lea, leai, leab   move a pointer inside its segment (never just past its end: no pointer points outside)
     restrict          takes rights away: rw may become ro or key; xu may become ro, eu or key
     subseg            makes the segment shorter
-A pointer is given to a thread by `.reg N ptr PERMISSION NAME`, and put into memory by `.ptr PERMISSION NAME`.""",
+`.reg N ptr PERMISSION NAME` gives a pointer to a thread, and `.ptr PERMISSION NAME` puts one into memory.""",
 )
 
 SCHEDULES = Topic(
@@ -88,16 +88,16 @@ NAMES = Topic(
     """\
     box            a segment or a label
     box+8          8 bytes after it
-    gate.door      the label `door` of the segment `gate`, where several labels have this name
+    gate.door      the label `door` of the segment `gate`, if several labels have this name
     counter.asm:20 the first word that line 20 makes
     0x100100       a number: decimal, 0x, 0b or 0o; 14 hexadecimal digits are an address as `mmachine` prints it
-What is shown is the label at an address, else the nearest label before it, else the segment and how many bytes it is on.
-Names come from the sources. For an image they come from the source beside it, if it links to exactly this image, or from --names SOURCE.""",
+`mm` shows the label at an address; if there is none, the nearest label before it; if there is none, the segment and the offset.
+Names come from the sources. For an image they come from the source next to it, if that links to exactly this image, or from --names SOURCE.""",
 )
 
 RANGES = Topic(
     "ranges",
-    "what `mm holders` and `mm sweep` take",
+    "how to name a range for `mm holders` and `mm sweep`",
     """\
     box            all bytes of a segment, or the word of a label
     box,4          2^4 bytes from box on
@@ -106,7 +106,7 @@ RANGES = Topic(
 
 IDIOMS = Topic(
     "idioms",
-    "how usual things are done",
+    "how to do common things",
     """\
 A loop, r3 times:
     again: ..
@@ -115,7 +115,7 @@ A loop, r3 times:
 If r1 is less than r2, signed (ltu: unsigned; eq: equal):
       lts r3, r1, r2
       bnz r3, less
-A number of 64 bits:
+A number with 64 bits:
       ldi r1, 0x12345678      ; the upper half
       ldhi r1, 0x9abcdef0     ; moves it up, and puts the lower half below
 A call in the same segment, and the way back:
@@ -124,28 +124,28 @@ A call in the same segment, and the way back:
       ..
     square: mul r1, r1, r1
       jmp r6
-Word r3 of an array (r1 leads into its segment):
+Word r3 of an array (r1 points into its segment):
       ldi r4, 8
       mul r4, r3, r4
       leab r2, r1, r4         ; from the segment's base on
-A stack (r14 leads to its segment, r13 is how many bytes are in use; a push past the end is a fault, Bounds):
+A stack (r14 points into its segment, r13 is how many bytes are in use; a push past the end is a fault, Bounds):
       leab r12, r14, r13      ; push r2
       st r12, r2, 0, any, keep
       addi r13, r13, 8
       addi r13, r13, -8       ; pop r2
       leab r12, r14, r13
       ld r2, r12, 0, any, keep
-A lock in a word (full: free; r1 leads to it, rw):
+A lock in a word (full: free; r1 points to it, rw):
       ld r2, r1, 0, full, empty   ; take it, or wait
       ..
       st r1, r2, 0, empty, full   ; give it back
-A gate: its segment begins with its pointers, and its caller has no pointer but an `eu` one to the door:
+A gate: its segment begins with its pointers, and its caller has only an `eu` pointer to the door:
     .segment gate 6
       .ptr rw count
     door: lip r7, -1          ; the word before the door
       ld r7, r7, 0, any, keep ; the pointer to the count
       ..
-      ldi r7, 0               ; leave it to nobody
+      ldi r7, 0               ; leave nothing to the caller
       jmp r6                  ; the caller came by `jal r6, r5`""",
 )
 
@@ -157,17 +157,17 @@ Each word in memory has a bit that says full or empty. `ld` and `st` name two co
     ld r2, r1, 0, full, empty     waits until the word is full, loads it and leaves it empty
     st r1, r2, 0, empty, full     waits until it is empty, stores and leaves it full
     ld r2, r1, 0, any, keep       whatever the bit is
-A slot without a handler whose condition fails tries again at its next turn. `mm run` says `waiting at .. for box to be full` of a slot whose
-last turns all failed so, and `for ever` where no other slot can change it. Both sides need an rw pointer, since setting the bit is a write.""",
+If the condition fails in a slot without a handler, the slot tries again at its next turn. If its last turns all failed so, `mm run` says
+`waiting at .. for box to be full`, and `for ever` if no other slot can change it. Both sides need an rw pointer: to set the bit is to write.""",
 )
 
 STATUSES = Topic(
     "statuses",
     "exit statuses",
     """\
-    0    done, whatever the program that was run did
+    0    done, whatever the program did
     1    the words of the command are wrong
-    2    a file, groups, a range or links are not what they must be; a message says where
+    2    a file, groups, a range or links are wrong; a message says where
     3    a file could not be read
     4    the output could not be written
     5    memory ran out

@@ -17,7 +17,7 @@ def _segment(scene: Scene) -> Optional[str]:
     if scene.fault == 2 and len(words) == 2 and words[0].isdigit():
         return f"the name comes first: `.segment {words[1]} {words[0]}`"
     if scene.fault == 2 and not scene.found:
-        return "the length is wanted too, as a power of two of bytes: `.segment main 6` has 2^6 = 64 bytes, room for 8 words"
+        return "the length is missing, as a power of two of bytes: `.segment main 6` has 2^6 = 64 bytes, room for 8 words"
     if scene.fault == 4 and re.fullmatch(r"\d+|0x[0-9A-Fa-f]+", scene.found):
         length = value_of_digits(scene.found)
         if 8 < length <= 1 << 20:

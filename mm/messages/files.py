@@ -95,7 +95,7 @@ def _binary(file: NamedFile, refusal: Refusal, said: str, hint: str, wanted: Fil
     kind = FileKind.of(file.data)
     hints = [hint] if hint else []
     if kind is not wanted:
-        hints.insert(0, f"it is {kind.title if file.data else 'an empty file'}, and {wanted.title} is wanted")
+        hints.insert(0, f"it is {kind.title if file.data else 'an empty file'}, but the command wants {wanted.title}")
     return Diagnostic(file.name, f"{said} (at byte {refusal['offset']} of {len(file.data)})", hints=hints)
 
 
@@ -131,7 +131,7 @@ def _better_item(word: str) -> Optional[str]:
     if word.lstrip("0").isdigit() and word.startswith("0"):
         return f"numbers have no leading zero: {word.lstrip('0') or '0'}"
     if word.lower().startswith(("s", "t")) and word[1:].isdigit():
-        return f"a slot is its number alone: {word[1:]}"
+        return f"write only the number of a slot: {word[1:]}"
     return "a slot is a number" if word.endswith("*0") else None
 
 

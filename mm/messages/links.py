@@ -60,7 +60,7 @@ def _undefined_hint(link: Link, name: str) -> str:
         if label:
             segment = source.segments[label.segment].name
             offset = f" + {8 * label.place}" if label.place else ""
-            return f"`{name}` is a label of {source.path}, and labels are known in their own source alone: write `{segment}{offset}`"
+            return f"`{name}` is a label of {source.path}, and labels are known only in their own source: write `{segment}{offset}`"
     near = nearest(name, [known for source in link.sources for known in source.names])
     return (
         f"do you mean `{near}`?"

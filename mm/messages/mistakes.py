@@ -41,7 +41,7 @@ def _label_letters(scene: Scene) -> Optional[str]:
         return None
     better = re.sub(r"\W", "_", match[1].strip(".$@?~-"))
     better = f"l{better}" if better[:1].isdigit() else better or "again"
-    return f"a label has letters, digits and `_` alone, no blank, and no digit at its beginning: `{better}:`"
+    return f"a label has only letters, digits and `_`, no blank, and no digit at its beginning: `{better}:`"
 
 
 def _digits(scene: Scene) -> Optional[str]:
@@ -80,11 +80,11 @@ def _register_name(scene: Scene) -> Optional[str]:
     if re.fullmatch(r"R\d+", scene.found):
         return f"registers are written in small letters: `{scene.found.lower()}`"
     if re.fullmatch(r"r0+\d+", scene.found) and scene.fault == 2:
-        return f"registers are written without more digits: `r{int(scene.found[1:])}`"
+        return f"write the register without extra digits: `r{int(scene.found[1:])}`"
     if re.fullmatch(r"r\d*", scene.found) and scene.fault == 2 and int(scene.found[1:] or 16) > 15:
         return "there are sixteen registers, r0 to r15"
     if re.fullmatch(r"(x|a|t|s|R|e|w)\d+|sp|ra|fp|lr|pc|zero|[er][abcds][xpi]", scene.found) and scene.fault == 2:
-        return "registers have no other names than r0 to r15, and r0 is one like all others"
+        return "registers have only the names r0 to r15, and r0 is one like all others"
     return None
 
 
@@ -101,24 +101,24 @@ def _marks(scene: Scene) -> Optional[str]:
         return None
     rest = scene.code[scene.column - 1 :]
     if re.match(r"#\s*-?\d|\$\s*-?\d", rest):
-        return "a number stands by itself, without a mark before it"
+        return "write a number without a mark before it"
     if re.match(r"%\w|\$\w|@\w", rest):
-        return "registers and names stand by themselves, without a mark before them"
+        return "write registers and names without a mark before them"
     if re.match(r"#|//|/\*|--|!|\|", rest):
         return "a comment begins with `;`"
     if re.match(r"-\s*[A-Za-z_]|-\s+\d", rest):
-        return "a minus sign stands right before the digits of a number"
+        return "write a minus sign right before the digits of a number"
     if re.match(r"\.\d", rest):
         return "numbers have no fractions"
     if ord(rest[0]) > 127:
         if scene.code[scene.column - 1 :].startswith(MARK):
             return "the file begins with a byte order mark: save it as plain UTF-8, without one"
-        return "this is no ASCII: type quotes, blanks and minus signs by the keyboard, or put the text into a comment"
+        return "this is not ASCII: type quotes, blanks and minus signs on the keyboard, or put the text into a comment"
     if rest[0] in "[]{" and scene.head in ("ld", "st"):
-        return f"the pointer is in a register, and stands without brackets: `{OPERATIONS[scene.head].example}`"
+        return f"the pointer is in a register; write it without brackets: `{OPERATIONS[scene.head].example}`"
     if rest[0] in "()[]{}" and scene.head in OPERANDS and re.match(r"[(\[{]\s*r\d", rest):
-        return f"operands stand without brackets: `{OPERATIONS[scene.head].example}`"
-    return "a calculation is for the machine: write the number that comes out" if rest[0] in "*/=()<>&^~" else None
+        return f"write operands without brackets: `{OPERATIONS[scene.head].example}`"
+    return "the assembler does not calculate: write the result" if rest[0] in "*/=()<>&^~" else None
 
 
 def _conditions(scene: Scene) -> Optional[str]:
@@ -147,7 +147,7 @@ def _immediate(scene: Scene) -> Optional[str]:
         return None
     parts = [part.strip() for part in scene.rest.split(",")]
     if scene.head in ("addi", "leai") and len(parts) == 2:
-        return f"three operands are wanted: `{scene.head} {parts[0]}, {parts[0]}, {parts[1]}`"
+        return f"it takes three operands: `{scene.head} {parts[0]}, {parts[0]}, {parts[1]}`"
     if scene.head in ("add", "lea") and len(parts) == 3:
         return f"with a number it is `{scene.head}i {', '.join(parts)}`"
     if scene.head == "sub" and len(parts) == 3 and not parts[2].startswith("-"):
@@ -179,7 +179,7 @@ def _two_operands(scene: Scene) -> Optional[str]:
         and len(operands) == 3
         and all(re.fullmatch(r"r\d+", part) for part in parts)
     ):
-        return f"three operands are wanted, the result first: `{scene.head} {parts[0]}, {parts[0]}, {parts[1]}`"
+        return f"it takes three operands, the result first: `{scene.head} {parts[0]}, {parts[0]}, {parts[1]}`"
     return None
 
 

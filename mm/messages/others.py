@@ -40,7 +40,7 @@ OTHER_OPERATIONS = {
 # Directives of other assemblers.
 OTHER_DIRECTIVES = {
     ".word .dword .quad .long .dw .dq .dd .half .short .octa .data4": "a word is `.int NUMBER`",
-    ".byte .db": "memory has words of 64 bits alone: write `.int NUMBER` for each",
+    ".byte .db": "memory has only words of 64 bits: write `.int NUMBER` for each",
     ".string .ascii .asciz .str .asciiz": "there are no strings: each letter is a word, as `.int 72` for H (`mm help letters` has the numbers)",
     ".space .skip .zero .res .bss .comm": "words that hold 0 are made by `.fill COUNT`",
     ".text .data .section .code .rodata .seg": "code and data are begun by `.segment NAME L`, with 2^L bytes",

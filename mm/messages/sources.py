@@ -127,8 +127,8 @@ def _where(source: SourceText, name: str, number: int) -> str:
 
 def _place(at: Explained) -> str:
     if at.head == ".reg":
-        return "`.reg` stands before the first `.thread`"
-    return f"{'a label' if at.line.label else 'a word'} stands before the first `.segment`"
+        return "`.reg` comes before the first `.thread`"
+    return f"{'a label' if at.line.label else 'a word'} comes before the first `.segment`"
 
 
 def _full(at: Explained) -> str:
@@ -165,7 +165,7 @@ def _hint_for_label(at: Explained) -> Optional[str]:
     segment, label = at.source.segment(name), at.source.labels.get(name)
     if segment or label:
         if at.head == "lip":
-            return f"`lip` makes pointers into its own segment alone: a pointer to `{name}` comes from `.reg 5 ptr rw {name}` after the `.thread`, or from a `.ptr` in memory"
+            return f"`lip` only makes pointers into its own segment: a pointer to `{name}` comes from `.reg 5 ptr rw {name}` after the `.thread`, or from a `.ptr` in memory"
         what = f"it is in segment `{at.source.segments[label.segment].name}`" if label else "it is a segment"
         return f"{what}: go to another segment by `jmp` or `jal` through a pointer (`.reg 5 ptr xu {name}`, or `eu` for a gate)"
     if name in wants.REGISTERS:
@@ -221,7 +221,7 @@ def explain(source: SourceText, fault: int, number: int, column: int) -> Diagnos
     message = MESSAGES[fault](at) if fault in MESSAGES else f"source fault {fault}"
     hint = (hint_of(at.scene(fault)) if fault <= 4 else None) or OWN_HINTS.get(fault, lambda _: None)(at)
     if hint is None and fault <= 4:
-        hint = at.usage() or "`mm help sources` shows what stands in a source"
+        hint = at.usage() or "`mm help sources` shows what a source looks like"
     name = at.token.text if fault == LABEL and at.token else None
     return Diagnostic(source.path, message, number, column, at.said, [hint] if hint else [], name=name)
 

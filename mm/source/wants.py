@@ -139,25 +139,25 @@ class Directive:
 
 DIRECTIVES = {
     ".segment": Directive(
-        ".segment NAME L", ".segment main 6", "a segment of 2^L bytes begins, L from 3 to 20: room for 2^(L-3) words"
+        ".segment NAME L", ".segment main 6", "begins a segment of 2^L bytes, L from 3 to 20: room for 2^(L-3) words"
     ),
     ".int": Directive(".int NUMBER", ".int 65", "a word that holds the number"),
     ".ptr": Directive(
         ".ptr PERMISSION TARGET", ".ptr rw box + 8", "a word that holds a pointer to a label or a segment"
     ),
-    ".fill": Directive(".fill COUNT", ".fill 8", "so many words that hold 0"),
+    ".fill": Directive(".fill COUNT", ".fill 8", "COUNT words that hold 0"),
     ".empty": Directive(
         ".empty WORD", ".empty .int 0", "a word whose synchronisation bit is empty; WORD is .int, .ptr or an operation"
     ),
     ".thread": Directive(
         ".thread SLOT GROUP HANDLER PERMISSION TARGET",
         ".thread 0 0 none xu main",
-        "a thread begins at the target; HANDLER is a slot or none, PERMISSION is xu or xp",
+        "starts a thread at the target; HANDLER is a slot or none, PERMISSION is xu or xp",
     ),
     ".reg": Directive(
         ".reg NUMBER int VALUE | ptr PERMISSION TARGET",
         ".reg 1 ptr rw box",
-        "what a register of the latest thread begins with",
+        "what a register of the last thread begins with",
     ),
     ".spare": Directive(".spare FRAMES", ".spare 2", "how many frames the machine has besides those of its pages"),
 }

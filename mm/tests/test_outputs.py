@@ -75,7 +75,7 @@ class Texts(unittest.TestCase):
 
     def test_reports_of_pages(self):
         found = 0
-        for page in ("README", "examples/counter", "examples/kernel", "examples/faults"):
+        for page in ("docs/INSTALL", "examples/counter", "examples/kernel", "examples/faults"):
             for text in re.findall(r"^(cycles \d+\n(?:.*\n)*?counts .*)$", read(f"{page}.md"), re.M):
                 report = read_report(text.splitlines())
                 self.assertTrue(report.slots and report.counts)

@@ -19,7 +19,7 @@ MOST_LINES, MOST_OF_FUNCTION = 400, 40
 class Written(unittest.TestCase):
     def test_manual_page(self):
         page = read("docs", "mm.1")
-        self.assertEqual(set(re.findall(r"^\.(?:It )?Cm (\w+)", page, re.M)) & NAMES, NAMES)
+        self.assertEqual(set(re.findall(r"^\.(?:It )?Cm ([\w-]+)", page, re.M)) & NAMES, NAMES)
         options = {option.name for command in COMMANDS for option in command.options} | {
             option.name for option in GLOBAL_OPTIONS
         }
@@ -46,7 +46,7 @@ class Written(unittest.TestCase):
 
     def test_zsh(self):
         text = read("editors", "completions", "_mm")
-        self.assertEqual(set(re.findall(r"^    '(\w+):", text, re.M)), NAMES)
+        self.assertEqual(set(re.findall(r"^    '([\w-]+):", text, re.M)), NAMES)
         self.assertEqual(set(re.search(r"topics=\(([^)]*)\)", text)[1].split()), {*TOPICS, *MADE})
 
     def test_tour(self):

@@ -57,15 +57,15 @@ def _not_pointer(at: Refusal) -> list[str]:
     spelled = Pointer.of_bits(word.bits)
     if spelled and word.bits:
         lines.append(
-            f"its bits are those of {at.speller.pointer(spelled)}, but without the tag they are a number: arithmetic and `ldi` make integers alone (move pointers by lea, leai, leab)"
+            f"its bits are those of {at.speller.pointer(spelled)}, but without the tag they are a number: arithmetic and `ldi` only make integers (move pointers with lea, leai, leab)"
         )
     elif at.name == "st" and at.word("rb").pointer:
         lines.append(
-            f"{at.spelled('rb')}: `st` has the pointer first, and then what is stored: `st {at.register('rb')}, {at.register('ra')}, ..`"
+            f"{at.spelled('rb')}: `st` takes the pointer first, and then the word to store: `st {at.register('rb')}, {at.register('ra')}, ..`"
         )
     elif word.bits == 0:
         lines.append(
-            f"a register that nothing was put into is 0: give it a pointer by `.reg {at.register('ra')[1:]} ptr rw NAME` after the `.thread`, or see where it was cleared"
+            f"a register is 0 until something is put into it: give it a pointer with `.reg {at.register('ra')[1:]} ptr rw NAME` after the `.thread`, or see where it was cleared"
         )
     return lines
 
@@ -100,8 +100,8 @@ def _perm(at: Refusal) -> list[str]:
 
 def _rights(permission: Permission) -> str:
     if permission.enters:
-        return "the right to be jumped to alone"
-    return {Permission.RO: "the right to load alone", Permission.RW: "both", Permission.KEY: "none"}.get(
+        return "only the right to be jumped to"
+    return {Permission.RO: "only the right to load", Permission.RW: "both", Permission.KEY: "none"}.get(
         permission, "the rights to load and to be run"
     )
 
@@ -127,7 +127,7 @@ def _bounds(at: Refusal) -> list[str]:
             f"{at.spelled('ra')}, and {by:+d} bytes {'from its base ' if at.name == 'leab' else ''}would lead to {show(start + by)}"
         ]
         return lines + [
-            f"it reaches {at.reach(at.pointer)}: no pointer stands outside of its segment, not even at its end"
+            f"it reaches {at.reach(at.pointer)}: no pointer points outside its segment, not even just past its end"
         ]
     if at.name == "subseg" and at.pointer:
         return [
@@ -142,19 +142,19 @@ def _bounds_of_code(at: Refusal) -> list[str]:
     show, here = at.speller.symbols.show, at.ip
     words = at.instruction.value("imm") if at.instruction and at.name in BRANCHES else 1
     to = here.address + 8 * words
-    lines = [f"{show(to)} is outside of the code, which has {at.reach(here)}"]
+    lines = [f"{show(to)} is outside the code, which has {at.reach(here)}"]
     if at.name in ("jal", "lip") and to == here.end:
-        lines.append("the way back would be behind the segment: leave a word after a call")
+        lines.append("the return address would be outside the segment: leave a word after a call")
     elif at.name == "lip":
-        lines.append("a pointer into the code stands inside of it: others come from `.ptr` words and `.reg`")
+        lines.append("`lip` only makes pointers into its own code: others come from `.ptr` words and `.reg`")
     elif at.name in BRANCHES:
-        lines.append("a branch stays in its segment: reach others by `jmp` or `jal` through a pointer")
+        lines.append("a branch stays in its segment: to reach others use `jmp` or `jal` through a pointer")
     return lines
 
 
 def _align(at: Refusal) -> list[str]:
     here = at.address if at.is_access else at.ip.address
-    return [f"{at.speller.symbols.show(here)} is {here % 8} bytes past a word: words stand at multiples of 8"]
+    return [f"{at.speller.symbols.show(here)} is {here % 8} bytes past a word: words are at multiples of 8"]
 
 
 def _no_page(at: Refusal) -> list[str]:
@@ -167,7 +167,7 @@ def _no_page(at: Refusal) -> list[str]:
 def _illegal(at: Refusal) -> list[str]:
     cell = at.memory.cell(at.ip.address)
     what = at.speller.word(cell.word) if cell else "nothing"
-    lines = [f"the word at {at.speller.symbols.show(at.ip.address)} is no instruction: {what}"]
+    lines = [f"the word at {at.speller.symbols.show(at.ip.address)} is not an instruction: {what}"]
     if cell and cell.word.tagged:
         lines.append("a pointer is never an instruction: let the thread begin, or jump, after it")
     return lines
@@ -175,39 +175,39 @@ def _illegal(at: Refusal) -> list[str]:
 
 def _priv(at: Refusal) -> list[str]:
     return [
-        f"`{at.name}` is for code that runs by an execute-privileged pointer, and this runs by {at.speller.pointer(at.ip)}",
-        "`.thread .. xp NAME` begins a privileged thread",
+        f"only code that runs with an execute-privileged pointer may use `{at.name}`, and this runs with {at.speller.pointer(at.ip)}",
+        "`.thread .. xp NAME` starts a privileged thread",
     ]
 
 
 def _div_zero(at: Refusal) -> list[str]:
-    return [f"{at.register('rb')}, by which it divides, is 0"]
+    return [f"the divisor {at.register('rb')} is 0"]
 
 
 def _malformed(at: Refusal) -> list[str]:
     if at.name == "restrict":
         return [f"{at.register('rb')} is {integer(at.word('rb'))}, and permissions are 1 (ro) to 7 (key)"]
     return [
-        f"the bits 0x{at.word('ra').bits & WORD_MASK:x} of {at.register('ra')} spell no pointer: the first digit is 1 to 7, the length at most 2^54"
+        f"the bits 0x{at.word('ra').bits & WORD_MASK:x} of {at.register('ra')} do not spell a pointer: the first digit must be 1 to 7, the length at most 2^54"
     ]
 
 
 def _trap(at: Refusal) -> list[str]:
     number = at.instruction.value("imm") if at.instruction else 0
     return [
-        f"trap {number}, and the slot has no handler that would answer it"
+        f"trap {number}, and the slot has no handler to answer it"
         if at.slot.fault
-        else f"trap {number}, which is for the handler to answer"
+        else f"trap {number}, which the handler has to answer"
     ]
 
 
 def _no_slot(at: Refusal) -> list[str]:
-    return [f"{at.spelled('ra')}: a slot that this one handles, and whose event it has read by `evt`, is wanted"]
+    return [f"{at.spelled('ra')}: it must be a slot that this one handles, and whose event it has read with `evt`"]
 
 
 def _out_full(at: Refusal) -> list[str]:
     return [
-        f"the group has put out {at.memory.image.output_limit} bytes, which is all that it may (`mm migrate FILE plain` gives 65536)"
+        f"the group has put out {at.memory.image.output_limit} bytes, which is the limit (`mm migrate FILE plain` gives 65536)"
     ]
 
 

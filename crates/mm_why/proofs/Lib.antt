@@ -1,0 +1,16 @@
+pub mod Granting
+pub mod Named
+pub mod Pruning
+pub mod Growing
+pub mod Rounding
+pub mod Reasoning
+pub mod Searching
+pub mod GraphFacts
+pub mod Searched
+pub mod Working
+pub mod Carrying
+pub mod Giving
+pub mod Handing
+pub mod Coming
+pub mod Owning
+pub mod Texts

@@ -1,0 +1,8 @@
+use Rattle.std.proofs.Common.{ℕ, ◌+◌, ◌*◌}
+use Rattle.mm_why.proofs.give.+handing.Given as goal
+
+abbrev pub decreases-give : goal.decreases-give
+decreases-give l = 2 * l.round
+
+abbrev pub decreases-hand : goal.decreases-hand
+decreases-hand l = 2 * l.round + 1

@@ -1,0 +1,20 @@
+use Rattle.std.proofs.Common.{◌≡◌, ◌<◌, length, sym, subst, rules}
+use Rattle.mm_why.specs.Searches.{stage_of, IsPlaced, IsClosed}
+use Rattle.mm_why.proofs.Searching.{expand_more, expand_end}
+use Rattle.mm_why.proofs.search.expand_all.Goals as goal
+
+pub expand-requires-clause-placed : goal.expand-requires-clause-placed
+expand-requires-clause-placed c =
+    subst (IsPlaced c.loop-at.search.places.items) (sym c.queued-node.ensures) (c.loop-at.invariant.advances.now.queued c.loop-at.at (search rules))
+
+pub loop-at-preserved : goal.loop-at-preserved
+loop-at-preserved c =
+    expand_more c.args.image.now c.args.graph.now.keys.items c.args.group c.args.graph.now.nodes.items c.args.graph.now.targets.items
+    (stage_of c.args.search.now c.args.lines.now.items) (stage_of c.loop-at.search c.loop-at.lines.items) (stage_of c.expand.new.search c.expand.new.lines.items) c.loop-at.at
+    c.loop-at.invariant (search rules)
+    (c.in_ok-expand.ensures.0, subst (IsClosed c.args.graph.now.nodes.items c.args.graph.now.targets.items c.expand.new.search.places.items) c.queued-node.ensures c.in_ok-expand.ensures.1)
+
+pub returns-clause-closed : goal.returns-clause-closed
+returns-clause-closed c =
+    expand_end c.args.image.now c.args.graph.now.keys.items c.args.group c.args.graph.now.nodes.items c.args.graph.now.targets.items
+    (stage_of c.args.search.now c.args.lines.now.items) (stage_of c.loop-at.search c.loop-at.lines.items) c.loop-at.at c.loop-at.invariant (search rules)

@@ -1,0 +1,12 @@
+pub mod Derivations
+pub mod Pruning
+pub mod Traces
+pub mod Rounds
+pub mod Reasons
+pub mod Searches
+pub mod Graphs
+pub mod Works
+pub mod Carrying
+pub mod Giving
+pub mod Owning
+pub mod Text

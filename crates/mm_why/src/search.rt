@@ -1,0 +1,489 @@
+//! The pointers that one group has by its own slots, by cells that it loads and by entries.
+
+ghost use Rattle.std.specs.Prelude.{◌≡◌, ◌≢◌, ℕ, ◌<◌, ◌≤◌, [], ◌∷◌, ◌++◌, OnOk, IfOk, Some, replicate, None, length, slice_index, slice_set, List, IsTrue, false};
+ghost use Rattle.mm_word.specs.declared.word.Word.TheVariants.{Ptr};
+ghost use Rattle.mm_word.specs.Pointer.{Pointer as PointerValue};
+ghost use Rattle.mm_flow.specs.Edges.{node_at};
+ghost use Rattle.mm_model.specs.Slot.{Slot as SlotValue};
+ghost use Rattle.mm_model.specs.Image.{Image as ImageValue};
+ghost use Rattle.mm_graph.specs.declared.canonical_ptr.CanonicalPtr.{CanonicalPtr as KeyType};
+ghost use Rattle.mm_model.specs.Spelling.{IsImage};
+ghost use Rattle.mm_graph.specs.Key.{IsRising};
+ghost use Rattle.mm_graph.specs.Nodes.{found_word};
+ghost use Rattle.mm_why.specs.Derivations.{Follows};
+ghost use Rattle.mm_why.specs.Graphs.{IsGraph, IsFound, CellsPlaced, SlotsPlaced, HasNoLine, IsSearch};
+ghost use Rattle.mm_why.specs.Traces.{IsTrace};
+ghost use Rattle.mm_why.specs.Searches.{stage_of, place_at, IsPlaced, AtNode, Searching, Further, Advances, HeldBy, WordPlaced, SlotPlaced, IsSlotOf, HasWords, RegistersPlaced, IsClosed};
+
+use crate::line::{Line, Rule};
+use crate::lines::{pointer_of, push};
+use mm_flow::Node;
+use mm_graph::{CanonicalPtr, Graph, find, standing_in};
+use mm_image::Image;
+use mm_model::Slot;
+use mm_word::{GuardedPtr, NoMemory, Word, enter};
+use std::alloc::Global;
+
+/// What a search has found: for each node the line that grants the group a pointer for which the node stands, and the
+/// nodes in the order in which they were found.
+#[derive(Drop)]
+pub struct Search {
+    pub places: Vec<Option<usize>>,
+    pub queue: Vec<usize>,
+}
+
+/// Gives a node its line.
+fn set(places: &mut Vec<Option<usize>>, node: usize, place: usize)
+    requires { node < length places.old.items }
+    ensures { places.new.items ≡ slice_set places.old.items node (Some place) }
+{
+    places[node] = Some(place);
+}
+
+/// Adds a node to the queue.
+fn enqueue(queue: &mut Vec<usize>, node: usize) -> Result<(), NoMemory>
+    ensures { OnOk result (queue.new.items ≡ queue.old.items ++ node ∷ []) }
+{
+    if queue.push(node).is_err() {
+        return Err(NoMemory);
+    }
+    Ok(())
+}
+
+/// Adds the line of a node that has none.
+fn place(
+    search: &mut Search,
+    lines: &mut Vec<Line>,
+    group: u8,
+    node: usize,
+    pointer: GuardedPtr,
+    rule: Rule,
+) -> Result<(), NoMemory>
+    requires { node < length search.old.places.items }
+    ensures len { length search.new.places.items ≡ length search.old.places.items }
+    ensures lines { OnOk result (lines.new.items ≡ lines.old.items ++ record { group = group; pointer = pointer; rule = rule } ∷ []) }
+    ensures places { OnOk result (search.new.places.items ≡ slice_set search.old.places.items node (Some (length lines.old.items))) }
+    ensures queue { OnOk result (search.new.queue.items ≡ search.old.queue.items ++ node ∷ []) }
+{
+    let line = Line {
+        group,
+        pointer,
+        rule,
+    };
+    let at = push(lines, line)?;
+    set(&mut search.places, node, at);
+    enqueue(&mut search.queue, node)
+}
+
+/// Whether a node has a line.
+fn is_placed(places: &Vec<Option<usize>>, node: usize) -> bool
+    requires { node < length places.now.items }
+    ensures placed { IsTrue result → IsPlaced places.now.items node }
+    ensures none { result ≡ false → place_at places.now.items node ≡ None }
+{
+    match places[node] {
+        Some(_) => true,
+        None => false,
+    }
+}
+
+/// The line of a node.
+fn line_of(places: &Vec<Option<usize>>, node: usize) -> Option<usize>
+    requires { node < length places.now.items }
+    ensures { result ≡ place_at places.now.items node }
+{
+    places[node]
+}
+
+/// The node at an index of the queue.
+fn queued(queue: &Vec<usize>, at: usize) -> usize
+    requires { at < length queue.now.items }
+    ensures { result ≡ slice_index queue.now.items at }
+{
+    queue[at]
+}
+
+/// Adds the line of a node, unless it has one.
+fn reach(
+    search: &mut Search,
+    lines: &mut Vec<Line>,
+    group: u8,
+    node: usize,
+    pointer: GuardedPtr,
+    rule: Rule,
+) -> Result<(), NoMemory>
+    requires { node < length search.old.places.items }
+    ensures len { length search.new.places.items ≡ length search.old.places.items }
+    ensures reached { OnOk result ((i : ImageValue) (keys : List KeyType)
+        → IsRising keys
+        → Searching i keys group (stage_of search.old lines.old.items)
+        → AtNode keys node pointer
+        → Follows i lines.old.items (length lines.old.items) group pointer rule
+        → Advances i keys group (stage_of search.old lines.old.items) (stage_of search.new lines.new.items)
+        × IsPlaced search.new.places.items node) }
+{
+    if is_placed(&search.places, node) {
+        return Ok(());
+    }
+    place(search, lines, group, node, pointer, rule)?;
+    Ok(())
+}
+
+/// Adds the line of a word that a slot has.
+fn reach_word(
+    search: &mut Search,
+    lines: &mut Vec<Line>,
+    keys: &[CanonicalPtr],
+    group: u8,
+    word: Word,
+    rule: Rule,
+) -> Result<(), NoMemory>
+    requires len { length search.old.places.items ≡ length keys.now }
+    requires rising { IsRising keys.now }
+    ensures len { length search.new.places.items ≡ length keys.now }
+    ensures placed { OnOk result ((i : ImageValue)
+        → Searching i keys.now group (stage_of search.old lines.old.items)
+        → HeldBy i group word rule
+        → Advances i keys.now group (stage_of search.old lines.old.items) (stage_of search.new lines.new.items)
+        × WordPlaced keys.now word search.new.places.items) }
+{
+    let Word::Ptr(pointer) = word else {
+        return Ok(());
+    };
+    let Some(key) = standing_in(word) else {
+        return Ok(());
+    };
+    match find(keys, key) {
+        Some(node) => {
+            reach(search, lines, group, node, pointer, rule)?;
+            Ok(())
+        }
+        None => Ok(()),
+    }
+}
+
+/// Adds the lines of words that the registers of a slot hold.
+fn reach_registers(
+    search: &mut Search,
+    lines: &mut Vec<Line>,
+    keys: &[CanonicalPtr],
+    group: u8,
+    slot: u8,
+    words: &[Word],
+) -> Result<(), NoMemory>
+    requires len { length search.old.places.items ≡ length keys.now }
+    requires rising { IsRising keys.now }
+    requires few { length words.now ≤ 16 }
+    ensures len { length search.new.places.items ≡ length keys.now }
+    ensures placed { OnOk result ((i : ImageValue) (s : SlotValue)
+        → IsSlotOf i s
+        → HasWords s group slot words.now
+        → Searching i keys.now group (stage_of search.old lines.old.items)
+        → RegistersPlaced i keys.now group words.now (length words.now) (stage_of search.old lines.old.items) (stage_of search.new lines.new.items)) }
+{
+    for k in 0..words.len() {
+        let word = words[k];
+        let rule = Rule::Register {
+            slot,
+            register: k as u8,
+        };
+        reach_word(search, lines, keys, group, word, rule)?;
+    }
+    Ok(())
+}
+
+/// Adds the lines of a slot's pointers.
+fn reach_slot(
+    search: &mut Search,
+    lines: &mut Vec<Line>,
+    keys: &[CanonicalPtr],
+    slot: &Slot,
+) -> Result<(), NoMemory>
+    requires len { length search.old.places.items ≡ length keys.now }
+    requires rising { IsRising keys.now }
+    ensures len { length search.new.places.items ≡ length keys.now }
+    ensures placed { OnOk result ((i : ImageValue)
+        → IsSlotOf i slot.now
+        → Searching i keys.now slot.now.group (stage_of search.old lines.old.items)
+        → Advances i keys.now slot.now.group (stage_of search.old lines.old.items) (stage_of search.new lines.new.items)
+        × SlotPlaced keys.now slot.now search.new.places.items) }
+{
+    let rule = Rule::Runs { slot: slot.number };
+    reach_word(search, lines, keys, slot.group, Word::Ptr(slot.ip), rule)?;
+    reach_registers(search, lines, keys, slot.group, slot.number, &slot.regs)?;
+    Ok(())
+}
+
+/// The pointer that a word is, if it is one.
+fn pointer_in(word: Word) -> Option<GuardedPtr>
+    ensures { (p : PointerValue) → word ≡ Ptr p → result ≡ Some p }
+{
+    match word {
+        Word::Ptr(pointer) => Some(pointer),
+        Word::Int(_) => None,
+    }
+}
+
+/// The address of the cell of an index of the graph.
+fn word_at(graph: &Graph, k: usize) -> u64
+    requires { k < length graph.now.found.items }
+    ensures { result ≡ found_word graph.now.found.items k }
+{
+    graph.found[k].word
+}
+
+/// The pointer that the cell of an index of the graph holds.
+fn pointer_at(image: &Image, graph: &Graph, k: usize) -> GuardedPtr
+    requires graph { IsGraph image.now graph.now }
+    requires small { k < length graph.now.found.items }
+    ensures { IsFound image.now graph.now k result }
+{
+    let Some(cell) = image.cell(word_at(graph, k)) else {
+        unreachable!()
+    };
+    let word = cell.word;
+    let Some(pointer) = pointer_in(word) else {
+        unreachable!()
+    };
+    pointer
+}
+
+/// The node of an index.
+fn node_of(graph: &Graph, k: usize) -> Node
+    requires { k < length graph.now.nodes.items }
+    ensures { result ≡ node_at graph.now.nodes.items k }
+{
+    graph.nodes[k]
+}
+
+/// The node of the pointer in the cell of an index.
+fn target_of(graph: &Graph, k: usize) -> usize
+    requires { k < length graph.now.targets.items }
+    ensures { result ≡ slice_index graph.now.targets.items k }
+{
+    graph.targets[k]
+}
+
+/// Adds the line of the pointer in the cell of an index, which the pointer of the line `by` loads, unless its node has
+/// one.
+fn reach_cell(
+    search: &mut Search,
+    lines: &mut Vec<Line>,
+    image: &Image,
+    graph: &Graph,
+    group: u8,
+    by: usize,
+    k: usize,
+) -> Result<(), NoMemory>
+    requires graph { IsGraph image.now graph.now }
+    requires small { k < length graph.now.found.items }
+    requires len { length search.old.places.items ≡ length graph.now.keys.items }
+    ensures len { length search.new.places.items ≡ length graph.now.keys.items }
+    ensures placed { OnOk result ((a : ℕ)
+        → place_at search.old.places.items a ≡ Some by
+        → (node_at graph.now.nodes.items a).low ≤ k
+        → k < (node_at graph.now.nodes.items a).high
+        → Searching image.now graph.now.keys.items group (stage_of search.old lines.old.items)
+        → Advances image.now graph.now.keys.items group (stage_of search.old lines.old.items) (stage_of search.new lines.new.items)
+        × IsPlaced search.new.places.items (slice_index graph.now.targets.items k)) }
+{
+    let to = target_of(graph, k);
+    if is_placed(&search.places, to) {
+        return Ok(());
+    }
+    let pointer = pointer_at(image, graph, k);
+    let word = word_at(graph, k);
+    reach(search, lines, group, to, pointer, Rule::Cell { word, by })?;
+    Ok(())
+}
+
+/// Adds the lines of the pointers in the cells that the pointer of a node's line loads.
+fn reach_cells(
+    search: &mut Search,
+    lines: &mut Vec<Line>,
+    image: &Image,
+    graph: &Graph,
+    group: u8,
+    node: usize,
+    by: usize,
+) -> Result<(), NoMemory>
+    requires graph { IsGraph image.now graph.now }
+    requires node { node < length graph.now.keys.items }
+    requires len { length search.old.places.items ≡ length graph.now.keys.items }
+    ensures len { length search.new.places.items ≡ length graph.now.keys.items }
+    ensures placed { OnOk result (place_at search.old.places.items node ≡ Some by
+        → Searching image.now graph.now.keys.items group (stage_of search.old lines.old.items)
+        → CellsPlaced image.now graph.now group node (node_at graph.now.nodes.items node).high (stage_of search.old lines.old.items) (stage_of search.new lines.new.items)) }
+{
+    let here = node_of(graph, node);
+    for k in here.low..here.high {
+        reach_cell(search, lines, image, graph, group, by, k)?;
+    }
+    Ok(())
+}
+
+/// Adds the line of what an entry by the pointer of a node's line leaves.
+fn reach_entry(
+    search: &mut Search,
+    lines: &mut Vec<Line>,
+    image: &Image,
+    graph: &Graph,
+    group: u8,
+    node: usize,
+    by: usize,
+) -> Result<(), NoMemory>
+    requires graph { IsGraph image.now graph.now }
+    requires node { node < length graph.now.keys.items }
+    requires len { length search.old.places.items ≡ length graph.now.keys.items }
+    requires by { by < length lines.old.items }
+    ensures len { length search.new.places.items ≡ length graph.now.keys.items }
+    ensures placed { OnOk result (place_at search.old.places.items node ≡ Some by
+        → Searching image.now graph.now.keys.items group (stage_of search.old lines.old.items)
+        → Advances image.now graph.now.keys.items group (stage_of search.old lines.old.items) (stage_of search.new lines.new.items)
+        × ((node_at graph.now.nodes.items node).enters ≢ 0
+        → IsPlaced search.new.places.items (node_at graph.now.nodes.items node).entry)) }
+{
+    let gate = node_of(graph, node);
+    if gate.enters == 0 {
+        return Ok(());
+    }
+    match enter(pointer_of(lines, by)) {
+        Some(pointer) => {
+            reach(
+                search,
+                lines,
+                group,
+                gate.entry,
+                pointer,
+                Rule::Entered { by },
+            )?;
+            Ok(())
+        }
+        None => Ok(()),
+    }
+}
+
+/// Adds the lines that follow from the line of a node alone.
+fn expand(
+    search: &mut Search,
+    lines: &mut Vec<Line>,
+    image: &Image,
+    graph: &Graph,
+    group: u8,
+    node: usize,
+) -> Result<(), NoMemory>
+    requires graph { IsGraph image.now graph.now }
+    requires now { Searching image.now graph.now.keys.items group (stage_of search.old lines.old.items) }
+    requires placed { IsPlaced search.old.places.items node }
+    ensures { OnOk result (Advances image.now graph.now.keys.items group (stage_of search.old lines.old.items) (stage_of search.new lines.new.items)
+        × IsClosed graph.now.nodes.items graph.now.targets.items search.new.places.items node) }
+{
+    let Some(by) = line_of(&search.places, node) else {
+        unreachable!()
+    };
+    reach_entry(search, lines, image, graph, group, node, by)?;
+    reach_cells(search, lines, image, graph, group, node, by)?;
+    Ok(())
+}
+
+/// Adds the lines that follow from those of the nodes in the queue, as long as there are any.
+fn expand_all(
+    search: &mut Search,
+    lines: &mut Vec<Line>,
+    image: &Image,
+    graph: &Graph,
+    group: u8,
+) -> Result<(), NoMemory>
+    requires graph { IsGraph image.now graph.now }
+    requires now { Searching image.now graph.now.keys.items group (stage_of search.old lines.old.items) }
+    ensures advances { OnOk result (Advances image.now graph.now.keys.items group (stage_of search.old lines.old.items) (stage_of search.new lines.new.items)) }
+    ensures closed { OnOk result ((k : ℕ)
+        → IsPlaced search.new.places.items k
+        → IsClosed graph.now.nodes.items graph.now.targets.items search.new.places.items k) }
+{
+    let mut at = 0;
+    while at < search.queue.len() {
+        let node = queued(&search.queue, at);
+        expand(search, lines, image, graph, group, node)?;
+        at += 1;
+    }
+    Ok(())
+}
+
+/// Adds the lines of a slot's pointers, if the slot is of the group.
+fn reach_own_slot(
+    search: &mut Search,
+    lines: &mut Vec<Line>,
+    keys: &[CanonicalPtr],
+    group: u8,
+    slot: &Slot,
+) -> Result<(), NoMemory>
+    requires len { length search.old.places.items ≡ length keys.now }
+    requires rising { IsRising keys.now }
+    ensures len { length search.new.places.items ≡ length keys.now }
+    ensures placed { OnOk result ((i : ImageValue)
+        → IsSlotOf i slot.now
+        → Searching i keys.now group (stage_of search.old lines.old.items)
+        → Advances i keys.now group (stage_of search.old lines.old.items) (stage_of search.new lines.new.items)
+        × (slot.now.group ≡ group → SlotPlaced keys.now slot.now search.new.places.items)) }
+{
+    if slot.group != group {
+        return Ok(());
+    }
+    reach_slot(search, lines, keys, slot)?;
+    Ok(())
+}
+
+/// Adds the lines of the pointers of a group's slots.
+fn reach_slots(
+    search: &mut Search,
+    lines: &mut Vec<Line>,
+    image: &Image,
+    keys: &[CanonicalPtr],
+    group: u8,
+) -> Result<(), NoMemory>
+    requires image { IsImage image.now }
+    requires rising { IsRising keys.now }
+    requires now { Searching image.now keys.now group (stage_of search.old lines.old.items) }
+    ensures { OnOk result (SlotsPlaced image.now keys.now group (length image.now.slots) (stage_of search.old lines.old.items) (stage_of search.new lines.new.items)) }
+{
+    let slots = image.slots();
+    for k in 0..slots.len() {
+        reach_own_slot(search, lines, keys, group, &slots[k])?;
+    }
+    Ok(())
+}
+
+/// No node has a line yet.
+fn none_found(alloc: Global, nodes: usize) -> Result<Search, NoMemory>
+    ensures places { IfOk result (λ s. s.places.items ≡ replicate nodes None) }
+    ensures queue { IfOk result (λ s. s.queue.items ≡ []) }
+{
+    let Ok(places) = (vec![in alloc; None; nodes]) else {
+        return Err(NoMemory);
+    };
+    Ok(Search {
+        places,
+        queue: Vec::new(alloc),
+    })
+}
+
+/// Adds a line for each node whose pointer a group has by its own slots, by cells that it loads and by entries. A line
+/// comes after those that need fewer lines before them.
+pub fn search_group(
+    alloc: Global,
+    image: &Image,
+    graph: &Graph,
+    group: u8,
+    lines: &mut Vec<Line>,
+) -> Result<Search, NoMemory>
+    requires graph { IsGraph image.now graph.now }
+    requires trace { IsTrace image.now lines.old.items }
+    requires none { HasNoLine lines.old.items group }
+    ensures { IfOk result (λ s. IsSearch image.now graph.now group lines.old.items lines.new.items s.places.items) }
+{
+    let mut search = none_found(alloc, graph.keys.len())?;
+    reach_slots(&mut search, lines, image, &graph.keys, group)?;
+    expand_all(&mut search, lines, image, graph, group)?;
+    Ok(search)
+}

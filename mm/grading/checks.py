@@ -1,0 +1,171 @@
+"""Whether a program is as an exercise expects it, line by line."""
+
+from __future__ import annotations
+
+from dataclasses import dataclass
+from functools import cached_property
+from typing import Callable, Optional
+
+from mm.build import Built
+from mm.console import Console, Order
+from mm.grading.sheet import Expectation, Sheet
+from mm.machine.causes import Cause
+from mm.machine.words import Word
+from mm.messages.files import NamedFile
+from mm.names.numbers import number_of
+from mm.outputs.audit import read_audit
+from mm.outputs.exploration import Exploration, read_exploration
+from mm.outputs.report import Report, SlotState, read_report, state_text
+from mm.status import Status, Stop
+from mm.words import cycles_of, groups_of
+
+CYCLES, STATES = 100_000, 100_000
+
+
+@dataclass(frozen=True)
+class Mark:
+    """A line of an exercise, and what is so in its place; nothing if it is as it should be."""
+
+    expectation: Expectation
+    why_not: Optional[str]
+
+
+class Program:
+    """A program that is looked at: it is run, audited and explored if a line asks for it."""
+
+    def __init__(self, console: Console, built: Built, sheet: Sheet) -> None:
+        self.console, self.built, self.sheet = console, built, sheet
+
+    @cached_property
+    def report(self) -> Report:
+        cycles = cycles_of(self.sheet.cycles)
+        words = ["run", self.built.path, str(CYCLES if cycles is None else cycles)]
+        order = Order()
+        if self.sheet.schedule is not None:
+            file = NamedFile("schedule", self.sheet.schedule.encode())
+            order = Order(file, self.console.workshop.keep(file.data, ".schedule"))
+        answer = self.console.ask([*words, *order.words], [self.built.file, *order.files])
+        return read_report(answer.text.splitlines())
+
+    @cached_property
+    def exploration(self) -> Exploration:
+        return read_exploration(self.console.ask(["explore", self.built.path, str(STATES)], [self.built.file]).text)
+
+    def slot(self, number: str) -> Optional[SlotState]:
+        return self.report.slot(number_in(number))
+
+    def apart(self, groups: str) -> bool:
+        answer = self.console.ask(["grants", self.built.path, groups_of(groups)], [self.built.file])
+        return read_audit(answer.text).aparts[-1].apart
+
+    @cached_property
+    def operations(self) -> set[str]:
+        """The operations of the sources."""
+        texts = [unit.source for unit in self.built.units if unit.source]
+        return {run.head for text in texts for segment in text.segments for run in segment.runs}
+
+
+def number_in(text: str) -> int:
+    number = number_of(text)
+    if number is None:
+        raise Stop(Status.REFUSED, f"mm: grade: `{text}` is no number")
+    return number
+
+
+def shown(data: bytes) -> str:
+    return '"' + data.decode("latin-1").encode("unicode_escape").decode() + '"'
+
+
+def says(program: Program, group: str, text: str = "") -> Optional[str]:
+    wanted = text.encode().decode("unicode_escape").encode("latin-1")
+    found = program.report.outputs.get(number_in(group))
+    if found is None:
+        return f"there is no group {group}"
+    return None if found == wanted else f"it says {shown(found)}"
+
+
+def halts(program: Program, *slots: str) -> Optional[str]:
+    for number in slots:
+        slot = program.slot(number)
+        if slot is None:
+            return f"there is no slot {number}"
+        if slot.state != "halted":
+            return f"slot {number} is {state_text(slot.state, slot.fault)}"
+    return None
+
+
+def faults(program: Program, number: str, fault: str) -> Optional[str]:
+    slot, cause = program.slot(number), Cause.of_title(fault)
+    wanted = cause.number if cause else number_in(fault)
+    if slot is None:
+        return f"there is no slot {number}"
+    return None if slot.fault == wanted else f"slot {number} is {state_text(slot.state, slot.fault)}"
+
+
+def register(program: Program, number: str, name: str, value: str) -> Optional[str]:
+    slot = program.slot(number)
+    if slot is None:
+        return f"there is no slot {number}"
+    found = slot.register(number_in(name.removeprefix("r")))
+    return None if found == Word(number_in(value) % 2**64) else f"{name} is {found if found is not None else 'empty'}"
+
+
+def apart(program: Program, *groups: str) -> Optional[str]:
+    return None if program.apart(",".join(groups)) else "the audit says that they do not"
+
+
+def shares(program: Program, *groups: str) -> Optional[str]:
+    return "the audit says that they stand apart" if program.apart(",".join(groups)) else None
+
+
+def uses(program: Program, *operations: str) -> Optional[str]:
+    missing = [name for name in operations if name not in program.operations]
+    return f"there is no {missing[0]}" if missing else None
+
+
+def without(program: Program, *operations: str) -> Optional[str]:
+    there = [name for name in operations if name in program.operations]
+    return f"there is a {there[0]}" if there else None
+
+
+def all_looked_at(found: Exploration) -> Optional[str]:
+    return None if found.all else f"there are more than {found.count} configurations"
+
+
+def outcomes(program: Program, number: str) -> Optional[str]:
+    found = program.exploration
+    if len(found.outcomes) != number_in(number):
+        return f"there {'is 1' if len(found.outcomes) == 1 else f'are {len(found.outcomes)}'}"
+    return all_looked_at(found)
+
+
+def never(program: Program, what: str) -> Optional[str]:
+    found = program.exploration
+    stuck = [outcome.schedule for outcome in found.outcomes if not outcome.ended]
+    if what == "stuck" and stuck:
+        return f"it is, under the schedule {stuck[0]}"
+    if what == "faults" and found.faults:
+        slot, cause, schedule = found.faults[0]
+        return f"slot {slot} has fault {cause}, under the schedule {schedule}"
+    if what not in ("stuck", "faults"):
+        return f"`never {what}` is nothing that is looked at"
+    return all_looked_at(found)
+
+
+CHECKS: dict[str, Callable[..., Optional[str]]] = {
+    "says": says,
+    "halts": halts,
+    "faults": faults,
+    "register": register,
+    "apart": apart,
+    "shares": shares,
+    "uses": uses,
+    "without": without,
+    "outcomes": outcomes,
+    "never": never,
+}
+
+
+def marks(program: Program) -> list[Mark]:
+    """Each line of the exercise, with what is not so."""
+    return [Mark(line, CHECKS[line.kind](program, *line.words)) for line in program.sheet.expectations]

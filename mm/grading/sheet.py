@@ -1,0 +1,73 @@
+"""The text of an exercise: a title, how the program is run, and what is expected."""
+
+from __future__ import annotations
+
+from dataclasses import dataclass, field
+from typing import Optional
+
+from mm.status import Status, Stop
+
+# What may stand on a line, with its operands as a message writes them.
+FORMS = {
+    "cycles": "cycles N",
+    "schedule": "schedule ITEMS",
+    "says": "says GROUP TEXT",
+    "halts": "halts SLOT..",
+    "faults": "faults SLOT FAULT",
+    "register": "register SLOT rN VALUE",
+    "apart": "apart GROUP..",
+    "shares": "shares GROUP..",
+    "uses": "uses OPERATION..",
+    "without": "without OPERATION..",
+    "outcomes": "outcomes N",
+    "never": "never stuck | never faults",
+}
+SETTINGS = ("cycles", "schedule")
+
+
+@dataclass(frozen=True)
+class Expectation:
+    """A line: what is looked at, its operands, and the line as it stands."""
+
+    kind: str
+    words: tuple[str, ...]
+    text: str
+
+
+@dataclass
+class Sheet:
+    """An exercise."""
+
+    title: str = ""
+    cycles: Optional[str] = None
+    schedule: Optional[str] = None
+    expectations: list[Expectation] = field(default_factory=list)
+
+
+def wrong(name: str, number: int, why: str) -> Stop:
+    return Stop(Status.REFUSED, f"mm: {name}:{number}: {why}")
+
+
+def read_sheet(name: str, text: str) -> Sheet:
+    """The exercise that a text means. The first comment is its title."""
+    sheet = Sheet()
+    for number, line in enumerate(text.splitlines(), 1):
+        words = line.split()
+        if not words:
+            continue
+        if words[0].startswith("#"):
+            sheet.title = sheet.title or line.lstrip("# ").strip()
+            continue
+        kind = words[0]
+        if kind not in FORMS:
+            raise wrong(name, number, f"`{kind}` is nothing that is looked at: {', '.join(FORMS)}")
+        rest = line.split(None, 2 if kind == "says" else -1)[1:]
+        if len(rest) < len(FORMS[kind].split(" | ")[0].split()) - 1 and not (kind == "says" and len(rest) == 1):
+            raise wrong(name, number, f"this line has the form `{FORMS[kind]}`")
+        if kind in SETTINGS:
+            setattr(sheet, kind, " ".join(rest))
+        else:
+            sheet.expectations.append(Expectation(kind, tuple(rest), line.strip()))
+    if not sheet.expectations:
+        raise wrong(name, 1, "nothing is expected")
+    return sheet

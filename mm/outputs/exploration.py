@@ -1,0 +1,96 @@
+"""Explorations: what `explore` finds under every schedule."""
+
+from __future__ import annotations
+
+from dataclasses import dataclass, field
+
+from mm.outputs.report import state_of, state_text
+
+
+@dataclass
+class Reached:
+    """What a group touched and wrote: the first address and the number of words of each run."""
+
+    group: int
+    touched: list[tuple[int, int]] = field(default_factory=list)
+    wrote: list[tuple[int, int]] = field(default_factory=list)
+
+
+@dataclass
+class Outcome:
+    """A way to end: whether no slot runs any more, the state of each slot, each output, and the first schedule."""
+
+    ended: bool
+    states: dict[int, str] = field(default_factory=dict)
+    outputs: dict[int, bytes] = field(default_factory=dict)
+    schedule: str = ""
+
+    @property
+    def told(self) -> list[str]:
+        """The slots and the outputs as lines for people."""
+        slots = [f"slot {number} {state}" for number, state in self.states.items()]
+        texts = [
+            f'group {group} says "{data.decode("latin-1").encode("unicode_escape").decode()}"'
+            for group, data in self.outputs.items()
+            if data
+        ]
+        return slots + texts
+
+
+@dataclass
+class Exploration:
+    """What was found: how many configurations, whether these are all, the groups, the faults and the outcomes."""
+
+    count: int = 0
+    all: bool = False
+    groups: list[Reached] = field(default_factory=list)
+    faults: list[tuple[int, int, str]] = field(default_factory=list)
+    outcomes: list[Outcome] = field(default_factory=list)
+
+
+class Reader:
+    """Reads the lines of an exploration one after another."""
+
+    def __init__(self) -> None:
+        self.found, self.group, self.fault = Exploration(), 0, (0, 0)
+
+    def take(self, words: list[str]) -> None:
+        found, verb = self.found, words[0]
+        if verb == "explored":
+            found.count, found.all = int(words[1]), words[2] == "all"
+        elif verb in ("touched", "wrote"):
+            getattr(found.groups[-1], verb).append((int(words[1], 16), int(words[2])))
+        elif verb == "fault":
+            self.fault = (int(words[1]), int(words[2]))
+        elif verb == "outcome":
+            found.outcomes.append(Outcome(words[2] == "ended"))
+        elif verb == "by":
+            self.schedule(" ".join(words[1:]))
+        elif not found.outcomes:
+            found.groups.append(Reached(int(words[1])))
+        else:
+            self.end(found.outcomes[-1], words)
+
+    def schedule(self, text: str) -> None:
+        if self.found.outcomes:
+            self.found.outcomes[-1].schedule = text
+        else:
+            self.found.faults.append((*self.fault, text))
+
+    def end(self, outcome: Outcome, words: list[str]) -> None:
+        """A line of an outcome: a slot, or a group's output."""
+        if words[0] == "slot":
+            outcome.states[int(words[1])] = state_text(*state_of(words[2:]))
+        elif words[0] == "group":
+            self.group = int(words[1])
+            outcome.outputs[self.group] = b""
+        else:
+            outcome.outputs[self.group] += bytes.fromhex(words[1])
+
+
+def read_exploration(text: str) -> Exploration:
+    """The exploration that a text spells."""
+    reader = Reader()
+    for line in text.splitlines():
+        reader.take(line.split())
+    return reader.found

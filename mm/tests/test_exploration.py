@@ -1,0 +1,72 @@
+"""`mm explore`: what is found under every schedule, in words."""
+
+import unittest
+
+from mm.names.symbols import Symbols
+from mm.outputs.exploration import read_exploration
+from mm.tests.support import mm
+from mm.views.exploration import ExplorationView
+
+TEXT = """explored 12 more
+group 0
+touched 00000000100000 3
+touched 00000000100040 1
+wrote 00000000100040 1
+group 2
+fault 1 3
+by 0 1*4
+outcome 2 ended
+slot 0 halted
+slot 1 faulted 3
+group 0 output 3
+o 41420a
+group 2 output 0
+by 0*3 1*4
+outcome 1 stuck
+slot 0 running
+slot 1 halted
+group 0 output 0
+group 2 output 0
+by
+"""
+
+
+class Exploration(unittest.TestCase):
+    def test_what_is_read(self):
+        found = read_exploration(TEXT)
+        self.assertEqual((found.count, found.all), (12, False))
+        self.assertEqual([(g.group, g.touched, g.wrote) for g in found.groups],
+                         [(0, [(0x100000, 3), (0x100040, 1)], [(0x100040, 1)]), (2, [], [])])  # fmt: skip
+        self.assertEqual(found.faults, [(1, 3, "0 1*4")])
+        first, second = found.outcomes
+        self.assertEqual((first.ended, first.states, first.outputs, first.schedule),
+                         (True, {0: "halted", 1: "faulted 3"}, {0: b"AB\n", 2: b""}, "0*3 1*4"))  # fmt: skip
+        self.assertEqual((second.ended, second.schedule), (False, ""))
+
+    def test_what_is_shown(self):
+        lines = list(ExplorationView(Symbols()).lines(read_exploration(TEXT)))
+        for line in (
+            "12 configurations, there are more: what is missing below may be in those",
+            "  touches 0x100000 and the 2 words after it",
+            "  writes  0x100040",
+            "slot 1 can be stopped by fault 3 Bounds: the address is outside the pointer's segment",
+            "  under the schedule 0 1*4",
+            "outcome 1: it ends",
+            '  group 0 says "AB\\n"',
+            "outcome 2: it is stuck: slots run, and nothing changes any more",
+            "  under the schedule without turns",
+        ):
+            self.assertIn(line, lines)
+
+    def test_names_and_ends(self):
+        ended = mm("explore", "docs/course/race.asm")
+        self.assertEqual((ended.status, ended.err), (0, ""))
+        for line in ("these are all", "touches code and the 4 words after it", 'says "AB"', 'says "AA"'):
+            self.assertIn(line, ended.out)
+
+    def test_states(self):
+        self.assertIn("5 configurations, there are more", mm("explore", "docs/course/race.asm", "--states", "5").out)
+        for number in ("0", "1000001", "many"):
+            ended = mm("explore", "docs/course/race.asm", "--states", number)
+            self.assertEqual(ended.status, 1)
+            self.assertIn("--states is a number from 1 to 1000000", ended.err)

@@ -1,0 +1,60 @@
+"""`mm grade`: each answer of the course is what its exercise asks for, and what is not so is told."""
+
+import glob
+import os
+import unittest
+
+from mm.grading.checks import CHECKS
+from mm.grading.sheet import FORMS, SETTINGS, read_sheet
+from mm.machine.program import CHECKOUT
+from mm.status import Stop
+from mm.tests.support import mm, read
+
+GRADE = os.path.join(CHECKOUT, "docs", "course", "grade")
+ANSWERS = {
+    "1.1": "memory", "1.2": "again", "2.1": "fields", "2.2": "middle", "3.1": "handover", "3.2": "less",
+    "4.1": "tests", "4.2": "ends", "5.1": "doors", "5.2": "ticket", "6.1": "calls", "6.2": "round",
+    "7.1": "writer", "7.2": "pairs", "8.1": "rude", "8.2": "told", "10.1": "taken", "10.2": "ordered",
+    "lab-1": "lab1", "lab-2": "lab2", "lab-3": "lab3", "lab-4": "lab4", "lab-5": "lab5",
+}  # fmt: skip
+
+
+class Grade(unittest.TestCase):
+    def test_each_answer_is_right(self):
+        for name, answer in ANSWERS.items():
+            with self.subTest(name):
+                ended = mm("grade", name, f"docs/course/answers/{answer}.asm")
+                self.assertEqual((ended.status, ended.err), (0, ""), ended.out)
+
+    def test_each_exercise_has_an_answer(self):
+        there = {os.path.basename(path)[:-4] for path in glob.glob(os.path.join(GRADE, "*.txt"))}
+        self.assertEqual(there, set(ANSWERS))
+
+    def test_another_program_is_not(self):
+        for name, program, why in (
+            ("10.1", "docs/course/race.asm", "there are 2"),
+            ("10.2", "docs/course/locks.asm", "it is, under the schedule 0 1"),
+            ("1.1", "examples/hello.asm", "there is no st"),
+            ("8.1", "docs/course/answers/told.asm", "the audit says that they do not"),
+        ):
+            with self.subTest(name):
+                ended = mm("grade", name, program)
+                self.assertEqual(ended.status, 1)
+                self.assertIn(why, ended.out)
+
+    def test_words_that_are_none(self):
+        ended = mm("grade", "11.1", "examples/hello.asm")
+        self.assertEqual(ended.status, 1)
+        self.assertIn("there is no exercise `11.1`", ended.err)
+
+    def test_lines_that_are_none(self):
+        for text, why in (("shines 0", "`shines` is nothing"), ("faults 0", "the form `faults SLOT FAULT`"), ("", "nothing")):
+            with self.assertRaises(Stop) as stop:
+                read_sheet("sheet.txt", text)
+            self.assertIn(why, stop.exception.lines[0])
+
+    def test_each_line_is_looked_at_and_written_down(self):
+        self.assertEqual(set(CHECKS) | set(SETTINGS), set(FORMS))
+        page = read("docs", "course", "GRADING.md")
+        for name in FORMS:
+            self.assertIn(f"`{name}", page)

@@ -1,0 +1,51 @@
+"""An exploration in words: what each group touched and wrote by name, the faults, and the ways to end."""
+
+from __future__ import annotations
+
+from typing import Iterator
+
+from mm.machine.causes import Cause
+from mm.names.numbers import counted
+from mm.names.symbols import Symbols
+from mm.outputs.exploration import Exploration, Outcome, Reached
+
+
+class ExplorationView:
+    """How an exploration is shown."""
+
+    def __init__(self, symbols: Symbols) -> None:
+        self.symbols = symbols
+
+    def lines(self, found: Exploration) -> Iterator[str]:
+        extent = "these are all" if found.all else "there are more: what is missing below may be in those"
+        yield f"{counted(found.count, 'configuration')}, {extent}"
+        for reached in found.groups:
+            yield ""
+            yield from self.reached(reached)
+        for slot, number, schedule in found.faults:
+            cause = Cause.of_number(number)
+            yield ""
+            yield f"slot {slot} can be stopped by fault {number} {cause.title if cause else ''}: {cause.meaning if cause else ''}"
+            yield f"  under the schedule {schedule}"
+        for number, outcome in enumerate(found.outcomes, 1):
+            yield ""
+            yield from self.outcome(number, outcome)
+        if not found.outcomes:
+            yield ""
+            yield "no end was found"
+
+    def reached(self, reached: Reached) -> Iterator[str]:
+        yield f"group {reached.group}"
+        for verb, spans in (("touches", reached.touched), ("writes", reached.wrote)):
+            for first, count in spans:
+                yield f"  {verb:<7} {self.words(first, count)}"
+
+    def words(self, first: int, count: int) -> str:
+        place = self.symbols.show(first)
+        return place if count == 1 else f"{place} and the {counted(count - 1, 'word')} after it"
+
+    def outcome(self, number: int, outcome: Outcome) -> Iterator[str]:
+        end = "ends" if outcome.ended else "is stuck: slots run, and nothing changes any more"
+        yield f"outcome {number}: it {end}"
+        yield from (f"  {line}" for line in outcome.told)
+        yield f"  under the schedule {outcome.schedule or 'without turns'}"
