@@ -34,7 +34,7 @@ use Rattle.mm_why.proofs.Pruning.{same_or_before}
 use Rattle.mm_why.proofs.GraphFacts.{nodes_len}
 
 module _ (i : Image) (g : Graph) (h : IsGraph i g) where
-  is_graph : IsGraphOf i All (node_pointer g.keys.items) (edges_of g) (record { nodes = g.nodes.items; parents = g.parents.items; links = g.links }) g.start.items
+  pub is_graph : IsGraphOf i All (node_pointer g.keys.items) (edges_of g) (record { nodes = g.nodes.items; parents = g.parents.items; links = g.links }) g.start.items
   is_graph =
       let b = h.built in
       graph i All h.image g.keys.items g.nodes.items g.targets.items g.parents.items g.links g.start.items b.has_nodes.masks b.is_keys b.has_nodes.is_nodes b.is_targets b.has_forest b.is_links
@@ -43,7 +43,7 @@ module _ (i : Image) (g : Graph) (h : IsGraph i g) where
   started : (k : ℕ) → k < length g.keys.items → k < length g.start.items
   started k lt = let l = h.built.is_start.len in omega (arith, l, lt)
 
-  below_node : (a : ℕ) (p : Pointer) → AtNode g.keys.items a p → IsBelow (node_pointer g.keys.items a) p
+  pub below_node : (a : ℕ) (p : Pointer) → AtNode g.keys.items a p → IsBelow (node_pointer g.keys.items a) p
   below_node a p at = stands_below p (key_at g.keys.items a) at.fits (stands_from p (key_at g.keys.items a) at.stands)
 
   -- a node's pointer of privileged code is that of the line

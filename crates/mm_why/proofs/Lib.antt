@@ -13,3 +13,4 @@ pub mod Giving
 pub mod Handing
 pub mod Coming
 pub mod Owning
+pub mod Deciding
