@@ -19,7 +19,7 @@ use Rattle.mm_flow.specs.Edges.{Edges, SharingEdges, node_at, no_node, low_at, h
 use Rattle.mm_flow.specs.Flow.{Has, Flows, IsFlow, Fits}
 use Rattle.mm_flow.specs.Flow.Flows.{from as flows_from, along as flows_along, through as flows_through}
 use Rattle.mm_flow.specs.Sharing.{kept_mark}
-use Rattle.mm_flow.specs.Reached.{HasSome, Shares, Reached, IsReach}
+use Rattle.mm_flow.specs.Reached.{HasSome, Shares, AreSharingEdges, Reached, IsReach}
 use Rattle.mm_flow.specs.Reached.Shares.{linked as shares_linked, shared as shares_shared, by_maker as shares_by_maker}
 use Rattle.mm_flow.specs.Reached.Reached.{from as reached_from, along as reached_along, through as reached_through, linked as reached_linked, shared as reached_shared, by_maker as reached_by_maker}
 use Rattle.mm_flow.proofs.Bits.{or_left, or_right, or_cases, and_both, both_bits, zero_bit}
@@ -39,18 +39,19 @@ use Rattle.mm_why.specs.declared.rounds.Rounds.{Rounds}
 use Rattle.mm_why.specs.declared.uses.Use.{Use}
 use Rattle.mm_why.specs.declared.uses.Use.TheVariants as uses
 use Rattle.mm_why.specs.declared.uses.Owner.{Owner}
-use Rattle.mm_why.specs.Derivations.{line_at, Says, Gives, IsGranted}
-use Rattle.mm_why.specs.Rounds.{round_at}
+use Rattle.mm_why.specs.Derivations.{line_at, Says, EachFollows, NoneTwice, IsDerivation, Gives, IsGranted, Derives}
+use Rattle.mm_why.specs.Traces.{IsTrace}
+use Rattle.mm_why.specs.Rounds.{AreRounds, round_at}
 use Rattle.mm_why.specs.Searches.{place_at, AtNode}
 use Rattle.mm_why.specs.Graphs.{IsGraph, edges_of}
 use Rattle.mm_why.specs.Works.{IsSearched, ReachesRight, whole_pointer}
 use Rattle.mm_why.specs.Giving.{MeetsAt, Meets, IsContext}
 use Rattle.mm_why.specs.Giving.Meets.{by_words, by_maker}
-use Rattle.mm_why.specs.Owning.{can_use, CanUse, IsOwner, NoOwner, IsUsable}
+use Rattle.mm_why.specs.Owning.{asked, can_use, CanUse, IsOwner, NoOwner, IsUsable}
 use Rattle.mm_why.specs.Answers.{ReachesUse, Owns, IsSharing, IsGiver, GivesAt}
 use Rattle.mm_why.proofs.Pruning.{same_or_before}
-use Rattle.mm_why.proofs.GraphFacts.{nodes_len, targets_len, found_len, order, entry_small}
-use Rattle.mm_why.proofs.Giving.{is_graph, below_node, parents_len}
+use Rattle.mm_why.proofs.GraphFacts.{nodes_len, order, entry_small}
+use Rattle.mm_why.proofs.Giving.{is_graph, below_node}
 use Rattle.mm_why.proofs.Coming.{came, owned}
 
 -- 1. Uses and the pointers that give them.
@@ -63,20 +64,20 @@ covers_test p a covers =
 
 and_then : (a b : Bool) → (a && b) ≡ true → (a ≡ true) × (b ≡ true)
 and_then true b h = (refl, h)
-and_then false b h = cc
+and_then false b h = absurd (let bad = h in cc)
 
 then_and : (a b : Bool) → a ≡ true → b ≡ true → (a && b) ≡ true
-then_and a b h k = rw (h, k) refl
+then_and true b h k = k
+then_and false b h k = absurd (let bad = h in cc)
 
 pub can_then : (how : Use) (p : Pointer) (w : ℕ) → can_use how p w ≡ true → CanUse how p w
-can_then uses.Touch p w h = let x = and_then (allows p.perm _) (holds_word p w) h in (x.0, holds_word-Covers p w x.1)
-can_then uses.Write p w h = let x = and_then (allows p.perm _) (holds_word p w) h in (x.0, holds_word-Covers p w x.1)
+can_then how p w h = let x = and_then (allows p.perm (asked how)) (holds_word p w) h in (x.0, holds_word-Covers p w x.1)
 
 loads_test : (p : Pointer) (w : ℕ) → LoadsAt p w → can_use uses.Touch p w ≡ true
-loads_test p w l = then_and _ _ l.right (covers_test p w l.covers)
+loads_test p w l = then_and (allows p.perm (asked uses.Touch)) (holds_word p w) l.right (covers_test p w l.covers)
 
 stores_test : (p : Pointer) (w : ℕ) → StoresAt p w → can_use uses.Write p w ≡ true
-stores_test p w s = then_and _ _ s.right (covers_test p w s.covers)
+stores_test p w s = then_and (allows p.perm (asked uses.Write)) (holds_word p w) s.right (covers_test p w s.covers)
 
 gives_use : (how : Use) (p : Pointer) (w : ℕ) → w % 8 ≡ 0 → CanUse how p w → Gives how p w
 gives_use uses.Touch p w word can = record { word = word; right = can.0; covers = can.1 }
@@ -122,6 +123,17 @@ whole_line lines k owner how w word small says = record {
   gives = subst (λ v. Gives how v w) (sym says.pointer) (whole_gives how w word small);
 }
 
+-- the last line of a trace, if only the lines that it needs are kept
+pub derives : (i : Image) (how : Use) (group w : ℕ) (lines out : List Line) (last : ℕ) (p : Pointer) → IsTrace i lines → Says lines (length lines) last group p → Gives how p w
+    → (EachFollows i lines → NoneTwice lines → IsDerivation i out) → Says out (length out) (length out - 1) (line_at lines last).group (line_at lines last).pointer → Derives i how group w out
+derives i how group w lines out last p trace says gives pruned end = record {
+  derivation = pruned trace.follows trace.none_twice;
+  pointer = p;
+  last = subst (λ v. Says out (length out) (length out - 1) group v) says.pointer
+      (subst (λ v. Says out (length out) (length out - 1) v (line_at lines last).pointer) says.group end);
+  gives = gives;
+}
+
 -- 3. Marks along edges are those of what is reached.
 
 has_small : (xs : List ℕ) (k g : ℕ) → Has xs k g → k < length xs
@@ -151,6 +163,7 @@ union zero f = 0
 union (suc n) f = bit_or (union n f) (f n)
 
 union_in : (n : ℕ) (f : ℕ → ℕ) (g : ℕ) → bit_at (union n f) g ≡ 1 → (k : ℕ) × (k < n) × (bit_at (f k) g ≡ 1)
+unfolding union
 union_in zero f g h = absurd (zero_bit g h)
 union_in (suc n) f g h = elim (or_cases (union n f) (f n) g h) [
   | inl a ↦ let x = union_in n f g a in (x.0, (let lt = x.1 in omega (arith, lt)), x.2)
@@ -158,6 +171,7 @@ union_in (suc n) f g h = elim (or_cases (union n f) (f n) g h) [
 ]
 
 in_union : (n : ℕ) (f : ℕ → ℕ) (g k : ℕ) → k < n → bit_at (f k) g ≡ 1 → bit_at (union n f) g ≡ 1
+unfolding union
 in_union zero f g k lt h = absurd (omega (arith, lt))
 in_union (suc n) f g k lt h = elim (same_or_before k n (omega (arith, lt))) [
   | inl e ↦ or_right (union n f) (f n) g (subst (λ v. bit_at (f v) g ≡ 1) e h)
@@ -165,22 +179,54 @@ in_union (suc n) f g k lt h = elim (same_or_before k n (omega (arith, lt))) [
 ]
 
 -- the groups to which all comes that a group of the mask has
-abbrev comes_to : List ℕ → ℕ → ℕ
+comes_to : List ℕ → ℕ → ℕ
 comes_to table m = bit_and (union 64 (λ h. kept_mark (bit_at m h == 1) (slice_index table h))) (2 ^ 64 - 1)
 
 comes_from : (table : List ℕ) (m t : ℕ) → bit_at (comes_to table m) t ≡ 1 → (h : ℕ) × (h < 64) × (bit_at m h ≡ 1) × Has table h t
+unfolding comes_to
 comes_from table m t x =
     let u = union_in 64 (λ h. kept_mark (bit_at m h == 1) (slice_index table h)) t (both_bits (union 64 (λ h. kept_mark (bit_at m h == 1) (slice_index table h))) (2 ^ 64 - 1) t x).0 in
     let k = kept_then (bit_at m u.0 == 1) (slice_index table u.0) t u.2 in
     (u.0, u.1, eqb-true (bit_at m u.0) 1 k.1, k.0)
 
 comes : (table : List ℕ) (m t h : ℕ) → t < 64 → h < 64 → bit_at m h ≡ 1 → Has table h t → bit_at (comes_to table m) t ≡ 1
+unfolding comes_to
 comes table m t h st sh bit has =
     and_both (union 64 (λ h. kept_mark (bit_at m h == 1) (slice_index table h))) (2 ^ 64 - 1) t
     (in_union 64 (λ h. kept_mark (bit_at m h == 1) (slice_index table h)) t h sh (then_kept (bit_at m h == 1) (slice_index table h) t has (eq-eqb (bit_at m h) 1 bit)))
     (bit_at_ones 64 t st)
 
+mask_small : (m : ℕ) → bit_and m (2 ^ 64 - 1) < 2 ^ 64
+mask_small m = let le = and_le_r m (2 ^ 64 - 1) in omega (arith, le)
+
+comes_small : (table : List ℕ) (m : ℕ) → comes_to table m < 2 ^ 64
+unfolding comes_to
+comes_small table m = mask_small (union 64 (λ h. kept_mark (bit_at m h == 1) (slice_index table h)))
+
+pub either_bit : (a b h : ℕ) (P Q : Type 0) → ((bit_at a h ≡ 1) ↔ P) → ((bit_at b h ≡ 1) ↔ Q) → (bit_at (bit_or a b) h ≡ 1) ↔ (P ⊎ Q)
+either_bit a b h P Q p q = (
+  λ x. elim (or_cases a b h x) [ inl y ↦ inl (p.0 y) | inr y ↦ inr (q.0 y) ],
+  λ x. elim x [ inl y ↦ or_left a b h (p.1 y) | inr y ↦ or_right a b h (q.1 y) ],
+)
+
+pub rounds_share : (g : Graph) (marks meets : List ℕ) (r : Rounds) → AreSharingEdges (record { nodes = g.nodes.items; parents = g.parents.items; links = replicate 64 0 }) marks meets
+    → r.links ≡ g.links → r.meets ≡ meets → AreRounds g.links meets r.rounds.items → IsSharing g marks r
+rounds_share g marks meets r s l m rounds = record {
+  links = l;
+  meets = subst (AreSharingEdges (record { nodes = g.nodes.items; parents = g.parents.items; links = replicate 64 0 }) marks) (sym m) s;
+  rounds = subst (λ v. AreRounds v r.meets r.rounds.items) (sym l) (subst (λ v. AreRounds g.links v r.rounds.items) (sym m) rounds);
+}
+
 -- 5. The graph's own facts.
+
+le_same : (a b c : ℕ) → a ≤ b → c ≡ b → a ≤ c
+le_same a b c le e = omega (arith, le, e)
+
+lt_same : (a b c : ℕ) → a < b → b ≡ c → a < c
+lt_same a b c lt e = omega (arith, lt, e)
+
+before : (n : ℕ) → 0 < n → n - 1 < n
+before n some = omega (arith, some)
 
 module _ (i : Image) (g : Graph) (h : IsGraph i g) where
   abbrev sharing : SharingEdges
@@ -193,13 +239,10 @@ module _ (i : Image) (g : Graph) (h : IsGraph i g) where
   pub edges_fit : Fits (edges_of g) (length g.start.items)
   edges_fit = record {
     nodes = nodes_len i g h ∙ size;
-    order = λ k lt. order i g h k (let e = size in omega (arith, e, lt));
-    ends = λ k lt.
-        let f = (h.built.has_nodes.is_nodes.each k (let e = size in omega (arith, e, lt))).range.fits in
-        let l = h.built.is_targets.len in
-        omega (arith, f, l);
-    targets = λ j lt. let s = h.built.is_targets.small j (let l = h.built.is_targets.len in omega (arith, l, lt)) in let e = size in omega (arith, s, e);
-    entries = λ k lt. let s = entry_small i g h k (let e = size in omega (arith, e, lt)) in let e = size in omega (arith, s, e);
+    order = λ k lt. order i g h k (lt_same k _ _ lt (sym size));
+    ends = λ k lt. le_same _ _ _ (h.built.has_nodes.is_nodes.each k (lt_same k _ _ lt (sym size))).range.fits h.built.is_targets.len;
+    targets = λ j lt. lt_same _ _ _ (h.built.is_targets.small j (lt_same j _ _ lt h.built.is_targets.len)) size;
+    entries = λ k lt. lt_same _ _ _ (entry_small i g h k (lt_same k _ _ lt (sym size))) size;
   }
 
   pub parents_fit : length g.parents.items ≡ length g.start.items
@@ -295,14 +338,14 @@ module _ (i : Image) (g : Graph) (h : IsGraph i g) where
 
       -- 7. The marks of all that is granted.
 
-      abbrev end : ℕ
-      end = length r.rounds.items - 1
+      abbrev final : ℕ
+      final = length r.rounds.items - 1
 
       abbrev last : List ℕ
-      last = round_at r.rounds.items end
+      last = round_at r.rounds.items final
 
-      end_small : end < length r.rounds.items
-      end_small = let some = s.rounds.steps.some in omega (arith, some)
+      final_small : final < length r.rounds.items
+      final_small = before (length r.rounds.items) s.rounds.steps.some
 
       abbrev all_marks : List ℕ
       all_marks = map (comes_to last) marks
@@ -328,18 +371,15 @@ module _ (i : Image) (g : Graph) (h : IsGraph i g) where
       mark_reached : (t k : ℕ) → Has all_marks k t → Reached (edges_of g) sharing g.start.items t k
       mark_reached t k x =
           let c = come_in k t x in
-          came i g r context size end end_small c.0 t k c.1 c.3 (f.sound k c.0 c.2)
+          came i g r context size final final_small c.0 t k c.1 c.3 (f.sound k c.0 c.2)
 
       is_reach : IsReach (edges_of g) sharing g.start.items all_marks
       is_reach = record { len = all_len ∙ f.len; only = mark_reached; each = reached_mark }
 
       fits : (k : ℕ) → slice_index all_marks k < 2 ^ 64
       fits k = elim (cases_lt k (length marks)) [
-        | inl lt ↦
-            let at = mark_at k lt in
-            let le = and_le_r (union 64 (λ h. kept_mark (bit_at (slice_index marks k) h == 1) (slice_index last h))) (2 ^ 64 - 1) in
-            omega (arith, at, le)
-        | inr le ↦ let past = get_or_past all_marks k 0 (let l = all_len in omega (arith, l, le)) in omega (arith, past)
+        | inl lt ↦ subst (λ v. v < 2 ^ 64) (sym (mark_at k lt)) (comes_small last (slice_index marks k))
+        | inr le ↦ subst (λ v. v < 2 ^ 64) (sym (get_or_past all_marks k 0 (let l = all_len in omega (arith, l, le)))) (omega arith)
       ]
 
       abbrev maker : ℕ → ℕ
@@ -349,6 +389,7 @@ module _ (i : Image) (g : Graph) (h : IsGraph i g) where
       makers = union (length all_marks) maker
 
       makers_are : (t : ℕ) → (bit_at makers t ≡ 1) ↔ HasSome all_marks (right_at g.nodes.items Make) t
+      unfolding makers
       makers_are t = (
         λ x.
             let u = union_in (length all_marks) maker t x in
@@ -381,7 +422,7 @@ module _ (i : Image) (g : Graph) (h : IsGraph i g) where
           never : (keep : ℕ → Bool) → ((o : ℕ) → HasSome marks keep o → bit_at owners o ≡ 1) → HasSome all_marks keep t → ⊥
           never keep own x =
               let c = come_in x.node t x.marked in
-              none end c.0 end_small c.1
+              none final c.0 final_small c.1
               (own c.0 (record { node = x.node; small = (let l = all_len in let lt = x.small in omega (arith, l, lt)); marked = c.2; kept = x.kept })) c.3
 
           never_maker : IsTrue (in_mask makers t) → ⊥

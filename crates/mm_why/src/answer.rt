@@ -1,11 +1,11 @@
 //! Why a group is granted a word.
 
-ghost use Rattle.std.specs.Prelude.{◌≡◌, ℕ, ◌<◌, ◌⊎◌, ◌↔◌, ◌%◌, ◌^◌, All, IfOk, MatchOption, length};
+ghost use Rattle.std.specs.Prelude.{◌≡◌, ℕ, ◌<◌, ◌⊎◌, ◌↔◌, ◌%◌, ◌^◌, All, IfOk, MatchOption, length, replicate};
 ghost use Rattle.std.specs.Int.{bit_at};
 ghost use Rattle.mm_flow.specs.declared.node.Right.TheVariants.{Make as ToMake};
 ghost use Rattle.mm_flow.specs.Edges.{right_at};
 ghost use Rattle.mm_flow.specs.Flow.{Fits, IsFlow};
-ghost use Rattle.mm_flow.specs.Reached.{HasSome};
+ghost use Rattle.mm_flow.specs.Reached.{AreSharingEdges, HasSome};
 ghost use Rattle.mm_graph.specs.Key.{IsKey};
 ghost use Rattle.mm_graph.specs.Marked.{node_pointer as pointer_of_node};
 ghost use Rattle.mm_why.specs.Derivations.{IsGranted, Derives};
@@ -19,7 +19,7 @@ use crate::give::{Context, give, make_whole, places_of};
 use crate::line::Line;
 use crate::lines::pointer_of;
 use crate::prune::prune;
-use crate::rounds::{Rounds, all_rounds};
+use crate::rounds::{Masks, Rounds, all_rounds};
 use crate::uses::{Owner, Use, earliest, first_owner, givers};
 use crate::work::{Work, know, no_work};
 use mm_flow::{Right, any, sharing_edges, spread};
@@ -60,17 +60,29 @@ fn own_marks(alloc: Global, graph: &Graph) -> Result<Vec<u64>, NoMemory>
     }
 }
 
+/// The groups that can load where a group can store, given what each has of its own.
+fn meetings(alloc: Global, graph: &Graph, marks: &[u64]) -> Result<Masks, NoMemory>
+    requires nodes { length graph.now.nodes.items ≡ length marks.now }
+    requires parents { length graph.now.parents.items ≡ length marks.now }
+    ensures { IfOk result (λ m. AreSharingEdges
+        (record { nodes = graph.now.nodes.items; parents = graph.now.parents.items; links = replicate 64 0 }) marks.now m) }
+{
+    let mut meets = [0u64; 64];
+    match sharing_edges(alloc, marks, &graph.nodes, &graph.parents, &mut meets) {
+        Ok(()) => Ok(meets),
+        Err(_) => Err(NoMemory),
+    }
+}
+
 /// Which groups share with which, given what each has of its own.
 fn sharing(alloc: Global, graph: &Graph, marks: &[u64]) -> Result<Rounds, NoMemory>
     requires nodes { length graph.now.nodes.items ≡ length marks.now }
     requires parents { length graph.now.parents.items ≡ length marks.now }
     ensures { IfOk result (λ r. IsSharing graph.now marks.now r) }
 {
-    let mut meets = [0u64; 64];
-    match sharing_edges(alloc, marks, &graph.nodes, &graph.parents, &mut meets) {
-        Ok(()) => all_rounds(alloc, graph.links, meets),
-        Err(_) => Err(NoMemory),
-    }
+    let meets = meetings(alloc, graph, marks)?;
+    let rounds = all_rounds(alloc, graph.links, meets)?;
+    Ok(rounds)
 }
 
 /// The mask of the groups that have a use of a word of their own.
