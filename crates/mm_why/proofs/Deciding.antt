@@ -265,10 +265,10 @@ module _ (i : Image) (g : Graph) (h : IsGraph i g) where
           let m = ((h.built.has_nodes.is_nodes.each a small).enters k e eo).0 in
           subst (λ v. bit_at v x ≡ 1) (sym m) (h.built.has_nodes.is_masks.each a x small lt tt)
 
-  linked_small : (b t : ℕ) → AreLinked i.slots b t → t < 64
-  linked_small b t l = elim l.groups [
-    | inl e ↦ subst (λ v. v < 64) e.1 ((is_graph i g h).groups l.server l.other)
-    | inr e ↦ subst (λ v. v < 64) e.0 ((is_graph i g h).groups l.served l.one)
+  linked_small : (t b : ℕ) → AreLinked i.slots t b → t < 64
+  linked_small t b l = elim l.groups [
+    | inl e ↦ subst (λ v. v < 64) e.0 ((is_graph i g h).groups l.served l.one)
+    | inr e ↦ subst (λ v. v < 64) e.1 ((is_graph i g h).groups l.server l.other)
   ]
 
   -- groups are numbered below 64
@@ -276,7 +276,7 @@ module _ (i : Image) (g : Graph) (h : IsGraph i g) where
   reached_small t k (reached_from x) = (h.built.is_start.only k t x).0
   reached_small t k (reached_along a j x lt low high at) = reached_small t a x
   reached_small t k (reached_through a x lt enters at) = reached_small t a x
-  reached_small t k (reached_linked b sb x has) = linked_small b t (h.built.is_links.only b t has)
+  reached_small t k (reached_linked b sb x has) = linked_small t b (h.built.is_links.only t b has)
   reached_small t k (reached_shared b m a c sb x lt xa stores up xc loads down) = reached_small t c xc
   reached_small t k (reached_by_maker b a c sb x la xa makes lc xc loads) = reached_small t c xc
 
