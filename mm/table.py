@@ -65,6 +65,7 @@ COMMANDS = (
     Command("symbols", FILES, "the map of a link: segments and labels with their addresses", (NAMES, JSON, *C)),
     Command("dis", "FILE", "an image or an object word by word: address, word, instruction and name", (NAMES,), most=1),
     Command("audit", FILES, "what each group can read and write, whatever its code does", (GROUPS, NAMES, JSON, *C)),
+    Command("why", "FILE.. GROUP WORD KIND", "by what way a group can touch or write a word: the pointers, one after the other", (NAMES, *C), least=4),
     Command("check-why", "IMAGE GROUP WORD KIND", "check a derivation of `mmachine why`, given on the standard input", least=4, most=4, module="check_why"),
     Command("holders", "FILE.. RANGE", "who holds a pointer into a range (`mm help ranges`)", (NAMES,), least=2, module="ranges"),
     Command("sweep", "FILE.. RANGE", "an image in which nobody has a pointer into a range", (OUTPUT, NAMES), least=2, module="ranges"),

@@ -2,7 +2,7 @@
 
 _mm() {
     local word=${COMP_WORDS[COMP_CWORD]} before=${COMP_WORDS[COMP_CWORD-1]} command='' at
-    local commands='run debug trace view vcd symbols dis audit check-why holders sweep extract solo net save continue cc asm link migrate hex gen soak help'
+    local commands='run debug trace view vcd symbols dis audit why check-why holders sweep extract solo net save continue cc asm link migrate hex gen soak help'
     COMPREPLY=()
     for ((at = 1; at < COMP_CWORD; at++)); do
         case ${COMP_WORDS[at]} in
@@ -34,6 +34,7 @@ _mm() {
             cc) options="$options --optimise --heap --stack --clang --slot --prefix --output" ;;
             hex) options="$options --part --output --optimise --heap --stack --clang" ;;
             dis | holders) options="$options --names" ;;
+            why) options="$options --names --optimise --heap --stack --clang" ;;
             audit) options="$options --groups --names --json --optimise --heap --stack --clang" ;;
             sweep) options="$options --output --names" ;;
             save) options="$options --cycles --schedule --turns --output" ;;
@@ -48,7 +49,7 @@ _mm() {
         gen | soak) ;;
         *)
             [ "$command" = migrate ] && COMPREPLY=($(compgen -W 'plain split' -- "$word"))
-            [ "$command" = check-why ] && COMPREPLY=($(compgen -W 'touch write' -- "$word"))
+            [ "$command" = why ] || [ "$command" = check-why ] && COMPREPLY=($(compgen -W 'touch write' -- "$word"))
             # The shell's own completion of files, which knows blanks and quotes.
             compopt -o default ;;
     esac

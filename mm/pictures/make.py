@@ -18,10 +18,13 @@ from mm.names.symbols import Symbols
 from mm.outputs.audit import Audit, read_audit
 from mm.outputs.report import Report, read_report
 from mm.outputs.trace import Turn, numbered, read_turn, split_trace
-from mm.pictures import audit, gate, image, net, permissions, pointer, reach, states, sweep, trace, tree
+from mm.pictures import audit, gate, image, net, permissions, pointer, reach, states, sweep, trace, tree, why
 from mm.pictures.svg import Picture
 from mm.status import Stop, usage
+from mm.views.derivation import DONE
 from mm.views.style import Style
+from mm.why.ask import asked
+from mm.why.lines import NO, read_lines
 
 
 class Studio:
@@ -127,6 +130,15 @@ def _sweep(studio: Studio) -> Picture:
     return sweep.draw(built, lines, read_image(swept.out), base, studio.title("What a sweep takes away"))
 
 
+def _why(studio: Studio) -> Picture:
+    *names, group, word, kind = studio.names
+    built = studio.workshop.build(names)
+    ask = asked(group, word, kind, built.symbols)
+    text = studio.answer(built, "why", built.path, *ask.words)
+    title = studio.title(f"Why group {ask.group} can {DONE[kind]} {built.symbols.show(ask.address)}")
+    return why.draw([] if text == NO else read_lines(text), ask, built, title)
+
+
 def _net(studio: Studio) -> Picture:
     links, *names = studio.names
     nodes = [studio.workshop.build([name]) for name in names]
@@ -148,6 +160,7 @@ KINDS: dict[str, tuple[int, Callable[[Studio], Picture]]] = {
     "image": (1, _image),
     "gate": (1, _gate),
     "reach": (1, _reach),
+    "why": (4, _why),
     "sweep": (2, _sweep),
     "net": (2, _net),
     "pointer": (1, _pointer),

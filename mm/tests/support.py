@@ -101,9 +101,10 @@ def write(room: str, name: str, text: str) -> str:
     return path
 
 
-def has_log() -> bool:
-    """Whether the program has the command `log`."""
-    return has_program() and not find_program().run(["log", path_of("examples", "hello.img"), "0"]).status
+def has(command: str, *words: str) -> bool:
+    """Whether the program has a command, which is given an image and some words."""
+    return has_program() and not find_program().run([command, path_of("examples", "hello.img"), *words]).status
 
 
-needs_log = unittest.skipUnless(has_log(), "there is no built mmachine that has `log`")
+needs_log = unittest.skipUnless(has("log", "0"), "there is no built mmachine that has `log`")
+needs_why = unittest.skipUnless(has("why", "0", "0", "touch"), "there is no built mmachine that has `why`")

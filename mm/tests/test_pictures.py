@@ -10,7 +10,7 @@ from mm.pictures import permissions, pointer, states, tree
 from mm.pictures.make import KINDS, drawn
 from mm.pictures.svg import COLOURS, SHOWN, SMALLEST, WIDTH, Picture
 from mm.status import Stop
-from mm.tests.support import needs_program, path_of, read
+from mm.tests.support import needs_program, needs_why, path_of, read
 from mm.tests.test_view import DEUTAN, PLAIN, PROTAN, contrast, distance
 
 SPACE = "{http://www.w3.org/2000/svg}"
@@ -95,6 +95,12 @@ class Drawn(unittest.TestCase):
                     self.assertIn(each, text)
         self.assertRaises(Stop, drawn, ["what"], "")
         self.assertRaises(Stop, drawn, ["trace"], "")
+
+    @needs_why
+    def test_why(self):
+        text = self.look(drawn(["why", path_of("examples", "counter.asm"), "0", "count", "write"], ""))
+        for said in ("Why group 0 can write count", "3  xu 2^6 door", "4, stored at box by 1, loaded by 5"):
+            self.assertIn(said, text)
 
     def test_the_list_has_each_kind(self):
         rows = [line.split("|")[1].split()[0] for line in read("docs", "pictures", "drawn").splitlines()

@@ -10,6 +10,8 @@ from mm.machine.words import Pointer
 NUMBER = r"(0|[1-9][0-9]*)"
 POINTER = r"p([0-9a-f]{16})"
 ADDRESS = r"([0-9a-f]{14})"
+# The whole text where the word is not granted.
+NO = "no\n"
 LINE = re.compile(f"{NUMBER} group {NUMBER} {POINTER} (.*)")
 # Each rule: how it is written, and which of its numbers name earlier lines.
 RULES = {

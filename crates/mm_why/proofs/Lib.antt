@@ -14,3 +14,4 @@ pub mod Handing
 pub mod Coming
 pub mod Owning
 pub mod Deciding
+pub mod Texts

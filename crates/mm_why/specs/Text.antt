@@ -1,5 +1,6 @@
 -- The text of a derivation.
-use Rattle.std.specs.Prelude.{◌≡◌, ℕ, ◌+◌, ◌⊎◌, List, [], ◌∷◌, ◌++◌, codes, decimal}
+use Rattle.std.specs.Prelude.{◌≡◌, ℕ, ◌+◌, ◌⊎◌, List, [], ◌∷◌, ◌++◌, codes, decimal, Option, Some, None}
+use Rattle.std.specs.Borrow.{Bor}
 use Rattle.mm_word.specs.declared.word.Word.TheVariants.{Ptr}
 use Rattle.mm_model.specs.Digits.{hex}
 use Rattle.mm_model.specs.Image.{Image}
@@ -35,6 +36,11 @@ line_text k line =
 unfoldable pub lines_text : ℕ → List Line → List ℕ
 lines_text k [] = []
 lines_text k (line ∷ lines) = line_text k line ++ lines_text (k + 1) lines
+
+-- the text of an answer: its lines, or that there are none
+abbrev pub why_text : Option (Bor (List Line)) → List ℕ
+why_text None = codes "no\n"
+why_text (Some lines) = lines_text 0 lines.now
 
 -- the group is not granted this use of the word, and the text says so
 abbrev pub SaysNo : Image → Use → ℕ → ℕ → List ℕ → Type 0

@@ -12,6 +12,7 @@
 //! | the lines by which a pointer comes from group to group | `work`, `give` |
 //! | the line whose pointer gives the asked use of the word | `uses` |
 //! | only the lines that the last one needs | `prune` |
+//! | the text of the lines | `text` |
 #![tactic(auto)]
 
 mod answer;
@@ -24,9 +25,11 @@ mod prune;
 mod reasons;
 mod rounds;
 mod search;
+mod text;
 mod uses;
 mod work;
 
 pub use answer::why;
 pub use line::{Line, Rule};
+pub use text::write_why;
 pub use uses::Use;
