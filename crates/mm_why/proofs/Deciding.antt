@@ -14,8 +14,8 @@ use Rattle.mm_model.specs.Groups.{in_mask}
 use Rattle.mm_model.specs.Reach.{LoadsAt, StoresAt}
 use Rattle.mm_model.specs.Reach.Entries.{All}
 use Rattle.mm_flow.specs.declared.node.Right.{Right}
-use Rattle.mm_flow.specs.declared.node.Right.TheVariants.{Load, Store, Make}
-use Rattle.mm_flow.specs.Edges.{Edges, SharingEdges, node_at, no_node, low_at, high_at, entry_at, enters_at, right_at}
+use Rattle.mm_flow.specs.declared.node.Right.TheVariants.{Load, Make}
+use Rattle.mm_flow.specs.Edges.{Edges, SharingEdges, no_node, entry_at, enters_at, right_at}
 use Rattle.mm_flow.specs.Flow.{Has, Flows, IsFlow, Fits}
 use Rattle.mm_flow.specs.Flow.Flows.{from as flows_from, along as flows_along, through as flows_through}
 use Rattle.mm_flow.specs.Sharing.{kept_mark}
@@ -42,10 +42,9 @@ use Rattle.mm_why.specs.declared.uses.Owner.{Owner}
 use Rattle.mm_why.specs.Derivations.{line_at, Says, EachFollows, NoneTwice, IsDerivation, Gives, IsGranted, Derives}
 use Rattle.mm_why.specs.Traces.{IsTrace}
 use Rattle.mm_why.specs.Rounds.{AreRounds, round_at}
-use Rattle.mm_why.specs.Searches.{place_at, AtNode}
 use Rattle.mm_why.specs.Graphs.{IsGraph, edges_of}
 use Rattle.mm_why.specs.Works.{IsSearched, ReachesRight, whole_pointer}
-use Rattle.mm_why.specs.Giving.{MeetsAt, Meets, IsContext}
+use Rattle.mm_why.specs.Giving.{Meets, IsContext}
 use Rattle.mm_why.specs.Giving.Meets.{by_words, by_maker}
 use Rattle.mm_why.specs.Owning.{asked, can_use, CanUse, IsOwner, NoOwner, IsUsable}
 use Rattle.mm_why.specs.Answers.{ReachesUse, Owns, IsSharing, IsGiver, GivesAt}
@@ -405,7 +404,7 @@ module _ (i : Image) (g : Graph) (h : IsGraph i g) where
 
       module _ (owners : ℕ) (how : Use) (w t : ℕ)
           (are : (o : ℕ) → (bit_at owners o ≡ 1)
-              ↔ (HasSome marks (λ k. can_use how (node_pointer g.keys.items k) w) o ⊎ HasSome marks (right_at g.nodes.items Make) o)) where
+          ↔ (HasSome marks (λ k. can_use how (node_pointer g.keys.items k) w) o ⊎ HasSome marks (right_at g.nodes.items Make) o)) where
         owns : (o : ℕ) → HasSome marks (λ k. can_use how (node_pointer g.keys.items k) w) o ⊎ HasSome marks (right_at g.nodes.items Make) o → Owns g o how w
         owns o (inl x) = inl (record {
           node = x.node;

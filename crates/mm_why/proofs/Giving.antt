@@ -1,16 +1,14 @@
 -- Pointers that come from group to group.
-use Rattle.std.proofs.Common.{◌≡◌, ℕ, ◌+◌, ◌<◌, ◌≤◌, ◌⊎◌, inl, inr, true, List, length, slice_index_or, Option, Some, None, MatchOption, refl, sym, ap, ◌∙◌, subst, arith}
+use Rattle.std.proofs.Common.{◌≡◌, ℕ, ◌+◌, ◌<◌, ◌⊎◌, inl, inr, true, List, length, slice_index_or, Option, Some, None, MatchOption, refl, sym, ap, ◌∙◌, subst, arith}
 use Rattle.std.proofs.lemmas.List.{get_or_default}
 use Rattle.mm_word.specs.declared.perm.Perm.TheVariants.{Xp}
 use Rattle.mm_word.specs.Perm.{can_become}
 use Rattle.mm_word.specs.Pointer.{Pointer, IsBelow}
 use Rattle.mm_model.specs.Slot.{Slot}
 use Rattle.mm_model.specs.Image.{Image}
-use Rattle.mm_model.specs.Reach.{LoadsAt, StoresAt}
 use Rattle.mm_flow.specs.declared.node.Right.{Right}
-use Rattle.mm_flow.specs.declared.node.Right.TheVariants.{Load, Store, Make}
+use Rattle.mm_flow.specs.declared.node.Right.TheVariants.{Load, Make}
 use Rattle.mm_flow.specs.Edges.{right_at}
-use Rattle.mm_flow.specs.Sharing.{Up}
 use Rattle.mm_graph.specs.declared.graph.Graph.{Graph}
 use Rattle.mm_graph.specs.Key.{key_at}
 use Rattle.mm_graph.specs.Marked.{node_pointer}
@@ -24,9 +22,9 @@ use Rattle.mm_why.specs.declared.line.Line.{Line}
 use Rattle.mm_why.specs.declared.line.Rule.TheVariants as rules
 use Rattle.mm_why.specs.declared.work.Work.{Work}
 use Rattle.mm_why.specs.Derivations.{line_at, Says, Follows}
-use Rattle.mm_why.specs.Searches.{place_at, IsPlaced, AtNode}
+use Rattle.mm_why.specs.Searches.{AtNode}
 use Rattle.mm_why.specs.Graphs.{IsGraph, edges_of}
-use Rattle.mm_why.specs.Carrying.{PlacedAbove, IsPair, NoPair, IsWith}
+use Rattle.mm_why.specs.Carrying.{IsPair, NoPair, IsWith}
 use Rattle.mm_why.specs.Works.{IsSearched, GoesOn, ReachesRight, HasRightAt, whole_pointer}
 use Rattle.mm_why.specs.Giving.{MeetsAt, Meets, AreCarriers, CarryBetween, JoinedBy, JoinedAt}
 use Rattle.mm_why.specs.Giving.Meets.{by_words, by_maker}

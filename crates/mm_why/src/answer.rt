@@ -92,7 +92,7 @@ fn owners_in(graph: &Graph, marks: &[u64], how: Use, word: u64) -> u64
     requires nodes { length graph.now.nodes.items ≡ length marks.now }
     ensures { (h : ℕ) → (bit_at result h ≡ 1)
         ↔ (HasSome marks.now (λ k. can_use how (pointer_of_node graph.now.keys.items k) word) h
-            ⊎ HasSome marks.now (right_at graph.now.nodes.items ToMake) h) }
+        ⊎ HasSome marks.now (right_at graph.now.nodes.items ToMake) h) }
 {
     let by_pointers = givers(graph, marks, how, word);
     let makers = any(&graph.nodes, marks, Right::Make);
