@@ -1,7 +1,7 @@
 -- The parts of a state of a machine of the image make its configuration.
-use Rattle.std.proofs.Common.{◌≡◌, ◌≢◌, ◌⊎◌, inl, inr, ℕ, zero, suc, ◌+◌, ◌*◌, ◌%◌, ◌^◌, ◌<◌, ◌≤◌, Bool, true, false, ◌&&◌, ◌||◌, cond, nat_eq, if◌then◌else◌, List, [], ◌∷◌, ◌++◌, map, length, replicate, get_or, Option, Some, None, refl, sym, ap, ◌∙◌, subst, arith, eqb-true, eq-eqb, set}
-use Rattle.std.specs.Prelude.{◌==◌, IsTrue, Contains, slice_set, slice_get, slice_index_or}
-use Rattle.std.specs.List.{AllByRecursion, filter, flat_map, list_any, range_with_len}
+use Rattle.std.proofs.Common.{◌≡◌, ◌≢◌, ◌⊎◌, inl, inr, ℕ, zero, suc, ◌+◌, ◌%◌, ◌<◌, ◌≤◌, Bool, true, false, ◌&&◌, ◌||◌, cond, nat_eq, if◌then◌else◌, List, [], ◌∷◌, map, length, replicate, Option, Some, None, refl, sym, ap, ◌∙◌, subst, arith, eqb-true, eq-eqb}
+use Rattle.std.specs.Prelude.{◌==◌, Contains, slice_set, slice_get, slice_index_or}
+use Rattle.std.specs.List.{AllByRecursion, list_any, range_with_len}
 use Rattle.std.specs.List.Sorted.{IsStrictlyIncreasing}
 use Rattle.std.specs.Ordering.{nat_cmp}
 use Rattle.std.specs.Ordering.{is_lt, eq_by_cmp}
@@ -21,23 +21,21 @@ use Rattle.std.proofs.lemmas.Bool.{cases_Bool, cases_eq, both_ways, ne_eqb}
 use Rattle.mm_word.specs.declared.word.Cell.{Cell}
 use Rattle.mm_word.specs.Word.{IsWord}
 use Rattle.mm_model.specs.declared.event.Event.{Event}
-use Rattle.mm_model.specs.Memory.{Memory, page_at, cell_in, cell_at, put_cell, page_of, zero_cell, zero_page, IsPage, ArePages, IsPaged}
-use Rattle.mm_model.specs.Slot.{Slot}
+use Rattle.mm_model.specs.Memory.{Memory, page_at, cell_in, cell_at, put_cell, page_of, zero_cell, IsPage, IsPaged}
 use Rattle.mm_model.specs.State.{Row, Core, State, row_in, queue_of, queue_at, output_of}
 use Rattle.mm_model.specs.Groups.{has_group}
 use Rattle.mm_model.specs.Image.{Image, start}
 use Rattle.mm_model.specs.Spelling.{IsImage, HoldsWords, numbers_of}
 use Rattle.mm_model.specs.Report.{is_of, groups_of, same_cell, cells_or_zero, changes}
-use Rattle.mm_model.specs.Fits.{slots_of, IsState, identity_of, Fits, IsKept}
+use Rattle.mm_model.specs.Fits.{slots_of, identity_of}
 use Rattle.mm_model.proofs.CoreRows.{each_map, each_both, above_first, rest_rises, has_group_by}
 use Rattle.mm_model.proofs.Fitted.{paged_of}
-use Rattle.mm_thread.specs.Output.{Output}
-use Rattle.mm_thread.specs.Parts.{events_for, row_with, outputs_with, core_of}
+use Rattle.mm_thread.specs.Parts.{events_for, row_with, outputs_with}
 use Rattle.mm_machine.specs.Snapshot.{queued, page_numbers}
 use Rattle.mm_machine.proofs.Copied.{queued_for}
 use Rattle.mm_machine.proofs.Outputs.{outputs_count}
-use Rattle.mm_explore.specs.Configurations.{uncounted_slot, uncounted_row, uncounted, configuration}
-use Rattle.mm_explore.specs.Kept.{Parts, output_part, parts_of}
+use Rattle.mm_explore.specs.Configurations.{uncounted_slot, uncounted_row, configuration}
+use Rattle.mm_explore.specs.Kept.{output_part, parts_of}
 use Rattle.mm_explore.specs.Assembled.{base_page, base_memory, put_cells, assembled, IsStateOf}
 use Rattle.mm_explore.proofs.Members.{none_in, in_first, in_rest, in_cases, in_filter}
 
@@ -58,10 +56,11 @@ own_later row x rows lt e =
 own_queues : (rows : List Row) → IsStrictlyIncreasing (numbers_of (map (λ (row : Row). row.slot) rows)) → AllByRecursion (λ (row : Row). queue_of (row_in rows row.slot.number) ≡ row.queue) rows
 own_queues [] rising = tt
 own_queues (row ∷ rows) rising =
-    let numbers : List ℕ = numbers_of (map (λ (x : Row). x.slot) rows) in
-    (own_here row rows,
+    let numbers : List ℕ = numbers_of (map (λ (x : Row). x.slot) rows) in (
+      own_here row rows,
       each_both (λ (x : Row). row.slot.number < x.slot.number) (λ (x : Row). queue_of (row_in rows x.slot.number) ≡ x.queue) (λ (x : Row). queue_of (row_in (row ∷ rows) x.slot.number) ≡ x.queue)
-      (λ x up is. own_later row x rows up is) rows (above_rows row.slot.number rows (above_first row.slot.number numbers rising)) (own_queues rows (rest_rises row.slot.number numbers rising)))
+          (λ x up is. own_later row x rows up is) rows (above_rows row.slot.number rows (above_first row.slot.number numbers rising)) (own_queues rows (rest_rises row.slot.number numbers rising)),
+    )
 
 rows_made : (events : List (ℕ × Event)) (rows : List Row) → AllByRecursion (λ (row : Row). events_for row.slot.number events ≡ row.queue) rows
     → map (row_with events) (map uncounted_slot (map (λ (row : Row). row.slot) rows)) ≡ map uncounted_row rows
@@ -306,6 +305,7 @@ cells_same c d h k e =
     both : (a b : Bool) → (a && b) ≡ true → (a ≡ true) × (b ≡ true)
     both true b e = (refl, e)
     both false b e = cc
+
     bits_same : (a b : Bool) → same_bit a b ≡ true → a ≡ b
     bits_same true b e = sym e
     bits_same false true e = cc
@@ -319,6 +319,7 @@ find_word (x ∷ es) q k cells c h e here = by (eq_by_cmp nat_cmp q x.0) e (λ l
     get_word [] n k e = cc
     get_word (y ∷ xs) zero k e = let same : y ≡ c = cc in subst (λ (d : Cell). IsWord d.word) same k.0
     get_word (y ∷ xs) (suc n) k e = get_word xs n k.1 e
+
     by : (b : Bool) → cond b (Some x.1) (find nat_cmp q es) ≡ Some cells → (find nat_cmp q es ≡ Some cells → IsWord c.word) → IsWord c.word
     by true is later = let same : x.1 ≡ cells = cc in get_word cells k (subst (λ (l : List Cell). AllByRecursion (λ (d : Cell). IsWord d.word) l) same h.0) here
     by false is later = later is

@@ -1,8 +1,7 @@
 -- The parts of a state of a machine of the image can be kept as their difference from the image.
-use Rattle.std.proofs.Common.{◌≡◌, ◌⊎◌, inl, inr, ℕ, ◌+◌, ◌*◌, ◌<◌, ◌≤◌, Bool, true, false, if◌then◌else◌, List, [], ◌∷◌, ◌++◌, map, length, replicate, Option, Some, None, refl, sym, ap, ◌∙◌, subst, arith}
+use Rattle.std.proofs.Common.{◌≡◌, ℕ, ◌+◌, ◌*◌, ◌<◌, Bool, true, false, if◌then◌else◌, List, [], ◌∷◌, ◌++◌, map, Option, Some, refl, sym, ap, ◌∙◌}
 use Rattle.std.specs.Prelude.{◌==◌}
 use Rattle.std.specs.List.{AllByRecursion, flat_map}
-use Rattle.mm_word.specs.declared.word.Word.{Word}
 use Rattle.mm_word.specs.declared.word.Cell.{Cell}
 use Rattle.mm_word.specs.Word.{IsWord}
 use Rattle.mm_model.specs.declared.event.Event.{Event}
@@ -10,16 +9,16 @@ use Rattle.mm_model.specs.declared.slot.Pending.{Pending}
 use Rattle.mm_model.specs.Memory.{Memory, page_at}
 use Rattle.mm_model.specs.Slot.{Slot}
 use Rattle.mm_model.specs.State.{Row, Core, State, row_in, queue_of, queue_at, output_of}
-use Rattle.mm_model.specs.Image.{Image, start, slot_limit}
+use Rattle.mm_model.specs.Image.{Image, slot_limit}
 use Rattle.mm_model.specs.Spelling.{IsFresh, HoldsWords, IsImage}
-use Rattle.mm_model.specs.Report.{same_cell, changes_from, cells_or_zero, changes, groups_of}
-use Rattle.mm_model.specs.Fits.{IsSlot, slots_of, SlotHoldsWords, EventHoldsWords, RowHoldsWords, IsState, LoadsMatch, identity_of, Fits, IsKept}
-use Rattle.mm_model.proofs.CoreRows.{each_map, each_both}
-use Rattle.mm_model.proofs.Shortness.{pending_short}
-use Rattle.mm_thread.specs.Output.{Output}
-use Rattle.mm_machine.specs.Snapshot.{queued, queued_at}
+use Rattle.mm_model.specs.Report.{same_cell, changes_from, cells_or_zero}
+use Rattle.mm_model.specs.Fits.{IsSlot, slots_of, SlotHoldsWords, EventHoldsWords, RowHoldsWords, LoadsMatch, identity_of}
+use Rattle.mm_model.proofs.CoreRows.{each_both}
+use Rattle.mm_model.proofs.Shortness.{pending_short, loads_small}
+use Rattle.mm_explore.proofs.WordForms.{IsLoad}
+use Rattle.mm_machine.specs.Snapshot.{queued_at}
 use Rattle.mm_explore.specs.Configurations.{uncounted_slot}
-use Rattle.mm_explore.specs.Kept.{Parts, output_part, parts_of, numbers_of, parts_from, kept}
+use Rattle.mm_explore.specs.Kept.{parts_of, parts_from, kept}
 use Rattle.mm_explore.specs.Assembled.{IsStateOf}
 use Rattle.mm_explore.proofs.SlotForms.{IsKeepable, IsUnused, AreKeepable}
 use Rattle.mm_explore.proofs.PartForms.{CanKeep, parts_read}
@@ -45,8 +44,8 @@ keepable limit all b s same f h = record {
   ip = h.words.ip;
   fetches = h.slot.executable;
   flags = h.slot.flags;
-  few = let few = pending_short s h.slot h.loads in omega (arith, few);
-  loads = h.words.pending;
+  few = pending_short s h.slot h.loads;
+  loads = each_both (λ (p : Pending). p.reg < 16) (λ (p : Pending). IsWord p.word) IsLoad (λ p low word. record { reg = low; word = word }) s.pending (loads_small s h.slot h.loads) h.words.pending;
 }
 
 unused : (limit : ℕ) (all : List Slot) (b : Slot) → IsFresh limit all b → IsUnused b

@@ -1,10 +1,9 @@
 -- What is kept of two states is the same exactly if they are of one configuration; and states of runs are kept.
-use Rattle.std.proofs.Common.{◌≡◌, ℕ, Bool, List, [], ◌∷◌, ◌++◌, map, Option, refl, sym, ap, ◌∙◌}
+use Rattle.std.proofs.Common.{◌≡◌, ℕ, List, [], ◌∷◌, ◌++◌, map, refl, sym, ap, ◌∙◌}
 use Rattle.std.specs.List.{flat_map}
 use Rattle.mm_model.specs.declared.event.Event.{Event}
-use Rattle.mm_model.specs.Memory.{Memory}
 use Rattle.mm_model.specs.Slot.{Slot}
-use Rattle.mm_model.specs.State.{Row, Core, State, queue_at, output_of}
+use Rattle.mm_model.specs.State.{Row, Core, State, output_of}
 use Rattle.mm_model.specs.Image.{Image, start}
 use Rattle.mm_model.specs.Spelling.{IsImage}
 use Rattle.mm_model.specs.Run.{after, run}
@@ -12,7 +11,6 @@ use Rattle.mm_model.specs.Report.{groups_of, changes}
 use Rattle.mm_model.specs.Fits.{slots_of}
 use Rattle.mm_model.proofs.Starts.{start_state, start_fits, start_kept}
 use Rattle.mm_model.proofs.StateKeeps.{after_state, after_fits, after_kept}
-use Rattle.mm_thread.specs.Output.{Output}
 use Rattle.mm_machine.specs.Snapshot.{queued, queued_at, page_numbers}
 use Rattle.mm_explore.specs.Configurations.{uncounted_slot, uncounted_row, uncounted, configuration}
 use Rattle.mm_explore.specs.Kept.{Parts, output_part, parts_of, numbers_of, kept}

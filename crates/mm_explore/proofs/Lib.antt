@@ -15,3 +15,5 @@ pub mod PartForms
 pub mod Keepables
 pub mod Assembling
 pub mod KeptRuns
+pub mod Spells
+pub mod Taking

@@ -1,11 +1,11 @@
 -- The parts of a configuration, read again from their numbers.
-use Rattle.std.proofs.Common.{◌≡◌, ℕ, zero, suc, ◌+◌, ◌*◌, ◌/◌, ◌%◌, ◌<◌, Bool, true, false, if◌then◌else◌, nat_eq, List, [], ◌∷◌, ◌++◌, map, length, take, drop, refl, sym, ap, ◌∙◌, subst, arith, eqb-true, eq-eqb, append_assoc, append-nil}
+use Rattle.std.proofs.Common.{◌≡◌, ℕ, suc, ◌+◌, ◌*◌, ◌/◌, ◌%◌, ◌<◌, Bool, true, false, if◌then◌else◌, nat_eq, List, [], ◌∷◌, ◌++◌, map, length, take, drop, refl, sym, ap, ◌∙◌, arith, eqb-true, eq-eqb, append_assoc}
 use Rattle.std.specs.Prelude.{◌==◌}
 use Rattle.std.specs.List.{AllByRecursion, flat_map}
 use lib.Pointwise.{pointwise, pointwise_decides}
 use Rattle.mm_word.specs.declared.word.Word.{Word}
 use Rattle.mm_word.specs.declared.word.Cell.{Cell}
-use Rattle.mm_word.specs.Pointer.{Pointer, IsWellFormed, pointer_of, bits_of}
+use Rattle.mm_word.specs.Pointer.{Pointer, pointer_of, bits_of}
 use Rattle.mm_word.specs.Cause.{number_of}
 use Rattle.mm_word.specs.Word.{IsWord, word_bits, is_pointer}
 use Rattle.mm_word.proofs.Packing.{pointer_of-bits_of}
@@ -18,7 +18,7 @@ use Rattle.mm_model.specs.Slot.{Slot}
 use Rattle.mm_thread.specs.Output.{Output}
 use Rattle.mm_machine.specs.Snapshot.{page_numbers}
 use Rattle.mm_explore.specs.Configurations.{uncounted_slot}
-use Rattle.mm_explore.specs.Kept.{Parts, first_number, behind, word_of, word_form, word_from, cause_at, event_form, event_from, events_by, events_form, events_from, output_form, outputs_form, outputs_from, pages_form, pages_by, pages_from, cell_form, cells_form, cells_from, slots_form, slots_from, numbers_of, parts_with_pages, parts_with_outputs, parts_with_events, parts_with_slots, parts_from}
+use Rattle.mm_explore.specs.Kept.{Parts, first_number, behind, word_of, word_form, word_from, cause_at, event_form, event_from, events_by, events_form, events_from, output_form, outputs_form, outputs_from, pages_form, pages_by, pages_from, cells_form, cells_from, slots_form, slots_from, numbers_of, parts_with_pages, parts_with_outputs, parts_with_events, parts_with_slots, parts_from}
 use Rattle.mm_explore.proofs.WordForms.{word_again, word_read}
 use Rattle.mm_explore.proofs.SlotForms.{cause_back, AreKeepable, slots_read}
 

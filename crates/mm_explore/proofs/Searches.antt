@@ -1,8 +1,8 @@
 -- A search that goes through the turns explored in their order finds the first least schedules, and whether they are all.
-use Rattle.std.proofs.Common.{◌≡◌, ◌⊎◌, inl, inr, ℕ, ◌+◌, ◌<◌, ◌≤◌, List, [], ◌∷◌, ◌++◌, length, refl, sym, ap, ◌∙◌, subst, arith, append_assoc, append-nil, length-append}
+use Rattle.std.proofs.Common.{◌≡◌, ◌⊎◌, inl, inr, ℕ, ◌<◌, ◌≤◌, List, [], ◌∷◌, ◌++◌, length, refl, sym, ap, ◌∙◌, subst, arith, append_assoc, append-nil, length-append}
 use Rattle.std.specs.Prelude.{Contains}
 use Rattle.std.specs.List.{AllByRecursion, flat_map}
-use Rattle.std.proofs.lemmas.List.Elements.{Contains-append_left, Contains-append_right, Contains-append_cases, Contains-push, Contains-push_cases}
+use Rattle.std.proofs.lemmas.List.Elements.{Contains-append_left, Contains-append_cases, Contains-push, Contains-push_cases}
 use Rattle.mm_model.specs.Image.{Image, start}
 use Rattle.mm_model.specs.Spelling.{IsImage}
 use Rattle.mm_model.specs.Run.{run}
@@ -225,10 +225,13 @@ module _ (i : Image) (img : IsImage i) (limit : ℕ) where
         none_missing : (t : List ℕ) → IsLeast i t → Contains list t ⊎ ((length list ≡ limit) × AllByRecursion (λ s. Before s t) list)
         none_missing t least = elim (before_cases t next) [
           | inl before ↦ inl (least_inside i list t least (covers_before t before))
-          | inr other ↦ inr (full, all_of (λ s. Before s t) list (λ s inside. elim other [
-            | inl e ↦ subst (Before s) (sym e) (before_next s inside)
-            | inr behind ↦ before_through s next t (before_next s inside) behind
-          ]))
+          | inr other ↦ inr (
+            full,
+            all_of (λ s. Before s t) list (λ s inside. elim other [
+              | inl e ↦ subst (Before s) (sym e) (before_next s inside)
+              | inr behind ↦ before_through s next t (before_next s inside) behind
+            ]),
+          )
         ]
 
         pub search_full : IsSearched i limit list (IsAll i list → ⊥)

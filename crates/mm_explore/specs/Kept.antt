@@ -1,6 +1,6 @@
 -- The parts of a configuration, and the numbers by which it is kept: its difference from the image.
-use Rattle.std.specs.Prelude.{ℕ, zero, suc, ◌+◌, ◌*◌, ◌-◌, ◌/◌, ◌%◌, Bool, true, false, not, ◌&&◌, ◌==◌, nat_eq}
-use Rattle.std.specs.Prelude.{if◌then◌else◌, List, [], ◌∷◌, ◌++◌, map, length, take, drop, Option, Some, None}
+use Rattle.std.specs.Prelude.{ℕ, zero, suc, ◌+◌, ◌*◌, ◌-◌, ◌/◌, ◌%◌, Bool, true, false, not, ◌&&◌, ◌==◌, nat_eq, nat_lt}
+use Rattle.std.specs.Prelude.{if◌then◌else◌, List, [], ◌∷◌, ◌++◌, map, length, take, drop, Some, None}
 use Rattle.std.specs.List.{flat_map, list_any}
 use lib.Pointwise.{pointwise}
 use Rattle.mm_word.specs.declared.cause.Cause.{Cause}
@@ -97,10 +97,9 @@ changed_bits (b ∷ base) (w ∷ words) =
 changed_bits _ _ = []
 
 abbrev pub words_from : (changed tagged : List Bool) → List Word → List ℕ → List Word × List ℕ
-words_from (true ∷ changed) (t ∷ tagged) (b ∷ base) ns =
-    let later = words_from changed tagged base (behind ns) in (word_of t (first_number ns) ∷ later.0, later.1)
-words_from (false ∷ changed) (t ∷ tagged) (b ∷ base) ns =
-    let later = words_from changed tagged base ns in (b ∷ later.0, later.1)
+words_from (c ∷ changed) (t ∷ tagged) (b ∷ base) ns =
+    let later = words_from changed tagged base (if c then behind ns else ns) in
+    ((if c then word_of t (first_number ns) else b) ∷ later.0, later.1)
 words_from _ _ base ns = (base, ns)
 
 abbrev pub load_form : Pending → List ℕ
@@ -111,7 +110,11 @@ loads_from zero ns = ([], ns)
 loads_from (suc count) ns =
     let word = word_from (behind ns) in
     let later = loads_from count word.1 in
-    (record { reg = first_number ns; word = word.0 } ∷ later.0, later.1)
+    (record { reg = first_number ns % 256; word = word.0 } ∷ later.0, later.1)
+
+-- no more loads are read than there are registers
+abbrev pub few_loads : ℕ → ℕ
+few_loads count = if nat_lt 16 count then 16 else count
 
 -- the cause of a number
 abbrev pub cause_at : ℕ → Cause
@@ -131,6 +134,10 @@ state_at n =
 abbrev pub ip_of : Pointer → ℕ → Pointer
 ip_of other bits = if spells_pointer bits && can_fetch (pointer_of bits).perm then pointer_of bits else other
 
+-- the flags of the sixteen registers, the first in the lowest bit of a number
+unfoldable pub register_flags : ℕ → List Bool
+register_flags n = flags 16 n
+
 -- the state, `past`, the count of pending loads and the empty registers of a slot
 abbrev pub slot_head : Slot → ℕ
 slot_head s =
@@ -149,17 +156,19 @@ unfoldable pub slot_from : Slot → List ℕ → Slot × List ℕ
 slot_from base ns =
     let head = first_number ns in
     let masks = first_number (behind ns) in
-    let words = words_from (flags 16 (masks % 65536)) (flags 16 (masks / 65536)) base.regs (behind (behind (behind ns))) in
-    let loads = loads_from (head / 64 % 32) words.1 in
-    (record base {
-      regs = words.0;
-      ip = ip_of base.ip (first_number (behind (behind ns)));
-      past = head / 32 % 2 == 1;
-      turns = 0;
-      state = state_at (head % 32);
-      empty = flags 16 (head / 2048);
-      pending = loads.0;
-    }, loads.1)
+    let words = words_from (register_flags (masks % 65536)) (register_flags (masks / 65536)) base.regs (behind (behind (behind ns))) in
+    let loads = loads_from (few_loads (head / 64 % 32)) words.1 in (
+      record base {
+        regs = words.0;
+        ip = ip_of base.ip (first_number (behind (behind ns)));
+        past = head / 32 % 2 == 1;
+        turns = 0;
+        state = state_at (head % 32);
+        empty = register_flags (head / 2048 % 65536);
+        pending = loads.0;
+      },
+      loads.1,
+    )
 
 -- 5. Slots.
 
@@ -203,14 +212,19 @@ abbrev pub event_from : List ℕ → (ℕ × Event) × List ℕ
 event_from ns =
     let tail = behind (behind (behind (behind ns))) in
     let addr = word_from tail in
-    let value = word_from addr.1 in
-    ((first_number ns, record {
-      slot = first_number (behind ns);
-      cause = cause_at (first_number (behind (behind ns)));
-      ip = pointer_of (first_number (behind (behind (behind ns))));
-      addr_op = addr.0;
-      value_op = value.0;
-    }), value.1)
+    let value = word_from addr.1 in (
+      (
+        first_number ns,
+        record {
+          slot = first_number (behind ns);
+          cause = cause_at (first_number (behind (behind ns)));
+          ip = pointer_of (first_number (behind (behind (behind ns))));
+          addr_op = addr.0;
+          value_op = value.0;
+        },
+      ),
+      value.1,
+    )
 
 abbrev pub events_by : ℕ → List ℕ → List (ℕ × Event) × List ℕ
 events_by zero ns = ([], ns)
