@@ -17,3 +17,4 @@ pub mod Assembling
 pub mod KeptRuns
 pub mod Spells
 pub mod Taking
+pub mod Tame
