@@ -1,5 +1,6 @@
 -- The state that the parts of a configuration make, and the states of which there are parts.
-use Rattle.std.specs.Prelude.{ℕ, List, [], ◌∷◌, map}
+use Rattle.std.specs.List.{AllByRecursion}
+use Rattle.std.specs.Prelude.{◌<◌, ℕ, List, [], ◌∷◌, map}
 use Rattle.mm_word.specs.declared.word.Cell.{Cell}
 use Rattle.mm_model.specs.Memory.{Memory, page_at, put_cell}
 use Rattle.mm_model.specs.State.{State}
@@ -34,3 +35,5 @@ pub record IsStateOf (i : Image) (s : State) : Type 0 where
   pub state : IsState s
   pub fits : Fits i s
   pub kept : IsKept s.core
+  -- outputs are bytes
+  pub bytes : AllByRecursion (λ output. AllByRecursion (λ byte. byte < 256) output) s.core.outputs

@@ -6,6 +6,7 @@ use lib.Pointwise.{pointwise}
 use Rattle.mm_word.specs.declared.cause.Cause.{Cause}
 use Rattle.mm_word.specs.declared.cause.Cause.TheVariants.{NotPointer, Perm, Bounds, Align, NoPage, Sync, Illegal, Priv}
 use Rattle.mm_word.specs.declared.cause.Cause.TheVariants.{DivZero, Malformed, Trap, NoSlot, OutFull}
+use Rattle.mm_word.specs.declared.perm.Perm.TheVariants.{Key}
 use Rattle.mm_word.specs.declared.word.Word.{Word}
 use Rattle.mm_word.specs.declared.word.Word.TheVariants.{Int, Ptr}
 use Rattle.mm_word.specs.declared.word.Cell.{Cell}
@@ -208,23 +209,24 @@ abbrev pub event_form : ℕ × Event → List ℕ
 event_form x =
     x.0 ∷ x.1.slot ∷ number_of x.1.cause ∷ bits_of x.1.ip ∷ word_form x.1.addr_op ++ word_form x.1.value_op
 
-abbrev pub event_from : List ℕ → (ℕ × Event) × List ℕ
+-- the pointer of these bits; a key if they spell none
+abbrev pub pointer_or_key : ℕ → Pointer
+pointer_or_key bits = if spells_pointer bits then pointer_of bits else record { perm = Key; log = 0; addr = 0 }
+
+-- the event, given its operands and the numbers before them
+abbrev pub event_with : List ℕ → Word × List ℕ → Word × List ℕ → (ℕ × Event) × List ℕ
+event_with ns addr value =
+    ((first_number ns % 256, record {
+      slot = first_number (behind ns) % 256;
+      cause = cause_at (first_number (behind (behind ns)));
+      ip = pointer_or_key (first_number (behind (behind (behind ns))));
+      addr_op = addr.0;
+      value_op = value.0;
+    }), value.1)
+
+unfoldable pub event_from : List ℕ → (ℕ × Event) × List ℕ
 event_from ns =
-    let tail = behind (behind (behind (behind ns))) in
-    let addr = word_from tail in
-    let value = word_from addr.1 in (
-      (
-        first_number ns,
-        record {
-          slot = first_number (behind ns);
-          cause = cause_at (first_number (behind (behind ns)));
-          ip = pointer_of (first_number (behind (behind (behind ns))));
-          addr_op = addr.0;
-          value_op = value.0;
-        },
-      ),
-      value.1,
-    )
+    let addr = word_from (behind (behind (behind (behind ns)))) in event_with ns addr (word_from addr.1)
 
 abbrev pub events_by : ℕ → List ℕ → List (ℕ × Event) × List ℕ
 events_by zero ns = ([], ns)
@@ -245,11 +247,18 @@ output_form o = length o.bytes ∷ o.bytes
 abbrev pub outputs_form : List Output → List ℕ
 outputs_form outputs = flat_map output_form outputs
 
+-- as many bytes, one a number
+abbrev pub bytes_by : ℕ → List ℕ → List ℕ × List ℕ
+bytes_by zero ns = ([], ns)
+bytes_by (suc count) ns =
+    let later = bytes_by count (behind ns) in (first_number ns % 256 ∷ later.0, later.1)
+
 abbrev pub outputs_from : List ℕ → List ℕ → List Output × List ℕ
 outputs_from [] ns = ([], ns)
 outputs_from (g ∷ groups) ns =
-    let later = outputs_from groups (drop (first_number ns) (behind ns)) in
-    (record { group = g; bytes = take (first_number ns) (behind ns) } ∷ later.0, later.1)
+    let bytes = bytes_by (first_number ns) (behind ns) in
+    let later = outputs_from groups bytes.1 in
+    (record { group = g; bytes = bytes.0 } ∷ later.0, later.1)
 
 -- 8. Pages and cells.
 
