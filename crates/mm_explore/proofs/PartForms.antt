@@ -20,7 +20,7 @@ use Rattle.mm_model.specs.Slot.{Slot}
 use Rattle.mm_thread.specs.Output.{Output}
 use Rattle.mm_machine.specs.Snapshot.{page_numbers}
 use Rattle.mm_explore.specs.Configurations.{uncounted_slot}
-use Rattle.mm_explore.specs.Kept.{Parts, first_number, behind, word_of, word_form, word_from, cause_at, pointer_or_key, event_form, event_from, events_by, events_form, events_from, bytes_by, output_form, outputs_form, outputs_from, pages_form, pages_by, pages_from, cells_form, cells_from, slots_form, slots_from, numbers_of, parts_with_pages, parts_with_outputs, parts_with_events, parts_with_slots, parts_from}
+use Rattle.mm_explore.specs.Kept.{Parts, first_number, behind, word_of, word_form, word_from, cause_at, pointer_or_key, event_form, event_from, events_by, events_form, events_from, bytes_by, output_form, outputs_form, outputs_from, pages_form, pages_by, pages_from, cells_form, cells_from, slots_form, slots_from, numbers_of, parts_with_pages, parts_with_outputs, parts_with_events, parts_with_slots, parts_from, numbers_by}
 use Rattle.mm_explore.proofs.WordForms.{spells_own, word_again, word_read}
 use Rattle.mm_explore.proofs.SlotForms.{cause_back, AreKeepable, slots_read}
 
@@ -74,14 +74,6 @@ events_read events ns h = events_walked events ns h
 
 -- 2. Outputs.
 
-take_all : (xs ys : List ℕ) → take (length xs) (xs ++ ys) ≡ xs
-take_all [] ys = refl
-take_all (x ∷ xs) ys = ap (λ l. x ∷ l) (take_all xs ys)
-
-drop_all : (xs ys : List ℕ) → drop (length xs) (xs ++ ys) ≡ ys
-drop_all [] ys = refl
-drop_all (x ∷ xs) ys = drop_all xs ys
-
 abbrev pub AreBytes : List ℕ → Type 0
 AreBytes bytes = AllByRecursion (λ b. b < 256) bytes
 
@@ -108,6 +100,10 @@ outputs_read (g ∷ groups) f ns h =
 
 -- 3. Pages and cells.
 
+numbers_read : (numbers ns : List ℕ) → numbers_by (length numbers) (numbers ++ ns) ≡ (numbers, ns)
+numbers_read [] ns = refl
+numbers_read (n ∷ numbers) ns = ap (λ (r : List ℕ × List ℕ). let made : List ℕ × List ℕ = (n ∷ r.0, r.1) in made) (numbers_read numbers ns)
+
 numbers_decide : (a b : ℕ) → (nat_eq a b ≡ true → a ≡ b) × (a ≡ b → nat_eq a b ≡ true)
 numbers_decide a b = (eqb-true a b, eq-eqb a b)
 
@@ -118,7 +114,7 @@ pages_read base pages ns = by (pointwise nat_eq pages base) refl
     by : (same : Bool) → pointwise nat_eq pages base ≡ same
         → pages_by base (first_number ((if same then 0 ∷ [] else suc (length pages) ∷ pages) ++ ns)) (behind ((if same then 0 ∷ [] else suc (length pages) ∷ pages) ++ ns)) ≡ (pages, ns)
     by true is = ap (λ l. (l, ns)) (sym ((pointwise_decides numbers_decide pages base).0 is))
-    by false is = λ j. (take_all pages ns j, drop_all pages ns j)
+    by false is = numbers_read pages ns
 
 head_word : (a b w : ℕ) → a < 2 → b < 2 → (a + 2 * (b + 2 * w)) / 4 ≡ w
 head_word a b w low high = omega (arith, low, high)

@@ -1,14 +1,15 @@
 -- Lists that are read one element after the other.
-use Rattle.std.proofs.Common.{◌≡◌, ℕ, suc, take, set, length, ◌+◌, ◌-◌, ◌/◌, ◌%◌, ◌<◌, List, [], ◌∷◌, ◌++◌, refl, sym, ap, ◌∙◌, arith, append_assoc}
+use Rattle.std.proofs.Common.{◌≡◌, ℕ, suc, take, set, length, ◌+◌, ◌-◌, ◌/◌, ◌%◌, ◌<◌, List, [], ◌∷◌, ◌++◌, refl, sym, ap, ◌∙◌, arith, append_assoc, ◌≤◌}
 use Rattle.std.proofs.lemmas.List.{take_more_set}
 use Rattle.mm_word.specs.declared.word.Word.{Word}
+use Rattle.mm_word.specs.declared.word.Cell.{Cell}
 use Rattle.mm_model.specs.declared.slot.Pending.{Pending}
 use Rattle.std.specs.Prelude.{◌==◌}
 use Rattle.mm_word.specs.Pointer.{Pointer}
 use Rattle.mm_model.specs.declared.slot.SlotState.{SlotState}
 use Rattle.mm_model.specs.Slot.{Slot}
 use Rattle.mm_model.specs.Flags.{flags}
-use Rattle.mm_explore.specs.Kept.{first_number, behind, word_from, words_from, register_flags, loads_from, few_loads, ip_of, state_at, slot_from}
+use Rattle.mm_explore.specs.Kept.{first_number, behind, word_from, words_from, register_flags, loads_from, few_loads, ip_of, state_at, slot_from, cell_of, cells_from}
 
 one_left : (count k : ℕ) → k < count → count - k ≡ suc (count - (k + 1))
 one_left count k lt = omega (arith, lt)
@@ -88,3 +89,44 @@ module _ (base : Slot) where
       (λ j. slot_of_parts head (words j) (is_ip j) (is_state j) (same_loads j))
       ∙ (λ j. slot_of_numbers (h j) (same_masks j) (same_bits j) (three j))
       ∙ slot_opened ns
+
+-- Elements of any kind.
+module _ {A : Type 0} (one : List ℕ → A × List ℕ) (all : ℕ → List ℕ → List A × List ℕ)
+    (step : (n : ℕ) (ns : List ℕ) → all (suc n) ns ≡ ((one ns).0 ∷ (all n (one ns).1).0, (all n (one ns).1).1))
+    (count k : ℕ) (lt : k < count) (ns later : List ℕ) (rest : later ≡ (one ns).1) where
+  all_next : all (count - k) ns ≡ ((one ns).0 ∷ (all (count - (k + 1)) later).0, (all (count - (k + 1)) later).1)
+  all_next =
+      ap (λ n. all n ns) (one_left count k lt) ∙ step (count - (k + 1)) ns
+      ∙ ap (λ l. let made : List A × List ℕ = ((one ns).0 ∷ (all (count - (k + 1)) l).0, (all (count - (k + 1)) l).1) in made) (sym rest)
+
+  pub items_more : (items more : List A) (x : A) → x ≡ (one ns).0 → more ≡ items ++ x ∷ [] → more ++ (all (count - (k + 1)) later).0 ≡ items ++ (all (count - k) ns).0
+  items_more items more x same is =
+      let tail = (all (count - (k + 1)) later).0 in
+      ap (λ l. l ++ tail) is ∙ append_assoc items (x ∷ []) tail ∙ ap (λ y. items ++ y ∷ tail) same
+      ∙ ap (λ (r : List A × List ℕ). items ++ r.0) (sym all_next)
+
+  pub items_rest : (all (count - (k + 1)) later).1 ≡ (all (count - k) ns).1
+  items_rest = ap (λ (r : List A × List ℕ). r.1) (sym all_next)
+
+-- Cells.
+two_left : (ns : List ℕ) → 2 ≤ length ns → cells_from ns ≡ cell_of (first_number ns) (first_number (behind ns)) ∷ cells_from (behind (behind ns))
+two_left [] le = absurd (omega (arith, le))
+two_left (a ∷ []) le = absurd (omega (arith, le))
+two_left (a ∷ b ∷ ns) le = refl
+
+pub cells_more : (ns later : List ℕ) (head bits : ℕ) (items more : List (ℕ × Cell)) (x : ℕ × Cell) → 2 ≤ length ns → head ≡ first_number ns → bits ≡ first_number (behind ns) → later ≡ behind (behind ns)
+    → x ≡ cell_of head bits → more ≡ items ++ x ∷ [] → more ++ cells_from later ≡ items ++ cells_from ns
+cells_more ns later head bits items more x le h b rest is pushed =
+    ap (λ l. l ++ cells_from later) pushed ∙ append_assoc items (x ∷ []) (cells_from later)
+    ∙ (λ j. items ++ (is ∙ (λ k. cell_of (h k) (b k))) j ∷ cells_from (rest j))
+    ∙ ap (λ l. items ++ l) (sym (two_left ns le))
+
+pub cells_end : (ns : List ℕ) → length ns < 2 → cells_from ns ≡ []
+cells_end [] lt = refl
+cells_end (a ∷ []) lt = refl
+cells_end (a ∷ b ∷ ns) lt = absurd (omega (arith, lt))
+
+pub behind_two : (ns : List ℕ) → 2 ≤ length ns → length (behind (behind ns)) < length ns
+behind_two [] le = absurd (omega (arith, le))
+behind_two (a ∷ []) le = absurd (omega (arith, le))
+behind_two (a ∷ b ∷ ns) le = omega arith

@@ -1,6 +1,6 @@
 -- The parts of a configuration, and the numbers by which it is kept: its difference from the image.
 use Rattle.std.specs.Prelude.{ℕ, zero, suc, ◌+◌, ◌*◌, ◌-◌, ◌/◌, ◌%◌, Bool, true, false, not, ◌&&◌, ◌==◌, nat_eq, nat_lt}
-use Rattle.std.specs.Prelude.{if◌then◌else◌, List, [], ◌∷◌, ◌++◌, map, length, take, drop, Some, None}
+use Rattle.std.specs.Prelude.{if◌then◌else◌, List, [], ◌∷◌, ◌++◌, map, length, take, drop, Some, None, Option}
 use Rattle.std.specs.List.{flat_map, list_any}
 use lib.Pointwise.{pointwise}
 use Rattle.mm_word.specs.declared.cause.Cause.{Cause}
@@ -190,11 +190,14 @@ slot_forms (b ∷ base) (s ∷ slots) =
     if is_base b s then slot_forms base slots else slot_form b s ++ slot_forms base slots
 slot_forms _ _ = []
 
+-- a slot that differs is read, any other is as in the image
+abbrev pub slot_or_base : Bool → Slot → List ℕ → Slot × List ℕ
+slot_or_base true base ns = slot_from base ns
+slot_or_base false base ns = (uncounted_slot base, ns)
+
 abbrev pub slots_by : List Bool → List Slot → List ℕ → List Slot × List ℕ
-slots_by (true ∷ changed) (b ∷ base) ns =
-    let one = slot_from b ns in let later = slots_by changed base one.1 in (one.0 ∷ later.0, later.1)
-slots_by (false ∷ changed) (b ∷ base) ns =
-    let later = slots_by changed base ns in (uncounted_slot b ∷ later.0, later.1)
+slots_by (c ∷ changed) (b ∷ base) ns =
+    let one = slot_or_base c b ns in let later = slots_by changed base one.1 in (one.0 ∷ later.0, later.1)
 slots_by _ base ns = (base, ns)
 
 unfoldable pub slots_form : List Slot → List Slot → List ℕ
@@ -266,12 +269,22 @@ outputs_from (g ∷ groups) ns =
 unfoldable pub pages_form : List ℕ → List ℕ → List ℕ
 pages_form base pages = if pointwise nat_eq pages base then 0 ∷ [] else suc (length pages) ∷ pages
 
+-- as many numbers
+abbrev pub numbers_by : ℕ → List ℕ → List ℕ × List ℕ
+numbers_by zero ns = ([], ns)
+numbers_by (suc count) ns = let later = numbers_by count (behind ns) in (first_number ns ∷ later.0, later.1)
+
 abbrev pub pages_by : List ℕ → ℕ → List ℕ → List ℕ × List ℕ
 pages_by base zero ns = (base, ns)
-pages_by base (suc count) ns = (take count ns, drop count ns)
+pages_by base (suc count) ns = numbers_by count ns
 
 unfoldable pub pages_from : List ℕ → List ℕ → List ℕ × List ℕ
 pages_from base ns = pages_by base (first_number ns) (behind ns)
+
+-- the pages that are given; those of the image if none are
+abbrev pub listed : List ℕ → Option (List ℕ) → List ℕ
+listed base None = base
+listed base (Some pages) = pages
 
 abbrev pub cell_form : ℕ × Cell → List ℕ
 cell_form x = packed 2 (one_if x.1.full) (packed 2 (one_if (is_pointer x.1.word)) x.0) ∷ word_bits x.1.word ∷ []
@@ -279,9 +292,12 @@ cell_form x = packed 2 (one_if x.1.full) (packed 2 (one_if (is_pointer x.1.word)
 abbrev pub cells_form : List (ℕ × Cell) → List ℕ
 cells_form cells = flat_map cell_form cells
 
+-- the cell of two numbers, and its word
+abbrev pub cell_of : (head bits : ℕ) → ℕ × Cell
+cell_of head bits = (head / 4, record { word = word_of (head / 2 % 2 == 1) bits; full = head % 2 == 1 })
+
 abbrev pub cells_from : List ℕ → List (ℕ × Cell)
-cells_from (head ∷ bits ∷ ns) =
-    (head / 4, record { word = word_of (head / 2 % 2 == 1) bits; full = head % 2 == 1 }) ∷ cells_from ns
+cells_from (head ∷ bits ∷ ns) = cell_of head bits ∷ cells_from ns
 cells_from _ = []
 
 -- 9. All parts.

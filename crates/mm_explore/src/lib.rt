@@ -3,4 +3,6 @@
 
 pub mod laws;
 mod reader;
+mod part_forms;
+mod parts;
 mod slot_form;
