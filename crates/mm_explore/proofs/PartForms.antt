@@ -178,6 +178,12 @@ pages_first : (i : Image) (slots : List Slot) (events : List (ℕ × Event)) (ou
 unfolding parts_with_outputs
 pages_first i slots events outputs = refl
 
+with_cells : (slots : List Slot) (events : List (ℕ × Event)) (outputs : List Output) (pages ns : List ℕ) (cells : List (ℕ × Cell)) → cells ≡ cells_from ns
+    → (let q : Parts = record { slots = slots; events = events; outputs = outputs; pages = pages; cells = cells } in q) ≡ parts_with_pages slots events outputs (pages, ns)
+unfolding parts_with_pages
+with_cells slots events outputs pages ns cells c =
+    let make : List (ℕ × Cell) → Parts = λ l. record { slots = slots; events = events; outputs = outputs; pages = pages; cells = l } in ap make c
+
 module _ (i : Image) (p : Parts) (k : CanKeep i p) where
   abbrev cells_left : List ℕ
   cells_left = cells_form p.cells
@@ -224,3 +230,24 @@ module _ (i : Image) (p : Parts) (k : CanKeep i p) where
 
   pub parts_read : parts_from i (numbers_of i p) ≡ p
   parts_read = step_slots ∙ step_events ∙ step_outputs ∙ step_pages ∙ step_cells
+
+-- parts that are read one after the other
+pub parts_made : (i : Image) (ns n1 n2 n3 n4 : List ℕ) (slots : List Slot) (events : List (ℕ × Event)) (outputs : List Output) (pages : List ℕ) (cells : List (ℕ × Cell))
+    → slots ≡ (slots_from i.slots ns).0 → n1 ≡ (slots_from i.slots ns).1
+    → events ≡ (events_from n1).0 → n2 ≡ (events_from n1).1
+    → outputs ≡ (outputs_from (groups_of (start i).core) n2).0 → n3 ≡ (outputs_from (groups_of (start i).core) n2).1
+    → pages ≡ (pages_from (page_numbers i.memory.pages) n3).0 → n4 ≡ (pages_from (page_numbers i.memory.pages) n3).1
+    → cells ≡ cells_from n4
+    → (let p : Parts = record { slots = slots; events = events; outputs = outputs; pages = pages; cells = cells } in p) ≡ parts_from i ns
+parts_made i ns n1 n2 n3 n4 slots events outputs pages cells s r1 e r2 o r3 p r4 c =
+    let last : (let q : Parts = record { slots = slots; events = events; outputs = outputs; pages = pages; cells = cells } in q) ≡ parts_with_pages slots events outputs (pages, n4) =
+    with_cells slots events outputs pages n4 cells c in
+    last
+    ∙ (λ j. parts_with_pages slots events outputs (p j, r4 j))
+    ∙ sym (pages_first i slots events (outputs, n3))
+    ∙ (λ j. parts_with_outputs i slots events (o j, r3 j))
+    ∙ sym (outputs_first i slots (events, n2))
+    ∙ (λ j. parts_with_events i slots (e j, r2 j))
+    ∙ sym (events_first i (slots, n1))
+    ∙ (λ j. parts_with_slots i (s j, r1 j))
+    ∙ sym (slots_first i ns)

@@ -302,6 +302,16 @@ cells_from _ = []
 
 -- 9. All parts.
 
+-- parts, with the pages of the image if none are given
+abbrev pub held_parts : Image → List Slot → List (ℕ × Event) → List Output → Option (List ℕ) → List (ℕ × Cell) → Parts
+held_parts i slots events outputs pages cells = record {
+  slots = slots;
+  events = events;
+  outputs = outputs;
+  pages = listed (page_numbers i.memory.pages) pages;
+  cells = cells;
+}
+
 -- the numbers of parts
 unfoldable pub numbers_of : Image → Parts → List ℕ
 numbers_of i p =
