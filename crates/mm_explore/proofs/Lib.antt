@@ -18,3 +18,4 @@ pub mod KeptRuns
 pub mod Spells
 pub mod Taking
 pub mod Tame
+pub mod Putting

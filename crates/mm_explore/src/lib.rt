@@ -5,4 +5,5 @@ pub mod laws;
 mod reader;
 mod part_forms;
 mod parts;
+mod put_parts;
 mod slot_form;

@@ -1,14 +1,17 @@
 //! A slot as its difference from the slot of the image.
 
 ghost use Rattle.std.specs.Prelude.{◌≡◌, ◌+◌, ◌*◌, ◌%◌, ◌/◌, ◌<◌, ◌≤◌, ◌^◌, ◌++◌, if◌then◌else◌, OnOk, length, map, take, true};
-ghost use Rattle.std.specs.List.{AllByRecursion, flat_map};
+ghost use Rattle.std.specs.List.{AllByRecursion, flat_map, list_any};
 ghost use Rattle.mm_word.specs.Perm.{can_fetch};
 ghost use Rattle.mm_word.specs.Pointer.{IsWellFormed};
 ghost use Rattle.mm_word.specs.Word.{IsWord, is_pointer};
 ghost use Rattle.mm_model.specs.declared.slot.Pending.{Pending as PendingValue};
 ghost use Rattle.mm_model.specs.Effect.{same_word};
 ghost use Rattle.mm_model.specs.Flags.{flags, number_of_flags};
-ghost use Rattle.mm_explore.specs.Findings.{state_number as state_number_of};
+ghost use Rattle.mm_model.specs.Report.{same_bit};
+ghost use Rattle.mm_explore.specs.Configurations.{are_some};
+ghost use Rattle.mm_explore.specs.Findings.{state_number as state_number_of, same_state};
+ghost use Rattle.mm_explore.specs.Kept.{is_base as is_base_of};
 ghost use Rattle.mm_explore.specs.Kept.{cause_at as cause_at_of, state_at as state_at_of, word_of as word_of_bits};
 ghost use Rattle.mm_explore.specs.Kept.{ip_of as ip_of_bits, word_form, word_from, changed_flags, changed_bits, words_from};
 ghost use Rattle.mm_explore.specs.Kept.{few_loads as few_loads_of, register_flags, slot_head, slot_masks, first_number, behind, load_form, loads_from, slot_form, slot_from};
@@ -257,7 +260,6 @@ fn empty_mask(slot: &Slot) -> u64
 }
 
 fn head_of(slot: &Slot) -> u64
-    requires { length slot.now.pending ≤ 16 }
     ensures { result ≡ slot_head slot.now }
 {
     let loads = slot.pending.len() as u64;
@@ -271,10 +273,51 @@ fn masks_of(base: &Slot, slot: &Slot) -> u64
     changed_mask(&base.regs, &slot.regs) + 65536 * tagged_mask(&slot.regs)
 }
 
+fn is_same_state(a: SlotState, b: SlotState) -> bool
+    ensures { result ≡ same_state a b }
+{
+    state_number(a) == state_number(b)
+}
+
+fn is_same_bit(a: bool, b: bool) -> bool
+    ensures { result ≡ same_bit a b }
+{
+    if a { b } else { !b }
+}
+
+#[tactic(auto, using(crate::proofs::Putting::any_set))]
+fn has_empty(slot: &Slot) -> bool
+    ensures { result ≡ list_any (λ b. b) slot.now.empty }
+{
+    empty_mask(slot) != 0
+}
+
+fn has_loads(slot: &Slot) -> bool
+    ensures { result ≡ are_some slot.now.pending }
+{
+    !slot.pending.is_empty()
+}
+
+#[tactic(auto, using(crate::proofs::Putting::any_set))]
+fn has_changed(base: &Slot, slot: &Slot) -> bool
+    ensures { result ≡ list_any (λ b. b) (changed_flags base.now.regs slot.now.regs) }
+{
+    changed_mask(&base.regs, &slot.regs) != 0
+}
+
+/// Whether a slot is as in the image, but for its count of turns.
+pub(crate) fn is_base(base: &Slot, slot: &Slot) -> bool
+    ensures { result ≡ is_base_of base.now slot.now }
+{
+    is_same_state(base.state, slot.state)
+        && (is_same_word(Word::Ptr(base.ip), Word::Ptr(slot.ip))
+            && (is_same_bit(base.past, slot.past)
+                && (!has_empty(slot) && (!has_loads(slot) && !has_changed(base, slot)))))
+}
+
 /// Appends the difference of a slot from that of the image.
 #[tactic(auto, unfolding(crate::specs::Kept::slot_form))]
 pub(crate) fn put_slot(out: &mut Vec<u64>, base: &Slot, slot: &Slot) -> Result<(), AllocError>
-    requires { length slot.now.pending ≤ 16 }
     ensures { OnOk result (out.new.items ≡ out.old.items ++ slot_form base.now slot.now) }
 {
     out.push(head_of(slot))?;

@@ -1,0 +1,112 @@
+-- The numbers of a core's slots, written slot by slot.
+use Rattle.std.proofs.Common.{◌≡◌, ℕ, zero, suc, ◌+◌, ◌-◌, ◌*◌, ◌<◌, ◌≤◌, Bool, true, false, if◌then◌else◌, nat_eq, List, [], ◌∷◌, ◌++◌, map, drop, take, length, get_or, Some, None, slice_get, Result, Ok, Err, OnOk, refl, sym, ap, ◌∙◌, append_assoc, arith, eqb-true}
+use mir.Val.{bool_byte}
+use Rattle.std.proofs.Math.Seq.{take-length}
+use Rattle.std.specs.Prelude.{not}
+use Rattle.std.specs.List.{list_any}
+use Rattle.mm_model.specs.Flags.{one_if, number_of_flags}
+use Rattle.mm_model.specs.Slot.{Slot}
+use Rattle.mm_explore.specs.Configurations.{uncounted_slot}
+use Rattle.mm_explore.specs.Kept.{is_base, slot_flags, slot_form, slot_forms, slots_form}
+
+-- 1. Flags that are all clear.
+
+not_zero : (n : ℕ) → 0 < n → nat_eq n 0 ≡ false
+not_zero n lt = by (nat_eq n 0) refl
+  where
+    by : (b : Bool) → nat_eq n 0 ≡ b → b ≡ false
+    by true is = let zero_is = eqb-true n 0 is in absurd (omega (arith, zero_is, lt))
+    by false is = refl
+
+double_zero : (n : ℕ) → nat_eq (2 * n) 0 ≡ nat_eq n 0
+double_zero zero = refl
+double_zero (suc n) =
+    let one : 0 < 2 * suc n = omega arith in
+    let other : 0 < suc n = omega arith in
+    not_zero (2 * suc n) one ∙ sym (not_zero (suc n) other)
+
+pub any_set : (bs : List Bool) → list_any (λ b. b) bs ≡ not (nat_eq (number_of_flags bs) 0)
+any_set [] = refl
+any_set (true ∷ bs) =
+    let some : 0 < number_of_flags (true ∷ bs) = omega arith in
+    ap not (sym (not_zero (number_of_flags (true ∷ bs)) some))
+any_set (false ∷ bs) =
+    let plain : 2 * number_of_flags bs ≡ 0 + 2 * number_of_flags bs = omega arith in
+    any_set bs ∙ ap not (sym (double_zero (number_of_flags bs)) ∙ ap (λ n. nat_eq n 0) plain)
+
+-- 2. A list from an element on.
+
+drop_next : {A : Type 0} → (l : List A) (k : ℕ) (x : A) → slice_get l k ≡ Some x → drop k l ≡ x ∷ drop (suc k) l
+drop_next [] k x e = cc
+drop_next (y ∷ l) zero x e = cc
+drop_next (y ∷ l) (suc k) x e = drop_next l k x e
+
+pub drop_got : {A : Type 0} → (l : List A) (k : ℕ) (x : A) → slice_get l k ≡ Some x → drop k l ≡ x ∷ drop (k + 1) l
+drop_got l k x e = let next : suc k ≡ k + 1 = omega arith in drop_next l k x e ∙ ap (λ n. x ∷ drop n l) next
+
+-- 3. A slot's count of turns is in none of its numbers.
+
+form_uncounted : (b s : Slot) → slot_form b (uncounted_slot s) ≡ slot_form b s
+unfolding slot_form
+form_uncounted b s = refl
+
+flags_uncounted : (base slots : List Slot) → slot_flags base (map uncounted_slot slots) ≡ slot_flags base slots
+flags_uncounted [] slots = refl
+flags_uncounted (b ∷ base) [] = refl
+flags_uncounted (b ∷ base) (s ∷ slots) = ap (λ l. not (is_base b s) ∷ l) (flags_uncounted base slots)
+
+forms_uncounted : (base slots : List Slot) → slot_forms base (map uncounted_slot slots) ≡ slot_forms base slots
+forms_uncounted [] slots = refl
+forms_uncounted (b ∷ base) [] = refl
+forms_uncounted (b ∷ base) (s ∷ slots) =
+    ap (λ l. if is_base b s then slot_forms base (map uncounted_slot slots) else l ++ slot_forms base (map uncounted_slot slots)) (form_uncounted b s)
+    ∙ ap (λ l. if is_base b s then l else slot_form b s ++ l) (forms_uncounted base slots)
+
+pub slots_uncounted : (base slots : List Slot) → slots_form base (map uncounted_slot slots) ≡ slots_form base slots
+unfolding slots_form
+slots_uncounted base slots =
+    ap (λ l. number_of_flags l ∷ slot_forms base (map uncounted_slot slots)) (flags_uncounted base slots)
+    ∙ ap (λ l. number_of_flags (slot_flags base slots) ∷ l) (forms_uncounted base slots)
+
+-- 4. A slot and those behind it.
+
+byte_of : (b : Bool) → bool_byte b ≡ one_if b
+byte_of true = refl
+byte_of false = refl
+
+pub more_ok : {T E P Q : Type 0} → (r : Result T E) → (P → Q) → OnOk r P → OnOk r Q
+more_ok (Ok t) f h = f h
+more_ok (Err e) f h = h
+
+abbrev behind_first : List Slot → List Slot
+behind_first base = take (length base - 1) (drop 1 base)
+
+rest_is : (b : Slot) (base : List Slot) → behind_first (b ∷ base) ≡ base
+rest_is b base = let less : length (b ∷ base) - 1 ≡ length base = omega arith in ap (λ n. take n base) less ∙ take-length base
+
+module _ (slots : List Slot) (at : ℕ) (s : Slot) (got : slice_get slots at ≡ Some s) where
+  pub flags_got : (base : List Slot) (b : Slot) (same : Bool) (later : ℕ) → 1 ≤ length base → b ≡ get_or base 0 b → same ≡ is_base b s
+      → later ≡ number_of_flags (slot_flags (behind_first base) (drop (at + 1) slots))
+      → bool_byte (not same) + 2 * later ≡ number_of_flags (slot_flags base (drop at slots))
+  flags_got [] b same later some first is rest = absurd (omega (arith, some))
+  flags_got (a ∷ base) b same later some first is rest =
+      let tail = rest ∙ ap (λ l. number_of_flags (slot_flags l (drop (at + 1) slots))) (rest_is a base) in
+      let head = byte_of (not same) ∙ ap (λ t. one_if (not t)) (is ∙ ap (λ x. is_base x s) first) in
+      (λ j. head j + 2 * tail j) ∙ ap (λ l. number_of_flags (slot_flags (a ∷ base) l)) (sym (drop_got slots at s got))
+
+  pub forms_got : (base : List Slot) (b : Slot) (old mid new : List ℕ) → 1 ≤ length base → b ≡ get_or base 0 b
+      → mid ≡ old ++ (if is_base b s then [] else slot_form b s)
+      → new ≡ mid ++ slot_forms (behind_first base) (drop (at + 1) slots)
+      → new ≡ old ++ slot_forms base (drop at slots)
+  forms_got [] b old mid new some first one rest = absurd (omega (arith, some))
+  forms_got (a ∷ base) b old mid new some first one rest =
+      let tail = slot_forms base (drop (at + 1) slots) in
+      let is_mid : mid ≡ old ++ (if is_base a s then [] else slot_form a s) = one ∙ ap (λ x. old ++ (if is_base x s then [] else slot_form x s)) first in
+      let is_new : new ≡ mid ++ tail = rest ∙ ap (λ l. mid ++ slot_forms l (drop (at + 1) slots)) (rest_is a base) in
+      is_new ∙ ap (λ l. l ++ tail) is_mid ∙ append_assoc old (if is_base a s then [] else slot_form a s) tail
+      ∙ ap (λ l. old ++ l) (joined (is_base a s) (slot_form a s) tail)
+      ∙ ap (λ l. old ++ slot_forms (a ∷ base) l) (sym (drop_got slots at s got))
+    where
+      joined : (same : Bool) (form tail : List ℕ) → (if same then [] else form) ++ tail ≡ (if same then tail else form ++ tail)
+      joined true form tail = refl
+      joined false form tail = refl
