@@ -24,7 +24,7 @@ use Rattle.mm_model.specs.Flags.{one_if, flags, number_of_flags}
 use Rattle.mm_model.specs.Image.{Image, start}
 use Rattle.mm_model.specs.Report.{same_bit, groups_of, changes}
 use Rattle.mm_model.specs.Slot.{Slot}
-use Rattle.mm_model.specs.State.{State, output_of}
+use Rattle.mm_model.specs.State.{Core, State, output_of}
 use Rattle.mm_thread.specs.Output.{Output}
 use Rattle.mm_machine.specs.Snapshot.{queued, page_numbers}
 use Rattle.mm_explore.specs.Configurations.{uncounted_slot, are_some}
@@ -44,8 +44,12 @@ pub record Parts : Type 0 where
   -- the cells that differ from the image's, each with its word
   pub cells : List (ℕ × Cell)
 
+-- the output of a group, with its number
+abbrev pub core_output : Core → ℕ → Output
+core_output core g = record { group = g; bytes = output_of core g }
+
 abbrev pub output_part : State → ℕ → Output
-output_part s g = record { group = g; bytes = output_of s.core g }
+output_part s g = core_output s.core g
 
 -- the parts of a state's configuration
 unfoldable pub parts_of : Image → State → Parts

@@ -1,14 +1,19 @@
 //! The numbers of the configuration of a core and a memory.
 
-ghost use Rattle.std.specs.Prelude.{◌≡◌, ◌+◌, ◌<◌, ◌≤◌, ◌^◌, ◌++◌, if◌then◌else◌, [], OnOk, length, drop};
+ghost use Rattle.std.specs.Prelude.{◌≡◌, ℕ, ◌+◌, ◌<◌, ◌≤◌, ◌^◌, ◌++◌, if◌then◌else◌, false, nat_eq, List, [], OnOk, IfOk, IfSome, length, map, drop};
+ghost use Rattle.std.specs.Option.{option_map};
+ghost use lib.Pointwise.{pointwise};
 ghost use Rattle.mm_model.specs.Fits.{slots_of};
 ghost use Rattle.mm_model.specs.Flags.{number_of_flags};
+ghost use Rattle.mm_machine.specs.Snapshot.{queued};
+ghost use Rattle.mm_explore.specs.Kept.{events_form, core_output, outputs_form, pages_form, listed};
 ghost use Rattle.mm_explore.specs.Kept.{is_base as is_base_of, slot_form, slot_flags, slot_forms, slots_form};
 
+use crate::part_forms::{put_events, put_output};
 use crate::slot_form::{is_base, put_slot};
-use mm_model::Slot;
+use mm_model::{Event, Slot};
 use mm_thread::Core;
-use std::alloc::AllocError;
+use std::alloc::{AllocError, Global};
 
 // 1. Slots.
 
@@ -71,4 +76,78 @@ pub(crate) fn put_slots(out: &mut Vec<u64>, base: &[Slot], core: &Core) -> Resul
     let changed = changed_slots(base, core, 0);
     out.push(changed)?;
     put_each_slot(out, base, core, 0)
+}
+
+// 2. Events.
+
+/// The events of the queues of a core, each with the number of the slot in whose queue it is.
+fn events_of(alloc: Global, core: &Core) -> Result<Vec<(u8, Event)>, AllocError>
+    ensures { IfOk result (λ events. events.items ≡ queued core.now) }
+{
+    let mut events = Vec::new(alloc);
+    for i in 0..core.count() {
+        let slot = core.nth(i);
+        put_queue(&mut events, slot.number, core.queue(slot.number))?;
+    }
+    Ok(events)
+}
+
+fn put_queue(events: &mut Vec<(u8, Event)>, number: u8, queue: &[Event]) -> Result<(), AllocError>
+    ensures { IfOk result (λ _. events.new.items ≡ events.old.items ++ map (λ e. (number, e)) queue.now) }
+{
+    for event in queue {
+        events.push((number, *event))?;
+    }
+    Ok(())
+}
+
+/// Appends the events of the queues of a core.
+pub(crate) fn put_queued(alloc: Global, out: &mut Vec<u64>, core: &Core) -> Result<(), AllocError>
+    ensures { OnOk result (out.new.items ≡ out.old.items ++ events_form (queued core.now)) }
+{
+    let events = events_of(alloc, core)?;
+    put_events(out, events.as_slice())
+}
+
+// 3. Outputs and pages.
+
+/// Appends the outputs of these groups.
+pub(crate) fn put_outputs(out: &mut Vec<u64>, groups: &[u8], core: &Core) -> Result<(), AllocError>
+    ensures { OnOk result (out.new.items ≡ out.old.items ++ outputs_form (map (core_output core.now) groups.now)) }
+{
+    match groups {
+        [] => Ok(()),
+        [group, rest @ ..] => {
+            put_output(out, core.output(*group))?;
+            put_outputs(out, rest, core)
+        }
+    }
+}
+
+/// Appends the numbers of the mapped pages; `None` if they are those of the image.
+#[tactic(auto, unfolding(crate::specs::Kept::pages_form))]
+pub(crate) fn put_pages(out: &mut Vec<u64>, pages: &Option<Vec<u64>>) -> Result<(), AllocError>
+    ensures { OnOk result ((base : List ℕ) → IfSome pages.now (λ p. pointwise nat_eq p.items base ≡ false)
+        → out.new.items ≡ out.old.items ++ pages_form base (listed base (option_map (λ p. p.items) pages.now))) }
+{
+    match pages {
+        None => {
+            out.push(0)?;
+            Ok(())
+        }
+        Some(numbers) => {
+            let numbers = numbers.as_slice();
+            out.push(1 + numbers.len() as u64)?;
+            put_page_numbers(out, numbers)
+        }
+    }
+}
+
+fn put_page_numbers(out: &mut Vec<u64>, numbers: &[u64]) -> Result<(), AllocError>
+    ensures { OnOk result (out.new.items ≡ out.old.items ++ numbers.now) }
+{
+    for number in numbers {
+        out.push(*number)?;
+    }
+    Ok(())
 }
