@@ -1,5 +1,5 @@
 -- The numbers of a core's slots, written slot by slot.
-use Rattle.std.proofs.Common.{◌≡◌, ℕ, zero, suc, ◌+◌, ◌-◌, ◌*◌, ◌<◌, ◌≤◌, Bool, true, false, if◌then◌else◌, nat_eq, List, [], ◌∷◌, ◌++◌, map, drop, take, length, get_or, Some, None, slice_get, Result, Ok, Err, OnOk, refl, sym, ap, ◌∙◌, append_assoc, arith, eqb-true}
+use Rattle.std.proofs.Common.{◌≡◌, ℕ, zero, suc, ◌+◌, ◌-◌, ◌*◌, ◌<◌, ◌≤◌, Bool, true, false, if◌then◌else◌, nat_eq, List, [], ◌∷◌, ◌++◌, map, drop, take, length, get_or, Option, Some, None, slice_get, Result, Ok, Err, OnOk, refl, sym, ap, ◌∙◌, append_assoc, arith, eqb-true}
 use mir.Val.{bool_byte}
 use Rattle.std.proofs.Math.Seq.{take-length}
 use Rattle.std.specs.Prelude.{not}
@@ -9,11 +9,14 @@ use Rattle.std.proofs.lemmas.List.{take_more, flat_map_more}
 use Rattle.mm_model.specs.declared.event.Event.{Event}
 use Rattle.mm_model.specs.State.{Core, queue_at}
 use Rattle.mm_model.specs.Fits.{slots_of}
-use Rattle.mm_machine.specs.Snapshot.{queued_at}
+use Rattle.mm_machine.specs.Snapshot.{queued_at, page_numbers}
+use Rattle.mm_word.specs.declared.word.Cell.{Cell}
+use Rattle.mm_model.specs.Image.{Image}
+use Rattle.mm_thread.specs.Output.{Output}
 use Rattle.mm_model.specs.Flags.{one_if, number_of_flags}
 use Rattle.mm_model.specs.Slot.{Slot}
 use Rattle.mm_explore.specs.Configurations.{uncounted_slot}
-use Rattle.mm_explore.specs.Kept.{is_base, slot_flags, slot_form, slot_forms, slots_form}
+use Rattle.mm_explore.specs.Kept.{is_base, slot_flags, slot_form, slot_forms, slots_form, events_form, outputs_form, pages_form, cells_form, listed, held_parts, numbers_of}
 
 -- 1. Flags that are all clear.
 
@@ -131,3 +134,24 @@ events_more core i s number so_far queue is named before own =
     (λ j. made (before j) number (own j)) ∙ (λ j. made (flat_map (queued_at core) (take i (slots_of core))) (named j) (queue_at core (named j)))
     ∙ flat_map_more (queued_at core) [] (take i (slots_of core)) s
     ∙ ap (flat_map (queued_at core)) (sym (take_got (slots_of core) i s is))
+
+-- 6. All parts, one behind the other.
+
+pub joined : (old a b c d e n1 n2 n3 n4 n5 : List ℕ) → n1 ≡ old ++ a → n2 ≡ n1 ++ b → n3 ≡ n2 ++ c → n4 ≡ n3 ++ d → n5 ≡ n4 ++ e
+    → n5 ≡ old ++ (a ++ (b ++ (c ++ (d ++ e))))
+joined old a b c d e n1 n2 n3 n4 n5 is1 is2 is3 is4 is5 =
+    is5 ∙ ap (λ l. l ++ e) is4 ∙ append_assoc n3 d e
+    ∙ ap (λ l. l ++ (d ++ e)) is3 ∙ append_assoc n2 c (d ++ e)
+    ∙ ap (λ l. l ++ (c ++ (d ++ e))) is2 ∙ append_assoc n1 b (c ++ (d ++ e))
+    ∙ ap (λ l. l ++ (b ++ (c ++ (d ++ e)))) is1 ∙ append_assoc old a (b ++ (c ++ (d ++ e)))
+
+pub numbers_put : (i : Image) (slots base : List Slot) (events : List (ℕ × Event)) (outputs : List Output) (pages : Option (List ℕ)) (cells : List (ℕ × Cell)) (old n1 n2 n3 n4 n5 : List ℕ)
+    → base ≡ i.slots → n1 ≡ old ++ slots_form base slots → n2 ≡ n1 ++ events_form events → n3 ≡ n2 ++ outputs_form outputs
+    → n4 ≡ n3 ++ pages_form (page_numbers i.memory.pages) (listed (page_numbers i.memory.pages) pages) → n5 ≡ n4 ++ cells_form cells
+    → n5 ≡ old ++ numbers_of i (held_parts i (map uncounted_slot slots) events outputs pages cells)
+unfolding numbers_of
+numbers_put i slots base events outputs pages cells old n1 n2 n3 n4 n5 at is1 is2 is3 is4 is5 =
+    let form = slots_form i.slots (map uncounted_slot slots) in
+    let first : n1 ≡ old ++ form = is1 ∙ ap (λ (l : List Slot). old ++ slots_form l slots) at ∙ ap (λ l. old ++ l) (sym (slots_uncounted i.slots slots)) in
+    joined old form (events_form events) (outputs_form outputs) (pages_form (page_numbers i.memory.pages) (listed (page_numbers i.memory.pages) pages)) (cells_form cells)
+      n1 n2 n3 n4 n5 first is2 is3 is4 is5
