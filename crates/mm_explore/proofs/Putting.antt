@@ -154,4 +154,4 @@ numbers_put i slots base events outputs pages cells old n1 n2 n3 n4 n5 at is1 is
     let form = slots_form i.slots (map uncounted_slot slots) in
     let first : n1 ≡ old ++ form = is1 ∙ ap (λ (l : List Slot). old ++ slots_form l slots) at ∙ ap (λ l. old ++ l) (sym (slots_uncounted i.slots slots)) in
     joined old form (events_form events) (outputs_form outputs) (pages_form (page_numbers i.memory.pages) (listed (page_numbers i.memory.pages) pages)) (cells_form cells)
-      n1 n2 n3 n4 n5 first is2 is3 is4 is5
+    n1 n2 n3 n4 n5 first is2 is3 is4 is5

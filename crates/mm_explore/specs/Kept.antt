@@ -161,7 +161,8 @@ unfoldable pub slot_from : Slot → List ℕ → Slot × List ℕ
 slot_from base ns =
     let head = first_number ns in
     let masks = first_number (behind ns) in
-    let words = words_from (register_flags (masks % 65536)) (register_flags (masks / 65536)) base.regs (behind (behind (behind ns))) in
+    let changed = register_flags (masks % 65536) in
+    let words = words_from changed (register_flags (masks / 65536)) base.regs (behind (behind (behind ns))) in
     let loads = loads_from (few_loads (head / 64 % 32)) words.1 in (
       record base {
         regs = words.0;
@@ -222,14 +223,19 @@ pointer_or_key bits = if spells_pointer bits then pointer_of bits else record { 
 
 -- the event, given its operands and the numbers before them
 abbrev pub event_with : List ℕ → Word × List ℕ → Word × List ℕ → (ℕ × Event) × List ℕ
-event_with ns addr value =
-    ((first_number ns % 256, record {
+event_with ns addr value = (
+  (
+    first_number ns % 256,
+    record {
       slot = first_number (behind ns) % 256;
       cause = cause_at (first_number (behind (behind ns)));
       ip = pointer_or_key (first_number (behind (behind (behind ns))));
       addr_op = addr.0;
       value_op = value.0;
-    }), value.1)
+    },
+  ),
+  value.1,
+)
 
 unfoldable pub event_from : List ℕ → (ℕ × Event) × List ℕ
 event_from ns =

@@ -2,8 +2,8 @@
 #![tactic(auto)]
 
 pub mod laws;
-mod reader;
 mod part_forms;
 mod parts;
 mod put_parts;
+mod reader;
 mod slot_form;

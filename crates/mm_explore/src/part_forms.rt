@@ -173,11 +173,7 @@ pub(crate) fn take_outputs(
 // 3. Pages and cells.
 
 /// Reads as many numbers.
-fn take_numbers(
-    alloc: Global,
-    reader: &mut Reader<'_>,
-    count: u64,
-) -> Result<Vec<u64>, AllocError>
+fn take_numbers(alloc: Global, reader: &mut Reader<'_>, count: u64) -> Result<Vec<u64>, AllocError>
     ensures numbers { IfOk result (λ numbers. numbers.items ≡ (numbers_by count reader.old).0) }
     ensures rest { OnOk result (reader.new ≡ (numbers_by count reader.old).1) }
 {

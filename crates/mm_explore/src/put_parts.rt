@@ -1,6 +1,7 @@
 //! The numbers of the configuration of a core and a memory.
 
-ghost use Rattle.std.specs.Prelude.{◌≡◌, ℕ, ◌+◌, ◌<◌, ◌≤◌, ◌^◌, ◌++◌, if◌then◌else◌, false, nat_eq, List, [], OnOk, IfOk, IfSome, length, map, drop};
+ghost use Rattle.std.specs.Prelude.{◌≡◌, ℕ, ◌+◌, ◌<◌, ◌≤◌, ◌^◌, ◌++◌, if◌then◌else◌, false};
+ghost use Rattle.std.specs.Prelude.{nat_eq, List, [], OnOk, IfOk, IfSome, length, map, drop};
 ghost use Rattle.std.specs.Option.{option_map};
 ghost use Rattle.std.specs.List.{AllByRecursion};
 ghost use Rattle.mm_word.specs.declared.word.Cell.{Cell as CellValue};
@@ -63,7 +64,8 @@ fn put_each_slot(
 
 /// Appends a slot, if it differs from that of the image.
 fn put_if_changed(out: &mut Vec<u64>, base: &Slot, slot: &Slot) -> Result<(), AllocError>
-    ensures { OnOk result (out.new.items ≡ out.old.items ++ (if is_base_of base.now slot.now then [] else slot_form base.now slot.now)) }
+    ensures { OnOk result (out.new.items ≡ out.old.items
+        ++ (if is_base_of base.now slot.now then [] else slot_form base.now slot.now)) }
 {
     if is_base(base, slot) {
         Ok(())

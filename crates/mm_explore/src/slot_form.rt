@@ -1,6 +1,7 @@
 //! A slot as its difference from the slot of the image.
 
-ghost use Rattle.std.specs.Prelude.{◌≡◌, ◌+◌, ◌*◌, ◌%◌, ◌/◌, ◌<◌, ◌≤◌, ◌^◌, ◌++◌, if◌then◌else◌, OnOk, length, map, take, true};
+ghost use Rattle.std.specs.Prelude.{◌≡◌, ◌+◌, ◌*◌, ◌%◌, ◌/◌, ◌<◌, ◌≤◌, ◌^◌, ◌++◌, if◌then◌else◌, OnOk, length, map};
+ghost use Rattle.std.specs.Prelude.{take, true};
 ghost use Rattle.std.specs.List.{AllByRecursion, flat_map, list_any};
 ghost use Rattle.mm_word.specs.Perm.{can_fetch};
 ghost use Rattle.mm_word.specs.Pointer.{IsWellFormed};
@@ -13,8 +14,10 @@ ghost use Rattle.mm_explore.specs.Configurations.{are_some};
 ghost use Rattle.mm_explore.specs.Findings.{state_number as state_number_of, same_state};
 ghost use Rattle.mm_explore.specs.Kept.{is_base as is_base_of};
 ghost use Rattle.mm_explore.specs.Kept.{cause_at as cause_at_of, state_at as state_at_of, word_of as word_of_bits};
-ghost use Rattle.mm_explore.specs.Kept.{ip_of as ip_of_bits, word_form, word_from, changed_flags, changed_bits, words_from};
-ghost use Rattle.mm_explore.specs.Kept.{few_loads as few_loads_of, register_flags, slot_head, slot_masks, first_number, behind, load_form, loads_from, slot_form, slot_from};
+ghost use Rattle.mm_explore.specs.Kept.{ip_of as ip_of_bits, word_form, word_from, changed_flags, changed_bits};
+ghost use Rattle.mm_explore.specs.Kept.{words_from};
+ghost use Rattle.mm_explore.specs.Kept.{few_loads as few_loads_of, register_flags, slot_head, slot_masks};
+ghost use Rattle.mm_explore.specs.Kept.{first_number, behind, load_form, loads_from, slot_form, slot_from};
 
 use crate::reader::Reader;
 use arrayvec::ArrayVec;
