@@ -19,3 +19,4 @@ pub mod Spells
 pub mod Taking
 pub mod Tame
 pub mod Putting
+pub mod Whole
