@@ -12,11 +12,11 @@ use Rattle.mm_model.specs.State.{Row, Core, State, row_in, queue_of, slot_at, qu
 use Rattle.mm_model.specs.Image.{Image, slot_limit}
 use Rattle.mm_model.specs.Spelling.{IsFresh, HoldsWords, IsImage}
 use Rattle.mm_model.specs.Report.{same_cell, changes_from, cells_or_zero}
-use Rattle.mm_model.specs.Fits.{IsSlot, slots_of, IsFormed, SlotHoldsWords, EventHoldsWords, RowHoldsWords, IsState, LoadsMatch, waits_for, Matches, identity_of, Fits, IsKept}
+use Rattle.mm_model.specs.Fits.{IsSlot, slots_of, IsFormed, SlotHoldsWords, EventHoldsWords, RowHoldsWords, LoadsMatch, waits_for, Matches, identity_of}
 use Rattle.mm_model.proofs.CoreRows.{each_map, each_both, slot_at-number, slot_has}
 use Rattle.mm_model.proofs.Shortness.{pending_short, loads_small, queued_at}
 use Rattle.mm_explore.proofs.WordForms.{IsLoad}
-use Rattle.mm_machine.specs.Snapshot.{queued, queued_at as events_at}
+use Rattle.mm_machine.specs.Snapshot.{queued_at as events_at}
 use Rattle.mm_explore.specs.Configurations.{uncounted_slot}
 use Rattle.mm_explore.specs.Kept.{parts_of, parts_from, kept}
 use Rattle.mm_explore.specs.Assembled.{IsStateOf}

@@ -20,7 +20,7 @@ use Rattle.mm_explore.specs.Laws.{KeptFormsAreConfigurations}
 use Rattle.mm_explore.proofs.Uncounted.{queue_at_so}
 use Rattle.mm_model.specs.Turn.{turn}
 use Rattle.mm_explore.proofs.PartForms.{AreBytes}
-use Rattle.mm_explore.proofs.Tame.{OutputMoves, PutOut, IsTame, turns_are_tame}
+use Rattle.mm_explore.proofs.Tame.{OutputMoves, turns_are_tame}
 use Rattle.mm_explore.proofs.Keepables.{kept_tells}
 use Rattle.mm_explore.proofs.Assembling.{assembles}
 

@@ -1,8 +1,7 @@
 -- What a turn changes of the memory and of the outputs: one cell at the word of its writing access, or one page; one byte of one output.
-use Rattle.std.proofs.Common.{◌≡◌, ◌⊎◌, inl, inr, ℕ, ◌+◌, ◌-◌, ◌%◌, ◌^◌, ◌<◌, Bool, true, false, ◌&&◌, ◌||◌, ◌==◌, nat_lt, nat_le, if◌then◌else◌, pos, List, [], ◌∷◌, ◌++◌, length, Option, Some, None, Result, Ok, Err, refl, sym, ap, ◌∙◌, subst, arith}
+use Rattle.std.proofs.Common.{◌≡◌, ◌⊎◌, inl, inr, ℕ, ◌%◌, ◌^◌, ◌<◌, Bool, true, false, ◌&&◌, ◌==◌, nat_lt, if◌then◌else◌, pos, List, [], ◌∷◌, ◌++◌, length, Option, Some, None, Result, Ok, Err, refl, sym, ap, ◌∙◌, subst, arith}
 use Rattle.std.specs.Prelude.{slice_set, slice_index_or}
-use Rattle.mm_word.specs.declared.perm.Kind.{Kind}
-use Rattle.mm_word.specs.declared.perm.Kind.TheVariants.{Fetch, Store, LoadSet}
+use Rattle.mm_word.specs.declared.perm.Kind.TheVariants.{Fetch, Store}
 use Rattle.mm_word.specs.declared.cause.Cause.{Cause}
 use Rattle.mm_word.specs.declared.cause.Cause.TheVariants as cause
 use Rattle.mm_word.specs.declared.word.Pre.{Pre}
@@ -22,18 +21,18 @@ use Rattle.mm_isa.specs.declared.instr.How.{How}
 use Rattle.mm_isa.specs.declared.instr.Instr.{Instr}
 use Rattle.mm_isa.specs.declared.instr.Instr.TheVariants.{Halt, Nop, Ldi, Ldhi, Mov, Isptr, Eqw, Out, SelfSlot, Alu, Addi, Lea, Leai, Leab, Restrict, Subseg, Setptr, Ld, St, Br, Bz, Bnz, Jmp, Jal, Lip, Trap, Evt, Resume, Rreg, Wreg, Map, Unmap}
 use Rattle.mm_isa.specs.Alu.{alu_result}
-use Rattle.mm_model.specs.declared.slot.SlotState.TheVariants.{Running, Waiting, Halted}
+use Rattle.mm_model.specs.declared.slot.SlotState.TheVariants.{Running, Halted}
 use Rattle.mm_model.specs.declared.slot.Pending.{Pending}
 use Rattle.mm_model.specs.declared.event.Event.{Event}
 use Rattle.mm_model.specs.Memory.{Memory, cell_at, put_cell, is_mapped, can_map, map_page, unmap_page, passes, full_after}
 use Rattle.mm_model.specs.Uses.{Use, Accessed}
 use Rattle.mm_model.specs.Slot.{Slot, register, is_empty}
-use Rattle.mm_model.specs.State.{Core, slot_at, put_slot, queue_at, put_queue, output_of, put_output}
+use Rattle.mm_model.specs.State.{Core, slot_at, put_slot, put_queue, output_of, put_output}
 use Rattle.mm_model.specs.Image.{output_limit}
 use Rattle.mm_model.specs.Operands.{addr_operand, value_operand, lacks}
-use Rattle.mm_model.specs.Ask.{Ask, ask, is_privileged, load_kind, reaching, page_asked}
-use Rattle.mm_model.specs.Ask.Ask.{Refuse, Reach, MapPage, UnmapPage, Room}
-use Rattle.mm_model.specs.Effect.{Reply, Change, Pages, Effect, effect, delivered, sets, sets_pointer, sets_number, if_pointer, puts_out, set_by, loads, loaded, stored, at_distance, branches, jumps, links, takes, resumes, reads_of, writes_of, maps, unmaps, plain}
+use Rattle.mm_model.specs.Ask.{Ask, ask, is_privileged, load_kind, reaching}
+use Rattle.mm_model.specs.Ask.Ask.{Refuse, Reach, MapPage, UnmapPage}
+use Rattle.mm_model.specs.Effect.{Reply, Change, Effect, effect, delivered, sets, sets_pointer, sets_number, if_pointer, puts_out, set_by, loads, loaded, stored, at_distance, branches, jumps, links, takes, resumes, reads_of, writes_of, maps, unmaps, plain}
 use Rattle.mm_model.specs.Effect.Reply.{Fine, Refused, Got, Paged, NoEvent, Took, Served}
 use Rattle.mm_model.specs.Effect.Pages.{Keep, Add, Remove}
 use Rattle.mm_model.specs.Effect.Effect.{Fault, Block, Deliver, Does}

@@ -1,5 +1,5 @@
 -- The parts of a configuration make a core: no count of turns is in what a core is.
-use Rattle.std.proofs.Common.{◌≡◌, ℕ, ◌+◌, Bool, ◌||◌, List, [], ◌∷◌, map, Option, Some, None, IfSome, refl, sym, ap, ◌∙◌, subst}
+use Rattle.std.proofs.Common.{◌≡◌, ℕ, ◌||◌, List, [], ◌∷◌, map, Option, Some, None, IfSome, refl, sym, ap, ◌∙◌, subst}
 use Rattle.std.specs.Prelude.{Contains, ◌==◌}
 use Rattle.std.specs.List.{AllByRecursion}
 use Rattle.mm_model.specs.declared.event.Event.{Event}
@@ -9,13 +9,13 @@ use Rattle.mm_model.specs.Image.{Image}
 use Rattle.mm_model.specs.Slot.{Slot, register, is_empty}
 use Rattle.mm_model.specs.Spelling.{numbers_of, IsOther, IsImage}
 use Rattle.mm_model.specs.State.{Row, Core, State, slot_at, queue_at, output_of}
-use Rattle.mm_model.specs.Fits.{IsSlot, slots_of, IsFormed, LoadsMatch, events_of, waits_for, WaitsForSome, Matches, identity_of, IsAtSlot, LoadsAreKept, TakenBySome, IsKept, IsOfVersion, HandlersAreOthers, IsCore}
+use Rattle.mm_model.specs.Fits.{IsSlot, slots_of, IsFormed, LoadsMatch, events_of, waits_for, WaitsForSome, Matches, identity_of, IsAtSlot, LoadsAreKept, TakenBySome, IsKept, IsOfVersion, IsCore}
 use Rattle.mm_model.proofs.CoreRows.{each_map}
 use Rattle.mm_model.proofs.Fitted.{core_of as core_of_state}
 use Rattle.mm_thread.specs.Output.{Output}
 use Rattle.mm_thread.specs.Parts.{core_of, AreParts}
 use Rattle.mm_explore.specs.Configurations.{uncounted_slot, uncounted_row, uncounted, configuration}
-use Rattle.mm_explore.specs.Kept.{Parts, output_part, parts_of}
+use Rattle.mm_explore.specs.Kept.{output_part, parts_of}
 use Rattle.mm_explore.specs.Assembled.{assembled, IsStateOf}
 use Rattle.mm_explore.proofs.Members.{in_map}
 use Rattle.mm_explore.proofs.Uncounted.{uncounted_one, slot_at_so, queue_at_so}
@@ -86,7 +86,7 @@ module _ (core : Core) where
   unfolding output_of register is_empty
   kept_bare h = record {
     in_place = λ q. subst (AllByRecursion (IsAtSlot (uncounted core))) (sym (queue_at_so core q))
-      (each_map (IsAtSlot core) (IsAtSlot (uncounted core))
+        (each_map (IsAtSlot core) (IsAtSlot (uncounted core))
         (λ e x. subst (λ (o : Option Slot). IfSome o (λ s. e.ip ≡ s.ip)) (sym (slot_at_so core e.slot)) (at_bare e (slot_at core e.slot) x)) (queue_at core q) (h.in_place q));
     loads = each_bare (LoadsAreKept core.split) (LoadsAreKept core.split) (λ s x. record { zero = x.zero; mode = x.mode }) core.rows h.loads;
     taken = each_bare TakenBySome TakenBySome (λ s x. x) core.rows h.taken;
@@ -99,7 +99,7 @@ module _ (core : Core) where
     formed = formed_bare h.formed;
     numbers = each_bare (IsOfVersion 2) (IsOfVersion 2) (λ s x. record { number = x.number; group = x.group }) core.rows h.numbers;
     handlers = each_bare (λ s. IfSome s.handler (IsOther (slots_of core) s.number)) (λ s. IfSome s.handler (IsOther (slots_of (uncounted core)) s.number))
-      (λ s x. if_some s.handler (other_bare core.rows s.number) x) core.rows h.handlers;
+        (λ s x. if_some s.handler (other_bare core.rows s.number) x) core.rows h.handlers;
     matched = matches_bare h.matched;
     kept = kept_bare h.kept;
   }
@@ -122,7 +122,7 @@ module _ (i : Image) (s : State) (img : IsImage i) (h : IsStateOf i s) where
   are_parts core version split same =
       let q = parts_of i s in
       let is : core_of core.version core.split q.slots q.events q.outputs ≡ uncounted s.core =
-        (λ j. core_of (version j) (split j) q.slots q.events q.outputs) ∙ made in
+      (λ j. core_of (version j) (split j) q.slots q.events q.outputs) ∙ made in
       record {
         whole = subst IsCore (sym is) (core_bare s.core (core_of_state i s img h.state h.fits h.kept));
         same = identities_bare (slots_of s.core) ∙ h.fits.same_slots ∙ sym same;
