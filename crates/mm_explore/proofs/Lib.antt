@@ -20,3 +20,4 @@ pub mod Taking
 pub mod Tame
 pub mod Putting
 pub mod Whole
+pub mod MemoryPut

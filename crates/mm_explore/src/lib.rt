@@ -3,6 +3,7 @@
 
 pub mod laws;
 mod part_forms;
+mod memory_put;
 mod parts;
 mod put_parts;
 mod reader;
