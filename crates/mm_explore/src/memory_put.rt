@@ -1,8 +1,11 @@
 //! Cells that are put into a plain memory.
 
-ghost use Rattle.std.specs.Prelude.{◌≡◌, ◌+◌, ◌%◌, ◌^◌, ◌<◌};
+ghost use Rattle.std.specs.Prelude.{◌≡◌, ℕ, ◌+◌, ◌%◌, ◌^◌, ◌<◌, length};
+ghost use Rattle.std.specs.List.{AllByRecursion};
+ghost use Rattle.mm_word.specs.declared.word.Cell.{Cell as CellValue};
 ghost use Rattle.mm_word.specs.declared.perm.Kind.TheVariants.{Store};
 ghost use Rattle.mm_model.specs.Memory.{IsPaged, put_cell};
+ghost use Rattle.mm_explore.specs.Assembled.{put_cells};
 
 use mm_mem::{Memory, PlainMem};
 use mm_word::{Access, Cell, GuardedPtr, Kind, Perm, Post, Pre, Word, check};
@@ -34,4 +37,19 @@ pub(crate) fn put_at(mem: &mut PlainMem, word: u64, cell: &Cell)
     let access = store_to(word);
     let post = if cell.full { Post::Full } else { Post::Empty };
     mem.store(&access, cell.word, Pre::Any, post);
+}
+
+/// Makes these the cells of their words.
+#[tactic(auto, using(crate::proofs::MemoryPut::still_paged))]
+pub(crate) fn put_listed(mem: &mut PlainMem, cells: &[(u64, Cell)])
+    requires words { AllByRecursion (λ (x : ℕ × CellValue). (x.0 % 8 ≡ 0) × (x.0 < 2 ^ 54)) cells.now }
+    requires paged { IsPaged mem.old.memory }
+    requires room { mem.old.uses + length cells.now < 2 ^ 62 }
+    ensures memory { mem.new.memory ≡ put_cells mem.old.memory cells.now }
+    ensures uses { mem.new.uses ≡ mem.old.uses + length cells.now }
+{
+    if let [first, rest @ ..] = cells {
+        put_at(mem, first.0, &first.1);
+        put_listed(mem, rest);
+    }
 }
