@@ -1,5 +1,5 @@
 -- A store puts a cell where one is.
-use Rattle.std.proofs.Common.{◌≡◌, ℕ, ◌+◌, ◌%◌, ◌<◌, ◌^◌, Bool, true, false, if◌then◌else◌, List, [], ◌∷◌, take, drop, ◌-◌, ◌≤◌, length, get_or, Option, None, Some, slice_get, refl, sym, ap, ◌∙◌, subst, arith}
+use Rattle.std.proofs.Common.{◌≡◌, ℕ, ◌+◌, ◌%◌, ◌<◌, Bool, true, false, if◌then◌else◌, List, [], ◌∷◌, take, drop, ◌-◌, ◌≤◌, length, get_or, Option, None, Some, refl, sym, ap, ◌∙◌, subst, arith}
 use Rattle.std.specs.List.{AllByRecursion}
 use Rattle.std.proofs.Math.Seq.{take-length}
 use Rattle.std.proofs.lemmas.Option.{slice_get-get_or}
@@ -33,7 +33,7 @@ stores m w c h a = by (page_at m (page_of w)) refl
         let long = whole.cells in
         let small = place_small w in
         let some : cell_at m w ≡ Some (get_or cells (place_of w) zero_cell) =
-          cell_at-aligned m w a ∙ ap (λ o. cell_in o (place_of w)) e ∙ slice_get-get_or cells (place_of w) zero_cell (omega (arith, long, small)) in
+        cell_at-aligned m w a ∙ ap (λ o. cell_in o (place_of w)) e ∙ slice_get-get_or cells (place_of w) zero_cell (omega (arith, long, small)) in
         ap (λ o. put_where m w Any o (λ old. record { word = c.word; full = full_after (post_of c.full) old.full })) some
         ∙ ap (λ b. put_cell m w (record { word = c.word; full = b })) (bit_is c.full (get_or cells (place_of w) zero_cell).full)
 

@@ -2,8 +2,8 @@
 #![tactic(auto)]
 
 pub mod laws;
-mod part_forms;
 mod memory_put;
+mod part_forms;
 mod parts;
 mod put_parts;
 mod reader;
