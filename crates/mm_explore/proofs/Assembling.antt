@@ -1,7 +1,7 @@
 -- The parts of a state of a machine of the image make its configuration.
-use Rattle.std.proofs.Common.{◌≡◌, ◌≢◌, ◌⊎◌, inl, inr, ℕ, zero, suc, ◌+◌, ◌*◌, ◌%◌, ◌^◌, ◌<◌, ◌≤◌, Bool, true, false, ◌&&◌, ◌||◌, cond, nat_eq, if◌then◌else◌, List, [], ◌∷◌, ◌++◌, map, length, replicate, get_or, Option, Some, None, refl, sym, ap, ◌∙◌, subst, arith, eqb-true, eq-eqb, set}
-use Rattle.std.specs.Prelude.{◌==◌, IsTrue, Contains, slice_set, slice_get, slice_index_or}
-use Rattle.std.specs.List.{AllByRecursion, filter, flat_map, list_any, range_with_len}
+use Rattle.std.proofs.Common.{◌≡◌, ◌≢◌, ◌⊎◌, inl, inr, ℕ, zero, suc, ◌+◌, ◌%◌, ◌<◌, ◌≤◌, Bool, true, false, ◌&&◌, ◌||◌, cond, nat_eq, if◌then◌else◌, List, [], ◌∷◌, map, length, replicate, Option, Some, None, refl, sym, ap, ◌∙◌, subst, arith, eqb-true, eq-eqb}
+use Rattle.std.specs.Prelude.{◌==◌, Contains, slice_set, slice_get, slice_index_or}
+use Rattle.std.specs.List.{AllByRecursion, list_any, range_with_len}
 use Rattle.std.specs.List.Sorted.{IsStrictlyIncreasing}
 use Rattle.std.specs.Ordering.{nat_cmp}
 use Rattle.std.specs.Ordering.{is_lt, eq_by_cmp}
@@ -21,23 +21,21 @@ use Rattle.std.proofs.lemmas.Bool.{cases_Bool, cases_eq, both_ways, ne_eqb}
 use Rattle.mm_word.specs.declared.word.Cell.{Cell}
 use Rattle.mm_word.specs.Word.{IsWord}
 use Rattle.mm_model.specs.declared.event.Event.{Event}
-use Rattle.mm_model.specs.Memory.{Memory, page_at, cell_in, cell_at, put_cell, page_of, zero_cell, zero_page, IsPage, ArePages, IsPaged}
-use Rattle.mm_model.specs.Slot.{Slot}
+use Rattle.mm_model.specs.Memory.{Memory, page_at, cell_in, cell_at, put_cell, page_of, zero_cell, IsPage, IsPaged}
 use Rattle.mm_model.specs.State.{Row, Core, State, row_in, queue_of, queue_at, output_of}
 use Rattle.mm_model.specs.Groups.{has_group}
 use Rattle.mm_model.specs.Image.{Image, start}
 use Rattle.mm_model.specs.Spelling.{IsImage, HoldsWords, numbers_of}
 use Rattle.mm_model.specs.Report.{is_of, groups_of, same_cell, cells_or_zero, changes}
-use Rattle.mm_model.specs.Fits.{slots_of, IsState, identity_of, Fits, IsKept}
+use Rattle.mm_model.specs.Fits.{slots_of, identity_of}
 use Rattle.mm_model.proofs.CoreRows.{each_map, each_both, above_first, rest_rises, has_group_by}
 use Rattle.mm_model.proofs.Fitted.{paged_of}
-use Rattle.mm_thread.specs.Output.{Output}
-use Rattle.mm_thread.specs.Parts.{events_for, row_with, outputs_with, core_of}
+use Rattle.mm_thread.specs.Parts.{events_for, row_with, outputs_with}
 use Rattle.mm_machine.specs.Snapshot.{queued, page_numbers}
 use Rattle.mm_machine.proofs.Copied.{queued_for}
 use Rattle.mm_machine.proofs.Outputs.{outputs_count}
-use Rattle.mm_explore.specs.Configurations.{uncounted_slot, uncounted_row, uncounted, configuration}
-use Rattle.mm_explore.specs.Kept.{Parts, output_part, parts_of}
+use Rattle.mm_explore.specs.Configurations.{uncounted_slot, uncounted_row, configuration}
+use Rattle.mm_explore.specs.Kept.{output_part, parts_of}
 use Rattle.mm_explore.specs.Assembled.{base_page, base_memory, put_cells, assembled, IsStateOf}
 use Rattle.mm_explore.proofs.Members.{none_in, in_first, in_rest, in_cases, in_filter}
 

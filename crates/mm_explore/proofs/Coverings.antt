@@ -1,15 +1,14 @@
 -- Each schedule up to one of the list has, at or before it, one of the list that leads to the same configuration.
-use Rattle.std.proofs.Common.{◌≡◌, ◌⊎◌, inl, inr, ℕ, ◌<◌, List, [], ◌∷◌, ◌++◌, refl, sym, ap, ◌∙◌, subst}
+use Rattle.std.proofs.Common.{◌≡◌, inl, inr, ℕ, List, [], ◌∷◌, refl, sym, ap, ◌∙◌}
 use Rattle.std.specs.Prelude.{Contains}
-use Rattle.std.specs.List.{AllByRecursion}
 use Rattle.mm_model.specs.State.{State}
 use Rattle.mm_model.specs.Image.{Image, start}
 use Rattle.mm_model.specs.Run.{after, run}
-use Rattle.mm_explore.specs.Configurations.{configuration, moves}
+use Rattle.mm_explore.specs.Configurations.{configuration}
 use Rattle.mm_explore.specs.Schedules.{Before}
 use Rattle.mm_explore.specs.Explored.{leads_to, IsLeast, IsExplored}
-use Rattle.mm_explore.specs.Laws.{GoesOnAlike, GoOnAlike}
-use Rattle.mm_explore.proofs.Orders.{UpTo, up_to_before, before_up_to, up_to_through, before_self, before_rec, more}
+use Rattle.mm_explore.specs.Laws.{GoOnAlike}
+use Rattle.mm_explore.proofs.Orders.{UpTo, up_to_before, before_up_to, before_self, before_rec, more}
 use Rattle.mm_explore.proofs.Members.{all_at}
 use Rattle.mm_explore.proofs.Goings.{configurations_go_on}
 

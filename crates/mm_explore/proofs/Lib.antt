@@ -15,3 +15,9 @@ pub mod PartForms
 pub mod Keepables
 pub mod Assembling
 pub mod KeptRuns
+pub mod Spells
+pub mod Taking
+pub mod Tame
+pub mod Putting
+pub mod Whole
+pub mod MemoryPut

@@ -2,3 +2,9 @@
 #![tactic(auto)]
 
 pub mod laws;
+mod memory_put;
+mod part_forms;
+mod parts;
+mod put_parts;
+mod reader;
+mod slot_form;
