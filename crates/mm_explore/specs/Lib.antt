@@ -7,3 +7,7 @@ pub mod Texts
 pub mod Kept
 pub mod Assembled
 pub mod Laws
+pub mod Benches
+pub mod FoundLists
+pub mod Noting
+pub mod Results
