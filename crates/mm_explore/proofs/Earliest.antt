@@ -17,7 +17,7 @@ use Rattle.mm_explore.proofs.Goings.{same_outcomes}
 use Rattle.mm_explore.proofs.Movings.{runs_rise}
 use Rattle.mm_explore.proofs.Coverings.{Cover, covers, alike}
 use Rattle.mm_explore.proofs.Finals.{final_in, is_final, finals_in_order, firsts_inside, first_earliest}
-use Rattle.mm_explore.proofs.Found.{faulting_moves, explores, final_alike}
+use Rattle.mm_explore.proofs.FoundOnRuns.{faulting_moves, explores, final_alike}
 
 -- 1. The turns explored are in the order of their schedules.
 

@@ -5,7 +5,7 @@ pub mod Goings
 pub mod Movings
 pub mod Coverings
 pub mod Finals
-pub mod Found
+pub mod FoundOnRuns
 pub mod Earliest
 pub mod Searches
 pub mod Ones

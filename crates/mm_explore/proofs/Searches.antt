@@ -15,7 +15,7 @@ use Rattle.mm_explore.proofs.Orders.{UpTo, before_self, before_through, before_c
 use Rattle.mm_explore.proofs.Members.{none_in, in_first, in_rest, in_cases, all_at, all_of, map_in, pairs_both}
 use Rattle.mm_explore.proofs.Movings.{moves_or_idles, idle_leads}
 use Rattle.mm_explore.proofs.Coverings.{Cover, leads_alike, leads_more}
-use Rattle.mm_explore.proofs.Found.{explores}
+use Rattle.mm_explore.proofs.FoundOnRuns.{explores}
 use Rattle.mm_explore.proofs.Earliest.{Earlier, turns_in_order}
 
 -- 1. What is covered.

@@ -8,6 +8,7 @@ pub mod Kept
 pub mod Assembled
 pub mod Laws
 pub mod Benches
+pub mod Edits
 pub mod FoundLists
 pub mod Noting
 pub mod Results

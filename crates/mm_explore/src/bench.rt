@@ -26,6 +26,8 @@ pub(crate) struct Bench {
     pub(crate) cells: Vec<(u64, Cell)>,
     /// The numbers of the mapped pages; `None` if they are those of the image.
     pub(crate) pages: Option<Vec<u64>>,
+    /// No fewer than the accesses that the memory has counted.
+    pub(crate) spent: u64,
 }
 
 /// A move that was made: what it did, and the group of its slot.
@@ -35,6 +37,56 @@ pub(crate) struct Made {
     pub(crate) group: u8,
 }
 
+/// The word of a cell that a step may have written.
+fn written(step: &Step) -> Option<u64>
+    ensures { IsWritten step.now result }
+{
+    match step.touched {
+        Some(access) => match access.kind() {
+            Kind::Store | Kind::LoadSet => Some(access.addr()),
+            _ => None,
+        },
+        None => None,
+    }
+}
+
+/// Whether pages are held alike: both those of the image, or both with the same numbers.
+fn same_pages(a: &Option<Vec<u64>>, b: &Option<Vec<u64>>) -> bool
+    ensures { result ≡ true → option_map (λ p. p.items) a.now ≡ option_map (λ p. p.items) b.now }
+{
+    match a {
+        None => b.is_none(),
+        Some(numbers) => match b {
+            None => false,
+            Some(others) => numbers.as_slice() == others.as_slice(),
+        },
+    }
+}
+
+/// A page with the image's cells; with zeros if the image does not have it.
+fn base_page(alloc: Global, img: &Image, number: u64) -> Result<Page, AllocError>
+    requires { number < 2 ^ 42 }
+    ensures { IfOk result (λ page. page ≡ base_page_of img.now number) }
+{
+    let mut cells = Vec::with_capacity(alloc, CELLS)?;
+    for index in 0..CELLS {
+        let Cell { word, full } = base_cell(img, number * 4096 + 8 * index as u64);
+        cells.push(Cell { word, full })?;
+    }
+    Ok(Page::new(number, cells).unwrap())
+}
+
+/// Pages of these numbers with the image's cells.
+fn base_pages(alloc: Global, img: &Image, numbers: &[u64]) -> Result<Vec<Page>, AllocError>
+    requires { AllByRecursion (λ n. n < 2 ^ 42) numbers.now }
+    ensures { IfOk result (λ pages. pages.items ≡ map (base_page_of img.now) numbers.now) }
+{
+    let mut pages = Vec::with_capacity(alloc, numbers.len())?;
+    for number in numbers {
+        pages.push(base_page(alloc, img, *number)?)?;
+    }
+    Ok(pages)
+}
 impl Bench {
     /// The machine of an image at its start.
     pub(crate) fn new(_alloc: Global, _img: &Image) -> Result<Bench, NoMemory>

@@ -2,6 +2,7 @@
 #![tactic(auto)]
 
 mod bench;
+mod changed;
 mod explored;
 mod findings;
 mod found;
