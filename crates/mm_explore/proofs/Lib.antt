@@ -21,3 +21,10 @@ pub mod Tame
 pub mod Putting
 pub mod Whole
 pub mod MemoryPut
+pub mod CellLists
+pub mod MemoryOver
+pub mod Moves
+pub mod LookThrough
+pub mod Standing
+pub mod Resets
+pub mod Listings

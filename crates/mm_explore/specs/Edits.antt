@@ -5,11 +5,9 @@ use Rattle.std.specs.Option.{unwrap_or}
 use Rattle.std.specs.Ordering.{nat_cmp}
 use Rattle.std.specs.FinMap.{put}
 use Rattle.mm_word.specs.declared.word.Cell.{Cell}
-use Rattle.mm_model.specs.Memory.{Memory, cell_at, zero_cell, IsPaged}
+use Rattle.mm_model.specs.Memory.{Memory, cell_at, zero_cell}
 use Rattle.mm_model.specs.Image.{Image}
-use Rattle.mm_model.specs.Report.{same_cell, changes}
-use Rattle.mm_model.specs.Spelling.{HoldsWords}
-use Rattle.mm_machine.specs.Snapshot.{page_numbers}
+use Rattle.mm_model.specs.Report.{same_cell}
 
 -- the image's cell of a word; integer 0, full, if the image does not have the word's page
 abbrev pub base_cell : Image → ℕ → Cell
@@ -46,10 +44,3 @@ entry w (Some c) = (w, c) ∷ []
 -- each is at a word of the whole address space
 abbrev pub AreAtWords : List (ℕ × Cell) → Type 0
 AreAtWords cells = AllByRecursion (λ (x : ℕ × Cell). (x.0 % 8 ≡ 0) × (x.0 < 2 ^ 54)) cells
-
--- a memory of the image's machine, and its list of changed cells
-pub record IsHeld (i : Image) (m : Memory) (cells : List (ℕ × Cell)) : Type 0 where
-  pub paged : IsPaged m
-  pub words : AllByRecursion HoldsWords m.pages
-  pub frames : m.frames ≡ i.memory.frames
-  pub cells : cells ≡ changes m i.memory

@@ -9,6 +9,7 @@ pub mod Assembled
 pub mod Laws
 pub mod Benches
 pub mod Edits
+pub mod Holds
 pub mod FoundLists
 pub mod Noting
 pub mod Results

@@ -4,7 +4,8 @@ ghost use Rattle.std.specs.Prelude.{◌≡◌, ◌%◌, ◌*◌, ◌<◌, ◌≤
 ghost use Rattle.std.specs.Ordering.{nat_cmp};
 ghost use Rattle.std.specs.FinMap.{is_sorted};
 ghost use Rattle.mm_model.specs.Effect.{same_word};
-ghost use Rattle.mm_model.specs.Memory.{page_at, is_mapped};
+ghost use Rattle.mm_model.specs.Memory.{page_at, is_mapped, IsPaged};
+ghost use Rattle.mm_model.specs.Spelling.{IsImage};
 ghost use Rattle.mm_model.specs.Report.{same_cell, cells_or_zero, changes, changes_from};
 ghost use Rattle.mm_explore.specs.Edits.{base_cell as base_cell_of, changed_at, noted, with_entry, entry};
 
@@ -127,6 +128,8 @@ fn put_changed_in(
     img: &Image,
     number: u64,
 ) -> Result<(), AllocError>
+    requires image { IsImage img.now }
+    requires paged { IsPaged mem.now.memory }
     requires number { number < 2 ^ 42 }
     requires mapped { is_mapped mem.now.memory number ≡ true }
     ensures { OnOk result (cells.new.items ≡ cells.old.items ++ changes_from (number * 4096)
@@ -145,6 +148,7 @@ pub(crate) fn put_changed(
     mem: &PlainMem,
     img: &Image,
 ) -> Result<(), AllocError>
+    requires { IsImage img.now }
     ensures { OnOk result (cells.new.items ≡ cells.old.items ++ changes mem.now.memory img.now.memory) }
 {
     for i in 0..mem.pages() {

@@ -1,6 +1,6 @@
 //! What is met on the turns that a search goes through.
 
-ghost use Rattle.std.specs.Prelude.{◌≡◌, ◌×◌, ℕ, ◌∷◌, [], ◌++◌, List, IfOk, OnOk, Bool, true, false, slice_get, Some};
+ghost use Rattle.std.specs.Prelude.{◌≡◌, ℕ, ◌∷◌, [], ◌++◌, List, IfOk, OnOk, Bool, true, false, slice_get, Some};
 ghost use Rattle.mm_model.specs.Image.{Image as ImageValue, start};
 ghost use Rattle.mm_model.specs.Run.{run};
 ghost use Rattle.mm_model.specs.Report.{groups_of};

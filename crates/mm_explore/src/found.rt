@@ -37,7 +37,7 @@ pub(crate) struct Found {
 }
 
 impl Model for Found {
-    ghost use Rattle.std.specs.Prelude.{◌≡◌, ◌+◌, ◌≤◌, ◌^◌, ◌×◌, ◌∷◌, [], length, map};
+    ghost use Rattle.std.specs.Prelude.{◌≡◌, ◌+◌, ◌≤◌, ◌^◌, ◌∷◌, [], length, map};
     ghost use Rattle.mm_explore.specs.FoundLists.{FoundList, spelled, AreEarlier};
 
     ghost Value = { FoundList };

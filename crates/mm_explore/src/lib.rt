@@ -6,6 +6,7 @@ mod changed;
 mod explored;
 mod findings;
 mod found;
+mod held;
 pub mod laws;
 mod memory_put;
 mod part_forms;

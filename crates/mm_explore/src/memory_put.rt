@@ -3,9 +3,11 @@
 ghost use Rattle.std.specs.Prelude.{◌≡◌, ◌+◌, ◌-◌, ◌%◌, ◌^◌, ◌<◌, ◌≤◌, length, map, take, drop, true};
 ghost use Rattle.mm_word.specs.declared.perm.Kind.TheVariants.{Store};
 ghost use Rattle.mm_model.specs.Memory.{Memory as MemoryValue, IsPaged, put_cell};
+ghost use Rattle.mm_model.specs.Report.{changes};
 ghost use Rattle.mm_machine.specs.Snapshot.{page_numbers};
 ghost use Rattle.mm_explore.specs.Assembled.{put_cells};
-ghost use Rattle.mm_explore.specs.Edits.{as_base, AreAtWords, IsHeld};
+ghost use Rattle.mm_explore.specs.Edits.{as_base, AreAtWords};
+ghost use Rattle.mm_explore.specs.Holds.{IsMemoryOf};
 
 use crate::changed::base_cell;
 use mm_image::Image;
@@ -117,9 +119,10 @@ pub(crate) fn put_over(
 )
     requires held { AreAtWords held.now }
     requires wanted { AreAtWords wanted.now }
-    requires now { IsHeld img.now mem.old.memory held.now }
+    requires memory { IsMemoryOf img.now mem.old.memory }
+    requires now { held.now ≡ changes mem.old.memory img.now.memory }
     requires room { mem.old.uses + length held.now + length wanted.now < 2 ^ 62 }
-    ensures memory { (m : MemoryValue) → IsHeld img.now m wanted.now
+    ensures memory { (m : MemoryValue) → IsMemoryOf img.now m → wanted.now ≡ changes m img.now.memory
         → page_numbers m.pages ≡ page_numbers mem.old.memory.pages → mem.new.memory ≡ m }
     ensures uses { mem.new.uses ≤ mem.old.uses + length held.now + length wanted.now }
 {
