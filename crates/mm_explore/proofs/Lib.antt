@@ -5,7 +5,7 @@ pub mod Goings
 pub mod Movings
 pub mod Coverings
 pub mod Finals
-pub mod Found
+pub mod FoundOnRuns
 pub mod Earliest
 pub mod Searches
 pub mod Ones
@@ -21,3 +21,7 @@ pub mod Tame
 pub mod Putting
 pub mod Whole
 pub mod MemoryPut
+pub mod FoundForms
+pub mod MoveForms
+pub mod Steps
+pub mod Notings

@@ -10,4 +10,6 @@ pub mod Laws
 pub mod Benches
 pub mod FoundLists
 pub mod Noting
+pub mod MoveLists
+pub mod Searching
 pub mod Results

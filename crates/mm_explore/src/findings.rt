@@ -1,6 +1,6 @@
 //! What is met on the turns that a search goes through.
 
-ghost use Rattle.std.specs.Prelude.{◌≡◌, ◌×◌, ℕ, ◌∷◌, [], ◌++◌, List, IfOk, OnOk, Bool, true, false, slice_get, Some};
+ghost use Rattle.std.specs.Prelude.{◌≡◌, ◌×◌, ℕ, ◌∷◌, [], ◌++◌, List, IfOk, OnOk, Bool, true, false, slice_get, Some, ◌<◌, ◌^◌, length};
 ghost use Rattle.mm_model.specs.Image.{Image as ImageValue, start};
 ghost use Rattle.mm_model.specs.Run.{run};
 ghost use Rattle.mm_model.specs.Report.{groups_of};
@@ -39,19 +39,13 @@ impl Findings {
     }
 
     /// Notes the accesses and the fault of a move.
-    pub(crate) fn note(
-        &mut self,
-        alloc: Global,
-        made: &Made,
-        origin: Origin,
-    ) -> Result<(), AllocError>
+    pub(crate) fn note(&mut self, made: &Made, origin: Origin) -> Result<(), AllocError>
         ensures noted { OnOk result ((i : ImageValue) (list : List (List ℕ)) (done : List Extension) (x : Extension)
             → Noted i list done self.old → IsOrigin list origin x → made.now.step ≡ (turn_at i x).step
             → made.now.group ≡ group_in (turn_at i x) → Noted i list (done ++ x ∷ []) self.new) }
         ensures ended { OnOk result ((i : ImageValue) (list past : List (List ℕ))
             → Ended i list past self.old → Ended i list past self.new) }
     {
-        let _alloc = alloc;
         let _made = made;
         let _origin = origin;
         Err(AllocError)
@@ -65,6 +59,8 @@ impl Findings {
         ended: bool,
         parts: &Parts,
     ) -> Result<(), AllocError>
+        requires room { (i : ImageValue) × (list : List (List ℕ)) × (past : List (List ℕ)) × Ended i list past self.old
+            × (length past < 2 ^ 32) }
         ensures noted { OnOk result ((i : ImageValue) (list : List (List ℕ)) (done : List Extension)
             → Noted i list done self.old → Noted i list done self.new) }
         ensures ended { OnOk result ((i : ImageValue) (list past : List (List ℕ)) (t : List ℕ)
