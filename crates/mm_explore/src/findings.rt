@@ -1,8 +1,9 @@
 //! What is met on the turns that a search goes through.
 
-ghost use Rattle.std.specs.Prelude.{◌≡◌, ◌×◌, ℕ, ◌∷◌, [], ◌++◌, List, IfOk, OnOk, Bool, true, false, slice_get, Some, ◌<◌, ◌^◌, length};
+ghost use Rattle.std.specs.Prelude.{◌≡◌, ℕ, ◌∷◌, [], ◌++◌, List, IfOk, OnOk, Bool, true, false, slice_get, Some, ◌<◌, ◌^◌, length};
 ghost use Rattle.mm_model.specs.Image.{Image as ImageValue, start};
 ghost use Rattle.mm_model.specs.Run.{run};
+ghost use Rattle.mm_model.specs.Spelling.{IsImage};
 ghost use Rattle.mm_model.specs.Report.{groups_of};
 ghost use Rattle.mm_model.specs.Trace.{group_in};
 ghost use Rattle.mm_explore.specs.Benches.{ArePartsAt};
@@ -64,7 +65,7 @@ impl Findings {
         ensures noted { OnOk result ((i : ImageValue) (list : List (List ℕ)) (done : List Extension)
             → Noted i list done self.old → Noted i list done self.new) }
         ensures ended { OnOk result ((i : ImageValue) (list past : List (List ℕ)) (t : List ℕ)
-            → Ended i list past self.old → slice_get list at ≡ Some t → IsFinal i t
+            → IsImage i → Ended i list past self.old → slice_get list at ≡ Some t → IsFinal i t
             → ended ≡ is_none (moves (run (start i) t)) → ArePartsAt i t parts.now
             → Ended i list (past ++ t ∷ []) self.new) }
     {
