@@ -9,7 +9,8 @@ pub mod Assembled
 pub mod Laws
 pub mod Benches
 pub mod FoundLists
+pub mod Results
+pub mod Words
 pub mod Noting
 pub mod MoveLists
 pub mod Searching
-pub mod Results
