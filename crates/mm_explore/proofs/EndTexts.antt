@@ -1,5 +1,5 @@
 -- What is kept and what is written of the end of a run.
-use Rattle.std.proofs.Common.{◌≡◌, ℕ, ◌==◌, Bool, ◌||◌, List, [], ◌∷◌, ◌++◌, map, length, codes, decimal, refl, sym, ap, ◌∙◌}
+use Rattle.std.proofs.Common.{◌≡◌, ℕ, zero, suc, ◌==◌, Bool, true, false, ◌||◌, List, [], ◌∷◌, ◌++◌, map, length, codes, decimal, Some, slice_get, refl, sym, ap, ◌∙◌}
 use Rattle.std.specs.List.{list_any, filter, flat_map, range_with_len}
 use Rattle.std.proofs.lemmas.List.Elements.{filter_agree}
 use Rattle.mm_model.specs.declared.slot.SlotState.{SlotState}
@@ -16,7 +16,11 @@ use Rattle.mm_explore.specs.Assembled.{IsStateOf}
 use Rattle.mm_explore.specs.Benches.{ArePartsAt, parts_held}
 use Rattle.mm_explore.specs.Configurations.{uncounted_slot, moves}
 use Rattle.mm_explore.specs.Findings.{Outcome, is_none, outcome_of, outcome_at}
-use Rattle.mm_explore.specs.Kept.{Parts, output_part, parts_of}
+use Rattle.mm_model.specs.Flags.{one_if}
+use Rattle.mm_explore.specs.FoundLists.{FoundList, Holds}
+use Rattle.mm_explore.specs.Kept.{Parts, output_part, parts_of, parts_from, kept, first_number}
+use Rattle.mm_explore.proofs.Keepables.{parts_again}
+use Rattle.mm_explore.specs.declared.parts.Parts as code
 use Rattle.mm_explore.specs.Results.{OutcomeFound, output_text, outcome_lines}
 use Rattle.mm_explore.specs.Results as results
 use Rattle.mm_explore.specs.Texts as texts
@@ -98,3 +102,42 @@ module _ (i : Image) (t : List ℕ) (img : IsImage i) (slots : List Slot) (outpu
       let output_lines : flat_map output_text outputs ≡ flat_map (texts.group_lines there) (groups_of there.core) =
           ap (flat_map output_text) are_outputs ∙ outputs_text there (groups_of (start i).core) ∙ ap (flat_map (texts.group_lines there)) (sym (groups_stay i t img)) in
       λ j. codes "outcome " ++ decimal (is_count j) ++ end_text (is_ended j) ++ state_lines j ++ output_lines j ++ by_line (is_by j)
+
+-- what is held of a run's configuration
+pub held_slots : (i : Image) (t : List ℕ) (p : code.Parts) → ArePartsAt i t p → p.slots.items ≡ map uncounted_slot (slots_of (run (start i) t).core)
+unfolding parts_of
+held_slots i t p h = ap (λ (x : Parts). x.slots) h
+
+pub held_outputs : (i : Image) (t : List ℕ) (p : code.Parts) → ArePartsAt i t p → p.outputs.items ≡ map (output_part (run (start i) t)) (groups_of (start i).core)
+unfolding parts_of
+held_outputs i t p h = ap (λ (x : Parts). x.outputs) h
+
+pub key_is : (i : Image) (t : List ℕ) → IsImage i → (p : code.Parts) → ArePartsAt i t p → (ended : Bool) → ended ≡ is_none (moves (run (start i) t))
+    → outcome_form (record { ended = ended; states = map (λ (s : Slot). s.state) p.slots.items; outputs = map (λ (o : Output). o.bytes) p.outputs.items }) ≡ outcome_form (outcome_at i t)
+key_is i t img p h ended is = outcome_is i t img p.slots.items p.outputs.items (held_slots i t p h) (held_outputs i t p h) ended is
+
+-- 3. A run's end that is kept.
+
+form_at : (f : List ℕ → List ℕ) (list : List (List ℕ)) (k : ℕ) (t numbers : List ℕ) → slice_get list k ≡ Some t → slice_get (map f list) k ≡ Some numbers → numbers ≡ f t
+form_at f [] k t numbers e h = cc
+form_at f (u ∷ list) zero t numbers e h =
+    let same : u ≡ t = cc in
+    let is : f u ≡ numbers = cc in
+    sym is ∙ ap f same
+form_at f (u ∷ list) (suc k) t numbers e h = form_at f list k t numbers e h
+
+-- the parts that are read of a run's numbers are those of the run
+pub parts_read_at : (i : Image) (t : List ℕ) → IsImage i → (found : FoundList) → Holds i found → (k : ℕ) (numbers : List ℕ) → slice_get found.list k ≡ Some t → slice_get found.forms k ≡ Some numbers
+    → (p : code.Parts) → parts_held i p ≡ parts_from i numbers → ArePartsAt i t p
+parts_read_at i t img found held k numbers here there p read =
+    let s = run (start i) t in
+    let forms : slice_get (map (λ t. kept i (run (start i) t)) found.list) k ≡ Some numbers = ap (λ l. slice_get l k) (sym held) ∙ there in
+    read ∙ ap (parts_from i) (form_at (λ t. kept i (run (start i) t)) found.list k t numbers here forms) ∙ parts_again i s img (runs_state_of i t img)
+
+pub ended_of : (o : Outcome) → (first_number (outcome_form o) == 1) ≡ o.ended
+unfolding outcome_form
+ended_of o = by o.ended
+  where
+    by : (b : Bool) → (one_if b == 1) ≡ b
+    by true = refl
+    by false = refl

@@ -31,3 +31,5 @@ pub mod Spans
 pub mod Tallies
 pub mod EndTexts
 pub mod ResultTexts
+pub mod Notes
+pub mod LeftOver

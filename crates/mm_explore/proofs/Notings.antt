@@ -38,6 +38,7 @@ pub ended_more : (i : Image) (list more past : List (List ℕ)) (f : Findings) �
 ended_more i list more past f h = record {
   finals = h.finals;
   are = h.are;
+  unique = h.unique;
   ends = zip_to (λ t end. IsEnd i list h.finals t end.0.items end.1) (λ t end. IsEnd i (list ++ more) h.finals t end.0.items end.1)
       (λ t end e. record { form = e.form; count = e.count; first = stays_at list more end.1.first t e.first }) _ f.ends.entries h.ends;
 }
@@ -48,7 +49,7 @@ final_skip i (s ∷ past) finals t none (inl h) = inl (h.0, (h.1.0, h.1.1, final
 final_skip i (s ∷ past) finals t none (inr h) = inr (h.0, final_skip i past finals t none h.1)
 
 pub ended_skip : (i : Image) (list past : List (List ℕ)) (t : List ℕ) (f : Findings) → Ended i list past f → (IsFinal i t → ⊥) → Ended i list (past ++ t ∷ []) f
-ended_skip i list past t f h none = record { finals = h.finals; are = final_skip i past h.finals t none h.are; ends = h.ends }
+ended_skip i list past t f h none = record { finals = h.finals; are = final_skip i past h.finals t none h.are; ends = h.ends; unique = h.unique }
 
 pub final_more : (i : Image) (past finals : List (List ℕ)) (t : List ℕ) → IsFinal i t → AreFinal i past finals → AreFinal i (past ++ t ∷ []) (finals ++ t ∷ [])
 final_more i [] finals t final h = inl (final, ([], ap (λ l. l ++ t ∷ []) h, refl))

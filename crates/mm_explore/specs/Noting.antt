@@ -1,7 +1,9 @@
 -- What was noted of the turns and of the ends that a search went through.
-use Rattle.std.specs.Prelude.{◌≡◌, ℕ, ◌+◌, Bool, true, false, List, [], ◌∷◌, ◌++◌, map, length, Option, Some, None, slice_get}
+use Rattle.std.specs.Prelude.{◌≡◌, ℕ, ◌+◌, Bool, true, false, List, [], ◌∷◌, ◌++◌, map, length, Option, Some, None, slice_get, nat_eq}
 use Rattle.std.specs.List.{AllZip, find, flat_map}
 use Rattle.std.specs.BTreeMap.{get}
+use Rattle.indexmap.specs.IndexMap.{IsUnique}
+use lib.Pointwise.{pointwise}
 use Rattle.mm_model.specs.Flags.{one_if}
 use Rattle.mm_model.specs.Image.{Image}
 use Rattle.mm_explore.specs.declared.findings.Findings.{Findings}
@@ -68,3 +70,4 @@ pub record Ended (i : Image) (list past : List (List ℕ)) (f : Findings) : Type
   pub finals : List (List ℕ)
   pub are : AreFinal i past finals
   pub ends : AllZip (λ t end. IsEnd i list finals t end.0.items end.1) (firsts i finals) f.ends.entries
+  pub unique : IsUnique (λ a b. pointwise nat_eq a.items b.items) f.ends

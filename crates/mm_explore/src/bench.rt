@@ -1,6 +1,6 @@
 //! A machine that is put to configurations and moved.
 
-ghost use Rattle.std.specs.Prelude.{◌≡◌, ℕ, ◌×◌, ◌++◌, ◌∷◌, [], List, IfOk, OnOk};
+ghost use Rattle.std.specs.Prelude.{◌≡◌, ℕ, ◌++◌, ◌∷◌, [], List, IfOk, OnOk};
 ghost use Rattle.mm_model.specs.Image.{start};
 ghost use Rattle.mm_model.specs.Run.{run};
 ghost use Rattle.mm_model.specs.Report.{groups_of};

@@ -4,6 +4,7 @@ ghost use Rattle.std.specs.Prelude.{◌≡◌, ℕ, ◌++◌, ◌==◌, List, If
 ghost use Rattle.std.specs.List.{AllZip, flat_map};
 ghost use Rattle.mm_model.specs.Image.{start};
 ghost use Rattle.mm_model.specs.Report.{groups_of};
+ghost use Rattle.mm_model.specs.Spelling.{IsImage};
 ghost use Rattle.mm_explore.specs.FoundLists.{Holds};
 ghost use Rattle.mm_explore.specs.Kept.{first_number};
 ghost use Rattle.mm_explore.specs.Noting.{IsEnd};
@@ -52,6 +53,7 @@ fn outcome(
     key: &[u64],
     tally: Tally,
 ) -> Result<OutcomeFound, AllocError>
+    requires image { IsImage img.now }
     requires groups { groups.now ≡ groups_of (start img.now).core }
     requires held { Holds img.now found.now }
     requires end { (finals : List (List ℕ)) × (t : List ℕ) × IsEnd img.now found.now.list finals t key.now tally }
@@ -82,6 +84,7 @@ pub(crate) fn put_outcomes(
     groups: &[u8],
     found: &Found,
 ) -> Result<(), AllocError>
+    requires image { IsImage img.now }
     requires groups { groups.now ≡ groups_of (start img.now).core }
     requires held { Holds img.now found.now }
     requires ends { (finals : List (List ℕ)) × (ts : List (List ℕ))

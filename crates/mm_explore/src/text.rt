@@ -196,17 +196,18 @@ fn put_outputs<O: Sink>(text: &mut Gather, out: &mut O, outputs: &[Output])
 fn put_output_text<O: Sink>(text: &mut Gather, out: &mut O, output: &Output)
     ensures { Gathers O.taken O.faults out.old out.new text.old text.new (output_text output.now) }
 {
+    let bytes = output.bytes.as_slice();
     text.put(
         out,
         &[
             Piece::Text("group "),
             Piece::Decimal(output.group as u64),
             Piece::Text(" output "),
-            Piece::Decimal(output.bytes.len() as u64),
+            Piece::Decimal(bytes.len() as u64),
             Piece::Text("\n"),
         ],
     );
-    put_output(text, out, &output.bytes);
+    put_output(text, out, bytes);
 }
 
 // 4. Schedules.
@@ -238,11 +239,12 @@ fn leading(item: u8, items: &[u8]) -> usize
 fn put_repeats<O: Sink>(text: &mut Gather, out: &mut O, items: &[u8])
     ensures { Gathers O.taken O.faults out.old out.new text.old text.new (flat_map repeat_text (repeats_of items.now)) }
 {
-    let mut left = items;
-    while let [item, others @ ..] = left {
-        let more = leading(*item, others);
-        put_repeat(text, out, *item, more as u64 + 1);
-        left = &others[more..];
+    let mut at = 0;
+    while at < items.len() {
+        let item = items[at];
+        let more = leading(item, &items[at + 1..]);
+        put_repeat(text, out, item, more as u64 + 1);
+        at += more + 1;
     }
 }
 

@@ -1,0 +1,4 @@
+use Rattle.mm_explore.proofs.findings.Findings.explored.Goals as goal
+
+pub returns : goal.returns
+returns c = ?
