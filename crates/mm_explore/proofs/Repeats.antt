@@ -3,10 +3,8 @@ use Rattle.std.proofs.Common.{◌≡◌, ℕ, suc, ◌+◌, ◌==◌, Bool, true
 use Rattle.std.specs.List.{prefix_len, flat_map}
 use Rattle.std.proofs.lemmas.List.{drop_more, drop-drop}
 use Rattle.std.proofs.lemmas.Bool.Decides.{nat_tests}
+use Rattle.mm_explore.specs.Repeats.{leading}
 use Rattle.mm_explore.specs.Texts.{Repeat, repeat_before, repeats_of, repeat_text}
-
-abbrev pub leading : ℕ → List ℕ → ℕ
-leading n items = prefix_len (λ x. x == n) items
 
 abbrev pub repeat : ℕ → ℕ → Repeat
 repeat n count = record { item = n; count = count }

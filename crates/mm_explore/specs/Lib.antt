@@ -9,6 +9,7 @@ pub mod Assembled
 pub mod Laws
 pub mod Benches
 pub mod FoundLists
+pub mod Repeats
 pub mod Results
 pub mod Words
 pub mod Noting

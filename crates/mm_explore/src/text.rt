@@ -1,10 +1,11 @@
 //! The text of an exploration.
 
-ghost use Rattle.std.specs.Prelude.{◌≡◌, ◌==◌, ◌≤◌, ◌++◌, codes, decimal, length};
-ghost use Rattle.std.specs.List.{flat_map, prefix_len};
+ghost use Rattle.std.specs.Prelude.{◌≡◌, ◌≤◌, ◌++◌, codes, decimal, length};
+ghost use Rattle.std.specs.List.{flat_map};
 ghost use Rattle.mm_io.specs.Sinks.{Writes};
 ghost use Rattle.mm_text.specs.Gathers.{Gathers};
 ghost use Rattle.mm_model.specs.Report.{group_line};
+ghost use Rattle.mm_explore.specs.Repeats.{leading as leading_of};
 ghost use Rattle.mm_explore.specs.Results.{explored_text, group_lines, fault_lines, state_line, output_text, outcome_lines};
 ghost use Rattle.mm_explore.specs.Texts.{by_line, end_text, extent_text, repeats_of, repeat_text, count_text, word_line};
 
@@ -224,7 +225,7 @@ fn put_by<O: Sink>(text: &mut Gather, out: &mut O, items: &[u8])
 
 /// How many items at the start are this one.
 fn leading(item: u8, items: &[u8]) -> usize
-    ensures value { result ≡ prefix_len (λ x. x == item) items.now }
+    ensures value { result ≡ leading_of item items.now }
     ensures within { result ≤ length items.now }
 {
     for at in 0..items.len() {
@@ -242,7 +243,8 @@ fn put_repeats<O: Sink>(text: &mut Gather, out: &mut O, items: &[u8])
     let mut at = 0;
     while at < items.len() {
         let item = items[at];
-        let more = leading(item, &items[at + 1..]);
+        let (_, rest) = items.split_at(at + 1);
+        let more = leading(item, rest);
         put_repeat(text, out, item, more as u64 + 1);
         at += more + 1;
     }
