@@ -28,11 +28,11 @@ noted_more i list more done f h = record {
   faults = λ slot cause. from_more list more _ _ (h.faults slot cause);
 }
 
-pub zip_to : {A B : Type 0} (R S : A → B → Type 0) → ((a : A) (b : B) → R a b → S a b) → (as : List A) (bs : List B) → AllZip R as bs → AllZip S as bs
+pub zip_to : {A B : Type 0} (R S : A → B → Type 0) → ((a : A) (b : B) → R a b → S a b) → (xs : List A) (ys : List B) → AllZip R xs ys → AllZip S xs ys
 zip_to R S to [] [] h = tt
-zip_to R S to [] (b ∷ bs) h = h
-zip_to R S to (a ∷ as) [] h = h
-zip_to R S to (a ∷ as) (b ∷ bs) h = (to a b h.0, zip_to R S to as bs h.1)
+zip_to R S to [] (y ∷ ys) h = h
+zip_to R S to (x ∷ xs) [] h = h
+zip_to R S to (x ∷ xs) (y ∷ ys) h = (to x y h.0, zip_to R S to xs ys h.1)
 
 pub ended_more : (i : Image) (list more past : List (List ℕ)) (f : Findings) → Ended i list past f → Ended i (list ++ more) past f
 ended_more i list more past f h = record {

@@ -1,6 +1,7 @@
 -- What was noted of all turns explored and of all final schedules is what an exploration finds.
-use Rattle.std.proofs.Common.{◌≡◌, inl, inr, ℕ, Bool, true, false, if◌then◌else◌, List, [], ◌∷◌, ◌++◌, map, length, zip, zero, suc, codes, decimal, Option, Some, None, slice_get, refl, sym, ap, ◌∙◌, subst}
-use Rattle.std.specs.Prelude.{Contains, slice_index_or}
+use Rattle.std.proofs.Common.{◌≡◌, inl, inr, ℕ, ◌<◌, Bool, true, false, if◌then◌else◌, List, [], ◌∷◌, ◌++◌, map, length, zip, zero, suc, codes, decimal, Option, Some, None, slice_get, refl, sym, ap, ◌∙◌, subst}
+use Rattle.std.specs.Prelude.{Contains, IfSome, slice_index_or}
+use Rattle.std.proofs.lemmas.Option.{slice_get_within}
 use Rattle.std.specs.List.{AllZip, flat_map, range_with_len}
 use Rattle.std.specs.BTreeMap.{get, BTreeMap}
 use Rattle.mm_word.specs.declared.perm.Kind.{Kind}
@@ -31,16 +32,17 @@ module _ (passes : Kind → Bool) where
   passed_in : (group : ℕ) (access : Touch) (key : ℕ × ℕ) → Contains (passed_words passes group access) key → Passed group access key
   passed_in group access key there = by (passes access.kind) refl there
     where
-      by : (b : Bool) → passes access.kind ≡ b → Contains (if b then (group, access.addr) ∷ [] else []) key → Passed group access key
+      by : (b : Bool) → passes access.kind ≡ b → Contains {X = ℕ × ℕ} (if b then (group, access.addr) ∷ [] else []) key → Passed group access key
       by true e inside = elim (in_cases (group, access.addr) [] key inside) [
         | inl is ↦ record { kind = e; is = is }
         | inr later ↦ absurd (none_in key later)
       ]
       by false e inside = absurd (none_in key inside)
 
-  in_passed : (group : ℕ) (access : Touch) → passes access.kind ≡ true → Contains (passed_words passes group access) (group, access.addr)
+  in_passed : (group : ℕ) (access : Touch) → passes access.kind ≡ true → Contains {X = ℕ × ℕ} (passed_words passes group access) (group, access.addr)
   in_passed group access e =
-      subst (λ b. Contains (if b then (group, access.addr) ∷ [] else []) (group, access.addr)) (sym e) (in_first (group, access.addr) [])
+      let key : ℕ × ℕ = (group, access.addr) in
+      subst (λ (b : Bool). Contains {X = ℕ × ℕ} (if b then key ∷ [] else []) key) (sym e) (in_first key [])
 
   module _ (i : Image) (list : List (List ℕ)) (group word : ℕ) where
     reaches : Contains (flat_map (turn_words passes i) (explored_turns i list)) (group, word) → Reaches passes i list group word
@@ -122,6 +124,12 @@ faults_text i list kept are slots =
     flat_alike (λ (s : Slot). flat_map (λ cause. fault_found list s.number cause (kept s.number cause)) (range_with_len 1 13)) (faults_of i list)
     (λ s. flat_alike (λ cause. fault_found list s.number cause (kept s.number cause)) (λ cause. texts.fault_lines s.number cause (first_fault i list s.number cause))
         (λ cause. fault_text list s.number cause (first_fault i list s.number cause) (kept s.number cause) (are s.number cause)) (range_with_len 1 13)) slots
+
+pub origin_inside : (list : List (List ℕ)) (x : Option Extension) (o : Option Origin) → IsFrom list x o → IfSome o (λ (o : Origin). o.from < length list)
+origin_inside list None None h = tt
+origin_inside list None (Some o) h = absurd h
+origin_inside list (Some x) None h = tt
+origin_inside list (Some x) (Some o) h = slice_get_within list o.from x.schedule h.schedule
 
 -- 3. The whole text.
 

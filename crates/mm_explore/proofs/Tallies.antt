@@ -21,37 +21,37 @@ use Rattle.mm_explore.proofs.Notings.{zip_to}
 
 -- 1. Outcomes are told apart by their numbers.
 
-record Parted {A : Type 0} (as bs xs ys : List A) : Type 0 where
-  fronts : as ≡ bs
+record Parted {A : Type 0} (cs ds xs ys : List A) : Type 0 where
+  fronts : cs ≡ ds
   rests : xs ≡ ys
 
-parted : {A : Type 0} (as bs xs ys : List A) → length as ≡ length bs → as ++ xs ≡ bs ++ ys → Parted as bs xs ys
+parted : {A : Type 0} (cs ds xs ys : List A) → length cs ≡ length ds → cs ++ xs ≡ ds ++ ys → Parted cs ds xs ys
 parted [] [] xs ys long e = record { fronts = refl; rests = e }
-parted [] (b ∷ bs) xs ys long e = absurd (omega (arith, long))
-parted (a ∷ as) [] xs ys long e = absurd (omega (arith, long))
-parted (a ∷ as) (b ∷ bs) xs ys long e =
+parted [] (b ∷ ds) xs ys long e = absurd (omega (arith, long))
+parted (a ∷ cs) [] xs ys long e = absurd (omega (arith, long))
+parted (a ∷ cs) (b ∷ ds) xs ys long e =
     let head : a ≡ b = cc in
-    let tail : as ++ xs ≡ bs ++ ys = cc in
-    let rest = parted as bs xs ys (omega (arith, long)) tail in
+    let tail : cs ++ xs ≡ ds ++ ys = cc in
+    let rest = parted cs ds xs ys (omega (arith, long)) tail in
     record { fronts = λ j. head j ∷ rest.fronts j; rests = rest.rests }
 
-states_back : (as : List SlotState) → map state_at (map state_number as) ≡ as
+states_back : (cs : List SlotState) → map state_at (map state_number cs) ≡ cs
 states_back [] = refl
-states_back (a ∷ as) = λ j. state_back a j ∷ states_back as j
+states_back (a ∷ cs) = λ j. state_back a j ∷ states_back cs j
 
-length_states : (as : List SlotState) → length (map state_number as) ≡ length as
+length_states : (cs : List SlotState) → length (map state_number cs) ≡ length cs
 length_states [] = refl
-length_states (a ∷ as) = ap suc (length_states as)
+length_states (a ∷ cs) = ap suc (length_states cs)
 
-bytes_tell : (as bs : List (List ℕ)) → flat_map bytes_form as ≡ flat_map bytes_form bs → as ≡ bs
+bytes_tell : (cs ds : List (List ℕ)) → flat_map bytes_form cs ≡ flat_map bytes_form ds → cs ≡ ds
 bytes_tell [] [] e = refl
-bytes_tell [] (b ∷ bs) e = cc
-bytes_tell (a ∷ as) [] e = cc
-bytes_tell (a ∷ as) (b ∷ bs) e =
+bytes_tell [] (b ∷ ds) e = cc
+bytes_tell (a ∷ cs) [] e = cc
+bytes_tell (a ∷ cs) (b ∷ ds) e =
     let long : length a ≡ length b = cc in
-    let rest : a ++ flat_map bytes_form as ≡ b ++ flat_map bytes_form bs = cc in
-    let two = parted a b (flat_map bytes_form as) (flat_map bytes_form bs) long rest in
-    let later = bytes_tell as bs two.rests in
+    let rest : a ++ flat_map bytes_form cs ≡ b ++ flat_map bytes_form ds = cc in
+    let two = parted a b (flat_map bytes_form cs) (flat_map bytes_form ds) long rest in
+    let later = bytes_tell cs ds two.rests in
     λ j. two.fronts j ∷ later j
 
 bits_tell : (a b : Bool) → one_if a ≡ one_if b → a ≡ b
@@ -285,3 +285,11 @@ module _ {K : Type 0} (of : K → List ℕ) (i : Image) (list : List (List ℕ))
       below : (es : List (K × Tally)) → AllByRecursion (λ end. end.1.count ≤ length past) es → AllByRecursion (λ end. end.1.count < 2 ^ 63) es
       below [] k = tt
       below (e ∷ es) k = let one = k.0 in (omega (arith, one, few), below es k.1)
+
+pub found_small : {K : Type 0} (test : K → Bool) (es : List (K × Tally)) (v : Tally) → AllByRecursion (λ end. end.1.count < 2 ^ 63) es → lookup test es ≡ Some v → v.count < 2 ^ 63
+found_small test [] v h e = cc
+found_small test (x ∷ es) v h e = by (test x.0) (found_small test es v h.1) e
+  where
+    by : (b : Bool) → (lookup test es ≡ Some v → v.count < 2 ^ 63) → cond b (Some x.1) (lookup test es) ≡ Some v → v.count < 2 ^ 63
+    by true rest is = let same : x.1 ≡ v = cc in subst (λ (t : Tally). t.count < 2 ^ 63) same h.0
+    by false rest is = rest is
