@@ -9,7 +9,9 @@ pub mod Assembled
 pub mod Laws
 pub mod Benches
 pub mod FoundLists
+pub mod Repeats
+pub mod Results
+pub mod Words
 pub mod Noting
 pub mod MoveLists
 pub mod Searching
-pub mod Results
