@@ -15,7 +15,8 @@ use Rattle.mm_explore.proofs.Orders.{before_self, before_up_to, up_to_before, be
 use Rattle.mm_explore.proofs.Members.{all_at, map_in, flat_in, pairs_both, pairs_map, first_found, found_in}
 use Rattle.mm_explore.proofs.Goings.{same_outcomes}
 use Rattle.mm_explore.proofs.Movings.{runs_rise}
-use Rattle.mm_explore.proofs.Coverings.{Cover, covers, alike}
+use Rattle.mm_explore.specs.Searching.{Cover}
+use Rattle.mm_explore.proofs.Coverings.{covers, alike}
 use Rattle.mm_explore.proofs.Finals.{final_in, is_final, finals_in_order, firsts_inside, first_earliest}
 use Rattle.mm_explore.proofs.FoundOnRuns.{faulting_moves, explores, final_alike}
 

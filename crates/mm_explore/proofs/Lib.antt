@@ -28,3 +28,15 @@ pub mod LookThrough
 pub mod Standing
 pub mod Resets
 pub mod Listings
+pub mod FoundForms
+pub mod MoveForms
+pub mod Steps
+pub mod Notings
+pub mod Repeats
+pub mod WordKeys
+pub mod Spans
+pub mod Tallies
+pub mod EndTexts
+pub mod ResultTexts
+pub mod Notes
+pub mod LeftOver

@@ -11,5 +11,9 @@ pub mod Benches
 pub mod Edits
 pub mod Holds
 pub mod FoundLists
-pub mod Noting
+pub mod Repeats
 pub mod Results
+pub mod Words
+pub mod Noting
+pub mod MoveLists
+pub mod Searching

@@ -1,6 +1,6 @@
 //! The configurations that were found, in the order in which they were found.
 
-ghost use Rattle.std.specs.Prelude.{◌≡◌, ◌<◌, ◌≤◌, ◌^◌, ◌∷◌, [], IfOk, Some, length, slice_get};
+ghost use Rattle.std.specs.Prelude.{◌≡◌, ◌<◌, ◌≤◌, ◌^◌, ◌∷◌, ◌++◌, [], true, false, IfOk, OnOk, OnErr, Contains, length, map, slice_get};
 ghost use Rattle.mm_explore.specs.FoundLists.{Looks, schedule_with};
 
 use indexmap::IndexSet;
@@ -18,8 +18,8 @@ pub(crate) struct Origin {
 /// What looking a configuration up answers.
 #[derive(Clone, Copy, Debug, PartialEq, Eq)]
 pub(crate) enum Looked {
-    /// It was found before, at this index.
-    Known(usize),
+    /// It was found before.
+    Known,
     /// It is new, and was added.
     New,
     /// It is new, and there was no room.
@@ -52,6 +52,27 @@ impl Model for Found {
         × (f.limit ≤ 2 ^ 31) × AreEarlier 1 f.origins.items };
 }
 
+/// Whether these numbers are kept.
+fn has(kept: &IndexSet<Vec<u64>>, numbers: &[u64]) -> bool
+    ensures yes { result ≡ true → Contains (map (λ v. v.items) kept.now.keys) numbers.now }
+    ensures no { result ≡ false → Contains (map (λ v. v.items) kept.now.keys) numbers.now → ⊥ }
+{
+    kept.contains(numbers)
+}
+
+/// Adds numbers that are not kept yet.
+fn add(alloc: Global, kept: &mut IndexSet<Vec<u64>>, numbers: &[u64]) -> Result<(), AllocError>
+    requires { Contains (map (λ v. v.items) kept.old.keys) numbers.now → ⊥ }
+    ensures forms { OnOk result (map (λ v. v.items) kept.new.keys ≡ map (λ v. v.items) kept.old.keys ++ numbers.now ∷ []) }
+    ensures err { OnErr result (kept.new.keys ≡ kept.old.keys) }
+{
+    let numbers = Vec::from_slice(alloc, numbers)?;
+    match kept.insert(numbers) {
+        Ok(_) => Ok(()),
+        Err(_) => Err(AllocError),
+    }
+}
+
 impl Found {
     /// The configuration of the empty schedule, given its numbers, and room for so many.
     pub(crate) fn new(alloc: Global, limit: usize, numbers: &[u64]) -> Result<Found, AllocError>
@@ -59,10 +80,13 @@ impl Found {
         requires few { limit ≤ 2 ^ 31 }
         ensures { IfOk result (λ f. f ≡ record { list = [] ∷ []; forms = numbers.now ∷ []; limit = limit }) }
     {
-        let _alloc = alloc;
-        let _limit = limit;
-        let _numbers = numbers;
-        Err(AllocError)
+        let mut kept = IndexSet::new(alloc);
+        add(alloc, &mut kept, numbers)?;
+        Ok(Found {
+            kept,
+            origins: Vec::new(alloc),
+            limit,
+        })
     }
 
     /// How many there are.
@@ -72,7 +96,7 @@ impl Found {
         ensures few { result ≤ self.now.limit }
         ensures limit { self.now.limit ≤ 2 ^ 31 }
     {
-        self.kept.len()
+        self.origins.len() + 1
     }
 
     /// The numbers of a configuration.
@@ -93,10 +117,20 @@ impl Found {
         requires { origin.from < length self.old.list }
         ensures { IfOk result (λ looked. Looks looked numbers.now origin self.old self.new) }
     {
-        let _alloc = alloc;
-        let _numbers = numbers;
-        let _origin = origin;
-        Err(AllocError)
+        if has(&self.kept, numbers) {
+            return Ok(Looked::Known);
+        }
+        if self.origins.len() + 1 == self.limit {
+            return Ok(Looked::Full);
+        }
+        self.origins.push(origin)?;
+        match add(alloc, &mut self.kept, numbers) {
+            Ok(()) => Ok(Looked::New),
+            Err(error) => {
+                self.origins.pop();
+                Err(error)
+            }
+        }
     }
 
     /// The schedule that leads to a configuration, with one item more if it is given.
@@ -109,9 +143,17 @@ impl Found {
         requires { at < length self.now.list }
         ensures { IfOk result (λ items. items.items ≡ schedule_with self.now.list at item) }
     {
-        let _alloc = alloc;
-        let _at = at;
-        let _item = item;
-        Err(AllocError)
+        let mut items = Vec::new(alloc);
+        if let Some(item) = item {
+            items.push(item)?;
+        }
+        let mut at = at;
+        while at > 0 {
+            let origin = self.origins[at - 1];
+            items.push(origin.item)?;
+            at = origin.from as usize;
+        }
+        items.reverse();
+        Ok(items)
     }
 }

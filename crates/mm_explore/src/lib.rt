@@ -3,18 +3,25 @@
 
 mod bench;
 mod changed;
+mod ends;
 mod explored;
+mod faults;
 mod findings;
 mod found;
 mod held;
 pub mod laws;
 mod memory_put;
+mod outcomes;
 mod part_forms;
 mod parts;
 mod put_parts;
+mod reached;
 mod reader;
 mod search;
 mod slot_form;
+mod text;
 
-pub use explored::Explored;
+pub use explored::{Explored, FaultFound, OutcomeFound};
+pub use reached::{GroupFound, Span};
 pub use search::explore;
+pub use text::write_explored;

@@ -295,7 +295,8 @@ fn has_empty(slot: &Slot) -> bool
     empty_mask(slot) != 0
 }
 
-fn has_loads(slot: &Slot) -> bool
+/// Whether a slot has a pending load.
+pub(crate) fn has_loads(slot: &Slot) -> bool
     ensures { result ≡ are_some slot.now.pending }
 {
     !slot.pending.is_empty()
