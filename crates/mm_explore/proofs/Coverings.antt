@@ -1,15 +1,15 @@
 -- Each schedule up to one of the list has, at or before it, one of the list that leads to the same configuration.
-use Rattle.std.proofs.Common.{◌≡◌, ◌⊎◌, inl, inr, ℕ, ◌<◌, List, [], ◌∷◌, ◌++◌, refl, sym, ap, ◌∙◌, subst}
+use Rattle.std.proofs.Common.{◌≡◌, inl, inr, ℕ, List, [], ◌∷◌, refl, sym, ap, ◌∙◌}
 use Rattle.std.specs.Prelude.{Contains}
-use Rattle.std.specs.List.{AllByRecursion}
 use Rattle.mm_model.specs.State.{State}
 use Rattle.mm_model.specs.Image.{Image, start}
 use Rattle.mm_model.specs.Run.{after, run}
-use Rattle.mm_explore.specs.Configurations.{configuration, moves}
+use Rattle.mm_explore.specs.Configurations.{configuration}
 use Rattle.mm_explore.specs.Schedules.{Before}
 use Rattle.mm_explore.specs.Explored.{leads_to, IsLeast, IsExplored}
-use Rattle.mm_explore.specs.Laws.{GoesOnAlike, GoOnAlike}
-use Rattle.mm_explore.proofs.Orders.{UpTo, up_to_before, before_up_to, up_to_through, before_self, before_rec, more}
+use Rattle.mm_explore.specs.Laws.{GoOnAlike}
+use Rattle.mm_explore.specs.Searching.{UpTo, Cover}
+use Rattle.mm_explore.proofs.Orders.{up_to_before, before_up_to, before_self, before_rec, more}
 use Rattle.mm_explore.proofs.Members.{all_at}
 use Rattle.mm_explore.proofs.Goings.{configurations_go_on}
 
@@ -31,12 +31,6 @@ pub leads_alike : (i : Image) (s t : List ℕ) (n : ℕ) → leads_to i s ≡ le
 leads_alike i s t n e = leads_more i s n ∙ ((alike i s t e).each n).leads ∙ sym (leads_more i t n)
 
 -- 2. Covers.
-
-pub record Cover (i : Image) (list : List (List ℕ)) (s : List ℕ) : Type 0 where
-  pub by : List ℕ
-  pub inside : Contains list by
-  pub early : UpTo by s
-  pub same : leads_to i by ≡ leads_to i s
 
 module _ (i : Image) (limit : ℕ) (list : List (List ℕ)) (k : IsExplored i limit list) where
   -- what is proved of each schedule: up to w, it cannot be that no schedule covers it

@@ -1,28 +1,27 @@
 -- The parts of a state of a machine of the image can be kept as their difference from the image.
-use Rattle.std.proofs.Common.{◌≡◌, ◌⊎◌, inl, inr, ℕ, ◌+◌, ◌*◌, ◌<◌, ◌≤◌, Bool, true, false, if◌then◌else◌, List, [], ◌∷◌, ◌++◌, map, length, replicate, Option, Some, None, refl, sym, ap, ◌∙◌, subst, arith}
+use Rattle.std.proofs.Common.{◌≡◌, ℕ, ◌+◌, ◌*◌, ◌<◌, Bool, true, false, if◌then◌else◌, List, [], ◌∷◌, ◌++◌, map, Option, Some, None, refl, sym, ap, ◌∙◌, zero, suc, slice_index_or, arith}
 use Rattle.std.specs.Prelude.{◌==◌}
 use Rattle.std.specs.List.{AllByRecursion, flat_map}
-use Rattle.mm_word.specs.declared.word.Word.{Word}
 use Rattle.mm_word.specs.declared.word.Cell.{Cell}
 use Rattle.mm_word.specs.Word.{IsWord}
 use Rattle.mm_model.specs.declared.event.Event.{Event}
 use Rattle.mm_model.specs.declared.slot.Pending.{Pending}
 use Rattle.mm_model.specs.Memory.{Memory, page_at}
 use Rattle.mm_model.specs.Slot.{Slot}
-use Rattle.mm_model.specs.State.{Row, Core, State, row_in, queue_of, queue_at, output_of}
-use Rattle.mm_model.specs.Image.{Image, start, slot_limit}
+use Rattle.mm_model.specs.State.{Row, Core, State, row_in, queue_of, slot_at, queue_at, output_of}
+use Rattle.mm_model.specs.Image.{Image, slot_limit}
 use Rattle.mm_model.specs.Spelling.{IsFresh, HoldsWords, IsImage}
-use Rattle.mm_model.specs.Report.{same_cell, changes_from, cells_or_zero, changes, groups_of}
-use Rattle.mm_model.specs.Fits.{IsSlot, slots_of, SlotHoldsWords, EventHoldsWords, RowHoldsWords, IsState, LoadsMatch, identity_of, Fits, IsKept}
-use Rattle.mm_model.proofs.CoreRows.{each_map, each_both}
-use Rattle.mm_model.proofs.Shortness.{pending_short}
-use Rattle.mm_thread.specs.Output.{Output}
-use Rattle.mm_machine.specs.Snapshot.{queued, queued_at}
+use Rattle.mm_model.specs.Report.{same_cell, changes_from, cells_or_zero}
+use Rattle.mm_model.specs.Fits.{IsSlot, slots_of, IsFormed, SlotHoldsWords, EventHoldsWords, RowHoldsWords, LoadsMatch, waits_for, Matches, identity_of}
+use Rattle.mm_model.proofs.CoreRows.{each_map, each_both, slot_at-number, slot_has}
+use Rattle.mm_model.proofs.Shortness.{pending_short, loads_small, queued_at}
+use Rattle.mm_explore.proofs.WordForms.{IsLoad}
+use Rattle.mm_machine.specs.Snapshot.{queued_at as events_at}
 use Rattle.mm_explore.specs.Configurations.{uncounted_slot}
-use Rattle.mm_explore.specs.Kept.{Parts, output_part, parts_of, numbers_of, parts_from, kept}
+use Rattle.mm_explore.specs.Kept.{parts_of, parts_from, kept}
 use Rattle.mm_explore.specs.Assembled.{IsStateOf}
 use Rattle.mm_explore.proofs.SlotForms.{IsKeepable, IsUnused, AreKeepable}
-use Rattle.mm_explore.proofs.PartForms.{CanKeep, parts_read}
+use Rattle.mm_explore.proofs.PartForms.{IsKeptEvent, AreBytes, CanKeep, parts_read}
 
 -- 1. Slots.
 
@@ -45,8 +44,8 @@ keepable limit all b s same f h = record {
   ip = h.words.ip;
   fetches = h.slot.executable;
   flags = h.slot.flags;
-  few = let few = pending_short s h.slot h.loads in omega (arith, few);
-  loads = h.words.pending;
+  few = pending_short s h.slot h.loads;
+  loads = each_both (λ (p : Pending). p.reg < 16) (λ (p : Pending). IsWord p.word) IsLoad (λ p low word. record { reg = low; word = word }) s.pending (loads_small s h.slot h.loads) h.words.pending;
 }
 
 unused : (limit : ℕ) (all : List Slot) (b : Slot) → IsFresh limit all b → IsUnused b
@@ -85,15 +84,39 @@ queue_holds (row ∷ rows) n h = by (row.slot.number == n) (queue_holds rows n h
     by true rest = h.0.events
     by false rest = rest
 
-tagged_hold : (n : ℕ) (es : List Event) (rest : List (ℕ × Event)) → AllByRecursion EventHoldsWords es → AllByRecursion (λ (x : ℕ × Event). EventHoldsWords x.1) rest
-    → AllByRecursion (λ (x : ℕ × Event). EventHoldsWords x.1) (map (λ (e : Event). (n, e)) es ++ rest)
-tagged_hold n [] rest h k = k
-tagged_hold n (e ∷ es) rest h k = (h.0, tagged_hold n es rest h.1 k)
+-- the slot of a queued event has one of 64 numbers
+waiting_small : (core : Core) (h n : ℕ) → IsFormed core → (o : Option Slot) → slot_at core n ≡ o → waits_for h o ≡ true → n < 64
+waiting_small core h n formed None at w = cc
+waiting_small core h n formed (Some s) at w =
+    let number = slot_at-number core n s at in
+    let low = (slot_has IsSlot core n s formed.slots at).number in
+    omega (arith, number, low)
 
-queued_hold : (core : Core) → AllByRecursion RowHoldsWords core.rows → (slots : List Slot) → AllByRecursion (λ (x : ℕ × Event). EventHoldsWords x.1) (flat_map (queued_at core) slots)
+queue_small : (core : Core) → IsFormed core → Matches core → (g : ℕ) → AllByRecursion (λ (e : Event). e.slot < 64) (queue_at core g)
+queue_small core formed match g =
+    each_map (λ (e : Event). waits_for g (slot_at core e.slot) ≡ true) (λ (e : Event). e.slot < 64)
+    (λ e w. waiting_small core g e.slot formed (slot_at core e.slot) refl w) (queue_at core g) (queued_at core match g)
+
+queue_words : (core : Core) → AllByRecursion RowHoldsWords core.rows → (g : ℕ) → AllByRecursion EventHoldsWords (queue_at core g)
 unfolding queue_at
-queued_hold core h [] = tt
-queued_hold core h (s ∷ slots) = tagged_hold s.number (queue_of (row_in core.rows s.number)) (flat_map (queued_at core) slots) (queue_holds core.rows s.number h) (queued_hold core h slots)
+queue_words core h g = queue_holds core.rows g h
+
+tagged_kept : (n : ℕ) → n < 64 → (es : List Event) (rest : List (ℕ × Event)) → AllByRecursion (λ (e : Event). e.slot < 64) es → AllByRecursion EventHoldsWords es → AllByRecursion IsKeptEvent rest
+    → AllByRecursion IsKeptEvent (map (λ (e : Event). (n, e)) es ++ rest)
+tagged_kept n lt [] rest low h k = k
+tagged_kept n lt (e ∷ es) rest low h k = (record { queue = lt; slot = low.0; words = h.0 }, tagged_kept n lt es rest low.1 h.1 k)
+
+queued_kept : (core : Core) → IsFormed core → Matches core → AllByRecursion RowHoldsWords core.rows → (slots : List Slot) → AllByRecursion IsSlot slots → AllByRecursion IsKeptEvent (flat_map (events_at core) slots)
+queued_kept core formed match h [] small = tt
+queued_kept core formed match h (s ∷ slots) small =
+    tagged_kept s.number small.0.number (queue_at core s.number) (flat_map (events_at core) slots) (queue_small core formed match s.number) (queue_words core h s.number)
+    (queued_kept core formed match h slots small.1)
+
+-- outputs are bytes
+output_bytes : (outputs : List (List ℕ)) (g : ℕ) → AllByRecursion AreBytes outputs → AreBytes (slice_index_or outputs g [])
+output_bytes [] g h = tt
+output_bytes (o ∷ outputs) zero h = h.0
+output_bytes (o ∷ outputs) (suc g) h = output_bytes outputs g h.1
 
 -- 3. Cells.
 
@@ -123,12 +146,13 @@ pages_hold image (page ∷ pages) h =
 -- 4. All parts.
 
 pub can_keep : (i : Image) (s : State) → IsImage i → IsStateOf i s → CanKeep i (parts_of i s)
-unfolding parts_of
+unfolding parts_of output_of
 can_keep i s img h = record {
   slots = keepables (slot_limit i.version) i.slots i.slots (slots_of s.core) h.fits.same_slots img.fresh (held i s h);
   uncounted = uncounted_twice (slots_of s.core);
-  events = queued_hold s.core h.state.rows (slots_of s.core);
+  events = queued_kept s.core h.state.core h.fits.matched h.state.rows (slots_of s.core) h.state.core.slots;
   output = output_of s.core;
+  bytes = λ g. output_bytes s.core.outputs g h.bytes;
   outputs = refl;
   cells = pages_hold i.memory s.memory.pages h.state.cells;
 }

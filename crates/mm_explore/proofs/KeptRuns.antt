@@ -1,10 +1,10 @@
 -- What is kept of two states is the same exactly if they are of one configuration; and states of runs are kept.
-use Rattle.std.proofs.Common.{◌≡◌, ℕ, Bool, List, [], ◌∷◌, ◌++◌, map, Option, refl, sym, ap, ◌∙◌}
-use Rattle.std.specs.List.{flat_map}
+use Rattle.std.proofs.Common.{◌≡◌, ℕ, zero, suc, ◌<◌, List, [], ◌∷◌, ◌++◌, map, replicate, slice_index_or, sym, refl, ap, ◌∙◌, subst}
+use Rattle.std.specs.Prelude.{slice_set}
+use Rattle.std.specs.List.{AllByRecursion, flat_map}
 use Rattle.mm_model.specs.declared.event.Event.{Event}
-use Rattle.mm_model.specs.Memory.{Memory}
 use Rattle.mm_model.specs.Slot.{Slot}
-use Rattle.mm_model.specs.State.{Row, Core, State, queue_at, output_of}
+use Rattle.mm_model.specs.State.{Row, Core, State, output_of}
 use Rattle.mm_model.specs.Image.{Image, start}
 use Rattle.mm_model.specs.Spelling.{IsImage}
 use Rattle.mm_model.specs.Run.{after, run}
@@ -12,13 +12,15 @@ use Rattle.mm_model.specs.Report.{groups_of, changes}
 use Rattle.mm_model.specs.Fits.{slots_of}
 use Rattle.mm_model.proofs.Starts.{start_state, start_fits, start_kept}
 use Rattle.mm_model.proofs.StateKeeps.{after_state, after_fits, after_kept}
-use Rattle.mm_thread.specs.Output.{Output}
 use Rattle.mm_machine.specs.Snapshot.{queued, queued_at, page_numbers}
 use Rattle.mm_explore.specs.Configurations.{uncounted_slot, uncounted_row, uncounted, configuration}
 use Rattle.mm_explore.specs.Kept.{Parts, output_part, parts_of, numbers_of, kept}
 use Rattle.mm_explore.specs.Assembled.{assembled, IsStateOf}
 use Rattle.mm_explore.specs.Laws.{KeptFormsAreConfigurations}
 use Rattle.mm_explore.proofs.Uncounted.{queue_at_so}
+use Rattle.mm_model.specs.Turn.{turn}
+use Rattle.mm_explore.proofs.PartForms.{AreBytes}
+use Rattle.mm_explore.proofs.Tame.{OutputMoves, turns_are_tame}
 use Rattle.mm_explore.proofs.Keepables.{kept_tells}
 use Rattle.mm_explore.proofs.Assembling.{assembles}
 
@@ -33,7 +35,7 @@ queued_bare core (row ∷ rows) =
     ∙ ap (λ l. queued_at core row.slot ++ l) (queued_bare core rows)
 
 -- the parts of a configuration
-parts_bare : (i : Image) (s : State) → parts_of i (configuration s) ≡ parts_of i s
+pub parts_bare : (i : Image) (s : State) → parts_of i (configuration s) ≡ parts_of i s
 unfolding parts_of configuration output_of
 parts_bare i s =
     let make : List Slot → List (ℕ × Event) → Parts = λ slots events. record {
@@ -51,8 +53,43 @@ kept_alike i s t e = ap (numbers_of i) (sym (parts_bare i s) ∙ ap (parts_of i)
 pub kept_apart : (i : Image) (s t : State) → IsImage i → IsStateOf i s → IsStateOf i t → kept i s ≡ kept i t → configuration s ≡ configuration t
 kept_apart i s t img h k e = sym (assembles i s img h) ∙ ap (assembled i) (kept_tells i s t img h k e) ∙ assembles i t img k
 
+-- 2. Outputs of runs are bytes.
+
+put_bytes : (outputs : List (List ℕ)) (g : ℕ) (bytes : List ℕ) → AllByRecursion AreBytes outputs → AreBytes bytes → AllByRecursion AreBytes (slice_set outputs g bytes)
+put_bytes [] g bytes h k = tt
+put_bytes (o ∷ outputs) zero bytes h k = (k, h.1)
+put_bytes (o ∷ outputs) (suc g) bytes h k = (h.0, put_bytes outputs g bytes h.1 k)
+
+more_bytes : (bytes : List ℕ) (byte : ℕ) → AreBytes bytes → byte < 256 → AreBytes (bytes ++ byte ∷ [])
+more_bytes [] byte h lt = (lt, tt)
+more_bytes (b ∷ bytes) byte h lt = (h.0, more_bytes bytes byte h.1 lt)
+
+bytes_of : (outputs : List (List ℕ)) (g : ℕ) → AllByRecursion AreBytes outputs → AreBytes (slice_index_or outputs g [])
+bytes_of [] g h = tt
+bytes_of (o ∷ outputs) zero h = h.0
+bytes_of (o ∷ outputs) (suc g) h = bytes_of outputs g h.1
+
+moved_bytes : (was now : List (List ℕ)) → OutputMoves was now → AllByRecursion AreBytes was → AllByRecursion AreBytes now
+moved_bytes was now (OutputMoves.Same e) h = subst (AllByRecursion AreBytes) (sym e) h
+moved_bytes was now (OutputMoves.Puts p) h =
+    subst (AllByRecursion AreBytes) (sym p.outputs) (put_bytes was p.group (slice_index_or was p.group [] ++ p.byte ∷ []) h (more_bytes (slice_index_or was p.group []) p.byte (bytes_of was p.group h) p.small))
+
+after_bytes : (s : State) (n : ℕ) → AllByRecursion AreBytes s.core.outputs → AllByRecursion AreBytes (after s n).core.outputs
+unfolding after
+after_bytes s n h = moved_bytes s.core.outputs (turn s.core s.memory n).core.outputs (turns_are_tame s.core s.memory n).outputs h
+
+none_bytes : (n : ℕ) → AllByRecursion AreBytes (replicate n [])
+none_bytes zero = tt
+none_bytes (suc n) = (tt, none_bytes n)
+
+start_bytes : (i : Image) → AllByRecursion AreBytes (start i).core.outputs
+unfolding start
+start_bytes i = none_bytes 64
+
+-- 3. States of runs.
+
 pub after_state_of : (i : Image) (s : State) (n : ℕ) → IsImage i → IsStateOf i s → IsStateOf i (after s n)
-after_state_of i s n img h = record { state = after_state s n h.state; fits = after_fits i s n img h.state h.fits; kept = after_kept i s n img h.state h.fits h.kept }
+after_state_of i s n img h = record { state = after_state s n h.state; fits = after_fits i s n img h.state h.fits; kept = after_kept i s n img h.state h.fits h.kept; bytes = after_bytes s n h.bytes }
 
 run_state_of : (i : Image) (s : State) (items : List ℕ) → IsImage i → IsStateOf i s → IsStateOf i (run s items)
 unfolding run
@@ -60,7 +97,7 @@ run_state_of i s [] img h = h
 run_state_of i s (n ∷ items) img h = run_state_of i (after s n) items img (after_state_of i s n img h)
 
 pub runs_state_of : (i : Image) (items : List ℕ) → IsImage i → IsStateOf i (run (start i) items)
-runs_state_of i items img = run_state_of i (start i) items img (record { state = start_state i img; fits = start_fits i img; kept = start_kept i img.rising img.fresh })
+runs_state_of i items img = run_state_of i (start i) items img (record { state = start_state i img; fits = start_fits i img; kept = start_kept i img.rising img.fresh; bytes = start_bytes i })
 
 pub kept_forms_are_configurations : KeptFormsAreConfigurations
 kept_forms_are_configurations i a b img = (

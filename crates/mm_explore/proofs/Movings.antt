@@ -1,15 +1,15 @@
 -- An item is a move of a state, or its cycle is idle; and the moves of a state that fits an image ascend.
-use Rattle.std.proofs.Common.{◌≡◌, ◌⊎◌, inl, inr, ℕ, ◌+◌, ◌-◌, ◌<◌, ◌≤◌, ◌≢◌, Bool, true, false, ◌&&◌, ◌==◌, nat_le, if◌then◌else◌, List, [], ◌∷◌, ◌++◌, map, Option, Some, None, refl, sym, ap, ◌∙◌, subst, arith, eqb-true, leb-true}
+use Rattle.std.proofs.Common.{◌≡◌, ◌⊎◌, inl, inr, ℕ, ◌+◌, ◌-◌, ◌<◌, ◌≤◌, Bool, true, false, ◌&&◌, ◌==◌, nat_le, if◌then◌else◌, List, [], ◌∷◌, map, Option, Some, None, refl, sym, ap, ◌∙◌, subst, arith, eqb-true, leb-true}
 use Rattle.std.specs.Prelude.{Contains}
 use Rattle.std.specs.List.{AllByRecursion, filter}
 use Rattle.std.proofs.lemmas.Bool.{both_ways}
-use Rattle.std.proofs.lemmas.List.Elements.{Contains-append_left, Contains-append_right, Contains-append_cases}
+use Rattle.std.proofs.lemmas.List.Elements.{Contains-append_left, Contains-append_right}
 use Rattle.mm_model.specs.declared.slot.Pending.{Pending}
 use Rattle.mm_model.specs.Memory.{Memory}
 use Rattle.mm_model.specs.Slot.{Slot}
 use Rattle.mm_model.specs.State.{Row, Core, State, row_in, slot_of, slot_at}
-use Rattle.mm_model.specs.Turn.{Turned, is_running, started, idle, arrives, port_of, taken_by_port, taken_by, turn}
-use Rattle.mm_model.specs.Run.{turn_of, state_of, after, run}
+use Rattle.mm_model.specs.Turn.{Turned, is_running, started, idle, arrives, taken_by_port, taken_by, turn}
+use Rattle.mm_model.specs.Run.{turn_of, after, run}
 use Rattle.std.specs.List.Sorted.{IsStrictlyIncreasing}
 use Rattle.mm_model.specs.Image.{Image, start}
 use Rattle.mm_model.specs.Spelling.{IsImage}
@@ -20,7 +20,7 @@ use Rattle.mm_model.proofs.StateKeeps.{after_state, after_fits}
 use Rattle.mm_explore.specs.Pairs.{EachPair}
 use Rattle.mm_explore.specs.Configurations.{uncounted, configuration, runs, are_some, has_load, running_slots, loaded_ports, moves}
 use Rattle.mm_explore.specs.Laws.{OthersAreIdle}
-use Rattle.mm_explore.proofs.Members.{none_in, in_first, in_rest, in_map, in_filter, all_of, all_at, map_in, filter_in, pairs_both, pairs_filter, pairs_map}
+use Rattle.mm_explore.proofs.Members.{none_in, in_first, in_rest, in_map, in_filter, all_at, map_in, filter_in, pairs_both, pairs_filter, pairs_map}
 
 both_first : (a b : Bool) → (a && b) ≡ true → a ≡ true
 both_first true b e = refl

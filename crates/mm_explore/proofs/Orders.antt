@@ -1,7 +1,7 @@
 -- The order of schedules: it is a strict total order, it is well-founded, and what it is to one item more.
-use Rattle.std.proofs.Common.{◌≡◌, ◌≢◌, ◌⊎◌, inl, inr, ℕ, zero, suc, ◌+◌, ◌<◌, ◌≤◌, List, [], ◌∷◌, ◌++◌, length, refl, sym, ap, ◌∙◌, subst, arith, length-append, ⊎_elim}
-use Rattle.std.proofs.lemmas.Bool.{cases_eq}
+use Rattle.std.proofs.Common.{◌≡◌, ◌⊎◌, inl, inr, ℕ, zero, suc, ◌<◌, List, [], ◌∷◌, ◌++◌, length, refl, sym, ap, ◌∙◌, subst, arith, length-append}
 use Rattle.mm_explore.specs.Schedules.{IsLess, Before}
+use Rattle.mm_explore.specs.Searching.{UpTo}
 
 -- 1. Numbers.
 
@@ -86,10 +86,6 @@ before_cases s t = elim (numbers (length s) (length t)) [
     | inr gt ↦ inr (inr (inl gt))
   ]
 ]
-
--- one schedule is another, or comes before it
-abbrev pub UpTo : List ℕ → List ℕ → Type 0
-UpTo s t = (s ≡ t) ⊎ Before s t
 
 pub up_to_before : (s t u : List ℕ) → UpTo s t → Before t u → Before s u
 up_to_before s t u (inl e) k = subst (λ x. Before x u) (sym e) k

@@ -1,8 +1,10 @@
 -- The parts of a configuration, read again from their numbers.
-use Rattle.std.proofs.Common.{◌≡◌, ℕ, zero, suc, ◌+◌, ◌*◌, ◌/◌, ◌%◌, ◌<◌, Bool, true, false, if◌then◌else◌, nat_eq, List, [], ◌∷◌, ◌++◌, map, length, take, drop, refl, sym, ap, ◌∙◌, subst, arith, eqb-true, eq-eqb, append_assoc, append-nil}
+use Rattle.std.proofs.Common.{◌≡◌, ℕ, suc, ◌+◌, ◌*◌, ◌/◌, ◌%◌, ◌<◌, Bool, true, false, if◌then◌else◌, nat_eq, List, [], ◌∷◌, ◌++◌, map, length, refl, sym, ap, ◌∙◌, arith, eqb-true, eq-eqb, append_assoc}
 use Rattle.std.specs.Prelude.{◌==◌}
 use Rattle.std.specs.List.{AllByRecursion, flat_map}
 use lib.Pointwise.{pointwise, pointwise_decides}
+use Rattle.mm_word.specs.declared.cause.Cause.{Cause}
+use Rattle.mm_word.specs.declared.perm.Perm.TheVariants.{Key}
 use Rattle.mm_word.specs.declared.word.Word.{Word}
 use Rattle.mm_word.specs.declared.word.Cell.{Cell}
 use Rattle.mm_word.specs.Pointer.{Pointer, IsWellFormed, pointer_of, bits_of}
@@ -18,29 +20,46 @@ use Rattle.mm_model.specs.Slot.{Slot}
 use Rattle.mm_thread.specs.Output.{Output}
 use Rattle.mm_machine.specs.Snapshot.{page_numbers}
 use Rattle.mm_explore.specs.Configurations.{uncounted_slot}
-use Rattle.mm_explore.specs.Kept.{Parts, first_number, behind, word_of, word_form, word_from, cause_at, event_form, event_from, events_by, events_form, events_from, output_form, outputs_form, outputs_from, pages_form, pages_by, pages_from, cell_form, cells_form, cells_from, slots_form, slots_from, numbers_of, parts_with_pages, parts_with_outputs, parts_with_events, parts_with_slots, parts_from}
-use Rattle.mm_explore.proofs.WordForms.{word_again, word_read}
+use Rattle.mm_explore.specs.Kept.{Parts, first_number, behind, word_of, word_form, word_from, cause_at, pointer_or_key, event_form, event_from, events_by, events_form, events_from, bytes_by, output_form, outputs_form, outputs_from, pages_form, pages_by, pages_from, cells_form, cells_from, slots_form, slots_from, numbers_of, parts_with_pages, parts_with_outputs, parts_with_events, parts_with_slots, parts_from, numbers_by}
+use Rattle.mm_explore.proofs.WordForms.{spells_own, word_again, word_read}
 use Rattle.mm_explore.proofs.SlotForms.{cause_back, AreKeepable, slots_read}
 
 -- 1. Events.
 
-abbrev event_with : ℕ → ℕ → Rattle.mm_word.specs.declared.cause.Cause.Cause → Pointer → Word → Word × List ℕ → (ℕ × Event) × List ℕ
-event_with queue slot cause ip addr value = ((queue, record { slot = slot; cause = cause; ip = ip; addr_op = addr; value_op = value.0 }), value.1)
+-- an event that can be kept, in the queue of a slot
+pub record IsKeptEvent (x : ℕ × Event) : Type 0 where
+  pub queue : x.0 < 64
+  pub slot : x.1.slot < 64
+  pub words : EventHoldsWords x.1
 
-event_read : (x : ℕ × Event) (ns : List ℕ) → EventHoldsWords x.1 → event_from (event_form x ++ ns) ≡ (x, ns)
+key_again : (p : Pointer) → IsWellFormed p → pointer_or_key (bits_of p) ≡ p
+key_again p h =
+    ap (λ b. if b then pointer_of (bits_of p) else record { perm = Key; log = 0; addr = 0 }) (spells_own p h) ∙ pointer_of-bits_of p h
+
+low : (n : ℕ) → n < 64 → n % 256 ≡ n
+low n lt = omega (arith, lt)
+
+abbrev event_made : ℕ → ℕ → Cause → Pointer → Word → Word × List ℕ → (ℕ × Event) × List ℕ
+event_made queue slot cause ip addr value =
+    ((queue, record { slot = slot; cause = cause; ip = ip; addr_op = addr; value_op = value.0 }), value.1)
+
+event_read : (x : ℕ × Event) (ns : List ℕ) → IsKeptEvent x → event_from (event_form x ++ ns) ≡ (x, ns)
+unfolding event_from
 event_read x ns h =
     let e = x.1 in
     let tail = word_form e.value_op ++ ns in
+    let queue = low x.0 h.queue in
+    let slot = low e.slot h.slot in
     let cause = cause_back e.cause in
-    let ip = pointer_of-bits_of e.ip h.ip in
-    let addr = word_read e.addr_op tail h.address in
-    let value = word_read e.value_op ns h.value in
-    ap (λ l. let a = word_from l in event_with x.0 e.slot (cause_at (number_of e.cause)) (pointer_of (bits_of e.ip)) a.0 (word_from a.1)) (append_assoc (word_form e.addr_op) (word_form e.value_op) ns)
-    ∙ ap (λ (a : Word × List ℕ). event_with x.0 e.slot (cause_at (number_of e.cause)) (pointer_of (bits_of e.ip)) a.0 (word_from a.1)) addr
-    ∙ (λ j. event_with x.0 e.slot (cause j) (ip j) e.addr_op (value j))
+    let ip = key_again e.ip h.words.ip in
+    let addr = word_read e.addr_op tail h.words.address in
+    let value = word_read e.value_op ns h.words.value in
+    let made : Word × List ℕ → (ℕ × Event) × List ℕ = λ a. event_made (x.0 % 256) (e.slot % 256) (cause_at (number_of e.cause)) (pointer_or_key (bits_of e.ip)) a.0 (word_from a.1) in
+    ap (λ l. made (word_from l)) (append_assoc (word_form e.addr_op) (word_form e.value_op) ns)
+    ∙ ap made addr
+    ∙ (λ j. event_made (queue j) (slot j) (cause j) (ip j) e.addr_op (value j))
 
-events_walked : (events : List (ℕ × Event)) (ns : List ℕ) → AllByRecursion (λ (x : ℕ × Event). EventHoldsWords x.1) events
-    → events_by (length events) (flat_map event_form events ++ ns) ≡ (events, ns)
+events_walked : (events : List (ℕ × Event)) (ns : List ℕ) → AllByRecursion IsKeptEvent events → events_by (length events) (flat_map event_form events ++ ns) ≡ (events, ns)
 events_walked [] ns h = refl
 events_walked (x ∷ events) ns h =
     let tail = flat_map event_form events ++ ns in
@@ -49,33 +68,41 @@ events_walked (x ∷ events) ns h =
     ∙ ap make (event_read x tail h.0)
     ∙ ap (λ (r : List (ℕ × Event) × List ℕ). (x ∷ r.0, r.1)) (events_walked events ns h.1)
 
-pub events_read : (events : List (ℕ × Event)) (ns : List ℕ) → AllByRecursion (λ (x : ℕ × Event). EventHoldsWords x.1) events → events_from (events_form events ++ ns) ≡ (events, ns)
+pub events_read : (events : List (ℕ × Event)) (ns : List ℕ) → AllByRecursion IsKeptEvent events → events_from (events_form events ++ ns) ≡ (events, ns)
 unfolding events_from events_form
 events_read events ns h = events_walked events ns h
 
 -- 2. Outputs.
 
-take_all : (xs ys : List ℕ) → take (length xs) (xs ++ ys) ≡ xs
-take_all [] ys = refl
-take_all (x ∷ xs) ys = ap (λ l. x ∷ l) (take_all xs ys)
+abbrev pub AreBytes : List ℕ → Type 0
+AreBytes bytes = AllByRecursion (λ b. b < 256) bytes
 
-drop_all : (xs ys : List ℕ) → drop (length xs) (xs ++ ys) ≡ ys
-drop_all [] ys = refl
-drop_all (x ∷ xs) ys = drop_all xs ys
+byte_again : (b : ℕ) → b < 256 → b % 256 ≡ b
+byte_again b lt = omega (arith, lt)
 
-pub outputs_read : (groups : List ℕ) (f : ℕ → List ℕ) (ns : List ℕ)
+bytes_read : (bytes ns : List ℕ) → AreBytes bytes → bytes_by (length bytes) (bytes ++ ns) ≡ (bytes, ns)
+bytes_read [] ns h = refl
+bytes_read (b ∷ bytes) ns h =
+    ap (λ n. let later = bytes_by (length bytes) (bytes ++ ns) in let made : List ℕ × List ℕ = (n ∷ later.0, later.1) in made) (byte_again b h.0)
+    ∙ ap (λ (r : List ℕ × List ℕ). let made : List ℕ × List ℕ = (b ∷ r.0, r.1) in made) (bytes_read bytes ns h.1)
+
+pub outputs_read : (groups : List ℕ) (f : ℕ → List ℕ) (ns : List ℕ) → ((g : ℕ) → AreBytes (f g))
     → outputs_from groups (outputs_form (map (λ g. let o : Output = record { group = g; bytes = f g } in o) groups) ++ ns)
     ≡ (map (λ g. let o : Output = record { group = g; bytes = f g } in o) groups, ns)
-outputs_read [] f ns = refl
-outputs_read (g ∷ groups) f ns =
+outputs_read [] f ns h = refl
+outputs_read (g ∷ groups) f ns h =
     let part : ℕ → Output = λ g. record { group = g; bytes = f g } in
     let tail = outputs_form (map part groups) ++ ns in
-    let make : List ℕ → List ℕ → List Output × List ℕ = λ bytes rest. let later = outputs_from groups rest in let o : Output = record { group = g; bytes = bytes } in (o ∷ later.0, later.1) in
+    let make : List ℕ × List ℕ → List Output × List ℕ = λ bytes. let later = outputs_from groups bytes.1 in let o : Output = record { group = g; bytes = bytes.0 } in (o ∷ later.0, later.1) in
     ap (λ l. outputs_from (g ∷ groups) l) (append_assoc (output_form (part g)) (outputs_form (map part groups)) ns)
-    ∙ (λ j. make (take_all (f g) tail j) (drop_all (f g) tail j))
-    ∙ ap (λ (r : List Output × List ℕ). (part g ∷ r.0, r.1)) (outputs_read groups f ns)
+    ∙ ap make (bytes_read (f g) tail (h g))
+    ∙ ap (λ (r : List Output × List ℕ). (part g ∷ r.0, r.1)) (outputs_read groups f ns h)
 
 -- 3. Pages and cells.
+
+numbers_read : (numbers ns : List ℕ) → numbers_by (length numbers) (numbers ++ ns) ≡ (numbers, ns)
+numbers_read [] ns = refl
+numbers_read (n ∷ numbers) ns = ap (λ (r : List ℕ × List ℕ). let made : List ℕ × List ℕ = (n ∷ r.0, r.1) in made) (numbers_read numbers ns)
 
 numbers_decide : (a b : ℕ) → (nat_eq a b ≡ true → a ≡ b) × (a ≡ b → nat_eq a b ≡ true)
 numbers_decide a b = (eqb-true a b, eq-eqb a b)
@@ -87,7 +114,7 @@ pages_read base pages ns = by (pointwise nat_eq pages base) refl
     by : (same : Bool) → pointwise nat_eq pages base ≡ same
         → pages_by base (first_number ((if same then 0 ∷ [] else suc (length pages) ∷ pages) ++ ns)) (behind ((if same then 0 ∷ [] else suc (length pages) ∷ pages) ++ ns)) ≡ (pages, ns)
     by true is = ap (λ l. (l, ns)) (sym ((pointwise_decides numbers_decide pages base).0 is))
-    by false is = λ j. (take_all pages ns j, drop_all pages ns j)
+    by false is = numbers_read pages ns
 
 head_word : (a b w : ℕ) → a < 2 → b < 2 → (a + 2 * (b + 2 * w)) / 4 ≡ w
 head_word a b w low high = omega (arith, low, high)
@@ -127,8 +154,9 @@ cells_read (x ∷ cells) h =
 pub record CanKeep (i : Image) (p : Parts) : Type 0 where
   pub slots : AreKeepable i.slots p.slots
   pub uncounted : map uncounted_slot p.slots ≡ p.slots
-  pub events : AllByRecursion (λ (x : ℕ × Event). EventHoldsWords x.1) p.events
+  pub events : AllByRecursion IsKeptEvent p.events
   pub output : ℕ → List ℕ
+  pub bytes : (g : ℕ) → AreBytes (output g)
   pub outputs : p.outputs ≡ map (λ g. let o : Output = record { group = g; bytes = output g } in o) (groups_of (start i).core)
   pub cells : AllByRecursion (λ (x : ℕ × Cell). IsWord x.1.word) p.cells
 
@@ -150,6 +178,12 @@ pages_first : (i : Image) (slots : List Slot) (events : List (ℕ × Event)) (ou
 unfolding parts_with_outputs
 pages_first i slots events outputs = refl
 
+with_cells : (slots : List Slot) (events : List (ℕ × Event)) (outputs : List Output) (pages ns : List ℕ) (cells : List (ℕ × Cell)) → cells ≡ cells_from ns
+    → (let q : Parts = record { slots = slots; events = events; outputs = outputs; pages = pages; cells = cells } in q) ≡ parts_with_pages slots events outputs (pages, ns)
+unfolding parts_with_pages
+with_cells slots events outputs pages ns cells c =
+    let make : List (ℕ × Cell) → Parts = λ l. record { slots = slots; events = events; outputs = outputs; pages = pages; cells = l } in ap make c
+
 module _ (i : Image) (p : Parts) (k : CanKeep i p) where
   abbrev cells_left : List ℕ
   cells_left = cells_form p.cells
@@ -166,7 +200,7 @@ module _ (i : Image) (p : Parts) (k : CanKeep i p) where
   outputs_again : (ns : List ℕ) → outputs_from (groups_of (start i).core) (outputs_form p.outputs ++ ns) ≡ (p.outputs, ns)
   outputs_again ns =
       ap (λ (os : List Output). outputs_from (groups_of (start i).core) (outputs_form os ++ ns)) k.outputs
-      ∙ outputs_read (groups_of (start i).core) k.output ns
+      ∙ outputs_read (groups_of (start i).core) k.output ns k.bytes
       ∙ ap (λ (os : List Output). (os, ns)) (sym k.outputs)
 
   slots_again : slots_from i.slots (slots_form i.slots p.slots ++ events_left) ≡ (p.slots, events_left)
@@ -196,3 +230,24 @@ module _ (i : Image) (p : Parts) (k : CanKeep i p) where
 
   pub parts_read : parts_from i (numbers_of i p) ≡ p
   parts_read = step_slots ∙ step_events ∙ step_outputs ∙ step_pages ∙ step_cells
+
+-- parts that are read one after the other
+pub parts_made : (i : Image) (ns n1 n2 n3 n4 : List ℕ) (slots : List Slot) (events : List (ℕ × Event)) (outputs : List Output) (pages : List ℕ) (cells : List (ℕ × Cell))
+    → slots ≡ (slots_from i.slots ns).0 → n1 ≡ (slots_from i.slots ns).1
+    → events ≡ (events_from n1).0 → n2 ≡ (events_from n1).1
+    → outputs ≡ (outputs_from (groups_of (start i).core) n2).0 → n3 ≡ (outputs_from (groups_of (start i).core) n2).1
+    → pages ≡ (pages_from (page_numbers i.memory.pages) n3).0 → n4 ≡ (pages_from (page_numbers i.memory.pages) n3).1
+    → cells ≡ cells_from n4
+    → (let p : Parts = record { slots = slots; events = events; outputs = outputs; pages = pages; cells = cells } in p) ≡ parts_from i ns
+parts_made i ns n1 n2 n3 n4 slots events outputs pages cells s r1 e r2 o r3 p r4 c =
+    let last : (let q : Parts = record { slots = slots; events = events; outputs = outputs; pages = pages; cells = cells } in q) ≡ parts_with_pages slots events outputs (pages, n4) =
+    with_cells slots events outputs pages n4 cells c in
+    last
+    ∙ (λ j. parts_with_pages slots events outputs (p j, r4 j))
+    ∙ sym (pages_first i slots events (outputs, n3))
+    ∙ (λ j. parts_with_outputs i slots events (o j, r3 j))
+    ∙ sym (outputs_first i slots (events, n2))
+    ∙ (λ j. parts_with_events i slots (e j, r2 j))
+    ∙ sym (events_first i (slots, n1))
+    ∙ (λ j. parts_with_slots i (s j, r1 j))
+    ∙ sym (slots_first i ns)

@@ -1,8 +1,8 @@
 -- A search that goes through the turns explored in their order finds the first least schedules, and whether they are all.
-use Rattle.std.proofs.Common.{◌≡◌, ◌⊎◌, inl, inr, ℕ, ◌+◌, ◌<◌, ◌≤◌, List, [], ◌∷◌, ◌++◌, length, refl, sym, ap, ◌∙◌, subst, arith, append_assoc, append-nil, length-append}
+use Rattle.std.proofs.Common.{◌≡◌, ◌⊎◌, inl, inr, ℕ, ◌<◌, ◌≤◌, List, [], ◌∷◌, ◌++◌, length, refl, sym, ap, ◌∙◌, subst, arith, append_assoc, append-nil, length-append}
 use Rattle.std.specs.Prelude.{Contains}
 use Rattle.std.specs.List.{AllByRecursion, flat_map}
-use Rattle.std.proofs.lemmas.List.Elements.{Contains-append_left, Contains-append_right, Contains-append_cases, Contains-push, Contains-push_cases}
+use Rattle.std.proofs.lemmas.List.Elements.{Contains-append_left, Contains-append_cases, Contains-push, Contains-push_cases}
 use Rattle.mm_model.specs.Image.{Image, start}
 use Rattle.mm_model.specs.Spelling.{IsImage}
 use Rattle.mm_model.specs.Run.{run}
@@ -11,11 +11,12 @@ use Rattle.mm_explore.specs.Configurations.{moves}
 use Rattle.mm_explore.specs.Schedules.{Before}
 use Rattle.mm_explore.specs.Explored.{leads_to, IsLeast, IsExplored, IsAll}
 use Rattle.mm_explore.specs.Findings.{Extension, extended, extensions, explored_turns}
-use Rattle.mm_explore.proofs.Orders.{UpTo, before_self, before_through, before_cases, before_more, up_to_before, up_to_both, up_to_through, nothing_before, before_rec, more, length_more}
+use Rattle.mm_explore.specs.Searching.{UpTo, Cover, Open, IsSearched}
+use Rattle.mm_explore.proofs.Orders.{before_self, before_through, before_cases, before_more, up_to_before, up_to_both, up_to_through, nothing_before, before_rec, more, length_more}
 use Rattle.mm_explore.proofs.Members.{none_in, in_first, in_rest, in_cases, all_at, all_of, map_in, pairs_both}
 use Rattle.mm_explore.proofs.Movings.{moves_or_idles, idle_leads}
-use Rattle.mm_explore.proofs.Coverings.{Cover, leads_alike, leads_more}
-use Rattle.mm_explore.proofs.Found.{explores}
+use Rattle.mm_explore.proofs.Coverings.{leads_alike, leads_more}
+use Rattle.mm_explore.proofs.FoundOnRuns.{explores}
 use Rattle.mm_explore.proofs.Earliest.{Earlier, turns_in_order}
 
 -- 1. What is covered.
@@ -65,21 +66,7 @@ module _ (i : Image) (list : List (List ℕ)) (begins : Contains list []) (Withi
   pub covers_all : (u : List ℕ) → Covered u
   covers_all = before_rec Covered covers_step
 
--- 2. A search that has found a list, gone through some of its turns, and met nothing that had no room.
-
-pub record Open (i : Image) (limit : ℕ) (list : List (List ℕ)) (done left : List Extension) : Type 0 where
-  pub begins : Contains list []
-  pub split : explored_turns i list ≡ done ++ left
-  pub in_order : EachPair Before list
-  pub least : AllByRecursion (IsLeast i) list
-  pub few : length list ≤ limit
-  pub covered : (y : Extension) → Contains done y → Cover i list (extended y)
-  pub ahead : (v : List ℕ) (y : Extension) → Contains list v → Contains left y → Before v (extended y)
-
--- what the list of a search is, with the answer whether it is all
-pub record IsSearched (i : Image) (limit : ℕ) (list : List (List ℕ)) (All : Type 0) : Type 0 where
-  pub explored : IsExplored i limit list
-  pub answer : All
+-- 2. A search that has found a list, gone through some of its turns, and met nothing that had no room (Open).
 
 -- none of the list leads where a schedule leads
 abbrev pub IsNew : Image → List (List ℕ) → List ℕ → Type 0

@@ -1,7 +1,8 @@
 -- Slots, read again from their differences from the image's.
-use Rattle.std.proofs.Common.{◌≡◌, ℕ, zero, suc, ◌+◌, ◌*◌, ◌-◌, ◌/◌, ◌%◌, ◌^◌, ◌<◌, ◌≤◌, Bool, true, false, not, ◌&&◌, ◌||◌, if◌then◌else◌, List, [], ◌∷◌, ◌++◌, map, length, Option, Some, None, refl, sym, ap, ◌∙◌, subst, arith, eqb-true, append_assoc}
+use Rattle.std.proofs.Common.{◌≡◌, ℕ, suc, ◌+◌, ◌*◌, ◌/◌, ◌%◌, ◌^◌, ◌<◌, ◌≤◌, Bool, true, false, not, ◌&&◌, ◌||◌, if◌then◌else◌, List, [], ◌∷◌, ◌++◌, map, length, Option, Some, None, refl, sym, ap, ◌∙◌, subst, arith, eqb-true, append_assoc}
 use Rattle.std.specs.Prelude.{◌==◌, replicate}
 use Rattle.std.specs.List.{AllByRecursion, flat_map, list_any}
+use Rattle.std.proofs.lemmas.Bool.{le-ltb}
 use Rattle.mm_word.specs.declared.cause.Cause.{Cause}
 use Rattle.mm_word.specs.declared.cause.Cause.TheVariants.{NotPointer, Perm, Bounds, Align, NoPage, Sync, Illegal, Priv, DivZero, Malformed, Trap, NoSlot, OutFull}
 use Rattle.mm_word.specs.declared.word.Word.{Word}
@@ -9,18 +10,18 @@ use Rattle.mm_word.specs.declared.word.Word.TheVariants.{Ptr}
 use Rattle.mm_word.specs.Cause.{number_of}
 use Rattle.mm_word.specs.Perm.{can_fetch}
 use Rattle.mm_word.specs.Pointer.{Pointer, IsWellFormed, bits_of}
-use Rattle.mm_word.specs.Word.{IsWord, word_bits, is_pointer}
+use Rattle.mm_word.specs.Word.{is_pointer}
 use Rattle.mm_model.specs.declared.slot.SlotState.{SlotState}
 use Rattle.mm_model.specs.declared.slot.SlotState.TheVariants.{Running, Waiting, Taken, Halted}
 use Rattle.mm_model.specs.declared.slot.Pending.{Pending}
 use Rattle.mm_model.specs.Effect.{same_word}
-use Rattle.mm_model.specs.Flags.{one_if, flags, number_of_flags}
+use Rattle.mm_model.specs.Flags.{one_if, number_of_flags}
 use Rattle.mm_model.specs.Report.{same_bit}
 use Rattle.mm_model.specs.Slot.{Slot}
 use Rattle.mm_explore.specs.Configurations.{uncounted_slot, are_some}
 use Rattle.mm_explore.specs.Findings.{state_number, same_state}
-use Rattle.mm_explore.specs.Kept.{first_number, behind, packed, changed_flags, changed_bits, words_from, load_form, loads_from, cause_at, state_at, ip_of, slot_head, slot_masks, slot_form, slot_from, is_base, slot_flags, slot_forms, slots_by, slots_form, slots_from}
-use Rattle.mm_explore.proofs.WordForms.{flags_again, flags_of, flags_below, ip_again, words_same, AreWords, words_read, length-changed, loads_read}
+use Rattle.mm_explore.specs.Kept.{changed_flags, changed_bits, words_from, load_form, loads_from, few_loads, register_flags, cause_at, state_at, ip_of, slot_head, slot_masks, slot_form, slot_from, is_base, slot_flags, slot_forms, slots_by, slots_form, slots_from}
+use Rattle.mm_explore.proofs.WordForms.{flags_of, flags_below, ip_again, words_same, AreWords, words_read, length-changed, IsLoad, loads_read}
 
 -- 1. States.
 
@@ -118,6 +119,16 @@ length-pointers (w ∷ words) = ap suc (length-pointers words)
 flags_16 : (bs : List Bool) → length bs ≡ 16 → number_of_flags bs < 65536
 flags_16 bs e = let P : ℕ → Type 0 = λ n. number_of_flags bs < 2 ^ n in subst P e (flags_below bs)
 
+registers_of : (bs : List Bool) → length bs ≡ 16 → register_flags (number_of_flags bs) ≡ bs
+unfolding register_flags
+registers_of bs e = flags_of 16 bs e
+
+low_again : (n : ℕ) → n < 65536 → n % 65536 ≡ n
+low_again n lt = omega (arith, lt)
+
+few_again : (n : ℕ) → n ≤ 16 → few_loads n ≡ n
+few_again n le = ap (λ b. if b then 16 else n) (le-ltb 16 n le)
+
 -- 3. One slot.
 
 -- a slot that can be kept as its difference from another
@@ -133,8 +144,8 @@ pub record IsKeepable (base s : Slot) : Type 0 where
   pub ip : IsWellFormed s.ip
   pub fetches : can_fetch s.ip.perm ≡ true
   pub flags : length s.empty ≡ 16
-  pub few : length s.pending < 32
-  pub loads : AllByRecursion (λ (p : Pending). IsWord p.word) s.pending
+  pub few : length s.pending ≤ 16
+  pub loads : AllByRecursion IsLoad s.pending
 
 module _ (base : Slot) where
   abbrev finished : SlotState → Bool → List Bool → Pointer → List Word → List Pending × List ℕ → Slot × List ℕ
@@ -173,8 +184,8 @@ module _ (base : Slot) where
     tail = (changed_bits base.regs s.regs ++ flat_map load_form s.pending) ++ ns
 
     opened : slot_from base (slot_form base s ++ ns)
-        ≡ made (state_at (slot_head s % 32)) (slot_head s / 32 % 2 == 1) (slot_head s / 64 % 32) (flags 16 (slot_head s / 2048))
-        (flags 16 (slot_masks base s % 65536)) (flags 16 (slot_masks base s / 65536)) (ip_of base.ip (bits_of s.ip)) tail
+        ≡ made (state_at (slot_head s % 32)) (slot_head s / 32 % 2 == 1) (few_loads (slot_head s / 64 % 32)) (register_flags (slot_head s / 2048 % 65536))
+        (register_flags (slot_masks base s % 65536)) (register_flags (slot_masks base s / 65536)) (ip_of base.ip (bits_of s.ip)) tail
     unfolding slot_from slot_form
     opened = refl
 
@@ -190,25 +201,28 @@ module _ (base : Slot) where
     past_is : (slot_head s / 32 % 2 == 1) ≡ s.past
     past_is = ap (λ n. n == 1) (head_past a b c d small_a small_b) ∙ one_back s.past
 
-    count_is : slot_head s / 64 % 32 ≡ length s.pending
-    count_is = head_loads a b c d small_a small_b k.few
+    fewer : c < 32
+    fewer = let few = k.few in omega (arith, few)
 
-    empty_is : flags 16 (slot_head s / 2048) ≡ s.empty
-    empty_is = ap (flags 16) (head_empty a b c d small_a small_b k.few) ∙ flags_of 16 s.empty k.flags
+    count_is : few_loads (slot_head s / 64 % 32) ≡ length s.pending
+    count_is = ap few_loads (head_loads a b c d small_a small_b fewer) ∙ few_again c k.few
 
-    changed_is : flags 16 (slot_masks base s % 65536) ≡ changed
-    changed_is = ap (flags 16) (masks_low (number_of_flags changed) (number_of_flags tagged) (flags_16 changed long_changed)) ∙ flags_of 16 changed long_changed
+    empty_is : register_flags (slot_head s / 2048 % 65536) ≡ s.empty
+    empty_is = ap (λ n. register_flags (n % 65536)) (head_empty a b c d small_a small_b fewer) ∙ ap register_flags (low_again d (flags_16 s.empty k.flags)) ∙ registers_of s.empty k.flags
 
-    tagged_is : flags 16 (slot_masks base s / 65536) ≡ tagged
+    changed_is : register_flags (slot_masks base s % 65536) ≡ changed
+    changed_is = ap register_flags (masks_low (number_of_flags changed) (number_of_flags tagged) (flags_16 changed long_changed)) ∙ registers_of changed long_changed
+
+    tagged_is : register_flags (slot_masks base s / 65536) ≡ tagged
     tagged_is =
-        ap (flags 16) (masks_high (number_of_flags changed) (number_of_flags tagged) (flags_16 changed long_changed))
-        ∙ flags_of 16 tagged (length-pointers s.regs ∙ k.count)
+        ap register_flags (masks_high (number_of_flags changed) (number_of_flags tagged) (flags_16 changed long_changed))
+        ∙ registers_of tagged (length-pointers s.regs ∙ k.count)
 
     ip_is : ip_of base.ip (bits_of s.ip) ≡ s.ip
     ip_is = ip_again base.ip s.ip k.ip k.fetches
 
-    made_is : made (state_at (slot_head s % 32)) (slot_head s / 32 % 2 == 1) (slot_head s / 64 % 32) (flags 16 (slot_head s / 2048))
-        (flags 16 (slot_masks base s % 65536)) (flags 16 (slot_masks base s / 65536)) (ip_of base.ip (bits_of s.ip)) tail
+    made_is : made (state_at (slot_head s % 32)) (slot_head s / 32 % 2 == 1) (few_loads (slot_head s / 64 % 32)) (register_flags (slot_head s / 2048 % 65536))
+        (register_flags (slot_masks base s % 65536)) (register_flags (slot_masks base s / 65536)) (ip_of base.ip (bits_of s.ip)) tail
         ≡ made s.state s.past (length s.pending) s.empty changed tagged s.ip tail
     made_is = λ j. made (state_is j) (past_is j) (count_is j) (empty_is j) (changed_is j) (tagged_is j) (ip_is j) tail
 

@@ -1,6 +1,6 @@
 -- A turn reads no count of turns, so it is the same in a core without these counts, but for them.
-use Rattle.std.proofs.Common.{◌≡◌, ℕ, ◌+◌, ◌-◌, Bool, true, false, ◌&&◌, ◌||◌, ◌==◌, nat_le, if◌then◌else◌, pos, ℤ, slice_set, List, [], ◌∷◌, ◌++◌, map, length, Option, Some, None, Result, Ok, Err, refl, sym, ap, ◌∙◌}
-use Rattle.mm_word.specs.declared.perm.Kind.TheVariants.{Fetch, Store}
+use Rattle.std.proofs.Common.{◌≡◌, ℕ, ◌+◌, ◌-◌, Bool, true, false, ◌&&◌, ◌||◌, ◌==◌, nat_le, if◌then◌else◌, pos, ℤ, slice_set, List, [], ◌∷◌, ◌++◌, map, Option, Some, None, Result, Ok, Err, refl, sym, ap, ◌∙◌}
+use Rattle.mm_word.specs.declared.perm.Kind.TheVariants.{Fetch}
 use Rattle.mm_word.specs.declared.cause.Cause.{Cause}
 use Rattle.mm_word.specs.declared.cause.Cause.TheVariants as cause
 use Rattle.mm_word.specs.declared.word.Pre.{Pre}
@@ -24,15 +24,15 @@ use Rattle.mm_model.specs.declared.event.Event.{Event}
 use Rattle.mm_model.specs.Memory.{Memory, cell_at, passes}
 use Rattle.mm_model.specs.Uses.{Use, Accessed}
 use Rattle.mm_model.specs.Slot.{Slot, register, is_empty}
-use Rattle.mm_model.specs.State.{Row, Core, State, row_in, slot_of, queue_of, slot_at, queue_at, at_number, put_slot, put_queue, output_of, put_output}
+use Rattle.mm_model.specs.State.{Row, Core, row_in, slot_of, queue_of, slot_at, queue_at, at_number, put_slot, put_queue, output_of, put_output}
 use Rattle.mm_model.specs.Operands.{addr_operand, value_operand, field_a, field_b, field_imm, fields_d, word_a, word_b, field_empty, lacks}
 use Rattle.std.specs.List.{list_any}
 use Rattle.mm_model.specs.Ask.{Ask, ask, is_privileged}
 use Rattle.mm_model.specs.Ask.Ask.{Nothing, Refuse, Reach, MapPage, UnmapPage, NextEvent, Room, Serve}
-use Rattle.mm_model.specs.Effect.{Reply, Change, Pages, Effect, effect, delivers, delivered, sets, sets_pointer, sets_number, if_pointer, puts_out, loaded, stored, at_distance, branches, jumps, links, takes, resumed_by, resumes, reads_of, writes_of, maps, unmaps, plain}
+use Rattle.mm_model.specs.Effect.{Reply, Change, Effect, effect, delivers, delivered, sets, sets_pointer, sets_number, if_pointer, puts_out, loaded, stored, at_distance, branches, jumps, links, takes, resumed_by, resumes, reads_of, writes_of, maps, unmaps, plain}
 use Rattle.mm_model.specs.Effect.Reply.{Fine, Refused, Got, Paged, NoEvent, Took, Served}
 use Rattle.mm_model.specs.Effect.Effect.{Fault, Block, Deliver, Does}
-use Rattle.mm_model.specs.Turn.{Turned, reached, event_reply, first_event, is_running, is_handler, is_taken, served, reply, put_all, state_after, slot_after, with_issue, with_other, with_queue, with_out, core_after, memory_after, stood, is_sync, event_of, core_faulted, tick_faulted, faulted, touch_of, asked_use, blocked, ended, executed, issued, decoded, instr_in, fetched, aimed, started, idle, arrives, port_of, taken_by_port, taken_by, turn}
+use Rattle.mm_model.specs.Turn.{Turned, reached, event_reply, first_event, is_running, is_handler, is_taken, served, reply, put_all, state_after, slot_after, with_issue, with_other, with_queue, with_out, core_after, memory_after, stood, is_sync, event_of, core_faulted, faulted, touch_of, asked_use, blocked, ended, executed, issued, decoded, instr_in, fetched, aimed, started, idle, arrives, port_of, taken_by_port, taken_by, turn}
 use Rattle.mm_explore.specs.Configurations.{uncounted_slot, uncounted_row, uncounted}
 
 -- 1. Cores without counts of turns.

@@ -1,18 +1,18 @@
 -- Words, flags and registers, read again from their numbers.
-use Rattle.std.proofs.Common.{◌≡◌, ℕ, zero, suc, ◌+◌, ◌*◌, ◌-◌, ◌/◌, ◌%◌, ◌^◌, ◌<◌, ◌≤◌, Bool, true, false, not, ◌&&◌, if◌then◌else◌, List, [], ◌∷◌, ◌++◌, map, length, refl, sym, ap, ◌∙◌, subst, arith, eqb-true, append_assoc}
-use Rattle.std.specs.Prelude.{◌==◌, is_some}
+use Rattle.std.proofs.Common.{◌≡◌, ℕ, suc, ◌+◌, ◌*◌, ◌/◌, ◌%◌, ◌^◌, ◌<◌, ◌≤◌, Bool, true, false, not, ◌&&◌, if◌then◌else◌, List, [], ◌∷◌, ◌++◌, map, length, refl, sym, ap, ◌∙◌, arith, eqb-true, append_assoc}
+use Rattle.std.specs.Prelude.{◌==◌}
 use Rattle.std.specs.List.{AllByRecursion, flat_map}
-use Rattle.std.proofs.lemmas.Bool.{cases_Bool, le-leb}
+use Rattle.std.proofs.lemmas.Bool.{le-leb}
 use Rattle.mm_word.specs.declared.word.Word.{Word}
 use Rattle.mm_word.specs.declared.word.Word.TheVariants.{Int, Ptr}
-use Rattle.mm_word.specs.Perm.{can_fetch, code_of, perm_of}
+use Rattle.mm_word.specs.Perm.{can_fetch, code_of}
 use Rattle.mm_word.specs.Pointer.{Pointer, IsWellFormed, pointer_of, bits_of, spells_pointer}
 use Rattle.mm_word.specs.Word.{IsWord, word_bits, is_pointer}
 use Rattle.mm_word.proofs.Packing.{perm_of-code_of, code_of-in_range, fields_of_bits, pointer_of-bits_of, bits_of-injective}
 use Rattle.mm_model.specs.declared.slot.Pending.{Pending}
 use Rattle.mm_model.specs.Effect.{same_word}
 use Rattle.mm_model.specs.Flags.{one_if, flags, number_of_flags}
-use Rattle.mm_explore.specs.Kept.{first_number, behind, packed, word_of, word_form, word_from, changed_flags, changed_bits, words_from, load_form, loads_from, ip_of}
+use Rattle.mm_explore.specs.Kept.{word_of, word_form, word_from, changed_flags, changed_bits, words_from, load_form, loads_from, ip_of}
 
 -- 1. Flags.
 
@@ -105,12 +105,19 @@ length-changed [] (w ∷ words) e = absurd (omega (arith, e))
 length-changed (b ∷ base) [] e = absurd (omega (arith, e))
 length-changed (b ∷ base) (w ∷ words) e = ap suc (length-changed base words (omega (arith, e)))
 
-pub loads_read : (loads : List Pending) (ns : List ℕ) → AllByRecursion (λ (p : Pending). IsWord p.word) loads
-    → loads_from (length loads) (flat_map load_form loads ++ ns) ≡ (loads, ns)
+-- a load that can be kept
+pub record IsLoad (p : Pending) : Type 0 where
+  pub reg : p.reg < 16
+  pub word : IsWord p.word
+
+pub loads_read : (loads : List Pending) (ns : List ℕ) → AllByRecursion IsLoad loads → loads_from (length loads) (flat_map load_form loads ++ ns) ≡ (loads, ns)
 loads_read [] ns h = refl
 loads_read (p ∷ loads) ns h =
     let tail = flat_map load_form loads ++ ns in
-    let make : Word × List ℕ → List Pending × List ℕ = λ w. let later = loads_from (length loads) w.1 in (record { reg = p.reg; word = w.0 } ∷ later.0, later.1) in
-    ap (λ l. make (word_from l)) (append_assoc (word_form p.word) (flat_map load_form loads) ns)
-    ∙ ap make (word_read p.word tail h.0)
+    let low = h.0.reg in
+    let reg : p.reg % 256 ≡ p.reg = omega (arith, low) in
+    let make : ℕ → Word × List ℕ → List Pending × List ℕ = λ r w. let later = loads_from (length loads) w.1 in (record { reg = r; word = w.0 } ∷ later.0, later.1) in
+    ap (λ l. make (p.reg % 256) (word_from l)) (append_assoc (word_form p.word) (flat_map load_form loads) ns)
+    ∙ ap (λ r. make r (word_from (word_form p.word ++ tail))) reg
+    ∙ ap (make p.reg) (word_read p.word tail h.0.word)
     ∙ ap (λ (r : List Pending × List ℕ). (p ∷ r.0, r.1)) (loads_read loads ns h.1)

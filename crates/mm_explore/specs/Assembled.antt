@@ -1,5 +1,6 @@
 -- The state that the parts of a configuration make, and the states of which there are parts.
-use Rattle.std.specs.Prelude.{◌≡◌, ℕ, List, [], ◌∷◌, map}
+use Rattle.std.specs.List.{AllByRecursion}
+use Rattle.std.specs.Prelude.{◌<◌, ℕ, List, [], ◌∷◌, map}
 use Rattle.mm_word.specs.declared.word.Cell.{Cell}
 use Rattle.mm_model.specs.Memory.{Memory, page_at, put_cell}
 use Rattle.mm_model.specs.State.{State}
@@ -7,8 +8,7 @@ use Rattle.mm_model.specs.Image.{Image}
 use Rattle.mm_model.specs.Report.{cells_or_zero}
 use Rattle.mm_model.specs.Fits.{IsState, Fits, IsKept}
 use Rattle.mm_thread.specs.Parts.{core_of}
-use Rattle.mm_explore.specs.Configurations.{configuration}
-use Rattle.mm_explore.specs.Kept.{Parts, parts_of, kept}
+use Rattle.mm_explore.specs.Kept.{Parts}
 
 -- the page of a number as in the image, or zeros if the image has none
 abbrev pub base_page : Image → ℕ → ℕ × List Cell
@@ -35,3 +35,5 @@ pub record IsStateOf (i : Image) (s : State) : Type 0 where
   pub state : IsState s
   pub fits : Fits i s
   pub kept : IsKept s.core
+  -- outputs are bytes
+  pub bytes : AllByRecursion (λ output. AllByRecursion (λ byte. byte < 256) output) s.core.outputs

@@ -39,6 +39,7 @@ running_slots rows = map (λ row. row.slot.number) (filter runs rows)
 abbrev pub loaded_ports : List Row → List ℕ
 loaded_ports rows = map (λ row. 128 + row.slot.number) (filter has_load rows)
 
--- the moves of a state, ascending: its running slots and, in a split machine, the ports of its slots with a pending load
+-- the moves of a state, ascending: its running slots and, in a split machine, the ports of its slots with a pending
+-- load
 unfoldable pub moves : State → List ℕ
 moves s = running_slots s.core.rows ++ (if s.core.split then loaded_ports s.core.rows else [])

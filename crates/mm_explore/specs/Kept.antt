@@ -1,11 +1,12 @@
 -- The parts of a configuration, and the numbers by which it is kept: its difference from the image.
-use Rattle.std.specs.Prelude.{ℕ, zero, suc, ◌+◌, ◌*◌, ◌-◌, ◌/◌, ◌%◌, Bool, true, false, not, ◌&&◌, ◌==◌, nat_eq}
-use Rattle.std.specs.Prelude.{if◌then◌else◌, List, [], ◌∷◌, ◌++◌, map, length, take, drop, Option, Some, None}
+use Rattle.std.specs.Prelude.{ℕ, zero, suc, ◌+◌, ◌*◌, ◌-◌, ◌/◌, ◌%◌, Bool, true, false, not, ◌&&◌, ◌==◌, nat_eq, nat_lt}
+use Rattle.std.specs.Prelude.{if◌then◌else◌, List, [], ◌∷◌, ◌++◌, map, length, Some, None, Option}
 use Rattle.std.specs.List.{flat_map, list_any}
 use lib.Pointwise.{pointwise}
 use Rattle.mm_word.specs.declared.cause.Cause.{Cause}
 use Rattle.mm_word.specs.declared.cause.Cause.TheVariants.{NotPointer, Perm, Bounds, Align, NoPage, Sync, Illegal, Priv}
 use Rattle.mm_word.specs.declared.cause.Cause.TheVariants.{DivZero, Malformed, Trap, NoSlot, OutFull}
+use Rattle.mm_word.specs.declared.perm.Perm.TheVariants.{Key}
 use Rattle.mm_word.specs.declared.word.Word.{Word}
 use Rattle.mm_word.specs.declared.word.Word.TheVariants.{Int, Ptr}
 use Rattle.mm_word.specs.declared.word.Cell.{Cell}
@@ -23,7 +24,7 @@ use Rattle.mm_model.specs.Flags.{one_if, flags, number_of_flags}
 use Rattle.mm_model.specs.Image.{Image, start}
 use Rattle.mm_model.specs.Report.{same_bit, groups_of, changes}
 use Rattle.mm_model.specs.Slot.{Slot}
-use Rattle.mm_model.specs.State.{State, output_of}
+use Rattle.mm_model.specs.State.{Core, State, output_of}
 use Rattle.mm_thread.specs.Output.{Output}
 use Rattle.mm_machine.specs.Snapshot.{queued, page_numbers}
 use Rattle.mm_explore.specs.Configurations.{uncounted_slot, are_some}
@@ -43,8 +44,12 @@ pub record Parts : Type 0 where
   -- the cells that differ from the image's, each with its word
   pub cells : List (ℕ × Cell)
 
+-- the output of a group, with its number
+abbrev pub core_output : Core → ℕ → Output
+core_output core g = record { group = g; bytes = output_of core g }
+
 abbrev pub output_part : State → ℕ → Output
-output_part s g = record { group = g; bytes = output_of s.core g }
+output_part s g = core_output s.core g
 
 -- the parts of a state's configuration
 unfoldable pub parts_of : Image → State → Parts
@@ -97,10 +102,9 @@ changed_bits (b ∷ base) (w ∷ words) =
 changed_bits _ _ = []
 
 abbrev pub words_from : (changed tagged : List Bool) → List Word → List ℕ → List Word × List ℕ
-words_from (true ∷ changed) (t ∷ tagged) (b ∷ base) ns =
-    let later = words_from changed tagged base (behind ns) in (word_of t (first_number ns) ∷ later.0, later.1)
-words_from (false ∷ changed) (t ∷ tagged) (b ∷ base) ns =
-    let later = words_from changed tagged base ns in (b ∷ later.0, later.1)
+words_from (c ∷ changed) (t ∷ tagged) (b ∷ base) ns =
+    let later = words_from changed tagged base (if c then behind ns else ns) in
+    ((if c then word_of t (first_number ns) else b) ∷ later.0, later.1)
 words_from _ _ base ns = (base, ns)
 
 abbrev pub load_form : Pending → List ℕ
@@ -111,7 +115,11 @@ loads_from zero ns = ([], ns)
 loads_from (suc count) ns =
     let word = word_from (behind ns) in
     let later = loads_from count word.1 in
-    (record { reg = first_number ns; word = word.0 } ∷ later.0, later.1)
+    (record { reg = first_number ns % 256; word = word.0 } ∷ later.0, later.1)
+
+-- no more loads are read than there are registers
+abbrev pub few_loads : ℕ → ℕ
+few_loads count = if nat_lt 16 count then 16 else count
 
 -- the cause of a number
 abbrev pub cause_at : ℕ → Cause
@@ -131,6 +139,10 @@ state_at n =
 abbrev pub ip_of : Pointer → ℕ → Pointer
 ip_of other bits = if spells_pointer bits && can_fetch (pointer_of bits).perm then pointer_of bits else other
 
+-- the flags of the sixteen registers, the first in the lowest bit of a number
+unfoldable pub register_flags : ℕ → List Bool
+register_flags n = flags 16 n
+
 -- the state, `past`, the count of pending loads and the empty registers of a slot
 abbrev pub slot_head : Slot → ℕ
 slot_head s =
@@ -149,15 +161,16 @@ unfoldable pub slot_from : Slot → List ℕ → Slot × List ℕ
 slot_from base ns =
     let head = first_number ns in
     let masks = first_number (behind ns) in
-    let words = words_from (flags 16 (masks % 65536)) (flags 16 (masks / 65536)) base.regs (behind (behind (behind ns))) in
-    let loads = loads_from (head / 64 % 32) words.1 in (
+    let changed = register_flags (masks % 65536) in
+    let words = words_from changed (register_flags (masks / 65536)) base.regs (behind (behind (behind ns))) in
+    let loads = loads_from (few_loads (head / 64 % 32)) words.1 in (
       record base {
         regs = words.0;
         ip = ip_of base.ip (first_number (behind (behind ns)));
         past = head / 32 % 2 == 1;
         turns = 0;
         state = state_at (head % 32);
-        empty = flags 16 (head / 2048);
+        empty = register_flags (head / 2048 % 65536);
         pending = loads.0;
       },
       loads.1,
@@ -182,11 +195,14 @@ slot_forms (b ∷ base) (s ∷ slots) =
     if is_base b s then slot_forms base slots else slot_form b s ++ slot_forms base slots
 slot_forms _ _ = []
 
+-- a slot that differs is read, any other is as in the image
+abbrev pub slot_or_base : Bool → Slot → List ℕ → Slot × List ℕ
+slot_or_base true base ns = slot_from base ns
+slot_or_base false base ns = (uncounted_slot base, ns)
+
 abbrev pub slots_by : List Bool → List Slot → List ℕ → List Slot × List ℕ
-slots_by (true ∷ changed) (b ∷ base) ns =
-    let one = slot_from b ns in let later = slots_by changed base one.1 in (one.0 ∷ later.0, later.1)
-slots_by (false ∷ changed) (b ∷ base) ns =
-    let later = slots_by changed base ns in (uncounted_slot b ∷ later.0, later.1)
+slots_by (c ∷ changed) (b ∷ base) ns =
+    let one = slot_or_base c b ns in let later = slots_by changed base one.1 in (one.0 ∷ later.0, later.1)
 slots_by _ base ns = (base, ns)
 
 unfoldable pub slots_form : List Slot → List Slot → List ℕ
@@ -201,23 +217,29 @@ abbrev pub event_form : ℕ × Event → List ℕ
 event_form x =
     x.0 ∷ x.1.slot ∷ number_of x.1.cause ∷ bits_of x.1.ip ∷ word_form x.1.addr_op ++ word_form x.1.value_op
 
-abbrev pub event_from : List ℕ → (ℕ × Event) × List ℕ
+-- the pointer of these bits; a key if they spell none
+abbrev pub pointer_or_key : ℕ → Pointer
+pointer_or_key bits = if spells_pointer bits then pointer_of bits else record { perm = Key; log = 0; addr = 0 }
+
+-- the event, given its operands and the numbers before them
+abbrev pub event_with : List ℕ → Word × List ℕ → Word × List ℕ → (ℕ × Event) × List ℕ
+event_with ns addr value = (
+  (
+    first_number ns % 256,
+    record {
+      slot = first_number (behind ns) % 256;
+      cause = cause_at (first_number (behind (behind ns)));
+      ip = pointer_or_key (first_number (behind (behind (behind ns))));
+      addr_op = addr.0;
+      value_op = value.0;
+    },
+  ),
+  value.1,
+)
+
+unfoldable pub event_from : List ℕ → (ℕ × Event) × List ℕ
 event_from ns =
-    let tail = behind (behind (behind (behind ns))) in
-    let addr = word_from tail in
-    let value = word_from addr.1 in (
-      (
-        first_number ns,
-        record {
-          slot = first_number (behind ns);
-          cause = cause_at (first_number (behind (behind ns)));
-          ip = pointer_of (first_number (behind (behind (behind ns))));
-          addr_op = addr.0;
-          value_op = value.0;
-        },
-      ),
-      value.1,
-    )
+    let addr = word_from (behind (behind (behind (behind ns)))) in event_with ns addr (word_from addr.1)
 
 abbrev pub events_by : ℕ → List ℕ → List (ℕ × Event) × List ℕ
 events_by zero ns = ([], ns)
@@ -238,11 +260,18 @@ output_form o = length o.bytes ∷ o.bytes
 abbrev pub outputs_form : List Output → List ℕ
 outputs_form outputs = flat_map output_form outputs
 
+-- as many bytes, one a number
+abbrev pub bytes_by : ℕ → List ℕ → List ℕ × List ℕ
+bytes_by zero ns = ([], ns)
+bytes_by (suc count) ns =
+    let later = bytes_by count (behind ns) in (first_number ns % 256 ∷ later.0, later.1)
+
 abbrev pub outputs_from : List ℕ → List ℕ → List Output × List ℕ
 outputs_from [] ns = ([], ns)
 outputs_from (g ∷ groups) ns =
-    let later = outputs_from groups (drop (first_number ns) (behind ns)) in
-    (record { group = g; bytes = take (first_number ns) (behind ns) } ∷ later.0, later.1)
+    let bytes = bytes_by (first_number ns) (behind ns) in
+    let later = outputs_from groups bytes.1 in
+    (record { group = g; bytes = bytes.0 } ∷ later.0, later.1)
 
 -- 8. Pages and cells.
 
@@ -250,12 +279,22 @@ outputs_from (g ∷ groups) ns =
 unfoldable pub pages_form : List ℕ → List ℕ → List ℕ
 pages_form base pages = if pointwise nat_eq pages base then 0 ∷ [] else suc (length pages) ∷ pages
 
+-- as many numbers
+abbrev pub numbers_by : ℕ → List ℕ → List ℕ × List ℕ
+numbers_by zero ns = ([], ns)
+numbers_by (suc count) ns = let later = numbers_by count (behind ns) in (first_number ns ∷ later.0, later.1)
+
 abbrev pub pages_by : List ℕ → ℕ → List ℕ → List ℕ × List ℕ
 pages_by base zero ns = (base, ns)
-pages_by base (suc count) ns = (take count ns, drop count ns)
+pages_by base (suc count) ns = numbers_by count ns
 
 unfoldable pub pages_from : List ℕ → List ℕ → List ℕ × List ℕ
 pages_from base ns = pages_by base (first_number ns) (behind ns)
+
+-- the pages that are given; those of the image if none are
+abbrev pub listed : List ℕ → Option (List ℕ) → List ℕ
+listed base None = base
+listed base (Some pages) = pages
 
 abbrev pub cell_form : ℕ × Cell → List ℕ
 cell_form x = packed 2 (one_if x.1.full) (packed 2 (one_if (is_pointer x.1.word)) x.0) ∷ word_bits x.1.word ∷ []
@@ -263,12 +302,25 @@ cell_form x = packed 2 (one_if x.1.full) (packed 2 (one_if (is_pointer x.1.word)
 abbrev pub cells_form : List (ℕ × Cell) → List ℕ
 cells_form cells = flat_map cell_form cells
 
+-- the cell of two numbers, and its word
+abbrev pub cell_of : (head bits : ℕ) → ℕ × Cell
+cell_of head bits = (head / 4, record { word = word_of (head / 2 % 2 == 1) bits; full = head % 2 == 1 })
+
 abbrev pub cells_from : List ℕ → List (ℕ × Cell)
-cells_from (head ∷ bits ∷ ns) =
-    (head / 4, record { word = word_of (head / 2 % 2 == 1) bits; full = head % 2 == 1 }) ∷ cells_from ns
+cells_from (head ∷ bits ∷ ns) = cell_of head bits ∷ cells_from ns
 cells_from _ = []
 
 -- 9. All parts.
+
+-- parts, with the pages of the image if none are given
+abbrev pub held_parts : Image → List Slot → List (ℕ × Event) → List Output → Option (List ℕ) → List (ℕ × Cell) → Parts
+held_parts i slots events outputs pages cells = record {
+  slots = slots;
+  events = events;
+  outputs = outputs;
+  pages = listed (page_numbers i.memory.pages) pages;
+  cells = cells;
+}
 
 -- the numbers of parts
 unfoldable pub numbers_of : Image → Parts → List ℕ

@@ -1,6 +1,5 @@
 -- What holds of every exploration.
-use Rattle.std.specs.Prelude.{◌≡◌, ◌↔◌, ℕ, ◌≤◌, Bool, true, List, [], ◌∷◌, ◌++◌, Contains, Option, Some, IsSome}
-use Rattle.mm_word.specs.declared.perm.Kind.{Kind}
+use Rattle.std.specs.Prelude.{◌≡◌, ◌↔◌, ℕ, true, List, [], ◌∷◌, ◌++◌, Contains, Some, IsSome}
 use Rattle.mm_word.specs.Access.{Touch}
 use Rattle.mm_model.specs.State.{State}
 use Rattle.mm_model.specs.Image.{Image, start}
@@ -11,7 +10,7 @@ use Rattle.mm_explore.specs.Configurations.{configuration, moves}
 use Rattle.mm_explore.specs.Schedules.{Before}
 use Rattle.mm_explore.specs.Explored.{leads_to, IsLeast, IsExplored, IsAll}
 use Rattle.mm_explore.specs.Findings.{Extension, extended, turn_at, any_kind, writes, Reaches, has_fault, first_fault}
-use Rattle.mm_explore.specs.Findings.{IsFinal, AreFinal, outcome_at, same_outcome, firsts}
+use Rattle.mm_explore.specs.Findings.{IsFinal, AreFinal, outcome_at, firsts}
 use Rattle.mm_explore.specs.Texts.{Explores}
 use Rattle.mm_explore.specs.Kept.{kept}
 

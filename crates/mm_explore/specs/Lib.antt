@@ -7,3 +7,13 @@ pub mod Texts
 pub mod Kept
 pub mod Assembled
 pub mod Laws
+pub mod Benches
+pub mod Edits
+pub mod Holds
+pub mod FoundLists
+pub mod Repeats
+pub mod Results
+pub mod Words
+pub mod Noting
+pub mod MoveLists
+pub mod Searching

@@ -1,5 +1,5 @@
 -- The order of schedules, which are lists of items.
-use Rattle.std.specs.Prelude.{◌≡◌, ◌⊎◌, ℕ, ◌<◌, List, [], ◌∷◌, length}
+use Rattle.std.specs.Prelude.{◌≡◌, ◌⊎◌, ℕ, ◌<◌, List, ◌∷◌, length}
 use Rattle.mm_explore.specs.Pairs.{EachPair}
 
 -- at the first place where two schedules differ, this one has the lesser item

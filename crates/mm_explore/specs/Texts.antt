@@ -10,7 +10,7 @@ use Rattle.mm_model.specs.Slot.{Slot}
 use Rattle.mm_model.specs.Run.{run}
 use Rattle.mm_model.specs.Report.{groups_of, group_line}
 use Rattle.mm_explore.specs.Explored.{IsExplored, IsAll}
-use Rattle.mm_explore.specs.Findings.{Extension, extended, Span, Reached, IsReached, first_fault, AreFinal, Outcome}
+use Rattle.mm_explore.specs.Findings.{Extension, extended, Span, Reached, IsReached, first_fault, AreFinal}
 use Rattle.mm_explore.specs.Findings.{outcome_at, firsts, count_like}
 
 -- 1. Schedules.

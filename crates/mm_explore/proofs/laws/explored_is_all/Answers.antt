@@ -1,4 +1,4 @@
-use Rattle.mm_explore.proofs.Found.{explored_is_all}
+use Rattle.mm_explore.proofs.FoundOnRuns.{explored_is_all}
 use Rattle.mm_explore.proofs.laws.explored_is_all.Goals as goal
 
 pub returns : goal.returns

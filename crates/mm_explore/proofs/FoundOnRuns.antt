@@ -1,7 +1,6 @@
 -- In a list that is all, what comes of every run is found.
-use Rattle.std.proofs.Common.{◌≡◌, ◌⊎◌, inl, inr, ℕ, ◌==◌, Bool, true, false, ◌&&◌, List, [], ◌∷◌, ◌++◌, Option, Some, None, refl, sym, ap, ◌∙◌, subst}
+use Rattle.std.proofs.Common.{◌≡◌, inl, inr, ℕ, ◌==◌, Bool, true, false, ◌&&◌, List, refl, sym, ap, ◌∙◌, subst}
 use Rattle.std.specs.Prelude.{Contains, IsSome}
-use Rattle.std.specs.List.{AllByRecursion}
 use Rattle.std.proofs.lemmas.Bool.{both_ways}
 use Rattle.mm_word.specs.declared.perm.Kind.{Kind}
 use Rattle.mm_word.specs.Access.{Touch}
@@ -9,12 +8,12 @@ use Rattle.mm_model.specs.declared.step.Step.{Step}
 use Rattle.mm_model.specs.State.{State}
 use Rattle.mm_model.specs.Image.{Image, start}
 use Rattle.mm_model.specs.Turn.{Turned, idle}
-use Rattle.mm_model.specs.Run.{turn_of, after, run}
+use Rattle.mm_model.specs.Run.{turn_of, run}
 use Rattle.mm_model.specs.Trace.{touches, group_in}
 use Rattle.mm_explore.specs.Configurations.{moves}
-use Rattle.mm_explore.specs.Explored.{leads_to, IsLeast, IsExplored, IsAll}
-use Rattle.mm_explore.specs.Findings.{Extension, extended, turn_at, extensions, explored_turns, any_kind, writes, Reaches, has_fault, first_fault, IsFinal, AreFinal, outcome_at, firsts}
-use Rattle.mm_explore.specs.Laws.{GoesOnAlike, GoOnAlike, IsFound, ExploredIsAll}
+use Rattle.mm_explore.specs.Explored.{leads_to, IsLeast}
+use Rattle.mm_explore.specs.Findings.{Extension, turn_at, extensions, explored_turns, any_kind, writes, Reaches, has_fault, first_fault, IsFinal, AreFinal, outcome_at, firsts}
+use Rattle.mm_explore.specs.Laws.{GoesOnAlike, ExploredIsAll}
 use Rattle.mm_explore.proofs.Members.{none_in, in_map, in_flat, all_at, finds_some}
 use Rattle.mm_explore.proofs.Goings.{same_outcomes}
 use Rattle.mm_explore.proofs.Movings.{moves_or_idles}

@@ -1,0 +1,51 @@
+-- Lines of results so far, and of what is left.
+use Rattle.std.proofs.Common.{◌≡◌, ℕ, List, [], ◌∷◌, ◌++◌, refl, sym, ap, ◌∙◌, subst, append_assoc, append-nil}
+use Rattle.std.specs.List.{AllZip, flat_map}
+use Rattle.std.proofs.lemmas.Grind.{flat_map-append}
+
+-- each of a list stands in a relation to one of another list, results have the lines of the first of them, and the rest is left
+pub record LeftOver {A B O : Type 0} (R : A → B → Type 0) (lines : A → List ℕ) (text : O → List ℕ) (all : List A) (begin : List ℕ) (out : List O) (rest : List B) : Type 0 where
+  pub left : List A
+  pub stand : AllZip R left rest
+  pub same : flat_map text out ++ flat_map lines left ≡ begin ++ flat_map lines all
+
+module _ {A B O : Type 0} (R : A → B → Type 0) (lines : A → List ℕ) (text : O → List ℕ) (all : List A) where
+  pub left_begin : (out : List O) (entries : List B) → AllZip R all entries → LeftOver R lines text all (flat_map text out) out entries
+  left_begin out entries h = record { left = all; stand = h; same = refl }
+
+  -- what is known of the next
+  pub record Next (b : B) : Type 0 where
+    pub a : A
+    pub stands : R a b
+
+  next_of : (left : List A) (b : B) (rest : List B) → AllZip R left (b ∷ rest) → Next b
+  next_of [] b rest h = absurd h
+  next_of (a ∷ left) b rest h = record { a = a; stands = h.0 }
+
+  pub left_next : (begin : List ℕ) (out : List O) (now rest : List B) (b : B) → now ≡ b ∷ rest → LeftOver R lines text all begin out now → Next b
+  left_next begin out now rest b is h = next_of h.left b rest (subst (AllZip R h.left) is h.stand)
+
+  more_of : (begin : List ℕ) (out more : List O) (o : O) (b : B) (rest : List B) → more ≡ out ++ o ∷ [] → ((a : A) → R a b → text o ≡ lines a) → (left : List A) → AllZip R left (b ∷ rest)
+      → flat_map text out ++ flat_map lines left ≡ begin ++ flat_map lines all → LeftOver R lines text all begin more rest
+  more_of begin out more o b rest pushed one [] h same = absurd h
+  more_of begin out more o b rest pushed one (a ∷ left) h same = record {
+    left = left;
+    stand = h.1;
+    same =
+        ap (λ l. flat_map text l ++ flat_map lines left) pushed
+        ∙ ap (λ l. l ++ flat_map lines left) (flat_map-append text out (o ∷ []) ∙ ap (λ l. flat_map text out ++ l) (append-nil (text o)))
+        ∙ append_assoc (flat_map text out) (text o) (flat_map lines left)
+        ∙ ap (λ l. flat_map text out ++ (l ++ flat_map lines left)) (one a h.0)
+        ∙ same;
+  }
+
+  pub left_more : (begin : List ℕ) (out more : List O) (o : O) (b : B) (now rest : List B) → now ≡ b ∷ rest → more ≡ out ++ o ∷ [] → ((a : A) → R a b → text o ≡ lines a)
+      → LeftOver R lines text all begin out now → LeftOver R lines text all begin more rest
+  left_more begin out more o b now rest is pushed one h = more_of begin out more o b rest pushed one h.left (subst (AllZip R h.left) is h.stand) h.same
+
+  end_of : (begin : List ℕ) (out : List O) (left : List A) → AllZip R left [] → flat_map text out ++ flat_map lines left ≡ begin ++ flat_map lines all → flat_map text out ≡ begin ++ flat_map lines all
+  end_of begin out [] h same = sym (append-nil (flat_map text out)) ∙ same
+  end_of begin out (a ∷ left) h same = absurd h
+
+  pub left_none : (begin : List ℕ) (out : List O) (now : List B) → now ≡ [] → LeftOver R lines text all begin out now → flat_map text out ≡ begin ++ flat_map lines all
+  left_none begin out now none h = end_of begin out h.left (subst (AllZip R h.left) none h.stand) h.same

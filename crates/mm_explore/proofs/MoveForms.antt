@@ -1,0 +1,69 @@
+-- The moves of a configuration are those of its slots.
+use Rattle.std.proofs.Common.{◌≡◌, ℕ, ◌+◌, ◌<◌, Bool, true, false, ◌||◌, cond, if◌then◌else◌, List, [], ◌∷◌, ◌++◌, map, refl, sym, ap, ◌∙◌, subst}
+use Rattle.std.specs.List.{AllByRecursion, filter, flat_map, list_any, range_with_len}
+use Rattle.mm_model.specs.Fits.{IsSlot, slots_of}
+use Rattle.mm_model.specs.Groups.{has_group}
+use Rattle.mm_model.specs.Image.{Image, start}
+use Rattle.mm_model.specs.Report.{is_of, groups_of}
+use Rattle.mm_model.specs.Slot.{Slot}
+use Rattle.mm_model.specs.Spelling.{IsImage}
+use Rattle.mm_model.specs.State.{Row, State}
+use Rattle.mm_model.specs.Turn.{is_running}
+use Rattle.mm_explore.specs.Assembled.{IsStateOf}
+use Rattle.mm_explore.specs.Configurations.{uncounted_slot, runs, has_load, are_some, running_slots, loaded_ports, moves}
+use Rattle.mm_explore.specs.MoveLists.{running_item, loaded_item, ports_in, moves_in}
+
+-- 1. Moves.
+
+bare : List Row → List Slot
+bare rows = map uncounted_slot (map (λ (row : Row). row.slot) rows)
+
+running_are : (rows : List Row) → flat_map running_item (map uncounted_slot (map (λ (row : Row). row.slot) rows)) ≡ running_slots rows
+running_are [] = refl
+running_are (row ∷ rows) =
+    ap (λ l. (if is_running row.slot.state then row.slot.number ∷ [] else []) ++ l) (running_are rows) ∙ by (is_running row.slot.state)
+  where
+    by : (b : Bool) → (if b then row.slot.number ∷ [] else []) ++ running_slots rows ≡ map (λ (r : Row). r.slot.number) (cond b (row ∷ filter runs rows) (filter runs rows))
+    by true = refl
+    by false = refl
+
+loaded_are : (rows : List Row) → flat_map loaded_item (map uncounted_slot (map (λ (row : Row). row.slot) rows)) ≡ loaded_ports rows
+loaded_are [] = refl
+loaded_are (row ∷ rows) =
+    ap (λ l. (if are_some row.slot.pending then (128 + row.slot.number) ∷ [] else []) ++ l) (loaded_are rows) ∙ by (are_some row.slot.pending)
+  where
+    by : (b : Bool) → (if b then (128 + row.slot.number) ∷ [] else []) ++ loaded_ports rows ≡ map (λ (r : Row). 128 + r.slot.number) (cond b (row ∷ filter has_load rows) (filter has_load rows))
+    by true = refl
+    by false = refl
+
+pub moves_are : (s : State) (split : Bool) (slots : List Slot) → split ≡ s.core.split → slots ≡ map uncounted_slot (slots_of s.core) → moves_in split slots ≡ moves s
+unfolding moves
+moves_are s split slots e is =
+    let own : List Slot = map uncounted_slot (slots_of s.core) in
+    ap (moves_in split) is ∙ ap (λ b. moves_in b own) e
+    ∙ ap (λ l. l ++ ports_in s.core.split own) (running_are s.core.rows)
+    ∙ ap (λ l. running_slots s.core.rows ++ (if s.core.split then l else [])) (loaded_are s.core.rows)
+
+small_in : (rows : List Row) → AllByRecursion IsSlot (map (λ (row : Row). row.slot) rows) → AllByRecursion (λ (s : Slot). s.number < 64) (map uncounted_slot (map (λ (row : Row). row.slot) rows))
+small_in [] h = tt
+small_in (row ∷ rows) h = (h.0.number, small_in rows h.1)
+
+pub small_numbers : (i : Image) (s : State) (slots : List Slot) → IsStateOf i s → slots ≡ map uncounted_slot (slots_of s.core) → AllByRecursion (λ (x : Slot). x.number < 64) slots
+small_numbers i s slots h is = subst (AllByRecursion (λ (x : Slot). x.number < 64)) (sym is) (small_in s.core.rows h.state.core.slots)
+
+-- 2. Groups.
+
+any_started : (g : ℕ) (slots : List Slot) → list_any (is_of g) (map (λ s. let row : Row = record { slot = s; queue = [] } in row) slots) ≡ has_group slots g
+any_started g [] = refl
+any_started g (s ∷ slots) = ap (λ b. is_of g (record { slot = s; queue = [] }) || b) (any_started g slots)
+
+filter_same : (p q : ℕ → Bool) → ((x : ℕ) → p x ≡ q x) → (xs : List ℕ) → filter p xs ≡ filter q xs
+filter_same p q h [] = refl
+filter_same p q h (x ∷ xs) = ap (λ l. cond (p x) (x ∷ l) l) (filter_same p q h xs) ∙ ap (λ b. cond b (x ∷ filter q xs) (filter q xs)) (h x)
+
+pub groups_start : (i : Image) → filter (has_group i.slots) (range_with_len 0 64) ≡ groups_of (start i).core
+unfolding start
+groups_start i = sym (filter_same (λ g. list_any (is_of g) (map (λ s. let row : Row = record { slot = s; queue = [] } in row) i.slots)) (has_group i.slots) (λ g. any_started g i.slots) (range_with_len 0 64))
+
+pub groups_from : (i : Image) (slots : List Slot) (groups : List ℕ) → slots ≡ i.slots → groups ≡ filter (has_group slots) (range_with_len 0 64) → groups ≡ groups_of (start i).core
+groups_from i slots groups same is = is ∙ filter_same (has_group slots) (has_group i.slots) (λ g. ap (λ l. has_group l g) same) (range_with_len 0 64) ∙ groups_start i

@@ -1,0 +1,96 @@
+-- One turn more, and one final schedule more, is noted.
+use Rattle.std.proofs.Common.{◌≡◌, ℕ, ◌+◌, ◌<◌, ◌^◌, Bool, true, false, cond, nat_eq, List, [], ◌∷◌, ◌++◌, length, Option, Some, None, slice_get, Result, Ok, Err, OnOk, refl, sym, ap, ◌∙◌, subst, append-nil}
+use Rattle.std.specs.List.{AllZip, AllByRecursion, find, flat_map}
+use Rattle.std.specs.Option.{option_or}
+use Rattle.std.specs.BTreeMap.{get, BTreeMap}
+use Rattle.std.specs.Global.{Vec}
+use Rattle.std.proofs.lemmas.Grind.{flat_map-append}
+use Rattle.std.proofs.lemmas.List.Folds.{find-append}
+use Rattle.indexmap.specs.IndexMap.{insert_entry, IsUnique}
+use Rattle.indexmap.specs.IndexMap as index
+use lib.Pointwise.{pointwise}
+use Rattle.mm_word.specs.declared.perm.Kind.{Kind}
+use Rattle.mm_model.specs.declared.step.Step.{Step}
+use Rattle.mm_model.specs.Image.{Image}
+use Rattle.mm_model.specs.Trace.{group_in}
+use Rattle.mm_explore.specs.declared.ends.Tally.{Tally}
+use Rattle.mm_explore.specs.declared.findings.Findings.{Findings}
+use Rattle.mm_explore.specs.declared.found.Origin.{Origin}
+use Rattle.mm_explore.specs.Findings.{Extension, turn_at, any_kind, writes, has_fault, IsFinal, outcome_at, firsts}
+use Rattle.mm_explore.specs.FoundLists.{IsOrigin}
+use Rattle.mm_explore.specs.Noting.{IsFrom, first_kept, first_in, outcome_form, IsEnd, tally_after, Noted, Ended}
+use Rattle.mm_explore.specs.Words.{order, AreKept, step_words, turn_words}
+use Rattle.mm_explore.proofs.Notings.{final_more}
+use Rattle.mm_explore.proofs.Tallies.{ends_more, counts_fit}
+
+pub both_ok : {T E P Q R : Type 0} → (r : Result T E) → (P → Q → R) → OnOk r P → OnOk r Q → OnOk r R
+both_ok (Ok t) f h k = f h k
+both_ok (Err e) f h k = h
+
+-- 1. A turn.
+
+words_with : (passes : Kind → Bool) (i : Image) (done : List Extension) (x : Extension) (step : Step) (group : ℕ) → step ≡ (turn_at i x).step → group ≡ group_in (turn_at i x)
+    → flat_map (turn_words passes i) done ++ step_words passes group step ≡ flat_map (turn_words passes i) (done ++ x ∷ [])
+words_with passes i done x step group is_step is_group =
+    (λ j. flat_map (turn_words passes i) done ++ step_words passes (is_group j) (is_step j))
+    ∙ ap (λ l. flat_map (turn_words passes i) done ++ l) (sym (append-nil (turn_words passes i x)))
+    ∙ sym (flat_map-append (turn_words passes i) done (x ∷ []))
+
+from_next : (list : List (List ℕ)) (was : Option Extension) (kept : Option Origin) (x : Extension) (o : Origin) (b : Bool) → IsFrom list was kept → IsOrigin list o x
+    → IsFrom list (option_or was (cond b (Some x) None)) (first_kept kept b o)
+from_next list None None x o true h is = is
+from_next list None None x o false h is = tt
+from_next list None (Some p) x o b h is = absurd h
+from_next list (Some y) None x o b h is = absurd h
+from_next list (Some y) (Some p) x o b h is = h
+
+module _ (i : Image) (list : List (List ℕ)) (done : List Extension) (x : Extension) (f g : Findings) (step : Step) (group : ℕ) (o : Origin) where
+  pub noted_next : Noted i list done f → IsOrigin list o x → step ≡ (turn_at i x).step → group ≡ group_in (turn_at i x)
+      → ((kept : List (ℕ × ℕ)) → AreKept kept f.words.touched.keys → AreKept (kept ++ step_words any_kind group step) g.words.touched.keys)
+      → ((kept : List (ℕ × ℕ)) → AreKept kept f.words.wrote.keys → AreKept (kept ++ step_words writes group step) g.words.wrote.keys)
+      → ((q : ℕ × ℕ) → get order g.faults q ≡ first_kept (get order f.faults q) (has_fault q.0 q.1 step) o)
+      → Noted i list (done ++ x ∷ []) g
+  noted_next h is is_step is_group touched wrote faults = record {
+    touched = subst (λ l. AreKept l g.words.touched.keys) (words_with any_kind i done x step group is_step is_group) (touched (flat_map (turn_words any_kind i) done) h.touched);
+    wrote = subst (λ l. AreKept l g.words.wrote.keys) (words_with writes i done x step group is_step is_group) (wrote (flat_map (turn_words writes i) done) h.wrote);
+    faults = λ slot cause.
+        let p : Extension → Bool = λ y. has_fault slot cause (turn_at i y).step in
+        let now : first_in i (done ++ x ∷ []) slot cause ≡ option_or (first_in i done slot cause) (cond (p x) (Some x) None) = find-append p done (x ∷ []) in
+        let key : get order g.faults (slot, cause) ≡ first_kept (get order f.faults (slot, cause)) (p x) o =
+            faults (slot, cause) ∙ ap (λ (s : Step). first_kept (get order f.faults (slot, cause)) (has_fault slot cause s) o) is_step in
+        subst (λ y. IsFrom list y (get order g.faults (slot, cause))) (sym now)
+        (subst (IsFrom list (option_or (first_in i done slot cause) (cond (p x) (Some x) None))) (sym key)
+        (from_next list (first_in i done slot cause) (get order f.faults (slot, cause)) x o (p x) (h.faults slot cause) is));
+  }
+
+pub noted_still : (i : Image) (list : List (List ℕ)) (done : List Extension) (f g : Findings) → g.words ≡ f.words → g.faults ≡ f.faults → Noted i list done f → Noted i list done g
+noted_still i list done f g words faults h = record {
+  touched = subst (λ w. AreKept (flat_map (turn_words any_kind i) done) w.touched.keys) (sym words) h.touched;
+  wrote = subst (λ w. AreKept (flat_map (turn_words writes i) done) w.wrote.keys) (sym words) h.wrote;
+  faults = λ slot cause. subst (λ fs. IsFrom list (first_in i done slot cause) (get order fs (slot, cause))) (sym faults) (h.faults slot cause);
+}
+
+pub ended_still : (i : Image) (list past : List (List ℕ)) (f g : Findings) → g.ends ≡ f.ends → Ended i list past f → Ended i list past g
+ended_still i list past f g ends h = record {
+  finals = h.finals;
+  are = h.are;
+  ends = subst (λ es. AllZip (λ t end. IsEnd i list h.finals t end.0.items end.1) (firsts i h.finals) es.entries) (sym ends) h.ends;
+  unique = subst (IsUnique (λ a b. pointwise nat_eq a.items b.items)) (sym ends) h.unique;
+}
+
+-- 2. An end.
+
+module _ (i : Image) (list past : List (List ℕ)) (t : List ℕ) (f g : Findings) (at : ℕ) where
+  pub ended_next : (key : Vec ℕ) → Ended i list past f → slice_get list at ≡ Some t → IsFinal i t → key.items ≡ outcome_form (outcome_at i t)
+      → g.ends.entries ≡ insert_entry (λ a b. pointwise nat_eq a.items b.items) f.ends.entries key (tally_after at (index.get (λ a b. pointwise nat_eq a.items b.items) f.ends key))
+      → IsUnique (λ a b. pointwise nat_eq a.items b.items) g.ends → Ended i list (past ++ t ∷ []) g
+  ended_next key h first final form entries unique = record {
+    finals = h.finals ++ t ∷ [];
+    are = final_more i past h.finals t final h.are;
+    ends = subst (AllZip (λ u end. IsEnd i list (h.finals ++ t ∷ []) u end.0.items end.1) (firsts i (h.finals ++ t ∷ []))) (sym entries)
+        (ends_more (λ k. k.items) i list h.finals t at key f.ends.entries first form h.unique h.ends);
+    unique = unique;
+  }
+
+pub room_is : (i : Image) (list past : List (List ℕ)) (f : Findings) → Ended i list past f → length past < 2 ^ 32 → AllByRecursion (λ end. end.1.count < 2 ^ 63) f.ends.entries
+room_is i list past f h few = counts_fit (λ k. k.items) i list past h.finals f.ends.entries h.are h.ends few

@@ -1,0 +1,552 @@
+-- One more turn of a search.
+use Rattle.std.proofs.Common.{◌≡◌, inl, inr, ℕ, zero, suc, ◌+◌, ◌^◌, ◌<◌, ◌≤◌, Bool, true, false, ◌&&◌, Vec, Global, List, [], ◌∷◌, ◌++◌, map, length, take, drop, slice_index_or, refl, sym, ap, ◌∙◌, subst, arith, append_assoc, append-nil, length-append}
+use Rattle.std.specs.Prelude.{◌==◌, Contains, Some, slice_get, Result, Ok, Err, IfOk, OnOk}
+use Rattle.std.specs.List.{AllByRecursion, flat_map}
+use Rattle.std.proofs.Math.Dec.{eqb-suc-zero}
+use Rattle.std.proofs.lemmas.List.{length-map}
+use Rattle.std.proofs.lemmas.List.Elements.{Contains-append_left, Contains-push}
+use Rattle.mm_model.specs.Fits.{slots_of}
+use Rattle.mm_model.specs.Image.{Image, start}
+use Rattle.mm_model.specs.Slot.{Slot}
+use Rattle.mm_model.specs.Report.{groups_of}
+use Rattle.mm_model.specs.Spelling.{IsImage}
+use Rattle.mm_model.specs.Run.{run}
+use Rattle.mm_explore.specs.declared.found.Looked.{Looked}
+use Rattle.mm_explore.specs.declared.found.Looked.TheVariants.{Known, New, Full}
+use Rattle.mm_explore.specs.declared.found.Origin.{Origin}
+use Rattle.mm_explore.specs.declared.parts.Parts as code
+use Rattle.mm_explore.specs.declared.search.Node.{Node}
+use Rattle.mm_explore.specs.declared.search.Search.{Search}
+use Rattle.mm_explore.specs.declared.bench.Bench.{Bench}
+use Rattle.mm_explore.specs.declared.findings.Findings.{Findings}
+use Rattle.mm_explore.specs.Benches.{IsAt, ArePartsAt, parts_held}
+use Rattle.mm_explore.specs.Configurations.{uncounted_slot, moves}
+use Rattle.mm_explore.specs.Explored.{leads_to, IsExplored, IsAll}
+use Rattle.mm_explore.specs.Findings.{Extension, extended, extensions, explored_turns, IsFinal, is_none}
+use Rattle.mm_explore.specs.FoundLists.{FoundList, led_by, Holds, Looks}
+use Rattle.mm_explore.specs.Kept.{Parts, parts_of, parts_from, kept}
+use Rattle.mm_explore.specs.MoveLists.{moves_in}
+use Rattle.mm_explore.specs.Noting.{Noted, Ended}
+use Rattle.mm_explore.specs.Searching.{GoesOn, IsFull, HasCome, IsBefore, IsNode, IsWithin, node_schedule, turns_before, turns_from, StaysBy, AllStay, all_after, Met, KeptBy}
+use Rattle.mm_explore.proofs.Keepables.{parts_again}
+use Rattle.mm_explore.proofs.KeptRuns.{kept_alike, kept_apart, runs_state_of}
+use Rattle.mm_explore.proofs.Members.{in_map, map_in, all_at}
+use Rattle.mm_explore.proofs.MoveForms.{moves_are, small_numbers}
+use Rattle.mm_explore.proofs.Notings.{noted_more, ended_more}
+use Rattle.mm_explore.proofs.Searches.{IsNew, search_begins, search_known, search_new, search_full, search_ends}
+
+-- 1. Lists up to an index and from it on.
+
+one_more : (k : ℕ) → k + 1 ≡ suc k
+one_more k = omega arith
+
+module _ {X : Type 0} where
+  take_suc : (xs : List X) (k : ℕ) (d : X) → k < length xs → take (suc k) xs ≡ take k xs ++ slice_index_or xs k d ∷ []
+  take_suc [] k d lt = absurd (omega (arith, lt))
+  take_suc (x ∷ xs) zero d lt = refl
+  take_suc (x ∷ xs) (suc k) d lt = ap (λ l. x ∷ l) (take_suc xs k d (omega (arith, lt)))
+
+  pub take_one : (xs : List X) (k : ℕ) (d : X) → k < length xs → take (k + 1) xs ≡ take k xs ++ slice_index_or xs k d ∷ []
+  take_one xs k d lt = ap (λ n. take n xs) (one_more k) ∙ take_suc xs k d lt
+
+  drop_suc : (xs : List X) (k : ℕ) (d : X) → k < length xs → drop k xs ≡ slice_index_or xs k d ∷ drop (suc k) xs
+  drop_suc [] k d lt = absurd (omega (arith, lt))
+  drop_suc (x ∷ xs) zero d lt = refl
+  drop_suc (x ∷ xs) (suc k) d lt = drop_suc xs k d (omega (arith, lt))
+
+  pub drop_one : (xs : List X) (k : ℕ) (d : X) → k < length xs → drop k xs ≡ slice_index_or xs k d ∷ drop (k + 1) xs
+  drop_one xs k d lt = drop_suc xs k d lt ∙ ap (λ n. slice_index_or xs k d ∷ drop n xs) (sym (one_more k))
+
+  pub take_front : (xs ys : List X) (k : ℕ) → k ≤ length xs → take k (xs ++ ys) ≡ take k xs
+  take_front xs ys zero le = refl
+  take_front [] ys (suc k) le = absurd (omega (arith, le))
+  take_front (x ∷ xs) ys (suc k) le = ap (λ l. x ∷ l) (take_front xs ys k (omega (arith, le)))
+
+  pub drop_front : (xs ys : List X) (k : ℕ) → k ≤ length xs → drop k (xs ++ ys) ≡ drop k xs ++ ys
+  drop_front xs ys zero le = refl
+  drop_front [] ys (suc k) le = absurd (omega (arith, le))
+  drop_front (x ∷ xs) ys (suc k) le = drop_front xs ys k (omega (arith, le))
+
+  pub take_whole : (xs : List X) (k : ℕ) → length xs ≡ k → take k xs ≡ xs
+  take_whole [] zero e = refl
+  take_whole [] (suc k) e = absurd (omega (arith, e))
+  take_whole (x ∷ xs) zero e = absurd (omega (arith, e))
+  take_whole (x ∷ xs) (suc k) e = ap (λ l. x ∷ l) (take_whole xs k (omega (arith, e)))
+
+  pub drop_whole : (xs : List X) (k : ℕ) → length xs ≡ k → drop k xs ≡ []
+  drop_whole [] zero e = refl
+  drop_whole [] (suc k) e = refl
+  drop_whole (x ∷ xs) zero e = absurd (omega (arith, e))
+  drop_whole (x ∷ xs) (suc k) e = drop_whole xs k (omega (arith, e))
+
+  at_front : (xs ys : List X) (k : ℕ) (d : X) → k < length xs → slice_index_or (xs ++ ys) k d ≡ slice_index_or xs k d
+  at_front [] ys k d lt = absurd (omega (arith, lt))
+  at_front (x ∷ xs) ys zero d lt = refl
+  at_front (x ∷ xs) ys (suc k) d lt = at_front xs ys k d (omega (arith, lt))
+
+  got_in : (xs : List X) (k : ℕ) (d : X) → k < length xs → slice_get xs k ≡ Some (slice_index_or xs k d)
+  got_in [] k d lt = absurd (omega (arith, lt))
+  got_in (x ∷ xs) zero d lt = refl
+  got_in (x ∷ xs) (suc k) d lt = got_in xs k d (omega (arith, lt))
+
+  at_any : (xs : List X) (k : ℕ) (d e : X) → k < length xs → slice_index_or xs k e ≡ slice_index_or xs k d
+  at_any [] k d e lt = absurd (omega (arith, lt))
+  at_any (x ∷ xs) zero d e lt = refl
+  at_any (x ∷ xs) (suc k) d e lt = at_any xs k d e (omega (arith, lt))
+
+  pub get_inside : (xs : List X) (k : ℕ) (d : X) → k < length xs → slice_get xs k ≡ Some (slice_index_or xs k d)
+  get_inside = got_in
+
+flat_push : {X Y : Type 0} (f : X → List Y) (xs : List X) (x : X) → flat_map f (xs ++ x ∷ []) ≡ flat_map f xs ++ f x
+flat_push f [] x = append-nil (f x)
+flat_push f (y ∷ xs) x = ap (λ l. f y ++ l) (flat_push f xs x) ∙ sym (append_assoc (f y) (flat_map f xs) (f x))
+
+map_at : {X Y : Type 0} (f : X → Y) (xs : List X) (k : ℕ) (d : X) (e : Y) → k < length xs → slice_index_or (map f xs) k e ≡ f (slice_index_or xs k d)
+map_at f [] k d e lt = absurd (omega (arith, lt))
+map_at f (x ∷ xs) zero d e lt = refl
+map_at f (x ∷ xs) (suc k) d e lt = map_at f xs k d e (omega (arith, lt))
+
+-- 2. The turns before and after one.
+
+module _ (i : Image) (list : List (List ℕ)) (at k : ℕ) where
+  abbrev here : List ℕ
+  here = slice_index_or list at []
+
+  abbrev pub turn_here : Extension
+  turn_here = record { schedule = slice_index_or list at []; item = slice_index_or (moves (run (start i) (slice_index_or list at []))) k 0 }
+
+  make : ℕ → Extension
+  make m = record { schedule = here; item = m }
+
+  long : length (extensions i here) ≡ length (moves (run (start i) here))
+  long = length-map (moves (run (start i) here)) (λ m. let x : Extension = record { schedule = here; item = m } in x)
+
+  module _ (move : k < length (moves (run (start i) here))) where
+    is_here : slice_index_or (extensions i here) k turn_here ≡ turn_here
+    is_here = map_at (λ m. let x : Extension = record { schedule = here; item = m } in x) (moves (run (start i) here)) k 0 turn_here move
+
+    within : k < length (extensions i here)
+    within = let e = long in omega (arith, e, move)
+
+    pub turns_next : turns_from i list at k ≡ turn_here ∷ turns_from i list at (k + 1)
+    turns_next =
+        let rest = flat_map (extensions i) (drop (at + 1) list) in
+        ap (λ l. l ++ rest) (drop_one (extensions i here) k turn_here within)
+        ∙ ap (λ (x : Extension). x ∷ (drop (k + 1) (extensions i here) ++ rest)) is_here
+
+    pub turns_made : turns_before i list at (k + 1) ≡ turns_before i list at k ++ turn_here ∷ []
+    turns_made =
+        let front = flat_map (extensions i) (take at list) in
+        ap (λ l. front ++ l) (take_one (extensions i here) k turn_here within ∙ ap (λ (x : Extension). take k (extensions i here) ++ x ∷ []) is_here)
+        ∙ sym (append_assoc front (take k (extensions i here)) (turn_here ∷ []))
+
+module _ (i : Image) (list more : List (List ℕ)) (at : ℕ) (inside : at < length list) where
+  pub same_here : slice_index_or (list ++ more) at [] ≡ slice_index_or list at []
+  same_here = at_front list more at [] inside
+
+  pub same_front : take at (list ++ more) ≡ take at list
+  same_front = take_front list more at (omega (arith, inside))
+
+  pub before_more : (k : ℕ) → turns_before i (list ++ more) at k ≡ turns_before i list at k
+  before_more k =
+      ap (λ l. flat_map (extensions i) l ++ take k (extensions i (slice_index_or (list ++ more) at []))) same_front
+      ∙ ap (λ t. flat_map (extensions i) (take at list) ++ take k (extensions i t)) same_here
+
+from_push : (i : Image) (list : List (List ℕ)) (n : List ℕ) (at k : ℕ) → at < length list → turns_from i (list ++ n ∷ []) at k ≡ turns_from i list at k ++ extensions i n
+from_push i list n at k inside =
+    let own = drop k (extensions i (slice_index_or list at [])) in
+    ap (λ t. drop k (extensions i t) ++ flat_map (extensions i) (drop (at + 1) (list ++ n ∷ []))) (same_here i list (n ∷ []) at inside)
+    ∙ ap (λ l. own ++ flat_map (extensions i) l) (drop_front list (n ∷ []) (at + 1) (omega (arith, inside)))
+    ∙ ap (λ l. own ++ l) (flat_push (extensions i) (drop (at + 1) list) n)
+    ∙ sym (append_assoc own (flat_map (extensions i) (drop (at + 1) list)) (extensions i n))
+
+-- 3. The search itself.
+
+module _ (i : Image) (img : IsImage i) (limit : ℕ) (list : List (List ℕ)) (done : List Extension) (x : Extension) (left : List Extension) where
+  full_next : IsFull i limit list done (x ∷ left) → IsFull i limit list (done ++ x ∷ []) left
+  full_next h = record { searched = h.searched; split = h.split ∙ sym (append_assoc done (x ∷ []) left); full = h.full }
+
+  goes_known : (all : Bool) → GoesOn all i limit list done (x ∷ left) → (v : List ℕ) → Contains list v → leads_to i v ≡ leads_to i (extended x) → GoesOn all i limit list (done ++ x ∷ []) left
+  goes_known true o v inside same = search_known i img limit list done x left o v inside same
+  goes_known false h v inside same = full_next h
+
+  goes_new : (all : Bool) → GoesOn all i limit list done (x ∷ left) → IsNew i list (extended x) → length list < limit
+      → GoesOn all i limit (list ++ extended x ∷ []) (done ++ x ∷ []) (left ++ extensions i (extended x))
+  goes_new true o new room = search_new i img limit list done x left o new room
+  goes_new false h new room = let full = h.full in absurd (omega (arith, full, room))
+
+  goes_full : (all : Bool) → GoesOn all i limit list done (x ∷ left) → IsNew i list (extended x) → length list ≡ limit → IsFull i limit list (done ++ x ∷ []) left
+  goes_full true o new full = record { searched = search_full i img limit list done x left o new full; split = o.split ∙ sym (append_assoc done (x ∷ []) left); full = full }
+  goes_full false h new full = full_next h
+
+-- 4. What the numbers tell.
+
+module _ (i : Image) (img : IsImage i) (f : FoundList) (held : Holds i f) (t : List ℕ) where
+  abbrev form_of : List ℕ → List ℕ
+  form_of u = kept i (run (start i) u)
+
+  pub apart : (u : List ℕ) → form_of u ≡ form_of t → leads_to i u ≡ leads_to i t
+  apart u e = kept_apart i (run (start i) u) (run (start i) t) img (runs_state_of i u img) (runs_state_of i t img) e
+
+  known_leads : Contains f.forms (form_of t) → (v : List ℕ) × Contains f.list v × (leads_to i v ≡ leads_to i t)
+  known_leads inside =
+      let from = map_in form_of f.list (form_of t) (subst (λ l. Contains l (form_of t)) held inside) in
+      (from.source, from.inside, apart from.source from.gives)
+
+  new_leads : (Contains f.forms (form_of t) → ⊥) → IsNew i f.list t
+  new_leads none v inside same =
+      none (subst (λ l. Contains l (form_of t)) (sym held) (subst (Contains (map form_of f.list)) (kept_alike i (run (start i) v) (run (start i) t) same) (in_map form_of f.list v inside)))
+
+module _ (i : Image) (img : IsImage i) (f : FoundList) (held : Holds i f) (at : ℕ) (inside : at < length f.list) where
+  forms_at : slice_get f.forms at ≡ Some (kept i (run (start i) (slice_index_or f.list at [])))
+  forms_at =
+      let form : List ℕ → List ℕ = λ u. kept i (run (start i) u) in
+      let long = length-map f.list form in
+      subst (λ l. slice_get l at ≡ Some (form (slice_index_or f.list at []))) (sym held)
+      (get_inside (map form f.list) at [] (omega (arith, long, inside)) ∙ ap Some (map_at form f.list at [] [] inside))
+
+  -- a move leads back exactly if the numbers are those that are kept
+  pub stays_so : (b : Bool) (m : ℕ) → KeptBy b f.forms at (kept i (run (start i) (slice_index_or f.list at [] ++ m ∷ []))) → StaysBy b i (slice_index_or f.list at []) m
+  stays_so true m k =
+      let u = slice_index_or f.list at [] in
+      let two : Some (kept i (run (start i) u)) ≡ Some (kept i (run (start i) (u ++ m ∷ []))) = sym forms_at ∙ k in
+      sym (apart i img f held (u ++ m ∷ []) u cc)
+  stays_so false m k = λ same.
+      let u = slice_index_or f.list at [] in
+      k (forms_at ∙ ap Some (kept_alike i (run (start i) u) (run (start i) (u ++ m ∷ [])) (sym same)))
+
+-- the numbers at an index of the list
+pub numbers_at : (i : Image) (f : FoundList) → Holds i f → (at : ℕ) → at < length f.list → (numbers : List ℕ) → slice_get f.forms at ≡ Some numbers
+    → numbers ≡ kept i (run (start i) (slice_index_or f.list at []))
+numbers_at i f held at inside numbers e =
+    let form : List ℕ → List ℕ = λ u. kept i (run (start i) u) in
+    let long = length-map f.list form in
+    let is : slice_get f.forms at ≡ Some (form (slice_index_or f.list at [])) =
+    subst (λ l. slice_get l at ≡ Some (form (slice_index_or f.list at []))) (sym held)
+    (get_inside (map form f.list) at [] (omega (arith, long, inside)) ∙ ap Some (map_at form f.list at [] [] inside)) in
+    let two : Some numbers ≡ Some (form (slice_index_or f.list at [])) = sym e ∙ is in
+    cc
+
+-- 5. What a look-up leaves.
+
+pub record Grown (f now : FoundList) : Type 0 where
+  pub more : List (List ℕ)
+  pub list : now.list ≡ f.list ++ more
+  pub limit : now.limit ≡ f.limit
+
+grown : (looked : Looked) (numbers : List ℕ) (o : Origin) (f now : FoundList) → Looks looked numbers o f now → Grown f now
+grown Known numbers o f now h = record { more = []; list = ap (λ (g : FoundList). g.list) h.1 ∙ sym (append-nil f.list); limit = ap (λ (g : FoundList). g.limit) h.1 }
+grown New numbers o f now h = record { more = led_by f.list o ∷ []; list = ap (λ (g : FoundList). g.list) h.2; limit = ap (λ (g : FoundList). g.limit) h.2 }
+grown Full numbers o f now h = record { more = []; list = ap (λ (g : FoundList). g.list) h.2 ∙ sym (append-nil f.list); limit = ap (λ (g : FoundList). g.limit) h.2 }
+
+map_push : {X Y : Type 0} (g : X → Y) (xs : List X) (x : X) → map g (xs ++ x ∷ []) ≡ map g xs ++ g x ∷ []
+map_push g [] x = refl
+map_push g (y ∷ xs) x = ap (λ l. g y ∷ l) (map_push g xs x)
+
+held_more : (i : Image) (looked : Looked) (t : List ℕ) (o : Origin) (f now : FoundList) → led_by f.list o ≡ t → Holds i f → Looks looked (kept i (run (start i) t)) o f now → Holds i now
+held_more i Known t o f now led held h = subst (Holds i) (sym h.1) held
+held_more i Full t o f now led held h = subst (Holds i) (sym h.2) held
+held_more i New t o f now led held h =
+    let form : List ℕ → List ℕ = λ u. kept i (run (start i) u) in
+    subst (Holds i) (sym h.2)
+    (ap (λ l. l ++ form t ∷ []) held ∙ ap (λ u. map form f.list ++ form u ∷ []) (sym led) ∙ sym (map_push form f.list (led_by f.list o)))
+
+module _ (i : Image) (img : IsImage i) (f now : FoundList) (held : Holds i f) (at k : ℕ) (inside : at < length f.list) (x : Extension) (o : Origin) (led : led_by f.list o ≡ extended x)
+    (ahead : turns_from i f.list at k ≡ x ∷ turns_from i f.list at (k + 1)) (made : turns_before i f.list at (k + 1) ≡ turns_before i f.list at k ++ x ∷ []) where
+  abbrev ComesTo : FoundList → Bool → Type 0
+  ComesTo g all = GoesOn all i g.limit g.list (turns_before i g.list at (k + 1)) (turns_from i g.list at (k + 1))
+
+  abbrev done : List Extension
+  done = turns_before i f.list at k
+
+  abbrev left : List Extension
+  left = turns_from i f.list at (k + 1)
+
+  comes_to : (looked : Looked) (all : Bool) → GoesOn all i f.limit f.list (turns_before i f.list at k) (turns_from i f.list at k)
+      → Looks looked (kept i (run (start i) (extended x))) o f now → ComesTo now (all_after all looked)
+  comes_to looked all goes h = by looked h
+    where
+      next : GoesOn all i f.limit f.list done (x ∷ left)
+      next = subst (GoesOn all i f.limit f.list done) ahead goes
+
+      by : (l : Looked) → Looks l (kept i (run (start i) (extended x))) o f now → ComesTo now (all_after all l)
+      by Known h =
+          let v = known_leads i img f held (extended x) h.0 in
+          subst (λ g. ComesTo g all) (sym h.1) (subst (λ l. GoesOn all i f.limit f.list l left) (sym made) (goes_known i img f.limit f.list done x left all next v.0 v.1 v.2))
+      by Full h =
+          subst (λ g. ComesTo g false) (sym h.2)
+          (subst (λ l. IsFull i f.limit f.list l left) (sym made) (goes_full i img f.limit f.list done x left all next (new_leads i img f held (extended x) h.0) h.1))
+      by New h =
+          let list = f.list ++ extended x ∷ [] in
+          let went = goes_new i img f.limit f.list done x left all next (new_leads i img f held (extended x) h.0) h.1 in
+          let before : done ++ x ∷ [] ≡ turns_before i list at (k + 1) = sym made ∙ sym (before_more i f.list (extended x ∷ []) at inside (k + 1)) in
+          let after : left ++ extensions i (extended x) ≡ turns_from i list at (k + 1) = sym (from_push i f.list (extended x) at (k + 1) inside) in
+          let there : GoesOn all i f.limit list (turns_before i list at (k + 1)) (turns_from i list at (k + 1)) =
+          subst (λ l. GoesOn all i f.limit list l (turns_from i list at (k + 1))) before (subst (GoesOn all i f.limit list (done ++ x ∷ [])) after went) in
+          let as_led : GoesOn all i f.limit (f.list ++ led_by f.list o ∷ []) (turns_before i (f.list ++ led_by f.list o ∷ []) at (k + 1)) (turns_from i (f.list ++ led_by f.list o ∷ []) at (k + 1)) =
+          subst (λ u. GoesOn all i f.limit (f.list ++ u ∷ []) (turns_before i (f.list ++ u ∷ []) at (k + 1)) (turns_from i (f.list ++ u ∷ []) at (k + 1))) (sym led) there in
+          subst (λ g. ComesTo g all) (sym h.2) as_led
+
+-- 6. A move of a node.
+
+-- the turn of a move of a node
+abbrev pub node_turn : Search → Node → ℕ → Extension
+node_turn s node k = record { schedule = node_schedule s node; item = slice_index_or node.moves.items k 0 }
+
+pub record Made (i : Image) (s now : Search) (node : Node) (k : ℕ) : Type 0 where
+  pub within : IsWithin i now node (k + 1)
+  pub schedule : node_schedule now node ≡ node_schedule s node
+  pub limit : now.found.limit ≡ s.found.limit
+
+module _ (i : Image) (img : IsImage i) (s : Search) (node : Node) (k : ℕ) (w : IsWithin i s node k) (move : k < length node.moves.items) where
+  same_turn : turn_here i s.found.list node.at k ≡ node_turn s node k
+  same_turn = λ j. record { schedule = node_schedule s node; item = slice_index_or (sym w.is.moves j) k 0 }
+
+  is_move : k < length (moves (run (start i) (node_schedule s node)))
+  is_move = subst (λ (l : List ℕ). k < length l) w.is.moves move
+
+  ahead : turns_from i s.found.list node.at k ≡ node_turn s node k ∷ turns_from i s.found.list node.at (k + 1)
+  ahead = turns_next i s.found.list node.at k is_move ∙ ap (λ (x : Extension). x ∷ turns_from i s.found.list node.at (k + 1)) same_turn
+
+  pub made : turns_before i s.found.list node.at (k + 1) ≡ turns_before i s.found.list node.at k ++ node_turn s node k ∷ []
+  made = turns_made i s.found.list node.at k is_move ∙ ap (λ (x : Extension). turns_before i s.found.list node.at k ++ x ∷ []) same_turn
+
+  pub move_inside : Contains (moves (run (start i) (node_schedule s node))) (slice_index_or node.moves.items k 0)
+  move_inside = subst (λ l. Contains l (slice_index_or node.moves.items k 0)) w.is.moves (k, move, at_any node.moves.items k 0 (slice_index_or node.moves.items k 0) move)
+
+  module _ (now : Search) (b : Bench) (f : Findings) (o : Origin) (from : o.from ≡ node.at) (item : o.item ≡ slice_index_or node.moves.items k 0)
+      (at : IsAt i (extended (node_turn s node k)) b)
+      (noted : Noted i s.found.list (turns_before i s.found.list node.at k ++ node_turn s node k ∷ []) f)
+      (ended : Ended i s.found.list (take node.at s.found.list) f)
+      (met : Met (kept i (run (start i) (extended (node_turn s node k)))) o (record s { bench = b; findings = f }) now) where
+    led : led_by s.found.list o ≡ extended (node_turn s node k)
+    led = ap (λ n. slice_index_or s.found.list n [] ++ o.item ∷ []) from ∙ ap (λ m. node_schedule s node ++ m ∷ []) item
+
+    more : Grown s.found now.found
+    more = grown met.looked (kept i (run (start i) (extended (node_turn s node k)))) o s.found now.found met.looks
+
+    inside : node.at < length s.found.list
+    inside = w.is.inside
+
+    same_schedule : node_schedule now node ≡ node_schedule s node
+    same_schedule = ap (λ l. slice_index_or l node.at []) more.list ∙ same_here i s.found.list more.more node.at inside
+
+    same_turns : turns_before i now.found.list node.at (k + 1) ≡ turns_before i s.found.list node.at k ++ node_turn s node k ∷ []
+    same_turns = ap (λ l. turns_before i l node.at (k + 1)) more.list ∙ before_more i s.found.list more.more node.at inside (k + 1) ∙ made
+
+    same_past : take node.at now.found.list ≡ take node.at s.found.list
+    same_past = ap (take node.at) more.list ∙ same_front i s.found.list more.more node.at inside
+
+    noted_now : Noted i now.found.list (turns_before i now.found.list node.at (k + 1)) now.findings
+    noted_now =
+        subst (Noted i now.found.list (turns_before i now.found.list node.at (k + 1))) (sym met.findings)
+        (subst (λ d. Noted i now.found.list d f) (sym same_turns)
+        (subst (λ l. Noted i l (turns_before i s.found.list node.at k ++ node_turn s node k ∷ []) f) (sym more.list)
+        (noted_more i s.found.list more.more (turns_before i s.found.list node.at k ++ node_turn s node k ∷ []) f noted)))
+
+    ended_now : Ended i now.found.list (take node.at now.found.list) now.findings
+    ended_now =
+        subst (Ended i now.found.list (take node.at now.found.list)) (sym met.findings)
+        (subst (λ p. Ended i now.found.list p f) (sym same_past)
+        (subst (λ l. Ended i l (take node.at s.found.list) f) (sym more.list)
+        (ended_more i s.found.list more.more (take node.at s.found.list) f ended)))
+
+    longer : node.at < length now.found.list
+    longer =
+        let long = ap length more.list in
+        let both = length-append s.found.list more.more in
+        let low = inside in
+        omega (arith, long, both, low)
+
+    pub moved : Made i s now node k
+    moved = record {
+      within = record {
+        is = record {
+          inside = longer;
+          parts = subst (λ t. ArePartsAt i t node.parts) (sym same_schedule) w.is.parts;
+          moves = w.is.moves ∙ ap (λ t. moves (run (start i) t)) (sym same_schedule);
+        };
+        come = record {
+          image = w.come.image;
+          groups = ap (λ (g : Vec ℕ Global). g.items) met.groups ∙ w.come.groups;
+          bench = (extended (node_turn s node k), subst (IsAt i (extended (node_turn s node k))) (sym met.bench) at);
+          held = held_more i met.looked (extended (node_turn s node k)) o s.found now.found led w.come.held met.looks;
+          room = subst (λ n. n < 2 ^ 32) (sym more.limit) w.come.room;
+          goes = subst (λ all. GoesOn all i now.found.limit now.found.list (turns_before i now.found.list node.at (k + 1)) (turns_from i now.found.list node.at (k + 1))) (sym met.all)
+              (comes_to i img s.found now.found w.come.held node.at k inside (node_turn s node k) o led ahead made met.looked s.all w.come.goes met.looks);
+          noted = noted_now;
+          ended = ended_now;
+        };
+      };
+      schedule = same_schedule;
+      limit = more.limit;
+    }
+
+module _ (i : Image) (s : Search) (node : Node) (k : ℕ) (w : IsWithin i s node k) (move : k < length node.moves.items) (b : Bench) (m : ℕ) (is : m ≡ slice_index_or node.moves.items k 0)
+    (at : IsAt i (node_schedule s node ++ m ∷ []) b) where
+  at_turn : IsAt i (extended (node_turn s node k)) b
+  at_turn = subst (λ n. IsAt i (node_schedule s node ++ n ∷ []) b) is at
+
+  pub moved_by : (now : Search) (f : Findings)
+      → Noted i s.found.list (turns_before i s.found.list node.at k ++ (record { schedule = node_schedule s node; item = m }) ∷ []) f
+      → Ended i s.found.list (take node.at s.found.list) f
+      → ((u : List ℕ) → IsAt i u b → Met (kept i (run (start i) u)) (record { from = node.at; item = m }) (record s { bench = b; findings = f }) now) → Made i s now node k
+  moved_by now f noted ended met =
+      moved i w.come.image s node k w move now b f (record { from = node.at; item = m }) refl is at_turn
+      (subst (λ n. Noted i s.found.list (turns_before i s.found.list node.at k ++ (record { schedule = node_schedule s node; item = n }) ∷ []) f) is noted) ended (met (extended (node_turn s node k)) at_turn)
+
+  pub stays_by : (stays : Bool) → ((u : List ℕ) → IsAt i u b → KeptBy stays s.found.forms node.at (kept i (run (start i) u))) → StaysBy stays i (node_schedule s node) (slice_index_or node.moves.items k 0)
+  stays_by stays h = stays_so i w.come.image s.found w.come.held node.at w.is.inside stays (slice_index_or node.moves.items k 0) (h (extended (node_turn s node k)) at_turn)
+
+-- an item that is read is that of its index
+pub item_is : (xs : List ℕ) (k x : ℕ) → k < length xs → x ≡ slice_index_or xs k x → x ≡ slice_index_or xs k 0
+item_is xs k x lt e = e ∙ at_any xs k 0 x lt
+
+pub list_few : (i : Image) (all : Bool) (limit : ℕ) (list : List (List ℕ)) (done left : List Extension) → GoesOn all i limit list done left → length list ≤ limit
+list_few i true limit list done left o = o.few
+list_few i false limit list done left h = let full = h.full in omega (arith, full)
+
+pub if_more : {A E : Type 0} {P Q : A → Type 0} (r : Result A E) → ((x : A) → P x → Q x) → IfOk r P → IfOk r Q
+if_more (Ok x) f h = f x h
+if_more (Err e) f h = tt
+
+-- 7. All moves of a node.
+
+all_push : {X : Type 0} (P : X → Type 0) (xs : List X) (x : X) → AllByRecursion P xs → P x → AllByRecursion P (xs ++ x ∷ [])
+all_push P [] x h k = (k, tt)
+all_push P (y ∷ xs) x h k = (h.0, all_push P xs x h.1 k)
+
+pub stay_more : (i : Image) (t : List ℕ) (ms : List ℕ) (m : ℕ) (stay stays : Bool) → Contains (moves (run (start i) t)) m → AllStay stay i t ms → StaysBy stays i t m → AllStay (stay && stays) i t (ms ++ m ∷ [])
+stay_more i t ms m true true move h k = all_push (λ n. leads_to i (t ++ n ∷ []) ≡ leads_to i t) ms m h k
+stay_more i t ms m true false move h k = λ final. k (final m move)
+stay_more i t ms m false stays move h k = h
+
+pub final_so : (i : Image) (t : List ℕ) (ms : List ℕ) → ms ≡ moves (run (start i) t) → AllStay true i t ms → IsFinal i t
+final_so i t ms e h m inside = all_at (λ n. leads_to i (t ++ n ∷ []) ≡ leads_to i t) ms m h (subst (λ l. Contains l m) (sym e) inside)
+
+module _ (i : Image) (s : Search) (at : ℕ) (before : IsBefore i s at) (inside : at < length s.found.list) (node : Node) (is : node.at ≡ at) (n : IsNode i s node) where
+  -- no move is made yet
+  pub none_made : IsWithin i s node 0
+  none_made = record {
+    is = n;
+    come = subst (λ a. HasCome i s (turns_before i s.found.list a 0) (turns_from i s.found.list a 0) (take a s.found.list)) (sym is) (record {
+      image = before.image;
+      groups = before.groups;
+      bench = before.bench;
+      held = before.held;
+      room = before.room;
+      goes = subst (λ l. GoesOn s.all i s.found.limit s.found.list (turns_before i s.found.list at 0) l) from
+          (subst (λ l. GoesOn s.all i s.found.limit s.found.list l (flat_map (extensions i) (drop at s.found.list))) front before.goes);
+      noted = subst (λ l. Noted i s.found.list l s.findings) front before.noted;
+      ended = before.ended;
+    });
+  }
+    where
+      front : flat_map (extensions i) (take at s.found.list) ≡ turns_before i s.found.list at 0
+      front = sym (append-nil (flat_map (extensions i) (take at s.found.list)))
+
+      from : flat_map (extensions i) (drop at s.found.list) ≡ turns_from i s.found.list at 0
+      from = ap (flat_map (extensions i)) (drop_one s.found.list at [] inside)
+
+module _ (i : Image) (s : Search) (node : Node) (w : IsWithin i s node (length node.moves.items)) where
+  abbrev own : List Extension
+  own = extensions i (node_schedule s node)
+
+  own_long : length own ≡ length node.moves.items
+  own_long =
+      let m : ℕ → Extension = λ n. record { schedule = node_schedule s node; item = n } in
+      length-map (moves (run (start i) (node_schedule s node))) m ∙ ap length (sym w.is.moves)
+
+  past_more : take node.at s.found.list ++ node_schedule s node ∷ [] ≡ take (node.at + 1) s.found.list
+  past_more = sym (take_one s.found.list node.at [] w.is.inside)
+
+  turns_all : turns_before i s.found.list node.at (length node.moves.items) ≡ flat_map (extensions i) (take (node.at + 1) s.found.list)
+  turns_all =
+      ap (λ l. flat_map (extensions i) (take node.at s.found.list) ++ l) (take_whole own (length node.moves.items) own_long)
+      ∙ sym (flat_push (extensions i) (take node.at s.found.list) (node_schedule s node)) ∙ ap (flat_map (extensions i)) past_more
+
+  none_left : turns_from i s.found.list node.at (length node.moves.items) ≡ flat_map (extensions i) (drop (node.at + 1) s.found.list)
+  none_left = ap (λ l. l ++ flat_map (extensions i) (drop (node.at + 1) s.found.list)) (drop_whole own (length node.moves.items) own_long)
+
+  -- the next configuration
+  pub all_made : (f : Findings) → Noted i s.found.list (turns_before i s.found.list node.at (length node.moves.items)) f
+      → Ended i s.found.list (take node.at s.found.list ++ node_schedule s node ∷ []) f → IsBefore i (record s { findings = f }) (node.at + 1)
+  all_made f noted ended = record {
+    image = w.come.image;
+    groups = w.come.groups;
+    bench = w.come.bench;
+    held = w.come.held;
+    room = w.come.room;
+    goes = subst (λ l. GoesOn s.all i s.found.limit s.found.list l (flat_map (extensions i) (drop (node.at + 1) s.found.list))) turns_all
+        (subst (GoesOn s.all i s.found.limit s.found.list (turns_before i s.found.list node.at (length node.moves.items))) none_left w.come.goes);
+    noted = subst (λ l. Noted i s.found.list l f) turns_all noted;
+    ended = subst (λ l. Ended i s.found.list l f) past_more ended;
+  }
+
+-- 8. The start and the end.
+
+pub begins : (i : Image) (img : IsImage i) (limit : ℕ) → 1 ≤ limit → limit ≤ 1000000 → (numbers : List ℕ) → numbers ≡ kept i (run (start i) [])
+    → (s : Search) → s.found ≡ record { list = [] ∷ []; forms = numbers ∷ []; limit = limit } → s.all ≡ true
+    → s.groups.items ≡ groups_of (start i).core → IsAt i [] s.bench → ((list : List (List ℕ)) → Noted i list [] s.findings) → ((list : List (List ℕ)) → Ended i list [] s.findings) → IsBefore i s 0
+unfolding explored_turns
+begins i img limit room few numbers is s found all groups at noted ended = record {
+  image = img;
+  groups = groups;
+  bench = ([], at);
+  held = subst (Holds i) (sym found) (ap (λ n. n ∷ []) is);
+  room = let same = ap (λ (f : FoundList). f.limit) found in omega (arith, same, few);
+  goes = subst (λ (f : FoundList). GoesOn s.all i f.limit f.list (flat_map (extensions i) (take 0 f.list)) (flat_map (extensions i) (drop 0 f.list))) (sym found)
+      (subst (λ b. GoesOn b i limit ([] ∷ []) [] (explored_turns i ([] ∷ []))) (sym all) (search_begins i img limit room));
+  noted = noted s.found.list;
+  ended = ended s.found.list;
+}
+
+-- all configurations were gone through
+pub all_gone : (i : Image) (s : Search) (at : ℕ) → length s.found.list ≡ at → IsBefore i s at → HasCome i s (explored_turns i s.found.list) [] s.found.list
+unfolding explored_turns
+all_gone i s at e h =
+    subst (λ l. HasCome i s (flat_map (extensions i) l) [] l) (take_whole s.found.list at e)
+    (subst (λ l. HasCome i s (flat_map (extensions i) (take at s.found.list)) (flat_map (extensions i) l) (take at s.found.list)) (drop_whole s.found.list at e) h)
+
+module _ (i : Image) (img : IsImage i) (s : Search) (h : HasCome i s (explored_turns i s.found.list) [] s.found.list) where
+  ends : (all : Bool) → GoesOn all i s.found.limit s.found.list (explored_turns i s.found.list) []
+      → IsExplored i s.found.limit s.found.list × (all ≡ true → IsAll i s.found.list) × (all ≡ false → IsAll i s.found.list → ⊥)
+  ends true o = let k = search_ends i img s.found.limit s.found.list (explored_turns i s.found.list) o in (k.explored, λ e. k.answer, λ e. cc)
+  ends false o = (o.searched.explored, λ e. cc, λ e. o.searched.answer)
+
+  pub searched : IsExplored i s.found.limit s.found.list × (s.all ≡ true → IsAll i s.found.list) × (s.all ≡ false → IsAll i s.found.list → ⊥)
+  searched = ends s.all h.goes
+
+-- 9. The parts and the moves of a node.
+
+module _ (i : Image) (img : IsImage i) where
+  pub parts_so : (f : FoundList) → Holds i f → (at : ℕ) → at < length f.list → (numbers : List ℕ) → slice_get f.forms at ≡ Some numbers
+      → (p : code.Parts) → parts_held i p ≡ parts_from i numbers → ArePartsAt i (slice_index_or f.list at []) p
+  parts_so f held at inside numbers e p is =
+      let s = run (start i) (slice_index_or f.list at []) in
+      is ∙ ap (parts_from i) (numbers_at i f held at inside numbers e) ∙ parts_again i s img (runs_state_of i (slice_index_or f.list at []) img)
+
+  slots_so : (t : List ℕ) (p : code.Parts) → ArePartsAt i t p → p.slots.items ≡ map uncounted_slot (slots_of (run (start i) t).core)
+  unfolding parts_of
+  slots_so t p e = ap (λ (q : Parts). q.slots) e
+
+  pub small_so : (t : List ℕ) (p : code.Parts) → ArePartsAt i t p → AllByRecursion (λ (x : Slot). x.number < 64) p.slots.items
+  small_so t p e = small_numbers i (run (start i) t) p.slots.items (runs_state_of i t img) (slots_so t p e)
+
+  pub moves_so : (t : List ℕ) (p : code.Parts) → ArePartsAt i t p → (split : Bool) → split ≡ i.split → (items : List ℕ) → items ≡ moves_in split p.slots.items → items ≡ moves (run (start i) t)
+  moves_so t p e split same items is =
+      is ∙ moves_are (run (start i) t) split p.slots.items (same ∙ sym (runs_state_of i t img).fits.split) (slots_so t p e)
+
+-- 10. What calls answer.
+
+pub both_ok : {A E : Type 0} (P Q : Type 0) (r : Result A E) → OnOk r P → OnOk r Q → OnOk r (P × Q)
+both_ok P Q (Ok x) p q = (p, q)
+both_ok P Q (Err e) p q = tt
+
+-- a list is empty
+pub none_so : (b : Bool) (xs ys : List ℕ) → xs ≡ ys → b ≡ (length xs == 0) → b ≡ is_none ys
+none_so b xs ys e h = h ∙ by xs ∙ ap is_none e
+  where
+    by : (zs : List ℕ) → (length zs == 0) ≡ is_none zs
+    by [] = refl
+    by (z ∷ zs) = eqb-suc-zero (length zs)

@@ -1,0 +1,132 @@
+-- Lists that are read one element after the other.
+use Rattle.std.proofs.Common.{◌≡◌, ℕ, suc, take, set, length, ◌+◌, ◌-◌, ◌/◌, ◌%◌, ◌<◌, List, [], ◌∷◌, ◌++◌, refl, sym, ap, ◌∙◌, arith, append_assoc, ◌≤◌}
+use Rattle.std.proofs.lemmas.List.{take_more_set}
+use Rattle.mm_word.specs.declared.word.Word.{Word}
+use Rattle.mm_word.specs.declared.word.Cell.{Cell}
+use Rattle.mm_model.specs.declared.slot.Pending.{Pending}
+use Rattle.std.specs.Prelude.{◌==◌}
+use Rattle.mm_word.specs.Pointer.{Pointer}
+use Rattle.mm_model.specs.declared.slot.SlotState.{SlotState}
+use Rattle.mm_model.specs.Slot.{Slot}
+use Rattle.mm_model.specs.Flags.{flags}
+use Rattle.mm_explore.specs.Kept.{first_number, behind, word_from, words_from, register_flags, loads_from, few_loads, ip_of, state_at, slot_from, cell_of, cells_from}
+
+one_left : (count k : ℕ) → k < count → count - k ≡ suc (count - (k + 1))
+one_left count k lt = omega (arith, lt)
+
+-- the load that is read next
+abbrev next_load : List ℕ → Pending
+next_load ns = record { reg = first_number ns % 256; word = (word_from (behind ns)).0 }
+
+module _ (count k : ℕ) (lt : k < count) (ns later : List ℕ) (rest : later ≡ (word_from (behind ns)).1) where
+  next_is : loads_from (count - k) ns ≡ (next_load ns ∷ (loads_from (count - (k + 1)) later).0, (loads_from (count - (k + 1)) later).1)
+  next_is =
+      ap (λ n. loads_from n ns) (one_left count k lt)
+      ∙ ap (λ l. let r = loads_from (count - (k + 1)) l in let made : List Pending × List ℕ = (next_load ns ∷ r.0, r.1) in made) (sym rest)
+
+  pub loads_more : (items more : List Pending) (p : Pending) → p.reg ≡ first_number ns % 256 → p.word ≡ (word_from (behind ns)).0 → more ≡ items ++ p ∷ []
+      → more ++ (loads_from (count - (k + 1)) later).0 ≡ items ++ (loads_from (count - k) ns).0
+  loads_more items more p reg word is =
+      let tail = (loads_from (count - (k + 1)) later).0 in
+      let same : p ≡ next_load ns = λ j. record { reg = reg j; word = word j } in
+      ap (λ l. l ++ tail) is ∙ append_assoc items (p ∷ []) tail ∙ ap (λ q. items ++ q ∷ tail) same
+      ∙ ap (λ (r : List Pending × List ℕ). items ++ r.0) (sym next_is)
+
+  pub rest_more : (loads_from (count - (k + 1)) later).1 ≡ (loads_from (count - k) ns).1
+  rest_more = ap (λ (r : List Pending × List ℕ). r.1) (sym next_is)
+
+-- a list with another element at an index, up to that element
+pub words_more : (xs : List Word) (at : ℕ) (w : Word) (rest : List Word) → at < length xs → take (at + 1) (set xs at w) ++ rest ≡ take at xs ++ w ∷ rest
+words_more xs at w rest lt = ap (λ l. l ++ rest) (take_more_set xs at w lt) ∙ append_assoc (take at xs) (w ∷ []) rest
+
+-- registers that are read from the first on
+module _ (base old regs : List Word) (changed tagged : ℕ) (ns left : List ℕ) (long : length base ≡ 16) where
+  pub registers_read : regs ≡ take 0 old ++ (words_from (flags (length base) changed) (flags (length base) tagged) base ns).0
+      → regs ≡ (words_from (register_flags changed) (register_flags tagged) base ns).0
+  unfolding register_flags
+  registers_read e = e ∙ ap (λ n. (words_from (flags n changed) (flags n tagged) base ns).0) long
+
+  pub registers_left : left ≡ (words_from (flags (length base) changed) (flags (length base) tagged) base ns).1
+      → left ≡ (words_from (register_flags changed) (register_flags tagged) base ns).1
+  unfolding register_flags
+  registers_left e = e ∙ ap (λ n. (words_from (flags n changed) (flags n tagged) base ns).1) long
+
+-- a slot, from what is read of it
+module _ (base : Slot) where
+  abbrev slot_of_parts : ℕ → List Word → Pointer → SlotState → List Pending → Slot
+  slot_of_parts head regs ip state loads = record base {
+    regs = regs;
+    ip = ip;
+    past = head / 32 % 2 == 1;
+    turns = 0;
+    state = state;
+    empty = register_flags (head / 2048 % 65536);
+    pending = loads;
+  }
+
+  abbrev read_words : ℕ → List ℕ → List Word × List ℕ
+  read_words masks ns = words_from (register_flags (masks % 65536)) (register_flags (masks / 65536)) base.regs ns
+
+  abbrev slot_of_numbers : ℕ → ℕ → ℕ → List ℕ → Slot
+  slot_of_numbers head masks bits ns =
+      slot_of_parts head (read_words masks ns).0 (ip_of base.ip bits) (state_at (head % 32)) (loads_from (few_loads (head / 64 % 32)) (read_words masks ns).1).0
+
+  slot_opened : (ns : List ℕ) → slot_of_numbers (first_number ns) (first_number (behind ns)) (first_number (behind (behind ns))) (behind (behind (behind ns))) ≡ (slot_from base ns).0
+  unfolding slot_from
+  slot_opened ns = refl
+
+  pub slot_taken : (ns n1 n2 n3 n4 : List ℕ) (head masks bits count : ℕ) (regs : List Word) (ip : Pointer) (state : SlotState) (loads : List Pending)
+      → head ≡ first_number ns → n1 ≡ behind ns → masks ≡ first_number n1 → n2 ≡ behind n1 → bits ≡ first_number n2 → n3 ≡ behind n2
+      → regs ≡ (read_words masks n3).0 → n4 ≡ (read_words masks n3).1 → ip ≡ ip_of base.ip bits → state ≡ state_at (head % 32)
+      → count ≡ few_loads (head / 64 % 32) → loads ≡ (loads_from count n4).0
+      → slot_of_parts head regs ip state loads ≡ (slot_from base ns).0
+  slot_taken ns n1 n2 n3 n4 head masks bits count regs ip state loads h b1 m b2 i b3 words rest is_ip is_state few is_loads =
+      let same_loads : loads ≡ (loads_from (few_loads (head / 64 % 32)) (read_words masks n3).1).0 = is_loads ∙ (λ j. (loads_from (few j) (rest j)).0) in
+      let same_masks : masks ≡ first_number (behind ns) = m ∙ ap first_number b1 in
+      let two : n2 ≡ behind (behind ns) = b2 ∙ ap behind b1 in
+      let same_bits : bits ≡ first_number (behind (behind ns)) = i ∙ ap first_number two in
+      let three : n3 ≡ behind (behind (behind ns)) = b3 ∙ ap behind two in
+      (λ j. slot_of_parts head (words j) (is_ip j) (is_state j) (same_loads j))
+      ∙ (λ j. slot_of_numbers (h j) (same_masks j) (same_bits j) (three j))
+      ∙ slot_opened ns
+
+-- Elements of any kind.
+module _ {A : Type 0} (one : List ℕ → A × List ℕ) (all : ℕ → List ℕ → List A × List ℕ)
+    (step : (n : ℕ) (ns : List ℕ) → all (suc n) ns ≡ ((one ns).0 ∷ (all n (one ns).1).0, (all n (one ns).1).1))
+    (count k : ℕ) (lt : k < count) (ns later : List ℕ) (rest : later ≡ (one ns).1) where
+  all_next : all (count - k) ns ≡ ((one ns).0 ∷ (all (count - (k + 1)) later).0, (all (count - (k + 1)) later).1)
+  all_next =
+      ap (λ n. all n ns) (one_left count k lt) ∙ step (count - (k + 1)) ns
+      ∙ ap (λ l. let made : List A × List ℕ = ((one ns).0 ∷ (all (count - (k + 1)) l).0, (all (count - (k + 1)) l).1) in made) (sym rest)
+
+  pub items_more : (items more : List A) (x : A) → x ≡ (one ns).0 → more ≡ items ++ x ∷ [] → more ++ (all (count - (k + 1)) later).0 ≡ items ++ (all (count - k) ns).0
+  items_more items more x same is =
+      let tail = (all (count - (k + 1)) later).0 in
+      ap (λ l. l ++ tail) is ∙ append_assoc items (x ∷ []) tail ∙ ap (λ y. items ++ y ∷ tail) same
+      ∙ ap (λ (r : List A × List ℕ). items ++ r.0) (sym all_next)
+
+  pub items_rest : (all (count - (k + 1)) later).1 ≡ (all (count - k) ns).1
+  items_rest = ap (λ (r : List A × List ℕ). r.1) (sym all_next)
+
+-- Cells.
+two_left : (ns : List ℕ) → 2 ≤ length ns → cells_from ns ≡ cell_of (first_number ns) (first_number (behind ns)) ∷ cells_from (behind (behind ns))
+two_left [] le = absurd (omega (arith, le))
+two_left (a ∷ []) le = absurd (omega (arith, le))
+two_left (a ∷ b ∷ ns) le = refl
+
+pub cells_more : (ns later : List ℕ) (head bits : ℕ) (items more : List (ℕ × Cell)) (x : ℕ × Cell) → 2 ≤ length ns → head ≡ first_number ns → bits ≡ first_number (behind ns) → later ≡ behind (behind ns)
+    → x ≡ cell_of head bits → more ≡ items ++ x ∷ [] → more ++ cells_from later ≡ items ++ cells_from ns
+cells_more ns later head bits items more x le h b rest is pushed =
+    ap (λ l. l ++ cells_from later) pushed ∙ append_assoc items (x ∷ []) (cells_from later)
+    ∙ (λ j. items ++ (is ∙ (λ k. cell_of (h k) (b k))) j ∷ cells_from (rest j))
+    ∙ ap (λ l. items ++ l) (sym (two_left ns le))
+
+pub cells_end : (ns : List ℕ) → length ns < 2 → cells_from ns ≡ []
+cells_end [] lt = refl
+cells_end (a ∷ []) lt = refl
+cells_end (a ∷ b ∷ ns) lt = absurd (omega (arith, lt))
+
+pub behind_two : (ns : List ℕ) → 2 ≤ length ns → length (behind (behind ns)) < length ns
+behind_two [] le = absurd (omega (arith, le))
+behind_two (a ∷ []) le = absurd (omega (arith, le))
+behind_two (a ∷ b ∷ ns) le = omega arith

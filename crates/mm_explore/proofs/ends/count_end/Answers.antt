@@ -1,0 +1,11 @@
+use Rattle.std.proofs.Common.{◌≡◌, Some, sym, ◌∙◌, nat_eq, arith, rules, Option, ap}
+use Rattle.std.specs.Map.{lookup}
+use lib.Pointwise.{pointwise}
+use Rattle.std.specs.Option.{option_copied}
+use Rattle.mm_explore.proofs.Tallies.{found_small}
+use Rattle.mm_explore.proofs.ends.count_end.Goals as goal
+
+pub overflow_add-tally : goal.overflow_add-tally
+overflow_add-tally c =
+    let small = found_small (λ k. pointwise nat_eq c.args.key.items k.items) c.args.ends.now.entries c.in-Some.tally.now c.requires.room (sym c.in-Some.ensures.value) in
+    omega (arith, small)

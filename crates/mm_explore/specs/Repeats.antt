@@ -1,0 +1,7 @@
+-- Equal items at the start of a list.
+use Rattle.std.specs.Prelude.{ℕ, ◌==◌, List}
+use Rattle.std.specs.List.{prefix_len}
+
+-- how many items at the start are this one
+abbrev pub leading : ℕ → List ℕ → ℕ
+leading n items = prefix_len (λ x. x == n) items

@@ -1,0 +1,136 @@
+-- How far a search has come.
+use Rattle.std.specs.Prelude.{◌≡◌, ◌⊎◌, ℕ, ◌+◌, ◌^◌, ◌<◌, ◌≤◌, Bool, true, false, List, [], ◌∷◌, ◌++◌, length, take, drop, Contains, Some, slice_get, slice_index_or}
+use Rattle.std.specs.List.{AllByRecursion, flat_map}
+use Rattle.mm_model.specs.Image.{Image, start}
+use Rattle.mm_model.specs.Report.{groups_of}
+use Rattle.mm_model.specs.Run.{run}
+use Rattle.mm_model.specs.Spelling.{IsImage}
+use Rattle.mm_explore.specs.declared.found.Looked.{Looked}
+use Rattle.mm_explore.specs.declared.found.Looked.TheVariants.{Known, New, Full}
+use Rattle.mm_explore.specs.declared.found.Origin.{Origin}
+use Rattle.mm_explore.specs.declared.search.Node.{Node}
+use Rattle.mm_explore.specs.declared.search.Search.{Search}
+use Rattle.mm_explore.specs.Benches.{IsAtSome, ArePartsAt}
+use Rattle.mm_explore.specs.Configurations.{moves}
+use Rattle.mm_explore.specs.Explored.{leads_to, IsLeast, IsExplored, IsAll}
+use Rattle.mm_explore.specs.Findings.{Extension, extended, extensions, explored_turns, IsFinal}
+use Rattle.mm_explore.specs.FoundLists.{Holds, Looks}
+use Rattle.mm_explore.specs.Noting.{Noted, Ended}
+use Rattle.mm_explore.specs.Pairs.{EachPair}
+use Rattle.mm_explore.specs.Schedules.{Before}
+
+-- 1. The list that is found.
+
+-- one schedule is another, or comes before it
+abbrev pub UpTo : List ℕ → List ℕ → Type 0
+UpTo s t = (s ≡ t) ⊎ Before s t
+
+-- a schedule of the list, up to another, leads to the same configuration
+pub record Cover (i : Image) (list : List (List ℕ)) (s : List ℕ) : Type 0 where
+  pub by : List ℕ
+  pub inside : Contains list by
+  pub early : UpTo by s
+  pub same : leads_to i by ≡ leads_to i s
+
+-- a search that has found a list, gone through some of its turns, and met nothing that had no room
+pub record Open (i : Image) (limit : ℕ) (list : List (List ℕ)) (done left : List Extension) : Type 0 where
+  pub begins : Contains list []
+  pub split : explored_turns i list ≡ done ++ left
+  pub in_order : EachPair Before list
+  pub least : AllByRecursion (IsLeast i) list
+  pub few : length list ≤ limit
+  pub covered : (y : Extension) → Contains done y → Cover i list (extended y)
+  pub ahead : (v : List ℕ) (y : Extension) → Contains list v → Contains left y → Before v (extended y)
+
+-- what the list of a search is, with the answer whether it is all
+pub record IsSearched (i : Image) (limit : ℕ) (list : List (List ℕ)) (All : Type 0) : Type 0 where
+  pub explored : IsExplored i limit list
+  pub answer : All
+
+-- a search that has met a configuration for which it had no room: its list is known
+pub record IsFull (i : Image) (limit : ℕ) (list : List (List ℕ)) (done left : List Extension) : Type 0 where
+  pub searched : IsSearched i limit list (IsAll i list → ⊥)
+  pub split : explored_turns i list ≡ done ++ left
+  pub full : length list ≡ limit
+
+-- a search goes on, whether all had room so far or not
+abbrev pub GoesOn : Bool → Image → ℕ → List (List ℕ) → List Extension → List Extension → Type 0
+GoesOn true i limit list done left = Open i limit list done left
+GoesOn false i limit list done left = IsFull i limit list done left
+
+-- 2. What the code has.
+
+-- a search has gone through these turns and these schedules, and has these turns left
+pub record HasCome (i : Image) (s : Search) (done left : List Extension) (past : List (List ℕ)) : Type 0 where
+  pub image : IsImage i
+  pub groups : s.groups.items ≡ groups_of (start i).core
+  pub bench : IsAtSome i s.bench
+  pub held : Holds i s.found
+  pub room : s.found.limit < 2 ^ 32
+  pub goes : GoesOn s.all i s.found.limit s.found.list done left
+  pub noted : Noted i s.found.list done s.findings
+  pub ended : Ended i s.found.list past s.findings
+
+-- it has gone through the schedules before an index
+abbrev pub IsBefore : Image → Search → ℕ → Type 0
+IsBefore i s at =
+    HasCome i s (flat_map (extensions i) (take at s.found.list)) (flat_map (extensions i) (drop at s.found.list))
+    (take at s.found.list)
+
+-- the schedule of a node
+abbrev pub node_schedule : Search → Node → List ℕ
+node_schedule s node = slice_index_or s.found.list node.at []
+
+-- a node has the parts and the moves of its schedule
+pub record IsNode (i : Image) (s : Search) (node : Node) : Type 0 where
+  pub inside : node.at < length s.found.list
+  pub parts : ArePartsAt i (node_schedule s node) node.parts
+  pub moves : node.moves.items ≡ moves (run (start i) (node_schedule s node))
+
+-- the turns of the schedules before an index, and so many of those from the schedule at the index
+abbrev pub turns_before : Image → List (List ℕ) → ℕ → ℕ → List Extension
+turns_before i list at k =
+    flat_map (extensions i) (take at list) ++ take k (extensions i (slice_index_or list at []))
+
+-- the turns after these
+abbrev pub turns_from : Image → List (List ℕ) → ℕ → ℕ → List Extension
+turns_from i list at k =
+    drop k (extensions i (slice_index_or list at [])) ++ flat_map (extensions i) (drop (at + 1) list)
+
+-- a search has made so many of the moves of a node
+pub record IsWithin (i : Image) (s : Search) (node : Node) (k : ℕ) : Type 0 where
+  pub is : IsNode i s node
+  pub come : HasCome i s (turns_before i s.found.list node.at k) (turns_from i s.found.list node.at k)
+      (take node.at s.found.list)
+
+-- whether a move leads back to the configuration from which it is made
+abbrev pub StaysBy : Bool → Image → List ℕ → ℕ → Type 0
+StaysBy true i t m = leads_to i (t ++ m ∷ []) ≡ leads_to i t
+StaysBy false i t m = leads_to i (t ++ m ∷ []) ≡ leads_to i t → ⊥
+
+-- whether each of these moves does
+abbrev pub AllStay : Bool → Image → List ℕ → List ℕ → Type 0
+AllStay true i t ms = AllByRecursion (λ m. leads_to i (t ++ m ∷ []) ≡ leads_to i t) ms
+AllStay false i t ms = IsFinal i t → ⊥
+
+-- 3. One move.
+
+-- whether there was room for all, after a look-up
+abbrev pub all_after : Bool → Looked → Bool
+all_after all Known = all
+all_after all New = all
+all_after all Full = false
+
+-- a search looked these numbers up
+pub record Met (numbers : List ℕ) (o : Origin) (old new : Search) : Type 0 where
+  pub looked : Looked
+  pub looks : Looks looked numbers o old.found new.found
+  pub all : new.all ≡ all_after old.all looked
+  pub groups : new.groups ≡ old.groups
+  pub bench : new.bench ≡ old.bench
+  pub findings : new.findings ≡ old.findings
+
+-- whether numbers are those that are kept at an index
+abbrev pub KeptBy : Bool → List (List ℕ) → ℕ → List ℕ → Type 0
+KeptBy true forms at numbers = slice_get forms at ≡ Some numbers
+KeptBy false forms at numbers = slice_get forms at ≡ Some numbers → ⊥

@@ -1,0 +1,140 @@
+//! What is met on the turns that a search goes through.
+
+ghost use Rattle.std.specs.Prelude.{◌≡◌, ℕ, ◌<◌, ◌^◌, ◌∷◌, [], ◌++◌, List, IfOk, IfSome, OnOk, true, false, length, slice_get, Some};
+ghost use Rattle.std.specs.BTreeMap.{get};
+ghost use Rattle.std.specs.List.{flat_map, range_with_len};
+ghost use Rattle.mm_model.specs.Image.{Image as ImageValue, start};
+ghost use Rattle.mm_model.specs.Run.{run};
+ghost use Rattle.mm_model.specs.Report.{groups_of};
+ghost use Rattle.mm_model.specs.Spelling.{IsImage};
+ghost use Rattle.mm_model.specs.Trace.{group_in};
+ghost use Rattle.mm_explore.specs.Benches.{ArePartsAt};
+ghost use Rattle.mm_explore.specs.Configurations.{moves};
+ghost use Rattle.mm_explore.specs.Explored.{IsExplored, IsAll};
+ghost use Rattle.mm_explore.specs.Findings.{Extension, turn_at, explored_turns, is_none, IsFinal};
+ghost use Rattle.mm_explore.specs.FoundLists.{IsOrigin, Holds};
+ghost use Rattle.mm_explore.specs.Noting.{Noted, Ended, fault_found};
+ghost use Rattle.mm_explore.specs.Results.{explored_text, fault_lines};
+ghost use Rattle.mm_explore.specs.Texts.{Explores};
+ghost use Rattle.mm_explore.specs.Words.{order};
+
+use crate::bench::Made;
+use crate::ends::{Tally, count_end, outcome_key};
+use crate::explored::{Explored, FaultFound};
+use crate::faults::{note_fault, put_faults};
+use crate::found::{Found, Origin};
+use crate::outcomes::put_outcomes;
+use crate::parts::Parts;
+use crate::reached::{Words, put_groups};
+use indexmap::IndexMap;
+use mm_image::Image;
+use mm_model::Slot;
+use std::alloc::{AllocError, Global};
+use std::collections::BTreeMap;
+
+/// What was met: the words of each group, the faults, each with the first turn that met it, and the outcomes.
+#[derive(Drop)]
+pub(crate) struct Findings {
+    pub(crate) words: Words,
+    pub(crate) faults: BTreeMap<(u8, u8), Origin>,
+    pub(crate) ends: IndexMap<Vec<u64>, Tally>,
+}
+
+/// The faults of slots, by slot and number.
+fn list_faults(
+    alloc: Global,
+    out: &mut Vec<FaultFound>,
+    faults: &BTreeMap<(u8, u8), Origin>,
+    slots: &[Slot],
+    found: &Found,
+) -> Result<(), AllocError>
+    requires { (key : ℕ × ℕ) → IfSome (get order faults.now key) (λ o. o.from < length found.now.list) }
+    ensures { OnOk result (flat_map fault_lines out.new.items ≡ flat_map fault_lines out.old.items
+        ++ flat_map (λ s. flat_map (λ cause. fault_found found.now.list s.number cause (get order faults.now (s.number, cause)))
+            (range_with_len 1 13)) slots.now) }
+{
+    for slot in slots {
+        put_faults(alloc, out, faults, slot.number, found)?;
+    }
+    Ok(())
+}
+
+impl Findings {
+    /// Nothing yet.
+    #[tactic(auto, unfolding(crate::specs::Findings::firsts))]
+    pub(crate) fn new(alloc: Global) -> Result<Findings, AllocError>
+        ensures noted { IfOk result (λ f. (i : ImageValue) (list : List (List ℕ)) → Noted i list [] f) }
+        ensures ended { IfOk result (λ f. (i : ImageValue) (list : List (List ℕ)) → Ended i list [] f) }
+    {
+        Ok(Findings {
+            words: Words::new(alloc),
+            faults: BTreeMap::new(alloc),
+            ends: IndexMap::new(alloc),
+        })
+    }
+
+    /// Notes the accesses and the fault of a move.
+    pub(crate) fn note(&mut self, made: &Made, origin: Origin) -> Result<(), AllocError>
+        ensures noted { OnOk result ((i : ImageValue) (list : List (List ℕ)) (done : List Extension) (x : Extension)
+            → Noted i list done self.old → IsOrigin list origin x → made.now.step ≡ (turn_at i x).step
+            → made.now.group ≡ group_in (turn_at i x) → Noted i list (done ++ x ∷ []) self.new) }
+        ensures ended { OnOk result ((i : ImageValue) (list past : List (List ℕ))
+            → Ended i list past self.old → Ended i list past self.new) }
+    {
+        self.words.note_step(made.group, &made.step)?;
+        note_fault(&mut self.faults, &made.step, origin)
+    }
+
+    /// Notes a final configuration, given its index, whether it has no move, and its parts.
+    pub(crate) fn note_end(
+        &mut self,
+        alloc: Global,
+        at: u32,
+        ended: bool,
+        parts: &Parts,
+    ) -> Result<(), AllocError>
+        requires room { (i : ImageValue) × (list : List (List ℕ)) × (past : List (List ℕ)) × Ended i list past self.old
+            × (length past < 2 ^ 32) }
+        ensures noted { OnOk result ((i : ImageValue) (list : List (List ℕ)) (done : List Extension)
+            → Noted i list done self.old → Noted i list done self.new) }
+        ensures ended { OnOk result ((i : ImageValue) (list past : List (List ℕ)) (t : List ℕ)
+            → IsImage i → Ended i list past self.old → slice_get list at ≡ Some t → IsFinal i t
+            → ended ≡ is_none (moves (run (start i) t)) → ArePartsAt i t parts.now
+            → Ended i list (past ++ t ∷ []) self.new) }
+    {
+        let key = outcome_key(alloc, ended, parts)?;
+        count_end(&mut self.ends, key, at)
+    }
+
+    /// What was found in all. The groups are those that have a slot.
+    pub(crate) fn explored(
+        &self,
+        alloc: Global,
+        img: &Image,
+        groups: &[u8],
+        found: &Found,
+        all: bool,
+    ) -> Result<Explored, AllocError>
+        requires groups { groups.now ≡ groups_of (start img.now).core }
+        requires held { Holds img.now found.now }
+        requires noted { Noted img.now found.now.list (explored_turns img.now found.now.list) self.now }
+        requires ended { Ended img.now found.now.list found.now.list self.now }
+        ensures { IfOk result (λ e. (limit : ℕ) → IsExplored img.now limit found.now.list
+            → (all ≡ true → IsAll img.now found.now.list) → (all ≡ false → IsAll img.now found.now.list → ⊥)
+            → Explores img.now limit (explored_text e)) }
+    {
+        let mut reached = Vec::new(alloc);
+        put_groups(alloc, &mut reached, &self.words, groups)?;
+        let mut faults = Vec::new(alloc);
+        list_faults(alloc, &mut faults, &self.faults, img.slots(), found)?;
+        let mut outcomes = Vec::new(alloc);
+        put_outcomes(alloc, &mut outcomes, &self.ends, img, groups, found)?;
+        Ok(Explored {
+            count: found.len() as u64,
+            all,
+            groups: reached,
+            faults,
+            outcomes,
+        })
+    }
+}

@@ -1,0 +1,267 @@
+//! The text of an exploration.
+
+ghost use Rattle.std.specs.Prelude.{◌≡◌, ◌≤◌, ◌++◌, codes, decimal, length};
+ghost use Rattle.std.specs.List.{flat_map};
+ghost use Rattle.mm_io.specs.Sinks.{Writes};
+ghost use Rattle.mm_text.specs.Gathers.{Gathers};
+ghost use Rattle.mm_model.specs.Report.{group_line};
+ghost use Rattle.mm_explore.specs.Repeats.{leading as leading_of};
+ghost use Rattle.mm_explore.specs.Results.{explored_text, group_lines, fault_lines, state_line, output_text, outcome_lines};
+ghost use Rattle.mm_explore.specs.Texts.{by_line, end_text, extent_text, repeats_of, repeat_text, count_text, word_line};
+
+use crate::explored::{Explored, FaultFound, OutcomeFound};
+use crate::reached::{GroupFound, Span};
+use mm_io::{Sink, WriteFault};
+use mm_model::SlotState;
+use mm_report::put_output;
+use mm_text::{Gather, Piece, put_state};
+use mm_thread::Output;
+
+/// Writes the text of an exploration:
+///
+/// - `explored N all` with the number of configurations, or `explored N more` if there are others;
+/// - for each group that has a slot, ascending, `group G` and its words, `touched ADDRESS COUNT` for each run of words
+///   that it touched and `wrote ADDRESS COUNT` for each that it wrote;
+/// - for each fault, `fault SLOT NUMBER` and the first schedule that meets it;
+/// - for each outcome, `outcome N ended` or `outcome N stuck` with the number of final schedules that have it, `slot S`
+///   and the state of each slot, the output of each group, and the first schedule.
+///
+/// A schedule is a line `by`, with each run of equal items as the item, and `*` and the count if there are more than
+/// one. After a [`WriteFault`] the sink has taken a prefix of the text.
+#[tactic(auto, unfolding(crate::specs::Results::explored_text))]
+pub fn write_explored<O: Sink>(e: &Explored, out: &mut O) -> Result<(), WriteFault>
+    ensures { Writes O.taken O.faults out.old out.new (explored_text e.now) result }
+{
+    let mut text = Gather::new();
+    put_extent(&mut text, out, e.count, e.all);
+    put_groups(&mut text, out, &e.groups);
+    put_faults(&mut text, out, &e.faults);
+    put_outcomes(&mut text, out, &e.outcomes);
+    text.finish(out)
+}
+
+fn put_extent<O: Sink>(text: &mut Gather, out: &mut O, count: u64, all: bool)
+    ensures { Gathers O.taken O.faults out.old out.new text.old text.new
+        (codes "explored " ++ decimal count ++ extent_text all) }
+{
+    let extent = if all { " all\n" } else { " more\n" };
+    text.put(
+        out,
+        &[
+            Piece::Text("explored "),
+            Piece::Decimal(count),
+            Piece::Text(extent),
+        ],
+    );
+}
+
+// 1. Words.
+
+fn put_groups<O: Sink>(text: &mut Gather, out: &mut O, groups: &[GroupFound])
+    ensures { Gathers O.taken O.faults out.old out.new text.old text.new (flat_map group_lines groups.now) }
+{
+    for group in groups {
+        put_group(text, out, group);
+    }
+}
+
+fn put_group<O: Sink>(text: &mut Gather, out: &mut O, group: &GroupFound)
+    ensures { Gathers O.taken O.faults out.old out.new text.old text.new (group_lines group.now) }
+{
+    text.put(
+        out,
+        &[
+            Piece::Text("group "),
+            Piece::Decimal(group.group as u64),
+            Piece::Text("\n"),
+        ],
+    );
+    put_spans(text, out, "touched ", &group.touched);
+    put_spans(text, out, "wrote ", &group.wrote);
+}
+
+fn put_spans<O: Sink>(text: &mut Gather, out: &mut O, verb: &str, spans: &[Span])
+    ensures { Gathers O.taken O.faults out.old out.new text.old text.new (flat_map (word_line verb.now) spans.now) }
+{
+    for span in spans {
+        put_span(text, out, verb, span);
+    }
+}
+
+fn put_span<O: Sink>(text: &mut Gather, out: &mut O, verb: &str, span: &Span)
+    ensures { Gathers O.taken O.faults out.old out.new text.old text.new (word_line verb.now span.now) }
+{
+    text.put(
+        out,
+        &[
+            Piece::Text(verb),
+            Piece::HexAddress(span.first),
+            Piece::Text(" "),
+            Piece::Decimal(span.count),
+            Piece::Text("\n"),
+        ],
+    );
+}
+
+// 2. Faults.
+
+fn put_faults<O: Sink>(text: &mut Gather, out: &mut O, faults: &[FaultFound])
+    ensures { Gathers O.taken O.faults out.old out.new text.old text.new (flat_map fault_lines faults.now) }
+{
+    for fault in faults {
+        put_fault(text, out, fault);
+    }
+}
+
+fn put_fault<O: Sink>(text: &mut Gather, out: &mut O, fault: &FaultFound)
+    ensures { Gathers O.taken O.faults out.old out.new text.old text.new (fault_lines fault.now) }
+{
+    text.put(
+        out,
+        &[
+            Piece::Text("fault "),
+            Piece::Decimal(fault.slot as u64),
+            Piece::Text(" "),
+            Piece::Decimal(fault.cause as u64),
+            Piece::Text("\n"),
+        ],
+    );
+    put_by(text, out, &fault.by);
+}
+
+// 3. Outcomes.
+
+fn put_outcomes<O: Sink>(text: &mut Gather, out: &mut O, outcomes: &[OutcomeFound])
+    ensures { Gathers O.taken O.faults out.old out.new text.old text.new (flat_map outcome_lines outcomes.now) }
+{
+    for outcome in outcomes {
+        put_outcome(text, out, outcome);
+    }
+}
+
+fn put_outcome<O: Sink>(text: &mut Gather, out: &mut O, outcome: &OutcomeFound)
+    ensures { Gathers O.taken O.faults out.old out.new text.old text.new (outcome_lines outcome.now) }
+{
+    put_end(text, out, outcome.count, outcome.ended);
+    put_states(text, out, &outcome.states);
+    put_outputs(text, out, &outcome.outputs);
+    put_by(text, out, &outcome.by);
+}
+
+fn put_end<O: Sink>(text: &mut Gather, out: &mut O, count: u64, ended: bool)
+    ensures { Gathers O.taken O.faults out.old out.new text.old text.new
+        (codes "outcome " ++ decimal count ++ end_text ended) }
+{
+    let end = if ended { " ended\n" } else { " stuck\n" };
+    text.put(
+        out,
+        &[
+            Piece::Text("outcome "),
+            Piece::Decimal(count),
+            Piece::Text(end),
+        ],
+    );
+}
+
+fn put_states<O: Sink>(text: &mut Gather, out: &mut O, states: &[(u8, SlotState)])
+    ensures { Gathers O.taken O.faults out.old out.new text.old text.new (flat_map state_line states.now) }
+{
+    for (slot, state) in states {
+        put_state_line(text, out, *slot, *state);
+    }
+}
+
+fn put_state_line<O: Sink>(text: &mut Gather, out: &mut O, slot: u8, state: SlotState)
+    ensures { Gathers O.taken O.faults out.old out.new text.old text.new (state_line (slot, state)) }
+{
+    text.put(
+        out,
+        &[
+            Piece::Text("slot "),
+            Piece::Decimal(slot as u64),
+            Piece::Text(" "),
+        ],
+    );
+    put_state(text, out, state);
+    text.put(out, &[Piece::Text("\n")]);
+}
+
+fn put_outputs<O: Sink>(text: &mut Gather, out: &mut O, outputs: &[Output])
+    ensures { Gathers O.taken O.faults out.old out.new text.old text.new (flat_map output_text outputs.now) }
+{
+    for output in outputs {
+        put_output_text(text, out, output);
+    }
+}
+
+fn put_output_text<O: Sink>(text: &mut Gather, out: &mut O, output: &Output)
+    ensures { Gathers O.taken O.faults out.old out.new text.old text.new (output_text output.now) }
+{
+    let bytes = output.bytes.as_slice();
+    text.put(
+        out,
+        &[
+            Piece::Text("group "),
+            Piece::Decimal(output.group as u64),
+            Piece::Text(" output "),
+            Piece::Decimal(bytes.len() as u64),
+            Piece::Text("\n"),
+        ],
+    );
+    put_output(text, out, bytes);
+}
+
+// 4. Schedules.
+
+/// Appends the line of a schedule.
+#[tactic(auto, unfolding(crate::specs::Texts::by_line))]
+fn put_by<O: Sink>(text: &mut Gather, out: &mut O, items: &[u8])
+    ensures { Gathers O.taken O.faults out.old out.new text.old text.new (by_line items.now) }
+{
+    text.put(out, &[Piece::Text("by")]);
+    put_repeats(text, out, items);
+    text.put(out, &[Piece::Text("\n")]);
+}
+
+/// How many items at the start are this one.
+fn leading(item: u8, items: &[u8]) -> usize
+    ensures value { result ≡ leading_of item items.now }
+    ensures within { result ≤ length items.now }
+{
+    for at in 0..items.len() {
+        if items[at] != item {
+            return at;
+        }
+    }
+    items.len()
+}
+
+/// Appends the longest runs of equal items.
+fn put_repeats<O: Sink>(text: &mut Gather, out: &mut O, items: &[u8])
+    ensures { Gathers O.taken O.faults out.old out.new text.old text.new (flat_map repeat_text (repeats_of items.now)) }
+{
+    let mut at = 0;
+    while at < items.len() {
+        let item = items[at];
+        let (_, rest) = items.split_at(at + 1);
+        let more = leading(item, rest);
+        put_repeat(text, out, item, more as u64 + 1);
+        at += more + 1;
+    }
+}
+
+/// Appends an item, and how many times it comes if it comes more than once.
+fn put_repeat<O: Sink>(text: &mut Gather, out: &mut O, item: u8, count: u64)
+    ensures { Gathers O.taken O.faults out.old out.new text.old text.new (repeat_text (record { item = item; count = count })) }
+{
+    text.put(out, &[Piece::Text(" "), Piece::Decimal(item as u64)]);
+    put_count(text, out, count);
+}
+
+fn put_count<O: Sink>(text: &mut Gather, out: &mut O, count: u64)
+    ensures { Gathers O.taken O.faults out.old out.new text.old text.new (count_text count) }
+{
+    if count != 1 {
+        text.put(out, &[Piece::Text("*"), Piece::Decimal(count)]);
+    }
+}
