@@ -1,5 +1,5 @@
 -- What each command comes to, given its words and the values of its inputs.
-use Rattle.std.specs.Prelude.{◌≡◌, ℕ, Bool, List, [], ◌∷◌, ◌++◌, map, length, take, Option, None, Some}
+use Rattle.std.specs.Prelude.{◌≡◌, ℕ, Bool, true, false, List, [], ◌∷◌, ◌++◌, map, length, take, Option, None, Some}
 use Rattle.mm_model.specs.declared.counts.Counts.{Counts}
 use Rattle.mm_model.specs.Uses.{Use}
 use Rattle.mm_model.specs.Image as model
@@ -23,6 +23,10 @@ use Rattle.mm_sweep.specs.Holders as holding
 use Rattle.mm_model.specs.Audit.{IsAudit}
 use Rattle.mm_model.specs.Report.{report}
 use Rattle.mm_audit.specs.Refusals.{StandAlone}
+use Rattle.mm_explore.specs.Texts.{Explores}
+use Rattle.mm_why.specs.declared.uses.Use.{Use as WordUse}
+use Rattle.mm_why.specs.declared.uses.Use.TheVariants.{Touch, Write}
+use Rattle.mm_why.specs.Text.{SaysWhy}
 use Rattle.mm_sched.specs.declared.schedule.Order.{Order}
 use Rattle.mm_debug.specs.Session as session
 use Rattle.mm_log.specs.Log.{log_text}
@@ -30,11 +34,12 @@ use Rattle.mm_save.specs.Recorder.{recorded}
 use Rattle.mm_cli.specs.declared.table.Command.{Command}
 use Rattle.mm_cli.specs.declared.table.Command.TheVariants.{Run, Trace, Log, Solo, Grants, Extract, Asm, Link, Dis}
 use Rattle.mm_cli.specs.declared.table.Command.TheVariants.{Debug, Gen, Soak, Migrate, Sweep, Holders, Save, Continue}
-use Rattle.mm_cli.specs.declared.table.Command.TheVariants.{Net}
+use Rattle.mm_cli.specs.declared.table.Command.TheVariants.{Net, Explore, Why}
 use Rattle.mm_cli.specs.declared.table.Kind.TheVariants.{Image as image_file, Schedule as schedule_file}
 use Rattle.mm_cli.specs.declared.table.Kind.TheVariants.{Source as source_file, Object as object_file}
 use Rattle.mm_cli.specs.declared.table.Kind.TheVariants.{Checkpoint as checkpoint_file}
-use Rattle.mm_cli.specs.Words.{Word, file_word, number_word, groups_word, mode_word, range_word, perhaps}
+use Rattle.mm_cli.specs.Words.{Word, file_word, number_word, groups_word, mode_word, range_word, use_word}
+use Rattle.mm_cli.specs.Words.{perhaps}
 use Rattle.mm_cli.specs.Table.{Row}
 use Rattle.mm_load.specs.declared.status.Refusal.{Refusal}
 use Rattle.mm_load.specs.declared.status.Refusal.TheVariants as refusal
@@ -85,6 +90,11 @@ soaked number size cycles =
     let i = generated number size in
     summary (machine.run (model.start i) (machine.robin_from (model.start i) None cycles))
 
+-- a use of a word: a write, or else any
+abbrev pub use_said : (write : Bool) → WordUse
+use_said true = Write
+use_said false = Touch
+
 -- 2. The commands.
 
 -- a command with these words is refused, given these values of its inputs
@@ -112,6 +122,9 @@ YieldsAloneAt Migrate (image ∷ mode_word split ∷ []) (an_image i ∷ []) tex
 YieldsAloneAt Sweep (image ∷ range_word base log ∷ []) (an_image i ∷ []) text =
     CanSweep (base, log) i × Spells text (swept (base, log) i)
 YieldsAloneAt Holders (image ∷ range_word base log ∷ []) (an_image i ∷ []) text = text ≡ holding.holders (base, log) i
+YieldsAloneAt Explore (image ∷ number_word states ∷ []) (an_image i ∷ []) text = Explores i states text
+YieldsAloneAt Why (image ∷ number_word group ∷ number_word word ∷ use_word write ∷ []) (an_image i ∷ []) text =
+    SaysWhy i (use_said write) group word text
 YieldsAloneAt _ _ _ text = ⊥
 
 -- a command writes a text, given what the memory tells of uses

@@ -9,6 +9,7 @@ mod boot;
 mod cycles;
 mod debug;
 mod dis;
+mod explore;
 mod extract;
 mod generate;
 mod going_on;
@@ -28,6 +29,7 @@ mod solo;
 mod sweep;
 mod top;
 mod trace;
+mod why;
 
 pub use laws::{saves_go_on, texts_are_run};
 pub use memories::counts_stand_behind;

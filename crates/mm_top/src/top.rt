@@ -18,6 +18,7 @@ ghost use Rattle.mm_top.specs.Headline.{RunIsProved, TraceIsProved, LogIsProved}
 use crate::asm::asm;
 use crate::debug::debug;
 use crate::dis::dis;
+use crate::explore::explore;
 use crate::extract::extract;
 use crate::generate::generate;
 use crate::going_on::go_on;
@@ -33,6 +34,7 @@ use crate::soak::soak;
 use crate::solo::solo;
 use crate::sweep::sweep;
 use crate::trace::trace;
+use crate::why::why;
 use mm_cli::{Command, Word, read_words};
 use mm_io::{Files, Sink, Source};
 use mm_load::{Refusal, Status, Stop, write_line};
@@ -224,6 +226,8 @@ fn by_command<M: Boot + Reset, F: Files, I: Source, O: Sink>(
         Command::Save => save::<M, F, O>(alloc, words, files, out),
         Command::Continue => go_on::<M, F, O>(alloc, words, files, out),
         Command::Net => run_net::<M, F, O>(alloc, words, files, out),
+        Command::Explore => explore(alloc, words, files, out),
+        Command::Why => why(alloc, words, files, out),
     }
 }
 

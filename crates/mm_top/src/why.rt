@@ -1,0 +1,61 @@
+//! `why`: by what way a group is granted a word.
+
+ghost use Rattle.std.specs.Prelude.{◌≡◌, ◌<◌, ℕ, Option, Result, Ok, Err};
+ghost use Rattle.std.specs.Option.{option_map};
+ghost use Rattle.mm_why.specs.Text.{SaysWhy};
+ghost use Rattle.mm_load.specs.Files.{reading};
+ghost use Rattle.mm_cli.specs.Words.{IsWordAddress};
+ghost use Rattle.mm_cli.specs.Said.{AreOf, row};
+ghost use Rattle.mm_top.specs.Commands.{YieldsAlone, use_said};
+ghost use Rattle.mm_top.specs.Answers.{CommandEnds, EndsWith, writing};
+
+use mm_cli::{Command, Word, name_at, number_at, use_at};
+use mm_image::Image;
+use mm_io::{Files, Sink};
+use mm_load::{Stop, ended, load_image};
+use mm_why::{Use, write_why};
+use std::alloc::Global;
+
+/// `why IMAGE GROUP ADDRESS KIND`
+pub fn why<F: Files, O: Sink>(
+    alloc: Global,
+    words: &[Word<'_>],
+    files: &mut F,
+    out: &mut O,
+) -> Result<(), Stop>
+    requires { AreOf Command.Why words.now }
+    ensures { CommandEnds (reading F.held F.faults F.asked files.old files.new)
+        (writing O.taken O.faults out.old out.new) YieldsAlone (row Command.Why words.now) result }
+{
+    let image = load_image(alloc, files, name_at(words, 0), 1)?;
+    let group = number_at(words, 1) as u8;
+    let how = use_of(use_at(words, 3));
+    write_reason(alloc, &image, group, number_at(words, 2), how, out)
+}
+
+/// The use that a word of the command says.
+fn use_of(write: bool) -> Use
+    ensures { result ≡ use_said write }
+{
+    if write { Use::Write } else { Use::Touch }
+}
+
+/// Writes by what way a group is granted a use of the word at an address.
+fn write_reason<O: Sink>(
+    alloc: Global,
+    image: &Image,
+    group: u8,
+    word: u64,
+    how: Use,
+    out: &mut O,
+) -> Result<(), Stop>
+    requires few { group < 64 }
+    requires address { IsWordAddress word }
+    ensures { EndsWith (writing O.taken O.faults out.old out.new) (SaysWhy image.now how group word) result }
+{
+    let lines = mm_why::why(alloc, image, group, word, how)?;
+    match &lines {
+        Some(lines) => ended(write_why(Some(lines.as_slice()), out)),
+        None => ended(write_why(None, out)),
+    }
+}
