@@ -4,7 +4,7 @@ from __future__ import annotations
 
 from mm.console import Console
 from mm.status import Status
-from mm.views.derivation import DerivationView
+from mm.views.derivation import DerivationView, answer
 from mm.why.ask import asked
 from mm.why.lines import NO, read_lines
 
@@ -14,8 +14,8 @@ def run(console: Console) -> int:
     built = console.build(names)
     ask = asked(group, word, kind, built.symbols)
     text = console.ask(["why", built.path, *ask.words], [built.file]).text
-    view, granted = DerivationView(built.symbols, console.style), text != NO
-    console.write([view.answer(ask.group, ask.address, ask.kind, granted)])
+    place, granted = built.symbols.show(ask.address), text != NO
+    console.write([answer(ask.group, place, ask.kind, granted, console.style)])
     if granted:
-        console.write(view.lines(read_lines(text)))
+        console.write(DerivationView(read_lines(text), built.symbols, console.style).lines())
     return Status.DONE

@@ -3,8 +3,9 @@
 from __future__ import annotations
 
 from mm.build import Built
+from mm.names.symbols import Symbols
 from mm.pictures.svg import MARGIN, TINTS, WIDTH, Picture
-from mm.views.derivation import DONE, DerivationView
+from mm.views.derivation import DerivationView
 from mm.views.style import Style
 from mm.why.ask import Asked
 from mm.why.lines import Line
@@ -41,8 +42,9 @@ def arrows_of(lines: list[Line]) -> list[Arrow]:
 class Derivation:
     """A derivation while it is drawn."""
 
-    def __init__(self, lines: list[Line], view: DerivationView) -> None:
-        self.lines, self.view, self.arrows = lines, view, arrows_of(lines)
+    def __init__(self, lines: list[Line], symbols: Symbols) -> None:
+        self.lines, self.arrows = lines, arrows_of(lines)
+        self.view = DerivationView(lines, symbols, Style())
         self.tracks = 1 + max((arrow.track for arrow in self.arrows), default=0)
         self.left = MARGIN + (self.tracks + 1) * TRACK + 6
         groups = sorted({line.group for line in lines})
@@ -81,10 +83,9 @@ def cut(text: str, wide: float) -> str:
 
 def short(view: DerivationView, line: Line) -> str:
     """The rule of a line, in few words."""
-    show = view.symbols.show
     if line.rule == "passed":
         address, source, store, load = line.numbers
-        return f"{source}, stored at {show(address)} by {store}, loaded by {load}"
+        return f"{source}, stored at {view.place(address)} by {store}, loaded by {load}"
     if line.rule == "served":
         slot, source = line.numbers
         return f"{source}, by slot {slot} and its handler"
@@ -93,14 +94,14 @@ def short(view: DerivationView, line: Line) -> str:
 
 def draw(lines: list[Line], ask: Asked, built: Built, title: str) -> Picture:
     """The derivation of what was asked; no lines where it is not granted."""
-    picture, view = Picture(title), DerivationView(built.symbols, Style())
+    picture = Picture(title)
     if not lines:
         word = built.symbols.show(ask.address)
         picture.paragraph(f"It cannot: no pointer that does is granted to group {ask.group}, and {word} stays out of its reach.")
         return picture
     picture.paragraph(
         "Each box is a pointer that a group is granted. Arrows come from the pointers by which it is.", SIZE, "soft")
-    top, derivation = picture.down + 6, Derivation(lines, view)
+    top, derivation = picture.down + 6, Derivation(lines, built.symbols)
     for arrow in derivation.arrows:
         derivation.arrow(picture, arrow, top)
     for line in lines:

@@ -10,7 +10,7 @@ from mm.pictures import why
 from mm.pictures.why import arrows_of
 from mm.status import Status
 from mm.tests.support import mm, needs_why, path_of
-from mm.views.derivation import REASONS, DerivationView
+from mm.views.derivation import REASONS, DerivationView, answer
 from mm.views.style import Style
 from mm.why.ask import Asked
 from mm.why.lines import RULES, read_lines
@@ -31,12 +31,12 @@ SYMBOLS = Symbols([Region("gate", 0x100040, 6, 8, None, 0), Region("box", 0x1001
 SAID = [
     "slot 3 runs by it",
     "1 is privileged, and makes any pointer",
-    "who has 2 shares it: slot 3 and its handler are of the two groups",
+    "group 3 has it (2), and slot 3 and its handler are of the two groups",
     "it can be made of 3",
     "r5 of slot 2 holds it",
     "an entry by 5 leaves it",
     "it lies in gate, which 6 loads",
-    "who has 7 can store it at box by 2, and 4 loads it there",
+    "group 2 has it (7) and can store it at box (2), where 4 loads it",
 ]
 
 
@@ -51,13 +51,13 @@ class Words(unittest.TestCase):
         self.assertEqual(set(REASONS), set(RULES))
         lines = read_lines(TEXT)
         self.assertEqual({line.rule for line in lines}, set(RULES))
-        view = DerivationView(SYMBOLS, Style())
+        view = DerivationView(lines, SYMBOLS, Style())
         self.assertEqual([view.reason(line) for line in lines], SAID)
-        shown = view.lines(lines)
+        shown = view.lines()
         self.assertEqual(shown[7], f"  8  group 1  rw 2^3 count      {SAID[7]}")
         self.assertEqual(len({line.index(said) for line, said in zip(shown, SAID)}), 1)
-        self.assertEqual(view.answer(1, 0x100108, "write", True), "group 1 can write count")
-        self.assertEqual(view.answer(1, 0x100108, "touch", False), "group 1 cannot read count")
+        self.assertEqual(answer(1, "count", "write", True, Style()), "group 1 can write count")
+        self.assertEqual(answer(1, "count", "touch", False, Style()), "group 1 cannot read count")
 
 
 class Pictures(unittest.TestCase):
@@ -89,7 +89,7 @@ class Asking(unittest.TestCase):
         ended = mm("why", "examples/counter.asm", "0", "count", "write")
         self.assertEqual(ended.status, 0)
         for said in ("group 0 can write count", "an entry by 2 leaves it", "it lies in gate, which 3 loads",
-            "who has 4 can store it at box by 1, and 5 loads it there"):
+            "group 1 has it (4) and can store it at box (1), where 5 loads it"):
             self.assertIn(said, ended.out)
         self.assertIn("group 0 can read count", mm("why", "examples/counter.img", "0", "0x100108", "touch").out)
 
