@@ -1,4 +1,4 @@
-use Rattle.std.proofs.Common.{ℕ, List, [], refl, subst, arith}
+use Rattle.std.proofs.Common.{ℕ, [], refl, subst, arith}
 use Rattle.mm_explore.specs.Texts.{Explores}
 use Rattle.mm_top.proofs.Rows.{row_stops, row_ends}
 use Rattle.mm_top.proofs.NamedFiles.{named}

@@ -1,4 +1,3 @@
-use Rattle.std.proofs.Common.{refl}
 use Rattle.mm_top.proofs.Reported.{ends_written}
 use Rattle.mm_top.proofs.explore.write_exploration.Goals as goal
 

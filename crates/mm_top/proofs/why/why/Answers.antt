@@ -1,8 +1,8 @@
-use Rattle.std.proofs.Common.{ℕ, List, [], slice_get, refl, sym, ◌∙◌, ap, subst, arith}
+use Rattle.std.proofs.Common.{◌≡◌, ℕ, List, [], slice_get, refl, sym, ◌∙◌, ap, subst, arith}
 use Rattle.mm_why.specs.declared.uses.Use.{Use}
 use Rattle.mm_why.specs.Text.{SaysWhy}
 use Rattle.mm_cli.specs.Words.{IsWordAddress}
-use Rattle.mm_cli.specs.Said.{number_of}
+use Rattle.mm_cli.specs.Said.{number_of, use_of}
 use Rattle.mm_top.specs.Commands.{use_said}
 use Rattle.mm_top.proofs.Rows.{row_stops, row_ends}
 use Rattle.mm_top.proofs.NamedFiles.{named}
@@ -15,12 +15,13 @@ pub returns : goal.returns
 returns g c =
     let i = c.in_ok-image.image in
     let IsText : List ℕ → ℕ → ℕ → Use → Type 0 = λ text group word how. SaysWhy i how group word text in
-    let how = c.use_of-how.ensures ∙ ap use_said c.use_at.ensures in
+    let asked : Use = use_said (use_of (slice_get c.args.words.now 3)) in
+    let how : c.use_of-how.result ≡ asked = c.use_of-how.ensures ∙ ap use_said c.use_at.ensures in
     row_ends _ _ (named c.name_at.ensures (c.in_ok-image.ensures.read [] refl)) refl c.write_reason.ensures (λ r no. no)
     (λ text is.
-    subst (λ (group : ℕ). IsText text group (number_of (slice_get c.args.words.now 2)) _) c.number_at-group.ensures
-    (subst (λ (word : ℕ). IsText text c.number_at-group.result word _) c.number_at.ensures
-    (subst (λ (asked : Use). IsText text c.number_at-group.result c.number_at.result asked) how is)))
+    subst (λ (group : ℕ). IsText text group (number_of (slice_get c.args.words.now 2)) asked) c.number_at-group.ensures
+    (subst (λ (word : ℕ). IsText text c.number_at-group.result word asked) c.number_at.ensures
+    (subst (λ (u : Use). IsText text c.number_at-group.result c.number_at.result u) how is)))
 
 pub write_reason-requires-clause-few : goal.write_reason-requires-clause-few
 write_reason-requires-clause-few g c = omega (arith, c.number_at-group.ensures, c.requires.1.0.1)
