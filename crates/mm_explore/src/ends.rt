@@ -50,15 +50,11 @@ fn put_bytes(key: &mut Vec<u64>, outputs: &[Output]) -> Result<(), AllocError>
 
 /// The numbers of the outcome of a configuration, given whether it has no move, and its parts.
 #[tactic(auto, unfolding(crate::specs::Noting::outcome_form))]
-pub(crate) fn outcome_key(
-    alloc: Global,
-    ended: bool,
-    parts: &Parts,
-) -> Result<Vec<u64>, AllocError>
+pub(crate) fn outcome_key(alloc: Global, ended: bool, parts: &Parts) -> Result<Vec<u64>, AllocError>
     ensures { IfOk result (λ key. key.items ≡ outcome_form (record {
-        ended = ended;
-        states = map (λ s. s.state) parts.now.slots.items;
-        outputs = map (λ o. o.bytes) parts.now.outputs.items;
+      ended = ended;
+      states = map (λ s. s.state) parts.now.slots.items;
+      outputs = map (λ o. o.bytes) parts.now.outputs.items;
     })) }
 {
     let mut key = Vec::new(alloc);

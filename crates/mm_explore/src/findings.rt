@@ -51,7 +51,7 @@ fn list_faults(
     requires { (key : ℕ × ℕ) → IfSome (get order faults.now key) (λ o. o.from < length found.now.list) }
     ensures { OnOk result (flat_map fault_lines out.new.items ≡ flat_map fault_lines out.old.items
         ++ flat_map (λ s. flat_map (λ cause. fault_found found.now.list s.number cause (get order faults.now (s.number, cause)))
-            (range_with_len 1 13)) slots.now) }
+        (range_with_len 1 13)) slots.now) }
 {
     for slot in slots {
         put_faults(alloc, out, faults, slot.number, found)?;

@@ -11,4 +11,4 @@ returns c =
     let last : c.loop-cause.cause - 1 ≡ 13 = omega arith in
     c.loop-cause.invariant
     ∙ ap (λ n. flat_map fault_lines c.args.out.now.items
-        ++ flat_map (λ cause. fault_found c.args.found.now.list c.args.slot cause (get order c.args.faults.now (c.args.slot, cause))) (range_with_len 1 n)) last
+    ++ flat_map (λ cause. fault_found c.args.found.now.list c.args.slot cause (get order c.args.faults.now (c.args.slot, cause))) (range_with_len 1 n)) last
