@@ -1,30 +1,37 @@
 -- One more turn of a search.
-use Rattle.std.proofs.Common.{◌≡◌, inl, inr, ℕ, zero, suc, ◌+◌, ◌<◌, ◌≤◌, Bool, true, false, ◌&&◌, Vec, Global, List, [], ◌∷◌, ◌++◌, map, length, take, drop, slice_index_or, refl, sym, ap, ◌∙◌, subst, arith, append_assoc, append-nil, length-append}
-use Rattle.std.specs.Prelude.{Contains, Some, slice_get}
+use Rattle.std.proofs.Common.{◌≡◌, inl, inr, ℕ, zero, suc, ◌+◌, ◌^◌, ◌<◌, ◌≤◌, Bool, true, false, ◌&&◌, Vec, Global, List, [], ◌∷◌, ◌++◌, map, length, take, drop, slice_index_or, refl, sym, ap, ◌∙◌, subst, arith, append_assoc, append-nil, length-append}
+use Rattle.std.specs.Prelude.{◌==◌, Contains, Some, slice_get, Result, Ok, Err, IfOk, OnOk}
 use Rattle.std.specs.List.{AllByRecursion, flat_map}
+use Rattle.std.proofs.Math.Dec.{eqb-suc-zero}
 use Rattle.std.proofs.lemmas.List.{length-map}
 use Rattle.std.proofs.lemmas.List.Elements.{Contains-append_left, Contains-push}
+use Rattle.mm_model.specs.Fits.{slots_of}
 use Rattle.mm_model.specs.Image.{Image, start}
+use Rattle.mm_model.specs.Slot.{Slot}
 use Rattle.mm_model.specs.Report.{groups_of}
 use Rattle.mm_model.specs.Spelling.{IsImage}
 use Rattle.mm_model.specs.Run.{run}
 use Rattle.mm_explore.specs.declared.found.Looked.{Looked}
 use Rattle.mm_explore.specs.declared.found.Looked.TheVariants.{Known, New, Full}
 use Rattle.mm_explore.specs.declared.found.Origin.{Origin}
+use Rattle.mm_explore.specs.declared.parts.Parts as code
 use Rattle.mm_explore.specs.declared.search.Node.{Node}
 use Rattle.mm_explore.specs.declared.search.Search.{Search}
 use Rattle.mm_explore.specs.declared.bench.Bench.{Bench}
 use Rattle.mm_explore.specs.declared.findings.Findings.{Findings}
-use Rattle.mm_explore.specs.Benches.{IsAt, ArePartsAt}
-use Rattle.mm_explore.specs.Configurations.{moves}
+use Rattle.mm_explore.specs.Benches.{IsAt, ArePartsAt, parts_held}
+use Rattle.mm_explore.specs.Configurations.{uncounted_slot, moves}
 use Rattle.mm_explore.specs.Explored.{leads_to, IsExplored, IsAll}
-use Rattle.mm_explore.specs.Findings.{Extension, extended, extensions, explored_turns, IsFinal}
+use Rattle.mm_explore.specs.Findings.{Extension, extended, extensions, explored_turns, IsFinal, is_none}
 use Rattle.mm_explore.specs.FoundLists.{FoundList, led_by, Holds, Looks}
-use Rattle.mm_explore.specs.Kept.{kept}
+use Rattle.mm_explore.specs.Kept.{Parts, parts_of, parts_from, kept}
+use Rattle.mm_explore.specs.MoveLists.{moves_in}
 use Rattle.mm_explore.specs.Noting.{Noted, Ended}
 use Rattle.mm_explore.specs.Searching.{GoesOn, IsFull, HasCome, IsBefore, IsNode, IsWithin, node_schedule, turns_before, turns_from, StaysBy, AllStay, all_after, Met, KeptBy}
+use Rattle.mm_explore.proofs.Keepables.{parts_again}
 use Rattle.mm_explore.proofs.KeptRuns.{kept_alike, kept_apart, runs_state_of}
 use Rattle.mm_explore.proofs.Members.{in_map, map_in, all_at}
+use Rattle.mm_explore.proofs.MoveForms.{moves_are, small_numbers}
 use Rattle.mm_explore.proofs.Notings.{noted_more, ended_more}
 use Rattle.mm_explore.proofs.Searches.{IsNew, search_begins, search_known, search_new, search_full, search_ends}
 
@@ -360,9 +367,11 @@ module _ (i : Image) (img : IsImage i) (s : Search) (node : Node) (k : ℕ) (w :
           moves = w.is.moves ∙ ap (λ t. moves (run (start i) t)) (sym same_schedule);
         };
         come = record {
+          image = w.come.image;
           groups = ap (λ (g : Vec ℕ Global). g.items) met.groups ∙ w.come.groups;
           bench = (extended (node_turn s node k), subst (IsAt i (extended (node_turn s node k))) (sym met.bench) at);
           held = held_more i met.looked (extended (node_turn s node k)) o s.found now.found led w.come.held met.looks;
+          room = subst (λ n. n < 2 ^ 32) (sym more.limit) w.come.room;
           goes = subst (λ all. GoesOn all i now.found.limit now.found.list (turns_before i now.found.list node.at (k + 1)) (turns_from i now.found.list node.at (k + 1))) (sym met.all)
               (comes_to i img s.found now.found w.come.held node.at k inside (node_turn s node k) o led ahead made met.looked s.all w.come.goes met.looks);
           noted = noted_now;
@@ -372,6 +381,34 @@ module _ (i : Image) (img : IsImage i) (s : Search) (node : Node) (k : ℕ) (w :
       schedule = same_schedule;
       limit = more.limit;
     }
+
+module _ (i : Image) (s : Search) (node : Node) (k : ℕ) (w : IsWithin i s node k) (move : k < length node.moves.items) (b : Bench) (m : ℕ) (is : m ≡ slice_index_or node.moves.items k 0)
+    (at : IsAt i (node_schedule s node ++ m ∷ []) b) where
+  at_turn : IsAt i (extended (node_turn s node k)) b
+  at_turn = subst (λ n. IsAt i (node_schedule s node ++ n ∷ []) b) is at
+
+  pub moved_by : (now : Search) (f : Findings)
+      → Noted i s.found.list (turns_before i s.found.list node.at k ++ (record { schedule = node_schedule s node; item = m }) ∷ []) f
+      → Ended i s.found.list (take node.at s.found.list) f
+      → ((u : List ℕ) → IsAt i u b → Met (kept i (run (start i) u)) (record { from = node.at; item = m }) (record s { bench = b; findings = f }) now) → Made i s now node k
+  moved_by now f noted ended met =
+      moved i w.come.image s node k w move now b f (record { from = node.at; item = m }) refl is at_turn
+      (subst (λ n. Noted i s.found.list (turns_before i s.found.list node.at k ++ (record { schedule = node_schedule s node; item = n }) ∷ []) f) is noted) ended (met (extended (node_turn s node k)) at_turn)
+
+  pub stays_by : (stays : Bool) → ((u : List ℕ) → IsAt i u b → KeptBy stays s.found.forms node.at (kept i (run (start i) u))) → StaysBy stays i (node_schedule s node) (slice_index_or node.moves.items k 0)
+  stays_by stays h = stays_so i w.come.image s.found w.come.held node.at w.is.inside stays (slice_index_or node.moves.items k 0) (h (extended (node_turn s node k)) at_turn)
+
+-- an item that is read is that of its index
+pub item_is : (xs : List ℕ) (k x : ℕ) → k < length xs → x ≡ slice_index_or xs k x → x ≡ slice_index_or xs k 0
+item_is xs k x lt e = e ∙ at_any xs k 0 x lt
+
+pub list_few : (i : Image) (all : Bool) (limit : ℕ) (list : List (List ℕ)) (done left : List Extension) → GoesOn all i limit list done left → length list ≤ limit
+list_few i true limit list done left o = o.few
+list_few i false limit list done left h = let full = h.full in omega (arith, full)
+
+pub if_more : {A E : Type 0} {P Q : A → Type 0} (r : Result A E) → ((x : A) → P x → Q x) → IfOk r P → IfOk r Q
+if_more (Ok x) f h = f x h
+if_more (Err e) f h = tt
 
 -- 7. All moves of a node.
 
@@ -393,9 +430,11 @@ module _ (i : Image) (s : Search) (at : ℕ) (before : IsBefore i s at) (inside 
   none_made = record {
     is = n;
     come = subst (λ a. HasCome i s (turns_before i s.found.list a 0) (turns_from i s.found.list a 0) (take a s.found.list)) (sym is) (record {
+      image = before.image;
       groups = before.groups;
       bench = before.bench;
       held = before.held;
+      room = before.room;
       goes = subst (λ l. GoesOn s.all i s.found.limit s.found.list (turns_before i s.found.list at 0) l) from
           (subst (λ l. GoesOn s.all i s.found.limit s.found.list l (flat_map (extensions i) (drop at s.found.list))) front before.goes);
       noted = subst (λ l. Noted i s.found.list l s.findings) front before.noted;
@@ -433,9 +472,11 @@ module _ (i : Image) (s : Search) (node : Node) (w : IsWithin i s node (length n
   pub all_made : (f : Findings) → Noted i s.found.list (turns_before i s.found.list node.at (length node.moves.items)) f
       → Ended i s.found.list (take node.at s.found.list ++ node_schedule s node ∷ []) f → IsBefore i (record s { findings = f }) (node.at + 1)
   all_made f noted ended = record {
+    image = w.come.image;
     groups = w.come.groups;
     bench = w.come.bench;
     held = w.come.held;
+    room = w.come.room;
     goes = subst (λ l. GoesOn s.all i s.found.limit s.found.list l (flat_map (extensions i) (drop (node.at + 1) s.found.list))) turns_all
         (subst (GoesOn s.all i s.found.limit s.found.list (turns_before i s.found.list node.at (length node.moves.items))) none_left w.come.goes);
     noted = subst (λ l. Noted i s.found.list l f) turns_all noted;
@@ -444,14 +485,16 @@ module _ (i : Image) (s : Search) (node : Node) (w : IsWithin i s node (length n
 
 -- 8. The start and the end.
 
-pub begins : (i : Image) (img : IsImage i) (limit : ℕ) → 1 ≤ limit → (numbers : List ℕ) → numbers ≡ kept i (run (start i) [])
+pub begins : (i : Image) (img : IsImage i) (limit : ℕ) → 1 ≤ limit → limit ≤ 1000000 → (numbers : List ℕ) → numbers ≡ kept i (run (start i) [])
     → (s : Search) → s.found ≡ record { list = [] ∷ []; forms = numbers ∷ []; limit = limit } → s.all ≡ true
     → s.groups.items ≡ groups_of (start i).core → IsAt i [] s.bench → ((list : List (List ℕ)) → Noted i list [] s.findings) → ((list : List (List ℕ)) → Ended i list [] s.findings) → IsBefore i s 0
 unfolding explored_turns
-begins i img limit room numbers is s found all groups at noted ended = record {
+begins i img limit room few numbers is s found all groups at noted ended = record {
+  image = img;
   groups = groups;
   bench = ([], at);
   held = subst (Holds i) (sym found) (ap (λ n. n ∷ []) is);
+  room = let same = ap (λ (f : FoundList). f.limit) found in omega (arith, same, few);
   goes = subst (λ (f : FoundList). GoesOn s.all i f.limit f.list (flat_map (extensions i) (take 0 f.list)) (flat_map (extensions i) (drop 0 f.list))) (sym found)
       (subst (λ b. GoesOn b i limit ([] ∷ []) [] (explored_turns i ([] ∷ []))) (sym all) (search_begins i img limit room));
   noted = noted s.found.list;
@@ -473,3 +516,37 @@ module _ (i : Image) (img : IsImage i) (s : Search) (h : HasCome i s (explored_t
 
   pub searched : IsExplored i s.found.limit s.found.list × (s.all ≡ true → IsAll i s.found.list) × (s.all ≡ false → IsAll i s.found.list → ⊥)
   searched = ends s.all h.goes
+
+-- 9. The parts and the moves of a node.
+
+module _ (i : Image) (img : IsImage i) where
+  pub parts_so : (f : FoundList) → Holds i f → (at : ℕ) → at < length f.list → (numbers : List ℕ) → slice_get f.forms at ≡ Some numbers
+      → (p : code.Parts) → parts_held i p ≡ parts_from i numbers → ArePartsAt i (slice_index_or f.list at []) p
+  parts_so f held at inside numbers e p is =
+      let s = run (start i) (slice_index_or f.list at []) in
+      is ∙ ap (parts_from i) (numbers_at i f held at inside numbers e) ∙ parts_again i s img (runs_state_of i (slice_index_or f.list at []) img)
+
+  slots_so : (t : List ℕ) (p : code.Parts) → ArePartsAt i t p → p.slots.items ≡ map uncounted_slot (slots_of (run (start i) t).core)
+  unfolding parts_of
+  slots_so t p e = ap (λ (q : Parts). q.slots) e
+
+  pub small_so : (t : List ℕ) (p : code.Parts) → ArePartsAt i t p → AllByRecursion (λ (x : Slot). x.number < 64) p.slots.items
+  small_so t p e = small_numbers i (run (start i) t) p.slots.items (runs_state_of i t img) (slots_so t p e)
+
+  pub moves_so : (t : List ℕ) (p : code.Parts) → ArePartsAt i t p → (split : Bool) → split ≡ i.split → (items : List ℕ) → items ≡ moves_in split p.slots.items → items ≡ moves (run (start i) t)
+  moves_so t p e split same items is =
+      is ∙ moves_are (run (start i) t) split p.slots.items (same ∙ sym (runs_state_of i t img).fits.split) (slots_so t p e)
+
+-- 10. What calls answer.
+
+pub both_ok : {A E : Type 0} (P Q : Type 0) (r : Result A E) → OnOk r P → OnOk r Q → OnOk r (P × Q)
+both_ok P Q (Ok x) p q = (p, q)
+both_ok P Q (Err e) p q = tt
+
+-- a list is empty
+pub none_so : (b : Bool) (xs ys : List ℕ) → xs ≡ ys → b ≡ (length xs == 0) → b ≡ is_none ys
+none_so b xs ys e h = h ∙ by xs ∙ ap is_none e
+  where
+    by : (zs : List ℕ) → (length zs == 0) ≡ is_none zs
+    by [] = refl
+    by (z ∷ zs) = eqb-suc-zero (length zs)

@@ -1,9 +1,10 @@
 -- How far a search has come.
-use Rattle.std.specs.Prelude.{◌≡◌, ◌⊎◌, ℕ, ◌+◌, ◌<◌, ◌≤◌, Bool, true, false, List, [], ◌∷◌, ◌++◌, length, take, drop, Contains, Some, slice_get, slice_index_or}
+use Rattle.std.specs.Prelude.{◌≡◌, ◌⊎◌, ℕ, ◌+◌, ◌^◌, ◌<◌, ◌≤◌, Bool, true, false, List, [], ◌∷◌, ◌++◌, length, take, drop, Contains, Some, slice_get, slice_index_or}
 use Rattle.std.specs.List.{AllByRecursion, flat_map}
 use Rattle.mm_model.specs.Image.{Image, start}
 use Rattle.mm_model.specs.Report.{groups_of}
 use Rattle.mm_model.specs.Run.{run}
+use Rattle.mm_model.specs.Spelling.{IsImage}
 use Rattle.mm_explore.specs.declared.found.Looked.{Looked}
 use Rattle.mm_explore.specs.declared.found.Looked.TheVariants.{Known, New, Full}
 use Rattle.mm_explore.specs.declared.found.Origin.{Origin}
@@ -61,9 +62,11 @@ GoesOn false i limit list done left = IsFull i limit list done left
 
 -- a search has gone through these turns and these schedules, and has these turns left
 pub record HasCome (i : Image) (s : Search) (done left : List Extension) (past : List (List ℕ)) : Type 0 where
+  pub image : IsImage i
   pub groups : s.groups.items ≡ groups_of (start i).core
   pub bench : IsAtSome i s.bench
   pub held : Holds i s.found
+  pub room : s.found.limit < 2 ^ 32
   pub goes : GoesOn s.all i s.found.limit s.found.list done left
   pub noted : Noted i s.found.list done s.findings
   pub ended : Ended i s.found.list past s.findings

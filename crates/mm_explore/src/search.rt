@@ -17,7 +17,7 @@ ghost use Rattle.mm_explore.specs.Searching.{HasCome, IsBefore, IsNode, IsWithin
 ghost use Rattle.mm_explore.specs.Searching.{all_after as all_after_look, Met, KeptBy};
 ghost use Rattle.mm_explore.specs.Texts.{Explores};
 
-use crate::bench::Bench;
+use crate::bench::{Bench, Made};
 use crate::explored::Explored;
 use crate::findings::Findings;
 use crate::found::{Found, Looked, Origin};
@@ -277,8 +277,8 @@ impl Search {
             item: node.moves[k],
         };
         self.bench.put(alloc, img, &node.parts)?;
-        let made = self.bench.turn(alloc, img, origin.item)?;
-        self.findings.note(&made, origin)?;
+        let Made { step, group } = self.bench.turn(alloc, img, origin.item)?;
+        self.findings.note(&Made { step, group }, origin)?;
         self.meet(alloc, img, origin)
     }
 
