@@ -57,7 +57,7 @@ module _ (i : Image) (list : List (List ℕ)) (done : List Extension) (x : Exten
         let p : Extension → Bool = λ y. has_fault slot cause (turn_at i y).step in
         let now : first_in i (done ++ x ∷ []) slot cause ≡ option_or (first_in i done slot cause) (cond (p x) (Some x) None) = find-append p done (x ∷ []) in
         let key : get order g.faults (slot, cause) ≡ first_kept (get order f.faults (slot, cause)) (p x) o =
-            faults (slot, cause) ∙ ap (λ (s : Step). first_kept (get order f.faults (slot, cause)) (has_fault slot cause s) o) is_step in
+        faults (slot, cause) ∙ ap (λ (s : Step). first_kept (get order f.faults (slot, cause)) (has_fault slot cause s) o) is_step in
         subst (λ y. IsFrom list y (get order g.faults (slot, cause))) (sym now)
         (subst (IsFrom list (option_or (first_in i done slot cause) (cond (p x) (Some x) None))) (sym key)
         (from_next list (first_in i done slot cause) (get order f.faults (slot, cause)) x o (p x) (h.faults slot cause) is));

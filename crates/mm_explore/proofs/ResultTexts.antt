@@ -123,7 +123,7 @@ pub faults_text : (i : Image) (list : List (List ℕ)) (kept : ℕ → ℕ → O
 faults_text i list kept are slots =
     flat_alike (λ (s : Slot). flat_map (λ cause. fault_found list s.number cause (kept s.number cause)) (range_with_len 1 13)) (faults_of i list)
     (λ s. flat_alike (λ cause. fault_found list s.number cause (kept s.number cause)) (λ cause. texts.fault_lines s.number cause (first_fault i list s.number cause))
-        (λ cause. fault_text list s.number cause (first_fault i list s.number cause) (kept s.number cause) (are s.number cause)) (range_with_len 1 13)) slots
+    (λ cause. fault_text list s.number cause (first_fault i list s.number cause) (kept s.number cause) (are s.number cause)) (range_with_len 1 13)) slots
 
 pub origin_inside : (list : List (List ℕ)) (x : Option Extension) (o : Option Origin) → IsFrom list x o → IfSome o (λ (o : Origin). o.from < length list)
 origin_inside list None None h = tt

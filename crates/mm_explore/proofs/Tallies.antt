@@ -111,10 +111,10 @@ module _ (i : Image) where
     where
       by : firsts_after i seen (ts ++ t ∷ []) ≡ firsts_after i seen ts ++ new_after (seen_as t seen || list_any (same t) (firsts_after i seen ts)) t
           → firsts_after i (outcome_at i u ∷ seen) (ts ++ t ∷ []) ≡ firsts_after i (outcome_at i u ∷ seen) ts
-              ++ new_after ((same t u || seen_as t seen) || list_any (same t) (firsts_after i (outcome_at i u ∷ seen) ts)) t
+          ++ new_after ((same t u || seen_as t seen) || list_any (same t) (firsts_after i (outcome_at i u ∷ seen) ts)) t
           → (b : Bool) → (if b then firsts_after i seen (ts ++ t ∷ []) else u ∷ firsts_after i (outcome_at i u ∷ seen) (ts ++ t ∷ []))
           ≡ (if b then firsts_after i seen ts else u ∷ firsts_after i (outcome_at i u ∷ seen) ts)
-              ++ new_after (seen_as t seen || list_any (same t) (if b then firsts_after i seen ts else u ∷ firsts_after i (outcome_at i u ∷ seen) ts)) t
+          ++ new_after (seen_as t seen || list_any (same t) (if b then firsts_after i seen ts else u ∷ firsts_after i (outcome_at i u ∷ seen) ts)) t
       by skip go true = skip
       by skip go false =
           ap (λ l. u ∷ l) go
@@ -244,10 +244,11 @@ module _ {K : Type 0} (of : K → List ℕ) (i : Image) (list : List (List ℕ))
             let key = key_is k e.0 is in
             let one : outcome_at i t ≡ outcome_at i u = forms_tell (outcome_at i t) (outcome_at i u) (sym form ∙ key ∙ h.0.form) in
             let agrees : same i t u ≡ true = is_same i t u one in
-            subst (λ b. AllZip (Counts with_t) (u ∷ us ++ new_after i (b || list_any (same i t) us) t) ((e.0, tally_after at (Some e.1)) ∷ es)) (sym agrees)
-            (counts_same u e h.0 (is_same i u t (sym one)),
-            subst (λ l. AllZip (Counts with_t) l es) (sym (append-nil us))
-            (others us es h.1 (same_as e.0 (keys_of es) key (IsDistinct-head same_key e.0 (keys_of es) distinct))))
+            subst (λ b. AllZip (Counts with_t) (u ∷ us ++ new_after i (b || list_any (same i t) us) t) ((e.0, tally_after at (Some e.1)) ∷ es)) (sym agrees) (
+              counts_same u e h.0 (is_same i u t (sym one)),
+              subst (λ l. AllZip (Counts with_t) l es) (sym (append-nil us))
+                  (others us es h.1 (same_as e.0 (keys_of es) key (IsDistinct-head same_key e.0 (keys_of es) distinct))),
+            )
         by rest false is =
             let differ : same i t u ≡ false = turned u (other_outcome u e h.0 is) in
             subst (λ b. AllZip (Counts with_t) (u ∷ us ++ new_after i (b || list_any (same i t) us) t) (e ∷ insert_entry same_key es k (tally_after at (lookup (same_key k) es)))) (sym differ)

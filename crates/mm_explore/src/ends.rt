@@ -57,15 +57,11 @@ fn bit_of(value: bool) -> u64
 }
 
 /// The numbers of the outcome of a configuration, given whether it has no move, and its parts.
-pub(crate) fn outcome_key(
-    alloc: Global,
-    ended: bool,
-    parts: &Parts,
-) -> Result<Vec<u64>, AllocError>
+pub(crate) fn outcome_key(alloc: Global, ended: bool, parts: &Parts) -> Result<Vec<u64>, AllocError>
     ensures { IfOk result (λ key. key.items ≡ outcome_form (record {
-        ended = ended;
-        states = map (λ s. s.state) parts.now.slots.items;
-        outputs = map (λ o. o.bytes) parts.now.outputs.items;
+      ended = ended;
+      states = map (λ s. s.state) parts.now.slots.items;
+      outputs = map (λ o. o.bytes) parts.now.outputs.items;
     })) }
 {
     let mut key = Vec::new(alloc);
@@ -84,7 +80,8 @@ pub(crate) fn count_end(
     at: u32,
 ) -> Result<(), AllocError>
     requires room { AllByRecursion (λ end. end.1.count < 2 ^ 63) ends.old.entries }
-    ensures entries { OnOk result (ends.new.entries ≡ insert_entry (λ a b. pointwise nat_eq a.items b.items) ends.old.entries key
+    ensures entries { OnOk result (ends.new.entries
+        ≡ insert_entry (λ a b. pointwise nat_eq a.items b.items) ends.old.entries key
         (tally_after at (get (λ a b. pointwise nat_eq a.items b.items) ends.old key))) }
     ensures unique { OnOk result (IsUnique (λ a b. pointwise nat_eq a.items b.items) ends.new) }
 {

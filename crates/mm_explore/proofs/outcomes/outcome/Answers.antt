@@ -4,7 +4,7 @@ use Rattle.mm_model.specs.declared.slot.SlotState.{SlotState}
 use Rattle.mm_model.specs.Slot.{Slot}
 use Rattle.mm_explore.specs.Kept.{first_number}
 use Rattle.mm_explore.specs.Findings.{outcome_at}
-use Rattle.mm_explore.proofs.EndTexts.{parts_read_at, held_slots, held_outputs, ended_of, lines_are}
+use Rattle.mm_explore.proofs.EndTexts.{parts_read_at, held_slots, held_outputs, ended_of, lines_are, numbered}
 use Rattle.mm_explore.proofs.ResultTexts.{at_index}
 use Rattle.mm_explore.proofs.outcomes.outcome.Goals as goal
 
@@ -22,5 +22,5 @@ returns c = λ finals t end.
     lines_are i t c.requires.image p.slots.items p.outputs.items (held_slots i t p at) (held_outputs i t p at)
     finals c.args.tally.count c.has_ended.result c.put_states.new.out.items c.in_ok-by.by.items
     end.count (c.has_ended.ensures ∙ ap (λ l. first_number l == 1) end.form ∙ ended_of (outcome_at i t))
-    (c.in_ok-put_states.ensures ∙ (λ j. c.new-states.ensures.items j ++ map (λ (s : Slot). let x : ℕ × SlotState = (s.number, s.state) in x) (c.deref.ensures.value j)))
+    (c.in_ok-put_states.ensures ∙ (λ j. c.new-states.ensures.items j ++ map numbered (c.deref.ensures.value j)))
     (c.in_ok-by.ensures ∙ at_index c.args.found.now.list c.args.tally.first t [] end.first)

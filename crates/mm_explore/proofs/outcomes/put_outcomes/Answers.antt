@@ -17,7 +17,7 @@ outcome-requires-clause-end c =
     let tally = c.in-Some.tally.now in
     let now = rest_more deref_pair c.loop-key.key-iterator c.next.new.self c.next.result (c.in-Some.key, c.in-Some.tally) c.in-Some.is c.next.ensures.steps in
     let next = left_next (λ t end. IsEnd i list finals t end.0.items end.1) (lines_of_outcome i finals) outcome_lines ts (flat_map outcome_lines c.args.out.now.items) c.loop-key.out.items
-        c.loop-key.key-iterator c.next.new.self (c.in-Some.key.now, tally) now (c.loop-key.invariant finals ts c.requires.ends.2) in
+    c.loop-key.key-iterator c.next.new.self (c.in-Some.key.now, tally) now (c.loop-key.invariant finals ts c.requires.ends.2) in
     (finals, next.a, subst (λ k. IsEnd i list finals next.a k tally) (sym c.deref.ensures.value) next.stands)
 
 pub loop-key-preserved : goal.loop-key-preserved

@@ -11,6 +11,6 @@ pub returns-clause-ended : goal.returns-clause-ended
 returns-clause-ended c =
     both_ok c.count_end.result
     (λ entries unique i list past t img h at final is parts.
-        ended_next i list past t c.args.self.now (record c.args.self.now { ends = c.count_end.new.ends }) c.args.at c.in_ok-key.key h at final
-        (c.in_ok-key.ensures ∙ key_is i t img c.args.parts.now parts c.args.ended is) entries unique)
+    ended_next i list past t c.args.self.now (record c.args.self.now { ends = c.count_end.new.ends }) c.args.at c.in_ok-key.key h at final
+    (c.in_ok-key.ensures ∙ key_is i t img c.args.parts.now parts c.args.ended is) entries unique)
     c.count_end.ensures.entries c.count_end.ensures.unique
