@@ -70,7 +70,11 @@ bytes_of : (s : State) (groups : List ℕ) → map (λ (o : Output). o.bytes) (m
 bytes_of s [] = refl
 bytes_of s (g ∷ groups) = ap (λ l. output_of s.core g ∷ l) (bytes_of s groups)
 
-pub states_text : (rows : List Row) → flat_map results.state_line (map (λ (s : Slot). let x : ℕ × SlotState = (s.number, s.state) in x) (map uncounted_slot (map (λ (row : Row). row.slot) rows))) ≡ flat_map texts.state_line rows
+-- a slot's number with its state
+abbrev pub numbered : Slot → ℕ × SlotState
+numbered s = (s.number, s.state)
+
+pub states_text : (rows : List Row) → flat_map results.state_line (map numbered (map uncounted_slot (map (λ (row : Row). row.slot) rows))) ≡ flat_map texts.state_line rows
 states_text [] = refl
 states_text (row ∷ rows) = ap (λ l. texts.state_line row ++ l) (states_text rows)
 
@@ -93,12 +97,12 @@ module _ (i : Image) (t : List ℕ) (img : IsImage i) (slots : List Slot) (outpu
       λ j. outcome_form (record { ended = is j; states = states j; outputs = bytes j })
 
   pub lines_are : (finals : List (List ℕ)) (count : ℕ) (ended : Bool) (states : List (ℕ × SlotState)) (by : List ℕ)
-      → count ≡ Rattle.mm_explore.specs.Findings.count_like i finals t → ended ≡ (outcome_at i t).ended → states ≡ map (λ (s : Slot). let x : ℕ × SlotState = (s.number, s.state) in x) slots → by ≡ t
+      → count ≡ Rattle.mm_explore.specs.Findings.count_like i finals t → ended ≡ (outcome_at i t).ended → states ≡ map numbered slots → by ≡ t
       → outcome_lines (record { count = count; ended = ended; states = states; outputs = outputs; by = by }) ≡ texts.outcome_lines i finals t
   unfolding outcome_lines texts.outcome_lines
   lines_are finals count ended states by is_count is_ended are_states is_by =
       let state_lines : flat_map results.state_line states ≡ flat_map texts.state_line there.core.rows =
-      ap (flat_map results.state_line) (are_states ∙ ap (map (λ (s : Slot). let x : ℕ × SlotState = (s.number, s.state) in x)) are_slots) ∙ states_text there.core.rows in
+      ap (flat_map results.state_line) (are_states ∙ ap (map numbered) are_slots) ∙ states_text there.core.rows in
       let output_lines : flat_map output_text outputs ≡ flat_map (texts.group_lines there) (groups_of there.core) =
       ap (flat_map output_text) are_outputs ∙ outputs_text there (groups_of (start i).core) ∙ ap (flat_map (texts.group_lines there)) (sym (groups_stay i t img)) in
       λ j. codes "outcome " ++ decimal (is_count j) ++ end_text (is_ended j) ++ state_lines j ++ output_lines j ++ by_line (is_by j)

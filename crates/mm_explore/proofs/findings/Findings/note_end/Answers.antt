@@ -5,7 +5,7 @@ use Rattle.mm_explore.proofs.EndTexts.{key_is}
 use Rattle.mm_explore.proofs.findings.Findings.note_end.Goals as goal
 
 pub count_end-requires : goal.count_end-requires
-count_end-requires c = room_is c.requires.0 c.requires.1 c.requires.2 c.args.self.now c.requires.3 c.requires.4
+count_end-requires c = record { room = room_is c.requires.room.0 c.requires.room.1 c.requires.room.2 c.args.self.now c.requires.room.3 c.requires.room.4 }
 
 pub returns-clause-ended : goal.returns-clause-ended
 returns-clause-ended c =
