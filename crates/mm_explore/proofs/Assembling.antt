@@ -175,15 +175,15 @@ below_same : (i : Image) (n : ℕ) (es : List (ℕ × List Cell)) → below_all 
 below_same i n [] = refl
 below_same i n (e ∷ es) = ap (λ b. is_lt (nat_cmp n e.0) && b) (below_same i n es)
 
-sorted_same : (i : Image) (es : List (ℕ × List Cell)) → is_sorted nat_cmp (map (base_page i) (page_numbers es)) ≡ is_sorted nat_cmp es
+pub sorted_same : (i : Image) (es : List (ℕ × List Cell)) → is_sorted nat_cmp (map (base_page i) (page_numbers es)) ≡ is_sorted nat_cmp es
 sorted_same i [] = refl
 sorted_same i (e ∷ es) = ap (λ b. b && is_sorted nat_cmp (map (base_page i) (page_numbers es))) (below_same i e.0 es) ∙ ap (λ b. below_all nat_cmp e.0 es && b) (sorted_same i es)
 
-whole_same : (i : Image) → IsPaged i.memory → (es : List (ℕ × List Cell)) → AllByRecursion IsPage es → AllByRecursion IsPage (map (base_page i) (page_numbers es))
+pub whole_same : (i : Image) → IsPaged i.memory → (es : List (ℕ × List Cell)) → AllByRecursion IsPage es → AllByRecursion IsPage (map (base_page i) (page_numbers es))
 whole_same i paged [] h = tt
 whole_same i paged (e ∷ es) h = (record { number = h.0.number; cells = page_long i paged e.0 (page_at i.memory e.0) refl }, whole_same i paged es h.1)
 
-count_same : (i : Image) (es : List (ℕ × List Cell)) → length (map (base_page i) (page_numbers es)) ≡ length es
+pub count_same : (i : Image) (es : List (ℕ × List Cell)) → length (map (base_page i) (page_numbers es)) ≡ length es
 count_same i [] = refl
 count_same i (e ∷ es) = ap suc (count_same i es)
 
@@ -204,7 +204,7 @@ find_base i q (e ∷ es) =
     by true same rest = ap (λ n. Some (cells_or_zero (page_at i.memory n))) (sym (eqb-true q e.0 same))
     by false other rest = rest
 
-base_paged : (i : Image) (m : Memory) → IsPaged i.memory → IsPaged m → m.frames ≡ i.memory.frames → IsPaged (base_memory i (page_numbers m.pages))
+pub base_paged : (i : Image) (m : Memory) → IsPaged i.memory → IsPaged m → m.frames ≡ i.memory.frames → IsPaged (base_memory i (page_numbers m.pages))
 unfolding base_memory
 base_paged i m img h frames = record {
   pages = record { rising = sorted_same i m.pages ∙ h.pages.rising; whole = whole_same i img m.pages h.pages.whole };
@@ -230,7 +230,7 @@ base_get i paged q k lt None e = zeros_get 512 k lt
 base_get i paged q k lt (Some cells) e = let long = (page_whole i.memory paged q cells e).cells in there_get cells k (omega (arith, lt, long))
 
 -- the cell of a word there: as in the image, if the word's page is mapped
-abbrev as_in_image : Image → ℕ → Option Cell → Option Cell
+abbrev pub as_in_image : Image → ℕ → Option Cell → Option Cell
 as_in_image i w None = None
 as_in_image i w (Some c) = Some (cell_or_zero (cell_at i.memory w))
 
@@ -242,7 +242,7 @@ some_get (x ∷ xs) (suc k) lt = some_get xs k (omega (arith, lt))
 place_small : (w : ℕ) → place_of w < 512
 place_small w = omega arith
 
-base_cell_at : (i : Image) (m : Memory) → IsPaged i.memory → IsPaged m → (w : ℕ) → w % 8 ≡ 0 → cell_at (base_memory i (page_numbers m.pages)) w ≡ as_in_image i w (cell_at m w)
+pub base_cell_at : (i : Image) (m : Memory) → IsPaged i.memory → IsPaged m → (w : ℕ) → w % 8 ≡ 0 → cell_at (base_memory i (page_numbers m.pages)) w ≡ as_in_image i w (cell_at m w)
 base_cell_at i m img h w aligned =
     cell_at-aligned (base_memory i (page_numbers m.pages)) w aligned
     ∙ ap (λ o. cell_in o (place_of w)) (base_page_at i m (page_of w))
@@ -261,11 +261,11 @@ base_cell_at i m img h w aligned =
 
 -- 4. Cells that are put.
 
-put_frames_all : (m : Memory) (cells : List (ℕ × Cell)) → (put_cells m cells).frames ≡ m.frames
+pub put_frames_all : (m : Memory) (cells : List (ℕ × Cell)) → (put_cells m cells).frames ≡ m.frames
 put_frames_all m [] = refl
 put_frames_all m (x ∷ cells) = put_frames_all (put_cell m x.0 x.1) cells ∙ put_frames m x.0 x.1
 
-put_paged_all : (m : Memory) (cells : List (ℕ × Cell)) → IsPaged m → IsPaged (put_cells m cells)
+pub put_paged_all : (m : Memory) (cells : List (ℕ × Cell)) → IsPaged m → IsPaged (put_cells m cells)
 put_paged_all m [] h = h
 put_paged_all m (x ∷ cells) h = put_paged_all (put_cell m x.0 x.1) cells (put_paged m x.0 x.1 h)
 
@@ -295,7 +295,7 @@ all_in : {A : Type 0} (P : A → Type 0) (xs : List A) → ((x : A) → IsIn x x
 all_in P [] f = tt
 all_in P (x ∷ xs) f = (f x (inl refl), all_in P xs (λ y inside. f y (inr inside)))
 
-cells_same : (c d : Cell) → IsWord c.word → IsWord d.word → same_cell c d ≡ true → c ≡ d
+pub cells_same : (c d : Cell) → IsWord c.word → IsWord d.word → same_cell c d ≡ true → c ≡ d
 cells_same c d h k e =
     let two = both (same_word c.word d.word) (same_bit c.full d.full) e in
     let word = words_same c.word d.word h k two.0 in
@@ -324,13 +324,13 @@ find_word (x ∷ es) q k cells c h e here = by (eq_by_cmp nat_cmp q x.0) e (λ l
     by true is later = let same : x.1 ≡ cells = cc in get_word cells k (subst (λ (l : List Cell). AllByRecursion (λ (d : Cell). IsWord d.word) l) same h.0) here
     by false is later = later is
 
-cell_word : (m : Memory) (w : ℕ) (c : Cell) → AllByRecursion HoldsWords m.pages → cell_at m w ≡ Some c → IsWord c.word
+pub cell_word : (m : Memory) (w : ℕ) (c : Cell) → AllByRecursion HoldsWords m.pages → cell_at m w ≡ Some c → IsWord c.word
 cell_word m w c h e =
     let at = aligned m w c e in
     let page = page_of_cell m w c e in
     find_word m.pages (page_of w) (place_of w) page.0 c h page.1 (sym (cell_at-aligned m w at ∙ ap (λ o. cell_in o (place_of w)) page.1) ∙ e)
 
-image_word : (m : Memory) (w : ℕ) (o : Option Cell) → AllByRecursion HoldsWords m.pages → cell_at m w ≡ o → IsWord (cell_or_zero o).word
+pub image_word : (m : Memory) (w : ℕ) (o : Option Cell) → AllByRecursion HoldsWords m.pages → cell_at m w ≡ o → IsWord (cell_or_zero o).word
 image_word m w None h e = omega arith
 image_word m w (Some c) h e = cell_word m w c h e
 

@@ -35,7 +35,7 @@ queued_bare core (row ∷ rows) =
     ∙ ap (λ l. queued_at core row.slot ++ l) (queued_bare core rows)
 
 -- the parts of a configuration
-parts_bare : (i : Image) (s : State) → parts_of i (configuration s) ≡ parts_of i s
+pub parts_bare : (i : Image) (s : State) → parts_of i (configuration s) ≡ parts_of i s
 unfolding parts_of configuration output_of
 parts_bare i s =
     let make : List Slot → List (ℕ × Event) → Parts = λ slots events. record {

@@ -21,6 +21,13 @@ pub mod Tame
 pub mod Putting
 pub mod Whole
 pub mod MemoryPut
+pub mod CellLists
+pub mod MemoryOver
+pub mod Moves
+pub mod LookThrough
+pub mod Standing
+pub mod Resets
+pub mod Listings
 pub mod FoundForms
 pub mod MoveForms
 pub mod Steps

@@ -1,7 +1,6 @@
 -- A store puts a cell where one is.
-use Rattle.std.proofs.Common.{◌≡◌, ℕ, ◌+◌, ◌%◌, ◌<◌, Bool, true, false, if◌then◌else◌, List, [], ◌∷◌, take, drop, ◌-◌, ◌≤◌, length, get_or, Option, None, Some, refl, sym, ap, ◌∙◌, subst, arith}
+use Rattle.std.proofs.Common.{◌≡◌, ℕ, zero, suc, ◌+◌, ◌%◌, ◌<◌, Bool, true, false, if◌then◌else◌, List, [], ◌∷◌, ◌++◌, map, take, length, get_or, slice_get, Option, None, Some, refl, sym, ap, ◌∙◌, subst, arith}
 use Rattle.std.specs.List.{AllByRecursion}
-use Rattle.std.proofs.Math.Seq.{take-length}
 use Rattle.std.proofs.lemmas.Option.{slice_get-get_or}
 use Rattle.mm_word.specs.declared.word.Cell.{Cell}
 use Rattle.mm_word.specs.declared.word.Pre.TheVariants.{Any}
@@ -9,7 +8,11 @@ use Rattle.mm_word.specs.declared.word.Post.{Post}
 use Rattle.mm_word.specs.declared.word.Post.TheVariants.{Full, Empty}
 use Rattle.mm_model.specs.Memory.{Memory, IsPaged, page_of, place_of, page_at, cell_in, cell_at, put_cell, full_after, zero_cell}
 use Rattle.mm_model.proofs.Memories.{put_cell-unmapped, put_paged, cell_at-aligned, page_whole}
+use Rattle.mm_model.specs.Image.{Image}
 use Rattle.mm_mem.specs.Answers.{put_where, after_store}
+use Rattle.mm_explore.specs.Assembled.{put_cells}
+use Rattle.mm_explore.specs.Edits.{as_base, base_cell}
+use Rattle.mm_explore.proofs.Putting.{take_got}
 
 abbrev pub post_of : Bool → Post
 post_of full = if full then Full else Empty
@@ -40,15 +43,48 @@ stores m w c h a = by (page_at m (page_of w)) refl
 pub still_paged : (m now : Memory) (w : ℕ) (c : Cell) → now ≡ put_cell m w c → IsPaged m → IsPaged now
 still_paged m now w c is h = subst IsPaged (sym is) (put_paged m w c h)
 
--- A list behind its first element.
+-- One cell more.
 
-rest_is : {X : Type 0} (x : X) (xs : List X) → take (length (x ∷ xs) - 1) xs ≡ xs
-rest_is x xs = let less : length (x ∷ xs) - 1 ≡ length xs = omega arith in ap (λ n. take n xs) less ∙ take-length xs
+put_last : (m : Memory) (xs : List (ℕ × Cell)) (x : ℕ × Cell) → put_cells m (xs ++ x ∷ []) ≡ put_cell (put_cells m xs) x.0 x.1
+put_last m [] x = refl
+put_last m (y ∷ xs) x = put_last (put_cell m y.0 y.1) xs x
 
-pub rest_each : {X : Type 0} (P : X → Type 0) (xs : List X) → 1 ≤ length xs → AllByRecursion P xs → AllByRecursion P (take (length xs - 1) (drop 1 xs))
-rest_each P [] some h = absurd (omega (arith, some))
-rest_each P (x ∷ xs) some h = subst (AllByRecursion P) (sym (rest_is x xs)) h.1
+pub put_next : (m : Memory) (xs : List (ℕ × Cell)) (i : ℕ) (x : ℕ × Cell) → slice_get xs i ≡ Some x → put_cell (put_cells m (take i xs)) x.0 x.1 ≡ put_cells m (take (i + 1) xs)
+put_next m xs i x e = sym (put_last m (take i xs) x) ∙ ap (put_cells m) (sym (take_got xs i x e))
 
-pub rest_long : {X : Type 0} (xs : List X) → 1 ≤ length xs → length (take (length xs - 1) (drop 1 xs)) + 1 ≡ length xs
-rest_long [] some = absurd (omega (arith, some))
-rest_long (x ∷ xs) some = let same = ap length (rest_is x xs) in omega (arith, same)
+base_last : (i : Image) (xs : List (ℕ × Cell)) (x : ℕ × Cell) → map (as_base i) (xs ++ x ∷ []) ≡ map (as_base i) xs ++ as_base i x ∷ []
+base_last i [] x = refl
+base_last i (y ∷ xs) x = ap (λ l. as_base i y ∷ l) (base_last i xs x)
+
+pub base_next : (i : Image) (m : Memory) (xs : List (ℕ × Cell)) (k : ℕ) (x : ℕ × Cell) → slice_get xs k ≡ Some x
+    → put_cell (put_cells m (map (as_base i) (take k xs))) x.0 (base_cell i x.0) ≡ put_cells m (map (as_base i) (take (k + 1) xs))
+base_next i m xs k x e =
+    sym (put_last m (map (as_base i) (take k xs)) (as_base i x))
+    ∙ ap (put_cells m) (sym (base_last i (take k xs) x) ∙ ap (map (as_base i)) (sym (take_got xs k x e)))
+
+pub holds_at : {X : Type 0} (P : X → Type 0) (xs : List X) (i : ℕ) (x : X) → AllByRecursion P xs → slice_get xs i ≡ Some x → P x
+holds_at P [] i x h e = cc
+holds_at P (y ∷ xs) zero x h e = let same : y ≡ x = cc in subst P same h.0
+holds_at P (y ∷ xs) (suc i) x h e = holds_at P xs i x h.1 e
+
+pub got_at : {X : Type 0} (xs : List X) (i : ℕ) (d : X) → i < length xs → slice_get xs i ≡ Some (get_or xs i d)
+got_at xs i d lt = slice_get-get_or xs i d lt
+
+pub listed_step : (m before now : Memory) (xs : List (ℕ × Cell)) (i : ℕ) (d e : ℕ × Cell) → i < length xs
+    → before ≡ put_cells m (take i xs) → now ≡ put_cell before (get_or xs i d).0 (get_or xs i e).1 → now ≡ put_cells m (take (i + 1) xs)
+listed_step m before now xs i d e lt eb en =
+    let gd = got_at xs i d lt in
+    let ge = got_at xs i e lt in
+    let same : get_or xs i d ≡ get_or xs i e = cc in
+    en
+    ∙ ap (λ (k : Memory). put_cell k (get_or xs i d).0 (get_or xs i e).1) eb
+    ∙ ap (λ (z : ℕ × Cell). put_cell (put_cells m (take i xs)) (get_or xs i d).0 z.1) (sym same)
+    ∙ put_next m xs i (get_or xs i d) gd
+
+pub base_step : (img : Image) (m before now : Memory) (xs : List (ℕ × Cell)) (i : ℕ) (d : ℕ × Cell) (c : Cell) → i < length xs → c ≡ base_cell img (get_or xs i d).0
+    → before ≡ put_cells m (map (as_base img) (take i xs)) → now ≡ put_cell before (get_or xs i d).0 c → now ≡ put_cells m (map (as_base img) (take (i + 1) xs))
+base_step img m before now xs i d c lt ec eb en =
+    en
+    ∙ ap (λ (k : Memory). put_cell k (get_or xs i d).0 c) eb
+    ∙ ap (put_cell (put_cells m (map (as_base img) (take i xs))) (get_or xs i d).0) ec
+    ∙ base_next img m xs i (get_or xs i d) (got_at xs i d lt)

@@ -112,7 +112,7 @@ given_all s [] = tt
 given_all s (g ∷ gs) = (refl, given_all s gs)
 
 module _ (i : Image) (s : State) (img : IsImage i) (h : IsStateOf i s) where
-  made : core_of i.version i.split (parts_of i s).slots (parts_of i s).events (parts_of i s).outputs ≡ uncounted s.core
+  pub made : core_of i.version i.split (parts_of i s).slots (parts_of i s).events (parts_of i s).outputs ≡ uncounted s.core
   unfolding assembled configuration
   made = ap (λ (t : State). t.core) (assembles i s img h)
 

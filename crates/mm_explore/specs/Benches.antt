@@ -1,26 +1,24 @@
 -- The machine that is put to configurations and moved.
-use Rattle.std.specs.Prelude.{◌≡◌, ℕ, ◌<◌, ◌^◌, false, List, nat_eq, IfSome}
+use Rattle.std.specs.Prelude.{◌≡◌, ℕ, ◌<◌, ◌≤◌, ◌^◌, List}
 use Rattle.std.specs.List.{AllByRecursion}
 use Rattle.std.specs.Option.{option_map}
-use lib.Pointwise.{pointwise}
 use Rattle.mm_model.specs.Slot.{Slot}
 use Rattle.mm_model.specs.Fits.{slots_of}
 use Rattle.mm_model.specs.Image.{Image, start}
-use Rattle.mm_model.specs.Report.{changes}
 use Rattle.mm_model.specs.Run.{run}
-use Rattle.mm_machine.specs.Snapshot.{page_numbers}
+use Rattle.mm_model.specs.Spelling.{IsImage}
 use Rattle.mm_explore.specs.declared.bench.Bench.{Bench}
 use Rattle.mm_explore.specs.declared.parts.Parts as code
 use Rattle.mm_explore.specs.Configurations.{configuration}
 use Rattle.mm_explore.specs.Explored.{leads_to}
-use Rattle.mm_explore.specs.Kept.{Parts, parts_of, held_parts, listed}
+use Rattle.mm_explore.specs.Holds.{IsHolding}
+use Rattle.mm_explore.specs.Kept.{Parts, parts_of, held_parts}
 
 -- the machine stands at the configuration to which a schedule leads
 pub record IsAt (i : Image) (t : List ℕ) (b : Bench) : Type 0 where
-  pub machine : configuration (record { core = b.core; memory = b.mem.memory; cycles = 0 }) ≡ leads_to i t
-  pub cells : b.cells.items ≡ changes b.mem.memory i.memory
-  pub pages : listed (page_numbers i.memory.pages) (option_map (λ p. p.items) b.pages) ≡ page_numbers b.mem.memory.pages
-  pub differ : IfSome b.pages (λ p. pointwise nat_eq p.items (page_numbers i.memory.pages) ≡ false)
+  pub image : IsImage i
+  pub machine : configuration (record { core = b.core; memory = b.held.mem.memory; cycles = 0 }) ≡ leads_to i t
+  pub held : IsHolding i (run (start i) t).memory b.held
 
 -- it stands at the configuration of some schedule
 abbrev pub IsAtSome : Image → Bench → Type 0
@@ -29,7 +27,7 @@ IsAtSome i b = (t : List ℕ) × IsAt i t b
 -- its counts have room for a turn
 pub record IsReady (b : Bench) : Type 0 where
   pub turns : AllByRecursion (λ (s : Slot). s.turns < 2 ^ 61) (slots_of b.core)
-  pub uses : b.mem.uses < 2 ^ 61
+  pub spent : b.held.spent < 2 ^ 61
 
 -- the parts that are held
 abbrev pub parts_held : Image → code.Parts → Parts

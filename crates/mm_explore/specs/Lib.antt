@@ -8,6 +8,8 @@ pub mod Kept
 pub mod Assembled
 pub mod Laws
 pub mod Benches
+pub mod Edits
+pub mod Holds
 pub mod FoundLists
 pub mod Repeats
 pub mod Results

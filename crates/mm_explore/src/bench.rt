@@ -1,31 +1,31 @@
 //! A machine that is put to configurations and moved.
 
-ghost use Rattle.std.specs.Prelude.{◌≡◌, ℕ, ◌++◌, ◌∷◌, [], List, IfOk, OnOk};
+ghost use Rattle.std.specs.Prelude.{◌≡◌, ℕ, ◌%◌, ◌<◌, ◌^◌, ◌++◌, ◌∷◌, [], List, IfOk, OnOk, IfSome};
 ghost use Rattle.mm_model.specs.Image.{start};
 ghost use Rattle.mm_model.specs.Run.{run};
 ghost use Rattle.mm_model.specs.Report.{groups_of};
-ghost use Rattle.mm_model.specs.Trace.{group_in};
+ghost use Rattle.mm_model.specs.State.{slot_at};
+ghost use Rattle.mm_model.specs.Trace.{group_in, group_of as group_of_slot};
 ghost use Rattle.mm_explore.specs.Benches.{IsAt, IsAtSome, IsReady, ArePartsAt};
 ghost use Rattle.mm_explore.specs.Findings.{turn_at};
+ghost use Rattle.mm_explore.specs.Holds.{word_written};
 ghost use Rattle.mm_explore.specs.Kept.{kept};
 
+use crate::held::Held;
 use crate::parts::Parts;
+use crate::put_parts::put_numbers;
 use mm_image::Image;
-use mm_mem::PlainMem;
+use mm_mem::Inspect;
 use mm_model::Step;
-use mm_thread::Core;
-use mm_word::{Cell, NoMemory};
+use mm_thread::{Core, turn};
+use mm_word::{Access, Kind, NoMemory};
 use std::alloc::{AllocError, Global};
 
 /// The slots and the memory of a machine, and what of the memory is not as in the image.
 #[derive(Drop)]
 pub(crate) struct Bench {
     pub(crate) core: Core,
-    pub(crate) mem: PlainMem,
-    /// Each cell that differs from the image's, with its word, by ascending words.
-    pub(crate) cells: Vec<(u64, Cell)>,
-    /// The numbers of the mapped pages; `None` if they are those of the image.
-    pub(crate) pages: Option<Vec<u64>>,
+    pub(crate) held: Held,
 }
 
 /// A move that was made: what it did, and the group of its slot.
@@ -35,19 +35,35 @@ pub(crate) struct Made {
     pub(crate) group: u8,
 }
 
+/// The word of a cell that an access may have written.
+fn written(access: Option<Access>) -> Option<u64>
+    ensures word { result ≡ word_written access }
+    ensures place { IfSome result (λ w. (w % 8 ≡ 0) × (w < 2 ^ 54)) }
+{
+    let access = access?;
+    match access.kind() {
+        Kind::Store | Kind::LoadSet => Some(access.addr()),
+        _ => None,
+    }
+}
+
 impl Bench {
     /// The machine of an image at its start.
-    pub(crate) fn new(_alloc: Global, _img: &Image) -> Result<Bench, NoMemory>
-        ensures start { IfOk result (λ b. IsAt _img.now [] b) }
+    pub(crate) fn new(alloc: Global, img: &Image) -> Result<Bench, NoMemory>
+        ensures start { IfOk result (λ b. IsAt img.now [] b) }
         ensures ready { IfOk result (λ b. IsReady b) }
     {
-        Err(NoMemory)
+        let mut core = Core::new(alloc, img.slots())?;
+        core.set_version(img.version());
+        core.set_split(img.split());
+        let held = Held::new(alloc, img)?;
+        Ok(Bench { core, held })
     }
 
     /// Appends the numbers of the configuration. The groups are those that have a slot.
     pub(crate) fn put_numbers(
         &self,
-        _alloc: Global,
+        alloc: Global,
         img: &Image,
         groups: &[u8],
         out: &mut Vec<u64>,
@@ -57,16 +73,13 @@ impl Bench {
         ensures { OnOk result ((t : List ℕ) → IsAt img.now t self.now
             → out.new.items ≡ out.old.items ++ kept img.now (run (start img.now) t)) }
     {
-        let _groups = groups;
-        let _img = img;
-        let _out = out;
-        Err(AllocError)
+        put_numbers(alloc, out, img, groups, &self.core, &self.held.pages, self.held.cells.as_slice())
     }
 
     /// Puts the machine to the configuration of these parts.
     pub(crate) fn put(
         &mut self,
-        _alloc: Global,
+        alloc: Global,
         img: &Image,
         parts: &Parts,
     ) -> Result<(), AllocError>
@@ -75,13 +88,12 @@ impl Bench {
         ensures at { OnOk result ((t : List ℕ) → ArePartsAt img.now t parts.now → IsAt img.now t self.new) }
         ensures ready { OnOk result (IsReady self.new) }
     {
-        let _parts = parts;
-        let _img = img;
-        Err(AllocError)
+        self.core.assign(parts.slots.as_slice(), parts.events.as_slice(), parts.outputs.as_slice());
+        self.held.put(alloc, img, &parts.pages, parts.cells.as_slice())
     }
 
     /// Makes the turn of an item.
-    pub(crate) fn turn(&mut self, _alloc: Global, img: &Image, item: u8) -> Result<Made, AllocError>
+    pub(crate) fn turn(&mut self, alloc: Global, img: &Image, item: u8) -> Result<Made, AllocError>
         requires some { IsAtSome img.now self.old }
         requires ready { IsReady self.old }
         ensures at { OnOk result ((t : List ℕ) → IsAt img.now t self.old → IsAt img.now (t ++ item ∷ []) self.new) }
@@ -90,8 +102,21 @@ impl Bench {
         ensures group { IfOk result (λ made. (t : List ℕ) → IsAt img.now t self.old
             → made.group ≡ group_in (turn_at img.now (record { schedule = t; item = item }))) }
     {
-        let _item = item;
-        let _img = img;
-        Err(AllocError)
+        let count = self.held.mem.pages();
+        let step = turn(&mut self.core, &mut self.held.mem, item);
+        self.held.spent += 2;
+        self.held.note(alloc, img, count, written(step.touched))?;
+        let group = self.group_of(step.slot);
+        Ok(Made { step, group })
+    }
+
+    /// The group of the slot of a number; 0 if there is none.
+    fn group_of(&self, number: u8) -> u8
+        ensures { result ≡ group_of_slot (slot_at self.now.core number) }
+    {
+        match self.core.slot(number) {
+            Some(slot) => slot.group,
+            None => 0,
+        }
     }
 }

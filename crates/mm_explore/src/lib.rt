@@ -2,11 +2,13 @@
 #![tactic(auto)]
 
 mod bench;
+mod changed;
 mod ends;
 mod explored;
 mod faults;
 mod findings;
 mod found;
+mod held;
 pub mod laws;
 mod memory_put;
 mod outcomes;
