@@ -44,8 +44,8 @@ put_numbers k v cells (e ∷ es) sorted is =
     let long : length (put nat_cmp k v (e ∷ es)) ≡ suc (length es) =
     length-put nat_cmp nat_cmp_total k v (e ∷ es) sorted ∙ ap (λ (o : Option (List Cell)). cond (is_some o) (suc (length es)) (suc (length es) + 1)) is in
     elim (nat_cmp k e.0) as (λ r. length (by_order r ((k, v) ∷ e ∷ es) ((e.0, v) ∷ es) (e ∷ put nat_cmp k v es)) ≡ suc (length es)
-        → cond (is_eq r) (Some e.1) (find nat_cmp k es) ≡ Some cells
-        → page_numbers (by_order r ((k, v) ∷ e ∷ es) ((e.0, v) ∷ es) (e ∷ put nat_cmp k v es)) ≡ e.0 ∷ page_numbers es) [
+    → cond (is_eq r) (Some e.1) (find nat_cmp k es) ≡ Some cells
+    → page_numbers (by_order r ((k, v) ∷ e ∷ es) ((e.0, v) ∷ es) (e ∷ put nat_cmp k v es)) ≡ e.0 ∷ page_numbers es) [
       | Less ↦ λ l f. absurd (omega (arith, l))
       | Equal ↦ λ l f. refl
       | Greater ↦ λ l f. ap (λ ns. e.0 ∷ ns) (put_numbers k v cells es (sorted_rest e es sorted) f)
@@ -80,14 +80,14 @@ shrinks : (p : ℕ) (cells : List Cell) (es : Pages) → find nat_cmp p es ≡ S
 shrinks p cells [] is = cc
 shrinks p cells (e ∷ es) is = elim (cases_eq p e.0) [
   | inl same ↦
-    let gone : length (without p (e ∷ es)) ≡ length (without p es) = ap (λ b. length (cond (not b) (e ∷ without p es) (without p es))) (eq-eqb e.0 p (sym same)) in
-    let rest = shorter p es in
-    omega (arith, gone, rest)
+      let gone : length (without p (e ∷ es)) ≡ length (without p es) = ap (λ b. length (cond (not b) (e ∷ without p es) (without p es))) (eq-eqb e.0 p (sym same)) in
+      let rest = shorter p es in
+      omega (arith, gone, rest)
   | inr ne ↦
-    let later : find nat_cmp p es ≡ Some cells = sym (ap (λ b. cond b (Some e.1) (find nat_cmp p es)) (unsigned_tied p e.0 ∙ ne_eqb p e.0 ne)) ∙ is in
-    let here = one_less (e.0 == p) e (without p es) in
-    let rest = shrinks p cells es later in
-    omega (arith, here, rest)
+      let later : find nat_cmp p es ≡ Some cells = sym (ap (λ b. cond b (Some e.1) (find nat_cmp p es)) (unsigned_tied p e.0 ∙ ne_eqb p e.0 ne)) ∙ is in
+      let here = one_less (e.0 == p) e (without p es) in
+      let rest = shrinks p cells es later in
+      omega (arith, here, rest)
 ]
 
 removed_less : (m : Memory) (p : ℕ) → is_mapped m p ≡ true → length (unmap_page m p).pages < length m.pages

@@ -42,8 +42,7 @@ put-requires-clause-parts c =
     let some = c.requires.some in
     let parts = c.requires.parts in
     let s = run (start i) parts.0 in
-    let listed = listed_of i s p.slots.items p.events.items p.outputs.items (option_map (λ v. v.items) p.pages) p.cells.items parts.1 in
-    (
+    let listed = listed_of i s p.slots.items p.events.items p.outputs.items (option_map (λ v. v.items) p.pages) p.cells.items parts.1 in (
       s.memory,
       memory_of i s some.1.image (runs_state_of i parts.0 some.1.image),
       subst (λ (l : List (ℕ × Cell)). AreListed i s.memory l (option_map (λ v. v.items) p.pages)) (sym c.as_slice-4.ensures.value) listed,

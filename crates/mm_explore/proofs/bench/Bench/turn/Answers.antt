@@ -19,8 +19,7 @@ note-requires-clause-old c =
     let b = c.args.self.now in
     let some = c.requires.some in
     let m : Memory = b.held.mem.memory in
-    let h : IsMemoryOf i m = subst (IsMemoryOf i) (sym some.1.held.memory) (memory_of i (run (start i) some.0) some.1.image (runs_state_of i some.0 some.1.image)) in
-    (
+    let h : IsMemoryOf i m = subst (IsMemoryOf i) (sym some.1.held.memory) (memory_of i (run (start i) some.0) some.1.image (runs_state_of i some.0 some.1.image)) in (
       m,
       h,
       moved_by b.core m c.turn-step.new.mem.memory c.args.item c.turn-step.result c.written.result h.paged c.turn-step.ensures.memory c.turn-step.ensures.step c.written.ensures.word c.written.ensures.place,
