@@ -1,7 +1,7 @@
 -- Ascending lists of cells by what they have at a word.
 use Rattle.std.proofs.Common.{◌≡◌, ◌≢◌, ◌⊎◌, inl, inr, ℕ, zero, suc, ◌+◌, ◌*◌, ◌/◌, ◌%◌, ◌^◌, ◌<◌, ◌≤◌, Bool, true, false, not, cond, nat_eq, if◌then◌else◌, List, [], ◌∷◌, ◌++◌, map, length, Option, Some, None, refl, sym, ap, ◌∙◌, subst, arith, T, eqb-true, eq-eqb, set, Result, Ok, Err}
 use Rattle.std.specs.Prelude.{◌==◌, IsTrue, ◌&&◌}
-use Rattle.std.specs.List.{AllByRecursion, filter, insert, remove}
+use Rattle.std.specs.List.{AllByRecursion, insert, remove}
 use Rattle.std.specs.List.Sorted.{IsSearchInRange, IsBinarySearchResult}
 use Rattle.std.specs.Option.{unwrap_or}
 use Rattle.std.specs.Ordering.{nat_cmp}
@@ -22,11 +22,11 @@ use Rattle.mm_model.specs.Report.{same_cell, same_bit, changes}
 use Rattle.mm_model.proofs.CoreRows.{each_map}
 use Rattle.mm_model.proofs.Memories.{aligned, page_of_cell, page_whole, cell_at-aligned, put_cell-unmapped, put_paged, cell_at-put_same, cell_at-put_other}
 use Rattle.mm_laws.proofs.CellViews.{IsIn, Rising}
-use Rattle.mm_laws.proofs.ChangedCells.{each_of_in, cell_or_zero, DiffersAt, in_changes, changes_in, changes_rising, get_short}
+use Rattle.mm_laws.proofs.ChangedCells.{each_of_in, cell_or_zero, DiffersAt, in_changes, changes_in, changes_rising}
 use Rattle.mm_mem.specs.Places.{IsAt, IsGap}
 use Rattle.mm_mem.proofs.Places.{held, searched, remove_at, set_at, insert_in_gap, absent_in_gap}
 use Rattle.mm_explore.specs.Assembled.{put_cells}
-use Rattle.mm_explore.specs.Edits.{base_cell, if_changed, changed_at, as_base, with_entry, noted, AreAtWords}
+use Rattle.mm_explore.specs.Edits.{base_cell, if_changed, changed_at, with_entry, noted, AreAtWords}
 
 -- 1. Lists in order.
 

@@ -1,18 +1,16 @@
 -- What is kept and what is written of the end of a run.
-use Rattle.std.proofs.Common.{◌≡◌, ℕ, zero, suc, ◌==◌, Bool, true, false, ◌||◌, List, [], ◌∷◌, ◌++◌, map, length, codes, decimal, Some, slice_get, refl, sym, ap, ◌∙◌}
-use Rattle.std.specs.List.{list_any, filter, flat_map, range_with_len}
+use Rattle.std.proofs.Common.{◌≡◌, ℕ, zero, suc, ◌==◌, Bool, true, false, ◌||◌, List, [], ◌∷◌, ◌++◌, map, codes, decimal, Some, slice_get, refl, sym, ap, ◌∙◌}
+use Rattle.std.specs.List.{list_any, flat_map, range_with_len}
 use Rattle.std.proofs.lemmas.List.Elements.{filter_agree}
 use Rattle.mm_model.specs.declared.slot.SlotState.{SlotState}
 use Rattle.mm_model.specs.Fits.{slots_of, identity_of}
 use Rattle.mm_model.specs.Image.{Image, start}
-use Rattle.mm_model.specs.Lines.{newline}
 use Rattle.mm_model.specs.Report.{is_of, groups_of}
 use Rattle.mm_model.specs.Run.{run}
 use Rattle.mm_model.specs.Slot.{Slot}
 use Rattle.mm_model.specs.Spelling.{IsImage}
-use Rattle.mm_model.specs.State.{Row, Core, State, output_of}
+use Rattle.mm_model.specs.State.{Row, State, output_of}
 use Rattle.mm_thread.specs.Output.{Output}
-use Rattle.mm_explore.specs.Assembled.{IsStateOf}
 use Rattle.mm_explore.specs.Benches.{ArePartsAt, parts_held}
 use Rattle.mm_explore.specs.Configurations.{uncounted_slot, moves}
 use Rattle.mm_explore.specs.Findings.{Outcome, is_none, outcome_of, outcome_at}

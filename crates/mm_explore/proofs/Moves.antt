@@ -1,5 +1,5 @@
 -- What a turn makes of the pages and cells of a memory; and where it leads a machine that stands at a configuration.
-use Rattle.std.proofs.Common.{◌≡◌, ◌≢◌, inl, inr, ℕ, zero, suc, ◌+◌, ◌%◌, ◌^◌, ◌<◌, ◌≤◌, Bool, true, false, not, cond, nat_eq, nat_lt, if◌then◌else◌, List, [], ◌∷◌, ◌++◌, map, length, Option, Some, None, is_some, refl, sym, ap, ◌∙◌, subst, arith, T, eq-eqb}
+use Rattle.std.proofs.Common.{◌≡◌, inl, inr, ℕ, suc, ◌+◌, ◌%◌, ◌^◌, ◌<◌, ◌≤◌, Bool, true, false, not, cond, if◌then◌else◌, List, [], ◌∷◌, ◌++◌, length, Option, Some, None, is_some, refl, sym, ap, ◌∙◌, subst, arith, T, eq-eqb}
 use Rattle.std.specs.Prelude.{◌==◌, IfSome}
 use Rattle.std.specs.List.{filter}
 use Rattle.std.specs.Ordering.{nat_cmp, is_eq}
@@ -15,19 +15,18 @@ use Rattle.mm_model.specs.declared.step.Step.{Step}
 use Rattle.mm_model.specs.Memory.{Memory, page_of, place_of, page_at, cell_at, put_cell, put_in, is_mapped, can_map, map_page, unmap_page, zero_page, IsPaged}
 use Rattle.mm_model.specs.State.{Core, State}
 use Rattle.mm_model.specs.Image.{Image, start}
-use Rattle.mm_model.specs.Run.{after, run, turn_of}
+use Rattle.mm_model.specs.Run.{after, run}
 use Rattle.mm_model.specs.Trace.{group_in}
 use Rattle.mm_model.specs.Turn.{turn}
 use Rattle.mm_model.proofs.Memories.{cell_at-put_other, can_map-facts}
 use Rattle.mm_machine.specs.Snapshot.{page_numbers}
-use Rattle.mm_explore.specs.Configurations.{uncounted, configuration}
+use Rattle.mm_explore.specs.Configurations.{configuration}
 use Rattle.mm_explore.specs.Explored.{leads_to}
 use Rattle.mm_explore.specs.Findings.{writes, turn_at}
 use Rattle.mm_explore.specs.Holds.{word_written, IsBeside, IsMoved}
-use Rattle.mm_explore.specs.Laws.{GoesOnAlike}
-use Rattle.mm_explore.proofs.Coverings.{leads_more, run_more}
+use Rattle.mm_explore.proofs.Coverings.{leads_more}
 use Rattle.mm_explore.proofs.Goings.{configurations_go_on}
-use Rattle.mm_explore.proofs.Tame.{WroteAt, MappedOne, RemovedOne, MemoryMoves, turns_are_tame}
+use Rattle.mm_explore.proofs.Tame.{MemoryMoves, turns_are_tame}
 use Rattle.mm_explore.proofs.Tame.MemoryMoves.{Stays, Writes, Maps, Removes}
 
 abbrev Pages : Type 0

@@ -1,8 +1,8 @@
 -- One turn more, and one final schedule more, is noted.
-use Rattle.std.proofs.Common.{◌≡◌, ℕ, ◌+◌, ◌<◌, ◌^◌, Bool, true, false, cond, nat_eq, List, [], ◌∷◌, ◌++◌, length, Option, Some, None, slice_get, Result, Ok, Err, OnOk, refl, sym, ap, ◌∙◌, subst, append-nil}
-use Rattle.std.specs.List.{AllZip, AllByRecursion, find, flat_map}
+use Rattle.std.proofs.Common.{◌≡◌, ℕ, ◌<◌, ◌^◌, Bool, true, false, cond, nat_eq, List, [], ◌∷◌, ◌++◌, length, Option, Some, None, slice_get, Result, Ok, Err, OnOk, sym, ap, ◌∙◌, subst, append-nil}
+use Rattle.std.specs.List.{AllZip, AllByRecursion, flat_map}
 use Rattle.std.specs.Option.{option_or}
-use Rattle.std.specs.BTreeMap.{get, BTreeMap}
+use Rattle.std.specs.BTreeMap.{get}
 use Rattle.std.specs.Global.{Vec}
 use Rattle.std.proofs.lemmas.Grind.{flat_map-append}
 use Rattle.std.proofs.lemmas.List.Folds.{find-append}
@@ -13,7 +13,6 @@ use Rattle.mm_word.specs.declared.perm.Kind.{Kind}
 use Rattle.mm_model.specs.declared.step.Step.{Step}
 use Rattle.mm_model.specs.Image.{Image}
 use Rattle.mm_model.specs.Trace.{group_in}
-use Rattle.mm_explore.specs.declared.ends.Tally.{Tally}
 use Rattle.mm_explore.specs.declared.findings.Findings.{Findings}
 use Rattle.mm_explore.specs.declared.found.Origin.{Origin}
 use Rattle.mm_explore.specs.Findings.{Extension, turn_at, any_kind, writes, has_fault, IsFinal, outcome_at, firsts}

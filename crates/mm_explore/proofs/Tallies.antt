@@ -1,5 +1,5 @@
 -- One final schedule more is counted with those of its outcome.
-use Rattle.std.proofs.Common.{◌≡◌, inl, inr, ℕ, zero, suc, ◌+◌, ◌^◌, ◌<◌, ◌≤◌, Bool, true, false, cond, if◌then◌else◌, ◌||◌, nat_eq, List, [], ◌∷◌, ◌++◌, map, length, Option, Some, None, refl, sym, ap, ◌∙◌, subst, arith, eqb-true, eq-eqb, append-nil}
+use Rattle.std.proofs.Common.{◌≡◌, inl, inr, ℕ, suc, ◌+◌, ◌^◌, ◌<◌, ◌≤◌, Bool, true, false, cond, if◌then◌else◌, ◌||◌, nat_eq, List, [], ◌∷◌, ◌++◌, map, length, Some, None, refl, sym, ap, ◌∙◌, subst, arith, eqb-true, eq-eqb, append-nil}
 use Rattle.std.specs.Prelude.{slice_get}
 use Rattle.std.specs.List.{AllByRecursion, AllZip, list_any, count_by, sum_by, flat_map, IsDistinct}
 use Rattle.std.specs.Map.{lookup, keys_of}
@@ -12,12 +12,11 @@ use Rattle.mm_model.specs.declared.slot.SlotState.{SlotState}
 use Rattle.mm_model.specs.Flags.{one_if}
 use Rattle.mm_model.specs.Image.{Image}
 use Rattle.mm_explore.specs.declared.ends.Tally.{Tally}
-use Rattle.mm_explore.specs.Findings.{AreFinal, Outcome, outcome_at, state_number, same_outcome, firsts_after, firsts, count_like}
+use Rattle.mm_explore.specs.Findings.{AreFinal, Outcome, outcome_at, state_number, same_outcome, firsts_after, firsts}
 use Rattle.mm_explore.specs.Kept.{state_at}
 use Rattle.mm_explore.specs.Noting.{bytes_form, outcome_form, IsEnd, tally_after}
 use Rattle.mm_explore.proofs.Finals.{outcomes_decide}
 use Rattle.mm_explore.proofs.SlotForms.{state_back}
-use Rattle.mm_explore.proofs.Notings.{zip_to}
 
 -- 1. Outcomes are told apart by their numbers.
 

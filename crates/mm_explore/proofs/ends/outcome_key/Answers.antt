@@ -1,12 +1,7 @@
-use Rattle.std.proofs.Common.{◌≡◌, ℕ, List, [], ◌∷◌, ◌++◌, ◌∙◌, map, length, sym, ap}
+use Rattle.std.proofs.Common.{◌≡◌, List, ◌∙◌, map, length, sym, ap}
 use Rattle.std.proofs.lemmas.List.{length-map}
-use Rattle.std.specs.List.{flat_map}
-use Rattle.mm_model.specs.declared.slot.SlotState.{SlotState}
-use Rattle.mm_model.specs.Flags.{one_if}
 use Rattle.mm_model.specs.Slot.{Slot}
 use Rattle.mm_thread.specs.Output.{Output}
-use Rattle.mm_explore.specs.Findings.{state_number}
-use Rattle.mm_explore.specs.Noting.{bytes_form, outcome_form}
 use Rattle.mm_explore.proofs.Tallies.{form_joined}
 use Rattle.mm_explore.proofs.ends.outcome_key.Goals as goal
 

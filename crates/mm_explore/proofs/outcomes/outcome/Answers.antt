@@ -1,7 +1,5 @@
-use Rattle.std.proofs.Common.{[], ℕ, map, ◌++◌, ◌≡◌, ◌==◌, ap, ◌∙◌, length, ◌<◌}
+use Rattle.std.proofs.Common.{[], map, ◌++◌, ◌==◌, ap, ◌∙◌}
 use Rattle.std.proofs.lemmas.Option.{slice_get_within}
-use Rattle.mm_model.specs.declared.slot.SlotState.{SlotState}
-use Rattle.mm_model.specs.Slot.{Slot}
 use Rattle.mm_explore.specs.Kept.{first_number}
 use Rattle.mm_explore.specs.Findings.{outcome_at}
 use Rattle.mm_explore.proofs.EndTexts.{parts_read_at, held_slots, held_outputs, ended_of, lines_are, numbered}

@@ -1,16 +1,14 @@
-use Rattle.std.proofs.Common.{ℕ, List, ◌≡◌, ◌∙◌, Option, sym, ap, subst}
+use Rattle.std.proofs.Common.{ℕ, List, ◌≡◌, ◌∙◌, sym, subst}
 use Rattle.std.specs.Option.{option_map}
 use Rattle.mm_word.specs.declared.word.Cell.{Cell}
 use Rattle.mm_model.specs.declared.event.Event.{Event}
-use Rattle.mm_model.specs.Image.{Image, start}
+use Rattle.mm_model.specs.Image.{start}
 use Rattle.mm_model.specs.Run.{run}
 use Rattle.mm_model.specs.Slot.{Slot}
-use Rattle.mm_model.specs.State.{Core, State}
 use Rattle.mm_thread.specs.Output.{Output}
 use Rattle.mm_thread.specs.Parts.{core_of, AreParts}
-use Rattle.mm_explore.specs.Benches.{ArePartsAt}
 use Rattle.mm_explore.specs.Configurations.{uncounted}
-use Rattle.mm_explore.specs.Holds.{AreListed, IsHolding}
+use Rattle.mm_explore.specs.Holds.{AreListed}
 use Rattle.mm_explore.proofs.KeptRuns.{runs_state_of}
 use Rattle.mm_explore.proofs.Putting.{more_ok}
 use Rattle.mm_explore.proofs.Standing.{memory_of, listed_of, parts_given, core_given, core_like, standing_at, turns_few}

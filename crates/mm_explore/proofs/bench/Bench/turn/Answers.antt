@@ -1,11 +1,9 @@
 use Rattle.std.proofs.Common.{ℕ, List, [], ◌∷◌, ◌++◌, ◌≡◌, ◌∙◌, sym, ap, subst, arith}
-use Rattle.mm_model.specs.declared.step.Step.{Step}
-use Rattle.mm_model.specs.Image.{Image, start}
+use Rattle.mm_model.specs.Image.{start}
 use Rattle.mm_model.specs.Memory.{Memory}
 use Rattle.mm_model.specs.Run.{run}
-use Rattle.mm_model.specs.State.{Core, slot_at}
+use Rattle.mm_model.specs.State.{slot_at}
 use Rattle.mm_model.specs.Trace.{group_of}
-use Rattle.mm_model.specs.Turn.{turn}
 use Rattle.mm_explore.specs.Configurations.{configuration}
 use Rattle.mm_explore.specs.Holds.{IsMemoryOf, AreListed, numbers_in}
 use Rattle.mm_explore.proofs.KeptRuns.{runs_state_of}

@@ -1,10 +1,10 @@
-use Rattle.std.proofs.Common.{◌≡◌, ℕ, ◌++◌, ◌∙◌, List, map, zip, refl, sym, ap, subst}
+use Rattle.std.proofs.Common.{◌++◌, ◌∙◌, map, zip, refl, ap, subst}
 use Rattle.std.specs.List.{AllZip, flat_map, range_with_len}
 use Rattle.std.specs.BTreeMap.{get}
 use Rattle.mm_model.specs.Slot.{Slot}
-use Rattle.mm_explore.specs.Findings.{IsReached, first_fault, explored_turns, firsts}
+use Rattle.mm_explore.specs.Findings.{IsReached, explored_turns, firsts}
 use Rattle.mm_explore.specs.Noting.{first_in, fault_found}
-use Rattle.mm_explore.specs.Results.{Results, GroupFound, group_lines, fault_lines, outcome_lines}
+use Rattle.mm_explore.specs.Results.{GroupFound, group_lines, fault_lines, outcome_lines}
 use Rattle.mm_explore.specs.Texts.{Exploration, reached_lines, outcome_lines as lines_of_outcome}
 use Rattle.mm_explore.specs.Words.{order}
 use Rattle.mm_explore.proofs.ResultTexts.{groups_reached, groups_text, faults_text, origin_inside, results_text}

@@ -1,6 +1,5 @@
-use Rattle.std.proofs.Common.{ℕ}
 use Rattle.mm_explore.proofs.Putting.{more_ok}
-use Rattle.mm_explore.proofs.Notes.{noted_next, ended_still}
+use Rattle.mm_explore.proofs.Notes.{noted_next}
 use Rattle.mm_explore.proofs.findings.Findings.note.Goals as goal
 
 pub returns-clause-noted : goal.returns-clause-noted

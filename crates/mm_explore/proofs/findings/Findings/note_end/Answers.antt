@@ -1,5 +1,4 @@
 use Rattle.std.proofs.Common.{◌∙◌}
-use Rattle.mm_explore.proofs.Putting.{more_ok}
 use Rattle.mm_explore.proofs.Notes.{both_ok, ended_next, room_is}
 use Rattle.mm_explore.proofs.EndTexts.{key_is}
 use Rattle.mm_explore.proofs.findings.Findings.note_end.Goals as goal
