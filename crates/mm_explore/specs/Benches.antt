@@ -31,7 +31,8 @@ pub record IsReady (b : Bench) : Type 0 where
 
 -- the parts that are held
 abbrev pub parts_held : Image → code.Parts → Parts
-parts_held i p = held_parts i p.slots.items p.events.items p.outputs.items (option_map (λ v. v.items) p.pages) p.cells.items
+parts_held i p =
+    held_parts i p.slots.items p.events.items p.outputs.items (option_map (λ v. v.items) p.pages) p.cells.items
 
 -- the parts are those to which a schedule leads
 abbrev pub ArePartsAt : Image → List ℕ → code.Parts → Type 0
