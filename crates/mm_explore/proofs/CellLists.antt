@@ -1,7 +1,7 @@
 -- Ascending lists of cells by what they have at a word.
 use Rattle.std.proofs.Common.{◌≡◌, ◌≢◌, ◌⊎◌, inl, inr, ℕ, zero, suc, ◌+◌, ◌*◌, ◌/◌, ◌%◌, ◌^◌, ◌<◌, ◌≤◌, Bool, true, false, not, cond, nat_eq, if◌then◌else◌, List, [], ◌∷◌, ◌++◌, map, length, Option, Some, None, refl, sym, ap, ◌∙◌, subst, arith, T, eqb-true, eq-eqb, set, Result, Ok, Err}
 use Rattle.std.specs.Prelude.{◌==◌, IsTrue, ◌&&◌}
-use Rattle.std.specs.List.{AllByRecursion, filter, insert, remove}
+use Rattle.std.specs.List.{AllByRecursion, insert, remove}
 use Rattle.std.specs.List.Sorted.{IsSearchInRange, IsBinarySearchResult}
 use Rattle.std.specs.Option.{unwrap_or}
 use Rattle.std.specs.Ordering.{nat_cmp}
@@ -22,11 +22,11 @@ use Rattle.mm_model.specs.Report.{same_cell, same_bit, changes}
 use Rattle.mm_model.proofs.CoreRows.{each_map}
 use Rattle.mm_model.proofs.Memories.{aligned, page_of_cell, page_whole, cell_at-aligned, put_cell-unmapped, put_paged, cell_at-put_same, cell_at-put_other}
 use Rattle.mm_laws.proofs.CellViews.{IsIn, Rising}
-use Rattle.mm_laws.proofs.ChangedCells.{each_of_in, cell_or_zero, DiffersAt, in_changes, changes_in, changes_rising, get_short}
+use Rattle.mm_laws.proofs.ChangedCells.{each_of_in, cell_or_zero, DiffersAt, in_changes, changes_in, changes_rising}
 use Rattle.mm_mem.specs.Places.{IsAt, IsGap}
 use Rattle.mm_mem.proofs.Places.{held, searched, remove_at, set_at, insert_in_gap, absent_in_gap}
 use Rattle.mm_explore.specs.Assembled.{put_cells}
-use Rattle.mm_explore.specs.Edits.{base_cell, if_changed, changed_at, as_base, with_entry, noted, AreAtWords}
+use Rattle.mm_explore.specs.Edits.{base_cell, if_changed, changed_at, with_entry, noted, AreAtWords}
 
 -- 1. Lists in order.
 
@@ -51,9 +51,9 @@ pub found_in : (w : ℕ) (c : Cell) (xs : List (ℕ × Cell)) → find nat_cmp w
 found_in w c [] e = cc
 found_in w c (x ∷ xs) e = elim (cases_eq w x.0) [
   | inl same ↦
-    let here = find_here w x xs same in
-    let cell : c ≡ x.1 = cc in
-    inl (ap (λ n. (n, c)) same ∙ ap (λ (d : Cell). (x.0, d)) cell)
+      let here = find_here w x xs same in
+      let cell : c ≡ x.1 = cc in
+      inl (ap (λ n. (n, c)) same ∙ ap (λ (d : Cell). (x.0, d)) cell)
   | inr ne ↦ inr (found_in w c xs (sym (find_later w x xs ne) ∙ e))
 ]
 
@@ -108,8 +108,8 @@ pub in_one : (w : ℕ) (c d : Cell) (xs ys : List (ℕ × Cell)) → Rising (xs 
 in_one w c d [] ys up e f = cc
 in_one w c d (x ∷ xs) ys up e f = elim (cases_eq w x.0) [
   | inl same ↦
-    let above : x.0 < w = each_of_in (λ (y : ℕ × Cell). x.0 < y.0) (w, d) ys (each_right (λ (y : ℕ × Cell). x.0 < y.0) xs ys up.0) (found_in w d ys f) in
-    omega (arith, above, same)
+      let above : x.0 < w = each_of_in (λ (y : ℕ × Cell). x.0 < y.0) (w, d) ys (each_right (λ (y : ℕ × Cell). x.0 < y.0) xs ys up.0) (found_in w d ys f) in
+      omega (arith, above, same)
   | inr ne ↦ in_one w c d xs ys up.1 (sym (find_later w x xs ne) ∙ e) f
 ]
 
@@ -241,9 +241,9 @@ noted_right i m later w h l k beside =
     at v = elim (cases_eq v w) [
       | inl e ↦ ap (λ b. cond b (changed_at i later w) (find nat_cmp v (changes m i.memory))) (eq-eqb v w e) ∙ ap (changed_at i later) (sym e)
       | inr ne ↦
-        ap (λ b. cond b (changed_at i later w) (find nat_cmp v (changes m i.memory))) (ne_eqb v w ne)
-        ∙ change_found i m h k v
-        ∙ ap (if_changed (base_cell i v)) (sym (beside v ne))
+          ap (λ b. cond b (changed_at i later w) (find nat_cmp v (changes m i.memory))) (ne_eqb v w ne)
+          ∙ change_found i m h k v
+          ∙ ap (if_changed (base_cell i v)) (sym (beside v ne))
     ]
 
 -- 5. Cells that are put.
@@ -287,15 +287,15 @@ put_found m (x ∷ xs) h a up w =
     put_found (put_cell m x.0 x.1) xs (put_paged m x.0 x.1 h) a.1 up.1 w
     ∙ elim (cases_eq w x.0) [
       | inl e ↦
-        ap (λ o. over o (cell_at (put_cell m x.0 x.1) w)) (ap (λ n. find nat_cmp n xs) e ∙ find_none x.0 xs up.0)
-        ∙ over_none (cell_at (put_cell m x.0 x.1) w)
-        ∙ ap (λ n. cell_at (put_cell m x.0 x.1) n) e
-        ∙ put_at (cell_at m x.0) refl
-        ∙ ap (λ n. over (Some x.1) (cell_at m n)) (sym e)
-        ∙ ap (λ o. over o (cell_at m w)) (sym (find_here w x xs e))
+          ap (λ o. over o (cell_at (put_cell m x.0 x.1) w)) (ap (λ n. find nat_cmp n xs) e ∙ find_none x.0 xs up.0)
+          ∙ over_none (cell_at (put_cell m x.0 x.1) w)
+          ∙ ap (λ n. cell_at (put_cell m x.0 x.1) n) e
+          ∙ put_at (cell_at m x.0) refl
+          ∙ ap (λ n. over (Some x.1) (cell_at m n)) (sym e)
+          ∙ ap (λ o. over o (cell_at m w)) (sym (find_here w x xs e))
       | inr ne ↦
-        ap (over (find nat_cmp w xs)) (cell_at-put_other m x.0 w x.1 a.0 ne)
-        ∙ ap (λ o. over o (cell_at m w)) (sym (find_later w x xs ne))
+          ap (over (find nat_cmp w xs)) (cell_at-put_other m x.0 w x.1 a.0 ne)
+          ∙ ap (λ o. over o (cell_at m w)) (sym (find_later w x xs ne))
     ]
   where
     put_at : (o : Option Cell) → cell_at m x.0 ≡ o → cell_at (put_cell m x.0 x.1) x.0 ≡ over (Some x.1) (cell_at m x.0)

@@ -1,18 +1,16 @@
 -- What is kept and what is written of the end of a run.
-use Rattle.std.proofs.Common.{◌≡◌, ℕ, zero, suc, ◌==◌, Bool, true, false, ◌||◌, List, [], ◌∷◌, ◌++◌, map, length, codes, decimal, Some, slice_get, refl, sym, ap, ◌∙◌}
-use Rattle.std.specs.List.{list_any, filter, flat_map, range_with_len}
+use Rattle.std.proofs.Common.{◌≡◌, ℕ, zero, suc, ◌==◌, Bool, true, false, ◌||◌, List, [], ◌∷◌, ◌++◌, map, codes, decimal, Some, slice_get, refl, sym, ap, ◌∙◌}
+use Rattle.std.specs.List.{list_any, flat_map, range_with_len}
 use Rattle.std.proofs.lemmas.List.Elements.{filter_agree}
 use Rattle.mm_model.specs.declared.slot.SlotState.{SlotState}
 use Rattle.mm_model.specs.Fits.{slots_of, identity_of}
 use Rattle.mm_model.specs.Image.{Image, start}
-use Rattle.mm_model.specs.Lines.{newline}
 use Rattle.mm_model.specs.Report.{is_of, groups_of}
 use Rattle.mm_model.specs.Run.{run}
 use Rattle.mm_model.specs.Slot.{Slot}
 use Rattle.mm_model.specs.Spelling.{IsImage}
-use Rattle.mm_model.specs.State.{Row, Core, State, output_of}
+use Rattle.mm_model.specs.State.{Row, State, output_of}
 use Rattle.mm_thread.specs.Output.{Output}
-use Rattle.mm_explore.specs.Assembled.{IsStateOf}
 use Rattle.mm_explore.specs.Benches.{ArePartsAt, parts_held}
 use Rattle.mm_explore.specs.Configurations.{uncounted_slot, moves}
 use Rattle.mm_explore.specs.Findings.{Outcome, is_none, outcome_of, outcome_at}
@@ -56,7 +54,7 @@ pub groups_stay : (i : Image) (t : List ℕ) → IsImage i → groups_of (run (s
 groups_stay i t img =
     let s = run (start i) t in
     let same : map (λ (s : Slot). s.group) (slots_of s.core) ≡ map (λ (s : Slot). s.group) (slots_of (start i).core) =
-        groups_from (slots_of s.core) i.slots (runs_state_of i t img).fits.same_slots ∙ ap (map (λ (s : Slot). s.group)) (sym (start_slots i)) in
+    groups_from (slots_of s.core) i.slots (runs_state_of i t img).fits.same_slots ∙ ap (map (λ (s : Slot). s.group)) (sym (start_slots i)) in
     filter_agree (λ g. list_any (is_of g) s.core.rows) (λ g. list_any (is_of g) (start i).core.rows)
     (λ g. of_identity g s.core.rows ∙ ap (list_any (λ (x : ℕ). x == g)) same ∙ sym (of_identity g (start i).core.rows)) (range_with_len 0 64)
 
@@ -70,7 +68,11 @@ bytes_of : (s : State) (groups : List ℕ) → map (λ (o : Output). o.bytes) (m
 bytes_of s [] = refl
 bytes_of s (g ∷ groups) = ap (λ l. output_of s.core g ∷ l) (bytes_of s groups)
 
-pub states_text : (rows : List Row) → flat_map results.state_line (map (λ (s : Slot). let x : ℕ × SlotState = (s.number, s.state) in x) (map uncounted_slot (map (λ (row : Row). row.slot) rows))) ≡ flat_map texts.state_line rows
+-- a slot's number with its state
+abbrev pub numbered : Slot → ℕ × SlotState
+numbered s = (s.number, s.state)
+
+pub states_text : (rows : List Row) → flat_map results.state_line (map numbered (map uncounted_slot (map (λ (row : Row). row.slot) rows))) ≡ flat_map texts.state_line rows
 states_text [] = refl
 states_text (row ∷ rows) = ap (λ l. texts.state_line row ++ l) (states_text rows)
 
@@ -89,18 +91,18 @@ module _ (i : Image) (t : List ℕ) (img : IsImage i) (slots : List Slot) (outpu
   outcome_is ended is =
       let states : map (λ (s : Slot). s.state) slots ≡ map (λ (row : Row). row.slot.state) there.core.rows = ap (map (λ (s : Slot). s.state)) are_slots ∙ states_of there.core.rows in
       let bytes : map (λ (o : Output). o.bytes) outputs ≡ map (output_of there.core) (groups_of there.core) =
-          ap (map (λ (o : Output). o.bytes)) are_outputs ∙ bytes_of there (groups_of (start i).core) ∙ ap (map (output_of there.core)) (sym (groups_stay i t img)) in
+      ap (map (λ (o : Output). o.bytes)) are_outputs ∙ bytes_of there (groups_of (start i).core) ∙ ap (map (output_of there.core)) (sym (groups_stay i t img)) in
       λ j. outcome_form (record { ended = is j; states = states j; outputs = bytes j })
 
   pub lines_are : (finals : List (List ℕ)) (count : ℕ) (ended : Bool) (states : List (ℕ × SlotState)) (by : List ℕ)
-      → count ≡ Rattle.mm_explore.specs.Findings.count_like i finals t → ended ≡ (outcome_at i t).ended → states ≡ map (λ (s : Slot). let x : ℕ × SlotState = (s.number, s.state) in x) slots → by ≡ t
+      → count ≡ Rattle.mm_explore.specs.Findings.count_like i finals t → ended ≡ (outcome_at i t).ended → states ≡ map numbered slots → by ≡ t
       → outcome_lines (record { count = count; ended = ended; states = states; outputs = outputs; by = by }) ≡ texts.outcome_lines i finals t
   unfolding outcome_lines texts.outcome_lines
   lines_are finals count ended states by is_count is_ended are_states is_by =
       let state_lines : flat_map results.state_line states ≡ flat_map texts.state_line there.core.rows =
-          ap (flat_map results.state_line) (are_states ∙ ap (map (λ (s : Slot). let x : ℕ × SlotState = (s.number, s.state) in x)) are_slots) ∙ states_text there.core.rows in
+      ap (flat_map results.state_line) (are_states ∙ ap (map numbered) are_slots) ∙ states_text there.core.rows in
       let output_lines : flat_map output_text outputs ≡ flat_map (texts.group_lines there) (groups_of there.core) =
-          ap (flat_map output_text) are_outputs ∙ outputs_text there (groups_of (start i).core) ∙ ap (flat_map (texts.group_lines there)) (sym (groups_stay i t img)) in
+      ap (flat_map output_text) are_outputs ∙ outputs_text there (groups_of (start i).core) ∙ ap (flat_map (texts.group_lines there)) (sym (groups_stay i t img)) in
       λ j. codes "outcome " ++ decimal (is_count j) ++ end_text (is_ended j) ++ state_lines j ++ output_lines j ++ by_line (is_by j)
 
 -- what is held of a run's configuration

@@ -1,19 +1,17 @@
 -- Final schedules, their outcomes, and the first of each outcome.
-use Rattle.std.proofs.Common.{◌≡◌, ◌⊎◌, inl, inr, ℕ, ◌+◌, ◌-◌, ◌==◌, Bool, true, false, ◌&&◌, ◌||◌, if◌then◌else◌, nat_eq, List, [], ◌∷◌, Some, None, refl, sym, ap, ◌∙◌, subst, eqb-true, eq-eqb}
+use Rattle.std.proofs.Common.{◌≡◌, ◌⊎◌, inl, inr, ℕ, Bool, true, false, ◌&&◌, ◌||◌, if◌then◌else◌, nat_eq, List, [], ◌∷◌, refl, sym, ap, ◌∙◌, subst, eqb-true, eq-eqb}
 use Rattle.std.specs.Prelude.{Contains}
 use Rattle.std.specs.List.{list_any}
 use lib.Pointwise.{pointwise, pointwise_decides}
 use Rattle.std.proofs.lemmas.Bool.{cases_Bool, both_ways}
-use Rattle.mm_word.specs.declared.cause.Cause.{Cause}
-use Rattle.mm_word.specs.declared.cause.Cause.TheVariants.{NotPointer, Perm, Bounds, Align, NoPage, Sync, Illegal, Priv, DivZero, Malformed, Trap, NoSlot, OutFull}
-use Rattle.mm_word.specs.Cause.{number_of}
 use Rattle.mm_model.specs.declared.slot.SlotState.{SlotState}
-use Rattle.mm_model.specs.declared.slot.SlotState.TheVariants.{Running, Waiting, Taken, Halted}
 use Rattle.mm_model.specs.Image.{Image}
 use Rattle.mm_model.specs.Report.{same_bit}
 use Rattle.mm_explore.specs.Schedules.{Before}
 use Rattle.mm_explore.specs.Pairs.{EachPair}
 use Rattle.mm_explore.specs.Findings.{IsFinal, AreFinal, Outcome, outcome_at, state_number, same_state, same_outcome, firsts_after, firsts}
+use Rattle.mm_explore.specs.Kept.{state_at}
+use Rattle.mm_explore.proofs.SlotForms.{state_back}
 use Rattle.mm_explore.proofs.Orders.{before_self, before_through}
 use Rattle.mm_explore.proofs.Members.{none_in, in_first, in_rest, in_cases, all_at, all_of}
 
@@ -22,55 +20,6 @@ both true b e = (refl, e)
 both false b e = cc
 
 -- 1. Outcomes that are tested to be the same are the same.
-
-cause_at : ℕ → Cause
-cause_at n =
-    if n == 1 then NotPointer else if n == 2 then Perm else if n == 3 then Bounds else if n == 4 then Align else if n == 5 then NoPage
-    else if n == 6 then Sync else if n == 7 then Illegal else if n == 8 then Priv else if n == 9 then DivZero else if n == 10 then Malformed
-    else if n == 11 then Trap else if n == 12 then NoSlot else OutFull
-
-cause_back : (c : Cause) → cause_at (number_of c) ≡ c
-unfolding cause_at
-cause_back NotPointer = refl
-cause_back Perm = refl
-cause_back Bounds = refl
-cause_back Align = refl
-cause_back NoPage = refl
-cause_back Sync = refl
-cause_back Illegal = refl
-cause_back Priv = refl
-cause_back DivZero = refl
-cause_back Malformed = refl
-cause_back Trap = refl
-cause_back NoSlot = refl
-cause_back OutFull = refl
-
-state_at : ℕ → SlotState
-state_at n = if n == 0 then Running else if n == 1 then Waiting else if n == 2 then Taken else if n == 3 then Halted None else Halted (Some (cause_at (n - 3)))
-
-fault_back : (c : Cause) → state_at (3 + number_of c) ≡ Halted (Some (cause_at (number_of c)))
-unfolding state_at
-fault_back NotPointer = refl
-fault_back Perm = refl
-fault_back Bounds = refl
-fault_back Align = refl
-fault_back NoPage = refl
-fault_back Sync = refl
-fault_back Illegal = refl
-fault_back Priv = refl
-fault_back DivZero = refl
-fault_back Malformed = refl
-fault_back Trap = refl
-fault_back NoSlot = refl
-fault_back OutFull = refl
-
-state_back : (s : SlotState) → state_at (state_number s) ≡ s
-unfolding state_at
-state_back Running = refl
-state_back Waiting = refl
-state_back Taken = refl
-state_back (Halted None) = refl
-state_back (Halted (Some c)) = fault_back c ∙ ap (λ d. Halted (Some d)) (cause_back c)
 
 states_decide : (a b : SlotState) → (same_state a b ≡ true → a ≡ b) × (a ≡ b → same_state a b ≡ true)
 states_decide a b = (

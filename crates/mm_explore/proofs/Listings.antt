@@ -1,9 +1,8 @@
 -- The list of changed cells of a memory after a turn.
-use Rattle.std.proofs.Common.{◌≡◌, ◌≢◌, ℕ, ◌<◌, List, length, Option, Some, None, refl, sym, ap, ◌∙◌, subst, T}
+use Rattle.std.proofs.Common.{◌≡◌, ℕ, List, length, Option, Some, None, sym, ap, ◌∙◌, subst}
 use Rattle.mm_word.specs.declared.word.Cell.{Cell}
 use Rattle.mm_model.specs.Image.{Image}
-use Rattle.mm_model.specs.Memory.{Memory, cell_at}
-use Rattle.mm_model.specs.Report.{changes}
+use Rattle.mm_model.specs.Memory.{Memory}
 use Rattle.mm_laws.proofs.AlikeWorlds.{whole_memory}
 use Rattle.mm_explore.specs.Edits.{changed_at, noted}
 use Rattle.mm_explore.specs.Holds.{IsMemoryOf, AreListed, IsMoved}

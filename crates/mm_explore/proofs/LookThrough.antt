@@ -1,14 +1,11 @@
 -- The changed cells of a memory, page by page and cell by cell.
-use Rattle.std.proofs.Common.{◌≡◌, inl, inr, ℕ, zero, suc, ◌+◌, ◌*◌, ◌%◌, ◌^◌, ◌<◌, ◌≤◌, Bool, true, false, if◌then◌else◌, List, [], ◌∷◌, ◌++◌, map, take, replicate, length, slice_get, Option, Some, None, is_some, refl, sym, ap, ◌∙◌, subst, arith, T, append_assoc, add-one}
-use Rattle.std.specs.List.{AllByRecursion, flat_map}
-use Rattle.std.specs.Option.{unwrap_or}
-use Rattle.std.specs.Ordering.{nat_cmp}
-use Rattle.std.specs.FinMap.{is_sorted}
+use Rattle.std.proofs.Common.{◌≡◌, inl, inr, ℕ, zero, suc, ◌+◌, ◌*◌, ◌^◌, ◌<◌, Bool, true, false, if◌then◌else◌, List, [], ◌∷◌, ◌++◌, map, take, replicate, length, slice_get, Option, Some, None, is_some, refl, sym, ap, ◌∙◌, subst, arith, T, append_assoc}
+use Rattle.std.specs.List.{flat_map}
 use Rattle.std.proofs.lemmas.List.{take_all, flat_map_more}
 use Rattle.mm_word.specs.declared.word.Cell.{Cell}
 use Rattle.mm_model.specs.Image.{Image}
 use Rattle.mm_model.specs.Memory.{Memory, page_at, cell_in, cell_at, is_mapped, zero_cell, IsPaged}
-use Rattle.mm_model.specs.Report.{same_cell, cells_or_zero, changes_from, changes}
+use Rattle.mm_model.specs.Report.{same_cell, cells_or_zero, changes_from}
 use Rattle.mm_model.proofs.Memories.{page_whole}
 use Rattle.mm_laws.proofs.CellViews.{IsIn}
 use Rattle.mm_laws.proofs.ChangedCells.{cell_or_zero, cell_of, found_page}

@@ -6,7 +6,6 @@ use Rattle.mm_model.specs.Groups.{has_group}
 use Rattle.mm_model.specs.Image.{Image, start}
 use Rattle.mm_model.specs.Report.{is_of, groups_of}
 use Rattle.mm_model.specs.Slot.{Slot}
-use Rattle.mm_model.specs.Spelling.{IsImage}
 use Rattle.mm_model.specs.State.{Row, State}
 use Rattle.mm_model.specs.Turn.{is_running}
 use Rattle.mm_explore.specs.Assembled.{IsStateOf}

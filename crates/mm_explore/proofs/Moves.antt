@@ -1,5 +1,5 @@
 -- What a turn makes of the pages and cells of a memory; and where it leads a machine that stands at a configuration.
-use Rattle.std.proofs.Common.{◌≡◌, ◌≢◌, inl, inr, ℕ, zero, suc, ◌+◌, ◌%◌, ◌^◌, ◌<◌, ◌≤◌, Bool, true, false, not, cond, nat_eq, nat_lt, if◌then◌else◌, List, [], ◌∷◌, ◌++◌, map, length, Option, Some, None, is_some, refl, sym, ap, ◌∙◌, subst, arith, T, eq-eqb}
+use Rattle.std.proofs.Common.{◌≡◌, inl, inr, ℕ, suc, ◌+◌, ◌%◌, ◌^◌, ◌<◌, ◌≤◌, Bool, true, false, not, cond, if◌then◌else◌, List, [], ◌∷◌, ◌++◌, length, Option, Some, None, is_some, refl, sym, ap, ◌∙◌, subst, arith, T, eq-eqb}
 use Rattle.std.specs.Prelude.{◌==◌, IfSome}
 use Rattle.std.specs.List.{filter}
 use Rattle.std.specs.Ordering.{nat_cmp, is_eq}
@@ -15,19 +15,18 @@ use Rattle.mm_model.specs.declared.step.Step.{Step}
 use Rattle.mm_model.specs.Memory.{Memory, page_of, place_of, page_at, cell_at, put_cell, put_in, is_mapped, can_map, map_page, unmap_page, zero_page, IsPaged}
 use Rattle.mm_model.specs.State.{Core, State}
 use Rattle.mm_model.specs.Image.{Image, start}
-use Rattle.mm_model.specs.Run.{after, run, turn_of}
+use Rattle.mm_model.specs.Run.{after, run}
 use Rattle.mm_model.specs.Trace.{group_in}
 use Rattle.mm_model.specs.Turn.{turn}
 use Rattle.mm_model.proofs.Memories.{cell_at-put_other, can_map-facts}
 use Rattle.mm_machine.specs.Snapshot.{page_numbers}
-use Rattle.mm_explore.specs.Configurations.{uncounted, configuration}
+use Rattle.mm_explore.specs.Configurations.{configuration}
 use Rattle.mm_explore.specs.Explored.{leads_to}
 use Rattle.mm_explore.specs.Findings.{writes, turn_at}
 use Rattle.mm_explore.specs.Holds.{word_written, IsBeside, IsMoved}
-use Rattle.mm_explore.specs.Laws.{GoesOnAlike}
-use Rattle.mm_explore.proofs.Coverings.{leads_more, run_more}
+use Rattle.mm_explore.proofs.Coverings.{leads_more}
 use Rattle.mm_explore.proofs.Goings.{configurations_go_on}
-use Rattle.mm_explore.proofs.Tame.{WroteAt, MappedOne, RemovedOne, MemoryMoves, turns_are_tame}
+use Rattle.mm_explore.proofs.Tame.{MemoryMoves, turns_are_tame}
 use Rattle.mm_explore.proofs.Tame.MemoryMoves.{Stays, Writes, Maps, Removes}
 
 abbrev Pages : Type 0
@@ -44,8 +43,8 @@ put_numbers k v cells (e ∷ es) sorted is =
     let long : length (put nat_cmp k v (e ∷ es)) ≡ suc (length es) =
     length-put nat_cmp nat_cmp_total k v (e ∷ es) sorted ∙ ap (λ (o : Option (List Cell)). cond (is_some o) (suc (length es)) (suc (length es) + 1)) is in
     elim (nat_cmp k e.0) as (λ r. length (by_order r ((k, v) ∷ e ∷ es) ((e.0, v) ∷ es) (e ∷ put nat_cmp k v es)) ≡ suc (length es)
-        → cond (is_eq r) (Some e.1) (find nat_cmp k es) ≡ Some cells
-        → page_numbers (by_order r ((k, v) ∷ e ∷ es) ((e.0, v) ∷ es) (e ∷ put nat_cmp k v es)) ≡ e.0 ∷ page_numbers es) [
+    → cond (is_eq r) (Some e.1) (find nat_cmp k es) ≡ Some cells
+    → page_numbers (by_order r ((k, v) ∷ e ∷ es) ((e.0, v) ∷ es) (e ∷ put nat_cmp k v es)) ≡ e.0 ∷ page_numbers es) [
       | Less ↦ λ l f. absurd (omega (arith, l))
       | Equal ↦ λ l f. refl
       | Greater ↦ λ l f. ap (λ ns. e.0 ∷ ns) (put_numbers k v cells es (sorted_rest e es sorted) f)
@@ -80,14 +79,14 @@ shrinks : (p : ℕ) (cells : List Cell) (es : Pages) → find nat_cmp p es ≡ S
 shrinks p cells [] is = cc
 shrinks p cells (e ∷ es) is = elim (cases_eq p e.0) [
   | inl same ↦
-    let gone : length (without p (e ∷ es)) ≡ length (without p es) = ap (λ b. length (cond (not b) (e ∷ without p es) (without p es))) (eq-eqb e.0 p (sym same)) in
-    let rest = shorter p es in
-    omega (arith, gone, rest)
+      let gone : length (without p (e ∷ es)) ≡ length (without p es) = ap (λ b. length (cond (not b) (e ∷ without p es) (without p es))) (eq-eqb e.0 p (sym same)) in
+      let rest = shorter p es in
+      omega (arith, gone, rest)
   | inr ne ↦
-    let later : find nat_cmp p es ≡ Some cells = sym (ap (λ b. cond b (Some e.1) (find nat_cmp p es)) (unsigned_tied p e.0 ∙ ne_eqb p e.0 ne)) ∙ is in
-    let here = one_less (e.0 == p) e (without p es) in
-    let rest = shrinks p cells es later in
-    omega (arith, here, rest)
+      let later : find nat_cmp p es ≡ Some cells = sym (ap (λ b. cond b (Some e.1) (find nat_cmp p es)) (unsigned_tied p e.0 ∙ ne_eqb p e.0 ne)) ∙ is in
+      let here = one_less (e.0 == p) e (without p es) in
+      let rest = shrinks p cells es later in
+      omega (arith, here, rest)
 ]
 
 removed_less : (m : Memory) (p : ℕ) → is_mapped m p ≡ true → length (unmap_page m p).pages < length m.pages

@@ -1,8 +1,8 @@
 -- One turn more, and one final schedule more, is noted.
-use Rattle.std.proofs.Common.{◌≡◌, ℕ, ◌+◌, ◌<◌, ◌^◌, Bool, true, false, cond, nat_eq, List, [], ◌∷◌, ◌++◌, length, Option, Some, None, slice_get, Result, Ok, Err, OnOk, refl, sym, ap, ◌∙◌, subst, append-nil}
-use Rattle.std.specs.List.{AllZip, AllByRecursion, find, flat_map}
+use Rattle.std.proofs.Common.{◌≡◌, ℕ, ◌<◌, ◌^◌, Bool, true, false, cond, nat_eq, List, [], ◌∷◌, ◌++◌, length, Option, Some, None, slice_get, Result, Ok, Err, OnOk, sym, ap, ◌∙◌, subst, append-nil}
+use Rattle.std.specs.List.{AllZip, AllByRecursion, flat_map}
 use Rattle.std.specs.Option.{option_or}
-use Rattle.std.specs.BTreeMap.{get, BTreeMap}
+use Rattle.std.specs.BTreeMap.{get}
 use Rattle.std.specs.Global.{Vec}
 use Rattle.std.proofs.lemmas.Grind.{flat_map-append}
 use Rattle.std.proofs.lemmas.List.Folds.{find-append}
@@ -13,7 +13,6 @@ use Rattle.mm_word.specs.declared.perm.Kind.{Kind}
 use Rattle.mm_model.specs.declared.step.Step.{Step}
 use Rattle.mm_model.specs.Image.{Image}
 use Rattle.mm_model.specs.Trace.{group_in}
-use Rattle.mm_explore.specs.declared.ends.Tally.{Tally}
 use Rattle.mm_explore.specs.declared.findings.Findings.{Findings}
 use Rattle.mm_explore.specs.declared.found.Origin.{Origin}
 use Rattle.mm_explore.specs.Findings.{Extension, turn_at, any_kind, writes, has_fault, IsFinal, outcome_at, firsts}
@@ -57,7 +56,7 @@ module _ (i : Image) (list : List (List ℕ)) (done : List Extension) (x : Exten
         let p : Extension → Bool = λ y. has_fault slot cause (turn_at i y).step in
         let now : first_in i (done ++ x ∷ []) slot cause ≡ option_or (first_in i done slot cause) (cond (p x) (Some x) None) = find-append p done (x ∷ []) in
         let key : get order g.faults (slot, cause) ≡ first_kept (get order f.faults (slot, cause)) (p x) o =
-            faults (slot, cause) ∙ ap (λ (s : Step). first_kept (get order f.faults (slot, cause)) (has_fault slot cause s) o) is_step in
+        faults (slot, cause) ∙ ap (λ (s : Step). first_kept (get order f.faults (slot, cause)) (has_fault slot cause s) o) is_step in
         subst (λ y. IsFrom list y (get order g.faults (slot, cause))) (sym now)
         (subst (IsFrom list (option_or (first_in i done slot cause) (cond (p x) (Some x) None))) (sym key)
         (from_next list (first_in i done slot cause) (get order f.faults (slot, cause)) x o (p x) (h.faults slot cause) is));

@@ -1,12 +1,10 @@
 -- What was noted, as the list of schedules grows; and schedules that are not final.
-use Rattle.std.proofs.Common.{◌≡◌, inl, inr, ℕ, suc, zero, List, [], ◌∷◌, ◌++◌, Option, Some, None, slice_get, refl, ap, ◌∙◌}
+use Rattle.std.proofs.Common.{◌≡◌, inl, inr, ℕ, suc, zero, List, [], ◌∷◌, ◌++◌, Option, Some, None, slice_get, refl, ap}
 use Rattle.std.specs.List.{AllZip}
 use Rattle.mm_model.specs.Image.{Image}
-use Rattle.mm_explore.specs.declared.ends.Tally.{Tally}
 use Rattle.mm_explore.specs.declared.findings.Findings.{Findings}
 use Rattle.mm_explore.specs.declared.found.Origin.{Origin}
 use Rattle.mm_explore.specs.Findings.{Extension, IsFinal, AreFinal}
-use Rattle.mm_explore.specs.FoundLists.{IsOrigin}
 use Rattle.mm_explore.specs.Noting.{IsFrom, IsEnd, Noted, Ended}
 
 -- what is at an index stays there

@@ -1,5 +1,5 @@
 -- A memory made anew: the image's cells on given pages, and then changed cells.
-use Rattle.std.proofs.Common.{◌≡◌, ℕ, zero, suc, ◌+◌, ◌*◌, ◌^◌, ◌<◌, ◌≤◌, List, [], ◌∷◌, ◌++◌, map, take, length, Option, Some, None, refl, sym, ap, ◌∙◌, subst, arith, T}
+use Rattle.std.proofs.Common.{◌≡◌, ℕ, ◌+◌, ◌*◌, ◌^◌, ◌<◌, ◌≤◌, List, [], ◌∷◌, ◌++◌, map, take, length, Option, refl, sym, ap, ◌∙◌, subst, arith}
 use Rattle.std.specs.Prelude.{IsTrue}
 use Rattle.std.specs.List.{AllByRecursion}
 use Rattle.std.specs.Ordering.{nat_cmp}
@@ -8,7 +8,7 @@ use Rattle.std.proofs.lemmas.List.{take_all}
 use Rattle.mm_word.specs.declared.word.Cell.{Cell}
 use Rattle.mm_model.specs.Image.{Image}
 use Rattle.mm_model.specs.Memory.{Memory, page_at, cell_in, cell_at, IsPage, IsPaged}
-use Rattle.mm_model.specs.Report.{cells_or_zero, changes}
+use Rattle.mm_model.specs.Report.{cells_or_zero}
 use Rattle.mm_model.specs.Spelling.{IsImage}
 use Rattle.mm_machine.specs.Snapshot.{page_numbers}
 use Rattle.mm_laws.proofs.ChangedCells.{cell_or_zero, cell_of}

@@ -1,9 +1,8 @@
 -- What was noted of all turns explored and of all final schedules is what an exploration finds.
-use Rattle.std.proofs.Common.{◌≡◌, inl, inr, ℕ, ◌<◌, Bool, true, false, if◌then◌else◌, List, [], ◌∷◌, ◌++◌, map, length, zip, zero, suc, codes, decimal, Option, Some, None, slice_get, refl, sym, ap, ◌∙◌, subst}
+use Rattle.std.proofs.Common.{◌≡◌, inl, inr, ℕ, ◌<◌, Bool, true, false, if◌then◌else◌, List, [], ◌∷◌, ◌++◌, map, length, zip, zero, suc, codes, decimal, Option, Some, None, slice_get, refl, sym, subst}
 use Rattle.std.specs.Prelude.{Contains, IfSome, slice_index_or}
 use Rattle.std.proofs.lemmas.Option.{slice_get_within}
 use Rattle.std.specs.List.{AllZip, flat_map, range_with_len}
-use Rattle.std.specs.BTreeMap.{get, BTreeMap}
 use Rattle.mm_word.specs.declared.perm.Kind.{Kind}
 use Rattle.mm_word.specs.Access.{Touch}
 use Rattle.mm_model.specs.Image.{Image, start}
@@ -11,8 +10,7 @@ use Rattle.mm_model.specs.Report.{groups_of}
 use Rattle.mm_model.specs.Slot.{Slot}
 use Rattle.mm_model.specs.Trace.{touches, group_in}
 use Rattle.mm_explore.specs.declared.found.Origin.{Origin}
-use Rattle.mm_explore.specs.Findings.{Extension, turn_at, explored_turns, Reaches, Reached, IsReached, any_kind, writes, first_fault, firsts}
-use Rattle.mm_explore.specs.FoundLists.{led_by}
+use Rattle.mm_explore.specs.Findings.{Extension, turn_at, explored_turns, Reaches, IsReached, any_kind, writes, first_fault, firsts}
 use Rattle.mm_explore.specs.Noting.{IsFrom, fault_found}
 use Rattle.mm_explore.specs.Results.{Results, GroupFound, group_lines, fault_lines, outcome_lines, explored_text}
 use Rattle.mm_explore.specs.Texts as texts
@@ -123,7 +121,7 @@ pub faults_text : (i : Image) (list : List (List ℕ)) (kept : ℕ → ℕ → O
 faults_text i list kept are slots =
     flat_alike (λ (s : Slot). flat_map (λ cause. fault_found list s.number cause (kept s.number cause)) (range_with_len 1 13)) (faults_of i list)
     (λ s. flat_alike (λ cause. fault_found list s.number cause (kept s.number cause)) (λ cause. texts.fault_lines s.number cause (first_fault i list s.number cause))
-        (λ cause. fault_text list s.number cause (first_fault i list s.number cause) (kept s.number cause) (are s.number cause)) (range_with_len 1 13)) slots
+    (λ cause. fault_text list s.number cause (first_fault i list s.number cause) (kept s.number cause) (are s.number cause)) (range_with_len 1 13)) slots
 
 pub origin_inside : (list : List (List ℕ)) (x : Option Extension) (o : Option Origin) → IsFrom list x o → IfSome o (λ (o : Origin). o.from < length list)
 origin_inside list None None h = tt

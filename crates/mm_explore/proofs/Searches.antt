@@ -9,7 +9,7 @@ use Rattle.mm_model.specs.Run.{run}
 use Rattle.mm_explore.specs.Pairs.{EachPair}
 use Rattle.mm_explore.specs.Configurations.{moves}
 use Rattle.mm_explore.specs.Schedules.{Before}
-use Rattle.mm_explore.specs.Explored.{leads_to, IsLeast, IsExplored, IsAll}
+use Rattle.mm_explore.specs.Explored.{leads_to, IsLeast, IsAll}
 use Rattle.mm_explore.specs.Findings.{Extension, extended, extensions, explored_turns}
 use Rattle.mm_explore.specs.Searching.{UpTo, Cover, Open, IsSearched}
 use Rattle.mm_explore.proofs.Orders.{before_self, before_through, before_cases, before_more, up_to_before, up_to_both, up_to_through, nothing_before, before_rec, more, length_more}

@@ -1,5 +1,5 @@
 -- The longest runs of ascending words.
-use Rattle.std.proofs.Common.{◌≡◌, ◌⊎◌, inl, inr, ℕ, zero, suc, ◌+◌, ◌*◌, ◌%◌, ◌<◌, ◌≤◌, ◌==◌, Bool, true, false, if◌then◌else◌, List, [], ◌∷◌, Some, None, refl, sym, ap, ◌∙◌, subst, eqb-true, arith}
+use Rattle.std.proofs.Common.{◌≡◌, ◌⊎◌, inl, inr, ℕ, ◌+◌, ◌*◌, ◌%◌, ◌<◌, ◌≤◌, ◌==◌, Bool, true, false, if◌then◌else◌, List, [], ◌∷◌, Some, None, refl, sym, ap, ◌∙◌, subst, eqb-true, arith}
 use Rattle.std.specs.Prelude.{Contains}
 use Rattle.std.specs.List.{AllByRecursion}
 use Rattle.std.proofs.lemmas.Bool.Decides.{nat_tests}
@@ -82,7 +82,8 @@ pub spans_alike : (P Q : ℕ → Type 0) → ((w : ℕ) → P w → Q w) → ((w
 spans_alike P Q to back spans h = record {
   some = h.some;
   apart = h.apart;
-  only = all_of (λ (s : Span). (k : ℕ) → k < s.count → Q (word_in s k)) spans (λ s there k lt. to (word_in s k) (all_at (λ (s : Span). (k : ℕ) → k < s.count → P (word_in s k)) spans s h.only there k lt));
+  only = all_of (λ (s : Span). (k : ℕ) → k < s.count → Q (word_in s k)) spans (λ s there k lt.
+      to (word_in s k) (all_at (λ (s : Span). (k : ℕ) → k < s.count → P (word_in s k)) spans s h.only there k lt));
   each = λ w q. h.each w (back w q);
 }
 
@@ -179,7 +180,8 @@ runs_are : (ws : List ℕ) (s : Span) → GoesOn s ws → IsRuns s ws (spans_aft
 runs_are [] s h = ends s h
 runs_are (w ∷ ws) s h = by (runs_are ws) (word_in s s.count == w) refl
   where
-    by : ((t : Span) → GoesOn t ws → IsRuns t ws (spans_after (Some t) ws)) → (b : Bool) → (word_in s s.count == w) ≡ b → IsRuns s (w ∷ ws) (if b then spans_after (Some (longer s)) ws else s ∷ spans_after (Some (one_word w)) ws)
+    by : ((t : Span) → GoesOn t ws → IsRuns t ws (spans_after (Some t) ws)) → (b : Bool) → (word_in s s.count == w) ≡ b
+        → IsRuns s (w ∷ ws) (if b then spans_after (Some (longer s)) ws else s ∷ spans_after (Some (one_word w)) ws)
     by rest true e =
         let same = eqb-true (word_in s s.count) w e in
         runs_longer s w ws (spans_after (Some (longer s)) ws) same (rest (longer s) (goes_on_longer s w ws h same))

@@ -1,20 +1,18 @@
 -- A machine that stands at the configuration of a state: its parts, its core and its memory.
-use Rattle.std.proofs.Common.{◌≡◌, ◌⊎◌, inl, inr, ℕ, zero, suc, ◌%◌, ◌^◌, ◌<◌, ◌≤◌, Bool, List, [], ◌∷◌, ◌++◌, map, replicate, length, Option, Some, None, refl, sym, ap, ◌∙◌, subst, arith}
+use Rattle.std.proofs.Common.{◌≡◌, ◌⊎◌, inl, inr, ℕ, zero, suc, ◌^◌, ◌<◌, ◌≤◌, Bool, List, [], ◌∷◌, map, replicate, length, Option, refl, sym, ap, ◌∙◌, subst, arith}
 use Rattle.std.specs.List.{AllByRecursion}
-use Rattle.std.specs.List.Sorted.{IsStrictlyIncreasing}
 use Rattle.mm_word.specs.declared.word.Cell.{Cell}
 use Rattle.mm_model.specs.declared.event.Event.{Event}
-use Rattle.mm_model.specs.Fits.{slots_of, identity_of, IsOfVersion}
+use Rattle.mm_model.specs.Fits.{slots_of, identity_of}
 use Rattle.mm_model.specs.Image.{Image, slot_limit, start}
 use Rattle.mm_model.specs.Memory.{Memory}
 use Rattle.mm_model.specs.Run.{run}
-use Rattle.mm_model.specs.Report.{groups_of, changes}
+use Rattle.mm_model.specs.Report.{groups_of}
 use Rattle.mm_model.specs.Slot.{Slot}
-use Rattle.mm_model.specs.Spelling.{numbers_of as slot_numbers, IsFresh, IsImage}
+use Rattle.mm_model.specs.Spelling.{IsFresh, IsImage}
 use Rattle.mm_model.specs.State.{Row, Core, State}
 use Rattle.mm_model.proofs.CoreRows.{each_map}
 use Rattle.mm_model.proofs.Fitted.{paged_of}
-use Rattle.mm_model.proofs.Starts.{start_slots}
 use Rattle.mm_machine.specs.Snapshot.{queued, page_numbers}
 use Rattle.mm_thread.specs.Output.{Output}
 use Rattle.mm_thread.specs.Parts.{core_of, AreParts}
@@ -23,7 +21,7 @@ use Rattle.mm_explore.specs.Assembled.{IsStateOf}
 use Rattle.mm_explore.specs.Configurations.{uncounted_slot, uncounted_row, uncounted, configuration}
 use Rattle.mm_explore.specs.Explored.{leads_to}
 use Rattle.mm_explore.specs.Holds.{IsMemoryOf, AreListed}
-use Rattle.mm_explore.specs.Kept.{Parts, core_output, output_part, parts_of, held_parts, numbers_of, kept, listed}
+use Rattle.mm_explore.specs.Kept.{Parts, core_output, parts_of, held_parts, numbers_of, kept, listed}
 use Rattle.mm_explore.proofs.KeptRuns.{parts_bare}
 use Rattle.mm_explore.proofs.Moves.{standing}
 use Rattle.mm_explore.proofs.Whole.{made, are_parts}

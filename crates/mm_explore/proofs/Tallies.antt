@@ -1,10 +1,10 @@
 -- One final schedule more is counted with those of its outcome.
-use Rattle.std.proofs.Common.{◌≡◌, inl, inr, ℕ, zero, suc, ◌+◌, ◌^◌, ◌<◌, ◌≤◌, Bool, true, false, cond, if◌then◌else◌, ◌||◌, nat_eq, List, [], ◌∷◌, ◌++◌, map, length, Option, Some, None, refl, sym, ap, ◌∙◌, subst, arith, eqb-true, eq-eqb, append-nil}
+use Rattle.std.proofs.Common.{◌≡◌, inl, inr, ℕ, suc, ◌+◌, ◌^◌, ◌<◌, ◌≤◌, Bool, true, false, cond, if◌then◌else◌, ◌||◌, nat_eq, List, [], ◌∷◌, ◌++◌, map, length, Some, None, refl, sym, ap, ◌∙◌, subst, arith, eqb-true, eq-eqb, append-nil}
 use Rattle.std.specs.Prelude.{slice_get}
-use Rattle.std.specs.List.{AllByRecursion, AllZip, list_any, count_by, flat_map, IsDistinct}
+use Rattle.std.specs.List.{AllByRecursion, AllZip, list_any, count_by, sum_by, flat_map, IsDistinct}
 use Rattle.std.specs.Map.{lookup, keys_of}
 use Rattle.std.proofs.lemmas.Bool.{cases_Bool, both_ways}
-use Rattle.std.proofs.lemmas.List.Sums.{count_by-le-length}
+use Rattle.std.proofs.lemmas.List.Sums.{count_by-le-length, sum_by-append}
 use Rattle.std.proofs.lemmas.Map.Keys.{IsDistinct-head, IsDistinct-tail}
 use Rattle.indexmap.specs.IndexMap.{insert_entry}
 use lib.Pointwise.{pointwise, pointwise_decides}
@@ -12,12 +12,11 @@ use Rattle.mm_model.specs.declared.slot.SlotState.{SlotState}
 use Rattle.mm_model.specs.Flags.{one_if}
 use Rattle.mm_model.specs.Image.{Image}
 use Rattle.mm_explore.specs.declared.ends.Tally.{Tally}
-use Rattle.mm_explore.specs.Findings.{AreFinal, Outcome, outcome_at, state_number, same_outcome, firsts_after, firsts, count_like}
+use Rattle.mm_explore.specs.Findings.{AreFinal, Outcome, outcome_at, state_number, same_outcome, firsts_after, firsts}
 use Rattle.mm_explore.specs.Kept.{state_at}
 use Rattle.mm_explore.specs.Noting.{bytes_form, outcome_form, IsEnd, tally_after}
 use Rattle.mm_explore.proofs.Finals.{outcomes_decide}
 use Rattle.mm_explore.proofs.SlotForms.{state_back}
-use Rattle.mm_explore.proofs.Notings.{zip_to}
 
 -- 1. Outcomes are told apart by their numbers.
 
@@ -111,10 +110,10 @@ module _ (i : Image) where
     where
       by : firsts_after i seen (ts ++ t ∷ []) ≡ firsts_after i seen ts ++ new_after (seen_as t seen || list_any (same t) (firsts_after i seen ts)) t
           → firsts_after i (outcome_at i u ∷ seen) (ts ++ t ∷ []) ≡ firsts_after i (outcome_at i u ∷ seen) ts
-              ++ new_after ((same t u || seen_as t seen) || list_any (same t) (firsts_after i (outcome_at i u ∷ seen) ts)) t
+          ++ new_after ((same t u || seen_as t seen) || list_any (same t) (firsts_after i (outcome_at i u ∷ seen) ts)) t
           → (b : Bool) → (if b then firsts_after i seen (ts ++ t ∷ []) else u ∷ firsts_after i (outcome_at i u ∷ seen) (ts ++ t ∷ []))
           ≡ (if b then firsts_after i seen ts else u ∷ firsts_after i (outcome_at i u ∷ seen) ts)
-              ++ new_after (seen_as t seen || list_any (same t) (if b then firsts_after i seen ts else u ∷ firsts_after i (outcome_at i u ∷ seen) ts)) t
+          ++ new_after (seen_as t seen || list_any (same t) (if b then firsts_after i seen ts else u ∷ firsts_after i (outcome_at i u ∷ seen) ts)) t
       by skip go true = skip
       by skip go false =
           ap (λ l. u ∷ l) go
@@ -132,9 +131,15 @@ module _ (i : Image) where
   -- a schedule is not the same as another of an outcome that was not seen
   seen_differs : (t u : List ℕ) (seen : List Outcome) → seen_as u seen ≡ true → seen_as t seen ≡ false → same t u ≡ false
   seen_differs t u seen there none = elim (cases_Bool (same t u)) [
-    | inl yes ↦ absurd (both_ways (seen_as t seen) none (ap (λ o. list_any (same_outcome o) seen) (same_is t u yes) ∙ there))
+    | inl agrees ↦ absurd (both_ways (seen_as t seen) none (ap (λ o. list_any (same_outcome o) seen) (same_is t u agrees) ∙ there))
     | inr differ ↦ differ
   ]
+
+  count_cons : (p : List ℕ → Bool) (u : List ℕ) (ts : List (List ℕ)) → count_by p (u ∷ ts) ≡ (if p u then 1 else 0) + count_by p ts
+  count_cons p u ts =
+      let two = sum_by-append (λ x. cond (p x) 1 0) (u ∷ []) ts in
+      let one : sum_by (λ x. cond (p x) 1 0) (u ∷ []) ≡ cond (p u) 1 0 = omega arith in
+      omega (arith, two, one)
 
   none_counted : (seen : List Outcome) (ts : List (List ℕ)) (t : List ℕ) → seen_as t seen ≡ false → list_any (same t) (firsts_after i seen ts) ≡ false
       → count_by (same t) ts ≡ 0
@@ -145,24 +150,18 @@ module _ (i : Image) where
           → ((same t u || seen_as t seen) ≡ false → list_any (same t) (firsts_after i (outcome_at i u ∷ seen) ts) ≡ false → count_by (same t) ts ≡ 0)
           → (b : Bool) → seen_as u seen ≡ b → list_any (same t) (if b then firsts_after i seen ts else u ∷ firsts_after i (outcome_at i u ∷ seen) ts) ≡ false
           → count_by (same t) (u ∷ ts) ≡ 0
-      by skip go true there gone = ap (λ b. cond b (1 + count_by (same t) ts) (count_by (same t) ts)) (seen_differs t u seen there none) ∙ skip none gone
+      by skip go true there gone =
+          count_cons (same t) u ts ∙ ap (λ (b : Bool). (if b then 1 else 0) + count_by (same t) ts) (seen_differs t u seen there none) ∙ ap (λ n. 0 + n) (skip none gone)
       by skip go false there gone =
           let two = neither (same t u) (list_any (same t) (firsts_after i (outcome_at i u ∷ seen) ts)) gone in
-          ap (λ b. cond b (1 + count_by (same t) ts) (count_by (same t) ts)) two.0
-          ∙ go (ap (λ b. b || seen_as t seen) two.0 ∙ none) two.1
+          count_cons (same t) u ts ∙ ap (λ (b : Bool). (if b then 1 else 0) + count_by (same t) ts) two.0
+          ∙ ap (λ n. 0 + n) (go (ap (λ b. b || seen_as t seen) two.0 ∙ none) two.1)
 
   count_more : (p : List ℕ → Bool) (ts : List (List ℕ)) (t : List ℕ) → count_by p (ts ++ t ∷ []) ≡ count_by p ts + (if p t then 1 else 0)
-  count_more p [] t = by (p t)
-    where
-      by : (b : Bool) → cond b (1 + 0) 0 ≡ 0 + (if b then 1 else 0)
-      by true = refl
-      by false = refl
-  count_more p (u ∷ ts) t = by (count_more p ts t) (p u)
-    where
-      by : count_by p (ts ++ t ∷ []) ≡ count_by p ts + (if p t then 1 else 0) → (b : Bool)
-          → cond b (1 + count_by p (ts ++ t ∷ [])) (count_by p (ts ++ t ∷ [])) ≡ cond b (1 + count_by p ts) (count_by p ts) + (if p t then 1 else 0)
-      by rest true = omega (arith, rest)
-      by rest false = rest
+  count_more p ts t =
+      let two = sum_by-append (λ x. cond (p x) 1 0) ts (t ∷ []) in
+      let one : sum_by (λ x. cond (p x) 1 0) (t ∷ []) ≡ cond (p t) 1 0 = omega arith in
+      omega (arith, two, one)
 
 -- 3. The tallies, with one more.
 
@@ -185,13 +184,13 @@ module _ {K : Type 0} (of : K → List ℕ) (i : Image) (list : List (List ℕ))
 
     other_outcome : (u : List ℕ) (end : K × Tally) → Counts finals u end → same_key k end.0 ≡ false → same i u t ≡ false
     other_outcome u end h differ = elim (cases_Bool (same i u t)) [
-      | inl yes ↦ absurd (both_ways (same_key k end.0) differ (is_key k end.0 (form ∙ ap outcome_form (sym (same_is i u t yes)) ∙ sym h.form)))
+      | inl agrees ↦ absurd (both_ways (same_key k end.0) differ (is_key k end.0 (form ∙ ap outcome_form (sym (same_is i u t agrees)) ∙ sym h.form)))
       | inr no_other ↦ no_other
     ]
 
     turned : (u : List ℕ) → same i u t ≡ false → same i t u ≡ false
     turned u differ = elim (cases_Bool (same i t u)) [
-      | inl yes ↦ absurd (both_ways (same i u t) differ (is_same i u t (sym (same_is i t u yes))))
+      | inl agrees ↦ absurd (both_ways (same i u t) differ (is_same i u t (sym (same_is i t u agrees))))
       | inr other ↦ other
     ]
 
@@ -203,9 +202,9 @@ module _ {K : Type 0} (of : K → List ℕ) (i : Image) (list : List (List ℕ))
         record { form = h.form; count = omega (arith, none, was); first = h.first }
 
     counts_same : (u : List ℕ) (end : K × Tally) → Counts finals u end → same i u t ≡ true → Counts with_t u (end.0, tally_after at (Some end.1))
-    counts_same u end h yes =
+    counts_same u end h agrees =
         let more = count_more i (same i u) finals t in
-        let one : count_by (same i u) with_t ≡ count_by (same i u) finals + 1 = more ∙ ap (λ (b : Bool). count_by (same i u) finals + (if b then 1 else 0)) yes in
+        let one : count_by (same i u) with_t ≡ count_by (same i u) finals + 1 = more ∙ ap (λ (b : Bool). count_by (same i u) finals + (if b then 1 else 0)) agrees in
         let was = h.count in
         record { form = h.form; count = omega (arith, one, was); first = h.first }
 
@@ -243,11 +242,12 @@ module _ {K : Type 0} (of : K → List ℕ) (i : Image) (list : List (List ℕ))
         by rest true is =
             let key = key_is k e.0 is in
             let one : outcome_at i t ≡ outcome_at i u = forms_tell (outcome_at i t) (outcome_at i u) (sym form ∙ key ∙ h.0.form) in
-            let yes : same i t u ≡ true = is_same i t u one in
-            subst (λ b. AllZip (Counts with_t) (u ∷ us ++ new_after i (b || list_any (same i t) us) t) ((e.0, tally_after at (Some e.1)) ∷ es)) (sym yes)
-            (counts_same u e h.0 (is_same i u t (sym one)),
-            subst (λ l. AllZip (Counts with_t) l es) (sym (append-nil us))
-            (others us es h.1 (same_as e.0 (keys_of es) key (IsDistinct-head same_key e.0 (keys_of es) distinct))))
+            let agrees : same i t u ≡ true = is_same i t u one in
+            subst (λ b. AllZip (Counts with_t) (u ∷ us ++ new_after i (b || list_any (same i t) us) t) ((e.0, tally_after at (Some e.1)) ∷ es)) (sym agrees) (
+              counts_same u e h.0 (is_same i u t (sym one)),
+              subst (λ l. AllZip (Counts with_t) l es) (sym (append-nil us))
+                  (others us es h.1 (same_as e.0 (keys_of es) key (IsDistinct-head same_key e.0 (keys_of es) distinct))),
+            )
         by rest false is =
             let differ : same i t u ≡ false = turned u (other_outcome u e h.0 is) in
             subst (λ b. AllZip (Counts with_t) (u ∷ us ++ new_after i (b || list_any (same i t) us) t) (e ∷ insert_entry same_key es k (tally_after at (lookup (same_key k) es)))) (sym differ)
@@ -293,3 +293,16 @@ found_small test (x ∷ es) v h e = by (test x.0) (found_small test es v h.1) e
     by : (b : Bool) → (lookup test es ≡ Some v → v.count < 2 ^ 63) → cond b (Some x.1) (lookup test es) ≡ Some v → v.count < 2 ^ 63
     by true rest is = let same : x.1 ≡ v = cc in subst (λ (t : Tally). t.count < 2 ^ 63) same h.0
     by false rest is = rest is
+
+-- the numbers of an outcome, put one after the other
+pub form_joined : (ended : Bool) (states : List SlotState) (outputs : List (List ℕ)) (k0 k1 k2 k3 k4 : List ℕ) (bit long : ℕ) (now_states : List SlotState) (now_outputs : List (List ℕ))
+    → k0 ≡ [] → k1 ≡ k0 ++ bit ∷ [] → k2 ≡ k1 ++ long ∷ [] → k3 ≡ k2 ++ map state_number now_states → k4 ≡ k3 ++ flat_map bytes_form now_outputs
+    → bit ≡ one_if ended → long ≡ length states → now_states ≡ states → now_outputs ≡ outputs
+    → k4 ≡ outcome_form (record { ended = ended; states = states; outputs = outputs })
+unfolding outcome_form
+form_joined ended states outputs k0 k1 k2 k3 k4 bit long now_states now_outputs e0 e1 e2 e3 e4 is_bit is_long are_states are_outputs =
+    let first = e1 ∙ ap (λ l. l ++ bit ∷ []) e0 in
+    let second = e2 ∙ ap (λ l. l ++ long ∷ []) first in
+    let third = e3 ∙ ap (λ l. l ++ map state_number now_states) second in
+    e4 ∙ ap (λ l. l ++ flat_map bytes_form now_outputs) third
+    ∙ (λ j. is_bit j ∷ is_long j ∷ map state_number (are_states j) ++ flat_map bytes_form (are_outputs j))

@@ -11,7 +11,7 @@ use Rattle.std.proofs.lemmas.Map.Keys.{sorted_head, sorted_tail}
 use Rattle.mm_explore.specs.Pairs.{EachPair}
 use Rattle.std.specs.BTreeSet.{insert_key}
 use Rattle.std.proofs.lemmas.Map.Lookups.{exact_pairs, exact_unsigned}
-use Rattle.std.proofs.lemmas.List.Elements.{Contains-append_left, Contains-append_right, Contains-append_cases, Contains-push, Contains-push_cases}
+use Rattle.std.proofs.lemmas.List.Elements.{Contains-append_left, Contains-push, Contains-push_cases}
 use Rattle.mm_explore.specs.Words.{order, AreKept, IsWordKey, words_in, passed_words, step_words}
 use Rattle.std.specs.Option.{option_to_list}
 use Rattle.std.proofs.lemmas.Grind.{flat_map-append}
@@ -51,7 +51,8 @@ has_only : (keys : List (ℕ × ℕ)) (key x : ℕ × ℕ) → Contains (insert_
 has_only [] key x h = elim (in_cases key [] x h) [ inl e ↦ inr e | inr later ↦ inl later ]
 has_only (k ∷ keys) key x h = by (has_only keys key x) (order key k) h
   where
-    by : (Contains (insert_key order keys key) x → Contains keys x ⊎ (key ≡ x)) → (o : Ordering) → Contains (match_ordering o (key ∷ k ∷ keys) (k ∷ keys) (k ∷ insert_key order keys key)) x → Contains (k ∷ keys) x ⊎ (key ≡ x)
+    by : (Contains (insert_key order keys key) x → Contains keys x ⊎ (key ≡ x)) → (o : Ordering) → Contains (match_ordering o (key ∷ k ∷ keys) (k ∷ keys) (k ∷ insert_key order keys key)) x
+        → Contains (k ∷ keys) x ⊎ (key ≡ x)
     by rest Less there = elim (in_cases key (k ∷ keys) x there) [ inl e ↦ inr e | inr later ↦ inl later ]
     by rest Equal there = inl there
     by rest Greater there = elim (in_cases k (insert_key order keys key) x there) [
@@ -107,7 +108,8 @@ pub key_of_word : (group : ℕ) (keys : List (ℕ × ℕ)) (word : ℕ) → Cont
 key_of_word group [] word h = absurd (none_in word h)
 key_of_word group (key ∷ keys) word h = by (key_of_word group keys word) (key.0 == group) refl h
   where
-    by : (Contains (words_in group keys) word → Contains keys (group, word)) → (b : Bool) → (key.0 == group) ≡ b → Contains (if b then key.1 ∷ words_in group keys else words_in group keys) word → Contains (key ∷ keys) (group, word)
+    by : (Contains (words_in group keys) word → Contains keys (group, word)) → (b : Bool) → (key.0 == group) ≡ b
+        → Contains (if b then key.1 ∷ words_in group keys else words_in group keys) word → Contains (key ∷ keys) (group, word)
     by rest true e there = elim (in_cases key.1 (words_in group keys) word there) [
       | inl is ↦
           let same : key ≡ (group, word) = λ j. (eqb-true key.0 group e j, is j) in

@@ -1,5 +1,5 @@
 -- The machine that is put to configurations and moved.
-use Rattle.std.specs.Prelude.{◌≡◌, ℕ, ◌<◌, ◌≤◌, ◌^◌, List}
+use Rattle.std.specs.Prelude.{◌≡◌, ℕ, ◌<◌, ◌^◌, List}
 use Rattle.std.specs.List.{AllByRecursion}
 use Rattle.std.specs.Option.{option_map}
 use Rattle.mm_model.specs.Slot.{Slot}
@@ -31,7 +31,8 @@ pub record IsReady (b : Bench) : Type 0 where
 
 -- the parts that are held
 abbrev pub parts_held : Image → code.Parts → Parts
-parts_held i p = held_parts i p.slots.items p.events.items p.outputs.items (option_map (λ v. v.items) p.pages) p.cells.items
+parts_held i p =
+    held_parts i p.slots.items p.events.items p.outputs.items (option_map (λ v. v.items) p.pages) p.cells.items
 
 -- the parts are those to which a schedule leads
 abbrev pub ArePartsAt : Image → List ℕ → code.Parts → Type 0

@@ -1,11 +1,10 @@
 -- A memory that is put to configurations, and what of it is not as in the image.
-use Rattle.std.specs.Prelude.{◌≡◌, ◌≢◌, ℕ, ◌<◌, ◌≤◌, ◌^◌, false, if◌then◌else◌, List, length, nat_eq, Option, Some, None, IfSome}
+use Rattle.std.specs.Prelude.{◌≡◌, ◌≢◌, ℕ, ◌≤◌, false, if◌then◌else◌, List, length, nat_eq, Option, Some, None, IfSome}
 use Rattle.std.specs.List.{AllByRecursion}
 use Rattle.std.specs.Option.{option_map}
 use lib.Pointwise.{pointwise}
 use Rattle.mm_word.specs.declared.word.Cell.{Cell}
 use Rattle.mm_word.specs.Access.{Touch}
-use Rattle.mm_model.specs.declared.step.Step.{Step}
 use Rattle.mm_model.specs.Image.{Image}
 use Rattle.mm_model.specs.Memory.{Memory, cell_at, IsPaged}
 use Rattle.mm_model.specs.Report.{changes}

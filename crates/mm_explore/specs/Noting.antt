@@ -1,5 +1,6 @@
 -- What was noted of the turns and of the ends that a search went through.
-use Rattle.std.specs.Prelude.{◌≡◌, ℕ, ◌+◌, Bool, true, false, List, [], ◌∷◌, ◌++◌, map, length, Option, Some, None, slice_get, nat_eq}
+use Rattle.std.specs.Prelude.{◌≡◌, ℕ, ◌+◌, nat_eq, Bool, true, false, List, [], ◌∷◌, ◌++◌, map, length}
+use Rattle.std.specs.Prelude.{Option, Some, None, slice_get}
 use Rattle.std.specs.List.{AllZip, find, flat_map}
 use Rattle.std.specs.BTreeMap.{get}
 use Rattle.indexmap.specs.IndexMap.{IsUnique}
@@ -9,7 +10,8 @@ use Rattle.mm_model.specs.Image.{Image}
 use Rattle.mm_explore.specs.declared.findings.Findings.{Findings}
 use Rattle.mm_explore.specs.declared.ends.Tally.{Tally}
 use Rattle.mm_explore.specs.declared.found.Origin.{Origin}
-use Rattle.mm_explore.specs.Findings.{Extension, turn_at, any_kind, writes, has_fault, AreFinal, Outcome, outcome_at, state_number, firsts, count_like}
+use Rattle.mm_explore.specs.Findings.{Extension, turn_at, any_kind, writes, has_fault}
+use Rattle.mm_explore.specs.Findings.{AreFinal, Outcome, outcome_at, state_number, firsts, count_like}
 use Rattle.mm_explore.specs.FoundLists.{IsOrigin, led_by}
 use Rattle.mm_explore.specs.Results.{fault_lines}
 use Rattle.mm_explore.specs.Words.{order, AreKept, turn_words}

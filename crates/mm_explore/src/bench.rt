@@ -73,7 +73,15 @@ impl Bench {
         ensures { OnOk result ((t : List ℕ) → IsAt img.now t self.now
             → out.new.items ≡ out.old.items ++ kept img.now (run (start img.now) t)) }
     {
-        put_numbers(alloc, out, img, groups, &self.core, &self.held.pages, self.held.cells.as_slice())
+        put_numbers(
+            alloc,
+            out,
+            img,
+            groups,
+            &self.core,
+            &self.held.pages,
+            self.held.cells.as_slice(),
+        )
     }
 
     /// Puts the machine to the configuration of these parts.
@@ -88,8 +96,13 @@ impl Bench {
         ensures at { OnOk result ((t : List ℕ) → ArePartsAt img.now t parts.now → IsAt img.now t self.new) }
         ensures ready { OnOk result (IsReady self.new) }
     {
-        self.core.assign(parts.slots.as_slice(), parts.events.as_slice(), parts.outputs.as_slice());
-        self.held.put(alloc, img, &parts.pages, parts.cells.as_slice())
+        self.core.assign(
+            parts.slots.as_slice(),
+            parts.events.as_slice(),
+            parts.outputs.as_slice(),
+        );
+        self.held
+            .put(alloc, img, &parts.pages, parts.cells.as_slice())
     }
 
     /// Makes the turn of an item.

@@ -67,10 +67,12 @@ fn insert_entry(
     requires { at ≤ length cells.old.items }
     ensures { OnOk result (cells.new.items ≡ with_entry at word cell cells.old.items) }
 {
-    if let Some(Cell {
-        word: content,
-        full,
-    }) = cell
+    if let Some(
+        Cell {
+            word: content,
+            full,
+        },
+    ) = cell
     {
         cells.insert(
             at,
@@ -109,7 +111,13 @@ pub(crate) fn note(
 fn put_entry(cells: &mut Vec<(u64, Cell)>, word: u64, cell: Option<Cell>) -> Result<(), AllocError>
     ensures { OnOk result (cells.new.items ≡ cells.old.items ++ entry word cell) }
 {
-    if let Some(Cell { word: content, full }) = cell {
+    if let Some(
+        Cell {
+            word: content,
+            full,
+        },
+    ) = cell
+    {
         cells.push((
             word,
             Cell {

@@ -4,6 +4,7 @@ ghost use Rattle.std.specs.Prelude.{◌≡◌, ℕ, ◌+◌, ◌<◌, ◌^◌, �
 ghost use Rattle.std.specs.List.{AllByRecursion, flat_map};
 ghost use Rattle.indexmap.specs.IndexMap.{get, insert_entry, IsUnique};
 ghost use lib.Pointwise.{pointwise};
+ghost use Rattle.mm_model.specs.Flags.{one_if};
 ghost use Rattle.mm_explore.specs.Findings.{state_number as state_number_of};
 ghost use Rattle.mm_explore.specs.Noting.{bytes_form, outcome_form, tally_after};
 
@@ -24,7 +25,7 @@ pub(crate) struct Tally {
 
 /// Appends the numbers of the states of slots.
 fn put_states(key: &mut Vec<u64>, slots: &[Slot]) -> Result<(), AllocError>
-    ensures { OnOk result (key.new.items ≡ key.old.items ++ map (λ s. state_number_of s.state) slots.now) }
+    ensures { OnOk result (key.new.items ≡ key.old.items ++ map state_number_of (map (λ s. s.state) slots.now)) }
 {
     match slots {
         [] => Ok(()),
@@ -37,7 +38,7 @@ fn put_states(key: &mut Vec<u64>, slots: &[Slot]) -> Result<(), AllocError>
 
 /// Appends outputs.
 fn put_bytes(key: &mut Vec<u64>, outputs: &[Output]) -> Result<(), AllocError>
-    ensures { OnOk result (key.new.items ≡ key.old.items ++ flat_map (λ o. bytes_form o.bytes) outputs.now) }
+    ensures { OnOk result (key.new.items ≡ key.old.items ++ flat_map bytes_form (map (λ o. o.bytes) outputs.now)) }
 {
     match outputs {
         [] => Ok(()),
@@ -48,23 +49,26 @@ fn put_bytes(key: &mut Vec<u64>, outputs: &[Output]) -> Result<(), AllocError>
     }
 }
 
+/// 1 if the value is true, else 0.
+fn bit_of(value: bool) -> u64
+    ensures { result ≡ one_if value }
+{
+    if value { 1 } else { 0 }
+}
+
 /// The numbers of the outcome of a configuration, given whether it has no move, and its parts.
-#[tactic(auto, unfolding(crate::specs::Noting::outcome_form))]
-pub(crate) fn outcome_key(
-    alloc: Global,
-    ended: bool,
-    parts: &Parts,
-) -> Result<Vec<u64>, AllocError>
+pub(crate) fn outcome_key(alloc: Global, ended: bool, parts: &Parts) -> Result<Vec<u64>, AllocError>
     ensures { IfOk result (λ key. key.items ≡ outcome_form (record {
-        ended = ended;
-        states = map (λ s. s.state) parts.now.slots.items;
-        outputs = map (λ o. o.bytes) parts.now.outputs.items;
+      ended = ended;
+      states = map (λ s. s.state) parts.now.slots.items;
+      outputs = map (λ o. o.bytes) parts.now.outputs.items;
     })) }
 {
     let mut key = Vec::new(alloc);
-    key.push(ended as u64)?;
-    key.push(parts.slots.len() as u64)?;
-    put_states(&mut key, &parts.slots)?;
+    let slots = parts.slots.as_slice();
+    key.push(bit_of(ended))?;
+    key.push(slots.len() as u64)?;
+    put_states(&mut key, slots)?;
     put_bytes(&mut key, &parts.outputs)?;
     Ok(key)
 }
@@ -76,7 +80,8 @@ pub(crate) fn count_end(
     at: u32,
 ) -> Result<(), AllocError>
     requires room { AllByRecursion (λ end. end.1.count < 2 ^ 63) ends.old.entries }
-    ensures entries { OnOk result (ends.new.entries ≡ insert_entry (λ a b. pointwise nat_eq a.items b.items) ends.old.entries key
+    ensures entries { OnOk result (ends.new.entries
+        ≡ insert_entry (λ a b. pointwise nat_eq a.items b.items) ends.old.entries key
         (tally_after at (get (λ a b. pointwise nat_eq a.items b.items) ends.old key))) }
     ensures unique { OnOk result (IsUnique (λ a b. pointwise nat_eq a.items b.items) ends.new) }
 {

@@ -38,11 +38,11 @@ impl Model for OutcomeFound {
     ghost Value = { OutcomeValue };
 
     ghost view = { λ o. record {
-        count = o.count;
-        ended = o.ended;
-        states = o.states.items;
-        outputs = o.outputs.items;
-        by = o.by.items;
+      count = o.count;
+      ended = o.ended;
+      states = o.states.items;
+      outputs = o.outputs.items;
+      by = o.by.items;
     } };
 }
 
@@ -63,10 +63,10 @@ impl Model for Explored {
     ghost Value = { Results };
 
     ghost view = { λ e. record {
-        count = e.count;
-        all = e.all;
-        groups = e.groups.items;
-        faults = e.faults.items;
-        outcomes = e.outcomes.items;
+      count = e.count;
+      all = e.all;
+      groups = e.groups.items;
+      faults = e.faults.items;
+      outcomes = e.outcomes.items;
     } };
 }

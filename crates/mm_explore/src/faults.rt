@@ -80,7 +80,7 @@ pub(crate) fn put_faults(
     requires { (cause : ℕ) → IfSome (get order faults.now (slot, cause)) (λ o. o.from < length found.now.list) }
     ensures { OnOk result (flat_map fault_lines out.new.items ≡ flat_map fault_lines out.old.items
         ++ flat_map (λ cause. fault_found found.now.list slot cause (get order faults.now (slot, cause)))
-            (range_with_len 1 13)) }
+        (range_with_len 1 13)) }
 {
     for cause in 1..FAULTS_END {
         put_fault(alloc, out, faults, slot, cause, found)?;

@@ -1,6 +1,7 @@
 //! What is met on the turns that a search goes through.
 
-ghost use Rattle.std.specs.Prelude.{◌≡◌, ℕ, ◌<◌, ◌^◌, ◌∷◌, [], ◌++◌, List, IfOk, IfSome, OnOk, true, false, length, slice_get, Some};
+ghost use Rattle.std.specs.Prelude.{◌≡◌, ℕ, ◌<◌, ◌^◌, ◌∷◌, [], ◌++◌, List, true, false};
+ghost use Rattle.std.specs.Prelude.{IfOk, IfSome, OnOk, length, slice_get, Some};
 ghost use Rattle.std.specs.BTreeMap.{get};
 ghost use Rattle.std.specs.List.{flat_map, range_with_len};
 ghost use Rattle.mm_model.specs.Image.{Image as ImageValue, start};
@@ -50,8 +51,8 @@ fn list_faults(
 ) -> Result<(), AllocError>
     requires { (key : ℕ × ℕ) → IfSome (get order faults.now key) (λ o. o.from < length found.now.list) }
     ensures { OnOk result (flat_map fault_lines out.new.items ≡ flat_map fault_lines out.old.items
-        ++ flat_map (λ s. flat_map (λ cause. fault_found found.now.list s.number cause (get order faults.now (s.number, cause)))
-            (range_with_len 1 13)) slots.now) }
+        ++ flat_map (λ s. flat_map (λ cause. fault_found found.now.list s.number cause
+        (get order faults.now (s.number, cause))) (range_with_len 1 13)) slots.now) }
 {
     for slot in slots {
         put_faults(alloc, out, faults, slot.number, found)?;

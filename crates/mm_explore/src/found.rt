@@ -1,6 +1,7 @@
 //! The configurations that were found, in the order in which they were found.
 
-ghost use Rattle.std.specs.Prelude.{◌≡◌, ◌<◌, ◌≤◌, ◌^◌, ◌∷◌, ◌++◌, [], true, false, IfOk, OnOk, OnErr, Contains, length, map, slice_get};
+ghost use Rattle.std.specs.Prelude.{◌≡◌, ◌<◌, ◌≤◌, ◌^◌, ◌∷◌, ◌++◌, [], true, false, IfOk, OnOk, OnErr};
+ghost use Rattle.std.specs.Prelude.{Contains, length, map, slice_get};
 ghost use Rattle.mm_explore.specs.FoundLists.{Looks, schedule_with};
 
 use indexmap::IndexSet;
@@ -63,7 +64,8 @@ fn has(kept: &IndexSet<Vec<u64>>, numbers: &[u64]) -> bool
 /// Adds numbers that are not kept yet.
 fn add(alloc: Global, kept: &mut IndexSet<Vec<u64>>, numbers: &[u64]) -> Result<(), AllocError>
     requires { Contains (map (λ v. v.items) kept.old.keys) numbers.now → ⊥ }
-    ensures forms { OnOk result (map (λ v. v.items) kept.new.keys ≡ map (λ v. v.items) kept.old.keys ++ numbers.now ∷ []) }
+    ensures forms { OnOk result (map (λ v. v.items) kept.new.keys
+        ≡ map (λ v. v.items) kept.old.keys ++ numbers.now ∷ []) }
     ensures err { OnErr result (kept.new.keys ≡ kept.old.keys) }
 {
     let numbers = Vec::from_slice(alloc, numbers)?;

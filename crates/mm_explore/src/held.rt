@@ -9,7 +9,8 @@ ghost use Rattle.mm_model.specs.Spelling.{IsImage};
 ghost use Rattle.mm_machine.specs.Snapshot.{page_numbers as numbers_of_pages};
 ghost use Rattle.mm_explore.specs.Assembled.{base_page as base_page_of, base_memory};
 ghost use Rattle.mm_explore.specs.Kept.{listed};
-ghost use Rattle.mm_explore.specs.Holds.{IsMemoryOf, AreListed, AreNumbers, DifferIfGiven, IsHolding, IsMoved, numbers_in};
+ghost use Rattle.mm_explore.specs.Holds.{IsMemoryOf, AreListed, AreNumbers, DifferIfGiven, IsHolding};
+ghost use Rattle.mm_explore.specs.Holds.{IsMoved, numbers_in};
 
 use crate::changed::{base_cell, changed_cell, note, put_changed};
 use crate::memory_put::{put_listed, put_over};
@@ -134,7 +135,8 @@ fn reset(
     pages: &Option<Vec<u64>>,
 ) -> Result<(), AllocError>
     requires frames { mem.old.memory.frames ≡ img.now.memory.frames }
-    requires some { (m : MemoryValue) × IsMemoryOf img.now m × AreNumbers img.now m (option_map (λ p. p.items) pages.now) }
+    requires some { (m : MemoryValue) × IsMemoryOf img.now m
+        × AreNumbers img.now m (option_map (λ p. p.items) pages.now) }
     ensures memory { OnOk result (mem.new.memory ≡ base_memory img.now (listed (numbers_of_pages img.now.memory.pages)
         (option_map (λ p. p.items) pages.now))) }
     ensures uses { OnOk result (mem.new.uses ≡ 0) }

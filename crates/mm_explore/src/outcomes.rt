@@ -92,7 +92,7 @@ pub(crate) fn put_outcomes(
     ensures { OnOk result ((finals ts : List (List ℕ))
         → AllZip (λ t end. IsEnd img.now found.now.list finals t end.0.items end.1) ts ends.now.entries
         → flat_map outcome_lines out.new.items ≡ flat_map outcome_lines out.old.items
-            ++ flat_map (lines_of_outcome img.now finals) ts) }
+        ++ flat_map (lines_of_outcome img.now finals) ts) }
 {
     for (key, tally) in ends.iter() {
         let outcome = outcome(alloc, img, groups, found, key, *tally)?;

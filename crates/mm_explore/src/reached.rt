@@ -1,11 +1,13 @@
 //! The words that groups touched and wrote.
 
-ghost use Rattle.std.specs.Prelude.{◌≡◌, ℕ, ◌+◌, ◌≤◌, ◌^◌, ◌++◌, ◌∷◌, [], List, Contains, IfOk, OnOk, IfSome, if◌then◌else◌, Some};
+ghost use Rattle.std.specs.Prelude.{◌≡◌, ℕ, ◌+◌, ◌≤◌, ◌^◌, ◌++◌, ◌∷◌, [], List, Contains};
+ghost use Rattle.std.specs.Prelude.{IfOk, OnOk, IfSome, Some};
 ghost use Rattle.std.specs.List.{AllByRecursion, AllZip, flat_map};
 ghost use Rattle.std.specs.Option.{option_to_list};
 ghost use Rattle.mm_explore.specs.Findings.{AreSpans, any_kind, writes, word_in};
 ghost use Rattle.mm_explore.specs.Results.{GroupFound as GroupValue};
-ghost use Rattle.mm_explore.specs.Words.{AreKept, IsGroupFound, IsWordKey, passed_words, step_words, words_in, spans_after};
+ghost use Rattle.mm_explore.specs.Words.{AreKept, IsGroupFound, IsWordKey};
+ghost use Rattle.mm_explore.specs.Words.{passed_words, step_words, words_in, spans_after};
 
 use mm_model::Step;
 use mm_word::{Access, Kind};
@@ -190,7 +192,10 @@ impl Model for GroupFound {
 
     ghost Value = { GroupValue };
 
-    ghost view = { λ g. record { group = g.group; reached = record { touched = g.touched.items; wrote = g.wrote.items } } };
+    ghost view = { λ g. record {
+      group = g.group;
+      reached = record { touched = g.touched.items; wrote = g.wrote.items };
+    } };
 }
 
 /// What a group touched and wrote.

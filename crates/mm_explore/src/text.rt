@@ -6,8 +6,10 @@ ghost use Rattle.mm_io.specs.Sinks.{Writes};
 ghost use Rattle.mm_text.specs.Gathers.{Gathers};
 ghost use Rattle.mm_model.specs.Report.{group_line};
 ghost use Rattle.mm_explore.specs.Repeats.{leading as leading_of};
-ghost use Rattle.mm_explore.specs.Results.{explored_text, group_lines, fault_lines, state_line, output_text, outcome_lines};
-ghost use Rattle.mm_explore.specs.Texts.{by_line, end_text, extent_text, repeats_of, repeat_text, count_text, word_line};
+ghost use Rattle.mm_explore.specs.Results.{explored_text, group_lines, fault_lines, outcome_lines};
+ghost use Rattle.mm_explore.specs.Results.{state_line, output_text};
+ghost use Rattle.mm_explore.specs.Texts.{by_line, end_text, extent_text, word_line};
+ghost use Rattle.mm_explore.specs.Texts.{repeats_of, repeat_text, count_text};
 
 use crate::explored::{Explored, FaultFound, OutcomeFound};
 use crate::reached::{GroupFound, Span};
@@ -252,7 +254,8 @@ fn put_repeats<O: Sink>(text: &mut Gather, out: &mut O, items: &[u8])
 
 /// Appends an item, and how many times it comes if it comes more than once.
 fn put_repeat<O: Sink>(text: &mut Gather, out: &mut O, item: u8, count: u64)
-    ensures { Gathers O.taken O.faults out.old out.new text.old text.new (repeat_text (record { item = item; count = count })) }
+    ensures { Gathers O.taken O.faults out.old out.new text.old text.new
+        (repeat_text (record { item = item; count = count })) }
 {
     text.put(out, &[Piece::Text(" "), Piece::Decimal(item as u64)]);
     put_count(text, out, count);

@@ -1,4 +1,4 @@
-use Rattle.std.proofs.Common.{ℕ, List, rules, ◌∙◌, ap}
+use Rattle.std.proofs.Common.{ℕ, rules, ◌∙◌, ap}
 use Rattle.std.proofs.lemmas.List.Sorted.{answers_always}
 use Rattle.mm_word.specs.declared.word.Cell.{Cell}
 use Rattle.mm_explore.specs.Edits.{with_entry}

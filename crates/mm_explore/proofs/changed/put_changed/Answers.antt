@@ -1,4 +1,4 @@
-use Rattle.std.proofs.Common.{ℕ, List, ◌≡◌, ◌++◌, ◌*◌, ◌∙◌, ap, take, append_assoc}
+use Rattle.std.proofs.Common.{ℕ, List, ◌++◌, ◌*◌, ◌∙◌, ap, take, append_assoc}
 use Rattle.std.specs.List.{flat_map}
 use Rattle.mm_word.specs.declared.word.Cell.{Cell}
 use Rattle.mm_model.specs.Memory.{page_at}

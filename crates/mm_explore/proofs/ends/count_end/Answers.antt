@@ -1,7 +1,5 @@
-use Rattle.std.proofs.Common.{◌≡◌, Some, sym, ◌∙◌, nat_eq, arith, rules, Option, ap}
-use Rattle.std.specs.Map.{lookup}
+use Rattle.std.proofs.Common.{sym, nat_eq, arith}
 use lib.Pointwise.{pointwise}
-use Rattle.std.specs.Option.{option_copied}
 use Rattle.mm_explore.proofs.Tallies.{found_small}
 use Rattle.mm_explore.proofs.ends.count_end.Goals as goal
 

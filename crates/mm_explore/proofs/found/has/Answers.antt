@@ -1,4 +1,4 @@
-use Rattle.std.proofs.Common.{◌≡◌, ◌∙◌, sym, true, false}
+use Rattle.std.proofs.Common.{◌∙◌, sym}
 use Rattle.mm_explore.proofs.FoundForms.{has_yes, has_no}
 use Rattle.mm_explore.proofs.found.has.Goals as goal
 

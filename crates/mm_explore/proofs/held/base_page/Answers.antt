@@ -1,4 +1,4 @@
-use Rattle.std.proofs.Common.{ℕ, ◌≡◌, ◌++◌, ◌∙◌, ◌*◌, ◌+◌, [], ◌∷◌, List, Option, Some, sym, ap, subst, take, length, arith}
+use Rattle.std.proofs.Common.{ℕ, ◌≡◌, ◌++◌, ◌∙◌, [], ◌∷◌, List, Option, ap, subst, take, length, arith}
 use Rattle.std.specs.Prelude.{IfSome}
 use Rattle.mm_word.specs.declared.word.Cell.{Cell}
 use Rattle.mm_model.specs.Memory.{page_at}

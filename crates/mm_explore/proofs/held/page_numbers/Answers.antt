@@ -1,4 +1,4 @@
-use Rattle.std.proofs.Common.{ℕ, List, ◌≡◌, ◌++◌, ◌∙◌, [], ◌∷◌, sym, ap}
+use Rattle.std.proofs.Common.{ℕ, List, ◌++◌, ◌∙◌, [], ◌∷◌, sym, ap}
 use Rattle.mm_machine.specs.Snapshot.{page_numbers}
 use Rattle.mm_explore.proofs.Putting.{take_got}
 use Rattle.mm_explore.proofs.held.page_numbers.Goals as goal

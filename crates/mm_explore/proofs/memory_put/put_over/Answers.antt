@@ -1,4 +1,4 @@
-use Rattle.std.proofs.Common.{ℕ, List, ◌≡◌, ◌-◌, ◌∙◌, sym, ap, refl, map, take, drop, length, subst}
+use Rattle.std.proofs.Common.{ℕ, List, ◌-◌, ◌∙◌, sym, ap, refl, map, take, drop, length, subst}
 use Rattle.mm_word.specs.declared.word.Cell.{Cell}
 use Rattle.mm_model.specs.Memory.{Memory, IsPaged}
 use Rattle.mm_explore.specs.Assembled.{put_cells}

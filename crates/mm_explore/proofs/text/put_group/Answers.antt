@@ -1,9 +1,8 @@
-use Rattle.std.proofs.Common.{◌++◌, ◌∙◌, List, codes, decimal, ap}
+use Rattle.std.proofs.Common.{◌++◌, ◌∙◌, codes, decimal, ap}
 use Rattle.std.specs.List.{flat_map}
 use Rattle.mm_model.specs.Lines.{newline}
 use Rattle.mm_text.proofs.Gathering.{gathers_then, gathers_same}
-use Rattle.mm_explore.specs.Findings.{Span}
-use Rattle.mm_explore.specs.Results.{GroupFound, group_lines}
+use Rattle.mm_explore.specs.Results.{GroupFound}
 use Rattle.mm_explore.specs.Texts.{reached_lines, word_line}
 use Rattle.mm_explore.proofs.text.put_group.Goals as goal
 

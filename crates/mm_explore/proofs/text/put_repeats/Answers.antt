@@ -1,4 +1,4 @@
-use Rattle.std.proofs.Common.{◌≡◌, ◌+◌, ◌≤◌, ◌++◌, ◌∙◌, [], refl, sym, ap, append_assoc, append-nil, drop, length, arith, get_or, length-drop}
+use Rattle.std.proofs.Common.{◌≡◌, ◌+◌, ◌++◌, ◌∙◌, refl, sym, ap, append_assoc, append-nil, drop, length, arith, get_or, length-drop}
 use Rattle.std.specs.List.{flat_map}
 use Rattle.std.proofs.lemmas.List.{drop_all}
 use Rattle.mm_text.proofs.Gathering.{gathers_then, gathers_same}

@@ -1,4 +1,3 @@
-use Rattle.std.proofs.Common.{slice_index_or}
 use Rattle.mm_text.proofs.Gathering.{gathers_more}
 use Rattle.mm_model.specs.declared.slot.SlotState.TheVariants.{Running}
 use Rattle.mm_explore.specs.Results.{state_line}

@@ -2,11 +2,10 @@ use Rattle.std.proofs.Common.{ℕ, List, [], ◌≡◌, ◌∙◌, ◌^◌, ◌<
 use Rattle.std.specs.List.{AllByRecursion}
 use Rattle.std.specs.List.Sorted.{IsStrictlyIncreasing}
 use Rattle.mm_model.specs.Fits.{slots_of, IsOfVersion}
-use Rattle.mm_model.specs.Image.{Image, start}
 use Rattle.mm_model.specs.Memory.{Memory}
 use Rattle.mm_model.specs.Slot.{Slot}
 use Rattle.mm_model.specs.Spelling.{numbers_of, IsFresh}
-use Rattle.mm_model.specs.State.{Row, Core}
+use Rattle.mm_model.specs.State.{Core}
 use Rattle.mm_thread.specs.Places.{row_alone}
 use Rattle.mm_explore.specs.Holds.{IsHolding}
 use Rattle.mm_explore.proofs.Standing.{fresh_slots, each_fresh, no_output, start_made, begun, first_memory}

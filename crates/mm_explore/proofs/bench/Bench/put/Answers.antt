@@ -1,16 +1,14 @@
-use Rattle.std.proofs.Common.{ℕ, List, ◌≡◌, ◌∙◌, Option, sym, ap, subst}
+use Rattle.std.proofs.Common.{ℕ, List, ◌≡◌, ◌∙◌, sym, subst}
 use Rattle.std.specs.Option.{option_map}
 use Rattle.mm_word.specs.declared.word.Cell.{Cell}
 use Rattle.mm_model.specs.declared.event.Event.{Event}
-use Rattle.mm_model.specs.Image.{Image, start}
+use Rattle.mm_model.specs.Image.{start}
 use Rattle.mm_model.specs.Run.{run}
 use Rattle.mm_model.specs.Slot.{Slot}
-use Rattle.mm_model.specs.State.{Core, State}
 use Rattle.mm_thread.specs.Output.{Output}
 use Rattle.mm_thread.specs.Parts.{core_of, AreParts}
-use Rattle.mm_explore.specs.Benches.{ArePartsAt}
 use Rattle.mm_explore.specs.Configurations.{uncounted}
-use Rattle.mm_explore.specs.Holds.{AreListed, IsHolding}
+use Rattle.mm_explore.specs.Holds.{AreListed}
 use Rattle.mm_explore.proofs.KeptRuns.{runs_state_of}
 use Rattle.mm_explore.proofs.Putting.{more_ok}
 use Rattle.mm_explore.proofs.Standing.{memory_of, listed_of, parts_given, core_given, core_like, standing_at, turns_few}
@@ -42,8 +40,7 @@ put-requires-clause-parts c =
     let some = c.requires.some in
     let parts = c.requires.parts in
     let s = run (start i) parts.0 in
-    let listed = listed_of i s p.slots.items p.events.items p.outputs.items (option_map (λ v. v.items) p.pages) p.cells.items parts.1 in
-    (
+    let listed = listed_of i s p.slots.items p.events.items p.outputs.items (option_map (λ v. v.items) p.pages) p.cells.items parts.1 in (
       s.memory,
       memory_of i s some.1.image (runs_state_of i parts.0 some.1.image),
       subst (λ (l : List (ℕ × Cell)). AreListed i s.memory l (option_map (λ v. v.items) p.pages)) (sym c.as_slice-4.ensures.value) listed,

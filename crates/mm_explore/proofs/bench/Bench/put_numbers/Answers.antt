@@ -1,5 +1,4 @@
 use Rattle.std.proofs.Common.{ℕ, List, ◌≡◌, ◌∙◌, ◌++◌, ◌%◌, ◌^◌, ◌<◌, sym, ap, subst}
-use Rattle.std.specs.List.{AllByRecursion}
 use Rattle.mm_word.specs.declared.word.Cell.{Cell}
 use Rattle.mm_model.specs.Image.{start}
 use Rattle.mm_model.specs.Memory.{Memory}

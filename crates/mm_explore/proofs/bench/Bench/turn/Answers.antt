@@ -1,11 +1,9 @@
 use Rattle.std.proofs.Common.{ℕ, List, [], ◌∷◌, ◌++◌, ◌≡◌, ◌∙◌, sym, ap, subst, arith}
-use Rattle.mm_model.specs.declared.step.Step.{Step}
-use Rattle.mm_model.specs.Image.{Image, start}
+use Rattle.mm_model.specs.Image.{start}
 use Rattle.mm_model.specs.Memory.{Memory}
 use Rattle.mm_model.specs.Run.{run}
-use Rattle.mm_model.specs.State.{Core, slot_at}
+use Rattle.mm_model.specs.State.{slot_at}
 use Rattle.mm_model.specs.Trace.{group_of}
-use Rattle.mm_model.specs.Turn.{turn}
 use Rattle.mm_explore.specs.Configurations.{configuration}
 use Rattle.mm_explore.specs.Holds.{IsMemoryOf, AreListed, numbers_in}
 use Rattle.mm_explore.proofs.KeptRuns.{runs_state_of}
@@ -19,8 +17,7 @@ note-requires-clause-old c =
     let b = c.args.self.now in
     let some = c.requires.some in
     let m : Memory = b.held.mem.memory in
-    let h : IsMemoryOf i m = subst (IsMemoryOf i) (sym some.1.held.memory) (memory_of i (run (start i) some.0) some.1.image (runs_state_of i some.0 some.1.image)) in
-    (
+    let h : IsMemoryOf i m = subst (IsMemoryOf i) (sym some.1.held.memory) (memory_of i (run (start i) some.0) some.1.image (runs_state_of i some.0 some.1.image)) in (
       m,
       h,
       moved_by b.core m c.turn-step.new.mem.memory c.args.item c.turn-step.result c.written.result h.paged c.turn-step.ensures.memory c.turn-step.ensures.step c.written.ensures.word c.written.ensures.place,

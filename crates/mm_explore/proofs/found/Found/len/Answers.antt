@@ -1,4 +1,4 @@
-use Rattle.std.proofs.Common.{◌≡◌, ℕ, ◌+◌, List, [], ◌∷◌, length, sym, ap, ◌∙◌, arith}
+use Rattle.std.proofs.Common.{[], ◌∷◌, length, ap, arith}
 use Rattle.mm_explore.specs.FoundLists.{FoundList}
 use Rattle.mm_explore.proofs.FoundForms.{length_spelled}
 use Rattle.mm_explore.proofs.found.Found.len.Goals as goal

@@ -1,4 +1,4 @@
-use Rattle.std.proofs.Common.{◌≡◌, ℕ, ◌+◌, ◌<◌, length, refl, sym, arith, ap, ◌∙◌}
+use Rattle.std.proofs.Common.{◌<◌, length, refl, arith}
 use Rattle.mm_explore.proofs.FoundForms.{none_there, list_long, limit_is, seen_more, holds_more}
 use Rattle.mm_explore.proofs.found.Found.look.Goals as goal
 

@@ -1,5 +1,4 @@
-use Rattle.std.proofs.Common.{◌≡◌, ℕ, ◌+◌, ◌-◌, ◌<◌, length, refl, sym, arith, ap, ◌∙◌, subst}
-use Rattle.mm_explore.specs.FoundLists.{FoundList}
+use Rattle.std.proofs.Common.{refl, sym, arith, ◌∙◌}
 use Rattle.mm_explore.proofs.FoundForms.{list_is, list_long, one_read, all_read}
 use Rattle.mm_explore.proofs.found.Found.schedule.Goals as goal
 

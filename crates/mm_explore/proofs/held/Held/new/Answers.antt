@@ -1,4 +1,4 @@
-use Rattle.std.proofs.Common.{◌≡◌, ◌∙◌, refl, sym, arith}
+use Rattle.std.proofs.Common.{◌∙◌, refl, sym, arith}
 use Rattle.mm_model.specs.Memory.{Memory}
 use Rattle.mm_explore.proofs.CellLists.{no_changes}
 use Rattle.mm_explore.proofs.held.Held.new.Goals as goal

@@ -1,4 +1,4 @@
-use Rattle.std.proofs.Common.{ℕ, ◌≡◌, ◌∙◌, refl, sym, ap, subst, Option}
+use Rattle.std.proofs.Common.{◌∙◌, sym, ap, subst, Option}
 use Rattle.mm_word.specs.declared.word.Cell.{Cell}
 use Rattle.mm_explore.specs.Edits.{noted}
 use Rattle.mm_explore.specs.Holds.{IsMoved, numbers_in}

@@ -1,4 +1,4 @@
-use Rattle.std.proofs.Common.{◌≡◌, ◌∙◌, sym, subst}
+use Rattle.std.proofs.Common.{sym, subst}
 use Rattle.mm_model.specs.Memory.{IsPaged}
 use Rattle.mm_explore.proofs.CellLists.{listed_at_words}
 use Rattle.mm_explore.proofs.Resets.{made_anew, base_is_paged}

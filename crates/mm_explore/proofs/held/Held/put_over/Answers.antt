@@ -1,4 +1,4 @@
-use Rattle.std.proofs.Common.{◌≡◌, ◌∙◌, sym, subst}
+use Rattle.std.proofs.Common.{◌∙◌}
 use Rattle.mm_explore.proofs.CellLists.{listed_at_words}
 use Rattle.mm_explore.proofs.held.Held.put_over.Goals as goal
 

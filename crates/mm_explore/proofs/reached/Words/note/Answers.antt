@@ -1,4 +1,4 @@
-use Rattle.std.proofs.Common.{◌++◌, ◌∷◌, [], true, false, sym, ◌∙◌, subst}
+use Rattle.std.proofs.Common.{◌++◌, true, false, sym, ◌∙◌, subst}
 use Rattle.mm_explore.specs.Words.{AreKept}
 use Rattle.mm_explore.proofs.WordKeys.{passed_all, passed_if, none_kept}
 use Rattle.mm_explore.proofs.reached.Words.note.Goals as goal

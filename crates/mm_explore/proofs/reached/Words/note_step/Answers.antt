@@ -1,4 +1,4 @@
-use Rattle.std.proofs.Common.{List, ℕ, ◌++◌, subst}
+use Rattle.std.proofs.Common.{◌++◌, subst}
 use Rattle.std.specs.List.{flat_map}
 use Rattle.std.specs.Option.{option_to_list}
 use Rattle.mm_explore.specs.Findings.{any_kind, writes}
@@ -13,7 +13,7 @@ returns-clause-touched c =
     let step = c.args.step.now in
     more_ok c.note-2.result
     (λ more kept h. subst (λ l. AreKept l c.note-2.new.self.touched.keys) (step_joined any_kind group kept step)
-        (more (kept ++ flat_map (passed_words any_kind group) (option_to_list step.fetched)) (c.in_ok-note.ensures.touched kept h)))
+    (more (kept ++ flat_map (passed_words any_kind group) (option_to_list step.fetched)) (c.in_ok-note.ensures.touched kept h)))
     c.note-2.ensures.touched
 
 pub returns-clause-wrote : goal.returns-clause-wrote
@@ -22,5 +22,5 @@ returns-clause-wrote c =
     let step = c.args.step.now in
     more_ok c.note-2.result
     (λ more kept h. subst (λ l. AreKept l c.note-2.new.self.wrote.keys) (step_joined writes group kept step)
-        (more (kept ++ flat_map (passed_words writes group) (option_to_list step.fetched)) (c.in_ok-note.ensures.wrote kept h)))
+    (more (kept ++ flat_map (passed_words writes group) (option_to_list step.fetched)) (c.in_ok-note.ensures.wrote kept h)))
     c.note-2.ensures.wrote

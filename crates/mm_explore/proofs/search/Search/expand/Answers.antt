@@ -1,11 +1,24 @@
-use Rattle.std.proofs.Common.{◌≡◌, ◌∙◌, ◌+◌, [], ◌∷◌, sym, ap, subst, true, length, ℕ, arith}
+use Rattle.std.proofs.Common.{◌≡◌, ◌∙◌, ◌+◌, [], sym, ap, subst, length, take, ℕ, arith}
 use Rattle.std.specs.Prelude.{◌==◌, Some, slice_get}
 use Rattle.std.specs.Vec.{vec_len}
 use Rattle.mm_explore.specs.Findings.{IsFinal}
 use Rattle.mm_explore.specs.Searching.{IsBefore, node_schedule, turns_before, AllStay}
+use Rattle.mm_explore.proofs.Notings.{ended_skip}
 use Rattle.mm_explore.proofs.Putting.{more_ok}
 use Rattle.mm_explore.proofs.Steps.{get_inside, final_so, none_so, both_ok, all_made}
 use Rattle.mm_explore.proofs.search.Search.expand.Goals as goal
+
+pub returns-then-not-branch-clause-before : goal.returns-then-not-branch-clause-before
+returns-then-not-branch-clause-before c =
+    let i = c.args.img.now in
+    let node = c.in_ok-node.node in
+    let s = c.make_all.new.self in
+    let w = c.in_ok-make_all.ensures.within in
+    let t = node_schedule s node in
+    let stay = subst (λ b. AllStay b i (node_schedule c.args.self.now node) node.moves.items) c.if-not-branch.true c.in_ok-make_all.ensures.stay in
+    let none = subst (λ u. IsFinal i u → ⊥) (sym c.in_ok-make_all.ensures.schedule) stay in
+    subst (IsBefore i s) (ap (λ a. a + 1) c.in_ok-node.ensures.at)
+    (all_made i s node w s.findings w.come.noted (ended_skip i s.found.list (take node.at s.found.list) t s.findings w.come.ended none))
 
 pub returns-clause-before : goal.returns-clause-before
 returns-clause-before c =

@@ -1,8 +1,6 @@
-use Rattle.std.proofs.Common.{◌≡◌, ℕ, ◌+◌, ◌<◌, ◌++◌, ◌∷◌, [], length, refl, sym, ap, ◌∙◌, slice_index_or, arith}
-use Rattle.mm_model.specs.Trace.{group_in}
-use Rattle.mm_explore.specs.declared.bench.Bench.{Bench}
+use Rattle.std.proofs.Common.{[], refl, arith}
 use Rattle.mm_explore.specs.Benches.{IsAt}
-use Rattle.mm_explore.specs.Findings.{Extension, turn_at}
+use Rattle.mm_explore.specs.Findings.{Extension}
 use Rattle.mm_explore.specs.Searching.{node_schedule, turns_before, turns_from}
 use Rattle.mm_explore.proofs.Putting.{more_ok}
 use Rattle.mm_explore.proofs.Steps.{moved_by, stays_by, item_is, list_few, if_more, get_inside}

@@ -1,4 +1,4 @@
-use Rattle.std.proofs.Common.{◌≡◌, ℕ, ◌+◌, ◌<◌, ◌&&◌, ◌++◌, ◌∷◌, [], length, take, refl, sym, ap, ◌∙◌, subst, slice_index_or, arith}
+use Rattle.std.proofs.Common.{◌<◌, ◌&&◌, length, take, sym, ◌∙◌, subst, slice_index_or, arith}
 use Rattle.std.specs.Prelude.{Contains}
 use Rattle.mm_model.specs.Image.{start}
 use Rattle.mm_model.specs.Run.{run}

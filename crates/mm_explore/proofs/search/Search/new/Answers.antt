@@ -1,4 +1,4 @@
-use Rattle.std.proofs.Common.{◌≡◌, ℕ, List, [], refl, sym, ap, ◌∙◌, ◌++◌, arith}
+use Rattle.std.proofs.Common.{◌≡◌, ℕ, List, [], refl, ap, ◌∙◌, ◌++◌}
 use Rattle.mm_model.specs.Image.{start}
 use Rattle.mm_model.specs.Run.{run}
 use Rattle.mm_explore.specs.Kept.{kept}

@@ -1,4 +1,4 @@
-use Rattle.std.proofs.Common.{◌≡◌, ◌∙◌, [], sym, ap, subst, ℕ, ◌<◌, slice_index_or}
+use Rattle.std.proofs.Common.{◌∙◌, [], sym, ap, subst, ◌<◌, slice_index_or}
 use Rattle.std.specs.List.{AllByRecursion}
 use Rattle.mm_model.specs.Slot.{Slot}
 use Rattle.mm_explore.specs.MoveLists.{moves_in}
