@@ -1,5 +1,5 @@
 -- Lines of nodes at or above others, and words that two pointers share.
-use Rattle.std.proofs.Common.{◌≡◌, ℕ, ◌+◌, ◌*◌, ◌/◌, ◌%◌, ◌^◌, ◌<◌, ◌≤◌, ◌⊎◌, inl, inr, Bool, true, List, [], ◌∷◌, ◌++◌, length, slice_index, Option, Some, None, MatchOption, refl, sym, ap, ◌∙◌, subst, arith, pow_pos}
+use Rattle.std.proofs.Common.{◌≡◌, ℕ, ◌+◌, ◌%◌, ◌<◌, ◌≤◌, ◌⊎◌, inl, inr, Bool, true, List, [], ◌∷◌, ◌++◌, length, slice_index, Option, Some, None, MatchOption, refl, sym, ap, ◌∙◌, subst, arith, pow_pos}
 use Rattle.std.proofs.lemmas.Bool.{cases_lt}
 use Rattle.std.proofs.lemmas.List.{get_or_push, get_or_append_left, length_push}
 use Rattle.mm_word.specs.Pointer.{Pointer, InSegment, Covers, base_of}
@@ -11,7 +11,7 @@ use Rattle.mm_flow.specs.Edges.{right_at}
 use Rattle.mm_flow.specs.Sharing.{Up}
 use Rattle.mm_flow.specs.Sharing.Up.{here, over}
 use Rattle.mm_graph.specs.declared.graph.Graph.{Graph}
-use Rattle.mm_graph.proofs.Bounds.{OfWords, of_words, in_covers, loads_test, loads_then, stores_test, stores_then}
+use Rattle.mm_graph.proofs.Bounds.{of_words, in_covers, loads_test, loads_then, stores_test, stores_then}
 use Rattle.mm_why.specs.Searches.{place_at}
 use Rattle.mm_why.specs.Carrying.{PlacedAbove, AreNearest, IsOneOf, IsKept, IsOver, BothAt, IsPair, NoPair, IsWith}
 use Rattle.mm_why.proofs.Pruning.{same_or_before}

@@ -1,16 +1,14 @@
 -- Pointers that come from group to group.
-use Rattle.std.proofs.Common.{◌≡◌, ℕ, ◌+◌, ◌<◌, ◌≤◌, ◌⊎◌, inl, inr, true, List, length, slice_index_or, Option, Some, None, MatchOption, refl, sym, ap, ◌∙◌, subst, arith}
+use Rattle.std.proofs.Common.{◌≡◌, ℕ, ◌+◌, ◌<◌, ◌⊎◌, inl, inr, true, List, length, slice_index_or, Option, Some, None, MatchOption, refl, sym, ap, ◌∙◌, subst, arith}
 use Rattle.std.proofs.lemmas.List.{get_or_default}
 use Rattle.mm_word.specs.declared.perm.Perm.TheVariants.{Xp}
 use Rattle.mm_word.specs.Perm.{can_become}
 use Rattle.mm_word.specs.Pointer.{Pointer, IsBelow}
 use Rattle.mm_model.specs.Slot.{Slot}
 use Rattle.mm_model.specs.Image.{Image}
-use Rattle.mm_model.specs.Reach.{LoadsAt, StoresAt}
 use Rattle.mm_flow.specs.declared.node.Right.{Right}
-use Rattle.mm_flow.specs.declared.node.Right.TheVariants.{Load, Store, Make}
+use Rattle.mm_flow.specs.declared.node.Right.TheVariants.{Load, Make}
 use Rattle.mm_flow.specs.Edges.{right_at}
-use Rattle.mm_flow.specs.Sharing.{Up}
 use Rattle.mm_graph.specs.declared.graph.Graph.{Graph}
 use Rattle.mm_graph.specs.Key.{key_at}
 use Rattle.mm_graph.specs.Marked.{node_pointer}
@@ -24,9 +22,9 @@ use Rattle.mm_why.specs.declared.line.Line.{Line}
 use Rattle.mm_why.specs.declared.line.Rule.TheVariants as rules
 use Rattle.mm_why.specs.declared.work.Work.{Work}
 use Rattle.mm_why.specs.Derivations.{line_at, Says, Follows}
-use Rattle.mm_why.specs.Searches.{place_at, IsPlaced, AtNode}
+use Rattle.mm_why.specs.Searches.{AtNode}
 use Rattle.mm_why.specs.Graphs.{IsGraph, edges_of}
-use Rattle.mm_why.specs.Carrying.{PlacedAbove, IsPair, NoPair, IsWith}
+use Rattle.mm_why.specs.Carrying.{IsPair, NoPair, IsWith}
 use Rattle.mm_why.specs.Works.{IsSearched, GoesOn, ReachesRight, HasRightAt, whole_pointer}
 use Rattle.mm_why.specs.Giving.{MeetsAt, Meets, AreCarriers, CarryBetween, JoinedBy, JoinedAt}
 use Rattle.mm_why.specs.Giving.Meets.{by_words, by_maker}
@@ -34,7 +32,7 @@ use Rattle.mm_why.proofs.Pruning.{same_or_before}
 use Rattle.mm_why.proofs.GraphFacts.{nodes_len}
 
 module _ (i : Image) (g : Graph) (h : IsGraph i g) where
-  is_graph : IsGraphOf i All (node_pointer g.keys.items) (edges_of g) (record { nodes = g.nodes.items; parents = g.parents.items; links = g.links }) g.start.items
+  pub is_graph : IsGraphOf i All (node_pointer g.keys.items) (edges_of g) (record { nodes = g.nodes.items; parents = g.parents.items; links = g.links }) g.start.items
   is_graph =
       let b = h.built in
       graph i All h.image g.keys.items g.nodes.items g.targets.items g.parents.items g.links g.start.items b.has_nodes.masks b.is_keys b.has_nodes.is_nodes b.is_targets b.has_forest b.is_links
@@ -43,7 +41,7 @@ module _ (i : Image) (g : Graph) (h : IsGraph i g) where
   started : (k : ℕ) → k < length g.keys.items → k < length g.start.items
   started k lt = let l = h.built.is_start.len in omega (arith, l, lt)
 
-  below_node : (a : ℕ) (p : Pointer) → AtNode g.keys.items a p → IsBelow (node_pointer g.keys.items a) p
+  pub below_node : (a : ℕ) (p : Pointer) → AtNode g.keys.items a p → IsBelow (node_pointer g.keys.items a) p
   below_node a p at = stands_below p (key_at g.keys.items a) at.fits (stands_from p (key_at g.keys.items a) at.stands)
 
   -- a node's pointer of privileged code is that of the line

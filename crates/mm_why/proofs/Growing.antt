@@ -1,5 +1,5 @@
 -- A list of lines that follow grows by lines that follow.
-use Rattle.std.proofs.Common.{◌≡◌, ℕ, ◌+◌, ◌<◌, ◌≤◌, ◌⊎◌, inl, inr, List, [], ◌∷◌, ◌++◌, length, refl, sym, ap, ◌∙◌, subst, arith}
+use Rattle.std.proofs.Common.{◌≡◌, ℕ, ◌<◌, ◌≤◌, ◌⊎◌, inl, inr, List, [], ◌∷◌, ◌++◌, length, refl, sym, ap, ◌∙◌, subst, arith}
 use Rattle.std.proofs.lemmas.List.{get_or_push, get_or_append_left, length_push}
 use Rattle.mm_word.specs.Pointer.{Pointer}
 use Rattle.mm_model.specs.Image.{Image}
@@ -8,7 +8,7 @@ use Rattle.mm_why.specs.declared.line.Rule.{Rule}
 use Rattle.mm_why.specs.declared.line.Rule.TheVariants as rules
 use Rattle.mm_why.specs.Derivations.{line_at, no_line, Names, Says, Follows, LineFollows, EachFollows, NoneTwice}
 use Rattle.mm_why.specs.Pruning.{NameEarlier}
-use Rattle.mm_why.specs.Traces.{IsTrace, Extends, IsFresh, Adds}
+use Rattle.mm_why.specs.Traces.{Extends, IsFresh, Adds}
 use Rattle.mm_why.proofs.Pruning.{same_or_before}
 
 -- what follows names earlier lines only

@@ -13,4 +13,5 @@ pub mod Giving
 pub mod Handing
 pub mod Coming
 pub mod Owning
+pub mod Deciding
 pub mod Texts

@@ -1,8 +1,7 @@
 -- The search of a group goes on.
-use Rattle.std.proofs.Common.{◌≡◌, ◌≢◌, ℕ, zero, suc, ◌+◌, ◌-◌, ◌<◌, ◌≤◌, ◌⊎◌, inl, inr, List, [], ◌∷◌, ◌++◌, length, slice_index, slice_index_or, slice_set, Option, Some, None, refl, sym, ap, ◌∙◌, subst, arith}
-use Rattle.std.specs.List.{Contains}
+use Rattle.std.proofs.Common.{◌≡◌, ◌≢◌, ℕ, zero, suc, ◌+◌, ◌<◌, ◌≤◌, ◌⊎◌, inl, inr, List, [], ◌∷◌, ◌++◌, length, slice_index, slice_index_or, slice_set, Option, Some, None, refl, sym, ap, ◌∙◌, subst, arith}
 use Rattle.std.proofs.lemmas.Bool.{cases_lt}
-use Rattle.std.proofs.lemmas.List.{get_or_default, get_or_past, get_or-set_same, get_or-set_other, get_or_push, get_or_append_left, length_push, length-set}
+use Rattle.std.proofs.lemmas.List.{get_or_default, get_or-set_same, get_or-set_other, get_or_push, get_or_append_left, length_push, length-set}
 use Rattle.mm_word.specs.declared.word.Word.{Word}
 use Rattle.mm_word.specs.declared.word.Word.TheVariants.{Int, Ptr}
 use Rattle.mm_word.specs.Pointer.{Pointer, IsWellFormed}
@@ -16,7 +15,7 @@ use Rattle.mm_graph.proofs.Rising.{same_place}
 use Rattle.mm_why.specs.declared.line.Line.{Line}
 use Rattle.mm_why.specs.declared.line.Rule.TheVariants as rules
 use Rattle.mm_why.specs.Derivations.{line_at, LineFollows}
-use Rattle.mm_why.specs.Traces.{Extends, IsFresh, Adds}
+use Rattle.mm_why.specs.Traces.{IsFresh, Adds}
 use Rattle.mm_why.specs.Searches.{Stage, place_at, IsPlaced, room, AtNode, Searching, Further, Advances, HeldBy, WordPlaced, IsSlotOf, HasWords, RegistersPlaced, SlotPlaced, IsClosed, Expanding}
 use Rattle.mm_why.proofs.Growing.{adds, extends_trans, extends_same}
 use Rattle.mm_why.proofs.Pruning.{same_or_before}

@@ -1,17 +1,16 @@
 -- The work goes on.
-use Rattle.std.proofs.Common.{◌≡◌, ◌≢◌, ℕ, ◌+◌, ◌<◌, ◌≤◌, ◌⊎◌, inl, inr, List, [], ◌∷◌, ◌++◌, length, slice_index, slice_set, Option, Some, None, refl, sym, ap, ◌∙◌, subst, arith}
+use Rattle.std.proofs.Common.{◌≡◌, ◌≢◌, ℕ, ◌<◌, ◌≤◌, ◌⊎◌, inl, inr, List, [], length, slice_set, Option, Some, None, sym, ap, ◌∙◌, subst, arith}
 use Rattle.std.proofs.lemmas.Bool.{cases_lt}
-use Rattle.std.proofs.lemmas.List.{get_or-set_same, get_or-set_other, get_or_push, get_or_append_left, get_or_past, length_push, length-set}
+use Rattle.std.proofs.lemmas.List.{get_or-set_same, get_or-set_other, length-set}
 use Rattle.mm_word.specs.Pointer.{Pointer}
 use Rattle.mm_model.specs.Image.{Image}
 use Rattle.mm_graph.specs.declared.graph.Graph.{Graph}
 use Rattle.mm_why.specs.declared.line.Line.{Line}
-use Rattle.mm_why.specs.declared.line.Rule.{Rule}
 use Rattle.mm_why.specs.declared.search.Search.{Search}
 use Rattle.mm_why.specs.declared.work.Work.{Work}
 use Rattle.mm_why.specs.Derivations.{line_at, Says, Follows}
 use Rattle.mm_why.specs.Traces.{IsTrace, Extends, Adds}
-use Rattle.mm_why.specs.Searches.{place_at, AtNode}
+use Rattle.mm_why.specs.Searches.{AtNode}
 use Rattle.mm_why.specs.Graphs.{HasNoLine, IsSearch}
 use Rattle.mm_why.specs.Works.{search_at, IsKnown, IsSearched, IsWork, GoesOn}
 use Rattle.mm_why.proofs.Growing.{extends_same, extends_trans}

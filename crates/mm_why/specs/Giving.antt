@@ -11,11 +11,10 @@ use Rattle.mm_graph.specs.declared.graph.Graph.{Graph}
 use Rattle.mm_graph.specs.GraphOf.{CommonWord}
 use Rattle.mm_why.specs.declared.line.Line.{Line}
 use Rattle.mm_why.specs.declared.rounds.Rounds.{Rounds}
-use Rattle.mm_why.specs.declared.work.Work.{Work}
 use Rattle.mm_why.specs.Derivations.{line_at, Says}
 use Rattle.mm_why.specs.Rounds.{AreRounds}
 use Rattle.mm_why.specs.Graphs.{IsGraph, edges_of}
-use Rattle.mm_why.specs.Works.{ReachesRight, GoesOn}
+use Rattle.mm_why.specs.Works.{ReachesRight}
 
 -- at a node below two that the groups reach the first group can store where the second can load
 pub record MeetsAt (g : Graph) (h t : ℕ) : Type 0 where

@@ -10,3 +10,4 @@ pub mod Carrying
 pub mod Giving
 pub mod Owning
 pub mod Text
+pub mod Answers

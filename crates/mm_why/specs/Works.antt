@@ -1,5 +1,5 @@
 -- The lines so far, and which groups were searched.
-use Rattle.std.specs.Prelude.{◌≡◌, ℕ, ◌+◌, ◌<◌, ◌≤◌, true, List, length, slice_index_or, Option, Some, None}
+use Rattle.std.specs.Prelude.{◌≡◌, ℕ, ◌<◌, true, List, length, slice_index_or, Option, Some, None}
 use Rattle.mm_word.specs.declared.perm.Perm.TheVariants.{Rw}
 use Rattle.mm_word.specs.Pointer.{Pointer}
 use Rattle.mm_model.specs.Image.{Image}
@@ -10,7 +10,7 @@ use Rattle.mm_graph.specs.declared.graph.Graph.{Graph}
 use Rattle.mm_why.specs.declared.line.Line.{Line}
 use Rattle.mm_why.specs.declared.search.Search.{Search}
 use Rattle.mm_why.specs.declared.work.Work.{Work}
-use Rattle.mm_why.specs.Derivations.{line_at, Says}
+use Rattle.mm_why.specs.Derivations.{line_at}
 use Rattle.mm_why.specs.Traces.{IsTrace, Extends}
 use Rattle.mm_why.specs.Searches.{place_at, IsPlaced, AtNode}
 use Rattle.mm_why.specs.Graphs.{edges_of}

@@ -1,5 +1,4 @@
-use Rattle.std.proofs.Common.{◌≡◌, ◌≤◌, sym, ap, ◌∙◌, subst, arith}
-use Rattle.mm_word.specs.Pointer.{base_of}
+use Rattle.std.proofs.Common.{sym, subst, arith}
 use Rattle.mm_model.specs.Reach.{LoadsAt, StoresAt}
 use Rattle.mm_why.proofs.Carrying.{common_at_store, common_at_load}
 use Rattle.mm_why.proofs.carriers.common_word.Goals as goal

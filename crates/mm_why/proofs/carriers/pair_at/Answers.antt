@@ -1,4 +1,4 @@
-use Rattle.std.proofs.Common.{◌≡◌, Some, None, sym, ◌∙◌}
+use Rattle.std.proofs.Common.{sym, ◌∙◌}
 use Rattle.mm_why.proofs.Carrying.{pair_skip}
 use Rattle.mm_why.proofs.carriers.pair_at.Goals as goal
 

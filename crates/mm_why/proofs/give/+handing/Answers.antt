@@ -1,4 +1,4 @@
-use Rattle.std.proofs.Common.{◌≡◌, ℕ, ◌+◌, ◌-◌, ◌*◌, ◌<◌, List, length, refl, sym, ap, ◌∙◌, subst, arith}
+use Rattle.std.proofs.Common.{ℕ, ◌-◌, ◌*◌, ◌<◌, List, length, refl, subst, arith}
 use Rattle.mm_flow.specs.Flow.{Has}
 use Rattle.mm_model.specs.Slot.{Slot}
 use Rattle.mm_why.specs.Rounds.{round_at}

@@ -1,4 +1,4 @@
-use Rattle.std.proofs.Common.{ℕ, ◌+◌, ◌*◌}
+use Rattle.std.proofs.Common.{◌+◌, ◌*◌}
 use Rattle.mm_why.proofs.give.+handing.Given as goal
 
 abbrev pub decreases-give : goal.decreases-give

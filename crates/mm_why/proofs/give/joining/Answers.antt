@@ -1,5 +1,5 @@
-use Rattle.std.proofs.Common.{ℕ, ◌≡◌, ◌<◌, ◌+◌, length, sym, subst, arith}
-use Rattle.mm_why.specs.Giving.{JoinedBy, JoinedAt}
+use Rattle.std.proofs.Common.{ℕ, sym, subst, arith}
+use Rattle.mm_why.specs.Giving.{JoinedAt}
 use Rattle.mm_why.proofs.Giving.{joined_more}
 use Rattle.mm_why.proofs.give.joining.Goals as goal
 

@@ -1,4 +1,4 @@
-use Rattle.std.proofs.Common.{sym, ap, subst}
+use Rattle.std.proofs.Common.{sym, subst}
 use Rattle.mm_why.specs.Works.{IsSearched}
 use Rattle.mm_why.proofs.Giving.{with_right, no_right}
 use Rattle.mm_why.proofs.give.own_first.Goals as goal

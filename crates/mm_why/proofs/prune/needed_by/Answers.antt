@@ -1,4 +1,4 @@
-use Rattle.std.proofs.Common.{◌≡◌, ℕ, ◌+◌, ◌-◌, List, Bool, ◌++◌, take, drop, length, sym, subst, arith}
+use Rattle.std.proofs.Common.{◌≡◌, ◌+◌, ◌-◌, sym, subst, arith}
 use Rattle.mm_why.specs.Pruning.{Needs}
 use Rattle.mm_why.proofs.Pruning.{whole}
 use Rattle.mm_why.proofs.prune.needed_by.Goals as goal

@@ -1,4 +1,4 @@
-use Rattle.std.proofs.Common.{◌≡◌, ◌<◌, length, sym, subst, rules}
+use Rattle.std.proofs.Common.{sym, subst, rules}
 use Rattle.mm_why.specs.Searches.{stage_of, IsPlaced, IsClosed}
 use Rattle.mm_why.proofs.Searching.{expand_more, expand_end}
 use Rattle.mm_why.proofs.search.expand_all.Goals as goal

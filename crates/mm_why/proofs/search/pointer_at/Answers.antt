@@ -1,4 +1,4 @@
-use Rattle.std.proofs.Common.{◌≡◌, ◌%◌, sym, ap, ◌∙◌, subst, Some, None}
+use Rattle.std.proofs.Common.{◌≡◌, ◌%◌, sym, ap, ◌∙◌, subst}
 use Rattle.mm_model.specs.Memory.{cell_at}
 use Rattle.mm_why.specs.Graphs.{IsFound}
 use Rattle.mm_why.proofs.GraphFacts.{found_at, never_none, found_pointer, same_pointer}

@@ -1,4 +1,4 @@
-use Rattle.std.proofs.Common.{◌≡◌, ◌<◌, ◌≤◌, length, sym, ap, subst, arith}
+use Rattle.std.proofs.Common.{◌≡◌, ◌<◌, ◌≤◌, ap, subst, arith}
 use Rattle.mm_flow.specs.Edges.{node_at}
 use Rattle.mm_why.specs.Searches.{stage_of}
 use Rattle.mm_why.specs.Graphs.{CellsPlaced}

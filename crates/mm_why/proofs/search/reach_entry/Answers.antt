@@ -1,4 +1,4 @@
-use Rattle.std.proofs.Common.{◌≡◌, ◌≢◌, ℕ, Some, None, sym, ap, ◌∙◌, subst, arith}
+use Rattle.std.proofs.Common.{◌≡◌, ◌≢◌, Some, sym, ap, ◌∙◌, subst}
 use Rattle.mm_word.specs.Pointer.{enter_result}
 use Rattle.mm_flow.specs.Edges.{node_at}
 use Rattle.mm_why.specs.Derivations.{line_at}

@@ -1,6 +1,5 @@
 use Rattle.std.proofs.Common.{◌≡◌, Some, sym, ap, ◌∙◌}
 use Rattle.mm_graph.specs.Key.{word_key, standing_key}
-use Rattle.mm_why.specs.Searches.{stage_of, HeldBy, Searching}
 use Rattle.mm_why.proofs.Searching.{word_placed}
 use Rattle.mm_why.proofs.search.reach_word.Goals as goal
 

@@ -1,4 +1,4 @@
-use Rattle.std.proofs.Common.{◌≡◌, ℕ, length, MatchOption, subst, arith, rules}
+use Rattle.std.proofs.Common.{◌≡◌, ℕ, length, MatchOption, subst, rules}
 use Rattle.mm_why.specs.Owning.{IsUsable}
 use Rattle.mm_why.proofs.Owning.{usable_more}
 use Rattle.mm_why.proofs.uses.earliest.Goals as goal

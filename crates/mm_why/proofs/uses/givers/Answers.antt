@@ -1,4 +1,4 @@
-use Rattle.std.proofs.Common.{ℕ, arith}
+use Rattle.std.proofs.Common.{arith}
 use Rattle.mm_flow.proofs.Kept.{none_before, one_more, all_before}
 use Rattle.mm_graph.specs.Marked.{node_pointer}
 use Rattle.mm_why.specs.Owning.{can_use}
