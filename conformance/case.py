@@ -16,7 +16,7 @@ TOP_ADDRESS = 1 << 54
 
 @dataclass(frozen=True)
 class Case:
-    """An image, and how long it is run in which order: round robin where there is no schedule. `shows` are beginnings
+    """An image, and how long it is run in which order: round robin if there is no schedule. `shows` are beginnings
     of lines that its log must have, so that a case tests what its name says."""
 
     name: str

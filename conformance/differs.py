@@ -11,8 +11,8 @@ TURNS = ("t ", "m ")
 
 
 def first_difference(log, text, counts):
-    """The place of the first line that differs and the line that came, or none where nothing does. The report is
-    compared where there is one, and its counts only where they are asked for."""
+    """The place of the first line that differs and the line that came, or none if nothing does. The report is
+    compared if there is one, and its counts only if they are asked for."""
     wanted, came = log.splitlines(), text.splitlines()
     if not any(line.startswith("cycles ") for line in came):
         wanted = wanted[: report_at(wanted)]

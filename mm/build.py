@@ -42,7 +42,7 @@ class Refused(Stop):
 
 @dataclass
 class Unit:
-    """A source or an object: its name, its object, and its text where there is one that fits."""
+    """A source or an object: its name, its object, and its text if there is one that fits."""
 
     name: str
     data: bytes

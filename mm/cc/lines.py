@@ -26,7 +26,7 @@ class Lines:
         self.known: dict[str, Optional[str]] = {}
 
     def of(self, location: Optional[str]) -> Optional[str]:
-        """`ov.c:7`; none where nothing is known, or for what the compiler made itself."""
+        """`ov.c:7`; none if nothing is known, or for what the compiler made itself."""
         if location is None:
             return None
         if location not in self.known:

@@ -61,7 +61,7 @@ class Operations(Calls):
             self.define(made.name, made.type, register)
 
     def operation(self, op: str, arguments: list[Value]) -> Optional[int]:
-        """The register of an operation's result; none where it has none."""
+        """The register of an operation's result; none if it has none."""
         if op in ("subseg", "restrict", "leab", "lea", "eqw"):
             return self.op(op, self.word(arguments[0]), self.word(arguments[1]))
         if op in ("isptr", "mov"):

@@ -149,7 +149,7 @@ class Naming(Protocol):
         """The name and the type of a variable, and of which function it is if that was put into this one."""
 
     def segment(self, name: str) -> Optional[str]:
-        """The segment of a global; none where the program has none for it."""
+        """The segment of a global; none if the program has none for it."""
 
 
 class Places:

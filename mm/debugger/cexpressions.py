@@ -29,7 +29,7 @@ class CExpression:
         self.at = 0
 
     def value(self) -> Optional[CThing]:
-        """What it names; none where its first name is no variable of C."""
+        """What it names; none if its first name is no variable of C."""
         found = self.unary()
         if found is not None and self.at < len(self.tokens):
             raise NoAddress(f"`{self.text}` goes on after `{' '.join(self.tokens[:self.at])}`")
@@ -107,7 +107,7 @@ class CExpression:
 
 
 def c_thing(text: str, values: CValues) -> Optional[CThing]:
-    """What an expression of C names; none where its first name is none of C."""
+    """What an expression of C names; none if its first name is none of C."""
     text = text.strip()
     if not re.match(r"[A-Za-z_(*]", text):
         return None

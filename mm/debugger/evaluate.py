@@ -71,7 +71,7 @@ def span(text: str, session: Session) -> tuple[int, int]:
 
 
 def _c_span(text: str, session: Session) -> Optional[tuple[int, int]]:
-    """The words that a variable of C is in; none where the text names none, or one that is in no memory."""
+    """The words that a variable of C is in; none if the text names none, or one that is in no memory."""
     values = session.values
     thing = c_thing(text, values) if values else None
     if thing is None or thing.address is None or not thing.type:
@@ -95,7 +95,7 @@ def place_of(text: str, session: Session) -> tuple[int, int]:
 
 
 def session_line(number: int, session: Session) -> int:
-    """The address of a line of the source that this slot runs, of that in C where there is one."""
+    """The address of a line of the source that this slot runs, of that in C if there is one."""
     slot = session.current
     ip = slot.ip.pointer if slot else None
     region = session.symbols.region(ip.address) if ip else None

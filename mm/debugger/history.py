@@ -83,7 +83,7 @@ class History:
         return bisect.bisect_left(self.cycles, cycle)
 
     def turn(self, cycle: int) -> Optional[Turn]:
-        """The turn of a cycle, or none where it is idle or the run has ended."""
+        """The turn of a cycle, or none if it is idle or the run has ended."""
         self.reach(cycle)
         at = self.index(cycle)
         return read_turn(self.lines[at]) if at < len(self.lines) and self.cycles[at] == cycle else None

@@ -14,7 +14,7 @@ if TYPE_CHECKING:
 
 
 def c_text(text: str, debugger: Debugger) -> Optional[str]:
-    """What a variable of C holds; none where the text names none."""
+    """What a variable of C holds; none if the text names none."""
     values = debugger.session.values
     thing = c_thing(text, values) if values and not text.startswith("&") else None
     if thing is None or values is None:
@@ -28,7 +28,7 @@ def value_text(text: str, debugger: Debugger) -> str:
 
 
 def local_lines(debugger: Debugger) -> list[str]:
-    """The variables of C that have a place now; none where there is no function of C."""
+    """The variables of C that have a place now; none if there is no function of C."""
     values = debugger.session.values
     if values is None or not values.frames:
         return []

@@ -88,5 +88,5 @@ class Point:
 
 
 def pattern_of(points: Iterable[Point]) -> re.Pattern[str]:
-    """What a line has that one of the points may meet; one that no line has where there is no point."""
+    """What a line has that one of the points may meet; one that no line has if there is no point."""
     return re.compile("|".join(point.pattern for point in points) or r"(?!)")

@@ -93,7 +93,7 @@ class Show:
         return Memory(self.session.built.image, self.session.history.report(self.session.total - 1).cells)
 
     def c_change(self, text: str) -> Optional[str]:
-        """What a variable of C was before the last cycle, and what it is; none where the text names none."""
+        """What a variable of C was before the last cycle, and what it is; none if the text names none."""
         slot, values = self.session.current, self.session.values
         thing = c_thing(text, values) if values and not text.startswith("&") else None
         if thing is None or not thing.type or slot is None or values is None:

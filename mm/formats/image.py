@@ -49,7 +49,7 @@ class Image:
     pages: dict[int, Page]
 
     def cell(self, address: int) -> Optional[Cell]:
-        """The cell at an address, or none where no page is."""
+        """The cell at an address, or none if there is no page."""
         page = self.pages.get(address // PAGE_BYTES)
         return page.cell(address % PAGE_BYTES // 8) if page else None
 

@@ -155,7 +155,7 @@ MADE: dict[str, Callable[[], Iterator[str]]] = {
 
 
 def topic_lines(topic: str) -> Optional[Iterator[str]]:
-    """The text of a topic, or none where it is none. A command comes before an operation of the same name."""
+    """The text of a topic, or none if it is none. A command comes before an operation of the same name."""
     word = topic.lower()
     name = ALIASES.get(word, word)
     cause = Cause.of_number(int(word)) if word.isdigit() else Cause.of_title(word)

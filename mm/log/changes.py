@@ -177,7 +177,7 @@ READERS = {kind.key: kind.read for kind in KINDS}
 
 
 def read_change(line: str) -> Optional[Change]:
-    """The change that a line tells, or none where it is no such line."""
+    """The change that a line tells, or none if it is no such line."""
     words = line.split()
     reader = READERS.get(words[0]) if words else None
     return reader(words) if reader else None

@@ -83,7 +83,7 @@ class Machine:
             CARRIERS[type(change)](self, change)
 
     def cell(self, address: int) -> Optional[Cell]:
-        """The cell at an address, or none where no page is."""
+        """The cell at an address, or none if there is no page."""
         page = address // PAGE_BYTES
         if page not in self.pages:
             return None

@@ -68,7 +68,7 @@ class Pointer:
 
     @classmethod
     def of_bits(cls, bits: int) -> Optional[Pointer]:
-        """The pointer that 64 bits spell, or none where they spell none."""
+        """The pointer that 64 bits spell, or none if they spell none."""
         permission, log = BY_CODE.get(bits >> 60), bits >> ADDRESS_BITS & 63
         return cls(permission, log, bits & ADDRESS_LIMIT - 1) if permission and log <= LONGEST else None
 
@@ -125,7 +125,7 @@ class Cell:
 
 
 def letter_of(bits: int) -> Optional[str]:
-    """The printable letter that a word is, where it is one."""
+    """The printable letter that a word is, if it is one."""
     return chr(bits) if 32 <= bits < 127 else None
 
 

@@ -11,7 +11,7 @@ from mm.views.style import Style
 
 @dataclass
 class Diagnostic:
-    """A message: a file, a line and a column (from 1, in bytes) where there are such, the text of the line, and hints below it."""
+    """A message: a file, a line and a column (from 1, in bytes) if there are such, the text of the line, and hints below it."""
 
     path: str
     message: str

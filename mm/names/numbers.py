@@ -17,7 +17,7 @@ FORMS = (
 
 
 def number_of(text: str) -> Optional[int]:
-    """A number: decimal, `0x`, `0b` or `0o`, with `_` between digits and a `-` before it, or 14 hexadecimal digits; none where it is no number."""
+    """A number: decimal, `0x`, `0b` or `0o`, with `_` between digits and a `-` before it, or 14 hexadecimal digits; none if it is no number."""
     sign, digits = (-1, text[1:]) if text.startswith("-") else (1, text)
     if len(digits) > MOST_DIGITS:
         return None

@@ -45,7 +45,7 @@ class Symbol:
 
 @dataclass(frozen=True)
 class Region:
-    """A placed segment, with its words and the text that it comes from, where there is one."""
+    """A placed segment, with its words and the text that it comes from, if there is one."""
 
     name: str
     base: int
@@ -128,7 +128,7 @@ class Symbols:
         return name if start == address else f"{name}+{address - start}"
 
     def show(self, address: int) -> str:
-        """The name of an address, or the number where it has none."""
+        """The name of an address, or the number if it has none."""
         return self.name(address) or f"0x{address:x}"
 
     def origin(self, address: int) -> Optional[Origin]:
@@ -251,7 +251,7 @@ def _symbols_of(region: Region) -> list[Symbol]:
 
 
 def symbols_of(placed: Sequence[Placed], sources: Sequence[Optional[SourceText]]) -> Symbols:
-    """The names of placed segments; of each unit its source, where there is one that fits."""
+    """The names of placed segments; of each unit its source, if there is one that fits."""
     return Symbols(
         [
             Region(

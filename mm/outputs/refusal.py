@@ -46,7 +46,7 @@ class Refusal:
 
 
 def read_refusal(line: str) -> Optional[Refusal]:
-    """What a line says, or none where it is no such line."""
+    """What a line says, or none if it is no such line."""
     for kind, pattern in PATTERNS:
         match = pattern.fullmatch(line)
         if match:

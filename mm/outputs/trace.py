@@ -42,7 +42,7 @@ class Turn:
 
 
 def read_turn(line: str) -> Optional[Turn]:
-    """What a line of a trace says, or none where it is no such line."""
+    """What a line of a trace says, or none if it is no such line."""
     match = TURN.match(line)
     if match:
         slot, number, outcome, fault, fetch, access, address, entered = match.groups()
@@ -77,7 +77,7 @@ Made = TypeVar("Made", bound=HasItem)
 
 
 def numbered(turns: Iterable[Made], schedule: Optional[Schedule]) -> Iterator[tuple[int, Made]]:
-    """Each turn with its cycle, from 1. In round robin every cycle has a turn. An item of a schedule is idle exactly where it does not
+    """Each turn with its cycle, from 1. In round robin every cycle has a turn. An item of a schedule is idle exactly if it does not
     make the next turn: an idle item changes nothing, so the slot of the next turn can already take it."""
     if schedule is None:
         yield from enumerate(turns, 1)

@@ -171,7 +171,7 @@ KINDS: dict[str, tuple[int, Callable[[Studio], Picture]]] = {
 
 
 def drawn(words: Sequence[str], about: str) -> Optional[str]:
-    """The text of the picture that words ask for; none where they ask for help, which is written."""
+    """The text of the picture that words ask for; none if they ask for help, which is written."""
     reader = argparse.ArgumentParser("tools/draw", add_help=False)
     reader.add_argument("kind", nargs="?")
     reader.add_argument("words", nargs="*")

@@ -27,7 +27,7 @@ class Mismatch:
 
 @dataclass
 class Line:
-    """What a line says. `head` is its directive or operation, that after `.empty` where it has one; `operands` are the tokens that fit."""
+    """What a line says. `head` is its directive or operation, that after `.empty` if it has one; `operands` are the tokens that fit."""
 
     label: Optional[Token] = None
     head: Optional[Token] = None

@@ -13,7 +13,7 @@ from mm.source.lines import WORD_DIRECTIVES, Line, read_line
 from mm.source.tokens import TokenKind
 from mm.source.wants import DIRECTIVES, OPERANDS
 
-# The beginning of a line: its label, `.empty`, and its directive or operation. What follows is read only where it matters here.
+# The beginning of a line: its label, `.empty`, and its directive or operation. What follows is read only if it matters here.
 BEGINNING = re.compile(
     r"[ \t\r]*(?:([A-Za-z_][A-Za-z0-9_]*)[ \t\r]*:)?[ \t\r]*(?:\.empty(?![A-Za-z0-9_])[ \t\r]*)?(\.?[A-Za-z_][A-Za-z0-9_]*)?"
 )
@@ -102,7 +102,7 @@ class SourceText:
     notes: Optional[CNotes] = None
 
     def line(self, number: int) -> str:
-        """A line by its number, from 1; an empty one where there is none."""
+        """A line by its number, from 1; an empty one if there is none."""
         return self.lines[number - 1] if 0 < number <= len(self.lines) else ""
 
     def segment(self, name: str) -> Optional[SourceSegment]:

@@ -231,7 +231,7 @@ class Command(unittest.TestCase):
             self.assertEqual(mm("view", "examples/hello.asm", "-o", path).status, 4)
         net = mm("view", "examples/nodes.links", "examples/nodes.events", "examples/ask.asm", "examples/answer.asm")
         self.assertEqual((net.status, net.out), (1, ""))
-        self.assertIn("this is a text for a net, and here one machine is wanted", net.err)
+        self.assertIn("this is a text for a net, but the command wants one machine", net.err)
 
     def test_lines_of_c(self):
         data = data_of(mm("view", "examples/c/overflow.asm").out)

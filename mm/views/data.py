@@ -19,7 +19,7 @@ Json = dict[str, Any]
 
 
 def address_form(address: int, symbols: Symbols) -> Json:
-    """`{"address": "0x100100", "name": "box"}`, with the name `null` where there is none."""
+    """`{"address": "0x100100", "name": "box"}`, with the name `null` if there is none."""
     return {"address": f"0x{address:x}", "name": symbols.name(address)}
 
 

@@ -22,7 +22,7 @@ class Memory:
         return self.changed.get(address) or self.image.cell(address)
 
     def instruction(self, address: int) -> Optional[Instruction]:
-        """The instruction at an address, or none where the word is none."""
+        """The instruction at an address, or none if the word is none."""
         cell = self.cell(address)
         return decode(cell.word.bits) if cell and not cell.word.tagged else None
 
@@ -46,7 +46,7 @@ class Speller:
         return f"{length} from {self.symbols.show(pointer.base)} on"
 
     def word(self, word: Word) -> str:
-        """A pointer spelled out, or an integer as a number, with its letter where it is one."""
+        """A pointer spelled out, or an integer as a number, with its letter if it is one."""
         pointer = word.pointer
         return self.pointer(pointer) if pointer else integer(word)
 
