@@ -167,13 +167,10 @@ fn put_cells(out: &mut Vec<u64>, cells: &[(u64, Cell)]) -> Result<(), AllocError
     requires { AllByRecursion (λ (x : ℕ × CellValue). x.0 < 2 ^ 54) cells.now }
     ensures { OnOk result (out.new.items ≡ out.old.items ++ cells_form cells.now) }
 {
-    match cells {
-        [] => Ok(()),
-        [first, rest @ ..] => {
-            put_cell(out, first.0, &first.1)?;
-            put_cells(out, rest)
-        }
+    for cell in cells {
+        put_cell(out, cell.0, &cell.1)?;
     }
+    Ok(())
 }
 
 /// Appends the numbers of the configuration of a core and a memory. The mapped pages of the memory are given, and so
