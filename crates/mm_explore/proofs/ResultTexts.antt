@@ -2,7 +2,7 @@
 use Rattle.std.proofs.Common.{◌≡◌, inl, inr, ℕ, ◌<◌, Bool, true, false, if◌then◌else◌, List, [], ◌∷◌, ◌++◌, map, length, zip, zero, suc, codes, decimal, Option, Some, None, slice_get, refl, sym, subst}
 use Rattle.std.specs.Prelude.{Contains, IfSome, slice_index_or}
 use Rattle.std.proofs.lemmas.Option.{slice_get_within}
-use Rattle.std.specs.List.{AllZip, flat_map, range_with_len}
+use Rattle.std.specs.List.{AllByRecursion, AllZip, flat_map, range_with_len}
 use Rattle.mm_word.specs.declared.perm.Kind.{Kind}
 use Rattle.mm_word.specs.Access.{Touch}
 use Rattle.mm_model.specs.Image.{Image, start}
@@ -84,6 +84,21 @@ module _ (i : Image) (list : List (List ℕ)) (touched wrote : List (ℕ × ℕ)
   groups_reached [] (g ∷ gs) h = h
   groups_reached (n ∷ groups) [] h = h
   groups_reached (n ∷ groups) (g ∷ gs) h = (group_reached n g h.0, groups_reached groups gs h.1)
+
+  pub groups_each : (groups : List ℕ) (gs : List GroupFound) → AllZip (IsGroupFound touched wrote) groups gs → AllByRecursion (λ (g : GroupFound). IsReached i list g.group g.reached) gs
+  groups_each [] [] h = tt
+  groups_each [] (g ∷ gs) h = absurd h
+  groups_each (n ∷ groups) [] h = absurd h
+  groups_each (n ∷ groups) (g ∷ gs) h = (subst (λ k. IsReached i list k g.reached) (sym h.0.number) (group_reached n g h.0), groups_each groups gs h.1)
+
+pub groups_numbered : (touched wrote : List (ℕ × ℕ)) (groups : List ℕ) (gs : List GroupFound) → AllZip (IsGroupFound touched wrote) groups gs → map (λ (g : GroupFound). g.group) gs ≡ groups
+groups_numbered touched wrote [] [] h = refl
+groups_numbered touched wrote [] (g ∷ gs) h = absurd h
+groups_numbered touched wrote (n ∷ groups) [] h = absurd h
+groups_numbered touched wrote (n ∷ groups) (g ∷ gs) h =
+    let rest = groups_numbered touched wrote groups gs h.1 in
+    let number = h.0.number in
+    λ j. number j ∷ rest j
 
 pub groups_text : (touched wrote : List (ℕ × ℕ)) (groups : List ℕ) (gs : List GroupFound) → AllZip (IsGroupFound touched wrote) groups gs
     → flat_map group_lines gs ≡ flat_map (λ x. reached_lines x.0 x.1) (zip groups (map (λ (g : GroupFound). g.reached) gs))

@@ -17,3 +17,4 @@ pub mod Words
 pub mod Noting
 pub mod MoveLists
 pub mod Searching
+pub mod Finds

@@ -15,8 +15,8 @@ ghost use Rattle.mm_explore.specs.Explored.{IsExplored, IsAll};
 ghost use Rattle.mm_explore.specs.Findings.{Extension, turn_at, explored_turns, is_none, IsFinal};
 ghost use Rattle.mm_explore.specs.FoundLists.{IsOrigin, Holds};
 ghost use Rattle.mm_explore.specs.Noting.{Noted, Ended, fault_found};
-ghost use Rattle.mm_explore.specs.Results.{explored_text, fault_lines};
-ghost use Rattle.mm_explore.specs.Texts.{Explores};
+ghost use Rattle.mm_explore.specs.Finds.{Finds};
+ghost use Rattle.mm_explore.specs.Results.{fault_lines};
 ghost use Rattle.mm_explore.specs.Words.{order};
 
 use crate::bench::Made;
@@ -122,7 +122,7 @@ impl Findings {
         requires ended { Ended img.now found.now.list found.now.list self.now }
         ensures { IfOk result (λ e. (limit : ℕ) → IsExplored img.now limit found.now.list
             → (all ≡ true → IsAll img.now found.now.list) → (all ≡ false → IsAll img.now found.now.list → ⊥)
-            → Explores img.now limit (explored_text e)) }
+            → Finds img.now limit e) }
     {
         let mut reached = Vec::new(alloc);
         put_groups(alloc, &mut reached, &self.words, groups)?;

@@ -12,10 +12,9 @@ ghost use Rattle.mm_explore.specs.Benches.{IsAt, IsAtSome};
 ghost use Rattle.mm_explore.specs.Findings.{explored_turns};
 ghost use Rattle.mm_explore.specs.Kept.{kept};
 ghost use Rattle.mm_explore.specs.MoveLists.{running_item, loaded_item, ports_in, moves_in};
-ghost use Rattle.mm_explore.specs.Results.{explored_text};
+ghost use Rattle.mm_explore.specs.Finds.{Finds};
 ghost use Rattle.mm_explore.specs.Searching.{HasCome, IsBefore, IsNode, IsWithin, StaysBy, AllStay, node_schedule};
 ghost use Rattle.mm_explore.specs.Searching.{all_after as all_after_look, Met, KeptBy};
-ghost use Rattle.mm_explore.specs.Texts.{Explores};
 
 use crate::bench::{Bench, Made};
 use crate::explored::Explored;
@@ -145,7 +144,7 @@ struct Search {
 pub fn explore(alloc: Global, img: &Image, states: u32) -> Result<Explored, NoMemory>
     requires some { 1 ≤ states }
     requires few { states ≤ 1000000 }
-    ensures { IfOk result (λ e. Explores img.now states (explored_text e)) }
+    ensures { IfOk result (λ e. Finds img.now states e) }
 {
     let bench = Bench::new(alloc, img)?;
     match explore_from(alloc, img, states, bench) {
@@ -164,7 +163,7 @@ fn explore_from(
     requires some { 1 ≤ states }
     requires few { states ≤ 1000000 }
     requires at { IsAt img.now [] bench }
-    ensures { IfOk result (λ e. Explores img.now states (explored_text e)) }
+    ensures { IfOk result (λ e. Finds img.now states e) }
 {
     let mut search = Search::new(alloc, img, states, bench)?;
     search.run(alloc, img)?;

@@ -1,5 +1,5 @@
-use Rattle.std.proofs.Common.{◌++◌, ◌∙◌, map, zip, refl, ap, subst}
-use Rattle.std.specs.List.{AllZip, flat_map, range_with_len}
+use Rattle.std.proofs.Common.{◌++◌, ◌∙◌, map, zip, refl, sym, ap, subst}
+use Rattle.std.specs.List.{AllByRecursion, AllZip, flat_map, range_with_len}
 use Rattle.std.specs.BTreeMap.{get}
 use Rattle.mm_model.specs.Slot.{Slot}
 use Rattle.mm_explore.specs.Findings.{IsReached, explored_turns, firsts}
@@ -7,7 +7,7 @@ use Rattle.mm_explore.specs.Noting.{first_in, fault_found}
 use Rattle.mm_explore.specs.Results.{GroupFound, group_lines, fault_lines, outcome_lines}
 use Rattle.mm_explore.specs.Texts.{Exploration, reached_lines, outcome_lines as lines_of_outcome}
 use Rattle.mm_explore.specs.Words.{order}
-use Rattle.mm_explore.proofs.ResultTexts.{groups_reached, groups_text, faults_text, origin_inside, results_text}
+use Rattle.mm_explore.proofs.ResultTexts.{groups_reached, groups_numbered, groups_each, groups_text, faults_text, origin_inside, results_text}
 use Rattle.mm_explore.proofs.findings.Findings.explored.Goals as goal
 
 pub list_faults-requires : goal.list_faults-requires
@@ -30,30 +30,41 @@ returns c = λ limit explored is_all is_more.
     let ended = c.requires.ended in
     let (gs, is, all_zip) = c.in_ok-put_groups.ensures in
     let reached = map (λ (g : GroupFound). g.reached) gs in
+    let found_are = is ∙ ap (λ l. l ++ gs) c.new-reached.ensures.items in
     let x : Exploration = record { list = list; all = c.args.all; reached = reached; finals = ended.finals } in
     record {
-      exploration = x;
-      is = record {
-        list = explored;
-        all = is_all;
-        more = is_more;
-        reached = subst (λ groups. AllZip (IsReached i list) groups reached) c.requires.groups
-            (groups_reached i list f.words.touched.keys f.words.wrote.keys noted.touched noted.wrote c.args.groups.now gs all_zip);
-        finals = ended.are;
+      text = record {
+        exploration = x;
+        is = record {
+          list = explored;
+          all = is_all;
+          more = is_more;
+          reached = subst (λ groups. AllZip (IsReached i list) groups reached) c.requires.groups
+              (groups_reached i list f.words.touched.keys f.words.wrote.keys noted.touched noted.wrote c.args.groups.now gs all_zip);
+          finals = ended.are;
+        };
+        written = results_text i x _ (record {
+          count = c.len.ensures.count;
+          all = refl;
+          groups =
+              ap (flat_map group_lines) found_are ∙ groups_text f.words.touched.keys f.words.wrote.keys c.args.groups.now gs all_zip
+              ∙ ap (λ groups. flat_map (λ y. reached_lines y.0 y.1) (zip groups reached)) c.requires.groups;
+          faults =
+              c.in_ok-list_faults.ensures
+              ∙ ap (λ l. flat_map fault_lines l ++ flat_map (λ (s : Slot). flat_map (λ cause. fault_found list s.number cause (get order f.faults (s.number, cause))) (range_with_len 1 13)) c.slots.result.now) c.new-faults.ensures.items
+              ∙ ap (flat_map (λ (s : Slot). flat_map (λ cause. fault_found list s.number cause (get order f.faults (s.number, cause))) (range_with_len 1 13))) c.slots.ensures.slots
+              ∙ faults_text i list (λ slot cause. get order f.faults (slot, cause)) noted.faults i.slots;
+          outcomes =
+              c.in_ok-put_outcomes.ensures ended.finals (firsts i ended.finals) ended.ends
+              ∙ ap (λ l. flat_map outcome_lines l ++ flat_map (lines_of_outcome i ended.finals) (firsts i ended.finals)) c.new-outcomes.ensures.items;
+        });
       };
-      written = results_text i x _ (record {
-        count = c.len.ensures.count;
-        all = refl;
-        groups =
-            ap (flat_map group_lines) (is ∙ ap (λ l. l ++ gs) c.new-reached.ensures.items) ∙ groups_text f.words.touched.keys f.words.wrote.keys c.args.groups.now gs all_zip
-            ∙ ap (λ groups. flat_map (λ y. reached_lines y.0 y.1) (zip groups reached)) c.requires.groups;
-        faults =
-            c.in_ok-list_faults.ensures
-            ∙ ap (λ l. flat_map fault_lines l ++ flat_map (λ (s : Slot). flat_map (λ cause. fault_found list s.number cause (get order f.faults (s.number, cause))) (range_with_len 1 13)) c.slots.result.now) c.new-faults.ensures.items
-            ∙ ap (flat_map (λ (s : Slot). flat_map (λ cause. fault_found list s.number cause (get order f.faults (s.number, cause))) (range_with_len 1 13))) c.slots.ensures.slots
-            ∙ faults_text i list (λ slot cause. get order f.faults (slot, cause)) noted.faults i.slots;
-        outcomes =
-            c.in_ok-put_outcomes.ensures ended.finals (firsts i ended.finals) ended.ends
-            ∙ ap (λ l. flat_map outcome_lines l ++ flat_map (lines_of_outcome i ended.finals) (firsts i ended.finals)) c.new-outcomes.ensures.items;
-      });
+      list = list;
+      explored = explored;
+      count = c.len.ensures.count;
+      all = is_all;
+      more = is_more;
+      groups = ap (map (λ (g : GroupFound). g.group)) found_are ∙ groups_numbered f.words.touched.keys f.words.wrote.keys c.args.groups.now gs all_zip ∙ c.requires.groups;
+      reached = subst (AllByRecursion (λ (g : GroupFound). IsReached i list g.group g.reached)) (sym found_are)
+          (groups_each i list f.words.touched.keys f.words.wrote.keys noted.touched noted.wrote c.args.groups.now gs all_zip);
     }
