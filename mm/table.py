@@ -55,6 +55,7 @@ STATES = Option("--states", "how many configurations are looked at, 1 to 1000000
 PART = Option("--part", "memory, frames, pages or slots; default: memory (docs/HARDWARE.md)", "NAME")
 RUNNING = (CYCLES, SCHEDULE, TURNS, NAMES)
 FILES = "FILE.."
+EXERCISES = "EXERCISE is lab-1 to lab-5 for a task of the first lab, 1.1 to 8.2, 10.1 or 10.2 for an exercise of a lesson, or a file of your own (docs/course/GRADING.md)."
 
 # fmt: off
 COMMANDS = (
@@ -81,7 +82,7 @@ COMMANDS = (
     Command("link", FILES, "make an image of sources and objects", (OUTPUT,), module="make"),
     Command("migrate", "FILE.. MODE", "make an image of version 2, in which loads answer at once (plain) or later (split)", (OUTPUT,), least=2, module="make"),
     Command("hex", FILES, "write an image for Verilog's $readmemh: its memory, its frames with their pages, or its slots", (PART, OUTPUT, *C)),
-    Command("grade", "EXERCISE FILE..", "check a program against what an exercise of the course asks for", (*C,), least=2),
+    Command("grade", "EXERCISE FILE..", "check a program against what an exercise of the course asks for", (*C,), least=2, more=EXERCISES),
     Command("gen", "NUMBER SIZE", "make an image from a number", (OUTPUT,), least=2, most=2, module="make"),
     Command("soak", "NUMBER SIZE", "run that image, and write a summary", (CYCLES,), least=2, most=2, module="make"),
     Command("help", "[TOPIC]", "explain a command, an operation, a fault or another topic", (), least=0),

@@ -97,9 +97,9 @@ def check_count(said: Words) -> None:
     if command and not command.least <= len(said.words) <= (
         command.most if command.most is not None else len(said.words)
     ):
-        what = "is too few words" if len(said.words) < command.least else "is too many words"
+        what = "too few words" if len(said.words) < command.least else "too many words"
         raise usage(
-            f"mm: {command.name}: {len(said.words)} {what}",
+            f"mm: {command.name}: there are {what} ({len(said.words)})",
             f"    it is written: mm {command.name} {command.operands}",
             f"    `mm help {command.name}` says more",
         )

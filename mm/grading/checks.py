@@ -2,6 +2,7 @@
 
 from __future__ import annotations
 
+import re
 from dataclasses import dataclass
 from functools import cached_property
 from typing import Callable, Optional
@@ -12,14 +13,16 @@ from mm.grading.sheet import Expectation, Sheet
 from mm.machine.causes import Cause
 from mm.machine.words import Word
 from mm.messages.files import NamedFile
-from mm.names.numbers import number_of
+from mm.names.numbers import counted, number_of
 from mm.outputs.audit import read_audit
 from mm.outputs.exploration import Exploration, read_exploration
-from mm.outputs.report import Report, SlotState, read_report, state_text
+from mm.outputs.report import Report, SlotState, read_report
 from mm.status import Status, Stop
+from mm.views.spell import bytes_as_text
 from mm.words import cycles_of, groups_of
 
 CYCLES, STATES = 100_000, 100_000
+BYTES_SHOWN = 40
 
 
 @dataclass(frozen=True)
@@ -72,8 +75,22 @@ def number_in(text: str) -> int:
     return number
 
 
-def shown(data: bytes) -> str:
-    return '"' + data.decode("latin-1").encode("unicode_escape").decode() + '"'
+def said(data: bytes) -> str:
+    """What a group says, in words, and no more of it than fits in a line."""
+    if not data:
+        return "it says nothing"
+    more = len(data) - BYTES_SHOWN
+    return f"it says {bytes_as_text(data[:BYTES_SHOWN])}" + (f" and {counted(more, 'more byte')}" if more > 0 else "")
+
+
+def became(slot: SlotState) -> str:
+    """What became of a slot, in words."""
+    if not slot.fault:
+        words = {"running": "still runs", "halted": "has halted"}
+        return f"slot {slot.number} {words.get(slot.state, f'is {slot.state}')}"
+    cause = Cause.of_number(slot.fault)
+    title = f" {cause.title}: {cause.meaning}" if cause else ""
+    return f"slot {slot.number} was stopped by fault {slot.fault}{title}"
 
 
 def says(program: Program, group: str, text: str = "") -> Optional[str]:
@@ -81,7 +98,17 @@ def says(program: Program, group: str, text: str = "") -> Optional[str]:
     found = program.report.outputs.get(number_in(group))
     if found is None:
         return f"there is no group {group}"
-    return None if found == wanted else f"it says {shown(found)}"
+    return None if found == wanted else said(found)
+
+
+def matches(program: Program, group: str, pattern: str) -> Optional[str]:
+    found = program.report.outputs.get(number_in(group))
+    if found is None:
+        return f"there is no group {group}"
+    try:
+        return None if re.fullmatch(pattern.encode("latin-1"), found) else said(found)
+    except (re.error, UnicodeEncodeError):
+        raise Stop(Status.REFUSED, f"mm: grade: `{pattern}` is no pattern") from None
 
 
 def halts(program: Program, *slots: str) -> Optional[str]:
@@ -90,7 +117,7 @@ def halts(program: Program, *slots: str) -> Optional[str]:
         if slot is None:
             return f"there is no slot {number}"
         if slot.state != "halted":
-            return f"slot {number} is {state_text(slot.state, slot.fault)}"
+            return became(slot)
     return None
 
 
@@ -99,7 +126,7 @@ def faults(program: Program, number: str, fault: str) -> Optional[str]:
     wanted = cause.number if cause else number_in(fault)
     if slot is None:
         return f"there is no slot {number}"
-    return None if slot.fault == wanted else f"slot {number} is {state_text(slot.state, slot.fault)}"
+    return None if slot.fault == wanted else became(slot)
 
 
 def register(program: Program, number: str, name: str, value: str) -> Optional[str]:
@@ -119,8 +146,8 @@ def shares(program: Program, *groups: str) -> Optional[str]:
 
 
 def uses(program: Program, *operations: str) -> Optional[str]:
-    missing = [name for name in operations if name not in program.operations]
-    return f"there is no {missing[0]}" if missing else None
+    missing = [names for names in operations if program.operations.isdisjoint(names.split("|"))]
+    return f"there is no {missing[0].replace('|', ' and no ')}" if missing else None
 
 
 def without(program: Program, *operations: str) -> Optional[str]:
@@ -146,7 +173,8 @@ def never(program: Program, what: str) -> Optional[str]:
         return f"it is, under the schedule {stuck[0]}"
     if what == "faults" and found.faults:
         slot, cause, schedule = found.faults[0]
-        return f"slot {slot} has fault {cause}, under the schedule {schedule}"
+        title = Cause.of_number(cause)
+        return f"slot {slot} has fault {cause}{f' {title.title}' if title else ''}, under the schedule {schedule}"
     if what not in ("stuck", "faults"):
         return f"`never {what}` is nothing that is looked at"
     return all_looked_at(found)
@@ -154,6 +182,7 @@ def never(program: Program, what: str) -> Optional[str]:
 
 CHECKS: dict[str, Callable[..., Optional[str]]] = {
     "says": says,
+    "matches": matches,
     "halts": halts,
     "faults": faults,
     "register": register,

@@ -12,6 +12,7 @@ FORMS = {
     "cycles": "cycles N",
     "schedule": "schedule ITEMS",
     "says": "says GROUP TEXT",
+    "matches": "matches GROUP PATTERN",
     "halts": "halts SLOT..",
     "faults": "faults SLOT FAULT",
     "register": "register SLOT rN VALUE",
@@ -61,7 +62,7 @@ def read_sheet(name: str, text: str) -> Sheet:
         kind = words[0]
         if kind not in FORMS:
             raise wrong(name, number, f"`{kind}` is nothing that is looked at: {', '.join(FORMS)}")
-        rest = line.split(None, 2 if kind == "says" else -1)[1:]
+        rest = line.split(None, 2 if kind in ("says", "matches") else -1)[1:]
         if len(rest) < len(FORMS[kind].split(" | ")[0].split()) - 1 and not (kind == "says" and len(rest) == 1):
             raise wrong(name, number, f"this line has the form `{FORMS[kind]}`")
         if kind in SETTINGS:

@@ -51,6 +51,9 @@ def command_lines(command: Command) -> Iterator[str]:
     yield f"usage: mm {command.name} {command.operands}" + (" [OPTIONS]" if command.options else "")
     yield ""
     yield f"{command.summary[0].upper()}{command.summary[1:]}."
+    if command.more:
+        yield ""
+        yield command.more
     if command.options:
         yield ""
         yield from option_lines(command.options)

@@ -4,7 +4,7 @@ import glob
 import os
 import unittest
 
-from mm.grading.checks import CHECKS
+from mm.grading.checks import CHECKS, said
 from mm.grading.sheet import FORMS, SETTINGS, read_sheet
 from mm.machine.program import CHECKOUT
 from mm.status import Stop
@@ -36,6 +36,11 @@ class Grade(unittest.TestCase):
             ("10.2", "docs/course/locks.asm", "it is, under the schedule 0 1"),
             ("1.1", "examples/hello.asm", "there is no st"),
             ("8.1", "docs/course/answers/told.asm", "the audit says that they do not"),
+            ("lab-1", "examples/hello.asm", 'it says "A"'),
+            ("lab-2", "examples/hello.asm", "there is no bnz and no bz"),
+            ("lab-4", "examples/hello.asm", "slot 0 has halted"),
+            ("lab-5", "docs/course/lab/bank.asm", "it says nothing"),
+            ("lab-3", "examples/bug.asm", "slot 0 was stopped by fault"),
         ):
             with self.subTest(name):
                 ended = mm("grade", name, program)
@@ -52,6 +57,14 @@ class Grade(unittest.TestCase):
             with self.assertRaises(Stop) as stop:
                 read_sheet("sheet.txt", text)
             self.assertIn(why, stop.exception.lines[0])
+
+    def test_long_output_is_cut(self):
+        self.assertEqual(said(b"a" * 50), f'it says "{"a" * 40}" and 10 more bytes')
+        self.assertEqual(said(b"a" * 41), f'it says "{"a" * 40}" and 1 more byte')
+        self.assertEqual(said(b'"\n'), 'it says "\\"\\n"')
+
+    def test_words_are_asked_for(self):
+        self.assertIn("lab-5", mm("help", "grade").out)
 
     def test_each_line_is_looked_at_and_written_down(self):
         self.assertEqual(set(CHECKS) | set(SETTINGS), set(FORMS))

@@ -1,7 +1,6 @@
 ; Task 4 of the lab: a thread that knows the bits of a pointer, and has no pointer.
 .segment main 5
-  mov r2, r1
-  addi r2, r2, 0          ; the same 64 bits, as an integer
+  addi r2, r1, 0          ; the same 64 bits, as an integer
   ld r3, r2, 0, any, keep
   halt
 .segment secret 3

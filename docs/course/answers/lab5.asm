@@ -1,12 +1,12 @@
 ; Task 5 of the lab: two calls through the gate of a bank, and then the amount as a letter.
 .segment gate 6
   .ptr rw account
-door: lip r7, -1          ; the gate finds its pointer by its own place
-  ld r7, r7, 0, any, keep
+door: lip r7, -1          ; a pointer to the word before the door
+  ld r7, r7, 0, any, keep ; the pointer to the account lies in that word
   ld r1, r7, 0, any, keep
   addi r1, r1, 1
   st r7, r1, 0, any, keep
-  ldi r7, 0               ; and leaves it to nobody
+  ldi r7, 0               ; leave the pointer to nobody
   jmp r6
 .segment account 3
   .int 64
