@@ -25,8 +25,7 @@ _mm() {
     if [[ $word == -* ]]; then
         local options='--help'
         case $command in
-            run | trace) options="$options --cycles --schedule --turns --names --json --optimise --heap --stack --clang" ;;
-            solo | continue) options="$options --cycles --schedule --turns --names --json" ;;
+            run | trace | solo | continue) options="$options --cycles --schedule --turns --names --json --optimise --heap --stack --clang" ;;
             view) options="$options --cycles --schedule --turns --names --from --audit --output --optimise --heap --stack --clang" ;;
             vcd) options="$options --cycles --schedule --turns --names --from --output --optimise --heap --stack --clang" ;;
             debug) options="$options --schedule --turns --names --optimise --heap --stack --clang" ;;
@@ -35,12 +34,13 @@ _mm() {
             hex) options="$options --part --output --optimise --heap --stack --clang" ;;
             explore) options="$options --states --names --optimise --heap --stack --clang" ;;
             grade) options="$options --optimise --heap --stack --clang" ;;
-            dis | holders) options="$options --names" ;;
-            why) options="$options --names --optimise --heap --stack --clang" ;;
+            dis) options="$options --names" ;;
+            holders | why) options="$options --names --optimise --heap --stack --clang" ;;
             audit) options="$options --groups --names --json --optimise --heap --stack --clang" ;;
-            sweep) options="$options --output --names" ;;
-            save) options="$options --cycles --schedule --turns --output" ;;
-            extract | asm | link | migrate | gen) options="$options --output" ;;
+            sweep) options="$options --output --names --optimise --heap --stack --clang" ;;
+            save) options="$options --cycles --schedule --turns --output --optimise --heap --stack --clang" ;;
+            extract | link | migrate) options="$options --output --optimise --heap --stack --clang" ;;
+            asm | gen) options="$options --output" ;;
             net | soak) options="$options --cycles" ;;
         esac
         COMPREPLY=($(compgen -W "$options" -- "$word"))

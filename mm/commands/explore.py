@@ -2,14 +2,59 @@
 
 from __future__ import annotations
 
+from dataclasses import replace
+
+from mm.build import Built
 from mm.console import Console
+from mm.machine.causes import Cause
 from mm.names.numbers import number_of
-from mm.outputs.exploration import read_exploration
+from mm.outputs.exploration import Exploration, read_exploration
+from mm.outputs.report import Report, read_report
 from mm.status import Status, usage
 from mm.table import STATES
-from mm.views.exploration import ExplorationView
+from mm.views.exploration import ExplorationView, Places
+from mm.views.report import ReportView
+from mm.views.spell import Memory, Speller
+from mm.views.waiting import what_for
+from mm.views.why import why
+from mm.words import MOST_CYCLES
 
 USUAL, MOST = 100_000, 1_000_000
+# So many faults and so many ends are told with their places: each is a run of its own.
+MOST_PLACES = 50
+WAITS = ("ld", "st", "evt")
+
+
+def report_under(console: Console, built: Built, schedule: str) -> Report:
+    """The report of a run under a schedule that was found."""
+    path = console.workshop.keep(schedule.encode(), ".schedule")
+    return read_report(console.ask(["run", built.path, str(MOST_CYCLES), path], [built.file]).text.splitlines())
+
+
+def places_of(console: Console, built: Built, found: Exploration) -> Places:
+    """Where each fault is met and why, from a run under its schedule."""
+    places: Places = {}
+    for number, fault, schedule in found.faults[:MOST_PLACES]:
+        report, cause = report_under(console, built, schedule), Cause.of_number(fault)
+        there = report.slot(number)
+        if there is None or cause is None:
+            continue
+        slot, memory, speller = replace(there, fault=fault), Memory(built.image, report.cells), Speller(built.symbols)
+        view = ReportView(report, memory, speller, console.style)
+        below = view.place(slot) + why(cause, there, memory, speller)
+        places[number, fault] = [f"slot {number} can be {view.state(slot)}", *(f"  {line}" for line in below)]
+    return places
+
+
+def tell_waits(console: Console, built: Built, found: Exploration) -> None:
+    """Puts what each slot waits for in place of `running` where a program is stuck."""
+    for outcome in [one for one in found.outcomes if not one.ended][:MOST_PLACES]:
+        report = report_under(console, built, outcome.schedule)
+        memory, speller = Memory(built.image, report.cells), Speller(built.symbols)
+        for slot in report.slots:
+            instruction = memory.instruction(slot.ip.pointer.address) if slot.running and slot.ip.pointer else None
+            if instruction and instruction.name in WAITS:
+                outcome.states[slot.number] = what_for(slot, memory, speller)
 
 
 def run(console: Console) -> int:
@@ -19,5 +64,7 @@ def run(console: Console) -> int:
         raise usage(f"mm: explore: --states is a number from 1 to {MOST}, not `{said}`")
     built = console.build(console.words)
     text = console.ask(["explore", built.path, str(states)], [built.file]).text
-    console.write(ExplorationView(built.symbols).lines(read_exploration(text)))
+    found = read_exploration(text)
+    tell_waits(console, built, found)
+    console.write(ExplorationView(built.symbols, places_of(console, built, found)).lines(found))
     return Status.DONE

@@ -64,6 +64,18 @@ class Exploration(unittest.TestCase):
         for line in ("these are all", "touches code and the 4 words after it", 'says "AB"', 'says "AA"'):
             self.assertIn(line, ended.out)
 
+    def test_places_of_faults(self):
+        out = mm("explore", "examples/kernel.asm").out
+        self.assertIn("slot 1 can be stopped at client_b+8 by fault 2 Perm", out)
+        self.assertIn("  examples/kernel.asm:32: ld r4, r5, -16, any, keep", out)
+        out = mm("explore", "examples/server.asm").out
+        self.assertIn("slot 1 can be stopped at polite by fault 11 Trap", out)
+        self.assertIn("  trap 1, which the handler has to answer", out)
+
+    def test_what_stuck_slots_wait_for(self):
+        out = mm("explore", "docs/course/locks.asm").out
+        self.assertIn("  slot 0 waiting at ld r4, r2, 0, full, empty for right to be full", out)
+
     def test_states(self):
         self.assertIn("5 configurations, there are more", mm("explore", "docs/course/race.asm", "--states", "5").out)
         for number in ("0", "1000001", "many"):

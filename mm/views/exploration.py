@@ -2,19 +2,22 @@
 
 from __future__ import annotations
 
-from typing import Iterator
+from typing import Iterator, Mapping, Optional
 
 from mm.machine.causes import Cause
 from mm.names.numbers import counted
 from mm.names.symbols import Symbols
 from mm.outputs.exploration import Exploration, Outcome, Reached
 
+# The lines of faults, by slot and number.
+Places = dict[tuple[int, int], list[str]]
+
 
 class ExplorationView:
     """How an exploration is shown."""
 
-    def __init__(self, symbols: Symbols) -> None:
-        self.symbols = symbols
+    def __init__(self, symbols: Symbols, places: Optional[Mapping[tuple[int, int], list[str]]] = None) -> None:
+        self.symbols, self.places = symbols, places or {}
 
     def lines(self, found: Exploration) -> Iterator[str]:
         extent = "these are all" if found.all else "there are more: what is missing below may be in those"
@@ -23,9 +26,8 @@ class ExplorationView:
             yield ""
             yield from self.reached(reached)
         for slot, number, schedule in found.faults:
-            cause = Cause.of_number(number)
             yield ""
-            yield f"slot {slot} can be stopped by fault {number} {cause.title if cause else ''}: {cause.meaning if cause else ''}"
+            yield from self.places.get((slot, number)) or [self.fault(slot, number)]
             yield f"  under the schedule {schedule}"
         for number, outcome in enumerate(found.outcomes, 1):
             yield ""
@@ -33,6 +35,11 @@ class ExplorationView:
         if not found.outcomes:
             yield ""
             yield "no end was found"
+
+    def fault(self, slot: int, number: int) -> str:
+        """A fault whose place is not known."""
+        cause = Cause.of_number(number)
+        return f"slot {slot} can be stopped by fault {number} {cause.title if cause else ''}: {cause.meaning if cause else ''}"
 
     def reached(self, reached: Reached) -> Iterator[str]:
         yield f"group {reached.group}"
