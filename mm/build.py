@@ -88,7 +88,7 @@ def _beside(name: str, error: OSError) -> list[str]:
     if not isinstance(error, FileNotFoundError):
         return []
     if name.isdigit():
-        return [f"how many cycles a run has is said by an option: `--cycles {name}`"]
+        return [f"a number goes with an option: `--cycles {name}` for the cycles of a run, `--states {name}` for `mm explore`"]
     folder, last = os.path.split(name)
     try:
         there = sorted(os.listdir(folder or "."))

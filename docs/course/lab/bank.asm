@@ -1,5 +1,5 @@
-; A bank with one account. Only the gate has a pointer to it: whoever comes in at the door adds 1 to the account, and gets
-; the new amount in r1.
+; A bank with one account. Only the gate has a pointer to it: whoever comes in at the door adds 1 to the account, and
+; gets the new amount in r1.
 .segment gate 6
   .ptr rw account
 door: lip r7, -1          ; a pointer to the word before the door
