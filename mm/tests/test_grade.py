@@ -40,7 +40,7 @@ class Grade(unittest.TestCase):
             ("lab-2", "examples/hello.asm", "there is no bnz and no bz"),
             ("lab-4", "examples/hello.asm", "slot 0 has halted"),
             ("lab-5", "docs/course/lab/bank.asm", "it says nothing"),
-            ("lab-3", "examples/bug.asm", "slot 0 was stopped by fault"),
+            ("lab-3", "examples/faults.asm", "slot 0 was stopped by fault 3 Bounds: "),
         ):
             with self.subTest(name):
                 ended = mm("grade", name, program)
