@@ -20,7 +20,7 @@ door: lip r7, -1
   bnz r8, refused         ; shorter than a word
   ldi r9, 7
   and r8, r1, r9
-  bnz r8, refused         ; not at the begin of a word
+  bnz r8, refused         ; not at the beginning of a word
   ld r8, r7, 0, full, empty
   addi r8, r8, 1
   st r7, r8, 0, empty, full
