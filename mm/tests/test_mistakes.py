@@ -97,7 +97,7 @@ class Files(unittest.TestCase):
             ("0*3 x", "an item is a slot's number"),
             ("0, 1", "no commas"),
             ("07", "no leading zero: 7"),
-            ("s1", "its number alone: 1"),
+            ("s1", "write only the number of a slot: 1"),
         ):
             err = self.refused(2, "run", "examples/counter.asm", "--turns", text)
             self.assertIn("--turns:1:", err)

@@ -162,13 +162,17 @@ class Colours(unittest.TestCase):
                         )
 
 
+# Pages that show no run of their own.
+WITHOUT_RUN = ("README.md", "GRADING.md", "lab.md", "lab-answers.md")
+
+
 class Links(unittest.TestCase):
     """Each lesson and each example leads to the page of its run."""
 
     def documents(self):
         for folder in ("examples", os.path.join("examples", "c"), os.path.join("docs", "course")):
             for name in sorted(os.listdir(path_of(folder))):
-                if name.endswith(".md") and name != "README.md":
+                if name.endswith(".md") and name not in WITHOUT_RUN:
                     yield os.path.join(folder, name)
 
     def test_every_document_has_its_page(self):
