@@ -20,6 +20,7 @@ sys.path.insert(0, TOP)
 from mm.machine.program import find_program  # noqa: E402
 from mm.packing.tree import of_folder  # noqa: E402
 from mm.packing.vsix import vsix  # noqa: E402
+from mm.source.lines import read_line  # noqa: E402
 from mm.status import Stop  # noqa: E402
 
 SOURCES = ("examples/*.asm", "examples/c/*.asm", "docs/course/*.asm", "docs/course/answers/*.asm")
@@ -92,6 +93,21 @@ def check_language(expect, language, configuration):
     expect("vscode: words", [re.match(configuration["wordPattern"], word)[0] for word in WORDS], WORDS)
 
 
+def typed(body):
+    """The lines of a snippet as they stand before anything is changed: each place has its first offer."""
+    for form in (r"\$\{\d+:([^}]*)\}", r"\$\{\d+\|([^,|]*)[^|]*\|\}", r"\$\d+()"):
+        body = [re.sub(form, r"\1", line) for line in body]
+    return body
+
+
+def check_snippets(expect, snippets):
+    """Each line of a snippet is a line of a source, and no two snippets begin with the same word."""
+    lines = [line for snippet in snippets.values() for line in typed(snippet["body"])]
+    expect("vscode: lines of snippets that are none", [line for line in lines if read_line(line).mismatch], [])
+    prefixes = [snippet["prefix"] for snippet in snippets.values()]
+    expect("vscode: beginnings of snippets", (len(prefixes) > 5, len(set(prefixes))), (True, len(prefixes)))
+
+
 def problems(patterns, lines):
     """What a pattern of one line or several finds in lines, as that editor does: each found group by its name."""
     found, at = [], 0
@@ -158,7 +174,7 @@ def check_tasks(expect, about, expressions):
     ended = subprocess.run(words, capture_output=True, text=True, check=False)
     expect("vscode: node", (ended.returncode, ended.stderr), (0, ""))
     tasks = json.loads(ended.stdout) if ended.returncode == 0 else []
-    offered = [[command, "${file}"] for command in ("run", "debug", "trace", "audit")]
+    offered = [[command, "${file}"] for command in ("run", "debug", "trace", "audit", "explore")]
     ran = [(task["execution"]["process"], task["execution"]["args"]) for task in tasks]
     own = ["audit", "a.asm", "--groups", "0"]
     expect("vscode: what tasks run", ran, [("mm", words) for words in [*offered, own]])
@@ -178,7 +194,8 @@ def check_vsix(expect, package):
         for about in ("extension.vsixmanifest", "[Content_Types].xml"):
             xml.etree.ElementTree.fromstring(archive.read(about))
     contributes = package["contributes"]
-    files = [package["main"], contributes["languages"][0]["configuration"], contributes["grammars"][0]["path"]]
+    files = [package["main"], contributes["languages"][0]["configuration"]]
+    files += [contributes[kind][0]["path"] for kind in ("grammars", "snippets")]
     needed = {"package.json", "README.md", *(path[2:] for path in files)}
     expect("vscode: files of the .vsix", {f"extension/{path}" for path in needed} - names, set())
 
@@ -208,6 +225,7 @@ def check(expect):
     if set(patterns) != {"mm", "mm-fault"}:
         return []
     check_language(expect, about["languages"][0], configuration)
+    check_snippets(expect, read_json(about["snippets"][0]["path"]))
     check_lines(expect, patterns)
     check_vsix(expect, package)
     left_out = []

@@ -1,4 +1,4 @@
-; A name is copied into a record that has room for four letters, and the price stands behind them. The name has five.
+; A name is copied into a record that has room for four letters, and the price comes after them. The name has five.
 .segment copy 7
 next: ld r3, r1, 0, any, keep
   bz r3, done

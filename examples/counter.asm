@@ -1,6 +1,6 @@
-; A producer stores numbers into a box, a consumer takes them out and says them as letters, and a gate counts the calls. The consumer
-; holds an enter pointer to the gate's door alone, and has no handler that could look behind it: it cannot touch the count, nor begin
-; anywhere else behind the gate.
+; A producer stores numbers into a box. A consumer takes each number, puts it out as a letter, and calls a gate, which
+; counts the calls. Of the gate the consumer has only an enter pointer to the door, and it has no handler that could
+; look behind the door. So it can neither touch the count nor enter the gate at another place.
 .segment prod 6
 loop: st r1, r2, 0, empty, full
   addi r2, r2, 1
@@ -17,12 +17,12 @@ again: ld r2, r1, 0, full, empty
   halt
 .segment gate 6
   .ptr rw count
-door: lip r7, -1          ; the gate finds its pointer by its own place
+door: lip r7, -1          ; the gate finds its data next to its own code
   ld r7, r7, 0, any, keep
   ld r8, r7, 0, any, keep
   addi r8, r8, 1
   st r7, r8, 0, any, keep
-  ldi r7, 0               ; and leaves it to nobody
+  ldi r7, 0               ; and leaves it in no register
   jmp r6
 .segment box 3
   .empty .int 0

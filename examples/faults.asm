@@ -1,9 +1,9 @@
-; Two threads that reach for memory they were not given. The walker moves a pointer until it stands at the end of its segment; the forger
-; knows the bits of the walker's pointer, and puts them together as an integer.
+; Two threads reach for memory that they were not given. The walker moves its pointer on, past the end of its segment.
+; The forger knows the bits of the walker's pointer, and puts them together as an integer.
 .segment forge 6
   ldi r1, 0x11400000      ; read-only, 2^5 bytes,
   ldhi r1, 0x00100060     ; at the address of the text
-  isptr r2, r1            ; 0: it is no pointer
+  isptr r2, r1            ; 0: it is not a pointer
   ld r3, r1, 0, any, keep
   out r3
   halt

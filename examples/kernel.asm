@@ -1,17 +1,17 @@
-; A small protected kernel: a client pays a credit for each letter that it says. A client holds an enter pointer to a gate of its own. The gate
-; has the one pointer to the client's credits, and a pointer to the kernel, whose code both gates share and nobody can write.
+; A small protected kernel: a client pays a credit for each letter. A client has an enter pointer to a gate of its own,
+; which has the one pointer to its credits, and one to the kernel. The gates share that code, and nobody can write it.
 .segment kernel 6
   ld r8, r7, 0, any, keep ; r7 leads to the credits, r2 is the letter, r6 the way back
   bz r8, poor
   addi r8, r8, -1
   st r7, r8, 0, any, keep
   out r2
-poor: ldi r7, 0           ; the pointer is left to nobody
+poor: ldi r7, 0           ; the pointer is not left to the caller
   jmp r6
 .segment gate_a 6
   .ptr rw credits_a
   .ptr xu kernel
-door_a: lip r7, -2        ; the gate finds its pointers by its own place
+door_a: lip r7, -2        ; the gate finds its pointers from its own place in memory
   ld r8, r7, 8, any, keep
   ld r7, r7, 0, any, keep
   jmp r8

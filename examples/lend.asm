@@ -1,5 +1,5 @@
-; An owner puts a letter into a buffer that it has lent to two others. The reader has its pointer to the buffer in a register; the finder has
-; a pointer to a pocket, and the pointer to the buffer lies in there.
+; An owner puts a letter into a buffer that it has lent to two others. The reader has a pointer to the buffer in a
+; register; the finder has one to a pocket, and in the pocket lies a pointer to the buffer.
 .segment buffer 6
   .empty .int 0
 .segment owner 5

@@ -1,57 +1,60 @@
 ; A mailbox with a state of its own. A writer holds an enter pointer to one gate, a reader to another one. Both gates
 ; lead to the mailbox, and neither thread can touch it on its own. A letter is an integer: a pointer is refused, so that
-; no right goes from one side to the other.
-.segment put_gate 8
-  .ptr rw box
-put: lip r7, -1
-  ld r7, r7, 0, any, keep ; the mailbox, which the gate finds by its own place
-  isptr r8, r1
+; no right goes from one side to the other. The doors hold the pointers and cannot fault. The code after them can, if r6
+; is no way back, and so it is in a segment that holds no pointer.
+.segment code 9
+put: isptr r8, r1         ; r7 leads to the mailbox, r6 back
   bnz r8, refused
-  ld r9, r7, 0, full, empty ; how many letters are in it; nobody else comes in until the word is full again
-  addi r8, r9, -2
-  bz r8, full             ; there is room for two
-  ld r10, r7, 8, any, keep ; the place of the oldest letter, 0 or 1
-  xor r8, r10, r9
-  ldi r11, 1
-  and r8, r8, r11         ; (oldest + number) modulo 2
-  ldi r11, 3
-  shl r8, r8, r11
-  addi r8, r8, 16
-  leab r10, r7, r8
-  st r10, r1, 0, any, keep
-  addi r9, r9, 1
-  st r7, r9, 0, empty, full
+  ld r8, r7, 0, any, keep ; how many letters were put in; only this side writes that word
+  ld r9, r7, 8, any, keep ; how many were taken out; only the other side writes that word
+  sub r9, r8, r9
+  addi r9, r9, -2
+  bz r9, refused          ; there is room for two
+  ldi r9, 1
+  and r9, r8, r9          ; the places take turns
+  ldi r10, 3
+  shl r9, r9, r10
+  addi r9, r9, 16
+  leab r9, r7, r9
+  st r9, r1, 0, any, keep ; first the letter, and then the count
+  addi r8, r8, 1
+  st r7, r8, 0, any, keep
   ldi r2, 1               ; taken
-  br out
-full: st r7, r9, 0, empty, full
-refused: ldi r2, 0        ; not taken
-out: ldi r7, 0            ; the pointers are left to nobody
-  ldi r10, 0
-  jmp r6
-.segment take_gate 8
-  .ptr rw box
-take: lip r7, -1
-  ld r7, r7, 0, any, keep
-  ld r9, r7, 0, full, empty
-  bz r9, none
-  ld r10, r7, 8, any, keep
-  ldi r11, 3
-  shl r8, r10, r11
+  br back
+take: ld r8, r7, 0, any, keep
+  ld r9, r7, 8, any, keep
+  sub r10, r8, r9
+  bz r10, refused         ; no letter is in it
+  ldi r8, 1
+  and r8, r9, r8
+  ldi r10, 3
+  shl r8, r8, r10
   addi r8, r8, 16
   leab r8, r7, r8
   ld r1, r8, 0, any, keep ; the letter
-  ldi r11, 1
-  xor r10, r10, r11
-  st r7, r10, 8, any, keep ; the other place has the oldest one now
-  addi r9, r9, -1
-  st r7, r9, 0, empty, full
+  addi r9, r9, 1
+  st r7, r9, 8, any, keep
   ldi r2, 1
   br back
-none: st r7, r9, 0, empty, full
-  ldi r2, 0
-back: ldi r7, 0
+refused: ldi r2, 0        ; not taken, or no letter
+back: ldi r7, 0           ; nothing before this can fault: no register leads to the mailbox any more
   ldi r8, 0
+  ldi r9, 0
   jmp r6
+.segment put_gate 6
+  .ptr rw box
+  .ptr xu put
+put_door: lip r7, -2      ; the gate finds its pointers from its own place in memory
+  ld r8, r7, 8, any, keep
+  ld r7, r7, 0, any, keep
+  jmp r8
+.segment take_gate 6
+  .ptr rw box
+  .ptr xu take
+take_door: lip r7, -2
+  ld r8, r7, 8, any, keep
+  ld r7, r7, 0, any, keep
+  jmp r8
 .segment writer 6
 again: jal r6, r5
   bz r2, again            ; full: try again
@@ -67,13 +70,13 @@ more: jal r6, r5
   bnz r3, more
   halt
 .segment box 5
-  .int 0                  ; how many letters
-  .int 0                  ; the place of the oldest
+  .int 0                  ; how many letters were put in
+  .int 0                  ; how many were taken out
   .fill 2                 ; two places
 .thread 0 0 none xu writer
 .reg 1 int 65
 .reg 3 int 3
-.reg 5 ptr eu put
+.reg 5 ptr eu put_door
 .thread 1 1 none xu reader
 .reg 3 int 3
-.reg 5 ptr eu take
+.reg 5 ptr eu take_door

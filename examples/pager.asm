@@ -1,6 +1,6 @@
 ; A pager. A client asks for memory by a trap, and gets a pointer to four pages, none of which is mapped yet. The first
-; time that it touches a page it faults. The pager is its handler, and privileged: it maps the page and has the
-; instruction tried again. A client may have two pages.
+; time that it touches a page it faults. The pager is its handler, and privileged: it maps the page and lets
+; the client try the instruction again. A client may have two pages.
 .segment pager 8
 next: evt r4              ; r4 is the cause + 256 * the slot, r6 the pointer that was used
   ldi r1, 255
@@ -10,7 +10,7 @@ next: evt r4              ; r4 is the cause + 256 * the slot, r6 the pointer tha
   addi r1, r2, -11
   bz r1, give             ; 11 is Trap: it asks for memory
   addi r1, r2, -5
-  bnz r1, end             ; 5 is NoPage; for anything else it is ended
+  bnz r1, end             ; 5 is NoPage; any other fault ends the client
   bz r9, end              ; r9 counts the pages that it may still have
   addi r9, r9, -1
   ldi r1, 10

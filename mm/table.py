@@ -55,7 +55,7 @@ STATES = Option("--states", "how many configurations are looked at, 1 to 1000000
 PART = Option("--part", "memory, frames, pages or slots; default: memory (docs/HARDWARE.md)", "NAME")
 RUNNING = (CYCLES, SCHEDULE, TURNS, NAMES)
 FILES = "FILE.."
-EXERCISES = "EXERCISE is lab-1 to lab-5 for a task of the first lab, 1.1 to 8.2, 10.1 or 10.2 for an exercise of a lesson, or a file of your own (docs/course/GRADING.md)."
+EXERCISES = "EXERCISE is lab-1 to lab-5 for a task of the first lab, 1.1 to 8.2 or 10.1 to 11.2 for an exercise of a lesson, or a file of your own (docs/course/GRADING.md)."
 
 # fmt: off
 COMMANDS = (

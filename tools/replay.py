@@ -4,7 +4,7 @@
     replay.py IMAGE LOG [TURNS]
 
 LOG is what `mmachine log IMAGE ..` wrote. Its lines are carried out from the image's state on, up to the first line of
-the report behind them or for so many lines of turns and deliveries. No instruction is read. What is written is the
+the report after them or for so many lines of turns and deliveries. No instruction is read. What is written is the
 report of `mmachine run`, without its lines `cycles` and `counts`, which tell what a log does not.
 """
 

@@ -227,6 +227,9 @@ def long_ago():
     yield again("st-in-each-block-of-two-pages-and-load", [64 * block for block in range(128)], 2)
     yield again("st-in-twenty-pages-and-load", [PAGE_BYTES * page + 8 for page in range(20)], 20)
     yield again("st-in-other-blocks-of-twenty-pages-and-load", [(PAGE_BYTES + 64) * page for page in range(20)], 20)
+    # The last store takes the line of the first one's block, whose page was looked up before those of fifteen others.
+    others = [(PAGE_BYTES + 64) * page for page in range(1, 15)]
+    yield again("st-over-a-block-of-a-page-used-long-ago", [0x800 + at for at in (0, *others, 15 * PAGE_BYTES)], 16)
     yield again("st-in-the-same-words-twice-and-load", [*far, *reversed(far)], 3)
     held = {1: ALL_DATA, 2: pointer("key", 54, 9)}
     for name, text in {"ld": "ld r3, r1, {}, empty, full", "st": "st r1, r1, {}, empty, keep"}.items():

@@ -8,7 +8,7 @@ chain.img     each cell has a read-only pointer to the next, and r1 one to the f
 falling.img   r1 reads all cells, which hold pointers to words that can be written, in falling order
 late.img      the chain, and at its end a pointer to a word that can be written, which another group loads
 chain64.img, falling64.img, random64.img   the same for 64 groups with a slot each; random64.img has the pointers of falling.img in random order
-words64.img   the chain for 64 groups, each with a word of its own that it can write, behind all pages
+words64.img   the chain for 64 groups, each with a word of its own that it can write, after all pages
 gates64.img   each cell has an enter pointer to the next, and each of 64 groups one to another cell
 scattered64.img   the falling pointers, and 64 groups with 15 registers each that read segments of random lengths at random places
 
@@ -24,8 +24,8 @@ CELLS = 512 * (PAGES - 1)
 ALL = (pointer(READ_ONLY, 24, POINTERS), 1)
 FIRST = (pointer(READ_ONLY, 3, POINTERS), 1)
 IP = pointer(EXECUTE, 12, CODE * 4096)
-OWN = CODE * 4096 + 2048  # words of the page of the code, behind it
-FAR = 1 << 30  # words behind all pages
+OWN = CODE * 4096 + 2048  # words of the page of the code, after it
+FAR = 1 << 30  # words after all pages
 
 
 def pages_of(cells):

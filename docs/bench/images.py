@@ -72,7 +72,7 @@ registers = [addi(1, 1, 1), addi(2, 2, 1), addi(3, 3, 1), br(-3)]
 memory = [addi(3, 3, 1), st(1, 3), ld(4, 2), br(-3)]
 A, B = 0x200 * 4096 + 64, 0x201 * 4096 + 64  # two blocks with the index of one line, which is not that of the code
 
-# Each cell of the other pages has a pointer to the word behind it, and r1 one to the first.
+# Each cell of the other pages has a pointer to the word after it, and r1 one to the first.
 POINTERS = 0x1000 * 4096
 
 

@@ -7,7 +7,7 @@ CODE = 0x100 * 4096
 DATA = 0x200 * 4096  # the store of hits.img and collisions.img is to DATA + 64
 MARKS = 64
 
-# breaks of the slot that runs, behind its loop, and watches of words beside the one that it stores to: none of them ever stops the run
+# breaks of the slot that runs, after its loop, and watches of words beside the one that it stores to: none of them ever stops the run
 marks = [f"break 0 {CODE + 64 + 8 * k}" for k in range(MARKS)]
 marks += [f"watch {DATA + 512 + 8 * k}" for k in range(MARKS)]
 

@@ -1,4 +1,4 @@
-; One thread says h and i, another one says an exclamation mark. In which orders can the three come?
+; One thread puts out h and i, another one an exclamation mark. In which orders can the three letters come?
 .segment greets 5
   out r1
   out r2

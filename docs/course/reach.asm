@@ -1,4 +1,4 @@
-; A reader has a shelf, and on the shelf lies a pointer to a book. Another has a pointer to the book. Neither does anything.
+; A reader has a shelf with a pointer to a book. Another thread has a pointer to the book too. Neither does anything.
 .segment reader 4
   halt
 .segment other 4

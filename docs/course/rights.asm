@@ -5,8 +5,8 @@
   ld r4, r3, 0, any, keep
   out r4
   ldi r5, 66
-  st r1, r5, 0, any, keep ; by the old pointer it may
-  st r3, r5, 0, any, keep ; by the new one it may not
+  st r1, r5, 0, any, keep ; the old pointer allows it
+  st r3, r5, 0, any, keep ; the new one does not
   halt
 .segment note 3
   .int 65

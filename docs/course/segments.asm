@@ -1,15 +1,15 @@
-; A pointer to eight letters is moved, and then made shorter: what is left of it reaches two of them.
+; A pointer to eight letters is moved, and then its segment is shortened: what is left has two of the letters.
 .segment main 7
   leai r2, r1, 40         ; to the letter F, 5 words on
   ldi r3, 4
-  subseg r4, r2, r3       ; the 2^4 bytes round it
+  subseg r4, r2, r3       ; the 2^4 bytes around F
   ldi r5, 0
   leab r6, r4, r5         ; to the base of these
   ld r7, r6, 0, any, keep
   out r7
   ld r7, r6, 8, any, keep
   out r7
-  leai r6, r6, 16         ; behind them
+  leai r6, r6, 16         ; past the end of these
   halt
 .segment letters 6
   .int 65                 ; A to H

@@ -11,6 +11,7 @@ const OFFERED = [
   ["debug", "debug this file"],
   ["trace", "trace this file"],
   ["audit", "audit this file"],
+  ["explore", "look at every schedule of this file"],
 ];
 
 function taskOf(definition, name) {

@@ -51,6 +51,6 @@ P_0: .ptr rw gate_visitors+0
   ldi r6, 0
   ldi r13, 0
   jmp r14
-  trap 14
+  halt
 .segment gate_door_stack 16
 ;@ type 1 base i8 long

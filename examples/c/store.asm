@@ -313,7 +313,7 @@ P_1: .ptr rw store_drawers+0
   ldi r6, 0
   ldi r13, 0
   jmp r14
-  trap 14
+  halt
 .segment door_put_in 9
   .ptr rw store_turn
   .ptr xu store_mm_door_put_in
@@ -351,7 +351,7 @@ P_1: .ptr rw store_drawers+0
   ldi r6, 0
   ldi r13, 0
   jmp r14
-  trap 14
+  halt
 .segment door_look_in 9
   .ptr rw store_turn
   .ptr xu store_mm_door_look_in
@@ -389,7 +389,7 @@ P_1: .ptr rw store_drawers+0
   ldi r6, 0
   ldi r13, 0
   jmp r14
-  trap 14
+  halt
 .segment store_door_stack 16
 ;@ type 1 pointer 0
 ;@ type 2 base i4 int

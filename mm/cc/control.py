@@ -8,7 +8,7 @@ from mm.cc.code import Call, Code, CodeBlock
 from mm.cc.ends import Ends
 from mm.cc.forms import RAW, SIGNED, ZEROED, bits_of
 from mm.cc.ir import Block, FloatType, Instruction, IntType, Local, PointerType, Type, Value, VectorType
-from mm.cc.pointers import Pointer, is_twice
+from mm.cc.pointers import Pointer, is_twice, read_unset
 from mm.cc.reading import FLOATING, FLOAT_CASTS
 from mm.cc.variables import event_of
 from mm.cc.untranslated import Untranslated
@@ -34,6 +34,7 @@ class Translator(Ends):
                          for label in block.body[-1].labels}
         self.several()
         self.entry()
+        self.clear_unset()
         starts: dict[str, CodeBlock] = {}
         first = True
         for block in self.order:
@@ -87,6 +88,11 @@ class Translator(Ends):
                 self.pointers[name] = Pointer(self.code.new(), self.code.new() if name in self.bases.moved else None)
             else:
                 self.numbers[name] = {RAW: self.code.new()}
+
+    def clear_unset(self) -> None:
+        """Locals that may be read before they are set hold 0, and not a number that their type does not have."""
+        for name in read_unset(self.order, self.promoted):
+            self.emit("mov", self.numbers[name][RAW], self.constant(0))
 
     def several(self) -> None:
         """Registers for values that come from several blocks, before any code: a loop uses them before they are all

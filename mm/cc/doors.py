@@ -34,9 +34,10 @@ def check(module: Module, function: Function) -> None:
 def stub(function: Function, label: str, turn: str) -> list[str]:
     """The segment of a door. Who enters has an enter pointer alone, and cannot see these words.
 
-    The way back must be a pointer that runs or enters. Then the stub waits until the program's stack is there, which one
-    caller at a time has; leaves the caller's stack and way back on it; calls the function; takes all away that it left;
-    puts the stack back; and clears the registers but for the result."""
+    The way back must be a pointer that runs or enters; if not, the thread halts, which is no fault, so that no handler
+    gets to see where it was. Then the stub waits until the program's stack is there, which one caller at a time has;
+    leaves the caller's stack and way back on it; calls the function; takes all away that it left; puts the stack back;
+    and clears the registers but for the result."""
     name = public_name(function.name)
     void = isinstance(function.result, VoidType)
     cleared = [register for register in range(0 if void else 1, ARGUMENTS + 1)]
@@ -56,7 +57,7 @@ def stub(function: Function, label: str, turn: str) -> list[str]:
         "  isptr r12, r14", f"  bz r12, {7 + len(head) + len(tail)}", "  ldi r12, 60", "  shr r12, r14, r12",
         "  addi r12, r12, -3", "  bz r12, 3", "  addi r12, r12, -2", f"  bnz r12, {1 + len(head) + len(tail)}",
     ]
-    return [f".segment {name} {DOOR_LOG}", f"  .ptr rw {turn}", f"  .ptr xu {label}", *test, *head, *tail, "  trap 14"]
+    return [f".segment {name} {DOOR_LOG}", f"  .ptr rw {turn}", f"  .ptr xu {label}", *test, *head, *tail, "  halt"]
 
 
 def thread_of(program: Program, options: Options) -> tuple[int, int, Optional[int]]:

@@ -6,6 +6,7 @@ from dataclasses import dataclass
 from typing import Optional, Union
 
 from mm.cc.ir import (
+    Block,
     Expression,
     Function,
     Global,
@@ -187,6 +188,33 @@ def promotable(function: Function) -> dict[str, Type]:
                 ):
                     found.pop(place.name)
     return found
+
+
+def read_unset(blocks: list[Block], promoted: dict[str, Type]) -> list[str]:
+    """The numbers among these locals that may be read before they are set, given the blocks that can be reached, the
+    first of them first."""
+    names = {name for name, type_ in promoted.items() if isinstance(type_, IntType)}
+    may_be_unset: dict[str, set[str]] = {blocks[0].name: set(names)}
+    by_name = {block.name: block for block in blocks}
+    found: set[str] = set()
+    work = [blocks[0].name]
+    while work:
+        block = by_name[work.pop()]
+        unset = set(may_be_unset[block.name])
+        for made in block.body:
+            place = made.operands[-1] if made.op in ("load", "store") else None
+            if isinstance(place, Local) and place.name in unset:
+                if made.op == "load":
+                    found.add(place.name)
+                else:
+                    unset.discard(place.name)
+        last = block.body[-1]
+        for label in [*last.labels, *[label for _, label in last.cases]]:
+            before = may_be_unset.get(label)
+            if before is None or not unset <= before:
+                may_be_unset[label] = unset | (before or set())
+                work.append(label)
+    return [name for name in promoted if name in found]
 
 
 def _plain(type_: Optional[Type]) -> bool:

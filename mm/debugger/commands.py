@@ -5,6 +5,7 @@ from __future__ import annotations
 from dataclasses import dataclass
 from typing import Callable, Iterable, Iterator
 
+from mm.debugger.conditions import condition_in
 from mm.debugger.evaluate import count_of, place_of, slot_of, span
 from mm.debugger.of_c import by_lines, c_text, local_lines, value_text
 from mm.debugger.points import PointKind
@@ -130,6 +131,7 @@ def _start(debugger: Debugger, rest: str) -> Lines:
 
 def _set_break(debugger: Debugger, rest: str, once: bool = False) -> Lines:
     session = debugger.session
+    rest, condition = condition_in(rest, session)
     place, slot = slot_of(rest, session)
     kinds = {
         "fault": PointKind.FAULT,
@@ -139,16 +141,17 @@ def _set_break(debugger: Debugger, rest: str, once: bool = False) -> Lines:
         "enter": PointKind.ENTRY,
     }
     if place in kinds and not session.symbols.named(place):
-        point = session.add(kinds[place], "", slot=slot, once=once)
+        point = session.add(kinds[place], "", slot=slot, once=once, condition=condition)
         yield f"{point.number}: {point}"
         return
     address, length = place_of(place, session)
     if any(symbol.address == address for symbol in session.symbols.named(place)):
         address = session.symbols.c_body(address) or address
-    point = session.add(PointKind.BREAK, place, address, length, slot, once)
+    point = session.add(PointKind.BREAK, place, address, length, slot, once, condition)
     name, origin = session.symbols.show(address), session.symbols.origin(address)
+    given = f" if {condition.text}" if condition else ""
     if length > 8:
-        yield f"{point.number}: break where {'a slot' if slot is None else f'slot {slot}'} comes into {name}"
+        yield f"{point.number}: break where {'a slot' if slot is None else f'slot {slot}'} comes into {name}{given}"
         return
     typed = "" if place == name else f"{place} "
     alone = "" if slot is None else f" of slot {slot}"
@@ -157,7 +160,7 @@ def _set_break(debugger: Debugger, rest: str, once: bool = False) -> Lines:
     copies = len(session.symbols.places_of_inlined(place)) if of_c and not session.symbols.named(place) else 0
     more = f" (the first of {copies} places where `{place}` was inlined)" if copies > 1 else ""
     said = of_c or (f", {origin}: {origin.code}" if origin else "")
-    yield f"{point.number}: break {typed}at {name}{alone}{said}{more}"
+    yield f"{point.number}: break {typed}at {name}{alone}{given}{said}{more}"
 
 
 def _set_once(debugger: Debugger, rest: str) -> Lines:
@@ -166,13 +169,15 @@ def _set_once(debugger: Debugger, rest: str) -> Lines:
 
 def _set_watch(kind: PointKind) -> Callable[[Debugger, str], Lines]:
     def run(debugger: Debugger, rest: str) -> Lines:
+        rest, condition = condition_in(rest, debugger.session)
         place, slot = slot_of(rest, debugger.session)
         if not place:
             raise Wrong(f"say which word: `{kind.title} count`, `{kind.title} box+8`, `{kind.title} 0x100100`")
         address, length = span(place, debugger.session)
-        point = debugger.session.add(kind, place, address & ~7, length, slot)
+        point = debugger.session.add(kind, place, address & ~7, length, slot, condition=condition)
         now = debugger.show.cell(debugger.session.memory.cell(point.address)) if length == 8 else f"{length // 8} words"
-        yield f"{point.number}: {kind.title} {place}, now {c_text(place, debugger) or now}"
+        given = f" if {condition.text}" if condition else ""
+        yield f"{point.number}: {kind.title} {place}{given}, now {c_text(place, debugger) or now}"
 
     return run
 
@@ -316,9 +321,9 @@ ENTRIES = (
     Entry(("goto",), "N", "to the state after N cycles", "", _goto),
     Entry(("run", "r"), "", "from the start to the first stop", "", _run),
     Entry(("start",), "", "to the start", "", _start),
-    Entry(("break", "b"), "PLACE", "stop before a place; `break fault`, `break entry`; `.. slot N` for only one slot", "place", _set_break),
+    Entry(("break", "b"), "PLACE", "stop before a place; `break fault`, `break entry`; `.. slot N` for only one slot, `.. if r3 == 32` only then", "place", _set_break),
     Entry(("tbreak", "tb"), "PLACE", "the same, once", "place", _set_once),
-    Entry(("watch", "w"), "NAME", "stop after each write of a word, or of its bit", "place", _set_watch(PointKind.WATCH)),
+    Entry(("watch", "w"), "NAME", "stop after each write of a word, or of its bit; `.. slot N`, `.. if count > 5`", "place", _set_watch(PointKind.WATCH)),
     Entry(("rwatch", "rw"), "NAME", "stop after each load", "place", _set_watch(PointKind.READ)),
     Entry(("awatch", "aw"), "NAME", "stop after each load or write", "place", _set_watch(PointKind.ACCESS)),
     Entry(("delete", "d"), "[N]", "remove a break or a watch, or all; 0 is the stop at faults", "", _delete),

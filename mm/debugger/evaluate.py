@@ -18,6 +18,10 @@ SLOT = re.compile(r"(.*?)\s*\b(?:if\s+)?(?:slot|thread)\s+(\d+)")
 SOME_LINES = 100_000
 
 
+class Empty(NoAddress):
+    """A register whose load has not arrived."""
+
+
 def count_of(text: str, least: int = 1) -> int:
     """A number of cycles or turns, 1 where none is written."""
     if not text:
@@ -50,7 +54,7 @@ def _register(text: str, session: Session) -> Optional[Word]:
         raise NoAddress(f"there is no register {text}: r0 to r15, and ip")
     word = slot.register(int(match[1]))
     if word is None:
-        raise NoAddress(f"{text} is empty: its load has not arrived")
+        raise Empty(f"{text} is empty: its load has not arrived")
     return word
 
 

@@ -5,9 +5,12 @@ from __future__ import annotations
 import re
 from dataclasses import dataclass
 from enum import Enum
-from typing import Iterable, Optional
+from typing import TYPE_CHECKING, Iterable, Optional
 
 from mm.outputs.trace import Turn
+
+if TYPE_CHECKING:
+    from mm.debugger.conditions import Condition
 
 
 class PointKind(Enum):
@@ -33,7 +36,8 @@ LONGEST_LIST = 64
 
 @dataclass
 class Point:
-    """A point: its number, its kind, what was typed, where it is, how many bytes it covers, and the slot that it is for."""
+    """A point: its number, its kind, what was typed, where it is, how many bytes it covers, the slot that it is for, and
+    what must be so there."""
 
     number: int
     kind: PointKind
@@ -42,6 +46,7 @@ class Point:
     length: int = 8
     slot: Optional[int] = None
     once: bool = False
+    condition: Optional[Condition] = None
     hits: int = 0
 
     @property
@@ -82,6 +87,7 @@ class Point:
                     self.text,
                     f"slot {self.slot}" if self.slot is not None else "",
                     "once" if self.once else "",
+                    f"if {self.condition.text}" if self.condition else "",
                 ],
             )
         )

@@ -4,7 +4,7 @@ from __future__ import annotations
 
 import re
 from dataclasses import dataclass
-from typing import Callable, Optional
+from typing import TYPE_CHECKING, Callable, Optional
 
 from mm.build import Built
 from mm.console import Console, Order
@@ -15,6 +15,9 @@ from mm.outputs.report import Report, SlotState
 from mm.outputs.trace import Turn
 from mm.views.cvalues import CValues
 from mm.views.spell import Memory, Speller
+
+if TYPE_CHECKING:
+    from mm.debugger.conditions import Condition
 
 ANY_TURN = re.compile("^t ")
 
@@ -76,9 +79,10 @@ class Session:
         length: int = 8,
         slot: Optional[int] = None,
         once: bool = False,
+        condition: Optional[Condition] = None,
     ) -> Point:
         self.made += 1
-        point = Point(self.made, kind, text, address, length, slot, once)
+        point = Point(self.made, kind, text, address, length, slot, once, condition)
         self.points.append(point)
         return point
 
@@ -109,9 +113,20 @@ class Session:
     def _met(self, cycle: int, turn: Turn) -> Optional[Point]:
         """The point that a turn meets. A break is met once by a slot that waits at it."""
         for point in sorted(self.points, key=lambda point: not point.kind.before):
-            if point.meets(turn) and not (point.kind.before and self._was_there(cycle, turn, point)):
+            if self._meets(cycle, turn, point) and not (point.kind.before and self._was_there(cycle, turn, point)):
                 return point
         return None
+
+    def _meets(self, cycle: int, turn: Turn, point: Point) -> bool:
+        """Whether a turn meets a point, and its condition holds: before the turn for a break, after it for all others."""
+        if not point.meets(turn) or point.condition is None:
+            return point.meets(turn)
+        here = self.total, self.slot
+        self.total, self.slot = cycle - 1 if point.kind.before else cycle, turn.slot
+        try:
+            return point.condition.holds(self)
+        finally:
+            self.total, self.slot = here
 
     def _was_there(self, cycle: int, turn: Turn, point: Point) -> bool:
         """Whether a slot waits at a break since an earlier turn, or is in a range since then."""
@@ -127,7 +142,7 @@ class Session:
         for cycle, turn in self.history.after(self.total, pattern_of(self.points)):
             here = [point for point in self.points if point.kind.before] if cycle == self.total + 1 else []
             point = (
-                next((point for point in self.points if point not in here and point.meets(turn)), None)
+                next((each for each in self.points if each not in here and self._meets(cycle, turn, each)), None)
                 if here
                 else self._met(cycle, turn)
             )
@@ -156,7 +171,9 @@ class Session:
                 self.total, self.slot = cycle - 1, slot
                 return Halt(turn=self.history.previous(cycle, slot))
             point = None if first and turn.slot == slot else self._met(cycle, turn)
-            point = point or next((each for each in self.points if not each.kind.before and each.meets(turn)), None)
+            if point is None:
+                after = [each for each in self.points if not each.kind.before]
+                point = next((each for each in after if self._meets(cycle, turn, each)), None)
             if point:
                 return self._stop(cycle, turn, point)
             first = first and turn.slot != slot

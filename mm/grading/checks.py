@@ -13,6 +13,7 @@ from mm.grading.sheet import Expectation, Sheet
 from mm.machine.causes import Cause
 from mm.machine.words import Word
 from mm.messages.files import NamedFile
+from mm.names.expressions import NoAddress, address_of
 from mm.names.numbers import counted, number_of
 from mm.outputs.audit import read_audit
 from mm.outputs.exploration import Exploration, read_exploration
@@ -137,6 +138,17 @@ def register(program: Program, number: str, name: str, value: str) -> Optional[s
     return None if found == Word(number_in(value) % 2**64) else f"{name} is {found if found is not None else 'empty'}"
 
 
+def word(program: Program, name: str, value: str) -> Optional[str]:
+    try:
+        address = address_of(name, program.built.symbols)
+    except NoAddress as no:
+        return str(no)
+    cell = program.report.cells.get(address) or program.built.image.cell(address)
+    if cell is None:
+        return f"there is no memory at {name}"
+    return None if cell.word == Word(number_in(value) % 2**64) else f"{name} is {cell.word}"
+
+
 def apart(program: Program, *groups: str) -> Optional[str]:
     return None if program.apart(",".join(groups)) else "the audit says that they do not"
 
@@ -186,6 +198,7 @@ CHECKS: dict[str, Callable[..., Optional[str]]] = {
     "halts": halts,
     "faults": faults,
     "register": register,
+    "word": word,
     "apart": apart,
     "shares": shares,
     "uses": uses,

@@ -16,6 +16,7 @@ FORMS = {
     "halts": "halts SLOT..",
     "faults": "faults SLOT FAULT",
     "register": "register SLOT rN VALUE",
+    "word": "word NAME VALUE",
     "apart": "apart GROUP..",
     "shares": "shares GROUP..",
     "uses": "uses OPERATION..",

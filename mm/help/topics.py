@@ -146,7 +146,8 @@ A gate: its segment begins with its pointers, and its caller has only an `eu` po
       ld r7, r7, 0, any, keep ; the pointer to the count
       ..
       ldi r7, 0               ; leave nothing to the caller
-      jmp r6                  ; the caller came by `jal r6, r5`""",
+      jmp r6                  ; the caller came by `jal r6, r5`
+If the caller has a handler, a fault in the gate shows it the registers and this segment: docs/IDIOMS.md says what to do.""",
 )
 
 WAITING = Topic(

@@ -28,7 +28,7 @@ class NoLog(Exception):
 
 
 class LogReader:
-    """A log that is read as it comes: first its steps, then the report behind them."""
+    """A log that is read as it comes: first its steps, then the report after them."""
 
     def __init__(self, lines: Iterable[str]) -> None:
         self.lines = iter(lines)

@@ -96,7 +96,7 @@ def has_more(report: Report, order: Order) -> bool:
 
 
 def fill(window: Window, steps: Iterator[tuple[int, Step]], most: int) -> None:
-    """Carries out the turns before a window, and keeps those in it. All others are read, since the report is behind them."""
+    """Carries out the turns before a window, and keeps those in it. All others are read, since the report comes after them."""
     for cycle, step in steps:
         if cycle < window.first:
             window.machine.carry_out(step)

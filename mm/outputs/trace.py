@@ -1,4 +1,4 @@
-"""Traces: a line for each turn, and the report behind them."""
+"""Traces: a line for each turn, and the report after them."""
 
 from __future__ import annotations
 
@@ -61,7 +61,7 @@ def read_turn(line: str) -> Optional[Turn]:
 
 
 def split_trace(text: str) -> tuple[list[str], Report]:
-    """The lines of the turns, and the report behind them."""
+    """The lines of the turns, and the report after them."""
     begin = 0 if text.startswith("cycles ") else text.find("\ncycles ") + 1
     return text[:begin].splitlines(), read_report(text[begin:].splitlines())
 

@@ -2,18 +2,20 @@
 
 from __future__ import annotations
 
-from typing import Optional
+from typing import Iterator
 
 from mm.build import Built
 from mm.machine.isa import decode
 from mm.machine.words import ZERO, Cell, bytes_in_words
 from mm.names.symbols import Region
-from mm.pictures.parts import Codes, legend
+from mm.pictures.parts import Codes, Mark, legend
 from mm.pictures.svg import MARGIN, WIDTH, Picture
 from mm.views.spell import Speller
 
 ACROSS, HIGH, MOST_WORDS = 16, 24, 128
 WIDE = (WIDTH - 2 * MARGIN) / ACROSS
+# The kinds of words, and what the legend calls them.
+KINDS = (("code", "code"), ("pointer", "a pointer"), ("integer", "an integer"), ("", "0"))
 
 
 def draw_cell(picture: Picture, what: str, x: float, y: float, tint: str = "tint-0", full: bool = True,
@@ -30,6 +32,11 @@ def draw_cell(picture: Picture, what: str, x: float, y: float, tint: str = "tint
             stroke_width=1.5)
 
 
+def shown(region: Region) -> int:
+    """How many words of a segment are drawn."""
+    return min(1 << region.log - 3, MOST_WORDS)
+
+
 class ImagePicture:
     """The picture of one image."""
 
@@ -38,7 +45,7 @@ class ImagePicture:
         self.codes, self.speller = Codes(built.image, built.symbols), Speller(built.symbols)
 
     def what(self, address: int, cell: Cell) -> str:
-        """What a word is. In code each instruction is code, a halt too; behind the last word of a source there is nothing."""
+        """What a word is. In code each instruction is code, a halt too; after the last word of a source there is nothing."""
         if cell.word.tagged:
             return "pointer"
         region = self.built.symbols.region(address)
@@ -69,27 +76,30 @@ class ImagePicture:
         picture.text(WIDTH - MARGIN, picture.down + 14, f"{bytes_in_words(region.log)} at 0x{region.base:x}{kind}",
             13, "soft", "end")
         picture.down += 20
-        words = min(1 << region.log - 3, MOST_WORDS)
-        for at in range(words):
-            cell: Optional[Cell] = self.built.image.cell(region.base + 8 * at)
+        for at, what, full in self.words(region):
+            x, y = MARGIN + at % ACROSS * WIDE, picture.down + at // ACROSS * HIGH
+            draw_cell(picture, what, x, y, code.tint if code else "tint-0", full)
+        picture.down += (shown(region) + ACROSS - 1) // ACROSS * HIGH + 6
+
+    def words(self, region: Region) -> Iterator[tuple[int, str, bool]]:
+        """The words of a segment that are drawn: which one of it each is, its kind, and whether it is full."""
+        for at in range(shown(region)):
+            cell = self.built.image.cell(region.base + 8 * at)
             if cell:
-                x, y = MARGIN + at % ACROSS * WIDE, picture.down + at // ACROSS * HIGH
-                draw_cell(picture, self.what(region.base + 8 * at, cell), x, y, code.tint if code else "tint-0",
-                    cell.full)
-        picture.down += (words + ACROSS - 1) // ACROSS * HIGH + 6
+                yield at, self.what(region.base + 8 * at, cell), cell.full
+
+    def marks(self) -> Iterator[tuple[Mark, str]]:
+        """What the legend has: the kinds that are drawn, and an empty word if there is one."""
+        drawn = {(what, full) for region in self.built.symbols.regions for _, what, full in self.words(region)}
+        for kind, title in KINDS:
+            if (kind, True) in drawn or (kind, False) in drawn:
+                yield lambda picture, x, y, kind=kind: draw_cell(picture, kind, x, y - 2, width=22), title
+        if any(not full for _, full in drawn):
+            yield lambda picture, x, y: draw_cell(picture, "", x, y - 2, full=False, width=22), "empty"
 
     def draw(self) -> Picture:
         self.slots()
-        legend(
-            self.picture,
-            [
-                (lambda picture, x, y: draw_cell(picture, "code", x, y - 2, width=22), "code"),
-                (lambda picture, x, y: draw_cell(picture, "pointer", x, y - 2, width=22), "a pointer"),
-                (lambda picture, x, y: draw_cell(picture, "integer", x, y - 2, width=22), "an integer"),
-                (lambda picture, x, y: draw_cell(picture, "", x, y - 2, width=22), "0"),
-                (lambda picture, x, y: draw_cell(picture, "", x, y - 2, full=False, width=22), "empty"),
-            ],
-        )
+        legend(self.picture, self.marks())
         for region in self.built.symbols.regions:
             self.region(region)
         return self.picture

@@ -32,5 +32,5 @@ def draw() -> Picture:
     picture.arrow(middle_left, top + HIGH, middle_left, low)
     picture.text(middle_left + 8, (top + HIGH + low) / 2 + 26, "halt", 13, "ink", "start", True)
     picture.down = low + HIGH + 18
-    picture.paragraph("While it is taken, the handler reads and writes its registers by rreg and wreg. retry: the same instruction again. skip: the next one. kill: the end.", 13)
+    picture.paragraph("While it is taken, the handler reads and writes its registers with rreg and wreg. retry: the same instruction again. skip: the next one. kill: the end.", 13)
     return picture

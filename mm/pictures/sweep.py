@@ -54,5 +54,5 @@ def draw(built: Built, lines: Sequence[str], swept: Image, base: int, title: str
             [name, "nobody's" if when == "After" else ""][: 2 if when == "After" else 1], "tint-2", 14)
         picture.down = top + len(rows) * ROW
     picture.down += 2
-    picture.paragraph("Integer 0 stands where the pointers were, and the range can be given out anew. Its words stay as they are.")
+    picture.paragraph("There is integer 0 where the pointers were, and the range can be given out anew. Its words stay as they are.")
     return picture

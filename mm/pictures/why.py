@@ -1,4 +1,4 @@
-"""A derivation as a graph: a box for each pointer that a group is granted, tinted by its group, and arrows from the pointers by which it is."""
+"""A derivation as a graph: a box for each pointer that a group is granted, tinted by its group, and arrows from the pointers that it follows from."""
 
 from __future__ import annotations
 
@@ -100,7 +100,7 @@ def draw(lines: list[Line], ask: Asked, built: Built, title: str) -> Picture:
         picture.paragraph(f"It cannot: no pointer that does is granted to group {ask.group}, and {word} stays out of its reach.")
         return picture
     picture.paragraph(
-        "Each box is a pointer that a group is granted. Arrows come from the pointers by which it is.", SIZE, "soft")
+        "Each box is a pointer that a group is granted. Arrows come from the pointers that it follows from.", SIZE, "soft")
     top, derivation = picture.down + 6, Derivation(lines, built.symbols)
     for arrow in derivation.arrows:
         derivation.arrow(picture, arrow, top)

@@ -25,6 +25,7 @@ EXAMPLES = (
     (("exploit",), {0: "the door stays shut\nthe door opens\n"}),
     (("gate", "guest", "thief"), {0: "2 3 4 ", 1: "1 "}),
     (("store", "ann", "ben"), {0: "1234", 1: "77 -1 -1 -1"}),
+    (("anns_store", "ann_alone", "bens_store", "ben_alone"), {0: "1234", 1: "77 -1 -1 -1"}),
     (("producer", "consumer"), {0: "", 1: "guarded pointers in C\n"}),
     (("worker", "keeper"), {0: "100\n", 1: "slot 0 divides by zero: by 1 instead\nslot 0 calls: it goes on\n"
                                            "slot 0 has fault 3: it is ended\n"}),
@@ -178,6 +179,14 @@ define i32 @main() {{
             for group, text in outputs.items():
                 self.assertIn(f'"group": {group}', ended.out)
                 self.assertIn(text.encode().hex(), ended.out)
+
+    def test_a_door_without_a_way_back_shows_nothing_to_a_handler(self):
+        with folder() as room:
+            caller = write(room, "caller.asm", ".segment caller 3\n  jmp r5\n.segment hears 4\n  evt r4\n  halt\n"
+                           ".thread 2 2 3 xu caller\n.reg 5 ptr eu door_count+16\n.thread 3 2 none xu hears\n")
+            told = mm("run", "examples/c/gate.asm", caller).out
+        self.assertIn("slot 2  halted at door_count", told)
+        self.assertIn("slot 3  waiting at evt r4", told)
 
     def test_a_fault_in_the_words_of_c(self):
         told = mm("run", "examples/c/overflow.asm").out

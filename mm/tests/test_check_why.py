@@ -10,6 +10,7 @@ from mm.status import Status
 from mm.tests.support import folder, mm
 from mm.why.check import check
 from mm.why.lines import WrongLine, read_lines
+from mm.why.shortest import Grants
 
 PAGE = 0x100
 BOX, GATE, COUNT, DOOR = 0x100000, 0x100040, 0x100100, 0x100048
@@ -108,6 +109,13 @@ class Derivations(unittest.TestCase):
     def test_right(self):
         for lines, group, address, kind in RIGHT:
             check(read_image(IMAGE), read_lines(lines), group, address, kind)
+
+    def test_shortest(self):
+        # Privileged code can store any pointer where a group loads, so two of them are longer than they need be.
+        grants = Grants(read_image(IMAGE))
+        for (_, group, address, kind), count in zip(RIGHT, (3, 4, 4, 2, 3)):
+            self.assertEqual(grants.shortest(group, address, kind, 10), count)
+            self.assertIsNone(grants.shortest(group, address, kind, count - 1))
 
     def test_wrong(self):
         for lines, old, new, group, address, kind, number in WRONG:

@@ -59,6 +59,38 @@ class Sessions(unittest.TestCase):
         self.assertIn("`help` lists them", said[6])
         self.assertEqual(said[7:], ["&box = 1048832 0x100100", "r2 = 1   (0x1)"])
 
+    def test_conditions(self):
+        lines = ["b loop if r3 == 1", "c", "p r3", "w count if count >= 2", "c", "p count", "reverse", "p r3", "info b"]
+        said = self.session(lines, "examples/counter.asm")
+        self.assertIn("1: break loop at prod if r3 == 1, examples/counter.asm:5: ", said[0])
+        self.assertIn("slot 0 is at prod ", said[1])
+        self.assertEqual(said[2], "r3 = 1   (0x1)")
+        self.assertIn("watch count if count >= 2, now 0", said[3])
+        self.assertIn("count was 1, and is 2", said[4])
+        self.assertIn("break 1: loop", said[6])
+        self.assertEqual(said[7], "r3 = 1   (0x1)")
+        self.assertIn("break loop if r3 == 1 at prod  (met 2 times)", said[8])
+
+    def test_conditions_that_are_none(self):
+        lines = ["b loop if r3", "b loop if r16 == 1", "w count if nowhere == 1", "b door if slot 1", "b loop if r3 == 9", "c"]
+        said = self.session(lines, "examples/counter.asm")
+        self.assertIn("`r3` compares nothing: write `if r3 == 32`", said[0])
+        self.assertIn("there is no register r16", said[1])
+        self.assertIn("nowhere", said[2])
+        self.assertIn("break at door of slot 1, ", said[3])
+        self.assertIn("break 1: door", said[5])
+
+    def test_a_condition_on_a_pointer(self):
+        said = self.session(["b next if r2 == &price", "c", "p r2", "w price if price != 36", "c"], "examples/bug.asm")
+        self.assertIn("break 1: next", said[1])
+        self.assertIn("rw 2^6 price", said[2])
+        self.assertIn("price was 36 '$', and is 111 'o'", said[4])
+
+    def test_a_condition_on_a_variable_of_c(self):
+        said = self.session(["b overflow.c:10 if i == 3", "c", "p i"], "examples/c/overflow.asm")
+        self.assertIn("if i == 3", said[0])
+        self.assertIn("i = 3", said[2])
+
     def test_places(self):
         said = self.session(
             [

@@ -2,6 +2,7 @@
 
 import glob
 import os
+import tempfile
 import unittest
 
 from mm.grading.checks import CHECKS, said
@@ -15,6 +16,7 @@ ANSWERS = {
     "1.1": "memory", "1.2": "again", "2.1": "fields", "2.2": "middle", "3.1": "handover", "3.2": "less",
     "4.1": "tests", "4.2": "ends", "5.1": "doors", "5.2": "ticket", "6.1": "calls", "6.2": "round",
     "7.1": "writer", "7.2": "pairs", "8.1": "rude", "8.2": "told", "10.1": "taken", "10.2": "ordered",
+    "11.1": "short", "11.2": "found",
     "lab-1": "lab1", "lab-2": "lab2", "lab-3": "lab3", "lab-4": "lab4", "lab-5": "lab5",
 }  # fmt: skip
 
@@ -34,8 +36,14 @@ class Grade(unittest.TestCase):
         for name, program, why in (
             ("10.1", "docs/course/race.asm", "there are 2"),
             ("10.2", "docs/course/locks.asm", "it is, under the schedule 0 1"),
+            ("10.2", "docs/course/race.asm", 'it says "A'),
+            ("11.1", "docs/course/board.asm", "slot 0 has halted"),
+            ("11.2", "docs/course/lost.asm", "slot 2 is taken"),
             ("1.1", "examples/hello.asm", "there is no st"),
             ("8.1", "docs/course/answers/told.asm", "the audit says that they do not"),
+            ("8.1", "docs/course/apart.asm", "there is no slot 2"),
+            ("6.2", "docs/course/answers/doors.asm", "count is i0000000000000002"),
+            ("6.2", "examples/hello.asm", "there is no label or segment `count`"),
             ("lab-1", "examples/hello.asm", 'it says "A"'),
             ("lab-2", "examples/hello.asm", "there is no bnz and no bz"),
             ("lab-4", "examples/hello.asm", "slot 0 has halted"),
@@ -47,10 +55,34 @@ class Grade(unittest.TestCase):
                 self.assertEqual(ended.status, 1)
                 self.assertIn(why, ended.out)
 
-    def test_words_that_are_none(self):
-        ended = mm("grade", "11.1", "examples/hello.asm")
+    def test_another_number_is_not(self):
+        with tempfile.TemporaryDirectory() as room:
+            path = os.path.join(room, "round.asm")
+            with open(path, "w", encoding="utf-8") as file:
+                file.write(read("docs", "course", "answers", "round.asm").replace("ldi r3, 99", "ldi r3, 98"))
+            ended = mm("grade", "6.2", path)
         self.assertEqual(ended.status, 1)
-        self.assertIn("there is no exercise `11.1`", ended.err)
+        self.assertIn("count is i0000000000000062", ended.out)
+
+    def test_a_polite_neighbour_is_not(self):
+        said_and_done = read("docs", "course", "answers", "rude.asm")
+        with tempfile.TemporaryDirectory() as room:
+            for old, new, why in (
+                ("  br more", "  halt", 'it says "!"'),
+                ("  st r1, r2, 0, any, keep\n  halt", "  nop\n  halt", "slot 2 has halted"),
+                ("  .int 64", "  .int 65", 'it says "BCD"'),
+            ):
+                path = os.path.join(room, "polite.asm")
+                with open(path, "w", encoding="utf-8") as file:
+                    file.write(said_and_done.replace(old, new))
+                ended = mm("grade", "8.1", path)
+                self.assertEqual(ended.status, 1)
+                self.assertIn(why, ended.out)
+
+    def test_words_that_are_none(self):
+        ended = mm("grade", "9.1", "examples/hello.asm")
+        self.assertEqual(ended.status, 1)
+        self.assertIn("there is no exercise `9.1`", ended.err)
 
     def test_lines_that_are_none(self):
         for text, why in (("shines 0", "`shines` is nothing"), ("faults 0", "the form `faults SLOT FAULT`"), ("", "nothing")):

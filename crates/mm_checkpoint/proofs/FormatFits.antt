@@ -1,51 +1,35 @@
 -- What fits the format of a slot's record keeps the rules of slots, and a slot that keeps them fits it.
-use Rattle.std.proofs.Common.{◌≡◌, ◌≢◌, ℕ, zero, suc, ◌+◌, ◌^◌, ◌<◌, ◌≤◌, Bool, true, false, not, cond, nat_lt, inl, inr, List}
-use Rattle.std.proofs.Common.{[], ◌∷◌, ◌++◌, length, get_or, map, Option, Some, None, refl, sym, ap, subst, ◌∙◌, arith}
-use Rattle.std.proofs.Common.{eqb-true, append_assoc}
-use Rattle.std.specs.Prelude.{◌==◌, ◌&&◌, ◌||◌, ◌⊎◌, count_by, is_some, option_map, unwrap_or}
-use Rattle.std.specs.List.{AllByRecursion, list_any}
-use Rattle.std.proofs.lemmas.Bool.{cases_lt, eq-eqb}
-use Rattle.std.proofs.lemmas.List.{length-map, get_or_past}
-use Rattle.std.proofs.lemmas.List.Sums.{count_by-le-length}
-use Rattle.mm_word.specs.declared.cause.Cause.{Cause}
-use Rattle.mm_word.specs.declared.cause.Cause.TheVariants.{NotPointer}
-use Rattle.mm_word.specs.declared.word.Word.{Word}
-use Rattle.mm_word.specs.declared.word.Word.TheVariants.{Int, Ptr}
-use Rattle.mm_word.specs.Pointer.{Pointer, IsWellFormed}
-use Rattle.mm_word.specs.Word.{IsWord, word_bits, is_pointer}
-use Rattle.mm_word.proofs.Packing.{pointer_of-bits_of}
+use Rattle.std.proofs.Common.{◌≡◌, ◌≢◌, ℕ, zero, suc, ◌^◌, ◌<◌, ◌≤◌, Bool, true, false, not, cond, nat_lt, inl, inr}
+use Rattle.std.proofs.Common.{List, [], ◌∷◌, ◌++◌, length, get_or, map, Option, Some, None, refl, sym, ap, subst}
+use Rattle.std.proofs.Common.{◌∙◌, arith, eqb-true}
+use Rattle.std.proofs.lemmas.{Bool.{cases_lt, eq-eqb}, List.{length-map, get_or_past, Sums.count_by-le-length}}
+use Rattle.std.specs.{Prelude.{◌==◌, ◌&&◌, ◌||◌, ◌⊎◌, count_by, is_some, option_map, unwrap_or}, List.AllByRecursion}
+use Rattle.mm_word.specs.declared.cause.Cause.{Cause, TheVariants.NotPointer}
+use Rattle.mm_word.specs.{declared.word.Word.{Word, TheVariants.{Int, Ptr}}, Pointer.{Pointer, IsWellFormed}}
+use Rattle.mm_word.{specs.Word.{IsWord, word_bits, is_pointer}, proofs.Packing.pointer_of-bits_of}
 use Rattle.mm_model.specs.declared.event.Event.{Event}
-use Rattle.mm_model.specs.declared.slot.Pending.{Pending}
-use Rattle.mm_model.specs.declared.slot.SlotState.{SlotState}
-use Rattle.mm_model.specs.declared.slot.SlotState.TheVariants.{Taken}
-use Rattle.mm_model.specs.Flags.{flags, number_of_flags, one_if}
-use Rattle.mm_model.specs.Fits.{is_waiting, identity_of, EventHoldsWords}
-use Rattle.mm_model.specs.Slot.{Slot, register as register_of, is_empty}
-use Rattle.mm_model.specs.Typed.{IsTypedSlot}
-use Rattle.mm_model.proofs.ImageBytes.Apart.{number_of_flags-below, flag-get}
-use Rattle.mm_model.proofs.ImageBytes.Clean.{neither, not_not, is_above, is_below}
-use Rattle.mm_model.proofs.ImageBytes.CleanWords.{well_formed}
-use Rattle.mm_model.proofs.ImageBytes.SpelledRecords.{is_spelled, not_le, not_lt}
-use Rattle.mm_model.proofs.FlagLists.{flags-get}
+use Rattle.mm_model.specs.declared.slot.{Pending.Pending, SlotState.{SlotState, TheVariants.Taken}}
+use Rattle.mm_model.specs.{Flags.{flags, number_of_flags, one_if}, Fits.{is_waiting, identity_of, EventHoldsWords}}
+use Rattle.mm_model.{specs.Typed.IsTypedSlot, proofs.ImageBytes.Apart.{number_of_flags-below, flag-get}}
+use Rattle.mm_model.proofs.ImageBytes.{Clean.{neither, not_not, is_above, is_below}, CleanWords.well_formed}
+use Rattle.mm_model.proofs.{ImageBytes.SpelledRecords.{is_spelled, not_le, not_lt}, FlagLists.flags-get}
 use Rattle.mm_machine.specs.Snapshot.{IsPending}
-use Rattle.mm_format.specs.Formats.{each, times, cons}
+use Rattle.mm_format.specs.{Formats.{each, times, cons}, Images.word}
 use Rattle.mm_format.proofs.ImagesFit.{small_bits, word_fits, fits_word, ip_fits, fits_ip, fits_mask, or_false}
 use Rattle.mm_checkpoint.specs.Checkpoints.{state_byte, cause_byte, event_of, place_byte}
-use Rattle.mm_checkpoint.specs.Reading.{cause_of}
-use Rattle.mm_checkpoint.specs.Faults.{is_bad_state, is_bad_cause, bits_set}
-use Rattle.mm_checkpoint.specs.Steps.{bit_of}
-use Rattle.mm_checkpoint.specs.declared.rows.Queued.{Queued}
-use Rattle.mm_checkpoint.specs.declared.rows.SlotRow.{SlotRow}
-use Rattle.mm_checkpoint.specs.Format.{word_with, tagged, register, operand, load, beside, event_in}
-use Rattle.mm_checkpoint.specs.Format.{place_in_row, address_in, value_in, slot_row, load_count}
-use Rattle.mm_checkpoint.proofs.CleanCounts.{count_append, count_no, count_yes}
-use Rattle.mm_checkpoint.proofs.CleanLoads.{AreNew, one_load}
-use Rattle.mm_checkpoint.proofs.CleanStates.{state_right}
-use Rattle.mm_checkpoint.proofs.Lists.{moved}
-use Rattle.mm_checkpoint.proofs.SpelledOwn.{Owns}
-use Rattle.mm_checkpoint.proofs.SpelledPending.{sixteen_flags, pending_set, none_empty}
-use Rattle.mm_checkpoint.proofs.SpelledStates.{state_small, cause_small, cause_again, byte_waits, state_again, state_good, cause_good}
-use Rattle.mm_checkpoint.proofs.SpelledStates.{IsZeroUnless, address_fits, value_fits}
+use Rattle.mm_checkpoint.specs.{Reading.{cause_of, state_of}, Tests.{is_bad_state, is_bad_cause, bits_set, bit_of}}
+use Rattle.mm_checkpoint.specs.declared.rows.{Queued.Queued, SlotRow.SlotRow}
+use Rattle.mm_checkpoint.specs.Format.{word_with, tagged, register, operand, load, beside, event_in, place_in_row}
+use Rattle.mm_checkpoint.specs.Format.{address_in, value_in, slot_row, load_count}
+use Rattle.mm_checkpoint.proofs.Counts.{one_at_most, count_append, count_none, count_yes, any_none, moved}
+use Rattle.mm_checkpoint.proofs.{Loads.{AreNew, one_load, sixteen_flags, pending_set, none_empty}, Owns.Owns}
+use Rattle.mm_checkpoint.proofs.States.{state_right, state_small, cause_small, cause_back, byte_waits, state_back}
+use Rattle.mm_checkpoint.proofs.States.{state_good, cause_good, IsZeroUnless, operand_good}
+use Rattle.mm_model.specs.Slot.{Slot, register as register_of, is_empty}
+
+-- two facts
+pub also : {A B : Type 0} → A → B → A × B
+also a b = (a, b)
 
 -- 1. Words.
 
@@ -137,13 +121,12 @@ loads_fit empty (suc count) earlier (p ∷ ps) fits =
       (word_fits _ p.word fits.0.1.0.1.0, others.1),
     )
 
-any_none : {A : Type 0} (q : A → Bool) (xs : List A) → count_by q xs ≡ 0 → list_any q xs ≡ false
-any_none q [] none = refl
-any_none q (x ∷ xs) none = by (q x) refl (any_none q xs)
-  where
-    by : (b : Bool) → q x ≡ b → (count_by q xs ≡ 0 → list_any q xs ≡ false) → (b || list_any q xs) ≡ false
-    by true e rest = absurd (let some = count_yes q x xs e in omega (arith, some, none))
-    by false e rest = rest (sym (count_no q x xs e) ∙ none)
+flag_small : (b : Bool) → one_if b < 256
+flag_small b = let le = one_at_most b in omega (arith, le)
+
+flag_back : (b : Bool) → (one_if b == 1) ≡ b
+flag_back true = refl
+flag_back false = refl
 
 one_if_small : (b : Bool) → nat_lt 1 (one_if b) ≡ false
 one_if_small true = refl
@@ -160,31 +143,21 @@ module _ (fs : List Bool) (long : length fs ≡ 16) where
   fit_load : (earlier ps : List Pending) (p : Pending) → AreOne (earlier ++ p ∷ ps) → IsWord p.word
       → (load (number_of_flags fs) earlier).Fits p
   unfolding load tagged
-  fit_load earlier ps p one word =
+  fit_load earlier ps p one holds =
       let all = count_append (IsFor p.reg) earlier (p ∷ ps) in
       let own = count_yes (IsFor p.reg) p ps (eq-eqb p.reg p.reg refl) in
       let total = one p.reg in
       let set : get_or fs p.reg false ≡ true = by (get_or fs p.reg false) (omega (arith, all, own, total)) in
       let only : one_if (get_or fs p.reg false) ≡ 1 = ap one_if set in
       let small : p.reg < 16 = within set in
-      let bit : bit_of (number_of_flags fs) p.reg ≡ true = flag-get fs p.reg (omega arith) ∙ set in (
-        (
-          omega arith,
-          or_false _ _ (or_false _ _ (not_le p.reg 16 small) (ap not bit))
-              (any_none (IsFor p.reg) earlier (omega (arith, all, own, total, only))),
-        ),
-        (
-          (
-            (small_flag (is_pointer p.word), one_if_small (is_pointer p.word)),
-            (
-              subst (λ b. (Rattle.mm_format.specs.Images.word b).Fits p.word) (sym (again (is_pointer p.word)))
-                  (fits_word p.word word),
-              refl,
-            ),
-          ),
-          refl,
-        ),
+      let bit : bit_of (number_of_flags fs) p.reg ≡ true = flag-get fs p.reg (omega arith) ∙ set in
+      also (
+        omega arith,
+        or_false _ _ (or_false _ _ (not_le p.reg 16 small) (ap not bit)) (any_none (IsFor p.reg) earlier
+            (count_none (IsFor p.reg) earlier (omega (arith, all, own, total, only)))),
       )
+      (also (also (flag_small (is_pointer p.word), one_if_small (is_pointer p.word))
+      (also (subst (λ b. (word b).Fits p.word) (sym (flag_back (is_pointer p.word))) (fits_word p.word holds)) refl)) refl)
     where
       by : (b : Bool) → 1 ≤ one_if b → b ≡ true
       by true le = refl
@@ -195,14 +168,6 @@ module _ (fs : List Bool) (long : length fs ≡ 16) where
         | inl small ↦ small
         | inr large ↦ absurd (let past = get_or_past fs p.reg false (omega (arith, long, large)) in cc)
       ]
-
-      small_flag : (b : Bool) → one_if b < 256
-      small_flag true = omega arith
-      small_flag false = omega arith
-
-      again : (b : Bool) → (one_if b == 1) ≡ b
-      again true = refl
-      again false = refl
 
   pub fit_loads : (earlier ps : List Pending) → AreOne (earlier ++ ps)
       → AllByRecursion (λ (p : Pending). IsWord p.word) ps
@@ -340,47 +305,6 @@ row_of events s = record {
   queued = option_map (λ e. record { place = place_byte events s; event = e }) (event_of events s.number);
 }
 
-same_slot : (n m g k : ℕ) (h j : Option ℕ) (regs : List Word) (p : Pointer) (past over : Bool) (turns : ℕ)
-    (state again : SlotState) (empty flags : List Bool) (pending : List Pending) → n ≡ m → g ≡ k → h ≡ j → past ≡ over
-    → state ≡ again → empty ≡ flags
-    → Rattle.std.proofs.Common.◌≡◌ {A = Slot}
-    (record {
-      number = n;
-      group = g;
-      handler = h;
-      regs = regs;
-      ip = p;
-      past = past;
-      turns = turns;
-      state = state;
-      empty = empty;
-      pending = pending;
-    })
-    (record {
-      number = m;
-      group = k;
-      handler = j;
-      regs = regs;
-      ip = p;
-      past = over;
-      turns = turns;
-      state = again;
-      empty = flags;
-      pending = pending;
-    })
-same_slot n m g k h j regs p past over turns state again empty flags pending a b c d e f = cc
-
-same_queued : (n m s t : ℕ) (c d : Cause) (p q : Pointer) (a b v w : Word) → n ≡ m → s ≡ t → c ≡ d → p ≡ q → a ≡ b
-    → v ≡ w
-    → Rattle.std.proofs.Common.◌≡◌ {A = Queued}
-    (record { place = n; event = record { slot = s; cause = c; ip = p; addr_op = a; value_op = v } })
-    (record { place = m; event = record { slot = t; cause = d; ip = q; addr_op = b; value_op = w } })
-same_queued n m s t c d p q a b v w e f g h j k = cc
-
-same_row : (a b : Slot) (q k : Option Queued) → a ≡ b → q ≡ k
-    → Rattle.std.proofs.Common.◌≡◌ {A = SlotRow} (record { slot = a; queued = q }) (record { slot = b; queued = k })
-same_row a b q k e f = cc
-
 module _ (split : Bool) (cycles : ℕ) (small : cycles ≤ 1000000) (events : List (ℕ × Event)) (i s : Slot)
     (same : identity_of s ≡ identity_of i) (saved : IsSavedSlot split cycles events s)
     (few : place_byte events s < 256) where
@@ -423,30 +347,25 @@ module _ (split : Bool) (cycles : ℕ) (small : cycles ≤ 1000000) (events : Li
       subst (λ (o : Option Event). (operand (state_byte s.state == 1)).Fits (get o)) (sym event_back)
       (subst (λ b. (operand b).Fits (get (event_of events s.number))) (sym (byte_waits s.state)) (fits_operand _ _ h))
 
-  again : (b : Bool) → b ≡ (one_if b == 1)
-  again true = refl
-  again false = refl
-
-  flag_small : (b : Bool) → one_if b < 256
-  flag_small true = omega arith
-  flag_small false = omega arith
-
   plain : (b : Bool) → split ≡ b → (not b && not (number_of_flags s.empty == 0)) ≡ false
   plain true e = refl
   plain false e = ap (λ n. not (n == 0)) (none_empty s saved.typed.flags saved.pending (saved.mode e))
 
-  -- what its record says of its event
-  abbrev told : Queued
-  told = record {
-    place = place_in_row r.queued;
+  -- what its record says
+  abbrev said : Option Queued → ℕ → Cause → Pointer → Queued
+  said o slot cause ip = record {
+    place = place_in_row o;
     event = record {
-      slot = i.number;
-      cause = unwrap_or (cause_of (cause_byte s.state (event_in r))) NotPointer;
-      ip = s.ip;
-      addr_op = address_in (event_in r);
-      value_op = value_in (event_in r);
+      slot = slot;
+      cause = cause;
+      ip = ip;
+      addr_op = address_in (option_map (λ (q : Queued). q.event) o);
+      value_op = value_in (option_map (λ (q : Queued). q.event) o);
     };
   }
+
+  abbrev told : Queued
+  told = said r.queued i.number (unwrap_or (cause_of (cause_byte s.state (event_in r))) NotPointer) s.ip
 
   queued_back : Owns events s → r.queued ≡ cond (state_byte s.state == 1) (Some told) None
   queued_back (inl a) =
@@ -456,14 +375,35 @@ module _ (split : Bool) (cycles : ℕ) (small : cycles ≤ 1000000) (events : Li
       let cause : a.event.cause ≡ told.event.cause =
       sym (ap (λ (o : Option Event). unwrap_or (cause_of (cause_byte s.state o)) NotPointer) event
       ∙ ap (λ (st : SlotState). unwrap_or (cause_of (cause_byte st (Some a.event))) NotPointer) a.waits
-      ∙ ap (λ (o : Option Cause). unwrap_or o NotPointer) (cause_again a.event.cause)) in
+      ∙ ap (λ (o : Option Cause). unwrap_or o NotPointer) (cause_back a.event.cause)) in
+      let e = a.event in
       queued
-      ∙ ap Some (same_queued _ _ _ _ _ _ _ _ _ _ _ _ (sym (ap place_in_row queued))
-      (a.slot ∙ ap (λ x. x.0) same) cause a.ip (sym (ap address_in event)) (sym (ap value_in event)))
+      ∙ ap Some (ap (λ o. said o e.slot e.cause e.ip) (sym queued)
+      ∙ ap (λ n. said r.queued n e.cause e.ip) (a.slot ∙ ap (λ x. x.0) same)
+      ∙ ap (λ c. said r.queued i.number c e.ip) cause ∙ ap (said r.queued i.number told.event.cause) a.ip)
       ∙ sym (ap (λ b. cond b (Some told) None) (byte_waits s.state ∙ ap is_waiting a.waits))
   queued_back (inr idle) =
       ap (option_map made) (ap (option_map (λ (x : ℕ × Event). x.1)) idle.found)
       ∙ sym (ap (λ b. cond b (Some told) None) (byte_waits s.state ∙ idle.rests))
+
+  abbrev said_row : ℕ × ℕ × Option ℕ → Bool → SlotState → List Bool → Option Queued → SlotRow
+  said_row x past state empty queued = record {
+    slot = record s { number = x.0; group = x.1; handler = x.2; past = past; state = state; empty = empty };
+    queued = queued;
+  }
+
+  row_back : r ≡ said_row (identity_of i) (one_if s.past == 1)
+      (state_of (state_byte s.state) (cause_byte s.state (event_in r))) (flags 16 (number_of_flags s.empty))
+      (cond (state_byte s.state == 1) (Some told) None)
+  row_back =
+      let x = identity_of i in
+      let past = one_if s.past == 1 in
+      let state = state_of (state_byte s.state) (cause_byte s.state (event_in r)) in
+      ap (λ x. said_row x s.past s.state s.empty r.queued) same
+      ∙ ap (λ b. said_row x b s.state s.empty r.queued) (sym (flag_back s.past))
+      ∙ ap (λ st. said_row x past st s.empty r.queued) (sym (state_back s.state (event_in r)))
+      ∙ ap (λ fs. said_row x past state fs r.queued) (sym (sixteen_flags s.empty saved.typed.flags))
+      ∙ ap (said_row x past state (flags 16 (number_of_flags s.empty))) (queued_back saved.owns)
 
   pub fits_row : (slot_row split cycles i).Fits r
   unfolding slot_row load_count register_of is_empty
@@ -476,55 +416,24 @@ module _ (split : Bool) (cycles : ℕ) (small : cycles ≤ 1000000) (events : Li
       let mask : number_of_flags s.empty < 2 ^ 16 =
       subst (λ n. number_of_flags s.empty < 2 ^ n) t.flags (number_of_flags-below s.empty) in
       let most = count_by-le-length (λ (b : Bool). b) (flags 16 (number_of_flags s.empty)) in
-      let flags_are = sixteen_flags s.empty t.flags in (
-        (
-          state_small s.state,
-          ap (λ (o : Option ℕ). is_bad_state (is_some o) (state_byte s.state)) handler
-              ∙ state_good events s saved.owns saved.taken,
-        ),
-        (
-          (
-            cause_small s.state (event_in r),
-            ap (λ (o : Option Event). is_bad_cause (state_byte s.state) (cause_byte s.state o)) event_back
-                ∙ cause_good events s saved.owns,
-          ),
-          (
-            (place_few, place_right),
-            (
-              (flag_small s.past, one_if_small s.past),
-              (
-                (omega (arith, turns, small), not_lt cycles s.turns turns),
-                (
-                  fits_ip s.ip t.well_formed t.executable,
-                  (
-                    fits_mask (map is_pointer s.regs) (length-map s.regs is_pointer ∙ t.registers),
-                    (
-                      (mask, plain split refl),
-                      (
-                        subst (λ fs. (each register (beside (map is_pointer s.regs) fs)).Fits s.regs) (sym flags_are)
-                            (fit_registers s.regs s.empty (t.registers ∙ sym t.flags) t.words (λ k e. (p k).zero e)),
-                        (
-                          fits_get address_in (address_fits events s saved.owns),
-                          (
-                            fits_get value_in (value_fits events s saved.owns),
-                            (
-                              (omega (arith, set, most), ap not (eq-eqb _ _ set)),
-                              (
-                                fit_loads s.empty t.flags [] s.pending (λ k. (p k).loads) t.loads,
-                                same_row _ _ _ _
-                                    (same_slot _ _ _ _ _ _ s.regs s.ip _ _ s.turns _ _ _ _ s.pending
-                                    (ap (λ x. x.0) same) (ap (λ x. x.1) same) (ap (λ x. x.2) same) (again s.past)
-                                    (sym (state_again s.state (event_in r))) (sym flags_are)) (queued_back saved.owns),
-                              ),
-                            ),
-                          ),
-                        ),
-                      ),
-                    ),
-                  ),
-                ),
-              ),
-            ),
-          ),
-        ),
+      also (
+        state_small s.state,
+        ap (λ (o : Option ℕ). is_bad_state (is_some o) (state_byte s.state)) handler
+            ∙ state_good events s saved.owns saved.taken,
       )
+      (also (
+        cause_small s.state (event_in r),
+        ap (λ (o : Option Event). is_bad_cause (state_byte s.state)
+            (cause_byte s.state o)) event_back ∙ cause_good events s saved.owns,
+      )
+      (also (place_few, place_right) (also (flag_small s.past, one_if_small s.past)
+      (also (omega (arith, turns, small), not_lt cycles s.turns turns) (also (fits_ip s.ip t.well_formed t.executable)
+      (also (fits_mask (map is_pointer s.regs) (length-map s.regs is_pointer ∙ t.registers))
+      (also (mask, plain split refl)
+      (also (subst (λ fs. (each register (beside (map is_pointer s.regs) fs)).Fits s.regs)
+      (sym (sixteen_flags s.empty t.flags))
+      (fit_registers s.regs s.empty (t.registers ∙ sym t.flags) t.words (λ k e. (p k).zero e)))
+      (also (fits_get address_in (operand_good events s address_in refl (λ e h. h.address) saved.owns))
+      (also (fits_get value_in (operand_good events s value_in refl (λ e h. h.value) saved.owns))
+      (also (omega (arith, set, most), ap not (eq-eqb _ _ set))
+      (also (fit_loads s.empty t.flags [] s.pending (λ k. (p k).loads) t.loads) row_back))))))))))))

@@ -1,68 +1,39 @@
 -- Checkpoints and the bytes that spell them, by their format.
-use Rattle.std.proofs.Common.{◌≡◌, ◌≢◌, ℕ, ◌+◌, ◌*◌, ◌<◌, ◌≤◌, Bool, true, false, not, cond, inl, inr, List, [], ◌∷◌}
-use Rattle.std.proofs.Common.{◌++◌, length, map, Option, Some, None, refl, sym, ap, subst, ◌∙◌, arith, append_assoc}
-use Rattle.std.specs.Prelude.{◌==◌, ◌&&◌, nat_le, IfSome, option_map, codes}
-use Rattle.std.specs.Int.{w16, w32, w64, to_be_bytes}
-use Rattle.std.specs.List.{flat_map, AllByRecursion, list_any}
-use Rattle.std.specs.List.Sorted.{IsStrictlyIncreasing}
-use Rattle.std.proofs.lemmas.Bool.Decides.{nat_tests}
-use Rattle.std.proofs.lemmas.List.{append-nil}
-use Rattle.mm_word.specs.declared.word.Word.{Word}
-use Rattle.mm_word.specs.declared.word.Cell.{Cell}
-use Rattle.mm_word.specs.Pointer.{bits_of}
-use Rattle.mm_word.specs.Word.{word_bits, is_pointer}
-use Rattle.mm_model.specs.declared.event.Event.{Event}
-use Rattle.mm_model.specs.declared.slot.Pending.{Pending}
-use Rattle.mm_model.specs.declared.slot.SlotState.TheVariants.{Taken}
-use Rattle.mm_model.specs.Flags.{flags, number_of_flags, one_if}
-use Rattle.mm_model.specs.Fits.{identity_of}
-use Rattle.mm_model.specs.Groups.{has_group}
-use Rattle.mm_model.specs.Image.{Image, output_limit, slot_limit}
-use Rattle.mm_model.specs.Places.{IsBytes, first_bad}
-use Rattle.mm_model.specs.Slot.{Slot}
-use Rattle.mm_model.specs.Spelling.{IsImage, IsFresh, numbers_of, words_spelling, page_record}
-use Rattle.mm_model.specs.Typed.{IsTypedSlot}
-use Rattle.mm_model.proofs.CoreRows.{each_map, by_identities, slot_limit-few}
-use Rattle.mm_model.proofs.OwnSlots.{Ascends, ascends}
-use Rattle.mm_model.proofs.ImageBytes.Clean.{is_above}
-use Rattle.mm_model.proofs.ImageBytes.Ranges.{map-map}
-use Rattle.mm_model.proofs.ImageBytes.Rising.{AreRisingFrom}
+use Rattle.std.proofs.Common.{◌≡◌, ◌≢◌, ℕ, ◌+◌, ◌*◌, ◌<◌, ◌≤◌, Bool, true, false, not, cond, inl, inr, List, []}
+use Rattle.std.proofs.Common.{◌∷◌, ◌++◌, length, map, Option, Some, None, refl, sym, ap, subst, ◌∙◌, arith}
+use Rattle.std.proofs.{Common.append_assoc, lemmas.{Bool.Decides.nat_tests, List.{append-nil, map-append}}}
+use Rattle.std.specs.Prelude.{◌==◌, ◌&&◌, nat_le, IfSome, option_map, unwrap_or, codes}
+use Rattle.std.specs.{Int.{w16, w32, w64, to_be_bytes}, List.{flat_map, AllByRecursion, Sorted.IsStrictlyIncreasing}}
+use Rattle.mm_word.specs.{declared.word.{Word.Word, Cell.Cell}, Pointer.bits_of, Word.{word_bits, is_pointer}}
+use Rattle.mm_model.specs.declared.{event.Event.Event, slot.{Pending.Pending, SlotState.TheVariants.Taken}}
+use Rattle.mm_model.specs.{Flags.{flags, number_of_flags, one_if}, Fits.identity_of, Image.{Image, output_limit}}
+use Rattle.mm_model.specs.{Places.IsBytes, Slot.Slot, Spelling.{IsImage, numbers_of, words_spelling, page_record}}
+use Rattle.mm_model.{specs.Typed.IsTypedSlot, proofs.{CoreRows.{each_map, by_identities}, OwnSlots.{Ascends, ascends}}}
+use Rattle.mm_model.proofs.ImageBytes.{Clean.is_above, Ranges.map-map, Rising.AreRisingFrom}
 use Rattle.mm_model.proofs.ImageBytes.SpelledRecords.{not_le, not_lt}
 use Rattle.mm_thread.specs.Output.{Output}
-use Rattle.mm_machine.specs.Snapshot.{Parts, IsPending, HasOneEvent}
-use Rattle.mm_format.specs.Formats.{each, times, cons, first_late}
+use Rattle.mm_machine.specs.Snapshot.{Parts, IsSnapshot, IsPending}
+use Rattle.mm_format.specs.Formats.{each, times, cons, first_late, after, file, Outcome.Got}
 use Rattle.mm_format.specs.Images.{mask, ip, page}
-use Rattle.mm_format.proofs.Files as files
-use Rattle.mm_format.proofs.ImagesFit.{Rise, rises, rise_all, pages_fit, fit_pages}
-use Rattle.mm_format.proofs.ImagesWhole.{page_spelled}
-use Rattle.mm_format.proofs.Lists.{each_long, each_spell, times_long, times_spell}
-use Rattle.mm_format.proofs.Says.{late_bad}
-use Rattle.mm_checkpoint.specs.declared.waiting.Waiter.{Waiter}
+use Rattle.mm_format.proofs.{Formats.after_got, ImagesFit.{Rise, rises, rise_all, PagesAre, pages_fit, fit_pages}}
+use Rattle.mm_format.proofs.{ImagesWhole.page_spelled, Lists.{each_long, each_spell, times_long, times_spell}}
+use Rattle.mm_checkpoint.specs.declared.{waiting.Waiter.Waiter, rows.{Queued.Queued, SlotRow.SlotRow}}
 use Rattle.mm_checkpoint.specs.Checkpoints.{Saved, saved_of, Saves, IsCheckpoint, last_byte, state_byte, cause_byte}
 use Rattle.mm_checkpoint.specs.Checkpoints.{place_byte, tagged_word, operands, pending_record, slot_record}
 use Rattle.mm_checkpoint.specs.Checkpoints.{output_record, spelling, place_in}
-use Rattle.mm_checkpoint.specs.Reading.{in_order, events_of, slots_start, groups_of, saved_at}
-use Rattle.mm_checkpoint.specs.Faults.{first_fault, queue_places}
-use Rattle.mm_checkpoint.specs.declared.rows.SlotRow.{SlotRow}
-use Rattle.mm_checkpoint.specs.Format.{header, word_with, tagged, register, load, beside, event_in}
-use Rattle.mm_checkpoint.specs.Format.{place_in_row, address_in, value_in, slot_row, load_count, waiter_in, waiters_in, queue_tests}
+use Rattle.mm_checkpoint.specs.{Reading.{in_order, events_of, slots_start, groups_of}, Faults.said_of}
+use Rattle.mm_checkpoint.specs.Format.{header, word_with, tagged, register, load, beside, event_in, place_in_row}
+use Rattle.mm_checkpoint.specs.Format.{address_in, value_in, slot_row, load_count, waiter_in, waiters_in, queue_tests}
 use Rattle.mm_checkpoint.specs.Format.{front, waiting_in, output, Contents, checkpoint, saved_in}
 use Rattle.mm_checkpoint.proofs.CheckpointBytes.{queued, place_small, last_small, frames_few}
-use Rattle.mm_checkpoint.proofs.CleanGroups.{groups_rise, groups_used, groups_shown, any_map, each_unmap}
-use Rattle.mm_checkpoint.proofs.CleanQueues.{events_fall_not}
-use Rattle.mm_checkpoint.proofs.CleanRules.{IsRight, limit_small, is_checkpoint}
-use Rattle.mm_checkpoint.proofs.FormatFits.{IsRow, IsSavedSlot, row_of, fits_row}
+use Rattle.mm_checkpoint.proofs.{Counts.{each_of, listed}, FormatFits.{also, IsRow, IsSavedSlot, row_of, fits_row}}
 use Rattle.mm_checkpoint.proofs.FormatIs.{checkpoint_is}
 use Rattle.mm_checkpoint.proofs.FormatRows.{slots_of, rows_fit, IsSettled, Agrees, each_agrees, one_event, awaited}
-use Rattle.mm_checkpoint.proofs.FormatRows.{typed_events}
-use Rattle.mm_checkpoint.proofs.FormatSays.{contents_at, end_of, tests_are, file_says, saved_is}
-use Rattle.mm_checkpoint.proofs.SpelledEvents.{owns_each, are_queues}
-use Rattle.mm_checkpoint.proofs.SpelledGroups.{same_groups, groups_same}
-use Rattle.mm_checkpoint.proofs.SpelledOrder.{own, by_slot, map-append}
-use Rattle.mm_checkpoint.proofs.SpelledOwn.{Owns}
-use Rattle.mm_checkpoint.proofs.SpelledQueues.{queues_clean}
-use Rattle.mm_checkpoint.proofs.SpelledRanks.{ranked}
-use Rattle.mm_checkpoint.proofs.SpelledSorted.{erased, same_events}
+use Rattle.mm_checkpoint.proofs.FormatRows.{typed_events, fall_not}
+use Rattle.mm_checkpoint.proofs.Groups.{groups_rise, groups_used, slots_shown, small_groups, groups_by, groups_same}
+use Rattle.mm_checkpoint.proofs.Made.{made_output, made_outputs, made_parts, parts_back}
+use Rattle.mm_checkpoint.proofs.Owns.{Owns, owns_each, first_own, ranked, by_slot, erased, same_events, are_right}
+use Rattle.mm_format.proofs.Files as files
 
 -- 1. The text.
 
@@ -169,6 +140,13 @@ module _ (i : Image) (c : Contents) (fits : (checkpoint i).Fits c) where
 
 -- 2. What fits is a checkpoint.
 
+limit_small : (version : ℕ) → output_limit version ≤ 65536
+limit_small version = by (version == 1)
+  where
+    by : (b : Bool) → cond b 4096 65536 ≤ 65536
+    by true = omega arith
+    by false = omega arith
+
 last_fits : (last : Option ℕ) → last ≡ cond (last_byte last == 255) None (Some (last_byte last))
     → (nat_le 64 (last_byte last) && not (last_byte last == 255)) ≡ false → IfSome last (λ n. n < 64)
 last_fits None is right = tt
@@ -177,11 +155,6 @@ last_fits (Some n) is right = by (n == 255) refl is
     by : (b : Bool) → (n == 255) ≡ b → Some n ≡ cond b None (Some n) → n < 64
     by true e is = absurd cc
     by false e is = grind (arith, nat_tests)
-
-each_of : {A B : Type 0} (P : B → Type 0) (f : A → B) (xs : List A) → AllByRecursion (λ x. P (f x)) xs
-    → AllByRecursion P (map f xs)
-each_of P f [] h = tt
-each_of P f (x ∷ xs) h = (h.0, each_of P f xs h.1)
 
 same_numbers : (xs ys : List Slot) → map identity_of xs ≡ map identity_of ys → numbers_of xs ≡ numbers_of ys
 same_numbers xs ys e =
@@ -226,7 +199,7 @@ module _ (i : Image) (img : IsImage i) (c : Contents) (fits : (checkpoint i).Fit
   are = rows_fit i.split c.front.head.cycles i.slots rows p.rows
 
   settled : AllByRecursion IsSettled rows
-  settled = each_map (IsRow i.split c.front.head.cycles) IsSettled (λ r is. is.event) rows are.0
+  settled = each_map _ _ (λ r is. is.event) rows are.0
 
   slots_rise : IsStrictlyIncreasing (numbers_of (slots_of rows))
   slots_rise = subst IsStrictlyIncreasing (sym (same_numbers (slots_of rows) i.slots are.1)) img.rising
@@ -234,62 +207,67 @@ module _ (i : Image) (img : IsImage i) (c : Contents) (fits : (checkpoint i).Fit
   up : Ascends (slots_of rows)
   up = ascends (slots_of rows) slots_rise
 
-  queues : first_bad 0 (queue_places (waiting_in c.front) [] (waiting_in c.front)) ≡ None
-  queues = ap (first_bad 0) (sym (tests_are [] (waiting_in c.front) [] (waiting_in c.front)))
-      ∙ late_bad 0 0 (queue_tests (waiting_in c.front) [] (waiting_in c.front)) ∙ p.tests
-
   pub rows_agree : AllByRecursion (Agrees (saved_in c).events) rows
-  rows_agree = each_agrees rows slots_start settled up 0 queues
+  rows_agree = each_agrees rows slots_start settled up p.tests
+
+  pages : PagesAre 0 c.pages
+  pages = pages_fit c.front.head.pages 0 c.pages p.pages
 
   of_slots : (P : Slot → Type 0) → ((r : SlotRow) → IsRow i.split c.front.head.cycles r → P r.slot)
       → AllByRecursion P (slots_of rows)
-  of_slots P f = each_of P (λ (r : SlotRow). r.slot) rows (each_map (IsRow i.split c.front.head.cycles) (λ (r : SlotRow). P r.slot) f rows are.0)
+  of_slots P f = each_of _ _ _ (each_map _ _ f rows are.0)
 
   outs : OutputsFit (output_limit i.version) (groups_of i.slots) c.outputs
   outs = outputs_fit (output_limit i.version) (groups_of i.slots) c.outputs p.outputs
 
-  small_groups : AllByRecursion (λ (s : Slot). s.group < 64) i.slots
-  small_groups = each_map (IsFresh (slot_limit i.version) i.slots) (λ (s : Slot). s.group < 64)
-      (λ s fresh. let few = slot_limit-few i.version in let group = fresh.group in omega (arith, few, group)) i.slots
-      img.fresh
+  abbrev outputs : List Output
+  outputs = made_outputs c.outputs
 
-  pub right : IsRight i (saved_in c)
+  output_groups : map (λ (o : Output). o.group) outputs ≡ groups_of (slots_of rows)
+  output_groups =
+      map-map (λ (o : Output). o.group) made_output c.outputs ∙ outs.groups
+      ∙ groups_by i.slots (slots_of rows) (sym are.1)
+
+  small : AllByRecursion (λ (s : Slot). s.group < 64) (slots_of rows)
+  small = by_identities (λ x. x.1 < 64) (slots_of rows) i.slots are.1 (small_groups i img)
+
+  rules : IsSnapshot (made_parts (saved_in c))
+  rules = record {
+    slots = slots_rise;
+    groups = groups_rise (slots_of rows) small outputs output_groups;
+    pages = rises (λ (x : ℕ × List Cell). x.0) 0 c.pages (risen 0 c.pages pages.rise);
+    used = groups_used (slots_of rows) small outputs output_groups;
+    shown = slots_shown (slots_of rows) small outputs output_groups;
+    events = fall_not rows slots_start settled up p.tests;
+    awaited = awaited rows slots_start settled up;
+    one_event = each_of _ _ _
+        (one_event rows slots_start settled up);
+    taken = of_slots (λ (s : Slot). s.state ≡ Taken → s.handler ≢ None) (λ r is. is.taken);
+    outputs = each_of _ _ _
+        (each_map _ _
+        (λ o le. let most = limit_small i.version in omega (arith, le, most)) c.outputs outs.short);
+    pending = of_slots IsPending (λ r is. is.pending);
+    turns = of_slots (λ (s : Slot). s.turns ≤ c.front.head.cycles) (λ r is. is.turns);
+  }
+
+  pub is_checkpoint : IsCheckpoint i (made_parts (saved_in c)) c.front.head.last
   unfolding header
-  right =
+  is_checkpoint =
       let h = p.head.1.1 in
       let is = h.1.1.1.1 in
-      let pages = pages_fit c.front.head.pages 0 c.pages p.pages in
-      let slots = slots_of rows in
-      let outputs = c.outputs in
       record {
-        identities = are.1;
-        rising = slots_rise;
-        groups = subst IsStrictlyIncreasing (sym outs.groups) (groups_rise i.slots);
-        used = each_map (λ (o : ℕ × List ℕ). has_group i.slots o.0 ≡ true)
-            (λ (o : ℕ × List ℕ). has_group slots o.0 ≡ true) (λ o h. same_groups slots i.slots o.0 are.1 ∙ h) outputs
-            (each_unmap (λ g. has_group i.slots g ≡ true) (λ (o : ℕ × List ℕ). o.0) outputs
-            (subst (AllByRecursion (λ g. has_group i.slots g ≡ true)) (sym outs.groups) (groups_used i.slots)));
-        shown = by_identities (λ x. list_any (λ (o : ℕ × List ℕ). o.0 == x.1) outputs ≡ true) slots i.slots are.1
-            (each_map (λ (s : Slot). list_any (λ h. h == s.group) (groups_of i.slots) ≡ true)
-            (λ (s : Slot). list_any (λ (o : ℕ × List ℕ). o.0 == s.group) outputs ≡ true) (λ s h.
-            sym (any_map (λ g. g == s.group) (λ (o : ℕ × List ℕ). o.0) outputs)
-            ∙ ap (list_any (λ g. g == s.group)) outs.groups ∙ h) i.slots (groups_shown i.slots small_groups));
-        short = outs.short;
-        events = events_fall_not 0 (waiting_in c.front) queues;
-        awaited = awaited rows slots_start settled up;
-        one_event = each_of (HasOneEvent (saved_in c).events) (λ (r : SlotRow). r.slot) rows
-            (one_event rows slots_start settled up);
-        taken = of_slots (λ (s : Slot). s.state ≡ Taken → s.handler ≢ None) (λ r is. is.taken);
-        pending = of_slots IsPending (λ r is. is.pending);
-        turns = of_slots (λ (s : Slot). s.turns ≤ c.front.head.cycles) (λ r is. is.turns);
-        typed_slots = of_slots IsTypedSlot (λ r is. is.typed);
-        typed_events = typed_events rows slots_start settled up;
-        pages = rises (λ (x : ℕ × List Cell). x.0) 0 c.pages (risen 0 c.pages pages.rise);
-        whole = pages.whole;
-        words = pages.words;
-        few_pages = let long = p.long in let few = is_above _ _ h.1.1.1.0.1 in omega (arith, long, few);
+        rules = rules;
+        typed = record {
+          slots = of_slots IsTypedSlot (λ r is. is.typed);
+          events = typed_events rows slots_start settled up;
+          whole = pages.whole;
+          words = pages.words;
+        };
+        slots = are.1;
         cycles = is_above _ _ h.1.1.0.1;
-        plain = λ e. of_slots (λ (s : Slot). s.pending ≡ []) (λ r is. is.plain e);
+        pages = let long = p.long in let few = is_above _ _ h.1.1.1.0.1 in omega (arith, long, few);
+        outputs = each_of _ _ _ outs.short;
+        mode = λ e. of_slots (λ (s : Slot). s.pending ≡ []) (λ r is. is.plain e);
         issued = last_fits c.front.head.last (ap (λ h. h.last) is) h.0.1;
       }
 
@@ -319,42 +297,44 @@ module _ (i : Image) (image : IsImage i) (p : Parts) (last : Option ℕ) (ck : I
   rows_back [] = refl
   rows_back (s ∷ slots) = ap (λ xs. s ∷ xs) (rows_back slots)
 
+  abbrev queued_of : Slot → Option Event → Option Queued
+  queued_of s o = option_map (λ e. record { place = place_byte p.events s; event = e }) o
+
+  abbrev of_event : Option (ℕ × Event) → Option Event
+  of_event o = option_map (λ (x : ℕ × Event). x.1) o
+
   -- the waiters are the events, slot by slot
   waiter_back : (at : ℕ) (s : Slot) → Owns p.events s
-      → map erased (waiter_in at s (row_of p.events s).queued) ≡ map (ranked (place_in p.events)) (own p.events s.number)
+      → map erased (waiter_in at s (row_of p.events s).queued) ≡ map (ranked p.events) (listed (first_own p.events s.number))
   waiter_back at s (inl a) =
       let make : ℕ → ℕ → List Waiter = λ handler place. record
       { handler = handler; place = place; at = 0; event = a.event } ∷ [] in
-      ap (λ o. map erased (waiter_in at s (option_map (λ e. record { place = place_byte p.events s; event = e }) o)))
-      (ap (option_map (λ (x : ℕ × Event). x.1)) a.found)
-      ∙ ap (λ h. make h (place_byte p.events s)) (ap (λ (o : Option ℕ). Rattle.std.specs.Prelude.unwrap_or o 0) a.handled)
+      ap (λ o. map erased (waiter_in at s (queued_of s (of_event o)))) a.found
+      ∙ ap (λ h. make h (place_byte p.events s)) (ap (λ (o : Option ℕ). unwrap_or o 0) a.handled)
       ∙ ap (make a.handler)
       (ap (λ st. cond (state_byte st == 1) (place_in p.events (elim s.handler [ None ↦ 0 | Some handler ↦ handler ])
       s.number) 0) a.waits
       ∙ ap (λ (o : Option ℕ). place_in p.events (elim o [ None ↦ 0 | Some handler ↦ handler ]) s.number) a.handled
       ∙ ap (place_in p.events a.handler) (sym a.slot))
-      ∙ sym (ap (map (ranked (place_in p.events))) a.alone)
+      ∙ sym (ap (λ o. map (ranked p.events) (listed o)) a.found)
   waiter_back at s (inr idle) =
-      ap (λ o. map erased (waiter_in at s (option_map (λ e. record { place = place_byte p.events s; event = e }) o)))
-      (ap (option_map (λ (x : ℕ × Event). x.1)) idle.found)
-      ∙ sym (ap (map (ranked (place_in p.events))) idle.alone)
+      ap (λ o. map erased (waiter_in at s (queued_of s (of_event o)))) idle.found
+      ∙ sym (ap (λ o. map (ranked p.events) (listed o)) idle.found)
 
   waiters_back : (at : ℕ) (slots : List Slot) → AllByRecursion (Owns p.events) slots
-      → map erased (waiters_in at (rows_of slots)) ≡ map (ranked (place_in p.events)) (by_slot p.events slots)
+      → map erased (waiters_in at (rows_of slots)) ≡ map (ranked p.events) (by_slot p.events slots)
   waiters_back at [] own = refl
   waiters_back at (s ∷ slots) own =
       let next = at + 171 + 10 * length s.pending in
       map-append erased (waiter_in at s (row_of p.events s).queued) (waiters_in next (rows_of slots))
       ∙ ap (λ xs. xs ++ map erased (waiters_in next (rows_of slots))) (waiter_back at s own.0)
-      ∙ ap (λ xs. map (ranked (place_in p.events)) (Rattle.mm_checkpoint.proofs.SpelledOrder.own p.events s.number) ++ xs)
-      (waiters_back next slots own.1)
-      ∙ sym (map-append (ranked (place_in p.events)) (Rattle.mm_checkpoint.proofs.SpelledOrder.own p.events s.number)
-      (by_slot p.events slots))
+      ∙ ap (λ xs. map (ranked p.events) (listed (first_own p.events s.number)) ++ xs) (waiters_back next slots own.1)
+      ∙ sym (map-append (ranked p.events) (listed (first_own p.events s.number)) (by_slot p.events slots))
 
   abbrev ws : List Waiter
   ws = waiters_in slots_start (rows_of p.slots)
 
-  are_waiters : map erased ws ≡ map (ranked (place_in p.events)) (by_slot p.events p.slots)
+  are_waiters : map erased ws ≡ map (ranked p.events) (by_slot p.events p.slots)
   are_waiters = waiters_back slots_start p.slots owns
 
   pub saved_back : saved_in contents ≡ c
@@ -368,44 +348,32 @@ module _ (i : Image) (image : IsImage i) (p : Parts) (last : Option ℕ) (ck : I
         last = c.last;
       } in
       ap (λ xs. make xs (events_of (in_order ws))) (rows_back p.slots)
-      ∙ ap (make p.slots) (same_events p.events p.slots (are_queues p ck.rules ck.typed) ws are_waiters)
-
-  tests_right : first_late 0 (queue_tests ws [] ws) ≡ None
-  tests_right =
-      sym (late_bad 0 0 (queue_tests ws [] ws)) ∙ ap (first_bad 0) (tests_are [] ws [] ws)
-      ∙ queues_clean p.events 0 p.slots ws (are_queues p ck.rules ck.typed) owns are_waiters
+      ∙ ap (make p.slots) (same_events p ck.rules ws are_waiters)
 
   rows_right : (slots images : List Slot) → map identity_of slots ≡ map identity_of images
-      → AllByRecursion (IsSavedSlot i.split p.cycles p.events) slots
-      → (each (slot_row i.split p.cycles) images).Fits (rows_of slots)
-  unfolding cons
-  rows_right [] [] same all = refl
-  rows_right [] (k ∷ images) same all = absurd cc
-  rows_right (s ∷ slots) [] same all = absurd cc
-  rows_right (s ∷ slots) (k ∷ images) same all =
-      let one : identity_of s ≡ identity_of k = cc in
-      let others : map identity_of slots ≡ map identity_of images = cc in (
-        fits_row i.split p.cycles ck.cycles p.events k s one all.0 (place_small p.events s (queued i p last image ck)),
-        rows_right slots images others all.1,
-      )
-
-  all_saved : (slots : List Slot) → AllByRecursion IsTypedSlot slots → AllByRecursion (Owns p.events) slots
+      → AllByRecursion IsTypedSlot slots → AllByRecursion (Owns p.events) slots
       → AllByRecursion (λ (s : Slot). s.state ≡ Taken → s.handler ≢ None) slots → AllByRecursion IsPending slots
       → AllByRecursion (λ (s : Slot). s.turns ≤ p.cycles) slots
       → (i.split ≡ false → AllByRecursion (λ (s : Slot). s.pending ≡ []) slots)
-      → AllByRecursion (IsSavedSlot i.split p.cycles p.events) slots
-  all_saved [] typed own taken pending turns mode = tt
-  all_saved (s ∷ slots) typed own taken pending turns mode = (
-    record {
-      typed = typed.0;
-      owns = own.0;
-      taken = taken.0;
-      pending = pending.0;
-      turns = turns.0;
-      mode = λ e. (mode e).0;
-    },
-    all_saved slots typed.1 own.1 taken.1 pending.1 turns.1 (λ e. (mode e).1),
-  )
+      → (each (slot_row i.split p.cycles) images).Fits (rows_of slots)
+  unfolding cons
+  rows_right [] [] same typed own taken pending turns mode = refl
+  rows_right [] (k ∷ images) same typed own taken pending turns mode = absurd cc
+  rows_right (s ∷ slots) [] same typed own taken pending turns mode = absurd cc
+  rows_right (s ∷ slots) (k ∷ images) same typed own taken pending turns mode =
+      let one : identity_of s ≡ identity_of k = cc in
+      let others : map identity_of slots ≡ map identity_of images = cc in
+      let saved : IsSavedSlot i.split p.cycles p.events s = record {
+        typed = typed.0;
+        owns = own.0;
+        taken = taken.0;
+        pending = pending.0;
+        turns = turns.0;
+        mode = λ e. (mode e).0;
+      } in
+      also (fits_row i.split p.cycles ck.cycles p.events k s one saved
+      (place_small p.events s (queued i p last image ck)))
+      (rows_right slots images others typed.1 own.1 taken.1 pending.1 turns.1 (λ e. (mode e).1))
 
   last_right : (last : Option ℕ) → IfSome last (λ n. n < 64)
       → ((nat_le 64 (last_byte last) && not (last_byte last == 255)) ≡ false)
@@ -422,25 +390,11 @@ module _ (i : Image) (image : IsImage i) (p : Parts) (last : Option ℕ) (ck : I
       let most = frames_few i.version in
       let pages = ck.pages in
       let cycles = ck.cycles in
-      let back = last_right last ck.issued in (
-        (refl, refl),
-        (
-          (omega arith, refl),
-          (
-            (last_small last ck.issued, back.0),
-            (
-              (omega arith, refl),
-              (
-                (omega (arith, cycles), not_lt 1000000 p.cycles cycles),
-                (
-                  (omega (arith, pages, few, most), not_lt i.memory.frames (length p.pages) pages),
-                  ap (λ x. record { last = x; cycles = p.cycles; pages = length p.pages }) back.1,
-                ),
-              ),
-            ),
-          ),
-        ),
-      )
+      let back = last_right last ck.issued in
+      also (refl, refl) (also (omega arith, refl) (also (last_small last ck.issued, back.0) (also (omega arith, refl)
+      (also (omega (arith, cycles), not_lt 1000000 p.cycles cycles)
+      (also (omega (arith, pages, few, most), not_lt i.memory.frames (length p.pages) pages)
+      (ap (λ x. record { last = x; cycles = p.cycles; pages = length p.pages }) back.1))))))
 
   outputs_right : (limit : ℕ) → limit ≤ 65536 → (outputs : List (ℕ × List ℕ))
       → AllByRecursion (λ (o : ℕ × List ℕ). length o.1 ≤ limit) outputs
@@ -460,68 +414,49 @@ module _ (i : Image) (image : IsImage i) (p : Parts) (last : Option ℕ) (ck : I
   unfolding checkpoint front
   contents_fit =
       let r = ck.rules in
-      let t = ck.typed in (
-        (
-          (
-            header_right,
-            (
-              rows_right p.slots i.slots ck.slots
-                  (all_saved p.slots t.slots owns r.taken r.pending r.turns ck.mode),
-              refl,
-            ),
-          ),
-          tests_right,
-        ),
-        (
-          subst (λ gs. (each (output (output_limit i.version)) gs).Fits c.outputs) groups_are
-              (outputs_right (output_limit i.version) (limit_small i.version) c.outputs
-              (each_of (λ (o : ℕ × List ℕ). length o.1 ≤ output_limit i.version)
-              (λ (o : Output). (o.group, o.bytes)) p.outputs ck.outputs)),
-          (
-            fit_pages 0 p.pages
-                (record { rise = rising 0 p.pages (rise_all (λ (x : ℕ × List Cell). x.0) p.pages r.pages); whole = t.whole; words = t.words }),
-            refl,
-          ),
-        ),
-      )
+      let t = ck.typed in
+      let rows = rows_right p.slots i.slots ck.slots t.slots owns r.taken r.pending r.turns ck.mode in
+      also (also (also header_right (also rows refl)) (are_right p ck.rules ws are_waiters))
+      (also (subst (λ gs. (each (output (output_limit i.version)) gs).Fits c.outputs) groups_are
+      (outputs_right (output_limit i.version) (limit_small i.version) c.outputs
+      (each_of _ _ _ ck.outputs)))
+      (also (fit_pages 0 p.pages (record {
+        rise = rising 0 p.pages (rise_all (λ (x : ℕ × List Cell). x.0) p.pages r.pages);
+        whole = t.whole;
+        words = t.words;
+      })) refl))
 
 -- 4. The laws.
 
+pub same_value : {A : Type 0} {a b : A} {m n : ℕ} → Got a m ≡ Got b n → a ≡ b
+same_value e = cc
+
 module _ (i : Image) (bytes : List ℕ) (image : IsImage i) where
-  abbrev here : Contents
-  here = contents_at bytes i
+  -- parts that the bytes say are saved by them
+  pub are_saved : IsBytes bytes → (p : Parts) (last : Option ℕ) (next : ℕ) → said_of i bytes ≡ Got (saved_of p last) next
+      → Saves bytes i p last
+  unfolding said_of
+  are_saved fits p last next e =
+      let a = after_got (file (checkpoint i) 13 bytes) (λ c n. Got (saved_in c) n) (saved_of p last) next e in
+      let c = a.0 in
+      let s = files.spelled_by (checkpoint i) (checkpoint_is i) 13 bytes fits c a.1 a.2 in
+      let same : saved_in c ≡ saved_of p last = same_value a.3 in
+      let parts : made_parts (saved_in c) ≡ p = ap made_parts same ∙ parts_back p last in
+      record {
+        checkpoint = subst (λ q. IsCheckpoint i q last) parts
+            (subst (IsCheckpoint i (made_parts (saved_in c))) (ap (λ (x : Saved). x.last) same)
+            (is_checkpoint i image c s.0));
+        spelled = s.1 ∙ contents_spelled i c s.0 (rows_agree i image c s.0) ∙ ap spelling same;
+      }
 
-  clean : IsBytes bytes → first_fault i bytes ≡ None → (checkpoint i).Fits here × (bytes ≡ (checkpoint i).spell here)
-  clean fits none =
-      files.spelled_clean (checkpoint i) (checkpoint_is i) 13 bytes (first_fault i bytes) here (end_of bytes i)
-      (file_says bytes i) fits none
-
-  pub clean_spelled : IsBytes bytes → first_fault i bytes ≡ None → bytes ≡ spelling (saved_at i bytes)
-  clean_spelled fits none =
-      let s = clean fits none in
-      s.1 ∙ contents_spelled i here s.0 (rows_agree i image here s.0) ∙ ap spelling (saved_is bytes i)
-
-  pub clean_checkpoint : (p : Parts) (last : Option ℕ) → IsBytes bytes → first_fault i bytes ≡ None
-      → saved_of p last ≡ saved_at i bytes → IsCheckpoint i p last
-  clean_checkpoint p last fits none same =
-      is_checkpoint i p last (subst (IsRight i) (saved_is bytes i ∙ sym same)
-      (right i image here (clean fits none).0))
-
-  module _ (p : Parts) (last : Option ℕ) (saves : Saves bytes i p last) where
-    abbrev ck : IsCheckpoint i p last
-    ck = saves.checkpoint
-
-    again : (first_fault i bytes ≡ None) × (here ≡ contents i image p last ck)
-    again =
-        let a = contents i image p last ck in
-        let fit = contents_fit i image p last ck in
-        files.read_again (checkpoint i) (checkpoint_is i) 13 bytes (first_fault i bytes) here (end_of bytes i)
-        (file_says bytes i) a fit
-        (saves.spelled ∙ sym (contents_spelled i a fit (rows_agree i image a fit)
-        ∙ ap spelling (saved_back i image p last ck)))
-
-    pub spelled_clean : first_fault i bytes ≡ None
-    spelled_clean = again.0
-
-    pub spelled_same : saved_at i bytes ≡ saved_of p last
-    spelled_same = sym (saved_is bytes i) ∙ ap saved_in again.1 ∙ saved_back i image p last ck
+  -- a checkpoint that the bytes spell is what they say
+  pub spelled_said : (p : Parts) (last : Option ℕ) → Saves bytes i p last
+      → said_of i bytes ≡ Got (saved_of p last) (length bytes)
+  unfolding said_of
+  spelled_said p last saves =
+      let a = contents i image p last saves.checkpoint in
+      let fit = contents_fit i image p last saves.checkpoint in
+      let back = saved_back i image p last saves.checkpoint in
+      ap (λ o. after o (λ c n. Got (saved_in c) n)) (files.read_whole (checkpoint i) (checkpoint_is i) 13 bytes a fit
+      (saves.spelled ∙ sym (contents_spelled i a fit (rows_agree i image a fit) ∙ ap spelling back)))
+      ∙ ap (λ s. Got s (length bytes)) back

@@ -1,34 +1,28 @@
 -- What the groups of a run put out is bytes.
-use Rattle.std.proofs.Common.{ℕ, zero, suc, ◌<◌, ◌%◌, ◌==◌, Bool, true, false, if◌then◌else◌, List, [], ◌∷◌, ◌++◌, replicate, slice_index_or, slice_set, Option, Some, None, Result, Ok, Err, sym, subst, arith}
-use Rattle.std.specs.List.{AllByRecursion}
-use Rattle.mm_word.specs.declared.cause.Cause.TheVariants as cause
-use Rattle.mm_word.specs.declared.word.Post.{Post}
-use Rattle.mm_word.specs.declared.word.Word.{Word}
-use Rattle.mm_word.specs.declared.word.Word.TheVariants.{Int, Ptr}
-use Rattle.mm_word.specs.declared.cause.Cause.{Cause}
-use Rattle.mm_word.specs.Access.{Touch}
-use Rattle.mm_word.specs.Pointer.{Pointer, setptr_result, enter_result, next_result}
-use Rattle.mm_word.specs.Word.{word_bits}
-use Rattle.mm_isa.specs.declared.instr.DivZero.{DivZero}
-use Rattle.mm_isa.specs.declared.instr.How.{How}
-use Rattle.mm_isa.specs.declared.instr.Instr.{Instr}
-use Rattle.mm_isa.specs.declared.instr.Instr.TheVariants.{Halt, Nop, Ldi, Ldhi, Mov, Isptr, Eqw, Out, SelfSlot, Alu, Addi, Lea, Leai, Leab, Restrict, Subseg, Setptr, Ld, St, Br, Bz, Bnz, Jmp, Jal, Lip, Trap, Evt, Resume, Rreg, Wreg, Map, Unmap}
-use Rattle.mm_model.specs.declared.event.Event.{Event}
-use Rattle.mm_model.specs.declared.slot.SlotState.TheVariants.{Running, Halted}
-use Rattle.mm_model.specs.Memory.{Memory}
-use Rattle.mm_model.specs.Uses.{Use}
-use Rattle.mm_model.specs.Slot.{Slot, register}
-use Rattle.mm_model.specs.State.{Core, State, put_slot, put_queue, output_of, put_output}
-use Rattle.mm_model.specs.Image.{Image, start}
-use Rattle.mm_model.specs.Operands.{addr_operand, value_operand}
-use Rattle.mm_model.specs.Ask.{ask, is_privileged}
-use Rattle.mm_model.specs.Effect.{Reply, Change, Effect, effect, plain, sets, sets_pointer, sets_number, if_pointer, puts_out, loaded, stored, at_distance, branches, jumps, links, takes, resumes, reads_of, writes_of, maps, unmaps, delivered}
+use Rattle.std.proofs.Common.{ℕ, zero, suc, ◌<◌, ◌%◌, ◌==◌, Bool, true, false, if◌then◌else◌, List, [], ◌∷◌, ◌++◌}
+use Rattle.std.proofs.Common.{replicate, slice_index_or, slice_set, Option, Some, None, Result, Ok, Err, sym, subst}
+use Rattle.std.{proofs.Common.arith, specs.List.AllByRecursion}
+use Rattle.mm_word.specs.declared.{word.{Post.Post, Word.{Word, TheVariants.{Int, Ptr}}}, cause.Cause.Cause}
+use Rattle.mm_word.specs.{Access.Touch, Pointer.{Pointer, setptr_result, enter_result, next_result}, Word.word_bits}
+use Rattle.mm_isa.specs.declared.instr.{DivZero.DivZero, How.How}
+use Rattle.mm_isa.specs.declared.instr.Instr.{Instr, TheVariants.{Halt, Nop, Ldi, Ldhi, Mov, Isptr, Eqw, Out}}
+use Rattle.mm_isa.specs.declared.instr.Instr.TheVariants.{SelfSlot, Alu, Addi, Lea, Leai, Leab, Restrict}
+use Rattle.mm_isa.specs.declared.instr.Instr.TheVariants.{Subseg, Setptr, Ld, St, Br, Bz, Bnz, Jmp, Jal, Lip}
+use Rattle.mm_isa.specs.declared.instr.Instr.TheVariants.{Trap, Evt, Resume, Rreg, Wreg, Map, Unmap}
+use Rattle.mm_model.specs.{declared.{event.Event.Event, slot.SlotState.TheVariants.{Running, Halted}}, Memory.Memory}
+use Rattle.mm_model.specs.{Uses.Use, Slot.{Slot, register}}
+use Rattle.mm_model.specs.{State.{Core, State, put_slot, put_queue, output_of, put_output}, Image.{Image, start}}
+use Rattle.mm_model.specs.{Operands.{addr_operand, value_operand}, Ask.{ask, is_privileged}}
+use Rattle.mm_model.specs.Effect.{Reply, Change, Effect, effect, plain, sets, sets_pointer, sets_number, if_pointer}
+use Rattle.mm_model.specs.Effect.{puts_out, loaded, stored, at_distance, branches, jumps, links, takes, resumes}
+use Rattle.mm_model.specs.Effect.{reads_of, writes_of, maps, unmaps, delivered}
 use Rattle.mm_model.specs.Effect.Reply.{Fine, Refused, Got, Paged, Served, Took}
 use Rattle.mm_model.specs.Effect.Effect.{Fault, Block, Deliver, Does}
-use Rattle.mm_model.specs.Turn.{Turned, reply, slot_after, with_other, with_queue, with_out, core_after, stood, is_sync, event_of, core_faulted, faulted, touch_of, asked_use, blocked, ended, executed, idle, turn}
-use Rattle.mm_model.specs.Run.{after, run}
-use Rattle.mm_model.proofs.CoreRows.{each_push, each_set}
-use Rattle.mm_model.proofs.TurnShapes.{TurnShape, turn_shape}
+use Rattle.mm_model.specs.Turn.{Turned, reply, slot_after, with_other, with_queue, with_out, core_after, stood}
+use Rattle.mm_model.specs.Turn.{is_sync, event_of, core_faulted, faulted, touch_of, asked_use, blocked, ended}
+use Rattle.mm_model.specs.{Turn.{executed, idle, turn}, Run.{after, run}}
+use Rattle.mm_model.proofs.{CoreRows.{each_push, each_set}, TurnShapes.{TurnShape, turn_shape}}
+use Rattle.mm_word.specs.declared.cause.Cause.TheVariants as cause
 
 abbrev pub AreBytes : List ℕ → Type 0
 AreBytes bytes = AllByRecursion (λ b. b < 256) bytes

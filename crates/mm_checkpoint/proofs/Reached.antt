@@ -1,19 +1,11 @@
 -- A snapshot of a state that a machine of an image reaches keeps the rules of the image's checkpoints.
 use Rattle.std.proofs.Common.{◌≡◌, ℕ, ◌+◌, ◌<◌, ◌≤◌, List, [], ◌∷◌, length, refl, ap, subst, ◌∙◌, arith}
-use Rattle.std.specs.Prelude.{IfSome, Option}
-use Rattle.std.specs.List.{AllByRecursion}
-use Rattle.mm_model.specs.State.{State}
-use Rattle.mm_model.specs.Image.{Image, start, output_limit}
-use Rattle.mm_model.specs.Run.{after, run}
-use Rattle.mm_model.specs.Spelling.{IsImage}
-use Rattle.mm_model.specs.Fits.{Fits}
-use Rattle.mm_model.proofs.Starts.{start_fits}
-use Rattle.mm_model.proofs.StateKeeps.{after_fits}
+use Rattle.std.specs.{Prelude.{IfSome, Option}, List.AllByRecursion}
+use Rattle.mm_model.specs.{State.State, Image.{Image, start, output_limit}, Run.{after, run}, Spelling.IsImage}
+use Rattle.mm_model.{specs.Fits.Fits, proofs.{Starts.start_fits, StateKeeps.after_fits}}
 use Rattle.mm_thread.specs.Output.{Output}
-use Rattle.mm_machine.specs.Kept.{Kept}
-use Rattle.mm_machine.specs.Snapshot.{Parts, IsTyped, IsSnapshotOf}
-use Rattle.mm_machine.proofs.Keeping.{kept_start, kept_after}
-use Rattle.mm_machine.proofs.Restorable.{can_own}
+use Rattle.mm_machine.specs.{Kept.Kept, Snapshot.{Parts, IsTyped, IsSnapshotOf}}
+use Rattle.mm_machine.proofs.{Keeping.{kept_start, kept_after}, Restorable.can_own}
 use Rattle.mm_checkpoint.specs.Checkpoints.{IsCheckpoint}
 
 -- what is true of a machine of the image after so many cycles

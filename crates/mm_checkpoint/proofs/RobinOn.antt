@@ -1,13 +1,7 @@
 -- Round robin goes on from the state and the last item.
-use Rattle.std.proofs.Common.{◌≡◌, ℕ, zero, suc, ◌+◌, List, [], ◌∷◌, ◌++◌, Option, Some, None, refl, sym, ap, ◌∙◌, arith}
-use Rattle.mm_model.specs.State.{State}
-use Rattle.mm_model.specs.Run.{after, run, next_running, then_issued, robin_from, last_item}
-
--- where no slot is next, no item is issued
-none_next : (s : State) (last : Option ℕ) (more : ℕ) → next_running s.core.rows last ≡ None → robin_from s last more ≡ []
-unfolding robin_from
-none_next s last zero none = refl
-none_next s last (suc more) none = ap (λ (o : Option ℕ). then_issued o (λ n. robin_from (after s n) (Some n) more)) none
+use Rattle.std.proofs.Common.{◌≡◌, ℕ, zero, suc, ◌+◌, List, ◌∷◌, ◌++◌, Option, Some, None, refl, sym, ap, ◌∙◌, arith}
+use Rattle.mm_model.specs.{State.State, Run.{after, run, next_running, then_issued, robin_from, last_item}}
+use Rattle.mm_machine.proofs.Rounds.{robin_ends}
 
 pub goes_on : (s : State) (last : Option ℕ) (first more : ℕ)
     → robin_from s last (first + more) ≡ robin_from s last first ++ robin_from (run s (robin_from s last first)) (last_item last (robin_from s last first)) more
@@ -24,5 +18,5 @@ goes_on s last (suc first) more =
         → then_issued o (λ n. robin_from (after s n) (Some n) (first + more))
         ≡ then_issued o (λ n. robin_from (after s n) (Some n) first)
         ++ robin_from (run s (then_issued o (λ n. robin_from (after s n) (Some n) first))) (last_item last (then_issued o (λ n. robin_from (after s n) (Some n) first))) more
-    by None is later = sym (none_next s last more is)
+    by None is later = sym (robin_ends s last more is)
     by (Some n) is later = ap (λ (items : List ℕ). n ∷ items) (later n)

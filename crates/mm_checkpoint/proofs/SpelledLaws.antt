@@ -1,14 +1,56 @@
--- Bytes are one checkpoint of an image at most, and have no fault where they are one.
-use Rattle.std.proofs.Common.{◌≡◌, ℕ, List, None, sym, ap, ◌∙◌}
-use Rattle.std.specs.Option.{option_map}
-use Rattle.mm_model.specs.Image.{Image}
-use Rattle.mm_model.specs.Spelling.{IsImage}
-use Rattle.mm_checkpoint.specs.Faults.{save_fault}
+-- Bytes have no fault exactly if they are a checkpoint of an image, and they are one at most.
+use Rattle.std.{proofs.Common.{◌≡◌, ℕ, List, None, refl, sym, ap, ◌∙◌, Option, Some}, specs.Option.option_map}
+use Rattle.mm_model.specs.{Image.Image, Places.IsBytes, Spelling.IsImage}
+use Rattle.mm_format.specs.{Formats.{Outcome, Outcome.{Got, Bad}}, Reading.Fails, declared.reader.ReadError.ReadError}
+use Rattle.mm_checkpoint.specs.{Checkpoints.Saved, Faults.{said_of, fault_of, save_fault}}
 use Rattle.mm_checkpoint.specs.Laws.{SomeSaved, CheckpointsAreOne}
-use Rattle.mm_checkpoint.proofs.FormatWhole.{spelled_clean, spelled_same}
+use Rattle.mm_checkpoint.specs.{declared.fault.SaveError.TheVariants.{Fault, NoMemory}, Answers.FailsAt, Steps.told}
+use Rattle.mm_checkpoint.proofs.{FormatWhole.{are_saved, spelled_said, same_value}, Made.{made_parts, made_saved}}
+use Rattle.mm_image.specs.{declared.fault.ImageFault.ImageFault, Faults.number_of}
+use Rattle.mm_format.specs.declared.reader.ReadError.TheVariants as reading
+
+abbrev place_of : Outcome Saved → Option ℕ
+place_of said = option_map (λ (fault : ℕ × ℕ). fault.1) (fault_of said)
 
 pub no_fault : (i : Image) (bytes : List ℕ) → IsImage i → SomeSaved i bytes → save_fault i bytes ≡ None
-no_fault i bytes image some = ap (option_map (λ (fault : ℕ × ℕ). fault.1)) (spelled_clean i bytes image some.parts some.last some.saves)
+no_fault i bytes image some =
+    ap place_of (spelled_said i bytes image some.parts some.last some.saves)
 
 pub are_one : CheckpointsAreOne
-are_one i bytes p q last also image saves saves_also = sym (spelled_same i bytes image p last saves) ∙ spelled_same i bytes image q also saves_also
+are_one i bytes p q last also image saves saves_also =
+    same_value (sym (spelled_said i bytes image p last saves) ∙ spelled_said i bytes image q also saves_also)
+
+pub some_saved : (i : Image) (bytes : List ℕ) → IsImage i → IsBytes bytes → save_fault i bytes ≡ None → SomeSaved i bytes
+some_saved i bytes image fits e = by (said_of i bytes) e refl
+  where
+    by : (o : Outcome Saved) → place_of o ≡ None → said_of i bytes ≡ o
+        → SomeSaved i bytes
+    by (Got s next) e is = record {
+      parts = made_parts s;
+      last = s.last;
+      saves = are_saved i bytes image fits (made_parts s) s.last next
+          (is ∙ ap (λ (c : Saved). Got c next) (sym (made_saved s)));
+    }
+    by (Bad number at) e is = absurd cc
+
+-- What the reader answers.
+
+module _ (i : Image) (bytes : List ℕ) where
+  -- an error is told of the first fault
+  pub told_fault : (e : ReadError ImageFault) (offset : ℕ) → Fails number_of (said_of i bytes) e → told e ≡ Fault offset
+      → save_fault i bytes ≡ Some offset
+  told_fault (reading.Fault kind at) offset h e = let same : at ≡ offset = cc in ap place_of h ∙ ap Some same
+  told_fault reading.NoMemory offset h e = absurd cc
+
+  pub told_first : (e : ReadError ImageFault) (offset : ℕ) → Fails number_of (said_of i bytes) e
+      → save_fault i bytes ≡ Some offset → FailsAt offset (told e)
+  told_first (reading.Fault kind at) offset h some =
+      let there : Some at ≡ Some offset = sym (ap place_of h) ∙ some in cc
+  told_first reading.NoMemory offset h some = tt
+
+  -- if there is none it is want of memory
+  pub told_memory : (e : ReadError ImageFault) (s : Saved) (next : ℕ) → said_of i bytes ≡ Got s next
+      → Fails number_of (said_of i bytes) e → told e ≡ NoMemory
+  told_memory (reading.Fault kind at) s next said h =
+      let both : Got s next ≡ Bad (number_of kind) at = sym said ∙ h in absurd cc
+  told_memory reading.NoMemory s next said h = refl

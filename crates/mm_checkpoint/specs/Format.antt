@@ -21,8 +21,7 @@ use Rattle.mm_checkpoint.specs.declared.rows.SlotRow.{SlotRow}
 use Rattle.mm_checkpoint.specs.declared.waiting.Waiter.{Waiter}
 use Rattle.mm_checkpoint.specs.Checkpoints.{Saved, last_byte, state_byte, cause_byte}
 use Rattle.mm_checkpoint.specs.Reading.{cause_of, state_of, handler_of, in_order, events_of, slots_start, groups_of}
-use Rattle.mm_checkpoint.specs.Faults.{is_bad_state, is_bad_cause, bits_set, is_bad_place}
-use Rattle.mm_checkpoint.specs.Steps.{is_bad_entry}
+use Rattle.mm_checkpoint.specs.Tests.{is_bad_state, is_bad_cause, bits_set, is_bad_entry, is_bad_place}
 
 -- 1. The header.
 

@@ -6,3 +6,4 @@ pub mod Laws
 pub mod Reading
 pub mod States
 pub mod Steps
+pub mod Tests

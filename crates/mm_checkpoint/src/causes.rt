@@ -2,7 +2,7 @@
 
 ghost use Rattle.std.specs.Prelude.{◌≡◌};
 ghost use Rattle.mm_checkpoint.specs.Reading.{cause_of, state_of};
-ghost use Rattle.mm_checkpoint.specs.Faults.{is_bad_state, is_bad_cause};
+ghost use Rattle.mm_checkpoint.specs.Tests.{is_bad_state, is_bad_cause};
 
 use mm_model::SlotState;
 use mm_word::Cause;

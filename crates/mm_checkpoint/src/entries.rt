@@ -7,9 +7,9 @@ ghost use Rattle.mm_model.specs.declared.slot.Pending.{Pending as PendingValue};
 ghost use Rattle.mm_format.specs.Formats.{times};
 ghost use Rattle.mm_format.specs.Reading.{ReadsAlone};
 ghost use Rattle.mm_image.specs.Faults.{number_of};
-ghost use Rattle.mm_checkpoint.specs.Faults.{bits_set, has_entry};
+ghost use Rattle.mm_checkpoint.specs.Tests.{bits_set, has_entry, is_bad_entry};
 ghost use Rattle.mm_checkpoint.specs.Format.{load};
-ghost use Rattle.mm_checkpoint.specs.Steps.{bit_count, is_bad_entry};
+ghost use Rattle.mm_checkpoint.specs.Steps.{bit_count};
 
 use crate::words::read_tagged;
 use arrayvec::ArrayVec;

@@ -6,8 +6,7 @@ ghost use Rattle.mm_checkpoint.specs.Laws.{RestoredRunsGoOn, RoundRobinGoesOn, R
 ghost use Rattle.mm_checkpoint.specs.Laws.{RunsHaveSnapshots, SavedFormsAreStates, SnapshotsAreCheckpoints};
 ghost use Rattle.mm_checkpoint.specs.Laws.{SnapshotsHaveSavedForms};
 
-/// The list of places of a file that is read against an image has no fault exactly if its bytes are a checkpoint of the
-/// image.
+/// A file that is read against an image has no fault exactly if its bytes are a checkpoint of the image.
 pub fn checkpoints_have_no_fault()
     ensures { CheckpointsHaveNoFault }
 {}

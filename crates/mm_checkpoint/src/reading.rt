@@ -3,12 +3,11 @@
 ghost use Rattle.std.specs.Prelude.{◌≡◌, ◌≤◌, ℕ, IfOk, Err, Some, Option, map, vec_len};
 ghost use Rattle.mm_model.specs.Spelling.{IsImage};
 ghost use Rattle.mm_format.specs.Formats.{file};
-ghost use Rattle.mm_format.specs.Reading.{Gives, Reads, ReadsFile};
+ghost use Rattle.mm_format.specs.Reading.{Reads, ReadsFile};
 ghost use Rattle.mm_image.specs.Faults.{number_of};
 ghost use Rattle.mm_machine.specs.Snapshot.{Parts, parts_of};
 ghost use Rattle.mm_checkpoint.specs.Checkpoints.{Saves, saved_of};
-ghost use Rattle.mm_checkpoint.specs.Reading.{saved_at};
-ghost use Rattle.mm_checkpoint.specs.Faults.{first_fault, save_fault};
+ghost use Rattle.mm_checkpoint.specs.Faults.{said_of, save_fault};
 ghost use Rattle.mm_checkpoint.specs.Answers.{IsUnlessNoMemory, FailsUnlessNoMemory};
 ghost use Rattle.mm_checkpoint.specs.Format.{checkpoint, contents_from, front, front_from, tested, waiters_in};
 ghost use Rattle.mm_checkpoint.specs.Steps.{put_out};
@@ -65,9 +64,9 @@ struct Checkpoint {
 
 // The checkpoint of a whole file.
 fn read_parts(alloc: Global, img: &Image, bytes: &[u8]) -> Result<Checkpoint, ReadError<ImageFault>>
-    ensures parts { Gives number_of
+    ensures parts { ReadsFile number_of
         (λ c. saved_of (parts_of c.slots.items c.events.items c.outputs.items c.pages.items c.cycles) c.last)
-        (first_fault img.now bytes.now) (saved_at img.now bytes.now) result }
+        (said_of img.now bytes.now) result }
     ensures image { IsImage img.now }
 {
     let file = read_file(alloc, img, bytes)?;

@@ -4,6 +4,7 @@ pub mod Members
 pub mod Goings
 pub mod Movings
 pub mod Coverings
+pub mod Leasts
 pub mod Finals
 pub mod FoundOnRuns
 pub mod Earliest

@@ -25,64 +25,38 @@ use Rattle.mm_explore.proofs.WordForms.{flags_of, flags_below, ip_again, words_s
 
 -- 1. States.
 
-pub cause_back : (c : Cause) → cause_at (number_of c) ≡ c
-cause_back NotPointer = refl
-cause_back Perm = refl
-cause_back Bounds = refl
-cause_back Align = refl
-cause_back NoPage = refl
-cause_back Sync = refl
-cause_back Illegal = refl
-cause_back Priv = refl
-cause_back DivZero = refl
-cause_back Malformed = refl
-cause_back Trap = refl
-cause_back NoSlot = refl
-cause_back OutFull = refl
+-- a fault and its number
+fault_form : (c : Cause) → (cause_at (number_of c) ≡ c) × (state_at (3 + number_of c) ≡ Halted (Some c)) × (number_of c ≤ 13)
+fault_form NotPointer = (refl, refl, omega arith)
+fault_form Perm = (refl, refl, omega arith)
+fault_form Bounds = (refl, refl, omega arith)
+fault_form Align = (refl, refl, omega arith)
+fault_form NoPage = (refl, refl, omega arith)
+fault_form Sync = (refl, refl, omega arith)
+fault_form Illegal = (refl, refl, omega arith)
+fault_form Priv = (refl, refl, omega arith)
+fault_form DivZero = (refl, refl, omega arith)
+fault_form Malformed = (refl, refl, omega arith)
+fault_form Trap = (refl, refl, omega arith)
+fault_form NoSlot = (refl, refl, omega arith)
+fault_form OutFull = (refl, refl, omega arith)
 
-fault_back : (c : Cause) → state_at (3 + number_of c) ≡ Halted (Some c)
-fault_back NotPointer = refl
-fault_back Perm = refl
-fault_back Bounds = refl
-fault_back Align = refl
-fault_back NoPage = refl
-fault_back Sync = refl
-fault_back Illegal = refl
-fault_back Priv = refl
-fault_back DivZero = refl
-fault_back Malformed = refl
-fault_back Trap = refl
-fault_back NoSlot = refl
-fault_back OutFull = refl
+pub cause_back : (c : Cause) → cause_at (number_of c) ≡ c
+cause_back c = (fault_form c).0
 
 pub state_back : (s : SlotState) → state_at (state_number s) ≡ s
 state_back Running = refl
 state_back Waiting = refl
 state_back Taken = refl
 state_back (Halted None) = refl
-state_back (Halted (Some c)) = fault_back c
-
-cause_small : (c : Cause) → number_of c ≤ 13
-cause_small NotPointer = omega arith
-cause_small Perm = omega arith
-cause_small Bounds = omega arith
-cause_small Align = omega arith
-cause_small NoPage = omega arith
-cause_small Sync = omega arith
-cause_small Illegal = omega arith
-cause_small Priv = omega arith
-cause_small DivZero = omega arith
-cause_small Malformed = omega arith
-cause_small Trap = omega arith
-cause_small NoSlot = omega arith
-cause_small OutFull = omega arith
+state_back (Halted (Some c)) = (fault_form c).1
 
 state_small : (s : SlotState) → state_number s < 32
 state_small Running = omega arith
 state_small Waiting = omega arith
 state_small Taken = omega arith
 state_small (Halted None) = omega arith
-state_small (Halted (Some c)) = let small = cause_small c in omega (arith, small)
+state_small (Halted (Some c)) = let small = (fault_form c).2 in omega (arith, small)
 
 -- 2. The numbers of a head and of masks.
 

@@ -31,7 +31,7 @@ abbrev pub spelled : List (List ℕ) → List Origin → List (List ℕ)
 spelled list [] = list
 spelled list (o ∷ origins) = spelled (list ++ led_by list o ∷ []) origins
 
--- each origin is one of those before it, of which there are so many before the first
+-- each origin is one of those before it; there are n before the first
 abbrev pub AreEarlier : ℕ → List Origin → Type 0
 AreEarlier n [] = Unit {0}
 AreEarlier n (o ∷ origins) = (o.from < n) × AreEarlier (n + 1) origins

@@ -328,7 +328,7 @@ numbers_of i p =
     slots_form i.slots p.slots ++ (events_form p.events ++ (outputs_form p.outputs
     ++ (pages_form (page_numbers i.memory.pages) p.pages ++ cells_form p.cells)))
 
--- the parts, given those that are read and the numbers behind them
+-- the parts, given those that are read and the numbers after them
 
 unfoldable pub parts_with_pages : List Slot → List (ℕ × Event) → List Output → List ℕ × List ℕ → Parts
 parts_with_pages slots events outputs pages = record {

@@ -95,3 +95,9 @@ ExplorationsAreOne = (i : Image) (limit : ℕ) (text other : List ℕ) → Explo
 abbrev pub KeptFormsAreConfigurations : Type 0
 KeptFormsAreConfigurations = (i : Image) (a b : List ℕ) → IsImage i
     → (kept i (run (start i) a) ≡ kept i (run (start i) b)) ↔ (leads_to i a ≡ leads_to i b)
+
+-- 6. A least schedule is a least schedule and, after it, a move of the state to which that leads.
+
+abbrev pub LeastSchedulesAreMoves : Type 0
+LeastSchedulesAreMoves = (i : Image) (t : List ℕ) (item : ℕ) → IsLeast i (t ++ item ∷ [])
+    → IsLeast i t × Contains (moves (run (start i) t)) item

@@ -88,7 +88,7 @@ pub record IsNode (i : Image) (s : Search) (node : Node) : Type 0 where
   pub parts : ArePartsAt i (node_schedule s node) node.parts
   pub moves : node.moves.items ≡ moves (run (start i) (node_schedule s node))
 
--- the turns of the schedules before an index, and so many of those from the schedule at the index
+-- the turns of the schedules before an index, and the first `k` of those from the schedule at the index
 abbrev pub turns_before : Image → List (List ℕ) → ℕ → ℕ → List Extension
 turns_before i list at k =
     flat_map (extensions i) (take at list) ++ take k (extensions i (slice_index_or list at []))
@@ -98,7 +98,7 @@ abbrev pub turns_from : Image → List (List ℕ) → ℕ → ℕ → List Exten
 turns_from i list at k =
     drop k (extensions i (slice_index_or list at [])) ++ flat_map (extensions i) (drop (at + 1) list)
 
--- a search has made so many of the moves of a node
+-- a search has made the first `k` moves of a node
 pub record IsWithin (i : Image) (s : Search) (node : Node) (k : ℕ) : Type 0 where
   pub is : IsNode i s node
   pub come : HasCome i s (turns_before i s.found.list node.at k) (turns_from i s.found.list node.at k)

@@ -109,7 +109,7 @@ exploration_text i e =
     ++ flat_map (faults_of i e.list) i.slots
     ++ flat_map (outcome_lines i e.finals) (firsts i e.finals)
 
--- the text of the exploration of an image, up to so many configurations
+-- the text of the exploration of an image, up to `limit` configurations
 pub record Explores (i : Image) (limit : ℕ) (text : List ℕ) : Type 0 where
   pub exploration : Exploration
   pub is : IsExploration i limit exploration

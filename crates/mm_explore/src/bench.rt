@@ -13,7 +13,7 @@ ghost use Rattle.mm_explore.specs.Kept.{kept};
 
 use crate::held::Held;
 use crate::parts::Parts;
-use crate::put_parts::put_numbers;
+use crate::put_parts::{put_cells, put_outputs, put_pages, put_queued, put_slots};
 use mm_image::Image;
 use mm_mem::Inspect;
 use mm_model::Step;
@@ -73,15 +73,11 @@ impl Bench {
         ensures { OnOk result ((t : List ℕ) → IsAt img.now t self.now
             → out.new.items ≡ out.old.items ++ kept img.now (run (start img.now) t)) }
     {
-        put_numbers(
-            alloc,
-            out,
-            img,
-            groups,
-            &self.core,
-            &self.held.pages,
-            self.held.cells.as_slice(),
-        )
+        put_slots(out, img.slots(), &self.core)?;
+        put_queued(alloc, out, &self.core)?;
+        put_outputs(out, groups, &self.core)?;
+        put_pages(out, &self.held.pages)?;
+        put_cells(out, self.held.cells.as_slice())
     }
 
     /// Puts the machine to the configuration of these parts.

@@ -76,7 +76,7 @@ fn add(alloc: Global, kept: &mut IndexSet<Vec<u64>>, numbers: &[u64]) -> Result<
 }
 
 impl Found {
-    /// The configuration of the empty schedule, given its numbers, and room for so many.
+    /// The configuration of the empty schedule, given its numbers, and room for `limit` of them.
     pub(crate) fn new(alloc: Global, limit: usize, numbers: &[u64]) -> Result<Found, AllocError>
         requires room { 1 ≤ limit }
         requires few { limit ≤ 2 ^ 31 }

@@ -2,7 +2,7 @@
 //!
 //! These functions do nothing when they run: the contract of each is a law.
 ghost use Rattle.mm_explore.specs.Laws.{ConfigurationsGoOn, OthersAreIdle, ExploredIsAll, FindingsAreMet};
-ghost use Rattle.mm_explore.specs.Laws.{ExplorationsAreOne, KeptFormsAreConfigurations};
+ghost use Rattle.mm_explore.specs.Laws.{ExplorationsAreOne, KeptFormsAreConfigurations, LeastSchedulesAreMoves};
 
 /// States of one configuration have the same moves, and the cycle of an item has in both the same outcome, the same
 /// accesses and the same entry, and leads to one configuration.
@@ -34,4 +34,10 @@ pub fn explorations_are_one()
 /// What is kept of the states of two runs of an image is the same exactly if they are of one configuration.
 pub fn kept_forms_are_configurations()
     ensures { KeptFormsAreConfigurations }
+{}
+
+/// A least schedule that is not empty is a least schedule and, after it, a move of the state to which that leads. So all
+/// its items are moves.
+pub fn least_schedules_are_moves()
+    ensures { LeastSchedulesAreMoves }
 {}

@@ -1,4 +1,4 @@
-//! The numbers of the configuration of a core and a memory.
+//! The numbers of the parts of a configuration.
 
 ghost use Rattle.std.specs.Prelude.{◌≡◌, ℕ, ◌+◌, ◌<◌, ◌≤◌, ◌^◌, ◌++◌, if◌then◌else◌, false};
 ghost use Rattle.std.specs.Prelude.{nat_eq, List, [], OnOk, IfOk, IfSome, length, map, drop};
@@ -8,15 +8,12 @@ ghost use Rattle.mm_word.specs.declared.word.Cell.{Cell as CellValue};
 ghost use lib.Pointwise.{pointwise};
 ghost use Rattle.mm_model.specs.Fits.{slots_of};
 ghost use Rattle.mm_model.specs.Flags.{number_of_flags};
-ghost use Rattle.mm_machine.specs.Snapshot.{queued, page_numbers};
-ghost use Rattle.mm_explore.specs.Configurations.{uncounted_slot};
-ghost use Rattle.mm_explore.specs.Kept.{cells_form, held_parts, numbers_of};
-ghost use Rattle.mm_explore.specs.Kept.{events_form, core_output, outputs_form, pages_form, listed};
+ghost use Rattle.mm_machine.specs.Snapshot.{queued};
+ghost use Rattle.mm_explore.specs.Kept.{cells_form, events_form, core_output, outputs_form, pages_form, listed};
 ghost use Rattle.mm_explore.specs.Kept.{is_base as is_base_of, slot_form, slot_flags, slot_forms, slots_form};
 
 use crate::part_forms::{put_cell, put_events, put_output};
 use crate::slot_form::{is_base, put_slot};
-use mm_image::Image;
 use mm_model::{Event, Slot};
 use mm_thread::Core;
 use mm_word::Cell;
@@ -160,10 +157,10 @@ fn put_page_numbers(out: &mut Vec<u64>, numbers: &[u64]) -> Result<(), AllocErro
     Ok(())
 }
 
-// 4. Cells and all parts.
+// 4. Cells.
 
 /// Appends cells, each with its word.
-fn put_cells(out: &mut Vec<u64>, cells: &[(u64, Cell)]) -> Result<(), AllocError>
+pub(crate) fn put_cells(out: &mut Vec<u64>, cells: &[(u64, Cell)]) -> Result<(), AllocError>
     requires { AllByRecursion (λ (x : ℕ × CellValue). x.0 < 2 ^ 54) cells.now }
     ensures { OnOk result (out.new.items ≡ out.old.items ++ cells_form cells.now) }
 {
@@ -171,30 +168,4 @@ fn put_cells(out: &mut Vec<u64>, cells: &[(u64, Cell)]) -> Result<(), AllocError
         put_cell(out, cell.0, &cell.1)?;
     }
     Ok(())
-}
-
-/// Appends the numbers of the configuration of a core and a memory. The mapped pages of the memory are given, and so
-/// are its cells that differ from the image's.
-pub(crate) fn put_numbers(
-    alloc: Global,
-    out: &mut Vec<u64>,
-    img: &Image,
-    groups: &[u8],
-    core: &Core,
-    pages: &Option<Vec<u64>>,
-    cells: &[(u64, Cell)],
-) -> Result<(), AllocError>
-    requires count { length img.now.slots ≡ length (slots_of core.now) }
-    requires few { length (slots_of core.now) ≤ 64 }
-    requires differ { IfSome pages.now (λ p. pointwise nat_eq p.items (page_numbers img.now.memory.pages) ≡ false) }
-    requires words { AllByRecursion (λ (x : ℕ × CellValue). x.0 < 2 ^ 54) cells.now }
-    ensures { OnOk result (out.new.items ≡ out.old.items ++ numbers_of img.now (held_parts img.now
-        (map uncounted_slot (slots_of core.now)) (queued core.now) (map (core_output core.now) groups.now)
-        (option_map (λ p. p.items) pages.now) cells.now)) }
-{
-    put_slots(out, img.slots(), core)?;
-    put_queued(alloc, out, core)?;
-    put_outputs(out, groups, core)?;
-    put_pages(out, pages)?;
-    put_cells(out, cells)
 }

@@ -140,7 +140,7 @@ struct Search {
     all: bool,
 }
 
-/// Looks at every schedule of an image's machine, up to so many configurations.
+/// Looks at every schedule of an image's machine, up to `states` configurations.
 pub fn explore(alloc: Global, img: &Image, states: u32) -> Result<Explored, NoMemory>
     requires some { 1 ≤ states }
     requires few { states ≤ 1000000 }

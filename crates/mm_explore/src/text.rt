@@ -16,7 +16,8 @@ use crate::reached::{GroupFound, Span};
 use mm_io::{Sink, WriteFault};
 use mm_model::SlotState;
 use mm_report::put_output;
-use mm_text::{Gather, Piece, put_state};
+use mm_text::Piece::{Decimal, HexAddress, Text};
+use mm_text::{Gather, put_state};
 use mm_thread::Output;
 
 /// Writes the text of an exploration:
@@ -47,14 +48,7 @@ fn put_extent<O: Sink>(text: &mut Gather, out: &mut O, count: u64, all: bool)
         (codes "explored " ++ decimal count ++ extent_text all) }
 {
     let extent = if all { " all\n" } else { " more\n" };
-    text.put(
-        out,
-        &[
-            Piece::Text("explored "),
-            Piece::Decimal(count),
-            Piece::Text(extent),
-        ],
-    );
+    text.put(out, &[Text("explored "), Decimal(count), Text(extent)]);
 }
 
 // 1. Words.
@@ -72,11 +66,7 @@ fn put_group<O: Sink>(text: &mut Gather, out: &mut O, group: &GroupFound)
 {
     text.put(
         out,
-        &[
-            Piece::Text("group "),
-            Piece::Decimal(group.group as u64),
-            Piece::Text("\n"),
-        ],
+        &[Text("group "), Decimal(group.group as u64), Text("\n")],
     );
     put_spans(text, out, "touched ", &group.touched);
     put_spans(text, out, "wrote ", &group.wrote);
@@ -96,11 +86,11 @@ fn put_span<O: Sink>(text: &mut Gather, out: &mut O, verb: &str, span: &Span)
     text.put(
         out,
         &[
-            Piece::Text(verb),
-            Piece::HexAddress(span.first),
-            Piece::Text(" "),
-            Piece::Decimal(span.count),
-            Piece::Text("\n"),
+            Text(verb),
+            HexAddress(span.first),
+            Text(" "),
+            Decimal(span.count),
+            Text("\n"),
         ],
     );
 }
@@ -121,11 +111,11 @@ fn put_fault<O: Sink>(text: &mut Gather, out: &mut O, fault: &FaultFound)
     text.put(
         out,
         &[
-            Piece::Text("fault "),
-            Piece::Decimal(fault.slot as u64),
-            Piece::Text(" "),
-            Piece::Decimal(fault.cause as u64),
-            Piece::Text("\n"),
+            Text("fault "),
+            Decimal(fault.slot as u64),
+            Text(" "),
+            Decimal(fault.cause as u64),
+            Text("\n"),
         ],
     );
     put_by(text, out, &fault.by);
@@ -155,14 +145,7 @@ fn put_end<O: Sink>(text: &mut Gather, out: &mut O, count: u64, ended: bool)
         (codes "outcome " ++ decimal count ++ end_text ended) }
 {
     let end = if ended { " ended\n" } else { " stuck\n" };
-    text.put(
-        out,
-        &[
-            Piece::Text("outcome "),
-            Piece::Decimal(count),
-            Piece::Text(end),
-        ],
-    );
+    text.put(out, &[Text("outcome "), Decimal(count), Text(end)]);
 }
 
 fn put_states<O: Sink>(text: &mut Gather, out: &mut O, states: &[(u8, SlotState)])
@@ -176,16 +159,9 @@ fn put_states<O: Sink>(text: &mut Gather, out: &mut O, states: &[(u8, SlotState)
 fn put_state_line<O: Sink>(text: &mut Gather, out: &mut O, slot: u8, state: SlotState)
     ensures { Gathers O.taken O.faults out.old out.new text.old text.new (state_line (slot, state)) }
 {
-    text.put(
-        out,
-        &[
-            Piece::Text("slot "),
-            Piece::Decimal(slot as u64),
-            Piece::Text(" "),
-        ],
-    );
+    text.put(out, &[Text("slot "), Decimal(slot as u64), Text(" ")]);
     put_state(text, out, state);
-    text.put(out, &[Piece::Text("\n")]);
+    text.put(out, &[Text("\n")]);
 }
 
 fn put_outputs<O: Sink>(text: &mut Gather, out: &mut O, outputs: &[Output])
@@ -203,11 +179,11 @@ fn put_output_text<O: Sink>(text: &mut Gather, out: &mut O, output: &Output)
     text.put(
         out,
         &[
-            Piece::Text("group "),
-            Piece::Decimal(output.group as u64),
-            Piece::Text(" output "),
-            Piece::Decimal(bytes.len() as u64),
-            Piece::Text("\n"),
+            Text("group "),
+            Decimal(output.group as u64),
+            Text(" output "),
+            Decimal(bytes.len() as u64),
+            Text("\n"),
         ],
     );
     put_output(text, out, bytes);
@@ -220,9 +196,9 @@ fn put_output_text<O: Sink>(text: &mut Gather, out: &mut O, output: &Output)
 fn put_by<O: Sink>(text: &mut Gather, out: &mut O, items: &[u8])
     ensures { Gathers O.taken O.faults out.old out.new text.old text.new (by_line items.now) }
 {
-    text.put(out, &[Piece::Text("by")]);
+    text.put(out, &[Text("by")]);
     put_repeats(text, out, items);
-    text.put(out, &[Piece::Text("\n")]);
+    text.put(out, &[Text("\n")]);
 }
 
 /// How many items at the start are this one.
@@ -257,7 +233,7 @@ fn put_repeat<O: Sink>(text: &mut Gather, out: &mut O, item: u8, count: u64)
     ensures { Gathers O.taken O.faults out.old out.new text.old text.new
         (repeat_text (record { item = item; count = count })) }
 {
-    text.put(out, &[Piece::Text(" "), Piece::Decimal(item as u64)]);
+    text.put(out, &[Text(" "), Decimal(item as u64)]);
     put_count(text, out, count);
 }
 
@@ -265,6 +241,6 @@ fn put_count<O: Sink>(text: &mut Gather, out: &mut O, count: u64)
     ensures { Gathers O.taken O.faults out.old out.new text.old text.new (count_text count) }
 {
     if count != 1 {
-        text.put(out, &[Piece::Text("*"), Piece::Decimal(count)]);
+        text.put(out, &[Text("*"), Decimal(count)]);
     }
 }

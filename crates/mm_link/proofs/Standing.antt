@@ -6,7 +6,7 @@ use Rattle.mm_word.specs.Pointer.{IsWellFormed}
 use Rattle.mm_object.specs.declared.target.Target.{Target}
 use Rattle.mm_object.specs.Lookups.{name_of_target}
 use Rattle.mm_object.specs.Objects.{Object, IsObject, is_target, same_name}
-use Rattle.mm_object.proofs.SpelledParts.{target_small}
+use Rattle.mm_object.proofs.Bounds.{target_small}
 use Rattle.mm_link.specs.Placing.{Part, Site, parts_of, by_length, sites_from, sites_of, origin, bytes_of, site_in, site_or_none, site_named, pointer_to}
 use Rattle.mm_link.specs.Faults.{page_count}
 use Rattle.mm_link.proofs.Parts.{IsPart, are_parts, are_placed_parts, bytes_placed}

@@ -20,7 +20,7 @@ use Rattle.mm_object.specs.Answers.{number_of as object_number}
 use Rattle.mm_object.specs.Faults.{object_fault}
 use Rattle.mm_object.specs.Objects.{Object}
 use Rattle.mm_object.specs.Spelling.{Spells as SpellsObject}
-use Rattle.mm_object.proofs.SpelledWhole as objects
+use Rattle.mm_object.proofs.FormatWhole as objects
 use Rattle.mm_checkpoint.specs.Checkpoints.{Saved}
 use Rattle.mm_checkpoint.specs.Faults.{save_fault}
 use Rattle.mm_checkpoint.proofs.SpelledLaws as checkpoints
@@ -150,7 +150,7 @@ one_object_fault bytes number kind other offset place one two =
     cc
 
 pub one_object : (bytes : List ℕ) (a b : Object) → SpellsObject bytes a → SpellsObject bytes b → a ≡ b
-one_object bytes a b one other = sym (objects.object_same bytes a one.object one.spelled) ∙ objects.object_same bytes b other.object other.spelled
+one_object bytes a b one other = objects.spelled_one bytes a b one other
 
 -- 4. Values before others.
 
@@ -217,7 +217,7 @@ value_or_fault schedule_file before number bytes r (a_list xs) sound (offset, is
 value_or_fault source_file before number bytes r (an_object o) sound (kind, line, column, is, fault) means =
     let none : first_fault bytes ≡ None = meaning_has_no_fault bytes o means in cc
 value_or_fault object_file before number bytes r (an_object o) sound (kind, offset, is, fault) means =
-    let none : object_fault bytes ≡ None = objects.spelled_clean bytes o means.object means.spelled in cc
+    let none : object_fault bytes ≡ None = objects.spelled_clean bytes o means in cc
 value_or_fault checkpoint_file (an_image i ∷ []) number bytes r (a_checkpoint c) sound (offset, is, fault) (p, last, saves, same) =
     let none : save_fault i bytes ≡ None = checkpoints.no_fault i bytes sound.0 (record { parts = p; last = last; saves = saves }) in cc
 value_or_fault links_file before number bytes r (a_links ls) sound (offset, is, fault) means = texts.never_both links.Says links.AreLinks links_grammar bytes ls offset means fault

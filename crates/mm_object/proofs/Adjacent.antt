@@ -40,9 +40,6 @@ module _ {A : Type 0} (f : A → ℕ) (xs : List A) (k a b : ℕ) (d e : A) (one
       let up = rising (k - 1) (omega (arith, length-map xs f)) in
       absurd (omega (arith, before_key, q, up, low))
 
-pub keys_end : {A : Type 0} (f : A → ℕ) (xs : List A) (k : ℕ) → AscendBelow (map f xs) k → length xs ≤ k → IsStrictlyIncreasing (map f xs)
-keys_end f xs k so_far le j small = so_far j (omega (arith, length-map xs f))
-
 -- 2. Names.
 
 -- the names so far

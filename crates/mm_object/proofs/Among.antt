@@ -5,7 +5,7 @@ use Rattle.std.proofs.lemmas.Slice.Eq.{compares_Decides}
 use Rattle.std.proofs.lemmas.List.Folds.{list_any_at, list_any_more}
 use Rattle.mm_object.specs.Names.{is_before}
 use Rattle.mm_object.specs.Objects.{Segment, same_name, is_among, names_of}
-use Rattle.mm_object.specs.Steps.{is_late}
+use Rattle.mm_object.specs.Format.{is_late}
 use Rattle.mm_object.proofs.Bools.{any-map, whole_any, none_of}
 
 pub same_name-Decides : (a b : List ℕ) → Decides (same_name a b) (a ≡ b)

@@ -1,5 +1,5 @@
 -- Bitmaps whose last byte may be less than full.
-use Rattle.std.proofs.Common.{◌≡◌, ◌≢◌, ℕ, zero, suc, ◌+◌, ◌-◌, ◌*◌, ◌/◌, ◌%◌, ◌^◌, ◌<◌, ◌≤◌, Bool, true, false, not, List, [], ◌∷◌, ◌++◌, length, get_or, take, drop, map, refl, sym, ap, ◌∙◌, arith, inl, inr}
+use Rattle.std.proofs.Common.{◌≡◌, ◌≢◌, ℕ, zero, suc, ◌+◌, ◌*◌, ◌/◌, ◌%◌, ◌^◌, ◌<◌, ◌≤◌, Bool, true, false, not, List, [], ◌∷◌, length, get_or, take, drop, map, refl, sym, ap, ◌∙◌, arith, inl, inr}
 use Rattle.std.specs.Prelude.{◌==◌, ◌&&◌, nat_le}
 use Rattle.std.specs.List.{range_with_len}
 use Rattle.std.proofs.lemmas.Bool.{cases_eq}
@@ -15,7 +15,7 @@ use Rattle.mm_model.proofs.ImageBytes.Ranges.{map-same, map-shift, drop-range}
 use Rattle.mm_model.proofs.ImageBytes.Bitmaps.{number_of_bits, bitmap-part}
 use Rattle.mm_model.proofs.ImageBytes.Clean.{is_below}
 use Rattle.mm_model.proofs.ImageBytes.Apart.{number_of_flags-below, flag-get}
-use Rattle.mm_object.specs.Faults.{has_unused_bit}
+use Rattle.mm_object.specs.Format.{has_unused_bit}
 use Rattle.mm_object.proofs.Written.{bitmap_more}
 
 -- as many flags as the bytes hold

@@ -1,5 +1,7 @@
 -- The numbers of the faults of object files, and the answers of a reader.
 use Rattle.std.specs.Prelude.{◌≡◌, ℕ, Option, Some, None, Result, Ok, Err}
+use Rattle.mm_format.specs.declared.reader.ReadError.{ReadError}
+use Rattle.mm_format.specs.declared.reader.ReadError.TheVariants as reading
 use Rattle.mm_object.specs.declared.fault.ObjectFault.{ObjectFault}
 use Rattle.mm_object.specs.declared.fault.ObjectFault.TheVariants as faults
 use Rattle.mm_object.specs.declared.fault.ObjectError.{ObjectError}
@@ -16,15 +18,15 @@ number_of faults.Reloc = 7
 number_of faults.Thread = 8
 number_of faults.Trailing = 9
 
+-- the error of a reader of fields, as one of objects
+abbrev pub told : ReadError ObjectFault → ObjectError
+told (reading.Fault kind offset) = errors.Fault kind offset
+told reading.NoMemory = errors.NoMemory
+
 -- the error names the fault, unless memory ran out
 abbrev pub Fails : Option (ℕ × ℕ) → ObjectError → Type 0
 Fails fault (errors.Fault kind offset) = fault ≡ Some (number_of kind, offset)
 Fails fault errors.NoMemory = Unit {0}
-
--- a function found no fault and this value, or it found this fault, unless memory ran out
-abbrev pub Gives : {X Y : Type 0} → (X → Y) → Option (ℕ × ℕ) → Y → Result X ObjectError → Type 0
-Gives view fault value (Ok x) = (fault ≡ None) × (view x ≡ value)
-Gives view fault value (Err e) = Fails fault e
 
 -- the answer is an object, unless memory ran out
 abbrev pub IsUnlessNoMemory : {X : Type 0} → X → Result X ObjectError → Type 0

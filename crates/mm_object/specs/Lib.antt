@@ -1,7 +1,7 @@
 pub mod Names
 pub mod Objects
 pub mod Spelling
-pub mod Reading
+pub mod Format
 pub mod Faults
 pub mod Laws
 pub mod Answers

@@ -3,6 +3,7 @@
 ghost use Rattle.std.specs.Prelude.{◌≡◌};
 ghost use Rattle.mm_object.specs.declared.fault.ObjectError.TheVariants.{NoMemory};
 
+use mm_format::{FaultKind, ReadError};
 use std::alloc::{AllocError, AllocFailed};
 use thiserror::Error;
 
@@ -54,6 +55,29 @@ pub enum ObjectError {
     /// Memory ran out.
     #[error("out of memory")]
     NoMemory,
+}
+
+impl FaultKind for ObjectFault {
+    ghost use Rattle.mm_object.specs.Answers.{number_of};
+
+    ghost number = { number_of };
+
+    fn short() -> ObjectFault {
+        ObjectFault::Short
+    }
+}
+
+impl From<ReadError<ObjectFault>> for ObjectError {
+    ghost use Rattle.mm_object.specs.Answers.{told};
+
+    ghost from_gives = { λ e told_error. told_error ≡ told e };
+
+    fn from(error: ReadError<ObjectFault>) -> ObjectError {
+        match error {
+            ReadError::Fault { fault, offset } => ObjectError::Fault { fault, offset },
+            ReadError::NoMemory => ObjectError::NoMemory,
+        }
+    }
 }
 
 impl From<AllocError> for ObjectError {

@@ -1,31 +1,14 @@
-//! The fields of an object file, read at their offsets.
+//! Fields of the records of an object file.
 
-ghost use Rattle.std.specs.Prelude.{◌≡◌, ◌==◌, ◌+◌, ◌/◌, ◌%◌, ◌^◌, ◌<◌, ◌≤◌, true, false, OnOk, length};
-ghost use Rattle.mm_word.specs.Perm.{perm_of};
-ghost use Rattle.mm_model.specs.Places.{place_fault, number_at};
-ghost use Rattle.mm_model.specs.Places.Place.{Field, Test};
-ghost use Rattle.mm_object.specs.Answers.{Gives, number_of};
-ghost use Rattle.mm_object.specs.Reading.{target_at};
+ghost use Rattle.std.specs.Prelude.{◌≡◌, ◌==◌, ◌/◌, ◌%◌, ◌^◌, ◌<◌};
+ghost use Rattle.mm_format.specs.Reading.{ReadsAlone};
+ghost use Rattle.mm_object.specs.Answers.{number_of};
+ghost use Rattle.mm_object.specs.Format.{perm_row, target_row};
 
-use crate::fault::{ObjectError, ObjectFault};
+use crate::fault::ObjectFault;
 use crate::target::Target;
+use mm_format::{ReadError, Reader, failed};
 use mm_word::Perm;
-
-/// The bytes of an object file.
-#[derive(Clone, Copy)]
-pub(crate) struct Reader<'a> {
-    pub bytes: &'a [u8],
-}
-
-/// The error of a fault at an offset.
-pub(crate) fn fault(fault: ObjectFault, offset: usize) -> ObjectError
-    ensures { result ≡ ObjectError.Fault fault offset }
-{
-    ObjectError::Fault {
-        fault,
-        offset: offset as u64,
-    }
-}
 
 /// Whether a bit of a number is set, the lowest at place 0.
 pub(crate) fn is_set(bits: u16, place: usize) -> bool
@@ -35,124 +18,32 @@ pub(crate) fn is_set(bits: u16, place: usize) -> bool
     bits >> place & 1 == 1
 }
 
-// Fields at their offsets, and tests of what they say.
-impl Reader<'_> {
-    /// Refuses with a fault at an offset, if the test `wrong` holds.
-    #[tactic(auto, unfolding(mm_model::specs::Places::place_fault))]
-    pub fn refuse_if(&self, wrong: bool, kind: ObjectFault, at: usize) -> Result<(), ObjectError>
-        ensures fault { Gives (λ _. true) (place_fault (length self.now.bytes.now) (Test (number_of kind) at wrong))
-            true result }
-        ensures right { OnOk result (wrong ≡ false) }
-    {
-        if wrong {
-            return Err(fault(kind, at));
-        }
-        Ok(())
+/// Reads a permission. If the byte is no code of one, that is a fault of this kind.
+#[tactic(auto, unfolding(crate::specs::Format::perm_row))]
+pub(crate) fn read_perm(
+    reader: &mut Reader,
+    kind: ObjectFault,
+) -> Result<Perm, ReadError<ObjectFault>>
+    ensures read { ReadsAlone number_of (λ p. p) ((perm_row (number_of kind)).read reader.old.bytes.now reader.old.at)
+        reader.new.at result }
+    ensures same { reader.new.bytes.now ≡ reader.old.bytes.now }
+{
+    let at = reader.at;
+    let code = reader.u8()?;
+    match Perm::from_code(u64::from(code)) {
+        Some(perm) => Ok(perm),
+        None => Err(failed(kind, at)),
     }
+}
 
-    /// Refuses a field of `size` bytes that the file does not hold whole.
-    #[tactic(auto, unfolding(mm_model::specs::Places::place_fault))]
-    pub fn whole(&self, at: usize, size: usize) -> Result<(), ObjectError>
-        requires { at + size < 2 ^ 64 }
-        ensures fault { Gives (λ _. true) (place_fault (length self.now.bytes.now) (Field at size)) true result }
-        ensures within { OnOk result (at + size ≤ length self.now.bytes.now) }
-    {
-        let end = at + size;
-        if self.bytes.len() < end {
-            return Err(fault(ObjectFault::Short, self.bytes.len()));
-        }
-        Ok(())
-    }
-
-    /// The number of the byte at an offset.
-    pub fn u8_at(&self, at: usize) -> Result<u8, ObjectError>
-        requires { at + 1 < 2 ^ 64 }
-        ensures number { let bytes = self.now.bytes.now in Gives (λ n. n) (place_fault (length bytes) (Field at 1))
-            (number_at bytes at 1) result }
-        ensures within { OnOk result (at + 1 ≤ length self.now.bytes.now) }
-    {
-        self.whole(at, 1)?;
-        Ok(self.number_1(at))
-    }
-
-    /// The number of the two bytes at an offset.
-    pub fn u16_at(&self, at: usize) -> Result<u16, ObjectError>
-        requires { at + 2 < 2 ^ 64 }
-        ensures number { let bytes = self.now.bytes.now in Gives (λ n. n) (place_fault (length bytes) (Field at 2))
-            (number_at bytes at 2) result }
-        ensures within { OnOk result (at + 2 ≤ length self.now.bytes.now) }
-    {
-        self.whole(at, 2)?;
-        Ok(self.number_2(at))
-    }
-
-    /// The number of the four bytes at an offset.
-    pub fn u32_at(&self, at: usize) -> Result<u32, ObjectError>
-        requires { at + 4 < 2 ^ 64 }
-        ensures number { let bytes = self.now.bytes.now in Gives (λ n. n) (place_fault (length bytes) (Field at 4))
-            (number_at bytes at 4) result }
-        ensures within { OnOk result (at + 4 ≤ length self.now.bytes.now) }
-    {
-        self.whole(at, 4)?;
-        Ok(self.number_4(at))
-    }
-
-    /// The number of a byte that the file holds.
-    #[tactic(auto, using(crate::proofs::Numbers::byte_1))]
-    pub fn number_1(&self, at: usize) -> u8
-        requires { at + 1 ≤ length self.now.bytes.now }
-        ensures { result ≡ number_at self.now.bytes.now at 1 }
-    {
-        self.bytes[at]
-    }
-
-    /// The number of two bytes that the file holds.
-    #[tactic(auto, using(crate::proofs::Numbers::bytes_2))]
-    pub fn number_2(&self, at: usize) -> u16
-        requires { at + 2 ≤ length self.now.bytes.now }
-        ensures { result ≡ number_at self.now.bytes.now at 2 }
-    {
-        u16::from_be_bytes([self.bytes[at], self.bytes[at + 1]])
-    }
-
-    /// The number of four bytes that the file holds.
-    #[tactic(auto, using(crate::proofs::Numbers::bytes_4))]
-    pub fn number_4(&self, at: usize) -> u32
-        requires { at + 4 ≤ length self.now.bytes.now }
-        ensures { result ≡ number_at self.now.bytes.now at 4 }
-    {
-        let field = &self.bytes[at..at + 4];
-        u32::from_be_bytes([field[0], field[1], field[2], field[3]])
-    }
-
-    /// The number of eight bytes that the file holds.
-    #[tactic(auto, using(crate::proofs::Numbers::bytes_8))]
-    pub fn number_8(&self, at: usize) -> u64
-        requires { at + 8 ≤ length self.now.bytes.now }
-        ensures { result ≡ number_at self.now.bytes.now at 8 }
-    {
-        let field = &self.bytes[at..at + 8];
-        u64::from_be_bytes([
-            field[0], field[1], field[2], field[3], field[4], field[5], field[6], field[7],
-        ])
-    }
-
-    /// The permission whose code is a byte that the file holds; `None` if the byte is no code.
-    pub fn perm(&self, at: usize) -> Option<Perm>
-        requires { at + 1 ≤ length self.now.bytes.now }
-        ensures { result ≡ perm_of (number_at self.now.bytes.now at 1) }
-    {
-        Perm::from_code(u64::from(self.number_1(at)))
-    }
-
-    /// The target in six bytes that the file holds.
-    pub fn target(&self, at: usize) -> Target
-        requires { at + 6 ≤ length self.now.bytes.now }
-        ensures { result ≡ target_at self.now.bytes.now at }
-    {
-        Target {
-            index: self.number_2(at),
-            addend: self.number_4(at + 2),
-        }
-    }
+/// Reads a target.
+#[tactic(auto, unfolding(crate::specs::Format::target_row))]
+pub(crate) fn read_target(reader: &mut Reader) -> Result<Target, ReadError<ObjectFault>>
+    ensures read { ReadsAlone number_of (λ t. t) (target_row.read reader.old.bytes.now reader.old.at) reader.new.at
+        result }
+    ensures same { reader.new.bytes.now ≡ reader.old.bytes.now }
+{
+    let index = reader.u16()?;
+    let addend = reader.u32()?;
+    Ok(Target { index, addend })
 }

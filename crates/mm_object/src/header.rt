@@ -1,18 +1,16 @@
 //! The header of an object file.
 
-ghost use Rattle.std.specs.Prelude.{◌+◌, ◌≤◌, nat_lt, [], ◌∷◌, IfOk, OnOk, length};
-ghost use Rattle.mm_model.specs.Places.{first_bad, number_at};
-ghost use Rattle.mm_model.specs.Places.Place.{Field, Test};
-ghost use Rattle.mm_object.specs.Answers.{Gives};
-ghost use Rattle.mm_object.specs.Faults.{header_places};
-ghost use Rattle.mm_object.specs.Steps.{header_of};
+ghost use Rattle.std.specs.Prelude.{◌≡◌, ◌≤◌, IfOk};
+ghost use Rattle.mm_format.specs.Reading.{ReadsAlone};
+ghost use Rattle.mm_object.specs.Answers.{number_of};
+ghost use Rattle.mm_object.specs.Format.{header_row};
 
-use crate::fault::{ObjectError, ObjectFault};
-use crate::fields::Reader;
+use crate::fault::ObjectFault;
 use crate::limits::{EXTERNAL_LIMIT, SEGMENT_LIMIT, SPARE_LIMIT, THREAD_LIMIT};
+use mm_format::{ReadError, Reader, refuse_if};
 
-/// The length of the header in bytes, which is where the segments begin.
-pub(crate) const HEADER_BYTES: usize = 16;
+/// The only version.
+const VERSION: u16 = 1;
 
 /// The fields of the header.
 #[derive(Clone, Copy)]
@@ -24,44 +22,46 @@ pub(crate) struct Header {
     pub spare: u16,
 }
 
-impl Reader<'_> {
-    /// The header of the file.
-    pub fn header(&self) -> Result<Header, ObjectError>
-        ensures header { let bytes = self.now.bytes.now in Gives (λ h. h)
-            (first_bad (length bytes) (header_places bytes)) (header_of bytes) result }
-        ensures within { OnOk result (16 ≤ length self.now.bytes.now) }
-        ensures few { IfOk result (λ h. (h.segments ≤ 256) × (h.externals ≤ 1024) × (h.threads ≤ 16)) }
-    {
-        self.whole(0, 4)?;
-        let magic = &self.bytes[..4];
-        self.refuse_if(magic != b"MMO1".as_slice(), ObjectFault::Magic, 0)?;
-        let version = self.u16_at(4)?;
-        self.refuse_if(version != 1, ObjectFault::Version, 4)?;
-        let segments = self.count(6, SEGMENT_LIMIT)?;
-        let externals = self.count(8, EXTERNAL_LIMIT)?;
-        let relocs = self.u16_at(10)?;
-        let threads = self.count(12, THREAD_LIMIT)?;
-        let spare = self.count(14, usize::from(SPARE_LIMIT))?;
-        Ok(Header {
-            segments,
-            externals,
-            relocs,
-            threads,
-            spare,
-        })
-    }
-
-    // The number of two bytes at an offset, if it is not above a limit.
-    fn count(&self, at: usize, limit: usize) -> Result<u16, ObjectError>
-        requires { at ≤ 14 }
-        ensures count { let bytes = self.now.bytes.now in Gives (λ n. n)
-            (first_bad (length bytes) (Field at 2 ∷ Test 4 at (nat_lt limit (number_at bytes at 2)) ∷ []))
-            (number_at bytes at 2) result }
-        ensures within { OnOk result (at + 2 ≤ length self.now.bytes.now) }
-        ensures few { IfOk result (λ n. n ≤ limit) }
-    {
-        let count = self.u16_at(at)?;
-        self.refuse_if(usize::from(count) > limit, ObjectFault::Count, at)?;
-        Ok(count)
-    }
+/// Reads the header.
+#[tactic(auto, unfolding(crate::specs::Format::header_row))]
+pub(crate) fn read_header(reader: &mut Reader) -> Result<Header, ReadError<ObjectFault>>
+    ensures read { ReadsAlone number_of (λ h. h) (header_row.read reader.old.bytes.now reader.old.at) reader.new.at
+        result }
+    ensures same { reader.new.bytes.now ≡ reader.old.bytes.now }
+    ensures few { IfOk result (λ h. h.externals ≤ 1024) }
+{
+    let at = reader.at;
+    let magic = reader.raw(4)?;
+    refuse_if(magic != b"MMO1".as_slice(), ObjectFault::Magic, at)?;
+    let at = reader.at;
+    let version = reader.u16()?;
+    refuse_if(version != VERSION, ObjectFault::Version, at)?;
+    let at = reader.at;
+    let segments = reader.u16()?;
+    refuse_if(
+        usize::from(segments) > SEGMENT_LIMIT,
+        ObjectFault::Count,
+        at,
+    )?;
+    let at = reader.at;
+    let externals = reader.u16()?;
+    refuse_if(
+        usize::from(externals) > EXTERNAL_LIMIT,
+        ObjectFault::Count,
+        at,
+    )?;
+    let relocs = reader.u16()?;
+    let at = reader.at;
+    let threads = reader.u16()?;
+    refuse_if(usize::from(threads) > THREAD_LIMIT, ObjectFault::Count, at)?;
+    let at = reader.at;
+    let spare = reader.u16()?;
+    refuse_if(spare > SPARE_LIMIT, ObjectFault::Count, at)?;
+    Ok(Header {
+        segments,
+        externals,
+        relocs,
+        threads,
+        spare,
+    })
 }

@@ -3,7 +3,7 @@
 //! These functions do nothing when they run: the contract of each is the law.
 ghost use Rattle.mm_object.specs.Laws.{ObjectsHaveNoFault, SpelledObjectsAreOne, SpellingIsInjective};
 
-/// A file's list of places has no fault exactly if its bytes spell an object.
+/// A file has no fault exactly if its bytes spell an object.
 pub fn objects_have_no_fault()
     ensures { ObjectsHaveNoFault }
 {}

@@ -1,20 +1,20 @@
 //! The records of names of an object file.
 
-ghost use Rattle.std.specs.Prelude.{◌≡◌, ◌==◌, ◌||◌, nat_lt, ◌+◌, ◌≤◌, IfOk, OnOk, take, drop, length, vec_len, true};
+ghost use Rattle.std.specs.Prelude.{◌≡◌, ◌==◌, ◌||◌, nat_lt, ◌+◌, ◌≤◌, IfOk, [], List, length, vec_len, true};
 ghost use Rattle.std.specs.Prelude.{false, MatchOption};
-ghost use Rattle.mm_model.specs.Places.{first_bad};
-ghost use Rattle.mm_object.specs.Answers.{Gives};
-ghost use Rattle.mm_object.specs.Faults.{externals_places, form_places, name_places};
+ghost use Rattle.mm_format.specs.Formats.{test, times};
+ghost use Rattle.mm_format.specs.Reading.{Reads, ReadsAlone};
+ghost use Rattle.mm_object.specs.Answers.{number_of};
+ghost use Rattle.mm_object.specs.Format.{name_row, external_row, is_late, push};
 ghost use Rattle.mm_object.specs.Names.{has_form};
-ghost use Rattle.mm_object.specs.Objects.{is_among};
-ghost use Rattle.mm_object.specs.Reading.{external_place, name_at, name_end};
-ghost use Rattle.mm_object.specs.Steps.{bytes_of, externals_read, is_late};
+ghost use Rattle.mm_object.specs.Objects.{Segment as SegmentValue, is_among, names_of};
+ghost use Rattle.mm_object.specs.Steps.{bytes_of, AreTheSame};
 
-use crate::fault::{ObjectError, ObjectFault};
-use crate::fields::{Reader, fault};
+use crate::fault::ObjectFault;
 use crate::known::{is_known, known_names};
 use crate::name::{NAME_BYTES, Name, is_before};
 use crate::segment::Segment;
+use mm_format::{ReadError, Reader, failed, refuse_if};
 use std::alloc::Global;
 use std::collections::BTreeSet;
 
@@ -43,89 +43,77 @@ fn is_late(names: &[Name], name: &Name) -> bool
     }
 }
 
-// Whether a name is that of a segment, or is not after the names before it.
+// Whether a name is that of a segment, or is not after the names before it. `known` has the names of the segments.
 fn is_bad_external(known: &BTreeSet<&[u8]>, names: &[Name], name: &Name) -> bool
-    ensures { result ≡ (is_among name.now (bytes_of known.now.keys) || is_late names.now name.now) }
+    ensures { (segments : List SegmentValue) → AreTheSame (bytes_of known.now.keys) (names_of segments)
+        → result ≡ (is_among name.now (names_of segments) || is_late names.now name.now) }
 {
     is_known(known, name) || is_late(names, name)
 }
 
-impl Reader<'_> {
-    /// The name whose record begins at an offset.
-    #[tactic(auto, unfolding(mm_model::specs::Places::place_fault))]
-    pub fn name(&self, at: usize) -> Result<Name, ObjectError>
-        requires { at ≤ length self.now.bytes.now }
-        ensures name { let bytes = self.now.bytes.now in Gives (λ n. n)
-            (first_bad (length bytes) (form_places bytes at)) (name_at bytes at) result }
-        ensures within { OnOk result (name_end self.now.bytes.now at ≤ length self.now.bytes.now) }
-        ensures size { IfOk result (λ n. name_end self.now.bytes.now at ≡ at + (1 + length n)) }
-    {
-        let size = self.u8_at(at)?;
-        let size = usize::from(size);
-        self.refuse_if(is_bad_size(size), ObjectFault::Name, at)?;
-        self.whole(at + 1, size)?;
-        match self.form(at + 1, size) {
-            Some(name) => Ok(name),
-            None => Err(fault(ObjectFault::Name, at)),
-        }
-    }
+// The name of these bytes, if they have its form.
+fn name_of(bytes: &[u8]) -> Option<Name>
+    requires { length bytes.now ≤ 31 }
+    ensures { MatchOption result (has_form bytes.now ≡ false)
+        (λ n. (has_form bytes.now ≡ true) × (n ≡ bytes.now)) }
+{
+    Name::new(bytes)
+}
 
-    // The name of `size` bytes that the file holds, if they are a name.
-    fn form(&self, at: usize, size: usize) -> Option<Name>
-        requires whole { at + size ≤ length self.now.bytes.now }
-        requires short { size ≤ 31 }
-        ensures { let name = take size (drop at self.now.bytes.now) in MatchOption result (has_form name ≡ false)
-            (λ n. (has_form name ≡ true) × (n ≡ name)) }
-    {
-        Name::new(&self.bytes[at..at + size])
-    }
-
-    // The name of an external, after the names before it. `known` has the names of the segments.
-    fn external(
-        &self,
-        known: &BTreeSet<&[u8]>,
-        names: &[Name],
-        at: usize,
-    ) -> Result<Name, ObjectError>
-        requires { at ≤ length self.now.bytes.now }
-        ensures name { let bytes = self.now.bytes.now in Gives (λ n. n)
-            (first_bad (length bytes)
-            (name_places bytes at
-            (is_among (name_at bytes at) (bytes_of known.now.keys) || is_late names.now (name_at bytes at))))
-            (name_at bytes at) result }
-        ensures within { OnOk result (name_end self.now.bytes.now at ≤ length self.now.bytes.now) }
-        ensures size { IfOk result (λ n. name_end self.now.bytes.now at ≡ at + (1 + length n)) }
-    {
-        let name = self.name(at)?;
-        self.refuse_if(is_bad_external(known, names, &name), ObjectFault::Name, at)?;
-        Ok(name)
+/// Reads a name.
+#[tactic(auto, unfolding(crate::specs::Format::name_row, crate::specs::Format::name_fields))]
+pub(crate) fn read_name(reader: &mut Reader) -> Result<Name, ReadError<ObjectFault>>
+    ensures read { ReadsAlone number_of (λ n. n) (name_row.read reader.old.bytes.now reader.old.at) reader.new.at
+        result }
+    ensures same { reader.new.bytes.now ≡ reader.old.bytes.now }
+{
+    let at = reader.at;
+    let size = reader.u8()?;
+    let size = usize::from(size);
+    refuse_if(is_bad_size(size), ObjectFault::Name, at)?;
+    let bytes = reader.raw(size)?;
+    match name_of(bytes) {
+        Some(name) => Ok(name),
+        None => Err(failed(ObjectFault::Name, at)),
     }
 }
 
-impl Reader<'_> {
-    /// The `count` externals from an offset on, and the offset of their end.
-    pub fn externals(
-        &self,
-        alloc: Global,
-        segments: &[Segment],
-        start: usize,
-        count: u16,
-    ) -> Result<(Vec<Name>, usize), ObjectError>
-        requires start { start ≤ length self.now.bytes.now }
-        requires place { start ≡ external_place self.now.bytes.now 0 }
-        ensures names { let bytes = self.now.bytes.now in Gives (λ r. (r.0.items, r.1))
-            (first_bad (length bytes) (externals_places bytes segments.now count)) (externals_read bytes count) result }
-        ensures within { IfOk result (λ r. r.1 ≤ length self.now.bytes.now) }
-        ensures count { IfOk result (λ r. vec_len r.0 ≡ count) }
-    {
-        let known = known_names(alloc, segments)?;
-        let mut names = Vec::with_capacity(alloc, usize::from(count))?;
-        let mut at = start;
-        for _ in 0..count {
-            let name = self.external(&known, &names, at)?;
-            at += name_size(&name);
-            names.push(name)?;
-        }
-        Ok((names, at))
+// Reads an external, after the externals before it. `known` has the names of the segments.
+#[tactic(auto, unfolding(crate::specs::Format::external_row))]
+fn read_external(
+    reader: &mut Reader,
+    known: &BTreeSet<&[u8]>,
+    names: &[Name],
+) -> Result<Name, ReadError<ObjectFault>>
+    ensures read { (segments : List SegmentValue) → AreTheSame (bytes_of known.now.keys) (names_of segments)
+        → ReadsAlone number_of (λ n. n) ((external_row segments names.now).read reader.old.bytes.now reader.old.at)
+        reader.new.at result }
+    ensures same { reader.new.bytes.now ≡ reader.old.bytes.now }
+{
+    let at = reader.at;
+    let name = read_name(reader)?;
+    refuse_if(is_bad_external(known, names, &name), ObjectFault::Name, at)?;
+    Ok(name)
+}
+
+/// Reads this count of externals.
+pub(crate) fn read_externals(
+    alloc: Global,
+    reader: &mut Reader,
+    segments: &[Segment],
+    count: u16,
+) -> Result<Vec<Name>, ReadError<ObjectFault>>
+    ensures read { Reads number_of (λ names. names.items)
+        ((times (external_row segments.now) push count []).read reader.old.bytes.now reader.old.at) reader.new.at
+        result }
+    ensures same { reader.new.bytes.now ≡ reader.old.bytes.now }
+    ensures count { IfOk result (λ names. vec_len names ≡ count) }
+{
+    let known = known_names(alloc, segments)?;
+    let mut names = Vec::with_capacity(alloc, usize::from(count))?;
+    for _ in 0..usize::from(count) {
+        let name = read_external(reader, &known, &names)?;
+        names.push(name)?;
     }
+    Ok(names)
 }

@@ -1,24 +1,29 @@
 //! The reader of object files.
 
-ghost use Rattle.std.specs.Prelude.{◌≡◌, ℕ, ◌≤◌, IfOk, Some, Err, true, length};
-ghost use Rattle.mm_model.specs.Places.{first_bad, end_places};
+ghost use Rattle.std.specs.Prelude.{◌≡◌, ℕ, ◌≤◌, ◌<◌, ◌^◌, IfOk, Some, Err, true, length};
+ghost use Rattle.mm_model.specs.Places.{IsBytes};
+ghost use Rattle.mm_format.specs.Formats.{answer, file, first_late};
+ghost use Rattle.mm_format.specs.Reading.{Reads, ReadsAlone, ReadsFile};
 ghost use Rattle.mm_object.specs.declared.fault.ObjectFault.{ObjectFault};
-ghost use Rattle.mm_object.specs.Answers.{Gives, IsUnlessNoMemory, FailsUnlessNoMemory, number_of};
-ghost use Rattle.mm_object.specs.Faults.{object_fault, uses_places};
+ghost use Rattle.mm_object.specs.Answers.{IsUnlessNoMemory, FailsUnlessNoMemory, number_of};
+ghost use Rattle.mm_object.specs.Faults.{object_fault};
+ghost use Rattle.mm_object.specs.Format.{object, pointers_from, pointers_row, used_pointers, use_tests};
 ghost use Rattle.mm_object.specs.Objects.{Object as ObjectValue, targets_of};
-ghost use Rattle.mm_object.specs.Reading.{external_place, externals_at, object_of};
 ghost use Rattle.mm_object.specs.Spelling.{Spells};
 
 use crate::fault::{ObjectError, ObjectFault};
-use crate::fields::Reader;
+use crate::header::{Header, read_header};
 use crate::name::Name;
-use crate::name_records::name_size;
+use crate::name_records::{name_size, read_externals};
 use crate::object::Object;
-use crate::reloc_records::RELOC_BYTES;
+use crate::reloc_records::read_relocs;
+use crate::segment::Segment;
+use crate::segment_records::read_segments;
 use crate::target::Reloc;
 use crate::thread::Thread;
-use crate::thread_records::THREAD_BYTES;
+use crate::thread_records::read_threads;
 use crate::uses::uses;
+use mm_format::{ReadError, Reader, refuse_if};
 use std::alloc::Global;
 
 /// The object that the bytes of a file spell, or the first fault of its fields in their order. `NoMemory` comes if
@@ -34,87 +39,116 @@ pub fn read(alloc: Global, bytes: &[u8]) -> Result<Object, ObjectError>
     ensures first { (number offset : ℕ) → object_fault bytes.now ≡ Some (number, offset)
         → FailsUnlessNoMemory (number, offset) result }
 {
-    read_parts(alloc, bytes)
+    let object = read_file(alloc, bytes)?;
+    Ok(object)
 }
 
-// The object of a file, read part by part.
-fn read_parts(alloc: Global, bytes: &[u8]) -> Result<Object, ObjectError>
-    ensures { Gives (λ o. o) (object_fault bytes.now) (object_of bytes.now) result }
+// The object of a whole file.
+fn read_file(alloc: Global, bytes: &[u8]) -> Result<Object, ReadError<ObjectFault>>
+    ensures { ReadsFile number_of (λ o. o) (file object 9 bytes.now) result }
 {
-    let reader = Reader { bytes };
-    let header = reader.header()?;
-    let (segments, externals_start) = reader.segments(alloc, header.segments)?;
-    let (externals, relocs_start) = reader.externals(
-        alloc,
-        &segments,
-        externals_start,
-        header.externals,
-    )?;
-    let relocs = reader.relocs(
-        alloc,
-        &segments,
-        header.externals,
-        relocs_start,
-        header.relocs,
-    )?;
-    let threads_start = relocs_start + RELOC_BYTES * usize::from(header.relocs);
-    let threads = reader.threads(
-        alloc,
-        &segments,
-        header.externals,
-        threads_start,
-        header.threads,
-    )?;
-    reader.uses(
-        segments.len(),
-        externals_start,
-        &externals,
-        &relocs,
-        &threads,
-    )?;
-    reader.nothing_follows(threads_start + THREAD_BYTES * usize::from(header.threads))?;
+    let mut reader = Reader { bytes, at: 0 };
+    let object = read_object(alloc, &mut reader)?;
+    refuse_if(bytes.len() > reader.at, ObjectFault::Trailing, reader.at)?;
+    Ok(object)
+}
+
+// Reads an object from the front of a file.
+#[tactic(auto, unfolding(crate::specs::Format::object))]
+fn read_object(alloc: Global, reader: &mut Reader) -> Result<Object, ReadError<ObjectFault>>
+    requires front { reader.old.at ≤ length reader.old.bytes.now }
+    requires bytes { IsBytes reader.old.bytes.now }
+    ensures read { Reads number_of (λ o. o) (object.read reader.old.bytes.now reader.old.at) reader.new.at result }
+    ensures same { reader.new.bytes.now ≡ reader.old.bytes.now }
+{
+    let header = read_header(reader)?;
+    let segments = read_segments(alloc, reader, header.segments)?;
+    let pointers = read_used(alloc, reader, &segments, header)?;
     Ok(Object {
         segments,
-        externals,
-        relocs,
-        threads,
+        externals: pointers.externals,
+        relocs: pointers.relocs,
+        threads: pointers.threads,
         spare: header.spare,
     })
 }
 
-impl Reader<'_> {
-    // Tests that each external is a target. The names of the externals begin at an offset.
-    fn uses(
-        &self,
-        segments: usize,
-        start: usize,
-        externals: &[Name],
-        relocs: &[Reloc],
-        threads: &[Thread],
-    ) -> Result<(), ObjectError>
-        requires few { length externals.now ≤ 1024 }
-        requires start { start ≤ length self.now.bytes.now }
-        requires place { start ≡ external_place self.now.bytes.now 0 }
-        requires names { externals.now ≡ externals_at self.now.bytes.now (length externals.now) }
-        requires whole { external_place self.now.bytes.now (length externals.now) ≤ length self.now.bytes.now }
-        ensures { let bytes = self.now.bytes.now in Gives (λ _. true)
-            (first_bad (length bytes)
-            (uses_places bytes segments (targets_of relocs.now threads.now) (length externals.now))) true result }
-    {
-        let used = uses(segments, relocs, threads);
-        let mut at = start;
-        for (k, name) in externals.iter().enumerate() {
-            self.refuse_if(!used[k], ObjectFault::Name, at)?;
-            at += name_size(name);
-        }
-        Ok(())
-    }
+/// The names that an object uses, and what points to them.
+#[derive(Drop)]
+struct Pointers {
+    externals: Vec<Name>,
+    relocs: Vec<Reloc>,
+    threads: Vec<Thread>,
+}
 
-    // Tests that the file ends at an offset.
-    fn nothing_follows(&self, end: usize) -> Result<(), ObjectError>
-        ensures { let bytes = self.now.bytes.now in Gives (λ _. true)
-            (first_bad (length bytes) (end_places bytes 9 end)) true result }
-    {
-        self.refuse_if(self.bytes.len() > end, ObjectFault::Trailing, end)
+// Reads the externals, the relocations and the threads of an object of these segments, and tests that each external is a
+// target.
+fn read_used(
+    alloc: Global,
+    reader: &mut Reader,
+    segments: &[Segment],
+    header: Header,
+) -> Result<Pointers, ReadError<ObjectFault>>
+    requires start { reader.old.at ≤ length reader.old.bytes.now }
+    requires few { header.externals ≤ 1024 }
+    ensures read { Reads number_of (λ p. pointers_from p.externals.items p.relocs.items p.threads.items)
+        ((used_pointers segments.now header).read reader.old.bytes.now reader.old.at) reader.new.at result }
+    ensures same { reader.new.bytes.now ≡ reader.old.bytes.now }
+{
+    let start = reader.at;
+    let pointers = read_pointers(alloc, reader, segments, header)?;
+    test_uses(
+        start,
+        segments.len(),
+        &pointers.externals,
+        &pointers.relocs,
+        &pointers.threads,
+    )?;
+    Ok(pointers)
+}
+
+// Reads the externals, the relocations and the threads of an object of these segments.
+#[tactic(auto, unfolding(crate::specs::Format::pointers_row))]
+fn read_pointers(
+    alloc: Global,
+    reader: &mut Reader,
+    segments: &[Segment],
+    header: Header,
+) -> Result<Pointers, ReadError<ObjectFault>>
+    ensures read { Reads number_of (λ p. pointers_from p.externals.items p.relocs.items p.threads.items)
+        ((pointers_row segments.now header).read reader.old.bytes.now reader.old.at) reader.new.at result }
+    ensures same { reader.new.bytes.now ≡ reader.old.bytes.now }
+    ensures count { IfOk result (λ p. length p.externals.items ≡ header.externals) }
+{
+    let externals = read_externals(alloc, reader, segments, header.externals)?;
+    let relocs = read_relocs(alloc, reader, segments, header.externals, header.relocs)?;
+    let threads = read_threads(alloc, reader, segments, header.externals, header.threads)?;
+    Ok(Pointers {
+        externals,
+        relocs,
+        threads,
+    })
+}
+
+// Tests that each external is a target. The record of the first external begins at an offset.
+fn test_uses(
+    start: usize,
+    segments: usize,
+    externals: &[Name],
+    relocs: &[Reloc],
+    threads: &[Thread],
+) -> Result<(), ReadError<ObjectFault>>
+    requires few { length externals.now ≤ 1024 }
+    requires start { start < 2 ^ 63 }
+    ensures { ReadsAlone number_of (λ _. true)
+        (answer (first_late start (use_tests (targets_of relocs.now threads.now) segments 0 externals.now)) true 0) 0
+        result }
+{
+    let used = uses(segments, relocs, threads);
+    let mut offset = 0;
+    for (k, name) in externals.iter().enumerate() {
+        refuse_if(!used[k], ObjectFault::Name, start + offset)?;
+        offset += name_size(name);
     }
+    Ok(())
 }

@@ -1,23 +1,22 @@
 //! The records of relocations of an object file.
 
-ghost use Rattle.std.specs.Prelude.{◌≡◌, ◌+◌, ◌*◌, ◌≤◌, true, false, not, nat_lt, ◌||◌, MatchOption, IfOk, OnOk, length};
-ghost use Rattle.std.specs.Prelude.{vec_len};
-ghost use Rattle.mm_model.specs.Places.{first_bad};
-ghost use Rattle.mm_object.specs.Answers.{Gives};
-ghost use Rattle.mm_object.specs.Faults.{is_perm, relocs_places};
+ghost use Rattle.std.specs.Prelude.{◌≡◌, ◌+◌, not, nat_lt, ◌||◌};
+ghost use Rattle.mm_format.specs.Formats.{times};
+ghost use Rattle.mm_format.specs.Reading.{Reads, ReadsAlone};
+ghost use Rattle.mm_object.specs.Answers.{number_of};
+ghost use Rattle.mm_object.specs.Format.{reloc_fields, good_reloc, reloc_row};
 ghost use Rattle.mm_object.specs.Objects.{is_reloc, place_of};
-ghost use Rattle.mm_object.specs.Reading.{externals_of, reloc_place, reloc_record_at, relocs_at};
-ghost use Rattle.mm_object.specs.Steps.{reloc_record_places};
 
-use crate::fault::{ObjectError, ObjectFault};
-use crate::fields::{Reader, fault};
+use crate::fault::ObjectFault;
+use crate::fields::{read_perm, read_target};
 use crate::relocs::{is_reloc, place_of};
 use crate::segment::Segment;
 use crate::target::Reloc;
+use mm_format::{ReadError, Reader, Run, failed, read_run, refuse_if};
 use std::alloc::Global;
 
 /// The length in bytes of the record of a relocation.
-pub(crate) const RELOC_BYTES: usize = 13;
+const RELOC_BYTES: usize = 13;
 
 // Whether a relocation does not replace a word that is 0 by a pointer to a target, or has a place below `least`.
 fn is_bad_reloc(segments: &[Segment], externals: u16, least: u64, reloc: Reloc) -> bool
@@ -26,68 +25,115 @@ fn is_bad_reloc(segments: &[Segment], externals: u16, least: u64, reloc: Reloc) 
     !is_reloc(segments, usize::from(externals), reloc) || place_of(reloc) < least
 }
 
-impl Reader<'_> {
-    // The relocation of a record that the file holds, if the record has a permission.
-    fn reloc_record(&self, at: usize) -> Option<Reloc>
-        requires { at + 13 ≤ length self.now.bytes.now }
-        ensures { MatchOption result (is_perm self.now.bytes.now (at + 6) ≡ false)
-            (λ r. (is_perm self.now.bytes.now (at + 6) ≡ true) × (r ≡ reloc_record_at self.now.bytes.now at)) }
-    {
-        let perm = self.perm(at + 6)?;
-        Some(Reloc {
-            segment: self.number_2(at),
-            word: self.number_4(at + 2),
-            perm,
-            target: self.target(at + 7),
-        })
-    }
+// Reads the fields of a relocation.
+#[tactic(auto, unfolding(crate::specs::Format::reloc_fields))]
+fn read_fields(reader: &mut Reader) -> Result<Reloc, ReadError<ObjectFault>>
+    ensures read { ReadsAlone number_of (λ r. r) (reloc_fields.read reader.old.bytes.now reader.old.at) reader.new.at
+        result }
+    ensures same { reader.new.bytes.now ≡ reader.old.bytes.now }
+{
+    let segment = reader.u16()?;
+    let word = reader.u32()?;
+    let perm = read_perm(reader, ObjectFault::Reloc)?;
+    let target = read_target(reader)?;
+    Ok(Reloc {
+        segment,
+        word,
+        perm,
+        target,
+    })
+}
 
-    // The relocation whose record begins at an offset. Its place is at least `least`.
-    #[tactic(auto, unfolding(mm_model::specs::Places::place_fault))]
-    fn reloc(
-        &self,
-        segments: &[Segment],
-        externals: u16,
-        least: u64,
-        at: usize,
-    ) -> Result<Reloc, ObjectError>
-        requires { at ≤ length self.now.bytes.now }
-        ensures reloc { let bytes = self.now.bytes.now in Gives (λ r. r)
-            (first_bad (length bytes) (reloc_record_places bytes segments.now externals least at))
-            (reloc_record_at bytes at) result }
-        ensures within { OnOk result (at + 13 ≤ length self.now.bytes.now) }
-    {
-        self.whole(at, RELOC_BYTES)?;
-        match self.reloc_record(at) {
-            Some(reloc) if !is_bad_reloc(segments, externals, least, reloc) => Ok(reloc),
-            _ => Err(fault(ObjectFault::Reloc, at)),
-        }
-    }
+// Reads a relocation, whose place has to be at least `least`.
+#[tactic(auto, unfolding(crate::specs::Format::good_reloc))]
+fn read_good_reloc(
+    reader: &mut Reader,
+    segments: &[Segment],
+    externals: u16,
+    least: u64,
+) -> Result<Reloc, ReadError<ObjectFault>>
+    ensures read { ReadsAlone number_of (λ r. r)
+        ((good_reloc segments.now externals least).read reader.old.bytes.now reader.old.at) reader.new.at result }
+    ensures same { reader.new.bytes.now ≡ reader.old.bytes.now }
+{
+    let at = reader.at;
+    let reloc = read_fields(reader)?;
+    let wrong = is_bad_reloc(segments, externals, least, reloc);
+    refuse_if(wrong, ObjectFault::Reloc, at)?;
+    Ok(reloc)
+}
 
-    /// The `count` relocations from an offset on.
-    pub fn relocs(
-        &self,
-        alloc: Global,
-        segments: &[Segment],
-        externals: u16,
-        start: usize,
-        count: u16,
-    ) -> Result<Vec<Reloc>, ObjectError>
-        requires start { start ≤ length self.now.bytes.now }
-        requires place { start ≡ reloc_place self.now.bytes.now 0 }
-        requires externals { externals ≡ externals_of self.now.bytes.now }
-        ensures relocs { let bytes = self.now.bytes.now in Gives (λ r. r.items)
-            (first_bad (length bytes) (relocs_places bytes segments.now count)) (relocs_at bytes count) result }
-        ensures within { OnOk result (start + 13 * count ≤ length self.now.bytes.now) }
-        ensures count { IfOk result (λ r. vec_len r ≡ count) }
-    {
-        let mut relocs = Vec::with_capacity(alloc, usize::from(count))?;
-        let mut least = 0;
-        for k in 0..usize::from(count) {
-            let reloc = self.reloc(segments, externals, least, start + RELOC_BYTES * k)?;
-            least = place_of(reloc) + 1;
-            relocs.push(reloc)?;
-        }
-        Ok(relocs)
+// Reads a relocation, whose place has to be at least `least`. Its record has to be whole before it is tested.
+fn read_reloc(
+    reader: &mut Reader,
+    segments: &[Segment],
+    externals: u16,
+    least: u64,
+) -> Result<Reloc, ReadError<ObjectFault>>
+    ensures read { ReadsAlone number_of (λ r. r)
+        ((reloc_row segments.now externals least).read reader.old.bytes.now reader.old.at) reader.new.at result }
+    ensures same { reader.new.bytes.now ≡ reader.old.bytes.now }
+{
+    let at = reader.at;
+    let mut ahead = Reader {
+        bytes: reader.bytes,
+        at,
+    };
+    ahead.raw(RELOC_BYTES)?;
+    match read_good_reloc(reader, segments, externals, least) {
+        Ok(reloc) => Ok(reloc),
+        Err(_) => Err(failed(ObjectFault::Reloc, at)),
     }
+}
+
+/// What comes before a relocation: the segments and the count of externals of its object, and the least place that it
+/// may have.
+#[derive(Drop)]
+struct RelocRun<'a> {
+    segments: &'a [Segment],
+    externals: u16,
+    least: u64,
+}
+
+impl Run<ObjectFault> for RelocRun<'_> {
+    ghost use Rattle.std.specs.Prelude.{◌+◌};
+    ghost use Rattle.mm_object.specs.Format.{reloc_row};
+    ghost use Rattle.mm_object.specs.Objects.{place_of};
+
+    type Item = Reloc;
+
+    ghost reads = { λ s. (reloc_row s.segments.now s.externals s.least).read };
+
+    ghost onward = { λ s r. record { segments = s.segments; externals = s.externals; least = place_of r + 1 } };
+
+    fn item(
+        &mut self,
+        _alloc: Global,
+        reader: &mut Reader,
+    ) -> Result<Reloc, ReadError<ObjectFault>> {
+        let reloc = read_reloc(reader, self.segments, self.externals, self.least)?;
+        self.least = place_of(reloc) + 1;
+        Ok(reloc)
+    }
+}
+
+/// Reads this count of relocations, whose places have to ascend.
+pub(crate) fn read_relocs(
+    alloc: Global,
+    reader: &mut Reader,
+    segments: &[Segment],
+    externals: u16,
+    count: u16,
+) -> Result<Vec<Reloc>, ReadError<ObjectFault>>
+    ensures read { Reads number_of (λ relocs. relocs.items)
+        ((times (reloc_row segments.now externals) (λ _ r. place_of r + 1) count 0).read reader.old.bytes.now
+        reader.old.at) reader.new.at result }
+    ensures same { reader.new.bytes.now ≡ reader.old.bytes.now }
+{
+    let mut run = RelocRun {
+        segments,
+        externals,
+        least: 0,
+    };
+    read_run(alloc, reader, &mut run, usize::from(count))
 }

@@ -1,33 +1,23 @@
 //! The records of segments of an object file.
 
-ghost use Rattle.std.specs.Prelude.{◌≡◌, ◌+◌, ◌*◌, ◌/◌, ◌<◌, ◌≤◌, true, nat_lt, IfOk, OnOk, length, vec_len};
-ghost use Rattle.mm_model.specs.Places.{place_fault, first_bad, number_at, bit_at};
-ghost use Rattle.mm_model.specs.Places.Place.{Field};
-ghost use Rattle.mm_object.specs.Answers.{Gives};
-ghost use Rattle.mm_object.specs.Faults.{has_unused_bit, segment_record_places, segments_places};
+ghost use Rattle.std.specs.Prelude.{◌≡◌, ◌+◌, ◌/◌, ◌<◌, ◌≤◌, nat_lt, IfOk, [], length, vec_len};
+ghost use Rattle.mm_model.specs.Places.{bit_at, number_at};
+ghost use Rattle.mm_format.specs.Formats.{each, times};
+ghost use Rattle.mm_format.specs.Reading.{Reads, ReadsAlone};
+ghost use Rattle.mm_object.specs.Answers.{number_of};
+ghost use Rattle.mm_object.specs.Format.{log_row, count_row, bits_row, bits_in, has_unused_bit, item_row, segment_row};
+ghost use Rattle.mm_object.specs.Format.{push};
 ghost use Rattle.mm_object.specs.Objects.{words_of};
-ghost use Rattle.mm_object.specs.Reading.{segment_end, segment_record_at};
-ghost use Rattle.mm_object.specs.Steps.{bitmap_places, count_places, items_from, log_places, segment_size};
-ghost use Rattle.mm_object.specs.Steps.{segments_read};
 
-use crate::fault::{ObjectError, ObjectFault};
-use crate::fields::{Reader, is_set};
-use crate::header::HEADER_BYTES;
+use crate::fault::ObjectFault;
+use crate::fields::is_set;
 use crate::item::Item;
 use crate::limits::WORD_LIMIT;
-use crate::name_records::name_size;
+use crate::name_records::read_name;
 use crate::segment::Segment;
 use crate::segments::{has_name, is_log, room};
+use mm_format::{ReadError, Reader, refuse_if};
 use std::alloc::Global;
-
-// The length in bytes of the record of a segment.
-fn segment_size(segment: &Segment) -> usize
-    requires { length segment.now.items ≤ 131072 }
-    ensures size { result ≡ segment_size segment.now }
-{
-    let count = segment.items.len();
-    name_size(&segment.name) + 5 + (count + 7) / 8 + 8 * count
-}
 
 // Whether `words` and `count` words together are more than an object may have.
 fn are_many(words: usize, count: u32) -> bool
@@ -37,143 +27,155 @@ fn are_many(words: usize, count: u32) -> bool
     words + count as usize > WORD_LIMIT
 }
 
-impl Reader<'_> {
-    // The logarithm of a segment's length in bytes.
-    fn log(&self, at: usize) -> Result<u8, ObjectError>
-        requires { at ≤ length self.now.bytes.now }
-        ensures log { let bytes = self.now.bytes.now in Gives (λ n. n) (first_bad (length bytes) (log_places bytes at))
-            (number_at bytes at 1) result }
-        ensures within { OnOk result (at + 1 ≤ length self.now.bytes.now) }
-        ensures small { IfOk result (λ n. n ≤ 20) }
-    {
-        let log = self.u8_at(at)?;
-        self.refuse_if(!is_log(log), ObjectFault::Segment, at)?;
-        Ok(log)
-    }
+// Reads the logarithm of a segment's length in bytes.
+#[tactic(auto, unfolding(crate::specs::Format::log_row))]
+fn read_log(reader: &mut Reader) -> Result<u8, ReadError<ObjectFault>>
+    ensures read { ReadsAlone number_of (λ n. n) (log_row.read reader.old.bytes.now reader.old.at) reader.new.at result }
+    ensures same { reader.new.bytes.now ≡ reader.old.bytes.now }
+    ensures small { IfOk result (λ n. n ≤ 20) }
+{
+    let at = reader.at;
+    let log = reader.u8()?;
+    refuse_if(!is_log(log), ObjectFault::Segment, at)?;
+    Ok(log)
+}
 
-    // The count of words of a segment of this length, after segments of `words` words.
-    fn word_count(&self, log: u8, words: usize, at: usize) -> Result<u32, ObjectError>
-        requires place { at ≤ length self.now.bytes.now }
-        requires log { log ≤ 20 }
-        requires words { words ≤ 131072 }
-        ensures count { let bytes = self.now.bytes.now in Gives (λ n. n)
-            (first_bad (length bytes) (count_places bytes log words at)) (number_at bytes at 4) result }
-        ensures within { OnOk result (at + 4 ≤ length self.now.bytes.now) }
-        ensures small { IfOk result (λ n. words + n ≤ 131072) }
-    {
-        let count = self.u32_at(at)?;
-        self.refuse_if(are_many(words, count), ObjectFault::Count, at)?;
-        self.refuse_if(count as usize > room(log), ObjectFault::Segment, at)?;
-        Ok(count)
-    }
+// Reads the count of words of a segment of this length, after segments of `words` words.
+#[tactic(auto, unfolding(crate::specs::Format::count_row))]
+fn read_count(reader: &mut Reader, log: u8, words: usize) -> Result<u32, ReadError<ObjectFault>>
+    requires log { log ≤ 20 }
+    requires words { words ≤ 131072 }
+    ensures read { ReadsAlone number_of (λ n. n) ((count_row log words).read reader.old.bytes.now reader.old.at)
+        reader.new.at result }
+    ensures same { reader.new.bytes.now ≡ reader.old.bytes.now }
+    ensures small { IfOk result (λ n. words + n ≤ 131072) }
+{
+    let at = reader.at;
+    let count = reader.u32()?;
+    refuse_if(are_many(words, count), ObjectFault::Count, at)?;
+    refuse_if(count as usize > room(log), ObjectFault::Segment, at)?;
+    Ok(count)
+}
 
-    // Tests the bitmap of `count` words.
-    fn bitmap(&self, count: u32, at: usize) -> Result<(), ObjectError>
-        requires place { at ≤ length self.now.bytes.now }
-        requires header { 16 ≤ at }
-        requires count { count ≤ 131072 }
-        ensures bitmap { let bytes = self.now.bytes.now in Gives (λ _. true)
-            (first_bad (length bytes) (bitmap_places bytes count at)) true result }
-        ensures within { OnOk result (at + (count + 7) / 8 ≤ length self.now.bytes.now) }
-    {
-        let size = (count as usize + 7) / 8;
-        self.whole(at, size)?;
-        self.refuse_if(
-            self.has_unused_bit(count, at),
-            ObjectFault::Segment,
-            at + size - 1,
-        )
-    }
+// The number of a byte of a bitmap, which begins at place 0.
+#[tactic(auto, using(crate::proofs::Numbers::byte_at))]
+fn byte(bitmap: &[u8], place: usize) -> u8
+    requires { place < length bitmap.now }
+    ensures { result ≡ number_at bitmap.now (0 + place) 1 }
+{
+    bitmap[place]
+}
 
-    // Whether the last byte of a bitmap has a bit set that belongs to none of `count` words.
-    fn has_unused_bit(&self, count: u32, at: usize) -> bool
-        requires { at + (count + 7) / 8 ≤ length self.now.bytes.now }
-        ensures { result ≡ has_unused_bit self.now.bytes.now at count }
-    {
-        count % 8 != 0 && self.number_1(at + count as usize / 8) >= 1 << (count % 8)
-    }
+// Whether the last byte of a bitmap has a bit set that belongs to none of `count` words.
+fn has_unused_bit(bitmap: &[u8], count: u32) -> bool
+    requires { length bitmap.now ≡ (count + 7) / 8 }
+    ensures { result ≡ has_unused_bit bitmap.now 0 count }
+{
+    count % 8 != 0 && byte(bitmap, count as usize / 8) >= 1 << (count % 8)
+}
 
-    // Whether a bit of a bitmap is set, the lowest bit of each byte first.
-    fn bit(&self, at: usize, place: usize) -> bool
-        requires { at + place / 8 < length self.now.bytes.now }
-        ensures { result ≡ bit_at self.now.bytes.now at place }
-    {
-        is_set(u16::from(self.number_1(at + place / 8)), place % 8)
-    }
+// Reads the bitmap of `count` words.
+#[tactic(auto, unfolding(crate::specs::Format::bits_row))]
+fn read_bits<'a>(reader: &mut Reader<'a>, count: u32) -> Result<&'a [u8], ReadError<ObjectFault>>
+    ensures read { ReadsAlone number_of (λ xs. bits_in count xs.now)
+        ((bits_row count).read reader.old.bytes.now reader.old.at) reader.new.at result }
+    ensures same { reader.new.bytes.now ≡ reader.old.bytes.now }
+    ensures long { IfOk result (λ xs. length xs.now ≡ (count + 7) / 8) }
+{
+    let at = reader.at;
+    let size = (count as usize + 7) / 8;
+    let bitmap = reader.raw(size)?;
+    refuse_if(
+        has_unused_bit(bitmap, count),
+        ObjectFault::Segment,
+        at + size.saturating_sub(1),
+    )?;
+    Ok(bitmap)
+}
 
-    // The `count` words at an offset, with the bits that say which of them are full.
-    fn items(
-        &self,
-        alloc: Global,
-        bitmap: usize,
-        words: usize,
-        count: u32,
-    ) -> Result<Vec<Item>, ObjectError>
-        requires bits { bitmap + (count + 7) / 8 ≤ length self.now.bytes.now }
-        requires place { words ≤ length self.now.bytes.now }
-        requires count { count ≤ 131072 }
-        ensures items { let bytes = self.now.bytes.now in Gives (λ items. items.items)
-            (place_fault (length bytes) (Field words (8 * count))) (items_from bytes bitmap words count) result }
-        ensures within { OnOk result (words + 8 * count ≤ length self.now.bytes.now) }
-        ensures count { IfOk result (λ items. vec_len items ≡ count) }
-    {
-        let count = count as usize;
-        self.whole(words, 8 * count)?;
-        let mut items = Vec::with_capacity(alloc, count)?;
-        for k in 0..count {
-            let bits = self.number_8(words + 8 * k);
-            let full = self.bit(bitmap, k);
-            items.push(Item { bits, full })?;
-        }
-        Ok(items)
-    }
+// Whether a bit of a bitmap is set, the lowest bit of each byte first.
+fn bit(bitmap: &[u8], place: usize) -> bool
+    requires { place / 8 < length bitmap.now }
+    ensures { result ≡ bit_at bitmap.now 0 place }
+{
+    is_set(u16::from(byte(bitmap, place / 8)), place % 8)
+}
 
-    /// The segment whose record begins at an offset, after segments of `words` words.
-    fn segment(
-        &self,
-        alloc: Global,
-        before: &[Segment],
-        words: usize,
-        at: usize,
-    ) -> Result<Segment, ObjectError>
-        requires place { at ≤ length self.now.bytes.now }
-        requires header { 16 ≤ at }
-        requires words { words ≡ words_of before.now }
-        requires few { words ≤ 131072 }
-        ensures segment { let bytes = self.now.bytes.now in Gives (λ s. s)
-            (first_bad (length bytes) (segment_record_places bytes before.now at)) (segment_record_at bytes at) result }
-        ensures within { OnOk result (segment_end self.now.bytes.now at ≤ length self.now.bytes.now) }
-        ensures size { IfOk result (λ s. segment_end self.now.bytes.now at ≡ at + segment_size s) }
-        ensures few { IfOk result (λ s. words + length s.items ≤ 131072) }
-    {
-        let name = self.name(at)?;
-        self.refuse_if(has_name(before, &name), ObjectFault::Name, at)?;
-        let end = at + name_size(&name);
-        let log = self.log(end)?;
-        let count = self.word_count(log, words, end + 1)?;
-        let bitmap = end + 5;
-        self.bitmap(count, bitmap)?;
-        let items = self.items(alloc, bitmap, bitmap + (count as usize + 7) / 8, count)?;
-        Ok(Segment { name, log, items })
-    }
+// Reads a word, which is full or empty.
+#[tactic(auto, unfolding(crate::specs::Format::item_row))]
+fn read_item(reader: &mut Reader, full: bool) -> Result<Item, ReadError<ObjectFault>>
+    ensures read { ReadsAlone number_of (λ i. i) ((item_row full).read reader.old.bytes.now reader.old.at)
+        reader.new.at result }
+    ensures same { reader.new.bytes.now ≡ reader.old.bytes.now }
+{
+    let bits = reader.u64()?;
+    Ok(Item { bits, full })
+}
 
-    /// The first `count` segments of the file, and the offset of their end.
-    pub fn segments(&self, alloc: Global, count: u16) -> Result<(Vec<Segment>, usize), ObjectError>
-        requires { 16 ≤ length self.now.bytes.now }
-        ensures segments { let bytes = self.now.bytes.now in Gives (λ r. (r.0.items, r.1))
-            (first_bad (length bytes) (segments_places bytes count)) (segments_read bytes count) result }
-        ensures within { IfOk result (λ r. r.1 ≤ length self.now.bytes.now) }
-        ensures count { IfOk result (λ r. vec_len r.0 ≡ count) }
-    {
-        let mut segments = Vec::with_capacity(alloc, usize::from(count))?;
-        let mut words = 0;
-        let mut at = HEADER_BYTES;
-        for _ in 0..count {
-            let segment = self.segment(alloc, &segments, words, at)?;
-            words += segment.items.len();
-            at += segment_size(&segment);
-            segments.push(segment)?;
-        }
-        Ok((segments, at))
+// Reads `count` words, with the bitmap that says which of them are full.
+fn read_items(
+    alloc: Global,
+    reader: &mut Reader,
+    bitmap: &[u8],
+    count: u32,
+) -> Result<Vec<Item>, ReadError<ObjectFault>>
+    requires { length bitmap.now ≡ (count + 7) / 8 }
+    ensures read { Reads number_of (λ items. items.items)
+        ((each item_row (bits_in count bitmap.now)).read reader.old.bytes.now reader.old.at) reader.new.at result }
+    ensures same { reader.new.bytes.now ≡ reader.old.bytes.now }
+    ensures count { IfOk result (λ items. vec_len items ≡ count) }
+{
+    let count = count as usize;
+    let mut items = Vec::with_capacity(alloc, count)?;
+    for k in 0..count {
+        let item = read_item(reader, bit(bitmap, k))?;
+        items.push(item)?;
     }
+    Ok(items)
+}
+
+// Reads a segment, after segments of `words` words.
+#[tactic(auto, unfolding(crate::specs::Format::segment_row))]
+fn read_segment(
+    alloc: Global,
+    reader: &mut Reader,
+    before: &[Segment],
+    words: usize,
+) -> Result<Segment, ReadError<ObjectFault>>
+    requires words { words ≡ words_of before.now }
+    requires few { words ≤ 131072 }
+    ensures read { Reads number_of (λ s. s) ((segment_row before.now).read reader.old.bytes.now reader.old.at)
+        reader.new.at result }
+    ensures same { reader.new.bytes.now ≡ reader.old.bytes.now }
+    ensures few { IfOk result (λ s. words + length s.items ≤ 131072) }
+{
+    let at = reader.at;
+    let name = read_name(reader)?;
+    refuse_if(has_name(before, &name), ObjectFault::Name, at)?;
+    let log = read_log(reader)?;
+    let count = read_count(reader, log, words)?;
+    let full = read_bits(reader, count)?;
+    let items = read_items(alloc, reader, full, count)?;
+    Ok(Segment { name, log, items })
+}
+
+/// Reads this count of segments.
+pub(crate) fn read_segments(
+    alloc: Global,
+    reader: &mut Reader,
+    count: u16,
+) -> Result<Vec<Segment>, ReadError<ObjectFault>>
+    ensures read { Reads number_of (λ segments. segments.items)
+        ((times segment_row push count []).read reader.old.bytes.now reader.old.at) reader.new.at result }
+    ensures same { reader.new.bytes.now ≡ reader.old.bytes.now }
+    ensures count { IfOk result (λ segments. vec_len segments ≡ count) }
+{
+    let mut segments = Vec::with_capacity(alloc, usize::from(count))?;
+    let mut words = 0;
+    for _ in 0..usize::from(count) {
+        let segment = read_segment(alloc, reader, &segments, words)?;
+        words += segment.items.len();
+        segments.push(segment)?;
+    }
+    Ok(segments)
 }

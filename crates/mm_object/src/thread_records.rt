@@ -1,27 +1,25 @@
 //! The records of threads of an object file.
 
-ghost use Rattle.std.specs.Prelude.{◌≡◌, ◌==◌, ◌&&◌, ◌+◌, ◌*◌, ◌<◌, ◌≤◌, true, false, not, nat_lt, ◌||◌, if◌then◌else◌};
-ghost use Rattle.std.specs.Prelude.{None, Some, MatchOption, IfOk, OnOk, length, vec_len};
-ghost use Rattle.std.specs.List.{list_any, range_with_len};
-ghost use Rattle.mm_model.specs.Places.{first_bad, number_at};
-ghost use Rattle.mm_object.specs.declared.thread.Thread.{Thread};
-ghost use Rattle.mm_object.specs.Answers.{Gives};
-ghost use Rattle.mm_object.specs.Faults.{is_bad_register, is_perm, threads_places};
+ghost use Rattle.std.specs.Prelude.{◌≡◌, ◌+◌, ◌<◌, not, nat_lt, ◌||◌, IfOk};
+ghost use Rattle.mm_format.specs.Formats.{each, times};
+ghost use Rattle.mm_format.specs.Images.{flags_of};
+ghost use Rattle.mm_format.specs.Reading.{Reads, ReadsAlone};
+ghost use Rattle.mm_object.specs.declared.thread.Thread.{Thread as ThreadValue};
+ghost use Rattle.mm_object.specs.Answers.{number_of};
+ghost use Rattle.mm_object.specs.Format.{integer_row, pointer_row, value_row, thread_fields, good_thread, thread_row};
 ghost use Rattle.mm_object.specs.Objects.{is_thread};
-ghost use Rattle.mm_object.specs.Reading.{externals_of, registers_at, thread_place, thread_record_at, threads_at};
-ghost use Rattle.mm_object.specs.Reading.{value_at};
-ghost use Rattle.mm_object.specs.Steps.{bad_registers, thread_record_places};
 
-use crate::fault::{ObjectError, ObjectFault};
-use crate::fields::{Reader, fault, is_set};
+use crate::fault::ObjectFault;
+use crate::fields::{is_set, read_perm, read_target};
 use crate::segment::Segment;
 use crate::thread::{Thread, Value};
 use crate::threads::is_thread;
 use crate::writing::NO_HANDLER;
+use mm_format::{ReadError, Reader, Run, failed, read_run, refuse_if};
 use std::alloc::Global;
 
 /// The length in bytes of the record of a thread.
-pub(crate) const THREAD_BYTES: usize = 140;
+const THREAD_BYTES: usize = 140;
 
 // Whether a thread is no thread of the object, or its slot is below `least`.
 fn is_bad_thread(segments: &[Segment], externals: u16, least: u8, thread: &Thread) -> bool
@@ -30,123 +28,178 @@ fn is_bad_thread(segments: &[Segment], externals: u16, least: u8, thread: &Threa
     !is_thread(segments, usize::from(externals), thread) || thread.slot < least
 }
 
-impl Reader<'_> {
-    // The value of a register's eight bytes that the file holds. `None` if they are to become a pointer and have no
-    // permission or no zero after it.
-    fn value(&self, tagged: bool, at: usize) -> Option<Value>
-        requires { at + 8 ≤ length self.now.bytes.now }
-        ensures { let bytes = self.now.bytes.now in let bad = tagged && (not (is_perm bytes at) || not
-            (number_at bytes (at + 1) 1 == 0)) in MatchOption result (bad ≡ true)
-            (λ v. (bad ≡ false) × (v ≡ value_at bytes tagged at)) }
-    {
-        if !tagged {
-            return Some(Value::Int(self.number_8(at)));
-        }
-        let perm = self.perm(at)?;
-        if self.number_1(at + 1) != 0 {
-            return None;
-        }
-        Some(Value::Ptr {
-            perm,
-            target: self.target(at + 2),
-        })
-    }
+// Reads a register that is an integer.
+#[tactic(auto, unfolding(crate::specs::Format::integer_row))]
+fn read_integer(reader: &mut Reader) -> Result<Value, ReadError<ObjectFault>>
+    ensures read { ReadsAlone number_of (λ v. v) (integer_row.read reader.old.bytes.now reader.old.at) reader.new.at
+        result }
+    ensures same { reader.new.bytes.now ≡ reader.old.bytes.now }
+{
+    let number = reader.u64()?;
+    Ok(Value::Int(number))
+}
 
-    // The registers of the thread whose record begins at an offset, if each of them has a value.
-    fn registers(&self, at: usize) -> Option<[Value; 16]>
-        requires { at + 140 ≤ length self.now.bytes.now }
-        ensures { let bytes = self.now.bytes.now in MatchOption result (bad_registers bytes at 16 ≡ true)
-            (λ regs. (bad_registers bytes at 16 ≡ false) × (regs ≡ registers_at bytes at)) }
-    {
-        let tags = self.number_2(at + 10);
-        let mut regs = [Value::Int(0); 16];
-        for r in 0..16 {
-            let value = self.value(is_set(tags, r), at + 12 + 8 * r)?;
-            regs[r] = value;
-        }
-        Some(regs)
-    }
+// Reads a register that becomes a pointer.
+#[tactic(auto, unfolding(crate::specs::Format::pointer_row))]
+fn read_pointer(reader: &mut Reader) -> Result<Value, ReadError<ObjectFault>>
+    ensures read { ReadsAlone number_of (λ v. v) (pointer_row.read reader.old.bytes.now reader.old.at) reader.new.at
+        result }
+    ensures same { reader.new.bytes.now ≡ reader.old.bytes.now }
+{
+    let perm = read_perm(reader, ObjectFault::Thread)?;
+    let at = reader.at;
+    let gap = reader.u8()?;
+    refuse_if(gap != 0, ObjectFault::Thread, at)?;
+    let target = read_target(reader)?;
+    Ok(Value::Ptr { perm, target })
+}
 
-    // The handler of a byte that the file holds.
-    fn handler(&self, at: usize) -> Option<u8>
-        requires { at + 1 ≤ length self.now.bytes.now }
-        ensures { let n = number_at self.now.bytes.now at 1 in result ≡ (if n == 255 then None else Some n) }
-    {
-        let handler = self.number_1(at);
-        if handler == NO_HANDLER {
+// Reads a register, which becomes a pointer if it is tagged.
+fn read_value(reader: &mut Reader, tagged: bool) -> Result<Value, ReadError<ObjectFault>>
+    ensures read { ReadsAlone number_of (λ v. v) ((value_row tagged).read reader.old.bytes.now reader.old.at)
+        reader.new.at result }
+    ensures same { reader.new.bytes.now ≡ reader.old.bytes.now }
+{
+    if tagged {
+        read_pointer(reader)
+    } else {
+        read_integer(reader)
+    }
+}
+
+// Reads sixteen registers, of which these become pointers.
+fn read_registers(reader: &mut Reader, tags: u16) -> Result<[Value; 16], ReadError<ObjectFault>>
+    ensures read { ReadsAlone number_of (λ regs. regs)
+        ((each value_row (flags_of tags)).read reader.old.bytes.now reader.old.at) reader.new.at result }
+    ensures same { reader.new.bytes.now ≡ reader.old.bytes.now }
+{
+    let mut regs = [Value::Int(0); 16];
+    for r in 0..16 {
+        let value = read_value(reader, is_set(tags, r))?;
+        regs[r] = value;
+    }
+    Ok(regs)
+}
+
+// Reads the fields of a thread.
+#[tactic(auto, unfolding(crate::specs::Format::thread_fields, mm_format::specs::Images::mask))]
+fn read_fields(reader: &mut Reader) -> Result<Thread, ReadError<ObjectFault>>
+    ensures read { ReadsAlone number_of (λ t. t) (thread_fields.read reader.old.bytes.now reader.old.at) reader.new.at
+        result }
+    ensures same { reader.new.bytes.now ≡ reader.old.bytes.now }
+{
+    let slot = reader.u8()?;
+    let group = reader.u8()?;
+    let handler = reader.u8()?;
+    let perm = read_perm(reader, ObjectFault::Thread)?;
+    let target = read_target(reader)?;
+    let tags = reader.u16()?;
+    let regs = read_registers(reader, tags)?;
+    Ok(Thread {
+        slot,
+        group,
+        handler: if handler == NO_HANDLER {
             None
         } else {
             Some(handler)
-        }
-    }
+        },
+        perm,
+        target,
+        regs,
+    })
+}
 
-    // The thread of a record that the file holds, if it has a permission and each register has a value.
-    #[tactic(auto, unfolding(crate::specs::Steps::bad_registers))]
-    fn thread_record(&self, at: usize) -> Option<Thread>
-        requires { at + 140 ≤ length self.now.bytes.now }
-        ensures { let bytes = self.now.bytes.now in let bad = not (is_perm bytes (at + 3)) || list_any
-            (is_bad_register bytes at) (range_with_len 0 16) in MatchOption result (bad ≡ true)
-            (λ t. (bad ≡ false) × (t ≡ thread_record_at bytes at)) }
-    {
-        let perm = self.perm(at + 3)?;
-        let regs = self.registers(at)?;
-        Some(Thread {
-            slot: self.number_1(at),
-            group: self.number_1(at + 1),
-            handler: self.handler(at + 2),
-            perm,
-            target: self.target(at + 4),
-            regs,
-        })
-    }
+// Reads a thread, whose slot has to be at least `least`.
+#[tactic(auto, unfolding(crate::specs::Format::good_thread))]
+fn read_good_thread(
+    reader: &mut Reader,
+    segments: &[Segment],
+    externals: u16,
+    least: u8,
+) -> Result<Thread, ReadError<ObjectFault>>
+    ensures read { ReadsAlone number_of (λ t. t)
+        ((good_thread segments.now externals least).read reader.old.bytes.now reader.old.at) reader.new.at result }
+    ensures same { reader.new.bytes.now ≡ reader.old.bytes.now }
+    ensures slot { IfOk result (λ (t : ThreadValue). t.slot < 16) }
+{
+    let at = reader.at;
+    let thread = read_fields(reader)?;
+    let wrong = is_bad_thread(segments, externals, least, &thread);
+    refuse_if(wrong, ObjectFault::Thread, at)?;
+    Ok(thread)
+}
 
-    // The thread whose record begins at an offset. Its slot is at least `least`.
-    #[tactic(auto, unfolding(mm_model::specs::Places::place_fault))]
-    fn thread(
-        &self,
-        segments: &[Segment],
-        externals: u16,
-        least: u8,
-        at: usize,
-    ) -> Result<Thread, ObjectError>
-        requires { at ≤ length self.now.bytes.now }
-        ensures thread { let bytes = self.now.bytes.now in Gives (λ t. t)
-            (first_bad (length bytes) (thread_record_places bytes segments.now externals least at))
-            (thread_record_at bytes at) result }
-        ensures within { OnOk result (at + 140 ≤ length self.now.bytes.now) }
-        ensures slot { IfOk result (λ (t : Thread). t.slot < 16) }
-    {
-        self.whole(at, THREAD_BYTES)?;
-        match self.thread_record(at) {
-            Some(thread) if !is_bad_thread(segments, externals, least, &thread) => Ok(thread),
-            _ => Err(fault(ObjectFault::Thread, at)),
-        }
+// Reads a thread, whose slot has to be at least `least`. Its record has to be whole before it is tested.
+fn read_thread(
+    reader: &mut Reader,
+    segments: &[Segment],
+    externals: u16,
+    least: u8,
+) -> Result<Thread, ReadError<ObjectFault>>
+    ensures read { ReadsAlone number_of (λ t. t)
+        ((thread_row segments.now externals least).read reader.old.bytes.now reader.old.at) reader.new.at result }
+    ensures same { reader.new.bytes.now ≡ reader.old.bytes.now }
+    ensures slot { IfOk result (λ (t : ThreadValue). t.slot < 16) }
+{
+    let at = reader.at;
+    let mut ahead = Reader {
+        bytes: reader.bytes,
+        at,
+    };
+    ahead.raw(THREAD_BYTES)?;
+    match read_good_thread(reader, segments, externals, least) {
+        Ok(thread) => Ok(thread),
+        Err(_) => Err(failed(ObjectFault::Thread, at)),
     }
+}
 
-    /// The `count` threads from an offset on.
-    pub fn threads(
-        &self,
-        alloc: Global,
-        segments: &[Segment],
-        externals: u16,
-        start: usize,
-        count: u16,
-    ) -> Result<Vec<Thread>, ObjectError>
-        requires start { start ≤ length self.now.bytes.now }
-        requires place { start ≡ thread_place self.now.bytes.now 0 }
-        requires externals { externals ≡ externals_of self.now.bytes.now }
-        ensures threads { let bytes = self.now.bytes.now in Gives (λ t. t.items)
-            (first_bad (length bytes) (threads_places bytes segments.now count)) (threads_at bytes count) result }
-        ensures within { OnOk result (start + 140 * count ≤ length self.now.bytes.now) }
-        ensures count { IfOk result (λ t. vec_len t ≡ count) }
-    {
-        let mut threads = Vec::with_capacity(alloc, usize::from(count))?;
-        let mut least = 0;
-        for k in 0..usize::from(count) {
-            let thread = self.thread(segments, externals, least, start + THREAD_BYTES * k)?;
-            least = thread.slot + 1;
-            threads.push(thread)?;
-        }
-        Ok(threads)
+/// What comes before a thread: the segments and the count of externals of its object, and the least slot that it may
+/// have.
+#[derive(Drop)]
+struct ThreadRun<'a> {
+    segments: &'a [Segment],
+    externals: u16,
+    least: u8,
+}
+
+impl Run<ObjectFault> for ThreadRun<'_> {
+    ghost use Rattle.std.specs.Prelude.{◌+◌};
+    ghost use Rattle.mm_object.specs.Format.{thread_row};
+
+    type Item = Thread;
+
+    ghost reads = { λ s. (thread_row s.segments.now s.externals s.least).read };
+
+    ghost onward = { λ s t. record { segments = s.segments; externals = s.externals; least = t.slot + 1 } };
+
+    fn item(
+        &mut self,
+        _alloc: Global,
+        reader: &mut Reader,
+    ) -> Result<Thread, ReadError<ObjectFault>> {
+        let thread = read_thread(reader, self.segments, self.externals, self.least)?;
+        self.least = thread.slot + 1;
+        Ok(thread)
     }
+}
+
+/// Reads this count of threads, whose slots have to ascend.
+pub(crate) fn read_threads(
+    alloc: Global,
+    reader: &mut Reader,
+    segments: &[Segment],
+    externals: u16,
+    count: u16,
+) -> Result<Vec<Thread>, ReadError<ObjectFault>>
+    ensures read { Reads number_of (λ threads. threads.items)
+        ((times (thread_row segments.now externals) (λ _ t. t.slot + 1) count 0).read reader.old.bytes.now
+        reader.old.at) reader.new.at result }
+    ensures same { reader.new.bytes.now ≡ reader.old.bytes.now }
+{
+    let mut run = ThreadRun {
+        segments,
+        externals,
+        least: 0,
+    };
+    read_run(alloc, reader, &mut run, usize::from(count))
 }

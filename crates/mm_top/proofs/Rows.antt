@@ -23,14 +23,40 @@ stopped files out Text row stop.ReadFault says asked same = record { ends = (say
 stopped files out Text row stop.WriteFault says asked same = absurd says
 stopped files out Text row stop.NoMemory says asked same = record { ends = same; asked = asked; whole = tt }
 
+-- the reading of all of some files stops if that of the first of them does
+pub reading_stops : {T U : Type 0} {files : Reading} {before : List Value} {xs all : List (List ℕ × Kind)} {values : T → List Value} {others : U → List Value} {s : Stop} (ys : List (List ℕ × Kind)) (result : Result U Stop)
+    → FilesRead files before xs values (Err s) → all ≡ xs ++ ys → IsErrAnd result (λ e. e ≡ s) → FilesRead files before all others result
+reading_stops ys (Ok u) read first is = absurd is
+reading_stops {files = files} {before = before} {xs = xs} {all = all} {s = s} ys (Err e) read first is =
+    let P : Stop → Type 0 = λ x. Stops (FilesRefused files.held before all) (FilesFailed files before all) x in
+    let Q : List (List ℕ × Kind) → Type 0 = λ fs. Stops (FilesRefused files.held before fs) (FilesFailed files before fs) s in
+    let R : List (List ℕ × Kind) → Type 0 = λ fs. AsksFiles files before fs in
+    record {
+      accepted = tt;
+      stopped = subst P (sym is) (subst Q (sym first) (stops_first files ys before xs s read.stopped));
+      asked = subst R (sym first) (asks_of_all ys read.asked);
+      whole = tt;
+    }
+
+-- or ends with values of another form
+pub reading_ends : {T U : Type 0} {files : Reading} {before : List Value} {xs all : List (List ℕ × Kind)} {values : T → List Value} {t : T} (others : U → List Value) (u : U)
+    → FilesRead files before xs values (Ok t) → all ≡ xs → values t ≡ others u → FilesRead files before all others (Ok u)
+reading_ends {files = files} {before = before} {xs = xs} {values = values} {t = t} others u read is same =
+    let P : List Value → Type 0 = λ vs. FilesAccepted files.held before xs vs in
+    let Q : List (List ℕ × Kind) → Type 0 = λ fs. FilesAccepted files.held before fs (others u) in
+    record {
+      accepted = subst Q (sym is) (subst P same read.accepted);
+      stopped = tt;
+      asked = subst (λ (fs : List (List ℕ × Kind)). AsksFiles files before fs) (sym is) read.asked;
+      whole = subst (λ (fs : List (List ℕ × Kind)). ReadsWhole files fs) (sym is) read.whole;
+    }
+
 pub row_stops : {T : Type 0} {files : Reading} {out : Writing} {Text : Row → List Value → List ℕ → Type 0} {row : Row} {xs : List (List ℕ × Kind)} {values : T → List Value} {s : Stop} (ys : List (List ℕ × Kind)) (result : Result (Unit {0}) Stop)
     → FilesRead files [] xs values (Err s) → files_of row ≡ xs ++ ys → out.taken ≡ out.taken_before → IsErrAnd result (λ e. e ≡ s) → CommandEnds files out Text row result
 row_stops ys (Ok t) read first same is = absurd is
-row_stops {files = files} {out = out} {Text = Text} {row = row} {xs = xs} {s = s} ys (Err e) read first same is =
-    let P : Stop → Type 0 = λ x. CommandEnds files out Text row (Err x) in
-    let Q : List (List ℕ × Kind) → Type 0 = λ fs. Stops (FilesRefused files.held [] fs) (FilesFailed files [] fs) s in
-    let R : List (List ℕ × Kind) → Type 0 = λ fs. AsksFiles files [] fs in
-    subst P (sym is) (stopped files out Text row s (subst Q (sym first) (stops_first files ys [] xs s read.stopped)) (subst R (sym first) (asks_of_all ys read.asked)) same)
+row_stops {files = files} {out = out} {Text = Text} {row = row} ys (Err e) read first same is =
+    let all = reading_stops {others = λ (u : Unit {0}). []} ys (Err e) read first is in
+    stopped files out Text row e all.stopped all.asked same
 
 -- they are read, and the command ends with their values
 ends_read : (files : Reading) (out : Writing) (Text : Row → List Value → List ℕ → Type 0) (row : Row) (values : List Value) (Refuses : Refusal → Type 0) (IsText : List ℕ → Type 0) (result : Result (Unit {0}) Stop)

@@ -133,15 +133,21 @@ Ends out Refuses Fails IsText (Err stop.NoMemory) = out.taken ≡ out.taken_befo
 abbrev pub EndsWith : Writing → (IsText : List ℕ → Type 0) → Result (Unit {0}) Stop → Type 0
 EndsWith out IsText result = Ends out (λ r. ⊥) ⊥ IsText result
 
--- How the command of a row ends if it reads files alone. `Text` says what the command writes, given the values of the
--- files.
+-- how the command of a row ends if it reads files alone; `Text` says what the command writes, given the values of the
+-- files
+abbrev pub FilesEnd : (files : Reading) (out : Writing) (Text : Row → List Value → List ℕ → Type 0) → Row
+    → Result (Unit {0}) Stop → Type 0
+FilesEnd files out Text row result =
+    Ends out (λ r. FilesRefused files.held [] (files_of row) r
+    ⊎ ((values : List Value) × FilesAccepted files.held [] (files_of row) values × Declines row values r))
+    (FilesFailed files [] (files_of row))
+    (λ text. (values : List Value) × FilesAccepted files.held [] (files_of row) values × Text row values text)
+    result
+
+-- What the command of a row answers if it reads files alone.
 pub record CommandEnds (files : Reading) (out : Writing) (Text : Row → List Value → List ℕ → Type 0) (row : Row)
     (result : Result (Unit {0}) Stop) : Type 0 where
-  pub ends : Ends out (λ r. FilesRefused files.held [] (files_of row) r
-      ⊎ ((values : List Value) × FilesAccepted files.held [] (files_of row) values × Declines row values r))
-      (FilesFailed files [] (files_of row))
-      (λ text. (values : List Value) × FilesAccepted files.held [] (files_of row) values × Text row values text)
-      result
+  pub ends : FilesEnd files out Text row result
   pub asked : AsksFiles files [] (files_of row)
   pub whole : OnOk result (ReadsWhole files (files_of row))
 

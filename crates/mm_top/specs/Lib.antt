@@ -2,6 +2,7 @@ pub mod Groups
 pub mod Ranges
 pub mod Nodes
 pub mod Orders
+pub mod Plans
 pub mod Saving
 pub mod Commands
 pub mod Answers

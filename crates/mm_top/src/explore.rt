@@ -29,7 +29,7 @@ pub fn explore<F: Files, O: Sink>(
     write_exploration(alloc, &image, number_at(words, 1) as u32, out)
 }
 
-/// Writes what is met under all schedules of an image, up to so many configurations.
+/// Writes what is met under all schedules of an image, up to `states` configurations.
 fn write_exploration<O: Sink>(
     alloc: Global,
     image: &Image,

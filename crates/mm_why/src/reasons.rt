@@ -1,6 +1,6 @@
 //! Why all that a group has comes to another in a round.
 
-ghost use Rattle.std.specs.Prelude.{◌≡◌, ℕ, ◌<◌, [], MatchOption, length};
+ghost use Rattle.std.specs.Prelude.{◌≡◌, ℕ, ◌<◌, [], MatchOption, IfSome, length};
 ghost use Rattle.std.specs.Int.{bit_at};
 ghost use Rattle.mm_flow.specs.Flow.{Has};
 ghost use Rattle.mm_why.specs.Rounds.{HandsOn, AreRounds, round_at};
@@ -40,6 +40,19 @@ fn first_in(mask: u64, table: &Masks, to: usize) -> Option<usize>
     None
 }
 
+/// A group that meets the second group itself, and what it has has come to the first: then the second needs no pointer
+/// of another group to load.
+fn meeting_itself(meets: &Masks, now: &Masks, by: usize, to: usize) -> Option<usize>
+    ensures { IfSome result (λ giver. IsMeeting meets.now now.now by to giver to) }
+{
+    for giver in 0..64usize {
+        if to < 64 && has(now[to], to) && has(now[giver], by) && has(meets[giver], to) {
+            return Some(giver);
+        }
+    }
+    None
+}
+
 /// Two groups that meet, of which what the one has has come to the first group, and what the other has to the second.
 fn meeting(meets: &Masks, now: &Masks, by: usize, to: usize) -> Option<(usize, usize)>
     ensures { MatchOption
@@ -47,6 +60,9 @@ fn meeting(meets: &Masks, now: &Masks, by: usize, to: usize) -> Option<(usize, u
         (NoMeeting meets.now now.now by to 64)
         (λ pair. IsMeeting meets.now now.now by to pair.0 pair.1) }
 {
+    if let Some(giver) = meeting_itself(meets, now, by, to) {
+        return Some((giver, to));
+    }
     for giver in 0..64usize {
         if has(now[giver], by) {
             if let Some(taker) = first_in(meets[giver], now, to) {

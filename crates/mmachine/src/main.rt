@@ -17,7 +17,7 @@ use mm_vmem::VMem;
 use std::env;
 use std::process::ExitCode;
 
-/// The status of the process where the words of the command line cannot be had.
+/// The status of the process if the words of the command line cannot be had.
 const NO_WORDS: u8 = 6;
 
 /// The status of the process at an answer.
@@ -34,7 +34,7 @@ fn code(status: &Status) -> u8
     }
 }
 
-/// The words of the command line behind the program's name.
+/// The words of the command line after the program's name.
 fn words_of(rt: &HostRuntime) -> Option<Vec<String>> {
     env::args(rt).ok()?.skip(1).collect(rt.alloc()).ok()
 }

@@ -140,7 +140,7 @@ fn generated(rt: &HostRuntime) -> Result<Vec<u8>, Fail> {
         bytes.extend_from_slice(&word.to_be_bytes())?;
     }
     bytes.extend_from_slice(&[0; 4056])?;
-    // Page 0x101: the numbers behind 0.
+    // Page 0x101: the numbers after 0.
     bytes.extend_from_slice(&0x101_u64.to_be_bytes())?;
     bytes.extend_from_slice(&[0; 64])?;
     bytes.extend_from_slice(&[0xff; 64])?;
@@ -163,7 +163,8 @@ fn strings(rt: &HostRuntime, words: &[&str]) -> Result<Vec<String>, Fail> {
     Ok(strings)
 }
 
-/// The files that the tables of commands name, which move so many bytes in a call. The call of this number fails.
+/// The files that the tables of commands name, which move `piece` bytes in a call. The call with the number `fails`
+/// fails.
 fn shelf(rt: &HostRuntime, fails: u64, piece: usize) -> Result<MemFiles, Fail> {
     let mut held = Vec::new(rt.alloc());
     held.push((String::from_str(rt.alloc(), "HELLO")?, hello(rt)?))?;
@@ -202,7 +203,7 @@ fn lines(rt: &HostRuntime, fails: u64) -> Result<MemSource, Fail> {
     Ok(MemSource::new(Vec::from_slice(rt.alloc(), LINES)?, fails, 10))
 }
 
-/// The answer to the words, with what the sinks took, where the calls of these numbers fail: of the files, of standard
+/// The answer to the words, with what the sinks took, if the calls of these numbers fail: of the files, of standard
 /// input, of `out` and of `diag`. None fails for a number 0.
 fn attempt(
     rt: &HostRuntime,
@@ -223,7 +224,7 @@ fn attempt(
     Ok((status, out, diag))
 }
 
-/// Whether nothing but the line is written where a read fails.
+/// Whether nothing but the line is written if a read fails.
 fn stops_at_read(rt: &HostRuntime, words: &[&str], fails: [u64; 4]) -> Result<bool, Fail> {
     let (status, out, diag) = attempt(rt, words, fails)?;
     Ok(
@@ -233,7 +234,7 @@ fn stops_at_read(rt: &HostRuntime, words: &[&str], fails: [u64; 4]) -> Result<bo
     )
 }
 
-/// Whether `out` has a front part of the text, of whole pieces, where the write behind so many others fails.
+/// Whether `out` has a front part of the text, of whole pieces, if the write after `before` others fails.
 fn stops_at_write(
     rt: &HostRuntime,
     words: &[&str],
@@ -249,14 +250,14 @@ fn stops_at_write(
     )
 }
 
-/// Whether the whole text is written where no call fails.
+/// Whether the whole text is written if no call fails.
 fn ends(rt: &HostRuntime, words: &[&str], fails: [u64; 4], text: &[u8]) -> Result<bool, Fail> {
     let (status, out, diag) = attempt(rt, words, fails)?;
     Ok(matches!(status, Status::Done) && out.taken() == text && diag.taken().is_empty())
 }
 
-/// Whether it is so for each call that the words make: so many reads of files, reads of standard input and writes. A
-/// failing call that they do not make changes nothing.
+/// Whether it is so for each call that the words make: of the numbers of reads of files, of reads of standard input and
+/// of writes that `calls` has. A failing call that they do not make changes nothing.
 fn fails_in_turn(
     rt: &HostRuntime,
     words: &[&str],
@@ -264,8 +265,8 @@ fn fails_in_turn(
     text: &[u8],
 ) -> Result<bool, Fail> {
     let [reads, draws, writes] = calls;
-    let behind = [reads as u64 + 1, draws as u64 + 1, writes as u64 + 1, 1];
-    let mut holds = ends(rt, words, behind, text)?;
+    let after = [reads as u64 + 1, draws as u64 + 1, writes as u64 + 1, 1];
+    let mut holds = ends(rt, words, after, text)?;
     for read in 1..=reads {
         holds &= stops_at_read(rt, words, [read as u64, 0, 0, 0])?;
     }

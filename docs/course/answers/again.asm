@@ -1,4 +1,4 @@
-; Two threads that lost a tag. One goes on as if it were there, and one asks for it.
+; Two threads have lost the tag of their pointer. One loads as if the tag were there, and one tries to get it back.
 .segment uses 5
   addi r2, r1, 0
   ld r3, r2, 0, any, keep

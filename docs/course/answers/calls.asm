@@ -1,6 +1,6 @@
-; Two system calls: trap 1 says the letter in r1, and trap 2 doubles r1. Any other fault ends the slot.
+; Two system calls: trap 1 puts out the letter in r1, and trap 2 doubles r1. Any other fault ends the slot.
 .segment serve 8
-next: evt r4              ; r7 is the number behind trap
+next: evt r4              ; r7 is the number after `trap`
   ldi r1, 8
   shr r3, r4, r1          ; the slot
   ldi r1, 255

@@ -1,4 +1,5 @@
-; A count with two doors. Through one it grows, and through the other it is told in r1. The caller has both, and no way to the count.
+; A count behind two doors. A call of the first adds 1 to it, and a call of the second gives it in r1. The caller has
+; enter pointers to both doors, and no pointer to the count.
 .segment gate 7
 own: .ptr rw count
 grow: lip r7, own

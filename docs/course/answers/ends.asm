@@ -1,4 +1,4 @@
-; Three threads without a halt: two run into what is no code, and one runs to the end of its segment.
+; Three threads without a halt: two run into words that are not instructions, and one to the end of its segment.
 .segment data 4
   ldi r1, 1
   .int 65

@@ -5,7 +5,7 @@
   ldi r5, 54
   shr r3, r1, r5
   ldi r5, 63
-  and r3, r3, r5          ; the logarithm of the length
+  and r3, r3, r5          ; the length L
   ldi r5, 10
   shl r4, r1, r5
   shr r4, r4, r5          ; the address

@@ -1,4 +1,4 @@
-; An owner lets another thread read its note: it makes a pointer that reads, and puts it into a box.
+; An owner lets another thread read its note: it puts a read-only pointer to the note into a box.
 .segment owner 5
   ldi r3, 1
   restrict r4, r1, r3

@@ -1,4 +1,4 @@
-; Task 4 of the lab: a thread that knows the bits of a pointer, and has no pointer.
+; Task 4 of the lab: a thread loads through the 64 bits of a pointer, without the tag.
 .segment main 5
   addi r2, r1, 0          ; the same 64 bits, as an integer
   ld r3, r2, 0, any, keep

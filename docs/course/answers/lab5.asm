@@ -6,7 +6,7 @@ door: lip r7, -1          ; a pointer to the word before the door
   ld r1, r7, 0, any, keep
   addi r1, r1, 1
   st r7, r1, 0, any, keep
-  ldi r7, 0               ; leave the pointer to nobody
+  ldi r7, 0               ; do not leave the pointer to the caller
   jmp r6
 .segment account 3
   .int 64

@@ -1,4 +1,5 @@
-; Three threads with a read-only pointer: one wants more, one wants what is no permission, and one makes a key and tries to use it.
+; Three threads with a read-only pointer: one wants more rights, one wants a permission that does not exist, and one
+; makes a key and tries to load through it.
 .segment more 4
   ldi r2, 2
   restrict r3, r1, r2

@@ -1,10 +1,10 @@
-; Of eight letters the two in the middle, D and E, are wanted: no segment of 2^4 bytes has both.
+; D and E, the two in the middle of eight letters, are wanted: no segment of 2^4 bytes has both.
 .segment main 6
   leai r2, r1, 24         ; to D
   ldi r3, 4
-  subseg r4, r2, r3       ; the 2^4 bytes round it
+  subseg r4, r2, r3       ; the 2^4 bytes around D
   ldi r5, 0
-  leab r6, r4, r5         ; to their base
+  leab r6, r4, r5         ; to the base of these
   ld r7, r6, 0, any, keep
   out r7
   leai r6, r4, 8          ; one word on from D

@@ -1,4 +1,4 @@
-; Three groups: two have a word in common that one of them writes, and one has a word of its own.
+; Three groups: two share a word that one of them can write, and one has a word of its own.
 .segment code 3
   halt
 .segment box 3

@@ -1,4 +1,4 @@
-; A thread calls a gate and gives it no way back, so that it faults behind the door. Its handler, of the same group, is told where.
+; A caller gives a gate no way back, so the gate faults at its end. The caller's handler, in its group, learns where.
 .segment gate 6
 own: .ptr rw count
 door: lip r7, own

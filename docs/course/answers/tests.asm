@@ -1,4 +1,4 @@
-; One instruction, and four words to load through.
+; Four threads run the same load, each with another word in r1.
 .segment code 4
   ld r2, r1, 4, any, keep
   halt

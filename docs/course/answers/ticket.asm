@@ -1,4 +1,5 @@
-; A gate that tells its number to whoever shows the ticket in r2. The ticket is a key, and slot 1 has made its bits by itself.
+; A gate that gives its number to whoever shows the ticket in r2. The ticket is a key. Slot 1 has only an integer with
+; the bits of the key.
 .segment gate 7
 ticket: .ptr key office
 number: .int 42
@@ -8,7 +9,7 @@ door: lip r7, ticket
   ldi r1, 0
   bz r8, back
   ld r1, r7, 8, any, keep
-back: ldi r7, 0           ; it leads to the number, and to the ticket
+back: ldi r7, 0           ; r7 leads to the number and to the ticket: clear it
   jmp r6
 .segment caller 4
   jal r6, r5

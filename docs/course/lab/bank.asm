@@ -1,5 +1,5 @@
-; A bank with one account. Only the gate has a pointer to it: whoever comes in at the door adds 1 to the account, and
-; gets the new amount in r1.
+; A bank with one account. Only the gate has a pointer to it. Each call of the gate adds 1 to the account, and gives the
+; new amount in r1.
 .segment gate 6
   .ptr rw account
 door: lip r7, -1          ; a pointer to the word before the door
@@ -7,12 +7,12 @@ door: lip r7, -1          ; a pointer to the word before the door
   ld r1, r7, 0, any, keep
   addi r1, r1, 1
   st r7, r1, 0, any, keep
-  ldi r7, 0               ; leave the pointer to nobody
+  ldi r7, 0               ; do not leave the pointer to the caller
   jmp r6
 .segment account 3
   .int 64
 .segment client 6
-; Here goes your code.
+; Your code goes here.
   halt
 .thread 1 1 none xu client
 .reg 5 ptr eu door

@@ -1,5 +1,5 @@
 use Rattle.std.proofs.Common.{◌∙◌}
-use Rattle.mm_checkpoint.proofs.Masks.{bits_counted}
+use Rattle.mm_checkpoint.proofs.Loads.{bits_counted}
 use Rattle.mm_checkpoint.proofs.entries.bit_count.Goals as goal
 
 pub returns-clause-count : goal.returns-clause-count

@@ -1,15 +1,11 @@
 use Rattle.std.proofs.Common.{◌≡◌, ℕ, ◌-◌, List, [], ◌∷◌, ◌++◌, refl, subst, ◌∙◌, arith}
-use Rattle.std.proofs.lemmas.List.{length-append}
-use Rattle.std.proofs.lemmas.Result.{err_from_is_err_and}
+use Rattle.std.proofs.lemmas.{List.length-append, Result.err_from_is_err_and}
 use Rattle.mm_word.specs.Word.{IsWord}
-use Rattle.mm_model.specs.declared.slot.Pending.{Pending}
-use Rattle.mm_format.specs.Formats.{Format, times}
-use Rattle.mm_format.specs.Formats.Outcome.{Got}
-use Rattle.mm_format.specs.Reading.{FailsOr}
+use Rattle.mm_model.{specs.declared.slot.Pending.Pending, proofs.CoreRows.each_push}
+use Rattle.mm_format.specs.{Formats.{Format, times, Outcome.Got}, Reading.FailsOr}
 use Rattle.mm_format.proofs.Loops.{nothing_before, times_more, times_stop, times_read}
 use Rattle.mm_image.specs.Faults.{number_of}
 use Rattle.mm_checkpoint.specs.Format.{load}
-use Rattle.mm_checkpoint.proofs.Lists.{all_more}
 use Rattle.mm_checkpoint.proofs.entries.read_loads.Goals as goal
 
 abbrev push : List Pending → Pending → List Pending
@@ -59,7 +55,7 @@ loop-preserved c =
           (times_more (load empty) push c.args.count l.counter l.entries.items bytes l.reader.at l.entries.items _
           l.invariant.read (omega (arith, c.loop-test.true, c.from-end.ensures)) a next read);
       same = c.in_ok-entry.ensures.same ∙ l.invariant.same;
-      words = rw c.push.ensures.items (all_more (λ (p : Pending). IsWord p.word) l.entries.items a l.invariant.words
+      words = rw c.push.ensures.items (each_push (λ (p : Pending). IsWord p.word) l.entries.items a l.invariant.words
           c.in_ok-entry.ensures.holds);
       few = rw c.push.ensures.items (omega (arith, length-append l.entries.items (a ∷ []), l.invariant.few));
     }

@@ -1,9 +1,7 @@
-use Rattle.std.proofs.Common.{◌≡◌, ◌-◌, ◌≤◌, [], ◌∷◌, ◌++◌, length}
-use Rattle.std.specs.List.{AllByRecursion}
+use Rattle.std.{proofs.Common.{◌≡◌, ◌-◌, ◌≤◌, [], ◌∷◌, ◌++◌, length}, specs.List.AllByRecursion}
 use Rattle.mm_word.specs.Word.{IsWord}
 use Rattle.mm_model.specs.declared.slot.Pending.{Pending}
-use Rattle.mm_format.specs.Formats.{times}
-use Rattle.mm_format.proofs.Loops.{prefixed}
+use Rattle.mm_format.{specs.Formats.times, proofs.Loops.prefixed}
 use Rattle.mm_checkpoint.specs.Format.{load}
 use Rattle.mm_checkpoint.proofs.entries.read_loads.Given as goal
 

@@ -1,5 +1,4 @@
-use Rattle.mm_checkpoint.proofs.Answered.{some_saved}
-use Rattle.mm_checkpoint.proofs.SpelledLaws.{no_fault}
+use Rattle.mm_checkpoint.proofs.SpelledLaws.{no_fault, some_saved}
 use Rattle.mm_checkpoint.proofs.laws.checkpoints_have_no_fault.Goals as goal
 
 pub returns : goal.returns

@@ -1,4 +1,4 @@
-use Rattle.mm_checkpoint.proofs.SameState.{same_states}
+use Rattle.mm_checkpoint.proofs.Made.{same_states}
 use Rattle.mm_checkpoint.proofs.laws.saved_forms_are_states.Goals as goal
 
 pub returns : goal.returns

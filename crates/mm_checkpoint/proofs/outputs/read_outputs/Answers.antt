@@ -1,10 +1,8 @@
-use Rattle.std.proofs.Common.{◌≡◌, List, [], ◌∷◌, ◌++◌, map, refl, ap, ◌∙◌}
-use Rattle.std.proofs.lemmas.Result.{err_from_is_err_and}
+use Rattle.std.proofs.{Common.{◌≡◌, List, [], ◌∷◌, ◌++◌, map, refl, ap, ◌∙◌}, lemmas.Result.err_from_is_err_and}
 use Rattle.mm_format.proofs.Loops.{each_more, each_stop, each_read}
 use Rattle.mm_image.specs.Faults.{number_of}
 use Rattle.mm_thread.specs.Output.{Output}
-use Rattle.mm_checkpoint.specs.Format.{output}
-use Rattle.mm_checkpoint.specs.Steps.{put_out}
+use Rattle.mm_checkpoint.specs.{Format.output, Steps.put_out}
 use Rattle.mm_checkpoint.proofs.outputs.read_outputs.Goals as goal
 
 put_more : (os : List Output) (o : Output) → map put_out (os ++ o ∷ []) ≡ map put_out os ++ put_out o ∷ []

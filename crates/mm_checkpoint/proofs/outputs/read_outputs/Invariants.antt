@@ -1,8 +1,6 @@
 use Rattle.std.proofs.Common.{◌≡◌, map, drop}
-use Rattle.mm_format.specs.Formats.{each}
-use Rattle.mm_format.proofs.Loops.{prefixed}
-use Rattle.mm_checkpoint.specs.Format.{output}
-use Rattle.mm_checkpoint.specs.Steps.{put_out}
+use Rattle.mm_format.{specs.Formats.each, proofs.Loops.prefixed}
+use Rattle.mm_checkpoint.specs.{Format.output, Steps.put_out}
 use Rattle.mm_checkpoint.proofs.outputs.read_outputs.Given as goal
 
 abbrev pub invariant-loop-group : goal.invariant-loop-group

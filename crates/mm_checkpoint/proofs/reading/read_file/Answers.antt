@@ -1,8 +1,6 @@
 use Rattle.std.proofs.Common.{cond, ltb, length, map, ap, ◌∙◌}
-use Rattle.mm_format.specs.Formats.{after}
-use Rattle.mm_format.specs.Formats.Outcome.{Got, Bad}
-use Rattle.mm_checkpoint.specs.Format.{contents_from}
-use Rattle.mm_checkpoint.specs.Steps.{put_out}
+use Rattle.mm_format.specs.Formats.{after, Outcome.{Got, Bad}}
+use Rattle.mm_checkpoint.specs.{Format.contents_from, Steps.put_out}
 use Rattle.mm_checkpoint.proofs.reading.read_file.Goals as goal
 
 pub returns-clause-read : goal.returns-clause-read

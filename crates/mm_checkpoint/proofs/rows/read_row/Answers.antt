@@ -1,10 +1,8 @@
 use Rattle.std.proofs.Common.{rules, ◌≡◌, ◌==◌, ◌&&◌, not, ℕ, Bool, false, cond, is_some, refl, ap, ◌∙◌}
-use Rattle.mm_format.specs.Formats.{Outcome, after, tried}
-use Rattle.mm_format.specs.Formats.Outcome.{Got, Bad}
-use Rattle.mm_format.specs.Images.{mask, flags_of}
-use Rattle.mm_checkpoint.specs.Faults.{is_bad_state, is_bad_cause}
-use Rattle.mm_checkpoint.specs.Format.{slot_row}
-use Rattle.mm_checkpoint.proofs.rows.read_row.Goals.{then-not-waits, else-not-waits, then-not-split, else-not-split, then-waits, else-waits}
+use Rattle.mm_format.specs.{Formats.{Outcome, after, tried, Outcome.{Got, Bad}}, Images.{mask, flags_of}}
+use Rattle.mm_checkpoint.specs.{Tests.{is_bad_state, is_bad_cause}, Format.slot_row}
+use Rattle.mm_checkpoint.proofs.rows.read_row.Goals.{then-not-waits, else-not-waits, then-not-split}
+use Rattle.mm_checkpoint.proofs.rows.read_row.Goals.{else-not-split, then-waits, else-waits}
 use Rattle.mm_checkpoint.proofs.rows.read_row.Goals as goal
 
 -- a field that is read, and what is read after it

@@ -1,6 +1,5 @@
 use Rattle.std.proofs.Common.{◌≡◌, drop, vec_len}
-use Rattle.mm_format.specs.Formats.{each}
-use Rattle.mm_format.proofs.Loops.{prefixed}
+use Rattle.mm_format.{specs.Formats.each, proofs.Loops.prefixed}
 use Rattle.mm_checkpoint.specs.Format.{slot_row}
 use Rattle.mm_checkpoint.proofs.rows.read_rows.Given as goal
 

@@ -1,15 +1,9 @@
-use Rattle.std.proofs.Common.{◌≡◌, ℕ, zero, suc, ◌/◌, ◌%◌, ◌^◌, ◌<◌, Bool, false, List, [], ◌∷◌, get_or, length, take}
-use Rattle.std.proofs.Common.{refl, sym, ap, subst, ◌∙◌, arith, length-set}
-use Rattle.std.specs.Prelude.{◌==◌}
-use Rattle.std.proofs.lemmas.Result.{err_from_is_err_and}
-use Rattle.std.proofs.lemmas.List.{take_more_set, take_all}
+use Rattle.std.proofs.Common.{◌≡◌, ℕ, zero, suc, ◌/◌, ◌%◌, ◌^◌, ◌<◌, Bool, false, List, [], ◌∷◌, get_or, length}
+use Rattle.std.proofs.Common.{take, refl, sym, ap, subst, ◌∙◌, arith, length-set}
+use Rattle.std.{proofs.lemmas.{Result.err_from_is_err_and, List.{take_more_set, take_all}}, specs.Prelude.◌==◌}
 use Rattle.mm_word.specs.Word.{IsWord}
-use Rattle.mm_model.specs.Flags.{flags}
-use Rattle.mm_model.proofs.CoreRows.{each_set}
-use Rattle.mm_model.proofs.FlagLists.{flags-get}
-use Rattle.mm_format.specs.Formats.Outcome.{Got}
-use Rattle.mm_format.specs.Images.{flags_of}
-use Rattle.mm_format.specs.Reading.{FailsOr}
+use Rattle.mm_model.{specs.Flags.flags, proofs.{CoreRows.each_set, FlagLists.flags-get}}
+use Rattle.mm_format.specs.{Formats.Outcome.Got, Images.flags_of, Reading.FailsOr}
 use Rattle.mm_format.proofs.Loops.{each_more, each_stop, each_read}
 use Rattle.mm_image.specs.Faults.{number_of}
 use Rattle.mm_checkpoint.specs.Format.{beside, register}

@@ -1,10 +1,7 @@
-use Rattle.std.proofs.Common.{◌≡◌, take, drop, length}
-use Rattle.std.specs.List.{AllByRecursion}
+use Rattle.std.{proofs.Common.{◌≡◌, take, drop, length}, specs.List.AllByRecursion}
 use Rattle.mm_word.specs.Word.{IsWord}
 use Rattle.mm_model.specs.Flags.{flags}
-use Rattle.mm_format.specs.Formats.{each}
-use Rattle.mm_format.specs.Images.{flags_of}
-use Rattle.mm_format.proofs.Loops.{prefixed}
+use Rattle.mm_format.{specs.{Formats.each, Images.flags_of}, proofs.Loops.prefixed}
 use Rattle.mm_checkpoint.specs.Format.{beside, register}
 use Rattle.mm_checkpoint.proofs.words.read_registers.Given as goal
 

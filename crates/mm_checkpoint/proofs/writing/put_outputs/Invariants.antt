@@ -1,5 +1,4 @@
-use Rattle.std.proofs.Common.{◌≡◌, ◌++◌, map, take}
-use Rattle.std.specs.List.{flat_map}
+use Rattle.std.{proofs.Common.{◌≡◌, ◌++◌, map, take}, specs.List.flat_map}
 use Rattle.mm_thread.specs.Output.{Output}
 use Rattle.mm_checkpoint.specs.Checkpoints.{output_record}
 use Rattle.mm_checkpoint.proofs.writing.put_outputs.Given as goal

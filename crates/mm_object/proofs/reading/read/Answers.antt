@@ -1,9 +1,37 @@
 use Rattle.std.proofs.Common.{arith}
-use Rattle.mm_object.proofs.Answered.{is_spelled, is_again}
+use Rattle.std.proofs.lemmas.Result.{err_from_is_err_and}
+use Rattle.mm_object.proofs.Answered.{err_again, err_fault, err_first, ok_again, ok_first}
+use Rattle.mm_object.proofs.FormatWhole.{read_spells}
 use Rattle.mm_object.proofs.reading.read.Goals as goal
 
 pub returns-clause-spelled : goal.returns-clause-spelled
-returns-clause-spelled c = is_spelled c.args.bytes.now (λ i. omega (arith, c.type_inv.bytes i)) c.read_parts.result c.read_parts.ensures
+returns-clause-spelled c =
+    let read = c.in_ok-object.ensures in
+    read_spells c.args.bytes.now (λ i. omega (arith, c.type_inv.bytes i)) c.in_ok-object.object read.0 read.1
 
 pub returns-clause-again : goal.returns-clause-again
-returns-clause-again c = is_again c.args.bytes.now c.read_parts.result c.read_parts.ensures
+returns-clause-again c =
+    let read = c.in_ok-object.ensures in
+    λ o s. ok_again c.args.bytes.now c.in_ok-object.object read.0 read.1 o s
+
+pub returns-in_err-object-clause-again : goal.returns-in_err-object-clause-again
+returns-in_err-object-clause-again c =
+    let p = err_from_is_err_and c.from_residual.result c.from_residual.ensures.1 in
+    rw (p.1, p.2) (λ o s. err_again c.args.bytes.now c.in_err-object.field-0.0 c.in_err-object.ensures o s)
+
+pub returns-in_err-object-clause-fault : goal.returns-in_err-object-clause-fault
+returns-in_err-object-clause-fault c =
+    let p = err_from_is_err_and c.from_residual.result c.from_residual.ensures.1 in
+    rw (p.1, p.2)
+    (λ kind offset e. err_fault c.args.bytes.now c.in_err-object.field-0.0 c.in_err-object.ensures kind offset (cc))
+
+pub returns-in_err-object-clause-first : goal.returns-in_err-object-clause-first
+returns-in_err-object-clause-first c =
+    let p = err_from_is_err_and c.from_residual.result c.from_residual.ensures.1 in
+    rw (p.1, p.2)
+    (λ number offset some. err_first c.args.bytes.now c.in_err-object.field-0.0 c.in_err-object.ensures number offset some)
+
+pub returns-clause-first : goal.returns-clause-first
+returns-clause-first c =
+    let read = c.in_ok-object.ensures in
+    λ number offset some. ok_first c.args.bytes.now c.in_ok-object.object read.0 read.1 (number, offset) some

@@ -3,8 +3,8 @@ use Rattle.mm_model.specs.Image.{start}
 use Rattle.mm_model.specs.State.{State}
 use Rattle.mm_machine.specs.Machine.{StandsFor}
 use Rattle.mm_machine.specs.Snapshot.{IsSnapshotOf, IsTyped}
-use Rattle.mm_sched.specs.Orders.{items_of}
 use Rattle.mm_checkpoint.proofs.Reached.{snapshots}
+use Rattle.mm_top.specs.Plans.{items_planned}
 use Rattle.mm_top.proofs.Reported.{start_cycles, ends_cut}
 use Rattle.mm_top.proofs.Issued.{issued_from_start, few_items, saved_from_start}
 use Rattle.mm_top.proofs.save.write_saved.Goals as goal
@@ -14,24 +14,26 @@ issue-last-requires-clause-few g c = omega (arith, c.requires, start_cycles _ _ 
 
 pub write-requires : goal.write-requires
 write-requires g c =
-    let i = c.args.image.now in
-    let items = items_of c.args.order.now (start i) c.args.cycles in
-    let stands : StandsFor i items c.issue-last.new.machine = issued_from_start i c.args.order.now c.args.cycles c.in_ok-machine.machine c.issue-last.new.machine c.in_ok-machine.ensures.stands c.issue-last.ensures.goes in
-    let few = few_items c.args.order.now (start i) c.args.cycles in
-    snapshots i items c.in_ok-snapshot.snapshot _ c.in_ok-machine.ensures.image (omega (arith, few, c.requires))
+    let p = c.args.plan.now in
+    let i = p.image in
+    let stands : StandsFor i (items_planned p) c.issue-last.new.machine = issued_from_start i p.order p.cycles c.in_ok-machine.machine c.issue-last.new.machine c.in_ok-machine.ensures.stands c.issue-last.ensures.goes in
+    let few = few_items p.order (start i) p.cycles in
+    snapshots i (items_planned p) c.in_ok-snapshot.snapshot _ c.in_ok-machine.ensures.image (omega (arith, few, c.requires))
     (subst (λ (s : State). IsSnapshotOf s c.in_ok-snapshot.snapshot) stands.state c.in_ok-snapshot.ensures.state) (subst IsTyped c.snapshot-2.view_is c.snapshot-2.invariant.1) c.issue-last.ensures.slot
 
 pub returns-in_err-write_all : goal.returns-in_err-write_all
 returns-in_err-write_all g c =
+    let p = c.args.plan.now in
     ends_cut {T = Unit {0}} _ _ _ _ _
-    (saved_from_start c.args.image.now c.args.order.now c.args.cycles c.in_ok-machine.machine c.issue-last.new.machine c.in_ok-snapshot.snapshot c.issue-last.result _
+    (saved_from_start p.image p.order p.cycles c.in_ok-machine.machine c.issue-last.new.machine c.in_ok-snapshot.snapshot c.issue-last.result _
     c.in_ok-machine.ensures.image c.in_ok-machine.ensures.stands c.issue-last.ensures.goes c.issue-last.ensures.last c.in_ok-snapshot.ensures.state (c.as_slice.ensures.value ∙ c.in_ok-bytes.ensures.written))
     c.in_err-write_all.ensures c.from_residual-in_err-write_all.ensures.1
 
 pub returns : goal.returns
-returns g c = (
-  c.as_slice.result.now,
-  saved_from_start c.args.image.now c.args.order.now c.args.cycles c.in_ok-machine.machine c.issue-last.new.machine c.in_ok-snapshot.snapshot c.issue-last.result _
-      c.in_ok-machine.ensures.image c.in_ok-machine.ensures.stands c.issue-last.ensures.goes c.issue-last.ensures.last c.in_ok-snapshot.ensures.state (c.as_slice.ensures.value ∙ c.in_ok-bytes.ensures.written),
-  c.in_ok-write_all.ensures.whole,
-)
+returns g c =
+    let p = c.args.plan.now in (
+      c.as_slice.result.now,
+      saved_from_start p.image p.order p.cycles c.in_ok-machine.machine c.issue-last.new.machine c.in_ok-snapshot.snapshot c.issue-last.result _
+          c.in_ok-machine.ensures.image c.in_ok-machine.ensures.stands c.issue-last.ensures.goes c.issue-last.ensures.last c.in_ok-snapshot.ensures.state (c.as_slice.ensures.value ∙ c.in_ok-bytes.ensures.written),
+      c.in_ok-write_all.ensures.whole,
+    )

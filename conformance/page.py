@@ -1,0 +1,92 @@
+"""The part of docs/STRENGTH.md that `conformance/strength` writes: how many bugs are found, and a table of each."""
+
+import os
+import statistics
+import textwrap
+from collections import Counter
+
+from planted import GROUPS, PLANTED, TOP, bugs, reasons
+
+PAGE = os.path.join(TOP, "docs", "STRENGTH.md")
+BEGIN, END = "<!-- conformance/strength writes from here -->", "<!-- to here -->"
+WIDTH = 120
+HEADS = ("bug", "the suite", "case, or why not", "cases", "lockstep")
+NOTHING = ("", "", "", "")
+NONE_OF = "none of "
+
+
+def rows():
+    """The rows that stand on the page, of the bugs that were tried."""
+    if not os.path.isfile(PAGE):
+        return {}
+    with open(PAGE, encoding="utf-8") as lines:
+        cells = [[cell.strip() for cell in line.split("|")[1:-1]] for line in lines if line.startswith("| ")]
+    return {row[0]: tuple(row[1:]) for row in cells if len(row) == len(HEADS) and "/" in row[0] and row[1]}
+
+
+def row_of(name, results, why):
+    """The cells of a bug: what the suite found, and what random cases did."""
+    found, more = results.get((name, "suite")), results.get((name, "lockstep"))
+    if not found:
+        return NOTHING
+    case = found["case"] or why.get(name, "")
+    return found["result"], case, str(found["differing"] or ""), lockstep_cell(more)
+
+
+def lockstep_cell(row):
+    """How many random cases it took."""
+    if not row:
+        return ""
+    if row["result"] == "SAME PROGRAM":
+        return "-"
+    if row["result"] == "COUNTS":
+        return f"counts {row['place']}"
+    return str(row["place"]) if row["result"] == "FOUND" else f"{NONE_OF}{row['tried']}"
+
+
+def table(group, names, found):
+    """The table of a crate's bugs, or of those that were planted."""
+    title = f"Planted for this: {len(names)}" if group == PLANTED else f"{group}: {len(names)} wrong bodies"
+    lines = [f"### {title}", "", f"| {' | '.join(HEADS)} |", "|---|---|---|---|---|"]
+    for name in names:
+        lines.append(" ".join(f"| {' | '.join([name, *found[name]])} |".split()))
+    return [*lines, ""]
+
+
+def totals(found):
+    """How many bugs the suite finds, and random cases."""
+    results = Counter(row[0] or "not tried yet" for row in found.values())
+    counted = ", ".join(f"{number} {result}" for result, number in results.most_common())
+    once = sum(row[2] == "1" for row in found.values())
+    yield from textwrap.wrap(f"Of {len(found)} bugs: {counted}. One case alone finds {once} of them.", WIDTH)
+    places = {name: int(row[3]) for name, row in found.items() if row[3].isdigit()}
+    if not places:
+        return
+    alone = [name for name in places if found[name][0] != "FOUND"]
+    missed = [name for name, row in found.items() if row[0] == "FOUND" and row[3] and name not in places]
+    half, last = statistics.median_low(places.values()), max(places.values())
+    tried = max((int(row[3].removeprefix(NONE_OF)) for row in found.values() if row[3].startswith(NONE_OF)), default=0)
+    said = f"Random cases find {len(places)} bugs, half of these within {half} cases, the last one after {last}."
+    if tried:
+        said += f" Up to {tried} cases were tried."
+    said += f" They miss {len(missed) or 'none'} that the suite finds, and find {len(alone) or 'none'} that it misses."
+    yield ""
+    yield from textwrap.wrap(said, WIDTH)
+
+
+def write(results):
+    """Writes the part: what the results say, and what stands there of other bugs."""
+    before, why = rows(), reasons()
+    found = {}
+    for name in bugs():
+        row = row_of(name, results, why)
+        found[name] = row if row[0] else before.get(name, NOTHING)
+    lines = [BEGIN, "", *totals(found), ""]
+    for group in GROUPS:
+        lines += table(group, [name for name in found if name.startswith(f"{group}/")], found)
+    with open(PAGE, encoding="utf-8") as file:
+        text = file.read()
+    if BEGIN not in text or END not in text:
+        raise ValueError(f"{PAGE} has no place for the tables")
+    with open(PAGE, "w", encoding="utf-8") as file:
+        file.write(text.partition(BEGIN)[0] + "\n".join([*lines, END]) + text.partition(END)[2])

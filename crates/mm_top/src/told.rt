@@ -1,0 +1,89 @@
+//! Runs with lines of their own for each cycle, and then the report.
+
+ghost use Rattle.std.specs.Prelude.{◌≡◌, ◌≤◌, ◌++◌, ◌^◌, ◌+◌, List, ℕ};
+ghost use Rattle.mm_io.specs.Sinks.{Writes};
+ghost use Rattle.mm_text.specs.Gathers.{Gathers};
+ghost use Rattle.mm_model.specs.Image.{Image as ImageValue, start};
+ghost use Rattle.mm_machine.specs.Machine.{state_of, StandsFor};
+ghost use Rattle.mm_sched.specs.Orders.{items_of};
+ghost use Rattle.mm_top.specs.Commands.{report_after};
+ghost use Rattle.mm_top.specs.Plans.{items_planned, told_of};
+ghost use Rattle.mm_top.specs.Answers.{EndsWith, writing};
+
+use crate::boot::boot;
+use crate::plan::Plan;
+use mm_io::{Sink, WriteFault};
+use mm_load::{Stop, ended};
+use mm_log::{issue_logged, issue_traced};
+use mm_machine::Machine;
+use mm_mem::{Boot, Inspect};
+use mm_report::report;
+use mm_sched::Order;
+use mm_text::Gather;
+use std::alloc::Global;
+
+/// What is told of each cycle.
+#[derive(Clone, Copy)]
+pub enum Told {
+    /// The line of its turn.
+    Turn,
+    /// The line of its turn, and all that the turn changed.
+    Changes,
+}
+
+/// Writes what is told of each cycle of a plan, and then the report.
+pub fn write_told<M: Boot, O: Sink>(
+    alloc: Global,
+    plan: &Plan,
+    told: Told,
+    out: &mut O,
+) -> Result<(), Stop>
+    requires { plan.now.cycles ≤ 1000000 }
+    ensures { let items = items_planned plan.now in
+        EndsWith (writing O.taken O.faults out.old out.new)
+        (λ text. text ≡ told_of told (start plan.now.image) items ++ report_after M.tells plan.now.image items) result }
+{
+    let mut machine: Machine<M> = boot(alloc, &plan.image)?;
+    write_lines(&mut machine, &plan.order, plan.cycles, told, out)?;
+    ended(report(&machine, &plan.image, out))
+}
+
+/// Issues up to `count` cycles in an order, and writes what is told of each.
+fn write_lines<M: Inspect, O: Sink>(
+    machine: &mut Machine<M>,
+    order: &Order,
+    count: u64,
+    told: Told,
+    out: &mut O,
+) -> Result<(), WriteFault>
+    requires { (state_of machine.old).cycles + count ≤ 2 ^ 32 }
+    ensures goes { (i : ImageValue) (before : List ℕ) → StandsFor i before machine.old
+        → StandsFor i (before ++ items_of order.now (state_of machine.old) count) machine.new }
+    ensures lines { Writes O.taken O.faults out.old out.new
+        (told_of told (state_of machine.old) (items_of order.now (state_of machine.old) count)) result }
+{
+    let mut text = Gather::new();
+    issue_told(machine, order, count, told, &mut text, out);
+    text.finish(out)
+}
+
+/// Issues up to `count` cycles in an order, and appends what is told of each.
+fn issue_told<M: Inspect, O: Sink>(
+    machine: &mut Machine<M>,
+    order: &Order,
+    count: u64,
+    told: Told,
+    text: &mut Gather,
+    out: &mut O,
+)
+    requires { (state_of machine.old).cycles + count ≤ 2 ^ 32 }
+    ensures goes { (i : ImageValue) (before : List ℕ) → StandsFor i before machine.old
+        → StandsFor i (before ++ items_of order.now (state_of machine.old) count) machine.new }
+    ensures lines { Gathers O.taken O.faults out.old out.new text.old text.new
+        (told_of told (state_of machine.old) (items_of order.now (state_of machine.old) count)) }
+{
+    match told {
+        Told::Turn => issue_traced(machine, order, count, text, out),
+        Told::Changes => issue_logged(machine, order, count, text, out),
+    }
+}

@@ -1,0 +1,304 @@
+.segment ben_text 11
+start:
+  ldi r0, 1
+  ldi r1, 0
+  lip r14, 2
+  br ben_main
+  halt
+ben_main:
+  ;@ function main at examples/c/ben.c:8
+  ;@ inlined 1 say_number at examples/c/ben.c:12
+  ;@ inlined 2 say at examples/c/ben.c:15
+  ;@ inlined 3 say_number at examples/c/ben.c:16
+  ;@ frame back 56 caller at 64
+  ;@ local digits 20 at 104 log 5 type 6 in 3
+  ;@ local digits 20 at 136 log 5 type 6 in 1
+  ;@ local bits 8 at 72 log 3 type 4
+  ldi r13, 31
+  and r13, r15, r13
+  ldi r12, -160
+  sub r13, r12, r13
+  lea r12, r15, r13
+  st r12, r15, 64, any, keep
+  mov r15, r12
+  st r15, r7, 16, any, keep
+  st r15, r8, 24, any, keep
+  st r15, r9, 32, any, keep
+  st r15, r10, 40, any, keep
+  st r15, r11, 48, any, keep
+  st r15, r14, 56, any, keep
+  leai r8, r15, 104
+  ldi r14, 5
+  subseg r8, r8, r14
+  leai r12, r15, 136
+  ldi r14, 5
+  subseg r12, r12, r14
+  st r15, r12, 0, any, keep
+  ldi r9, 10
+  ldi r11, 3
+  ldi r10, -8
+  ;@ line examples/c/ben.c:10
+  lip r13, P_0
+  ld r13, r13, 0, any, keep
+  jal r14, r13
+  st r15, r0, 8, any, keep
+  ;@ line examples/c/ben.c:11
+  ;@ var key 1 s8
+  lip r13, P_1
+  ld r13, r13, 0, any, keep
+  ld r0, r15, 8, any, keep
+  ldi r1, 77
+  jal r14, r13
+  ;@ line examples/c/ben.c:12
+  lip r13, P_2
+  ld r13, r13, 0, any, keep
+  ld r0, r15, 8, any, keep
+  jal r14, r13
+  ;@ line examples/c/say.h:15 in 1
+  ;@ var number 2 r0 in 1
+  ;@ var length 3 0 in 1
+  ldi r12, 0
+  sub r2, r12, r0
+  ldi r13, 0
+  lts r1, r0, r13
+  mov r7, r2
+  bnz r1, L21
+  mov r7, r0
+L21:
+  ;@ line examples/c/say.h:16 in 1
+  ;@ var rest 4 r7 in 1
+  ldi r13, 0
+  lts r0, r0, r13
+  ;@ var number 2 - in 1
+  bz r0, L3
+L2:
+  ;@ line examples/c/say.h:17 in 1
+  ldi r0, 45
+  lip r14, 2
+  br ben_putchar
+L3:
+  ldi r1, 0
+L4:
+  ;@ line examples/c/say.h:20 in 1
+  ;@ var length 3 r1 in 1
+  divu r5, r7, r9
+  mul r0, r5, r9
+  sub r0, r7, r0
+  ;@ line examples/c/say.h:19 in 1
+  ldi r13, 48
+  or r4, r0, r13
+  addi r6, r1, 1
+  ;@ var length 3 r6 in 1
+  addi r1, r1, 8
+  and r0, r1, r10
+  ld r12, r15, 0, any, keep
+  leab r3, r12, r0
+  shl r2, r1, r11
+  ld r1, r3, 0, any, keep
+  shr r0, r1, r2
+  xor r0, r0, r4
+  ldi r13, 255
+  and r0, r0, r13
+  shl r0, r0, r2
+  xor r0, r1, r0
+  st r3, r0, 0, any, keep
+  ;@ var rest 4 r5 in 1
+  ltu r0, r7, r9
+  bnz r0, L5
+L16:
+  mov r1, r6
+  ;@ var length 3 - in 1
+  mov r7, r5
+  ;@ var rest 4 - in 1
+  br L4
+L5:
+  ;@ line examples/c/say.h:21 in 1
+  ;@ var length 3 r6 in 1
+  ldi r13, 32
+  shl r0, r6, r13
+  ;@ var length 3 - in 1
+  ldi r13, 32
+  sar r7, r0, r13
+L6:
+  ;@ line examples/c/say.h:22 in 1
+  ;@ var length 3 r7 in 1
+  addi r7, r7, -1
+  addi r1, r7, 8
+  and r0, r1, r10
+  ld r12, r15, 0, any, keep
+  leab r0, r12, r0
+  shl r1, r1, r11
+  ld r0, r0, 0, any, keep
+  shr r0, r0, r1
+  ldi r13, 56
+  shl r0, r0, r13
+  ldi r13, 56
+  sar r0, r0, r13
+  lip r14, 2
+  br ben_putchar
+  ;@ line examples/c/say.h:21 in 1
+  bnz r7, L6
+L7:
+  ;@ line examples/c/ben.c:13
+  ;@ var length 3 - in 1
+  ld r12, r15, 8, any, keep
+  st r15, r12, 72, any, keep
+  ;@ var key 1 -
+  ;@ var by 2 -8
+  st r15, r10, 0, any, keep
+  ;@ line examples/c/ben.c:14
+  br L9
+L8:
+  ;@ line examples/c/ben.c:18
+  ;@ var by 2 -
+  ldi r0, 0
+  ld r7, r15, 16, any, keep
+  ld r8, r15, 24, any, keep
+  ld r9, r15, 32, any, keep
+  ld r10, r15, 40, any, keep
+  ld r11, r15, 48, any, keep
+  ld r14, r15, 56, any, keep
+  ld r15, r15, 64, any, keep
+  jmp r14
+L9:
+  ;@ line examples/c/say.h:8 in 2
+  ;@ var by 2 s0
+  lip r12, P_3
+  ld r12, r12, 0, any, keep
+  ld r1, r12, 0, any, keep
+  ldi r0, 32
+  lip r14, 2
+  br ben_fputc
+  ;@ line examples/c/ben.c:16
+  ld r0, r15, 72, any, keep
+  ld r13, r15, 0, any, keep
+  add r0, r0, r13
+  lip r13, P_2
+  ld r13, r13, 0, any, keep
+  jal r14, r13
+  ;@ line examples/c/say.h:15 in 3
+  ;@ var number 2 r0 in 3
+  ;@ var length 3 0 in 3
+  ldi r12, 0
+  sub r2, r12, r0
+  ldi r13, 0
+  lts r1, r0, r13
+  mov r7, r2
+  bnz r1, L22
+  mov r7, r0
+L22:
+  ;@ line examples/c/say.h:16 in 3
+  ;@ var rest 4 r7 in 3
+  ldi r13, 0
+  lts r0, r0, r13
+  ;@ var number 2 - in 3
+  bz r0, L11
+L10:
+  ;@ line examples/c/say.h:17 in 3
+  ldi r0, 45
+  lip r14, 2
+  br ben_putchar
+L11:
+  ldi r1, 0
+L12:
+  ;@ line examples/c/say.h:20 in 3
+  ;@ var length 3 r1 in 3
+  divu r5, r7, r9
+  mul r0, r5, r9
+  sub r0, r7, r0
+  ;@ line examples/c/say.h:19 in 3
+  ldi r13, 48
+  or r4, r0, r13
+  addi r6, r1, 1
+  ;@ var length 3 r6 in 3
+  addi r1, r1, 8
+  and r0, r1, r10
+  leab r3, r8, r0
+  shl r2, r1, r11
+  ld r1, r3, 0, any, keep
+  shr r0, r1, r2
+  xor r0, r0, r4
+  ldi r13, 255
+  and r0, r0, r13
+  shl r0, r0, r2
+  xor r0, r1, r0
+  st r3, r0, 0, any, keep
+  ;@ var rest 4 r5 in 3
+  ltu r0, r7, r9
+  bnz r0, L13
+L18:
+  mov r1, r6
+  ;@ var length 3 - in 3
+  mov r7, r5
+  ;@ var rest 4 - in 3
+  br L12
+L13:
+  ;@ line examples/c/say.h:21 in 3
+  ;@ var length 3 r6 in 3
+  ldi r13, 32
+  shl r0, r6, r13
+  ;@ var length 3 - in 3
+  ldi r13, 32
+  sar r7, r0, r13
+L14:
+  ;@ line examples/c/say.h:22 in 3
+  ;@ var length 3 r7 in 3
+  addi r7, r7, -1
+  addi r1, r7, 8
+  and r0, r1, r10
+  leab r0, r8, r0
+  shl r1, r1, r11
+  ld r0, r0, 0, any, keep
+  shr r0, r0, r1
+  ldi r13, 56
+  shl r0, r0, r13
+  ldi r13, 56
+  sar r0, r0, r13
+  lip r14, 2
+  br ben_putchar
+  ;@ line examples/c/say.h:21 in 3
+  bnz r7, L14
+L15:
+  ;@ line examples/c/ben.c:14
+  ;@ var length 3 - in 3
+  ld r12, r15, 0, any, keep
+  addi r1, r12, 8
+  ;@ var by 2 r1
+  ld r12, r15, 0, any, keep
+  ldi r13, 1
+  lts r0, r12, r13
+  bz r0, L8
+L20:
+  st r15, r1, 0, any, keep
+  ;@ var by 2 -
+  br L9
+ben_fputc:
+  out r0
+  ldi r13, 255
+  and r0, r0, r13
+  jmp r14
+ben_putchar:
+  out r0
+  ldi r13, 255
+  and r0, r0, r13
+  jmp r14
+P_0: .ptr eu door_open_drawer_ben+16
+P_1: .ptr eu door_put_in_ben+16
+P_2: .ptr eu door_look_in_ben+16
+P_3: .ptr rw ben_stdout+0
+.segment ben_stdout 3
+  ;@ global stdout 8 at 0
+  .ptr rw ben_files+8
+.segment ben_files 4
+  ;@ global files 12 at 4
+  .fill 1
+  .int 0x200000001
+.segment ben_stack 16
+.thread 1 1 none xu start
+.reg 15 ptr rw ben_stack+65472
+;@ type 1 pointer 0
+;@ type 2 base i8 long
+;@ type 3 base i4 int
+;@ type 4 base u8 unsigned long
+;@ type 5 base i1 char
+;@ type 6 array 20 5
