@@ -23,16 +23,6 @@ abbrev pub Gives : {X : Type 0} → Option Pair → X → Result X AsmError → 
 Gives fault value (Ok x) = (fault ≡ None) × (x ≡ value)
 Gives fault value (Err e) = Fails fault e
 
--- the answer is this value, unless memory ran out
-abbrev pub IsUnlessNoMemory : {X : Type 0} → X → Result X AsmError → Type 0
-IsUnlessNoMemory value (Ok x) = x ≡ value
-IsUnlessNoMemory value (Err e) = e ≡ errors.NoMemory
-
--- the answer is a fault of this number at this place, unless memory ran out
-abbrev pub FailsUnlessNoMemory : {X : Type 0} → Pair → Result X AsmError → Type 0
-FailsUnlessNoMemory fault (Ok x) = ⊥
-FailsUnlessNoMemory fault (Err e) = Fails (Some fault) e
-
 -- the function fails only for want of memory
 abbrev pub IsNoMemory : {X : Type 0} → Result X AsmError → Type 0
 IsNoMemory (Ok x) = Unit {0}

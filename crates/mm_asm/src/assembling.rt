@@ -1,6 +1,8 @@
 //! The assembler.
 
 ghost use Rattle.std.specs.Prelude.{◌≡◌, ◌<◌, ◌≤◌, ◌-◌, ◌^◌, ℕ, Some, Err, IfOk, map, length, MatchResult};
+ghost use Rattle.std.specs.Result.{IsErrAnd};
+ghost use Rattle.mm_model.specs.Answers.{IsUnless};
 ghost use Rattle.mm_line.specs.Faults.{number_of};
 ghost use Rattle.mm_line.specs.declared.fault.Fault.{Fault as FaultValue};
 ghost use Rattle.mm_draft.specs.Laws.{Pair, failure_pair, least};
@@ -12,7 +14,7 @@ ghost use Rattle.mm_asm.specs.Fits.{FitsSegment, FitsPointers, FitsThread};
 ghost use Rattle.mm_draft.specs.Drafts.{Segment as SegmentValue};
 ghost use Rattle.mm_asm.specs.Bounds.{IsDraft};
 ghost use Rattle.mm_asm.specs.Sources.{IsSmallError, IsFromSmall};
-ghost use Rattle.mm_asm.specs.Answers.{Fails, Gives, IsNoMemory, IsUnlessNoMemory, FailsUnlessNoMemory, pair_of_error};
+ghost use Rattle.mm_asm.specs.Answers.{Fails, Gives, IsNoMemory, pair_of_error};
 ghost use Rattle.mm_asm.specs.Faults.{Means, first_fault, late_failures};
 ghost use Rattle.mm_asm.specs.Meaning.{object_of};
 ghost use Rattle.mm_asm.specs.Names.{externals_of};
@@ -36,13 +38,13 @@ pub fn assemble(alloc: Global, text: &[u8]) -> Result<Object, AsmError>
 
     // The object that is answered is meant by the text, and an object that the text means is answered.
     ensures means { IfOk result (λ o. Means text.now o) }
-    ensures again { (o : ObjectValue) → Means text.now o → IsUnlessNoMemory o result }
+    ensures again { (o : ObjectValue) → Means text.now o → IsUnless AsmError.NoMemory o result }
 
     // A fault that is answered is the first one, and if there is one it is answered.
     ensures fault { (kind : FaultValue) (line column : ℕ)
         → result ≡ Err (AsmError.Fault kind line column)
         → first_fault text.now ≡ Some (record { line = line; column = column; number = number_of kind }) }
-    ensures first { (p : Pair) → first_fault text.now ≡ Some p → FailsUnlessNoMemory p result }
+    ensures first { (p : Pair) → first_fault text.now ≡ Some p → IsErrAnd result (Fails (Some p)) }
 {
     match read_draft(alloc, text) {
         Ok(draft) => assemble_draft(alloc, &draft),

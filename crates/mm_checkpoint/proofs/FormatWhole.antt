@@ -7,7 +7,7 @@ use Rattle.std.specs.{Int.{w16, w32, w64, to_be_bytes}, List.{flat_map, AllByRec
 use Rattle.mm_word.specs.{declared.word.{Word.Word, Cell.Cell}, Pointer.bits_of, Word.{word_bits, is_pointer}}
 use Rattle.mm_model.specs.declared.{event.Event.Event, slot.{Pending.Pending, SlotState.TheVariants.Taken}}
 use Rattle.mm_model.specs.{Flags.{flags, number_of_flags, one_if}, Fits.identity_of, Image.{Image, output_limit}}
-use Rattle.mm_model.specs.{Places.IsBytes, Slot.Slot, Spelling.{IsImage, numbers_of, words_spelling, page_record}}
+use Rattle.mm_model.specs.{Bytes.IsBytes, Slot.Slot, Spelling.{IsImage, numbers_of, words_spelling, page_record}}
 use Rattle.mm_model.{specs.Typed.IsTypedSlot, proofs.{CoreRows.{each_map, by_identities}, OwnSlots.{Ascends, ascends}}}
 use Rattle.mm_model.proofs.ImageBytes.{Clean.is_above, Ranges.map-map, Rising.AreRisingFrom}
 use Rattle.mm_model.proofs.ImageBytes.SpelledRecords.{not_le, not_lt}
@@ -428,9 +428,6 @@ module _ (i : Image) (image : IsImage i) (p : Parts) (last : Option ℕ) (ck : I
 
 -- 4. The laws.
 
-pub same_value : {A : Type 0} {a b : A} {m n : ℕ} → Got a m ≡ Got b n → a ≡ b
-same_value e = cc
-
 module _ (i : Image) (bytes : List ℕ) (image : IsImage i) where
   -- parts that the bytes say are saved by them
   pub are_saved : IsBytes bytes → (p : Parts) (last : Option ℕ) (next : ℕ) → said_of i bytes ≡ Got (saved_of p last) next
@@ -440,7 +437,7 @@ module _ (i : Image) (bytes : List ℕ) (image : IsImage i) where
       let a = after_got (file (checkpoint i) 13 bytes) (λ c n. Got (saved_in c) n) (saved_of p last) next e in
       let c = a.0 in
       let s = files.spelled_by (checkpoint i) (checkpoint_is i) 13 bytes fits c a.1 a.2 in
-      let same : saved_in c ≡ saved_of p last = same_value a.3 in
+      let same : saved_in c ≡ saved_of p last = files.same_value a.3 in
       let parts : made_parts (saved_in c) ≡ p = ap made_parts same ∙ parts_back p last in
       record {
         checkpoint = subst (λ q. IsCheckpoint i q last) parts

@@ -1,7 +1,7 @@
 -- The parts of a run's state are a snapshot of it, and spelled by bytes they are a checkpoint of its image.
 use Rattle.std.proofs.Common.{◌≡◌, ℕ, ◌<◌, List, map, Option, None, refl, ap, zero, suc, [], ◌∷◌, sym, subst, arith}
 use Rattle.std.specs.List.{AllByRecursion}
-use Rattle.mm_model.specs.{Slot.Slot, State.State, Image.start, Run.run, Fits.{slots_of, IsOfVersion}, Places.IsBytes}
+use Rattle.mm_model.specs.{Slot.Slot, State.State, Image.start, Run.run, Fits.{slots_of, IsOfVersion}, Bytes.IsBytes}
 use Rattle.mm_model.proofs.CoreRows.{each_map}
 use Rattle.mm_thread.specs.Output.{Output}
 use Rattle.mm_machine.specs.{Kept.Kept, Snapshot.{Parts, IsSnapshotOf, IsTyped}, Capture.OutputsBelow}

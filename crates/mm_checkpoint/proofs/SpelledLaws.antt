@@ -1,16 +1,17 @@
 -- Bytes have no fault exactly if they are a checkpoint of an image, and they are one at most.
 use Rattle.std.{proofs.Common.{◌≡◌, ℕ, List, None, refl, sym, ap, ◌∙◌, Option, Some}, specs.Option.option_map}
-use Rattle.mm_model.specs.{Image.Image, Places.IsBytes, Spelling.IsImage}
-use Rattle.mm_format.specs.{Formats.{Outcome, Outcome.{Got, Bad}}, Reading.Fails, declared.reader.ReadError.ReadError}
-use Rattle.mm_checkpoint.specs.{Checkpoints.Saved, Faults.{said_of, fault_of, save_fault}}
+use Rattle.mm_model.specs.{Image.Image, Bytes.IsBytes, Spelling.IsImage}
+use Rattle.mm_format.specs.{Formats.{Outcome, fault_in, Outcome.Got}, Reading.Fails, declared.reader.ReadError.ReadError}
+use Rattle.mm_format.proofs.Files.{same_value, clean_got, read_fails}
+use Rattle.mm_checkpoint.specs.{Checkpoints.Saved, Faults.{said_of, save_fault}}
 use Rattle.mm_checkpoint.specs.Laws.{SomeSaved, CheckpointsAreOne}
 use Rattle.mm_checkpoint.specs.{declared.fault.SaveError.TheVariants.{Fault, NoMemory}, Answers.FailsAt, Steps.told}
-use Rattle.mm_checkpoint.proofs.{FormatWhole.{are_saved, spelled_said, same_value}, Made.{made_parts, made_saved}}
+use Rattle.mm_checkpoint.proofs.{FormatWhole.{are_saved, spelled_said}, Made.{made_parts, made_saved}}
 use Rattle.mm_image.specs.{declared.fault.ImageFault.ImageFault, Faults.number_of}
 use Rattle.mm_format.specs.declared.reader.ReadError.TheVariants as reading
 
 abbrev place_of : Outcome Saved → Option ℕ
-place_of said = option_map (λ (fault : ℕ × ℕ). fault.1) (fault_of said)
+place_of said = option_map (λ (fault : ℕ × ℕ). fault.1) (fault_in said)
 
 pub no_fault : (i : Image) (bytes : List ℕ) → IsImage i → SomeSaved i bytes → save_fault i bytes ≡ None
 no_fault i bytes image some =
@@ -21,17 +22,18 @@ are_one i bytes p q last also image saves saves_also =
     same_value (sym (spelled_said i bytes image p last saves) ∙ spelled_said i bytes image q also saves_also)
 
 pub some_saved : (i : Image) (bytes : List ℕ) → IsImage i → IsBytes bytes → save_fault i bytes ≡ None → SomeSaved i bytes
-some_saved i bytes image fits e = by (said_of i bytes) e refl
-  where
-    by : (o : Outcome Saved) → place_of o ≡ None → said_of i bytes ≡ o
-        → SomeSaved i bytes
-    by (Got s next) e is = record {
-      parts = made_parts s;
-      last = s.last;
-      saves = are_saved i bytes image fits (made_parts s) s.last next
-          (is ∙ ap (λ (c : Saved). Got c next) (sym (made_saved s)));
+some_saved i bytes image fits e =
+    let r = clean_got (said_of i bytes) (none (fault_in (said_of i bytes)) e) in
+    record {
+      parts = made_parts r.0;
+      last = r.0.last;
+      saves = are_saved i bytes image fits (made_parts r.0) r.0.last r.1
+          (r.2 ∙ ap (λ (c : Saved). Got c r.1) (sym (made_saved r.0)));
     }
-    by (Bad number at) e is = absurd cc
+  where
+    none : (o : Option (ℕ × ℕ)) → option_map (λ (fault : ℕ × ℕ). fault.1) o ≡ None → o ≡ None
+    none None e = refl
+    none (Some fault) e = absurd cc
 
 -- What the reader answers.
 
@@ -51,6 +53,4 @@ module _ (i : Image) (bytes : List ℕ) where
   -- if there is none it is want of memory
   pub told_memory : (e : ReadError ImageFault) (s : Saved) (next : ℕ) → said_of i bytes ≡ Got s next
       → Fails number_of (said_of i bytes) e → told e ≡ NoMemory
-  told_memory (reading.Fault kind at) s next said h =
-      let both : Got s next ≡ Bad (number_of kind) at = sym said ∙ h in absurd cc
-  told_memory reading.NoMemory s next said h = refl
+  told_memory e s next said h = ap told (read_fails number_of _ e h s next said)

@@ -4,11 +4,11 @@
 -- to faults of the same kind: 1 a field that is not whole, 2 magic, 3 version, 4 a number or a flag outside its range, 7
 -- a place in a queue, 8 a state, 9 a word, 10 an instruction pointer, 11 the order of pages, 12 the count of pages, 13 a
 -- byte too many.
-use Rattle.std.specs.Prelude.{ℕ, List, Option, Some, None}
+use Rattle.std.specs.Prelude.{ℕ, List, Option}
 use Rattle.std.specs.Option.{option_map}
 use Rattle.mm_model.specs.Image.{Image}
-use Rattle.mm_format.specs.Formats.{Outcome, after, file}
-use Rattle.mm_format.specs.Formats.Outcome.{Got, Bad}
+use Rattle.mm_format.specs.Formats.{Outcome, after, file, fault_in}
+use Rattle.mm_format.specs.Formats.Outcome.{Got}
 use Rattle.mm_checkpoint.specs.Checkpoints.{Saved}
 use Rattle.mm_checkpoint.specs.Format.{checkpoint, saved_in}
 
@@ -16,14 +16,9 @@ use Rattle.mm_checkpoint.specs.Format.{checkpoint, saved_in}
 unfoldable pub said_of : Image → List ℕ → Outcome Saved
 said_of i bytes = after (file (checkpoint i) 13 bytes) (λ contents next. Got (saved_in contents) next)
 
--- the fault that reading gives, if it gives one
-abbrev pub fault_of : {A : Type 0} → Outcome A → Option (ℕ × ℕ)
-fault_of (Got value next) = None
-fault_of (Bad number at) = Some (number, at)
-
 -- the number and the offset of the first fault, if there is one
 abbrev pub first_fault : Image → List ℕ → Option (ℕ × ℕ)
-first_fault i bytes = fault_of (said_of i bytes)
+first_fault i bytes = fault_in (said_of i bytes)
 
 -- the offset of the first fault, if there is one
 abbrev pub save_fault : Image → List ℕ → Option ℕ

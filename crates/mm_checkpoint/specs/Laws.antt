@@ -1,7 +1,7 @@
 -- Laws of checkpoints.
 use Rattle.std.specs.Prelude.{◌≡◌, ◌↔◌, ℕ, ◌+◌, ◌<◌, ◌≤◌, List, ◌++◌, length, Option, None, IfSome}
 use Rattle.mm_model.specs.Image.{Image, start}
-use Rattle.mm_model.specs.Places.{IsBytes}
+use Rattle.mm_model.specs.Bytes.{IsBytes}
 use Rattle.mm_model.specs.Run.{run, robin_from, last_item}
 use Rattle.mm_model.specs.Spelling.{IsImage}
 use Rattle.mm_model.specs.State.{State}

@@ -1,12 +1,14 @@
 -- Whole files: what a format is there and back.
-use Rattle.std.proofs.Common.{◌≡◌, ℕ, ◌+◌, ◌≤◌, Bool, true, false, cond, ltb, List, length, take, Option, Some, None}
-use Rattle.std.proofs.Common.{refl}
+use Rattle.std.proofs.Common.{◌≡◌, ℕ, ◌+◌, ◌≤◌, Bool, true, false, cond, ltb, List, length, take, Some, None, refl}
 use Rattle.std.proofs.Common.{sym, ap, ◌∙◌, arith}
 use Rattle.std.proofs.lemmas.Bool.{ltb-false, le-ltb}
 use Rattle.std.proofs.lemmas.List.{take_all}
-use Rattle.mm_model.specs.Places.{IsBytes}
-use Rattle.mm_format.specs.Formats.{Format, IsFormat, Stands, answer, file, RoundTrips, IsOneToOne}
+use Rattle.mm_model.specs.Bytes.{IsBytes}
+use Rattle.mm_format.specs.declared.reader.ReadError.{ReadError}
+use Rattle.mm_format.specs.declared.reader.ReadError.TheVariants.{Fault, NoMemory}
+use Rattle.mm_format.specs.Formats.{Outcome, Format, IsFormat, Stands, file, fault_in, RoundTrips, IsOneToOne}
 use Rattle.mm_format.specs.Formats.Outcome.{Got, Bad}
+use Rattle.mm_format.specs.Reading.{Fails, Names}
 use Rattle.mm_format.proofs.Formats.{after_got}
 
 module _ {A : Type 0} (f : Format A) (is : IsFormat f) where
@@ -54,16 +56,23 @@ module _ {A : Type 0} (f : Format A) (is : IsFormat f) where
       value : {m n : ℕ} → Got a m ≡ Got b n → a ≡ b
       value e = cc
 
-  -- bytes that are read as this list of tests and this value say
-  module _ (trailing : ℕ) (bytes : List ℕ) (fault : Option (ℕ × ℕ)) (value : A) (end : ℕ)
-      (says : file f trailing bytes ≡ answer fault value end) where
-    pub spelled_clean : IsBytes bytes → fault ≡ None → f.Fits value × (bytes ≡ f.spell value)
-    spelled_clean fits none =
-        spelled_by trailing bytes fits value end (says ∙ ap (λ o. answer o value end) none)
+-- what was read, and its fault
+module _ {A : Type 0} where
+  pub same_value : {a b : A} {m n : ℕ} → Got a m ≡ Got b n → a ≡ b
+  same_value e = cc
 
-    pub read_again : (a : A) → f.Fits a → bytes ≡ f.spell a → (fault ≡ None) × (value ≡ a)
-    read_again a fits same = found fault (sym says ∙ read_whole trailing bytes a fits same)
-      where
-        found : (o : Option (ℕ × ℕ)) → answer o value end ≡ Got a (length bytes) → (o ≡ None) × (value ≡ a)
-        found None e = (refl, cc)
-        found (Some x) e = absurd cc
+  pub clean_got : (o : Outcome A) → fault_in o ≡ None → (a : A) × (next : ℕ) × (o ≡ Got a next)
+  clean_got (Got a next) none = (a, next, refl)
+  clean_got (Bad number at) none = absurd cc
+
+  -- an error of a reader: if something is read, memory ran out; if there is a fault, it names it, or memory ran out
+  module _ {K : Type 0} (number : K → ℕ) (o : Outcome A) where
+    pub read_fails : (e : ReadError K) → Fails number o e → (a : A) (next : ℕ) → o ≡ Got a next → e ≡ NoMemory
+    read_fails NoMemory h a next e = refl
+    read_fails (Fault kind offset) h a next e =
+        let both : Got a next ≡ Bad (number kind) offset = sym e ∙ h in absurd cc
+
+    pub bad_fails : (e : ReadError K) → Fails number o e → (fault : ℕ × ℕ) → fault_in o ≡ Some fault
+        → Names number (Some fault) e
+    bad_fails NoMemory h fault some = tt
+    bad_fails (Fault kind offset) h fault some = sym some ∙ ap fault_in h

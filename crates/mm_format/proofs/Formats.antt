@@ -6,7 +6,7 @@ use Rattle.std.specs.Str.{bytes_eq}
 use Rattle.std.proofs.lemmas.Bool.{ltb-false, le-ltb}
 use Rattle.std.proofs.lemmas.List.{length-append, length-take, length-drop}
 use Rattle.std.proofs.lemmas.Slice.Eq.{bytes_eq-Decides}
-use Rattle.mm_model.specs.Places.{IsBytes, number_at}
+use Rattle.mm_model.specs.Bytes.{IsBytes, number_at}
 use Rattle.mm_model.proofs.ImageBytes.Numbers.{number_is_4}
 use Rattle.mm_model.proofs.ImageBytes.Parts.{join_at, length-part, IsBytes-part, one_byte, two_bytes, four_bytes}
 use Rattle.mm_model.proofs.ImageBytes.Parts.{eight_bytes, below_8, below_16, below_64}

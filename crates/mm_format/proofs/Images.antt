@@ -14,7 +14,7 @@ use Rattle.mm_model.specs.declared.slot.SlotState.TheVariants.{Running, Halted}
 use Rattle.mm_model.specs.Flags.{number_of_flags}
 use Rattle.mm_model.specs.Slot.{Slot}
 use Rattle.mm_model.specs.Image.{Image, slot_limit}
-use Rattle.mm_model.specs.Places.{IsBytes, bit_at}
+use Rattle.mm_model.specs.Bytes.{IsBytes, bit_at}
 use Rattle.mm_model.specs.Spelling.{handler_byte, state_byte, bitmap}
 use Rattle.mm_model.proofs.ImageBytes.Clean.{neither, not_not, is_above, is_not}
 use Rattle.mm_model.proofs.ImageBytes.CleanWords.{bits_again}

@@ -24,10 +24,9 @@ use Rattle.mm_model.specs.Flags.{flags, number_of_flags}
 use Rattle.mm_model.specs.Memory.{IsPage}
 use Rattle.mm_model.specs.Slot.{Slot}
 use Rattle.mm_model.specs.Image.{Image, slot_limit, frame_limit, none_empty}
-use Rattle.mm_model.specs.Places.{IsBytes, bit_at}
+use Rattle.mm_model.specs.Bytes.{IsBytes, bit_at}
 use Rattle.mm_model.specs.Spelling.{Begins, IsFresh, IsImage, HoldsWords, mode_of, handler_byte}
-use Rattle.mm_model.specs.Spelling.{state_byte, bitmap}
-use Rattle.mm_model.specs.ImageFaults.{is_bad_handler}
+use Rattle.mm_model.specs.Spelling.{state_byte, bitmap, is_bad_handler}
 use Rattle.mm_model.proofs.ImageBytes.Apart.{number_of_flags-below, bit_at-bitmap}
 use Rattle.mm_model.proofs.ImageBytes.Clean.{neither, not_not, is_above, is_below}
 use Rattle.mm_model.proofs.ImageBytes.CleanRecords.{handler_is_other}

@@ -1,31 +1,15 @@
 -- The laws of image files, by their format.
-use Rattle.std.proofs.Common.{◌≡◌, ℕ, ◌+◌, Bool, List, [], ◌∷◌, ◌++◌, length, map, None, refl, sym, ap}
-use Rattle.std.proofs.Common.{◌∙◌, append_assoc}
-use Rattle.std.specs.List.{flat_map}
-use Rattle.std.specs.Int.{w16, w64, to_be_bytes}
+use Rattle.std.proofs.Common.{◌≡◌, ℕ, Bool, List, [], ◌∷◌, ◌++◌, length, map, None, refl, sym, ap, ◌∙◌, append_assoc}
+use Rattle.std.specs.{List.flat_map, Int.{w16, w64, to_be_bytes}}
 use Rattle.std.proofs.lemmas.List.{append-nil, length-map}
-use Rattle.mm_word.specs.declared.word.Word.{Word}
-use Rattle.mm_word.specs.declared.word.Cell.{Cell}
-use Rattle.mm_word.specs.Pointer.{bits_of}
-use Rattle.mm_word.specs.Word.{word_bits, is_pointer}
-use Rattle.mm_model.specs.Flags.{number_of_flags}
-use Rattle.mm_model.specs.Slot.{Slot}
-use Rattle.mm_model.specs.Image.{Image, slot_limit}
-use Rattle.mm_model.specs.Places.{Place, first_bad, IsBytes, end_places}
-use Rattle.mm_model.specs.ImageReading.{page_offset, version_of, slots_of, pages_of, slots_at, image_of}
-use Rattle.mm_model.specs.ImageFaults.{header_places, slots_places, handlers_places, pages_places, image_fault}
-use Rattle.mm_model.specs.Spelling.{handler_byte, state_byte, words_spelling, bitmap, slot_record, page_record}
-use Rattle.mm_model.specs.Spelling.{spelling, IsImage, Spells}
+use Rattle.mm_word.specs.{declared.word.{Word.Word, Cell.Cell}, Pointer.bits_of, Word.{word_bits, is_pointer}}
+use Rattle.mm_model.specs.{Flags.number_of_flags, Slot.Slot, Image.{Image, slot_limit}, Bytes.IsBytes}
+use Rattle.mm_model.specs.Spelling.{handler_byte, state_byte, bitmap, slot_record, page_record, spelling, Spells}
 use Rattle.mm_model.specs.Spelling as model
-use Rattle.mm_format.specs.Formats.{answer, file, each, times}
-use Rattle.mm_format.specs.Headers.{header}
-use Rattle.mm_format.specs.Images.{mask, bits, word, ip, slot, page, slots, image}
-use Rattle.mm_format.proofs.Files.{spelled_clean, read_again}
-use Rattle.mm_format.proofs.Says.{says_file}
-use Rattle.mm_format.proofs.Images.{image_is}
-use Rattle.mm_format.proofs.ImagesSay.{says_image}
-use Rattle.mm_format.proofs.ImagesFit.{image_fits, fits_image}
-use Rattle.mm_format.proofs.Lists.{each_spell, times_spell}
+use Rattle.mm_format.specs.{Formats.{each, times, file, fault_in, Outcome.Got}, Headers.header}
+use Rattle.mm_format.specs.Images.{mask, bits, word, ip, slot, page, slots, image, image_fault}
+use Rattle.mm_format.proofs.Files.{spelled_by, read_whole, same_value, clean_got}
+use Rattle.mm_format.proofs.{Images.image_is, ImagesFit.{image_fits, fits_image}, Lists.{each_spell, times_spell}}
 
 -- 1. The spelling.
 
@@ -63,46 +47,28 @@ image_spelled i =
     ∙ ap (λ t. head ++ (flat_map slot_record i.slots ++ t)) (append-nil _ ∙ ps)
     ∙ sym (append_assoc head (flat_map slot_record i.slots) (flat_map page_record i.memory.pages))
 
--- 2. The first fault and the value.
+-- 2. The file.
 
 module _ (bytes : List ℕ) where
-  abbrev pub end : ℕ
-  end = page_offset (slots_of bytes) (pages_of bytes)
+  -- what is read is spelled by the bytes
+  pub read_spells : IsBytes bytes → (i : Image) (next : ℕ) → file image 13 bytes ≡ Got i next → Spells bytes i
+  read_spells fits i next e =
+      let p = spelled_by image image_is 13 bytes fits i next e in
+      record { image = image_fits i p.0; spelled = p.1 ∙ image_spelled i }
 
-  abbrev before : List Place
-  before =
-      header_places bytes
-      ++ ((slots_places bytes (version_of bytes) (slots_of bytes) ++ handlers_places bytes
-      (slots_at bytes (slots_of bytes)))
-      ++ pages_places bytes (slots_of bytes) (pages_of bytes))
+  -- what the bytes spell is read
+  pub spelled_read : (i : Image) → Spells bytes i → file image 13 bytes ≡ Got i (length bytes)
+  spelled_read i s = read_whole image image_is 13 bytes i (fits_image i s.image) (s.spelled ∙ sym (image_spelled i))
 
-  in_order : image_fault bytes ≡ first_bad (length bytes) (before ++ end_places bytes 13 end)
+  pub clean_spells : IsBytes bytes → image_fault bytes ≡ None → (i : Image) × Spells bytes i
   unfolding image_fault
-  in_order =
-      let s = slots_places bytes (version_of bytes) (slots_of bytes) in
-      let t = handlers_places bytes (slots_at bytes (slots_of bytes)) in
-      let p = pages_places bytes (slots_of bytes) (pages_of bytes) in
-      let e = end_places bytes 13 end in
-      ap (λ ps. first_bad (length bytes) (header_places bytes ++ ps))
-      (sym (append_assoc (s ++ t) p e ∙ append_assoc s t (p ++ e)))
-
-  pub file_says : file image 13 bytes ≡ answer (image_fault bytes) (image_of bytes) end
-  file_says = says_file image 13 (says_image bytes) ∙ ap (λ o. answer o (image_of bytes) end) (sym in_order)
-
-  -- 3. The laws.
-
-  pub clean_spells : IsBytes bytes → image_fault bytes ≡ None → Spells bytes (image_of bytes)
   clean_spells fits none =
-      let s = spelled_clean image image_is 13 bytes (image_fault bytes) (image_of bytes) end file_says fits none in
-      record { image = image_fits (image_of bytes) s.0; spelled = s.1 ∙ image_spelled (image_of bytes) }
+      let r = clean_got (file image 13 bytes) none in
+      (r.0, read_spells fits r.0 r.1 r.2)
 
-  again : (i : Image) → IsImage i → bytes ≡ spelling i → (image_fault bytes ≡ None) × (image_of bytes ≡ i)
-  again i is spelled =
-      read_again image image_is 13 bytes (image_fault bytes) (image_of bytes) end file_says i (fits_image i is)
-      (spelled ∙ sym (image_spelled i))
+  pub spelled_clean : (i : Image) → Spells bytes i → image_fault bytes ≡ None
+  unfolding image_fault
+  spelled_clean i s = ap fault_in (spelled_read i s)
 
-  pub spelled_none : (i : Image) → IsImage i → bytes ≡ spelling i → image_fault bytes ≡ None
-  spelled_none i is spelled = (again i is spelled).0
-
-  pub image_same : (i : Image) → IsImage i → bytes ≡ spelling i → image_of bytes ≡ i
-  image_same i is spelled = (again i is spelled).1
+  pub spelled_one : (i j : Image) → Spells bytes i → Spells bytes j → i ≡ j
+  spelled_one i j s t = same_value (sym (spelled_read i s) ∙ spelled_read j t)

@@ -2,10 +2,8 @@ pub mod Formats
 pub mod Files
 pub mod Loops
 pub mod Raw
-pub mod Says
 pub mod Headers
 pub mod Lists
 pub mod Images
-pub mod ImagesSay
 pub mod ImagesFit
 pub mod ImagesWhole

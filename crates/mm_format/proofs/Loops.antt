@@ -8,7 +8,7 @@ use Rattle.mm_format.specs.declared.reader.ReadError.{ReadError}
 use Rattle.mm_format.specs.declared.reader.ReadError.TheVariants.{Fault, NoMemory}
 use Rattle.mm_format.specs.Formats.{Outcome, Format, after, answer, cons, times, each, runs}
 use Rattle.mm_format.specs.Formats.Outcome.{Got, Bad}
-use Rattle.mm_format.specs.Reading.{FailsOr, Fails, Names}
+use Rattle.mm_format.specs.Reading.{FailsOr}
 
 module _ {A : Type 0} where
   -- what was read before, and what is still read
@@ -171,24 +171,6 @@ late_stop number true n at rest total v end same wants (Fault kind offset) fails
     let two : at ≡ offset = cc in
     ap (λ o. answer o v end) (sym same) ∙ ap (λ m. Bad m at) one ∙ ap (Bad (number kind)) two
 late_stop number false n at rest total v end same wants (Fault kind offset) fails = absurd cc
-
--- what a whole file says, as its first fault and its value
-module _ {K A : Type 0} (number : K → ℕ) (fault : Option (ℕ × ℕ)) (value : A) (end : ℕ) (read : Outcome A)
-    (says : read ≡ answer fault value end) where
-  pub ok_given : (a : A) (next : ℕ) → read ≡ Got a next → (fault ≡ None) × (a ≡ value)
-  ok_given a next e = by fault (sym says ∙ e)
-    where
-      by : (o : Option (ℕ × ℕ)) → answer o value end ≡ Got a next → (o ≡ None) × (a ≡ value)
-      by None e = (refl, cc)
-      by (Some f) e = absurd cc
-
-  pub err_given : (e : ReadError K) → Fails number read e → Names number fault e
-  err_given NoMemory h = tt
-  err_given (Fault kind offset) h = by fault (sym says ∙ h)
-    where
-      by : (o : Option (ℕ × ℕ)) → answer o value end ≡ Bad (number kind) offset → o ≡ Some (number kind, offset)
-      by None e = absurd cc
-      by (Some (n, at)) e = cc
 
 -- what is never in want of memory fails as what may be
 pub fails_so : {K A : Type 0} (number : K → ℕ) (wants : Type 0) (read : Outcome A) (e : ReadError K) → FailsOr ⊥ number read e

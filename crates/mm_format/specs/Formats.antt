@@ -4,7 +4,7 @@ use Rattle.std.specs.Prelude.{if◌then◌else◌, List, [], ◌∷◌}
 use Rattle.std.specs.Prelude.{◌++◌, length, take, drop, Option, Some, None}
 use Rattle.std.specs.Int.{w16, w32, w64, to_be_bytes}
 use Rattle.std.specs.Str.{bytes_eq}
-use Rattle.mm_model.specs.Places.{IsBytes, number_at}
+use Rattle.mm_model.specs.Bytes.{IsBytes, number_at}
 
 -- 1. Formats.
 
@@ -133,6 +133,11 @@ RoundTrips {A} f =
 -- different values have different spellings
 abbrev pub IsOneToOne : {A : Type 0} → Format A → Type 0
 IsOneToOne {A} f = (a b : A) → f.Fits a → f.Fits b → f.spell a ≡ f.spell b → a ≡ b
+
+-- the number and the place of the fault that is read, if it is one
+abbrev pub fault_in : {A : Type 0} → Outcome A → Option (ℕ × ℕ)
+fault_in (Outcome.Got value next) = None
+fault_in (Outcome.Bad number at) = Some (number, at)
 
 -- 6. Lists.
 

@@ -1,8 +1,7 @@
 -- The header of an image file, row by row.
-use Rattle.std.specs.Prelude.{ℕ, ◌-◌, not, ◌||◌, ◌==◌, nat_lt, List, codes}
+use Rattle.std.specs.Prelude.{ℕ, ◌-◌, not, ◌||◌, ◌==◌, nat_lt, codes}
 use Rattle.mm_model.specs.Image.{slot_limit, frame_limit}
 use Rattle.mm_model.specs.Spelling.{mode_of}
-use Rattle.mm_model.specs.ImageReading.{version_of, slots_of, frames_of, pages_of, mode_number}
 use Rattle.mm_format.specs.declared.header.Header.{Header}
 use Rattle.mm_format.specs.Formats.{Format, u16, u32, test, literal, part, done, ◌>>=◌}
 
@@ -15,13 +14,3 @@ header = do
   pages ← part (λ h. h.pages) (test u16 12 (λ n. nat_lt frames n))
   mode ← part (λ h. mode_of h.split) (test u32 4 (λ n. nat_lt (version - 1) n))
   done (record { version = version; slots = slots; frames = frames; pages = pages; split = mode == 1 })
-
--- the header that the fields say
-abbrev pub header_of : List ℕ → Header
-header_of bytes = record {
-  version = version_of bytes;
-  slots = slots_of bytes;
-  frames = frames_of bytes;
-  pages = pages_of bytes;
-  split = mode_number bytes == 1;
-}

@@ -1,7 +1,20 @@
--- The image file as a format: a row of its table is a line.
+-- The image file as a format: a row of its table is a line. What its faults are:
+--
+--  1 short, at the end of the file: a field is not whole
+--  2 magic
+--  3 version
+--  4 count: of slots, or the mode
+--  5 order of slots
+--  6 group
+--  7 handler
+--  8 state
+--  9 pointer
+-- 10 instruction pointer
+-- 11 order of pages
+-- 12 frames: of frames, or of pages
+-- 13 trailing, at the first byte too many
 use Rattle.std.specs.Prelude.{ℕ, ◌+◌, ◌*◌, ◌^◌, Bool, not, ◌&&◌, ◌||◌, ◌==◌, nat_lt, nat_le, if◌then◌else◌, List}
-use Rattle.std.specs.Prelude.{[]}
-use Rattle.std.specs.Prelude.{◌∷◌, map, length, Some, None, false}
+use Rattle.std.specs.Prelude.{[], ◌∷◌, map, length, Option, Some, None, false}
 use Rattle.std.specs.List.{range_with_len}
 use Rattle.mm_word.specs.declared.word.Word.{Word}
 use Rattle.mm_word.specs.declared.word.Word.TheVariants.{Int, Ptr}
@@ -13,11 +26,11 @@ use Rattle.mm_model.specs.declared.slot.SlotState.TheVariants.{Running, Halted}
 use Rattle.mm_model.specs.Flags.{flags, number_of_flags}
 use Rattle.mm_model.specs.Slot.{Slot}
 use Rattle.mm_model.specs.Image.{Image, slot_limit, none_empty}
-use Rattle.mm_model.specs.Places.{bit_at}
-use Rattle.mm_model.specs.Spelling.{handler_byte, state_byte, bitmap}
-use Rattle.mm_model.specs.ImageFaults.{is_bad_handler}
+use Rattle.mm_model.specs.Bytes.{bit_at}
+use Rattle.mm_model.specs.Spelling.{handler_byte, state_byte, bitmap, is_bad_handler}
 use Rattle.mm_format.specs.declared.header.Header.{Header}
 use Rattle.mm_format.specs.Formats.{Format, Late, byte, u16, u64, raw, test, late, part, done, ◌>>=◌, times, each}
+use Rattle.mm_format.specs.Formats.{file, fault_in}
 use Rattle.mm_format.specs.Headers.{header}
 
 -- sixteen flags of a number
@@ -118,3 +131,8 @@ image = do
     slots = slots;
     memory = record { pages = pages; frames = head.frames };
   })
+
+-- the number and the place of the first fault of an image file, if there is one. Handlers are tested after the last
+-- slot, since they may name later slots
+unfoldable pub image_fault : List ℕ → Option (ℕ × ℕ)
+image_fault bytes = fault_in (file image 13 bytes)

@@ -1,5 +1,5 @@
 -- What code that reads a format answers.
-use Rattle.std.specs.Prelude.{◌≡◌, ℕ, Option, Some, None, Result, Ok, Err}
+use Rattle.std.specs.Prelude.{◌≡◌, ℕ, Option, Some, Result, Ok, Err}
 use Rattle.mm_format.specs.declared.reader.ReadError.{ReadError}
 use Rattle.mm_format.specs.declared.reader.ReadError.TheVariants.{Fault, NoMemory}
 use Rattle.mm_format.specs.Formats.{Outcome}
@@ -36,8 +36,3 @@ ReadsFile number view read (Err e) = Fails number read e
 abbrev pub Names : {K : Type 0} → (K → ℕ) → Option (ℕ × ℕ) → ReadError K → Type 0
 Names number fault (Fault kind offset) = fault ≡ Some (number kind, offset)
 Names number fault NoMemory = Unit {0}
-
--- a function found no fault and gives this value, or it names this fault, unless memory ran out
-abbrev pub Gives : {K X A : Type 0} → (K → ℕ) → (X → A) → Option (ℕ × ℕ) → A → Result X (ReadError K) → Type 0
-Gives number view fault value (Ok x) = (fault ≡ None) × (view x ≡ value)
-Gives number view fault value (Err e) = Names number fault e

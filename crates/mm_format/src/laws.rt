@@ -1,25 +1,28 @@
-//! What holds of the formats of image files.
+//! What holds of formats, and of that of image files.
 //!
 //! These functions do nothing when they run: the contract of each is the law.
 ghost use Rattle.mm_format.specs.Formats.{IsFormat, RoundTrips, IsOneToOne};
 ghost use Rattle.mm_format.specs.Headers.{header};
 ghost use Rattle.mm_format.specs.Images.{image};
-ghost use Rattle.mm_format.specs.Laws.{HeadersAreRead, ImagesFit, ImagesAreSpelled, ImagesAreRead};
+ghost use Rattle.mm_format.specs.Laws.{FaultsComeInOrder, ImagesFit, ImagesAreSpelled};
 
-/// The header of an image file has a format, and it says what the header's places and values say.
+/// Of two parts of a file, one after the other, the first fault is that of the first part, if it has one.
+pub fn faults_come_in_order()
+    ensures { FaultsComeInOrder }
+{}
+
+/// The header of an image file has a format.
 pub fn header_is_a_format()
     ensures format { IsFormat header }
     ensures round_trip { RoundTrips header }
     ensures one_to_one { IsOneToOne header }
-    ensures read { HeadersAreRead }
 {}
 
-/// The image file has a format, and it says what the places, the values and the spelling of images say.
+/// The image file has a format. What has a spelling is an image, and it is spelled as an image is.
 pub fn image_is_a_format()
     ensures format { IsFormat image }
     ensures round_trip { RoundTrips image }
     ensures one_to_one { IsOneToOne image }
     ensures fits { ImagesFit }
     ensures spelled { ImagesAreSpelled }
-    ensures read { ImagesAreRead }
 {}

@@ -3,12 +3,10 @@ use Rattle.std.proofs.Common.{◌≡◌, ◌≢◌, ℕ, ◌+◌, ◌<◌, Bool,
 use Rattle.std.specs.Prelude.{◌||◌, ◌==◌, slice_index_or, slice_set}
 use Rattle.std.proofs.lemmas.Bool.{cases_eq}
 use Rattle.std.proofs.lemmas.List.{get_or-replicate, get_or-set_same, get_or-set_other}
-use Rattle.std.proofs.lemmas.List.FromFn.{get_or-map-range_with_len}
 use Rattle.std.proofs.lemmas.List.Folds.{list_any_more}
 use Rattle.mm_model.specs.Slot.{Slot}
 use Rattle.mm_image.specs.Reading.{HoldsNumbers}
-use Rattle.mm_model.specs.ImageReading.{slot_at, slots_at}
-use Rattle.mm_model.specs.ImageFaults.{has_number}
+use Rattle.mm_model.specs.Spelling.{has_number}
 
 pub none_yet : HoldsNumbers (replicate 256 false) []
 none_yet n below = get_or-replicate 256 n false false below
@@ -40,8 +38,3 @@ one_number_more present slots i m s long lt is number holds n below =
       | inr other ↦
           get_or-set_other present m n true false (λ e. other (sym e)) ∙ holds n below ∙ sym (more ∙ ap (λ t. has_number (take i slots) n || t) (differ m n other) ∙ or_false (has_number (take i slots) n))
     ]
-
--- the slot at a place of those that were read
-pub slot_is : (bytes : List ℕ) (slots : List Slot) (k : ℕ) (s : Slot) → slots ≡ slots_at bytes (length slots) → k < length slots → s ≡ get_or slots k s → s ≡ slot_at bytes k
-unfolding slots_at
-slot_is bytes slots k s read lt is = is ∙ ap (λ (xs : List Slot). get_or xs k s) read ∙ get_or-map-range_with_len (slot_at bytes) 0 (length slots) k k s lt (omega arith)

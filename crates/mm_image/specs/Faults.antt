@@ -1,5 +1,5 @@
 -- The numbers of the faults of image files, and what a reader answers.
-use Rattle.std.specs.Prelude.{◌≡◌, ℕ, Option, Some, None, Result, Ok, Err}
+use Rattle.std.specs.Prelude.{◌≡◌, ℕ, Option, Some}
 use Rattle.mm_format.specs.declared.reader.ReadError.{ReadError}
 use Rattle.mm_format.specs.declared.reader.ReadError.TheVariants as reading
 use Rattle.mm_image.specs.declared.fault.ImageFault.{ImageFault}
@@ -31,18 +31,3 @@ told reading.NoMemory = errors.NoMemory
 abbrev pub Fails : Option (ℕ × ℕ) → ImageError → Type 0
 Fails fault (errors.Fault kind offset) = fault ≡ Some (number_of kind, offset)
 Fails fault errors.NoMemory = Unit {0}
-
--- a function found no fault and gives this value, or it gives this fault, unless memory ran out
-abbrev pub Gives : {X Y : Type 0} → (X → Y) → Option (ℕ × ℕ) → Y → Result X ImageError → Type 0
-Gives view fault value (Ok x) = (fault ≡ None) × (view x ≡ value)
-Gives view fault value (Err e) = Fails fault e
-
--- the answer is this value, unless memory ran out
-abbrev pub IsUnlessNoMemory : {X : Type 0} → X → Result X ImageError → Type 0
-IsUnlessNoMemory value (Ok x) = x ≡ value
-IsUnlessNoMemory value (Err e) = e ≡ errors.NoMemory
-
--- the answer is a fault of this number at this offset, unless memory ran out
-abbrev pub FailsUnlessNoMemory : {X : Type 0} → ℕ × ℕ → Result X ImageError → Type 0
-FailsUnlessNoMemory fault (Ok x) = ⊥
-FailsUnlessNoMemory fault (Err e) = Fails (Some fault) e

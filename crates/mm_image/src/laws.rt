@@ -3,7 +3,7 @@
 //! These functions do nothing when they run: the contract of each is the law.
 ghost use Rattle.mm_image.specs.Laws.{ImagesAreSpelled, ImagesHaveNoFault, SpelledImagesAreOne, SpellingIsInjective};
 
-/// The list of places of a file has no fault exactly if its bytes spell an image.
+/// A file has no fault exactly if its bytes spell an image.
 pub fn images_have_no_fault()
     ensures { ImagesHaveNoFault }
 {}

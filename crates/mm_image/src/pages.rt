@@ -2,7 +2,7 @@
 
 ghost use Rattle.std.specs.Prelude.{◌≡◌, ◌==◌, ◌+◌, ◌/◌, ◌%◌, ◌^◌, ◌<◌, true, IfOk, length, map, vec_len};
 ghost use Rattle.mm_word.specs.declared.word.Cell.{Cell as CellValue};
-ghost use Rattle.mm_model.specs.Places.{bit_at};
+ghost use Rattle.mm_model.specs.Bytes.{bit_at};
 ghost use Rattle.mm_format.specs.Formats.{each, times};
 ghost use Rattle.mm_format.specs.Images.{word, page, bits_in};
 ghost use Rattle.mm_format.specs.Reading.{Reads};

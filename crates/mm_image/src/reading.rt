@@ -1,14 +1,15 @@
 //! The reader of image files.
 
 ghost use Rattle.std.specs.Prelude.{◌≡◌, ℕ, IfOk, Some, Err};
+ghost use Rattle.std.specs.Result.{IsErrAnd};
+ghost use Rattle.mm_model.specs.Answers.{IsUnless};
 ghost use Rattle.mm_model.specs.Image.{Image as ImageValue};
-ghost use Rattle.mm_model.specs.ImageFaults.{image_fault};
 ghost use Rattle.mm_model.specs.Spelling.{Spells};
-ghost use Rattle.mm_model.specs.Places.{IsBytes};
+ghost use Rattle.mm_model.specs.Bytes.{IsBytes};
 ghost use Rattle.mm_format.specs.Formats.{file};
-ghost use Rattle.mm_format.specs.Images.{image};
+ghost use Rattle.mm_format.specs.Images.{image, image_fault};
 ghost use Rattle.mm_format.specs.Reading.{Reads, ReadsFile};
-ghost use Rattle.mm_image.specs.Faults.{IsUnlessNoMemory, FailsUnlessNoMemory, number_of};
+ghost use Rattle.mm_image.specs.Faults.{Fails, number_of};
 ghost use Rattle.mm_image.specs.declared.fault.ImageFault.{ImageFault};
 
 use crate::fault::{ImageError, ImageFault};
@@ -23,13 +24,13 @@ use std::alloc::Global;
 pub fn read(alloc: Global, bytes: &[u8]) -> Result<Image, ImageError>
     // The bytes spell the image that is read, and an image that they spell is read.
     ensures spelled { IfOk result (λ i. Spells bytes.now i) }
-    ensures again { (i : ImageValue) → Spells bytes.now i → IsUnlessNoMemory i result }
+    ensures again { (i : ImageValue) → Spells bytes.now i → IsUnless ImageError.NoMemory i result }
 
     // A fault that is answered is the first one, and if there is one, it is answered.
     ensures fault { (kind : ImageFault) (offset : ℕ) → result ≡ Err (ImageError.Fault kind offset)
         → image_fault bytes.now ≡ Some (number_of kind, offset) }
     ensures first { (number offset : ℕ) → image_fault bytes.now ≡ Some (number, offset)
-        → FailsUnlessNoMemory (number, offset) result }
+        → IsErrAnd result (Fails (Some (number, offset))) }
 {
     let image = read_file(alloc, bytes)?;
     Ok(image)

@@ -2,7 +2,7 @@
 
 ghost use Rattle.std.specs.Prelude.{◌≡◌, ◌^◌, ◌<◌, ◌+◌, ℕ, true, false, IfOk, List, length, vec_len, slice_index_or};
 ghost use Rattle.mm_model.specs.Image.{slot_limit};
-ghost use Rattle.mm_model.specs.ImageFaults.{is_bad_handler};
+ghost use Rattle.mm_model.specs.Spelling.{is_bad_handler};
 ghost use Rattle.mm_model.specs.Slot.{Slot};
 ghost use Rattle.mm_format.specs.Formats.{answer, first_late, times};
 ghost use Rattle.mm_format.specs.Images.{slot, slots, handler_tests};

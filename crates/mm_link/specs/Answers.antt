@@ -13,13 +13,3 @@ Fails fault errors.NoMemory = Unit {0}
 abbrev pub Gives : {X : Type 0} → Option LinkFault → X → Result X LinkError → Type 0
 Gives fault value (Ok x) = (fault ≡ None) × (x ≡ value)
 Gives fault value (Err e) = Fails fault e
-
--- the answer is this value, unless memory ran out
-abbrev pub IsUnlessNoMemory : {X : Type 0} → X → Result X LinkError → Type 0
-IsUnlessNoMemory value (Ok x) = x ≡ value
-IsUnlessNoMemory value (Err e) = e ≡ errors.NoMemory
-
--- the answer is this fault, unless memory ran out
-abbrev pub FailsUnlessNoMemory : {X : Type 0} → LinkFault → Result X LinkError → Type 0
-FailsUnlessNoMemory fault (Ok x) = ⊥
-FailsUnlessNoMemory fault (Err e) = Fails (Some fault) e

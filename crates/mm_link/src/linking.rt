@@ -1,6 +1,8 @@
 //! The linker.
 
 ghost use Rattle.std.specs.Prelude.{◌≡◌, ◌∷◌, [], ◌≤◌, Err, Some, IfOk, length};
+ghost use Rattle.std.specs.Result.{IsErrAnd};
+ghost use Rattle.mm_model.specs.Answers.{IsUnless};
 ghost use Rattle.mm_model.specs.Image.{Image as ImageValue};
 ghost use Rattle.mm_model.specs.Spelling.{IsImage};
 ghost use Rattle.mm_link.specs.declared.fault.LinkFault.{LinkFault as FaultValue};
@@ -8,7 +10,7 @@ ghost use Rattle.mm_link.specs.Placing.{parts_of, by_length, sites_of};
 ghost use Rattle.mm_link.specs.Faults.{undefined, offset, slot_twice, no_thread, handler, page_count, frames_of};
 ghost use Rattle.mm_link.specs.Faults.{first_of, link_fault};
 ghost use Rattle.mm_link.specs.Linked.{Linked, image_of};
-ghost use Rattle.mm_link.specs.Answers.{Gives, IsUnlessNoMemory, FailsUnlessNoMemory};
+ghost use Rattle.mm_link.specs.Answers.{Fails, Gives};
 ghost use Rattle.mm_link.specs.Steps.{Passes, IsNoMemory};
 
 use crate::fault::LinkError;
@@ -31,11 +33,11 @@ pub fn link(alloc: Global, objects: &[Object]) -> Result<Image, LinkError>
 
     // The image that is answered is the one that the objects link to, and an image that they link to is answered.
     ensures linked { IfOk result (λ i. Linked objects.now i) }
-    ensures again { (i : ImageValue) → Linked objects.now i → IsUnlessNoMemory i result }
+    ensures again { (i : ImageValue) → Linked objects.now i → IsUnless LinkError.NoMemory i result }
 
     // A fault that is answered is the first one, and if there is one it is answered.
     ensures fault { (f : FaultValue) → result ≡ Err (LinkError.Fault f) → link_fault objects.now ≡ Some f }
-    ensures first { (f : FaultValue) → link_fault objects.now ≡ Some f → FailsUnlessNoMemory f result }
+    ensures first { (f : FaultValue) → link_fault objects.now ≡ Some f → IsErrAnd result (Fails (Some f)) }
 {
     image_or_fault(alloc, objects)
 }

@@ -4,11 +4,11 @@ use Rattle.std.specs.Prelude.{⊤}
 use Rattle.std.specs.List.{AllByRecursion}
 use Rattle.mm_model.specs.Image.{Image}
 use Rattle.mm_model.specs.Spelling.{IsImage, Spells}
-use Rattle.mm_model.specs.ImageFaults.{image_fault}
+use Rattle.mm_format.specs.Images.{image_fault}
 use Rattle.mm_image.specs.declared.fault.ImageFault.{ImageFault}
 use Rattle.mm_image.specs.declared.fault.ImageFault.TheVariants as faults
 use Rattle.mm_image.specs.Faults.{number_of}
-use Rattle.mm_format.proofs.ImagesWhole.{spelled_none, image_same}
+use Rattle.mm_format.proofs.ImagesWhole.{spelled_clean, spelled_one}
 use Rattle.mm_sched.proofs.Texts.{never_both, fault_unique, means_unique}
 use Rattle.mm_line.specs.declared.fault.Fault.{Fault}
 use Rattle.mm_line.specs.declared.fault.Fault.TheVariants as text_faults
@@ -79,11 +79,8 @@ one_image_fault bytes number kind other offset place one two =
     let at : offset ≡ place = ap place_in (sym one) ∙ ap place_in two in
     cc
 
-no_fault : (bytes : List ℕ) (i : Image) → Spells bytes i → image_fault bytes ≡ None
-no_fault bytes i s = spelled_none bytes i s.image s.spelled
-
 pub one_spelled : (bytes : List ℕ) (i j : Image) → Spells bytes i → Spells bytes j → i ≡ j
-one_spelled bytes i j one other = sym (image_same bytes i one.image one.spelled) ∙ image_same bytes j other.image other.spelled
+one_spelled bytes i j one other = spelled_one bytes i j one other
 
 -- 2. Sources.
 
@@ -180,7 +177,7 @@ sound_more (x ∷ before) v sound one = (sound.0, sound_more before v sound.1 on
 -- 5. Each kind.
 
 pub one_value : (kind : Kind) (before : List Value) (bytes : List ℕ) (v w : Value) → AreSound before → Accepts kind before bytes v → Accepts kind before bytes w → v ≡ w
-one_value image_file before bytes (an_image i) (an_image j) sound one two = ap (λ (x : Image). an_image x) (one_spelled bytes i j one two)
+one_value image_file before bytes (an_image i) (an_image j) sound one two = ap (λ (x : Image). an_image x) (spelled_one bytes i j one two)
 one_value schedule_file before bytes (a_list xs) (a_list ys) sound one two = ap (λ (x : List ℕ). a_list x) (means_unique bytes xs ys one two)
 one_value source_file before bytes (an_object a) (an_object b) sound one two = ap (λ (x : Object). an_object x) (meanings_are_one bytes a b one two)
 one_value object_file before bytes (an_object a) (an_object b) sound one two = ap (λ (x : Object). an_object x) (one_object bytes a b one two)
@@ -212,7 +209,7 @@ one_fault events_file before number bytes r q (offset, is, fault) (place, also, 
 one_fault kind before number bytes r q one two = absurd (assumption (one, two))
 
 pub value_or_fault : (kind : Kind) (before : List Value) (number : ℕ) (bytes : List ℕ) (r : Refusal) (v : Value) → AreSound before → Faults kind before number bytes r → Accepts kind before bytes v → ⊥
-value_or_fault image_file before number bytes r (an_image i) sound (kind, offset, is, fault) means = let none : image_fault bytes ≡ None = no_fault bytes i means in cc
+value_or_fault image_file before number bytes r (an_image i) sound (kind, offset, is, fault) means = let none : image_fault bytes ≡ None = spelled_clean bytes i means in cc
 value_or_fault schedule_file before number bytes r (a_list xs) sound (offset, is, fault) means = never_both bytes xs offset means fault
 value_or_fault source_file before number bytes r (an_object o) sound (kind, line, column, is, fault) means =
     let none : first_fault bytes ≡ None = meaning_has_no_fault bytes o means in cc

@@ -7,7 +7,7 @@ use Rattle.mm_cli.specs.declared.table.Kind.TheVariants.{Checkpoint as checkpoin
 use Rattle.mm_cli.specs.declared.table.Kind.TheVariants.{Events as events_file, Text as text_input}
 use Rattle.mm_model.specs.Image.{Image}
 use Rattle.mm_model.specs.Spelling.{Spells}
-use Rattle.mm_model.specs.ImageFaults.{image_fault}
+use Rattle.mm_format.specs.Images.{image_fault}
 use Rattle.mm_model.specs.Schedule.{Means, FaultsAt}
 use Rattle.mm_image.specs.declared.fault.ImageFault.{ImageFault}
 use Rattle.mm_line.specs.declared.fault.Fault.{Fault}

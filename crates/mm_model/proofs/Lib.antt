@@ -13,7 +13,6 @@ pub mod Fitted
 pub mod StateKeeps
 pub mod TurnBounds
 pub mod Shortness
-pub mod Places
 pub mod Stops
 pub mod Causes
 pub mod CauseNumbers

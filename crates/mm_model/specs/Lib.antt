@@ -23,8 +23,7 @@ pub mod Trace
 pub mod Reach
 pub mod Worlds
 pub mod Audit
-pub mod ImageFaults
 pub mod Counted
 pub mod CountFacts
-pub mod Places
-pub mod ImageReading
+pub mod Bytes
+pub mod Answers

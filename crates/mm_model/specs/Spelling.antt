@@ -1,7 +1,7 @@
 -- The bytes that spell an image.
-use Rattle.std.specs.Prelude.{◌≡◌, ◌≢◌, ℕ, zero, suc, ◌+◌, ◌^◌, ◌<◌, ◌≤◌, Bool, true, false, ◌==◌, if◌then◌else◌, List}
+use Rattle.std.specs.Prelude.{◌≡◌, ◌≢◌, ℕ, zero, suc, ◌+◌, ◌^◌, ◌<◌, ◌≤◌, Bool, true, false, not, ◌||◌, ◌==◌, if◌then◌else◌, List}
 use Rattle.std.specs.Prelude.{[], ◌∷◌, ◌++◌, map, length, take, drop, codes, Option, Some, None, IfSome, ◌⊎◌}
-use Rattle.std.specs.List.{flat_map, AllByRecursion}
+use Rattle.std.specs.List.{flat_map, list_any, AllByRecursion}
 use Rattle.std.specs.List.Sorted.{IsStrictlyIncreasing}
 use Rattle.std.specs.Int.{w16, w32, w64, to_be_bytes}
 use Rattle.mm_word.specs.Perm.{can_fetch}
@@ -31,6 +31,14 @@ numbers_of slots = map (λ s. s.number) slots
 -- a slot of the list other than n has the number h
 abbrev pub IsOther : List Slot → ℕ → ℕ → Type 0
 IsOther slots n h = (h ≢ n) × ((s : Slot) × Rattle.std.specs.Prelude.Contains slots s × (s.number ≡ h))
+
+-- a slot of the list has this number
+abbrev pub has_number : List Slot → ℕ → Bool
+has_number slots n = list_any (λ s. s.number == n) slots
+
+-- the handler is the slot itself or no slot of the list
+abbrev pub is_bad_handler : List Slot → Slot → Bool
+is_bad_handler slots s = elim s.handler [ None ↦ false | Some h ↦ h == s.number || not (has_number slots h) ]
 
 -- a slot of an image with these slots and this limit of numbers
 pub record IsFresh (limit : ℕ) (slots : List Slot) (s : Slot) : Type 0 where

@@ -8,7 +8,7 @@ use Rattle.std.proofs.lemmas.List.{take_all, take-take, drop-take, drop-drop, le
 use Rattle.std.proofs.lemmas.List.FromFn.{length-map-range_with_len, take-map-range_with_len}
 use Rattle.mm_model.specs.Flags.{number_of_flags}
 use Rattle.mm_model.specs.Spelling.{bitmap}
-use Rattle.mm_model.specs.Places.{number_at, bit_at}
+use Rattle.mm_model.specs.Bytes.{number_at, bit_at}
 use Rattle.mm_model.proofs.ImageBytes.Numbers.{field_1}
 use Rattle.mm_model.proofs.ImageBytes.Parts.{IsBytes, part, join_at, one_byte}
 use Rattle.mm_model.proofs.ImageBytes.Ranges.{map-same, map-shift, drop-range}

@@ -10,7 +10,7 @@ use Rattle.std.proofs.lemmas.List.{length-map, length-take, take_all, get_or_def
 use Rattle.mm_word.specs.declared.perm.Perm.{Perm}
 use Rattle.mm_word.specs.declared.perm.Perm.TheVariants.{Key}
 use Rattle.mm_word.proofs.Packing.{perm_of-code_of, code_of-in_range}
-use Rattle.mm_model.specs.Places.{IsBytes, bit_at}
+use Rattle.mm_model.specs.Bytes.{IsBytes, bit_at}
 use Rattle.mm_model.specs.Spelling.{bitmap, handler_byte}
 use Rattle.mm_model.proofs.ImageBytes.Apart.{number_of_flags-below}
 use Rattle.mm_model.proofs.ImageBytes.Clean.{neither, not_not, is_above}

@@ -10,7 +10,7 @@ use Rattle.mm_word.specs.declared.perm.Perm.TheVariants.{Key}
 use Rattle.mm_word.specs.Perm.{code_of, perm_of}
 use Rattle.mm_word.specs.PointerBits.{code_of-perm_of}
 use Rattle.mm_model.specs.Flags.{number_of_flags}
-use Rattle.mm_model.specs.Places.{IsBytes, bit_at}
+use Rattle.mm_model.specs.Bytes.{IsBytes, bit_at}
 use Rattle.mm_model.specs.Spelling.{bitmap, handler_byte}
 use Rattle.mm_model.proofs.ImageBytes.Clean.{not_not}
 use Rattle.mm_format.specs.Formats.{Format, IsFormat, byte, u16, u32, raw, each, cons}

@@ -3,21 +3,21 @@ use Rattle.std.proofs.Common.{◌≡◌, ℕ, ◌+◌, ◌/◌, List, [], ◌∷
 use Rattle.std.proofs.Common.{append_assoc, append-nil}
 use Rattle.std.specs.List.{flat_map}
 use Rattle.std.specs.Int.{w16, w32, w64, to_be_bytes}
-use Rattle.mm_model.specs.Places.{IsBytes}
+use Rattle.mm_model.specs.Bytes.{IsBytes}
 use Rattle.mm_word.specs.Perm.{code_of}
 use Rattle.mm_model.specs.Flags.{number_of_flags}
 use Rattle.mm_model.specs.Spelling.{bitmap, handler_byte}
-use Rattle.mm_format.specs.Formats.{Outcome, each, cons, file}
-use Rattle.mm_format.specs.Formats.Outcome.{Got, Bad}
+use Rattle.mm_format.specs.Formats.{each, cons, file, fault_in}
+use Rattle.mm_format.specs.Formats.Outcome.{Got}
 use Rattle.mm_format.specs.Images.{mask}
-use Rattle.mm_format.proofs.Files.{spelled_by, read_whole}
+use Rattle.mm_format.proofs.Files.{spelled_by, read_whole, same_value, clean_got}
 use Rattle.mm_format.proofs.Lists.{times_spell}
 use Rattle.mm_object.specs.declared.item.Item.{Item}
 use Rattle.mm_object.specs.declared.target.Reloc.{Reloc}
 use Rattle.mm_object.specs.declared.thread.Value.{Value}
 use Rattle.mm_object.specs.declared.thread.Value.TheVariants.{Int, Ptr}
 use Rattle.mm_object.specs.declared.thread.Thread.{Thread}
-use Rattle.mm_object.specs.Faults.{fault_in, object_fault}
+use Rattle.mm_object.specs.Faults.{object_fault}
 use Rattle.mm_object.specs.Format.{push, header_row, name_fields, name_row, external_row, bits_row, item_row, log_row}
 use Rattle.mm_object.specs.Format.{count_row, segment_row, perm_row, target_row, reloc_fields, good_reloc, reloc_row}
 use Rattle.mm_object.specs.Format.{integer_row, pointer_row, value_row, thread_fields, good_thread, thread_row}
@@ -111,18 +111,13 @@ module _ (bytes : List ℕ) where
 
   pub clean_spells : IsBytes bytes → object_fault bytes ≡ None → (o : Object) × Spells bytes o
   unfolding object_fault
-  clean_spells fits none = by (file object 9 bytes) refl none
-    where
-      by : (r : Outcome Object) → file object 9 bytes ≡ r → fault_in r ≡ None → (o : Object) × Spells bytes o
-      by (Got o next) e none = (o, read_spells fits o next e)
-      by (Bad number at) e none = absurd cc
+  clean_spells fits none =
+      let r = clean_got (file object 9 bytes) none in
+      (r.0, read_spells fits r.0 r.1 r.2)
 
   pub spelled_clean : (o : Object) → Spells bytes o → object_fault bytes ≡ None
   unfolding object_fault
   spelled_clean o s = ap fault_in (spelled_read o s)
 
   pub spelled_one : (a b : Object) → Spells bytes a → Spells bytes b → a ≡ b
-  spelled_one a b s t = same (sym (spelled_read a s) ∙ spelled_read b t)
-    where
-      same : {m n : ℕ} → Got a m ≡ Got b n → a ≡ b
-      same e = cc
+  spelled_one a b s t = same_value (sym (spelled_read a s) ∙ spelled_read b t)

@@ -1,5 +1,5 @@
 -- The numbers of the faults of object files, and the answers of a reader.
-use Rattle.std.specs.Prelude.{◌≡◌, ℕ, Option, Some, None, Result, Ok, Err}
+use Rattle.std.specs.Prelude.{◌≡◌, ℕ, Option, Some}
 use Rattle.mm_format.specs.declared.reader.ReadError.{ReadError}
 use Rattle.mm_format.specs.declared.reader.ReadError.TheVariants as reading
 use Rattle.mm_object.specs.declared.fault.ObjectFault.{ObjectFault}
@@ -27,13 +27,3 @@ told reading.NoMemory = errors.NoMemory
 abbrev pub Fails : Option (ℕ × ℕ) → ObjectError → Type 0
 Fails fault (errors.Fault kind offset) = fault ≡ Some (number_of kind, offset)
 Fails fault errors.NoMemory = Unit {0}
-
--- the answer is an object, unless memory ran out
-abbrev pub IsUnlessNoMemory : {X : Type 0} → X → Result X ObjectError → Type 0
-IsUnlessNoMemory value (Ok x) = x ≡ value
-IsUnlessNoMemory value (Err e) = e ≡ errors.NoMemory
-
--- the answer is a fault of this number at this place, unless memory ran out
-abbrev pub FailsUnlessNoMemory : {X : Type 0} → ℕ × ℕ → Result X ObjectError → Type 0
-FailsUnlessNoMemory fault (Ok x) = ⊥
-FailsUnlessNoMemory fault (Err e) = Fails (Some fault) e

@@ -16,7 +16,7 @@ use Rattle.std.specs.List.{list_any, range_with_len}
 use Rattle.mm_word.specs.declared.perm.Perm.{Perm}
 use Rattle.mm_word.specs.declared.perm.Perm.TheVariants.{Key}
 use Rattle.mm_word.specs.Perm.{code_of, perm_of}
-use Rattle.mm_model.specs.Places.{number_at, bit_at}
+use Rattle.mm_model.specs.Bytes.{number_at, bit_at}
 use Rattle.mm_model.specs.Spelling.{bitmap, handler_byte}
 use Rattle.mm_format.specs.Formats.{Outcome, Format, Late, byte, u16, u32, u64, text, raw, test, literal, part, after}
 use Rattle.mm_format.specs.Formats.{done, ◌>>=◌, each, times, late}

@@ -1,6 +1,6 @@
 -- Laws of object files.
 use Rattle.std.specs.Prelude.{◌≡◌, ◌↔◌, ℕ, List, None}
-use Rattle.mm_model.specs.Places.{IsBytes}
+use Rattle.mm_model.specs.Bytes.{IsBytes}
 use Rattle.mm_object.specs.Objects.{Object, IsObject}
 use Rattle.mm_object.specs.Faults.{object_fault}
 use Rattle.mm_object.specs.Spelling.{spelling, Spells}

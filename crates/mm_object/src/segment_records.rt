@@ -1,7 +1,7 @@
 //! The records of segments of an object file.
 
 ghost use Rattle.std.specs.Prelude.{◌≡◌, ◌+◌, ◌/◌, ◌<◌, ◌≤◌, nat_lt, IfOk, [], length, vec_len};
-ghost use Rattle.mm_model.specs.Places.{bit_at, number_at};
+ghost use Rattle.mm_model.specs.Bytes.{bit_at, number_at};
 ghost use Rattle.mm_format.specs.Formats.{each, times};
 ghost use Rattle.mm_format.specs.Reading.{Reads, ReadsAlone};
 ghost use Rattle.mm_object.specs.Answers.{number_of};

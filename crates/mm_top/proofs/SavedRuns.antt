@@ -4,7 +4,7 @@ use Rattle.std.specs.Prelude.{IfSome, if◌then◌else◌}
 use Rattle.std.specs.List.{AllByRecursion}
 use Rattle.mm_model.specs.State.{Row, State}
 use Rattle.mm_model.specs.Image.{Image, start}
-use Rattle.mm_model.specs.Places.{IsBytes}
+use Rattle.mm_model.specs.Bytes.{IsBytes}
 use Rattle.mm_model.specs.Uses.{Use}
 use Rattle.mm_model.specs.declared.counts.Counts.{Counts}
 use Rattle.mm_model.specs.Turn.{is_running}

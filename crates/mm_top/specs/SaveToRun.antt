@@ -3,7 +3,7 @@ use Rattle.std.specs.Prelude.{◌≡◌, ℕ, ◌+◌, ◌≤◌, List, [], ◌�
 use Rattle.mm_model.specs.declared.counts.Counts.{Counts}
 use Rattle.mm_model.specs.Uses.{Use}
 use Rattle.mm_model.specs.Image.{Image, start}
-use Rattle.mm_model.specs.Places.{IsBytes}
+use Rattle.mm_model.specs.Bytes.{IsBytes}
 use Rattle.mm_model.specs.Run.{run, uses, robin_from}
 use Rattle.mm_model.specs.Schedule.{first_items}
 use Rattle.mm_model.specs.Report.{report}

@@ -7,7 +7,7 @@ use Rattle.std.proofs.lemmas.List.{take_at, drop_at, take-take, drop-take, drop-
 use Rattle.std.proofs.lemmas.Nat.{from_be_bytes-to_be_bytes_2, from_be_bytes-to_be_bytes_4, from_be_bytes-to_be_bytes_8, shr-shr}
 use Rattle.mm_model.specs.Flags.{number_of_flags}
 use Rattle.mm_model.specs.Spelling.{bitmap}
-use Rattle.mm_model.specs.Places.{number_at, bit_at}
+use Rattle.mm_model.specs.Bytes.{number_at, bit_at}
 use Rattle.mm_model.proofs.ImageBytes.Parts.{part}
 use Rattle.mm_model.proofs.ImageBytes.Numbers.{number_is_2, number_is_4, number_is_8}
 

@@ -9,7 +9,7 @@ use Rattle.std.proofs.lemmas.List.FromFn.{length-map-range_with_len, get_or-map-
 use Rattle.mm_model.specs.Flags.{flags, number_of_flags}
 use Rattle.mm_model.specs.Spelling.{bitmap}
 use Rattle.mm_model.proofs.FlagLists.{flags-get}
-use Rattle.mm_model.specs.Places.{number_at, bit_at}
+use Rattle.mm_model.specs.Bytes.{number_at, bit_at}
 use Rattle.mm_model.proofs.ImageBytes.Ranges.{map-same, map-shift, drop-range}
 use Rattle.mm_model.proofs.ImageBytes.Parts.{IsBytes, part, join_at, one_byte, below_8}
 

@@ -2,8 +2,7 @@
 use Rattle.std.proofs.Common.{[], ◌≡◌, ℕ, suc, Bool, true, false, not, List, ◌∷◌, Option, Some, None, refl, sym, ap, ◌∙◌, arith, eqb-true}
 use Rattle.std.specs.Prelude.{◌==◌, ◌||◌, IfSome, Contains}
 use Rattle.mm_model.specs.Slot.{Slot}
-use Rattle.mm_model.specs.Spelling.{IsOther}
-use Rattle.mm_model.specs.ImageFaults.{has_number}
+use Rattle.mm_model.specs.Spelling.{IsOther, has_number}
 use Rattle.mm_model.proofs.ImageBytes.Clean.{neither, not_not, is_not}
 
 abbrev Has : ℕ → List Slot → Type 0

@@ -5,9 +5,9 @@ use Rattle.std.proofs.Math.Seq.{take-add}
 use Rattle.std.proofs.lemmas.Bool.{cases_lt}
 use Rattle.std.proofs.lemmas.List.{drop-drop, drop_more, length-take, length-drop, get_or-take, get_or-drop, get_or_past}
 use Rattle.std.proofs.lemmas.Nat.{be_bytes_2, be_bytes_4, be_bytes_8}
-use Rattle.mm_model.specs.Places.{number_at}
+use Rattle.mm_model.specs.Bytes.{number_at}
 use Rattle.mm_model.proofs.ImageBytes.Numbers.{number_is_2, number_is_4, number_is_8, field_1}
-pub use Rattle.mm_model.specs.Places.{IsBytes}
+pub use Rattle.mm_model.specs.Bytes.{IsBytes}
 
 abbrev pub part : List ℕ → ℕ → ℕ → List ℕ
 part bytes at size = take size (drop at bytes)

@@ -1,12 +1,6 @@
 -- Lists of what a function gives at numbers one after the other.
-use Rattle.std.proofs.Common.{◌≡◌, ℕ, zero, suc, ◌+◌, ◌<◌, ◌≤◌, List, [], ◌∷◌, ◌++◌, length, get_or, drop, map, refl, sym, ap, ◌∙◌, arith}
-use Rattle.std.specs.List.{range_with_len, AllByRecursion}
-use Rattle.std.proofs.lemmas.List.FromFn.{map-range_with_len_more}
-
--- a property of each
-pub all_range : {A : Type 0} (P : A → Type 0) (f : ℕ → A) (from n : ℕ) → ((k : ℕ) → from ≤ k → k < from + n → P (f k)) → AllByRecursion P (map f (range_with_len from n))
-all_range P f from zero h = tt
-all_range P f from (suc n) h = (h from (omega arith) (omega arith), all_range P f (from + 1) n (λ k low high. h k (omega arith) (omega arith)))
+use Rattle.std.proofs.Common.{◌≡◌, ℕ, zero, suc, ◌+◌, ◌<◌, ◌≤◌, List, [], ◌∷◌, length, get_or, drop, map, refl, sym, ap, ◌∙◌, arith}
+use Rattle.std.specs.List.{range_with_len}
 
 pub map-map : {A B C : Type 0} (g : B → C) (f : A → B) (xs : List A) → map g (map f xs) ≡ map (λ x. g (f x)) xs
 map-map g f [] = refl
@@ -41,13 +35,3 @@ range-list f from (x ∷ xs) h =
     let first : f from ≡ x = ap f (sym here) ∙ h 0 x (omega arith) in
     ap (λ y. y ∷ map f (range_with_len (from + 1) (length xs))) first
     ∙ ap (λ ys. x ∷ ys) (range-list f (from + 1) xs (λ k d lt. let next : from + 1 + k ≡ from + suc k = omega arith in ap f next ∙ h (suc k) d (omega arith)))
-
--- one more is read
-pub one_more : {A : Type 0} (f : ℕ → A) (i : ℕ) (xs : List A) (x : A) → xs ≡ map f (range_with_len 0 i) → x ≡ f i → xs ++ x ∷ [] ≡ map f (range_with_len 0 (i + 1))
-one_more f i xs x read is = ap (λ ys. ys ++ x ∷ []) read ∙ ap (λ y. map f (range_with_len 0 i) ++ y ∷ []) is ∙ sym (map-range_with_len_more f 0 i i (omega arith))
-
--- all is read
-pub all_read : {A : Type 0} (f : ℕ → A) (count i : ℕ) (xs : List A) → xs ≡ map f (range_with_len 0 i) → i ≤ count → count ≤ i → xs ≡ map f (range_with_len 0 count)
-all_read f count i xs read le ge =
-    let same : i ≡ count = omega arith in
-    read ∙ ap (λ n. map f (range_with_len 0 n)) same

@@ -5,8 +5,7 @@ use Rattle.std.specs.List.{AllByRecursion}
 use Rattle.std.proofs.lemmas.Bool.Decides.{nat_tests}
 use Rattle.std.proofs.lemmas.List.Folds.{list_any_at}
 use Rattle.mm_model.specs.Slot.{Slot}
-use Rattle.mm_model.specs.Spelling.{IsOther, IsFresh}
-use Rattle.mm_model.specs.ImageFaults.{has_number}
+use Rattle.mm_model.specs.Spelling.{IsOther, IsFresh, has_number}
 
 -- 1. One of a list.
 

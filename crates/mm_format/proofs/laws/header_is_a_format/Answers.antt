@@ -1,6 +1,6 @@
 use Rattle.mm_format.specs.Headers.{header}
 use Rattle.mm_format.proofs.Files.{round_trips, one_to_one}
-use Rattle.mm_format.proofs.Headers.{header_is, header_says}
+use Rattle.mm_format.proofs.Headers.{header_is}
 use Rattle.mm_format.proofs.laws.header_is_a_format.Goals as goal
 
 pub returns-clause-format : goal.returns-clause-format
@@ -11,6 +11,3 @@ returns-clause-round_trip c = round_trips header header_is
 
 pub returns-clause-one_to_one : goal.returns-clause-one_to_one
 returns-clause-one_to_one c = one_to_one header header_is
-
-pub returns-clause-read : goal.returns-clause-read
-returns-clause-read c = header_says

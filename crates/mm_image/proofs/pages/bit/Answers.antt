@@ -1,6 +1,6 @@
 use Rattle.std.proofs.Common.{◌≡◌, ◌+◌, ◌/◌, ◌%◌, ◌^◌, sym, ap, ◌∙◌, arith}
 use Rattle.std.specs.Prelude.{◌==◌}
-use Rattle.mm_model.specs.Places.{number_at}
+use Rattle.mm_model.specs.Bytes.{number_at}
 use Rattle.mm_model.proofs.ImageBytes.Numbers.{field_1}
 use Rattle.mm_image.proofs.pages.bit.Goals as goal
 

@@ -4,7 +4,7 @@ use Rattle.std.proofs.lemmas.Result.{err_from_is_err_and}
 use Rattle.std.proofs.lemmas.List.{take_all}
 use Rattle.std.proofs.lemmas.List.FromFn.{length-map-range_with_len, get_or-map-range_with_len}
 use Rattle.mm_word.specs.declared.word.Cell.{Cell}
-use Rattle.mm_model.specs.Places.{bit_at}
+use Rattle.mm_model.specs.Bytes.{bit_at}
 use Rattle.mm_format.specs.Formats.Outcome.{Got}
 use Rattle.mm_format.specs.Images.{word, bits_in}
 use Rattle.mm_format.specs.Reading.{FailsOr}

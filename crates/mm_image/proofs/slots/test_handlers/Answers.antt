@@ -3,7 +3,7 @@ use Rattle.std.proofs.Common.{subst, ◌∙◌}
 use Rattle.std.proofs.lemmas.List.{drop_more, drop_all}
 use Rattle.std.proofs.lemmas.Result.{err_from_is_err_and}
 use Rattle.mm_model.specs.Slot.{Slot}
-use Rattle.mm_model.specs.ImageFaults.{is_bad_handler}
+use Rattle.mm_model.specs.Spelling.{is_bad_handler}
 use Rattle.mm_format.specs.Formats.{answer, first_late}
 use Rattle.mm_format.specs.Formats.Outcome.{Got, Bad}
 use Rattle.mm_format.specs.Images.{handler_tests}

@@ -1,5 +1,5 @@
 use Rattle.std.proofs.Common.{◌≡◌, ℕ, List, Some, Err, ap, ◌∙◌, subst}
-use Rattle.mm_model.specs.ImageFaults.{image_fault}
+use Rattle.mm_format.specs.Images.{image_fault}
 use Rattle.mm_image.specs.declared.fault.ImageError.{ImageError}
 use Rattle.mm_image.specs.Faults.{number_of}
 use Rattle.mm_load.specs.declared.status.Refusal.TheVariants as refusal

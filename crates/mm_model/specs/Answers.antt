@@ -1,0 +1,7 @@
+-- Answers of functions that may run out of memory.
+use Rattle.std.specs.Prelude.{◌≡◌, Result, Ok, Err}
+
+-- the answer is this value, unless it is this error
+abbrev pub IsUnless : {X E : Type 0} → (want : E) → (value : X) → Result X E → Type 0
+IsUnless want value (Ok x) = x ≡ value
+IsUnless want value (Err e) = e ≡ want
