@@ -110,6 +110,9 @@ unfoldable pub slots : (version count : ℕ) → Format (List Slot)
 slots version count =
     late (times (slot (slot_limit version)) (λ _ s. s.number + 1) count 0) (λ all. handler_tests all 0 all)
 
+abbrev pub pages : (count : ℕ) → Format (List (ℕ × List Cell))
+pages count = times page (λ _ p. p.0 + 1) count 0
+
 -- the counts of an image's header
 abbrev pub header_in : Image → Header
 header_in i = record {
@@ -124,7 +127,7 @@ unfoldable pub image : Format Image
 image = do
   head ← part header_in header
   slots ← part (λ i. i.slots) (slots head.version head.slots)
-  pages ← part (λ i. i.memory.pages) (times page (λ _ p. p.0 + 1) head.pages 0)
+  pages ← part (λ i. i.memory.pages) (pages head.pages)
   done (record {
     version = head.version;
     split = head.split;

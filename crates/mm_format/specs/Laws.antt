@@ -1,19 +1,23 @@
--- Laws of formats, and of the image file as one.
+-- Laws of the image file as a format.
 use Rattle.std.specs.Prelude.{◌≡◌, ◌↔◌, ℕ, List, Some}
 use Rattle.mm_model.specs.Image.{Image}
 use Rattle.mm_model.specs.Spelling.{IsImage, spelling}
-use Rattle.mm_format.specs.Formats.{Format, Part, ◌>>=◌, fault_in}
+use Rattle.mm_model.specs.Slot.{Slot}
+use Rattle.mm_format.specs.declared.header.Header.{Header}
+use Rattle.mm_format.specs.Formats.{fault_in}
 use Rattle.mm_format.specs.Formats.Outcome.{Got}
-use Rattle.mm_format.specs.Images.{image}
+use Rattle.mm_format.specs.Headers.{header}
+use Rattle.mm_format.specs.Images.{slots, pages, image, image_fault}
 
--- the first fault of two parts is that of the first, if it has one; else the second is read where the first ends
-abbrev pub FaultsComeInOrder : Type 1
-FaultsComeInOrder =
-    {A B : Type 0} (part : Part B A) (rest : A → Format B) (bytes : List ℕ) (at : ℕ)
-    → ((fault : ℕ × ℕ) → fault_in (part.format.read bytes at) ≡ Some fault
-    → fault_in ((part >>= rest).read bytes at) ≡ Some fault)
-    × ((a : A) (next : ℕ) → part.format.read bytes at ≡ Got a next
-    → (part >>= rest).read bytes at ≡ (rest a).read bytes next)
+-- the first fault of an image file is that of its header, if that has one; else that of the slots, where the header ends;
+-- and else that of the pages, where the slots end
+pub record FaultsComeInOrder (bytes : List ℕ) : Type 0 where
+  pub of_header : (f : ℕ × ℕ) → fault_in (header.read bytes 0) ≡ Some f → image_fault bytes ≡ Some f
+  pub of_slots : (h : Header) (at : ℕ) → header.read bytes 0 ≡ Got h at → (f : ℕ × ℕ)
+      → fault_in ((slots h.version h.slots).read bytes at) ≡ Some f → image_fault bytes ≡ Some f
+  pub of_pages : (h : Header) (at : ℕ) → header.read bytes 0 ≡ Got h at → (all : List Slot) (next : ℕ)
+      → (slots h.version h.slots).read bytes at ≡ Got all next → (f : ℕ × ℕ)
+      → fault_in ((pages h.pages).read bytes next) ≡ Some f → image_fault bytes ≡ Some f
 
 -- the values that have a spelling are the images
 abbrev pub ImagesFit : Type 0

@@ -1,14 +1,15 @@
-//! What holds of formats, and of that of image files.
+//! What holds of the format of image files.
 //!
 //! These functions do nothing when they run: the contract of each is the law.
+ghost use Rattle.std.specs.Prelude.{ℕ, List};
 ghost use Rattle.mm_format.specs.Formats.{IsFormat, RoundTrips, IsOneToOne};
 ghost use Rattle.mm_format.specs.Headers.{header};
 ghost use Rattle.mm_format.specs.Images.{image};
 ghost use Rattle.mm_format.specs.Laws.{FaultsComeInOrder, ImagesFit, ImagesAreSpelled};
 
-/// Of two parts of a file, one after the other, the first fault is that of the first part, if it has one.
+/// The first fault of an image file is that of the first of its parts that has one: header, slots, pages.
 pub fn faults_come_in_order()
-    ensures { FaultsComeInOrder }
+    ensures { (bytes : List ℕ) → FaultsComeInOrder bytes }
 {}
 
 /// The header of an image file has a format.

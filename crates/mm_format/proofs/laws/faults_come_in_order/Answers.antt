@@ -1,15 +1,25 @@
-use Rattle.std.proofs.Common.{◌≡◌, ℕ, Some, ap, ◌∙◌}
-use Rattle.mm_format.specs.Formats.{Outcome, after, fault_in}
-use Rattle.mm_format.specs.Formats.Outcome.{Got, Bad}
+use Rattle.std.proofs.Common.{◌≡◌, ℕ, Some, sym, ap, ◌∙◌}
+use Rattle.mm_format.specs.Formats.{Outcome, after, fault_in, Outcome.{Got, Bad}}
+use Rattle.mm_format.specs.{Headers.header, Images.{slots, pages, image, image_fault}}
 use Rattle.mm_format.proofs.laws.faults_come_in_order.Goals as goal
 
+-- a fault of the first part is that of both
 stops : {A B : Type 0} (o : Outcome A) (rest : A → ℕ → Outcome B) (fault : ℕ × ℕ) → fault_in o ≡ Some fault
     → fault_in (after o rest) ≡ Some fault
 stops (Got a next) rest fault e = absurd cc
 stops (Bad number at) rest fault e = e
 
+-- and so is one of the second, if the first was read
+goes_on : {A B : Type 0} (o : Outcome A) (rest : A → ℕ → Outcome B) (a : A) (next : ℕ) (fault : ℕ × ℕ) → o ≡ Got a next
+    → fault_in (rest a next) ≡ Some fault → fault_in (after o rest) ≡ Some fault
+goes_on o rest a next fault is e = ap (λ x. fault_in (after x rest)) is ∙ e
+
 pub returns : goal.returns
-returns c = λ part rest bytes at. (
-  λ fault e. stops (part.format.read bytes at) (λ a next. (rest a).read bytes next) fault e,
-  λ a next e. ap (λ o. after o (λ x n. (rest x).read bytes n)) e,
-)
+unfolding image image_fault
+returns c = λ bytes. record {
+  of_header = λ f e. stops _ _ f (stops (header.read bytes 0) _ f e);
+  of_slots = λ h at is f e. stops _ _ f (goes_on (header.read bytes 0) _ h at f is
+      (stops ((slots h.version h.slots).read bytes at) _ f e));
+  of_pages = λ h at is all next are f e. stops _ _ f (goes_on (header.read bytes 0) _ h at f is
+      (goes_on ((slots h.version h.slots).read bytes at) _ all next f are (stops ((pages h.pages).read bytes next) _ f e)));
+}
