@@ -65,6 +65,9 @@ module _ {A : Type 0} where
   clean_got (Got a next) none = (a, next, refl)
   clean_got (Bad number at) none = absurd cc
 
+  pub never_both : (o : Outcome A) (a : A) (next : ℕ) (fault : ℕ × ℕ) → o ≡ Got a next → fault_in o ≡ Some fault → ⊥
+  never_both o a next fault read some = let clash : None ≡ Some fault = sym (ap fault_in read) ∙ some in absurd cc
+
   -- an error of a reader: if something is read, memory ran out; if there is a fault, it names it, or memory ran out
   module _ {K : Type 0} (number : K → ℕ) (o : Outcome A) where
     pub read_fails : (e : ReadError K) → Fails number o e → (a : A) (next : ℕ) → o ≡ Got a next → e ≡ NoMemory

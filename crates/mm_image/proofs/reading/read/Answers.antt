@@ -1,5 +1,5 @@
 use Rattle.std.proofs.{Common.{sym, ◌∙◌, arith}, lemmas.Result.err_from_is_err_and}
-use Rattle.mm_format.proofs.{Files.same_value, ImagesWhole.{read_spells, spelled_read}}
+use Rattle.mm_format.proofs.{Files.{same_value, never_both}, ImagesWhole.{read_spells, spelled_read}}
 use Rattle.mm_format.specs.Images.{image_fault}
 use Rattle.mm_image.proofs.Answered.{err_again, err_fault, err_first}
 use Rattle.mm_image.proofs.reading.read.Goals as goal
@@ -25,7 +25,9 @@ returns-in_err-image-clause-fault c =
 
 pub returns-clause-first : goal.returns-clause-first
 unfolding image_fault
-returns-clause-first c = λ number offset some. cc (c.in_ok-image.ensures.1, some)
+returns-clause-first c =
+    let read = c.in_ok-image.ensures in
+    λ number offset some. never_both _ c.in_ok-image.image read.0 (number, offset) read.1 some
 
 pub returns-in_err-image-clause-first : goal.returns-in_err-image-clause-first
 returns-in_err-image-clause-first c =

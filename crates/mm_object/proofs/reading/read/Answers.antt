@@ -1,5 +1,5 @@
 use Rattle.std.proofs.{Common.{sym, ◌∙◌, arith}, lemmas.Result.err_from_is_err_and}
-use Rattle.mm_format.proofs.Files.{same_value}
+use Rattle.mm_format.proofs.Files.{same_value, never_both}
 use Rattle.mm_object.specs.Faults.{object_fault}
 use Rattle.mm_object.proofs.{Answered.{err_again, err_fault, err_first}, FormatWhole.{read_spells, spelled_read}}
 use Rattle.mm_object.proofs.reading.read.Goals as goal
@@ -25,7 +25,9 @@ returns-in_err-object-clause-fault c =
 
 pub returns-clause-first : goal.returns-clause-first
 unfolding object_fault
-returns-clause-first c = λ number offset some. cc (c.in_ok-object.ensures.1, some)
+returns-clause-first c =
+    let read = c.in_ok-object.ensures in
+    λ number offset some. never_both _ c.in_ok-object.object read.0 (number, offset) read.1 some
 
 pub returns-in_err-object-clause-first : goal.returns-in_err-object-clause-first
 returns-in_err-object-clause-first c =
