@@ -1,5 +1,5 @@
 -- Whole files: what a format is there and back.
-use Rattle.std.proofs.Common.{◌≡◌, ℕ, ◌+◌, ◌≤◌, Bool, true, false, cond, ltb, List, length, take, Some, None, refl}
+use Rattle.std.proofs.Common.{◌≡◌, ℕ, ◌+◌, ◌≤◌, Bool, true, false, cond, ltb, List, length, take, Option, Some, None, Ok, Err, inl, inr, refl}
 use Rattle.std.proofs.Common.{sym, ap, ◌∙◌, arith}
 use Rattle.std.proofs.lemmas.Bool.{ltb-false, le-ltb}
 use Rattle.std.proofs.lemmas.List.{take_all}
@@ -8,7 +8,7 @@ use Rattle.mm_format.specs.declared.reader.ReadError.{ReadError}
 use Rattle.mm_format.specs.declared.reader.ReadError.TheVariants.{Fault, NoMemory}
 use Rattle.mm_format.specs.Formats.{Outcome, Format, IsFormat, Stands, file, fault_in, RoundTrips, IsOneToOne}
 use Rattle.mm_format.specs.Formats.Outcome.{Got, Bad}
-use Rattle.mm_format.specs.Reading.{Fails, Names}
+use Rattle.mm_format.specs.Reading.{Fails, AnswersFile, named}
 use Rattle.mm_format.proofs.Formats.{after_got}
 
 module _ {A : Type 0} (f : Format A) (is : IsFormat f) where
@@ -65,17 +65,35 @@ module _ {A : Type 0} where
   clean_got (Got a next) none = (a, next, refl)
   clean_got (Bad number at) none = absurd cc
 
-  pub never_both : (o : Outcome A) (a : A) (next : ℕ) (fault : ℕ × ℕ) → o ≡ Got a next → fault_in o ≡ Some fault → ⊥
-  never_both o a next fault read some = let clash : None ≡ Some fault = sym (ap fault_in read) ∙ some in absurd cc
+-- what a reader of the whole file answers
+module _ {A K E : Type 0} (file : Outcome A) (Spells : A → Type 0)
+    (reads : (a : A) → Spells a → (next : ℕ) × (file ≡ Got a next)) (number : K → ℕ) (fault_of : E → Option (ℕ × ℕ)) where
+  pub answers_ok : (a : A) (next : ℕ) → file ≡ Got a next → Spells a → AnswersFile fault_of Spells (fault_in file) (Ok a)
+  answers_ok a next is spells = record {
+    spelled = spells;
+    again = λ b s. (same_value (sym is ∙ (reads b s).1), tt);
+    named = tt;
+    first = λ f some. let clash : None ≡ Some f = sym (ap fault_in is) ∙ some in absurd cc;
+  }
 
-  -- an error of a reader: if something is read, memory ran out; if there is a fault, it names it, or memory ran out
-  module _ {K : Type 0} (number : K → ℕ) (o : Outcome A) where
-    pub read_fails : (e : ReadError K) → Fails number o e → (a : A) (next : ℕ) → o ≡ Got a next → e ≡ NoMemory
-    read_fails NoMemory h a next e = refl
-    read_fails (Fault kind offset) h a next e =
-        let both : Got a next ≡ Bad (number kind) offset = sym e ∙ h in absurd cc
+  pub answers_err : (e : ReadError K) (told : E) → fault_of told ≡ named number e → Fails number file e
+      → AnswersFile fault_of Spells (fault_in file) (Err told)
+  answers_err NoMemory told same h = record {
+    spelled = tt;
+    again = λ a s. (tt, same);
+    named = λ f some. let clash : None ≡ Some f = sym same ∙ some in absurd cc;
+    first = λ f some. inl same;
+  }
+  answers_err (Fault kind offset) told same h = record {
+    spelled = tt;
+    again = λ a s. let clash : Got a (reads a s).0 ≡ Bad (number kind) offset = sym (reads a s).1 ∙ h in absurd cc;
+    named = λ f some. ap fault_in h ∙ sym same ∙ some;
+    first = λ f some. inr (same ∙ sym (ap fault_in h) ∙ some);
+  }
 
-    pub bad_fails : (e : ReadError K) → Fails number o e → (fault : ℕ × ℕ) → fault_in o ≡ Some fault
-        → Names number (Some fault) e
-    bad_fails NoMemory h fault some = tt
-    bad_fails (Fault kind offset) h fault some = sym some ∙ ap fault_in h
+-- an error of a reader, if there is something to be read
+pub read_fails : {A K : Type 0} (number : K → ℕ) (o : Outcome A) (e : ReadError K) → Fails number o e → (a : A) (next : ℕ)
+    → o ≡ Got a next → e ≡ NoMemory
+read_fails number o NoMemory h a next e = refl
+read_fails number o (Fault kind offset) h a next e =
+    let both : Got a next ≡ Bad (number kind) offset = sym e ∙ h in absurd cc

@@ -1,5 +1,6 @@
 -- What code that reads a format answers.
-use Rattle.std.specs.Prelude.{◌≡◌, ℕ, Option, Some, Result, Ok, Err}
+use Rattle.std.specs.Prelude.{◌≡◌, ◌⊎◌, ℕ, Option, Some, None, Result, Ok, Err, IfOk, IfErr}
+use Rattle.std.specs.Result.{IsErrAnd}
 use Rattle.mm_format.specs.declared.reader.ReadError.{ReadError}
 use Rattle.mm_format.specs.declared.reader.ReadError.TheVariants.{Fault, NoMemory}
 use Rattle.mm_format.specs.Formats.{Outcome}
@@ -32,7 +33,17 @@ abbrev pub ReadsFile : {K X A : Type 0} → (K → ℕ) → (X → A) → Outcom
 ReadsFile number view read (Ok x) = (next : ℕ) × (read ≡ Outcome.Got (view x) next)
 ReadsFile number view read (Err e) = Fails number read e
 
--- the error names the fault, unless memory ran out
-abbrev pub Names : {K : Type 0} → (K → ℕ) → Option (ℕ × ℕ) → ReadError K → Type 0
-Names number fault (Fault kind offset) = fault ≡ Some (number kind, offset)
-Names number fault NoMemory = Unit {0}
+-- the number and the offset of the fault that an error names, if memory did not run out
+abbrev pub named : {K : Type 0} → (K → ℕ) → ReadError K → Option (ℕ × ℕ)
+named number (Fault kind offset) = Some (number kind, offset)
+named number NoMemory = None
+
+-- what a reader of a whole file answers, whose errors name these faults, or none if memory ran out
+pub record AnswersFile {A E : Type 0} (fault_of : E → Option (ℕ × ℕ)) (Spells : A → Type 0) (fault : Option (ℕ × ℕ))
+    (answer : Result A E) : Type 0 where
+  -- the bytes spell the value that is read, and a value that they spell is read, unless memory ran out
+  pub spelled : IfOk answer Spells
+  pub again : (value : A) → Spells value → IfOk answer (λ x. x ≡ value) × IfErr answer (λ e. fault_of e ≡ None)
+  -- a fault that is named is the first one, and if there is one, it is named, unless memory ran out
+  pub named : IfErr answer (λ e. (f : ℕ × ℕ) → fault_of e ≡ Some f → fault ≡ Some f)
+  pub first : (f : ℕ × ℕ) → fault ≡ Some f → IsErrAnd answer (λ e. (fault_of e ≡ None) ⊎ (fault_of e ≡ Some f))

@@ -1,16 +1,12 @@
 //! The reader of image files.
 
-ghost use Rattle.std.specs.Prelude.{◌≡◌, ℕ, IfOk, Some, Err};
-ghost use Rattle.std.specs.Result.{IsErrAnd};
-ghost use Rattle.mm_model.specs.Answers.{IsUnless};
-ghost use Rattle.mm_model.specs.Image.{Image as ImageValue};
+ghost use Rattle.std.specs.Prelude.{◌≡◌};
 ghost use Rattle.mm_model.specs.Spelling.{Spells};
 ghost use Rattle.mm_model.specs.Bytes.{IsBytes};
 ghost use Rattle.mm_format.specs.Formats.{file};
 ghost use Rattle.mm_format.specs.Images.{image, image_fault};
-ghost use Rattle.mm_format.specs.Reading.{Reads, ReadsFile};
-ghost use Rattle.mm_image.specs.Faults.{Fails, number_of};
-ghost use Rattle.mm_image.specs.declared.fault.ImageFault.{ImageFault};
+ghost use Rattle.mm_format.specs.Reading.{Reads, ReadsFile, AnswersFile};
+ghost use Rattle.mm_image.specs.Faults.{fault_of, number_of};
 
 use crate::fault::{ImageError, ImageFault};
 use crate::header::read_header;
@@ -21,16 +17,9 @@ use mm_format::{ReadError, Reader, refuse_if};
 use std::alloc::Global;
 
 /// The image that the bytes of a file spell, or the first fault that is met when its fields are read from the front.
+/// `NoMemory` comes if memory ran out.
 pub fn read(alloc: Global, bytes: &[u8]) -> Result<Image, ImageError>
-    // The bytes spell the image that is read, and an image that they spell is read.
-    ensures spelled { IfOk result (λ i. Spells bytes.now i) }
-    ensures again { (i : ImageValue) → Spells bytes.now i → IsUnless ImageError.NoMemory i result }
-
-    // A fault that is answered is the first one, and if there is one, it is answered.
-    ensures fault { (kind : ImageFault) (offset : ℕ) → result ≡ Err (ImageError.Fault kind offset)
-        → image_fault bytes.now ≡ Some (number_of kind, offset) }
-    ensures first { (number offset : ℕ) → image_fault bytes.now ≡ Some (number, offset)
-        → IsErrAnd result (Fails (Some (number, offset))) }
+    ensures { AnswersFile fault_of (Spells bytes.now) (image_fault bytes.now) result }
 {
     let image = read_file(alloc, bytes)?;
     Ok(image)

@@ -14,6 +14,5 @@ pub mod Readings
 pub mod FormatIs
 pub mod FormatFits
 pub mod FormatWhole
-pub mod Answered
 pub mod Found
 pub mod Members

@@ -1,5 +1,5 @@
--- The numbers of the faults of object files, and the answers of a reader.
-use Rattle.std.specs.Prelude.{◌≡◌, ℕ, Option, Some}
+-- The numbers of the faults of object files, and the errors of a reader.
+use Rattle.std.specs.Prelude.{ℕ, Option, Some, None}
 use Rattle.mm_format.specs.declared.reader.ReadError.{ReadError}
 use Rattle.mm_format.specs.declared.reader.ReadError.TheVariants as reading
 use Rattle.mm_object.specs.declared.fault.ObjectFault.{ObjectFault}
@@ -23,7 +23,7 @@ abbrev pub told : ReadError ObjectFault → ObjectError
 told (reading.Fault kind offset) = errors.Fault kind offset
 told reading.NoMemory = errors.NoMemory
 
--- the error names the fault, unless memory ran out
-abbrev pub Fails : Option (ℕ × ℕ) → ObjectError → Type 0
-Fails fault (errors.Fault kind offset) = fault ≡ Some (number_of kind, offset)
-Fails fault errors.NoMemory = Unit {0}
+-- the number and the offset of the fault that an error names, if memory did not run out
+abbrev pub fault_of : ObjectError → Option (ℕ × ℕ)
+fault_of (errors.Fault kind offset) = Some (number_of kind, offset)
+fault_of errors.NoMemory = None

@@ -1,13 +1,11 @@
 //! The reader of object files.
 
 ghost use Rattle.std.specs.Prelude.{◌≡◌, ℕ, ◌≤◌, ◌<◌, ◌^◌, IfOk, Some, Err, true, length};
-ghost use Rattle.std.specs.Result.{IsErrAnd};
-ghost use Rattle.mm_model.specs.Answers.{IsUnless};
 ghost use Rattle.mm_model.specs.Bytes.{IsBytes};
 ghost use Rattle.mm_format.specs.Formats.{answer, file, first_late};
-ghost use Rattle.mm_format.specs.Reading.{Reads, ReadsAlone, ReadsFile};
+ghost use Rattle.mm_format.specs.Reading.{Reads, ReadsAlone, ReadsFile, AnswersFile};
 ghost use Rattle.mm_object.specs.declared.fault.ObjectFault.{ObjectFault};
-ghost use Rattle.mm_object.specs.Answers.{Fails, number_of};
+ghost use Rattle.mm_object.specs.Answers.{fault_of, number_of};
 ghost use Rattle.mm_object.specs.Faults.{object_fault};
 ghost use Rattle.mm_object.specs.Format.{object, pointers_from, pointers_row, used_pointers, use_tests};
 ghost use Rattle.mm_object.specs.Objects.{Object as ObjectValue, targets_of};
@@ -31,15 +29,7 @@ use std::alloc::Global;
 /// The object that the bytes of a file spell, or the first fault of its fields in their order. `NoMemory` comes if
 /// memory ran out.
 pub fn read(alloc: Global, bytes: &[u8]) -> Result<Object, ObjectError>
-    // The object that is read is spelled by the bytes, and an object that the bytes spell is read.
-    ensures spelled { IfOk result (λ o. Spells bytes.now o) }
-    ensures again { (o : ObjectValue) → Spells bytes.now o → IsUnless ObjectError.NoMemory o result }
-
-    // A fault that is answered is the first one, and if there is one it is answered.
-    ensures fault { (kind : ObjectFault) (offset : ℕ) → result ≡ Err (ObjectError.Fault kind offset)
-        → object_fault bytes.now ≡ Some (number_of kind, offset) }
-    ensures first { (number offset : ℕ) → object_fault bytes.now ≡ Some (number, offset)
-        → IsErrAnd result (Fails (Some (number, offset))) }
+    ensures { AnswersFile fault_of (Spells bytes.now) (object_fault bytes.now) result }
 {
     let object = read_file(alloc, bytes)?;
     Ok(object)

@@ -1,4 +1,5 @@
-use Rattle.std.proofs.Common.{◌≡◌, ℕ, List, Some, Err, ap, ◌∙◌, subst}
+use Rattle.std.proofs.Common.{◌≡◌, ℕ, List, Some, Err, refl, ap, ◌∙◌, subst}
+use Rattle.std.proofs.lemmas.Result.{IfErr-at_err}
 use Rattle.mm_object.specs.Faults.{object_fault}
 use Rattle.mm_object.specs.declared.fault.ObjectError.{ObjectError}
 use Rattle.mm_object.specs.Answers.{number_of}
@@ -12,7 +13,8 @@ returns-in-Err-Fault-clause-read g c before counted =
     let fault = c.in-Err-Fault.fault in
     let offset = c.in-Err-Fault.offset in
     let P : List ℕ → Type 0 = λ bytes. object_fault bytes ≡ Some (number_of fault, offset) in
-    let says = subst P c.deref.ensures.value (c.read.ensures.fault fault offset (c.in-Err-Fault.is ∙ ap (λ (e : ObjectError). Err e) c.in-Err-Fault.field-0-is)) in
+    let says = subst P c.deref.ensures.value (IfErr-at_err _ (c.in-Err-Fault.is ∙ ap (λ (e : ObjectError). Err e) c.in-Err-Fault.field-0-is)
+    c.read.ensures.named (number_of fault, offset) refl) in
     refused_file _ _ c.in_ok-bytes.ensures.bytes c.in_ok-bytes.ensures.short (fault, offset, ap (λ (n : ℕ). refusal.Object n fault offset) counted, says)
     c.read_file.ensures.asks.of_name c.read_file.ensures.asks.asks
 
