@@ -67,11 +67,11 @@ module _ {A : Type 0} where
 
 -- what a reader of the whole file answers
 module _ {A K E : Type 0} (file : Outcome A) (Spells : A → Type 0)
-    (reads : (a : A) → Spells a → (next : ℕ) × (file ≡ Got a next)) (number : K → ℕ) (fault_of : E → Option (ℕ × ℕ)) where
+    (end : ℕ) (reads : (a : A) → Spells a → file ≡ Got a end) (number : K → ℕ) (fault_of : E → Option (ℕ × ℕ)) where
   pub answers_ok : (a : A) (next : ℕ) → file ≡ Got a next → Spells a → AnswersFile fault_of Spells (fault_in file) (Ok a)
   answers_ok a next is spells = record {
     spelled = spells;
-    again = λ b s. (same_value (sym is ∙ (reads b s).1), tt);
+    again = λ b s. (same_value (sym is ∙ reads b s), tt);
     named = tt;
     first = λ f some. let clash : None ≡ Some f = sym (ap fault_in is) ∙ some in absurd cc;
   }
@@ -86,7 +86,7 @@ module _ {A K E : Type 0} (file : Outcome A) (Spells : A → Type 0)
   }
   answers_err (Fault kind offset) told same h = record {
     spelled = tt;
-    again = λ a s. let clash : Got a (reads a s).0 ≡ Bad (number kind) offset = sym (reads a s).1 ∙ h in absurd cc;
+    again = λ a s. let clash : Got a end ≡ Bad (number kind) offset = sym (reads a s) ∙ h in absurd cc;
     named = λ f some. ap fault_in h ∙ sym same ∙ some;
     first = λ f some. inr (same ∙ sym (ap fault_in h) ∙ some);
   }

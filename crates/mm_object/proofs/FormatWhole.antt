@@ -9,6 +9,8 @@ use Rattle.mm_model.specs.Flags.{number_of_flags}
 use Rattle.mm_model.specs.Spelling.{bitmap, handler_byte}
 use Rattle.mm_format.specs.Formats.{each, cons, file, fault_in}
 use Rattle.mm_format.specs.Formats.Outcome.{Got}
+use Rattle.mm_format.specs.declared.reader.ReadError.{ReadError, TheVariants.{Fault, NoMemory}}
+use Rattle.mm_format.specs.Reading.{named}
 use Rattle.mm_format.specs.Images.{mask}
 use Rattle.mm_format.proofs.Files.{spelled_by, read_whole, same_value, clean_got}
 use Rattle.mm_format.proofs.Lists.{times_spell}
@@ -17,7 +19,9 @@ use Rattle.mm_object.specs.declared.target.Reloc.{Reloc}
 use Rattle.mm_object.specs.declared.thread.Value.{Value}
 use Rattle.mm_object.specs.declared.thread.Value.TheVariants.{Int, Ptr}
 use Rattle.mm_object.specs.declared.thread.Thread.{Thread}
-use Rattle.mm_object.specs.Faults.{object_fault}
+use Rattle.mm_object.specs.declared.fault.ObjectFault.{ObjectFault}
+use Rattle.mm_object.specs.Answers.{number_of, told}
+use Rattle.mm_object.specs.Faults.{fault_of, object_fault}
 use Rattle.mm_object.specs.Format.{push, header_row, name_fields, name_row, external_row, bits_row, item_row, log_row}
 use Rattle.mm_object.specs.Format.{count_row, segment_row, perm_row, target_row, reloc_fields, good_reloc, reloc_row}
 use Rattle.mm_object.specs.Format.{integer_row, pointer_row, value_row, thread_fields, good_thread, thread_row}
@@ -121,3 +125,8 @@ module _ (bytes : List ℕ) where
 
   pub spelled_one : (a b : Object) → Spells bytes a → Spells bytes b → a ≡ b
   spelled_one a b s t = same_value (sym (spelled_read a s) ∙ spelled_read b t)
+
+-- the error that is told names the fault that was met
+pub told_right : (e : ReadError ObjectFault) → fault_of (told e) ≡ named number_of e
+told_right (Fault kind offset) = refl
+told_right NoMemory = refl

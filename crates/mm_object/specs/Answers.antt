@@ -1,5 +1,5 @@
 -- The numbers of the faults of object files, and the errors of a reader.
-use Rattle.std.specs.Prelude.{ℕ, Option, Some, None}
+use Rattle.std.specs.Prelude.{ℕ}
 use Rattle.mm_format.specs.declared.reader.ReadError.{ReadError}
 use Rattle.mm_format.specs.declared.reader.ReadError.TheVariants as reading
 use Rattle.mm_object.specs.declared.fault.ObjectFault.{ObjectFault}
@@ -22,8 +22,3 @@ number_of faults.Trailing = 9
 abbrev pub told : ReadError ObjectFault → ObjectError
 told (reading.Fault kind offset) = errors.Fault kind offset
 told reading.NoMemory = errors.NoMemory
-
--- the number and the offset of the fault that an error names, if memory did not run out
-abbrev pub fault_of : ObjectError → Option (ℕ × ℕ)
-fault_of (errors.Fault kind offset) = Some (number_of kind, offset)
-fault_of errors.NoMemory = None

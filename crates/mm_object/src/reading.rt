@@ -5,8 +5,8 @@ ghost use Rattle.mm_model.specs.Bytes.{IsBytes};
 ghost use Rattle.mm_format.specs.Formats.{answer, file, first_late};
 ghost use Rattle.mm_format.specs.Reading.{Reads, ReadsAlone, ReadsFile, AnswersFile};
 ghost use Rattle.mm_object.specs.declared.fault.ObjectFault.{ObjectFault};
-ghost use Rattle.mm_object.specs.Answers.{fault_of, number_of};
-ghost use Rattle.mm_object.specs.Faults.{object_fault};
+ghost use Rattle.mm_object.specs.Answers.{number_of};
+ghost use Rattle.mm_object.specs.Faults.{fault_of, object_fault};
 ghost use Rattle.mm_object.specs.Format.{object, pointers_from, pointers_row, used_pointers, use_tests};
 ghost use Rattle.mm_object.specs.Objects.{Object as ObjectValue, targets_of};
 ghost use Rattle.mm_object.specs.Spelling.{Spells};
@@ -35,16 +35,6 @@ pub fn read(alloc: Global, bytes: &[u8]) -> Result<Object, ObjectError>
     Ok(object)
 }
 
-// The object of a whole file.
-fn read_file(alloc: Global, bytes: &[u8]) -> Result<Object, ReadError<ObjectFault>>
-    ensures { ReadsFile number_of (λ o. o) (file object 9 bytes.now) result }
-{
-    let mut reader = Reader { bytes, at: 0 };
-    let object = read_object(alloc, &mut reader)?;
-    refuse_if(bytes.len() > reader.at, ObjectFault::Trailing, reader.at)?;
-    Ok(object)
-}
-
 // Reads an object from the front of a file.
 #[tactic(auto, unfolding(crate::specs::Format::object))]
 fn read_object(alloc: Global, reader: &mut Reader) -> Result<Object, ReadError<ObjectFault>>
@@ -63,6 +53,16 @@ fn read_object(alloc: Global, reader: &mut Reader) -> Result<Object, ReadError<O
         threads: pointers.threads,
         spare: header.spare,
     })
+}
+
+// The object of a whole file.
+fn read_file(alloc: Global, bytes: &[u8]) -> Result<Object, ReadError<ObjectFault>>
+    ensures { ReadsFile number_of (λ o. o) (file object 9 bytes.now) result }
+{
+    let mut reader = Reader { bytes, at: 0 };
+    let object = read_object(alloc, &mut reader)?;
+    refuse_if(bytes.len() > reader.at, ObjectFault::Trailing, reader.at)?;
+    Ok(object)
 }
 
 /// The names that an object uses, and what points to them.
