@@ -10,9 +10,32 @@ ghost use Rattle.mm_format.specs.Reading.{ReadsAlone};
 ghost use Rattle.mm_image.specs.Faults.{number_of};
 ghost use Rattle.mm_checkpoint.specs.Format.{beside, operand, register, tagged};
 
-use mm_format::{ReadError, Reader, failed, refuse_if};
+use mm_format::{ReadError, Reader, Sixteen, failed, read_sixteen, refuse_if};
 use mm_image::{ImageFault, is_set, read_word, word_of};
 use mm_word::Word;
+
+/// The masks of pointers and of empty registers.
+#[derive(Drop)]
+struct Masks {
+    tags: u16,
+    empty: u16,
+}
+
+impl Sixteen<ImageFault> for Masks {
+    ghost use Rattle.std.specs.Prelude.{◌==◌, ◌/◌, ◌%◌, ◌^◌};
+    ghost use Rattle.mm_word.specs.Word.{IsWord};
+    ghost use Rattle.mm_checkpoint.specs.Format.{register};
+
+    type Item = Word;
+
+    ghost reads = { λ m place. (register (m.tags / 2 ^ place % 2 == 1, m.empty / 2 ^ place % 2 == 1)).read };
+
+    ghost holds = { IsWord };
+
+    fn item(&self, reader: &mut Reader, place: usize) -> Result<Word, ReadError<ImageFault>> {
+        read_register(reader, is_set(self.tags, place), is_set(self.empty, place))
+    }
+}
 
 /// Reads sixteen registers, given the masks of pointers and of empty registers.
 pub(crate) fn read_registers(
@@ -26,12 +49,7 @@ pub(crate) fn read_registers(
     ensures count { IfOk result (λ regs. length regs ≡ 16) }
     ensures words { IfOk result (λ regs. AllByRecursion IsWord regs) }
 {
-    let mut regs = [Word::Int(0); 16];
-    for r in 0..16 {
-        let word = read_register(reader, is_set(tags, r), is_set(empty, r))?;
-        regs[r] = word;
-    }
-    Ok(regs)
+    read_sixteen(reader, &Masks { tags, empty }, Word::Int(0))
 }
 
 // Reads a register, which holds integer 0 if it is empty.

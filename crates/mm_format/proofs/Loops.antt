@@ -1,14 +1,15 @@
 -- Lists, as loops read them.
-use Rattle.std.proofs.Common.{◌≡◌, ℕ, zero, suc, ◌+◌, ◌-◌, ◌≤◌, ◌<◌, Bool, true, false, cond, Option, Some, None, List, [], ◌∷◌, ◌++◌, drop, length, get_or}
-use Rattle.std.proofs.Common.{refl}
-use Rattle.std.proofs.Common.{sym, ap, subst, ◌∙◌}
-use Rattle.std.proofs.Common.{append_assoc, arith}
+use Rattle.std.proofs.Common.{◌≡◌, ℕ, zero, suc, ◌+◌, ◌-◌, ◌/◌, ◌%◌, ◌^◌, ◌≤◌, ◌<◌, Bool, true, false, cond, Option, Some}
+use Rattle.std.proofs.Common.{List, [], ◌∷◌, ◌++◌, drop, length, get_or, refl, sym, ap, subst, ◌∙◌, append_assoc, arith}
+use Rattle.std.specs.Prelude.{◌==◌}
 use Rattle.std.proofs.lemmas.List.{append-nil, drop_more, drop_all}
 use Rattle.mm_format.specs.declared.reader.ReadError.{ReadError}
 use Rattle.mm_format.specs.declared.reader.ReadError.TheVariants.{Fault, NoMemory}
-use Rattle.mm_format.specs.Formats.{Outcome, Format, after, answer, cons, times, each, runs}
+use Rattle.mm_format.specs.Formats.{Outcome, Format, after, answer, cons, times, each, runs, sixteen}
 use Rattle.mm_format.specs.Formats.Outcome.{Got, Bad}
+use Rattle.mm_format.specs.Images.{flags_of}
 use Rattle.mm_format.specs.Reading.{FailsOr}
+use Rattle.mm_model.proofs.FlagLists.{flags-get}
 
 module _ {A : Type 0} where
   -- what was read before, and what is still read
@@ -125,41 +126,62 @@ runs_begin read onward count s bytes at =
     let all : count - 0 ≡ count = omega arith in
     nothing_before (runs read onward (count - 0) s bytes at) ∙ ap (λ n. runs read onward n s bytes at) all
 
+-- a list is the same if what follows its first value is
+cons_same : {A : Type 0} (o : Outcome A) (f g : A → ℕ → Outcome (List A))
+    → ((a : A) (next : ℕ) → f a next ≡ g a next)
+    → after o (λ a next. after (f a next) (λ xs end. Got (a ∷ xs) end))
+    ≡ after o (λ a next. after (g a next) (λ xs end. Got (a ∷ xs) end))
+cons_same (Got a next) f g same = ap (λ o. after o (λ xs end. Got (a ∷ xs) end)) (same a next)
+cons_same (Bad k p) f g same = refl
+
 -- the same records, where what stands before them is told in another way
 pub runs_told : {S T A : Type 0} (to : S → T) (read : T → List ℕ → ℕ → Outcome A) (onward : S → A → S)
     (onto : T → A → T) → ((s : S) (a : A) → onto (to s) a ≡ to (onward s a))
     → (n : ℕ) (s : S) (bytes : List ℕ) (at : ℕ)
     → runs (λ s. read (to s)) onward n s bytes at ≡ runs read onto n (to s) bytes at
 runs_told to read onward onto same zero s bytes at = refl
-runs_told {A = A} to read onward onto same (suc n) s bytes at =
-    go (read (to s) bytes at) (λ a next. runs_told to read onward onto same n (onward s a) bytes next
+runs_told to read onward onto same (suc n) s bytes at =
+    cons_same (read (to s) bytes at) _ _ (λ a next. runs_told to read onward onto same n (onward s a) bytes next
     ∙ ap (λ t. runs read onto n t bytes next) (sym (same s a)))
-  where
-    go : (o : Outcome A)
-        → ((a : A) (next : ℕ) → runs (λ s. read (to s)) onward n (onward s a) bytes next
-        ≡ runs read onto n (onto (to s) a) bytes next)
-        → after o (λ a next. after (runs (λ s. read (to s)) onward n (onward s a) bytes next)
-        (λ xs end. Got (a ∷ xs) end))
-        ≡ after o (λ a next. after (runs read onto n (onto (to s) a) bytes next)
-        (λ xs end. Got (a ∷ xs) end))
-    go (Got a next) others = ap (λ o. after o (λ xs end. Got (a ∷ xs) end)) (others a next)
-    go (Bad k p) others = refl
 
 -- a format's list is read so
 pub times_runs : {S A : Type 0} (f : S → Format A) (onward : S → A → S) (n : ℕ) (s : S) (bytes : List ℕ) (at : ℕ)
     → (times f onward n s).read bytes at ≡ runs (λ t. (f t).read) onward n s bytes at
 unfolding cons
 times_runs f onward zero s bytes at = refl
-times_runs {A = A} f onward (suc n) s bytes at =
-    go ((f s).read bytes at) (λ a next. times_runs f onward n (onward s a) bytes next)
-  where
-    go : (o : Outcome A) → ((a : A) (next : ℕ) → (times f onward n (onward s a)).read bytes next
-        ≡ runs (λ t. (f t).read) onward n (onward s a) bytes next)
-        → after o (λ a next. after ((times f onward n (onward s a)).read bytes next) (λ xs end. Got (a ∷ xs) end))
-        ≡ after o (λ a next. after (runs (λ t. (f t).read) onward n (onward s a) bytes next)
-        (λ xs end. Got (a ∷ xs) end))
-    go (Got a next) same = ap (λ o. after o (λ xs end. Got (a ∷ xs) end)) (same a next)
-    go (Bad k p) same = refl
+times_runs f onward (suc n) s bytes at =
+    cons_same ((f s).read bytes at) _ _ (λ a next. times_runs f onward n (onward s a) bytes next)
+
+-- so is a value for each of a list, where each place is read as its format reads
+each_runs : {B A : Type 0} (f : B → Format A) (bs : List B) (d : B) (read : ℕ → List ℕ → ℕ → Outcome A) (s : ℕ)
+    → ((k : ℕ) → k < length bs → (f (get_or bs k d)).read ≡ read (s + k)) → (bytes : List ℕ) (at : ℕ)
+    → (each f bs).read bytes at ≡ runs read (λ k _. k + 1) (length bs) s bytes at
+unfolding cons
+each_runs f [] d read s same bytes at = refl
+each_runs f (b ∷ bs) d read s same bytes at =
+    let here : s + 0 ≡ s = omega arith in
+    let later : (k : ℕ) → s + suc k ≡ s + 1 + k = λ k. omega arith in
+    cons_same ((f b).read bytes at) _ _ (λ a next. each_runs f bs d read (s + 1)
+    (λ k lt. same (suc k) (omega (arith, lt)) ∙ ap read (later k)) bytes next)
+    ∙ ap (λ r. after (r bytes at) (λ a next. after (runs read (λ k _. k + 1) (length bs) (s + 1) bytes next)
+    (λ xs end. Got (a ∷ xs) end))) (same 0 (omega arith) ∙ ap read here)
+
+-- so of sixteen
+pub each_sixteen : {B A : Type 0} (f : B → Format A) (bs : List B) (d : B) (read : ℕ → List ℕ → ℕ → Outcome A)
+    → length bs ≡ 16 → ((k : ℕ) → k < 16 → (f (get_or bs k d)).read ≡ read k) → (bytes : List ℕ) (at : ℕ)
+    → (each f bs).read bytes at ≡ sixteen read bytes at
+unfolding sixteen
+each_sixteen f bs d read long same bytes at =
+    let alone : (k : ℕ) → k ≡ 0 + k = λ k. omega arith in
+    each_runs f bs d read 0 (λ k lt. same k (subst (λ n. k < n) long lt) ∙ ap read (alone k)) bytes at
+    ∙ ap (λ n. runs read (λ k _. k + 1) n 0 bytes at) long
+
+-- a value for each of sixteen flags
+pub flags_sixteen : {A : Type 0} (f : Bool → Format A) (tags : ℕ) (bytes : List ℕ) (at : ℕ)
+    → (each f (flags_of tags)).read bytes at ≡ sixteen (λ k. (f (tags / 2 ^ k % 2 == 1)).read) bytes at
+unfolding flags_of
+flags_sixteen f tags =
+    each_sixteen f (flags_of tags) false _ refl (λ k lt. ap (λ b. (f b).read) (flags-get 16 tags k lt))
 
 -- a test that is made late
 pub late_stop : {K A : Type 0} (number : K → ℕ) (bad : Bool) (n at : ℕ) (rest total : Option (ℕ × ℕ)) (v : A) (end : ℕ)

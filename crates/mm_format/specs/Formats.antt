@@ -201,3 +201,7 @@ runs read onward zero s bytes at = Outcome.Got [] at
 runs read onward (suc n) s bytes at =
     after (read s bytes at)
     (λ a next. after (runs read onward n (onward s a) bytes next) (λ others end. Outcome.Got (a ∷ others) end))
+
+-- the values of sixteen places
+unfoldable pub sixteen : {A : Type 0} → (ℕ → List ℕ → ℕ → Outcome A) → List ℕ → ℕ → Outcome (List A)
+sixteen read bytes at = runs read (λ k _. k + 1) 16 0 bytes at

@@ -23,7 +23,9 @@ mod header;
 pub mod laws;
 mod reader;
 mod run;
+mod sixteen;
 
 pub use header::Header;
 pub use reader::{FaultKind, ReadError, Reader, failed, refuse_if};
 pub use run::{Run, read_run};
+pub use sixteen::{Sixteen, read_sixteen};

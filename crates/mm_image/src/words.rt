@@ -13,7 +13,7 @@ ghost use Rattle.mm_format.specs.Reading.{ReadsAlone};
 ghost use Rattle.mm_image.specs.Faults.{number_of};
 
 use crate::fault::ImageFault;
-use mm_format::{ReadError, Reader, failed};
+use mm_format::{ReadError, Reader, Sixteen, failed, read_sixteen};
 use mm_word::{GuardedPtr, Kind, Word};
 
 /// A bit of a number, the lowest at place 0.
@@ -71,7 +71,30 @@ pub fn read_ip(reader: &mut Reader) -> Result<GuardedPtr, ReadError<ImageFault>>
     }
 }
 
+/// The tags of sixteen registers.
+#[derive(Drop)]
+struct Tags {
+    tags: u16,
+}
+
+impl Sixteen<ImageFault> for Tags {
+    ghost use Rattle.std.specs.Prelude.{◌==◌, ◌/◌, ◌%◌, ◌^◌};
+    ghost use Rattle.mm_word.specs.Word.{IsWord};
+    ghost use Rattle.mm_format.specs.Images.{word};
+
+    type Item = Word;
+
+    ghost reads = { λ t place. (word (t.tags / 2 ^ place % 2 == 1)).read };
+
+    ghost holds = { IsWord };
+
+    fn item(&self, reader: &mut Reader, place: usize) -> Result<Word, ReadError<ImageFault>> {
+        read_word(reader, is_set(self.tags, place))
+    }
+}
+
 /// Reads sixteen registers with these tags.
+#[tactic(auto, using(mm_format::proofs::Loops::flags_sixteen))]
 pub(crate) fn read_registers(
     reader: &mut Reader,
     tags: u16,
@@ -82,10 +105,5 @@ pub(crate) fn read_registers(
     ensures words { IfOk result (λ regs. AllByRecursion IsWord regs) }
     ensures count { IfOk result (λ regs. length regs ≡ 16) }
 {
-    let mut regs = [Word::Int(0); 16];
-    for r in 0..16 {
-        let word = read_word(reader, is_set(tags, r))?;
-        regs[r] = word;
-    }
-    Ok(regs)
+    read_sixteen(reader, &Tags { tags }, Word::Int(0))
 }

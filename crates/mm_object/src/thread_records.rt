@@ -15,7 +15,7 @@ use crate::segment::Segment;
 use crate::thread::{Thread, Value};
 use crate::threads::is_thread;
 use crate::writing::NO_HANDLER;
-use mm_format::{ReadError, Reader, Run, failed, read_run, refuse_if};
+use mm_format::{ReadError, Reader, Run, Sixteen, failed, read_run, read_sixteen, refuse_if};
 use std::alloc::Global;
 
 /// The length in bytes of the record of a thread.
@@ -67,18 +67,33 @@ fn read_value(reader: &mut Reader, tagged: bool) -> Result<Value, ReadError<Obje
     }
 }
 
+// The tags of sixteen registers, of which those that are set become pointers.
+#[derive(Drop)]
+struct Tags {
+    tags: u16,
+}
+
+impl Sixteen<ObjectFault> for Tags {
+    ghost use Rattle.std.specs.Prelude.{◌==◌, ◌/◌, ◌%◌, ◌^◌};
+    ghost use Rattle.mm_object.specs.Format.{value_row};
+
+    type Item = Value;
+
+    ghost reads = { λ t place. (value_row (t.tags / 2 ^ place % 2 == 1)).read };
+
+    fn item(&self, reader: &mut Reader, place: usize) -> Result<Value, ReadError<ObjectFault>> {
+        read_value(reader, is_set(self.tags, place))
+    }
+}
+
 // Reads sixteen registers, of which these become pointers.
+#[tactic(auto, using(mm_format::proofs::Loops::flags_sixteen))]
 fn read_registers(reader: &mut Reader, tags: u16) -> Result<[Value; 16], ReadError<ObjectFault>>
     ensures read { ReadsAlone number_of (λ regs. regs)
         ((each value_row (flags_of tags)).read reader.old.bytes.now reader.old.at) reader.new.at result }
     ensures same { reader.new.bytes.now ≡ reader.old.bytes.now }
 {
-    let mut regs = [Value::Int(0); 16];
-    for r in 0..16 {
-        let value = read_value(reader, is_set(tags, r))?;
-        regs[r] = value;
-    }
-    Ok(regs)
+    read_sixteen(reader, &Tags { tags }, Value::Int(0))
 }
 
 // Reads the fields of a thread.

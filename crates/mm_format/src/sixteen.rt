@@ -1,0 +1,50 @@
+//! Values of sixteen places, one after the other.
+
+ghost use Rattle.std.specs.Prelude.{◌≡◌, ◌<◌, IfOk, length};
+ghost use Rattle.std.specs.List.{AllByRecursion};
+ghost use Rattle.mm_format.specs.Formats.{sixteen};
+ghost use Rattle.mm_format.specs.Reading.{ReadsAlone};
+
+use crate::reader::{FaultKind, ReadError, Reader};
+
+/// Values of sixteen places, each read by its place.
+pub trait Sixteen<K: FaultKind> {
+    ghost use Rattle.std.specs.Prelude.{ℕ, List, ⊤};
+    ghost use Rattle.mm_format.specs.Formats.{Outcome};
+
+    type Item: Copy;
+
+    /// What the value of a place says.
+    ghost reads: { Self → ℕ → List ℕ → ℕ → Outcome Self.Item };
+
+    /// What holds of each value.
+    ghost holds: { Self.Item → Type 0 } = { λ _. ⊤ };
+
+    /// Reads the value of a place.
+    fn item(&self, reader: &mut Reader, place: usize) -> Result<Self::Item, ReadError<K>>
+        requires { place < 16 }
+        ensures read { ReadsAlone K.number (λ x. x) (reads self.now place reader.old.bytes.now reader.old.at)
+            reader.new.at result }
+        ensures same { reader.new.bytes.now ≡ reader.old.bytes.now }
+        ensures each { IfOk result holds };
+}
+
+/// The values of sixteen places. They are written over `first`.
+pub fn read_sixteen<K: FaultKind, S: Sixteen<K>>(
+    reader: &mut Reader,
+    places: &S,
+    first: S::Item,
+) -> Result<[S::Item; 16], ReadError<K>>
+    ensures read { ReadsAlone K.number (λ xs. xs)
+        (sixteen (S.reads places.now) reader.old.bytes.now reader.old.at) reader.new.at result }
+    ensures same { reader.new.bytes.now ≡ reader.old.bytes.now }
+    ensures count { IfOk result (λ xs. length xs ≡ 16) }
+    ensures each { IfOk result (λ xs. AllByRecursion S.holds xs) }
+{
+    let mut items = [first; 16];
+    for place in 0..16 {
+        let item = places.item(reader, place)?;
+        items[place] = item;
+    }
+    Ok(items)
+}
