@@ -3,13 +3,11 @@ use Rattle.std.proofs.Common.{◌≡◌, ℕ, zero, suc, ◌+◌, ◌-◌, ◌*�
 use mir.Val.{bool_byte}
 use Rattle.std.proofs.Math.Seq.{take-length}
 use Rattle.std.specs.Prelude.{not}
-use Rattle.std.specs.List.{list_any, flat_map}
+use Rattle.std.specs.List.{list_any}
 use Rattle.std.proofs.lemmas.Option.{slice_get_within, get_or_from_slice_get}
-use Rattle.std.proofs.lemmas.List.{take_more, flat_map_more}
+use Rattle.std.proofs.lemmas.List.{take_more}
 use Rattle.mm_model.specs.declared.event.Event.{Event}
-use Rattle.mm_model.specs.State.{Core, queue_at}
-use Rattle.mm_model.specs.Fits.{slots_of}
-use Rattle.mm_machine.specs.Snapshot.{queued_at, page_numbers}
+use Rattle.mm_machine.specs.Snapshot.{page_numbers}
 use Rattle.mm_word.specs.declared.word.Cell.{Cell}
 use Rattle.mm_model.specs.Image.{Image}
 use Rattle.mm_thread.specs.Output.{Output}
@@ -120,20 +118,11 @@ module _ (slots : List Slot) (at : ℕ) (s : Slot) (got : slice_get slots at ≡
       joined true form tail = refl
       joined false form tail = refl
 
--- 5. The events of the queues, slot by slot.
+-- 5. A list up to an element.
 
 pub take_got : {A : Type 0} (xs : List A) (i : ℕ) (x : A) → slice_get xs i ≡ Some x → take (i + 1) xs ≡ take i xs ++ x ∷ []
 take_got xs i x is =
     take_more xs i x (slice_get_within xs i x is) ∙ ap (λ y. take i xs ++ y ∷ []) (get_or_from_slice_get xs i x x is)
-
-pub events_more : (core : Core) (i : ℕ) (s : Slot) (number : ℕ) (so_far : List (ℕ × Event)) (queue : List Event)
-    → slice_get (slots_of core) i ≡ Some s → number ≡ s.number → so_far ≡ flat_map (queued_at core) (take i (slots_of core))
-    → queue ≡ queue_at core number → so_far ++ map (λ (e : Event). (number, e)) queue ≡ flat_map (queued_at core) (take (i + 1) (slots_of core))
-events_more core i s number so_far queue is named before own =
-    let made : List (ℕ × Event) → ℕ → List Event → List (ℕ × Event) = λ xs n es. xs ++ map (λ (e : Event). (n, e)) es in
-    (λ j. made (before j) number (own j)) ∙ (λ j. made (flat_map (queued_at core) (take i (slots_of core))) (named j) (queue_at core (named j)))
-    ∙ flat_map_more (queued_at core) [] (take i (slots_of core)) s
-    ∙ ap (flat_map (queued_at core)) (sym (take_got (slots_of core) i s is))
 
 -- 6. All parts, one behind the other.
 

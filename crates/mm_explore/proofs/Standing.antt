@@ -1,5 +1,5 @@
 -- A machine that stands at the configuration of a state: its parts, its core and its memory.
-use Rattle.std.proofs.Common.{◌≡◌, ◌⊎◌, inl, inr, ℕ, zero, suc, ◌^◌, ◌<◌, ◌≤◌, Bool, List, [], ◌∷◌, map, replicate, length, Option, refl, sym, ap, ◌∙◌, subst, arith}
+use Rattle.std.proofs.Common.{◌≡◌, ℕ, suc, ◌^◌, ◌<◌, ◌≤◌, Bool, List, [], ◌∷◌, map, replicate, length, Option, refl, sym, ap, ◌∙◌, subst, arith}
 use Rattle.std.specs.List.{AllByRecursion}
 use Rattle.mm_word.specs.declared.word.Cell.{Cell}
 use Rattle.mm_model.specs.declared.event.Event.{Event}
@@ -14,6 +14,7 @@ use Rattle.mm_model.specs.State.{Row, Core, State}
 use Rattle.mm_model.proofs.CoreRows.{each_map}
 use Rattle.mm_model.proofs.Fitted.{paged_of}
 use Rattle.mm_machine.specs.Snapshot.{queued, page_numbers}
+use Rattle.mm_machine.proofs.Starting.{at_most_64, slots_made}
 use Rattle.mm_thread.specs.Output.{Output}
 use Rattle.mm_thread.specs.Parts.{core_of, AreParts}
 use Rattle.mm_thread.specs.Places.{row_alone}
@@ -104,12 +105,8 @@ pub as_many : (i : Image) (core : Core) (m : Memory) (s : State) → IsStateOf i
 as_many i core m s h e =
     sym (map_long identity_of i.slots) ∙ ap length (sym (core_like i core m s h e).2) ∙ map_long identity_of (slots_of core)
 
-at_most : (version : ℕ) → (version ≡ 1) ⊎ (version ≡ 2) → slot_limit version ≤ 64
-at_most version (inl is) = subst (λ v. slot_limit v ≤ 64) (sym is) (omega arith)
-at_most version (inr is) = subst (λ v. slot_limit v ≤ 64) (sym is) (omega arith)
-
 pub few_slots : (i : Image) (core : Core) → IsImage i → length i.slots ≡ length (slots_of core) → length (slots_of core) ≤ 64
-few_slots i core img many = let few = img.few_slots in let limit = at_most i.version img.version in omega (arith, few, limit, many)
+few_slots i core img many = let few = img.few_slots in let limit = at_most_64 i.version img.version in omega (arith, few, limit, many)
 
 -- 4. The numbers by which the configuration is kept.
 
@@ -128,43 +125,10 @@ numbers_kept i core m s groups pages cells e g l =
 
 -- 5. The start.
 
-widened : (limit : ℕ) (slots : List Slot) → limit ≤ 64 → (s : Slot) → IsFresh limit slots s → IsFresh 64 slots s
-widened limit slots le s h = record {
-  number = let low = h.number in omega (arith, low, le);
-  group = let low = h.group in omega (arith, low, le);
-  handler = h.handler;
-  begins = h.begins;
-  executable = h.executable;
-  ip = h.ip;
-  registers = h.registers;
-  words = h.words;
-  past = h.past;
-  turns = h.turns;
-  empty = h.empty;
-  pending = h.pending;
-}
-
-pub fresh_slots : (i : Image) → IsImage i → AllByRecursion (IsFresh 64 i.slots) i.slots
-fresh_slots i h = each_map (IsFresh (slot_limit i.version) i.slots) (IsFresh 64 i.slots) (widened (slot_limit i.version) i.slots (at_most i.version h.version)) i.slots h.fresh
-
-alone : (slots : List Slot) → map (λ (row : Row). row.slot) (map row_alone slots) ≡ slots
-alone [] = refl
-alone (s ∷ slots) = ap (λ l. s ∷ l) (alone slots)
-
-pub slots_alone : (core : Core) (slots : List Slot) → core.rows ≡ map row_alone slots → slots_of core ≡ slots
-slots_alone core slots e = ap (λ (rows : List Row). map (λ (row : Row). row.slot) rows) e ∙ alone slots
-
 -- what holds of the fresh slots of an image holds of the slots of a core of them
 pub each_fresh : (i : Image) (P : Slot → Type 0) (core : Core) → IsImage i → core.rows ≡ map row_alone i.slots → ((s : Slot) → IsFresh (slot_limit i.version) i.slots s → P s) → AllByRecursion P (slots_of core)
 each_fresh i P core h e f =
-    subst (AllByRecursion P) (sym (slots_alone core i.slots e)) (each_map (IsFresh (slot_limit i.version) i.slots) P f i.slots h.fresh)
-
-silent : (n : ℕ) → AllByRecursion (λ (bytes : List ℕ). bytes ≡ []) (replicate n [])
-silent zero = tt
-silent (suc n) = (refl, silent n)
-
-pub no_output : (outputs : List (List ℕ)) → outputs ≡ replicate 64 [] → AllByRecursion (λ (bytes : List ℕ). bytes ≡ []) outputs
-no_output outputs is = subst (λ (xs : List (List ℕ)). AllByRecursion (λ (bytes : List ℕ). bytes ≡ []) xs) (sym is) (silent 64)
+    subst (AllByRecursion P) (sym (slots_made i core e)) (each_map (IsFresh (slot_limit i.version) i.slots) P f i.slots h.fresh)
 
 pub start_made : (i : Image) (core : Core) → core.rows ≡ map row_alone i.slots → core.outputs ≡ replicate 64 [] → core.version ≡ i.version → core.split ≡ i.split → core ≡ (start i).core
 unfolding start

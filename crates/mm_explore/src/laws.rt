@@ -36,8 +36,8 @@ pub fn kept_forms_are_configurations()
     ensures { KeptFormsAreConfigurations }
 {}
 
-/// A least schedule that is not empty is a least schedule and, after it, a move of the state to which that leads. So all
-/// its items are moves.
+/// A least schedule that is not empty is a least schedule and, after it, a move of the state to which that leads. So
+/// all its items are moves.
 pub fn least_schedules_are_moves()
     ensures { LeastSchedulesAreMoves }
 {}

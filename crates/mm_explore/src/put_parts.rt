@@ -1,7 +1,7 @@
 //! The numbers of the parts of a configuration.
 
 ghost use Rattle.std.specs.Prelude.{◌≡◌, ℕ, ◌+◌, ◌<◌, ◌≤◌, ◌^◌, ◌++◌, if◌then◌else◌, false};
-ghost use Rattle.std.specs.Prelude.{nat_eq, List, [], OnOk, IfOk, IfSome, length, map, drop};
+ghost use Rattle.std.specs.Prelude.{nat_eq, List, [], OnOk, IfSome, length, map, drop};
 ghost use Rattle.std.specs.Option.{option_map};
 ghost use Rattle.std.specs.List.{AllByRecursion};
 ghost use Rattle.mm_word.specs.declared.word.Cell.{Cell as CellValue};
@@ -14,7 +14,8 @@ ghost use Rattle.mm_explore.specs.Kept.{is_base as is_base_of, slot_form, slot_f
 
 use crate::part_forms::{put_cell, put_events, put_output};
 use crate::slot_form::{is_base, put_slot};
-use mm_model::{Event, Slot};
+use mm_machine::events_of;
+use mm_model::Slot;
 use mm_thread::Core;
 use mm_word::Cell;
 use std::alloc::{AllocError, Global};
@@ -84,27 +85,6 @@ pub(crate) fn put_slots(out: &mut Vec<u64>, base: &[Slot], core: &Core) -> Resul
 }
 
 // 2. Events.
-
-/// The events of the queues of a core, each with the number of the slot in whose queue it is.
-fn events_of(alloc: Global, core: &Core) -> Result<Vec<(u8, Event)>, AllocError>
-    ensures { IfOk result (λ events. events.items ≡ queued core.now) }
-{
-    let mut events = Vec::new(alloc);
-    for i in 0..core.count() {
-        let slot = core.nth(i);
-        put_queue(&mut events, slot.number, core.queue(slot.number))?;
-    }
-    Ok(events)
-}
-
-fn put_queue(events: &mut Vec<(u8, Event)>, number: u8, queue: &[Event]) -> Result<(), AllocError>
-    ensures { IfOk result (λ _. events.new.items ≡ events.old.items ++ map (λ e. (number, e)) queue.now) }
-{
-    for event in queue {
-        events.push((number, *event))?;
-    }
-    Ok(())
-}
 
 /// Appends the events of the queues of a core.
 pub(crate) fn put_queued(alloc: Global, out: &mut Vec<u64>, core: &Core) -> Result<(), AllocError>

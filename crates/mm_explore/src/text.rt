@@ -48,7 +48,7 @@ fn put_extent<O: Sink>(text: &mut Gather, out: &mut O, count: u64, all: bool)
         (codes "explored " ++ decimal count ++ extent_text all) }
 {
     let extent = if all { " all\n" } else { " more\n" };
-    text.put(out, &[Text("explored "), Decimal(count), Text(extent)]);
+    text.put_number(out, "explored ", count, extent);
 }
 
 // 1. Words.
@@ -64,10 +64,7 @@ fn put_groups<O: Sink>(text: &mut Gather, out: &mut O, groups: &[GroupFound])
 fn put_group<O: Sink>(text: &mut Gather, out: &mut O, group: &GroupFound)
     ensures { Gathers O.taken O.faults out.old out.new text.old text.new (group_lines group.now) }
 {
-    text.put(
-        out,
-        &[Text("group "), Decimal(group.group as u64), Text("\n")],
-    );
+    text.put_number(out, "group ", group.group as u64, "\n");
     put_spans(text, out, "touched ", &group.touched);
     put_spans(text, out, "wrote ", &group.wrote);
 }
@@ -145,7 +142,7 @@ fn put_end<O: Sink>(text: &mut Gather, out: &mut O, count: u64, ended: bool)
         (codes "outcome " ++ decimal count ++ end_text ended) }
 {
     let end = if ended { " ended\n" } else { " stuck\n" };
-    text.put(out, &[Text("outcome "), Decimal(count), Text(end)]);
+    text.put_number(out, "outcome ", count, end);
 }
 
 fn put_states<O: Sink>(text: &mut Gather, out: &mut O, states: &[(u8, SlotState)])
@@ -159,7 +156,7 @@ fn put_states<O: Sink>(text: &mut Gather, out: &mut O, states: &[(u8, SlotState)
 fn put_state_line<O: Sink>(text: &mut Gather, out: &mut O, slot: u8, state: SlotState)
     ensures { Gathers O.taken O.faults out.old out.new text.old text.new (state_line (slot, state)) }
 {
-    text.put(out, &[Text("slot "), Decimal(slot as u64), Text(" ")]);
+    text.put_number(out, "slot ", slot as u64, " ");
     put_state(text, out, state);
     text.put(out, &[Text("\n")]);
 }

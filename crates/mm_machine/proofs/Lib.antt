@@ -14,5 +14,5 @@ mod Restoring
 pub mod Returning
 mod Rising
 mod Shown
-mod Starting
+pub mod Starting
 mod Steps

@@ -14,7 +14,7 @@ each : {A : Type 0} {P Q : A → Type 0} → ((x : A) → P x → Q x) → (xs :
 each f [] h = tt
 each f (x ∷ xs) h = (f x h.0, each f xs h.1)
 
-at_most_64 : (version : ℕ) → (version ≡ 1) ⊎ (version ≡ 2) → slot_limit version ≤ 64
+pub at_most_64 : (version : ℕ) → (version ≡ 1) ⊎ (version ≡ 2) → slot_limit version ≤ 64
 at_most_64 version (inl is) = subst (λ v. slot_limit v ≤ 64) (sym is) (omega arith)
 at_most_64 version (inr is) = subst (λ v. slot_limit v ≤ 64) (sym is) (omega arith)
 
@@ -42,7 +42,7 @@ pub fresh_slots : (i : Image) → IsImage i → AllByRecursion (IsFresh 64 i.slo
 fresh_slots i h = each (widened (slot_limit i.version) i.slots (at_most_64 i.version h.version)) i.slots h.fresh
 
 -- a core of an image's slots has them
-slots_made : (i : Image) (core : Core) → core.rows ≡ map row_alone i.slots → slots_of core ≡ i.slots
+pub slots_made : (i : Image) (core : Core) → core.rows ≡ map row_alone i.slots → slots_of core ≡ i.slots
 unfolding start
 slots_made i core is = ap (λ (rows : List Row). map (λ (row : Row). row.slot) rows) is ∙ start_slots i
 

@@ -32,7 +32,7 @@ pub(crate) fn slots_of(alloc: Global, core: &Core) -> Result<Vec<Slot>, AllocErr
 }
 
 /// The events of the queues of a core, each with the number of the slot in whose queue it is.
-pub(crate) fn events_of(alloc: Global, core: &Core) -> Result<Vec<(u8, Event)>, AllocError>
+pub fn events_of(alloc: Global, core: &Core) -> Result<Vec<(u8, Event)>, AllocError>
     ensures { IfOk result (λ events. events.items ≡ queued core.now) }
 {
     let mut events = Vec::new(alloc);

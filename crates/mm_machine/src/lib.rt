@@ -6,6 +6,7 @@ mod machine;
 mod snapshot;
 mod validate;
 
+pub use capture::events_of;
 pub use machine::Machine;
 pub use mm_thread::{Event, Output, Pending, Slot, SlotState, Step, Tick};
 pub use snapshot::Snapshot;

@@ -4,19 +4,11 @@ ghost use Rattle.mm_text.specs.Gathers.{Gathers};
 ghost use Rattle.mm_model.specs.Report.{cycles_line};
 
 use crate::gather::Gather;
-use crate::piece::Piece;
 use mm_io::Sink;
 
 /// Appends the line of a count of cycles: `cycles N`.
 pub fn put_cycles<O: Sink>(text: &mut Gather, out: &mut O, cycles: u64)
     ensures { Gathers O.taken O.faults out.old out.new text.old text.new (cycles_line cycles) }
 {
-    text.put(
-        out,
-        &[
-            Piece::Text("cycles "),
-            Piece::Decimal(cycles),
-            Piece::Text("\n"),
-        ],
-    );
+    text.put_number(out, "cycles ", cycles, "\n");
 }

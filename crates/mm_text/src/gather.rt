@@ -1,6 +1,6 @@
 //! Texts that are gathered before they go to a sink.
 
-ghost use Rattle.std.specs.Prelude.{◌≡◌, ◌≤◌, [], false};
+ghost use Rattle.std.specs.Prelude.{◌≡◌, ◌≤◌, ◌++◌, [], decimal, false};
 ghost use Rattle.mm_io.specs.Sinks.{Writes};
 ghost use Rattle.mm_text.specs.Gathers.{Gathers, Finishes, nothing};
 ghost use Rattle.mm_text.specs.Pieces.{piece_text, pieces_text};
@@ -110,6 +110,16 @@ impl Gather {
         let mut line = Line::new();
         line.put_hex(number, digits);
         self.put_bytes(out, line.as_bytes());
+    }
+
+    /// Appends a number in decimal digits between two texts.
+    pub fn put_number<O: Sink>(&mut self, out: &mut O, before: &str, number: u64, after: &str)
+        ensures { Gathers O.taken O.faults out.old out.new self.old self.new
+            (before.now ++ decimal number ++ after.now) }
+    {
+        self.put_piece(out, &Piece::Text(before));
+        self.put_piece(out, &Piece::Decimal(number));
+        self.put_piece(out, &Piece::Text(after));
     }
 
     /// Appends the pieces, one after the other, each as [`Gather::put_piece`] does.

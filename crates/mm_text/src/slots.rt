@@ -1,6 +1,6 @@
 //! The lines of a slot.
 
-ghost use Rattle.std.specs.Prelude.{◌≡◌, ◌<◌, ◌++◌, codes, decimal};
+ghost use Rattle.std.specs.Prelude.{◌≡◌, ◌<◌};
 ghost use Rattle.std.specs.List.{flat_map};
 ghost use Rattle.mm_io.specs.Sinks.{Writes};
 ghost use Rattle.mm_text.specs.Gathers.{Gathers};
@@ -103,8 +103,7 @@ fn put_register<O: Sink>(text: &mut Gather, out: &mut O, slot: &Slot, number: u8
     ensures { Gathers O.taken O.faults out.old out.new text.old text.new (register_line slot.now number) }
 {
     if slot.is_empty(number) {
-        put_register_number(text, out, number);
-        text.put_piece(out, &Piece::Text("empty\n"));
+        text.put_number(out, "r ", number as u64, " empty\n");
     } else {
         put_register_word(text, out, number, slot.register(number));
     }
@@ -115,7 +114,7 @@ fn put_register_word<O: Sink>(text: &mut Gather, out: &mut O, number: u8, word: 
     ensures { Gathers O.taken O.faults out.old out.new text.old text.new (word_line number word) }
 {
     if !is_zero(&word) {
-        put_register_number(text, out, number);
+        text.put_number(out, "r ", number as u64, " ");
         put_word(text, out, word);
         text.put_piece(out, &Piece::Text("\n"));
     }
@@ -130,20 +129,6 @@ fn is_zero(word: &Word) -> bool
     }
 }
 
-// Appends the start of a register's line, up to its word.
-fn put_register_number<O: Sink>(text: &mut Gather, out: &mut O, register: u8)
-    ensures { Gathers O.taken O.faults out.old out.new text.old text.new (codes "r " ++ decimal register ++ codes " ") }
-{
-    text.put(
-        out,
-        &[
-            Piece::Text("r "),
-            Piece::Decimal(register as u64),
-            Piece::Text(" "),
-        ],
-    );
-}
-
 fn put_pending<O: Sink>(text: &mut Gather, out: &mut O, pending: &[Pending])
     ensures { Gathers O.taken O.faults out.old out.new text.old text.new (flat_map pending_line pending.now) }
 {
@@ -155,14 +140,7 @@ fn put_pending<O: Sink>(text: &mut Gather, out: &mut O, pending: &[Pending])
 fn put_load<O: Sink>(text: &mut Gather, out: &mut O, load: &Pending)
     ensures { Gathers O.taken O.faults out.old out.new text.old text.new (pending_line load.now) }
 {
-    text.put(
-        out,
-        &[
-            Piece::Text("pending "),
-            Piece::Decimal(load.reg as u64),
-            Piece::Text(" "),
-        ],
-    );
+    text.put_number(out, "pending ", load.reg as u64, " ");
     put_word(text, out, load.word);
-    text.put(out, &[Piece::Text("\n")]);
+    text.put_piece(out, &Piece::Text("\n"));
 }

@@ -10,6 +10,6 @@ pub returns : goal.returns
 unfolding reached_lines
 returns g c =
     let number = c.group.inside.group in
-    gathers_same (gathers_then (gathers_then c.put.ensures c.put_spans.ensures) c.put_spans-2.ensures)
+    gathers_same (gathers_then (gathers_then c.put_number.ensures c.put_spans.ensures) c.put_spans-2.ensures)
     ((λ j. codes "group " ++ decimal number ++ newline ++ flat_map (word_line (codes "touched ")) (c.deref.ensures.value j) ++ flat_map (word_line (codes "wrote ")) (c.deref-2.ensures.value j))
     ∙ ap (λ (f : GroupFound). reached_lines f.group f.reached) c.group.view_is)

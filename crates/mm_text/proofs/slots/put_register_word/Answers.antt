@@ -5,5 +5,5 @@ use Rattle.mm_text.proofs.slots.put_register_word.Goals as goal
 
 pub returns-then-not-is_zero : goal.returns-then-not-is_zero
 returns-then-not-is_zero g c =
-    gathers_same (gathers_then (gathers_then c.put_register_number.ensures c.put_word.ensures) c.put_piece.ensures)
+    gathers_same (gathers_then (gathers_then c.put_number.ensures c.put_word.ensures) c.put_piece.ensures)
     (some_line c.args.number c.args.word (search rules))
