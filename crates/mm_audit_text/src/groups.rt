@@ -13,20 +13,12 @@ ghost use Rattle.mm_audit_text.specs.Parts.{IsPart, if_present};
 use crate::lines::{put_apart, put_kind, put_segments};
 use crate::right::Right;
 use mm_audit::Survey;
-use mm_image::Image;
+use mm_image::{Image, has_group};
 use mm_io::Sink;
-use mm_model::Slot;
 use mm_text::Gather;
 
 /// The count of groups that there can be.
 const GROUPS: u8 = 64;
-
-/// Whether a group has a slot.
-fn has_slot(slots: &[Slot], group: u8) -> bool
-    ensures { result ≡ has_group slots.now group }
-{
-    slots.iter().any(|s| s.group == group)
-}
 
 /// Appends whether a group is privileged, and the segments that it can touch and write.
 fn put_group<O: Sink>(text: &mut Gather, out: &mut O, survey: &Survey, group: u8)
@@ -52,7 +44,7 @@ fn put_present<O: Sink>(
     ensures { (part : List ℕ) × Gathers O.taken O.faults out.old out.new text.old text.new part
         × (Surveys img.now All survey.now → IsPart img.now apart (if_present (has_group img.now.slots group) group) part) }
 {
-    if has_slot(img.slots(), group) {
+    if has_group(img.slots(), group) {
         put_group(text, out, survey, group);
         if apart {
             put_apart(text, out, survey, &[group]);

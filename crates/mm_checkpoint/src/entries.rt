@@ -13,8 +13,8 @@ ghost use Rattle.mm_checkpoint.specs.Steps.{bit_count};
 
 use crate::words::read_tagged;
 use arrayvec::ArrayVec;
-use mm_format::{ReadError, Reader, refuse_if};
-use mm_image::{ImageFault, is_set};
+use mm_format::{ReadError, Reader, is_set, refuse_if};
+use mm_image::ImageFault;
 use mm_model::Pending;
 
 // The count of registers in a mask.

@@ -15,7 +15,7 @@ const VERSION: u16 = 1;
 const SLOT_NUMBERS: u8 = 64;
 
 /// The byte for no slot, in the field of the slot that was issued last.
-const NO_SLOT: u8 = 255;
+pub(crate) const NO_SLOT: u8 = 255;
 
 /// The most cycles of a state that is saved.
 const CYCLE_LIMIT: u64 = 1_000_000;

@@ -2,7 +2,6 @@
 
 ghost use Rattle.std.specs.Prelude.{◌≡◌, ℕ, List, ◌+◌, ◌*◌, ◌≤◌, ◌^◌, ◌<◌, ◌==◌, map, IfOk, length};
 ghost use Rattle.std.specs.List.{list_any};
-ghost use Rattle.mm_model.specs.Groups.{has_group};
 ghost use Rattle.mm_model.specs.Image.{output_limit};
 ghost use Rattle.mm_format.specs.Formats.{each};
 ghost use Rattle.mm_format.specs.Reading.{Reads};
@@ -12,7 +11,7 @@ ghost use Rattle.mm_checkpoint.specs.Reading.{groups_of};
 ghost use Rattle.mm_checkpoint.specs.Steps.{put_out};
 
 use mm_format::{ReadError, Reader, refuse_if};
-use mm_image::ImageFault;
+use mm_image::{ImageFault, has_group};
 use mm_model::Slot;
 use mm_thread::Output;
 use std::alloc::{AllocError, Global};
@@ -26,12 +25,6 @@ pub(crate) fn output_limit(version: u16) -> u32
     ensures small { result ≤ 65536 }
 {
     if version == 1 { 4096 } else { 65536 }
-}
-
-fn has_group(slots: &[Slot], group: u8) -> bool
-    ensures { result ≡ has_group slots.now group }
-{
-    slots.iter().any(|slot| slot.group == group)
 }
 
 /// The groups of slots, ascending.

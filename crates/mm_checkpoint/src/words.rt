@@ -10,8 +10,8 @@ ghost use Rattle.mm_format.specs.Reading.{ReadsAlone};
 ghost use Rattle.mm_image.specs.Faults.{number_of};
 ghost use Rattle.mm_checkpoint.specs.Format.{beside, operand, register, tagged};
 
-use mm_format::{ReadError, Reader, Sixteen, failed, read_sixteen, refuse_if};
-use mm_image::{ImageFault, is_set, read_word, word_of};
+use mm_format::{ReadError, Reader, Sixteen, failed, is_set, read_sixteen, refuse_if};
+use mm_image::{ImageFault, read_word, word_of};
 use mm_word::Word;
 
 /// The masks of pointers and of empty registers.

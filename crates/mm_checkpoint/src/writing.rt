@@ -14,6 +14,7 @@ ghost use Rattle.mm_checkpoint.specs.Checkpoints.{IsCheckpoint, Saves, saved_of,
 ghost use Rattle.mm_checkpoint.specs.Checkpoints.{state_byte, cause_byte, place_in, event_of, operands, tagged_word};
 ghost use Rattle.mm_checkpoint.specs.Checkpoints.{pending_record, output_record};
 
+use crate::header::NO_SLOT;
 use crate::layout::{ENTRY_BYTES, HEADER_BYTES, PAGE_BYTES, SLOT_BYTES};
 use mm_image::{Image, put_page, put_words, tags_of};
 use mm_machine::Snapshot;
@@ -29,9 +30,6 @@ const MOST_SLOT_BYTES: usize = SLOT_BYTES + 16 * ENTRY_BYTES;
 const LENGTH_BYTES: usize = 4;
 
 const VERSION: u16 = 1;
-
-/// The byte for the slot that was issued last, if none was.
-const NONE_ISSUED: u8 = 255;
 
 /// The event of a waiting slot, and the count of events before it in the queue of the slot's handler.
 #[derive(Clone, Copy)]
@@ -100,7 +98,7 @@ fn put_header(out: &mut Vec<u8>, s: &Snapshot, last: Option<u8>) -> Result<(), A
 {
     out.extend_from_slice(b"MMS1")?;
     out.extend_from_slice(&VERSION.to_be_bytes())?;
-    out.extend_from_slice(&[last.unwrap_or(NONE_ISSUED), 0])?;
+    out.extend_from_slice(&[last.unwrap_or(NO_SLOT), 0])?;
     out.extend_from_slice(&s.cycles().to_be_bytes())?;
     out.extend_from_slice(&(s.pages().len() as u16).to_be_bytes())?;
     Ok(())

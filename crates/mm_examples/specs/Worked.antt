@@ -1,11 +1,10 @@
 -- Worked examples of runs.
 use Rattle.std.specs.Prelude.{◌≡◌, ℕ, true, false, List, [], ◌∷◌, ◌++◌, length, take, slice_set, map, replicate, codes}
-use Rattle.std.specs.Prelude.{Option, Some, None, option_map}
+use Rattle.std.specs.Prelude.{Option, Some, None}
 use Rattle.mm_word.specs.declared.word.Word.{Word}
 use Rattle.mm_word.specs.declared.word.Word.TheVariants.{Int}
 use Rattle.mm_word.specs.declared.cause.Cause.TheVariants.{Perm, Priv, Trap, NoSlot}
 use Rattle.mm_word.specs.declared.perm.Perm.TheVariants.{Xp}
-use Rattle.mm_model.specs.declared.slot.SlotState.{SlotState}
 use Rattle.mm_model.specs.declared.step.Step.{Step}
 use Rattle.mm_model.specs.declared.step.Tick.{Tick}
 use Rattle.mm_model.specs.declared.step.Tick.TheVariants.{Idle, Blocked, Did, Faulted, Delivered}
@@ -45,9 +44,6 @@ register_of (Some s) r = register s r
 
 abbrev pub register_then : Image → List ℕ → ℕ → ℕ → Word
 register_then i items n r = register_of (slot_at (then i items).core n) r
-
-abbrev pub state_then : Image → List ℕ → ℕ → Option SlotState
-state_then i items n = option_map (λ (s : Slot). s.state) (slot_at (then i items).core n)
 
 -- 1. Runs of one slot.
 

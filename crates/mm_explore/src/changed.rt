@@ -10,16 +10,10 @@ ghost use Rattle.mm_model.specs.Report.{same_cell, cells_or_zero, changes, chang
 ghost use Rattle.mm_explore.specs.Edits.{base_cell as base_cell_of, changed_at, noted, with_entry, entry};
 
 use mm_image::Image;
-use mm_mem::{Inspect, PlainMem};
+use mm_mem::{Inspect, PlainMem, ZERO};
 use mm_model::CELLS;
 use mm_word::{Cell, Word};
 use std::alloc::AllocError;
-
-/// The cell with which another is compared if the image does not have its page: integer 0, full.
-const ZERO: Cell = Cell {
-    word: Word::Int(0),
-    full: true,
-};
 
 /// The image's cell of a word.
 pub(crate) fn base_cell(img: &Image, word: u64) -> Cell

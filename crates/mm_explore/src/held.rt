@@ -20,7 +20,7 @@ use mm_model::{CELLS, Page};
 use mm_word::{Cell, NoMemory};
 use std::alloc::{AllocError, Global};
 
-/// So many accesses are counted before the memory is made anew.
+/// How many accesses are counted before the memory is made anew.
 const MANY: u64 = 1 << 60;
 
 /// A memory, and what of it is not as in the image.

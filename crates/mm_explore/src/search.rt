@@ -22,18 +22,12 @@ use crate::findings::Findings;
 use crate::found::{Found, Looked, Origin};
 use crate::parts::{Parts, take_parts};
 use crate::slot_form::has_loads;
-use mm_image::Image;
+use mm_image::{Image, has_group};
 use mm_model::{Slot, SlotState};
 use mm_word::NoMemory;
 use std::alloc::{AllocError, Global};
 
 // 1. Groups and moves.
-
-fn has_group(slots: &[Slot], group: u8) -> bool
-    ensures { result ≡ has_group_of slots.now group }
-{
-    slots.iter().any(|slot| slot.group == group)
-}
 
 /// The groups that have a slot, ascending.
 fn list_groups(alloc: Global, slots: &[Slot]) -> Result<Vec<u8>, AllocError>

@@ -28,4 +28,4 @@ mod sixteen;
 pub use header::Header;
 pub use reader::{FaultKind, ReadError, Reader, failed, refuse_if};
 pub use run::{Run, read_run};
-pub use sixteen::{Sixteen, read_sixteen};
+pub use sixteen::{Sixteen, is_set, read_sixteen};

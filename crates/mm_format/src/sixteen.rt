@@ -1,11 +1,19 @@
 //! Values of sixteen places, one after the other.
 
-ghost use Rattle.std.specs.Prelude.{◌≡◌, ◌<◌, IfOk, length};
+ghost use Rattle.std.specs.Prelude.{◌≡◌, ◌<◌, ◌==◌, ◌/◌, ◌%◌, ◌^◌, IfOk, length};
 ghost use Rattle.std.specs.List.{AllByRecursion};
 ghost use Rattle.mm_format.specs.Formats.{sixteen};
 ghost use Rattle.mm_format.specs.Reading.{ReadsAlone};
 
 use crate::reader::{FaultKind, ReadError, Reader};
+
+/// Whether a bit of a number is set, the lowest at place 0.
+pub fn is_set(bits: u16, place: usize) -> bool
+    requires { place < 16 }
+    ensures { result ≡ (bits / 2 ^ place % 2 == 1) }
+{
+    bits >> place & 1 == 1
+}
 
 /// Values of sixteen places, each read by its place.
 pub trait Sixteen<K: FaultKind> {

@@ -5,6 +5,7 @@ ghost use Rattle.std.specs.List.{AllByRecursion};
 ghost use Rattle.std.specs.List.Sorted.{IsStrictlyIncreasing};
 ghost use Rattle.std.specs.Ordering.{nat_cmp};
 ghost use Rattle.std.specs.FinMap.{is_sorted};
+ghost use Rattle.mm_model.specs.Groups.{has_group};
 ghost use Rattle.mm_model.specs.Slot.{Slot};
 ghost use Rattle.mm_model.specs.Spelling.{Begins, IsFresh, IsImage, numbers_of};
 ghost use Rattle.mm_image.specs.Images.{image_from, SlotsFit, MemoryFits};
@@ -54,8 +55,8 @@ fn has_mode(version: u16, split: bool) -> bool
     version == 1 && !split || version == 2
 }
 
-// Whether the numbers of the slots ascend.
-fn slots_ascend(slots: &[Slot]) -> bool
+/// Whether the numbers of the slots ascend.
+pub fn slots_ascend(slots: &[Slot]) -> bool
     ensures { IsTrue result ↔ IsStrictlyIncreasing (numbers_of slots.now) }
 {
     for k in 1..slots.len() {
@@ -66,6 +67,13 @@ fn slots_ascend(slots: &[Slot]) -> bool
         }
     }
     true
+}
+
+/// Whether a slot is of this group.
+pub fn has_group(slots: &[Slot], group: u8) -> bool
+    ensures { result ≡ has_group slots.now group }
+{
+    slots.iter().any(|slot| slot.group == group)
 }
 
 // Whether each slot is one of an image with these slots and this limit of numbers.

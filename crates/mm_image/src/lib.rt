@@ -35,8 +35,9 @@ mod words;
 mod writing;
 
 pub use fault::{ImageError, ImageFault};
+pub use fits::{has_group, slots_ascend};
 pub use image::Image;
 pub use pages::{read_page, read_pages};
 pub use reading::read;
-pub use words::{is_set, read_ip, read_word, word_of};
+pub use words::{read_ip, read_word, word_of};
 pub use writing::{put_page, put_words, tags_of, write};

@@ -9,8 +9,8 @@ ghost use Rattle.mm_format.specs.Reading.{Reads};
 ghost use Rattle.mm_image.specs.Faults.{number_of};
 
 use crate::fault::ImageFault;
-use crate::words::{is_set, read_word};
-use mm_format::{ReadError, Reader, Run, read_run, refuse_if};
+use crate::words::read_word;
+use mm_format::{ReadError, Reader, Run, is_set, read_run, refuse_if};
 use mm_model::{CELLS, Page};
 use mm_word::Cell;
 use std::alloc::Global;

@@ -13,16 +13,8 @@ ghost use Rattle.mm_format.specs.Reading.{ReadsAlone};
 ghost use Rattle.mm_image.specs.Faults.{number_of};
 
 use crate::fault::ImageFault;
-use mm_format::{ReadError, Reader, Sixteen, failed, read_sixteen};
+use mm_format::{ReadError, Reader, Sixteen, failed, is_set, read_sixteen};
 use mm_word::{GuardedPtr, Kind, Word};
-
-/// A bit of a number, the lowest at place 0.
-pub fn is_set(bits: u16, place: usize) -> bool
-    requires { place < 16 }
-    ensures { result ≡ (bits / 2 ^ place % 2 == 1) }
-{
-    bits >> place & 1 == 1
-}
 
 /// The word of these bits: a pointer if it is tagged. `None` if it is tagged and the bits spell no pointer.
 pub fn word_of(tagged: bool, bits: u64) -> Option<Word>

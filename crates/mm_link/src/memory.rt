@@ -11,16 +11,13 @@ ghost use Rattle.mm_link.specs.Steps.{IsNoMemory};
 use crate::fault::LinkError;
 use crate::placing::Part;
 use crate::sites::Sites;
-use mm_model::Page;
+use mm_model::{CELLS, Page};
 use mm_object::{Item, Object};
 use mm_word::{Cell, Word};
 use std::alloc::Global;
 
 /// The page of the first segment.
 const FIRST_PAGE: u64 = 0x100;
-
-/// The count of cells of a page.
-const PAGE_CELLS: usize = 512;
 
 /// A cell that holds no word of a segment: integer 0, full.
 const ZERO: Cell = Cell {
@@ -40,7 +37,7 @@ pub(crate) fn pages_of(
         (λ v. v.items ≡ pages_from count first_page (flat_map (part_cells sites.now) parts.now)) }
     ensures memory { IsNoMemory result }
 {
-    let cells = cells_of(alloc, sites, parts, count as usize * PAGE_CELLS)?;
+    let cells = cells_of(alloc, sites, parts, count as usize * CELLS)?;
     pages_from(alloc, &cells, count)
 }
 
@@ -137,7 +134,7 @@ fn pages_from(alloc: Global, cells: &[Cell], count: u32) -> Result<Vec<Page>, Li
     let mut rest = cells;
     for number in 0..count {
         pages.push(page_of(alloc, FIRST_PAGE + u64::from(number), rest)?)?;
-        rest = &rest[rest.len().min(PAGE_CELLS)..];
+        rest = &rest[rest.len().min(CELLS)..];
     }
     Ok(pages)
 }
@@ -148,10 +145,10 @@ fn page_of(alloc: Global, number: u64, cells: &[Cell]) -> Result<Page, LinkError
     ensures page { IfOk result (λ p. p ≡ (number, take 512 (cells.now ++ zero_page))) }
     ensures memory { IsNoMemory result }
 {
-    let kept = cells.len().min(PAGE_CELLS);
-    let mut page = Vec::with_capacity(alloc, PAGE_CELLS)?;
+    let kept = cells.len().min(CELLS);
+    let mut page = Vec::with_capacity(alloc, CELLS)?;
     page.extend_from_slice(&cells[..kept])?;
-    push_zeros(&mut page, PAGE_CELLS - kept)?;
+    push_zeros(&mut page, CELLS - kept)?;
     match Page::new(number, page) {
         Some(page) => Ok(page),
         None => unreachable!(),

@@ -8,17 +8,11 @@ ghost use Rattle.mm_machine.specs.Snapshot.{queued, queued_at};
 ghost use Rattle.mm_machine.specs.Capture.{OutputsBelow, cells_of};
 
 use crate::validate::is_group_of;
-use mm_mem::Inspect;
+use mm_mem::{Inspect, ZERO};
 use mm_model::{CELLS, Event, Page, Slot};
 use mm_thread::{Core, Output};
-use mm_word::{Cell, Word};
+use mm_word::Cell;
 use std::alloc::{AllocError, Global};
-
-/// A cell for a page that is not mapped: integer 0, full.
-const ZERO: Cell = Cell {
-    word: Word::Int(0),
-    full: true,
-};
 
 /// The slots of a core, by ascending number.
 pub(crate) fn slots_of(alloc: Global, core: &Core) -> Result<Vec<Slot>, AllocError>

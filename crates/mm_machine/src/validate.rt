@@ -8,7 +8,6 @@ ghost use Rattle.mm_model.specs.declared.slot.SlotState.TheVariants.{Taken};
 ghost use Rattle.mm_model.specs.declared.slot.Pending.{Pending as PendingValue};
 ghost use Rattle.mm_model.specs.Slot.{Slot as SlotValue};
 ghost use Rattle.mm_model.specs.Groups.{has_group};
-ghost use Rattle.mm_model.specs.Spelling.{numbers_of};
 ghost use Rattle.mm_model.specs.Flags.{one_if};
 ghost use Rattle.mm_model.specs.Fits.{is_waiting, waits_for, EventHoldsWords};
 ghost use Rattle.mm_thread.specs.Output.{Output as OutputValue};
@@ -16,6 +15,7 @@ ghost use Rattle.mm_machine.specs.Snapshot.{IsSnapshot, IsTypedEvent, IsAwaited,
 ghost use Rattle.mm_machine.specs.Snapshot.{RegisterStands, DoesNotFall, parts_of, numbered, queues_of, groups_of};
 ghost use Rattle.mm_machine.specs.Snapshot.{page_numbers, has_output};
 
+use mm_image::slots_ascend;
 use mm_model::{Event, Page, Pending, Slot, SlotState};
 use mm_thread::Output;
 use mm_word::{GuardedPtr, Word};
@@ -46,19 +46,6 @@ pub(crate) fn is_snapshot(
         && are_short(outputs)
         && are_pending(slots)
         && turns_within(slots, cycles)
-}
-
-fn slots_ascend(slots: &[Slot]) -> bool
-    ensures { IsTrue result ↔ IsStrictlyIncreasing (numbers_of slots.now) }
-{
-    for k in 1..slots.len() {
-        let before = &slots[k - 1];
-        let slot = &slots[k];
-        if slot.number <= before.number {
-            return false;
-        }
-    }
-    true
 }
 
 fn groups_ascend(outputs: &[Output]) -> bool

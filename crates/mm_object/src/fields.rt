@@ -10,14 +10,6 @@ use crate::target::Target;
 use mm_format::{ReadError, Reader, failed};
 use mm_word::Perm;
 
-/// Whether a bit of a number is set, the lowest at place 0.
-pub(crate) fn is_set(bits: u16, place: usize) -> bool
-    requires { place < 16 }
-    ensures { result ≡ (bits / 2 ^ place % 2 == 1) }
-{
-    bits >> place & 1 == 1
-}
-
 /// Reads a permission. If the byte is no code of one, that is a fault of this kind.
 #[tactic(auto, unfolding(crate::specs::Format::perm_row))]
 pub(crate) fn read_perm(

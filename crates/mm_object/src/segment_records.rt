@@ -10,13 +10,12 @@ ghost use Rattle.mm_object.specs.Format.{push};
 ghost use Rattle.mm_object.specs.Objects.{words_of};
 
 use crate::fault::ObjectFault;
-use crate::fields::is_set;
 use crate::item::Item;
 use crate::limits::WORD_LIMIT;
 use crate::name_records::read_name;
 use crate::segment::Segment;
 use crate::segments::{has_name, is_log, room};
-use mm_format::{ReadError, Reader, refuse_if};
+use mm_format::{ReadError, Reader, is_set, refuse_if};
 use std::alloc::Global;
 
 // Whether `words` and `count` words together are more than an object may have.

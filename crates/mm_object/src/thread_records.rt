@@ -10,12 +10,14 @@ ghost use Rattle.mm_object.specs.Format.{integer_row, pointer_row, value_row, th
 ghost use Rattle.mm_object.specs.Objects.{is_thread};
 
 use crate::fault::ObjectFault;
-use crate::fields::{is_set, read_perm, read_target};
+use crate::fields::{read_perm, read_target};
 use crate::segment::Segment;
 use crate::thread::{Thread, Value};
 use crate::threads::is_thread;
 use crate::writing::NO_HANDLER;
-use mm_format::{ReadError, Reader, Run, Sixteen, failed, read_run, read_sixteen, refuse_if};
+use mm_format::{
+    ReadError, Reader, Run, Sixteen, failed, is_set, read_run, read_sixteen, refuse_if,
+};
 use std::alloc::Global;
 
 /// The length in bytes of the record of a thread.

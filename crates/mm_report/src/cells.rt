@@ -12,16 +12,10 @@ ghost use Rattle.mm_mem.specs.Places.{IsAt};
 ghost use Rattle.mm_report.specs.Changes.{change_line, contents, cells_of, changes_of};
 
 use mm_io::Sink;
-use mm_mem::Inspect;
+use mm_mem::{Inspect, ZERO};
 use mm_model::{CELLS, Page};
 use mm_text::{Gather, put_cell};
 use mm_word::{Cell, Word};
-
-/// The cell with which another is compared if the image does not have its page: integer 0, full.
-const ZERO: Cell = Cell {
-    word: Word::Int(0),
-    full: true,
-};
 
 /// Whether two words are equal, tag and bits.
 fn is_same_word(a: Word, b: Word) -> bool
