@@ -58,9 +58,6 @@ limit_is d u old name bad same absent is =
 pub absent_is : (d : Draft) (u : Use) (name : List ℕ) → name ≡ name_of u → is_some (place_of d name) ≡ false → is_external d u ≡ true
 absent_is d u name same none = ap (λ n. not (is_some (place_of d n))) (sym same) ∙ ap not none
 
-pub present_is : (d : Draft) (u : Use) (name : List ℕ) → name ≡ name_of u → is_some (place_of d name) ≡ true → is_external d u ≡ false
-present_is d u name same some = ap (λ n. not (is_some (place_of d n))) (sym same) ∙ ap not some
-
 -- 3. One use more.
 
 module _ (d : Draft) where

@@ -21,9 +21,6 @@ nat_cases k h = elim (compare k h) [
 
 -- 1. One row more.
 
-pub no_note : (table : List Meets) (writers touchers word : ℕ) → AreRows table → NotesAll writers touchers word 0 table table
-no_note table writers touchers word rows = record { rows = rows; notes = λ h lt. absurd (omega arith); keeps = λ h out. refl }
-
 module _ (writers touchers word h : ℕ) (old now : List Meets) (n : NotesAll writers touchers word h old now) where
   pub note_skip : (bit_at writers h ≡ 1 → ⊥) → NotesAll writers touchers word (h + 1) old now
   note_skip clear = record {

@@ -102,12 +102,6 @@ first_and_rest (w ∷ words) word some is =
     ap (λ (x : String Global). string_bytes x ∷ texts words) (sym is)
     ∙ ap (λ (xs : List (String Global)). string_bytes word ∷ texts xs) (sym (take_all (length (w ∷ words) - 1) words (omega arith)))
 
--- words are in no row whose first names none
-pub no_row_named : (words : List (List ℕ)) (name : List ℕ) (rest : List (List ℕ)) → words ≡ name ∷ rest → NoneIsNamed name → InNoRow words
-no_row_named words name rest are none row asks =
-    let same : asks.in_table.listed.name ≡ name = cc (asks.said, are) in
-    none asks.in_table.number asks.in_table.listed asks.in_table.at same
-
 -- nor where the rest is not that of the row that the first names
 pub no_rest_of : (words : List (List ℕ)) (name : List ℕ) (rest : List (List ℕ)) (number : ℕ) (listed : Listed) → words ≡ name ∷ rest → slice_get table number ≡ Some listed → listed.name ≡ name
     → ((said : List Word) → FitsRow listed.places listed.last said → rest ≢ spelled said) → InNoRow words
@@ -116,10 +110,6 @@ no_rest_of words name rest number listed are at named none row asks =
     let one : asks.in_table.listed ≡ listed = one_named asks.in_table.number number asks.in_table.listed listed asks.in_table.at at (same ∙ sym named) in
     let spells : rest ≡ spelled row.words = cc (asks.said, are) in
     none row.words (subst (λ (l : Listed). FitsRow l.places l.last row.words) one asks.in_table.fits) spells
-
--- no words ask for nothing
-pub no_row_of_none : InNoRow []
-no_row_of_none row asks = absurd (cc (asks.said))
 
 pub asks_for : (words : List (List ℕ)) (name : List ℕ) (rest : List (List ℕ)) (number : ℕ) (listed : Listed) (said : List Word) → words ≡ name ∷ rest → slice_get table number ≡ Some listed
     → listed.name ≡ name → FitsRow listed.places listed.last said → rest ≡ spelled said → Asks words (record { command = listed.command; words = said })

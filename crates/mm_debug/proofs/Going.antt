@@ -49,16 +49,10 @@ can_go s t p f kept can = record { restore = f.can kept p.snapshot can.restore; 
 
 -- after a command
 
-pub answer_kept : (s : Session) (c : Command) → ∥ Kept s.state ∥₁ → ∥ Kept (answer s c).session.state ∥₁
-answer_kept s c kept = (answer_follows s c).kept kept
-
 pub answer_goes : (s : Session) (c : Command) (p : Point) → ∥ Kept s.state ∥₁ → CanGo s p → CanGo (answer s c).session p
 answer_goes s c p kept can = can_go s (answer s c).session p (answer_follows s c) kept can
 
 -- after lines
-
-pub dialogue_kept : (s : Session) (lines : List (List ℕ)) → ∥ Kept s.state ∥₁ → ∥ Kept (dialogue s lines).session.state ∥₁
-dialogue_kept s lines kept = (dialogue_follows s lines).kept kept
 
 pub dialogue_goes : (s : Session) (lines : List (List ℕ)) (p : Point) → ∥ Kept s.state ∥₁ → CanGo s p → CanGo (dialogue s lines).session p
 dialogue_goes s lines p kept can = can_go s (dialogue s lines).session p (dialogue_follows s lines) kept can

@@ -148,7 +148,3 @@ unfolding pointer_text
 pointer_shape o p t = simp append_assoc
 
 -- 4. The empty line.
-
-pub empty_says : line_of [] ≡ record { label = None; body = None }
-unfolding line_of body_of
-empty_says = rw nothing_left refl

@@ -187,9 +187,6 @@ few_changes m image h k =
     (each_map (λ (x : ℕ × Cell). (x.0 % 8 ≡ 0) × (x.0 < 2 ^ 54)) (λ (x : ℕ × Cell). x.0 < 2 ^ 54) (λ x h. h.1) (changes m image) at) in
     omega (arith, few)
 
-pub few_listed : (m image : Memory) (xs : List (ℕ × Cell)) → IsPaged m → IsPaged image → xs ≡ changes m image → length xs ≤ 2 ^ 54
-few_listed m image xs h k e = let few = few_changes m image h k in let same = ap length e in omega (arith, few, same)
-
 -- nothing of the image differs from it
 pub same_itself : (c : Cell) → same_cell c c ≡ true
 same_itself c = both (same_word c.word c.word) (same_bit c.full c.full) (word c.word) (bit c.full)

@@ -188,9 +188,6 @@ reverse_push items n = reverse-append items (n ∷ [])
 pub none_read : (list : List (List ℕ)) (at : ℕ) → before_items list at [] ≡ schedule_with list at None
 none_read list at = append-nil (slice_index_or list at [])
 
-pub item_read : (list : List (List ℕ)) (at : ℕ) (items : List ℕ) (n : ℕ) → items ≡ [] ++ n ∷ [] → before_items list at items ≡ schedule_with list at (Some n)
-item_read list at items n e = ap (λ l. slice_index_or list at [] ++ reverse l) e
-
 -- the last item is that of the origin
 pub one_read : (list : List (List ℕ)) (os : List Origin) → spelled ([] ∷ []) os ≡ list → AreEarlier 1 os → (at : ℕ) (o : Origin) → 0 < at → at < length list
     → o ≡ slice_index_or os (at - 1) o → (items now : List ℕ) → now ≡ items ++ o.item ∷ []

@@ -27,10 +27,6 @@ abbrev based : Image → ℕ → Option Cell → Option Cell
 based i w None = None
 based i w (Some c) = Some (base_cell i w)
 
-based_if : (i : Image) (w : ℕ) (b : Bool) (c : Cell) (o : Option Cell) → cond b (Some (base_cell i w)) (based i w o) ≡ based i w (cond b (Some c) o)
-based_if i w true c o = refl
-based_if i w false c o = refl
-
 base_found : (i : Image) (w : ℕ) (xs : List (ℕ × Cell)) → find nat_cmp w (map (as_base i) xs) ≡ based i w (find nat_cmp w xs)
 base_found i w [] = refl
 base_found i w (x ∷ xs) = elim (cases_eq w x.0) [

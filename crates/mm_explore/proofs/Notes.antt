@@ -62,21 +62,6 @@ module _ (i : Image) (list : List (List ℕ)) (done : List Extension) (x : Exten
         (from_next list (first_in i done slot cause) (get order f.faults (slot, cause)) x o (p x) (h.faults slot cause) is));
   }
 
-pub noted_still : (i : Image) (list : List (List ℕ)) (done : List Extension) (f g : Findings) → g.words ≡ f.words → g.faults ≡ f.faults → Noted i list done f → Noted i list done g
-noted_still i list done f g words faults h = record {
-  touched = subst (λ w. AreKept (flat_map (turn_words any_kind i) done) w.touched.keys) (sym words) h.touched;
-  wrote = subst (λ w. AreKept (flat_map (turn_words writes i) done) w.wrote.keys) (sym words) h.wrote;
-  faults = λ slot cause. subst (λ fs. IsFrom list (first_in i done slot cause) (get order fs (slot, cause))) (sym faults) (h.faults slot cause);
-}
-
-pub ended_still : (i : Image) (list past : List (List ℕ)) (f g : Findings) → g.ends ≡ f.ends → Ended i list past f → Ended i list past g
-ended_still i list past f g ends h = record {
-  finals = h.finals;
-  are = h.are;
-  ends = subst (λ es. AllZip (λ t end. IsEnd i list h.finals t end.0.items end.1) (firsts i h.finals) es.entries) (sym ends) h.ends;
-  unique = subst (IsUnique (λ a b. pointwise nat_eq a.items b.items)) (sym ends) h.unique;
-}
-
 -- 2. An end.
 
 module _ (i : Image) (list past : List (List ℕ)) (t : List ℕ) (f g : Findings) (at : ℕ) where

@@ -500,13 +500,6 @@ begins i img limit room few numbers is s found all groups at noted ended = recor
   ended = ended s.found.list;
 }
 
--- all configurations were gone through
-pub all_gone : (i : Image) (s : Search) (at : ℕ) → length s.found.list ≡ at → IsBefore i s at → HasCome i s (explored_turns i s.found.list) [] s.found.list
-unfolding explored_turns
-all_gone i s at e h =
-    subst (λ l. HasCome i s (flat_map (extensions i) l) [] l) (take_whole s.found.list at e)
-    (subst (λ l. HasCome i s (flat_map (extensions i) (take at s.found.list)) (flat_map (extensions i) l) (take at s.found.list)) (drop_whole s.found.list at e) h)
-
 module _ (i : Image) (img : IsImage i) (s : Search) (h : HasCome i s (explored_turns i s.found.list) [] s.found.list) where
   ends : (all : Bool) → GoesOn all i s.found.limit s.found.list (explored_turns i s.found.list) []
       → IsExplored i s.found.limit s.found.list × (all ≡ true → IsAll i s.found.list) × (all ≡ false → IsAll i s.found.list → ⊥)

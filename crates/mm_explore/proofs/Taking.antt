@@ -125,8 +125,3 @@ pub cells_end : (ns : List ℕ) → length ns < 2 → cells_from ns ≡ []
 cells_end [] lt = refl
 cells_end (a ∷ []) lt = refl
 cells_end (a ∷ b ∷ ns) lt = absurd (omega (arith, lt))
-
-pub behind_two : (ns : List ℕ) → 2 ≤ length ns → length (behind (behind ns)) < length ns
-behind_two [] le = absurd (omega (arith, le))
-behind_two (a ∷ []) le = absurd (omega (arith, le))
-behind_two (a ∷ b ∷ ns) le = omega arith

@@ -78,10 +78,6 @@ put_queue_so : (core : Core) (n : ℕ) (q : List Event) → uncounted (put_queue
 unfolding put_queue
 put_queue_so core n q = ap (λ (rows : List Row). record core { rows = rows }) (queue_rows n q core.rows)
 
-put_output_so : (core : Core) (g : ℕ) (bytes : List ℕ) → uncounted (put_output core g bytes) ≡ put_output (uncounted core) g bytes
-unfolding put_output
-put_output_so core g bytes = refl
-
 abbrev pub uncounted_found : Option Row → Option Row
 uncounted_found None = None
 uncounted_found (Some row) = Some (uncounted_row row)

@@ -79,9 +79,6 @@ kept_more words keys key word h = record {
   ]);
 }
 
-pub kept_none : AreKept [] []
-kept_none = record { only = λ x h. h; each = λ x h. h; aligned = tt }
-
 -- 2. The words of a group.
 
 taken : (group : ℕ) (key : ℕ × ℕ) (keys : List (ℕ × ℕ)) → (key.0 == group) ≡ true → words_in group (key ∷ keys) ≡ key.1 ∷ words_in group keys

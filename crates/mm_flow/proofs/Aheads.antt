@@ -21,10 +21,3 @@ nexts_ahead next k n same len h = record {
   later = λ i lt. let e = h i (omega arith) in omega arith;
   ends = λ i lt. let e = h i (omega arith) in omega arith;
 }
-
-pub ahead_set : (next : List ℕ) (n at v : ℕ) → IsAhead next n → at < n → at < v → v ≤ n → IsAhead (slice_set next at v) n
-ahead_set next n at v h lt later ends = record {
-  len = length_set next at v ∙ h.len;
-  later = λ k small. elim (set_cases next at v k (let e = h.len in omega arith)) [ here e f ↦ omega arith | there ne f ↦ (let old = h.later k small in omega arith) ];
-  ends = λ k small. elim (set_cases next at v k (let e = h.len in omega arith)) [ here e f ↦ omega arith | there ne f ↦ (let old = h.ends k small in omega arith) ];
-}

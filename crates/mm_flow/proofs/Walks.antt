@@ -332,7 +332,3 @@ nothing_passed e marks propagated n is = record {
 
     zero_at : (i : ℕ) → slice_index propagated i ≡ 0
     zero_at i = ap (λ v. slice_index v i) is ∙ zeros n i
-
--- before anything is propagated
-pub ready_start : (e : Edges) (marks propagated : List ℕ) (n : ℕ) → length e.nodes ≡ length marks → n ≡ length marks → propagated ≡ replicate n 0 → IsReady e marks propagated
-ready_start e marks propagated n nodes len is = record { nodes = nodes; len = ap length is ∙ length-replicate n 0 ∙ len; passed = nothing_passed e marks propagated n is }

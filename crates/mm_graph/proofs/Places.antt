@@ -16,17 +16,6 @@ use Rattle.mm_graph.proofs.KeyLists.{in_map, contains_here, contains_rest, conta
 abbrev pub nowhere : Placed
 nowhere = record { key = no_key; place = 0 }
 
--- one more key with its place
-pub places_more : (keys : List CanonicalPtr) (placed : List Placed) (k : ℕ) (p : Placed) → length placed ≡ k → ((j : ℕ) → j < k → placed_at placed j ≡ record { key = key_at keys j; place = j })
-    → p ≡ record { key = key_at keys k; place = k } → (length (placed ++ p ∷ []) ≡ k + 1) × ((j : ℕ) → j < k + 1 → placed_at (placed ++ p ∷ []) j ≡ record { key = key_at keys j; place = j })
-places_more keys placed k p len old is = (
-  length_push placed p ∙ ap (λ v. v + 1) len,
-  λ j lt. elim (below_cases j k lt) [
-    | inl less ↦ get_or_append_left placed (p ∷ []) nowhere j (omega arith) ∙ old j less
-    | inr e ↦ get_or_push placed p nowhere j (len ∙ sym e) ∙ subst (λ v. p ≡ record { key = key_at keys v; place = v }) (sym e) is
-  ],
-)
-
 placed_in : (keys : List CanonicalPtr) (placed : List Placed) → IsPlacing keys placed → IsPlaced keys placed
 placed_in keys placed h = record {
   only = λ p m. from p m.0 m.1 m.2;

@@ -27,10 +27,6 @@ or_first : (a b : Bool) → a ≡ true → (a || b) ≡ true
 or_first true b e = refl
 or_first false b e = cc
 
-or_second : (a b : Bool) → b ≡ true → (a || b) ≡ true
-or_second true b e = refl
-or_second false b e = e
-
 -- a longer piece than a run is not all of its kind
 run_stops : (c : Class) (bytes : List ℕ) (k : ℕ) → run c bytes < k → k ≤ length bytes → list_all (is_in c) (take k bytes) ≡ false
 run_stops c [] k more le = absurd (omega arith)

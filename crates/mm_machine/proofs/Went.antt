@@ -58,9 +58,3 @@ module _ {M : Type 0} {memory : Ghosts M} where
 pub last_more : (before : Option ℕ) (items : List ℕ) (n : ℕ) → last_item before (items ++ n ∷ []) ≡ Some n
 last_more before [] n = refl
 last_more before (m ∷ items) n = last_more (Some m) items n
-
--- a slot that comes next has one of 64 numbers
-pub next_below : (mask : ℕ) (last : Option ℕ) (n : ℕ) → IsNext mask last n → n < 64
-next_below mask None n next = next.small
-next_below mask (Some last) n (inl above) = above.small
-next_below mask (Some last) n (inr (none, least)) = least.small

@@ -94,11 +94,6 @@ says_carry link integer (Carry number place) count lacks range says =
 
 -- a word with none of the three
 
-pub says_none : (w : List ℕ) (item : NetItem) (count : ℕ) → has 58 w ≡ false → has 64 w ≡ false → ((link : List ℕ) → w ≡ 43 ∷ link → ⊥) → Spells w item count → ⊥
-says_none w (Turn node slot) count colon at plus says = lacking 58 w (decimal node) says.0 colon says.2
-says_none w (Send number) count colon at plus says = plus (decimal number) says.1
-says_none w (Carry number place) count colon at plus says = lacking 64 w (decimal number) (decimal place) at says.1
-
 -- a word says one thing
 
 pub same_number : (a b : ℕ) → a ≤ 1000000 → b ≤ 1000000 → decimal a ≡ decimal b → a ≡ b

@@ -79,10 +79,6 @@ at_most_one (Turn n item) = omega arith
 at_most_one (Send l) = omega arith
 at_most_one (Carry l k) = omega arith
 
--- no step sends two integers
-pub step_sent : (links : List Link) (s t : NetState) (item : NetItem) → t ≡ net_after links s item → sent_count t ≤ sent_count s + 1
-step_sent links s t item is = omega (arith, ap sent_count is, after_sent links s item, at_most_one item)
-
 -- after a list of items: as many as these send at most
 pub run_sent : (links : List Link) (s : NetState) (items : List NetItem) → sent_count (net_run links s items) ≤ sent_count s + sum_by sends items
 unfolding net_run

@@ -46,13 +46,6 @@ impl Gather {
         }
     }
 
-    /// Whether a write has failed.
-    pub fn has_failed(&self) -> bool
-        ensures { result ≡ self.now.failed }
-    {
-        self.failed
-    }
-
     // Hands over what is kept.
     fn hand_over<O: Sink>(&mut self, out: &mut O)
         requires { self.old.failed ≡ false }

@@ -24,10 +24,6 @@ names_earlier i lines top g p (rules.Entered k) j h n = subst (λ v. v < top) n 
 names_earlier i lines top g p (rules.Served m k) j h n = subst (λ v. v < top) n h.gives.earlier
 names_earlier i lines top g p (rules.Made k) j h n = subst (λ v. v < top) n h.says.earlier
 
-pub name_earlier : (i : Image) (lines : List Line) → EachFollows i lines → NameEarlier lines
-name_earlier i lines each k j lt names =
-    names_earlier i lines k (line_at lines k).group (line_at lines k).pointer (line_at lines k).rule j (each k lt) names
-
 -- what follows, follows from a longer list too
 module _ (i : Image) (old new : List Line) (longer : Extends old new) (top : ℕ) (fits : top ≤ length old) where
   says_more : (j g : ℕ) (p : Pointer) → Says old top j g p → Says new top j g p

@@ -19,11 +19,6 @@ use Rattle.mm_why.specs.Works.{GoesOn}
 use Rattle.mm_why.specs.Giving.{HasLine, JoinedAt}
 use Rattle.mm_why.proofs.Working.{says_on}
 
--- in round 0 a group has come to itself only, and it has a line
-pub owner_has_line : (links meets : List ℕ) (rounds : List (List ℕ)) (owner to : ℕ) (lines : List Line) (p : Pointer) → AreRounds links meets rounds → Has (round_at rounds 0) owner to
-    → HasLine lines owner p → IsFresh lines to p → ⊥
-owner_has_line links meets rounds owner to lines p r come h fresh = fresh h.0 h.1.earlier (h.1.group ∙ r.steps.first owner to come) h.1.pointer
-
 -- what comes in a round and had not come in the one before is handed on
 pub handed_on : (links meets : List ℕ) (rounds : List (List ℕ)) (before round owner to : ℕ) → AreRounds links meets rounds → round < length rounds → before + 1 ≡ round
     → Has (round_at rounds round) owner to → (Has (round_at rounds before) owner to → ⊥) → HandsOn links meets (round_at rounds before) owner to

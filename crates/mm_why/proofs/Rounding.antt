@@ -149,15 +149,3 @@ module _ (links meets now : List ℕ) where
             let e = d.same same in
             subst (λ v. Has v h g) e (d.still same h g (let l = now_len in let m = d.len in omega (arith, l, m, lh))
             (record { by = x.by; small = x.small; has = subst (λ v. Has v h x.by) (sym e) x.has; shared_now = handing.each x.by g x.small lg x.hands }))
-
-pub rounds_start : (links meets now : List ℕ) → OwnSoFar 64 now → FirstRounds links meets ([] ++ now ∷ [])
-rounds_start links meets now o = record {
-  some = omega arith;
-  len = λ p lt. ap length (at p lt) ∙ o.len;
-  own = λ p h lt lh. subst (λ v. Has v h h) (sym (at p lt)) (o.own h lh);
-  first = λ h g x. o.only h g x;
-  step = λ p lt. absurd (omega arith);
-}
-  where
-    at : (p : ℕ) → p < 1 → round_at (now ∷ []) p ≡ now
-    at p lt = ap (round_at (now ∷ [])) (let e : p ≡ 0 = omega arith in e)

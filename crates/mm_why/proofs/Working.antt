@@ -18,9 +18,6 @@ use Rattle.mm_why.proofs.Pruning.{same_or_before}
 use Rattle.mm_why.proofs.Searching.{Which, which}
 use Rattle.mm_why.proofs.Searching.Which.{same, other}
 
-pub goes_same : (i : Image) (g : Graph) (w : Work) → IsWork i g w → GoesOn i g w w
-goes_same i g w h = record { work = h; lines = extends_same w.lines.items; known = λ n k. k }
-
 pub goes_trans : (i : Image) (g : Graph) (a b c : Work) → GoesOn i g a b → GoesOn i g b c → GoesOn i g a c
 goes_trans i g a b c x y = record {
   work = y.work;
