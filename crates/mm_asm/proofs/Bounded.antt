@@ -1,5 +1,6 @@
 -- The draft of a text is within its bounds.
-use Rattle.std.proofs.Common.{◌≡◌, ℕ, ◌+◌, ◌<◌, Bool, true, false, nat_le, if◌then◌else◌, List, [], ◌∷◌, length, replicate, Option, Some, None, is_some, Result, Ok, Err, refl, sym, ap, ◌∙◌, subst, arith}
+use Rattle.std.proofs.Common.{◌≡◌, ℕ, ◌+◌, ◌<◌, Bool, true, false, nat_le, if◌then◌else◌, List, [], ◌∷◌, length}
+use Rattle.std.proofs.Common.{replicate, Option, Some, None, is_some, Result, Ok, Err, refl, sym, ap, ◌∙◌, subst, arith}
 use Rattle.std.proofs.lemmas.List.{length-replicate}
 use Rattle.std.proofs.lemmas.Bool.Decides.{nat_tests}
 use Rattle.mm_line.specs.declared.fault.Problem.{Problem}
@@ -20,7 +21,10 @@ use Rattle.mm_draft.specs.declared.segment.Word.{Word}
 use Rattle.mm_draft.specs.declared.thread.Register.{Register}
 use Rattle.mm_draft.specs.declared.fault.Failure.{Failure}
 use Rattle.mm_draft.specs.Drafts.{place_in, Segment, Thread, Draft, nothing, last, zero_word, add_statement, add_reading, add_body, add_maybe_label, add_line}
-use Rattle.mm_draft.specs.Faults.{fault_if, is_named, has_slot, has_register, is_none, claim_faults, maybe_label_faults, one_if_pointer, statement_faults, reading_faults, body_faults, line_faults, segment_limit, is_before, lesser, first_of, source_of, step_by, step, ◌then◌, lines_from, lines_of, draft_of}
+use Rattle.mm_draft.specs.Faults.{fault_if, is_named, has_slot, has_register, is_none, claim_faults, maybe_label_faults}
+use Rattle.mm_draft.specs.Faults.{one_if_pointer, statement_faults, reading_faults, body_faults, line_faults}
+use Rattle.mm_draft.specs.Faults.{segment_limit, is_before, lesser, first_of, source_of, step_by, step, ◌then◌}
+use Rattle.mm_draft.specs.Faults.{lines_from, lines_of, draft_of}
 use Rattle.mm_asm.specs.Bounds.{IsRegister, IsThread, IsDraft}
 use Rattle.mm_asm.specs.Laws.{DraftsAreBounded}
 use Rattle.mm_asm.proofs.Lists.{none_both}
@@ -37,7 +41,9 @@ NoClaim d claim = claim_faults d claim ≡ []
 claimed : (d : Draft) (claim c : Option Claim) → claim ≡ c → NoClaim d claim → NoClaim d c
 claimed d claim c e h = ap (claim_faults d) (sym e) ∙ h
 
-statement_kept : (source : Source) (most left : ℕ) (d : Draft) (claim : Option Claim) (s : Statement) → IsDraft d → statement_faults d left s ≡ [] → NoClaim d claim → Names s left claim → IsStatement most s → IsDraft (add_statement source s d)
+statement_kept : (source : Source) (most left : ℕ) (d : Draft) (claim : Option Claim) (s : Statement) → IsDraft d
+    → statement_faults d left s ≡ [] → NoClaim d claim → Names s left claim → IsStatement most s
+    → IsDraft (add_statement source s d)
 unfolding statement_faults add_statement
 statement_kept source most left d claim (statement.Spare frames) h none new names is = record { segments = h.segments; threads = h.threads; spare = is }
 statement_kept source most left d claim (statement.Begin mark log) h none new names is =
@@ -46,7 +52,12 @@ statement_kept source most left d claim (statement.Begin mark log) h none new na
     let other = fault_none (is_named d mark.name) faults.Twice mark.left (claimed d claim (Some (claims.Segment mark)) names new) in
     record { segments = begin_kept d.segments d.names mark.name log h.segments few other (mark_name most mark is.0) is.1 is.2; threads = h.threads; spare = h.spare }
 statement_kept source most left d claim (statement.Fill words) h none new names is =
-    record { segments = words_kept d h.segments (replicate words (zero_word source)) words 0 left (length-replicate words (zero_word source)) (no_pointers source words) (zeros_are source words) none; threads = h.threads; spare = h.spare }
+    record {
+      segments = words_kept d h.segments (replicate words (zero_word source)) words 0 left
+          (length-replicate words (zero_word source)) (no_pointers source words) (zeros_are source words) none;
+      threads = h.threads;
+      spare = h.spare;
+    }
 statement_kept source most left d claim (statement.Word full what) h none new names is =
     let w : Word = record { full = full; content = what; source = source } in
     record { segments = words_kept d h.segments (w ∷ []) 1 (one_if_pointer what) left refl (omega arith) ((most, is), tt) none; threads = h.threads; spare = h.spare }
@@ -129,7 +140,8 @@ unfolding lines_from
 lines_kept [] number d e h is = subst IsDraft (let same : d ≡ e = cc is in same) h
 lines_kept (bytes ∷ lines) number d e h is = by (step number bytes d) refl is (λ f k. lines_kept lines (number + 1) f e k)
   where
-    by : (r : Result Draft Failure) → step number bytes d ≡ r → (r then (λ f. lines_from (number + 1) f lines)) ≡ Ok e → ((f : Draft) → IsDraft f → lines_from (number + 1) f lines ≡ Ok e → IsDraft e) → IsDraft e
+    by : (r : Result Draft Failure) → step number bytes d ≡ r → (r then (λ f. lines_from (number + 1) f lines)) ≡ Ok e
+        → ((f : Draft) → IsDraft f → lines_from (number + 1) f lines ≡ Ok e → IsDraft e) → IsDraft e
     by (Ok f) g k later = later f (step_kept number bytes d f h g) k
     by (Err failure) g k later = absurd cc
 

@@ -5,7 +5,8 @@ use Rattle.std.proofs.lemmas.List.{take_all}
 use Rattle.mm_object.proofs.Bools.{flat_map-more}
 
 module _ {A B : Type 0} (f : A → List B) where
-  pub pushed : (old mid new : List B) (xs : List A) (i : ℕ) (x : A) → i < length xs → x ≡ get_or xs i x → mid ≡ old ++ flat_map f (take i xs) → new ≡ mid ++ f x → new ≡ old ++ flat_map f (take (i + 1) xs)
+  pub pushed : (old mid new : List B) (xs : List A) (i : ℕ) (x : A) → i < length xs → x ≡ get_or xs i x
+      → mid ≡ old ++ flat_map f (take i xs) → new ≡ mid ++ f x → new ≡ old ++ flat_map f (take (i + 1) xs)
   pushed old mid new xs i x lt is before now =
       now ∙ ap (λ ys. ys ++ f x) before ∙ append_assoc old (flat_map f (take i xs)) (f x) ∙ ap (λ y. old ++ (flat_map f (take i xs) ++ f y)) is
       ∙ ap (λ ys. old ++ ys) (sym (flat_map-more f xs i x lt))
@@ -47,7 +48,8 @@ module _ {A B : Type 0} (f : ℕ → A → List B) where
       ∙ sym (append_assoc (f k x) (numbered (k + 1) (take i xs)) (f (k + 1 + i) (get_or xs i d)))
       ∙ ap (λ n. f k x ++ numbered (k + 1) (take i xs) ++ f n (get_or xs i d)) place
 
-  pub numbered_pushed : (old mid new : List B) (xs : List A) (i : ℕ) (x : A) → i < length xs → x ≡ get_or xs i x → mid ≡ old ++ numbered 0 (take i xs) → new ≡ mid ++ f i x → new ≡ old ++ numbered 0 (take (i + 1) xs)
+  pub numbered_pushed : (old mid new : List B) (xs : List A) (i : ℕ) (x : A) → i < length xs → x ≡ get_or xs i x
+      → mid ≡ old ++ numbered 0 (take i xs) → new ≡ mid ++ f i x → new ≡ old ++ numbered 0 (take (i + 1) xs)
   numbered_pushed old mid new xs i x lt is before now =
       let same : 0 + i ≡ i = omega arith in
       now ∙ ap (λ ys. ys ++ f i x) before ∙ append_assoc old (numbered 0 (take i xs)) (f i x)

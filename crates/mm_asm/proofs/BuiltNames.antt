@@ -1,5 +1,7 @@
 -- Names in a set, and the place of a name among those that rise.
-use Rattle.std.proofs.Common.{◌≡◌, ℕ, zero, suc, ◌+◌, ◌<◌, ◌≤◌, Bool, true, false, not, ◌&&◌, ◌||◌, if◌then◌else◌, List, [], ◌∷◌, ◌++◌, map, length, get_or, take, Option, Some, None, is_some, refl, sym, ap, ◌∙◌, subst, arith, inl, inr}
+use Rattle.std.proofs.Common.{◌≡◌, ℕ, zero, suc, ◌+◌, ◌<◌, ◌≤◌, Bool, true, false, not, ◌&&◌, ◌||◌, if◌then◌else◌, List}
+use Rattle.std.proofs.Common.{[], ◌∷◌, ◌++◌, map, length, get_or, take, Option, Some, None, is_some, refl, sym, ap, ◌∙◌}
+use Rattle.std.proofs.Common.{subst, arith, inl, inr}
 use Rattle.std.specs.Prelude.{nat_le}
 use Rattle.std.specs.declared.cmp.Ordering.{Ordering}
 use Rattle.std.specs.declared.cmp.Ordering.TheVariants.{Less, Equal, Greater}
@@ -61,7 +63,8 @@ absent_is d u name same none = ap (λ n. not (is_some (place_of d n))) (sym same
 -- 3. One use more.
 
 module _ (d : Draft) where
-  pub with_more : (names : List (List ℕ)) (uses : List Use) (i : ℕ) (u : Use) → i < length uses → u ≡ get_or uses i u → externals_with d names (take (i + 1) uses) ≡ with_use d u (externals_with d names (take i uses))
+  pub with_more : (names : List (List ℕ)) (uses : List Use) (i : ℕ) (u : Use) → i < length uses → u ≡ get_or uses i u
+      → externals_with d names (take (i + 1) uses) ≡ with_use d u (externals_with d names (take i uses))
   with_more names [] i u lt is = absurd (omega arith)
   with_more names (v ∷ uses) zero u lt is = ap (λ w. with_use d w names) (sym is)
   with_more names (v ∷ uses) (suc i) u lt is =
@@ -76,7 +79,9 @@ module _ (d : Draft) where
       let next : suc i + 1 ≡ suc (i + 1) = omega arith in
       ap (λ n. limit_failures d names (take n (v ∷ uses))) next
       ∙ ap (λ fs. limit_failure d names v ++ fs) (limits_more (with_use d v names) uses i u (omega arith) is)
-      ∙ sym (Rattle.std.proofs.Common.append_assoc (limit_failure d names v) (limit_failures d (with_use d v names) (take i uses)) (limit_failure d (externals_with d (with_use d v names) (take i uses)) u))
+      ∙ sym (Rattle.std.proofs.Common.append_assoc (limit_failure d names v)
+      (limit_failures d (with_use d v names) (take i uses))
+      (limit_failure d (externals_with d (with_use d v names) (take i uses)) u))
 
   pub limits_met : (a b c : Option Failure) (names : List (List ℕ)) (uses : List Use) (i : ℕ) (u : Use) → i < length uses → u ≡ get_or uses i u
       → names ≡ externals_with d [] (take i uses) → Meets a b (limit_failures d [] (take i uses)) → Meets b c (limit_failure d names u) → Meets a c (limit_failures d [] (take (i + 1) uses))
@@ -97,7 +102,8 @@ ascend_rises (x ∷ y ∷ xs) h =
 same_from_equal : (a b : List ℕ) → compared a b ≡ Equal → a ≡ b
 same_from_equal a b h = is_same a b (sym (is_equal a b) ∙ ap is_eq h)
 
-pub place_is : (names : List (List ℕ)) (name : List ℕ) (i : ℕ) → ascend names ≡ true → i < length names → ((d : List ℕ) → slice_cmp nat_cmp (get_or names i d) name ≡ Equal) → i ≡ position_of name names
+pub place_is : (names : List (List ℕ)) (name : List ℕ) (i : ℕ) → ascend names ≡ true → i < length names
+    → ((d : List ℕ) → slice_cmp nat_cmp (get_or names i d) name ≡ Equal) → i ≡ position_of name names
 place_is names name i up lt found =
     let e : get_or names i [] ≡ name = same_from_equal (get_or names i []) name (found []) in
     sym (position_at names i (ascend_rises names up) lt) ∙ ap (λ (n : List ℕ). position_of n names) e
@@ -128,7 +134,9 @@ among_place name (x ∷ names) h = by (same_name name x) refl h (among_place nam
     by false e k later = let r = later k in (suc r.0, omega (arith, r.1), r.2)
 
 pub is_found : (names : List (List ℕ)) (name : List ℕ) (i : ℕ) → ascend names ≡ true → is_among name names ≡ true
-    → (IsNonDecreasingBy (λ (y : List ℕ). ordering_index (slice_cmp nat_cmp y name)) names → IsPartitionPoint (λ (y : List ℕ). slice_cmp nat_cmp y name ≡ Less) (λ (y : List ℕ). slice_cmp nat_cmp y name ≡ Greater) names i) → ⊥
+    → (IsNonDecreasingBy (λ (y : List ℕ). ordering_index (slice_cmp nat_cmp y name)) names → IsPartitionPoint
+    (λ (y : List ℕ). slice_cmp nat_cmp y name ≡ Less) (λ (y : List ℕ). slice_cmp nat_cmp y name ≡ Greater) names i)
+    → ⊥
 is_found names name i up among h =
     let point = h (searchable_from_sorted nat_list_cmp_total (λ (y : List ℕ). y) names name (sorted names up)) in
     let r = among_place name names among in

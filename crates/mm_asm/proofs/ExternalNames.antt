@@ -36,7 +36,9 @@ module _ (d : Draft) where
       by false = h
 
   -- what is true of the names of all uses that the draft does not have is true of the externals
-  pub externals_each : (P : List ℕ → Type 0) (uses : List Use) (names : List (List ℕ)) → AllByRecursion P names → ((u : Use) → In u uses → is_external d u ≡ true → P (name_of u)) → AllByRecursion P (externals_with d names uses)
+  pub externals_each : (P : List ℕ → Type 0) (uses : List Use) (names : List (List ℕ)) → AllByRecursion P names
+      → ((u : Use) → In u uses → is_external d u ≡ true → P (name_of u)) → AllByRecursion P
+      (externals_with d names uses)
   externals_each P [] names h k = h
   externals_each P (u ∷ uses) names h k = externals_each P uses (with_use d u names) (by (is_external d u) refl) (λ v m e. k v (inr m) e)
     where
@@ -63,7 +65,8 @@ module _ (d : Draft) where
       by false f = absurd cc
   used_among u (v ∷ uses) names (inr m) e = used_among u uses (with_use d v names) m e
 
-  pub externals_few : (uses : List Use) (names : List (List ℕ)) → Rising names → length names ≤ external_limit → limit_failures d names uses ≡ [] → length (externals_with d names uses) ≤ external_limit
+  pub externals_few : (uses : List Use) (names : List (List ℕ)) → Rising names → length names ≤ external_limit
+      → limit_failures d names uses ≡ [] → length (externals_with d names uses) ≤ external_limit
   externals_few [] names rising few none = few
   externals_few (u ∷ uses) names rising few none = externals_few uses (with_use d u names) (grown (is_external d u)) (by (is_external d u) test) rest
     where

@@ -1,5 +1,6 @@
 -- Names as they are first seen, and the same names in the order of their bytes.
-use Rattle.std.proofs.Common.{◌≡◌, ℕ, zero, suc, ◌+◌, ◌<◌, ◌≤◌, Bool, true, false, not, ◌&&◌, ◌||◌, ◌==◌, if◌then◌else◌, List, [], ◌∷◌, ◌++◌, length, length-append, get_or, refl, sym, ap, ◌∙◌, subst, arith}
+use Rattle.std.proofs.Common.{◌≡◌, ℕ, zero, suc, ◌+◌, ◌<◌, ◌≤◌, Bool, true, false, not, ◌&&◌, ◌||◌, ◌==◌, if◌then◌else◌}
+use Rattle.std.proofs.Common.{List, [], ◌∷◌, ◌++◌, length, length-append, get_or, refl, sym, ap, ◌∙◌, subst, arith}
 use Rattle.std.specs.Prelude.{nat_le}
 use Rattle.std.specs.Str.{bytes_eq}
 use Rattle.std.specs.Ordering.{is_lt}
@@ -108,7 +109,8 @@ contained (x ∷ keys) name =
     ap (λ b. b || list_any (λ (k : Bor (List ℕ)). bytes_eq name k.now) keys) (same_bytes name x.now)
     ∙ ap (λ b. same_name name x.now || b) (contained keys name)
 
-pub too_many : (keys : List (Bor (List ℕ))) (name : List ℕ) (n : ℕ) (b : Bool) → n ≡ length keys → 1024 ≤ n → b ≡ list_any (λ (k : Bor (List ℕ)). bytes_eq name k.now) keys → not b ≡ is_too_many (bytes_of keys) name
+pub too_many : (keys : List (Bor (List ℕ))) (name : List ℕ) (n : ℕ) (b : Bool) → n ≡ length keys → 1024 ≤ n
+    → b ≡ list_any (λ (k : Bor (List ℕ)). bytes_eq name k.now) keys → not b ≡ is_too_many (bytes_of keys) name
 too_many keys name n b many le is =
     let full : nat_le 1024 (length (bytes_of keys)) ≡ true = fits (length (bytes_of keys)) (omega (arith, as_many keys)) in
     ap not (is ∙ contained keys name) ∙ ap (λ c. c && not (is_among name (bytes_of keys))) (sym full)

@@ -1,5 +1,7 @@
 -- Targets of a draft stand in the order of the text, one on a line at most.
-use Rattle.std.proofs.Common.{◌≡◌, ℕ, zero, suc, ◌+◌, ◌<◌, ◌≤◌, Bool, true, false, nat_lt, if◌then◌else◌, List, [], ◌∷◌, ◌++◌, map, replicate, Option, Some, None, Result, Ok, Err, refl, sym, ap, ◌∙◌, subst, inl, inr, arith, append_assoc, append-nil}
+use Rattle.std.proofs.Common.{◌≡◌, ℕ, zero, suc, ◌+◌, ◌<◌, ◌≤◌, Bool, true, false, nat_lt, if◌then◌else◌, List, [], ◌∷◌}
+use Rattle.std.proofs.Common.{◌++◌, map, replicate, Option, Some, None, Result, Ok, Err, refl, sym, ap, ◌∙◌, subst, inl}
+use Rattle.std.proofs.Common.{inr, arith, append_assoc, append-nil}
 use Rattle.std.specs.List.{flat_map, AllByRecursion}
 use Rattle.std.proofs.lemmas.List.{map-append}
 use Rattle.std.proofs.lemmas.Bool.Decides.{nat_tests}
@@ -21,7 +23,9 @@ use Rattle.mm_draft.specs.declared.segment.Word.{Word}
 use Rattle.mm_draft.specs.declared.thread.Register.{Register}
 use Rattle.mm_draft.specs.declared.fault.Failure.{Failure}
 use Rattle.mm_draft.specs.Drafts.{Segment, Thread, Draft, nothing, last, change_last, with_words, with_register, zero_word, add_statement, add_reading, add_body, add_maybe_label, add_line}
-use Rattle.mm_draft.specs.Faults.{is_none, claim_faults, maybe_label_faults, one_if_pointer, words_faults, statement_faults, reading_faults, body_faults, line_faults, first_of, source_of, step_by, step, ◌then◌, lines_from, lines_of, draft_of}
+use Rattle.mm_draft.specs.Faults.{is_none, claim_faults, maybe_label_faults, one_if_pointer, words_faults}
+use Rattle.mm_draft.specs.Faults.{statement_faults, reading_faults, body_faults, line_faults, first_of, source_of}
+use Rattle.mm_draft.specs.Faults.{step_by, step, ◌then◌, lines_from, lines_of, draft_of}
 use Rattle.mm_asm.specs.Names.{Use, constant_uses, content_uses, word_uses, segment_uses, register_uses, thread_uses, merge, uses_of}
 use Rattle.mm_asm.specs.Laws.{TargetsStandInOrder}
 use Rattle.mm_asm.proofs.Lists.{each_weaker, none_both}
@@ -110,14 +114,17 @@ OnLine number (u ∷ []) = u.source.line ≡ number
 OnLine number (u ∷ v ∷ uses) = ⊥
 
 stand_more : (number : ℕ) (uses : List Use) (u : Use) → Stand number uses → u.source.line ≡ number → Stand (number + 1) (uses ++ u ∷ [])
-stand_more number uses u h e = subst (RisesWithin 0 (number + 1)) (sym (map-append line_of_use uses (u ∷ []))) (in_turn 0 number (number + 1) (map line_of_use uses) (u.source.line ∷ []) h (omega (arith, e), omega (arith, e)))
+stand_more number uses u h e = subst (RisesWithin 0 (number + 1)) (sym (map-append line_of_use uses (u ∷ [])))
+    (in_turn 0 number (number + 1) (map line_of_use uses) (u.source.line ∷ []) h (omega (arith, e), omega (arith, e)))
 
 module _ (number : ℕ) (xs ys : List Use) (h : Stand number (merge xs ys)) where
   left_below : AllByRecursion (λ (v : Use). v.source.line < number) xs
-  left_below = each_from (λ (v : Use). v.source.line < number) xs (λ v m. each_in (λ (w : Use). w.source.line < number) v (merge xs ys) (each_below 0 number (merge xs ys) h) (in_merge v xs ys (inl m)))
+  left_below = each_from (λ (v : Use). v.source.line < number) xs (λ v m. each_in (λ (w : Use). w.source.line < number)
+      v (merge xs ys) (each_below 0 number (merge xs ys) h) (in_merge v xs ys (inl m)))
 
   right_below : AllByRecursion (λ (v : Use). v.source.line < number) ys
-  right_below = each_from (λ (v : Use). v.source.line < number) ys (λ v m. each_in (λ (w : Use). w.source.line < number) v (merge xs ys) (each_below 0 number (merge xs ys) h) (in_merge v xs ys (inr m)))
+  right_below = each_from (λ (v : Use). v.source.line < number) ys (λ v m. each_in (λ (w : Use). w.source.line < number)
+      v (merge xs ys) (each_below 0 number (merge xs ys) h) (in_merge v xs ys (inr m)))
 
   left_stands : (us : List Use) → OnLine number us → Stand (number + 1) (merge (xs ++ us) ys)
   left_stands [] on = subst (λ (zs : List Use). Stand (number + 1) (merge zs ys)) (sym (append-nil xs)) (higher 0 number (number + 1) (map line_of_use (merge xs ys)) (omega arith) h)
@@ -178,14 +185,18 @@ module _ (source : Source) (d : Draft) (h : InOrder source.line d) where
       Stand (source.line + 1) (merge (flat_map segment_uses (change_last (with_words words) d.segments)) ofThreads)
   words_in_order words us e on has =
       let grown : (s : Segment) → segment_uses (with_words words s) ≡ segment_uses s ++ us = λ s. flat_map-append word_uses s.words words ∙ ap (λ (vs : List Use). segment_uses s ++ vs) e in
-      subst (λ (vs : List Use). Stand (source.line + 1) (merge vs ofThreads)) (sym (flat_changed (with_words words) segment_uses us d.segments has grown)) (left_stands source.line ofWords ofThreads h us on)
+      subst (λ (vs : List Use). Stand (source.line + 1) (merge vs ofThreads))
+      (sym (flat_changed (with_words words) segment_uses us d.segments has grown))
+      (left_stands source.line ofWords ofThreads h us on)
 
   statement_in_order : (left : ℕ) (s : Statement) → statement_faults d left s ≡ [] → InOrder (source.line + 1) (add_statement source s d)
   unfolding statement_faults add_statement
   statement_in_order left (statement.Spare frames) none = same_in_order
   statement_in_order left (statement.Begin mark log) none =
       let begun : Segment = record { name = mark.name; log = log; words = [] } in
-      subst (λ (vs : List Use). Stand (source.line + 1) (merge vs ofThreads)) (sym (flat_push (λ (s : Segment). s) segment_uses [] d.segments begun refl)) (left_stands source.line ofWords ofThreads h [] tt)
+      subst (λ (vs : List Use). Stand (source.line + 1) (merge vs ofThreads))
+      (sym (flat_push (λ (s : Segment). s) segment_uses [] d.segments begun refl))
+      (left_stands source.line ofWords ofThreads h [] tt)
   statement_in_order left (statement.Fill words) none = words_in_order (replicate words (zero_word source)) [] (zero_uses source words) tt (has_last d words 0 left (last d.segments) none)
   statement_in_order left (statement.Word full what) none =
       let w : Word = record { full = full; content = what; source = source } in
@@ -193,13 +204,17 @@ module _ (source : Source) (d : Draft) (h : InOrder source.line d) where
   statement_in_order left (statement.Thread slot group handler perm target) none =
       let t : Thread = record { slot = slot; group = group; handler = handler; perm = perm; target = target; source = source; registers = [] } in
       let u : Use = record { target = target; source = source } in
-      subst (λ (vs : List Use). Stand (source.line + 1) (merge ofWords vs)) (sym (flat_push (λ (x : Thread). x) thread_uses (u ∷ []) d.threads t refl)) (right_stands source.line ofWords ofThreads h (u ∷ []) refl)
+      subst (λ (vs : List Use). Stand (source.line + 1) (merge ofWords vs))
+      (sym (flat_push (λ (x : Thread). x) thread_uses (u ∷ []) d.threads t refl))
+      (right_stands source.line ofWords ofThreads h (u ∷ []) refl)
   statement_in_order left (statement.Register number value) none =
       let r : Register = record { number = number; value = value; source = source } in
       let grown : (t : Thread) → thread_uses (with_register r t) ≡ thread_uses t ++ register_uses r = λ t.
       let u : Use = record { target = t.target; source = t.source } in
       ap (λ (vs : List Use). u ∷ vs) (flat_push (λ (x : Register). x) register_uses (register_uses r) t.registers r refl) in
-      subst (λ (vs : List Use). Stand (source.line + 1) (merge ofWords vs)) (sym (flat_changed (with_register r) thread_uses (register_uses r) d.threads (fault_none (is_none (last d.threads)) faults.Place left none) grown))
+      subst (λ (vs : List Use). Stand (source.line + 1) (merge ofWords vs))
+      (sym (flat_changed (with_register r) thread_uses (register_uses r) d.threads
+      (fault_none (is_none (last d.threads)) faults.Place left none) grown))
       (right_stands source.line ofWords ofThreads h (register_uses r) (constant_on_line source value))
 
   body_in_order : (body : Option Body) → body_faults d body ≡ [] → InOrder (source.line + 1) (add_body source body d)
@@ -238,7 +253,9 @@ unfolding lines_from
 lines_in_order [] number d e h is = (number, subst (InOrder number) (let same : d ≡ e = cc is in same) h)
 lines_in_order (bytes ∷ lines) number d e h is = by (step number bytes d) refl is (λ f k. lines_in_order lines (number + 1) f e k)
   where
-    by : (r : Result Draft Failure) → step number bytes d ≡ r → (r then (λ f. lines_from (number + 1) f lines)) ≡ Ok e → ((f : Draft) → InOrder (number + 1) f → lines_from (number + 1) f lines ≡ Ok e → (high : ℕ) × InOrder high e) →
+    by : (r : Result Draft Failure) → step number bytes d ≡ r → (r then (λ f. lines_from (number + 1) f lines)) ≡ Ok e
+        → ((f : Draft) → InOrder (number + 1) f → lines_from (number + 1) f lines ≡ Ok e → (high : ℕ) × InOrder high e)
+        →
         (high : ℕ) × InOrder high e
     by (Ok f) g k later = later f (step_in_order number bytes d f h g) k
     by (Err failure) g k later = absurd cc

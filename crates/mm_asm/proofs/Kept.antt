@@ -1,5 +1,7 @@
 -- What a line adds leaves a draft within its bounds.
-use Rattle.std.proofs.Common.{◌≡◌, ℕ, zero, suc, ◌+◌, ◌-◌, ◌<◌, ◌≤◌, Bool, true, false, ◌||◌, ◌==◌, nat_lt, if◌then◌else◌, List, [], ◌∷◌, ◌++◌, map, length, replicate, slice_get, Option, Some, None, is_some, bytes_eq, refl, sym, ap, ◌∙◌, subst, arith, length-append}
+use Rattle.std.proofs.Common.{◌≡◌, ℕ, zero, suc, ◌+◌, ◌-◌, ◌<◌, ◌≤◌, Bool, true, false, ◌||◌, ◌==◌, nat_lt}
+use Rattle.std.proofs.Common.{if◌then◌else◌, List, [], ◌∷◌, ◌++◌, map, length, replicate, slice_get, Option, Some, None}
+use Rattle.std.proofs.Common.{is_some, bytes_eq, refl, sym, ap, ◌∙◌, subst, arith, length-append}
 use Rattle.std.specs.List.{list_any, AllByRecursion}
 use Rattle.std.proofs.lemmas.List.{map-append}
 use Rattle.std.proofs.lemmas.List.Folds.{list_any-append}
@@ -53,12 +55,14 @@ entry_is_new : (entries : List Entry) (name : List ℕ) → is_some (place_in en
 entry_is_new [] name new = refl
 entry_is_new (x ∷ entries) name new = by (bytes_eq name x.name) refl new (entry_is_new entries name)
   where
-    by : (b : Bool) → bytes_eq name x.name ≡ b → is_some (if b then Some x.place else place_in entries name) ≡ false → (is_some (place_in entries name) ≡ false → is_among name (map (λ (e : Entry). e.name) entries) ≡ false) →
+    by : (b : Bool) → bytes_eq name x.name ≡ b → is_some (if b then Some x.place else place_in entries name) ≡ false
+        → (is_some (place_in entries name) ≡ false → is_among name (map (λ (e : Entry). e.name) entries) ≡ false) →
         is_among name (map (λ (e : Entry). e.name) (x ∷ entries)) ≡ false
     by true e f later = absurd cc
     by false e f later = none_of _ _ (is_other name x.name (λ same. let t = (bytes_eq-Decides name x.name).1 same in cc (t, e))) (later f)
 
-entries_apart : (entries : List Entry) (e : Entry) → are_apart (map (λ (x : Entry). x.name) entries) ≡ true → is_some (place_in entries e.name) ≡ false → are_apart (map (λ (x : Entry). x.name) (entries ++ e ∷ [])) ≡ true
+entries_apart : (entries : List Entry) (e : Entry) → are_apart (map (λ (x : Entry). x.name) entries) ≡ true
+    → is_some (place_in entries e.name) ≡ false → are_apart (map (λ (x : Entry). x.name) (entries ++ e ∷ [])) ≡ true
 entries_apart entries e h new =
     ap are_apart (map-append (λ (x : Entry). x.name) entries (e ∷ [])) ∙ apart-push (map (λ (x : Entry). x.name) entries) e.name h (entry_is_new entries e.name new)
 
@@ -66,7 +70,9 @@ named_more : (entries : List Entry) (e : Entry) (k : ℕ) (segments : List Segme
 named_more entries e k [] h = tt
 named_more entries e k (s ∷ segments) h = (place_more entries (e ∷ []) s.name (record { segment = k; word = 0; is_label = false }) h.0, named_more entries e (k + 1) segments h.1)
 
-named_push : (entries : List Entry) (k : ℕ) (segments : List Segment) (s : Segment) → AreNamed entries k segments → place_in entries s.name ≡ Some (record { segment = k + length segments; word = 0; is_label = false }) → AreNamed entries k (segments ++ s ∷ [])
+named_push : (entries : List Entry) (k : ℕ) (segments : List Segment) (s : Segment) → AreNamed entries k segments
+    → place_in entries s.name ≡ Some (record { segment = k + length segments; word = 0; is_label = false })
+    → AreNamed entries k (segments ++ s ∷ [])
 named_push entries k [] s h e =
     let same : k + 0 ≡ k = omega arith in
     (e ∙ ap (λ (i : ℕ). Some (let p : Place = record { segment = i; word = 0; is_label = false } in p)) same, tt)
@@ -85,10 +91,13 @@ each_stands entries k [] h = tt
 each_stands entries k (s ∷ segments) h = ((record { segment = k; word = 0; is_label = false }, h.0), each_stands entries (k + 1) segments h.1)
 
 -- a name that stands for nothing is that of no segment
-name_is_new : (entries : List Entry) (name : List ℕ) (segments : List Segment) → AreNamed entries 0 segments → is_some (place_in entries name) ≡ false → is_among name (map (λ (s : Segment). s.name) segments) ≡ false
+name_is_new : (entries : List Entry) (name : List ℕ) (segments : List Segment) → AreNamed entries 0 segments
+    → is_some (place_in entries name) ≡ false → is_among name (map (λ (s : Segment). s.name) segments) ≡ false
 name_is_new entries name segments h new = is_false (is_among name (map (λ (s : Segment). s.name) segments)) (λ among.
     let Stands : List ℕ → Type 0 = λ n. (p : Place) × (place_in entries n ≡ Some p) in
-    let stands : (p : Place) × (place_in entries name ≡ Some p) = each_among Stands name (map (λ (s : Segment). s.name) segments) (each_map Stands (λ (s : Segment). s.name) segments (each_stands entries 0 segments h)) among in
+    let stands : (p : Place) × (place_in entries name ≡ Some p) = each_among Stands name
+    (map (λ (s : Segment). s.name) segments) (each_map Stands (λ (s : Segment). s.name) segments
+    (each_stands entries 0 segments h)) among in
     let some : is_some (place_in entries name) ≡ true = ap is_some stands.1 in
     cc (some, new))
 
@@ -161,10 +170,23 @@ module _ (segments : List Segment) (entries : List Entry) (name : List ℕ) (log
   pub begin_kept : length segments < segment_limit → is_some (place_in entries name) ≡ false → is_name name ≡ true → 3 ≤ log → log ≤ 20 → AreSegments (segments ++ begun ∷ []) (entries ++ entered ∷ [])
   begin_kept few new is least greatest =
       let same : length segments ≡ 0 + length segments = omega arith in
-      let first : Some entered.place ≡ Some (record { segment = 0 + length segments; word = 0; is_label = false }) = ap (λ (i : ℕ). Some (let p : Place = record { segment = i; word = 0; is_label = false } in p)) same in
+      let first : Some entered.place ≡ Some (record { segment = 0 + length segments; word = 0; is_label = false }) = ap
+      (λ (i : ℕ). Some (let p : Place = record { segment = i; word = 0; is_label = false } in p)) same in
       let is_segment : IsSegment begun = record { name = is; least = least; greatest = greatest; room = omega arith; words = tt } in
-      let words_same : words_of (segments ++ begun ∷ []) ≡ words_of segments = omega (arith, words_total (segments ++ begun ∷ []), words_total segments, total_more (λ (s : Segment). length s.words) segments (begun ∷ [])) in
-      let pointers_same : pointers_of (segments ++ begun ∷ []) ≡ pointers_of segments = omega (arith, pointers_total (segments ++ begun ∷ []), pointers_total segments, total_more (λ (s : Segment). pointers_among s.words) segments (begun ∷ [])) in
+      let words_same : words_of (segments ++ begun ∷ []) ≡ words_of segments = omega (
+        arith,
+        words_total (segments ++ begun ∷ []),
+        words_total segments,
+        total_more
+            (λ (s : Segment). length s.words) segments (begun ∷ []),
+      ) in
+      let pointers_same : pointers_of (segments ++ begun ∷ []) ≡ pointers_of segments = omega (
+        arith,
+        pointers_total (segments ++ begun ∷ []),
+        pointers_total segments,
+        total_more
+            (λ (s : Segment). pointers_among s.words) segments (begun ∷ []),
+      ) in
       let names_same : map (λ (s : Segment). s.name) (segments ++ begun ∷ []) ≡ map (λ (s : Segment). s.name) segments ++ name ∷ [] = map-append (λ (s : Segment). s.name) segments (begun ∷ []) in
       record {
         few = omega (arith, length-append segments (begun ∷ []), few);
@@ -175,15 +197,19 @@ module _ (segments : List Segment) (entries : List Entry) (name : List ℕ) (log
         words = omega (arith, words_same, h.words);
         pointers = omega (arith, pointers_same, h.pointers);
         places = each_more (λ (x : Entry). IsPlace (segments ++ begun ∷ []) x.place) entries (entered ∷ [])
-            (each_weaker (λ (x : Entry). IsPlace segments x.place) (λ (x : Entry). IsPlace (segments ++ begun ∷ []) x.place) entries (λ x k. place_stays segments (begun ∷ []) x.place.segment x.place.word k) h.places)
+            (each_weaker (λ (x : Entry). IsPlace segments x.place) (λ (x : Entry). IsPlace (segments ++ begun ∷ [])
+            x.place) entries (λ x k. place_stays segments (begun ∷ []) x.place.segment x.place.word k) h.places)
             (place_of_last segments begun, tt);
       }
 
-module _ (d : Draft) (h : AreSegments d.segments d.names) (words : List Word) (count pointers left : ℕ) (is_count : length words ≡ count) (is_pointers : pointers_among words ≡ pointers) (are : AllByRecursion IsWord words) where
+module _ (d : Draft) (h : AreSegments d.segments d.names) (words : List Word) (count pointers left : ℕ)
+    (is_count : length words ≡ count) (is_pointers : pointers_among words ≡ pointers)
+    (are : AllByRecursion IsWord words) where
   abbrev longer : List Segment
   longer = change_last (with_words words) d.segments
 
-  with_room : (s : Segment) → last d.segments ≡ Some s → length s.words + count ≤ room_of s → words_of d.segments + count ≤ word_limit → pointers_of d.segments + pointers ≤ pointer_limit → AreSegments longer d.names
+  with_room : (s : Segment) → last d.segments ≡ Some s → length s.words + count ≤ room_of s → words_of d.segments +
+      count ≤ word_limit → pointers_of d.segments + pointers ≤ pointer_limit → AreSegments longer d.names
   with_room s is_last room word_room pointer_room =
       let grown : (x : Segment) → last d.segments ≡ Some x → IsSegment x → IsSegment (with_words words x) = λ x e k.
       let same : x ≡ s = cc (e, is_last) in
@@ -200,7 +226,8 @@ module _ (d : Draft) (h : AreSegments d.segments d.names) (words : List Word) (c
         alone = h.alone;
         words = omega (arith, words_total longer, words_total d.segments, words_grow, is_count, word_room);
         pointers = omega (arith, pointers_total longer, pointers_total d.segments, pointers_grow, is_pointers, pointer_room);
-        places = each_weaker (λ (x : Entry). IsPlace d.segments x.place) (λ (x : Entry). IsPlace longer x.place) d.names (λ x k. place_in_longer words d.segments x.place.segment x.place.word k) h.places;
+        places = each_weaker (λ (x : Entry). IsPlace d.segments x.place) (λ (x : Entry). IsPlace longer x.place) d.names
+            (λ x k. place_in_longer words d.segments x.place.segment x.place.word k) h.places;
       }
 
   not_less : (a b : ℕ) → nat_lt a b ≡ false → b ≤ a
@@ -263,7 +290,8 @@ register_kept threads r h is new =
       registers = each_more IsRegister t.registers (r ∷ []) k.registers (is, tt);
       apart = keys_push (λ (x : Register). x.number) t.registers r k.apart other;
     } in
-    let slots_same : map (λ (t : Thread). t.slot) (change_last (with_register r) threads) ≡ map (λ (t : Thread). t.slot) threads = map_changed (with_register r) (λ (t : Thread). t.slot) threads (λ t. refl) in
+    let slots_same : map (λ (t : Thread). t.slot) (change_last (with_register r) threads) ≡ map (λ (t : Thread). t.slot)
+    threads = map_changed (with_register r) (λ (t : Thread). t.slot) threads (λ t. refl) in
     record {
       each = each_changed (with_register r) IsThread threads h.each grown;
       apart = subst AreApart (sym slots_same) h.apart;

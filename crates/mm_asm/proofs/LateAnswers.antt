@@ -53,7 +53,9 @@ module _ (text : List ℕ) where
   ok_same : (d e : Draft) → (let r : Result Draft Failure = Ok d in r) ≡ Ok e → d ≡ e
   ok_same d e h = cc
 
-  pub is_again : (d : Draft) (r : Result Object AsmError) → draft_of text ≡ Ok d → Gives (least (map failure_pair (late_failures d))) (object_of d) r → (o : Object) → Means text o → IsUnless errors.NoMemory o r
+  pub is_again : (d : Draft) (r : Result Object AsmError) → draft_of text ≡ Ok d
+      → Gives (least (map failure_pair (late_failures d))) (object_of d) r → (o : Object) → Means text o
+      → IsUnless errors.NoMemory o r
   is_again d r e g o m = by r g
     where
       same : m.draft ≡ d
@@ -75,7 +77,9 @@ gives_object fault value (Err e) none is memory = subst (Fails fault) (sym memor
 -- where reading stopped
 module _ (text : List ℕ) where
   pub early_is : {X : Type 0} (error : DraftError) (x : AsmError) → Reads (let r : Result Draft DraftError = Err error in r) (draft_of text) → Fails (pair_of_error error) x
-      → (kind : Fault) (line column : ℕ) → (let r : Result X AsmError = Err x in r) ≡ Err (errors.Fault kind line column) → first_fault text ≡ Some (record { line = line; column = column; number = number_of kind })
+      → (kind : Fault) (line column : ℕ) → (let r : Result X AsmError = Err x in r) ≡ Err
+      (errors.Fault kind line column) → first_fault text ≡ Some
+      (record { line = line; column = column; number = number_of kind })
   early_is (early.Fault failure) x e g kind line column is =
       let same : x ≡ errors.Fault kind line column = cc in
       first_early text failure e ∙ (rw same at g)
@@ -84,12 +88,14 @@ module _ (text : List ℕ) where
       let none = rw same at g in
       absurd (let k : None ≡ Some (let p : Pair = record { line = line; column = column; number = number_of kind } in p) = none in cc)
 
-  pub early_first : (error : DraftError) (x : AsmError) → Reads (let r : Result Draft DraftError = Err error in r) (draft_of text) → Fails (pair_of_error error) x → (p : Pair) → first_fault text ≡ Some p → Fails (Some p) x
+  pub early_first : (error : DraftError) (x : AsmError) → Reads (let r : Result Draft DraftError = Err error in r)
+      (draft_of text) → Fails (pair_of_error error) x → (p : Pair) → first_fault text ≡ Some p → Fails (Some p) x
   early_first (early.Fault failure) x e g p f = subst (λ (o : Option Pair). Fails o x) (sym (first_early text failure e) ∙ f) g
   early_first early.NoMemory (errors.Fault kind line column) e g p f = absurd cc
   early_first early.NoMemory errors.NoMemory e g p f = tt
 
-  pub early_again : (error : DraftError) (x : AsmError) → Reads (let r : Result Draft DraftError = Err error in r) (draft_of text) → Fails (pair_of_error error) x → (o : Object) → Means text o → x ≡ errors.NoMemory
+  pub early_again : (error : DraftError) (x : AsmError) → Reads (let r : Result Draft DraftError = Err error in r)
+      (draft_of text) → Fails (pair_of_error error) x → (o : Object) → Means text o → x ≡ errors.NoMemory
   early_again (early.Fault failure) x e g o m = absurd (let h = m.early in cc (e, h))
   early_again early.NoMemory (errors.Fault kind line column) e g o m = absurd cc
   early_again early.NoMemory errors.NoMemory e g o m = refl

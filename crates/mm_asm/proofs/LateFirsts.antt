@@ -68,12 +68,16 @@ met_both a b c xs ys h k = record {
   least = k.least ∙ ap (λ p. either p (least_of ys)) h.least ∙ sym (in_turn (pair_of_first a) (least_of xs) (least_of ys)) ∙ ap (either (pair_of_first a)) (sym (least_both xs ys));
 }
 
-pub met_more : {A : Type 0} (f : A → List Failure) (a b c : Option Failure) (xs : List A) (i : ℕ) (x : A) → i < length xs → x ≡ get_or xs i x → Meets a b (flat_map f (take i xs)) → Meets b c (f x) → Meets a c (flat_map f (take (i + 1) xs))
+pub met_more : {A : Type 0} (f : A → List Failure) (a b c : Option Failure) (xs : List A) (i : ℕ) (x : A)
+    → i < length xs → x ≡ get_or xs i x → Meets a b (flat_map f (take i xs)) → Meets b c (f x)
+    → Meets a c (flat_map f (take (i + 1) xs))
 met_more f a b c xs i x lt is h k =
     let e : flat_map f (take i xs) ++ f x ≡ flat_map f (take (i + 1) xs) = ap (λ y. flat_map f (take i xs) ++ f y) is ∙ sym (flat_map-more f xs i x lt) in
     subst (Meets a c) e (met_both a b c (flat_map f (take i xs)) (f x) h k)
 
-pub met_next : {A : Type 0} (f : ℕ → A → List Failure) (a b c : Option Failure) (xs : List A) (i : ℕ) (x : A) → i < length xs → x ≡ get_or xs i x → Meets a b (numbered f 0 (take i xs)) → Meets b c (f i x) → Meets a c (numbered f 0 (take (i + 1) xs))
+pub met_next : {A : Type 0} (f : ℕ → A → List Failure) (a b c : Option Failure) (xs : List A) (i : ℕ) (x : A)
+    → i < length xs → x ≡ get_or xs i x → Meets a b (numbered f 0 (take i xs)) → Meets b c (f i x)
+    → Meets a c (numbered f 0 (take (i + 1) xs))
 met_next f a b c xs i x lt is h k =
     let same : 0 + i ≡ i = omega arith in
     let e : numbered f 0 (take i xs) ++ f i x ≡ numbered f 0 (take (i + 1) xs) =

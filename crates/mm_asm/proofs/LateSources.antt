@@ -1,5 +1,7 @@
 -- In a text of few bytes the numbers of lines and columns have 32 bits.
-use Rattle.std.proofs.Common.{◌≡◌, ℕ, zero, suc, ◌+◌, ◌-◌, ◌^◌, ◌<◌, ◌≤◌, Bool, true, false, cond, if◌then◌else◌, List, [], ◌∷◌, ◌++◌, map, length, replicate, Option, Some, None, Result, Ok, Err, subst, inl, inr, arith}
+use Rattle.std.proofs.Common.{◌≡◌, ℕ, zero, suc, ◌+◌, ◌-◌, ◌^◌, ◌<◌, ◌≤◌, Bool, true, false, cond, if◌then◌else◌, List}
+use Rattle.std.proofs.Common.{[], ◌∷◌, ◌++◌, map, length, replicate, Option, Some, None, Result, Ok, Err, subst, inl}
+use Rattle.std.proofs.Common.{inr, arith}
 use Rattle.std.specs.List.{flat_map, slice_split, onto_first, AllByRecursion}
 use Rattle.std.specs.Prelude.{◌==◌}
 use Prim.Native.Char.{code}
@@ -38,18 +40,36 @@ each_same P x zero h = tt
 each_same P x (suc n) h = (h, each_same P x n h)
 
 module _ (source : Source) (small : IsSmall source) where
-  words_small : (words : List Word) (d : Draft) → AllByRecursion (λ (w : Word). IsSmall w.source) words → IsFromSmall d → AllByRecursion HasSmallWords (Rattle.mm_draft.specs.Drafts.change_last (with_words words) d.segments)
+  words_small : (words : List Word) (d : Draft) → AllByRecursion (λ (w : Word). IsSmall w.source) words → IsFromSmall d
+      → AllByRecursion HasSmallWords (Rattle.mm_draft.specs.Drafts.change_last (with_words words) d.segments)
   words_small words d k h = each_changed (with_words words) HasSmallWords d.segments h.segments (λ s e m. each_more (λ (w : Word). IsSmall w.source) s.words words m k)
 
   statement_small : (s : Statement) (d : Draft) → IsFromSmall d → IsFromSmall (add_statement source s d)
   unfolding add_statement
   statement_small (statement.Spare frames) d h = record { segments = h.segments; threads = h.threads }
-  statement_small (statement.Begin mark log) d h = record { segments = each_more HasSmallWords d.segments (record { name = mark.name; log = log; words = [] } ∷ []) h.segments (tt, tt); threads = h.threads }
-  statement_small (statement.Fill words) d h = record { segments = words_small (replicate words (zero_word source)) d (each_same (λ (w : Word). IsSmall w.source) (zero_word source) words small) h; threads = h.threads }
+  statement_small (statement.Begin mark log) d h = record {
+    segments = each_more HasSmallWords d.segments
+        (record { name = mark.name; log = log; words = [] } ∷ []) h.segments (tt, tt);
+    threads = h.threads;
+  }
+  statement_small (statement.Fill words) d h = record {
+    segments = words_small (replicate words (zero_word source)) d
+        (each_same (λ (w : Word). IsSmall w.source) (zero_word source) words small) h;
+    threads = h.threads;
+  }
   statement_small (statement.Word full what) d h = record { segments = words_small (record { full = full; content = what; source = source } ∷ []) d (small, tt) h; threads = h.threads }
   statement_small (statement.Thread slot group handler perm target) d h = record {
     segments = h.segments;
-    threads = each_more HasSmallRegisters d.threads (record { slot = slot; group = group; handler = handler; perm = perm; target = target; source = source; registers = [] } ∷ []) h.threads ((small, tt), tt);
+    threads = each_more HasSmallRegisters d.threads
+        (record {
+          slot = slot;
+          group = group;
+          handler = handler;
+          perm = perm;
+          target = target;
+          source = source;
+          registers = [];
+        } ∷ []) h.threads ((small, tt), tt);
   }
   statement_small (statement.Register number value) d h =
       let r : Register = record { number = number; value = value; source = source } in
@@ -81,7 +101,8 @@ abbrev Small : Result Draft Failure → Type 0
 Small (Ok d) = IsFromSmall d
 Small (Err failure) = IsSmall failure.source
 
-lines_small : (n : ℕ) (lines : List (List ℕ)) (number : ℕ) (d : Draft) → n < 2 ^ 32 - 1 → number + length lines ≤ n + 1 → AllByRecursion (λ (bytes : List ℕ). length bytes ≤ n) lines → IsFromSmall d → Small (lines_from number d lines)
+lines_small : (n : ℕ) (lines : List (List ℕ)) (number : ℕ) (d : Draft) → n < 2 ^ 32 - 1 → number + length lines ≤ n + 1
+    → AllByRecursion (λ (bytes : List ℕ). length bytes ≤ n) lines → IsFromSmall d → Small (lines_from number d lines)
 unfolding lines_from step
 lines_small n [] number d few count short h = h
 lines_small n (bytes ∷ lines) number d few count short h =
@@ -163,7 +184,8 @@ module _ (d : Draft) where
   goals_small k [] h = tt
   goals_small k (s ∷ segments) h =
       each_more FromSmall (flat_map (word_failures d k) s.words) (goal_failures d (k + 1) segments)
-      (each_flat FromSmall (word_failures d k) s.words (each_weaker (λ (w : Word). IsSmall w.source) (λ (w : Word). AllByRecursion FromSmall (word_failures d k w)) s.words (λ w m. in_small w.source _ m) h.0))
+      (each_flat FromSmall (word_failures d k) s.words (each_weaker (λ (w : Word). IsSmall w.source)
+      (λ (w : Word). AllByRecursion FromSmall (word_failures d k w)) s.words (λ w m. in_small w.source _ m) h.0))
       (goals_small (k + 1) segments h.1)
 
   limits_small : (uses : List Use) (names : List (List ℕ)) → AllByRecursion UsedSmall uses → AllByRecursion FromSmall (limit_failures d names uses)
@@ -173,12 +195,19 @@ module _ (d : Draft) where
   segments_used : (segments : List Segment) → AllByRecursion HasSmallWords segments → AllByRecursion UsedSmall (flat_map segment_uses segments)
   segments_used segments h =
       each_flat UsedSmall segment_uses segments (each_weaker HasSmallWords (λ (s : Segment). AllByRecursion UsedSmall (segment_uses s)) segments
-      (λ s k. each_flat UsedSmall word_uses s.words (each_weaker (λ (w : Word). IsSmall w.source) (λ (w : Word). AllByRecursion UsedSmall (word_uses w)) s.words (λ w m. content_small w.source w.content m) k)) h)
+      (λ s k. each_flat UsedSmall word_uses s.words (each_weaker (λ (w : Word). IsSmall w.source)
+      (λ (w : Word). AllByRecursion UsedSmall (word_uses w)) s.words (λ w m. content_small w.source w.content m) k))
+      h)
 
   threads_used : (threads : List Thread) → AllByRecursion HasSmallRegisters threads → AllByRecursion UsedSmall (flat_map thread_uses threads)
   threads_used threads h =
       each_flat UsedSmall thread_uses threads (each_weaker HasSmallRegisters (λ (t : Thread). AllByRecursion UsedSmall (thread_uses t)) threads
-      (λ t k. (k.0, each_flat UsedSmall register_uses t.registers (each_weaker (λ (r : Register). IsSmall r.source) (λ (r : Register). AllByRecursion UsedSmall (register_uses r)) t.registers (λ r m. constant_small r.source r.value m) k.1))) h)
+      (λ t k. (
+        k.0,
+        each_flat UsedSmall register_uses t.registers (each_weaker (λ (r : Register). IsSmall r.source)
+            (λ (r : Register). AllByRecursion UsedSmall (register_uses r)) t.registers
+            (λ r m. constant_small r.source r.value m) k.1),
+      )) h)
 
   uses_small : IsFromSmall d → AllByRecursion UsedSmall (uses_of d)
   unfolding uses_of

@@ -40,7 +40,8 @@ found_below [] i s h e = absurd cc
 found_below (x ∷ segments) zero s h e = let same : x ≡ s = cc in (omega arith, subst (λ (y : Segment). y.log ≤ 20) same h.0)
 found_below (x ∷ segments) (suc i) s h e = let r = found_below segments i s h.1 e in (omega (arith, r.0), r.1)
 
-within_fits : (segments : List Segment) (all index addend : ℕ) (o : Option Segment) → slice_get segments index ≡ o → AllByRecursion (λ (s : Segment). s.log ≤ 20) segments → length segments ≤ 256 → all ≤ 1280
+within_fits : (segments : List Segment) (all index addend : ℕ) (o : Option Segment) → slice_get segments index ≡ o
+    → AllByRecursion (λ (s : Segment). s.log ≤ 20) segments → length segments ≤ 256 → all ≤ 1280
     → is_within o all index addend ≡ true → (index < 2 ^ 16) × (addend < 2 ^ 32)
 within_fits segments all index addend (Some s) e logs few most h =
     let r = found_below segments index s logs e in
@@ -55,14 +56,18 @@ within_fits segments all index addend None e logs few most h =
 
 module _ (d : Draft) (is_draft : IsDraft d) (late : late_failures d ≡ []) where
   logs : AllByRecursion (λ (s : Segment). s.log ≤ 20) (segments_of d)
-  logs = each_map (λ (s : Segment). s.log ≤ 20) (segment_of d) d.segments (each_from (λ (s : draft.Segment). s.log ≤ 20) d.segments (λ s m. let h : bounds.IsSegment s = each_in bounds.IsSegment s d.segments is_draft.segments.each m in h.greatest))
+  logs = each_map (λ (s : Segment). s.log ≤ 20) (segment_of d) d.segments (each_from (λ (s : draft.Segment). s.log ≤ 20)
+      d.segments (λ s m. let h : bounds.IsSegment s = each_in bounds.IsSegment s d.segments is_draft.segments.each m in
+      h.greatest))
 
   use_fits : (u : Use) → In u (uses_of d) → FitsTarget d u.target
   use_fits u m =
       let t = target_of d u.target in
       let count : length (segments_of d) ≡ length d.segments = length-map d.segments (segment_of d) in
       let few = few_externals d late in
-      let r = within_fits (segments_of d) (length (segments_of d) + external_count d) t.index t.addend (slice_get (segments_of d) t.index) refl logs (omega (arith, count, is_draft.segments.few)) (omega (arith, count, is_draft.segments.few, few))
+      let r = within_fits (segments_of d) (length (segments_of d) + external_count d) t.index t.addend
+      (slice_get (segments_of d) t.index) refl logs (omega (arith, count, is_draft.segments.few))
+      (omega (arith, count, is_draft.segments.few, few))
       (targets_are d late u m (uses_placed d u is_draft m)) in
       record { index = r.0; addend = r.1; known = λ none. used_among d u (uses_of d) [] m (ap (λ (o : Option Place). not (is_some o)) none) }
 

@@ -1,5 +1,7 @@
 -- The relocations of a draft: each replaces a word that is 0, they are in order, and there is one for each pointer.
-use Rattle.std.proofs.Common.{◌≡◌, ℕ, zero, suc, ◌+◌, ◌*◌, ◌^◌, ◌≤◌, true, ◌==◌, if◌then◌else◌, List, [], ◌∷◌, ◌++◌, map, length, slice_get, Option, Some, option_map, refl, sym, ap, ◌∙◌, subst, inl, arith, length-append}
+use Rattle.std.proofs.Common.{◌≡◌, ℕ, zero, suc, ◌+◌, ◌*◌, ◌^◌, ◌≤◌, true, ◌==◌, if◌then◌else◌, List, [], ◌∷◌, ◌++◌}
+use Rattle.std.proofs.Common.{map, length, slice_get, Option, Some, option_map, refl, sym, ap, ◌∙◌, subst, inl, arith}
+use Rattle.std.proofs.Common.{length-append}
 use Rattle.std.specs.List.{flat_map, AllByRecursion}
 use Rattle.std.specs.List.Sorted.{IsStrictlyIncreasing}
 use Rattle.std.proofs.lemmas.List.{map-append}
@@ -63,18 +65,24 @@ module _ (d : Draft) where
       let high : segment * 2 ^ 32 + (k + 1 + length words) ≤ segment * 2 ^ 32 + (k + length (w ∷ words)) = omega arith in
       let first = content_rises segment k w.content in
       let later = words_rise segment (k + 1) words in
-      let both = in_turn (segment * 2 ^ 32 + k) (segment * 2 ^ 32 + (k + 1)) (segment * 2 ^ 32 + (k + 1 + length words)) (map place_of (content_relocs d segment k w.content)) (map place_of (words_relocs d segment (k + 1) words)) first later in
+      let both = in_turn (segment * 2 ^ 32 + k) (segment * 2 ^ 32 + (k + 1)) (segment * 2 ^ 32 + (k + 1 + length words))
+      (map place_of (content_relocs d segment k w.content)) (map place_of (words_relocs d segment (k + 1) words))
+      first later in
       let same = map-append place_of (content_relocs d segment k w.content) (words_relocs d segment (k + 1) words) in
       subst (RisesWithin (segment * 2 ^ 32 + k) (segment * 2 ^ 32 + (k + length (w ∷ words)))) (sym same) (higher (segment * 2 ^ 32 + k) _ _ _ high both)
 
-  pub segments_rise : (segment : ℕ) (segments : List draft.Segment) → AllByRecursion (λ (s : draft.Segment). length s.words ≤ 2 ^ 32) segments → RisesWithin (segment * 2 ^ 32) ((segment + length segments) * 2 ^ 32) (map place_of (segments_relocs d segment segments))
+  pub segments_rise : (segment : ℕ) (segments : List draft.Segment)
+      → AllByRecursion (λ (s : draft.Segment). length s.words ≤ 2 ^ 32) segments → RisesWithin (segment * 2 ^ 32)
+      ((segment + length segments) * 2 ^ 32) (map place_of (segments_relocs d segment segments))
   segments_rise segment [] h = omega arith
   segments_rise segment (s ∷ segments) h =
       let high : (segment + 1 + length segments) * 2 ^ 32 ≤ (segment + length (s ∷ segments)) * 2 ^ 32 = omega arith in
       let room : segment * 2 ^ 32 + (0 + length s.words) ≤ (segment + 1) * 2 ^ 32 = omega (arith, h.0) in
       let first = lower (segment * 2 ^ 32) (segment * 2 ^ 32 + 0) _ _ (omega arith) (higher _ _ ((segment + 1) * 2 ^ 32) _ room (words_rise segment 0 s.words)) in
       let later = segments_rise (segment + 1) segments h.1 in
-      let both = in_turn (segment * 2 ^ 32) ((segment + 1) * 2 ^ 32) ((segment + 1 + length segments) * 2 ^ 32) (map place_of (words_relocs d segment 0 s.words)) (map place_of (segments_relocs d (segment + 1) segments)) first later in
+      let both = in_turn (segment * 2 ^ 32) ((segment + 1) * 2 ^ 32) ((segment + 1 + length segments) * 2 ^ 32)
+      (map place_of (words_relocs d segment 0 s.words)) (map place_of (segments_relocs d (segment + 1) segments))
+      first later in
       let same = map-append place_of (words_relocs d segment 0 s.words) (segments_relocs d (segment + 1) segments) in
       subst (RisesWithin (segment * 2 ^ 32) ((segment + length (s ∷ segments)) * 2 ^ 32)) (sym same) (higher _ _ _ _ high both)
 
@@ -113,7 +121,8 @@ module _ (d : Draft) where
       ∙ ap (λ (ts : List Target). map (λ (u : Use). target_of d u.target) (word_uses w) ++ ts) (words_targets segment (k + 1) words)
       ∙ sym (map-append (λ (u : Use). target_of d u.target) (word_uses w) (flat_map word_uses words))
 
-  pub segments_targets : (segment : ℕ) (segments : List draft.Segment) → map (λ (r : Reloc). r.target) (segments_relocs d segment segments) ≡ map (λ (u : Use). target_of d u.target) (flat_map segment_uses segments)
+  pub segments_targets : (segment : ℕ) (segments : List draft.Segment) → map (λ (r : Reloc). r.target)
+      (segments_relocs d segment segments) ≡ map (λ (u : Use). target_of d u.target) (flat_map segment_uses segments)
   segments_targets segment [] = refl
   segments_targets segment (s ∷ segments) =
       map-append (λ (r : Reloc). r.target) (words_relocs d segment 0 s.words) (segments_relocs d (segment + 1) segments)
@@ -135,7 +144,8 @@ module _ (d : Draft) where
     all = map (segment_of d) d.segments
 
     content_replaces : (segment k : ℕ) (s : draft.Segment) (w : Word) → slice_get d.segments segment ≡ Some s → slice_get s.words k ≡ Some w →
-        ((u : Use) → In u (word_uses w) → is_target all externals (target_of d u.target) ≡ true) → AllByRecursion (λ (r : Reloc). is_reloc all externals r ≡ true) (content_relocs d segment k w.content)
+        ((u : Use) → In u (word_uses w) → is_target all externals (target_of d u.target) ≡ true)
+        → AllByRecursion (λ (r : Reloc). is_reloc all externals r ≡ true) (content_relocs d segment k w.content)
     content_replaces segment k s w is_segment is_word targets = by w.content refl
       where
         item : item_of (slice_get all segment) k ≡ Some (record { bits = bits_of d (0 + k) w.content; full = w.full })
@@ -153,7 +163,8 @@ module _ (d : Draft) where
         by (content.Code code) e = tt
 
     words_replace : (segment k : ℕ) (s : draft.Segment) (words : List Word) → slice_get d.segments segment ≡ Some s → ((i : ℕ) → slice_get s.words (k + i) ≡ slice_get words i) →
-        ((u : Use) → In u (flat_map word_uses words) → is_target all externals (target_of d u.target) ≡ true) → AllByRecursion (λ (r : Reloc). is_reloc all externals r ≡ true) (words_relocs d segment k words)
+        ((u : Use) → In u (flat_map word_uses words) → is_target all externals (target_of d u.target) ≡ true)
+        → AllByRecursion (λ (r : Reloc). is_reloc all externals r ≡ true) (words_relocs d segment k words)
     words_replace segment k s [] is_segment is_words targets = tt
     words_replace segment k s (w ∷ words) is_segment is_words targets =
         let first : slice_get s.words k ≡ Some w = let same : k ≡ k + 0 = omega arith in ap (slice_get s.words) same ∙ is_words 0 in
@@ -163,11 +174,14 @@ module _ (d : Draft) where
         (words_replace segment (k + 1) s words is_segment rest (λ u m. targets u (in_right u (word_uses w) (flat_map word_uses words) m)))
 
     pub segments_replace : (segment : ℕ) (segments : List draft.Segment) → ((i : ℕ) → slice_get d.segments (segment + i) ≡ slice_get segments i) →
-        ((u : Use) → In u (flat_map segment_uses segments) → is_target all externals (target_of d u.target) ≡ true) → AllByRecursion (λ (r : Reloc). is_reloc all externals r ≡ true) (segments_relocs d segment segments)
+        ((u : Use) → In u (flat_map segment_uses segments) → is_target all externals (target_of d u.target) ≡ true)
+        → AllByRecursion (λ (r : Reloc). is_reloc all externals r ≡ true) (segments_relocs d segment segments)
     segments_replace segment [] is_segments targets = tt
     segments_replace segment (s ∷ segments) is_segments targets =
         let first : slice_get d.segments segment ≡ Some s = let same : segment ≡ segment + 0 = omega arith in ap (slice_get d.segments) same ∙ is_segments 0 in
-        let rest : (i : ℕ) → slice_get d.segments (segment + 1 + i) ≡ slice_get segments i = λ i. let same : segment + 1 + i ≡ segment + suc i = omega arith in ap (slice_get d.segments) same ∙ is_segments (suc i) in
+        let rest : (i : ℕ) → slice_get d.segments (segment + 1 + i) ≡ slice_get segments i = λ i. let same : segment + 1
+        + i ≡ segment + suc i = omega arith in ap (slice_get d.segments) same ∙ is_segments (suc i) in
         each_more (λ (r : Reloc). is_reloc all externals r ≡ true) (words_relocs d segment 0 s.words) (segments_relocs d (segment + 1) segments)
-        (words_replace segment 0 s s.words first (λ i. let same : 0 + i ≡ i = omega arith in ap (slice_get s.words) same) (λ u m. targets u (in_left u (segment_uses s) (flat_map segment_uses segments) m)))
+        (words_replace segment 0 s s.words first (λ i. let same : 0 + i ≡ i = omega arith in ap (slice_get s.words)
+        same) (λ u m. targets u (in_left u (segment_uses s) (flat_map segment_uses segments) m)))
         (segments_replace (segment + 1) segments rest (λ u m. targets u (in_right u (segment_uses s) (flat_map segment_uses segments) m)))

@@ -1,5 +1,7 @@
 -- The segments of a draft in its object: their names, and the bits of their words.
-use Rattle.std.proofs.Common.{◌≡◌, ℕ, zero, suc, ◌+◌, ◌-◌, ◌^◌, ◌<◌, ◌≤◌, Bool, true, false, ◌||◌, ◌==◌, nat_le, if◌then◌else◌, List, [], ◌∷◌, map, length, slice_get, Option, Some, None, FitsSigned, bytes_eq, refl, ap, subst, inl, inr, arith}
+use Rattle.std.proofs.Common.{◌≡◌, ℕ, zero, suc, ◌+◌, ◌-◌, ◌^◌, ◌<◌, ◌≤◌, Bool, true, false, ◌||◌, ◌==◌, nat_le}
+use Rattle.std.proofs.Common.{if◌then◌else◌, List, [], ◌∷◌, map, length, slice_get, Option, Some, None, FitsSigned}
+use Rattle.std.proofs.Common.{bytes_eq, refl, ap, subst, inl, inr, arith}
 use Prim.Native.Char.{code}
 use Rattle.std.specs.List.{list_all, AllByRecursion}
 use Rattle.std.specs.Char.{is_digit, is_ascii_alphabetic}

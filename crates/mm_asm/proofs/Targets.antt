@@ -32,7 +32,9 @@ module _ (d : Draft) where
   module _ (late : late_failures d ≡ []) where
     uses_none : flat_map (use_failures d) (uses_of d) ≡ []
     unfolding late_failures
-    uses_none = (none_both (goal_failures d 0 d.segments) (flat_map (use_failures d) (uses_of d)) (none_both (goal_failures d 0 d.segments ++ flat_map (use_failures d) (uses_of d)) (limit_failures d [] (uses_of d)) late).0).1
+    uses_none = (none_both (goal_failures d 0 d.segments) (flat_map (use_failures d) (uses_of d))
+        (none_both (goal_failures d 0 d.segments ++ flat_map (use_failures d) (uses_of d))
+        (limit_failures d [] (uses_of d)) late).0).1
 
     limits_none : limit_failures d [] (uses_of d) ≡ []
     unfolding late_failures
@@ -45,7 +47,8 @@ module _ (d : Draft) where
     within None all index offset e = absurd cc
     within (Some s) all index offset e = grind (arith, nat_tests, e)
 
-    here : (p : Place) (t : text.Target) (left : ℕ) → meant_faults d left (Here p.segment (8 * p.word + t.addend)) ≡ [] → is_target segments_of external_count (target_by d (meant_by (Some p) t)) ≡ true
+    here : (p : Place) (t : text.Target) (left : ℕ) → meant_faults d left (Here p.segment (8 * p.word + t.addend)) ≡ []
+        → is_target segments_of external_count (target_by d (meant_by (Some p) t)) ≡ true
     here p t left e =
         let offset : ℕ = 8 * p.word + t.addend in
         let inside = fault_none (is_outside (slice_get d.segments p.segment) offset) Range left e in
@@ -59,7 +62,8 @@ module _ (d : Draft) where
         let same : length segments_of ≡ length d.segments = length-map d.segments (segment_of d) in
         let none : slice_get segments_of (length d.segments + place) ≡ None = get_past segments_of (length d.segments + place) (omega (arith, same)) in
         ap (λ (o : Option Segment). is_within o (length segments_of + external_count) (length d.segments + place) t.addend) none
-        ∙ and_true (nat_lt (length d.segments + place) (length segments_of + external_count)) (nat_lt t.addend (2 ^ greatest_log)) (grind (arith, nat_tests, low, same)) (grind (arith, nat_tests, small))
+        ∙ and_true (nat_lt (length d.segments + place) (length segments_of + external_count))
+        (nat_lt t.addend (2 ^ greatest_log)) (grind (arith, nat_tests, low, same)) (grind (arith, nat_tests, small))
 
     -- a target of the draft is one of its object
     pub targets_are : (u : Use) → In u (uses_of d) → IsPlaced u.target → is_target segments_of external_count (target_of d u.target) ≡ true

@@ -1,5 +1,7 @@
 -- What a text means is an object, where its draft is within its bounds.
-use Rattle.std.proofs.Common.{◌≡◌, ◌⊎◌, ℕ, zero, suc, ◌+◌, ◌*◌, ◌^◌, ◌<◌, ◌≤◌, true, false, not, ◌==◌, List, [], ◌∷◌, map, length, get_or, slice_get, Option, Some, None, is_some, refl, sym, ap, ◌∙◌, subst, inl, inr, arith}
+use Rattle.std.proofs.Common.{◌≡◌, ◌⊎◌, ℕ, zero, suc, ◌+◌, ◌*◌, ◌^◌, ◌<◌, ◌≤◌, true, false, not, ◌==◌, List, [], ◌∷◌}
+use Rattle.std.proofs.Common.{map, length, get_or, slice_get, Option, Some, None, is_some, refl, sym, ap, ◌∙◌, subst}
+use Rattle.std.proofs.Common.{inl, inr, arith}
 use Rattle.std.specs.List.{flat_map, list_any, list_all, AllByRecursion}
 use Rattle.std.specs.List.Sorted.{IsStrictlyIncreasing}
 use Rattle.std.proofs.lemmas.List.{length-map}
@@ -63,7 +65,9 @@ module _ (d : Draft) (is_draft : IsDraft d) (late : late_failures d ≡ []) wher
             let t = from_flat thread_uses u d.threads r in
             let is_thread : bounds.IsThread t.0 = each_in bounds.IsThread t.0 d.threads is_draft.threads.each t.1 in
             in_right (target_of d u.target) (map (λ (r : Reloc). r.target) relocs) (flat_map (thread_targets d) threads)
-            (in_flat (thread_targets d) (thread_of d t.0) (target_of d u.target) threads (in_by_slot (thread_of d t.0) (map (thread_of d) d.threads) (in_map (thread_of d) t.0 d.threads t.1)) (thread_points d t.0 is_thread u t.2))
+            (in_flat (thread_targets d) (thread_of d t.0) (target_of d u.target) threads
+            (in_by_slot (thread_of d t.0) (map (thread_of d) d.threads) (in_map (thread_of d) t.0 d.threads t.1))
+            (thread_points d t.0 is_thread u t.2))
       ]
 
   -- 2. Externals.
@@ -109,7 +113,9 @@ module _ (d : Draft) (is_draft : IsDraft d) (late : late_failures d ≡ []) wher
       let place : position_of (name_of u.0) (externals_of d) ≡ i = ap (λ (n : List ℕ). position_of n (externals_of d)) (sym u.3) ∙ position_at (externals_of d) i (externals_rising d) lt in
       let index : (target_of d u.0.target).index ≡ length d.segments + position_of (name_of u.0) (externals_of d) = ap (λ (o : Option Place). (target_by d (meant_by o u.0.target)).index) none in
       let same : (target_of d u.0.target).index ≡ length (segments_of d) + i = omega (arith, index, place, length-map d.segments (segment_of d)) in
-      any_found (λ (t : Target). t.index == length (segments_of d) + i) (target_of d u.0.target) (targets_of relocs threads) (target_in u.0 u.1) (equal (target_of d u.0.target).index (length (segments_of d) + i) same)
+      any_found (λ (t : Target). t.index == length (segments_of d) + i) (target_of d u.0.target)
+      (targets_of relocs threads) (target_in u.0 u.1)
+      (equal (target_of d u.0.target).index (length (segments_of d) + i) same)
     where
       equal : (a b : ℕ) → a ≡ b → (a == b) ≡ true
       equal a b e = grind (arith, nat_tests)
@@ -119,23 +125,33 @@ module _ (d : Draft) (is_draft : IsDraft d) (late : late_failures d ≡ []) wher
   threads_rise : RisesWithin 0 16 (map (λ (t : Thread). t.slot) threads)
   threads_rise =
       by_slot_rises (map (thread_of d) d.threads) (subst bounds.AreApart (sym (slots_same d d.threads)) is_draft.threads.apart)
-      (each_map (λ (t : Thread). t.slot < 16) (thread_of d) d.threads (each_from (λ (t : draft.Thread). t.slot < 16) d.threads (λ t m. let h : bounds.IsThread t = each_in bounds.IsThread t d.threads is_draft.threads.each m in h.slot)))
+      (each_map (λ (t : Thread). t.slot < 16) (thread_of d) d.threads (each_from (λ (t : draft.Thread). t.slot < 16)
+      d.threads (λ t m. let h : bounds.IsThread t = each_in bounds.IsThread t d.threads is_draft.threads.each m in
+      h.slot)))
 
   -- what is true of each thread of the draft is true of each of the object
   each_thread : (P : Thread → Type 0) → ((t : draft.Thread) → In t d.threads → bounds.IsThread t → P (thread_of d t)) → AllByRecursion P threads
-  each_thread P h = each_by_slot P (map (thread_of d) d.threads) (each_map P (thread_of d) d.threads (each_from (λ (t : draft.Thread). P (thread_of d t)) d.threads (λ t m. h t m (each_in bounds.IsThread t d.threads is_draft.threads.each m))))
+  each_thread P h = each_by_slot P (map (thread_of d) d.threads)
+      (each_map P (thread_of d) d.threads (each_from (λ (t : draft.Thread). P (thread_of d t)) d.threads
+      (λ t m. h t m (each_in bounds.IsThread t d.threads is_draft.threads.each m))))
 
   -- 4. The whole.
 
   segments_are : AllByRecursion IsSegment (segments_of d)
-  segments_are = each_map IsSegment (segment_of d) d.segments (each_from (λ (s : draft.Segment). IsSegment (segment_of d s)) d.segments (λ s m. segment_is d is_draft s m (each_in bounds.IsSegment s d.segments is_draft.segments.each m)))
+  segments_are = each_map IsSegment (segment_of d) d.segments
+      (each_from (λ (s : draft.Segment). IsSegment (segment_of d s)) d.segments
+      (λ s m. segment_is d is_draft s m (each_in bounds.IsSegment s d.segments is_draft.segments.each m)))
 
   relocs_are : list_all (is_reloc (segments_of d) (external_count d)) relocs ≡ true
-  relocs_are = passes (is_reloc (segments_of d) (external_count d)) relocs (segments_replace d (external_count d) 0 d.segments (λ i. let same : 0 + i ≡ i = omega arith in ap (slice_get d.segments) same) (λ u m. target_is u (in_words u m)))
+  relocs_are = passes (is_reloc (segments_of d) (external_count d)) relocs (segments_replace d (external_count d) 0
+      d.segments (λ i. let same : 0 + i ≡ i = omega arith in ap (slice_get d.segments) same)
+      (λ u m. target_is u (in_words u m)))
 
   relocs_in_order : IsStrictlyIncreasing (map reloc_place relocs)
   relocs_in_order =
-      let short : AllByRecursion (λ (s : draft.Segment). length s.words ≤ 2 ^ 32) d.segments = each_from (λ (s : draft.Segment). length s.words ≤ 2 ^ 32) d.segments (λ s m. let h = words_in s d.segments m in omega (arith, h, is_draft.segments.words)) in
+      let short : AllByRecursion (λ (s : draft.Segment). length s.words ≤ 2 ^ 32) d.segments = each_from
+      (λ (s : draft.Segment). length s.words ≤ 2 ^ 32) d.segments (λ s m. let h = words_in s d.segments m in omega
+      (arith, h, is_draft.segments.words)) in
       rises (0 * 2 ^ 32) ((0 + length d.segments) * 2 ^ 32) (map reloc_place relocs) (segments_rise d 0 d.segments short)
 
   threads_are : list_all (is_thread (segments_of d) (external_count d)) threads ≡ true

@@ -1,5 +1,6 @@
 -- What is true of each draft of a text: its names have their form, and its sizes and values are in their ranges.
-use Rattle.std.specs.Prelude.{◌≡◌, ℕ, ◌<◌, ◌+◌, ◌≤◌, ◌==◌, true, false, List, [], ◌∷◌, map, length, slice_get, Option, Some, None, unwrap_or}
+use Rattle.std.specs.Prelude.{◌≡◌, ℕ, ◌<◌, ◌+◌, ◌≤◌, ◌==◌, true, false, List, [], ◌∷◌, map, length, slice_get, Option}
+use Rattle.std.specs.Prelude.{Some, None, unwrap_or}
 use Rattle.std.specs.List.{list_any, AllByRecursion}
 use Rattle.mm_word.specs.Perm.{can_fetch}
 use Rattle.mm_line.specs.declared.statement.Target.{Target}

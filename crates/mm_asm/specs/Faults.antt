@@ -1,5 +1,6 @@
 -- The faults that are found once a whole text was read, and the first fault of a text.
-use Rattle.std.specs.Prelude.{◌≡◌, ℕ, ◌+◌, ◌^◌, ◌==◌, nat_le, Bool, true, false, not, ◌&&◌, List, [], ◌∷◌, ◌++◌, map, length, slice_get, Option, Some, None, Result, Ok, Err}
+use Rattle.std.specs.Prelude.{◌≡◌, ℕ, ◌+◌, ◌^◌, ◌==◌, nat_le, Bool, true, false, not, ◌&&◌, List, [], ◌∷◌, ◌++◌, map}
+use Rattle.std.specs.Prelude.{length, slice_get, Option, Some, None, Result, Ok, Err}
 use Rattle.std.specs.List.{flat_map}
 use Rattle.mm_line.specs.declared.fault.Fault.TheVariants.{Label, Range, Limit}
 use Rattle.mm_line.specs.declared.fault.Problem.{Problem}
@@ -65,7 +66,8 @@ is_too_many names name = nat_le external_limit (length names) && not (is_among n
 abbrev pub limit_failures : Draft → List (List ℕ) → List Use → List Failure
 limit_failures d names [] = []
 limit_failures d names (u ∷ uses) =
-    in_source u.source (fault_if (is_external d u && is_too_many names (name_of u)) Limit u.target.mark.left) ++ limit_failures d (with_use d u names) uses
+    in_source u.source (fault_if (is_external d u && is_too_many names (name_of u)) Limit u.target.mark.left)
+    ++ limit_failures d (with_use d u names) uses
 
 -- all late faults of a draft
 unfoldable pub late_failures : Draft → List Failure

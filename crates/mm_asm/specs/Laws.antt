@@ -15,7 +15,8 @@ DraftsAreBounded = (text : List ℕ) (d : Draft) → draft_of text ≡ Ok d → 
 -- the targets of a draft are in the order of the text, at most one on a line
 abbrev pub TargetsStandInOrder : Type 0
 TargetsStandInOrder =
-    (text : List ℕ) (d : Draft) → draft_of text ≡ Ok d → IsStrictlyIncreasing (map (λ (u : Use). u.source.line) (uses_of d))
+    (text : List ℕ) (d : Draft) → draft_of text ≡ Ok d
+    → IsStrictlyIncreasing (map (λ (u : Use). u.source.line) (uses_of d))
 
 -- what a text means is an object
 abbrev pub MeaningsAreObjects : Type 0

@@ -1,5 +1,6 @@
 -- The object of a draft.
-use Rattle.std.specs.Prelude.{ℕ, ◌+◌, ◌==◌, if◌then◌else◌, List, [], ◌∷◌, ◌++◌, map, length, Option, Some, None, ℤ, pos, ◌-ℤ◌, unwrap_or, nat_lt}
+use Rattle.std.specs.Prelude.{ℕ, ◌+◌, ◌==◌, if◌then◌else◌, List, [], ◌∷◌, ◌++◌, map, length, Option, Some, None, ℤ, pos}
+use Rattle.std.specs.Prelude.{◌-ℤ◌, unwrap_or, nat_lt}
 use Rattle.std.specs.List.{range_with_len}
 use Rattle.mm_isa.specs.declared.fields.Fields.{Fields}
 use Rattle.mm_isa.specs.Table.{packed}

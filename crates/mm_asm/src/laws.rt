@@ -1,7 +1,8 @@
 //! What holds of all assembler texts.
 //!
 //! These functions do nothing when they run: the contract of each is the law.
-ghost use Rattle.mm_asm.specs.Laws.{DraftsAreBounded, MeaningsAreObjects, MeaningsAreOne, TargetsStandInOrder, TextsMeanOrFail};
+ghost use Rattle.mm_asm.specs.Laws.{DraftsAreBounded, MeaningsAreObjects, MeaningsAreOne, TargetsStandInOrder};
+ghost use Rattle.mm_asm.specs.Laws.{TextsMeanOrFail};
 
 /// The draft of a text is within its bounds.
 pub fn drafts_are_bounded()

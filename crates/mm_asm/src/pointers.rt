@@ -65,7 +65,8 @@ fn push_word(
     requires fits { FitsPointer draft.now content.now }
     requires segment { segment < 2 ^ 16 }
     requires word { word < 2 ^ 32 }
-    ensures relocs { OnOk result (relocs.new.items ≡ relocs.old.items ++ content_relocs draft.now segment word content.now) }
+    ensures relocs { OnOk result (relocs.new.items ≡ relocs.old.items
+        ++ content_relocs draft.now segment word content.now) }
     ensures memory { IsNoMemory result }
 {
     match content {

@@ -3,7 +3,8 @@
 ghost use Rattle.std.specs.Prelude.{◌≡◌, ◌++◌, IfOk, OnOk};
 ghost use Rattle.std.specs.List.{flat_map};
 ghost use Rattle.mm_asm.specs.Answers.{IsNoMemory};
-ghost use Rattle.mm_asm.specs.Names.{constant_uses, word_uses, register_uses, segment_uses, thread_uses, merge, uses_of};
+ghost use Rattle.mm_asm.specs.Names.{constant_uses, word_uses, register_uses, segment_uses, thread_uses, merge};
+ghost use Rattle.mm_asm.specs.Names.{uses_of};
 
 use crate::AsmError;
 use mm_draft::{Draft, Register, Segment, Source, Thread, Word};

@@ -40,7 +40,9 @@ same_more spans access all m k same is g clear n lt = elim (same_or_below n k lt
 ]
 
 -- one set more
-pub sets_more : (spans : List Span) (access : Access) (g : ℕ) (sets : List (List (ℕ × ℕ))) (set : List (ℕ × ℕ)) → AreGroupSets spans access g sets → set ≡ outermost access (2 ^ g) 0 spans → AreGroupSets spans access (g + 1) (sets ++ set ∷ [])
+pub sets_more : (spans : List Span) (access : Access) (g : ℕ) (sets : List (List (ℕ × ℕ))) (set : List (ℕ × ℕ))
+    → AreGroupSets spans access g sets → set ≡ outermost access (2 ^ g) 0 spans → AreGroupSets spans access (g + 1)
+    (sets ++ set ∷ [])
 sets_more spans access g sets set old new = record {
   len = (let e = length-append sets (set ∷ []) in let l = old.len in omega arith);
   each = λ h lt. elim (same_or_below h g lt) [

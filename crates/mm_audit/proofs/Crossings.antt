@@ -46,7 +46,8 @@ module _ (served : List Served) (c : ℕ → Bool) (k : ℕ) where
     least = λ n lt x. elim (below_cases n k lt) [ inl l ↦ b.least n l x | inr e ↦ absurd (out (subst (IsCrossing served c) e x)) ];
   }
 
-  pub cross_more : (o : Option ℕ) (r : ℕ) → IsCrossing served c k → MatchOption o (r ≡ (served_at served k).slot) (λ v. r ≡ min v (served_at served k).slot) → Best k o → LeastCrossing served c (k + 1) r
+  pub cross_more : (o : Option ℕ) (r : ℕ) → IsCrossing served c k → MatchOption o (r ≡ (served_at served k).slot)
+      (λ v. r ≡ min v (served_at served k).slot) → Best k o → LeastCrossing served c (k + 1) r
   cross_more None r x e b = record {
     at = k;
     small = omega arith;

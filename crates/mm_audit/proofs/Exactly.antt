@@ -166,7 +166,8 @@ module _ (i : Image) (e : Entries) (spans : List Span) (a : AreSpans i e spans) 
   -- 3. The words of some groups.
 
   -- a segment of the groups covers the word exactly where one of them uses a span that has it
-  pub covered_use : (groups w : ℕ) → Covered (outermost access groups 0 spans) w → (n : ℕ) × (n < length spans) × (is_of access groups (span_at spans n) ≡ true) × (base_at spans n ≤ w) × (w < end_at spans n)
+  pub covered_use : (groups w : ℕ) → Covered (outermost access groups 0 spans) w → (n : ℕ) × (n < length spans)
+      × (is_of access groups (span_at spans n) ≡ true) × (base_at spans n ≤ w) × (w < end_at spans n)
   covered_use groups w c =
       let f = from_spans access groups spans 0 c.by c.at.0 in
       (f.at, f.small, f.uses, subst (λ (v : ℕ × ℕ). v.0 ≤ w) f.is c.at.1, subst (λ (v : ℕ × ℕ). w < end_of v) f.is c.at.2)

@@ -35,7 +35,9 @@ one_served s t = record { slot = s.number; group = s.group; by = t.group }
 pub served_in : (slots : List Slot) (s t : Slot) → Contains slots s → Contains slots t → s.handler ≡ Some t.number → Contains (served_of slots) (one_served s t)
 served_in slots s t ms mt e =
     in_flat_map (λ u. flat_map (served_by u) slots) slots s (one_served s t) ms
-    (in_flat_map (served_by s) slots t (one_served s t) mt (subst (λ b. Contains (if b then one_served s t ∷ [] else []) (one_served s t)) (sym (is_then t.number s.handler e)) (contains_here (one_served s t) [])))
+    (in_flat_map (served_by s) slots t (one_served s t) mt
+    (subst (λ b. Contains (if b then one_served s t ∷ [] else []) (one_served s t))
+    (sym (is_then t.number s.handler e)) (contains_here (one_served s t) [])))
 
 record ServedFrom (slots : List Slot) (x : Served) : Type 0 where
   served : Slot
@@ -139,8 +141,26 @@ module _ (i : Image) (e : Entries) (image : IsImage i) (list : List Served) (lis
         same : (s h : Slot) → Contains i.slots s → Contains i.slots h → s.handler ≡ Some h.number → (b : Bool) → c s.group ≡ b → (d : Bool) → c h.group ≡ d → c s.group ≡ c h.group
         same s h ms mh e2 true p true q = p ∙ sym q
         same s h ms mh e2 false p false q = p ∙ sym q
-        same s h ms mh e2 true p false q = absurd (no_cross none s.number (record { served = s; server = h; one = ms; other = mh; number = refl; handled = e2; sides = λ z. let no_way : ◌≡◌ {A = Bool} true false = sym p ∙ z ∙ q in cc }))
-        same s h ms mh e2 false p true q = absurd (no_cross none s.number (record { served = s; server = h; one = ms; other = mh; number = refl; handled = e2; sides = λ z. let no_way : ◌≡◌ {A = Bool} false true = sym p ∙ z ∙ q in cc }))
+        same s h ms mh e2 true p false q = absurd
+            (no_cross none s.number (record {
+              served = s;
+              server = h;
+              one = ms;
+              other = mh;
+              number = refl;
+              handled = e2;
+              sides = λ z. let no_way : ◌≡◌ {A = Bool} true false = sym p ∙ z ∙ q in cc;
+            }))
+        same s h ms mh e2 false p true q = absurd
+            (no_cross none s.number (record {
+              served = s;
+              server = h;
+              one = ms;
+              other = mh;
+              number = refl;
+              handled = e2;
+              sides = λ z. let no_way : ◌≡◌ {A = Bool} false true = sym p ∙ z ∙ q in cc;
+            }))
 
     pub writer_judged : (h w : ℕ) → NoCrossing list c (length list) → IsWriter table mask h w → Judged i e c (Writer h w)
     writer_judged h w none x = (

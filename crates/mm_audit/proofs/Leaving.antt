@@ -1,5 +1,7 @@
 -- The first slot of some groups whose handler is outside.
-use Rattle.std.proofs.Common.{◌≡◌, ◌≢◌, ℕ, zero, suc, ◌+◌, ◌*◌, ◌/◌, ◌%◌, ◌^◌, ◌<◌, ◌≤◌, ◌⊎◌, ◌↔◌, inl, inr, bit_and, bit_or, Bool, true, false, ◌==◌, if◌then◌else◌, List, [], ◌∷◌, ◌++◌, length, get_or, drop, drop-cons, Option, Some, None, refl, sym, ap, ◌∙◌, subst, arith, eqb-true, eq-eqb}
+use Rattle.std.proofs.Common.{◌≡◌, ◌≢◌, ℕ, zero, suc, ◌+◌, ◌*◌, ◌/◌, ◌%◌, ◌^◌, ◌<◌, ◌≤◌, ◌⊎◌, ◌↔◌, inl, inr, bit_and}
+use Rattle.std.proofs.Common.{bit_or, Bool, true, false, ◌==◌, if◌then◌else◌, List, [], ◌∷◌, ◌++◌, length, get_or, drop}
+use Rattle.std.proofs.Common.{drop-cons, Option, Some, None, refl, sym, ap, ◌∙◌, subst, arith, eqb-true, eq-eqb}
 use Rattle.std.specs.Prelude.{Contains, IfSome}
 use Rattle.std.specs.List.{list_any}
 use Rattle.std.specs.Int.{bit_at, w64}
@@ -82,7 +84,8 @@ pub none_leaves : (inside : ℕ) (slots : List Slot) → first_leaving inside sl
 none_leaves inside [] e s m = absurd (omega (arith, m.1))
 none_leaves inside (x ∷ slots) e s m = by (leaves inside x) refl e (λ none later. none_leaves inside slots none s later)
   where
-    by : (b : Bool) → leaves inside x ≡ b → (if b then Some x.number else first_leaving inside slots) ≡ None → (first_leaving inside slots ≡ None → Contains slots s → leaves inside s ≡ false) → leaves inside s ≡ false
+    by : (b : Bool) → leaves inside x ≡ b → (if b then Some x.number else first_leaving inside slots) ≡ None
+        → (first_leaving inside slots ≡ None → Contains slots s → leaves inside s ≡ false) → leaves inside s ≡ false
     by true t none rest = cc
     by false f none rest = elim (contains_cases x s slots m) [ inl here ↦ sym (ap (leaves inside) here) ∙ f | inr later ↦ rest none later ]
 
@@ -97,7 +100,8 @@ pub first_leaves : (inside : ℕ) (slots : List Slot) (n : ℕ) → Ascends slot
 first_leaves inside [] n up e = cc
 first_leaves inside (x ∷ slots) n up e = by (leaves inside x) refl e (λ is. first_leaves inside slots n up.1 is)
   where
-    by : (b : Bool) → leaves inside x ≡ b → (if b then Some x.number else first_leaving inside slots) ≡ Some n → (first_leaving inside slots ≡ Some n → First inside slots n) → First inside (x ∷ slots) n
+    by : (b : Bool) → leaves inside x ≡ b → (if b then Some x.number else first_leaving inside slots) ≡ Some n
+        → (first_leaving inside slots ≡ Some n → First inside slots n) → First inside (x ∷ slots) n
     by true t is rest =
         let number : x.number ≡ n = cc in
         record {
@@ -129,7 +133,8 @@ pub leaving_here : (inside : ℕ) (slots : List Slot) (k : ℕ) (s : Slot) → k
 leaving_here inside slots k s lt is t =
     ap (first_leaving inside) (drop-cons slots k s lt ∙ ap (λ v. v ∷ drop (suc k) slots) (sym is)) ∙ ap (λ b. if b then Some s.number else first_leaving inside (drop (suc k) slots)) t
 
-pub leaving_later : (inside : ℕ) (slots : List Slot) (k : ℕ) (s : Slot) → k < length slots → s ≡ get_or slots k s → leaves inside s ≡ false → first_leaving inside (drop k slots) ≡ first_leaving inside (drop (k + 1) slots)
+pub leaving_later : (inside : ℕ) (slots : List Slot) (k : ℕ) (s : Slot) → k < length slots → s ≡ get_or slots k s
+    → leaves inside s ≡ false → first_leaving inside (drop k slots) ≡ first_leaving inside (drop (k + 1) slots)
 leaving_later inside slots k s lt is f =
     ap (first_leaving inside) (drop-cons slots k s lt ∙ ap (λ v. v ∷ drop (suc k) slots) (sym is)) ∙ ap (λ b. if b then Some s.number else first_leaving inside (drop (suc k) slots)) f
     ∙ ap (λ n. first_leaving inside (drop n slots)) (let e : suc k ≡ k + 1 = omega arith in e)

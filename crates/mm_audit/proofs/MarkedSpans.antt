@@ -85,7 +85,14 @@ module _ (i : Image) (e : Entries) (image : IsImage i) (keys : List CanonicalPtr
         granted_whole : bit_at privileged g ≡ 1 → GrantedSegment i e g (can access) (0, 54)
         granted_whole bit =
             let p = (are_privileged g).0 bit in
-            record { by = record { perm = whole; log = 54; addr = 0 }; granted = made p.by p.granted p.perm (record { log_in_range = omega arith; addr_in_range = omega arith }); has_right = can_whole; is = refl; whole_word = omega arith }
+            record {
+              by = record { perm = whole; log = 54; addr = 0 };
+              granted = made p.by p.granted p.perm
+                  (record { log_in_range = omega arith; addr_in_range = omega arith });
+              has_right = can_whole;
+              is = refl;
+              whole_word = omega arith;
+            }
 
         granted_node : (k : ℕ) → k < length keys → bit_at (kept_mask (right_at nodes right k) (slice_index marks k)) g ≡ 1 → GrantedSegment i e g (can access) (key_segment (key_at keys k))
         granted_node k lt bit =
@@ -101,7 +108,9 @@ module _ (i : Image) (e : Entries) (image : IsImage i) (keys : List CanonicalPtr
 
         pub granted : (n : ℕ) → n < length spans → Uses spans access n g → GrantedSegment i e g (can access) (span_segment (span_at spans n))
         granted n lt uses = elim (s.from n lt) [
-          | inl e2 ↦ subst (λ v. GrantedSegment i e g (can access) (span_segment v)) (sym e2) (granted_whole (subst (λ v. bit_at v g ≡ 1) whole_mask (subst (λ v. bit_at (mask access v) g ≡ 1) e2 uses)))
+          | inl e2 ↦ subst (λ v. GrantedSegment i e g (can access) (span_segment v)) (sym e2)
+              (granted_whole (subst (λ v. bit_at v g ≡ 1) whole_mask (subst (λ v. bit_at (mask access v) g ≡ 1) e2
+              uses)))
           | inr o ↦ subst (λ v. GrantedSegment i e g (can access) (span_segment v)) (sym o.is)
               (granted_node o.node o.small (subst (λ v. bit_at v g ≡ 1) (node_mask o.node) (subst (λ v. bit_at (mask access v) g ≡ 1) o.is uses)))
         ]
@@ -111,7 +120,14 @@ module _ (i : Image) (e : Entries) (image : IsImage i) (keys : List CanonicalPtr
         not_powerless q c long (inr short) = let lt = short.0 in omega arith
 
         held_by : (t : Span) (q : ℕ × ℕ) → bit_at (mask access t) g ≡ 1 → LiesIn q (span_segment t) → Stands spans t → IsHeld spans access g q
-        held_by t q bit within st = record { at = st.at; small = st.small; uses = subst (λ v. bit_at (mask access v) g ≡ 1) (sym st.is) bit; within = subst (λ v. LiesIn q (span_segment v)) (sym st.is) within }
+        held_by t q bit within st = record {
+          at = st.at;
+          small = st.small;
+          uses = subst
+              (λ v. bit_at (mask access v) g ≡ 1) (sym st.is) bit;
+          within = subst (λ v. LiesIn q (span_segment v))
+              (sym st.is) within;
+        }
 
         pub held : (q : Pointer) → Grants i e g q → can access q.perm ≡ true → 3 ≤ q.log → IsHeld spans access g (segment_of q)
         held q h c long = from (x.granted_held g q h)
@@ -127,8 +143,13 @@ module _ (i : Image) (e : Entries) (image : IsImage i) (keys : List CanonicalPtr
                 let lt : k.at < length keys = (let l = m.marks_len in let u = k.small in omega arith) in
                 let b : IsBelow q (node_pointer keys k.at) = subst (IsBelow q) (sym k.is) t.below in
                 let log = log_below (node_pointer keys k.at) q b in
-                let r : right_at nodes right k.at ≡ true = tests k.at lt ∙ and_from (can access (node_pointer keys k.at).perm) (nat_le 3 (node_pointer keys k.at).log) (below-can (node_pointer keys k.at) q b c) (three_then (node_pointer keys k.at).log (omega arith)) in
-                let bit : bit_at (mask access (span_of keys nodes marks k.at)) g ≡ 1 = subst (λ v. bit_at v g ≡ 1) (sym (node_mask k.at)) (then_kept (right_at nodes right k.at) (slice_index marks k.at) g k.marked r) in
+                let r : right_at nodes right k.at ≡ true = tests k.at lt
+                ∙ and_from (can access (node_pointer keys k.at).perm) (nat_le 3 (node_pointer keys k.at).log)
+                (below-can (node_pointer keys k.at) q b c) (three_then (node_pointer keys k.at).log (omega arith))
+                in
+                let bit : bit_at (mask access (span_of keys nodes marks k.at)) g ≡ 1 = subst (λ v. bit_at v g ≡ 1)
+                (sym (node_mask k.at)) (then_kept (right_at nodes right k.at) (slice_index marks k.at) g k.marked r)
+                in
                 held_by (span_of keys nodes marks k.at) (segment_of q) bit (subst (LiesIn (segment_of q)) (sym (segment_is k.at lt)) (lies_below (node_pointer keys k.at) q b))
                 (s.each k.at lt (used (span_of keys nodes marks k.at) (some_bit _ g bit)))
 

@@ -109,7 +109,17 @@ module _ (spans : List Span) (order : AreInOrder spans) (k : ℕ) (place : k < l
           let w = n.notes h lt bit in
           elim (zero_or_one (row_at old h).groups g) [
             | inr had ↦ inl had
-            | inl out ↦ elim ((w.has g small).0 has) [ inl had ↦ absurd (out had) | inr touches ↦ inr (w.notes g small touches out, record { writes = (open_at Write h).0 bit; touches = (open_at Touch g).0 touches }) ]
+            | inl out ↦ elim ((w.has g small).0 has) [
+              | inl had ↦ absurd (out had)
+              | inr touches ↦ inr (
+                w.notes g small touches out,
+                record {
+                  writes = (open_at Write h).0 bit;
+                  touches = (open_at Touch g).0
+                      touches;
+                },
+              )
+            ]
           ]
     ]
 

@@ -34,7 +34,8 @@ users_none : (access : Access) (g : ℕ) → bit_at (users access no_open) g ≡
 users_none Touch g h = let z = bit_at-zero g in omega arith
 users_none Write g h = let z = bit_at-zero g in omega arith
 
-module _ (spans : List Span) (o : AreInOrder spans) (k : ℕ) (place : k < length spans) (old : List Open) (h : AreOpen spans k (base_at spans k) old) (new : List Open) (cl : Closed (base_at spans k) old new)
+module _ (spans : List Span) (o : AreInOrder spans) (k : ℕ) (place : k < length spans) (old : List Open)
+    (h : AreOpen spans k (base_at spans k) old) (new : List Open) (cl : Closed (base_at spans k) old new)
     (over : Open) (last : IsLast new over) where
   abbrev base : ℕ
   base = base_at spans k

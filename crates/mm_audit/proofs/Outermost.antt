@@ -1,5 +1,6 @@
 -- The outermost spans of groups are disjoint, and hold all spans of these groups.
-use Rattle.std.proofs.Common.{◌≡◌, ℕ, zero, suc, ◌<◌, ◌≤◌, ◌⊎◌, inl, inr, Bool, true, false, not, ◌==◌, ◌&&◌, nat_le, bit_and, if◌then◌else◌, List, [], ◌∷◌, length, refl, sym, ap, subst, arith, pow_pos}
+use Rattle.std.proofs.Common.{◌≡◌, ℕ, zero, suc, ◌<◌, ◌≤◌, ◌⊎◌, inl, inr, Bool, true, false, not, ◌==◌, ◌&&◌, nat_le}
+use Rattle.std.proofs.Common.{bit_and, if◌then◌else◌, List, [], ◌∷◌, length, refl, sym, ap, subst, arith, pow_pos}
 use Rattle.std.proofs.lemmas.Bool.{and_parts}
 use Rattle.std.proofs.lemmas.Bool.Decides.{nat_tests}
 use Rattle.mm_audit.specs.declared.span.Access.{Access}
@@ -50,7 +51,9 @@ module _ (access : Access) (groups : ℕ) where
   abbrev AllFrom : ℕ → List Span → Type 0
   AllFrom from spans = (n : ℕ) → n < length (outermost access groups from spans) → FromSpan from spans (segment_at (outermost access groups from spans) n)
 
-  from_more : (from : ℕ) (s : Span) (spans : List Span) → ((upto : ℕ) → AllFrom upto spans) → (b : Bool) → is_next access groups from s ≡ b → (n : ℕ) → n < length (Out b from s spans) → FromSpan from (s ∷ spans) (segment_at (Out b from s spans) n)
+  from_more : (from : ℕ) (s : Span) (spans : List Span) → ((upto : ℕ) → AllFrom upto spans) → (b : Bool)
+      → is_next access groups from s ≡ b → (n : ℕ) → n < length (Out b from s spans) → FromSpan from (s ∷ spans)
+      (segment_at (Out b from s spans) n)
   from_more from s spans all true e zero lt = let p = next_low from s e in record { at = 0; small = omega arith; uses = p.0; is = refl; low = p.1 }
   from_more from s spans all true e (suc n) lt =
       let p = next_low from s e in
@@ -102,18 +105,22 @@ module _ (access : Access) (groups : ℕ) where
   held_from (s ∷ spans) from o ends k lt u = held_more from s spans o ends (λ upto e. held_from spans upto (order_rest s spans o) e) (is_next access groups from s) refl k lt u
 
   -- each span of the groups lies in one of the segments
-  pub outermost_holds : (spans : List Span) → AreInOrder spans → (k : ℕ) → k < length spans → is_of (span_at spans k) ≡ true → SomeHolds (outermost access groups 0 spans) (segment_of (span_at spans k))
+  pub outermost_holds : (spans : List Span) → AreInOrder spans → (k : ℕ) → k < length spans → is_of (span_at spans k) ≡
+      true → SomeHolds (outermost access groups 0 spans) (segment_of (span_at spans k))
   outermost_holds spans o k lt u = elim (held_from spans 0 o (λ n small low. absurd (omega arith)) k lt u) [ inl none ↦ absurd (let room = pow_pos (span_at spans k).log in omega arith) | inr h ↦ h ]
 
 -- where two groups use the same spans, they have the same segments
 module _ (access : Access) (one other : ℕ) where
-  agree_more : (from : ℕ) (s : Span) (spans : List Span) → ((upto : ℕ) → outermost access one upto spans ≡ outermost access other upto spans) → (a b : Bool) → a ≡ b → Out access one a from s spans ≡ Out access other b from s spans
+  agree_more : (from : ℕ) (s : Span) (spans : List Span) → ((upto : ℕ) → outermost access one upto spans ≡ outermost
+      access other upto spans) → (a b : Bool) → a ≡ b → Out access one a from s spans ≡ Out access other b from s spans
   agree_more from s spans all true true e = ap (λ l. segment_of s ∷ l) (all (end_of (segment_of s)))
   agree_more from s spans all true false e = cc
   agree_more from s spans all false true e = cc
   agree_more from s spans all false false e = all from
 
-  pub outermost_agree : (spans : List Span) (from : ℕ) → ((n : ℕ) → n < length spans → is_of access one (span_at spans n) ≡ is_of access other (span_at spans n)) → outermost access one from spans ≡ outermost access other from spans
+  pub outermost_agree : (spans : List Span) (from : ℕ)
+      → ((n : ℕ) → n < length spans → is_of access one (span_at spans n) ≡ is_of access other (span_at spans n))
+      → outermost access one from spans ≡ outermost access other from spans
   outermost_agree [] from same = refl
   outermost_agree (s ∷ spans) from same =
       agree_more from s spans (λ upto. outermost_agree spans upto (λ n lt. same (suc n) (omega arith))) (is_next access one from s) (is_next access other from s)

@@ -1,5 +1,7 @@
 -- The pages of some groups.
-use Rattle.std.proofs.Common.{◌≡◌, ℕ, zero, suc, ◌+◌, ◌*◌, ◌%◌, ◌^◌, ◌<◌, ◌≤◌, ◌↔◌, inl, inr, Bool, true, false, cond, ◌&&◌, ◌||◌, List, [], ◌∷◌, ◌++◌, map, length, slice_get, get_or, take, length-take, Option, Some, None, is_some, refl, sym, ap, ◌∙◌, subst, arith, T, eqb-true}
+use Rattle.std.proofs.Common.{◌≡◌, ℕ, zero, suc, ◌+◌, ◌*◌, ◌%◌, ◌^◌, ◌<◌, ◌≤◌, ◌↔◌, inl, inr, Bool, true, false, cond}
+use Rattle.std.proofs.Common.{◌&&◌, ◌||◌, List, [], ◌∷◌, ◌++◌, map, length, slice_get, get_or, take, length-take}
+use Rattle.std.proofs.Common.{Option, Some, None, is_some, refl, sym, ap, ◌∙◌, subst, arith, T, eqb-true}
 use Rattle.std.specs.Prelude.{IsTrue}
 use Rattle.std.proofs.lemmas.Bool.{both_ways, cases_Bool, false_from_ne_true}
 use Rattle.std.proofs.lemmas.List.{take_more, map-append}
@@ -85,9 +87,12 @@ module _ (passes : ℕ → Bool) where
   kept_last w [] cell = ap (λ v. kept_cell (passes v) cell ∷ []) (let same : w ≡ w + 8 * 0 = omega arith in same)
   kept_last w (c ∷ cells) cell =
       ap (λ l. kept_cell (passes w) c ∷ l)
-      (kept_last (w + 8) cells cell ∙ ap (λ v. kept_cells passes (w + 8) cells ++ kept_cell (passes v) cell ∷ []) (let same : w + 8 + 8 * length cells ≡ w + 8 * length (c ∷ cells) = omega arith in same))
+      (kept_last (w + 8) cells cell ∙ ap (λ v. kept_cells passes (w + 8) cells ++ kept_cell (passes v) cell ∷ [])
+      (let same : w + 8 + 8 * length cells ≡ w + 8 * length (c ∷ cells) = omega arith in same))
 
-  pub kept_more : (w : ℕ) (cells : List Cell) (k : ℕ) (cell : Cell) → k < length cells → cell ≡ get_or cells k cell → kept_cells passes w (take (k + 1) cells) ≡ kept_cells passes w (take k cells) ++ kept_cell (passes (w + 8 * k)) cell ∷ []
+  pub kept_more : (w : ℕ) (cells : List Cell) (k : ℕ) (cell : Cell) → k < length cells → cell ≡ get_or cells k cell
+      → kept_cells passes w (take (k + 1) cells) ≡ kept_cells passes w (take k cells) ++ kept_cell (passes (w + 8 * k))
+      cell ∷ []
   kept_more w cells k cell lt is =
       ap (kept_cells passes w) (take_more cells k cell lt ∙ ap (λ v. take k cells ++ v ∷ []) (sym is)) ∙ kept_last w (take k cells) cell
       ∙ ap (λ n. kept_cells passes w (take k cells) ++ kept_cell (passes (w + 8 * n)) cell ∷ []) (let e : length (take k cells) ≡ k = simp length-take (omega arith) in e)
@@ -114,7 +119,8 @@ module _ (passes : ℕ → Bool) where
 
   cut_sorted : (pages : List (ℕ × List Cell)) → is_sorted nat_cmp (map cut pages) ≡ is_sorted nat_cmp pages
   cut_sorted [] = refl
-  cut_sorted (page ∷ pages) = both_sides (below_all nat_cmp page.0 (map cut pages)) (below_all nat_cmp page.0 pages) (is_sorted nat_cmp (map cut pages)) (is_sorted nat_cmp pages) (cut_below page.0 pages) (cut_sorted pages)
+  cut_sorted (page ∷ pages) = both_sides (below_all nat_cmp page.0 (map cut pages)) (below_all nat_cmp page.0 pages)
+      (is_sorted nat_cmp (map cut pages)) (is_sorted nat_cmp pages) (cut_below page.0 pages) (cut_sorted pages)
     where
       both_sides : (a b p q : Bool) → a ≡ b → p ≡ q → (a && p) ≡ (b && q)
       both_sides a b p q e f = ap (λ v. v && p) e ∙ ap (λ v. b && v) f
@@ -153,7 +159,12 @@ module _ (passes : ℕ → Bool) where
   kept_holds pages h = kept_each HoldsWords HoldsWords (λ page x. kept_words (page.0 * 4096) page.1 x) pages h
 
   -- one page more
-  pub kept_page_in : (pages : List (ℕ × List Cell)) (page : ℕ × List Cell) → has_word passes page.0 ≡ true → kept_pages passes (pages ++ page ∷ []) ≡ kept_pages passes pages ++ (page.0, kept_cells passes (page.0 * 4096) page.1) ∷ []
+  pub kept_page_in : (pages : List (ℕ × List Cell)) (page : ℕ × List Cell) → has_word passes page.0 ≡ true
+      → kept_pages passes (pages ++ page ∷ []) ≡ kept_pages passes pages ++ (
+        page.0,
+        kept_cells passes (page.0 * 4096)
+            page.1,
+      ) ∷ []
   kept_page_in pages page e = ap (map cut) (filter_last_in (λ (p : ℕ × List Cell). has_word passes p.0) pages page e) ∙ map-append cut (held pages) (page ∷ [])
 
   pub kept_page_out : (pages : List (ℕ × List Cell)) (page : ℕ × List Cell) → has_word passes page.0 ≡ false → kept_pages passes (pages ++ page ∷ []) ≡ kept_pages passes pages
@@ -170,7 +181,9 @@ module _ (passes : ℕ → Bool) where
 
   -- a page is there where it was there with a word that passes
   pub find_kept : (pages : List (ℕ × List Cell)) (q : ℕ) → find nat_cmp q (kept_pages passes pages) ≡ option_map (kept_cells passes (q * 4096)) (cond (has_word passes q) (find nat_cmp q pages) None)
-  find_kept pages q = find_cut (held pages) q ∙ ap (option_map (kept_cells passes (q * 4096))) (find-where_key nat_cmp (has_word passes) q (λ x e. ap (has_word passes) (sym (nat_cmp-IsAntisymmetric q x e))) pages)
+  find_kept pages q = find_cut (held pages) q ∙ ap (option_map (kept_cells passes (q * 4096)))
+      (find-where_key nat_cmp (has_word passes) q (λ x e. ap (has_word passes) (sym (nat_cmp-IsAntisymmetric q x e)))
+      pages)
 
 -- 4. The image.
 
@@ -205,7 +218,9 @@ module _ (i : Image) (img : IsImage i) (c : ℕ → Bool) (passes : ℕ → Bool
       by (Some cells) e x = (page_whole i.memory img.paged q cells e).number
 
   kept : (w : ℕ) → Touchable i All c w → is_mapped i.memory (page_of w) ≡ true → is_mapped now (page_of w) ≡ true
-  kept w t m = ap is_some (find_kept passes i.memory.pages (page_of w) ∙ ap (λ b. option_map (kept_cells passes (page_of w * 4096)) (cond b (find nat_cmp (page_of w) i.memory.pages) None)) (touch_held w t))
+  kept w t m = ap is_some (find_kept passes i.memory.pages (page_of w)
+      ∙ ap (λ b. option_map (kept_cells passes (page_of w * 4096)) (cond b (find nat_cmp (page_of w) i.memory.pages)
+      None)) (touch_held w t))
       ∙ same (find nat_cmp (page_of w) i.memory.pages) m
     where
       same : (o : Option (List Cell)) → is_some o ≡ true → is_some (option_map (kept_cells passes (page_of w * 4096)) o) ≡ true
@@ -216,7 +231,8 @@ module _ (i : Image) (img : IsImage i) (c : ℕ → Bool) (passes : ℕ → Bool
   was : (q : ℕ) → is_mapped now q ≡ true → (is_mapped i.memory q ≡ true) × (has_word passes q ≡ true)
   was q h = by (has_word passes q) refl (find nat_cmp q i.memory.pages) refl (sym (ap is_some (find_kept passes i.memory.pages q)) ∙ h)
     where
-      by : (b : Bool) → has_word passes q ≡ b → (o : Option (List Cell)) → find nat_cmp q i.memory.pages ≡ o → is_some (option_map (kept_cells passes (q * 4096)) (cond b (find nat_cmp q i.memory.pages) None)) ≡ true
+      by : (b : Bool) → has_word passes q ≡ b → (o : Option (List Cell)) → find nat_cmp q i.memory.pages ≡ o
+          → is_some (option_map (kept_cells passes (q * 4096)) (cond b (find nat_cmp q i.memory.pages) None)) ≡ true
           → (is_mapped i.memory q ≡ true) × (has_word passes q ≡ true)
       by false e o p x = cc
       by true e None p x = absurd (both_ways _ (ap (λ v. is_some (option_map (kept_cells passes (q * 4096)) v)) p) x)
@@ -289,6 +305,8 @@ module _ (i : Image) (img : IsImage i) (c : ℕ → Bool) (passes : ℕ → Bool
   }
 
 -- the image of equal parts
-pub same_image : {version version' frames frames' : ℕ} {split split' : Bool} {slots slots' : List Slot} {pages pages' : List (ℕ × List Cell)} → version ≡ version' → split ≡ split' → slots ≡ slots' → pages ≡ pages' → frames ≡ frames'
+pub same_image : {version version' frames frames' : ℕ} {split split' : Bool} {slots slots' : List Slot}
+    {pages pages' : List (ℕ × List Cell)} → version ≡ version' → split ≡ split' → slots ≡ slots' → pages ≡ pages'
+    → frames ≡ frames'
     → image_from version split slots pages frames ≡ image_from version' split' slots' pages' frames'
 same_image a b c d e j = image_from (a j) (b j) (c j) (d j) (e j)

@@ -27,12 +27,18 @@ module _ (row : Meets) (inside h : ℕ) where
   best_skip out None b = λ g x. b g (not_here out g x)
   best_skip out (Some w) b = record { group = b.group; has = wider b.group b.has; is = b.is; least = λ g x. b.least g (not_here out g x) }
 
-  pub best_more : (r : ℕ) → bit_at (bit_and row.groups inside) h ≡ 1 → (o : Option ℕ) → Best h o → MatchOption o (r ≡ slice_index row.words h) (λ v. r ≡ min v (slice_index row.words h)) → LeastWith row inside (h + 1) r
+  pub best_more : (r : ℕ) → bit_at (bit_and row.groups inside) h ≡ 1 → (o : Option ℕ) → Best h o
+      → MatchOption o (r ≡ slice_index row.words h) (λ v. r ≡ min v (slice_index row.words h)) → LeastWith row inside
+      (h + 1) r
   best_more r bit None b e = record {
     group = h;
     has = here bit;
     is = e;
-    least = λ g x. elim (same_or_below g h x.small) [ inl lt ↦ absurd (b g (record { small = lt; is_in = x.is_in; has = x.has })) | inr same ↦ subst (λ v. r ≤ slice_index row.words v) (sym same) (omega arith) ];
+    least = λ g x. elim (same_or_below g h x.small) [
+      | inl lt ↦ absurd (b g (record { small = lt; is_in = x.is_in; has = x.has }))
+      | inr same ↦ subst
+          (λ v. r ≤ slice_index row.words v) (sym same) (omega arith)
+    ];
   }
   best_more r bit (Some v) b e = elim (compare v (slice_index row.words h)) [
     | inl lt ↦ let is : r ≡ v = omega arith in record {

@@ -4,7 +4,9 @@ use Rattle.std.proofs.lemmas.List.{get_or_append_left, get_or_push, map-append}
 use Rattle.mm_audit.specs.Audits.{set_of}
 
 -- one set more changes no set that is there
-grown : (sets : List (List (ℕ × ℕ))) (set : List (ℕ × ℕ)) (places : List ℕ) → ((g : ℕ) → g < length places → slice_index_or places g 0 < length sets) → map (set_of (sets ++ set ∷ [])) places ≡ map (set_of sets) places
+grown : (sets : List (List (ℕ × ℕ))) (set : List (ℕ × ℕ)) (places : List ℕ)
+    → ((g : ℕ) → g < length places → slice_index_or places g 0 < length sets) → map (set_of (sets ++ set ∷ [])) places ≡
+    map (set_of sets) places
 grown sets set [] h = refl
 grown sets set (k ∷ ks) h =
     ap (λ v. v ∷ map (set_of (sets ++ set ∷ [])) ks) (get_or_append_left sets (set ∷ []) [] k (h 0 (omega arith)))

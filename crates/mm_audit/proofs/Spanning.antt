@@ -63,12 +63,21 @@ module _ (keys : List CanonicalPtr) (nodes : List Node) (marks : List ℕ) (priv
   -- the whole memory, before any node
   pub spans_first : (new : List Span) → Added (whole_span privileged) [] new → SpansOf keys nodes marks privileged 0 new
   spans_first new (inl a) = subst (SpansOf keys nodes marks privileged 0) (sym a.1) (record {
-    order = pushed_order [] (whole_span privileged) none_in_order (record { low = omega arith; high = omega arith; aligned = refl; below = omega arith }) (λ m lt. absurd (omega arith)) (λ m lt. absurd (omega arith));
+    order = pushed_order [] (whole_span privileged) none_in_order
+        (record { low = omega arith; high = omega arith; aligned = refl; below = omega arith })
+        (λ m lt. absurd (omega arith)) (λ m lt. absurd (omega arith));
     from = λ n lt. inl (span_last [] (whole_span privileged) n (let l = one_longer [] (whole_span privileged) in omega arith));
     whole = λ u. stands_last [] (whole_span privileged);
     each = λ k lt. absurd (omega arith);
   })
-  spans_first new (inr a) = subst (SpansOf keys nodes marks privileged 0) (sym a.1) (record { order = none_in_order; from = λ n lt. absurd (omega arith); whole = λ u. absurd (a.0 u); each = λ k lt. absurd (omega arith) })
+  spans_first new (inr a) = subst (SpansOf keys nodes marks privileged 0) (sym a.1)
+      (record {
+        order = none_in_order;
+        from = λ n lt. absurd (omega arith);
+        whole = λ u. absurd (a.0 u);
+        each = λ k lt.
+            absurd (omega arith);
+      })
 
   module _ (rising : IsRising keys) (all : All IsKey keys) (words : (k : ℕ) → k < length keys → IsUsed (span_of keys nodes marks k) → 3 ≤ (pointer_at (key_at keys k)).log)
       (k : ℕ) (lt : k < length keys) (spans : List Span) (h : SpansOf keys nodes marks privileged k spans) where
@@ -86,16 +95,23 @@ module _ (keys : List CanonicalPtr) (nodes : List Node) (marks : List ℕ) (priv
 
     nests : IsUsed (span_of keys nodes marks k) → (m : ℕ) → m < length spans → (key_at keys k).base < end_at spans m → end_of (key_segment (key_at keys k)) ≤ end_at spans m
     nests u m less = elim (h.from m less) [
-      | inl e ↦ subst (λ v. (key_at keys k).base < end_of (segment_of v) → end_of (key_segment (key_at keys k)) ≤ end_of (segment_of v)) (sym e) (λ inside. in_memory (key_segment (key_at keys k)) (segment u))
-      | inr o ↦ subst (λ v. (key_at keys k).base < end_of (segment_of v) → end_of (key_segment (key_at keys k)) ≤ end_of (segment_of v)) (sym o.is) (end_nests (key_at keys o.node) (key_at keys k) (rising.rise o.node k o.small lt) (all o.node no_key (let l = o.small in omega arith)) (all k no_key lt))
+      | inl e ↦ subst (λ v. (key_at keys k).base < end_of (segment_of v) → end_of (key_segment (key_at keys k)) ≤ end_of
+          (segment_of v)) (sym e) (λ inside. in_memory (key_segment (key_at keys k)) (segment u))
+      | inr o ↦ subst (λ v. (key_at keys k).base < end_of (segment_of v) → end_of (key_segment (key_at keys k)) ≤ end_of
+          (segment_of v)) (sym o.is) (end_nests (key_at keys o.node) (key_at keys k) (rising.rise o.node k o.small lt)
+          (all o.node no_key (let l = o.small in omega arith)) (all k no_key lt))
     ]
 
     pub spans_more : (new : List Span) → Added (span_of keys nodes marks k) spans new → SpansOf keys nodes marks privileged (k + 1) new
     spans_more new (inl a) = subst (SpansOf keys nodes marks privileged (k + 1)) (sym a.1) (record {
       order = pushed_order spans (span_of keys nodes marks k) h.order (segment a.0) rises (nests a.0);
       from = λ n small. elim (same_or_below n (length spans) (let l = one_longer spans (span_of keys nodes marks k) in omega arith)) [
-        | inl less ↦ subst (λ v. (v ≡ whole_span privileged) ⊎ OfNode keys nodes marks (k + 1) v) (sym (span_before spans (span_of keys nodes marks k) n less)) (elim (h.from n less) [ inl e ↦ inl e | inr o ↦ inr (wider (span_at spans n) o) ])
-        | inr e ↦ subst (λ v. (v ≡ whole_span privileged) ⊎ OfNode keys nodes marks (k + 1) v) (sym (span_last spans (span_of keys nodes marks k) n e)) (inr (record { node = k; small = omega arith; used = a.0; is = refl }))
+        | inl less ↦ subst (λ v. (v ≡ whole_span privileged) ⊎ OfNode keys nodes marks (k + 1) v)
+            (sym (span_before spans (span_of keys nodes marks k) n less))
+            (elim (h.from n less) [ inl e ↦ inl e | inr o ↦ inr (wider (span_at spans n) o) ])
+        | inr e ↦ subst (λ v. (v ≡ whole_span privileged) ⊎ OfNode keys nodes marks (k + 1) v)
+            (sym (span_last spans (span_of keys nodes marks k) n e))
+            (inr (record { node = k; small = omega arith; used = a.0; is = refl }))
       ];
       whole = λ u. stands_still spans (span_of keys nodes marks k) (whole_span privileged) (h.whole u);
       each = λ n small u. elim (same_or_below n k small) [

@@ -31,10 +31,17 @@ module _ (i : Image) (spans : List Span) (s : AreSpans i All spans) (groups : �
     λ c.
         let u = covered_use i All spans s Touch groups w c in
         let t = (shares_test (span_at spans u.0).touch groups fits).0 u.2 in
-        record { group = t.group; member = eq-eqb _ _ t.other; touches = (touch_use i All t.group w).1 (span_use i All spans s Touch t.group w aligned (record { at = u.0; small = u.1; uses = t.one; low = u.3; high = u.4 })) },
+        record {
+          group = t.group;
+          member = eq-eqb _ _ t.other;
+          touches = (touch_use i All t.group w).1
+              (span_use i All spans s Touch t.group w aligned
+              (record { at = u.0; small = u.1; uses = t.one; low = u.3; high = u.4 }));
+        },
     λ y.
         let u = use_span i All spans s Touch y.group w ((touch_use i All y.group w).0 y.touches) in
-        use_covered i All spans s Touch groups w u.at u.small ((shares_test (span_at spans u.at).touch groups fits).1 (record { group = y.group; one = u.uses; other = eqb-true _ _ y.member })) u.low u.high,
+        use_covered i All spans s Touch groups w u.at u.small ((shares_test (span_at spans u.at).touch groups fits).1
+        (record { group = y.group; one = u.uses; other = eqb-true _ _ y.member })) u.low u.high,
   )
 
 -- the test of a set

@@ -1,5 +1,6 @@
 -- Slots and handlers, by the mask of the numbers of the slots inside.
-use Rattle.std.specs.Prelude.{ℕ, ◌/◌, ◌^◌, Bool, false, ◌==◌, ◌&&◌, if◌then◌else◌, bit_and, List, [], ◌∷◌, Option, Some, None}
+use Rattle.std.specs.Prelude.{ℕ, ◌/◌, ◌^◌, Bool, false, ◌==◌, ◌&&◌, if◌then◌else◌, bit_and, List, [], ◌∷◌, Option, Some}
+use Rattle.std.specs.Prelude.{None}
 use Rattle.mm_model.specs.Slot.{Slot}
 
 -- a handler is not one of these numbers

@@ -23,7 +23,8 @@ impl Model for GroupSets {
 
     ghost view = { λ s. map (set_of s.sets.items) s.places.items };
 
-    ghost invariant = { λ s. ((g : ℕ) → g < length s.places.items → slice_index_or s.places.items g 0 < length s.sets.items) × (s.empty ≡ []) };
+    ghost invariant = { λ s. ((g : ℕ) → g < length s.places.items
+        → slice_index_or s.places.items g 0 < length s.sets.items) × (s.empty ≡ []) };
 }
 
 impl GroupSets {

@@ -43,7 +43,8 @@ fn is_next(span: Span, access: Access, groups: u64, from: u64) -> bool
 fn next_place(spans: &[Span], access: Access, groups: u64, from: u64, at: usize) -> usize
     requires { at ≤ length spans.now }
     ensures fits { result ≤ length spans.now }
-    ensures same { outermost access groups from (drop at spans.now) ≡ outermost access groups from (drop result spans.now) }
+    ensures same { outermost access groups from (drop at spans.now) ≡ outermost access groups from
+        (drop result spans.now) }
     ensures next { result < length spans.now → IsTrue (is_next access groups from (span_at spans.now result)) }
 {
     for k in at..spans.len() {

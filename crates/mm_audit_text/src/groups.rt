@@ -42,7 +42,8 @@ fn put_present<O: Sink>(
 )
     requires { group < 64 }
     ensures { (part : List ℕ) × Gathers O.taken O.faults out.old out.new text.old text.new part
-        × (Surveys img.now All survey.now → IsPart img.now apart (if_present (has_group img.now.slots group) group) part) }
+        × (Surveys img.now All survey.now
+        → IsPart img.now apart (if_present (has_group img.now.slots group) group) part) }
 {
     if has_group(img.slots(), group) {
         put_group(text, out, survey, group);

@@ -56,7 +56,8 @@ pub fn put_segments<O: Sink>(
     right: Right,
     segments: &mut Segments<'_>,
 )
-    ensures { Gathers O.taken O.faults out.old out.new text.old text.new (flat_map (segment_line (right_text right)) segments.old) }
+    ensures { Gathers O.taken O.faults out.old out.new text.old text.new
+        (flat_map (segment_line (right_text right)) segments.old) }
 {
     while let Some((base, log)) = segments.next() {
         put_segment(text, out, right, base, log);

@@ -109,7 +109,8 @@ module _ (test : ℕ → Bool) where
   PassesOn from n limit = (ys : List ℕ) → DoRise (from + 1) ys → ArePassed limit ys → HasPassed (from + 1) ys → filter test (range_with_len (from + 1) n) ≡ ys
 
   -- a number that passes stands first
-  takes_first : (xs : List ℕ) (from n limit : ℕ) → PassesOn from n limit → DoRise from xs → ArePassed limit xs → HasPassed from xs → test from ≡ true → from ∷ filter test (range_with_len (from + 1) n) ≡ xs
+  takes_first : (xs : List ℕ) (from n limit : ℕ) → PassesOn from n limit → DoRise from xs → ArePassed limit xs
+      → HasPassed from xs → test from ≡ true → from ∷ filter test (range_with_len (from + 1) n) ≡ xs
   takes_first [] from n limit on up all known is = absurd (let has : is_among [] from ≡ true = known from (omega arith) is in cc)
   takes_first (x ∷ xs) from n limit on up all known is = elim (cases_eq x from) [
     | inl same ↦

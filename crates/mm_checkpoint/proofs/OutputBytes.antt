@@ -161,7 +161,9 @@ module _ (s : Slot) where
   effect_byte split (Leab rd ra rb) r = if_pointer_byte (register s ra) _ (λ p. pointer_byte rd _)
   effect_byte split (Restrict rd ra rb) r = if_pointer_byte (register s ra) _ (λ p. pointer_byte rd _)
   effect_byte split (Subseg rd ra rb) r = if_pointer_byte (register s ra) _ (λ p. pointer_byte rd _)
-  effect_byte split (Setptr rd ra) r = if_byte (is_privileged s.ip.perm) (sets_pointer s rd (setptr_result (word_bits (register s ra)))) (Fault cause.Priv) (pointer_byte rd (setptr_result (word_bits (register s ra)))) tt
+  effect_byte split (Setptr rd ra) r = if_byte (is_privileged s.ip.perm)
+      (sets_pointer s rd (setptr_result (word_bits (register s ra)))) (Fault cause.Priv)
+      (pointer_byte rd (setptr_result (word_bits (register s ra)))) tt
   effect_byte split (Ld rd ra pre post imm) r = load_byte split rd post r
   effect_byte split (St ra rb pre post imm) r = store_byte (register s rb) post r
   effect_byte split (Br imm) r = branch_byte (at_distance s imm)

@@ -1,9 +1,9 @@
 -- The first fault of a checkpoint's file, read against its image.
 --
 -- Of a fault only its offset in the file is answered. The numbers of the format are those that a reader of images gives
--- to faults of the same kind: 1 a field that is not whole, 2 magic, 3 version, 4 a number or a flag outside its range, 7
--- a place in a queue, 8 a state, 9 a word, 10 an instruction pointer, 11 the order of pages, 12 the count of pages, 13 a
--- byte too many.
+-- to faults of the same kind: 1 a field that is not whole, 2 magic, 3 version, 4 a number or a flag outside its range,
+-- 7 a place in a queue, 8 a state, 9 a word, 10 an instruction pointer, 11 the order of pages, 12 the count of pages,
+-- 13 a byte too many.
 use Rattle.std.specs.Prelude.{ℕ, List, Option}
 use Rattle.std.specs.Option.{option_map}
 use Rattle.mm_model.specs.Image.{Image}

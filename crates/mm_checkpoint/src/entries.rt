@@ -81,7 +81,8 @@ pub(crate) fn read_loads(
     count: u8,
 ) -> Result<ArrayVec<Pending, 16>, ReadError<ImageFault>>
     requires { count ≤ 16 }
-    ensures read { ReadsAlone number_of (λ p. p.items) ((times (load empty) (λ earlier p. earlier ++ p ∷ []) count []).read
+    ensures read { ReadsAlone number_of (λ p. p.items)
+        ((times (load empty) (λ earlier p. earlier ++ p ∷ []) count []).read
         reader.old.bytes.now reader.old.at) reader.new.at result }
     ensures same { reader.new.bytes.now ≡ reader.old.bytes.now }
     ensures words { IfOk result (λ entries. AllByRecursion (λ (p : PendingValue). IsWord p.word) entries.items) }

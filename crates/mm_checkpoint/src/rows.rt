@@ -32,7 +32,8 @@ pub(crate) struct SlotRow {
 // Reads the count of the pending loads of a slot, given the mask of empty registers.
 #[tactic(auto, unfolding(crate::specs::Format::load_count))]
 fn read_count(reader: &mut Reader, empty: u16) -> Result<u8, ReadError<ImageFault>>
-    ensures read { ReadsAlone number_of (λ n. n) ((load_count empty).read reader.old.bytes.now reader.old.at) reader.new.at
+    ensures read { ReadsAlone number_of (λ n. n) ((load_count empty).read reader.old.bytes.now reader.old.at)
+        reader.new.at
         result }
     ensures same { reader.new.bytes.now ≡ reader.old.bytes.now }
     ensures few { IfOk result (λ n. n ≤ 16) }

@@ -1,5 +1,7 @@
 -- Words that are read for the places of a row, one after the other.
-use Rattle.std.proofs.Common.{◌≡◌, ℕ, ◌+◌, ◌<◌, ◌≤◌, ◌==◌, ◌⊎◌, inl, inr, true, false, String, string_bytes, List, [], ◌∷◌, ◌++◌, length, map, take, drop, get_or, refl, sym, ap, ◌∙◌, subst, arith, append_assoc, append-nil}
+use Rattle.std.proofs.Common.{◌≡◌, ℕ, ◌+◌, ◌<◌, ◌≤◌, ◌==◌, ◌⊎◌, inl, inr, true, false, String, string_bytes, List, []}
+use Rattle.std.proofs.Common.{◌∷◌, ◌++◌, length, map, take, drop, get_or, refl, sym, ap, ◌∙◌, subst, arith}
+use Rattle.std.proofs.Common.{append_assoc, append-nil}
 use Rattle.std.specs.declared.alloc.Global.{Global}
 use Rattle.std.proofs.lemmas.List.{take_more, drop_more, take_all, drop_all, length-map}
 use Rattle.std.proofs.lemmas.Bool.{eqb-true}
@@ -9,7 +11,9 @@ use Rattle.mm_cli.specs.declared.table.Place.TheVariants.{File, Number, Groups, 
 use Rattle.mm_cli.specs.declared.table.Last.{Last}
 use Rattle.mm_cli.specs.declared.table.Last.TheVariants.{Nothing, Several}
 use Rattle.mm_cli.specs.declared.words.Word.{Word as Read}
-use Rattle.mm_cli.specs.Words.{Word, file_word, number_word, groups_word, mode_word, range_word, use_word, text_list, spelled, spoken, texts, words_of, FitsPlace, FitsLast, FitsRow, IsOfPlace, AreOfLast, AreOfRow}
+use Rattle.mm_cli.specs.Words.{Word, file_word, number_word, groups_word, mode_word, range_word, use_word, text_list}
+use Rattle.mm_cli.specs.Words.{spelled, spoken, texts, words_of, FitsPlace, FitsLast, FitsRow, IsOfPlace, AreOfLast}
+use Rattle.mm_cli.specs.Words.{AreOfRow}
 
 -- 1. What is left after the words of one place.
 

@@ -1,5 +1,7 @@
 -- The rows of the table: each has a name and a command of its own, and words are in one row at most.
-use Rattle.std.proofs.Common.{◌≡◌, ◌≢◌, ℕ, zero, suc, ◌+◌, ◌-◌, ◌<◌, ◌≤◌, ◌^◌, Bool, true, false, cond, List, [], ◌∷◌, ◌++◌, length, map, take, drop, get_or, slice_get, Option, Some, String, string_bytes, codes, refl, sym, ap, ◌∙◌, subst, arith, nat_lt}
+use Rattle.std.proofs.Common.{◌≡◌, ◌≢◌, ℕ, zero, suc, ◌+◌, ◌-◌, ◌<◌, ◌≤◌, ◌^◌, Bool, true, false, cond, List, [], ◌∷◌}
+use Rattle.std.proofs.Common.{◌++◌, length, map, take, drop, get_or, slice_get, Option, Some, String, string_bytes}
+use Rattle.std.proofs.Common.{codes, refl, sym, ap, ◌∙◌, subst, arith, nat_lt}
 use Rattle.std.specs.Prelude.{IfSome}
 use Rattle.std.specs.List.{find}
 use Rattle.std.specs.Str.{bytes_eq}
@@ -17,7 +19,9 @@ use Rattle.mm_cli.specs.declared.table.Place.TheVariants.{File, Number, Groups, 
 use Rattle.mm_cli.specs.declared.table.Last.{Last}
 use Rattle.mm_cli.specs.declared.table.Last.TheVariants.{Nothing, Perhaps, Several}
 use Rattle.mm_cli.specs.declared.words.Word.{Word as Read}
-use Rattle.mm_cli.specs.Words.{AreOfRow, Word, file_word, number_word, groups_word, mode_word, range_word, use_word, mode_text, use_text, text_list, FitsPlace, FitsLast, FitsRow, room, spelled, spoken, texts}
+use Rattle.mm_cli.specs.Words.{AreOfRow, Word, file_word, number_word, groups_word, mode_word, range_word, use_word}
+use Rattle.mm_cli.specs.Words.{mode_text, use_text, text_list, FitsPlace, FitsLast, FitsRow, room, spelled, spoken}
+use Rattle.mm_cli.specs.Words.{texts}
 use Rattle.mm_cli.specs.Table.{Listed, Row, IsInTable, Asks, Fits, InNoRow, NoneIsNamed, is_same, row_for, table}
 use Rattle.mm_cli.specs.Said.{said, said_by}
 use Rattle.mm_cli.proofs.GroupWords.{one_list}

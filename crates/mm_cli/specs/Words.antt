@@ -1,5 +1,6 @@
 -- What words say, how it is written, and where it fits.
-use Rattle.std.specs.Prelude.{◌≡◌, ℕ, ◌%◌, ◌^◌, ◌-◌, ◌<◌, ◌≤◌, Bool, true, false, List, [], ◌∷◌, ◌++◌, map, length, String}
+use Rattle.std.specs.Prelude.{◌≡◌, ℕ, ◌%◌, ◌^◌, ◌-◌, ◌<◌, ◌≤◌, Bool, true, false, List, [], ◌∷◌, ◌++◌, map, length}
+use Rattle.std.specs.Prelude.{String}
 use Rattle.std.specs.Prelude.{string_bytes, codes, decimal, Option, None, Some, ⊤}
 use Rattle.std.specs.declared.alloc.Global.{Global}
 use Rattle.mm_model.specs.Audit.{groups_text}

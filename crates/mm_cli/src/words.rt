@@ -1,6 +1,7 @@
 //! What the words of the command line say.
 ghost use Rattle.std.specs.Prelude.{◌≡◌, ◌≢◌, ◌≤◌, ◌++◌, ◌∷◌, [], ℕ, Bool, List, MatchOption, decimal, string_bytes};
-ghost use Rattle.mm_cli.specs.Words.{Word as Spoken, FitsPlace, IsOfPlace, IsRange, IsWordAddress, range_word, mode_text};
+ghost use Rattle.mm_cli.specs.Words.{Word as Spoken, FitsPlace, IsOfPlace, IsRange, IsWordAddress, range_word};
+ghost use Rattle.mm_cli.specs.Words.{mode_text};
 ghost use Rattle.mm_cli.specs.Words.{use_text, text_list, texts, words_of};
 
 use crate::groups::read_groups;

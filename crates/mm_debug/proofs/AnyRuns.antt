@@ -1,5 +1,7 @@
 -- What every cycle keeps, from whatever state: version, mode, frames, and how many outputs there are; and no output grows shorter.
-use Rattle.std.proofs.Common.{◌≡◌, ℕ, zero, suc, ◌≤◌, Bool, true, false, if◌then◌else◌, List, [], ◌∷◌, ◌++◌, length, slice_set, slice_index_or, Option, Some, None, refl, sym, ◌∙◌, subst, arith, length-set, length-append}
+use Rattle.std.proofs.Common.{◌≡◌, ℕ, zero, suc, ◌≤◌, Bool, true, false, if◌then◌else◌, List, [], ◌∷◌, ◌++◌, length}
+use Rattle.std.proofs.Common.{slice_set, slice_index_or, Option, Some, None, refl, sym, ◌∙◌, subst, arith, length-set}
+use Rattle.std.proofs.Common.{length-append}
 use Rattle.mm_word.specs.declared.cause.Cause.{Cause}
 use Rattle.mm_word.specs.declared.word.Word.{Word}
 use Rattle.mm_word.specs.declared.word.Word.TheVariants.{Int}
@@ -16,7 +18,9 @@ use Rattle.mm_model.specs.Ask.{ask}
 use Rattle.mm_model.specs.Effect.{Change, Pages, Effect, effect, delivered}
 use Rattle.mm_model.specs.Effect.Pages.{Keep, Add, Remove}
 use Rattle.mm_model.specs.Effect.Effect.{Fault, Block, Deliver, Does}
-use Rattle.mm_model.specs.Turn.{Turned, reply, slot_after, with_other, with_queue, with_out, with_cell, with_pages, core_after, memory_after, stood, is_sync, event_of, core_faulted, faulted, touch_of, asked_use, blocked, ended, executed, idle, turn}
+use Rattle.mm_model.specs.Turn.{Turned, reply, slot_after, with_other, with_queue, with_out, with_cell, with_pages}
+use Rattle.mm_model.specs.Turn.{core_after, memory_after, stood, is_sync, event_of, core_faulted, faulted, touch_of}
+use Rattle.mm_model.specs.Turn.{asked_use, blocked, ended, executed, idle, turn}
 use Rattle.mm_model.specs.Run.{after, run}
 use Rattle.mm_model.proofs.Memories.{put_frames, map_frames, unmap_frames}
 use Rattle.mm_model.proofs.TurnShapes.{TurnShape, turn_shape}

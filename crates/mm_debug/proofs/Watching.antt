@@ -1,5 +1,7 @@
 -- A cycle stops a run for a watch exactly where it did a Store or a LoadSet on the watched word.
-use Rattle.std.proofs.Common.{◌≡◌, ◌↔◌, ℕ, zero, suc, ◌<◌, Bool, true, false, ◌&&◌, ◌==◌, if◌then◌else◌, ℤ, pos, negsuc, ◌+ℤ◌, ◌%◌, ◌⊎◌, inl, inr, List, [], ◌∷◌, length, Option, Some, None, Result, Ok, Err, refl, sym, ap, ◌∙◌, subst, arith}
+use Rattle.std.proofs.Common.{◌≡◌, ◌↔◌, ℕ, zero, suc, ◌<◌, Bool, true, false, ◌&&◌, ◌==◌, if◌then◌else◌, ℤ, pos, negsuc}
+use Rattle.std.proofs.Common.{◌+ℤ◌, ◌%◌, ◌⊎◌, inl, inr, List, [], ◌∷◌, length, Option, Some, None, Result, Ok, Err}
+use Rattle.std.proofs.Common.{refl, sym, ap, ◌∙◌, subst, arith}
 use Rattle.std.specs.Prelude.{slice_index_or}
 use Rattle.mm_word.specs.declared.perm.Kind.{Kind}
 use Rattle.mm_word.specs.declared.perm.Kind.TheVariants.{Fetch, Store}
@@ -27,7 +29,9 @@ use Rattle.mm_model.specs.Ask.Ask.{Nothing, Refuse, Reach, MapPage, UnmapPage, N
 use Rattle.mm_model.specs.Effect.{Reply, Change, Effect, effect, loaded, stored, delivered}
 use Rattle.mm_model.specs.Effect.Reply.{Refused, Got}
 use Rattle.mm_model.specs.Effect.Effect.{Fault, Block, Deliver, Does}
-use Rattle.mm_model.specs.Turn.{Turned, reply, reached, removal_use, asked_use, touch_of, is_sync, tick_faulted, faulted, blocked, ended, executed, issued, decoded, instr_in, fetched, aimed, started, idle, arrives, port_of, taken_by_port, taken_by, is_running, turn}
+use Rattle.mm_model.specs.Turn.{Turned, reply, reached, removal_use, asked_use, touch_of, is_sync, tick_faulted}
+use Rattle.mm_model.specs.Turn.{faulted, blocked, ended, executed, issued, decoded, instr_in, fetched, aimed, started}
+use Rattle.mm_model.specs.Turn.{idle, arrives, port_of, taken_by_port, taken_by, is_running, turn}
 use Rattle.mm_debug.specs.Breakpoints.{has_watch}
 use Rattle.mm_debug.specs.Session.{is_done, sets_bit, watched_by, watched}
 use Rattle.mm_debug.specs.Laws.{SetsBitAt, WatchesSeeSignals}

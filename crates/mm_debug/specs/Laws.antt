@@ -1,5 +1,6 @@
 -- Laws of sessions.
-use Rattle.std.specs.Prelude.{◌≡◌, ◌↔◌, ℕ, zero, suc, ◌+◌, ◌<◌, ◌≤◌, Bool, true, false, ◌&&◌, if◌then◌else◌, List, [], ◌∷◌, Contains, Option, Some, None}
+use Rattle.std.specs.Prelude.{◌≡◌, ◌↔◌, ℕ, zero, suc, ◌+◌, ◌<◌, ◌≤◌, Bool, true, false, ◌&&◌, if◌then◌else◌, List, []}
+use Rattle.std.specs.Prelude.{◌∷◌, Contains, Option, Some, None}
 use Rattle.mm_word.specs.declared.perm.Kind.{Kind}
 use Rattle.mm_model.specs.Image.{Image, start}
 use Rattle.mm_model.specs.Run.{run, turn_of}
@@ -8,7 +9,8 @@ use Rattle.mm_sched.specs.declared.schedule.Order.{Order}
 use Rattle.mm_debug.specs.declared.stop.Stop.{Stop}
 use Rattle.mm_debug.specs.declared.stop.Stop.TheVariants as stop
 use Rattle.mm_debug.specs.Breakpoints.{has_watch}
-use Rattle.mm_debug.specs.Session.{Session, total_of, begun, next_item, stepped, sets_bit, stops_before, stops_after, ran, answer_to}
+use Rattle.mm_debug.specs.Session.{Session, total_of, begun, next_item, stepped, sets_bit, stops_before, stops_after}
+use Rattle.mm_debug.specs.Session.{ran, answer_to}
 use Rattle.mm_debug.specs.Standing.{StandsFor, run_items}
 
 -- 1. The stops of a run.

@@ -1,5 +1,6 @@
 //! What holds of all sessions.
-ghost use Rattle.mm_debug.specs.Laws.{RunsStopFirst, StepsIssueCycles, LinesKeepStanding, DebuggingChangesNoRun, AnswersDependOnThese, WatchesSeeSignals};
+ghost use Rattle.mm_debug.specs.Laws.{RunsStopFirst, StepsIssueCycles, LinesKeepStanding, DebuggingChangesNoRun};
+ghost use Rattle.mm_debug.specs.Laws.{AnswersDependOnThese, WatchesSeeSignals};
 
 /// A `run` issues the least count of cycles after which there is a reason to stop. A watch comes before the end, and
 /// the end before a break. Watches and breaks stop it only after a cycle of the run.

@@ -4,7 +4,8 @@ ghost use Rattle.std.specs.Prelude.{◌≡◌, IfOk};
 ghost use Rattle.mm_model.specs.Image.{Image};
 ghost use Rattle.mm_debug.specs.Session.{Session as SessionValue};
 ghost use Rattle.mm_debug.specs.Shown.{session_of};
-ghost use Rattle.mm_debug.specs.Standing.{Point as PointValue, StandsFor, PointStandsFor, IsPointOf, CanGo, gone, total_at};
+ghost use Rattle.mm_debug.specs.Standing.{Point as PointValue, StandsFor, PointStandsFor, IsPointOf, CanGo, gone};
+ghost use Rattle.mm_debug.specs.Standing.{total_at};
 
 use crate::session::Session;
 use mm_machine::Snapshot;

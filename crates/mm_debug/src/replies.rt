@@ -5,7 +5,8 @@ ghost use Rattle.mm_text.specs.Gathers.{Gathers};
 ghost use Rattle.mm_model.specs.Memory.{cell_at};
 ghost use Rattle.mm_model.specs.State.{slot_at};
 ghost use Rattle.mm_machine.specs.Machine.{state_of};
-ghost use Rattle.mm_debug.specs.Session.{stepped_text, stop_text, break_text, watch_text, slot_text, word_line, memory_text};
+ghost use Rattle.mm_debug.specs.Session.{stepped_text, stop_text, break_text, watch_text, slot_text, word_line};
+ghost use Rattle.mm_debug.specs.Session.{memory_text};
 
 use crate::stop::Stop;
 use mm_io::Sink;

@@ -13,7 +13,9 @@ use Rattle.mm_line.proofs.Claims.{line_claims}
 use Rattle.mm_draft.specs.declared.fault.Failure.{Failure}
 use Rattle.mm_draft.specs.Drafts as draft
 use Rattle.mm_draft.specs.Drafts.{Draft, place_of, last, add_segment, add_words, add_register, add_statement, add_line}
-use Rattle.mm_draft.specs.Faults.{fault_if, is_none, has_slot, has_register, segment_limit, words_faults, one_if_pointer, claim_faults, statement_faults, line_faults, first_of, source_of, step_by, step, ◌then◌, lines_from}
+use Rattle.mm_draft.specs.Faults.{fault_if, is_none, has_slot, has_register, segment_limit, words_faults}
+use Rattle.mm_draft.specs.Faults.{one_if_pointer, claim_faults, statement_faults, line_faults, first_of, source_of}
+use Rattle.mm_draft.specs.Faults.{step_by, step, ◌then◌, lines_from}
 use Rattle.mm_object.specs.declared.item.Item.{Item}
 use Rattle.mm_object.specs.declared.thread.Value.{Value}
 use Rattle.mm_object.specs.declared.thread.Thread.{Thread}

@@ -1,5 +1,7 @@
 -- The segments of an object, as their lines are read.
-use Rattle.std.proofs.Common.{◌≡◌, ℕ, ◌+◌, ◌<◌, ◌≤◌, Bool, true, false, not, nat_le, if◌then◌else◌, List, [], ◌∷◌, ◌++◌, length, Option, Some, None, is_some, bytes_eq, refl, sym, ap, ◌∙◌, arith, append_assoc, length-append}
+use Rattle.std.proofs.Common.{◌≡◌, ℕ, ◌+◌, ◌<◌, ◌≤◌, Bool, true, false, not, nat_le, if◌then◌else◌, List, [], ◌∷◌, ◌++◌}
+use Rattle.std.proofs.Common.{length, Option, Some, None, is_some, bytes_eq, refl, sym, ap, ◌∙◌, arith, append_assoc}
+use Rattle.std.proofs.Common.{length-append}
 use Rattle.std.specs.List.{AllByRecursion}
 use Rattle.std.proofs.lemmas.List.{append-nil}
 use Rattle.std.proofs.lemmas.Bool.{not-true}
@@ -143,7 +145,9 @@ module _ (o : Object) (spare : Option ℕ) where
             ∙ ap (lines_from (line + 1) (record { segments = before ++ begun ∷ []; names = entered; threads = []; spare = spare }))
             (append_assoc (word_lines o number 0 s.items) (segment_lines o (number + 1) segments) more)
             ∙ words.reads (segment_lines o (number + 1) segments ++ more)
-            ∙ ap (λ (entries : List Entry). lines_from words.next (record { segments = before ++ x ∷ []; names = entries; threads = []; spare = spare }) (segment_lines o (number + 1) segments ++ more))
+            ∙ ap (λ (entries : List Entry). lines_from words.next
+            (record { segments = before ++ x ∷ []; names = entries; threads = []; spare = spare })
+            (segment_lines o (number + 1) segments ++ more))
             names
             ∙ rest.reads more
             ∙ ap (λ (segments : List draft.Segment). lines_from rest.next (with_segments segments) more) (append_assoc before (x ∷ []) rest.later);

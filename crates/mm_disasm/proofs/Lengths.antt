@@ -1,5 +1,7 @@
 -- How long a canonical text is.
-use Rattle.std.proofs.Common.{◌≡◌, ℕ, zero, suc, ◌+◌, ◌*◌, ◌/◌, ◌%◌, ◌^◌, ◌<◌, ◌≤◌, Bool, true, false, nat_lt, if◌then◌else◌, List, [], ◌∷◌, ◌++◌, length, get_or, codes, Option, Some, None, ℤ, pos, negsuc, FitsSigned, refl, arith, length-append}
+use Rattle.std.proofs.Common.{◌≡◌, ℕ, zero, suc, ◌+◌, ◌*◌, ◌/◌, ◌%◌, ◌^◌, ◌<◌, ◌≤◌, Bool, true, false, nat_lt}
+use Rattle.std.proofs.Common.{if◌then◌else◌, List, [], ◌∷◌, ◌++◌, length, get_or, codes, Option, Some, None, ℤ, pos}
+use Rattle.std.proofs.Common.{negsuc, FitsSigned, refl, arith, length-append}
 use Rattle.std.specs.Prelude.{decimal}
 use Rattle.std.specs.Int.{w32}
 use Rattle.std.specs.Fmt.{digit_glyph}
@@ -38,7 +40,11 @@ use Rattle.mm_object.specs.declared.thread.Thread.{Thread}
 use Rattle.mm_object.specs.Lookups.{name_of_target, reloc_at}
 use Rattle.mm_object.specs.Names.{has_form, is_name}
 use Rattle.mm_object.specs.Objects.{Segment, Object, IsObject, IsSegment, words_of, names_of, is_handler, is_target, is_value, is_thread}
-use Rattle.mm_disasm.specs.Canonical.{perm_text, pre_text, post_text, how_text, register_text, signed_text, digits_of, short_hex, long_hex, operand_text, further_text, operands_text, operation_text, pointer_text, bits_text, integer_text, word_by, mark_text, word_line, words_text, segment_line, segment_text, segments_text, handler_text, thread_line, value_text, is_zero, register_line, registers_text, thread_text, spare_line, canonical}
+use Rattle.mm_disasm.specs.Canonical.{perm_text, pre_text, post_text, how_text, register_text, signed_text, digits_of}
+use Rattle.mm_disasm.specs.Canonical.{short_hex, long_hex, operand_text, further_text, operands_text, operation_text}
+use Rattle.mm_disasm.specs.Canonical.{pointer_text, bits_text, integer_text, word_by, mark_text, word_line, words_text}
+use Rattle.mm_disasm.specs.Canonical.{segment_line, segment_text, segments_text, handler_text, thread_line, value_text}
+use Rattle.mm_disasm.specs.Canonical.{is_zero, register_line, registers_text, thread_text, spare_line, canonical}
 use Rattle.mm_disasm.specs.Laws.{CanonicalTextsAreSources}
 
 -- 1. Words of the language.

@@ -28,7 +28,9 @@ use Rattle.mm_object.specs.declared.thread.Value.TheVariants as value
 use Rattle.mm_object.specs.declared.thread.Thread.{Thread}
 use Rattle.mm_object.specs.Lookups.{name_of_target, reloc_at}
 use Rattle.mm_object.specs.Objects.{Segment, Object, IsSegment, IsObject, IsNumber, is_handler, is_value, is_thread}
-use Rattle.mm_disasm.specs.Canonical.{perm_text, signed_text, digits_of, short_hex, operand_text, further_text, operands_text, operation_text, pointer_text, bits_text, integer_text, word_by, mark_text, handler_text, value_text, is_zero}
+use Rattle.mm_disasm.specs.Canonical.{perm_text, signed_text, digits_of, short_hex, operand_text, further_text}
+use Rattle.mm_disasm.specs.Canonical.{operands_text, operation_text, pointer_text, bits_text, integer_text, word_by}
+use Rattle.mm_disasm.specs.Canonical.{mark_text, handler_text, value_text, is_zero}
 use Rattle.mm_disasm.proofs.Saying.{spare_of, begin_of, word_of, thread_of, register_of, word_lines, segment_lines, register_lines, thread_lines, object_lines}
 use Rattle.mm_disasm.proofs.LinesTokens.{all_append, name_byte, begins, all_of, are_decimal, are_hexadecimal, enough}
 use Rattle.mm_disasm.proofs.LinesNames.{is_word, IsKnown, relocated}

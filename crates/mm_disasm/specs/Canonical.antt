@@ -1,5 +1,6 @@
 -- The canonical text of an object.
-use Rattle.std.specs.Prelude.{ℕ, ◌+◌, ◌==◌, nat_lt, Bool, true, false, if◌then◌else◌, List, [], ◌∷◌, ◌++◌, codes, decimal, Option, Some, None, ℤ, pos, negsuc}
+use Rattle.std.specs.Prelude.{ℕ, ◌+◌, ◌==◌, nat_lt, Bool, true, false, if◌then◌else◌, List, [], ◌∷◌, ◌++◌, codes}
+use Rattle.std.specs.Prelude.{decimal, Option, Some, None, ℤ, pos, negsuc}
 use Rattle.std.specs.List.{flat_map}
 use Rattle.mm_word.specs.declared.perm.Perm.{Perm}
 use Rattle.mm_word.specs.declared.perm.Perm.TheVariants.{Ro, Rw, Xu, Xp, Eu, Ep, Key}
@@ -63,7 +64,8 @@ signed_text (negsuc n) = codes "-" ++ decimal (n + 1)
 -- the count of hexadecimal digits that a number below 2^20 needs
 abbrev pub digits_of : ℕ → ℕ
 digits_of n =
-    if nat_lt n 0x10 then 1 else if nat_lt n 0x100 then 2 else if nat_lt n 0x1000 then 3 else if nat_lt n 0x10000 then 4 else 5
+    if nat_lt n 0x10 then 1 else if nat_lt n 0x100 then 2 else if nat_lt n 0x1000 then 3 else if nat_lt n 0x10000 then 4
+    else 5
 
 -- a number below 2^20 in hexadecimal, in as few digits as it needs
 abbrev pub short_hex : ℕ → List ℕ

@@ -1,7 +1,8 @@
 //! The texts of instructions.
 
 ghost use Rattle.mm_text.specs.Gathers.{Gathers};
-ghost use Rattle.mm_disasm.specs.Canonical.{further_text, integer_text, operand_text, operands_text, operation_text, register_text};
+ghost use Rattle.mm_disasm.specs.Canonical.{further_text, integer_text, operand_text, operands_text, operation_text};
+ghost use Rattle.mm_disasm.specs.Canonical.{register_text};
 
 use crate::names::{how_name, post_name, pre_name};
 use crate::numbers::put_signed;

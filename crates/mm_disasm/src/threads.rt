@@ -4,7 +4,8 @@ ghost use Rattle.std.specs.Prelude.{◌≡◌, length, true};
 ghost use Rattle.std.specs.List.{flat_map, list_all};
 ghost use Rattle.mm_object.specs.Objects.{is_target, is_thread, is_value};
 ghost use Rattle.mm_text.specs.Gathers.{Gathers};
-ghost use Rattle.mm_disasm.specs.Canonical.{handler_text, is_zero, register_line, registers_text, thread_line, thread_text, value_text};
+ghost use Rattle.mm_disasm.specs.Canonical.{handler_text, is_zero, register_line, registers_text, thread_line};
+ghost use Rattle.mm_disasm.specs.Canonical.{thread_text, value_text};
 
 use crate::words::put_pointer;
 use mm_io::Sink;

@@ -86,7 +86,8 @@ fn put_content<O: Sink>(
     bits: u64,
 )
     requires { IsObject o.now }
-    ensures { Gathers O.taken O.faults out.old out.new text.old text.new (word_by o.now (reloc_at o.now segment word) bits) }
+    ensures { Gathers O.taken O.faults out.old out.new text.old text.new
+        (word_by o.now (reloc_at o.now segment word) bits) }
 {
     match o.reloc_at(segment, word) {
         Some(reloc) => {

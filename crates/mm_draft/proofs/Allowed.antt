@@ -40,7 +40,8 @@ room d words pointers left (Some s) e =
     let n = neither _ _ (good _ _ left (append_none _ _ e).1) in
     record { words_fit = within word_limit _ n.0; pointers_fit = within pointer_limit _ n.1 }
 
-new_name : (d : Draft) (left : ℕ) (name : List ℕ) (claim : Option Claim) → claim_faults d claim ≡ [] → (m : Rattle.mm_line.specs.declared.name.Mark.Mark) → claim ≡ Some (claims.Segment m) → place_of d m.name ≡ None
+new_name : (d : Draft) (left : ℕ) (name : List ℕ) (claim : Option Claim) → claim_faults d claim ≡ []
+    → (m : Rattle.mm_line.specs.declared.name.Mark.Mark) → claim ≡ Some (claims.Segment m) → place_of d m.name ≡ None
 new_name d left name claim e m is =
     let g : fault_if (is_named d m.name) _ m.left ≡ [] = ap (claim_faults d) (sym is) ∙ e in
     is_new (place_of d m.name) (good (is_named d m.name) _ m.left g)
@@ -57,6 +58,8 @@ may_add d left claim (statement.Register number value) h n c e = tt
 pub may_add_reading : (d : Draft) (most : ℕ) (b : Body) → IsBody most b → NamesItsClaim (Some b) → first_of (body_faults d (Some b)) ≡ None → MayAddReading d b.reading
 may_add_reading d most b h names e = of b.reading h.reading names (append_none _ _ (no_fault (body_faults d (Some b)) e))
   where
-    of : (r : Result Statement Problem) → Reads b.left (IsStatement b.left) r → ((s : Statement) → r ≡ Ok s → Names s b.left b.claim) → (claim_faults d b.claim ≡ []) × (reading_faults d b.left r ≡ []) → MayAddReading d r
+    of : (r : Result Statement Problem) → Reads b.left (IsStatement b.left) r
+        → ((s : Statement) → r ≡ Ok s → Names s b.left b.claim) → (claim_faults d b.claim ≡ [])
+        × (reading_faults d b.left r ≡ []) → MayAddReading d r
     of (Ok s) reads n x = may_add d b.left b.claim s (reads.ok s refl) (n s refl) x.0 x.1
     of (Err p) reads n x = tt

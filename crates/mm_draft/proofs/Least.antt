@@ -103,7 +103,9 @@ first_fits : (size : ℕ) (ps : List Problem) → EachIs (Within size) ps → Fi
 first_fits size [] h = tt
 first_fits size (p ∷ ps) h = lesser_fits size p (first_of ps) h.0 (first_fits size ps h.1)
 
-sooner_is : (number size : ℕ) (p : Problem) (o : Option Problem) → p.left ≤ size → Fits size o → sooner (pair_of number size p) (option_map (pair_of number size) o) ≡ option_map (pair_of number size) (lesser p o)
+sooner_is : (number size : ℕ) (p : Problem) (o : Option Problem) → p.left ≤ size → Fits size o
+    → sooner (pair_of number size p) (option_map (pair_of number size) o) ≡ option_map (pair_of number size)
+    (lesser p o)
 sooner_is number size p None h f = refl
 sooner_is number size p (Some q) h f = ap (λ b. if b then Some (pair_of number size q) else Some (pair_of number size p)) (precedes_is number size p q f h) ∙ by (is_before q p)
   where

@@ -22,7 +22,9 @@ step_unless None source line d = refl
 step_unless (Some p) source line d = refl
 
 pub step_is : (number : ℕ) (bytes : List ℕ) (d : Draft) → let line = line_of bytes in
-    step number bytes d ≡ unless (or_else (first_of (maybe_label_faults d line.label)) (first_of (body_faults (add_maybe_label line.label d) line.body))) (source_of number bytes) (add_body (source_of number bytes) line.body (add_maybe_label line.label d))
+    step number bytes d ≡ unless (or_else (first_of (maybe_label_faults d line.label))
+    (first_of (body_faults (add_maybe_label line.label d) line.body))) (source_of number bytes)
+    (add_body (source_of number bytes) line.body (add_maybe_label line.label d))
 unfolding step add_line
 step_is number bytes d = step_unless _ _ _ d ∙ ap (λ o. unless o (source_of number bytes) (add_line (source_of number bytes) (line_of bytes) d)) (line_first d bytes)
 
@@ -46,7 +48,8 @@ stops number bytes line d failure is h =
     step_is number bytes d ∙ label_stops _ _ _ _ _ failure h'
 
 pub label_err : (X : Type 0) (number : ℕ) (bytes : List ℕ) (line : Line) (d new : Draft) (error : DraftError) → line ≡ line_of bytes
-    → Leaves {X = X} (Err error) new (unless (first_of (maybe_label_faults d line.label)) (source_of number bytes) (add_maybe_label line.label d)) → Leaves {X = X} (Err error) new (step number bytes d)
+    → Leaves {X = X} (Err error) new (unless (first_of (maybe_label_faults d line.label)) (source_of number bytes)
+    (add_maybe_label line.label d)) → Leaves {X = X} (Err error) new (step number bytes d)
 label_err X number bytes line d new (Fault failure) is h = stops number bytes line d failure is h
 label_err X number bytes line d new NoMemory is h = tt
 
@@ -67,11 +70,17 @@ front : (lines : List (List ℕ)) (n : ℕ) (x : List ℕ) (d : Draft) → n < l
 unfolding lines_from
 front lines n x d lt = ap (lines_from n d) (drop_more lines n x lt)
 
-line_ok : (lines : List (List ℕ)) (n : ℕ) (x : List ℕ) (d e : Draft) → n < length lines → x ≡ get_or lines n x → step n x d ≡ Ok e → lines_from n d (drop n lines) ≡ lines_from (n + 1) e (drop (n + 1) lines)
-line_ok lines n x d e lt at h = front lines n x d lt ∙ ap (λ y. step n y d then λ e. lines_from (n + 1) e (drop (n + 1) lines)) (sym at) ∙ ap (λ (r : Result Draft Failure). r then λ e. lines_from (n + 1) e (drop (n + 1) lines)) h
+line_ok : (lines : List (List ℕ)) (n : ℕ) (x : List ℕ) (d e : Draft) → n < length lines → x ≡ get_or lines n x
+    → step n x d ≡ Ok e → lines_from n d (drop n lines) ≡ lines_from (n + 1) e (drop (n + 1) lines)
+line_ok lines n x d e lt at h = front lines n x d lt
+    ∙ ap (λ y. step n y d then λ e. lines_from (n + 1) e (drop (n + 1) lines)) (sym at)
+    ∙ ap (λ (r : Result Draft Failure). r then λ e. lines_from (n + 1) e (drop (n + 1) lines)) h
 
-line_err : (lines : List (List ℕ)) (n : ℕ) (x : List ℕ) (d : Draft) (failure : Failure) → n < length lines → x ≡ get_or lines n x → step n x d ≡ Err failure → lines_from n d (drop n lines) ≡ Err failure
-line_err lines n x d failure lt at h = front lines n x d lt ∙ ap (λ y. step n y d then λ e. lines_from (n + 1) e (drop (n + 1) lines)) (sym at) ∙ ap (λ (r : Result Draft Failure). r then λ e. lines_from (n + 1) e (drop (n + 1) lines)) h
+line_err : (lines : List (List ℕ)) (n : ℕ) (x : List ℕ) (d : Draft) (failure : Failure) → n < length lines
+    → x ≡ get_or lines n x → step n x d ≡ Err failure → lines_from n d (drop n lines) ≡ Err failure
+line_err lines n x d failure lt at h = front lines n x d lt
+    ∙ ap (λ y. step n y d then λ e. lines_from (n + 1) e (drop (n + 1) lines)) (sym at)
+    ∙ ap (λ (r : Result Draft Failure). r then λ e. lines_from (n + 1) e (drop (n + 1) lines)) h
 
 line_end : (lines : List (List ℕ)) (n : ℕ) (d : Draft) → length lines ≤ n → lines_from n d (drop n lines) ≡ Ok d
 unfolding lines_from

@@ -21,6 +21,7 @@ inserted (e ∷ es) k v h = by (bytes_eq k.now e.0.now) (inserted es k v) h
   where
     by : (b : Bool) → (place_in (entries_of es) k.now ≡ None → entries_of (insert_entry (λ x y. bytes_eq x.now y.now) es k v) ≡ entries_of es ++ record { name = k.now; place = v } ∷ [])
         → cond b (Some e.1) (place_in (entries_of es) k.now) ≡ None
-        → entries_of (cond b ((e.0, v) ∷ es) (e ∷ insert_entry (λ x y. bytes_eq x.now y.now) es k v)) ≡ record { name = e.0.now; place = e.1 } ∷ (entries_of es ++ record { name = k.now; place = v } ∷ [])
+        → entries_of (cond b ((e.0, v) ∷ es) (e ∷ insert_entry (λ x y. bytes_eq x.now y.now) es k v)) ≡
+        record { name = e.0.now; place = e.1 } ∷ (entries_of es ++ record { name = k.now; place = v } ∷ [])
     by true rest n = cc
     by false rest n = ap (λ r. record { name = e.0.now; place = e.1 } ∷ r) (rest n)

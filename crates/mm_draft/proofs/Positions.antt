@@ -22,7 +22,9 @@ use Rattle.mm_line.proofs.Choices.{either}
 use Rattle.mm_line.proofs.Standing.{token_stands}
 use Rattle.mm_line.proofs.StatementRanges.{line_is}
 use Rattle.mm_draft.specs.Drafts.{Draft, Segment, last, words_of, pointers_of, add_maybe_label}
-use Rattle.mm_draft.specs.Faults.{is_before, lesser, first_of, fault_if, claim_faults, words_faults, statement_faults, reading_faults, body_faults, maybe_label_faults, line_faults, is_none, is_named, room_of, word_limit, pointer_limit}
+use Rattle.mm_draft.specs.Faults.{is_before, lesser, first_of, fault_if, claim_faults, words_faults, statement_faults}
+use Rattle.mm_draft.specs.Faults.{reading_faults, body_faults, maybe_label_faults, line_faults, is_none, is_named}
+use Rattle.mm_draft.specs.Faults.{room_of, word_limit, pointer_limit}
 use Rattle.mm_draft.specs.Seen.{first_of_both}
 use Rattle.mm_draft.proofs.Firsts.{first_of_append}
 
@@ -75,7 +77,9 @@ claim_within d most (Some (claims.Register number left)) h = each_if (Within mos
 words_within : (d : Draft) (words pointers left : ℕ) (o : Option Segment) → EachIs (Within left) (words_faults d words pointers left o)
 words_within d words pointers left None = (omega arith, tt)
 words_within d words pointers left (Some s) =
-    each_two (Within left) (nat_lt (room_of s) (length s.words + words)) (nat_lt word_limit (words_of d.segments + words) || nat_lt pointer_limit (pointers_of d.segments + pointers)) faults.Full faults.Limit left (omega arith) (omega arith)
+    each_two (Within left) (nat_lt (room_of s) (length s.words + words))
+    (nat_lt word_limit (words_of d.segments + words) || nat_lt pointer_limit (pointers_of d.segments + pointers))
+    faults.Full faults.Limit left (omega arith) (omega arith)
 
 statement_within : (d : Draft) (left : ℕ) (s : Statement) → EachIs (Within left) (statement_faults d left s)
 unfolding statement_faults
@@ -115,7 +119,12 @@ label_tokens _ _ e = cc
 name_stands : (n : Next) → n.token ≡ tokens.Name → Stands n.left (name_of n)
 name_stands n e = of n.token e
   where
-    of : (t : Token) → t ≡ tokens.Name → Stands n.left (elim t [ tokens.Name ↦ if nat_le (length n.text) 31 then Ok (record { name = n.text; left = n.left }) else Err (at faults.Name n) | _ ↦ Err (wrong n) ])
+    of : (t : Token) → t ≡ tokens.Name
+        → Stands n.left (elim t [
+          | tokens.Name ↦ if nat_le (length n.text) 31 then Ok
+              (record { name = n.text; left = n.left }) else Err (at faults.Name n)
+          | _ ↦ Err (wrong n)
+        ])
     of tokens.Name r = either (Stands n.left) (nat_le (length n.text) 31) (Ok (record { name = n.text; left = n.left })) (Err (at faults.Name n)) (λ _. refl) (λ _. refl)
     of _ r = cc
 
@@ -133,7 +142,8 @@ label_first bytes =
     let first = next_token bytes in
     let second = next_token first.rest in
     let third = next_token second.rest in
-    either (λ (line : Line). LabelFirst line.label line.body) (is_label first.token second.token) (record { label = Some (name_of first); body = body_of third }) (record { label = None; body = body_of first })
+    either (λ (line : Line). LabelFirst line.label line.body) (is_label first.token second.token)
+    (record { label = Some (name_of first); body = body_of third }) (record { label = None; body = body_of first })
     (λ e.
     let t = label_tokens first.token second.token e in
     let a = (token_stands bytes).some (λ end. let x = t.0 in cc) in
@@ -172,7 +182,8 @@ line_first_of d e most (Some label) body h is =
     first_of_append (maybe_label_faults d (Some label)) (body_faults e body)
     ∙ both_or_else h.0 _ _ (first_is (λ x. x.left ≡ h.0) _ (label_at d h.0 label h.1)) (first_is (λ x. x.left < h.0) _ (body_before e most h.0 body is h.2))
 
-pub line_first : (d : Draft) (bytes : List ℕ) → let line = line_of bytes in first_of (line_faults d line) ≡ or_else (first_of (maybe_label_faults d line.label)) (first_of (body_faults (add_maybe_label line.label d) line.body))
+pub line_first : (d : Draft) (bytes : List ℕ) → let line = line_of bytes in first_of (line_faults d line) ≡ or_else
+    (first_of (maybe_label_faults d line.label)) (first_of (body_faults (add_maybe_label line.label d) line.body))
 unfolding line_faults
 line_first d bytes = line_first_of d _ (length bytes) _ _ (label_first bytes) (line_is bytes).body
 

@@ -9,17 +9,27 @@ use Rattle.mm_draft.specs.Faults.{one_if_pointer}
 use Rattle.mm_draft.specs.Counts.{Counts, HasRoom}
 use Rattle.mm_draft.proofs.Lasts.{words_more, pointers_more, words_begin, pointers_begin, change_last_none, words_twice}
 
-pub label_step : (v d : Draft) (mark : Mark) (names : List Entry) (bytes : List ℕ) (segment word : ℕ) → v ≡ d → bytes ≡ mark.name → segment ≡ length v.segments - 1 → word ≡ words_so_far (last d.segments)
+pub label_step : (v d : Draft) (mark : Mark) (names : List Entry) (bytes : List ℕ) (segment word : ℕ) → v ≡ d
+    → bytes ≡ mark.name → segment ≡ length v.segments - 1 → word ≡ words_so_far (last d.segments)
     → names ≡ v.names ++ record { name = bytes; place = record { segment = segment; word = word; is_label = true } } ∷ [] → record v { names = names } ≡ add_label mark d
 label_step v d mark names bytes segment word e b s w n =
     let u : word ≡ words_so_far (last v.segments) = w ∙ ap (λ (x : Draft). words_so_far (last x.segments)) (sym e) in
     ap (λ x. record v { names = x }) (n ∙ (λ i. v.names ++ record { name = b i; place = record { segment = s i; word = u i; is_label = true } } ∷ [])) ∙ ap (add_label mark) e
 
-pub segment_step : (v d : Draft) (mark : Mark) (log : ℕ) (names : List Entry) (segments : List Segment) (bytes : List ℕ) (words : List Word) (segment : ℕ) → v ≡ d → bytes ≡ mark.name → segment ≡ length v.segments → words ≡ []
+pub segment_step : (v d : Draft) (mark : Mark) (log : ℕ) (names : List Entry) (segments : List Segment) (bytes : List ℕ)
+    (words : List Word) (segment : ℕ) → v ≡ d → bytes ≡ mark.name → segment ≡ length v.segments → words ≡ []
     → names ≡ v.names ++ record { name = bytes; place = record { segment = segment; word = 0; is_label = false } } ∷ []
     → segments ≡ v.segments ++ record { name = mark.name; log = log; words = words } ∷ [] → record v { names = names; segments = segments } ≡ add_segment mark log d
 segment_step v d mark log names segments bytes words segment e b s w n g =
-    let n' : names ≡ v.names ++ record { name = mark.name; place = record { segment = length v.segments; word = 0; is_label = false } } ∷ [] = n ∙ (λ i. v.names ++ record { name = b i; place = record { segment = s i; word = 0; is_label = false } } ∷ []) in
+    let n' : names ≡ v.names ++ record {
+      name = mark.name;
+      place = record {
+        segment = length v.segments;
+        word = 0;
+        is_label = false;
+      };
+    } ∷ [] = n ∙
+    (λ i. v.names ++ record { name = b i; place = record { segment = s i; word = 0; is_label = false } } ∷ []) in
     let g' : segments ≡ v.segments ++ record { name = mark.name; log = log; words = [] } ∷ [] = g ∙ (λ i. v.segments ++ record { name = mark.name; log = log; words = w i } ∷ []) in
     (λ i. record v { names = n' i; segments = g' i }) ∙ ap (add_segment mark log) e
 
@@ -87,18 +97,22 @@ add_nothing d = ap (λ s. record d { segments = s }) (nothing_more d.segments)
 add_twice : (ws vs : List Word) (d : Draft) → add_words vs (add_words ws d) ≡ add_words (ws ++ vs) d
 add_twice ws vs d = ap (λ s. record d { segments = s }) (words_twice ws vs d.segments)
 
-pub segments_step : (v d : Draft) (f : Segment → Segment) (segments : List Segment) → v ≡ d → segments ≡ change_last f v.segments → record v { segments = segments } ≡ record d { segments = change_last f d.segments }
+pub segments_step : (v d : Draft) (f : Segment → Segment) (segments : List Segment) → v ≡ d → segments ≡ change_last f
+    v.segments → record v { segments = segments } ≡ record d { segments = change_last f d.segments }
 segments_step v d f segments e s = ap (λ x. record v { segments = x }) s ∙ ap (λ (x : Draft). record x { segments = change_last f x.segments }) e
 
-pub threads_step : (v d : Draft) (f : Thread → Thread) (threads : List Thread) → v ≡ d → threads ≡ change_last f v.threads → record v { threads = threads } ≡ record d { threads = change_last f d.threads }
+pub threads_step : (v d : Draft) (f : Thread → Thread) (threads : List Thread) → v ≡ d → threads ≡ change_last f
+    v.threads → record v { threads = threads } ≡ record d { threads = change_last f d.threads }
 threads_step v d f threads e s = ap (λ x. record v { threads = x }) s ∙ ap (λ (x : Draft). record x { threads = change_last f x.threads }) e
 
 -- a zero more
-pub zeros_more : (d e f : Draft) (source : Source) (w : Word) (k : ℕ) → e ≡ add_words (replicate k (zero_word source)) d → w ≡ zero_word source → f ≡ add_words (w ∷ []) e → f ≡ add_words (replicate (k + 1) (zero_word source)) d
+pub zeros_more : (d e f : Draft) (source : Source) (w : Word) (k : ℕ) → e ≡ add_words (replicate k (zero_word source)) d
+    → w ≡ zero_word source → f ≡ add_words (w ∷ []) e → f ≡ add_words (replicate (k + 1) (zero_word source)) d
 zeros_more d e f source w k before is after =
     after ∙ (λ i. add_words (is i ∷ []) (before i)) ∙ add_twice (replicate k (zero_word source)) (zero_word source ∷ []) d ∙ ap (λ ws. add_words ws d) (replicate_more k (zero_word source))
 
-pub room_more : (d e : Draft) (source : Source) (w : Word) (k count : ℕ) → k < count → HasRoom d count 0 → e ≡ add_words (replicate k (zero_word source)) d → w ≡ zero_word source → HasRoom e 1 (one_if_pointer w.content)
+pub room_more : (d e : Draft) (source : Source) (w : Word) (k count : ℕ) → k < count → HasRoom d count 0
+    → e ≡ add_words (replicate k (zero_word source)) d → w ≡ zero_word source → HasRoom e 1 (one_if_pointer w.content)
 room_more d e source w k count lt room before is =
     let P : Draft → Word → Type 0 = λ x y. HasRoom x 1 (one_if_pointer y.content) in
     subst (λ y. P e y) (sym is) (subst (λ x. P x (zero_word source)) (sym before) (room_after d source k count lt room))

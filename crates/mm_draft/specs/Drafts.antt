@@ -1,6 +1,7 @@
 -- A draft: what the lines of a text say together, before names are looked up: segments with their words, names, threads
 -- and spare frames. Each line adds its own items to the segment, or the thread, that came last.
-use Rattle.std.specs.Prelude.{ℕ, ◌-◌, ◌+◌, Bool, true, false, if◌then◌else◌, List, [], ◌∷◌, ◌++◌, length, replicate, Option, Some, None, Result, Ok, Err}
+use Rattle.std.specs.Prelude.{ℕ, ◌-◌, ◌+◌, Bool, true, false, if◌then◌else◌, List, [], ◌∷◌, ◌++◌, length, replicate}
+use Rattle.std.specs.Prelude.{Option, Some, None, Result, Ok, Err}
 use Rattle.std.specs.Str.{bytes_eq}
 use Rattle.mm_word.specs.declared.perm.Perm.{Perm}
 use Rattle.mm_line.specs.declared.name.Mark.{Mark}
@@ -107,12 +108,14 @@ add_name name place d = record d { names = d.names ++ record { name = name; plac
 
 -- the draft with this label, which names the next word of the last segment
 abbrev pub add_label : Mark → Draft → Draft
-add_label mark d = add_name mark.name (record { segment = length d.segments - 1; word = words_so_far (last d.segments); is_label = true }) d
+add_label mark d = add_name mark.name
+    (record { segment = length d.segments - 1; word = words_so_far (last d.segments); is_label = true }) d
 
 -- the draft with this segment, whose name is also that of its first word
 abbrev pub add_segment : Mark → ℕ → Draft → Draft
 add_segment mark log d =
-    add_name mark.name (record { segment = length d.segments; word = 0; is_label = false }) (record d { segments = d.segments ++ record { name = mark.name; log = log; words = [] } ∷ [] })
+    add_name mark.name (record { segment = length d.segments; word = 0; is_label = false })
+    (record d { segments = d.segments ++ record { name = mark.name; log = log; words = [] } ∷ [] })
 
 -- a word that is integer 0, full
 abbrev pub zero_word : Source → Word
@@ -130,10 +133,23 @@ unfoldable pub add_statement : Source → Statement → Draft → Draft
 add_statement source (statement.Spare frames) d = record d { spare = Some frames }
 add_statement source (statement.Begin mark log) d = add_segment mark log d
 add_statement source (statement.Fill words) d = add_words (replicate words (zero_word source)) d
-add_statement source (statement.Word full what) d = add_words (record { full = full; content = what; source = source } ∷ []) d
+add_statement source (statement.Word full what) d = add_words
+    (record { full = full; content = what; source = source } ∷ []) d
 add_statement source (statement.Thread slot group handler perm target) d =
-    record d { threads = d.threads ++ record { slot = slot; group = group; handler = handler; perm = perm; target = target; source = source; registers = [] } ∷ [] }
-add_statement source (statement.Register number value) d = add_register (record { number = number; value = value; source = source }) d
+    record d {
+      threads = d.threads
+          ++ record {
+            slot = slot;
+            group = group;
+            handler = handler;
+            perm = perm;
+            target = target;
+            source = source;
+            registers = [];
+          } ∷ [];
+    }
+add_statement source (statement.Register number value) d = add_register
+    (record { number = number; value = value; source = source }) d
 
 abbrev pub add_reading : Source → Result Statement Problem → Draft → Draft
 add_reading source (Ok s) d = add_statement source s d

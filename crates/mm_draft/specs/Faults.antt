@@ -1,5 +1,6 @@
 -- The faults that are seen when lines are read, each against the lines before it, and the draft of a text.
-use Rattle.std.specs.Prelude.{ℕ, ◌+◌, ◌-◌, ◌^◌, ◌==◌, nat_lt, nat_le, Bool, true, false, not, ◌&&◌, ◌||◌, if◌then◌else◌, List, [], ◌∷◌, ◌++◌, length, Option, Some, None, is_some, Result, Ok, Err}
+use Rattle.std.specs.Prelude.{ℕ, ◌+◌, ◌-◌, ◌^◌, ◌==◌, nat_lt, nat_le, Bool, true, false, not, ◌&&◌, ◌||◌, if◌then◌else◌}
+use Rattle.std.specs.Prelude.{List, [], ◌∷◌, ◌++◌, length, Option, Some, None, is_some, Result, Ok, Err}
 use Rattle.std.specs.List.{list_any, slice_split}
 use Prim.Native.Char.{code}
 use Rattle.mm_line.specs.declared.fault.Fault.{Fault}
@@ -17,7 +18,8 @@ use Rattle.mm_line.specs.declared.line.Line.{Line}
 use Rattle.mm_line.specs.Statements.{line_of}
 use Rattle.mm_draft.specs.declared.source.Source.{Source}
 use Rattle.mm_draft.specs.declared.fault.Failure.{Failure}
-use Rattle.mm_draft.specs.Drafts.{Segment, Thread, Draft, nothing, place_of, last, words_of, pointers_of, is_pointer, add_maybe_label, add_line}
+use Rattle.mm_draft.specs.Drafts.{Segment, Thread, Draft, nothing, place_of, last, words_of, pointers_of, is_pointer}
+use Rattle.mm_draft.specs.Drafts.{add_maybe_label, add_line}
 
 -- 1. Limits.
 
@@ -54,7 +56,8 @@ is_none o = not (is_some o)
 
 -- the faults of a label: it is before the first segment, or there already
 abbrev pub label_faults : Draft → Mark → List Problem
-label_faults d mark = fault_if (is_none (last d.segments)) Place mark.left ++ fault_if (is_named d mark.name) Twice mark.left
+label_faults d mark = fault_if (is_none (last d.segments)) Place mark.left
+    ++ fault_if (is_named d mark.name) Twice mark.left
 
 -- the fault of a claim: what it names is there already
 abbrev pub claim_faults : Draft → Option Claim → List Problem
@@ -70,7 +73,8 @@ abbrev pub words_faults : Draft → ℕ → ℕ → ℕ → Option Segment → L
 words_faults d words pointers left None = fault_if true Place left
 words_faults d words pointers left (Some s) =
     fault_if (nat_lt (room_of s) (length s.words + words)) Full left
-    ++ fault_if (nat_lt word_limit (words_of d.segments + words) || nat_lt pointer_limit (pointers_of d.segments + pointers)) Limit left
+    ++ fault_if (nat_lt word_limit (words_of d.segments + words)
+    || nat_lt pointer_limit (pointers_of d.segments + pointers)) Limit left
 
 abbrev pub one_if_pointer : Content → ℕ
 one_if_pointer what = if is_pointer what then 1 else 0

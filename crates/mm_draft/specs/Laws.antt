@@ -1,5 +1,6 @@
 -- The first fault of a text is the least of all its faults.
-use Rattle.std.specs.Prelude.{◌≡◌, ℕ, ◌+◌, ◌-◌, ◌==◌, nat_lt, Bool, ◌&&◌, ◌||◌, if◌then◌else◌, List, [], ◌∷◌, ◌++◌, map, length, Option, Some, None, Result, Ok, Err}
+use Rattle.std.specs.Prelude.{◌≡◌, ℕ, ◌+◌, ◌-◌, ◌==◌, nat_lt, Bool, ◌&&◌, ◌||◌, if◌then◌else◌, List, [], ◌∷◌, ◌++◌, map}
+use Rattle.std.specs.Prelude.{length, Option, Some, None, Result, Ok, Err}
 use Rattle.mm_line.specs.declared.fault.Problem.{Problem}
 use Rattle.mm_line.specs.Faults.{number_of}
 use Rattle.mm_line.specs.Statements.{line_of}
@@ -15,7 +16,11 @@ pub record Pair : Type 0 where
 
 -- the position and the number of a fault; a missing token is at the column after the line's last byte
 abbrev pub pair_of : ℕ → ℕ → Problem → Pair
-pair_of line size problem = record { line = line + 1; column = size - problem.left + 1; number = number_of problem.fault }
+pair_of line size problem = record {
+  line = line + 1;
+  column = size - problem.left + 1;
+  number = number_of problem.fault;
+}
 
 abbrev pub failure_pair : Failure → Pair
 failure_pair f = pair_of f.source.line f.source.size f.problem
@@ -24,7 +29,8 @@ failure_pair f = pair_of f.source.line f.source.size f.problem
 abbrev pub all_from : ℕ → Draft → List (List ℕ) → List Pair
 all_from number d [] = []
 all_from number d (bytes ∷ more) =
-    map (pair_of number (length bytes)) (line_faults d (line_of bytes)) ++ all_from (number + 1) (add_line (source_of number bytes) (line_of bytes) d) more
+    map (pair_of number (length bytes)) (line_faults d (line_of bytes))
+    ++ all_from (number + 1) (add_line (source_of number bytes) (line_of bytes) d) more
 
 -- all faults that are seen when the lines of a text are read
 abbrev pub early_faults : List ℕ → List Pair
@@ -32,7 +38,8 @@ early_faults text = all_from 0 nothing (lines_of text)
 
 -- a fault is at a lesser position or, at the same one, of a lesser number
 abbrev pub precedes : Pair → Pair → Bool
-precedes p q = nat_lt p.line q.line || p.line == q.line && (nat_lt p.column q.column || p.column == q.column && nat_lt p.number q.number)
+precedes p q = nat_lt p.line q.line || p.line == q.line && (nat_lt p.column q.column || p.column == q.column
+    && nat_lt p.number q.number)
 
 abbrev pub sooner : Pair → Option Pair → Option Pair
 sooner p None = Some p

@@ -1,7 +1,8 @@
 //! What a line adds to a draft.
 
 ghost use Rattle.std.specs.Prelude.{◌≡◌, ◌∷◌, [], ◌≤◌, OnOk, None, replicate};
-ghost use Rattle.mm_draft.specs.Drafts.{place_of, last, words_so_far, add_label, add_segment, add_words, add_register, add_statement, add_reading, zero_word};
+ghost use Rattle.mm_draft.specs.Drafts.{place_of, last, words_so_far, add_label, add_segment, add_words, add_register};
+ghost use Rattle.mm_draft.specs.Drafts.{add_statement, add_reading, zero_word};
 ghost use Rattle.mm_draft.specs.Faults.{one_if_pointer};
 ghost use Rattle.mm_draft.specs.Counts.{HasRoom, MayAdd, MayAddReading};
 

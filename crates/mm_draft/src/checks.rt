@@ -2,7 +2,9 @@
 
 ghost use Rattle.std.specs.Prelude.{◌≡◌, is_some, Some, ◌≤◌, ◌+◌, ◌||◌, nat_lt};
 ghost use Rattle.mm_draft.specs.Drafts.{last, words_of, pointers_of};
-ghost use Rattle.mm_draft.specs.Faults.{fault_if, is_before, first_of, is_named, has_slot, has_register, label_faults, claim_faults, words_faults, statement_faults, body_faults, one_if_pointer, word_limit, pointer_limit};
+ghost use Rattle.mm_draft.specs.Faults.{fault_if, is_before, first_of, is_named, has_slot, has_register, label_faults};
+ghost use Rattle.mm_draft.specs.Faults.{claim_faults, words_faults, statement_faults, body_faults, one_if_pointer};
+ghost use Rattle.mm_draft.specs.Faults.{word_limit, pointer_limit};
 ghost use Rattle.mm_draft.specs.Seen.{first_of_both};
 
 use crate::Draft;
@@ -117,7 +119,8 @@ impl<'a> Draft<'a> {
     // Whether this count of further words, and of pointers among them, is past a limit.
     fn is_past_limit(&self, words: u32, pointers: usize) -> bool
         requires { pointers ≤ 1 }
-        ensures { result ≡ (nat_lt word_limit (words_of self.now.segments + words) || nat_lt pointer_limit (pointers_of self.now.segments + pointers)) }
+        ensures { result ≡ (nat_lt word_limit (words_of self.now.segments + words)
+            || nat_lt pointer_limit (pointers_of self.now.segments + pointers)) }
     {
         self.words + words as usize > WORDS || self.pointers + pointers > POINTERS
     }

@@ -36,7 +36,12 @@ impl<'a> Model for Draft<'a> {
 
     ghost Value = { DraftValue };
 
-    ghost view = { λ d. record { segments = d.segments.items; names = entries_of d.names.entries; threads = d.threads.items; spare = d.spare } };
+    ghost view = { λ d. record {
+      segments = d.segments.items;
+      names = entries_of d.names.entries;
+      threads = d.threads.items;
+      spare = d.spare;
+    } };
 
     ghost invariant = { λ d. Counts d.segments.items d.words d.pointers };
 }

@@ -16,7 +16,8 @@ impl<'a> Draft<'a> {
         source: Source,
         label: Option<Result<Mark<'a>, Problem>>,
     ) -> Result<(), DraftError>
-        ensures { Leaves result self.new (unless (first_of (maybe_label_faults self.old label.entry)) source (add_maybe_label label.entry self.old)) }
+        ensures { Leaves result self.new (unless (first_of (maybe_label_faults self.old label.entry)) source
+            (add_maybe_label label.entry self.old)) }
     {
         match label {
             None => Ok(()),
@@ -35,7 +36,8 @@ impl<'a> Draft<'a> {
     fn read_body(&mut self, source: Source, body: Option<Body<'a>>) -> Result<(), DraftError>
         requires in_range { IsOptionalBody source.size body }
         requires claims { NamesItsClaim body }
-        ensures { Leaves result self.new (unless (first_of (body_faults self.old body.entry)) source (add_body source body.entry self.old)) }
+        ensures { Leaves result self.new (unless (first_of (body_faults self.old body.entry)) source
+            (add_body source body.entry self.old)) }
     {
         let Some(body) = body else {
             return Ok(());

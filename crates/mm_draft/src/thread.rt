@@ -36,7 +36,15 @@ impl<'a> Model for Thread<'a> {
 
     ghost Value = { ThreadValue };
 
-    ghost view = { λ t. record { slot = t.slot; group = t.group; handler = t.handler; perm = t.perm; target = t.target; source = t.source; registers = t.registers.items } };
+    ghost view = { λ t. record {
+      slot = t.slot;
+      group = t.group;
+      handler = t.handler;
+      perm = t.perm;
+      target = t.target;
+      source = t.source;
+      registers = t.registers.items;
+    } };
 }
 
 impl<'a> Thread<'a> {

@@ -19,17 +19,33 @@ use Rattle.mm_model.specs.Trace.{traced, trace, step_line}
 use Rattle.mm_examples.specs.Worked.{CountsDoneStores, CountsHello, CountsGated, CountsSweeper}
 
 pub counts_hello : CountsHello
-unfolding packed fields_in rows row_of instr_of cell_at put_cell can_map map_page unmap_page register is_empty slot_at queue_at put_slot put_queue output_of put_output start addr_operand value_operand lacks ask effect plain advanced runs_past delivered turn idle started issued executed ended blocked faulted core_faulted event_of memory_after core_after slot_after reply run after steps uses robin_from hex slot_lines section report traced trace step_line digits
+unfolding packed fields_in rows row_of instr_of cell_at put_cell can_map map_page unmap_page register is_empty slot_at
+    queue_at put_slot put_queue output_of put_output start addr_operand value_operand lacks ask effect plain advanced
+    runs_past delivered turn idle started issued executed ended blocked faulted core_faulted event_of memory_after
+    core_after slot_after reply run after steps uses robin_from hex slot_lines section report traced trace step_line
+    digits
 counts_hello = refl
 
 pub counts_gated : CountsGated
-unfolding packed fields_in rows row_of instr_of cell_at put_cell can_map map_page unmap_page register is_empty slot_at queue_at put_slot put_queue output_of put_output start addr_operand value_operand lacks ask effect plain advanced runs_past delivered turn idle started issued executed ended blocked faulted core_faulted event_of memory_after core_after slot_after reply run after steps uses robin_from hex slot_lines section report traced trace step_line digits
+unfolding packed fields_in rows row_of instr_of cell_at put_cell can_map map_page unmap_page register is_empty slot_at
+    queue_at put_slot put_queue output_of put_output start addr_operand value_operand lacks ask effect plain advanced
+    runs_past delivered turn idle started issued executed ended blocked faulted core_faulted event_of memory_after
+    core_after slot_after reply run after steps uses robin_from hex slot_lines section report traced trace step_line
+    digits
 counts_gated = refl
 
 pub counts_sweeper : CountsSweeper
-unfolding packed fields_in rows row_of instr_of cell_at put_cell can_map map_page unmap_page register is_empty slot_at queue_at put_slot put_queue output_of put_output start addr_operand value_operand lacks ask effect plain advanced runs_past delivered turn idle started issued executed ended blocked faulted core_faulted event_of memory_after core_after slot_after reply run after steps uses robin_from hex slot_lines section report traced trace step_line digits
+unfolding packed fields_in rows row_of instr_of cell_at put_cell can_map map_page unmap_page register is_empty slot_at
+    queue_at put_slot put_queue output_of put_output start addr_operand value_operand lacks ask effect plain advanced
+    runs_past delivered turn idle started issued executed ended blocked faulted core_faulted event_of memory_after
+    core_after slot_after reply run after steps uses robin_from hex slot_lines section report traced trace step_line
+    digits
 counts_sweeper = refl
 
 pub counts_done_stores : CountsDoneStores
-unfolding packed fields_in rows row_of instr_of cell_at put_cell can_map map_page unmap_page register is_empty slot_at queue_at put_slot put_queue output_of put_output start addr_operand value_operand lacks ask effect plain advanced runs_past delivered turn idle started issued executed ended blocked faulted core_faulted event_of memory_after core_after slot_after reply run after steps uses robin_from hex slot_lines section report traced trace step_line digits
+unfolding packed fields_in rows row_of instr_of cell_at put_cell can_map map_page unmap_page register is_empty slot_at
+    queue_at put_slot put_queue output_of put_output start addr_operand value_operand lacks ask effect plain advanced
+    runs_past delivered turn idle started issued executed ended blocked faulted core_faulted event_of memory_after
+    core_after slot_after reply run after steps uses robin_from hex slot_lines section report traced trace step_line
+    digits
 counts_done_stores = (refl, refl)

@@ -4,7 +4,9 @@ use Rattle.std.specs.Prelude.{replicate}
 use Rattle.std.specs.Fmt.{digits}
 use Rattle.std.proofs.lemmas.List.{length-append, length-replicate}
 use Rattle.mm_model.specs.Schedule.{IsItem, no_word, word, FaultsAt, runs_of, only}
-use Rattle.mm_examples.specs.WorkedSchedules.{MeansItems, MeansNothing, MeansAbsentSlots, SkipsComments, CountsTooMany, ListsTooMany, CountsNone, LeadsWithZero, KeepsOneGroup, KeepsIdleItems, KeepsPorts}
+use Rattle.mm_examples.specs.WorkedSchedules.{MeansItems, MeansNothing, MeansAbsentSlots, SkipsComments, CountsTooMany}
+use Rattle.mm_examples.specs.WorkedSchedules.{ListsTooMany, CountsNone, LeadsWithZero, KeepsOneGroup, KeepsIdleItems}
+use Rattle.mm_examples.specs.WorkedSchedules.{KeepsPorts}
 use Rattle.mm_examples.proofs.Items.{plain_item, counted_item, value_is}
 
 -- a number alone
@@ -18,7 +20,10 @@ counted n k text small some few is = record { number_limit = small; some = some;
 pub means_items : MeansItems
 unfolding runs_of digits
 means_items = record {
-  lists = word (counted 0 3 _ (omega arith) (omega arith) (omega arith) refl) (word (alone 1 _ (omega arith) refl) (word (alone 0 _ (omega arith) refl) (word (counted 1 2 _ (omega arith) (omega arith) (omega arith) refl) no_word)));
+  lists = word (counted 0 3 _ (omega arith) (omega arith) (omega arith) refl)
+      (word (alone 1 _ (omega arith) refl)
+      (word (alone 0 _ (omega arith) refl) (word (counted 1 2 _ (omega arith) (omega arith) (omega arith) refl)
+      no_word)));
   limit = omega arith;
 }
 

@@ -19,17 +19,29 @@ use Rattle.mm_model.specs.Trace.{traced, trace, step_line}
 use Rattle.mm_examples.specs.Worked.{WaitsToWrite, Issues, Delivers, LoadsAtOnce}
 
 pub issues : Issues
-unfolding packed fields_in rows row_of instr_of cell_at put_cell can_map map_page unmap_page register is_empty slot_at queue_at put_slot put_queue output_of put_output start addr_operand value_operand lacks ask effect plain advanced runs_past delivered turn idle started issued executed ended blocked faulted core_faulted event_of memory_after core_after slot_after reply run after steps robin_from hex slot_lines section report traced trace step_line digits
+unfolding packed fields_in rows row_of instr_of cell_at put_cell can_map map_page unmap_page register is_empty slot_at
+    queue_at put_slot put_queue output_of put_output start addr_operand value_operand lacks ask effect plain advanced
+    runs_past delivered turn idle started issued executed ended blocked faulted core_faulted event_of memory_after
+    core_after slot_after reply run after steps robin_from hex slot_lines section report traced trace step_line digits
 issues = refl
 
 pub delivers : Delivers
-unfolding packed fields_in rows row_of instr_of cell_at put_cell can_map map_page unmap_page register is_empty slot_at queue_at put_slot put_queue output_of put_output start addr_operand value_operand lacks ask effect plain advanced runs_past delivered turn idle started issued executed ended blocked faulted core_faulted event_of memory_after core_after slot_after reply run after steps robin_from hex slot_lines section report traced trace step_line digits
+unfolding packed fields_in rows row_of instr_of cell_at put_cell can_map map_page unmap_page register is_empty slot_at
+    queue_at put_slot put_queue output_of put_output start addr_operand value_operand lacks ask effect plain advanced
+    runs_past delivered turn idle started issued executed ended blocked faulted core_faulted event_of memory_after
+    core_after slot_after reply run after steps robin_from hex slot_lines section report traced trace step_line digits
 delivers = (refl, refl, refl)
 
 pub loads_at_once : LoadsAtOnce
-unfolding packed fields_in rows row_of instr_of cell_at put_cell can_map map_page unmap_page register is_empty slot_at queue_at put_slot put_queue output_of put_output start addr_operand value_operand lacks ask effect plain advanced runs_past delivered turn idle started issued executed ended blocked faulted core_faulted event_of memory_after core_after slot_after reply run after steps robin_from hex slot_lines section report traced trace step_line digits
+unfolding packed fields_in rows row_of instr_of cell_at put_cell can_map map_page unmap_page register is_empty slot_at
+    queue_at put_slot put_queue output_of put_output start addr_operand value_operand lacks ask effect plain advanced
+    runs_past delivered turn idle started issued executed ended blocked faulted core_faulted event_of memory_after
+    core_after slot_after reply run after steps robin_from hex slot_lines section report traced trace step_line digits
 loads_at_once = (refl, refl)
 
 pub waits_to_write : WaitsToWrite
-unfolding packed fields_in rows row_of instr_of cell_at put_cell can_map map_page unmap_page register is_empty slot_at queue_at put_slot put_queue output_of put_output start addr_operand value_operand lacks ask effect plain advanced runs_past delivered turn idle started issued executed ended blocked faulted core_faulted event_of memory_after core_after slot_after reply run after steps robin_from hex slot_lines section report traced trace step_line digits
+unfolding packed fields_in rows row_of instr_of cell_at put_cell can_map map_page unmap_page register is_empty slot_at
+    queue_at put_slot put_queue output_of put_output start addr_operand value_operand lacks ask effect plain advanced
+    runs_past delivered turn idle started issued executed ended blocked faulted core_faulted event_of memory_after
+    core_after slot_after reply run after steps robin_from hex slot_lines section report traced trace step_line digits
 waits_to_write = (refl, refl)

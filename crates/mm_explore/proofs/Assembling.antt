@@ -1,5 +1,7 @@
 -- The parts of a state of a machine of the image make its configuration.
-use Rattle.std.proofs.Common.{◌≡◌, ◌≢◌, ◌⊎◌, inl, inr, ℕ, zero, suc, ◌+◌, ◌%◌, ◌<◌, ◌≤◌, Bool, true, false, ◌&&◌, ◌||◌, cond, nat_eq, if◌then◌else◌, List, [], ◌∷◌, map, length, replicate, Option, Some, None, refl, sym, ap, ◌∙◌, subst, arith, eqb-true, eq-eqb}
+use Rattle.std.proofs.Common.{◌≡◌, ◌≢◌, ◌⊎◌, inl, inr, ℕ, zero, suc, ◌+◌, ◌%◌, ◌<◌, ◌≤◌, Bool, true, false, ◌&&◌, ◌||◌}
+use Rattle.std.proofs.Common.{cond, nat_eq, if◌then◌else◌, List, [], ◌∷◌, map, length, replicate, Option, Some, None}
+use Rattle.std.proofs.Common.{refl, sym, ap, ◌∙◌, subst, arith, eqb-true, eq-eqb}
 use Rattle.std.specs.Prelude.{◌==◌, Contains, slice_set, slice_get, slice_index_or}
 use Rattle.std.specs.List.{AllByRecursion, list_any, range_with_len}
 use Rattle.std.specs.List.Sorted.{IsStrictlyIncreasing}
@@ -355,14 +357,16 @@ module _ (i : Image) (img : IsImage i) (m : Memory) (paged : IsPaged m) (words :
     where
       by : (b : Bool) → same_cell c (cell_or_zero (cell_at i.memory w)) ≡ b → cell_at (put_cells base list) w ≡ Some c
       by true same =
-          let is : c ≡ cell_or_zero (cell_at i.memory w) = cells_same c (cell_or_zero (cell_at i.memory w)) (cell_word m w c words e) (image_word i.memory w (cell_at i.memory w) img.words refl) same in
+          let is : c ≡ cell_or_zero (cell_at i.memory w) = cells_same c (cell_or_zero (cell_at i.memory w))
+          (cell_word m w c words e) (image_word i.memory w (cell_at i.memory w) img.words refl) same in
           put_beside base list w list_aligned (absent w (λ d differs.
           let here : ◌≡◌ {A = Option Cell} (Some c) (Some d) = sym e ∙ differs.here in
           let equal : c ≡ d = cc in
           both_ways (same_cell c (cell_or_zero (cell_at i.memory w))) (ap (λ x. same_cell x (cell_or_zero (cell_at i.memory w))) equal ∙ differs.differs) same))
           ∙ base_cell_at i m img.paged paged w at ∙ ap (as_in_image i w) e ∙ ap (λ (d : Cell). Some d) (sym is)
       by false differs =
-          put_there base list w c (cell_or_zero (cell_at i.memory w)) list_aligned (changes_rising m i.memory paged) (changes_in m i.memory paged img.paged w c (record { here = e; differs = differs }))
+          put_there base list w c (cell_or_zero (cell_at i.memory w)) list_aligned (changes_rising m i.memory paged)
+          (changes_in m i.memory paged img.paged w c (record { here = e; differs = differs }))
           (base_cell_at i m img.paged paged w at ∙ ap (as_in_image i w) e)
 
   pub memory_made : put_cells base list ≡ m

@@ -134,10 +134,21 @@ module _ (i : Image) where
       | inl e ↦ inr (record { one = x; inside = subst (λ l. Contains l x) (sym (first_new seen x ts new)) (in_first x (firsts_after i (outcome_at i x ∷ seen) ts)); same = ap (outcome_at i) (sym e) })
       | inr later ↦ elim (has_first (outcome_at i x ∷ seen) ts t later) [
         | inl was ↦ elim (either_so (same_outcome (outcome_at i t) (outcome_at i x)) (seen_in seen t) was) [
-          | inl same ↦ inr (record { one = x; inside = subst (λ l. Contains l x) (sym (first_new seen x ts new)) (in_first x (firsts_after i (outcome_at i x ∷ seen) ts)); same = outcomes_same (outcome_at i t) (outcome_at i x) same })
+          | inl same ↦ inr (record {
+            one = x;
+            inside = subst (λ l. Contains l x) (sym (first_new seen x ts new))
+                (in_first x (firsts_after i (outcome_at i x ∷ seen) ts));
+            same = outcomes_same (outcome_at i t)
+                (outcome_at i x) same;
+          })
           | inr before ↦ inl before
         ]
-        | inr h ↦ inr (record { one = h.one; inside = subst (λ l. Contains l h.one) (sym (first_new seen x ts new)) (in_rest x (firsts_after i (outcome_at i x ∷ seen) ts) h.one h.inside); same = h.same })
+        | inr h ↦ inr (record {
+          one = h.one;
+          inside = subst (λ l. Contains l h.one) (sym (first_new seen x ts new))
+              (in_rest x (firsts_after i (outcome_at i x ∷ seen) ts) h.one h.inside);
+          same = h.same;
+        })
       ]
     ]
   ]
@@ -179,7 +190,8 @@ module _ (i : Image) where
       or_else false b e = e
 
   -- nothing before it has the outcome of a schedule that is the first of it
-  none_earlier : (seen : List Outcome) (ts : List (List ℕ)) → EachPair Before ts → (t u : List ℕ) → Contains (firsts_after i seen ts) t → Contains ts u → Before u t → outcome_at i u ≡ outcome_at i t → ⊥
+  none_earlier : (seen : List Outcome) (ts : List (List ℕ)) → EachPair Before ts → (t u : List ℕ)
+      → Contains (firsts_after i seen ts) t → Contains ts u → Before u t → outcome_at i u ≡ outcome_at i t → ⊥
   none_earlier seen [] up t u inside there before same = none_in u there
   none_earlier seen (x ∷ ts) up t u inside there before same = elim (cases_Bool (seen_in seen x)) [
     | inl old ↦

@@ -1,5 +1,7 @@
 -- The lists of what was found: what is kept, and the schedules that origins spell.
-use Rattle.std.proofs.Common.{◌≡◌, ◌⊎◌, inl, inr, ℕ, zero, suc, ◌+◌, ◌-◌, ◌^◌, ◌<◌, ◌≤◌, Bool, true, false, ◌||◌, nat_eq, List, [], ◌∷◌, ◌++◌, map, length, slice_index_or, reverse, refl, sym, ap, ◌∙◌, subst, arith, append_assoc, append-nil, length-append}
+use Rattle.std.proofs.Common.{◌≡◌, ◌⊎◌, inl, inr, ℕ, zero, suc, ◌+◌, ◌-◌, ◌^◌, ◌<◌, ◌≤◌, Bool, true, false, ◌||◌}
+use Rattle.std.proofs.Common.{nat_eq, List, [], ◌∷◌, ◌++◌, map, length, slice_index_or, reverse, refl, sym, ap, ◌∙◌}
+use Rattle.std.proofs.Common.{subst, arith, append_assoc, append-nil, length-append}
 use Rattle.std.specs.Prelude.{Contains, Some, None, slice_get, if◌then◌else◌, Result, Ok, Err, OnOk}
 use Rattle.std.specs.List.{list_any}
 use Rattle.std.proofs.lemmas.Bool.{cases_Bool, both_ways, eqb-true, eq-eqb}
@@ -200,7 +202,9 @@ one_read list os view rising at o some low is items now e =
     let less = k.1 in
     let from = ap (λ (q : Origin). q.from) is in
     let led : slice_index_or list at [] ≡ led_by list o =
-    subst (λ l. slice_index_or l at [] ≡ led_by l o) view (subst (λ j. slice_index_or (spelled ([] ∷ []) os) j [] ≡ led_by (spelled ([] ∷ []) os) o) index (k.0 ∙ ap (led_by (spelled ([] ∷ []) os)) (sym is))) in (
+    subst (λ l. slice_index_or l at [] ≡ led_by l o) view
+    (subst (λ j. slice_index_or (spelled ([] ∷ []) os) j [] ≡ led_by (spelled ([] ∷ []) os) o) index
+    (k.0 ∙ ap (led_by (spelled ([] ∷ []) os)) (sym is))) in (
       ap (λ l. slice_index_or list o.from [] ++ reverse l) e ∙ ap (λ l. slice_index_or list o.from [] ++ l) (reverse_push items o.item)
           ∙ sym (append_assoc (slice_index_or list o.from []) (o.item ∷ []) (reverse items)) ∙ ap (λ l. l ++ reverse items) (sym led),
       omega (arith, less, index, from),

@@ -51,7 +51,9 @@ keepable limit all b s same f h = record {
 unused : (limit : ℕ) (all : List Slot) (b : Slot) → IsFresh limit all b → IsUnused b
 unused limit all b f = record { flags = f.empty; loads = f.pending }
 
-keepables : (limit : ℕ) (all base slots : List Slot) → map identity_of slots ≡ map identity_of base → AllByRecursion (IsFresh limit all) base → AllByRecursion IsHeld slots → AreKeepable base (map uncounted_slot slots)
+keepables : (limit : ℕ) (all base slots : List Slot) → map identity_of slots ≡ map identity_of base
+    → AllByRecursion (IsFresh limit all) base → AllByRecursion IsHeld slots → AreKeepable base
+    (map uncounted_slot slots)
 keepables limit all [] [] same f h = tt
 keepables limit all [] (s ∷ slots) same f h = cc
 keepables limit all (b ∷ base) [] same f h = cc
@@ -106,7 +108,8 @@ tagged_kept : (n : ℕ) → n < 64 → (es : List Event) (rest : List (ℕ × Ev
 tagged_kept n lt [] rest low h k = k
 tagged_kept n lt (e ∷ es) rest low h k = (record { queue = lt; slot = low.0; words = h.0 }, tagged_kept n lt es rest low.1 h.1 k)
 
-queued_kept : (core : Core) → IsFormed core → Matches core → AllByRecursion RowHoldsWords core.rows → (slots : List Slot) → AllByRecursion IsSlot slots → AllByRecursion IsKeptEvent (flat_map (events_at core) slots)
+queued_kept : (core : Core) → IsFormed core → Matches core → AllByRecursion RowHoldsWords core.rows
+    → (slots : List Slot) → AllByRecursion IsSlot slots → AllByRecursion IsKeptEvent (flat_map (events_at core) slots)
 queued_kept core formed match h [] small = tt
 queued_kept core formed match h (s ∷ slots) small =
     tagged_kept s.number small.0.number (queue_at core s.number) (flat_map (events_at core) slots) (queue_small core formed match s.number) (queue_words core h s.number)

@@ -28,7 +28,9 @@ slots_bare : (rows : List Row) → map uncounted_slot (map (λ (row : Row). row.
 slots_bare [] = refl
 slots_bare (row ∷ rows) = ap (λ l. uncounted_slot row.slot ∷ l) (slots_bare rows)
 
-queued_bare : (core : Core) (rows : List Row) → flat_map (queued_at (uncounted core)) (map (λ (row : Row). row.slot) (map uncounted_row rows)) ≡ flat_map (queued_at core) (map (λ (row : Row). row.slot) rows)
+queued_bare : (core : Core) (rows : List Row) → flat_map (queued_at (uncounted core))
+    (map (λ (row : Row). row.slot) (map uncounted_row rows)) ≡ flat_map (queued_at core)
+    (map (λ (row : Row). row.slot) rows)
 queued_bare core [] = refl
 queued_bare core (row ∷ rows) =
     ap (λ q. map (λ (e : Event). (row.slot.number, e)) q ++ flat_map (queued_at (uncounted core)) (map (λ (r : Row). r.slot) (map uncounted_row rows))) (queue_at_so core row.slot.number)
@@ -72,7 +74,9 @@ bytes_of (o ∷ outputs) (suc g) h = bytes_of outputs g h.1
 moved_bytes : (was now : List (List ℕ)) → OutputMoves was now → AllByRecursion AreBytes was → AllByRecursion AreBytes now
 moved_bytes was now (OutputMoves.Same e) h = subst (AllByRecursion AreBytes) (sym e) h
 moved_bytes was now (OutputMoves.Puts p) h =
-    subst (AllByRecursion AreBytes) (sym p.outputs) (put_bytes was p.group (slice_index_or was p.group [] ++ p.byte ∷ []) h (more_bytes (slice_index_or was p.group []) p.byte (bytes_of was p.group h) p.small))
+    subst (AllByRecursion AreBytes) (sym p.outputs)
+    (put_bytes was p.group (slice_index_or was p.group [] ++ p.byte ∷ []) h
+    (more_bytes (slice_index_or was p.group []) p.byte (bytes_of was p.group h) p.small))
 
 after_bytes : (s : State) (n : ℕ) → AllByRecursion AreBytes s.core.outputs → AllByRecursion AreBytes (after s n).core.outputs
 unfolding after

@@ -8,7 +8,9 @@ use Rattle.mm_explore.specs.Edits.{changed_at, noted}
 use Rattle.mm_explore.specs.Holds.{IsMemoryOf, AreListed, IsMoved}
 use Rattle.mm_explore.proofs.CellLists.{noted_right}
 
-module _ (i : Image) (m later : Memory) (hm : IsMemoryOf i m) (hl : IsMemoryOf i later) (many : length later.pages ≡ length m.pages) (cells : List (ℕ × Cell)) (pages : Option (List ℕ)) (l : AreListed i m cells pages) where
+module _ (i : Image) (m later : Memory) (hm : IsMemoryOf i m) (hl : IsMemoryOf i later)
+    (many : length later.pages ≡ length m.pages) (cells : List (ℕ × Cell)) (pages : Option (List ℕ))
+    (l : AreListed i m cells pages) where
   pub noted_listed : (w : ℕ) (new : List (ℕ × Cell)) → IsMoved m later (Some w) → new ≡ noted w (changed_at i later w) cells → AreListed i later new pages
   noted_listed w new moved is = record {
     changed =

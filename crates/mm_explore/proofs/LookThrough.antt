@@ -1,5 +1,7 @@
 -- The changed cells of a memory, page by page and cell by cell.
-use Rattle.std.proofs.Common.{◌≡◌, inl, inr, ℕ, zero, suc, ◌+◌, ◌*◌, ◌^◌, ◌<◌, Bool, true, false, if◌then◌else◌, List, [], ◌∷◌, ◌++◌, map, take, replicate, length, slice_get, Option, Some, None, is_some, refl, sym, ap, ◌∙◌, subst, arith, T, append_assoc}
+use Rattle.std.proofs.Common.{◌≡◌, inl, inr, ℕ, zero, suc, ◌+◌, ◌*◌, ◌^◌, ◌<◌, Bool, true, false, if◌then◌else◌, List}
+use Rattle.std.proofs.Common.{[], ◌∷◌, ◌++◌, map, take, replicate, length, slice_get, Option, Some, None, is_some, refl}
+use Rattle.std.proofs.Common.{sym, ap, ◌∙◌, subst, arith, T, append_assoc}
 use Rattle.std.specs.List.{flat_map}
 use Rattle.std.proofs.lemmas.List.{take_all, flat_map_more}
 use Rattle.mm_word.specs.declared.word.Cell.{Cell}
@@ -77,7 +79,8 @@ module _ (i : Image) (m : Memory) (h : IsPaged m) (k : IsPaged i.memory) where
       by (Some cells) e = let long = (page_whole m h q cells e).cells in there_get cells n (omega (arith, lt, long))
 
   pub looked : (q n : ℕ) → n < 512 → is_mapped m q ≡ true
-      → changes_from (q * 4096) (take n (now q)) (take n (was q)) ++ entry (q * 4096 + 8 * n) (changed_at i m (q * 4096 + 8 * n)) ≡ changes_from (q * 4096) (take (n + 1) (now q)) (take (n + 1) (was q))
+      → changes_from (q * 4096) (take n (now q)) (take n (was q)) ++ entry (q * 4096 + 8 * n)
+      (changed_at i m (q * 4096 + 8 * n)) ≡ changes_from (q * 4096) (take (n + 1) (now q)) (take (n + 1) (was q))
   looked q n lt mapped =
       let w : ℕ = q * 4096 + 8 * n in
       let c : Cell = cell_or_zero (cell_in (page_at m q) n) in

@@ -1,5 +1,7 @@
 -- A memory with one list of changed cells becomes that with another.
-use Rattle.std.proofs.Common.{◌≡◌, inl, inr, ℕ, zero, suc, ◌-◌, ◌%◌, ◌<◌, ◌≤◌, Bool, true, false, cond, if◌then◌else◌, List, [], ◌∷◌, ◌++◌, map, take, drop, length, length-drop, Option, Some, None, refl, sym, ap, ◌∙◌, subst, arith}
+use Rattle.std.proofs.Common.{◌≡◌, inl, inr, ℕ, zero, suc, ◌-◌, ◌%◌, ◌<◌, ◌≤◌, Bool, true, false, cond, if◌then◌else◌}
+use Rattle.std.proofs.Common.{List, [], ◌∷◌, ◌++◌, map, take, drop, length, length-drop, Option, Some, None, refl, sym}
+use Rattle.std.proofs.Common.{ap, ◌∙◌, subst, arith}
 use Rattle.std.specs.List.{AllByRecursion}
 use Rattle.std.specs.Ordering.{nat_cmp}
 use Rattle.std.specs.FinMap.{find}
@@ -138,7 +140,8 @@ module _ (i : Image) (img : IsImage i) (m n : Memory) (hm : IsMemoryOf i m) (hn 
   or_back w mid c d up e f = absurd (in_one w c d mid back (rises_right front (mid ++ back) up) e f)
 
   -- a word with a cell in both
-  where_mapped : (w : ℕ) (c d : Cell) → cell_at m w ≡ Some c → cell_at n w ≡ Some d → (p q h b : Option Cell) → find nat_cmp w front ≡ p → find nat_cmp w new ≡ q → find nat_cmp w old ≡ h → find nat_cmp w back ≡ b
+  where_mapped : (w : ℕ) (c d : Cell) → cell_at m w ≡ Some c → cell_at n w ≡ Some d → (p q h b : Option Cell)
+      → find nat_cmp w front ≡ p → find nat_cmp w new ≡ q → find nat_cmp w old ≡ h → find nat_cmp w back ≡ b
       → either p (either h b) ≡ changed_at i m w → either p (either q b) ≡ changed_at i n w → over q (over (based i w h) (Some c)) ≡ Some d
   where_mapped w c d em en (Some x) (Some y) h b ep eq eh eb hm' hn' = front_or w new x y wanted_rising ep eq
   where_mapped w c d em en None (Some y) None b ep eq eh eb hm' hn' = ap (λ (z : Cell). Some z) (sym (changed n w d y en (sym hn')))
@@ -163,7 +166,8 @@ module _ (i : Image) (img : IsImage i) (m n : Memory) (hm : IsMemoryOf i m) (hn 
       (put_frames_all undone new ∙ put_frames_all m (map (as_base i) old) ∙ hm.frames ∙ sym hn.frames)
       (λ w at low.
       put_found undone new undone_paged new_aligned new_rising w
-      ∙ ap (over (find nat_cmp w new)) (put_found m (map (as_base i) old) hm.paged (base_aligned i old old_aligned) (base_rising i old old_rising) w ∙ ap (λ o. over o (cell_at m w)) (base_found i w old))
+      ∙ ap (over (find nat_cmp w new)) (put_found m (map (as_base i) old) hm.paged (base_aligned i old old_aligned)
+      (base_rising i old old_rising) w ∙ ap (λ o. over o (cell_at m w)) (base_found i w old))
       ∙ at_word w (cell_at m w) (cell_at n w) refl refl (same_there w at))
 
 -- 3. Lists cut in three.
@@ -173,7 +177,8 @@ cut zero xs = refl
 cut (suc k) [] = refl
 cut (suc k) (x ∷ xs) = ap (λ ys. x ∷ ys) (cut k xs)
 
-pub in_three : {A : Type 0} (k : ℕ) (rest front back xs : List A) (j : ℕ) → rest ≡ drop k xs → front ≡ take k xs → back ≡ drop (length rest - j) rest → xs ≡ front ++ (take (length rest - j) rest ++ back)
+pub in_three : {A : Type 0} (k : ℕ) (rest front back xs : List A) (j : ℕ) → rest ≡ drop k xs → front ≡ take k xs
+    → back ≡ drop (length rest - j) rest → xs ≡ front ++ (take (length rest - j) rest ++ back)
 in_three k rest front back xs j e f g =
     sym (cut k xs) ∙ ap (λ l. l ++ drop k xs) (sym f) ∙ ap (λ l. front ++ l) (sym e ∙ sym (cut (length rest - j) rest) ∙ ap (λ l. take (length rest - j) rest ++ l) (sym g))
 

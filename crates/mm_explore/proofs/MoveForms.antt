@@ -62,7 +62,9 @@ filter_same p q h (x ∷ xs) = ap (λ l. cond (p x) (x ∷ l) l) (filter_same p 
 
 pub groups_start : (i : Image) → filter (has_group i.slots) (range_with_len 0 64) ≡ groups_of (start i).core
 unfolding start
-groups_start i = sym (filter_same (λ g. list_any (is_of g) (map (λ s. let row : Row = record { slot = s; queue = [] } in row) i.slots)) (has_group i.slots) (λ g. any_started g i.slots) (range_with_len 0 64))
+groups_start i = sym (filter_same
+    (λ g. list_any (is_of g) (map (λ s. let row : Row = record { slot = s; queue = [] } in row) i.slots))
+    (has_group i.slots) (λ g. any_started g i.slots) (range_with_len 0 64))
 
 pub groups_from : (i : Image) (slots : List Slot) (groups : List ℕ) → slots ≡ i.slots → groups ≡ filter (has_group slots) (range_with_len 0 64) → groups ≡ groups_of (start i).core
 groups_from i slots groups same is = is ∙ filter_same (has_group slots) (has_group i.slots) (λ g. ap (λ l. has_group l g) same) (range_with_len 0 64) ∙ groups_start i

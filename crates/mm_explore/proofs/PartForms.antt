@@ -1,5 +1,6 @@
 -- The parts of a configuration, read again from their numbers.
-use Rattle.std.proofs.Common.{◌≡◌, ℕ, suc, ◌+◌, ◌*◌, ◌/◌, ◌%◌, ◌<◌, Bool, true, false, if◌then◌else◌, nat_eq, List, [], ◌∷◌, ◌++◌, map, length, refl, sym, ap, ◌∙◌, arith, eqb-true, eq-eqb, append_assoc}
+use Rattle.std.proofs.Common.{◌≡◌, ℕ, suc, ◌+◌, ◌*◌, ◌/◌, ◌%◌, ◌<◌, Bool, true, false, if◌then◌else◌, nat_eq, List, []}
+use Rattle.std.proofs.Common.{◌∷◌, ◌++◌, map, length, refl, sym, ap, ◌∙◌, arith, eqb-true, eq-eqb, append_assoc}
 use Rattle.std.specs.Prelude.{◌==◌}
 use Rattle.std.specs.List.{AllByRecursion, flat_map}
 use lib.Pointwise.{pointwise, pointwise_decides}
@@ -20,7 +21,11 @@ use Rattle.mm_model.specs.Slot.{Slot}
 use Rattle.mm_thread.specs.Output.{Output}
 use Rattle.mm_machine.specs.Snapshot.{page_numbers}
 use Rattle.mm_explore.specs.Configurations.{uncounted_slot}
-use Rattle.mm_explore.specs.Kept.{Parts, first_number, behind, word_of, word_form, word_from, cause_at, pointer_or_key, event_form, event_from, events_by, events_form, events_from, bytes_by, output_form, outputs_form, outputs_from, pages_form, pages_by, pages_from, cells_form, cells_from, slots_form, slots_from, numbers_of, parts_with_pages, parts_with_outputs, parts_with_events, parts_with_slots, parts_from, numbers_by}
+use Rattle.mm_explore.specs.Kept.{Parts, first_number, behind, word_of, word_form, word_from, cause_at, pointer_or_key}
+use Rattle.mm_explore.specs.Kept.{event_form, event_from, events_by, events_form, events_from, bytes_by, output_form}
+use Rattle.mm_explore.specs.Kept.{outputs_form, outputs_from, pages_form, pages_by, pages_from, cells_form, cells_from}
+use Rattle.mm_explore.specs.Kept.{slots_form, slots_from, numbers_of, parts_with_pages, parts_with_outputs}
+use Rattle.mm_explore.specs.Kept.{parts_with_events, parts_with_slots, parts_from, numbers_by}
 use Rattle.mm_explore.proofs.WordForms.{spells_own, word_again, word_read}
 use Rattle.mm_explore.proofs.SlotForms.{cause_back, AreKeepable, slots_read}
 

@@ -1,5 +1,7 @@
 -- The numbers of a core's slots, written slot by slot.
-use Rattle.std.proofs.Common.{◌≡◌, ℕ, zero, suc, ◌+◌, ◌-◌, ◌*◌, ◌<◌, ◌≤◌, Bool, true, false, if◌then◌else◌, nat_eq, List, [], ◌∷◌, ◌++◌, map, drop, take, length, get_or, Option, Some, slice_get, Result, Ok, Err, OnOk, refl, sym, ap, ◌∙◌, append_assoc, arith, eqb-true}
+use Rattle.std.proofs.Common.{◌≡◌, ℕ, zero, suc, ◌+◌, ◌-◌, ◌*◌, ◌<◌, ◌≤◌, Bool, true, false, if◌then◌else◌, nat_eq}
+use Rattle.std.proofs.Common.{List, [], ◌∷◌, ◌++◌, map, drop, take, length, get_or, Option, Some, slice_get, Result, Ok}
+use Rattle.std.proofs.Common.{Err, OnOk, refl, sym, ap, ◌∙◌, append_assoc, arith, eqb-true}
 use mir.Val.{bool_byte}
 use Rattle.std.proofs.Math.Seq.{take-length}
 use Rattle.std.specs.Prelude.{not}

@@ -1,5 +1,6 @@
 -- What was noted of all turns explored and of all final schedules is what an exploration finds.
-use Rattle.std.proofs.Common.{◌≡◌, inl, inr, ℕ, ◌<◌, Bool, true, false, if◌then◌else◌, List, [], ◌∷◌, ◌++◌, map, length, zip, zero, suc, codes, decimal, Option, Some, None, slice_get, refl, sym, subst}
+use Rattle.std.proofs.Common.{◌≡◌, inl, inr, ℕ, ◌<◌, Bool, true, false, if◌then◌else◌, List, [], ◌∷◌, ◌++◌, map, length}
+use Rattle.std.proofs.Common.{zip, zero, suc, codes, decimal, Option, Some, None, slice_get, refl, sym, subst}
 use Rattle.std.specs.Prelude.{Contains, IfSome, slice_index_or}
 use Rattle.std.proofs.lemmas.Option.{slice_get_within}
 use Rattle.std.specs.List.{AllByRecursion, AllZip, flat_map, range_with_len}

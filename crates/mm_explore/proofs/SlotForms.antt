@@ -1,5 +1,7 @@
 -- Slots, read again from their differences from the image's.
-use Rattle.std.proofs.Common.{◌≡◌, ℕ, suc, ◌+◌, ◌*◌, ◌/◌, ◌%◌, ◌^◌, ◌<◌, ◌≤◌, Bool, true, false, not, ◌&&◌, ◌||◌, if◌then◌else◌, List, [], ◌∷◌, ◌++◌, map, length, Option, Some, None, refl, sym, ap, ◌∙◌, subst, arith, eqb-true, append_assoc}
+use Rattle.std.proofs.Common.{◌≡◌, ℕ, suc, ◌+◌, ◌*◌, ◌/◌, ◌%◌, ◌^◌, ◌<◌, ◌≤◌, Bool, true, false, not, ◌&&◌, ◌||◌}
+use Rattle.std.proofs.Common.{if◌then◌else◌, List, [], ◌∷◌, ◌++◌, map, length, Option, Some, None, refl, sym, ap, ◌∙◌}
+use Rattle.std.proofs.Common.{subst, arith, eqb-true, append_assoc}
 use Rattle.std.specs.Prelude.{◌==◌, replicate}
 use Rattle.std.specs.List.{AllByRecursion, flat_map, list_any}
 use Rattle.std.proofs.lemmas.Bool.{le-ltb}
@@ -20,7 +22,9 @@ use Rattle.mm_model.specs.Report.{same_bit}
 use Rattle.mm_model.specs.Slot.{Slot}
 use Rattle.mm_explore.specs.Configurations.{uncounted_slot, are_some}
 use Rattle.mm_explore.specs.Findings.{state_number, same_state}
-use Rattle.mm_explore.specs.Kept.{changed_flags, changed_bits, words_from, load_form, loads_from, few_loads, register_flags, cause_at, state_at, ip_of, slot_head, slot_masks, slot_form, slot_from, is_base, slot_flags, slot_forms, slots_by, slots_form, slots_from}
+use Rattle.mm_explore.specs.Kept.{changed_flags, changed_bits, words_from, load_form, loads_from, few_loads}
+use Rattle.mm_explore.specs.Kept.{register_flags, cause_at, state_at, ip_of, slot_head, slot_masks, slot_form}
+use Rattle.mm_explore.specs.Kept.{slot_from, is_base, slot_flags, slot_forms, slots_by, slots_form, slots_from}
 use Rattle.mm_explore.proofs.WordForms.{flags_of, flags_below, ip_again, words_same, AreWords, words_read, length-changed, IsLoad, loads_read}
 
 -- 1. States.

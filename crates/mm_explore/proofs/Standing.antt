@@ -126,7 +126,8 @@ numbers_kept i core m s groups pages cells e g l =
 -- 5. The start.
 
 -- what holds of the fresh slots of an image holds of the slots of a core of them
-pub each_fresh : (i : Image) (P : Slot → Type 0) (core : Core) → IsImage i → core.rows ≡ map row_alone i.slots → ((s : Slot) → IsFresh (slot_limit i.version) i.slots s → P s) → AllByRecursion P (slots_of core)
+pub each_fresh : (i : Image) (P : Slot → Type 0) (core : Core) → IsImage i → core.rows ≡ map row_alone i.slots
+    → ((s : Slot) → IsFresh (slot_limit i.version) i.slots s → P s) → AllByRecursion P (slots_of core)
 each_fresh i P core h e f =
     subst (AllByRecursion P) (sym (slots_made i core e)) (each_map (IsFresh (slot_limit i.version) i.slots) P f i.slots h.fresh)
 

@@ -1,5 +1,7 @@
 -- One more turn of a search.
-use Rattle.std.proofs.Common.{◌≡◌, ℕ, zero, suc, ◌+◌, ◌^◌, ◌<◌, ◌≤◌, Bool, true, false, ◌&&◌, Vec, Global, List, [], ◌∷◌, ◌++◌, map, length, take, drop, slice_index_or, refl, sym, ap, ◌∙◌, subst, arith, append_assoc, append-nil, length-append}
+use Rattle.std.proofs.Common.{◌≡◌, ℕ, zero, suc, ◌+◌, ◌^◌, ◌<◌, ◌≤◌, Bool, true, false, ◌&&◌, Vec, Global, List, []}
+use Rattle.std.proofs.Common.{◌∷◌, ◌++◌, map, length, take, drop, slice_index_or, refl, sym, ap, ◌∙◌, subst, arith}
+use Rattle.std.proofs.Common.{append_assoc, append-nil, length-append}
 use Rattle.std.specs.Prelude.{◌==◌, Contains, Some, slice_get, Result, Ok, Err, IfOk, OnOk}
 use Rattle.std.specs.List.{AllByRecursion, flat_map}
 use Rattle.std.proofs.Math.Dec.{eqb-suc-zero}
@@ -392,9 +394,12 @@ module _ (i : Image) (s : Search) (node : Node) (k : ℕ) (w : IsWithin i s node
       → ((u : List ℕ) → IsAt i u b → Met (kept i (run (start i) u)) (record { from = node.at; item = m }) (record s { bench = b; findings = f }) now) → Made i s now node k
   moved_by now f noted ended met =
       moved i w.come.image s node k w move now b f (record { from = node.at; item = m }) refl is at_turn
-      (subst (λ n. Noted i s.found.list (turns_before i s.found.list node.at k ++ (record { schedule = node_schedule s node; item = n }) ∷ []) f) is noted) ended (met (extended (node_turn s node k)) at_turn)
+      (subst (λ n. Noted i s.found.list (turns_before i s.found.list node.at k ++
+      (record { schedule = node_schedule s node; item = n }) ∷ []) f) is noted) ended
+      (met (extended (node_turn s node k)) at_turn)
 
-  pub stays_by : (stays : Bool) → ((u : List ℕ) → IsAt i u b → KeptBy stays s.found.forms node.at (kept i (run (start i) u))) → StaysBy stays i (node_schedule s node) (slice_index_or node.moves.items k 0)
+  pub stays_by : (stays : Bool) → ((u : List ℕ) → IsAt i u b → KeptBy stays s.found.forms node.at
+      (kept i (run (start i) u))) → StaysBy stays i (node_schedule s node) (slice_index_or node.moves.items k 0)
   stays_by stays h = stays_so i w.come.image s.found w.come.held node.at w.is.inside stays (slice_index_or node.moves.items k 0) (h (extended (node_turn s node k)) at_turn)
 
 -- an item that is read is that of its index
@@ -415,7 +420,8 @@ all_push : {X : Type 0} (P : X → Type 0) (xs : List X) (x : X) → AllByRecurs
 all_push P [] x h k = (k, tt)
 all_push P (y ∷ xs) x h k = (h.0, all_push P xs x h.1 k)
 
-pub stay_more : (i : Image) (t : List ℕ) (ms : List ℕ) (m : ℕ) (stay stays : Bool) → Contains (moves (run (start i) t)) m → AllStay stay i t ms → StaysBy stays i t m → AllStay (stay && stays) i t (ms ++ m ∷ [])
+pub stay_more : (i : Image) (t : List ℕ) (ms : List ℕ) (m : ℕ) (stay stays : Bool) → Contains (moves (run (start i) t))
+    m → AllStay stay i t ms → StaysBy stays i t m → AllStay (stay && stays) i t (ms ++ m ∷ [])
 stay_more i t ms m true true move h k = all_push (λ n. leads_to i (t ++ n ∷ []) ≡ leads_to i t) ms m h k
 stay_more i t ms m true false move h k = λ final. k (final m move)
 stay_more i t ms m false stays move h k = h

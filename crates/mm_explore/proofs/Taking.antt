@@ -114,7 +114,8 @@ two_left [] le = absurd (omega (arith, le))
 two_left (a ∷ []) le = absurd (omega (arith, le))
 two_left (a ∷ b ∷ ns) le = refl
 
-pub cells_more : (ns later : List ℕ) (head bits : ℕ) (items more : List (ℕ × Cell)) (x : ℕ × Cell) → 2 ≤ length ns → head ≡ first_number ns → bits ≡ first_number (behind ns) → later ≡ behind (behind ns)
+pub cells_more : (ns later : List ℕ) (head bits : ℕ) (items more : List (ℕ × Cell)) (x : ℕ × Cell) → 2 ≤ length ns
+    → head ≡ first_number ns → bits ≡ first_number (behind ns) → later ≡ behind (behind ns)
     → x ≡ cell_of head bits → more ≡ items ++ x ∷ [] → more ++ cells_from later ≡ items ++ cells_from ns
 cells_more ns later head bits items more x le h b rest is pushed =
     ap (λ l. l ++ cells_from later) pushed ∙ append_assoc items (x ∷ []) (cells_from later)

@@ -1,5 +1,7 @@
 -- What a turn changes of the memory and of the outputs: one cell at the word of its writing access, or one page; one byte of one output.
-use Rattle.std.proofs.Common.{◌≡◌, ◌⊎◌, inl, inr, ℕ, ◌%◌, ◌^◌, ◌<◌, Bool, true, false, ◌&&◌, ◌==◌, nat_lt, if◌then◌else◌, pos, List, [], ◌∷◌, ◌++◌, length, Option, Some, None, Result, Ok, Err, refl, sym, ap, ◌∙◌, subst, arith}
+use Rattle.std.proofs.Common.{◌≡◌, ◌⊎◌, inl, inr, ℕ, ◌%◌, ◌^◌, ◌<◌, Bool, true, false, ◌&&◌, ◌==◌, nat_lt}
+use Rattle.std.proofs.Common.{if◌then◌else◌, pos, List, [], ◌∷◌, ◌++◌, length, Option, Some, None, Result, Ok, Err}
+use Rattle.std.proofs.Common.{refl, sym, ap, ◌∙◌, subst, arith}
 use Rattle.std.specs.Prelude.{slice_set, slice_index_or}
 use Rattle.mm_word.specs.declared.perm.Kind.TheVariants.{Fetch, Store}
 use Rattle.mm_word.specs.declared.cause.Cause.{Cause}
@@ -19,7 +21,10 @@ use Rattle.std.specs.Int.{w64, cast_signed}
 use Rattle.mm_isa.specs.declared.instr.DivZero.{DivZero}
 use Rattle.mm_isa.specs.declared.instr.How.{How}
 use Rattle.mm_isa.specs.declared.instr.Instr.{Instr}
-use Rattle.mm_isa.specs.declared.instr.Instr.TheVariants.{Halt, Nop, Ldi, Ldhi, Mov, Isptr, Eqw, Out, SelfSlot, Alu, Addi, Lea, Leai, Leab, Restrict, Subseg, Setptr, Ld, St, Br, Bz, Bnz, Jmp, Jal, Lip, Trap, Evt, Resume, Rreg, Wreg, Map, Unmap}
+use Rattle.mm_isa.specs.declared.instr.Instr.TheVariants.{Halt, Nop, Ldi, Ldhi, Mov, Isptr, Eqw, Out, SelfSlot, Alu}
+use Rattle.mm_isa.specs.declared.instr.Instr.TheVariants.{Addi, Lea, Leai, Leab, Restrict, Subseg, Setptr, Ld, St, Br}
+use Rattle.mm_isa.specs.declared.instr.Instr.TheVariants.{Bz, Bnz, Jmp, Jal, Lip, Trap, Evt, Resume, Rreg, Wreg, Map}
+use Rattle.mm_isa.specs.declared.instr.Instr.TheVariants.{Unmap}
 use Rattle.mm_isa.specs.Alu.{alu_result}
 use Rattle.mm_model.specs.declared.slot.SlotState.TheVariants.{Running, Halted}
 use Rattle.mm_model.specs.declared.slot.Pending.{Pending}
@@ -32,11 +37,17 @@ use Rattle.mm_model.specs.Image.{output_limit}
 use Rattle.mm_model.specs.Operands.{addr_operand, value_operand, lacks}
 use Rattle.mm_model.specs.Ask.{Ask, ask, is_privileged, load_kind, reaching}
 use Rattle.mm_model.specs.Ask.Ask.{Refuse, Reach, MapPage, UnmapPage}
-use Rattle.mm_model.specs.Effect.{Reply, Change, Effect, effect, delivered, sets, sets_pointer, sets_number, if_pointer, puts_out, set_by, loads, loaded, stored, at_distance, branches, jumps, links, takes, resumes, reads_of, writes_of, maps, unmaps, plain}
+use Rattle.mm_model.specs.Effect.{Reply, Change, Effect, effect, delivered, sets, sets_pointer, sets_number, if_pointer}
+use Rattle.mm_model.specs.Effect.{puts_out, set_by, loads, loaded, stored, at_distance, branches, jumps, links, takes}
+use Rattle.mm_model.specs.Effect.{resumes, reads_of, writes_of, maps, unmaps, plain}
 use Rattle.mm_model.specs.Effect.Reply.{Fine, Refused, Got, Paged, NoEvent, Took, Served}
 use Rattle.mm_model.specs.Effect.Pages.{Keep, Add, Remove}
 use Rattle.mm_model.specs.Effect.Effect.{Fault, Block, Deliver, Does}
-use Rattle.mm_model.specs.Turn.{Turned, reached, reply, slot_after, with_other, with_queue, with_out, with_cell, with_pages, core_after, memory_after, stood, is_sync, is_running, event_of, core_faulted, faulted, touch_of, asked_use, blocked, ended, executed, issued, decoded, instr_in, fetched, aimed, started, idle, arrives, port_of, taken_by_port, taken_by, turn}
+use Rattle.mm_model.specs.Turn.{Turned, reached, reply, slot_after, with_other, with_queue, with_out, with_cell}
+use Rattle.mm_model.specs.Turn.{with_pages, core_after, memory_after, stood, is_sync, is_running, event_of}
+use Rattle.mm_model.specs.Turn.{core_faulted, faulted, touch_of, asked_use, blocked, ended, executed, issued, decoded}
+use Rattle.mm_model.specs.Turn.{instr_in, fetched, aimed, started, idle, arrives, port_of, taken_by_port, taken_by}
+use Rattle.mm_model.specs.Turn.{turn}
 use Rattle.mm_explore.specs.Findings.{writes}
 
 -- 1. Most instructions change neither cells nor pages nor outputs.
@@ -129,7 +140,9 @@ module _ (s : Slot) where
 
   write_quiet : (split : Bool) (reg : ℕ) (w : Word) (r : Reply) → Quiet (writes_of split s reg w r)
   unfolding plain
-  write_quiet split reg w (Served of) = either_quiet (split && is_empty of reg) (Deliver (delivered of)) (Does (record (plain s) { other = Some (record of { regs = slice_set of.regs reg w }) })) tt (silent refl refl refl)
+  write_quiet split reg w (Served of) = either_quiet (split && is_empty of reg) (Deliver (delivered of))
+      (Does (record (plain s) { other = Some (record of { regs = slice_set of.regs reg w }) })) tt
+      (silent refl refl refl)
   write_quiet split reg w Fine = tt
   write_quiet split reg w (Refused c) = tt
   write_quiet split reg w (Got a c) = tt
@@ -155,7 +168,9 @@ module _ (s : Slot) where
   quiet_or_loud split (Leab rd ra rb) r = inl (if_quiet (register s ra) _ (λ p. pointer_quiet rd (leab_result p (cast_signed w64 (word_bits (register s rb))))))
   quiet_or_loud split (Restrict rd ra rb) r = inl (if_quiet (register s ra) _ (λ p. pointer_quiet rd (restrict_result p (word_bits (register s rb)))))
   quiet_or_loud split (Subseg rd ra rb) r = inl (if_quiet (register s ra) _ (λ p. pointer_quiet rd (subseg_result p (word_bits (register s rb)))))
-  quiet_or_loud split (Setptr rd ra) r = inl (either_quiet (is_privileged s.ip.perm) (sets_pointer s rd (setptr_result (word_bits (register s ra)))) (Fault cause.Priv) (pointer_quiet rd (setptr_result (word_bits (register s ra)))) tt)
+  quiet_or_loud split (Setptr rd ra) r = inl
+      (either_quiet (is_privileged s.ip.perm) (sets_pointer s rd (setptr_result (word_bits (register s ra))))
+      (Fault cause.Priv) (pointer_quiet rd (setptr_result (word_bits (register s ra)))) tt)
   quiet_or_loud split (Ld rd ra pre post imm) r = inr tt
   quiet_or_loud split (St ra rb pre post imm) r = inr tt
   quiet_or_loud split (Br imm) r = inl (branch_quiet (at_distance s imm))
@@ -376,7 +391,9 @@ module _ (core : Core) (m : Memory) where
   unfolding executed ask effect reply
   loud_tame s f u (Out ra) l = out_tame s (Out ra) f (u ∷ []) (word_bits (register s ra)) (nat_lt (length (output_of core s.group)) (output_limit core.version))
   loud_tame s f u (Ld rd ra pre post imm) l =
-      loads_tame core.split s (Ld rd ra pre post imm) f u rd post pre (check_result (register s ra) imm (load_kind post)) (kind_by (register s ra) imm (load_kind post) (check_result (register s ra) imm (load_kind post)) refl)
+      loads_tame core.split s (Ld rd ra pre post imm) f u rd post pre
+      (check_result (register s ra) imm (load_kind post)) (kind_by (register s ra) imm (load_kind post)
+      (check_result (register s ra) imm (load_kind post)) refl)
   loud_tame s f u (St ra rb pre post imm) l =
       stores_tame s (St ra rb pre post imm) f u (register s rb) post pre (check_result (register s ra) imm Store) (kind_by (register s ra) imm Store (check_result (register s ra) imm Store) refl)
   loud_tame s f u (Map rd ra) l = maps_tame s (Map rd ra) f u rd (word_bits (register s ra)) (is_privileged s.ip.perm) (nat_lt (word_bits (register s ra)) (2 ^ 42))

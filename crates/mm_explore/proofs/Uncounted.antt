@@ -1,5 +1,7 @@
 -- A turn reads no count of turns, so it is the same in a core without these counts, but for them.
-use Rattle.std.proofs.Common.{◌≡◌, ℕ, ◌+◌, ◌-◌, Bool, true, false, ◌&&◌, ◌||◌, ◌==◌, nat_le, if◌then◌else◌, pos, ℤ, slice_set, List, [], ◌∷◌, ◌++◌, map, Option, Some, None, Result, Ok, Err, refl, sym, ap, ◌∙◌}
+use Rattle.std.proofs.Common.{◌≡◌, ℕ, ◌+◌, ◌-◌, Bool, true, false, ◌&&◌, ◌||◌, ◌==◌, nat_le, if◌then◌else◌, pos, ℤ}
+use Rattle.std.proofs.Common.{slice_set, List, [], ◌∷◌, ◌++◌, map, Option, Some, None, Result, Ok, Err, refl, sym, ap}
+use Rattle.std.proofs.Common.{◌∙◌}
 use Rattle.mm_word.specs.declared.perm.Kind.TheVariants.{Fetch}
 use Rattle.mm_word.specs.declared.cause.Cause.{Cause}
 use Rattle.mm_word.specs.declared.cause.Cause.TheVariants as cause
@@ -15,7 +17,10 @@ use Rattle.mm_isa.specs.declared.instr.DivZero.{DivZero}
 use Rattle.mm_isa.specs.declared.instr.How.{How}
 use Rattle.mm_isa.specs.declared.instr.How.TheVariants.{Retry, Skip, Kill}
 use Rattle.mm_isa.specs.declared.instr.Instr.{Instr}
-use Rattle.mm_isa.specs.declared.instr.Instr.TheVariants.{Halt, Nop, Ldi, Ldhi, Mov, Isptr, Eqw, Out, SelfSlot, Alu, Addi, Lea, Leai, Leab, Restrict, Subseg, Setptr, Ld, St, Br, Bz, Bnz, Jmp, Jal, Lip, Trap, Evt, Resume, Rreg, Wreg, Map, Unmap}
+use Rattle.mm_isa.specs.declared.instr.Instr.TheVariants.{Halt, Nop, Ldi, Ldhi, Mov, Isptr, Eqw, Out, SelfSlot, Alu}
+use Rattle.mm_isa.specs.declared.instr.Instr.TheVariants.{Addi, Lea, Leai, Leab, Restrict, Subseg, Setptr, Ld, St, Br}
+use Rattle.mm_isa.specs.declared.instr.Instr.TheVariants.{Bz, Bnz, Jmp, Jal, Lip, Trap, Evt, Resume, Rreg, Wreg, Map}
+use Rattle.mm_isa.specs.declared.instr.Instr.TheVariants.{Unmap}
 use Rattle.mm_isa.specs.Alu.{alu_result}
 use Rattle.std.specs.Int.{w64, cast_signed}
 use Rattle.mm_model.specs.declared.slot.SlotState.TheVariants.{Running, Waiting, Halted}
@@ -29,10 +34,16 @@ use Rattle.mm_model.specs.Operands.{addr_operand, value_operand, field_a, field_
 use Rattle.std.specs.List.{list_any}
 use Rattle.mm_model.specs.Ask.{Ask, ask, is_privileged}
 use Rattle.mm_model.specs.Ask.Ask.{Nothing, Refuse, Reach, MapPage, UnmapPage, NextEvent, Room, Serve}
-use Rattle.mm_model.specs.Effect.{Reply, Change, Effect, effect, delivers, delivered, sets, sets_pointer, sets_number, if_pointer, puts_out, loaded, stored, at_distance, branches, jumps, links, takes, resumed_by, resumes, reads_of, writes_of, maps, unmaps, plain}
+use Rattle.mm_model.specs.Effect.{Reply, Change, Effect, effect, delivers, delivered, sets, sets_pointer, sets_number}
+use Rattle.mm_model.specs.Effect.{if_pointer, puts_out, loaded, stored, at_distance, branches, jumps, links, takes}
+use Rattle.mm_model.specs.Effect.{resumed_by, resumes, reads_of, writes_of, maps, unmaps, plain}
 use Rattle.mm_model.specs.Effect.Reply.{Fine, Refused, Got, Paged, NoEvent, Took, Served}
 use Rattle.mm_model.specs.Effect.Effect.{Fault, Block, Deliver, Does}
-use Rattle.mm_model.specs.Turn.{Turned, reached, event_reply, first_event, is_running, is_handler, is_taken, served, reply, put_all, state_after, slot_after, with_issue, with_other, with_queue, with_out, core_after, memory_after, stood, is_sync, event_of, core_faulted, faulted, touch_of, asked_use, blocked, ended, executed, issued, decoded, instr_in, fetched, aimed, started, idle, arrives, port_of, taken_by_port, taken_by, turn}
+use Rattle.mm_model.specs.Turn.{Turned, reached, event_reply, first_event, is_running, is_handler, is_taken, served}
+use Rattle.mm_model.specs.Turn.{reply, put_all, state_after, slot_after, with_issue, with_other, with_queue, with_out}
+use Rattle.mm_model.specs.Turn.{core_after, memory_after, stood, is_sync, event_of, core_faulted, faulted, touch_of}
+use Rattle.mm_model.specs.Turn.{asked_use, blocked, ended, executed, issued, decoded, instr_in, fetched, aimed, started}
+use Rattle.mm_model.specs.Turn.{idle, arrives, port_of, taken_by_port, taken_by, turn}
 use Rattle.mm_explore.specs.Configurations.{uncounted_slot, uncounted_row, uncounted}
 
 -- 1. Cores without counts of turns.
@@ -367,7 +378,8 @@ module _ (s : Slot) where
   effect_so split (Restrict rd ra rb) r = if_pointer_so (register s ra) _ _ (λ p. pointer_so rd (restrict_result p (word_bits (register s rb))))
   effect_so split (Subseg rd ra rb) r = if_pointer_so (register s ra) _ _ (λ p. pointer_so rd (subseg_result p (word_bits (register s rb))))
   effect_so split (Setptr rd ra) r =
-      either (is_privileged s.ip.perm) (sets_pointer s rd (setptr_result (word_bits (register s ra)))) (sets_pointer u rd (setptr_result (word_bits (register s ra)))) (Fault cause.Priv) (Fault cause.Priv)
+      either (is_privileged s.ip.perm) (sets_pointer s rd (setptr_result (word_bits (register s ra))))
+      (sets_pointer u rd (setptr_result (word_bits (register s ra)))) (Fault cause.Priv) (Fault cause.Priv)
       (pointer_so rd (setptr_result (word_bits (register s ra)))) refl
   effect_so split (Ld rd ra pre post imm) r = loaded_so split rd post r
   effect_so split (St ra rb pre post imm) r = stored_so (register s rb) post r

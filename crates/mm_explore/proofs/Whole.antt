@@ -126,5 +126,6 @@ module _ (i : Image) (s : State) (img : IsImage i) (h : IsStateOf i s) where
       record {
         whole = subst IsCore (sym is) (core_bare s.core (core_of_state i s img h.state h.fits h.kept));
         same = identities_bare (slots_of s.core) ∙ h.fits.same_slots ∙ sym same;
-        given = subst (λ (c : Core). AllByRecursion (λ (o : Output). output_of c o.group ≡ o.bytes) q.outputs) (sym is) (given_all s (Rattle.mm_model.specs.Report.groups_of (Rattle.mm_model.specs.Image.start i).core));
+        given = subst (λ (c : Core). AllByRecursion (λ (o : Output). output_of c o.group ≡ o.bytes) q.outputs) (sym is)
+            (given_all s (Rattle.mm_model.specs.Report.groups_of (Rattle.mm_model.specs.Image.start i).core));
       }

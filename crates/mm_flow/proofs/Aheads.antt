@@ -6,7 +6,8 @@ use Rattle.mm_flow.proofs.SharedMarks.Pushed.{last, before}
 use Rattle.mm_flow.proofs.Masks.{set_cases, length_set}
 use Rattle.mm_flow.proofs.Masks.Set.{here, there}
 
-pub nexts_more : (next : List ℕ) (k : ℕ) → length next ≡ k → ((i : ℕ) → i < k → slice_index next i ≡ i + 1) → (length (next ++ (k + 1) ∷ []) ≡ k + 1) × ((i : ℕ) → i < k + 1 → slice_index (next ++ (k + 1) ∷ []) i ≡ i + 1)
+pub nexts_more : (next : List ℕ) (k : ℕ) → length next ≡ k → ((i : ℕ) → i < k → slice_index next i ≡ i + 1)
+    → (length (next ++ (k + 1) ∷ []) ≡ k + 1) × ((i : ℕ) → i < k + 1 → slice_index (next ++ (k + 1) ∷ []) i ≡ i + 1)
 nexts_more next k len h = (
   push_length next (k + 1) k len,
   λ i lt. elim (push_cases next (k + 1) i (omega arith)) [

@@ -17,7 +17,9 @@ pub record SomeBefore (k : ℕ) (marks : List ℕ) (keep : ℕ → Bool) (g : �
 pub none_before : (marks : List ℕ) (keep : ℕ → Bool) (g : ℕ) → (bit_at 0 g ≡ 1) ↔ SomeBefore 0 marks keep g
 none_before marks keep g = (λ x. absurd (zero_bit g x), λ x. let lt = x.small in absurd (omega arith))
 
-pub one_more : (k all own g : ℕ) (marks : List ℕ) (keep : ℕ → Bool) → own ≡ kept_mark (keep k) (slice_index marks k) → ((bit_at all g ≡ 1) ↔ SomeBefore k marks keep g) → (bit_at (bit_or all own) g ≡ 1) ↔ SomeBefore (k + 1) marks keep g
+pub one_more : (k all own g : ℕ) (marks : List ℕ) (keep : ℕ → Bool) → own ≡ kept_mark (keep k) (slice_index marks k)
+    → ((bit_at all g ≡ 1) ↔ SomeBefore k marks keep g) → (bit_at (bit_or all own) g ≡ 1) ↔ SomeBefore (k + 1) marks keep
+    g
 one_more k all own g marks keep is h = (
   λ x. elim (or_cases all own g x) [
     | inl y ↦ let z = h.0 y in record { node = z.node; small = (let lt = z.small in omega arith); marked = z.marked; kept = z.kept }

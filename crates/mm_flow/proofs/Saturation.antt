@@ -79,14 +79,22 @@ module _ (e : Edges) (n : SharingEdges) (start : List ℕ) where
       gets : (h g k : ℕ) → h < 64 → k < length b → Has b k h → Shares n b h g → Has b k g
       gets h g k small lt has x =
           let same = d.same still in
-          subst (λ v. Has v k g) same (d.still still k g (let q = d.len in omega arith) (record { by = h; small = small; has = subst (λ v. Has v k h) (sym same) has; shared_now = w.each h g small x }))
+          subst (λ v. Has v k g) same (d.still still k g (let q = d.len in omega arith)
+          (record {
+            by = h;
+            small = small;
+            has = subst (λ v. Has v k h) (sym same) has;
+            shared_now = w.each h g
+                small x;
+          }))
 
       complete : (g k : ℕ) → k < length b → Reached e n start g k → Has b k g
       complete g k lt (from x) = at_one _ _ g (f.grows k) (at_one _ _ g (s.grows k) x)
       complete g k lt (along v j r small lo hi is) =
           subst (λ z. Has b z g) is (at_one _ _ g ((f.saturated v (let q = b_len in omega arith)).cells j lo hi) (complete g v (let q = b_len in omega arith) r))
       complete g k lt (through v r small kept is) =
-          subst (λ z. Has b z g) is (at_one _ _ g ((f.saturated v (let q = b_len in omega arith)).entry) (and_both (slice_index b v) (enters_at e v) g (complete g v (let q = b_len in omega arith) r) kept))
+          subst (λ z. Has b z g) is (at_one _ _ g ((f.saturated v (let q = b_len in omega arith)).entry)
+          (and_both (slice_index b v) (enters_at e v) g (complete g v (let q = b_len in omega arith) r) kept))
       complete g k lt (linked h small r x) = gets h g k small lt (complete h k lt r) (edge_linked x)
       complete g k lt (shared h m x y small r lm rx sx ux ry ly uy) =
           let q = b_len in

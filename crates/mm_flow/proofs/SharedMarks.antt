@@ -1,6 +1,8 @@
 -- The steps of giving.
 use Rattle.std.proofs.lemmas.Nat.{le_or_l}
-use Rattle.std.proofs.Common.{◌≡◌, ℕ, zero, suc, ◌+◌, ◌^◌, ◌<◌, ◌≤◌, ◌⊎◌, ◌↔◌, inl, inr, Bool, true, false, List, [], ◌∷◌, ◌++◌, length, slice_index, slice_index_or, slice_set, bit_or, refl, sym, ap, ◌∙◌, subst, arith, length-append}
+use Rattle.std.proofs.Common.{◌≡◌, ℕ, zero, suc, ◌+◌, ◌^◌, ◌<◌, ◌≤◌, ◌⊎◌, ◌↔◌, inl, inr, Bool, true, false, List, []}
+use Rattle.std.proofs.Common.{◌∷◌, ◌++◌, length, slice_index, slice_index_or, slice_set, bit_or, refl, sym, ap, ◌∙◌}
+use Rattle.std.proofs.Common.{subst, arith, length-append}
 use Rattle.std.specs.Int.{bit_at}
 use Rattle.mm_flow.specs.Flow.{Has, Within, room}
 use Rattle.mm_flow.proofs.Bits.{or_left, or_right, or_cases, zero_bit}
@@ -52,7 +54,9 @@ shared_wider : (mask h g : ℕ) (sharing : List ℕ) → SharedBy h mask sharing
 shared_wider mask h g sharing x = record { by = x.by; small = (let lt = x.small in omega arith); has = x.has; shared_now = x.shared_now }
 
 -- one group more that shares
-pub shared_more : (mask h all g : ℕ) (sharing : List ℕ) → bit_at mask h ≡ 1 → ((bit_at all g ≡ 1) ↔ SharedBy h mask sharing g) → (bit_at (bit_or all (slice_index sharing h)) g ≡ 1) ↔ SharedBy (h + 1) mask sharing g
+pub shared_more : (mask h all g : ℕ) (sharing : List ℕ) → bit_at mask h ≡ 1
+    → ((bit_at all g ≡ 1) ↔ SharedBy h mask sharing g) → (bit_at (bit_or all (slice_index sharing h)) g ≡ 1) ↔ SharedBy
+    (h + 1) mask sharing g
 shared_more mask h all g sharing bit k = (
   λ x. elim (or_cases all (slice_index sharing h) g x) [
     | inl y ↦ shared_wider mask h g sharing (k.0 y)
@@ -128,7 +132,8 @@ module _ (par marks : List ℕ) (keep : ℕ → Bool) (out : List ℕ) (k v w : 
     ];
   }
 
-module _ (sharing old a : List ℕ) (ch : Bool) (k r : ℕ) (s : PropagatingShared k sharing old a ch) (small : k < length a) (is : (g : ℕ) → (bit_at r g ≡ 1) ↔ SharedBy 64 (slice_index a k) sharing g) where
+module _ (sharing old a : List ℕ) (ch : Bool) (k r : ℕ) (s : PropagatingShared k sharing old a ch)
+    (small : k < length a) (is : (g : ℕ) → (bit_at r g ≡ 1) ↔ SharedBy 64 (slice_index a k) sharing g) where
   at_node : slice_index a k ≡ slice_index old k
   at_node = s.rest k (omega arith)
 

@@ -10,7 +10,9 @@ use Rattle.mm_flow.proofs.Masks.{Within-refl, Within-trans}
 use Rattle.mm_flow.proofs.Bits.{both_bits}
 use Rattle.mm_flow.proofs.Walks.{and_within, zero_within}
 
-pub flowing_start : (e : Edges) (old propagated p : List ℕ) → IsReady e old propagated → ((k : ℕ) → IsIn k p → k < length old) → ((k : ℕ) → k < length old → IsIn k p ⊎ (slice_index old k ≡ 0)) → Flowing e old old propagated p
+pub flowing_start : (e : Edges) (old propagated p : List ℕ) → IsReady e old propagated
+    → ((k : ℕ) → IsIn k p → k < length old) → ((k : ℕ) → k < length old → IsIn k p ⊎ (slice_index old k ≡ 0))
+    → Flowing e old old propagated p
 flowing_start e old propagated p ready nodes all = record {
   len = refl;
   grows = λ k. Within-refl (slice_index old k);

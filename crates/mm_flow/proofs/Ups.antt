@@ -65,12 +65,17 @@ module _ (bases ends par : List ℕ) (v : ℕ) (n : IsNested bases ends) (f : Is
 pub forest_first : (bases ends par : List ℕ) (v : ℕ) → IsNested bases ends → IsForest bases ends par → length par ≡ 0 → 0 < length bases → IsForest bases ends (par ++ v ∷ [])
 forest_first bases ends par v n f e lt = forest_more bases ends par v n f (omega arith) (λ j less u. absurd (omega arith)) (λ j less inside. absurd (omega arith))
 
-pub forest_climbed : (bases ends par : List ℕ) (v k : ℕ) → IsNested bases ends → IsForest bases ends par → length par ≡ k → 0 < k → k < length bases → Climbed ends par (k - 1) (slice_index bases k) k v → IsForest bases ends (par ++ v ∷ [])
+pub forest_climbed : (bases ends par : List ℕ) (v k : ℕ) → IsNested bases ends → IsForest bases ends par
+    → length par ≡ k → 0 < k → k < length bases → Climbed ends par (k - 1) (slice_index bases k) k v
+    → IsForest bases ends (par ++ v ∷ [])
 forest_climbed bases ends par v k n f e pos lt c =
     forest_more bases ends par v n f (omega arith) (λ j less u. downs j (omega arith) u c) (λ j less inside. ups j (omega arith) (subst (λ w. slice_index bases w < slice_index ends j) e inside) c)
   where
     ends_along : (j : ℕ) → j ≤ v → v < length bases → slice_index bases v < slice_index ends j → slice_index ends v ≤ slice_index ends j
-    ends_along j le small inside = elim (below_cases j v (omega arith)) [ inl less ↦ n.nested j v less small inside | inr same ↦ subst (λ w. slice_index ends v ≤ slice_index ends w) (sym same) (omega arith) ]
+    ends_along j le small inside = elim (below_cases j v (omega arith)) [
+      | inl less ↦ n.nested j v less small inside
+      | inr same ↦ subst (λ w. slice_index ends v ≤ slice_index ends w) (sym same) (omega arith)
+    ]
 
     downs : (j : ℕ) → v < k → Up par j v → Climbed ends par (k - 1) (slice_index bases k) k v → (j ≤ length par) × (slice_index bases (length par) < slice_index ends j)
     downs j less u (missed is none) = absurd (omega arith)

@@ -133,7 +133,9 @@ module _ (e : Edges) (k mask at done : ℕ) (old p propagated : List ℕ) (fit :
   -- past all that a node holds which has propagated the mask
   pub walked_by : (at2 start done2 : ℕ) (new q : List ℕ) → at < at2 → start ≡ max done (low_at e at) → done2 ≡ max start (high_at e at) → low_at e at ≤ high_at e at → IsInner e at k
       → bit_or mask (slice_index propagated at) ≡ slice_index propagated at → HasPropagated e old propagated at
-      → Propagated (IsAmong e.targets done start) old p mask new q → StaysListed propagated old p new q → Walked (pass_of e k mask) (way_of at done (state old p propagated)) (way_of at2 done2 (state new q propagated))
+      → Propagated (IsAmong e.targets done start) old p mask new q → StaysListed propagated old p new q
+      → Walked (pass_of e k mask) (way_of at done (state old p propagated))
+      (way_of at2 done2 (state new q propagated))
   walked_by at2 start done2 new q forth is is2 order inner has passed v stays =
       let high = inner.1 in
       record {
@@ -142,7 +144,9 @@ module _ (e : Edges) (k mask at done : ℕ) (old p propagated : List ℕ) (fit :
         high = omega arith;
         marks = propagated_free e.targets old p new q mask done start v done2 (omega arith) (λ j lo hi.
             Within-trans mask (slice_index old (slice_index e.targets j)) (slice_index new (slice_index e.targets j))
-            (Within-trans mask (slice_index propagated at) (slice_index old (slice_index e.targets j)) (subst (Within mask) has (Within-or_left mask (slice_index propagated at))) (passed j (omega arith) (omega arith)))
+            (Within-trans mask (slice_index propagated at) (slice_index old (slice_index e.targets j))
+            (subst (Within mask) has (Within-or_left mask (slice_index propagated at)))
+            (passed j (omega arith) (omega arith)))
             (v.grows (slice_index e.targets j)));
         stays = stays;
         len = refl;
@@ -173,21 +177,27 @@ module _ (e : Edges) (k : ℕ) (old p propagated a q : List ℕ) (working : Work
 
   -- it has propagated its mark, though its entry may have added to it
   own_listed : Within (slice_index a k) (bit_or (slice_index propagated k) own)
-  own_listed = within_from (slice_index a k) (bit_or (slice_index propagated k) own) (λ g has. at_one own (bit_or (slice_index propagated k) own) g (Within-or_right (slice_index propagated k) own) (elim (c.only k g has) [
-    | inl x ↦ x
-    | inr y ↦ (both_bits own (enters_at e k) g y.1).0
-  ]))
+  own_listed = within_from (slice_index a k) (bit_or (slice_index propagated k) own)
+      (λ g has. at_one own (bit_or (slice_index propagated k) own) g (Within-or_right (slice_index propagated k) own)
+      (elim (c.only k g has) [
+        | inl x ↦ x
+        | inr y ↦ (both_bits own (enters_at e k) g y.1).0
+      ]))
 
   start_entry : Within (bit_and (bit_or (slice_index propagated k) own) (enters_at e k)) (slice_index a (entry_at e k))
   start_entry = within_from (bit_and (bit_or (slice_index propagated k) own) (enters_at e k)) (slice_index a (entry_at e k)) (λ g has.
       let two = both_bits (bit_or (slice_index propagated k) own) (enters_at e k) g has in
       elim (or_cases (slice_index propagated k) own g two.0) [
-        | inl x ↦ at_one (slice_index old (entry_at e k)) (slice_index a (entry_at e k)) g (c.grows (entry_at e k)) (at_one (bit_and (slice_index propagated k) (enters_at e k)) (slice_index old (entry_at e k)) g (passed.entry k) (and_both (slice_index propagated k) (enters_at e k) g x two.1))
+        | inl x ↦ at_one (slice_index old (entry_at e k)) (slice_index a (entry_at e k)) g (c.grows (entry_at e k))
+            (at_one (bit_and (slice_index propagated k) (enters_at e k)) (slice_index old (entry_at e k)) g
+            (passed.entry k) (and_both (slice_index propagated k) (enters_at e k) g x two.1))
         | inr x ↦ at_one (bit_and own (enters_at e k)) (slice_index a (entry_at e k)) g (c.each (entry_at e k) refl) (and_both own (enters_at e k) g x two.1)
       ])
 
   grown_cells : (i j g : ℕ) → low_at e i ≤ j → j < high_at e i → Has propagated i g → Has a (slice_index e.targets j) g
-  grown_cells i j g lo hi has = at_one (slice_index old (slice_index e.targets j)) (slice_index a (slice_index e.targets j)) g (c.grows (slice_index e.targets j)) (at_one (slice_index propagated i) (slice_index old (slice_index e.targets j)) g (passed.cells i j lo hi) has)
+  grown_cells i j g lo hi has = at_one (slice_index old (slice_index e.targets j))
+      (slice_index a (slice_index e.targets j)) g (c.grows (slice_index e.targets j))
+      (at_one (slice_index propagated i) (slice_index old (slice_index e.targets j)) g (passed.cells i j lo hi) has)
 
   pub walking_start : Walking (pass_of e k own) (state a q propagated2) (way_of (k + 1) (low_at e k) (state a q propagated2))
   walking_start = record {
@@ -202,11 +212,15 @@ module _ (e : Edges) (k : ℕ) (old p propagated a q : List ℕ) (working : Work
     len = length_set propagated k _ ∙ working.ready.len ∙ sym c.len;
     ahead = λ i le j lo hi. elim (start_case i) [
       | here same f ↦ absurd (omega arith)
-      | there ne f ↦ subst (λ v. Within v (slice_index a (slice_index e.targets j))) (sym f) (Within-trans (slice_index propagated i) (slice_index old (slice_index e.targets j)) (slice_index a (slice_index e.targets j)) (passed.cells i j lo hi) (c.grows (slice_index e.targets j)))
+      | there ne f ↦ subst (λ v. Within v (slice_index a (slice_index e.targets j))) (sym f)
+          (Within-trans (slice_index propagated i) (slice_index old (slice_index e.targets j))
+          (slice_index a (slice_index e.targets j)) (passed.cells i j lo hi) (c.grows (slice_index e.targets j)))
     ];
     entry = λ i. elim (start_case i) [
       | here same f ↦ rw (f, same) start_entry
-      | there ne f ↦ subst (λ v. Within (bit_and v (enters_at e i)) (slice_index a (entry_at e i))) (sym f) (Within-trans (bit_and (slice_index propagated i) (enters_at e i)) (slice_index old (entry_at e i)) (slice_index a (entry_at e i)) (passed.entry i) (c.grows (entry_at e i)))
+      | there ne f ↦ subst (λ v. Within (bit_and v (enters_at e i)) (slice_index a (entry_at e i))) (sym f)
+          (Within-trans (bit_and (slice_index propagated i) (enters_at e i)) (slice_index old (entry_at e i))
+          (slice_index a (entry_at e i)) (passed.entry i) (c.grows (entry_at e i)))
     ];
     before = λ i j g lo hi has. elim (start_case i) [
       | there ne f ↦ inl (grown_cells i j g lo hi (ap (λ v. bit_at v g) (sym f) ∙ has))
@@ -271,16 +285,21 @@ module _ (e : Edges) (k mask at done : ℕ) (start : Worklist) (a q propagated :
           let forth = s.forth in
           let kept : slice_index propagated2 i ≡ slice_index propagated i = s.others i (λ same. omega arith) in
           subst (λ v. Within v (slice_index b (slice_index e.targets j))) (sym kept)
-          (Within-trans (slice_index propagated i) (slice_index a (slice_index e.targets j)) (slice_index b (slice_index e.targets j)) (w.ahead i (omega arith) j lo hi) (s.marks.grows (slice_index e.targets j)));
+          (Within-trans (slice_index propagated i) (slice_index a (slice_index e.targets j))
+          (slice_index b (slice_index e.targets j)) (w.ahead i (omega arith) j lo hi)
+          (s.marks.grows (slice_index e.targets j)));
       entry = λ i. elim (cases_eq i at) [
         | inr ne ↦ kept_entry i (s.others i ne)
         | inl same ↦ subst (λ v. Within (bit_and (slice_index propagated2 v) (enters_at e v)) (slice_index b (entry_at e v))) (sym same) (elim s.own [
           | inl kept ↦ kept_entry at kept
-          | inr new ↦ subst (λ v. Within (bit_and (slice_index propagated2 at) v) (slice_index b (entry_at e at))) (sym new.2) (none_within (slice_index propagated2 at) (slice_index b (entry_at e at)))
+          | inr new ↦ subst (λ v. Within (bit_and (slice_index propagated2 at) v) (slice_index b (entry_at e at)))
+              (sym new.2) (none_within (slice_index propagated2 at) (slice_index b (entry_at e at)))
         ])
       ];
       before = λ i j g lo hi has. elim (cases_eq i at) [
-        | inl same ↦ subst (λ v. Will (pass_of e k mask) b v j g) (sym same) (itself j g (subst (λ v. low_at e v ≤ j) same lo) (subst (λ v. j < high_at e v) same hi) (subst (λ v. Has propagated2 v g) same has))
+        | inl same ↦ subst (λ v. Will (pass_of e k mask) b v j g) (sym same)
+            (itself j g (subst (λ v. low_at e v ≤ j) same lo) (subst (λ v. j < high_at e v) same hi)
+            (subst (λ v. Has propagated2 v g) same has))
         | inr ne ↦ still i j g lo hi (ap (λ v. bit_at v g) (sym (s.others i ne)) ∙ has)
       ];
     }
@@ -312,7 +331,8 @@ module _ (e : Edges) (k mask at done : ℕ) (start : Worklist) (a q propagated :
 -- what nodes have propagated stays at their targets when marks grow
 passed_still : (e : Edges) (a b propagated : List ℕ) → ((n : ℕ) → Within (slice_index a n) (slice_index b n)) → IsPassed e a propagated → IsPassed e b propagated
 passed_still e a b propagated grows h = record {
-  cells = λ i j lo hi. Within-trans (slice_index propagated i) (slice_index a (slice_index e.targets j)) (slice_index b (slice_index e.targets j)) (h.cells i j lo hi) (grows (slice_index e.targets j));
+  cells = λ i j lo hi. Within-trans (slice_index propagated i) (slice_index a (slice_index e.targets j))
+      (slice_index b (slice_index e.targets j)) (h.cells i j lo hi) (grows (slice_index e.targets j));
   entry = λ i. Within-trans (bit_and (slice_index propagated i) (enters_at e i)) (slice_index a (entry_at e i)) (slice_index b (entry_at e i)) (h.entry i) (grows (entry_at e i));
 }
 

@@ -21,12 +21,15 @@ Has marks k g = bit_at (slice_index marks k) g ≡ 1
 -- the group reaches the node along edges from a node that it marks
 pub data Flows (e : Edges) (start : List ℕ) (g : ℕ) : ℕ → Type 0 where
   from : {k : ℕ} → Has start k g → Flows e start g k
-  along : {k : ℕ} (a j : ℕ) → Flows e start g a → a < length start → low_at e a ≤ j → j < high_at e a → slice_index e.targets j ≡ k → Flows e start g k
-  through : {k : ℕ} (a : ℕ) → Flows e start g a → a < length start → (bit_at (enters_at e a) g ≡ 1) → entry_at e a ≡ k → Flows e start g k
+  along : {k : ℕ} (a j : ℕ) → Flows e start g a → a < length start → low_at e a ≤ j → j < high_at e a
+      → slice_index e.targets j ≡ k → Flows e start g k
+  through : {k : ℕ} (a : ℕ) → Flows e start g a → a < length start → (bit_at (enters_at e a) g ≡ 1) → entry_at e a ≡ k
+      → Flows e start g k
 
 -- the node's mark is at all nodes to which the node leads
 pub record IsSaturated (e : Edges) (marks : List ℕ) (a : ℕ) : Type 0 where
-  pub cells : (j : ℕ) → low_at e a ≤ j → j < high_at e a → Within (slice_index marks a) (slice_index marks (slice_index e.targets j))
+  pub cells : (j : ℕ) → low_at e a ≤ j → j < high_at e a
+      → Within (slice_index marks a) (slice_index marks (slice_index e.targets j))
   pub entry : Within (bit_and (slice_index marks a) (enters_at e a)) (slice_index marks (entry_at e a))
 
 -- the distance of the marks from the top

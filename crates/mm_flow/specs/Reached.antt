@@ -21,7 +21,8 @@ pub record HasSome (marks : List ℕ) (keep : ℕ → Bool) (g : ℕ) : Type 0 w
 -- a sharing edge: the second group gets all that the first has
 pub data Shares (n : SharingEdges) (marks : List ℕ) (h g : ℕ) : Type 0 where
   linked : Has n.links h g → Shares n marks h g
-  shared : (m : ℕ) → m < length marks → MarkedAbove n.parents marks (right_at n.nodes Store) m h → MarkedAbove n.parents marks (right_at n.nodes Load) m g → Shares n marks h g
+  shared : (m : ℕ) → m < length marks → MarkedAbove n.parents marks (right_at n.nodes Store) m h
+      → MarkedAbove n.parents marks (right_at n.nodes Load) m g → Shares n marks h g
   by_maker : HasSome marks (right_at n.nodes Make) h → HasSome marks (right_at n.nodes Load) g → Shares n marks h g
 
 pub record AreSharingEdges (n : SharingEdges) (marks sharing : List ℕ) : Type 0 where
@@ -38,11 +39,17 @@ pub record SharingSoFar (links writes touches : List ℕ) (k : ℕ) (sharing : L
 
 pub data Reached (e : Edges) (n : SharingEdges) (start : List ℕ) : ℕ → ℕ → Type 0 where
   from : {g k : ℕ} → Has start k g → Reached e n start g k
-  along : {g k : ℕ} (a j : ℕ) → Reached e n start g a → a < length start → low_at e a ≤ j → j < high_at e a → slice_index e.targets j ≡ k → Reached e n start g k
-  through : {g k : ℕ} (a : ℕ) → Reached e n start g a → a < length start → (bit_at (enters_at e a) g ≡ 1) → entry_at e a ≡ k → Reached e n start g k
+  along : {g k : ℕ} (a j : ℕ) → Reached e n start g a → a < length start → low_at e a ≤ j → j < high_at e a
+      → slice_index e.targets j ≡ k → Reached e n start g k
+  through : {g k : ℕ} (a : ℕ) → Reached e n start g a → a < length start → (bit_at (enters_at e a) g ≡ 1)
+      → entry_at e a ≡ k → Reached e n start g k
   linked : {g k : ℕ} (h : ℕ) → h < 64 → Reached e n start h k → Has n.links h g → Reached e n start g k
-  shared : {g k : ℕ} (h m a b : ℕ) → h < 64 → Reached e n start h k → m < length start → Reached e n start h a → (right_at n.nodes Store a ≡ true) → Up n.parents a m → Reached e n start g b → (right_at n.nodes Load b ≡ true) → Up n.parents b m → Reached e n start g k
-  by_maker : {g k : ℕ} (h a b : ℕ) → h < 64 → Reached e n start h k → a < length start → Reached e n start h a → (right_at n.nodes Make a ≡ true) → b < length start → Reached e n start g b → (right_at n.nodes Load b ≡ true) → Reached e n start g k
+  shared : {g k : ℕ} (h m a b : ℕ) → h < 64 → Reached e n start h k → m < length start → Reached e n start h a
+      → (right_at n.nodes Store a ≡ true) → Up n.parents a m → Reached e n start g b → (right_at n.nodes Load b ≡ true)
+      → Up n.parents b m → Reached e n start g k
+  by_maker : {g k : ℕ} (h a b : ℕ) → h < 64 → Reached e n start h k → a < length start → Reached e n start h a
+      → (right_at n.nodes Make a ≡ true) → b < length start → Reached e n start g b → (right_at n.nodes Load b ≡ true)
+      → Reached e n start g k
 
 -- the marks are exactly at the nodes that each group reaches
 pub record IsReach (e : Edges) (n : SharingEdges) (start marks : List ℕ) : Type 0 where

@@ -48,7 +48,8 @@ IsTarget e k = IsAmong e.targets (low_at e k) (high_at e k)
 
 -- all that the node has propagated is at its targets
 abbrev pub HasPropagated : Edges → List ℕ → List ℕ → ℕ → Type 0
-HasPropagated e marks propagated i = (j : ℕ) → low_at e i ≤ j → j < high_at e i → Within (slice_index propagated i) (slice_index marks (slice_index e.targets j))
+HasPropagated e marks propagated i = (j : ℕ) → low_at e i ≤ j → j < high_at e i
+    → Within (slice_index propagated i) (slice_index marks (slice_index e.targets j))
 
 -- all that each node has propagated is at its targets, and at its entry for the groups that enter
 pub record IsPassed (e : Edges) (marks propagated : List ℕ) : Type 0 where
@@ -134,7 +135,8 @@ pub record Walked (p : Pass) (from to : Way) : Type 0 where
   pub forth : from.at < to.at
   pub low : from.done ≤ to.done
   pub high : to.done ≤ high_at p.edges p.outer
-  pub marks : Propagated (IsAmong p.edges.targets from.done to.done) from.work.marks from.work.pending p.mask to.work.marks to.work.pending
+  pub marks : Propagated (IsAmong p.edges.targets from.done to.done) from.work.marks from.work.pending p.mask
+      to.work.marks to.work.pending
   pub stays : StaysListed from.work.propagated from.work.marks from.work.pending to.work.marks to.work.pending
   pub len : length to.work.propagated ≡ length from.work.propagated
   pub others : (i : ℕ) → (i ≡ from.at → ⊥) → slice_index to.work.propagated i ≡ slice_index from.work.propagated i
@@ -150,16 +152,20 @@ pub record Walking (p : Pass) (start : Worklist) (now : Way) : Type 0 where
   pub nodes : length p.edges.nodes ≡ length start.marks
   pub low : low_at p.edges p.outer ≤ now.done
   pub high : now.done ≤ high_at p.edges p.outer
-  pub marks : Propagated (IsAmong p.edges.targets (low_at p.edges p.outer) now.done) start.marks start.pending p.mask now.work.marks now.work.pending
+  pub marks : Propagated (IsAmong p.edges.targets (low_at p.edges p.outer) now.done) start.marks start.pending p.mask
+      now.work.marks now.work.pending
   pub listed : (i : ℕ) → IsListed now.work.marks now.work.propagated now.work.pending i
   pub len : length now.work.propagated ≡ length start.marks
   pub ahead : (i : ℕ) → now.at ≤ i → HasPropagated p.edges now.work.marks now.work.propagated i
-  pub entry : (i : ℕ) → Within (bit_and (slice_index now.work.propagated i) (enters_at p.edges i)) (slice_index now.work.marks (entry_at p.edges i))
-  pub before : (i j g : ℕ) → low_at p.edges i ≤ j → j < high_at p.edges i → Has now.work.propagated i g → Will p now.work.marks i j g
+  pub entry : (i : ℕ) → Within (bit_and (slice_index now.work.propagated i) (enters_at p.edges i))
+      (slice_index now.work.marks (entry_at p.edges i))
+  pub before : (i j g : ℕ) → low_at p.edges i ≤ j → j < high_at p.edges i → Has now.work.propagated i g
+      → Will p now.work.marks i j g
 
 -- one node was worked off: its mark is at its entry, for the groups that enter, and at all its targets
 pub record Stepped (e : Edges) (k : ℕ) (old new : Worklist) : Type 0 where
   pub marks : List ℕ
   pub pending : List ℕ
-  pub entry : Propagated (λ t. t ≡ entry_at e k) old.marks old.pending (bit_and (slice_index old.marks k) (enters_at e k)) marks pending
+  pub entry : Propagated (λ t. t ≡ entry_at e k) old.marks old.pending
+      (bit_and (slice_index old.marks k) (enters_at e k)) marks pending
   pub cells : Propagated (IsTarget e k) marks pending (slice_index old.marks k) new.marks new.pending

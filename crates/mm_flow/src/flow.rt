@@ -2,7 +2,8 @@
 ghost use Rattle.std.specs.Prelude.{◌≡◌, ℕ, ◌+◌, ◌<◌, ◌≤◌, ◌⊎◌, ◌∷◌, IfOk, length, slice_index, true};
 ghost use Rattle.mm_flow.specs.Edges.{low_at};
 ghost use Rattle.mm_flow.specs.Flow.{IsFlow};
-ghost use Rattle.mm_flow.specs.Work.{Propagated, IsAmong, IsTarget, Stepped, IsIn, StaysListed, IsReady, Working, IsOnWay, Walked, Walking, pass_of, way_of, worklist_of};
+ghost use Rattle.mm_flow.specs.Work.{Propagated, IsAmong, IsTarget, Stepped, IsIn, StaysListed, IsReady, Working};
+ghost use Rattle.mm_flow.specs.Work.{IsOnWay, Walked, Walking, pass_of, way_of, worklist_of};
 ghost use Rattle.mm_flow.specs.Graph.{edges_of};
 
 use crate::forest::greater;
@@ -21,8 +22,10 @@ const MANY: usize = 16;
 fn propagate(marks: &mut [u64], work: &mut Work, to: usize, mask: u64) -> Result<(), AllocError>
     requires node { to < length marks.old }
     requires len { length work.old.propagated.items ≡ length marks.old }
-    ensures marks { IfOk result (λ _. Propagated (λ t. t ≡ to) marks.old work.old.pending.items mask marks.new work.new.pending.items) }
-    ensures stays { IfOk result (λ _. StaysListed work.old.propagated.items marks.old work.old.pending.items marks.new work.new.pending.items) }
+    ensures marks { IfOk result (λ _. Propagated (λ t. t ≡ to) marks.old work.old.pending.items mask marks.new
+        work.new.pending.items) }
+    ensures stays { IfOk result (λ _. StaysListed work.old.propagated.items marks.old work.old.pending.items marks.new
+        work.new.pending.items) }
     ensures same { IfOk result (λ _. work.new.propagated ≡ work.old.propagated) }
 {
     let old = marks[to];
@@ -56,8 +59,10 @@ fn visit(
     requires order { lo ≤ hi }
     requires len { length work.old.propagated.items ≡ length marks.old }
     requires targets { (j : ℕ) → j < length targets.now → slice_index targets.now j < length marks.old }
-    ensures marks { IfOk result (λ _. Propagated (IsAmong targets.now lo hi) marks.old work.old.pending.items mask marks.new work.new.pending.items) }
-    ensures stays { IfOk result (λ _. StaysListed work.old.propagated.items marks.old work.old.pending.items marks.new work.new.pending.items) }
+    ensures marks { IfOk result (λ _. Propagated (IsAmong targets.now lo hi) marks.old work.old.pending.items mask
+        marks.new work.new.pending.items) }
+    ensures stays { IfOk result (λ _. StaysListed work.old.propagated.items marks.old work.old.pending.items marks.new
+        work.new.pending.items) }
     ensures same { IfOk result (λ _. work.new.propagated ≡ work.old.propagated) }
 {
     for j in lo..hi {
@@ -136,8 +141,10 @@ fn pass(
         (pass_of (edges_of graph.now) k mask)
         (worklist_of marks.old work.old)
         (way_of (k + 1) (low_at (edges_of graph.now) k) (worklist_of marks.old work.old)) }
-    ensures marks { IfOk result (λ _. Propagated (IsTarget (edges_of graph.now) k) marks.old work.old.pending.items mask marks.new work.new.pending.items) }
-    ensures working { IfOk result (λ _. Working (edges_of graph.now) marks.new work.new.propagated.items work.new.pending.items) }
+    ensures marks { IfOk result (λ _. Propagated (IsTarget (edges_of graph.now) k) marks.old work.old.pending.items mask
+        marks.new work.new.pending.items) }
+    ensures working { IfOk result (λ _. Working (edges_of graph.now) marks.new work.new.propagated.items
+        work.new.pending.items) }
 {
     let node = graph.nodes[k];
     if node.low >= node.high {
@@ -159,8 +166,10 @@ fn pass(
 fn step(marks: &mut [u64], work: &mut Work, graph: &Graph<'_>, k: usize) -> Result<(), AllocError>
     requires node { k < length marks.old }
     requires working { Working (edges_of graph.now) marks.old work.old.propagated.items (k ∷ work.old.pending.items) }
-    ensures step { IfOk result (λ _. Stepped (edges_of graph.now) k (worklist_of marks.old work.old) (worklist_of marks.new work.new)) }
-    ensures working { IfOk result (λ _. Working (edges_of graph.now) marks.new work.new.propagated.items work.new.pending.items) }
+    ensures step { IfOk result (λ _. Stepped (edges_of graph.now) k (worklist_of marks.old work.old)
+        (worklist_of marks.new work.new)) }
+    ensures working { IfOk result (λ _. Working (edges_of graph.now) marks.new work.new.propagated.items
+        work.new.pending.items) }
 {
     let mask = marks[k];
     let node = graph.nodes[k];

@@ -54,8 +54,10 @@ pub fn sharing_edges(
     parents: &[usize],
     sharing: &mut [u64],
 ) -> Result<(), AllocError>
-    requires { SharingEdgesFit (record { nodes = nodes.now; parents = parents.now; links = sharing.old }) (length marks.now) }
-    ensures { IfOk result (λ _. AreSharingEdges (record { nodes = nodes.now; parents = parents.now; links = sharing.old }) marks.now sharing.new) }
+    requires { SharingEdgesFit (record { nodes = nodes.now; parents = parents.now; links = sharing.old })
+        (length marks.now) }
+    ensures { IfOk result (λ _. AreSharingEdges
+        (record { nodes = nodes.now; parents = parents.now; links = sharing.old }) marks.now sharing.new) }
 {
     let touches = marks_above(alloc, parents, nodes, marks, Right::Load)?;
     let writes = marks_above(alloc, parents, nodes, marks, Right::Store)?;
@@ -76,10 +78,12 @@ fn until_saturated(
     links: [u64; 64],
 ) -> Result<(), AllocError>
     requires ready { IsReady (edges_of graph.now) marks.old work.old.propagated.items }
-    requires sharing { SharingEdgesFit (record { nodes = graph.now.nodes.now; parents = parents.now; links = links }) (length marks.old) }
+    requires sharing { SharingEdgesFit (record { nodes = graph.now.nodes.now; parents = parents.now; links = links })
+        (length marks.old) }
     ensures reach { IfOk
         result
-        (λ _. IsReach (edges_of graph.now) (record { nodes = graph.now.nodes.now; parents = parents.now; links = links }) marks.old marks.new) }
+        (λ _. IsReach (edges_of graph.now)
+        (record { nodes = graph.now.nodes.now; parents = parents.now; links = links }) marks.old marks.new) }
     ensures fits { IfOk result (λ _. (k : ℕ) → slice_index marks.new k < 2 ^ 64) }
 {
     loop {
@@ -128,10 +132,12 @@ pub fn saturate(
     links: [u64; 64],
 ) -> Result<(), AllocError>
     requires edges { Fits (record { nodes = nodes.now; targets = targets.now }) (length marks.old) }
-    requires sharing { SharingEdgesFit (record { nodes = nodes.now; parents = parents.now; links = links }) (length marks.old) }
+    requires sharing { SharingEdgesFit (record { nodes = nodes.now; parents = parents.now; links = links })
+        (length marks.old) }
     ensures reach { IfOk
         result
-        (λ _. IsReach (record { nodes = nodes.now; targets = targets.now }) (record { nodes = nodes.now; parents = parents.now; links = links }) marks.old marks.new) }
+        (λ _. IsReach (record { nodes = nodes.now; targets = targets.now })
+        (record { nodes = nodes.now; parents = parents.now; links = links }) marks.old marks.new) }
     ensures fits { IfOk result (λ _. (k : ℕ) → slice_index marks.new k < 2 ^ 64) }
 {
     let after = after(alloc, parents)?;

@@ -16,7 +16,8 @@ impl Work {
     /// Whether a node has propagated all groups of a mask.
     pub fn has_propagated(&self, node: usize, mask: u64) -> bool
         requires { node < length self.now.propagated.items }
-        ensures { IsTrue result ↔ (bit_or mask (slice_index self.now.propagated.items node) ≡ slice_index self.now.propagated.items node) }
+        ensures { IsTrue result ↔ (bit_or mask (slice_index self.now.propagated.items node) ≡ slice_index
+            self.now.propagated.items node) }
     {
         let done = self.propagated[node];
         mask | done == done
@@ -25,7 +26,8 @@ impl Work {
     /// Notes that a node has propagated the groups of a mask.
     pub fn add(&mut self, node: usize, mask: u64)
         requires { node < length self.old.propagated.items }
-        ensures propagated { self.new.propagated.items ≡ slice_set self.old.propagated.items node (bit_or (slice_index self.old.propagated.items node) mask) }
+        ensures propagated { self.new.propagated.items ≡ slice_set self.old.propagated.items node
+            (bit_or (slice_index self.old.propagated.items node) mask) }
         ensures pending { self.new.pending ≡ self.old.pending }
     {
         self.propagated[node] |= mask;

@@ -9,8 +9,8 @@ use Rattle.mm_format.specs.Formats.Outcome.{Got}
 use Rattle.mm_format.specs.Headers.{header}
 use Rattle.mm_format.specs.Images.{slots, pages, image, image_fault}
 
--- the first fault of an image file is that of its header, if that has one; else that of the slots, where the header ends;
--- and else that of the pages, where the slots end
+-- the first fault of an image file is that of its header, if that has one; else that of the slots, where the header
+-- ends; and else that of the pages, where the slots end
 pub record FaultsComeInOrder (bytes : List ℕ) : Type 0 where
   pub of_header : (f : ℕ × ℕ) → fault_in (header.read bytes 0) ≡ Some f → image_fault bytes ≡ Some f
   pub of_slots : (h : Header) (at : ℕ) → header.read bytes 0 ≡ Got h at → (f : ℕ × ℕ)

@@ -1,5 +1,7 @@
 -- The parts of a graph stand for their image.
-use Rattle.std.proofs.Common.{◌≡◌, ℕ, ◌+◌, ◌-◌, ◌*◌, ◌/◌, ◌%◌, ◌^◌, ◌<◌, ◌≤◌, ◌⊎◌, inl, inr, Bool, true, false, List, length, slice_index, get_or, Option, Some, None, option_and_then, refl, sym, ap, ◌∙◌, subst, arith, pow_pos}
+use Rattle.std.proofs.Common.{◌≡◌, ℕ, ◌+◌, ◌-◌, ◌*◌, ◌/◌, ◌%◌, ◌^◌, ◌<◌, ◌≤◌, ◌⊎◌, inl, inr, Bool, true, false, List}
+use Rattle.std.proofs.Common.{length, slice_index, get_or, Option, Some, None, option_and_then, refl, sym, ap, ◌∙◌}
+use Rattle.std.proofs.Common.{subst, arith, pow_pos}
 use Rattle.std.specs.Int.{bit_at}
 use Rattle.std.specs.List.{Contains}
 use Rattle.std.proofs.lemmas.List.{get_or_default}
@@ -197,7 +199,8 @@ module _ (i : Image) (e : Entries) (image : IsImage i) (keys : List CanonicalPtr
   entry_key_at : (a : ℕ) (q : Pointer) (o : Option CanonicalPtr) → enter_result (node a) ≡ Some q → standing_key q ≡ o → entry_key (key_at keys a) ≡ o
   entry_key_at a q o h e2 = ap (option_and_then standing_key) h ∙ e2
 
-  enters_at_node : (a g : ℕ) (q : Pointer) → a < length start → g < 64 → MayEnter e g (node a) → ((node a).perm ≡ Eu) ⊎ ((node a).perm ≡ Ep) → enter_result (node a) ≡ Some q → IsPowerless q ⊎ Entered node edges a g (length start) q
+  enters_at_node : (a g : ℕ) (q : Pointer) → a < length start → g < 64 → MayEnter e g (node a) → ((node a).perm ≡ Eu) ⊎
+      ((node a).perm ≡ Ep) → enter_result (node a) ≡ Some q → IsPowerless q ⊎ Entered node edges a g (length start) q
   enters_at_node a g q lt small may perm h = go (standing_key q) refl
     where
       go : (o : Option CanonicalPtr) → standing_key q ≡ o → IsPowerless q ⊎ Entered node edges a g (length start) q
@@ -250,7 +253,8 @@ module _ (i : Image) (e : Entries) (image : IsImage i) (keys : List CanonicalPtr
 
   meets_at : (a b w : ℕ) → a < length start → b < length start → StoresAt (node a) w → LoadsAt (node b) w → Meet sharing (length start) a b
   meets_at a b w la lb st ld =
-      let x = share f.bases f.logs f.ends parents f.ordered f.forest par_len a b w (in_base a la) (in_base b lb) (in_segment a w la (covers_in (node a) w st.covers)) (in_segment b w lb (covers_in (node b) w ld.covers)) in
+      let x = share f.bases f.logs f.ends parents f.ordered f.forest par_len a b w (in_base a la) (in_base b lb)
+      (in_segment a w la (covers_in (node a) w st.covers)) (in_segment b w lb (covers_in (node b) w ld.covers)) in
       record { at = x.at; small = unfit x.at (let lt = x.small in let q = f.is_bases.len in omega arith); left = x.left; right = x.right }
 
   -- the word in which the base of a segment above lies

@@ -1,5 +1,7 @@
 -- What was found is what the cells hold, in the order of their words.
-use Rattle.std.proofs.Common.{◌≡◌, ℕ, zero, suc, ◌+◌, ◌*◌, ◌%◌, ◌^◌, ◌<◌, ◌≤◌, inl, inr, Bool, true, false, if◌then◌else◌, List, [], ◌∷◌, ◌++◌, length, get_or, slice_get, Option, Some, None, refl, sym, ap, ◌∙◌, subst, arith, eqb-true}
+use Rattle.std.proofs.Common.{◌≡◌, ℕ, zero, suc, ◌+◌, ◌*◌, ◌%◌, ◌^◌, ◌<◌, ◌≤◌, inl, inr, Bool, true, false}
+use Rattle.std.proofs.Common.{if◌then◌else◌, List, [], ◌∷◌, ◌++◌, length, get_or, slice_get, Option, Some, None, refl}
+use Rattle.std.proofs.Common.{sym, ap, ◌∙◌, subst, arith, eqb-true}
 use Rattle.std.specs.List.{Contains, flat_map}
 use Rattle.std.specs.Ordering.{nat_cmp, eq_by_cmp}
 use Rattle.std.specs.Cmp.{unsigned_tied}
@@ -21,15 +23,20 @@ use Rattle.mm_graph.proofs.KeyLists.{contains_here, contains_rest, contains_case
 at_found : (w : ℕ) (o : Option CanonicalPtr) (key : CanonicalPtr) → o ≡ Some key → Contains (found_at w o) (record { word = w; key = key })
 at_found w o key e = subst (λ v. Contains (found_at w v) (record { word = w; key = key })) (sym e) (contains_here _ [])
 
-pub in_cells : (w : ℕ) (cells : List Cell) (k : ℕ) (c : Cell) (key : CanonicalPtr) → slice_get cells k ≡ Some c → word_key c.word ≡ Some key → Contains (cell_keys w cells) (record { word = w + 8 * k; key = key })
+pub in_cells : (w : ℕ) (cells : List Cell) (k : ℕ) (c : Cell) (key : CanonicalPtr) → slice_get cells k ≡ Some c
+    → word_key c.word ≡ Some key → Contains (cell_keys w cells) (record { word = w + 8 * k; key = key })
 in_cells w [] k c key at is = cc
 in_cells w (x ∷ xs) zero c key at is =
     let same : x ≡ c = cc in
     let word : w ≡ w + 8 * 0 = omega arith in
-    Contains-append_left (found_at w (word_key x.word)) (cell_keys (w + 8) xs) _ (subst (λ v. Contains (found_at w (word_key x.word)) (record { word = v; key = key })) word (at_found w (word_key x.word) key (ap (λ (v : Cell). word_key v.word) same ∙ is)))
+    Contains-append_left (found_at w (word_key x.word)) (cell_keys (w + 8) xs) _
+    (subst (λ v. Contains (found_at w (word_key x.word)) (record { word = v; key = key })) word
+    (at_found w (word_key x.word) key (ap (λ (v : Cell). word_key v.word) same ∙ is)))
 in_cells w (x ∷ xs) (suc k) c key at is =
     let word : w + 8 + 8 * k ≡ w + 8 * suc k = omega arith in
-    Contains-append_right (found_at w (word_key x.word)) (cell_keys (w + 8) xs) _ (subst (λ v. Contains (cell_keys (w + 8) xs) (record { word = v; key = key })) word (in_cells (w + 8) xs k c key at is))
+    Contains-append_right (found_at w (word_key x.word)) (cell_keys (w + 8) xs) _
+    (subst (λ v. Contains (cell_keys (w + 8) xs) (record { word = v; key = key })) word
+    (in_cells (w + 8) xs k c key at is))
 
 -- the cell of what was found
 pub record CellAt (w : ℕ) (cells : List Cell) (f : Found) : Type 0 where
@@ -166,12 +173,15 @@ rises_cells w lo (x ∷ xs) rest le h =
     at tail (Some key) = (le, tail (w + 1) (omega arith))
 
 rises_pages : (pages : List (ℕ × List Cell)) (lo : ℕ) → ((k : ℕ) (d : ℕ × List Cell) → k < length pages → lo ≤ (get_or pages k d).0)
-    → ((i j : ℕ) (d : ℕ × List Cell) → i < j → j < length pages → (get_or pages i d).0 < (get_or pages j d).0) → ((p : ℕ × List Cell) → Contains pages p → length p.1 ≡ 512) → Rises (lo * 4096) (page_keys pages)
+    → ((i j : ℕ) (d : ℕ × List Cell) → i < j → j < length pages → (get_or pages i d).0 < (get_or pages j d).0)
+    → ((p : ℕ × List Cell) → Contains pages p → length p.1 ≡ 512) → Rises (lo * 4096) (page_keys pages)
 rises_pages [] lo low rise whole = tt
 rises_pages (p ∷ ps) lo low rise whole =
     let first = low 0 p (omega arith) in
     let many = whole p (contains_here p ps) in
-    let later = rises_pages ps (p.0 + 1) (λ k d lt. let up = rise 0 (suc k) d (omega arith) (omega arith) in omega arith) (λ i j d lt small. rise (suc i) (suc j) d (omega arith) (omega arith)) (λ q m. whole q (contains_rest p q ps m)) in
+    let later = rises_pages ps (p.0 + 1) (λ k d lt. let up = rise 0 (suc k) d (omega arith) (omega arith) in omega
+    arith) (λ i j d lt small. rise (suc i) (suc j) d (omega arith) (omega arith))
+    (λ q m. whole q (contains_rest p q ps m)) in
     rises_cells (p.0 * 4096) (lo * 4096) p.1 (page_keys ps) (omega arith) (subst (λ v. Rises v (page_keys ps)) (let e : (p.0 + 1) * 4096 ≡ p.0 * 4096 + 8 * length p.1 = omega arith in e) later)
 
 rises_at : (lo : ℕ) (xs : List Found) (k : ℕ) → Rises lo xs → k < length xs → lo ≤ found_word xs k

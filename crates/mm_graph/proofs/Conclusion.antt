@@ -13,7 +13,8 @@ use Rattle.mm_graph.specs.Marked.{IsMarked, node_pointer}
 use Rattle.mm_graph.proofs.Assembly.{graph}
 
 pub marked_all : (i : Image) (e : Entries) (keys : List CanonicalPtr) (nodes : List Node) (targets parents links start marks : List ℕ) → IsImage i → IsBuilt i e keys nodes targets parents links start
-    → IsReach (record { nodes = nodes; targets = targets }) (record { nodes = nodes; parents = parents; links = links }) start marks → ((k : ℕ) → slice_index marks k < 2 ^ 64) → IsMarked i e keys nodes marks
+    → IsReach (record { nodes = nodes; targets = targets }) (record { nodes = nodes; parents = parents; links = links })
+    start marks → ((k : ℕ) → slice_index marks k < 2 ^ 64) → IsMarked i e keys nodes marks
 marked_all i e keys nodes targets parents links start marks image b r fits =
     let n = b.has_nodes.is_nodes in
     record {

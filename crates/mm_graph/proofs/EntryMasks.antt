@@ -54,7 +54,9 @@ entry_to_seed (x ∷ xs) (y ∷ ys) p z m = elim (contains_cases x p xs m) [
   | inr old ↦ let f = entry_to_seed xs ys p z.1 old in record { seed = f.seed; is_in = contains_rest y f.seed ys f.is_in; is = f.is }
 ]
 
-pub list_masks : (list : List (ℕ × Pointer)) (seeds : List Seed) (keys : List CanonicalPtr) (masks : List ℕ) → ((k : CanonicalPtr) → SpellsPointer k.bits → bits_of (pointer_of k.bits) ≡ k.bits) → AllZip IsEntrySeed list seeds → All IsKey keys → IsMarks keys seeds masks → IsEntryMasks (TheseEntries list) keys masks
+pub list_masks : (list : List (ℕ × Pointer)) (seeds : List Seed) (keys : List CanonicalPtr) (masks : List ℕ)
+    → ((k : CanonicalPtr) → SpellsPointer k.bits → bits_of (pointer_of k.bits) ≡ k.bits) → AllZip IsEntrySeed list seeds
+    → All IsKey keys → IsMarks keys seeds masks → IsEntryMasks (TheseEntries list) keys masks
 list_masks list seeds keys masks bits z all m = record {
   len = m.len;
   only = λ k g lt h.
@@ -75,5 +77,6 @@ zip_push R [] (v ∷ vs) x y z r = absurd z
 zip_push R (u ∷ us) [] x y z r = absurd z
 zip_push R (u ∷ us) (v ∷ vs) x y z r = (z.0, zip_push R us vs x y z.1 r)
 
-pub zip_more : {A B : Type 0} (R : A → B → Type 0) (xs : List A) (ys : List B) (k : ℕ) (d : A) (y : B) → k < length xs → AllZip R (take k xs) ys → R (get_or xs k d) y → AllZip R (take (k + 1) xs) (ys ++ y ∷ [])
+pub zip_more : {A B : Type 0} (R : A → B → Type 0) (xs : List A) (ys : List B) (k : ℕ) (d : A) (y : B) → k < length xs
+    → AllZip R (take k xs) ys → R (get_or xs k d) y → AllZip R (take (k + 1) xs) (ys ++ y ∷ [])
 zip_more R xs ys k d y lt z r = rw (take_more xs k d lt) (zip_push R (take k xs) ys (get_or xs k d) y z r)

@@ -40,7 +40,8 @@ module _ (i : Image) (e : Entries) (node : ℕ → Pointer) (n : Edges) (t : Sha
       passed h w.word (whole_by Rw) (node b) (granted h k r) (made (node a) (granted h a ra) (graph.makes a la ka) (whole_fits Rw))
       (record { word = w.loads.word; right = refl; covers = whole_covers w.word w.loads.word w.small }) (granted g b rb) w.loads
 
-  module _ (marks : List ℕ) (r : IsReach n t start marks) (fits : (k : ℕ) → slice_index marks k < 2 ^ 64) (rights : ℕ) (right : (g : ℕ) → (bit_at rights g ≡ 1) ↔ HasSome marks (right_at t.nodes Make) g) where
+  module _ (marks : List ℕ) (r : IsReach n t start marks) (fits : (k : ℕ) → slice_index marks k < 2 ^ 64) (rights : ℕ)
+      (right : (g : ℕ) → (bit_at rights g ≡ 1) ↔ HasSome marks (right_at t.nodes Make) g) where
     abbrev privileged : ℕ → Bool
     privileged = in_mask rights
 
@@ -90,7 +91,8 @@ module _ (i : Image) (e : Entries) (node : ℕ → Pointer) (n : Edges) (t : Sha
           holds g (slice_index n.targets x.at) q lt2 (r.each g (slice_index n.targets x.at) lt2 (along a x.at (r.only g a h) (fit a lt) x.low x.high refl)) x.below
     ]
 
-    enter : (g : ℕ) (q : Pointer) (a : ℕ) → a < length marks → Has marks a g → MayEnter e g (node a) → ((node a).perm ≡ Eu) ⊎ ((node a).perm ≡ Ep) → enter_result (node a) ≡ Some q → Holds privileged known g q
+    enter : (g : ℕ) (q : Pointer) (a : ℕ) → a < length marks → Has marks a g → MayEnter e g (node a)
+        → ((node a).perm ≡ Eu) ⊎ ((node a).perm ≡ Ep) → enter_result (node a) ≡ Some q → Holds privileged known g q
     enter g q a lt h may perm is = elim (graph.enters a g q (fit a lt) (small_group a g h) may perm is) [
       | inl x ↦ inr (inl x)
       | inr x ↦
@@ -101,11 +103,14 @@ module _ (i : Image) (e : Entries) (node : ℕ → Pointer) (n : Edges) (t : Sha
     shares : (g h w a b : ℕ) → a < length marks → b < length marks → Has marks a h → Has marks b g → StoresAt (node a) w → LoadsAt (node b) w → Includes privileged known g h
     shares g h w a b la lb ha hb st ld =
         let m = graph.meets a b w (fit a la) (fit b lb) st ld in
-        includes g h (λ k lt x. shared h m.at a b (small_group a h ha) (r.only h k x) m.small (r.only h a ha) (graph.stores a w (fit a la) st) m.left (r.only g b hb) (graph.loads b w (fit b lb) ld) m.right)
+        includes g h (λ k lt x. shared h m.at a b (small_group a h ha) (r.only h k x) m.small (r.only h a ha)
+        (graph.stores a w (fit a la) st) m.left (r.only g b hb) (graph.loads b w (fit b lb) ld) m.right)
 
     lends : (g h w b : ℕ) → b < length marks → Has marks b g → LoadsAt (node b) w → HasSome marks (right_at t.nodes Make) h → IsTrue (privileged g)
     lends g h w b lb hb ld x =
-        makes_right g x.node x.small (r.each g x.node x.small (by_maker h x.node b (small_group x.node h x.marked) (r.only h x.node x.marked) (fit x.node x.small) (r.only h x.node x.marked) x.kept (fit b lb) (r.only g b hb) (graph.loads b w (fit b lb) ld)))
+        makes_right g x.node x.small (r.each g x.node x.small (by_maker h x.node b (small_group x.node h x.marked)
+        (r.only h x.node x.marked) (fit x.node x.small) (r.only h x.node x.marked) x.kept (fit b lb) (r.only g b hb)
+        (graph.loads b w (fit b lb) ld)))
         (graph.makes x.node (fit x.node x.small) x.kept)
 
     closed : IsClosed i e privileged known

@@ -28,7 +28,9 @@ both_ways old a b len la lb =
 wider : (slots : List Slot) (served : Slot) (k h g : ℕ) → ServedBy slots served k h g → ServedBy slots served (k + 1) h g
 wider slots served k h g x = record { at = x.at; small = (let lt = x.small in omega arith); server = x.server; is = x.is; handles = x.handles }
 
-pub one_more : (slots : List Slot) (served server : Slot) (k : ℕ) (old a b : List ℕ) → k < length slots → server ≡ get_or slots k server → LinksOne slots served k old a → LinksTo served server a b → LinksOne slots served (k + 1) old b
+pub one_more : (slots : List Slot) (served server : Slot) (k : ℕ) (old a b : List ℕ) → k < length slots
+    → server ≡ get_or slots k server → LinksOne slots served k old a → LinksTo served server a b → LinksOne slots served
+    (k + 1) old b
 one_more slots served server k old a b lt is x y = record {
   len = y.len ∙ x.len;
   only = λ h g z. elim (y.only h g z) [

@@ -1,5 +1,7 @@
 -- Lists of keys.
-use Rattle.std.proofs.Common.{◌≡◌, ℕ, zero, suc, ◌+◌, ◌<◌, ◌⊎◌, ◌↔◌, inl, inr, List, [], ◌∷◌, ◌++◌, length, length-append, slice_index_or, take, map, get_or, Option, Some, None, refl, sym, ap, ◌∙◌, subst, arith}
+use Rattle.std.proofs.Common.{◌≡◌, ℕ, zero, suc, ◌+◌, ◌<◌, ◌⊎◌, ◌↔◌, inl, inr, List, [], ◌∷◌, ◌++◌, length}
+use Rattle.std.proofs.Common.{length-append, slice_index_or, take, map, get_or, Option, Some, None, refl, sym, ap, ◌∙◌}
+use Rattle.std.proofs.Common.{subst, arith}
 use Rattle.std.specs.List.{Contains, All, filter_map, cons_option}
 use Rattle.std.specs.Option.{option_to_list}
 use Rattle.std.proofs.lemmas.List.{take_more, get_or_append_left, get_or-map, length-map}
@@ -100,14 +102,17 @@ module _ (found : List Found) (seeds : List Seed) where
       let two = length-append (held_keys found seeds) (filter_map entry_key (held_keys found seeds)) in
       omega arith
 
-  pub targets_made : (keys : List CanonicalPtr) (placed : List Placed) (targets : List ℕ) → length targets ≡ length found → IsPlaced (all_keys_of found seeds) placed → HasTargets keys placed targets → IsTargets keys found targets
+  pub targets_made : (keys : List CanonicalPtr) (placed : List Placed) (targets : List ℕ) → length targets ≡ length
+      found → IsPlaced (all_keys_of found seeds) placed → HasTargets keys placed targets → IsTargets keys found targets
   targets_made keys placed targets len is has = record {
     len = len;
     small = λ j lt. (has (all_keys_of found seeds) is j (found_fits j lt) (omega arith)).0;
     at = λ j lt. (has (all_keys_of found seeds) is j (found_fits j lt) (omega arith)).1 ∙ key_of_found j lt;
   }
 
-  module _ (of_found : All (λ (f : Found). IsKey f.key) found) (of_seeds : All (λ (s : Seed). IsKey s.key) seeds) (new : List CanonicalPtr) (rising : IsRising new) (same : (x : CanonicalPtr) → Contains new x ↔ Contains (all_keys_of found seeds) x) where
+  module _ (of_found : All (λ (f : Found). IsKey f.key) found) (of_seeds : All (λ (s : Seed). IsKey s.key) seeds)
+      (new : List CanonicalPtr) (rising : IsRising new) (same : (x : CanonicalPtr) → Contains new x ↔ Contains
+      (all_keys_of found seeds) x) where
     abbrev zs : List CanonicalPtr
     zs = held_keys found seeds
 

@@ -9,14 +9,19 @@ use Rattle.mm_graph.specs.Found.{found_at, cell_keys, seed_at, word_seeds}
 pub cell_keys-append : (w : ℕ) (xs ys : List Cell) → cell_keys w (xs ++ ys) ≡ cell_keys w xs ++ cell_keys (w + 8 * length xs) ys
 cell_keys-append w [] ys = ap (λ v. cell_keys v ys) (let e : w ≡ w + 8 * 0 = omega arith in e)
 cell_keys-append w (x ∷ xs) ys =
-    ap (λ v. found_at w (word_key x.word) ++ v) (cell_keys-append (w + 8) xs ys ∙ ap (λ v. cell_keys (w + 8) xs ++ cell_keys v ys) (let e : w + 8 + 8 * length xs ≡ w + 8 * length (x ∷ xs) = omega arith in e))
+    ap (λ v. found_at w (word_key x.word) ++ v) (cell_keys-append (w + 8) xs ys
+    ∙ ap (λ v. cell_keys (w + 8) xs ++ cell_keys v ys) (let e : w + 8 + 8 * length xs ≡ w + 8 * length (x ∷ xs) =
+    omega arith in e))
     ∙ sym (append_assoc (found_at w (word_key x.word)) (cell_keys (w + 8) xs) (cell_keys (w + 8 * length (x ∷ xs)) ys))
 
-pub cell_keys-more : (w k : ℕ) (cells : List Cell) (d : Cell) → k < length cells → cell_keys w (take (k + 1) cells) ≡ cell_keys w (take k cells) ++ found_at (w + 8 * k) (word_key (get_or cells k d).word)
+pub cell_keys-more : (w k : ℕ) (cells : List Cell) (d : Cell) → k < length cells → cell_keys w (take (k + 1) cells) ≡
+    cell_keys w (take k cells) ++ found_at (w + 8 * k) (word_key (get_or cells k d).word)
 cell_keys-more w k cells d lt =
     let len = length-take-le k cells (omega arith) in
     ap (cell_keys w) (take_more cells k d lt) ∙ cell_keys-append w (take k cells) (get_or cells k d ∷ [])
-    ∙ ap (λ v. cell_keys w (take k cells) ++ v) (append-nil (found_at (w + 8 * length (take k cells)) (word_key (get_or cells k d).word)) ∙ ap (λ v. found_at (w + 8 * v) (word_key (get_or cells k d).word)) len)
+    ∙ ap (λ v. cell_keys w (take k cells) ++ v)
+    (append-nil (found_at (w + 8 * length (take k cells)) (word_key (get_or cells k d).word))
+    ∙ ap (λ v. found_at (w + 8 * v) (word_key (get_or cells k d).word)) len)
 
 pub word_seeds-append : (g : ℕ) (xs ys : List Word) → word_seeds g (xs ++ ys) ≡ word_seeds g xs ++ word_seeds g ys
 word_seeds-append g [] ys = refl

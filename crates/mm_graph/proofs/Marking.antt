@@ -25,7 +25,8 @@ no_mark n k g h = zero_bit g (ap (λ v. bit_at v g) (sym (zero_at n k)) ∙ h)
 pub same_seed : (s : Seed) (g : ℕ) (key : CanonicalPtr) → s.group ≡ g → s.key ≡ key → s ≡ record { group = g; key = key }
 same_seed s g key e f = λ i. record { group = e i; key = f i }
 
-pub one_mark : (keys : List CanonicalPtr) (s : Seed) (old : List ℕ) (k : ℕ) → IsRising keys → length old ≡ length keys → k < length keys → key_at keys k ≡ s.key → s.group < 64 → IsMark keys s old (with_bit old k s.group)
+pub one_mark : (keys : List CanonicalPtr) (s : Seed) (old : List ℕ) (k : ℕ) → IsRising keys → length old ≡ length keys
+    → k < length keys → key_at keys k ≡ s.key → s.group < 64 → IsMark keys s old (with_bit old k s.group)
 one_mark keys s old k rising len lt is small =
     let fit : k < length old = omega arith in
     record {
@@ -45,7 +46,8 @@ marks_start keys n e = record {
   each = λ k g lt small m. absurd (let l = m.1 in omega arith);
 }
 
-pub marks_more : (keys : List CanonicalPtr) (seeds : List Seed) (k : ℕ) (d : Seed) (a b : List ℕ) → k < length seeds → IsMarks keys (take k seeds) a → IsMark keys (get_or seeds k d) a b → IsMarks keys (take (k + 1) seeds) b
+pub marks_more : (keys : List CanonicalPtr) (seeds : List Seed) (k : ℕ) (d : Seed) (a b : List ℕ) → k < length seeds
+    → IsMarks keys (take k seeds) a → IsMark keys (get_or seeds k d) a b → IsMarks keys (take (k + 1) seeds) b
 marks_more keys seeds k d a b lt x y = rw (take_more seeds k d lt) (record {
   len = y.len ∙ x.len;
   only = λ n g h. elim (y.only n g h) [

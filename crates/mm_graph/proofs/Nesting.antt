@@ -22,7 +22,8 @@ less_cases x y h = at (nat_cmp x.base y.base) refl h
     narrows Equal e f = let same = ranked x.narrow y.narrow Equal e in omega arith
     narrows Greater e f = cc
 
-    at : (o : Ordering) → o ≡ nat_cmp x.base y.base → ordering_then o (ordering_then (nat_cmp x.narrow y.narrow) (nat_cmp x.bits y.bits)) ≡ Less → (x.base < y.base) ⊎ ((x.base ≡ y.base) × (x.narrow ≤ y.narrow))
+    at : (o : Ordering) → o ≡ nat_cmp x.base y.base → ordering_then o (ordering_then (nat_cmp x.narrow y.narrow)
+        (nat_cmp x.bits y.bits)) ≡ Less → (x.base < y.base) ⊎ ((x.base ≡ y.base) × (x.narrow ≤ y.narrow))
     at Less e f = inl (ranked x.base y.base Less e)
     at Equal e f = inr (ranked x.base y.base Equal e, narrows (nat_cmp x.narrow y.narrow) refl f)
     at Greater e f = cc
@@ -80,6 +81,8 @@ ordered_keys keys bases ends rising all b e = record {
 pub nested_keys : (keys : List CanonicalPtr) (bases ends : List ℕ) → IsRising keys → All IsKey keys → IsBases keys bases → IsEnds keys ends → IsNested bases ends
 nested_keys keys bases ends rising all b e = ordered_nested bases (logs_of keys) ends (ordered_keys keys bases ends rising all b e)
 
-pub has_forest : (keys : List CanonicalPtr) (bases ends parents : List ℕ) → IsRising keys → All IsKey keys → IsBases keys bases → IsEnds keys ends → IsForest bases ends parents → length parents ≡ length bases → HasForest keys parents
+pub has_forest : (keys : List CanonicalPtr) (bases ends parents : List ℕ) → IsRising keys → All IsKey keys
+    → IsBases keys bases → IsEnds keys ends → IsForest bases ends parents → length parents ≡ length bases
+    → HasForest keys parents
 has_forest keys bases ends parents rising all b e f len =
     record { bases = bases; logs = logs_of keys; ends = ends; is_bases = b; is_ends = e; ordered = ordered_keys keys bases ends rising all b e; forest = f; len = len ∙ b.len }

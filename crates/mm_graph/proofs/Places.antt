@@ -72,7 +72,9 @@ module _ (keys : List CanonicalPtr) (placed : List Placed) (targets : List ℕ) 
   pub filled_end : k ≡ length placed → HasTargets keys placed targets
   filled_end e all is j lt small = at (is.each j lt).0 (is.each j lt).1 (is.each j lt).2
     where
-      at : (i : ℕ) → i < length placed → get_or placed i (record { key = key_at all j; place = j }) ≡ record { key = key_at all j; place = j } → (slice_index targets j < length keys) × (key_at keys (slice_index targets j) ≡ key_at all j)
+      at : (i : ℕ) → i < length placed → get_or placed i (record { key = key_at all j; place = j }) ≡
+          record { key = key_at all j; place = j } → (slice_index targets j < length keys)
+          × (key_at keys (slice_index targets j) ≡ key_at all j)
       at i less found =
           let there : (placed_at placed i).place ≡ j = ap (λ v. v.place) (get_or_default placed i nowhere _ less ∙ found) in
           subst (λ v. (slice_index targets v < length keys) × (key_at keys (slice_index targets v) ≡ key_at all v)) there (h all is i (omega arith) (omega arith))

@@ -14,11 +14,14 @@ use Rattle.mm_graph.specs.declared.canonical_ptr.CanonicalPtr.{CanonicalPtr}
 use Rattle.mm_graph.specs.Key.{key_cmp, key_eq, key_at, no_key, IsRising}
 
 pub key_total : IsTotalOrder key_cmp
-key_total = then_total (on_total (λ (k : CanonicalPtr). k.base) nat_cmp_total) (then_total (on_total (λ (k : CanonicalPtr). k.narrow) nat_cmp_total) (on_total (λ (k : CanonicalPtr). k.bits) nat_cmp_total))
+key_total = then_total (on_total (λ (k : CanonicalPtr). k.base) nat_cmp_total)
+    (then_total (on_total (λ (k : CanonicalPtr). k.narrow) nat_cmp_total) (on_total (λ (k : CanonicalPtr). k.bits)
+    nat_cmp_total))
 
 pub key_ties : (x y : CanonicalPtr) → key_eq x y ≡ eq_by_cmp key_cmp x y
 key_ties x y =
-    both_tied (x.base == y.base) ((x.narrow == y.narrow) && (x.bits == y.bits)) (nat_cmp x.base y.base) (ordering_then (nat_cmp x.narrow y.narrow) (nat_cmp x.bits y.bits)) (unsigned_ties x.base y.base)
+    both_tied (x.base == y.base) ((x.narrow == y.narrow) && (x.bits == y.bits)) (nat_cmp x.base y.base)
+    (ordering_then (nat_cmp x.narrow y.narrow) (nat_cmp x.bits y.bits)) (unsigned_ties x.base y.base)
     (both_tied (x.narrow == y.narrow) (x.bits == y.bits) (nat_cmp x.narrow y.narrow) (nat_cmp x.bits y.bits) (unsigned_ties x.narrow y.narrow) (unsigned_ties x.bits y.bits))
 
 both_true : (a b : Bool) → a && b ≡ true → (a ≡ true) × (b ≡ true)
@@ -56,7 +59,9 @@ searchable keys x h = searchable_from_sorted key_total (λ (k : CanonicalPtr). k
         let two = get_or_default keys k d no_key (omega arith) in
         rw (one, two) (back (key_cmp (key_at keys k) (key_at keys (k + 1))) (key_cmp (key_at keys (k + 1)) (key_at keys k)) (key_total.antisymm (key_at keys (k + 1)) (key_at keys k)) up)
 
-pub not_there : (keys : List CanonicalPtr) (x : CanonicalPtr) (i : ℕ) → IsRising keys → (IsNonDecreasingBy (λ y. ordering_index (key_cmp y x)) keys → IsPartitionPoint (λ y. key_cmp y x ≡ Less) (λ y. key_cmp y x ≡ Greater) keys i) → Contains keys x → ⊥
+pub not_there : (keys : List CanonicalPtr) (x : CanonicalPtr) (i : ℕ) → IsRising keys
+    → (IsNonDecreasingBy (λ y. ordering_index (key_cmp y x)) keys → IsPartitionPoint (λ y. key_cmp y x ≡ Less)
+    (λ y. key_cmp y x ≡ Greater) keys i) → Contains keys x → ⊥
 not_there keys x i h parts m =
     let apart = parts (searchable keys x h) in
     let tied : key_cmp (get_or keys m.0 x) x ≡ Equal = ap (λ y. key_cmp y x) m.2 ∙ tied_itself key_total x in

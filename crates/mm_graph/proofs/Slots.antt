@@ -44,7 +44,8 @@ from_words g (x ∷ xs) s m = elim (Contains-append_cases (seed_at g (word_key x
   | inr later ↦ let r = from_words g xs s later in record { word = r.word; is_in = contains_rest x r.word xs r.is_in; holds = r.holds; group = r.group }
 ]
 
-pub held_seed : (slots : List Slot) (s : Slot) (q : Pointer) (key : CanonicalPtr) → Contains slots s → Contains s.regs (Ptr q) → standing_key q ≡ Some key → Contains (seeds_of slots) (record { group = s.group; key = key })
+pub held_seed : (slots : List Slot) (s : Slot) (q : Pointer) (key : CanonicalPtr) → Contains slots s → Contains s.regs
+    (Ptr q) → standing_key q ≡ Some key → Contains (seeds_of slots) (record { group = s.group; key = key })
 held_seed slots s q key m r e = in_flat_map slot_seeds slots s _ m (in_words s.group (Ptr s.ip ∷ s.regs) (Ptr q) key (contains_rest (Ptr s.ip) (Ptr q) s.regs r) e)
 
 pub run_seed : (slots : List Slot) (s : Slot) (key : CanonicalPtr) → Contains slots s → standing_key s.ip ≡ Some key → Contains (seeds_of slots) (record { group = s.group; key = key })

@@ -38,7 +38,12 @@ move_cases true p P x y = x refl
 move_cases false p P x y = y refl
 
 pub standing-well_formed : (p : Pointer) → IsWellFormed p → IsWellFormed (standing_for p)
-standing-well_formed p w = move_cases (can_move p.perm) p IsWellFormed (λ e. record { log_in_range = w.log_in_range; addr_in_range = let le = base_below p in let lt = w.addr_in_range in omega arith }) (λ e. w)
+standing-well_formed p w = move_cases (can_move p.perm) p IsWellFormed
+    (λ e. record {
+      log_in_range = w.log_in_range;
+      addr_in_range = let le = base_below p in let lt = w.addr_in_range in
+          omega arith;
+    }) (λ e. w)
 
 -- each is below the other
 pub below_standing : (p : Pointer) → IsBelow p (standing_for p)

@@ -84,7 +84,13 @@ module _ (i : Image) (e : Entries) (privileged : ℕ → Bool) (known : ℕ → 
           | inl f ↦ absurd (eu_moves t.by.perm (sym f ∙ x) b.movable)
           | inr m ↦ elim (only_x t.by.perm (ap (can_become t.by.perm) (sym x) ∙ m)) [
             | inr f ↦ inl (closed.makes g t.by t.knows f)
-            | inl f ↦ inr (inr (record { by = t.by; knows = t.knows; below = subst (λ v. IsBelow v t.by) (same_some (sym (ap (form_of p) x) ∙ is)) (inr (record { movable = b.movable; inside = b.inside; rights = inl (sym f) })) }))
+            | inl f ↦ inr (inr (record {
+              by = t.by;
+              knows = t.knows;
+              below = subst (λ v. IsBelow v t.by)
+                  (same_some (sym (ap (form_of p) x) ∙ is))
+                  (inr (record { movable = b.movable; inside = b.inside; rights = inl (sym f) }));
+            }))
           ]
         ]
     enters_in g p q (inr (inr t)) may (inr x) is = from t.below

@@ -71,21 +71,28 @@ pub record Entered (node : ℕ → Pointer) (n : Edges) (a g size : ℕ) (q : Po
   pub small : entry_at n a < size
   pub below : IsBelow q (node (entry_at n a))
 
-pub record IsGraphOf (i : Image) (e : Entries) (node : ℕ → Pointer) (n : Edges) (t : SharingEdges) (start : List ℕ) : Type 0 where
+pub record IsGraphOf (i : Image) (e : Entries) (node : ℕ → Pointer) (n : Edges) (t : SharingEdges)
+    (start : List ℕ) : Type 0 where
   pub groups : (s : Slot) → Contains i.slots s → s.group < 64
-  pub held : (s : Slot) (q : Pointer) → Contains i.slots s → Contains s.regs (Ptr q) → IsPowerless q ⊎ Started node start s.group q
+  pub held : (s : Slot) (q : Pointer) → Contains i.slots s → Contains s.regs (Ptr q) → IsPowerless q
+      ⊎ Started node start s.group q
   pub runs : (s : Slot) → Contains i.slots s → IsPowerless s.ip ⊎ Started node start s.group s.ip
   pub starts : (k g : ℕ) → Has start k g → Grants i e g (node k)
-  pub cells : (a w : ℕ) (c : Cell) (q : Pointer) → a < length start → LoadsAt (node a) w → cell_at i.memory w ≡ Some c → c.word ≡ Ptr q → IsPowerless q ⊎ TargetOf node n a (length start) q
-  pub targets : (a j : ℕ) → a < length start → low_at n a ≤ j → j < high_at n a → CellOf i (node a) (node (slice_index n.targets j))
-  pub enters : (a g : ℕ) (q : Pointer) → a < length start → g < 64 → MayEnter e g (node a) → ((node a).perm ≡ Eu) ⊎ ((node a).perm ≡ Ep) → enter_result (node a) ≡ Some q
+  pub cells : (a w : ℕ) (c : Cell) (q : Pointer) → a < length start → LoadsAt (node a) w → cell_at i.memory w ≡ Some c
+      → c.word ≡ Ptr q → IsPowerless q ⊎ TargetOf node n a (length start) q
+  pub targets : (a j : ℕ) → a < length start → low_at n a ≤ j → j < high_at n a
+      → CellOf i (node a) (node (slice_index n.targets j))
+  pub enters : (a g : ℕ) (q : Pointer) → a < length start → g < 64 → MayEnter e g (node a) → ((node a).perm ≡ Eu)
+      ⊎ ((node a).perm ≡ Ep) → enter_result (node a) ≡ Some q
       → IsPowerless q ⊎ Entered node n a g (length start) q
   pub entries : (a g : ℕ) → a < length start → bit_at (enters_at n a) g ≡ 1 → EntryOf e g (node a) (node (entry_at n a))
   pub loads : (a w : ℕ) → a < length start → LoadsAt (node a) w → right_at t.nodes Load a ≡ true
   pub stores : (a w : ℕ) → a < length start → StoresAt (node a) w → right_at t.nodes Store a ≡ true
   pub rights : (a : ℕ) → a < length start → (node a).perm ≡ Xp → right_at t.nodes Make a ≡ true
-  pub meets : (a b w : ℕ) → a < length start → b < length start → StoresAt (node a) w → LoadsAt (node b) w → Meet t (length start) a b
-  pub meeting : (m a b : ℕ) → m < length start → Up t.parents a m → Up t.parents b m → right_at t.nodes Store a ≡ true → right_at t.nodes Load b ≡ true → CommonWord (node a) (node b)
+  pub meets : (a b w : ℕ) → a < length start → b < length start → StoresAt (node a) w → LoadsAt (node b) w
+      → Meet t (length start) a b
+  pub meeting : (m a b : ℕ) → m < length start → Up t.parents a m → Up t.parents b m → right_at t.nodes Store a ≡ true
+      → right_at t.nodes Load b ≡ true → CommonWord (node a) (node b)
   pub loading : (b : ℕ) → b < length start → right_at t.nodes Load b ≡ true → LoadedWord (node b)
   pub makes : (a : ℕ) → a < length start → right_at t.nodes Make a ≡ true → (node a).perm ≡ Xp
   pub serves : (g h : ℕ) → Serves i g h → Has t.links h g

@@ -19,7 +19,8 @@ abbrev pub node_pointer : List CanonicalPtr → ℕ → Pointer
 node_pointer keys k = pointer_at (key_at keys k)
 
 -- each group's marks are an exact summary of what it is granted
-pub record IsMarked (i : Image) (e : Entries) (keys : List CanonicalPtr) (nodes : List Node) (marks : List ℕ) : Type 0 where
+pub record IsMarked (i : Image) (e : Entries) (keys : List CanonicalPtr) (nodes : List Node)
+    (marks : List ℕ) : Type 0 where
   pub rising : IsRising keys
   pub all : All IsKey keys
   pub nodes_len : length nodes ≡ length keys
@@ -27,4 +28,5 @@ pub record IsMarked (i : Image) (e : Entries) (keys : List CanonicalPtr) (nodes 
   pub fits : (k : ℕ) → slice_index marks k < 2 ^ 64
   pub loads : (k : ℕ) → k < length keys → right_at nodes Load k ≡ loads_words (node_pointer keys k)
   pub stores : (k : ℕ) → k < length keys → right_at nodes Store k ≡ stores_words (node_pointer keys k)
-  pub exact : (rights : ℕ) → ((g : ℕ) → (bit_at rights g ≡ 1) ↔ HasSome marks (right_at nodes Make) g) → IsExact i e (in_mask rights) (Marked (node_pointer keys) marks)
+  pub exact : (rights : ℕ) → ((g : ℕ) → (bit_at rights g ≡ 1) ↔ HasSome marks (right_at nodes Make) g)
+      → IsExact i e (in_mask rights) (Marked (node_pointer keys) marks)

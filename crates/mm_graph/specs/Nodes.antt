@@ -1,5 +1,6 @@
 -- The parts of a graph, for keys and pointers in cells.
-use Rattle.std.specs.Prelude.{◌≡◌, ℕ, ◌+◌, ◌^◌, ◌<◌, ◌≤◌, true, false, ◌⊎◌, List, length, slice_index, slice_index_or, Contains, All, Some, None}
+use Rattle.std.specs.Prelude.{◌≡◌, ℕ, ◌+◌, ◌^◌, ◌<◌, ◌≤◌, true, false, ◌⊎◌, List, length, slice_index, slice_index_or}
+use Rattle.std.specs.Prelude.{Contains, All, Some, None}
 use Rattle.mm_word.specs.Pointer.{Pointer, base_of}
 use Rattle.mm_model.specs.Slot.{Slot}
 use Rattle.mm_flow.specs.declared.node.Node.{Node}
@@ -8,7 +9,8 @@ use Rattle.mm_flow.specs.Flow.{Has}
 use Rattle.mm_graph.specs.declared.canonical_ptr.CanonicalPtr.{CanonicalPtr}
 use Rattle.mm_graph.specs.declared.found.Found.{Found}
 use Rattle.mm_graph.specs.declared.seed.Seed.{Seed}
-use Rattle.mm_graph.specs.Key.{IsKey, IsRising, key_at, no_key, pointer_at, entry_key, loads_words, stores_words, makes_pointers, is_entry}
+use Rattle.mm_graph.specs.Key.{IsKey, IsRising, key_at, no_key, pointer_at, entry_key, loads_words, stores_words}
+use Rattle.mm_graph.specs.Key.{makes_pointers, is_entry}
 
 -- the keys of pointers in cells and of seeds, with those of entries
 pub record IsKeysOf (found : List Found) (seeds : List Seed) (keys : List CanonicalPtr) : Type 0 where
@@ -46,14 +48,17 @@ pub record IsRange (found : List Found) (p : Pointer) (low high : ℕ) : Type 0 
   pub order : low ≤ high
   pub fits : high ≤ length found
   pub none : loads_words p ≡ false → high ≡ low
-  pub inside : loads_words p ≡ true → (j : ℕ) → low ≤ j → j < high → (base_of p ≤ found_word found j) × (found_word found j < base_of p + 2 ^ p.log)
-  pub each : loads_words p ≡ true → (j : ℕ) → j < length found → base_of p ≤ found_word found j → found_word found j < base_of p + 2 ^ p.log → (low ≤ j) × (j < high)
+  pub inside : loads_words p ≡ true → (j : ℕ) → low ≤ j → j < high → (base_of p ≤ found_word found j)
+      × (found_word found j < base_of p + 2 ^ p.log)
+  pub each : loads_words p ≡ true → (j : ℕ) → j < length found → base_of p ≤ found_word found j
+      → found_word found j < base_of p + 2 ^ p.log → (low ≤ j) × (j < high)
 
 -- the marks are those of the seeds
 pub record IsMarks (keys : List CanonicalPtr) (seeds : List Seed) (marks : List ℕ) : Type 0 where
   pub len : length marks ≡ length keys
   pub only : (k g : ℕ) → Has marks k g → (g < 64) × Contains seeds (record { group = g; key = key_at keys k })
-  pub each : (k g : ℕ) → k < length keys → g < 64 → Contains seeds (record { group = g; key = key_at keys k }) → Has marks k g
+  pub each : (k g : ℕ) → k < length keys → g < 64 → Contains seeds (record { group = g; key = key_at keys k })
+      → Has marks k g
 
 -- the node of the key at an index, by which the groups of a mask may enter
 pub record IsNode (keys : List CanonicalPtr) (found : List Found) (mask k : ℕ) (n : Node) : Type 0 where
@@ -62,8 +67,10 @@ pub record IsNode (keys : List CanonicalPtr) (found : List Found) (mask k : ℕ)
   pub loads : n.loads ≡ loads_words (pointer_at (key_at keys k))
   pub stores : n.stores ≡ stores_words (pointer_at (key_at keys k))
   pub makes : n.makes ≡ makes_pointers (pointer_at (key_at keys k)).perm
-  pub enters : (x : CanonicalPtr) → is_entry (pointer_at (key_at keys k)).perm ≡ true → entry_key (key_at keys k) ≡ Some x → (n.enters ≡ mask) × (key_at keys n.entry ≡ x)
-  pub no_entry : (is_entry (pointer_at (key_at keys k)).perm ≡ false) ⊎ (entry_key (key_at keys k) ≡ None) → n.enters ≡ 0
+  pub enters : (x : CanonicalPtr) → is_entry (pointer_at (key_at keys k)).perm ≡ true
+      → entry_key (key_at keys k) ≡ Some x → (n.enters ≡ mask) × (key_at keys n.entry ≡ x)
+  pub no_entry : (is_entry (pointer_at (key_at keys k)).perm ≡ false) ⊎ (entry_key (key_at keys k) ≡ None)
+      → n.enters ≡ 0
 
 pub record IsNodes (keys : List CanonicalPtr) (found : List Found) (masks : List ℕ) (nodes : List Node) : Type 0 where
   pub len : length nodes ≡ length keys

@@ -15,7 +15,8 @@ pub record HasNodes (i : Image) (e : Entries) (keys : List CanonicalPtr) (nodes 
   pub is_masks : IsEntryMasks e keys masks
   pub is_nodes : IsNodes keys (page_keys i.memory.pages) masks nodes
 
-pub record IsBuilt (i : Image) (e : Entries) (keys : List CanonicalPtr) (nodes : List Node) (targets parents links start : List ℕ) : Type 0 where
+pub record IsBuilt (i : Image) (e : Entries) (keys : List CanonicalPtr) (nodes : List Node)
+    (targets parents links start : List ℕ) : Type 0 where
   pub is_keys : IsKeysOf (page_keys i.memory.pages) (seeds_of i.slots) keys
   pub has_nodes : HasNodes i e keys nodes
   pub is_targets : IsTargets keys (page_keys i.memory.pages) targets

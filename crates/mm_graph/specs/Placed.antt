@@ -30,4 +30,5 @@ pub record IsPlaced (keys : List CanonicalPtr) (placed : List Placed) : Type 0 w
 
 -- the first keys of the list that was given with indices are at these indices among other keys
 abbrev pub HasTargets : List CanonicalPtr → List Placed → List ℕ → Type 0
-HasTargets keys placed targets = (all : List CanonicalPtr) → IsPlaced all placed → (j : ℕ) → j < length all → j < length targets → (slice_index targets j < length keys) × (key_at keys (slice_index targets j) ≡ key_at all j)
+HasTargets keys placed targets = (all : List CanonicalPtr) → IsPlaced all placed → (j : ℕ) → j < length all
+    → j < length targets → (slice_index targets j < length keys) × (key_at keys (slice_index targets j) ≡ key_at all j)

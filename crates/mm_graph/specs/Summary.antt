@@ -33,11 +33,14 @@ pub record Includes (privileged : ℕ → Bool) (known : ℕ → Pointer → Typ
 pub record IsClosed (i : Image) (e : Entries) (privileged : ℕ → Bool) (known : ℕ → Pointer → Type 0) : Type 0 where
   pub held : (s : Slot) (q : Pointer) → Contains i.slots s → Contains s.regs (Ptr q) → Holds privileged known s.group q
   pub runs : (s : Slot) → Contains i.slots s → Holds privileged known s.group s.ip
-  pub loaded : (g w : ℕ) (p q : Pointer) (c : Cell) → known g p → LoadsAt p w → cell_at i.memory w ≡ Some c → c.word ≡ Ptr q → Holds privileged known g q
-  pub shared : (g h w : ℕ) (p r : Pointer) → known h p → StoresAt p w → known g r → LoadsAt r w → Includes privileged known g h
+  pub loaded : (g w : ℕ) (p q : Pointer) (c : Cell) → known g p → LoadsAt p w → cell_at i.memory w ≡ Some c
+      → c.word ≡ Ptr q → Holds privileged known g q
+  pub shared : (g h w : ℕ) (p r : Pointer) → known h p → StoresAt p w → known g r → LoadsAt r w
+      → Includes privileged known g h
   pub by_maker : (g h w : ℕ) (r : Pointer) → IsTrue (privileged h) → known g r → LoadsAt r w → IsTrue (privileged g)
   pub served : (g h : ℕ) → Serves i g h → Includes privileged known g h
-  pub enters : (g : ℕ) (p q : Pointer) → known g p → MayEnter e g p → (p.perm ≡ Eu) ⊎ (p.perm ≡ Ep) → enter_result p ≡ Some q → Holds privileged known g q
+  pub enters : (g : ℕ) (p q : Pointer) → known g p → MayEnter e g p → (p.perm ≡ Eu) ⊎ (p.perm ≡ Ep)
+      → enter_result p ≡ Some q → Holds privileged known g q
   pub makes : (g : ℕ) (p : Pointer) → known g p → p.perm ≡ Xp → IsTrue (privileged g)
 
 -- all that the summary says is granted

@@ -1,7 +1,8 @@
 //! The keys of pointers, by which nodes are ordered.
 
 ghost use Rattle.std.specs.Prelude.{◌≡◌, IfSome};
-ghost use Rattle.mm_graph.specs.Key.{key_of, pointer_at, IsKey, is_powerless, standing_for, standing_key, word_key, entry_key};
+ghost use Rattle.mm_graph.specs.Key.{key_of, pointer_at, IsKey, is_powerless, standing_for, standing_key, word_key};
+ghost use Rattle.mm_graph.specs.Key.{entry_key};
 
 use mm_word::{GuardedPtr, Perm, Word, enter, leab};
 

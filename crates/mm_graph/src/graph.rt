@@ -89,7 +89,8 @@ fn graph_of(
     requires keys { IsKeysOf (page_keys img.now.memory.pages) (seeds_of img.now.slots) keys.items }
     requires targets { IsTargets keys.items (page_keys img.now.memory.pages) targets.items }
     requires image { IsImage img.now }
-    ensures built { IfOk result (λ n. IsBuilt img.now (meaning entries.now) n.keys.items n.nodes.items n.targets.items n.parents.items n.links n.start.items) }
+    ensures built { IfOk result (λ n. IsBuilt img.now (meaning entries.now) n.keys.items n.nodes.items n.targets.items
+        n.parents.items n.links n.start.items) }
     ensures found { IfOk result (λ n. n.found.items ≡ page_keys img.now.memory.pages) }
 {
     let Held { found, seeds } = held;
@@ -111,7 +112,8 @@ fn graph_of(
 /// The graph of an image, if these entries may be made.
 pub fn built(alloc: Global, img: &Image, entries: &Entries) -> Result<Graph, AllocError>
     requires { IsImage img.now }
-    ensures built { IfOk result (λ n. IsBuilt img.now (meaning entries.now) n.keys.items n.nodes.items n.targets.items n.parents.items n.links n.start.items) }
+    ensures built { IfOk result (λ n. IsBuilt img.now (meaning entries.now) n.keys.items n.nodes.items n.targets.items
+        n.parents.items n.links n.start.items) }
     ensures found { IfOk result (λ n. n.found.items ≡ page_keys img.now.memory.pages) }
 {
     let found = found_in(alloc, img.pages())?;

@@ -90,7 +90,8 @@ fn ordered(alloc: Global, found: &[Found], seeds: &[Seed]) -> Result<Vec<Placed>
 /// The keys of a list of keys with indices, in their order, each once.
 fn keys_of(alloc: Global, placed: &[Placed]) -> Result<Vec<CanonicalPtr>, AllocError>
     ensures rising { IfOk result (λ keys. IsRising keys.items) }
-    ensures same { IfOk result (λ keys. (x : KeyType) → Contains keys.items x ↔ Contains (map (λ (p : PlacedType). p.key) placed.now) x) }
+    ensures same { IfOk result (λ keys. (x : KeyType) → Contains keys.items x
+        ↔ Contains (map (λ (p : PlacedType). p.key) placed.now) x) }
 {
     let mut keys = keys_in(alloc, placed)?;
     put_in_order(&mut keys);

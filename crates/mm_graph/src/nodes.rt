@@ -1,9 +1,11 @@
 //! The nodes of a graph.
 
-ghost use Rattle.std.specs.Prelude.{◌≡◌, ◌<◌, ◌≤◌, ◌^◌, ◌+◌, ◌⊎◌, ℕ, All, IfOk, IfSome, MatchOption, Contains, None, Some, true, false, length, slice_index};
+ghost use Rattle.std.specs.Prelude.{◌≡◌, ◌<◌, ◌≤◌, ◌^◌, ◌+◌, ◌⊎◌, ℕ, All, IfOk, IfSome, MatchOption, Contains, None};
+ghost use Rattle.std.specs.Prelude.{Some, true, false, length, slice_index};
 ghost use Rattle.mm_word.specs.Pointer.{base_of};
 ghost use Rattle.mm_graph.specs.declared.canonical_ptr.CanonicalPtr.{CanonicalPtr as KeyType};
-ghost use Rattle.mm_graph.specs.Key.{IsKey, IsRising, key_at, pointer_at, entry_key, loads_words, stores_words, makes_pointers, is_entry};
+ghost use Rattle.mm_graph.specs.Key.{IsKey, IsRising, key_at, pointer_at, entry_key, loads_words, stores_words};
+ghost use Rattle.mm_graph.specs.Key.{makes_pointers, is_entry};
 ghost use Rattle.mm_graph.specs.Nodes.{found_word, IsAscending, IsBefore, IsBounds, IsRange, IsNode, IsNodes};
 
 use crate::canonical_ptr::CanonicalPtr;
@@ -126,7 +128,8 @@ fn entry_of(keys: &[CanonicalPtr], hint: usize, key: CanonicalPtr) -> Option<usi
     requires rising { IsRising keys.now }
     requires key { IsKey key }
     requires there { (x : KeyType) → entry_key key ≡ Some x → Contains keys.now x }
-    ensures some { IfSome result (λ k. (k < length keys.now) × (is_entry (pointer_at key).perm ≡ true) × (entry_key key ≡ Some (key_at keys.now k))) }
+    ensures some { IfSome result (λ k. (k < length keys.now) × (is_entry (pointer_at key).perm ≡ true)
+        × (entry_key key ≡ Some (key_at keys.now k))) }
     ensures none { result ≡ None → (is_entry (pointer_at key).perm ≡ false) ⊎ (entry_key key ≡ None) }
 {
     if !is_entry(key.pointer()) {

@@ -49,7 +49,9 @@ Page = ℕ × List Cell
 pub pages_end : (pages : List Page) (i least : ℕ) → (AreRisingFrom 0 pages ↔ AreRisingFrom least (drop i pages)) → length pages ≤ i → IsTrue (is_sorted nat_cmp pages)
 pages_end pages i least same le = sorted_from 0 pages (same.1 (subst (AreRisingFrom least) (sym (drop_all i pages le)) tt))
 
-pub pages_fall : (pages : List Page) (i least : ℕ) (page : Page) → (AreRisingFrom 0 pages ↔ AreRisingFrom least (drop i pages)) → i < length pages → page ≡ get_or pages i page → page.0 < least → IsTrue (is_sorted nat_cmp pages) → true ≡ false
+pub pages_fall : (pages : List Page) (i least : ℕ) (page : Page)
+    → (AreRisingFrom 0 pages ↔ AreRisingFrom least (drop i pages)) → i < length pages → page ≡ get_or pages i page
+    → page.0 < least → IsTrue (is_sorted nat_cmp pages) → true ≡ false
 pages_fall pages i least page same lt is low sorted =
     let rest = subst (AreRisingFrom least) (drop_more pages i page lt) (same.0 (rising_from_sorted pages sorted)) in
     let number = ap (λ (p : Page). p.0) is in

@@ -30,11 +30,17 @@ differ a b ne = go (a == b) refl
 pub one_number_more : (present : List Bool) (slots : List Slot) (i m : ℕ) (s : Slot) → length present ≡ 256 → i < length slots → get_or slots i s ≡ s → s.number ≡ m
     → HoldsNumbers present (take i slots) → HoldsNumbers (slice_set present m true) (take (i + 1) slots)
 one_number_more present slots i m s long lt is number holds n below =
-    let more : has_number (take (i + 1) slots) n ≡ (has_number (take i slots) n || (m == n)) = list_any_more (λ (x : Slot). x.number == n) slots i s lt ∙ ap (λ (x : Slot). has_number (take i slots) n || (x.number == n)) is ∙ ap (λ k. has_number (take i slots) n || (k == n)) number in
+    let more : has_number (take (i + 1) slots) n ≡ (has_number (take i slots) n || (m == n)) = list_any_more
+    (λ (x : Slot). x.number == n) slots i s lt ∙ ap (λ (x : Slot). has_number (take i slots) n || (x.number == n))
+    is ∙ ap (λ k. has_number (take i slots) n || (k == n)) number in
     elim (cases_eq m n) [
       | inl same ↦
-          let at : slice_index_or (slice_set present m true) n false ≡ true = ap (λ k. slice_index_or (slice_set present m true) k false) (sym same) ∙ get_or-set_same present m true false (omega (arith, long, same, below)) in
+          let at : slice_index_or (slice_set present m true) n false ≡ true = ap
+          (λ k. slice_index_or (slice_set present m true) k false) (sym same) ∙ get_or-set_same present m true false
+          (omega (arith, long, same, below)) in
           at ∙ sym (more ∙ ap (λ t. has_number (take i slots) n || t) (eq-eqb m n same) ∙ or_true (has_number (take i slots) n))
       | inr other ↦
-          get_or-set_other present m n true false (λ e. other (sym e)) ∙ holds n below ∙ sym (more ∙ ap (λ t. has_number (take i slots) n || t) (differ m n other) ∙ or_false (has_number (take i slots) n))
+          get_or-set_other present m n true false (λ e. other (sym e)) ∙ holds n below
+          ∙ sym (more ∙ ap (λ t. has_number (take i slots) n || t) (differ m n other)
+          ∙ or_false (has_number (take i slots) n))
     ]

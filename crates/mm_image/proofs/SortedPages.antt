@@ -42,7 +42,9 @@ differs ps q i parts j e l same =
       | inr le ↦ let higher = ranked _ q _ (sym (parts.1 j e le l)) in omega arith
     ]
 
-pub not_found : (ps : List Page) (q i : ℕ) → IsTrue (is_sorted nat_cmp ps) → (IsNonDecreasingBy (λ p. ordering_index (number_order q p)) ps → IsPartitionPoint (λ p. number_order q p ≡ Less) (λ p. number_order q p ≡ Greater) ps i) → None ≡ find nat_cmp q ps
+pub not_found : (ps : List Page) (q i : ℕ) → IsTrue (is_sorted nat_cmp ps)
+    → (IsNonDecreasingBy (λ p. ordering_index (number_order q p)) ps → IsPartitionPoint (λ p. number_order q p ≡ Less)
+    (λ p. number_order q p ≡ Greater) ps i) → None ≡ find nat_cmp q ps
 not_found ps q i h parts =
     let apart = parts (searchable ps q h) in
     sym (find-none ps q (λ j e lt. differs ps q i apart j e lt))

@@ -53,7 +53,8 @@ pub(crate) fn read_slot(
     limit: u8,
     least: u8,
 ) -> Result<Slot, ReadError<ImageFault>>
-    ensures read { ReadsAlone number_of (λ s. s) ((slot limit least).read reader.old.bytes.now reader.old.at) reader.new.at
+    ensures read { ReadsAlone number_of (λ s. s) ((slot limit least).read reader.old.bytes.now reader.old.at)
+        reader.new.at
         result }
     ensures same { reader.new.bytes.now ≡ reader.old.bytes.now }
     ensures number { IfOk result (λ s. s.number < limit) }

@@ -75,8 +75,8 @@ pub record FrontToEnd (name : List ℕ) (len : ℕ) (reads : List PieceRead) : T
   pub all : sum counts ≡ len
   pub in_order : reads ≡ reads_from name room 0 (counts ++ 0 ∷ [])
 
--- The file of a name was read from its front, piece by piece, until it had given more bytes than the limit, and no other
--- file.
+-- The file of a name was read from its front, piece by piece, until it had given more bytes than the limit, and no
+-- other file.
 pub record AsksBeyond {F : Type 0} (asked : F → List PieceRead → Type 0) (old new : F) (name : List ℕ) (limit : ℕ)
     : Type 0 where
   pub room : ℕ

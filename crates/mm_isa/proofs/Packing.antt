@@ -62,7 +62,25 @@ or_fields o d a b c i ho hd ha hb hc hi =
     let j2 : (o * 16 + d) * 2 ^ 52 + a * 2 ^ 48 ≡ ((o * 16 + d) * 16 + a) * 2 ^ 48 = omega arith in
     let j3 : ((o * 16 + d) * 16 + a) * 2 ^ 48 + b * 2 ^ 44 ≡ (((o * 16 + d) * 16 + a) * 16 + b) * 2 ^ 44 = omega arith in
     let j4 : (((o * 16 + d) * 16 + a) * 16 + b) * 2 ^ 44 + c * 2 ^ 40 ≡ ((((o * 16 + d) * 16 + a) * 16 + b) * 16 + c) * 2 ^ 40 = omega arith in
-    rw (eo, ed, ea, eb, ec, or_shifted o 56 (d * 2 ^ 52) (omega arith), j1, or_shifted (o * 16 + d) 52 (a * 2 ^ 48) (omega arith), j2, or_shifted ((o * 16 + d) * 16 + a) 48 (b * 2 ^ 44) (omega arith), j3, or_shifted (((o * 16 + d) * 16 + a) * 16 + b) 44 (c * 2 ^ 40) (omega arith), j4, or_shifted ((((o * 16 + d) * 16 + a) * 16 + b) * 16 + c) 40 i (omega arith))
+    rw (
+      eo,
+      ed,
+      ea,
+      eb,
+      ec,
+      or_shifted o 56 (d * 2 ^ 52) (omega arith),
+      j1,
+      or_shifted (o * 16 + d) 52 (a * 2 ^ 48)
+          (omega arith),
+      j2,
+      or_shifted ((o * 16 + d) * 16 + a) 48 (b * 2 ^ 44) (omega arith),
+      j3,
+      or_shifted
+          (((o * 16 + d) * 16 + a) * 16 + b) 44 (c * 2 ^ 40) (omega arith),
+      j4,
+      or_shifted
+          ((((o * 16 + d) * 16 + a) * 16 + b) * 16 + c) 40 i (omega arith),
+    )
     (omega arith)
 
 -- the bits that the code joins

@@ -55,7 +55,8 @@ module _ (c : ℕ → Bool) where
       | inr ne ↦ row_later r (filter (is_row_of c) rows) n ne ∙ row_kept rows n row (sym (row_later r rows n ne) ∙ is) e
     ]
     | inr f ↦ ap (λ l. row_in l n) (filter_drops (is_row_of c) r rows f) ∙ elim (cases_eq r.slot.number n) [
-      | inl here ↦ absurd (let two : ◌≡◌ {A = Option Row} (Some r) (Some row) = sym (row_here r rows n here) ∙ is in let same : r ≡ row = cc in both_ways (is_row_of c row) (sym (ap (is_row_of c) same) ∙ f) e)
+      | inl here ↦ absurd (let two : ◌≡◌ {A = Option Row} (Some r) (Some row) = sym (row_here r rows n here)
+          ∙ is in let same : r ≡ row = cc in both_ways (is_row_of c row) (sym (ap (is_row_of c) same) ∙ f) e)
       | inr ne ↦ row_kept rows n row (sym (row_later r rows n ne) ∙ is) e
     ]
   ]
@@ -158,7 +159,8 @@ module _ (first core : Core) (k : Sames first core) where
       core.rows (same_slot core k.rises n now.now now.is)
 
   module _ (c : ℕ → Bool) where
-    pub mine-put_slot : (s was : Slot) → slot_at first s.number ≡ Some was → was.group ≡ s.group → mine c (put_slot core s) ≡ map (at_number s.number (λ (row : Row). record row { slot = s })) (mine c core)
+    pub mine-put_slot : (s was : Slot) → slot_at first s.number ≡ Some was → was.group ≡ s.group
+        → mine c (put_slot core s) ≡ map (at_number s.number (λ (row : Row). record row { slot = s })) (mine c core)
     unfolding put_slot
     mine-put_slot s was at group =
         filter_at c s.number (λ (row : Row). record row { slot = s }) core.rows

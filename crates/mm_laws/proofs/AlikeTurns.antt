@@ -1,5 +1,7 @@
 -- A turn of the groups is the same in two states that are alike to them.
-use Rattle.std.proofs.Common.{◌≡◌, ℕ, zero, suc, ◌^◌, inl, inr, Bool, true, false, ◌&&◌, nat_lt, if◌then◌else◌, pos, List, [], ◌∷◌, ◌++◌, map, length, Option, Some, None, Result, Ok, Err, refl, sym, ap, ◌∙◌, subst, arith, slice_set, slice_index_or}
+use Rattle.std.proofs.Common.{◌≡◌, ℕ, zero, suc, ◌^◌, inl, inr, Bool, true, false, ◌&&◌, nat_lt, if◌then◌else◌, pos}
+use Rattle.std.proofs.Common.{List, [], ◌∷◌, ◌++◌, map, length, Option, Some, None, Result, Ok, Err, refl, sym, ap, ◌∙◌}
+use Rattle.std.proofs.Common.{subst, arith, slice_set, slice_index_or}
 use Rattle.std.specs.Prelude.{IfSome}
 use Rattle.std.specs.List.{AllByRecursion}
 use Rattle.std.proofs.lemmas.Bool.{both_ways, cases_Bool, cases_eq}
@@ -32,7 +34,11 @@ use Rattle.mm_model.specs.Effect.{Change, Pages, Effect, effect, delivered}
 use Rattle.mm_model.specs.Effect.Reply.{Fine, Refused, Paged, Served}
 use Rattle.mm_model.specs.Effect.Pages.{Keep, Add, Remove}
 use Rattle.mm_model.specs.Effect.Effect.{Fault, Block, Deliver, Does}
-use Rattle.mm_model.specs.Turn.{Turned, reply, reached, event_reply, first_event, is_taken, is_handler, served, slot_after, with_other, with_queue, with_out, with_cell, with_pages, core_after, memory_after, stood, is_sync, event_of, core_faulted, faulted, touch_of, asked_use, blocked, ended, executed, issued, decoded, instr_in, fetched, aimed, started, idle, arrives}
+use Rattle.mm_model.specs.Turn.{Turned, reply, reached, event_reply, first_event, is_taken, is_handler, served}
+use Rattle.mm_model.specs.Turn.{slot_after, with_other, with_queue, with_out, with_cell, with_pages, core_after}
+use Rattle.mm_model.specs.Turn.{memory_after, stood, is_sync, event_of, core_faulted, faulted, touch_of, asked_use}
+use Rattle.mm_model.specs.Turn.{blocked, ended, executed, issued, decoded, instr_in, fetched, aimed, started, idle}
+use Rattle.mm_model.specs.Turn.{arrives}
 use Rattle.mm_model.specs.Reach.{Privileged}
 use Rattle.mm_model.specs.Reach.Entries.{All}
 use Rattle.mm_model.specs.Worlds.{Touchable, IsPrivileged, Apart}
@@ -143,13 +149,17 @@ module _ (i j : Image) (c : ℕ → Bool) (a b : Core) (ma mb : Memory) (h : Bot
     same_event (event ∷ rest) is = by (slot_at a event.slot) refl
       where
         waits : (y : Slot) → slot_at a event.slot ≡ Some y → y.handler ≡ Some x.number
-        waits y at = ((subst (AllByRecursion (λ (e : Event). e.slot ≡ event.slot → (is_waiting y.state ≡ true) × (y.handler ≡ Some x.number))) is (queued_waits a h.one.fitting.matched event.slot y at x.number)).0 refl).1
+        waits y at = ((subst (AllByRecursion (λ (e : Event). e.slot ≡ event.slot → (is_waiting y.state ≡ true)
+            × (y.handler ≡ Some x.number))) is (queued_waits a h.one.fitting.matched event.slot y at x.number)).0
+            refl).1
 
         none_there : slot_at a event.slot ≡ None → (o : Option Slot) → slot_at b event.slot ≡ o → event_reply event rest None ≡ event_reply event rest o
         none_there none None is_b = refl
         none_there none (Some y) is_b =
             let own_b : queue_at b x.number ≡ event ∷ rest = sym (over x.number x at_a cx).queue ∙ is in
-            let handled = ((subst (AllByRecursion (λ (e : Event). e.slot ≡ event.slot → (is_waiting y.state ≡ true) × (y.handler ≡ Some x.number))) own_b (queued_waits b h.other.fitting.matched event.slot y is_b x.number)).0 refl).1 in
+            let handled = ((subst (AllByRecursion (λ (e : Event). e.slot ≡ event.slot → (is_waiting y.state ≡ true)
+            × (y.handler ≡ Some x.number))) own_b (queued_waits b h.other.fitting.matched event.slot y is_b
+            x.number)).0 refl).1 in
             let there = (back event.slot y is_b (side_b event.slot y is_b handled)).slot in
             absurd (cc (none, there))
 
@@ -170,7 +180,9 @@ module _ (i j : Image) (c : ℕ → Bool) (a b : Core) (ma mb : Memory) (h : Bot
         by (Some y) is p is_b = elim (cases_Bool (c y.group)) [
           | inl cy ↦ ap (served x.number) (sym is ∙ is) ∙ ap (served x.number) (sym (over k y is cy).slot ∙ is_b)
           | inr out ↦
-              refuses x.number (Some y) (λ z e. not_handled x.number z.handler (λ handled. let at : slot_at a k ≡ Some z = is ∙ e in let same : y ≡ z = cc in both_ways (c z.group) (sym (ap (λ (v : Slot). c v.group) same) ∙ out) (side_a k z at handled)))
+              refuses x.number (Some y) (λ z e. not_handled x.number z.handler (λ handled. let at : slot_at a k ≡ Some z
+              = is ∙ e in let same : y ≡ z = cc in both_ways (c z.group) (sym (ap (λ (v : Slot). c v.group) same)
+              ∙ out) (side_a k z at handled)))
               ∙ sym (refuses x.number p (λ z e. not_handled x.number z.handler (λ handled.
               let at : slot_at b k ≡ Some z = is_b ∙ e in
               let cz = side_b k z at handled in
@@ -204,14 +216,16 @@ module _ (i j : Image) (c : ℕ → Bool) (a b : Core) (ma mb : Memory) (h : Bot
 
     -- 2. The same is put.
 
-    put_both : (p q : Core) → Sames a p → Sames b q → mine c p ≡ mine c q → (s was_a was_b : Slot) → slot_at a s.number ≡ Some was_a → was_a.group ≡ s.group → slot_at b s.number ≡ Some was_b → was_b.group ≡ s.group
+    put_both : (p q : Core) → Sames a p → Sames b q → mine c p ≡ mine c q → (s was_a was_b : Slot) → slot_at a s.number
+        ≡ Some was_a → was_a.group ≡ s.group → slot_at b s.number ≡ Some was_b → was_b.group ≡ s.group
         → mine c (put_slot p s) ≡ mine c (put_slot q s)
     put_both p q kp kq e s was_a was_b stands_a group_a stands_b group_b =
         mine-put_slot a p kp c s was_a stands_a group_a ∙ ap (map (at_number s.number (λ (row : Row). record row { slot = s }))) e ∙ sym (mine-put_slot b q kq c s was_b stands_b group_b)
 
     queue_both : (p q : Core) → Sames a p → Sames b q → mine c p ≡ mine c q → (n : ℕ) (u v : List Event) → u ≡ v → mine c (put_queue p n u) ≡ mine c (put_queue q n v)
     queue_both p q kp kq e n u v same =
-        mine-put_queue a p kp c n u ∙ ap (map (at_number n (λ (row : Row). record row { queue = u }))) e ∙ ap (λ (l : List Event). map (at_number n (λ (row : Row). record row { queue = l })) (mine c q)) same
+        mine-put_queue a p kp c n u ∙ ap (map (at_number n (λ (row : Row). record row { queue = u }))) e
+        ∙ ap (λ (l : List Event). map (at_number n (λ (row : Row). record row { queue = l })) (mine c q)) same
         ∙ sym (mine-put_queue b q kq c n v)
 
     sames_a : Sames a a
@@ -221,7 +235,9 @@ module _ (i j : Image) (c : ℕ → Bool) (a b : Core) (ma mb : Memory) (h : Bot
     sames_b = sames_self b h.other.formed.rising
 
     -- the slot's standing alone changes
-    stood_both : (p q : Core) → Sames a p → Sames b q → mine c p ≡ mine c q → (now : Slot) → now.number ≡ x.number → now.group ≡ x.group → (state : SlotState) → mine c (put_slot p (stood now state)) ≡ mine c (put_slot q (stood now state))
+    stood_both : (p q : Core) → Sames a p → Sames b q → mine c p ≡ mine c q → (now : Slot) → now.number ≡ x.number
+        → now.group ≡ x.group → (state : SlotState) → mine c (put_slot p (stood now state)) ≡ mine c
+        (put_slot q (stood now state))
     stood_both p q kp kq e now number group state =
         put_both p q kp kq e (stood now state) x x (ap (slot_at a) number ∙ at_a) (sym group) (ap (slot_at b) number ∙ at_b) (sym group)
 
@@ -244,7 +260,9 @@ module _ (i j : Image) (c : ℕ → Bool) (a b : Core) (ma mb : Memory) (h : Bot
     unfolding core_faulted
     fault_both e None is = by (is_sync e.cause)
       where
-        by : (y : Bool) → mine c (if y then put_slot a (stood x Running) else put_slot a (stood x (Halted (Some e.cause)))) ≡ mine c (if y then put_slot b (stood x Running) else put_slot b (stood x (Halted (Some e.cause))))
+        by : (y : Bool) → mine c (if y then put_slot a (stood x Running) else put_slot a
+            (stood x (Halted (Some e.cause)))) ≡ mine c (if y then put_slot b (stood x Running) else put_slot b
+            (stood x (Halted (Some e.cause))))
         by true = stood_both a b sames_a sames_b h.rows x refl refl Running
         by false = stood_both a b sames_a sames_b h.rows x refl refl (Halted (Some e.cause))
     fault_both e (Some k) is =
@@ -275,7 +293,9 @@ module _ (i j : Image) (c : ℕ → Bool) (a b : Core) (ma mb : Memory) (h : Bot
     unfolding put_slot output_of
     put_outputs core s g = refl
 
-    same_blocked : (p q : Core) → Sames a p → Sames b q → mine c p ≡ mine c q → ((g : ℕ) → c g ≡ true → output_of p g ≡ output_of q g) → (now : Slot) → now.number ≡ x.number → now.group ≡ x.group → (f : Touch) (t : Option Touch) (us vs : List Use)
+    same_blocked : (p q : Core) → Sames a p → Sames b q → mine c p ≡ mine c q
+        → ((g : ℕ) → c g ≡ true → output_of p g ≡ output_of q g) → (now : Slot) → now.number ≡ x.number
+        → now.group ≡ x.group → (f : Touch) (t : Option Touch) (us vs : List Use)
         → Same (blocked p ma now f t us) (blocked q mb now f t vs)
     unfolding blocked
     same_blocked p q kp kq e outs now number group f t us vs = record {
@@ -355,8 +375,12 @@ module _ (i j : Image) (c : ℕ → Bool) (a b : Core) (ma mb : Memory) (h : Bot
       unfolding output_of put_output
       byte_outputs p q ep eq None g cg = ap (λ (l : List (List ℕ)). slice_index_or l g []) ep ∙ h.outputs g cg ∙ sym (ap (λ (l : List (List ℕ)). slice_index_or l g []) eq)
       byte_outputs p q ep eq (Some byte) g cg =
-          let own : slice_index_or p.outputs x.group [] ≡ slice_index_or q.outputs x.group [] = ap (λ (l : List (List ℕ)). slice_index_or l x.group []) ep ∙ h.outputs x.group cx ∙ sym (ap (λ (l : List (List ℕ)). slice_index_or l x.group []) eq) in
-          let this : slice_index_or p.outputs g [] ≡ slice_index_or q.outputs g [] = ap (λ (l : List (List ℕ)). slice_index_or l g []) ep ∙ h.outputs g cg ∙ sym (ap (λ (l : List (List ℕ)). slice_index_or l g []) eq) in
+          let own : slice_index_or p.outputs x.group [] ≡ slice_index_or q.outputs x.group [] = ap
+          (λ (l : List (List ℕ)). slice_index_or l x.group []) ep ∙ h.outputs x.group cx
+          ∙ sym (ap (λ (l : List (List ℕ)). slice_index_or l x.group []) eq) in
+          let this : slice_index_or p.outputs g [] ≡ slice_index_or q.outputs g [] = ap
+          (λ (l : List (List ℕ)). slice_index_or l g []) ep ∙ h.outputs g cg
+          ∙ sym (ap (λ (l : List (List ℕ)). slice_index_or l g []) eq) in
           let long : length p.outputs ≡ length q.outputs = ap length ep ∙ h.one.formed.outputs ∙ sym h.other.formed.outputs ∙ sym (ap length eq) in
           ap (λ (l : List ℕ). slice_index_or (slice_set p.outputs x.group (l ++ byte ∷ [])) g []) own
           ∙ set_alike p.outputs q.outputs x.group g (slice_index_or q.outputs x.group [] ++ byte ∷ []) [] long this
@@ -388,7 +412,8 @@ module _ (i j : Image) (c : ℕ → Bool) (a b : Core) (ma mb : Memory) (h : Bot
       unfolding memory_after
       memory_both w t = cells_both d.pages ga.pages w t
 
-    same_ended : (instr : Instr) (f : Touch) (t : Option Touch) (us vs : List Use) (y : Effect) → EffectGranted i All a ma x y → EffectGranted j All b mb x y → Same (ended a ma x instr f t us y) (ended b mb x instr f t vs y)
+    same_ended : (instr : Instr) (f : Touch) (t : Option Touch) (us vs : List Use) (y : Effect) → EffectGranted i All a
+        ma x y → EffectGranted j All b mb x y → Same (ended a ma x instr f t us y) (ended b mb x instr f t vs y)
     unfolding ended
     same_ended instr f t us vs (Fault cause) ga gb = same_fault cause (addr_operand instr x) (value_operand instr x) (Some f) t us vs
     same_ended instr f t us vs Block ga gb = same_blocked a b sames_a sames_b h.rows h.outputs x refl refl f t us vs
@@ -409,17 +434,23 @@ module _ (i j : Image) (c : ℕ → Bool) (a b : Core) (ma mb : Memory) (h : Bot
     same_executed f u v instr =
         let e : effect a.split instr x (reply a ma x.number (ask instr x)) ≡ effect b.split instr x (reply b mb x.number (ask instr x)) =
         ap (λ y. effect y instr x (reply a ma x.number (ask instr x))) h.split ∙ ap (effect b.split instr x) (same_reply (ask instr x) (needs instr)) in
-        subst (λ y. Same (ended a ma x instr f (touch_of (ask instr x)) (u ∷ asked_use ma (ask instr x)) (effect a.split instr x (reply a ma x.number (ask instr x)))) (ended b mb x instr f (touch_of (ask instr x)) (v ∷ asked_use mb (ask instr x)) y)) e
-        (same_ended instr f (touch_of (ask instr x)) (u ∷ asked_use ma (ask instr x)) (v ∷ asked_use mb (ask instr x)) (effect a.split instr x (reply a ma x.number (ask instr x))) (effect_granted i All a ma h.one x at_a instr)
+        subst (λ y. Same (ended a ma x instr f (touch_of (ask instr x)) (u ∷ asked_use ma (ask instr x))
+        (effect a.split instr x (reply a ma x.number (ask instr x)))) (ended b mb x instr f (touch_of (ask instr x))
+        (v ∷ asked_use mb (ask instr x)) y)) e
+        (same_ended instr f (touch_of (ask instr x)) (u ∷ asked_use ma (ask instr x)) (v ∷ asked_use mb (ask instr x))
+        (effect a.split instr x (reply a ma x.number (ask instr x))) (effect_granted i All a ma h.one x at_a instr)
         (subst (EffectGranted j All b mb x) (sym e) (effect_granted j All b mb h.other x at_b instr)))
 
     same_issued : (f : Touch) (u v : Use) (instr : Instr) → Same (issued a ma x f u instr) (issued b mb x f v instr)
     unfolding issued
     same_issued f u v instr =
-        subst (λ y. Same (if a.split && lacks instr x then blocked a ma (delivered x) f None (u ∷ []) else executed a ma x f u instr) (if y && lacks instr x then blocked b mb (delivered x) f None (v ∷ []) else executed b mb x f v instr)) h.split
+        subst (λ y. Same (if a.split && lacks instr x then blocked a ma (delivered x) f None (u ∷ []) else executed a ma
+        x f u instr) (if y && lacks instr x then blocked b mb (delivered x) f None (v ∷ []) else executed b mb x f v
+        instr)) h.split
         (by (a.split && lacks instr x))
       where
-        by : (y : Bool) → Same (if y then blocked a ma (delivered x) f None (u ∷ []) else executed a ma x f u instr) (if y then blocked b mb (delivered x) f None (v ∷ []) else executed b mb x f v instr)
+        by : (y : Bool) → Same (if y then blocked a ma (delivered x) f None (u ∷ []) else executed a ma x f u instr)
+            (if y then blocked b mb (delivered x) f None (v ∷ []) else executed b mb x f v instr)
         by true = same_blocked a b sames_a sames_b h.rows h.outputs (delivered x) (delivered_from x).number (delivered_from x).group f None (u ∷ []) (v ∷ [])
         by false = same_executed f u v instr
 
@@ -441,7 +472,9 @@ module _ (i j : Image) (c : ℕ → Bool) (a b : Core) (ma mb : Memory) (h : Bot
     unfolding started
     same_started = by x.past
       where
-        by : (y : Bool) → Same (if y then faulted a ma x Bounds (Int 0) (Int 0) None None [] else aimed a ma x (check_result (Ptr x.ip) (pos 0) Fetch)) (if y then faulted b mb x Bounds (Int 0) (Int 0) None None [] else aimed b mb x (check_result (Ptr x.ip) (pos 0) Fetch))
+        by : (y : Bool) → Same (if y then faulted a ma x Bounds (Int 0) (Int 0) None None [] else aimed a ma x
+            (check_result (Ptr x.ip) (pos 0) Fetch)) (if y then faulted b mb x Bounds (Int 0) (Int 0) None None [] else
+            aimed b mb x (check_result (Ptr x.ip) (pos 0) Fetch))
         by true = same_fault Bounds (Int 0) (Int 0) None None [] []
         by false = same_aimed (check_result (Ptr x.ip) (pos 0) Fetch) refl
 

@@ -1,5 +1,7 @@
 -- What is granted to groups that stand apart is granted in both images, and memories with the same cells are equal.
-use Rattle.std.proofs.Common.{◌≡◌, ℕ, zero, suc, ◌+◌, ◌*◌, ◌/◌, ◌%◌, ◌^◌, ◌<◌, ◌≤◌, ◌⊎◌, inl, inr, Bool, true, false, nat_le, List, [], ◌∷◌, length, slice_get, Option, Some, None, refl, sym, ap, ◌∙◌, subst, arith, leb-true, leb-false, T}
+use Rattle.std.proofs.Common.{◌≡◌, ℕ, zero, suc, ◌+◌, ◌*◌, ◌/◌, ◌%◌, ◌^◌, ◌<◌, ◌≤◌, ◌⊎◌, inl, inr, Bool, true, false}
+use Rattle.std.proofs.Common.{nat_le, List, [], ◌∷◌, length, slice_get, Option, Some, None, refl, sym, ap, ◌∙◌, subst}
+use Rattle.std.proofs.Common.{arith, leb-true, leb-false, T}
 use Rattle.std.specs.Prelude.{Contains}
 use Rattle.std.specs.List.{filter}
 use Rattle.std.specs.Ordering.{nat_cmp}
@@ -77,7 +79,9 @@ module _ (i j : Image) (c : ℕ → Bool) (there : SlotsIn c i j) (cells : (w : 
   carry (Grants.runs_by s a b r) cg = Grants.runs_by s (there s a (ap c b ∙ cg)) b r
   carry (Grants.in_cell {g = g} p w x gp l a b) cg =
       let gq = carry gp cg in
-      Grants.in_cell p w x gq l (sym (cells w (record { group = g; member = cg; touches = record { by = p; granted = gp; loads = l } }) (record { group = g; member = cg; touches = record { by = p; granted = gq; loads = l } })) ∙ a) b
+      Grants.in_cell p w x gq l (sym
+      (cells w (record { group = g; member = cg; touches = record { by = p; granted = gp; loads = l } })
+      (record { group = g; member = cg; touches = record { by = p; granted = gq; loads = l } })) ∙ a) b
   carry (below p gp b) cg = below p (carry gp cg) b
   carry (Grants.passed {g = g} h w p r gq gp st gr l) cg =
       let ch : c h ≡ true =
@@ -133,7 +137,11 @@ pub touches_all : (i : Image) (c : ℕ → Bool) → IsPrivileged i All c → (w
 touches_all i c h w word near = record {
   group = h.group;
   member = h.member;
-  touches = record { by = wide; granted = Grants.made h.privileged.by h.privileged.granted h.privileged.perm wide_fits; loads = record { word = word; right = wide_loads; covers = wide_covers w near } };
+  touches = record {
+    by = wide;
+    granted = Grants.made h.privileged.by h.privileged.granted h.privileged.perm wide_fits;
+    loads = record { word = word; right = wide_loads; covers = wide_covers w near };
+  };
 }
 
 -- 4. Memories with the same cells at every word are equal.

@@ -158,5 +158,7 @@ lines_are_same i j c s t g e text =
     let one : List (ℕ × Cell) = changes (run (start i) s).memory i.memory in
     let other : List (ℕ × Cell) = changes (run (start j) t).memory j.memory in (
       same_text (Touchable i All c) (Touchable j All c) over back one other cells (changes_rising (run (start i) s).memory i.memory (paged_of i (run (start i) s) w.one_state w.one)) text,
-      same_text (Touchable j All c) (Touchable i All c) back over other one (λ p touched. sym (cells p (λ v found. back v (touched v found)))) (changes_rising (run (start j) t).memory j.memory (paged_of j (run (start j) t) w.other_state w.other)) text,
+      same_text (Touchable j All c) (Touchable i All c) back over other one
+          (λ p touched. sym (cells p (λ v found. back v (touched v found)))) (changes_rising (run (start j) t).memory
+          j.memory (paged_of j (run (start j) t) w.other_state w.other)) text,
     )

@@ -61,7 +61,8 @@ module _ (p : ℕ → Bool) where
   filter_in x [] is = absurd is
   filter_in x (y ∷ xs) is = by (p y.0) refl is (filter_in x xs)
     where
-      by : (b : Bool) → p y.0 ≡ b → IsIn x (cond b (y ∷ filter (at_word p) xs) (filter (at_word p) xs)) → (IsIn x (filter (at_word p) xs) → IsIn x xs × (p x.0 ≡ true)) → IsIn x (y ∷ xs) × (p x.0 ≡ true)
+      by : (b : Bool) → p y.0 ≡ b → IsIn x (cond b (y ∷ filter (at_word p) xs) (filter (at_word p) xs))
+          → (IsIn x (filter (at_word p) xs) → IsIn x xs × (p x.0 ≡ true)) → IsIn x (y ∷ xs) × (p x.0 ≡ true)
       by true e (inl first) rest = (inl first, ap (λ (z : ℕ × Cell). p z.0) first ∙ e)
       by true e (inr later) rest = let r = rest later in (inr r.0, r.1)
       by false e later rest = let r = rest later in (inr r.0, r.1)

@@ -1,5 +1,7 @@
 -- Which cells differ from the image's, word by word.
-use Rattle.std.proofs.Common.{◌≡◌, ◌≢◌, ℕ, zero, suc, ◌+◌, ◌*◌, ◌/◌, ◌%◌, ◌<◌, ◌≤◌, ◌⊎◌, inl, inr, Bool, true, false, cond, if◌then◌else◌, List, [], ◌∷◌, ◌++◌, length, replicate, slice_get, Option, Some, None, refl, sym, ap, ◌∙◌, subst, arith, T, eq-eqb, nat_eq}
+use Rattle.std.proofs.Common.{◌≡◌, ◌≢◌, ℕ, zero, suc, ◌+◌, ◌*◌, ◌/◌, ◌%◌, ◌<◌, ◌≤◌, ◌⊎◌, inl, inr, Bool, true, false}
+use Rattle.std.proofs.Common.{cond, if◌then◌else◌, List, [], ◌∷◌, ◌++◌, length, replicate, slice_get, Option, Some}
+use Rattle.std.proofs.Common.{None, refl, sym, ap, ◌∙◌, subst, arith, T, eq-eqb, nat_eq}
 use Rattle.std.specs.List.{AllByRecursion, flat_map}
 use Rattle.std.specs.Ordering.{nat_cmp}
 use Rattle.std.specs.FinMap.{find, is_sorted}
@@ -78,7 +80,8 @@ in_changes_from start [] was w c h = absurd h
 in_changes_from start (x ∷ cells) [] w c h = absurd h
 in_changes_from start (x ∷ cells) (y ∷ was) w c h = by (same_cell x y) refl h (λ k. differs_later start x y cells was w c (in_changes_from (start + 8) cells was w c k))
   where
-    by : (b : Bool) → same_cell x y ≡ b → IsIn (w, c) ((if b then [] else (start, x) ∷ []) ++ changes_from (start + 8) cells was) → (IsIn (w, c) (changes_from (start + 8) cells was) → DiffersIn start (x ∷ cells) (y ∷ was) w c)
+    by : (b : Bool) → same_cell x y ≡ b → IsIn (w, c) ((if b then [] else (start, x) ∷ []) ++ changes_from (start + 8)
+        cells was) → (IsIn (w, c) (changes_from (start + 8) cells was) → DiffersIn start (x ∷ cells) (y ∷ was) w c)
         → DiffersIn start (x ∷ cells) (y ∷ was) w c
     by true e k later = later k
     by false e (inl first) later =
@@ -87,7 +90,8 @@ in_changes_from start (x ∷ cells) (y ∷ was) w c h = by (same_cell x y) refl 
         record { place = 0; word = omega arith; here = ap (λ (v : Cell). Some v) cell; before = y; there = refl; differs = ap (λ (v : Cell). same_cell v y) (sym cell) ∙ e }
     by false e (inr rest) later = later rest
 
-pub changes_from_in : (start : ℕ) (cells was : List Cell) (k : ℕ) (c d : Cell) → slice_get cells k ≡ Some c → slice_get was k ≡ Some d → same_cell c d ≡ false → IsIn (start + 8 * k, c) (changes_from start cells was)
+pub changes_from_in : (start : ℕ) (cells was : List Cell) (k : ℕ) (c d : Cell) → slice_get cells k ≡ Some c
+    → slice_get was k ≡ Some d → same_cell c d ≡ false → IsIn (start + 8 * k, c) (changes_from start cells was)
 changes_from_in start [] was k c d here there differs = cc
 changes_from_in start (x ∷ cells) [] k c d here there differs = cc
 changes_from_in start (x ∷ cells) (y ∷ was) zero c d here there differs =
@@ -110,7 +114,9 @@ from_low start (x ∷ cells) [] = tt
 from_low start (x ∷ cells) (y ∷ was) =
     by (same_cell x y) (each_map (λ (p : ℕ × Cell). start + 8 ≤ p.0) (λ (p : ℕ × Cell). start ≤ p.0) (λ p h. omega arith) (changes_from (start + 8) cells was) (from_low (start + 8) cells was))
   where
-    by : (b : Bool) → AllByRecursion (λ (p : ℕ × Cell). start ≤ p.0) (changes_from (start + 8) cells was) → AllByRecursion (λ (p : ℕ × Cell). start ≤ p.0) ((if b then [] else (start, x) ∷ []) ++ changes_from (start + 8) cells was)
+    by : (b : Bool) → AllByRecursion (λ (p : ℕ × Cell). start ≤ p.0) (changes_from (start + 8) cells was)
+        → AllByRecursion (λ (p : ℕ × Cell). start ≤ p.0) ((if b then [] else (start, x) ∷ []) ++ changes_from
+        (start + 8) cells was)
     by true h = h
     by false h = (omega arith, h)
 
@@ -119,7 +125,8 @@ from_high start [] was = tt
 from_high start (x ∷ cells) [] = tt
 from_high start (x ∷ cells) (y ∷ was) =
     by (same_cell x y)
-    (each_map (λ (p : ℕ × Cell). p.0 < start + 8 + 8 * length cells) (λ (p : ℕ × Cell). p.0 < start + 8 * length (x ∷ cells)) (λ p h. omega arith) (changes_from (start + 8) cells was) (from_high (start + 8) cells was))
+    (each_map (λ (p : ℕ × Cell). p.0 < start + 8 + 8 * length cells) (λ (p : ℕ × Cell). p.0 < start + 8 * length
+    (x ∷ cells)) (λ p h. omega arith) (changes_from (start + 8) cells was) (from_high (start + 8) cells was))
   where
     by : (b : Bool) → AllByRecursion (λ (p : ℕ × Cell). p.0 < start + 8 * length (x ∷ cells)) (changes_from (start + 8) cells was)
         → AllByRecursion (λ (p : ℕ × Cell). p.0 < start + 8 * length (x ∷ cells)) ((if b then [] else (start, x) ∷ []) ++ changes_from (start + 8) cells was)
@@ -130,9 +137,13 @@ from_rising : (start : ℕ) (cells was : List Cell) → Rising (changes_from sta
 from_rising start [] was = tt
 from_rising start (x ∷ cells) [] = tt
 from_rising start (x ∷ cells) (y ∷ was) =
-    by (same_cell x y) (each_map (λ (p : ℕ × Cell). start + 8 ≤ p.0) (λ (p : ℕ × Cell). start < p.0) (λ p h. omega arith) (changes_from (start + 8) cells was) (from_low (start + 8) cells was)) (from_rising (start + 8) cells was)
+    by (same_cell x y) (each_map (λ (p : ℕ × Cell). start + 8 ≤ p.0) (λ (p : ℕ × Cell). start < p.0)
+    (λ p h. omega arith) (changes_from (start + 8) cells was) (from_low (start + 8) cells was))
+    (from_rising (start + 8) cells was)
   where
-    by : (b : Bool) → AllByRecursion (λ (p : ℕ × Cell). start < p.0) (changes_from (start + 8) cells was) → Rising (changes_from (start + 8) cells was) → Rising ((if b then [] else (start, x) ∷ []) ++ changes_from (start + 8) cells was)
+    by : (b : Bool) → AllByRecursion (λ (p : ℕ × Cell). start < p.0) (changes_from (start + 8) cells was)
+        → Rising (changes_from (start + 8) cells was) → Rising ((if b then [] else (start, x) ∷ []) ++ changes_from
+        (start + 8) cells was)
     by true h k = k
     by false h k = (h, k)
 
@@ -166,7 +177,9 @@ module _ (image : Memory) where
   pages_low k [] h = tt
   pages_low k (e ∷ es) h =
       each_append (λ (x : ℕ × Cell). (k + 1) * 4096 ≤ x.0) (page_changes e) (flat_map page_changes es)
-      (each_map (λ (x : ℕ × Cell). e.0 * 4096 ≤ x.0) (λ (x : ℕ × Cell). (k + 1) * 4096 ≤ x.0) (λ x low. let above = h.0 in omega arith) (page_changes e) (from_low (e.0 * 4096) e.1 (cells_or_zero (page_at image e.0))))
+      (each_map (λ (x : ℕ × Cell). e.0 * 4096 ≤ x.0) (λ (x : ℕ × Cell). (k + 1) * 4096 ≤ x.0)
+      (λ x low. let above = h.0 in omega arith) (page_changes e)
+      (from_low (e.0 * 4096) e.1 (cells_or_zero (page_at image e.0))))
       (pages_low k es h.1)
 
   pages_rising : (es : List (ℕ × List Cell)) → T (is_sorted nat_cmp es) → AllByRecursion IsPage es → Rising (flat_map page_changes es)
@@ -175,7 +188,8 @@ module _ (image : Memory) where
       let long : length e.1 ≡ 512 = whole.0.cells in
       rising_append ((e.0 + 1) * 4096) (page_changes e) (flat_map page_changes es) (from_rising (e.0 * 4096) e.1 (cells_or_zero (page_at image e.0)))
       (pages_rising es (sorted_rest e es sorted) whole.1)
-      (each_map (λ (x : ℕ × Cell). x.0 < e.0 * 4096 + 8 * length e.1) (λ (x : ℕ × Cell). x.0 < (e.0 + 1) * 4096) (λ x high. omega arith) (page_changes e) (from_high (e.0 * 4096) e.1 (cells_or_zero (page_at image e.0))))
+      (each_map (λ (x : ℕ × Cell). x.0 < e.0 * 4096 + 8 * length e.1) (λ (x : ℕ × Cell). x.0 < (e.0 + 1) * 4096)
+      (λ x high. omega arith) (page_changes e) (from_high (e.0 * 4096) e.1 (cells_or_zero (page_at image e.0))))
       (pages_low e.0 es (all_below e.0 es (below_rest e es sorted)))
 
 -- the cells that differ rise by their words

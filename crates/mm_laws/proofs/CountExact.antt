@@ -40,7 +40,9 @@ module _ (line block : ℕ) (kind : Kind) (addr : ℕ) (earlier : List Use) (its
       either false true z p q = q
       either false false z p q = p
 
-      by : (t : Bool) → nat_eq (line_of (block_of a)) line ≡ t → (if t then Some (block_of a) else latest line (later ++ first)) ≡ Some block → (latest line (later ++ first) ≡ Some block → written line (later ++ first) ≡ true)
+      by : (t : Bool) → nat_eq (line_of (block_of a)) line ≡ t
+          → (if t then Some (block_of a) else latest line (later ++ first)) ≡ Some block
+          → (latest line (later ++ first) ≡ Some block → written line (later ++ first) ≡ true)
           → (if t then (writes k && d) || (is_hit (block_of a) (later ++ first) && written line (later ++ first)) else written line (later ++ first)) ≡ true
       by true at e rest =
           let same : block_of a ≡ block = cc in

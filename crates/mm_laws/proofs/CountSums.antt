@@ -4,7 +4,9 @@ use Rattle.std.specs.Prelude.{is_some}
 use mathlib.Core.List.{reverse_aux}
 use Rattle.mm_model.specs.Uses.{Use, Accessed, Removed}
 use Rattle.mm_model.specs.Flags.{one_if}
-use Rattle.mm_model.specs.Counted.{block_of, line_of, page_of_block, latest, written, is_block, is_hit, given_back, written_back, page_of_old, looked_up, look_ups, has, distinct, buffer_hits, buffer_misses, total, hit_at, miss_at, back_at, found_at, sought_at, counts_of}
+use Rattle.mm_model.specs.Counted.{block_of, line_of, page_of_block, latest, written, is_block, is_hit, given_back}
+use Rattle.mm_model.specs.Counted.{written_back, page_of_old, looked_up, look_ups, has, distinct, buffer_hits}
+use Rattle.mm_model.specs.Counted.{buffer_misses, total, hit_at, miss_at, back_at, found_at, sought_at, counts_of}
 use Rattle.mm_laws.specs.Counts.{counted}
 
 one_or_other : (b : Bool) → one_if b + one_if (not b) ≡ 1

@@ -1,5 +1,7 @@
 -- Each row of the table of instructions: what it does is granted, where the slot's words and the reply's are.
-use Rattle.std.proofs.Common.{◌≡◌, ℕ, ◌+◌, ◌<◌, ◌^◌, ◌%◌, ◌⊎◌, inl, inr, Bool, true, false, ◌&&◌, ◌==◌, nat_lt, if◌then◌else◌, List, [], ◌∷◌, length, map, Option, Some, None, Result, Ok, Err, refl, sym, ap, ◌∙◌, subst, arith, ltb-true, ℤ, pos, negsuc, ◌*ℤ◌, ◌+ℤ◌, slice_set}
+use Rattle.std.proofs.Common.{◌≡◌, ℕ, ◌+◌, ◌<◌, ◌^◌, ◌%◌, ◌⊎◌, inl, inr, Bool, true, false, ◌&&◌, ◌==◌, nat_lt}
+use Rattle.std.proofs.Common.{if◌then◌else◌, List, [], ◌∷◌, length, map, Option, Some, None, Result, Ok, Err, refl, sym}
+use Rattle.std.proofs.Common.{ap, ◌∙◌, subst, arith, ltb-true, ℤ, pos, negsuc, ◌*ℤ◌, ◌+ℤ◌, slice_set}
 use Rattle.std.specs.Prelude.{option_map}
 use Rattle.std.specs.Int.{w64, cast_unsigned, cast_signed}
 use Rattle.std.specs.List.{AllByRecursion}
@@ -25,7 +27,10 @@ use Rattle.mm_isa.specs.declared.instr.DivZero.{DivZero}
 use Rattle.mm_isa.specs.declared.instr.How.{How}
 use Rattle.mm_isa.specs.declared.instr.How.TheVariants.{Retry, Skip, Kill}
 use Rattle.mm_isa.specs.declared.instr.Instr.{Instr}
-use Rattle.mm_isa.specs.declared.instr.Instr.TheVariants.{Halt, Nop, Ldi, Ldhi, Mov, Isptr, Eqw, Out, SelfSlot, Alu, Addi, Lea, Leai, Leab, Restrict, Subseg, Setptr, Ld, St, Br, Bz, Bnz, Jmp, Jal, Lip, Trap, Evt, Resume, Rreg, Wreg, Map, Unmap}
+use Rattle.mm_isa.specs.declared.instr.Instr.TheVariants.{Halt, Nop, Ldi, Ldhi, Mov, Isptr, Eqw, Out, SelfSlot, Alu}
+use Rattle.mm_isa.specs.declared.instr.Instr.TheVariants.{Addi, Lea, Leai, Leab, Restrict, Subseg, Setptr, Ld, St, Br}
+use Rattle.mm_isa.specs.declared.instr.Instr.TheVariants.{Bz, Bnz, Jmp, Jal, Lip, Trap, Evt, Resume, Rreg, Wreg, Map}
+use Rattle.mm_isa.specs.declared.instr.Instr.TheVariants.{Unmap}
 use Rattle.mm_isa.specs.Alu.{alu_result}
 use Rattle.mm_model.specs.declared.slot.Pending.{Pending}
 use Rattle.mm_model.specs.declared.event.Event.{Event}
@@ -37,7 +42,10 @@ use Rattle.mm_model.specs.Fits.{is_waiting, identity_of, IsSlot, IsFormed, RowHo
 use Rattle.mm_model.specs.Operands.{addr_operand, value_operand, word_a, word_b, field_a, field_b, field_imm}
 use Rattle.mm_model.specs.Ask.{ask, is_privileged, load_kind, reaching}
 use Rattle.mm_model.specs.Ask.Ask.{Refuse, MapPage, UnmapPage}
-use Rattle.mm_model.specs.Effect.{Reply, Change, Pages, Effect, effect, advanced, plain, moved_on, sets, sets_pointer, sets_number, if_pointer, test, same_word, high_and_low, puts_out, set_by, loaded, stored, at_distance, branches, entry_as, entry_of, jumps, links, takes, resumed_by, resumes, delivered, reads_of, writes_of, maps, unmaps}
+use Rattle.mm_model.specs.Effect.{Reply, Change, Pages, Effect, effect, advanced, plain, moved_on, sets, sets_pointer}
+use Rattle.mm_model.specs.Effect.{sets_number, if_pointer, test, same_word, high_and_low, puts_out, set_by, loaded}
+use Rattle.mm_model.specs.Effect.{stored, at_distance, branches, entry_as, entry_of, jumps, links, takes, resumed_by}
+use Rattle.mm_model.specs.Effect.{resumes, delivered, reads_of, writes_of, maps, unmaps}
 use Rattle.mm_model.specs.Effect.Reply.{Fine, Refused, Got, Paged, Took, Served}
 use Rattle.mm_model.specs.Effect.Pages.{Keep, Add, Remove}
 use Rattle.mm_model.specs.Effect.Effect.{Fault, Block, Deliver, Does}
@@ -300,7 +308,8 @@ module _ (i : Image) (e : Entries) (core : Core) (m : Memory) (st : Stands i e c
   may_write : (t : Touch) → Grants i e s.group t.ptr → IsGranted t → can_store t.ptr.perm ≡ true → CanWrite i e s.group t.addr
   may_write t g ok right = record { by = t.ptr; granted = g; stores = record { word = ok.aligned; right = right; covers = ok.inside } }
 
-  set_granted : (post : Post) (w : Word) (t : Touch) (c : Cell) → cell_at m t.addr ≡ Some c → WordGranted i e s.group w → Checked w (load_kind post) t → WordGranted i e s.group c.word → CellWritten i e m s.group (set_by post t.addr c)
+  set_granted : (post : Post) (w : Word) (t : Touch) (c : Cell) → cell_at m t.addr ≡ Some c → WordGranted i e s.group w
+      → Checked w (load_kind post) t → WordGranted i e s.group c.word → CellWritten i e m s.group (set_by post t.addr c)
   set_granted posts.Keep w t c is g ok fits = tt
   set_granted posts.Full w t c is g ok fits =
       let right : allows t.ptr.perm (load_kind posts.Full) ≡ true = ap (allows t.ptr.perm) (sym ok.kind_is) ∙ ok.granted.right in
@@ -309,20 +318,28 @@ module _ (i : Image) (e : Entries) (core : Core) (m : Memory) (st : Stands i e c
       let right : allows t.ptr.perm (load_kind posts.Empty) ≡ true = ap (allows t.ptr.perm) (sym ok.kind_is) ∙ ok.granted.right in
       record { old = c; stands = is; writes = may_write t (through w (load_kind posts.Empty) t g ok) ok.granted (both_true (can_load t.ptr.perm) (can_store t.ptr.perm) right).1; word = fits }
 
-  got_granted : (split : Bool) (rd : ℕ) (post : Post) (w : Word) (t : Touch) (c : Cell) → cell_at m t.addr ≡ Some c → WordGranted i e s.group w → Checked w (load_kind post) t → Is (loaded split s rd post (Got t c))
+  got_granted : (split : Bool) (rd : ℕ) (post : Post) (w : Word) (t : Touch) (c : Cell) → cell_at m t.addr ≡ Some c
+      → WordGranted i e s.group w → Checked w (load_kind post) t → Is (loaded split s rd post (Got t c))
   unfolding plain
   got_granted split rd post w t c is g ok = by split
     where
       word : WordGranted i e s.group c.word
       word =
           let right = ap (allows t.ptr.perm) (sym ok.kind_is) ∙ ok.granted.right in
-          load_granted i e s.group t.addr t.ptr c.word (through w (load_kind post) t g ok) (record { word = ok.granted.aligned; right = kind_loads post t.ptr.perm right; covers = ok.granted.inside }) (st.cells t.addr c is)
+          load_granted i e s.group t.addr t.ptr c.word (through w (load_kind post) t g ok)
+          (record {
+            word = ok.granted.aligned;
+            right = kind_loads post t.ptr.perm right;
+            covers = ok.granted.inside;
+          }) (st.cells t.addr c is)
 
       by : (split : Bool) → Is (loaded split s rd post (Got t c))
       by false = record { writes = (word, tt); next = advances; issue = tt; cell = set_granted post w t c is g ok word; pages = tt; queue = tt; other = tt }
       by true = record { writes = (tt, tt); next = advances; issue = word; cell = set_granted post w t c is g ok word; pages = tt; queue = tt; other = tt }
 
-  load_row : (rd : ℕ) (post : Post) (pre : Pre) (w : Word) (r : Result Touch Cause) → WordGranted i e s.group w → ((t : Touch) → r ≡ Ok t → Checked w (load_kind post) t) → Is (loaded core.split s rd post (reply core m s.number (reaching r pre)))
+  load_row : (rd : ℕ) (post : Post) (pre : Pre) (w : Word) (r : Result Touch Cause) → WordGranted i e s.group w
+      → ((t : Touch) → r ≡ Ok t → Checked w (load_kind post) t)
+      → Is (loaded core.split s rd post (reply core m s.number (reaching r pre)))
   unfolding reply
   load_row rd post pre w (Err c) g ok = tt
   load_row rd post pre w (Ok t) g ok = by (cell_at m t.addr) refl
@@ -335,7 +352,9 @@ module _ (i : Image) (e : Entries) (core : Core) (m : Memory) (st : Stands i e c
       by None is = tt
       by (Some c) is = passed c (passes pre c.full) is
 
-  store_row : (v w : Word) (post : Post) (pre : Pre) (r : Result Touch Cause) → WordGranted i e s.group v → WordGranted i e s.group w → ((t : Touch) → r ≡ Ok t → Checked w Store t) → Is (stored s v post (reply core m s.number (reaching r pre)))
+  store_row : (v w : Word) (post : Post) (pre : Pre) (r : Result Touch Cause) → WordGranted i e s.group v
+      → WordGranted i e s.group w → ((t : Touch) → r ≡ Ok t → Checked w Store t)
+      → Is (stored s v post (reply core m s.number (reaching r pre)))
   unfolding reply plain
   store_row v w post pre (Err c) gv g ok = tt
   store_row v w post pre (Ok t) gv g ok = by (cell_at m t.addr) refl
@@ -359,7 +378,8 @@ module _ (i : Image) (e : Entries) (core : Core) (m : Memory) (st : Stands i e c
   serve : (k : ℕ) (of : Slot) → slot_at core k ≡ Some of → of.handler ≡ Some s.number → BothServe i s.group of.group
   serve k of is handled = serving i core st.same k s.number of s is at handled
 
-  took_granted : (rd : ℕ) (event : Event) (rest : List Event) (of : Slot) → slot_at core event.slot ≡ Some of → of.handler ≡ Some s.number → EventGranted i e s.group event → AllByRecursion (EventGranted i e s.group) rest
+  took_granted : (rd : ℕ) (event : Event) (rest : List Event) (of : Slot) → slot_at core event.slot ≡ Some of →
+      of.handler ≡ Some s.number → EventGranted i e s.group event → AllByRecursion (EventGranted i e s.group) rest
       → Is (takes s rd (Took event rest of))
   unfolding plain
   took_granted rd event rest of is handled first others =
@@ -371,7 +391,14 @@ module _ (i : Image) (e : Entries) (core : Core) (m : Memory) (st : Stands i e c
         cell = tt;
         pages = tt;
         queue = others;
-        other = record { old = of; stands = stands_at event.slot of is; group = refl; handler = refl; served = handled; granted = record { registers = old.registers; ip = old.ip; pending = old.pending } };
+        other = record {
+          old = of;
+          stands = stands_at event.slot of is;
+          group = refl;
+          handler = refl;
+          served = handled;
+          granted = record { registers = old.registers; ip = old.ip; pending = old.pending };
+        };
       }
 
   event_row : (rd : ℕ) (q : List Event) → queue_at core s.number ≡ q → AllByRecursion (EventGranted i e s.group) q → Is (takes s rd (first_event core q))
@@ -381,10 +408,14 @@ module _ (i : Image) (e : Entries) (core : Core) (m : Memory) (st : Stands i e c
       by : (o : Option Slot) → slot_at core event.slot ≡ o → Is (takes s rd (event_reply event rest o))
       by None found = tt
       by (Some of) found =
-          let waits = (subst (AllByRecursion (λ (x : Event). x.slot ≡ event.slot → (is_waiting of.state ≡ true) × (of.handler ≡ Some s.number))) is (queued_waits core st.fitting.matched event.slot of found s.number)).0 refl in
+          let waits = (subst (AllByRecursion (λ (x : Event). x.slot ≡ event.slot → (is_waiting of.state ≡ true)
+          × (of.handler ≡ Some s.number))) is (queued_waits core st.fitting.matched event.slot of found s.number)).0
+          refl in
           took_granted rd event rest of found waits.1 k.0 k.1
 
-  serve_row : (k : ℕ) (f : Reply → Effect) → ((c : Cause) → Is (f (Refused c))) → ((of : Slot) → slot_at core k ≡ Some of → of.handler ≡ Some s.number → Is (f (Served of))) → Is (f (served s.number (slot_at core k)))
+  serve_row : (k : ℕ) (f : Reply → Effect) → ((c : Cause) → Is (f (Refused c)))
+      → ((of : Slot) → slot_at core k ≡ Some of → of.handler ≡ Some s.number → Is (f (Served of)))
+      → Is (f (served s.number (slot_at core k)))
   serve_row k f refused good = by (slot_at core k) refl
     where
       passed : (of : Slot) (b : Bool) → slot_at core k ≡ Some of → (is_handler s.number of.handler && is_taken of.state) ≡ b → Is (f (if b then Served of else Refused cause.NoSlot))
@@ -403,7 +434,14 @@ module _ (i : Image) (e : Entries) (core : Core) (m : Memory) (st : Stands i e c
 
       by : (how : How) → OtherGranted i e core s.number (resumed_by how of)
       by Retry = record { old = of; stands = stands_at k of is; group = refl; handler = refl; served = handled; granted = record { registers = old.registers; ip = old.ip; pending = old.pending } }
-      by Skip = record { old = of; stands = stands_at k of is; group = refl; handler = refl; served = handled; granted = record { registers = old.registers; ip = advanced_granted of old; pending = old.pending } }
+      by Skip = record {
+        old = of;
+        stands = stands_at k of is;
+        group = refl;
+        handler = refl;
+        served = handled;
+        granted = record { registers = old.registers; ip = advanced_granted of old; pending = old.pending };
+      }
       by Kill = record { old = of; stands = stands_at k of is; group = refl; handler = refl; served = handled; granted = record { registers = old.registers; ip = old.ip; pending = old.pending } }
 
   resume_granted : (how : How) (k : ℕ) (of : Slot) → slot_at core k ≡ Some of → of.handler ≡ Some s.number → Is (resumes s how (Served of))
@@ -445,13 +483,20 @@ module _ (i : Image) (e : Entries) (core : Core) (m : Memory) (st : Stands i e c
           group = refl;
           handler = refl;
           served = handled;
-          granted = record { registers = each_set (WordGranted i e of.group) of.regs r w old.registers (word_served i e of.group s.group w g (serve k of is handled).there); ip = old.ip; pending = old.pending };
+          granted = record {
+            registers = each_set (WordGranted i e of.group) of.regs r w old.registers
+                (word_served i e of.group s.group w g (serve k of is handled).there);
+            ip = old.ip;
+            pending = old.pending;
+          };
         };
       })
 
   -- pages
 
-  map_row : (rd page : ℕ) (b c : Bool) → is_privileged s.ip.perm ≡ b → nat_lt page (2 ^ 42) ≡ c → Is (maps s rd (reply core m s.number (if b then (if c then MapPage page else Refuse cause.Bounds) else Refuse cause.Priv)))
+  map_row : (rd page : ℕ) (b c : Bool) → is_privileged s.ip.perm ≡ b → nat_lt page (2 ^ 42) ≡ c
+      → Is (maps s rd (reply core m s.number (if b then (if c then MapPage page else Refuse cause.Bounds) else Refuse
+      cause.Priv)))
   unfolding reply plain
   map_row rd page true true y small = by (can_map m page)
     where
@@ -461,7 +506,9 @@ module _ (i : Image) (e : Entries) (core : Core) (m : Memory) (st : Stands i e c
   map_row rd page true false y small = tt
   map_row rd page false c y small = tt
 
-  unmap_row : (rd page : ℕ) (b c : Bool) → is_privileged s.ip.perm ≡ b → nat_lt page (2 ^ 42) ≡ c → Is (unmaps s rd (reply core m s.number (if b then (if c then UnmapPage page else Refuse cause.Bounds) else Refuse cause.Priv)))
+  unmap_row : (rd page : ℕ) (b c : Bool) → is_privileged s.ip.perm ≡ b → nat_lt page (2 ^ 42) ≡ c
+      → Is (unmaps s rd (reply core m s.number (if b then (if c then UnmapPage page else Refuse cause.Bounds) else
+      Refuse cause.Priv)))
   unfolding reply plain
   unmap_row rd page true true y small = by (is_mapped m page)
     where
@@ -485,10 +532,16 @@ module _ (i : Image) (e : Entries) (core : Core) (m : Memory) (st : Stands i e c
   effect_granted (SelfSlot rd) = sets_granted rd (Int s.number) tt
   effect_granted (Alu op rd ra rb) = number_granted rd (alu_result op (word_bits (register s ra)) (word_bits (register s rb)))
   effect_granted (Addi rd ra imm) = sets_granted rd (Int ((word_bits (register s ra) + cast_unsigned w64 imm) % 2 ^ 64)) tt
-  effect_granted (Lea rd ra rb) = below_granted rd (register s ra) (λ p. lea_result p (cast_signed w64 (word_bits (register s rb)))) (reg ra) (λ p q is. lea_result-IsBelow p q (cast_signed w64 (word_bits (register s rb))) is)
+  effect_granted (Lea rd ra rb) = below_granted rd (register s ra)
+      (λ p. lea_result p (cast_signed w64 (word_bits (register s rb)))) (reg ra)
+      (λ p q is. lea_result-IsBelow p q (cast_signed w64 (word_bits (register s rb))) is)
   effect_granted (Leai rd ra imm) = below_granted rd (register s ra) (λ p. lea_result p imm) (reg ra) (λ p q is. lea_result-IsBelow p q imm is)
-  effect_granted (Leab rd ra rb) = below_granted rd (register s ra) (λ p. leab_result p (cast_signed w64 (word_bits (register s rb)))) (reg ra) (λ p q is. leab_result-IsBelow p q (cast_signed w64 (word_bits (register s rb))) is)
-  effect_granted (Restrict rd ra rb) = below_granted rd (register s ra) (λ p. restrict_result p (word_bits (register s rb))) (reg ra) (λ p q is. restrict_result-IsBelow p q (word_bits (register s rb)) is)
+  effect_granted (Leab rd ra rb) = below_granted rd (register s ra)
+      (λ p. leab_result p (cast_signed w64 (word_bits (register s rb)))) (reg ra)
+      (λ p q is. leab_result-IsBelow p q (cast_signed w64 (word_bits (register s rb))) is)
+  effect_granted (Restrict rd ra rb) = below_granted rd (register s ra)
+      (λ p. restrict_result p (word_bits (register s rb))) (reg ra)
+      (λ p q is. restrict_result-IsBelow p q (word_bits (register s rb)) is)
   effect_granted (Subseg rd ra rb) = below_granted rd (register s ra) (λ p. subseg_result p (word_bits (register s rb))) (reg ra) (λ p q is. subseg_result-IsBelow p q (word_bits (register s rb)) is)
   effect_granted (Setptr rd ra) = setptr_granted rd (word_bits (register s ra)) (is_privileged s.ip.perm) refl
   effect_granted (Ld rd ra pre post imm) =
@@ -499,7 +552,9 @@ module _ (i : Image) (e : Entries) (core : Core) (m : Memory) (st : Stands i e c
   effect_granted (Bz ra imm) = if_granted (word_bits (register s ra) == 0) (branches s (at_distance s imm)) (Does (plain s)) (branch_granted imm) plain_granted
   effect_granted (Bnz ra imm) = if_granted (word_bits (register s ra) == 0) (Does (plain s)) (branches s (at_distance s imm)) plain_granted (branch_granted imm)
   effect_granted (Jmp ra) = if_pointer_granted (register s ra) (λ p. jumps s p (enter_result p)) (reg ra) (λ p g. jump_granted p (enter_result p) g refl)
-  effect_granted (Jal rd ra) = if_pointer_granted (register s ra) (λ p. links s rd p (enter_result p) (next_result s.ip)) (reg ra) (λ p g. link_granted rd p (enter_result p) (next_result s.ip) g refl refl)
+  effect_granted (Jal rd ra) = if_pointer_granted (register s ra)
+      (λ p. links s rd p (enter_result p) (next_result s.ip)) (reg ra) (λ p g. link_granted rd p (enter_result p)
+      (next_result s.ip) g refl refl)
   effect_granted (Lip rd imm) = pointer_granted rd (at_distance s imm) (distance_granted imm)
   effect_granted (Trap imm) = tt
   effect_granted (Evt rd) = event_row rd (queue_at core s.number) refl (queue_granted i e core st.rows s.number s at)

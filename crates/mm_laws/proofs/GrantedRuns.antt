@@ -62,7 +62,9 @@ module _ (i : Image) (img : IsImage i) (e : Entries) where
   }
 
 -- the state after a list of items, under the entries that were done in them
-pub run_granted : (i : Image) (e : Entries) (s : State) (items : List ℕ) → IsImage i → IsState s → Fits i s → WordsGranted i e s → IsState (run s items) × Fits i (run s items) × WordsGranted i (with_entries e (entries s items)) (run s items)
+pub run_granted : (i : Image) (e : Entries) (s : State) (items : List ℕ) → IsImage i → IsState s → Fits i s
+    → WordsGranted i e s → IsState (run s items) × Fits i (run s items)
+    × WordsGranted i (with_entries e (entries s items)) (run s items)
 unfolding run entries
 run_granted i e s [] img h fits words = (h, fits, with_none i e s words)
   where
@@ -90,11 +92,14 @@ runs_granted i items img =
 pub events_granted : (i : Image) (e : Entries) (s : State) → IsImage i → IsState s → Fits i s → WordsGranted i e s → (h : ℕ)
     → AllByRecursion (λ (event : Event). (of : Slot) → slot_at s.core event.slot ≡ Some of → EventGranted i e of.group event) (queue_at s.core h)
 events_granted i e s img state fits words h =
-    each_map (Contains (queue_at s.core h)) (λ (event : Event). (of : Slot) → slot_at s.core event.slot ≡ Some of → EventGranted i e of.group event) one (queue_at s.core h) (each_in (queue_at s.core h))
+    each_map (Contains (queue_at s.core h)) (λ (event : Event). (of : Slot) → slot_at s.core event.slot ≡ Some of →
+    EventGranted i e of.group event) one (queue_at s.core h) (each_in (queue_at s.core h))
   where
     one : (event : Event) → Contains (queue_at s.core h) event → (of : Slot) → slot_at s.core event.slot ≡ Some of → EventGranted i e of.group event
     one event among of at =
-        let waits = each_contained (λ (x : Event). x.slot ≡ event.slot → (is_waiting of.state ≡ true) × (of.handler ≡ Some h)) (queue_at s.core h) event (queued_waits s.core fits.matched event.slot of at h) among refl in
+        let waits = each_contained (λ (x : Event). x.slot ≡ event.slot → (is_waiting of.state ≡ true)
+        × (of.handler ≡ Some h)) (queue_at s.core h) event (queued_waits s.core fits.matched event.slot of at h)
+        among refl in
         let handlers = slot_has (λ (x : Slot). IfSome x.handler (IsOther (slots_of s.core) x.number)) s.core event.slot of (image_handlers i s.core img fits.same_slots) at in
         let other = other_at s.core state.core.rising of.number h (subst (λ o. IfSome o (IsOther (slots_of s.core) of.number)) waits.1 handlers) in
         let server : Slot = other.1.0 in

@@ -1,5 +1,7 @@
 -- What a turn leaves is granted, and so is what it touches, enters and changes.
-use Rattle.std.proofs.Common.{◌≡◌, ◌≢◌, ℕ, ◌+◌, ◌-◌, ◌/◌, ◌%◌, ◌^◌, ◌≤◌, ◌⊎◌, inl, inr, Bool, true, false, nat_eq, nat_lt, if◌then◌else◌, List, [], ◌∷◌, ◌++◌, map, Option, Some, None, Result, Ok, Err, refl, sym, ap, ◌∙◌, subst, arith, pos, slice_set, eqb-true}
+use Rattle.std.proofs.Common.{◌≡◌, ◌≢◌, ℕ, ◌+◌, ◌-◌, ◌/◌, ◌%◌, ◌^◌, ◌≤◌, ◌⊎◌, inl, inr, Bool, true, false, nat_eq}
+use Rattle.std.proofs.Common.{nat_lt, if◌then◌else◌, List, [], ◌∷◌, ◌++◌, map, Option, Some, None, Result, Ok, Err}
+use Rattle.std.proofs.Common.{refl, sym, ap, ◌∙◌, subst, arith, pos, slice_set, eqb-true}
 use Rattle.std.specs.Prelude.{IfSome}
 use Rattle.std.specs.Option.{option_to_list}
 use Rattle.std.specs.List.{AllByRecursion}
@@ -38,11 +40,16 @@ use Rattle.mm_model.specs.Ask.Ask.{Refuse, MapPage, UnmapPage}
 use Rattle.mm_model.specs.Effect.{Change, Pages, Effect, effect, delivered}
 use Rattle.mm_model.specs.Effect.Pages.{Keep, Add, Remove}
 use Rattle.mm_model.specs.Effect.Effect.{Fault, Block, Deliver, Does}
-use Rattle.mm_model.specs.Turn.{Turned, reply, put_all, state_after, with_issue, slot_after, with_other, with_queue, with_out, with_cell, with_pages, core_after, memory_after, stood, is_sync, event_of, core_faulted, faulted, touch_of, asked_use, blocked, ended, executed, idle, arrives, turn}
+use Rattle.mm_model.specs.Turn.{Turned, reply, put_all, state_after, with_issue, slot_after, with_other, with_queue}
+use Rattle.mm_model.specs.Turn.{with_out, with_cell, with_pages, core_after, memory_after, stood, is_sync, event_of}
+use Rattle.mm_model.specs.Turn.{core_faulted, faulted, touch_of, asked_use, blocked, ended, executed, idle, arrives}
+use Rattle.mm_model.specs.Turn.{turn}
 use Rattle.mm_model.specs.Run.{after}
 use Rattle.mm_model.specs.Trace.{touches, group_of, group_in, done_entry}
 use Rattle.mm_model.specs.Reach.{Entries, Grants, CanWrite, Privileged}
-use Rattle.mm_model.proofs.CoreRows.{each_set, each_map, each_push, slot_at-number, slot_at-put_same, slot_at-put_queue, slots_of-put_queue, slots_found, slot_has, other_at, Rises, identities_of, rises_by, stays_by, identities_of-put_slot}
+use Rattle.mm_model.proofs.CoreRows.{each_set, each_map, each_push, slot_at-number, slot_at-put_same, slot_at-put_queue}
+use Rattle.mm_model.proofs.CoreRows.{slots_of-put_queue, slots_found, slot_has, other_at, Rises, identities_of}
+use Rattle.mm_model.proofs.CoreRows.{rises_by, stays_by, identities_of-put_slot}
 use Rattle.mm_model.proofs.SlotSteps.{delivered_from}
 use Rattle.mm_model.proofs.EffectWords.{slot_words}
 use Rattle.mm_model.proofs.Memories.{put_cases, map_cases, unmap_cases, cell_at-put_other, cell_at-map_other, cell_at-unmap_other, cell_at-unaligned, word_or_none}
@@ -53,8 +60,12 @@ use Rattle.mm_model.proofs.StateKeeps.{after_state, after_fits}
 use Rattle.mm_laws.specs.Granted.{WordGranted, SlotGranted, EventGranted, RowGranted, CellGranted, CellsGranted, WordsGranted, TouchGranted, EntryGranted, StepGranted, with_entries}
 use Rattle.mm_laws.specs.Grants.{Grow}
 use Rattle.mm_laws.proofs.GrantLaws.{grants_grow}
-use Rattle.mm_laws.proofs.GrantedWords.{slot_granted, queue_granted, delivered_granted, serving, word_served, with_entries-grow, with_entry-last, word_grows, slot_grows, event_grows, rows_grow, cells_grow, stored_granted}
-use Rattle.mm_laws.proofs.GrantedRows.{reg, word_at, Stands, CellWritten, PageGranted, PagesGranted, OtherSlot, QueueGranted, IssueGranted, NextGranted, ChangeGranted, EffectGranted, Checked, checked, effect_granted, addr_operand-granted, value_operand-granted}
+use Rattle.mm_laws.proofs.GrantedWords.{slot_granted, queue_granted, delivered_granted, serving, word_served}
+use Rattle.mm_laws.proofs.GrantedWords.{with_entries-grow, with_entry-last, word_grows, slot_grows, event_grows}
+use Rattle.mm_laws.proofs.GrantedWords.{rows_grow, cells_grow, stored_granted}
+use Rattle.mm_laws.proofs.GrantedRows.{reg, word_at, Stands, CellWritten, PageGranted, PagesGranted, OtherSlot}
+use Rattle.mm_laws.proofs.GrantedRows.{QueueGranted, IssueGranted, NextGranted, ChangeGranted, EffectGranted, Checked}
+use Rattle.mm_laws.proofs.GrantedRows.{checked, effect_granted, addr_operand-granted, value_operand-granted}
 
 -- 1. Rows after a slot or a queue was put.
 
@@ -62,14 +73,17 @@ use Rattle.mm_laws.proofs.GrantedRows.{reg, word_at, Stands, CellWritten, PageGr
 pub same_slot : (core : Core) → Rises core → (n : ℕ) (s : Slot) → slot_at core n ≡ Some s → AllByRecursion (λ (row : Row). row.slot.number ≡ n → row.slot ≡ s) core.rows
 same_slot core up n s at = rows_by core.rows (slots_found core up)
   where
-    rows_by : (rows : List Row) → AllByRecursion (λ (t : Slot). slot_at core t.number ≡ Some t) (map (λ (row : Row). row.slot) rows) → AllByRecursion (λ (row : Row). row.slot.number ≡ n → row.slot ≡ s) rows
+    rows_by : (rows : List Row) → AllByRecursion (λ (t : Slot). slot_at core t.number ≡ Some t)
+        (map (λ (row : Row). row.slot) rows) → AllByRecursion (λ (row : Row). row.slot.number ≡ n → row.slot ≡ s) rows
     rows_by [] k = tt
     rows_by (row ∷ rows) k = (
       (λ e. let two : ◌≡◌ {A = Option Slot} (Some row.slot) (Some s) = sym k.0 ∙ ap (slot_at core) e ∙ at in cc),
       rows_by rows k.1,
     )
 
-each_changed : (P : Row → Type 0) (n : ℕ) (f : Row → Row) (rows : List Row) → AllByRecursion (λ (row : Row). row.slot.number ≡ n → P row → P (f row)) rows → AllByRecursion P rows → AllByRecursion P (map (at_number n f) rows)
+each_changed : (P : Row → Type 0) (n : ℕ) (f : Row → Row) (rows : List Row)
+    → AllByRecursion (λ (row : Row). row.slot.number ≡ n → P row → P (f row)) rows → AllByRecursion P rows
+    → AllByRecursion P (map (at_number n f) rows)
 each_changed P n f [] keeps h = tt
 each_changed P n f (row ∷ rows) keeps h = (by (nat_eq row.slot.number n) refl, each_changed P n f rows keeps.1 h.1)
   where
@@ -251,7 +265,14 @@ module _ (i : Image) (e : Entries) (core : Core) (m : Memory) (st : Stands i e c
             each_put_all (WordGranted i later s.group) s.regs c.writes own.registers
             (each_map (λ (w : ℕ × Word). WordGranted i e s.group w.1) (λ (w : ℕ × Word). WordGranted i later s.group w.1) (λ w k. word_grows i e later grow s.group w.1 k) c.writes g.writes)
 
-        by : (o : Option Pending) → IssueGranted i e s.group o → SlotGranted i later (with_issue (record s { regs = put_all s.regs c.writes; ip = c.next; past = c.past; turns = s.turns + 1; state = state_after c.halts }) o)
+        by : (o : Option Pending) → IssueGranted i e s.group o → SlotGranted i later
+            (with_issue (record s {
+              regs = put_all s.regs c.writes;
+              ip = c.next;
+              past = c.past;
+              turns = s.turns + 1;
+              state = state_after c.halts;
+            }) o)
         by None k = record { registers = regs; ip = next_later i e s.group c.next c.entered g.next; pending = own.pending }
         by (Some p) k = record {
           registers = regs;
@@ -277,7 +298,9 @@ module _ (i : Image) (e : Entries) (core : Core) (m : Memory) (st : Stands i e c
 
     queue_good : (mid : Core) → Good i later core mid → (q : Option (List Event)) → QueueGranted i e s.group q → Good i later core (with_queue mid s.number q)
     queue_good mid good None k = good
-    queue_good mid good (Some q) k = put_queue-good i later core mid good s.number s q at (each_map (EventGranted i e s.group) (EventGranted i later s.group) (λ x j. event_grows i e later grow s.group x j) q k)
+    queue_good mid good (Some q) k = put_queue-good i later core mid good s.number s q at
+        (each_map (EventGranted i e s.group) (EventGranted i later s.group) (λ x j. event_grows i e later grow s.group x
+        j) q k)
 
     byte_good : (mid : Core) → Good i later core mid → (o : Option ℕ) → Good i later core (with_out mid s.group o)
     unfolding put_output
@@ -326,7 +349,9 @@ touch_through : (i : Image) (e : Entries) (g : ℕ) (w : Word) (kind : Kind) (t 
 touch_through i e g w kind t h ok =
     record { by = t.ptr; granted = subst (WordGranted i e g) ok.is h; right = ok.granted.right; covers = ok.granted.inside; aligned = ok.granted.aligned; below = ok.granted.below }
 
-reach_touch : (i : Image) (e : Entries) (g : ℕ) (w : Word) (kind : Kind) (pre : Pre) (r : Result Touch Cause) → WordGranted i e g w → ((t : Touch) → r ≡ Ok t → Checked w kind t) → IfSome (touch_of (reaching r pre)) (TouchGranted i e g)
+reach_touch : (i : Image) (e : Entries) (g : ℕ) (w : Word) (kind : Kind) (pre : Pre) (r : Result Touch Cause)
+    → WordGranted i e g w → ((t : Touch) → r ≡ Ok t → Checked w kind t) → IfSome (touch_of (reaching r pre))
+    (TouchGranted i e g)
 reach_touch i e g w kind pre (Err c) h ok = tt
 reach_touch i e g w kind pre (Ok t) h ok = touch_through i e g w kind t h (ok t refl)
 
@@ -343,9 +368,12 @@ module _ (i : Image) (e : Entries) (core : Core) (m : Memory) (st : Stands i e c
   pub touch_granted : (instr : Instr) → IfSome (touch_of (ask instr s)) (TouchGranted i e s.group)
   unfolding ask
   touch_granted (Ld rd ra pre post imm) =
-      reach_touch i e s.group (register s ra) (load_kind post) pre (check_result (register s ra) imm (load_kind post)) (reg i e core m st s at ra) (λ t is. checked (register s ra) imm (load_kind post) t (word_at i e core m st s at ra) is)
+      reach_touch i e s.group (register s ra) (load_kind post) pre (check_result (register s ra) imm (load_kind post))
+      (reg i e core m st s at ra) (λ t is. checked (register s ra) imm (load_kind post) t
+      (word_at i e core m st s at ra) is)
   touch_granted (St ra rb pre post imm) =
-      reach_touch i e s.group (register s ra) Store pre (check_result (register s ra) imm Store) (reg i e core m st s at ra) (λ t is. checked (register s ra) imm Store t (word_at i e core m st s at ra) is)
+      reach_touch i e s.group (register s ra) Store pre (check_result (register s ra) imm Store)
+      (reg i e core m st s at ra) (λ t is. checked (register s ra) imm Store t (word_at i e core m st s at ra) is)
   touch_granted (Map rd ra) = page_touch (TouchGranted i e s.group) (MapPage (word_bits (register s ra))) (is_privileged s.ip.perm) (nat_lt (word_bits (register s ra)) (2 ^ 42)) refl
   touch_granted (Unmap rd ra) = page_touch (TouchGranted i e s.group) (UnmapPage (word_bits (register s ra))) (is_privileged s.ip.perm) (nat_lt (word_bits (register s ra)) (2 ^ 42)) refl
   touch_granted _ = tt
@@ -388,7 +416,9 @@ module _ (i : Image) (e : Entries) (core : Core) (m : Memory) (st : Stands i e c
 
     stood_good : (mid : Core) → Good i e core mid → (now : Slot) (state : SlotState) → identity_of s ≡ identity_of now → SlotGranted i e now → Good i e core (put_slot mid (stood now state))
     stood_good mid good now state same own =
-        put_slot-good i e core mid good (stood now state) s (ap (slot_at core) (sym (ap (λ (x : ℕ × ℕ × Option ℕ). x.0) same)) ∙ at) same (record { registers = own.registers; ip = own.ip; pending = own.pending })
+        put_slot-good i e core mid good (stood now state) s
+        (ap (slot_at core) (sym (ap (λ (x : ℕ × ℕ × Option ℕ). x.0) same)) ∙ at) same
+        (record { registers = own.registers; ip = own.ip; pending = own.pending })
 
     fault_good : (c : Cause) (a v : Word) (o : Option ℕ) → s.handler ≡ o → WordGranted i e s.group a → WordGranted i e s.group v → Good i e core (core_faulted core s (event_of s c a v) o)
     unfolding core_faulted event_of
@@ -409,19 +439,23 @@ module _ (i : Image) (e : Entries) (core : Core) (m : Memory) (st : Stands i e c
         (each_push (EventGranted i e h.group) (queue_at waits g) (event_of s c a v) (good_queue i e core waits good g h other.1.1)
         (record { ip = Grants.served s.group own_slot_granted.ip sv.here; address = word_served i e h.group s.group a ga sv.here; value = word_served i e h.group s.group v gv sv.here }))
 
-    faulted_granted : (c : Cause) (a v : Word) (f t : Option Touch) (us : List Use) → WordGranted i e s.group a → WordGranted i e s.group v → IfSome f (TouchGranted i e s.group) → IfSome t (TouchGranted i e s.group)
+    faulted_granted : (c : Cause) (a v : Word) (f t : Option Touch) (us : List Use) → WordGranted i e s.group a
+        → WordGranted i e s.group v → IfSome f (TouchGranted i e s.group) → IfSome t (TouchGranted i e s.group)
         → TurnGranted i e m (faulted core m s c a v f t us)
     unfolding faulted
     faulted_granted c a v f t us ga gv gf gt =
         let good = fault_good c a v s.handler refl ga gv in
         still (faulted core m s c a v f t us) s.group good refl refl (group_is (faulted core m s c a v f t us) good.same refl) (each_touch (TouchGranted i e s.group) f t gf gt)
 
-    blocked_granted : (mid : Core) → Good i e core mid → (now : Slot) → identity_of s ≡ identity_of now → SlotGranted i e now → (f : Touch) (t : Option Touch) (us : List Use) → TouchGranted i e s.group f → IfSome t (TouchGranted i e s.group)
+    blocked_granted : (mid : Core) → Good i e core mid → (now : Slot) → identity_of s ≡ identity_of now
+        → SlotGranted i e now → (f : Touch) (t : Option Touch) (us : List Use) → TouchGranted i e s.group f
+        → IfSome t (TouchGranted i e s.group)
         → TurnGranted i e m (blocked mid m now f t us)
     unfolding blocked
     blocked_granted mid good now same own f t us gf gt =
         let after = stood_good mid good now Running same own in
-        still (blocked mid m now f t us) s.group after refl refl (group_is (blocked mid m now f t us) after.same (sym (ap (λ (x : ℕ × ℕ × Option ℕ). x.0) same))) (each_touch (TouchGranted i e s.group) (Some f) t gf gt)
+        still (blocked mid m now f t us) s.group after refl refl (group_is (blocked mid m now f t us) after.same
+        (sym (ap (λ (x : ℕ × ℕ × Option ℕ). x.0) same))) (each_touch (TouchGranted i e s.group) (Some f) t gf gt)
 
     module _ (c : Change) (g : ChangeGranted i e core m s c) (f : Touch) (t : Option Touch) (us : List Use) where
       abbrev did : Turned
@@ -464,9 +498,13 @@ module _ (i : Image) (e : Entries) (core : Core) (m : Memory) (st : Stands i e c
             changed = subst (λ h. ChangedBy i e h m (memory_after m c)) (sym did_group) (change_changed i e s.group m c g.cell g.pages);
           }
 
-    ended_granted : (instr : Instr) (f : Touch) (t : Option Touch) (us : List Use) (x : Effect) → EffectGranted i e core m s x → TouchGranted i e s.group f → IfSome t (TouchGranted i e s.group) → TurnGranted i e m (ended core m s instr f t us x)
+    ended_granted : (instr : Instr) (f : Touch) (t : Option Touch) (us : List Use) (x : Effect) → EffectGranted i e core
+        m s x → TouchGranted i e s.group f → IfSome t (TouchGranted i e s.group) → TurnGranted i e m
+        (ended core m s instr f t us x)
     unfolding ended
-    ended_granted instr f t us (Fault c) g gf gt = faulted_granted c (addr_operand instr s) (value_operand instr s) (Some f) t us (addr_operand-granted i e core m st s at instr) (value_operand-granted i e core m st s at instr) gf gt
+    ended_granted instr f t us (Fault c) g gf gt = faulted_granted c (addr_operand instr s) (value_operand instr s)
+        (Some f) t us (addr_operand-granted i e core m st s at instr) (value_operand-granted i e core m st s at instr)
+        gf gt
     ended_granted instr f t us Block g gf gt = blocked_granted core same_self s refl own_slot_granted f t us gf gt
     ended_granted instr f t us (Deliver o) g gf gt =
         let number = slot_at-number core o.number g.old g.stands in
@@ -489,7 +527,9 @@ module _ (i : Image) (e : Entries) (core : Core) (m : Memory) (st : Stands i e c
     executed_granted : (f : Touch) (u : Use) (instr : Instr) → Fetches s f → TurnGranted i e m (executed core m s f u instr)
     unfolding executed
     executed_granted f u instr aim =
-        ended_granted instr f (touch_of (ask instr s)) (u ∷ asked_use m (ask instr s)) (effect core.split instr s (reply core m s.number (ask instr s))) (effect_granted i e core m st s at instr) (fetch_granted i e core m st s at f aim)
+        ended_granted instr f (touch_of (ask instr s)) (u ∷ asked_use m (ask instr s))
+        (effect core.split instr s (reply core m s.number (ask instr s))) (effect_granted i e core m st s at instr)
+        (fetch_granted i e core m st s at f aim)
         (touch_granted i e core m st s at instr)
 
     arrived_granted : (p : Pending) (rest : List Pending) → s.pending ≡ p ∷ rest → TurnGranted i e m (arrives core m s (p ∷ rest))

@@ -106,7 +106,8 @@ pub record BothServe (i : Image) (g h : ℕ) : Type 0 where
   pub there : Serves i h g
 
 -- a slot and its handler
-pub serving : (i : Image) (core : Core) → identities_of core ≡ map identity_of i.slots → (m n : ℕ) (t s : Slot) → slot_at core m ≡ Some t → slot_at core n ≡ Some s → t.handler ≡ Some s.number → BothServe i s.group t.group
+pub serving : (i : Image) (core : Core) → identities_of core ≡ map identity_of i.slots → (m n : ℕ) (t s : Slot)
+    → slot_at core m ≡ Some t → slot_at core n ≡ Some s → t.handler ≡ Some s.number → BothServe i s.group t.group
 serving i core same m n t s t_at s_at handled =
     let u = image_slot i core same m t t_at in
     let v = image_slot i core same n s s_at in

@@ -1,5 +1,7 @@
 -- A turn outside the groups changes nothing that they see, and tells nothing of them.
-use Rattle.std.proofs.Common.{◌≡◌, ℕ, ◌-◌, inl, inr, Bool, true, false, ◌&&◌, nat_le, if◌then◌else◌, pos, List, [], ◌∷◌, ◌++◌, Option, Some, None, Result, Ok, Err, refl, sym, ap, ◌∙◌, subst, slice_index_or, get_or-set_other}
+use Rattle.std.proofs.Common.{◌≡◌, ℕ, ◌-◌, inl, inr, Bool, true, false, ◌&&◌, nat_le, if◌then◌else◌, pos, List, [], ◌∷◌}
+use Rattle.std.proofs.Common.{◌++◌, Option, Some, None, Result, Ok, Err, refl, sym, ap, ◌∙◌, subst, slice_index_or}
+use Rattle.std.proofs.Common.{get_or-set_other}
 use Rattle.std.specs.Prelude.{IfSome}
 use Rattle.std.proofs.lemmas.Bool.{both_ways}
 use Rattle.mm_word.specs.declared.perm.Kind.TheVariants.{Fetch}
@@ -25,7 +27,10 @@ use Rattle.mm_model.specs.Operands.{addr_operand, value_operand, lacks}
 use Rattle.mm_model.specs.Ask.{ask}
 use Rattle.mm_model.specs.Effect.{Change, Effect, effect, delivered}
 use Rattle.mm_model.specs.Effect.Effect.{Fault, Block, Deliver, Does}
-use Rattle.mm_model.specs.Turn.{Turned, reply, slot_after, with_other, with_queue, with_out, core_after, stood, is_sync, event_of, core_faulted, faulted, touch_of, asked_use, blocked, ended, executed, issued, decoded, instr_in, fetched, aimed, started, idle, arrives, taken_by_port, taken_by, port_of, is_running, turn}
+use Rattle.mm_model.specs.Turn.{Turned, reply, slot_after, with_other, with_queue, with_out, core_after, stood, is_sync}
+use Rattle.mm_model.specs.Turn.{event_of, core_faulted, faulted, touch_of, asked_use, blocked, ended, executed, issued}
+use Rattle.mm_model.specs.Turn.{decoded, instr_in, fetched, aimed, started, idle, arrives, taken_by_port, taken_by}
+use Rattle.mm_model.specs.Turn.{port_of, is_running, turn}
 use Rattle.mm_model.specs.Trace.{group_of, group_in, trace_line, step_line}
 use Rattle.mm_model.specs.Reach.Entries.{All}
 use Rattle.mm_model.specs.Worlds.{Touchable, Apart, is_turn_of}
@@ -85,7 +90,8 @@ module _ (i : Image) (c : ℕ → Bool) (apart : Apart i All c) (core : Core) (m
         let other = other_at core st.formed.rising s.number k (subst (λ o. IfSome o (IsOther (slots_of core) s.number)) is handlers) in
         let number = slot_at-number core k other.1.0 other.1.1 in
         let side = state_side i c apart core st.same s.number k s other.1.0 at other.1.1 (is ∙ ap (λ (n : ℕ). Some n) (sym number)) in
-        beside-put_queue core (put_slot core (stood s Waiting)) (put_slot-sames core core sames (stood s Waiting) s at refl) c k (queue_at (put_slot core (stood s Waiting)) k ++ e ∷ []) other.1.0 other.1.1 (sym side ∙ out)
+        beside-put_queue core (put_slot core (stood s Waiting)) (put_slot-sames core core sames (stood s Waiting) s at
+        refl) c k (queue_at (put_slot core (stood s Waiting)) k ++ e ∷ []) other.1.0 other.1.1 (sym side ∙ out)
         ∙ stood_quiet core sames s refl refl Waiting
 
     fault_outputs : (e : Event) (o : Option ℕ) (g : ℕ) → output_of (core_faulted core s e o) g ≡ output_of core g
@@ -105,7 +111,9 @@ module _ (i : Image) (c : ℕ → Bool) (apart : Apart i All c) (core : Core) (m
     unfolding put_slot output_of
     put_outputs mid o g = refl
 
-    blocked_quiet : (mid : Core) → Sames core mid → mine c mid ≡ mine c core → ((g : ℕ) → output_of mid g ≡ output_of core g) → (now : Slot) → now.number ≡ s.number → now.group ≡ s.group → (f : Touch) (t : Option Touch) (us : List Use)
+    blocked_quiet : (mid : Core) → Sames core mid → mine c mid ≡ mine c core
+        → ((g : ℕ) → output_of mid g ≡ output_of core g) → (now : Slot) → now.number ≡ s.number → now.group ≡ s.group
+        → (f : Touch) (t : Option Touch) (us : List Use)
         → Quiet (blocked mid m now f t us)
     unfolding blocked
     blocked_quiet mid k same outs now number group f t us = record {
@@ -190,7 +198,9 @@ module _ (i : Image) (c : ℕ → Bool) (apart : Apart i All c) (core : Core) (m
         let number = slot_at-number core o.number g.old g.stands in
         let group = g.group in
         let handler = g.handler in
-        blocked_quiet (put_slot core o) (put_slot-sames core core sames o g.old g.stands (cc)) (beside-put_slot core core sames c o g.old g.stands g.group (other_out o g)) (put_outputs core o) s refl refl f t us
+        blocked_quiet (put_slot core o) (put_slot-sames core core sames o g.old g.stands (cc))
+        (beside-put_slot core core sames c o g.old g.stands g.group (other_out o g)) (put_outputs core o) s refl
+        refl f t us
     ended_quiet instr f t us (Does d) g = record { rows = change_rows d g; outputs = change_outputs d g; slot = refl }
 
     issued_quiet : (f : Touch) (u : Use) (instr : Instr) → Quiet (issued core m s f u instr)
@@ -199,7 +209,9 @@ module _ (i : Image) (c : ℕ → Bool) (apart : Apart i All c) (core : Core) (m
       where
         by : (y : Bool) → Quiet (if y then blocked core m (delivered s) f None (u ∷ []) else executed core m s f u instr)
         by true = blocked_quiet core sames refl (λ k. refl) (delivered s) (delivered_from s).number (delivered_from s).group f None (u ∷ [])
-        by false = ended_quiet instr f (touch_of (ask instr s)) (u ∷ asked_use m (ask instr s)) (effect core.split instr s (reply core m s.number (ask instr s))) (effect_granted i All core m st s at instr)
+        by false = ended_quiet instr f (touch_of (ask instr s)) (u ∷ asked_use m (ask instr s))
+            (effect core.split instr s (reply core m s.number (ask instr s)))
+            (effect_granted i All core m st s at instr)
 
     decoded_quiet : (f : Touch) (u : Use) (o : Option Instr) → Quiet (decoded core m s f u o)
     decoded_quiet f u None = faulted_quiet Illegal (Int 0) (Int 0) (Some f) None (u ∷ [])
@@ -255,7 +267,9 @@ module _ (i : Image) (c : ℕ → Bool) (apart : Apart i All c) (core : Core) (m
   unfolding turn
   turn_quiet n out port_out = by (slot_at core n) refl
     where
-      runs : (s : Slot) → slot_at core n ≡ Some s → (y : Bool) → (turn core m n ≡ (if y then started core m s else idle core m n)) → QuietTurn i c core m (if y then started core m s else idle core m n)
+      runs : (s : Slot) → slot_at core n ≡ Some s → (y : Bool)
+          → (turn core m n ≡ (if y then started core m s else idle core m n)) → QuietTurn i c core m
+          (if y then started core m s else idle core m n)
       runs s is true e = own_turn_quiet s (at_its_number n s is) (out s is) n (started core m s) e (started_quiet s (at_its_number n s is) (out s is))
       runs s is false e = idle_quiet n
 

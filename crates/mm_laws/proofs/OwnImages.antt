@@ -122,9 +122,21 @@ module _ (i : Image) (c : ℕ → Bool) (j : Image) (img : IsImage i) (has : Has
   extracted_image : IsImage j
   extracted_image =
       let whole = own_image i c img has (apart_inside i c apart) j.memory e.frames e.paged extracted_words in
-      let one : ◌≡◌ {A = Image} (record { version = i.version; split = i.split; slots = own_slots c i.slots; memory = j.memory }) (record { version = j.version; split = i.split; slots = own_slots c i.slots; memory = j.memory }) =
+      let one : ◌≡◌ {A = Image} (record {
+        version = i.version;
+        split = i.split;
+        slots = own_slots c i.slots;
+        memory = j.memory;
+      }) (record { version = j.version; split = i.split; slots = own_slots c i.slots; memory = j.memory })
+      =
       ap (λ (v : ℕ). record { version = v; split = i.split; slots = own_slots c i.slots; memory = j.memory }) (sym e.version) in
-      let two : ◌≡◌ {A = Image} (record { version = j.version; split = i.split; slots = own_slots c i.slots; memory = j.memory }) (record { version = j.version; split = j.split; slots = own_slots c i.slots; memory = j.memory }) =
+      let two : ◌≡◌ {A = Image} (record {
+        version = j.version;
+        split = i.split;
+        slots = own_slots c i.slots;
+        memory = j.memory;
+      }) (record { version = j.version; split = j.split; slots = own_slots c i.slots; memory = j.memory })
+      =
       ap (λ (b : Bool). record { version = j.version; split = b; slots = own_slots c i.slots; memory = j.memory }) (sym e.mode) in
       let three : ◌≡◌ {A = Image} (record { version = j.version; split = j.split; slots = own_slots c i.slots; memory = j.memory }) j =
       ap (λ (l : List Slot). record { version = j.version; split = j.split; slots = l; memory = j.memory }) (sym e.slots) in

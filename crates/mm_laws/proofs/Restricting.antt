@@ -1,5 +1,7 @@
 -- What stays of a list of items for groups.
-use Rattle.std.proofs.Common.{◌≡◌, ℕ, suc, ◌+◌, ◌-◌, ◌<◌, ◌≤◌, inl, inr, Bool, true, false, ◌&&◌, ◌||◌, nat_eq, nat_le, cond, if◌then◌else◌, List, [], ◌∷◌, ◌++◌, map, Option, Some, None, refl, sym, ap, ◌∙◌, arith, eqb-true, eq-eqb}
+use Rattle.std.proofs.Common.{◌≡◌, ℕ, suc, ◌+◌, ◌-◌, ◌<◌, ◌≤◌, inl, inr, Bool, true, false, ◌&&◌, ◌||◌, nat_eq, nat_le}
+use Rattle.std.proofs.Common.{cond, if◌then◌else◌, List, [], ◌∷◌, ◌++◌, map, Option, Some, None, refl, sym, ap, ◌∙◌}
+use Rattle.std.proofs.Common.{arith, eqb-true, eq-eqb}
 use Rattle.std.specs.Prelude.{Contains, ◌↔◌}
 use Rattle.std.specs.List.{filter, AllByRecursion}
 use Rattle.std.specs.List.Sorted.{IsStrictlyIncreasing}
@@ -123,7 +125,9 @@ none_in None = refl
 none_in (Some s) = refl
 
 none_kept : (i : Image) (n : ℕ) → is_kept i (λ g. false) n ≡ false
-none_kept i n = by (in_groups (λ g. false) (slot_in i.slots n)) i.split (nat_le 128 n) (in_groups (λ g. false) (slot_in i.slots (n - 128))) (none_in (slot_in i.slots n)) (none_in (slot_in i.slots (n - 128)))
+none_kept i n = by (in_groups (λ g. false) (slot_in i.slots n)) i.split (nat_le 128 n)
+    (in_groups (λ g. false) (slot_in i.slots (n - 128))) (none_in (slot_in i.slots n))
+    (none_in (slot_in i.slots (n - 128)))
   where
     by : (a b d e : Bool) → a ≡ false → e ≡ false → (a || (b && d && e)) ≡ false
     by true b d e p q = p
@@ -199,7 +203,9 @@ quiet_run i s c [] img h fits quiet = quiet
 quiet_run i s c (n ∷ items) img h fits quiet =
     by (is_kept i c n) refl (λ k. quiet_run i (after s n) c items img (after_state s n h) (after_fits i s n img h fits) k) (quiet_run i s c items img h fits quiet)
   where
-    by : (b : Bool) → is_kept i c n ≡ b → (Quiet c (after s n) → Quiet c (run (after s n) (filter (is_kept i c) items))) → Quiet c (run s (filter (is_kept i c) items)) → Quiet c (run s (cond b (n ∷ filter (is_kept i c) items) (filter (is_kept i c) items)))
+    by : (b : Bool) → is_kept i c n ≡ b → (Quiet c (after s n) → Quiet c (run (after s n) (filter (is_kept i c) items)))
+        → Quiet c (run s (filter (is_kept i c) items))
+        → Quiet c (run s (cond b (n ∷ filter (is_kept i c) items) (filter (is_kept i c) items)))
     by true kept with_it without = with_it (quiet_after i s c n h fits kept quiet)
     by false kept with_it without = without
 
@@ -207,7 +213,9 @@ pub others_rest : (i : Image) (items : List ℕ) (c : ℕ → Bool) → IsImage 
 unfolding only start
 others_rest i items c h n s is outside =
     let none = start_within i h in
-    let quiet : Quiet c (start i) = each_map (λ (x : Slot). x.turns ≤ (start i).cycles) (λ (x : Slot). c x.group ≡ false → x.turns ≡ 0) (λ x few out. let zero : (start i).cycles ≡ 0 = start_cycles i in omega arith) (slots_of (start i).core) none in
+    let quiet : Quiet c (start i) = each_map (λ (x : Slot). x.turns ≤ (start i).cycles) (λ (x : Slot). c x.group ≡ false
+    → x.turns ≡ 0) (λ x few out. let zero : (start i).cycles ≡ 0 = start_cycles i in omega arith)
+    (slots_of (start i).core) none in
     slot_has (λ (x : Slot). c x.group ≡ false → x.turns ≡ 0) (run (start i) (filter (is_kept i c) items)).core n s (quiet_run i (start i) c items h (start_state i h) (start_fits i h) quiet) is outside
   where
     start_cycles : (i : Image) → (start i).cycles ≡ 0

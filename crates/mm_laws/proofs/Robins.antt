@@ -1,5 +1,6 @@
 -- Round robin issues the next running slot.
-use Rattle.std.proofs.Common.{◌≡◌, ℕ, zero, suc, ◌<◌, ◌≤◌, inl, inr, Bool, true, false, nat_lt, if◌then◌else◌, List, [], ◌∷◌, ◌++◌, length, map, Option, Some, None, refl, sym, ap, ◌∙◌, arith, ltb-true}
+use Rattle.std.proofs.Common.{◌≡◌, ℕ, zero, suc, ◌<◌, ◌≤◌, inl, inr, Bool, true, false, nat_lt, if◌then◌else◌, List, []}
+use Rattle.std.proofs.Common.{◌∷◌, ◌++◌, length, map, Option, Some, None, refl, sym, ap, ◌∙◌, arith, ltb-true}
 use Rattle.std.specs.Prelude.{Contains}
 use Rattle.std.specs.List.{AllByRecursion}
 use Rattle.std.specs.List.Sorted.{IsStrictlyIncreasing}
@@ -24,7 +25,9 @@ none_says p [] e = tt
 none_says p (row ∷ rows) e = by (is_running row.slot.state) (p row.slot.number) refl refl e (λ k. none_says p rows k)
   where
     by : (a b : Bool) → is_running row.slot.state ≡ a → p row.slot.number ≡ b → (if a then (if b then Some row.slot.number else first_running p rows) else first_running p rows) ≡ None
-        → (first_running p rows ≡ None → AllByRecursion (λ (s : Slot). is_running s.state ≡ true → p s.number ≡ false) (slots_in rows)) → AllByRecursion (λ (s : Slot). is_running s.state ≡ true → p s.number ≡ false) (slots_in (row ∷ rows))
+        → (first_running p rows ≡ None → AllByRecursion (λ (s : Slot). is_running s.state ≡ true → p s.number ≡ false)
+        (slots_in rows)) → AllByRecursion (λ (s : Slot). is_running s.state ≡ true → p s.number ≡ false)
+        (slots_in (row ∷ rows))
     by true true ea eb e later = cc
     by true false ea eb e later = ((λ running. eb), later e)
     by false b ea eb e later = ((λ running. cc (running, ea)), later e)
@@ -77,7 +80,8 @@ some_says p (row ∷ rows) n up e =
     by false b ea eb e later = behind (later e) (λ running passes. cc (running, ea))
 
 -- the same, of the slots by their numbers
-least_of : (core : Core) (p : ℕ → Bool) (Passes : ℕ → Type 0) (n : ℕ) → Rises core → ((m : ℕ) → p m ≡ true → Passes m) → ((m : ℕ) → Passes m → p m ≡ true) → first_running p core.rows ≡ Some n → IsLeast core Passes n
+least_of : (core : Core) (p : ℕ → Bool) (Passes : ℕ → Type 0) (n : ℕ) → Rises core → ((m : ℕ) → p m ≡ true → Passes m)
+    → ((m : ℕ) → Passes m → p m ≡ true) → first_running p core.rows ≡ Some n → IsLeast core Passes n
 least_of core p Passes n up from to e =
     let first = some_says p core.rows n up e in
     record {
@@ -89,7 +93,8 @@ least_of core p Passes n up from to e =
       passes = from n first.passes;
       least = λ m both runs.
           let number = slot_at-number core m runs.slot runs.stands in
-          let low : n ≤ runs.slot.number = slot_has (λ (s : Slot). is_running s.state ≡ true → p s.number ≡ true → n ≤ s.number) core m runs.slot first.least runs.stands runs.running (ap p number ∙ to m both.0) in
+          let low : n ≤ runs.slot.number = slot_has (λ (s : Slot). is_running s.state ≡ true → p s.number ≡ true
+          → n ≤ s.number) core m runs.slot first.least runs.stands runs.running (ap p number ∙ to m both.0) in
           let under = both.1 in
           omega arith;
     }
@@ -145,7 +150,8 @@ ends s last (suc count) lt = by (next_running s.core.rows last) refl lt (λ n k.
 heads : (x y : ℕ) (xs ys : List ℕ) → x ∷ xs ≡ y ∷ ys → (x ≡ y) × (xs ≡ ys)
 heads x y xs ys e = (cc, cc)
 
-pub issues_next : (s : State) (last : Option ℕ) (count : ℕ) → IsState s → (before : List ℕ) (n : ℕ) (behind : List ℕ) → robin_from s last count ≡ before ++ n ∷ behind → IsNext (run s before).core (last_item last before) n
+pub issues_next : (s : State) (last : Option ℕ) (count : ℕ) → IsState s → (before : List ℕ) (n : ℕ) (behind : List ℕ)
+    → robin_from s last count ≡ before ++ n ∷ behind → IsNext (run s before).core (last_item last before) n
 unfolding robin_from run
 issues_next s last zero h [] n behind e = cc
 issues_next s last zero h (m ∷ before) n behind e = cc
@@ -158,7 +164,9 @@ issues_next s last (suc count) h [] n behind e = by (next_running s.core.rows la
         next_is s.core last n h.core.rising (is ∙ ap (λ (j : ℕ). Some j) same)
 issues_next s last (suc count) h (m ∷ before) n behind e = by (next_running s.core.rows last) e (λ k. issues_next (after s m) (Some m) count (after_state s m h) before n behind k)
   where
-    by : (o : Option ℕ) → then_issued o (λ k. robin_from (after s k) (Some k) count) ≡ m ∷ (before ++ n ∷ behind) → (robin_from (after s m) (Some m) count ≡ before ++ n ∷ behind → IsNext (run (after s m) before).core (last_item (Some m) before) n)
+    by : (o : Option ℕ) → then_issued o (λ k. robin_from (after s k) (Some k) count) ≡ m ∷ (before ++ n ∷ behind)
+        → (robin_from (after s m) (Some m) count ≡ before ++ n ∷ behind → IsNext (run (after s m) before).core
+        (last_item (Some m) before) n)
         → IsNext (run (after s m) before).core (last_item (Some m) before) n
     by None e later = cc
     by (Some k) e later =

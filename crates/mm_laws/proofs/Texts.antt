@@ -1,5 +1,6 @@
 -- A schedule's text means one list, or has one first fault.
-use Rattle.std.proofs.Common.{◌≡◌, ◌≢◌, ℕ, zero, suc, ◌+◌, ◌<◌, ◌≤◌, ◌^◌, ◌⊎◌, inl, inr, List, [], ◌∷◌, ◌++◌, length, replicate, refl, sym, ap, ◌∙◌, subst, arith, append_assoc, append-nil, length-append}
+use Rattle.std.proofs.Common.{◌≡◌, ◌≢◌, ℕ, zero, suc, ◌+◌, ◌<◌, ◌≤◌, ◌^◌, ◌⊎◌, inl, inr, List, [], ◌∷◌, ◌++◌, length}
+use Rattle.std.proofs.Common.{replicate, refl, sym, ap, ◌∙◌, subst, arith, append_assoc, append-nil, length-append}
 use Rattle.std.specs.Prelude.{decimal}
 use Rattle.std.specs.List.{AllByRecursion}
 use Rattle.std.proofs.lemmas.Bool.{cases_eq, cases_lt}
@@ -14,7 +15,8 @@ abbrev NoStar : List ℕ → Type 0
 NoStar bytes = AllByRecursion (λ b. b ≢ 42) bytes
 
 no_star : (n : ℕ) → n < 2 ^ 64 → NoStar (decimal n)
-no_star n lt = decimal_by_steps (λ k ds. NoStar ds) (λ k few. ((λ e. omega arith), tt)) (λ k ds big none. each_push (λ b. b ≢ 42) ds (48 + Rattle.std.proofs.Common.◌%◌ k 10) none (λ e. omega arith)) n lt
+no_star n lt = decimal_by_steps (λ k ds. NoStar ds) (λ k few. ((λ e. omega arith), tt))
+    (λ k ds big none. each_push (λ b. b ≢ 42) ds (48 + Rattle.std.proofs.Common.◌%◌ k 10) none (λ e. omega arith)) n lt
 
 star_inside : (a b t : List ℕ) → NoStar a → a ≡ b ++ 42 ∷ t → ⊥
 star_inside [] [] t none e = cc
@@ -71,7 +73,15 @@ front all items no_word w ws e = cc
 front all items (word {at = at} {word = bytes} {words = words} {number = number} {count = count} {items = rest} item lists) w ws e =
     let first : ◌≡◌ {A = ℕ × List ℕ} (at, bytes) w = cc in
     let others : words ≡ ws = cc in
-    record { number = number; count = count; rest = rest; item = subst (λ (v : ℕ × List ℕ). IsItem v.1 number count) first item; lists = subst (λ (vs : List (ℕ × List ℕ)). Lists vs rest) others lists; are = refl }
+    record {
+      number = number;
+      count = count;
+      rest = rest;
+      item = subst (λ (v : ℕ × List ℕ). IsItem v.1 number count)
+          first item;
+      lists = subst (λ (vs : List (ℕ × List ℕ)). Lists vs rest) others lists;
+      are = refl;
+    }
 
 none_left : (all : List (ℕ × List ℕ)) (items : List ℕ) → Lists all items → all ≡ [] → items ≡ []
 none_left all items no_word e = refl
@@ -114,7 +124,8 @@ one_more [] items w n k l item =
 one_more (v ∷ a) items w n k l item =
     let f = front (v ∷ a) items l v a refl in
     let more = one_more a f.rest w n k f.lists item in
-    subst (Lists (v ∷ (a ++ w ∷ []))) (sym (append_assoc (replicate f.count f.number) f.rest (replicate k n)) ∙ ap (λ (xs : List ℕ). xs ++ replicate k n) (sym f.are)) (word {at = v.0} {word = v.1} f.item more)
+    subst (Lists (v ∷ (a ++ w ∷ []))) (sym (append_assoc (replicate f.count f.number) f.rest (replicate k n))
+    ∙ ap (λ (xs : List ℕ). xs ++ replicate k n) (sym f.are)) (word {at = v.0} {word = v.1} f.item more)
 
 length_copies : (k n : ℕ) → length (replicate k n) ≡ k
 length_copies zero n = refl
@@ -135,7 +146,8 @@ fault_says text items p f more l few =
     let all : length items ≡ length f.items + (here.count + length here.rest) =
     ap length split.are ∙ length-append split.first split.second
     ∙ ap (λ (xs : List ℕ). length xs + length split.second) same
-    ∙ ap (λ (k : ℕ). length f.items + k) (ap length here.are ∙ length-append (replicate here.count here.number) here.rest ∙ ap (λ (k : ℕ). k + length here.rest) (length_copies here.count here.number)) in
+    ∙ ap (λ (k : ℕ). length f.items + k) (ap length here.are ∙ length-append (replicate here.count here.number)
+    here.rest ∙ ap (λ (k : ℕ). k + length here.rest) (length_copies here.count here.number)) in
     omega arith
 
 pub never_both : (text items : List ℕ) (p : ℕ) → Means text items → ¬ FaultsAt text p

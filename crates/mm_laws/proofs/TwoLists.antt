@@ -21,7 +21,9 @@ use Rattle.mm_model.specs.Operands.{lacks}
 use Rattle.mm_model.specs.Ask.{ask}
 use Rattle.mm_model.specs.Effect.{Effect, effect, delivered}
 use Rattle.mm_model.specs.Effect.Effect.{Fault, Block, Deliver, Does}
-use Rattle.mm_model.specs.Turn.{Turned, reply, faulted, touch_of, asked_use, blocked, ended, executed, issued, decoded, instr_in, fetched, aimed, started, idle, arrives, taken_by_port, taken_by, is_running, turn}
+use Rattle.mm_model.specs.Turn.{Turned, reply, faulted, touch_of, asked_use, blocked, ended, executed, issued, decoded}
+use Rattle.mm_model.specs.Turn.{instr_in, fetched, aimed, started, idle, arrives, taken_by_port, taken_by, is_running}
+use Rattle.mm_model.specs.Turn.{turn}
 use Rattle.mm_model.specs.Run.{turn_of, after, run}
 use Rattle.mm_model.specs.Trace.{group_of, turns_of, step_line, trace_line, traced}
 use Rattle.mm_model.specs.Reach.Entries.{All}
@@ -121,7 +123,9 @@ module _ (i j : Image) (c : ℕ → Bool) (g : AgreeApart i j c) where
       let member : c now.now.group ≡ true = ap (λ (x : ℕ × ℕ × Option ℕ). c x.1) now.same ∙ about.member in
       let here : slot_at (turn_of a n).core (turn_of a n).step.slot ≡ Some now.now = ap (slot_at (turn_of a n).core) about.about ∙ now.is in
       let there : slot_at (turn_of b n).core (turn_of b n).step.slot ≡ Some now.now =
-      ap (λ (x : Step). slot_at (turn_of b n).core x.slot) (sym same.step) ∙ (same_at c (turn_of a n).core (turn_of b n).core later.other_state.core.rising same.rows (turn_of a n).step.slot now.now here member).slot in
+      ap (λ (x : Step). slot_at (turn_of b n).core x.slot) (sym same.step)
+      ∙ (same_at c (turn_of a n).core (turn_of b n).core later.other_state.core.rising same.rows
+      (turn_of a n).step.slot now.now here member).slot in
       ap (λ o. slot_line_of c o (turn_of a n).step) (here ∙ sym there) ∙ ap (slot_line_of c (slot_at (turn_of b n).core (turn_of b n).step.slot)) same.step
 
   -- 3. Both lists.
@@ -239,12 +243,15 @@ module _ (i j : Image) (c : ℕ → Bool) (g : AgreeApart i j c) where
 
   -- 4. The starts are alike.
 
-  start_rows : (slots : List Slot) → filter (is_row_of c) (map (λ (s : Slot). record { slot = s; queue = [] }) slots) ≡ map (λ (s : Slot). record { slot = s; queue = [] }) (filter (λ (s : Slot). c s.group) slots)
+  start_rows : (slots : List Slot) → filter (is_row_of c) (map (λ (s : Slot). record { slot = s; queue = [] }) slots) ≡
+      map (λ (s : Slot). record { slot = s; queue = [] }) (filter (λ (s : Slot). c s.group) slots)
   start_rows [] = refl
   start_rows (s ∷ slots) = by (c s.group) (start_rows slots)
     where
       by : (b : Bool) → filter (is_row_of c) (map (λ (x : Slot). record { slot = x; queue = [] }) slots) ≡ map (λ (x : Slot). record { slot = x; queue = [] }) (filter (λ (x : Slot). c x.group) slots)
-          → cond b (record { slot = s; queue = [] } ∷ filter (is_row_of c) (map (λ (x : Slot). record { slot = x; queue = [] }) slots)) (filter (is_row_of c) (map (λ (x : Slot). record { slot = x; queue = [] }) slots))
+          → cond b (record { slot = s; queue = [] } ∷ filter (is_row_of c)
+          (map (λ (x : Slot). record { slot = x; queue = [] }) slots))
+          (filter (is_row_of c) (map (λ (x : Slot). record { slot = x; queue = [] }) slots))
           ≡ map (λ (x : Slot). record { slot = x; queue = [] }) (cond b (s ∷ filter (λ (x : Slot). c x.group) slots) (filter (λ (x : Slot). c x.group) slots))
       by true rest = ap (λ (l : List Row). record { slot = s; queue = [] } ∷ l) rest
       by false rest = rest

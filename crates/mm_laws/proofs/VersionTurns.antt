@@ -1,5 +1,7 @@
 -- A turn reads the version of a core as the limit of outputs alone, so it is the same in a version whose limit it does not meet.
-use Rattle.std.proofs.Common.{◌≡◌, ℕ, ◌^◌, ◌%◌, ◌≤◌, ◌⊎◌, inl, inr, Bool, true, false, ◌&&◌, nat_lt, if◌then◌else◌, pos, List, [], ◌∷◌, length, Option, Some, None, Result, Ok, Err, refl, sym, ap, ◌∙◌, arith, ltb-true}
+use Rattle.std.proofs.Common.{◌≡◌, ℕ, ◌^◌, ◌%◌, ◌≤◌, ◌⊎◌, inl, inr, Bool, true, false, ◌&&◌, nat_lt, if◌then◌else◌, pos}
+use Rattle.std.proofs.Common.{List, [], ◌∷◌, length, Option, Some, None, Result, Ok, Err, refl, sym, ap, ◌∙◌, arith}
+use Rattle.std.proofs.Common.{ltb-true}
 use Rattle.std.proofs.lemmas.Bool.{lt-ltb}
 use Rattle.mm_word.specs.declared.perm.Kind.TheVariants.{Fetch, Store}
 use Rattle.mm_word.specs.declared.cause.Cause.{Cause}
@@ -27,7 +29,10 @@ use Rattle.mm_model.specs.Ask.Ask.{Nothing, Refuse, Reach, MapPage, UnmapPage, N
 use Rattle.mm_model.specs.Effect.{Change, Effect, effect, delivered, puts_out}
 use Rattle.mm_model.specs.Effect.Reply.{Fine, Refused}
 use Rattle.mm_model.specs.Effect.Effect.{Fault, Block, Deliver, Does}
-use Rattle.mm_model.specs.Turn.{Turned, reply, first_event, slot_after, with_other, with_queue, with_out, core_after, stood, is_sync, event_of, core_faulted, tick_faulted, faulted, touch_of, asked_use, blocked, ended, executed, issued, decoded, instr_in, fetched, aimed, started, idle, arrives, taken_by_port, port_of, taken_by, is_running, turn}
+use Rattle.mm_model.specs.Turn.{Turned, reply, first_event, slot_after, with_other, with_queue, with_out, core_after}
+use Rattle.mm_model.specs.Turn.{stood, is_sync, event_of, core_faulted, tick_faulted, faulted, touch_of, asked_use}
+use Rattle.mm_model.specs.Turn.{blocked, ended, executed, issued, decoded, instr_in, fetched, aimed, started, idle}
+use Rattle.mm_model.specs.Turn.{arrives, taken_by_port, port_of, taken_by, is_running, turn}
 
 -- the same in another version
 abbrev pub core_as : ℕ → Core → Core
@@ -161,7 +166,9 @@ module _ (v : ℕ) (core : Core) (m : Memory) where
   unfolding issued
   issue_as s f u i = by (core.split && lacks i s)
     where
-      by : (b : Bool) → Same v core (if b then blocked core m (delivered s) f None (u ∷ []) else executed core m s f u i) (if b then blocked (core_as v core) m (delivered s) f None (u ∷ []) else executed (core_as v core) m s f u i)
+      by : (b : Bool) → Same v core (if b then blocked core m (delivered s) f None (u ∷ []) else executed core m s f u
+          i) (if b then blocked (core_as v core) m (delivered s) f None (u ∷ []) else executed (core_as v core) m s f u
+          i)
       by true h = block_as (delivered s) f None (u ∷ [])
       by false h = execute_as s f u i h
 

@@ -1,5 +1,7 @@
 -- The lines of groups' sections and cells are lines of the report.
-use Rattle.std.proofs.Common.{◌≡◌, ℕ, zero, suc, ◌+◌, ◌/◌, inl, inr, Bool, true, false, if◌then◌else◌, List, [], ◌∷◌, ◌++◌, length, take, drop, codes, decimal, Option, None, Some, refl, sym, ap, ◌∙◌, subst, append_assoc, append-nil, arith}
+use Rattle.std.proofs.Common.{◌≡◌, ℕ, zero, suc, ◌+◌, ◌/◌, inl, inr, Bool, true, false, if◌then◌else◌, List, [], ◌∷◌}
+use Rattle.std.proofs.Common.{◌++◌, length, take, drop, codes, decimal, Option, None, Some, refl, sym, ap, ◌∙◌, subst}
+use Rattle.std.proofs.Common.{append_assoc, append-nil, arith}
 use Rattle.std.specs.Prelude.{Contains}
 use Rattle.std.specs.List.{flat_map, filter, range_with_len}
 use Rattle.std.proofs.lemmas.Bool.{cases_Bool}
@@ -16,7 +18,9 @@ use Rattle.mm_model.specs.Image.{Image, start}
 use Rattle.mm_model.specs.Groups.{HasSlot}
 use Rattle.mm_model.specs.Spelling.{IsImage}
 use Rattle.mm_model.specs.Run.{run}
-use Rattle.mm_model.specs.Lines.{newline, word_text, state_text, past_text, numbers_text, slot_line, is_zero, word_line, register_line, pending_line, register_lines, slot_lines, bytes_text, output_row, output_rows, output_lines, full_text, cell_line}
+use Rattle.mm_model.specs.Lines.{newline, word_text, state_text, past_text, numbers_text, slot_line, is_zero, word_line}
+use Rattle.mm_model.specs.Lines.{register_line, pending_line, register_lines, slot_lines, bytes_text, output_row}
+use Rattle.mm_model.specs.Lines.{output_rows, output_lines, full_text, cell_line}
 use Rattle.mm_model.specs.Report.{is_of, cycles_line, group_line, section, groups_of, sections, page_change, page_lines, pages_of, changes, cell_lines, count_line, report}
 use Rattle.mm_model.specs.Reach.Entries.{All}
 use Rattle.mm_model.specs.Worlds.{sections_of, Touchable, Apart}

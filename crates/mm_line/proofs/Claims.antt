@@ -18,7 +18,9 @@ use Rattle.mm_line.specs.declared.words.Directive.TheVariants as directive
 use Rattle.mm_line.specs.Tokens.{Next, next_token}
 use Rattle.mm_line.specs.Words.{look_up, directives, ip_perms}
 use Rattle.mm_line.specs.Reading.{◌>>=◌, name_of, word_of, number_of, handler_of}
-use Rattle.mm_line.specs.Statements.{target_at, constant_at, content_of, word, spare_at, segment_at, fill_at, thread_at, register_at, front_by, end_of, statement_of, claim_by, claim_of, body_of, is_label, line_of}
+use Rattle.mm_line.specs.Statements.{target_at, constant_at, content_of, word, spare_at, segment_at, fill_at, thread_at}
+use Rattle.mm_line.specs.Statements.{register_at, front_by, end_of, statement_of, claim_by, claim_of, body_of, is_label}
+use Rattle.mm_line.specs.Statements.{line_of}
 use Rattle.mm_line.specs.Ranges.{Names, NamesItsClaim}
 use Rattle.mm_line.proofs.Choices.{either}
 
@@ -129,6 +131,8 @@ unfolding line_of
 line_claims bytes =
     let first = next_token bytes in
     let second = next_token first.rest in
-    either (λ (line : Line). NamesItsClaim line.body) (is_label first.token second.token) (record { label = Some (name_of first); body = body_of (next_token second.rest) }) (record { label = None; body = body_of first })
+    either (λ (line : Line). NamesItsClaim line.body) (is_label first.token second.token)
+    (record { label = Some (name_of first); body = body_of (next_token second.rest) })
+    (record { label = None; body = body_of first })
     (λ _. body_claims (next_token second.rest))
     (λ _. body_claims first)

@@ -1,5 +1,6 @@
 -- Each token is the longest one that begins at its place.
-use Rattle.std.proofs.Common.{◌≡◌, ◌≢◌, ℕ, zero, suc, ◌+◌, ◌<◌, ◌≤◌, ◌^◌, Bool, true, false, ◌&&◌, ◌||◌, ◌==◌, nat_lt, nat_le, if◌then◌else◌, List, [], ◌∷◌, length, take, drop, refl, sym, ap, subst, arith}
+use Rattle.std.proofs.Common.{◌≡◌, ◌≢◌, ℕ, zero, suc, ◌+◌, ◌<◌, ◌≤◌, ◌^◌, Bool, true, false, ◌&&◌, ◌||◌, ◌==◌, nat_lt}
+use Rattle.std.proofs.Common.{nat_le, if◌then◌else◌, List, [], ◌∷◌, length, take, drop, refl, sym, ap, subst, arith}
 use Rattle.std.specs.List.{list_all}
 use Rattle.std.proofs.lemmas.Bool.Decides.{nat_tests}
 use Rattle.std.proofs.lemmas.List.{length-take-le}
@@ -32,7 +33,9 @@ run_stops : (c : Class) (bytes : List ℕ) (k : ℕ) → run c bytes < k → k �
 run_stops c [] k more le = absurd (omega arith)
 run_stops c (b ∷ bytes) zero more le = absurd (omega arith)
 run_stops c (b ∷ bytes) (suc k) more le =
-    let step : (v : Bool) → is_in c b ≡ v → (if v then 1 + run c bytes else 0) < suc k → (is_in c b && list_all (is_in c) (take k bytes)) ≡ false = λ v. elim v as (λ w. is_in c b ≡ w → (if w then 1 + run c bytes else 0) < suc k → (is_in c b && list_all (is_in c) (take k bytes)) ≡ false) [
+    let step : (v : Bool) → is_in c b ≡ v → (if v then 1 + run c bytes else 0) < suc k
+    → (is_in c b && list_all (is_in c) (take k bytes)) ≡ false = λ v. elim v as (λ w. is_in c b ≡ w
+    → (if w then 1 + run c bytes else 0) < suc k → (is_in c b && list_all (is_in c) (take k bytes)) ≡ false) [
       | true ↦ λ e m. rw e (run_stops c bytes k (omega arith) (omega arith))
       | false ↦ λ e m. rw e refl
     ] in step (is_in c b) refl more
@@ -62,7 +65,8 @@ starts_less c r [] e (suc k) = refl
 starts_less c r (b ∷ bytes) e zero = refl
 starts_less c r (b ∷ bytes) e (suc k) = rw e refl
 
-behind_less : (byte : ℕ) (p q : List ℕ → Bool) (bytes : List ℕ) → ((xs : List ℕ) → q xs ≡ false → (k : ℕ) → p (take k xs) ≡ false) → behind byte q bytes ≡ false → (k : ℕ) → behind byte p (take k bytes) ≡ false
+behind_less : (byte : ℕ) (p q : List ℕ → Bool) (bytes : List ℕ) → ((xs : List ℕ) → q xs ≡ false → (k : ℕ)
+    → p (take k xs) ≡ false) → behind byte q bytes ≡ false → (k : ℕ) → behind byte p (take k bytes) ≡ false
 behind_less byte p q [] less e zero = refl
 behind_less byte p q [] less e (suc k) = refl
 behind_less byte p q (b ∷ bytes) less e zero = refl
@@ -88,7 +92,9 @@ pub record IsLongestAt (at : List ℕ) (n : Next) : Type 0 where
 end_longest : (at : List ℕ) → IsLongestAt at end
 end_longest at = record { form = refl; longest = λ other. absurd (other refl); none = λ e. cc }
 
-front_longest : (token : Token) (size : ℕ) (at : List ℕ) → token ≢ Bad → size ≤ length at → has_form token (take size at) ≡ true → ((k : ℕ) → size < k → k ≤ length at → is_token (take k at) ≡ false) → IsLongestAt at (front token size at)
+front_longest : (token : Token) (size : ℕ) (at : List ℕ) → token ≢ Bad → size ≤ length at
+    → has_form token (take size at) ≡ true → ((k : ℕ) → size < k → k ≤ length at → is_token (take k at) ≡ false)
+    → IsLongestAt at (front token size at)
 front_longest token size at good within form longest = record {
   form = form;
   longest = λ _ k more le. longest k (let s = length-take-le size at within in omega arith) le;
@@ -96,7 +102,8 @@ front_longest token size at good within form longest = record {
 }
 
 -- a sign and a byte more are no token
-sign_longest : (v : ℕ) → ((y : ℕ) (xs : List ℕ) → is_token (v ∷ y ∷ xs) ≡ false) → (b : ℕ) (bytes : List ℕ) → (b == v) ≡ true → (k : ℕ) → 1 < k → k ≤ length (b ∷ bytes) → is_token (take k (b ∷ bytes)) ≡ false
+sign_longest : (v : ℕ) → ((y : ℕ) (xs : List ℕ) → is_token (v ∷ y ∷ xs) ≡ false) → (b : ℕ) (bytes : List ℕ)
+    → (b == v) ≡ true → (k : ℕ) → 1 < k → k ≤ length (b ∷ bytes) → is_token (take k (b ∷ bytes)) ≡ false
 sign_longest v alone b bytes e zero more le = absurd (omega arith)
 sign_longest v alone b bytes e (suc zero) more le = absurd (omega arith)
 sign_longest v alone b [] e (suc (suc k)) more le = absurd (omega arith)
@@ -175,7 +182,9 @@ directive_at bytes e = front_longest Directive (1 + run NameByte bytes) at (λ h
     longest (suc k) more le = no_token (code "." ∷ take k bytes) refl (name_longest bytes k (omega arith) (omega arith)) refl refl refl refl
 
 negative_at : (bytes : List ℕ) → starts Decimal bytes ≡ true → let at = code "-" ∷ bytes in IsLongestAt at (front (decimal true bytes) (1 + run Decimal bytes) at)
-negative_at bytes e = front_longest (decimal true bytes) (1 + run Decimal bytes) at (number_good true _) (let w = run_within Decimal bytes in omega arith) (decimal_form true bytes (take (1 + run Decimal bytes) at) (rw s form)) longest
+negative_at bytes e = front_longest (decimal true bytes) (1 + run Decimal bytes) at (number_good true _)
+    (let w = run_within Decimal bytes in omega arith) (decimal_form true bytes (take (1 + run Decimal bytes) at)
+    (rw s form)) longest
   where
     at : List ℕ
     at = code "-" ∷ bytes
@@ -192,7 +201,9 @@ negative_at bytes e = front_longest (decimal true bytes) (1 + run Decimal bytes)
         (no_number (code "-" ∷ take k bytes) refl (digits_longest Decimal bytes k (omega arith) (omega arith)) refl) refl refl refl
 
 hexadecimal_at : (bytes : List ℕ) → starts Hexadecimal bytes ≡ true → let at = code "0" ∷ code "x" ∷ bytes in IsLongestAt at (front (hexadecimal bytes) (2 + run Hexadecimal bytes) at)
-hexadecimal_at bytes e = front_longest (hexadecimal bytes) (2 + run Hexadecimal bytes) at (number_good false _) (let w = run_within Hexadecimal bytes in omega arith) (hexadecimal_form bytes (take (2 + run Hexadecimal bytes) at) (rw s form)) longest
+hexadecimal_at bytes e = front_longest (hexadecimal bytes) (2 + run Hexadecimal bytes) at (number_good false _)
+    (let w = run_within Hexadecimal bytes in omega arith) (hexadecimal_form bytes (take (2 + run Hexadecimal bytes) at)
+    (rw s form)) longest
   where
     at : List ℕ
     at = code "0" ∷ code "x" ∷ bytes
@@ -215,7 +226,9 @@ hexadecimal_less bytes e k =
     behind_less (code "0") (behind (code "x") (is_digits Hexadecimal)) (behind (code "x") (starts Hexadecimal)) bytes
     (λ xs. behind_less (code "x") (is_digits Hexadecimal) (starts Hexadecimal) xs (starts_less Hexadecimal (list_all (is_in Hexadecimal)))) e k
 
-decimal_case : (b : ℕ) (bytes : List ℕ) → is_in Letter b ≡ false → starts_hexadecimal (b ∷ bytes) ≡ false → is_in Decimal b ≡ true → IsLongestAt (b ∷ bytes) (front (decimal false (b ∷ bytes)) (run Decimal (b ∷ bytes)) (b ∷ bytes))
+decimal_case : (b : ℕ) (bytes : List ℕ) → is_in Letter b ≡ false → starts_hexadecimal (b ∷ bytes) ≡ false
+    → is_in Decimal b ≡ true → IsLongestAt (b ∷ bytes) (front (decimal false (b ∷ bytes)) (run Decimal (b ∷ bytes))
+    (b ∷ bytes))
 decimal_case b bytes no_letter no_hexadecimal e = front_longest (decimal false at) (run Decimal at) at (number_good false _) (run_within Decimal at) (decimal_form false at text form) longest
   where
     at : List ℕ
@@ -261,7 +274,8 @@ module _ (b : ℕ) (bytes : List ℕ) where
       let two = both (b == code "-") (starts Decimal bytes) e in
       subst (λ c. IsLongestAt (c ∷ bytes) (front (decimal true bytes) (1 + run Decimal bytes) (c ∷ bytes))) (sym (same_number b (code "-") two.0)) (negative_at bytes two.1)
 
-hexadecimal_case : (b : ℕ) (bytes : List ℕ) → starts_hexadecimal (b ∷ bytes) ≡ true → IsLongestAt (b ∷ bytes) (front (hexadecimal (drop 2 (b ∷ bytes))) (2 + run Hexadecimal (drop 2 (b ∷ bytes))) (b ∷ bytes))
+hexadecimal_case : (b : ℕ) (bytes : List ℕ) → starts_hexadecimal (b ∷ bytes) ≡ true → IsLongestAt (b ∷ bytes)
+    (front (hexadecimal (drop 2 (b ∷ bytes))) (2 + run Hexadecimal (drop 2 (b ∷ bytes))) (b ∷ bytes))
 hexadecimal_case b [] e = let two = both (b == code "0") false e in cc
 hexadecimal_case b (x ∷ ys) e =
     let two = both (b == code "0") (x == code "x" && starts Hexadecimal ys) e in

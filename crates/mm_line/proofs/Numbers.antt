@@ -21,16 +21,20 @@ pub too_large : (n : ℕ) → 2 ^ 64 ≤ n → limited n ≡ None
 too_large n h = grind arith
 
 -- the number so far is past 64 bits already
-pub past : (radix value : ℕ) (ds : List ℕ) (total : ℕ) (i : ℕ) → 2 ≤ radix → i < length ds → digits_value_after radix value (drop i ds) ≡ total → 2 ^ 64 ≤ value * radix + digit_value (get_or ds i 0) → limited total ≡ None
+pub past : (radix value : ℕ) (ds : List ℕ) (total : ℕ) (i : ℕ) → 2 ≤ radix → i < length ds → digits_value_after radix
+    value (drop i ds) ≡ total → 2 ^ 64 ≤ value * radix + digit_value (get_or ds i 0) → limited total ≡ None
 past radix value ds total i two lt e big =
-    let d : digits_value_after radix value (drop i ds) ≡ digits_value_after radix (value * radix + digit_value (get_or ds i 0)) (drop (i + 1) ds) = ap (digits_value_after radix value) (drop_more ds i 0 lt) in
+    let d : digits_value_after radix value (drop i ds) ≡ digits_value_after radix
+    (value * radix + digit_value (get_or ds i 0)) (drop (i + 1) ds) = ap (digits_value_after radix value)
+    (drop_more ds i 0 lt) in
     let one : 1 ≤ radix = omega arith in
     too_large total (omega (arith, value_after_ge radix (value * radix + digit_value (get_or ds i 0)) (drop (i + 1) ds) one))
 
 pub AllDigits_run : (radix : ℕ) (p : ℕ → Bool) (q : (b : ℕ) → p b ≡ true → digit_value b < radix) (bytes : List ℕ) → AllDigits radix (take (prefix_len p bytes) bytes)
 AllDigits_run radix p q [] = tt
 AllDigits_run radix p q (b ∷ bytes) =
-    let step : (v : Bool) → p b ≡ v → AllDigits radix (take (cond v (1 + prefix_len p bytes) 0) (b ∷ bytes)) = λ v. elim v as (λ w. p b ≡ w → AllDigits radix (take (cond w (1 + prefix_len p bytes) 0) (b ∷ bytes))) [
+    let step : (v : Bool) → p b ≡ v → AllDigits radix (take (cond v (1 + prefix_len p bytes) 0) (b ∷ bytes)) = λ v.
+    elim v as (λ w. p b ≡ w → AllDigits radix (take (cond w (1 + prefix_len p bytes) 0) (b ∷ bytes))) [
       | true ↦ λ e. let s : 1 + prefix_len p bytes ≡ suc (prefix_len p bytes) = omega arith in rw s (q b e, AllDigits_run radix p q bytes)
       | false ↦ λ e. tt
     ] in step (p b) refl

@@ -1,5 +1,7 @@
 -- The operands of an operation are in their ranges, and make an instruction.
-use Rattle.std.proofs.Common.{◌≡◌, ℕ, ◌<◌, ◌≤◌, Bool, true, false, nat_le, if◌then◌else◌, List, [], ◌∷◌, length, map, fold, find, Option, Some, Result, Ok, Err, refl, sym, ap, ◌∙◌, subst, arith, pos, FitsSigned}
+use Rattle.std.proofs.Common.{◌≡◌, ℕ, ◌<◌, ◌≤◌, Bool, true, false, nat_le, if◌then◌else◌, List, [], ◌∷◌, length, map}
+use Rattle.std.proofs.Common.{fold, find, Option, Some, Result, Ok, Err, refl, sym, ap, ◌∙◌, subst, arith, pos}
+use Rattle.std.proofs.Common.{FitsSigned}
 use Rattle.std.specs.List.{AllByRecursion}
 use Rattle.std.specs.Str.{bytes_eq}
 use Rattle.std.specs.Int.{w32}
@@ -54,7 +56,8 @@ Behind most P x = P x.0 × (length x.1 ≤ most)
 
 module _ (most : ℕ) where
   -- what a reader read, made into an operand
-  operand_by : {A : Type 0} (k : OperandKind) (P : A → Type 0) (make : A → Operand) (r : Result A Problem) → Reads most P r → ((x : A) → P x → IsOperand k (make x)) → Reads most (IsOperand k) (r >>= λ x. Ok (make x))
+  operand_by : {A : Type 0} (k : OperandKind) (P : A → Type 0) (make : A → Operand) (r : Result A Problem)
+      → Reads most P r → ((x : A) → P x → IsOperand k (make x)) → Reads most (IsOperand k) (r >>= λ x. Ok (make x))
   operand_by k P make r h legal = reads_then most P (IsOperand k) r (λ x. Ok (make x)) h (λ x p. reads_ok most (IsOperand k) (make x) (legal x p))
 
   event_reads : (n : Next) → Found most n → Reads most (λ r. r ≤ 12) (event_register_of n)
@@ -73,10 +76,18 @@ module _ (most : ℕ) where
   operand_reads kind.Rb n f = operand_by kind.Rb (λ r. r < 16) operand.Rb (register_of n) (register_reads most n f) (λ r h. record { kind = refl; range = h })
   operand_reads kind.Imm n f = operand_by kind.Imm (FitsSigned w32) operand.Imm (immediate_of n) (immediate_reads most n f) (λ i h. record { kind = refl; range = h })
   operand_reads kind.Distance n f = operand_by kind.Distance (FitsSigned w32) operand.Distance (immediate_of n) (immediate_reads most n f) (λ i h. record { kind = refl; range = h })
-  operand_reads kind.RegisterNumber n f = operand_by kind.RegisterNumber (λ x. (0 ≤ x) × (x ≤ 15)) operand.RegisterNumber (number_of 0 15 n) (number_reads most 0 15 n f) (λ r h. record { kind = refl; range = omega (arith, h.1) })
-  operand_reads kind.Pre n f = operand_by kind.Pre (λ _. Unit {0}) operand.Pre (word_of pres n) (known_reads most (λ _. Unit {0}) (look_up pres n.text) n (λ _ _. tt) f) (λ _ _. record { kind = refl; range = tt })
-  operand_reads kind.Post n f = operand_by kind.Post (λ _. Unit {0}) operand.Post (word_of posts n) (known_reads most (λ _. Unit {0}) (look_up posts n.text) n (λ _ _. tt) f) (λ _ _. record { kind = refl; range = tt })
-  operand_reads kind.How n f = operand_by kind.How (λ _. Unit {0}) operand.How (word_of hows n) (known_reads most (λ _. Unit {0}) (look_up hows n.text) n (λ _ _. tt) f) (λ _ _. record { kind = refl; range = tt })
+  operand_reads kind.RegisterNumber n f = operand_by kind.RegisterNumber (λ x. (0 ≤ x) × (x ≤ 15))
+      operand.RegisterNumber (number_of 0 15 n) (number_reads most 0 15 n f)
+      (λ r h. record { kind = refl; range = omega (arith, h.1) })
+  operand_reads kind.Pre n f = operand_by kind.Pre (λ _. Unit {0}) operand.Pre (word_of pres n)
+      (known_reads most (λ _. Unit {0}) (look_up pres n.text) n (λ _ _. tt) f)
+      (λ _ _. record { kind = refl; range = tt })
+  operand_reads kind.Post n f = operand_by kind.Post (λ _. Unit {0}) operand.Post (word_of posts n)
+      (known_reads most (λ _. Unit {0}) (look_up posts n.text) n (λ _ _. tt) f)
+      (λ _ _. record { kind = refl; range = tt })
+  operand_reads kind.How n f = operand_by kind.How (λ _. Unit {0}) operand.How (word_of hows n)
+      (known_reads most (λ _. Unit {0}) (look_up hows n.text) n (λ _ _. tt) f)
+      (λ _ _. record { kind = refl; range = tt })
 
   goal_kind : (k : OperandKind) (t : Token) → is_goal k t ≡ true → kind.Distance ≡ k
   goal_kind kind.Distance t e = refl
@@ -108,7 +119,9 @@ module _ (most : ℕ) where
   operand_at_reads k code line le goal =
       let n = next_token line in
       let f = found most line le in
-      reads_then most (Holds most k code) (Behind most (Holds most k code)) (with_operand k code n) _ (with_operand_reads k code n f goal) (λ new h. reads_ok most (Behind most (Holds most k code)) (new, n.rest) (h, f.rest))
+      reads_then most (Holds most k code) (Behind most (Holds most k code)) (with_operand k code n) _
+      (with_operand_reads k code n f goal) (λ new h. reads_ok most (Behind most (Holds most k code)) (new, n.rest)
+      (h, f.rest))
 
   comma_reads : (n : Next) → Found most n → Reads most (λ rest. length rest ≤ most) (comma_of n)
   comma_reads n f = of n.token
@@ -129,7 +142,9 @@ module _ (most : ℕ) where
     goal = rest.goal;
   }
 
-  behind_first : (k : OperandKind) (ks : List OperandKind) (old mid : Code) (r : Result (Code × List ℕ) Problem) → Holds most k old mid → Reads most (Behind most (HoldsAll most ks mid)) r → Reads most (Behind most (HoldsAll most (k ∷ ks) old)) r
+  behind_first : (k : OperandKind) (ks : List OperandKind) (old mid : Code) (r : Result (Code × List ℕ) Problem)
+      → Holds most k old mid → Reads most (Behind most (HoldsAll most ks mid)) r
+      → Reads most (Behind most (HoldsAll most (k ∷ ks) old)) r
   behind_first k ks old mid r first rest = reads_weaker most (Behind most (HoldsAll most ks mid)) (Behind most (HoldsAll most (k ∷ ks) old)) r rest (λ x h. (one_more k ks old mid x.0 first h.0, h.1))
 
   more_reads : (ks : List OperandKind) (code : Code) (line : List ℕ) → length line ≤ most → IsGoal most code.goal → Reads most (Behind most (HoldsAll most ks code)) (more_at ks code line)
@@ -171,5 +186,7 @@ pub code_reads : (most : ℕ) (name : List ℕ) (form : Form) (line : List ℕ) 
 unfolding code_at
 code_reads most name form line e le =
     let i = form_found name form e in
-    let read = reads_weaker most (Behind most (HoldsAll most (kinds_of i.0) (bare (form_of i.0)))) (Behind most (IsCode most)) _ (operands_reads most (kinds_of i.0) (bare (form_of i.0)) line le tt) (λ x h. (code_is most i.0 x.0 h.0, h.1)) in
+    let read = reads_weaker most (Behind most (HoldsAll most (kinds_of i.0) (bare (form_of i.0))))
+    (Behind most (IsCode most)) _ (operands_reads most (kinds_of i.0) (bare (form_of i.0)) line le tt)
+    (λ x h. (code_is most i.0 x.0 h.0, h.1)) in
     subst (λ (g : Form). Reads most (Behind most (IsCode most)) (operands_at g.kinds (bare g) line)) i.1 read

@@ -1,5 +1,7 @@
 -- Each token stands in its line.
-use Rattle.std.proofs.Common.{◌≡◌, ◌≢◌, ℕ, suc, ◌+◌, ◌-◌, ◌<◌, ◌≤◌, ◌^◌, nat_lt, nat_le, Bool, true, false, ◌||◌, ◌==◌, if◌then◌else◌, List, [], ◌∷◌, ◌++◌, length, take, drop, refl, sym, ap, subst, arith, length-drop}
+use Rattle.std.proofs.Common.{◌≡◌, ◌≢◌, ℕ, suc, ◌+◌, ◌-◌, ◌<◌, ◌≤◌, ◌^◌, nat_lt, nat_le, Bool, true, false, ◌||◌, ◌==◌}
+use Rattle.std.proofs.Common.{if◌then◌else◌, List, [], ◌∷◌, ◌++◌, length, take, drop, refl, sym, ap, subst, arith}
+use Rattle.std.proofs.Common.{length-drop}
 use Rattle.std.specs.List.{list_all}
 use Rattle.std.specs.Char.{is_digit, is_ascii_alphabetic}
 use Rattle.std.proofs.lemmas.List.{take-append-drop}
@@ -84,7 +86,9 @@ token_begins (b ∷ bytes) =
 pub run_all : (c : Class) (bytes : List ℕ) → list_all (is_in c) (take (run c bytes) bytes) ≡ true
 run_all c [] = refl
 run_all c (b ∷ bytes) =
-    let step : (v : Bool) → is_in c b ≡ v → list_all (is_in c) (take (if v then 1 + run c bytes else 0) (b ∷ bytes)) ≡ true = λ v. elim v as (λ w. is_in c b ≡ w → list_all (is_in c) (take (if w then 1 + run c bytes else 0) (b ∷ bytes)) ≡ true) [
+    let step : (v : Bool) → is_in c b ≡ v → list_all (is_in c) (take (if v then 1 + run c bytes else 0) (b ∷ bytes)) ≡
+    true = λ v. elim v as (λ w. is_in c b ≡ w → list_all (is_in c) (take (if w then 1 + run c bytes else 0)
+    (b ∷ bytes)) ≡ true) [
       | true ↦ λ e. let s : 1 + run c bytes ≡ suc (run c bytes) = omega arith in rw (s, e) (run_all c bytes)
       | false ↦ λ e. refl
     ] in step (is_in c b) refl

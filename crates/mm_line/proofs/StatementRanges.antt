@@ -23,7 +23,10 @@ use Rattle.mm_line.specs.Words.{look_up, directives, perms, ip_perms}
 use Rattle.mm_line.specs.Faults.{number_of as fault_number}
 use Rattle.mm_line.specs.Reading.{◌>>=◌, wrong, name_of, word_of, number_of, integer_of, handler_of}
 use Rattle.mm_line.specs.Operands.{code_at}
-use Rattle.mm_line.specs.Statements.{addend_at, target_at, integer_at, pointer_at, constant_at, content_by_directive, content_by_operation, content_of, word, spare_at, segment_at, fill_at, thread_at, register_at, front_by, end_of, statement_of, claim_by, claim_of, body_of, is_label, line_of}
+use Rattle.mm_line.specs.Statements.{addend_at, target_at, integer_at, pointer_at, constant_at, content_by_directive}
+use Rattle.mm_line.specs.Statements.{content_by_operation, content_of, word, spare_at, segment_at, fill_at, thread_at}
+use Rattle.mm_line.specs.Statements.{register_at, front_by, end_of, statement_of, claim_by, claim_of, body_of, is_label}
+use Rattle.mm_line.specs.Statements.{line_of}
 use Rattle.mm_line.specs.Ranges.{IsMark, IsTarget, IsConstant, IsCode, IsContent, IsHandler, IsStatement, Reads, IsClaim, IsBody, IsOptionalBody, IsLine}
 use Rattle.mm_line.proofs.Choices.{either}
 use Rattle.mm_line.proofs.Standing.{Found, found, token_stands}
@@ -52,7 +55,9 @@ module _ (most : ℕ) where
       Q = Behind most (λ n. n < 2 ^ 20)
 
       of : (t : Token) → Reads most Q (elim t [ tokens.Plus ↦ number_of 0 (2 ^ 20 - 1) number >>= λ addend. Ok (addend, number.rest) | _ ↦ Ok (0, line) ])
-      of tokens.Plus = last (λ x. (0 ≤ x) × (x ≤ 2 ^ 20 - 1)) Q (number_of 0 (2 ^ 20 - 1) number) (λ addend. (addend, number.rest)) (number_reads most 0 (2 ^ 20 - 1) number numbered) (λ x h. (omega (arith, h.1), numbered.rest))
+      of tokens.Plus = last (λ x. (0 ≤ x) × (x ≤ 2 ^ 20 - 1)) Q (number_of 0 (2 ^ 20 - 1) number)
+          (λ addend. (addend, number.rest)) (number_reads most 0 (2 ^ 20 - 1) number numbered)
+          (λ x h. (omega (arith, h.1), numbered.rest))
       of _ = reads_ok most Q (0, line) (omega arith, le)
 
   target_reads : (line : List ℕ) → length line ≤ most → Reads most (Behind most (IsTarget most)) (target_at line)
@@ -203,8 +208,12 @@ module _ (most : ℕ) where
   claim_is : (d : Option Directive) (first second : Next) → Found most first → Found most second → IsClaim most (claim_by d first second)
   claim_is (Some directive.Spare) first second f s = f.place
   claim_is (Some directive.Segment) first second f s = claim_read (IsMark most) claims.Segment (name_of second) (name_reads most second s) (λ _ h. h)
-  claim_is (Some directive.Thread) first second f s = claim_read (λ x. (0 ≤ x) × (x ≤ 15)) (λ slot. claims.Slot slot second.left) (number_of 0 15 second) (number_reads most 0 15 second s) (λ x h. (omega (arith, h.1), s.place))
-  claim_is (Some directive.Reg) first second f s = claim_read (λ x. (0 ≤ x) × (x ≤ 15)) (λ number. claims.Register number second.left) (number_of 0 15 second) (number_reads most 0 15 second s) (λ x h. (omega (arith, h.1), s.place))
+  claim_is (Some directive.Thread) first second f s = claim_read (λ x. (0 ≤ x) × (x ≤ 15))
+      (λ slot. claims.Slot slot second.left) (number_of 0 15 second) (number_reads most 0 15 second s)
+      (λ x h. (omega (arith, h.1), s.place))
+  claim_is (Some directive.Reg) first second f s = claim_read (λ x. (0 ≤ x) × (x ≤ 15))
+      (λ number. claims.Register number second.left) (number_of 0 15 second) (number_reads most 0 15 second s)
+      (λ x h. (omega (arith, h.1), s.place))
   claim_is _ first second f s = tt
 
   claim_of_is : (line : List ℕ) → let n = next_token line in Found most n → IsClaim most (claim_of n)

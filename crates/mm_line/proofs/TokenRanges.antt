@@ -1,5 +1,7 @@
 -- What is read, or its fault: one after the other.
-use Rattle.std.proofs.Common.{◌≡◌, ◌≢◌, ℕ, ◌+◌, ◌-◌, ◌^◌, ◌<◌, ◌≤◌, Bool, true, false, not, ◌&&◌, ◌||◌, ◌==◌, nat_le, if◌then◌else◌, List, [], ◌∷◌, length, codes, Option, Some, None, ok_or, Result, Ok, Err, ℤ, FitsSigned, refl, sym, subst, arith}
+use Rattle.std.proofs.Common.{◌≡◌, ◌≢◌, ℕ, ◌+◌, ◌-◌, ◌^◌, ◌<◌, ◌≤◌, Bool, true, false, not, ◌&&◌, ◌||◌, ◌==◌, nat_le}
+use Rattle.std.proofs.Common.{if◌then◌else◌, List, [], ◌∷◌, length, codes, Option, Some, None, ok_or, Result, Ok, Err}
+use Rattle.std.proofs.Common.{ℤ, FitsSigned, refl, sym, subst, arith}
 use Rattle.std.specs.Int.{w32, cast_signed}
 use Rattle.std.specs.Str.{bytes_eq}
 use Rattle.std.proofs.lemmas.Bool.{leb-true, ltb-true}
@@ -49,7 +51,8 @@ pub reads_or : {A : Type 0} (most : ℕ) (P : A → Type 0) (o : Option A) (p : 
 reads_or most P None p h bad = reads_err most P p bad
 reads_or most P (Some x) p h bad = reads_ok most P x (h x refl)
 
-pub reads_then : {A B : Type 0} (most : ℕ) (P : A → Type 0) (Q : B → Type 0) (r : Result A Problem) (f : A → Result B Problem) → Reads most P r → ((x : A) → P x → Reads most Q (f x)) → Reads most Q (r >>= f)
+pub reads_then : {A B : Type 0} (most : ℕ) (P : A → Type 0) (Q : B → Type 0) (r : Result A Problem)
+    (f : A → Result B Problem) → Reads most P r → ((x : A) → P x → Reads most Q (f x)) → Reads most Q (r >>= f)
 reads_then most P Q (Ok x) f h k = k x (h.ok x refl)
 reads_then most P Q (Err p) f h k = reads_err most Q p (h.err p refl)
 
@@ -96,7 +99,9 @@ module _ (most : ℕ) where
       of Name = reads_or most P value _ h (name_fault n f)
       of _ = reads_err most P _ (is_wrong n f)
 
-  pub ranged_reads : {A : Type 0} (P : A → Type 0) (rule : Bool → ℕ → Option A) (n : Next) → ((negative : Bool) (m : ℕ) (x : A) → rule negative m ≡ Some x → P x) → Found most n → Reads most P (ranged rule n)
+  pub ranged_reads : {A : Type 0} (P : A → Type 0) (rule : Bool → ℕ → Option A) (n : Next)
+      → ((negative : Bool) (m : ℕ) (x : A) → rule negative m ≡ Some x → P x) → Found most n
+      → Reads most P (ranged rule n)
   ranged_reads P rule n h f = of n.token
     where
       of : (t : Token) → Reads most P (elim t [ Number negative m ↦ ok_or (rule negative m) (at faults.Range n) | Wide ↦ Err (at faults.Range n) | _ ↦ Err (wrong n) ])
@@ -121,7 +126,9 @@ module _ (most : ℕ) where
   modulo_below n false m some = mod_below m n some
 
   pub integer_reads : (n : Next) → Found most n → Reads most (λ x. x < 2 ^ 64) (integer_of n)
-  integer_reads n f = ranged_reads (λ x. x < 2 ^ 64) (λ negative m. Some (modulo (2 ^ 64) negative m)) n (λ negative m x e. let same : modulo (2 ^ 64) negative m ≡ x = cc in omega (arith, same, modulo_below (2 ^ 64) negative m (omega arith))) f
+  integer_reads n f = ranged_reads (λ x. x < 2 ^ 64) (λ negative m. Some (modulo (2 ^ 64) negative m)) n
+      (λ negative m x e. let same : modulo (2 ^ 64) negative m ≡ x = cc in omega
+      (arith, same, modulo_below (2 ^ 64) negative m (omega arith))) f
 
   immediate_fits : (negative : Bool) (m : ℕ) (x : ℤ) → immediate negative m ≡ Some x → FitsSigned w32 x
   immediate_fits negative m x e =

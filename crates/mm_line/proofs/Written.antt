@@ -85,7 +85,8 @@ directive_read name rest h stop =
     ∙ ap (λ k. front Directive k (code "." ∷ (name ++ rest))) (ap (λ k. 1 + k) (run_ends NameByte name rest two.1 stop) ∙ one_add (length name)) ∙ front_written Directive (code "." ∷ name) rest
 
 -- the digits that begin
-digits_begin : (c : Class) (radix : ℕ) (digits rest : List ℕ) → list_all (is_in c) digits ≡ true → starts c rest ≡ false → digits_value radix (take (run c (digits ++ rest)) (digits ++ rest)) ≡ digits_value radix digits
+digits_begin : (c : Class) (radix : ℕ) (digits rest : List ℕ) → list_all (is_in c) digits ≡ true → starts c rest ≡ false
+    → digits_value radix (take (run c (digits ++ rest)) (digits ++ rest)) ≡ digits_value radix digits
 digits_begin c radix digits rest all stop = rw (run_ends c digits rest all stop, take_at digits rest (length digits) refl) refl
 
 negative_at : (bytes : List ℕ) → starts Decimal bytes ≡ true → token_at (code "-" ∷ bytes) ≡ front (decimal true bytes) (1 + run Decimal bytes) (code "-" ∷ bytes)

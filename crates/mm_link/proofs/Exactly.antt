@@ -12,7 +12,9 @@ use Rattle.mm_object.specs.Lookups.{name_of_target}
 use Rattle.mm_object.specs.Objects.{Object, IsObject, same_name, is_among, targets_of}
 use Rattle.mm_link.specs.declared.fault.LinkFault.TheVariants.{Twice, Undefined, Offset, SlotTwice, Handler, TooLarge}
 use Rattle.mm_link.specs.Placing.{Part, Site, parts_of, by_length, sites_from, sites_of, site_in, site_or_none, site_named, bytes_of, origin}
-use Rattle.mm_link.specs.Faults.{names_of, first_again, twice, undefined, is_outside, names_outside, first, offset, threads_of, with_slot, slot_numbers, slot_twice, no_thread_of, no_thread, is_absent, handler, frames_of, too_large, first_of, link_fault}
+use Rattle.mm_link.specs.Faults.{names_of, first_again, twice, undefined, is_outside, names_outside, first, offset}
+use Rattle.mm_link.specs.Faults.{threads_of, with_slot, slot_numbers, slot_twice, no_thread_of, no_thread, is_absent}
+use Rattle.mm_link.specs.Faults.{handler, frames_of, too_large, first_of, link_fault}
 use Rattle.mm_link.specs.Linked.{image_of}
 use Rattle.mm_link.specs.Laws.{LinkWell, ObjectsLinkExactly}
 use Rattle.mm_object.proofs.Members.{In, in_right, in_map, from_map, in_flat, from_flat, from_filter, each_in, contained, from_contained, found}

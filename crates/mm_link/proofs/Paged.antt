@@ -1,5 +1,7 @@
 -- The pages of linked objects are whole and rise, and hold words.
-use Rattle.std.proofs.Common.{◌≡◌, ℕ, zero, suc, ◌+◌, ◌^◌, ◌<◌, ◌≤◌, min, Bool, true, false, cond, List, [], ◌∷◌, ◌++◌, length, length-append, length-take, take, drop, replicate, find, Option, Some, None, refl, ap, ◌∙◌, subst, arith}
+use Rattle.std.proofs.Common.{◌≡◌, ℕ, zero, suc, ◌+◌, ◌^◌, ◌<◌, ◌≤◌, min, Bool, true, false, cond, List, [], ◌∷◌, ◌++◌}
+use Rattle.std.proofs.Common.{length, length-append, length-take, take, drop, replicate, find, Option, Some, None, refl}
+use Rattle.std.proofs.Common.{ap, ◌∙◌, subst, arith}
 use Rattle.std.specs.List.{flat_map, AllByRecursion}
 use Rattle.std.proofs.lemmas.List.{length-replicate}
 use Rattle.mm_word.specs.declared.word.Cell.{Cell}
@@ -70,7 +72,8 @@ cells_hold objects are near = parts_hold (sites_of objects) near (by_length (par
 -- 2. Pages.
 
 pub page_size : (n : ℕ) (cells : List Cell) (c : Cell) → length (take n (cells ++ replicate n c)) ≡ n
-page_size n cells c = length-take n (cells ++ replicate n c) ∙ least n (length (cells ++ replicate n c)) (length cells) (length-append cells (replicate n c) ∙ ap (λ k. length cells + k) (length-replicate n c))
+page_size n cells c = length-take n (cells ++ replicate n c) ∙ least n (length (cells ++ replicate n c)) (length cells)
+    (length-append cells (replicate n c) ∙ ap (λ k. length cells + k) (length-replicate n c))
   where
     least : (n m k : ℕ) → m ≡ k + n → min n m ≡ n
     least n m k e = omega arith

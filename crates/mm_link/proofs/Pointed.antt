@@ -1,5 +1,7 @@
 -- Pointers are into the segments that their targets go by.
-use Rattle.std.proofs.Common.{◌≡◌, ℕ, zero, suc, ◌+◌, ◌-◌, ◌*◌, ◌/◌, ◌%◌, ◌^◌, ◌<◌, ◌≤◌, Bool, true, false, not, List, [], ◌∷◌, ◌++◌, map, length, get_or, slice_get, find, Some, None, refl, sym, ap, ◌∙◌, subst, inl, inr, arith}
+use Rattle.std.proofs.Common.{◌≡◌, ℕ, zero, suc, ◌+◌, ◌-◌, ◌*◌, ◌/◌, ◌%◌, ◌^◌, ◌<◌, ◌≤◌, Bool, true, false, not, List}
+use Rattle.std.proofs.Common.{[], ◌∷◌, ◌++◌, map, length, get_or, slice_get, find, Some, None, refl, sym, ap, ◌∙◌}
+use Rattle.std.proofs.Common.{subst, inl, inr, arith}
 use Rattle.std.specs.Prelude.{◌⊎◌, if◌then◌else◌, is_some, nat_le, nat_lt, ◌&&◌}
 use Rattle.std.specs.List.{flat_map, filter, AllByRecursion}
 use Rattle.std.proofs.lemmas.Bool.{ltb-true}
@@ -63,7 +65,8 @@ module _ (o : Object) (is : IsObject o) where
 
 -- 2. What they are called.
 
-part_there : (o : Object) (number k : ℕ) (segments : List Segment) (s : Segment) → slice_get segments k ≡ Some s → (n : ℕ) × In (record { object = o; number = n; segment = s }) (parts_from o number segments)
+part_there : (o : Object) (number k : ℕ) (segments : List Segment) (s : Segment) → slice_get segments k ≡ Some s
+    → (n : ℕ) × In (record { object = o; number = n; segment = s }) (parts_from o number segments)
 part_there o number k [] s e = absurd cc
 part_there o number zero (x ∷ segments) s e =
     let same : x ≡ s = cc in
@@ -163,7 +166,9 @@ module _ (objects : List Object) (are : AllByRecursion IsObject objects) (well :
   pub none_outside : (o : Object) → In o objects → (t : Target) → In t (targets_of o.relocs o.threads) → is_outside (sites_of objects) o t ≡ false
   none_outside o is t at =
       is_false (is_outside (sites_of objects) o t) (λ e.
-      let outside = in_map (name_of_target o) t (filter (is_outside (sites_of objects) o) (targets_of o.relocs o.threads)) (in_filter (is_outside (sites_of objects) o) t (targets_of o.relocs o.threads) at e) in
+      let outside = in_map (name_of_target o) t (filter (is_outside (sites_of objects) o)
+      (targets_of o.relocs o.threads)) (in_filter (is_outside (sites_of objects) o) t
+      (targets_of o.relocs o.threads) at e) in
       let all = flat_map (names_outside (sites_of objects)) objects in
       first_none all (unmapped Offset (first all) well.offsets) (name_of_target o t) (in_flat (names_outside (sites_of objects)) o (name_of_target o t) objects is outside))
 

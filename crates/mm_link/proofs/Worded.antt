@@ -1,5 +1,7 @@
 -- Each word of each segment stands in its cell, and each other cell is integer 0, full.
-use Rattle.std.proofs.Common.{◌≡◌, ◌⊎◌, ℕ, zero, suc, ◌+◌, ◌-◌, ◌*◌, ◌^◌, ◌<◌, ◌≤◌, true, List, [], ◌∷◌, ◌++◌, length, length-append, get_or, replicate, slice_get, Some, refl, sym, ap, ◌∙◌, subst, inl, inr, arith, append_assoc, zero-add}
+use Rattle.std.proofs.Common.{◌≡◌, ◌⊎◌, ℕ, zero, suc, ◌+◌, ◌-◌, ◌*◌, ◌^◌, ◌<◌, ◌≤◌, true, List, [], ◌∷◌, ◌++◌, length}
+use Rattle.std.proofs.Common.{length-append, get_or, replicate, slice_get, Some, refl, sym, ap, ◌∙◌, subst, inl, inr}
+use Rattle.std.proofs.Common.{arith, append_assoc, zero-add}
 use Rattle.std.specs.List.{flat_map, AllByRecursion}
 use Rattle.std.proofs.lemmas.Bool.{cases_lt}
 use Rattle.std.proofs.lemmas.List.{length-replicate, get_or_append_left, get_or-append-add}
@@ -106,7 +108,8 @@ module _ (sites : List Site) where
       let long : length (cells (before ++ p ∷ after)) ≡ length (cells before) + (length (part_cells sites p) + length (cells after)) =
       ap length split ∙ length-append (cells before) behind ∙ ap (λ n. length (cells before) + n) (length-append (part_cells sites p) (cells after)) in (
         omega arith,
-        ap (λ ys. get_or ys (length (cells before) + k) zero_cell) split ∙ get_or-append-add (cells before) behind k zero_cell ∙ get_or_append_left (part_cells sites p) (cells after) zero_cell k lt ∙ here.1,
+        ap (λ ys. get_or ys (length (cells before) + k) zero_cell) split ∙ get_or-append-add (cells before) behind k
+            zero_cell ∙ get_or_append_left (part_cells sites p) (cells after) zero_cell k lt ∙ here.1,
       )
 
   -- a cell that is a word's

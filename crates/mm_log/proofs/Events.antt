@@ -1,5 +1,7 @@
 -- What was looked at before a cycle tells the events that the cycle queues and reads.
-use Rattle.std.proofs.Common.{◌≡◌, ◌≢◌, ℕ, suc, ◌+◌, ◌<◌, ◌^◌, inl, inr, Bool, true, false, nat_lt, if◌then◌else◌, List, [], ◌∷◌, ◌++◌, length, drop, map, Option, Some, None, Result, Ok, Err, refl, sym, ap, ◌∙◌, subst, arith, length-append}
+use Rattle.std.proofs.Common.{◌≡◌, ◌≢◌, ℕ, suc, ◌+◌, ◌<◌, ◌^◌, inl, inr, Bool, true, false, nat_lt, if◌then◌else◌, List}
+use Rattle.std.proofs.Common.{[], ◌∷◌, ◌++◌, length, drop, map, Option, Some, None, Result, Ok, Err, refl, sym, ap, ◌∙◌}
+use Rattle.std.proofs.Common.{subst, arith, length-append}
 use Rattle.std.specs.Prelude.{IfSome}
 use Rattle.std.proofs.lemmas.Bool.{cases_eq}
 use Rattle.std.proofs.lemmas.Bool.Decides.{nat_tests}
@@ -25,7 +27,9 @@ use Rattle.mm_model.specs.Ask.{Ask, ask, is_privileged, load_kind, reaching}
 use Rattle.mm_model.specs.Ask.Ask.{Refuse, MapPage, UnmapPage, NextEvent}
 use Rattle.mm_model.specs.Effect.{Change, effect, takes, delivered}
 use Rattle.mm_model.specs.Effect.Effect.{Does}
-use Rattle.mm_model.specs.Turn.{Turned, reply, first_event, event_reply, slot_after, with_other, with_queue, with_out, core_after, stood, is_sync, event_of, core_faulted, tick_faulted, faulted, blocked, ended, idle, turn}
+use Rattle.mm_model.specs.Turn.{Turned, reply, first_event, event_reply, slot_after, with_other, with_queue, with_out}
+use Rattle.mm_model.specs.Turn.{core_after, stood, is_sync, event_of, core_faulted, tick_faulted, faulted, blocked}
+use Rattle.mm_model.specs.Turn.{ended, idle, turn}
 use Rattle.mm_model.proofs.CoreRows.{slot_at-number, slot_at-put_same, slot_at-put_other, queue_at-put_slot, queue_at-put_same, queue_at-put_other, slot_has, other_at}
 use Rattle.mm_model.proofs.CoreSteps.{Fitting}
 use Rattle.mm_model.proofs.TurnKeeps.{changed_from}
@@ -126,8 +130,11 @@ module _ (core : Core) (m : Memory) (n : ℕ) (formed : IsFormed core) (fit : Fi
   abbrev TellsEvents : Slot → Turned → Type 0
   TellsEvents s t = (each_number (queued_at core t.core) ≡ queued_by (comes_to m s) s t.step.tick) × (each_number (read_at core t.core) ≡ read_seen (comes_to m s) s.number t.step.tick)
 
-  fault_events : (s : Slot) → slot_at core s.number ≡ Some s → (c : Cause) (e : Event) → e.cause ≡ c → e ≡ event_of s c (address_told (comes_to m s) s) (value_told (comes_to m s) s) → (o : Option ℕ) → s.handler ≡ o
-      → (each_number (queued_at core (core_faulted core s e o)) ≡ queued_by (comes_to m s) s (tick_faulted c o)) × (each_number (read_at core (core_faulted core s e o)) ≡ read_seen (comes_to m s) s.number (tick_faulted c o))
+  fault_events : (s : Slot) → slot_at core s.number ≡ Some s → (c : Cause) (e : Event) → e.cause ≡ c → e ≡ event_of s c
+      (address_told (comes_to m s) s) (value_told (comes_to m s) s) → (o : Option ℕ) → s.handler ≡ o
+      → (each_number (queued_at core (core_faulted core s e o)) ≡ queued_by (comes_to m s) s (tick_faulted c o))
+      × (each_number (read_at core (core_faulted core s e o)) ≡ read_seen (comes_to m s) s.number
+      (tick_faulted c o))
   unfolding core_faulted
   fault_events s at c e causes made (Some g) is =
       let waits : Core = put_slot core (stood s Waiting) in
@@ -138,7 +145,8 @@ module _ (core : Core) (m : Memory) (n : ℕ) (formed : IsFormed core) (fit : Fi
       let number = slot_at-number core g other.1.0 other.1.1 in
       let small = slot_has IsSlot core g other.1.0 formed.slots other.1.1 in
       let few : g < 64 = let low = small.number in omega arith in
-      let here : queue_at queued g ≡ queue_at core g ++ e ∷ [] = queue_at-put_same waits g (queue_at waits g ++ e ∷ []) other.1.0 there ∙ ap (λ q. q ++ e ∷ []) (queue_at-put_slot core (stood s Waiting) g) in
+      let here : queue_at queued g ≡ queue_at core g ++ e ∷ [] = queue_at-put_same waits g (queue_at waits g ++ e ∷ [])
+      other.1.0 there ∙ ap (λ q. q ++ e ∷ []) (queue_at-put_slot core (stood s Waiting) g) in
       let others : (k : ℕ) → k ≢ g → queue_at queued k ≡ queue_at core k = λ k ne. queue_at-put_other waits g (queue_at waits g ++ e ∷ []) k ne ∙ queue_at-put_slot core (stood s Waiting) k in (
         one_number (queued_at core queued) g few (λ k ne. queued_same core queued k (others k ne))
             ∙ queued_added core queued g e here
@@ -146,10 +154,22 @@ module _ (core : Core) (m : Memory) (n : ℕ) (formed : IsFormed core) (fit : Fi
             ∙ sym (ap (queued_for (comes_to m s) s c) is),
         one_number (read_at core queued) g few (λ k ne. read_same core queued k (others k ne)) ∙ read_added core queued g e here,
       )
-  fault_events s at c e causes made None is = subst (λ (x : Cause). (each_number (queued_at core (if is_sync x then put_slot core (stood s Running) else put_slot core (stood s (Halted (Some x))))) ≡ queued_by (comes_to m s) s (if is_sync c then Blocked else Faulted c)) × (each_number (read_at core (if is_sync x then put_slot core (stood s Running) else put_slot core (stood s (Halted (Some x))))) ≡ read_seen (comes_to m s) s.number (if is_sync c then Blocked else Faulted c))) (sym causes) (by (is_sync c))
+  fault_events s at c e causes made None is = subst
+      (λ (x : Cause). (each_number (queued_at core (if is_sync x then put_slot core (stood s Running) else put_slot core
+      (stood s (Halted (Some x))))) ≡ queued_by (comes_to m s) s (if is_sync c then Blocked else Faulted c))
+      × (each_number (read_at core (if is_sync x then put_slot core (stood s Running) else put_slot core
+      (stood s (Halted (Some x))))) ≡ read_seen (comes_to m s) s.number (if is_sync c then Blocked else Faulted c)))
+      (sym causes) (by (is_sync c))
     where
-      by : (b : Bool) → (each_number (queued_at core (if b then put_slot core (stood s Running) else put_slot core (stood s (Halted (Some c))))) ≡ queued_by (comes_to m s) s (if b then Blocked else Faulted c)) × (each_number (read_at core (if b then put_slot core (stood s Running) else put_slot core (stood s (Halted (Some c))))) ≡ read_seen (comes_to m s) s.number (if b then Blocked else Faulted c))
-      by true = (none_queued core (put_slot core (stood s Running)) (queue_at-put_slot core (stood s Running)), none_read core (put_slot core (stood s Running)) (queue_at-put_slot core (stood s Running)))
+      by : (b : Bool) → (each_number
+          (queued_at core (if b then put_slot core (stood s Running) else put_slot core (stood s (Halted (Some c))))) ≡
+          queued_by (comes_to m s) s (if b then Blocked else Faulted c))
+          × (each_number (read_at core (if b then put_slot core (stood s Running) else put_slot core
+          (stood s (Halted (Some c))))) ≡ read_seen (comes_to m s) s.number (if b then Blocked else Faulted c))
+      by true = (
+        none_queued core (put_slot core (stood s Running)) (queue_at-put_slot core (stood s Running)),
+        none_read core (put_slot core (stood s Running)) (queue_at-put_slot core (stood s Running)),
+      )
       by false = (
         none_queued core (put_slot core (stood s (Halted (Some c)))) (queue_at-put_slot core (stood s (Halted (Some c)))) ∙ sym (ap (queued_for (comes_to m s) s c) is),
         none_read core (put_slot core (stood s (Halted (Some c)))) (queue_at-put_slot core (stood s (Halted (Some c)))),
@@ -188,22 +208,29 @@ module _ (core : Core) (m : Memory) (n : ℕ) (formed : IsFormed core) (fit : Fi
     abbrev after_queue : Option (List Event) → Core
     after_queue q = with_out (with_queue mid s.number q) s.group c.out
 
-    queue_events : (q : Option (List Event)) → c.queue ≡ q → QueueMoves core s.number (ask i s) q → (each_number (queued_at core (after_queue q)) ≡ []) × (each_number (read_at core (after_queue q)) ≡ read_own (Some i) s.number)
+    queue_events : (q : Option (List Event)) → c.queue ≡ q → QueueMoves core s.number (ask i s) q
+        → (each_number (queued_at core (after_queue q)) ≡ [])
+        × (each_number (read_at core (after_queue q)) ≡ read_own (Some i) s.number)
     queue_events None is k =
         let same : (h : ℕ) → queue_at (after_queue None) h ≡ queue_at core h = λ h. out_queue mid c.out h ∙ mid_queue h in
         (none_queued core (after_queue None) same, none_read core (after_queue None) same ∙ sym (no_event_row core m s i c s.number made is))
     queue_events (Some q) is k =
         let here : queue_at (after_queue (Some q)) s.number ≡ q = out_queue (put_queue mid s.number q) c.out s.number ∙ queue_at-put_same mid s.number q (slot_after s c) mid_there in
-        let others : (h : ℕ) → h ≢ s.number → queue_at (after_queue (Some q)) h ≡ queue_at core h = λ h ne. out_queue (put_queue mid s.number q) c.out h ∙ queue_at-put_other mid s.number q h ne ∙ mid_queue h in
+        let others : (h : ℕ) → h ≢ s.number → queue_at (after_queue (Some q)) h ≡ queue_at core h = λ h ne. out_queue
+        (put_queue mid s.number q) c.out h ∙ queue_at-put_other mid s.number q h ne ∙ mid_queue h in
         let lost : queue_at core s.number ≡ k.1.0 ∷ queue_at (after_queue (Some q)) s.number = k.1.1 ∙ ap (λ l. k.1.0 ∷ l) (sym here) in
         let small = slot_has IsSlot core s.number s formed.slots at in
         let few : s.number < 64 = small.number in (
-          one_number (queued_at core (after_queue (Some q))) s.number few (λ h ne. queued_same core (after_queue (Some q)) h (others h ne)) ∙ queued_lost core (after_queue (Some q)) s.number k.1.0 lost,
+          one_number (queued_at core (after_queue (Some q))) s.number few
+              (λ h ne. queued_same core (after_queue (Some q)) h (others h ne)) ∙ queued_lost core
+              (after_queue (Some q)) s.number k.1.0 lost,
           one_number (read_at core (after_queue (Some q))) s.number few (λ h ne. read_same core (after_queue (Some q)) h (others h ne)) ∙ read_lost core (after_queue (Some q)) s.number k.1.0 lost
               ∙ sym (event_row i s s.number k.0),
         )
 
-    change_events : QueueMoves core s.number (ask i s) c.queue → (each_number (queued_at core (core_after core s c)) ≡ []) × (each_number (read_at core (core_after core s c)) ≡ read_own (Some i) s.number)
+    change_events : QueueMoves core s.number (ask i s) c.queue
+        → (each_number (queued_at core (core_after core s c)) ≡ [])
+        × (each_number (read_at core (core_after core s c)) ≡ read_own (Some i) s.number)
     unfolding core_after
     change_events k = queue_events c.queue refl k
 
@@ -213,8 +240,16 @@ module _ (core : Core) (m : Memory) (n : ℕ) (formed : IsFormed core) (fit : Fi
   way_events : (s : Slot) → own_of core n ≡ Some s → (t : Turned) → Way core m n t → TellsEvents s t
   unfolding idle faulted blocked ended event_of
   way_events s own t (Way.idles j is) = subst (TellsEvents s) (sym is) (none_queued core core (λ h. refl), none_read core core (λ h. refl))
-  way_events s own t (Way.arrives_at x p rest none high at pending is) = subst (TellsEvents s) (sym is) (none_queued core (put_slot core (delivered x)) (queue_at-put_slot core (delivered x)), none_read core (put_slot core (delivered x)) (queue_at-put_slot core (delivered x)))
-  way_events s own t (Way.waits x y f u us r same is) = subst (TellsEvents s) (sym is) (none_queued core (put_slot core (stood y Running)) (queue_at-put_slot core (stood y Running)), none_read core (put_slot core (stood y Running)) (queue_at-put_slot core (stood y Running)))
+  way_events s own t (Way.arrives_at x p rest none high at pending is) = subst (TellsEvents s) (sym is) (
+    none_queued core (put_slot core (delivered x)) (queue_at-put_slot core (delivered x)),
+    none_read core
+        (put_slot core (delivered x)) (queue_at-put_slot core (delivered x)),
+  )
+  way_events s own t (Way.waits x y f u us r same is) = subst (TellsEvents s) (sym is) (
+    none_queued core (put_slot core (stood y Running)) (queue_at-put_slot core (stood y Running)),
+    none_read core
+        (put_slot core (stood y Running)) (queue_at-put_slot core (stood y Running)),
+  )
   way_events s own t (Way.helps x o i f u us r comes made other is) =
       let same : (h : ℕ) → queue_at (put_slot (put_slot core o) (stood x Running)) h ≡ queue_at core h = λ h. queue_at-put_slot (put_slot core o) (stood x Running) h ∙ queue_at-put_slot core o h in
       subst (TellsEvents s) (sym is) (none_queued core (put_slot (put_slot core o) (stood x Running)) same, none_read core (put_slot (put_slot core o) (stood x Running)) same)

@@ -45,11 +45,15 @@ module _ (core : Core) (m : Memory) (n : ℕ) where
   queue_still mid j None k = refl
   queue_still mid j (Some q) k = slot_at-put_queue mid j q k
 
-  other_still : (s : Slot) (i : Instr) (k : ℕ) (o : Option Slot) → OtherMoves core s.number (ask i s) o → ((x : Slot) → OtherMove core s.number (ask i s) x → k ≢ x.number) → slot_at (with_other core o) k ≡ slot_at core k
+  other_still : (s : Slot) (i : Instr) (k : ℕ) (o : Option Slot) → OtherMoves core s.number (ask i s) o
+      → ((x : Slot) → OtherMove core s.number (ask i s) x → k ≢ x.number) → slot_at (with_other core o) k ≡ slot_at core
+      k
   other_still s i k None h apart = refl
   other_still s i k (Some o) h apart = slot_at-put_other core o k (apart o h)
 
-  change_still : (s : Slot) (i : Instr) (c : Change) (k : ℕ) → k ≢ s.number → OtherMoves core s.number (ask i s) c.other → ((x : Slot) → OtherMove core s.number (ask i s) x → k ≢ x.number) → slot_at (core_after core s c) k ≡ slot_at core k
+  change_still : (s : Slot) (i : Instr) (c : Change) (k : ℕ) → k ≢ s.number → OtherMoves core s.number (ask i s) c.other
+      → ((x : Slot) → OtherMove core s.number (ask i s) x → k ≢ x.number) → slot_at (core_after core s c) k ≡ slot_at
+      core k
   unfolding core_after
   change_still s i c k ne other apart =
       out_still (with_queue (put_slot (with_other core c.other) (slot_after s c)) s.number c.queue) s.group c.out k
@@ -63,7 +67,9 @@ module _ (core : Core) (m : Memory) (n : ℕ) where
   way_still t (Way.arrives_at s p rest none high at pending is) = subst Still (sym is) (λ k ne apart. slot_at-put_other core (delivered s) k (λ e. ne (e ∙ (delivered_from s).number)))
   way_still t (Way.faults s c f u us r is) = subst Still (sym is) (λ k ne apart. fault_still s (event_of s c (address_told (comes_to m s) s) (value_told (comes_to m s) s)) s.handler k ne)
   way_still t (Way.waits s x f u us r same is) = subst Still (sym is) (λ k ne apart. slot_at-put_other core (stood x Running) k ne)
-  way_still t (Way.helps s o i f u us r comes made other is) = subst Still (sym is) (λ k ne apart. slot_at-put_other (put_slot core o) (stood s Running) k ne ∙ slot_at-put_other core o k (apart s o i r comes other))
+  way_still t (Way.helps s o i f u us r comes made other is) = subst Still (sym is)
+      (λ k ne apart. slot_at-put_other (put_slot core o) (stood s Running) k ne ∙ slot_at-put_other core o k
+      (apart s o i r comes other))
   way_still t (Way.does s i c f u us r comes made moves is) = subst Still (sym is) (λ k ne apart. change_still s i c k ne moves.other (λ x other. apart s x i r comes other))
 
   -- what a turn leaves of the slots

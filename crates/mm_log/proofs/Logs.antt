@@ -1,5 +1,8 @@
 -- The lines of a turn make the state after it, and those of a log the state after its run.
-use Rattle.std.proofs.Common.{◌≡◌, ◌≢◌, ℕ, ◌+◌, ◌<◌, inl, inr, Bool, true, false, ◌==◌, nat_eq, nat_lt, if◌then◌else◌, List, [], ◌∷◌, ◌++◌, length, drop, map, slice_set, slice_index_or, Option, Some, None, refl, sym, ap, ◌∙◌, subst, arith, eq-eqb, eqb-true, suc, ◌*◌, ◌⊎◌, append_assoc, length-set, get_or-set_same, get_or-set_other, length-append}
+use Rattle.std.proofs.Common.{◌≡◌, ◌≢◌, ℕ, ◌+◌, ◌<◌, inl, inr, Bool, true, false, ◌==◌, nat_eq, nat_lt, if◌then◌else◌}
+use Rattle.std.proofs.Common.{List, [], ◌∷◌, ◌++◌, length, drop, map, slice_set, slice_index_or, Option, Some, None}
+use Rattle.std.proofs.Common.{refl, sym, ap, ◌∙◌, subst, arith, eq-eqb, eqb-true, suc, ◌*◌, ◌⊎◌, append_assoc}
+use Rattle.std.proofs.Common.{length-set, get_or-set_same, get_or-set_other, length-append}
 use Rattle.std.specs.List.{AllByRecursion, range_with_len}
 use Rattle.std.proofs.lemmas.Bool.{cases_eq, ne_eqb}
 use Rattle.std.proofs.lemmas.Bool.Decides.{nat_tests}
@@ -46,7 +49,9 @@ use Rattle.mm_log.proofs.Registers.{slot_all, slot_replayed}
 -- 1. Which lines are told.
 
 module _ (P : Line → Type 0) (was now : Core) where
-  slots_all : ((k : ℕ) (p : Pointer) (b : Bool) → P (Points k p b)) → ((k : ℕ) (st : SlotState) → P (Stands k st)) → ((k r : ℕ) (w : Word) → P (Holds k r w)) → ((k r : ℕ) → P (Empties k r)) → ((k : ℕ) (load : Pending) → P (Issues k load))
+  slots_all : ((k : ℕ) (p : Pointer) (b : Bool) → P (Points k p b)) → ((k : ℕ) (st : SlotState) → P (Stands k st))
+      → ((k r : ℕ) (w : Word) → P (Holds k r w)) → ((k r : ℕ) → P (Empties k r))
+      → ((k : ℕ) (load : Pending) → P (Issues k load))
       → AllByRecursion P (slots_changed was now)
   slots_all points stands holds empties issues = all_flat P (λ n. changes_between (slot_at was n) (slot_at now n)) (λ n. one (slot_at was n) (slot_at now n)) (range_with_len 0 64)
     where
@@ -131,7 +136,9 @@ module _ (k : ℕ) where
   queue_added : (q : List Event) (e : Event) → queue_after q (q ++ e ∷ []) ≡ q ++ e ∷ []
   unfolding queue_after
   queue_added q e =
-      ap (λ b. run_on (queue_line k) (if b then Reads k ∷ [] else []) (run_on (queue_line k) (map (Queues k) (drop (length q) (q ++ e ∷ []))) q)) (ap (λ n. nat_lt n (length q)) (length-append q (e ∷ [])) ∙ longer_not (length q))
+      ap (λ b. run_on (queue_line k) (if b then Reads k ∷ [] else [])
+      (run_on (queue_line k) (map (Queues k) (drop (length q) (q ++ e ∷ []))) q))
+      (ap (λ n. nat_lt n (length q)) (length-append q (e ∷ [])) ∙ longer_not (length q))
       ∙ ap (λ l. run_on (queue_line k) (map (Queues k) l) q) (drop-append_seam q (e ∷ []))
       ∙ at_own k (q ++ e ∷ []) q
 
@@ -262,7 +269,9 @@ module _ (i : Image) (img : IsImage i) (s : State) (n : ℕ) (state : IsState s)
       let few : k < 64 = let low = new.number in omega arith in
       let f : ℕ → List Line = λ j. changes_between (slot_at s.core j) (slot_at t.core j) in
       let first : Slot = record x { turns = y.turns } in
-      four act slots queues reads outs mapped removed cells (mapped_all (IsSilent act) s.memory t.memory (λ p z. refl)) (removed_all (IsSilent act) s.memory t.memory (λ p z. refl)) (cells_all (IsSilent act) s.memory t.memory (λ w c z. refl)) first
+      four act slots queues reads outs mapped removed cells (mapped_all (IsSilent act) s.memory t.memory (λ p z. refl))
+      (removed_all (IsSilent act) s.memory t.memory (λ p z. refl)) (cells_all (IsSilent act) s.memory t.memory
+      (λ w c z. refl)) first
       ∙ run_silent act outs (outs_all (IsSilent act) s.core t.core (λ g b z. refl)) (run_on act reads (run_on act queues (run_on act slots first)))
       ∙ run_silent act reads (read_all (IsSilent act) s.core t.core (λ h z. refl)) (run_on act queues (run_on act slots first))
       ∙ run_silent act queues (queued_all (IsSilent act) s.core t.core (λ h e z. refl)) (run_on act slots first)
@@ -293,19 +302,29 @@ module _ (i : Image) (img : IsImage i) (s : State) (n : ℕ) (state : IsState s)
       let act : Line → List Event → List Event = queue_line k in
       let q : List Event = queue_at s.core k in
       let mid : List Event = run_on act (queued_at s.core t.core k) q in
-      four act slots queues reads outs mapped removed cells (mapped_all (IsSilent act) s.memory t.memory (λ p z. refl)) (removed_all (IsSilent act) s.memory t.memory (λ p z. refl)) (cells_all (IsSilent act) s.memory t.memory (λ w c z. refl)) q
+      four act slots queues reads outs mapped removed cells (mapped_all (IsSilent act) s.memory t.memory (λ p z. refl))
+      (removed_all (IsSilent act) s.memory t.memory (λ p z. refl)) (cells_all (IsSilent act) s.memory t.memory
+      (λ w c z. refl)) q
       ∙ run_silent act outs (outs_all (IsSilent act) s.core t.core (λ g b z. refl)) (run_on act reads (run_on act queues (run_on act slots q)))
-      ∙ ap (λ z. run_on act reads (run_on act queues z)) (run_silent act slots (slots_all (IsSilent act) s.core t.core (λ a b c z. refl) (λ a b z. refl) (λ a b c z. refl) (λ a b z. refl) (λ a b z. refl)) q)
+      ∙ ap (λ z. run_on act reads (run_on act queues z))
+      (run_silent act slots (slots_all (IsSilent act) s.core t.core (λ a b c z. refl) (λ a b z. refl)
+      (λ a b c z. refl) (λ a b z. refl) (λ a b z. refl)) q)
       ∙ ap (run_on act reads)
-      (run_range act (queued_at s.core t.core) k (λ j ne. all_map (IsSilent act) (Queues j) (λ e z. not_other k j (z ++ e ∷ []) z ne) (drop (length (queue_at s.core j)) (queue_at t.core j))) 0 64 (omega arith) (omega (arith, few)) q)
-      ∙ run_range act (read_at s.core t.core) k (λ j ne. all_where (IsSilent act) (nat_lt (length (queue_at t.core j)) (length (queue_at s.core j))) (Reads j) (λ z. not_other k j (without_first z) z ne)) 0 64 (omega arith) (omega (arith, few)) mid
+      (run_range act (queued_at s.core t.core) k (λ j ne. all_map (IsSilent act) (Queues j)
+      (λ e z. not_other k j (z ++ e ∷ []) z ne) (drop (length (queue_at s.core j)) (queue_at t.core j))) 0 64
+      (omega arith) (omega (arith, few)) q)
+      ∙ run_range act (read_at s.core t.core) k
+      (λ j ne. all_where (IsSilent act) (nat_lt (length (queue_at t.core j)) (length (queue_at s.core j))) (Reads j)
+      (λ z. not_other k j (without_first z) z ne)) 0 64 (omega arith) (omega (arith, few)) mid
       ∙ queue_made k (queue_at s.core k) (queue_at t.core k) (moves.queues k)
 
   -- the lines of outputs
   out_part : run_on out_line lines s.core.outputs ≡ t.core.outputs
   unfolding changes output_of out_after
   out_part =
-      four out_line slots queues reads outs mapped removed cells (mapped_all (IsSilent out_line) s.memory t.memory (λ p z. refl)) (removed_all (IsSilent out_line) s.memory t.memory (λ p z. refl)) (cells_all (IsSilent out_line) s.memory t.memory (λ w c z. refl)) s.core.outputs
+      four out_line slots queues reads outs mapped removed cells (mapped_all (IsSilent out_line) s.memory t.memory
+      (λ p z. refl)) (removed_all (IsSilent out_line) s.memory t.memory (λ p z. refl))
+      (cells_all (IsSilent out_line) s.memory t.memory (λ w c z. refl)) s.core.outputs
       ∙ ap (run_on out_line outs)
       (run_silent out_line reads (read_all (IsSilent out_line) s.core t.core (λ h z. refl)) (run_on out_line queues (run_on out_line slots s.core.outputs))
       ∙ run_silent out_line queues (queued_all (IsSilent out_line) s.core t.core (λ h e z. refl)) (run_on out_line slots s.core.outputs)
@@ -316,7 +335,9 @@ module _ (i : Image) (img : IsImage i) (s : State) (n : ℕ) (state : IsState s)
       let few : g < 64 = omega (arith, state.core.outputs) in
       let among : g < length s.core.outputs = omega (arith, state.core.outputs) in
       out_at g outs s.core.outputs among
-      ∙ run_range (bytes_line g) (put_out_by s.core t.core) g (λ j ne. all_map (IsSilent (bytes_line g)) (Puts j) (λ b z. not_other g j (z ++ b ∷ []) z ne) (drop (length (output_of s.core j)) (output_of t.core j))) 0 64 (omega arith) (omega (arith, few))
+      ∙ run_range (bytes_line g) (put_out_by s.core t.core) g (λ j ne. all_map (IsSilent (bytes_line g)) (Puts j)
+      (λ b z. not_other g j (z ++ b ∷ []) z ne) (drop (length (output_of s.core j)) (output_of t.core j))) 0 64
+      (omega arith) (omega (arith, few))
       (slice_index_or s.core.outputs g [])
       ∙ out_made g (output_of s.core g) (output_of t.core g) (moves.outputs g))
 
@@ -425,7 +446,8 @@ unfolding replay
 replay_append s [] ys = refl
 replay_append s (l ∷ xs) ys = replay_append (carry_out s l) xs ys
 
-log_replayed : (i : Image) → IsImage i → (s : State) (items : List ℕ) (c : ℕ) → IsState s → Fits i s → IsKept s.core → replay (record s { cycles = c }) (log s items) ≡ record (run s items) { cycles = c }
+log_replayed : (i : Image) → IsImage i → (s : State) (items : List ℕ) (c : ℕ) → IsState s → Fits i s → IsKept s.core
+    → replay (record s { cycles = c }) (log s items) ≡ record (run s items) { cycles = c }
 unfolding log run replay
 log_replayed i img s [] c state fits kept = refl
 log_replayed i img s (n ∷ items) c state fits kept =

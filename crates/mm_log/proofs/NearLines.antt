@@ -134,7 +134,8 @@ module _ (st : State) (n : ℕ) (q : Local) (l : IsLocal st.core st.memory n q) 
   slot_lines =
       let now : Slot = left.now in
       let none : (k : ℕ) → Spares (written_by i) k → register_changes s now k ≡ [] = λ k h. let same = left.leaves k h in unchanged s now k same.0 same.1 in
-      ap (λ t. pointer_left s.ip t now ++ state_changes s now ++ flat_map (register_changes s now) (range_with_len 0 16) ++ load_changes s now) (not_past st.core st.memory n s i l.runs l.comes l.near l.loads)
+      ap (λ t. pointer_left s.ip t now ++ state_changes s now ++ flat_map (register_changes s now) (range_with_len 0 16)
+      ++ load_changes s now) (not_past st.core st.memory n s i l.runs l.comes l.near l.loads)
       ∙ ap (λ t. pointer_left s.ip false now ++ state_left t now ++ flat_map (register_changes s now) (range_with_len 0 16) ++ load_changes s now) (runs_only s.state l.runs.running)
       ∙ ap (λ x. pointer_left s.ip false now ++ state_left Running now ++ x ++ load_changes s now) (registers_left s now (written_by i) l.near small none)
       ∙ ap (λ x. pointer_left s.ip false now ++ state_left Running now ++ held_left (held_of s (written_by i)) now ++ map (Issues now.number) (drop (length x) now.pending)) l.loads
@@ -183,14 +184,20 @@ module _ (st : State) (n : ℕ) (q : Local) (l : IsLocal st.core st.memory n q) 
 -- 4. Texts.
 
 pub left_text : (q : Local) (now : Slot)
-    → text_of (pointer_left q.ip false now) ++ text_of (state_left Running now) ++ text_of (held_left q.held now) ++ flat_map (λ load. line_text (Issues now.number load)) now.pending ≡ text_of (slot_left q now)
+    → text_of (pointer_left q.ip false now) ++ text_of (state_left Running now) ++ text_of (held_left q.held now) ++
+    flat_map (λ load. line_text (Issues now.number load)) now.pending ≡ text_of (slot_left q now)
 left_text q now =
     sym (text_append (pointer_left q.ip false now ++ state_left Running now ++ held_left q.held now) (map (Issues now.number) now.pending)
-    ∙ ap (λ x. x ++ text_of (map (Issues now.number) now.pending)) (text_append (pointer_left q.ip false now ++ state_left Running now) (held_left q.held now) ∙ ap (λ x. x ++ text_of (held_left q.held now)) (text_append (pointer_left q.ip false now) (state_left Running now)))
+    ∙ ap (λ x. x ++ text_of (map (Issues now.number) now.pending))
+    (text_append (pointer_left q.ip false now ++ state_left Running now) (held_left q.held now)
+    ∙ ap (λ x. x ++ text_of (held_left q.held now)) (text_append (pointer_left q.ip false now)
+    (state_left Running now)))
     ∙ ap (λ x. text_of (pointer_left q.ip false now) ++ text_of (state_left Running now) ++ text_of (held_left q.held now) ++ x) (flat_map-map line_text (Issues now.number) now.pending))
 
 pub local_text : (later : State) (q : Local) (tick : Tick)
-    → text_of (told_of q tick (slot_at later.core q.number)) ++ flat_map (λ x. line_text (Puts q.group x)) (drop q.output (output_of later.core q.group)) ++ text_of (cell_left later.memory q.cell) ≡ text_of (local_seen later q tick)
+    → text_of (told_of q tick (slot_at later.core q.number)) ++ flat_map (λ x. line_text (Puts q.group x))
+    (drop q.output (output_of later.core q.group)) ++ text_of (cell_left later.memory q.cell) ≡ text_of
+    (local_seen later q tick)
 unfolding local_seen
 local_text later q tick =
     let t : List Line = told_of q tick (slot_at later.core q.number) in
@@ -200,7 +207,8 @@ local_text later q tick =
     ∙ sym (text_append (t ++ o) c ∙ ap (λ x. x ++ text_of c) (text_append t o))
 
 -- the lines of the cycle
-pub near_line : (s t : State) (n : ℕ) (q : Local) (step : Step) (turns : ℕ) → ∥ Kept s ∥₁ → IsLocal s.core s.memory n q → step ≡ (turn_of s n).step → t ≡ after s n → turns ≡ turns_of (slot_at t.core step.slot)
+pub near_line : (s t : State) (n : ℕ) (q : Local) (step : Step) (turns : ℕ) → ∥ Kept s ∥₁ → IsLocal s.core s.memory n q
+    → step ≡ (turn_of s n).step → t ≡ after s n → turns ≡ turns_of (slot_at t.core step.slot)
     → step_line turns step step.tick ++ text_of (local_seen t q step.tick) ≡ text_of (cycle_log s n)
 near_line s t n q step turns kept l is left counted =
     let b : Option Before = looks s.core s.memory n in

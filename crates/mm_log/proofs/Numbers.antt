@@ -67,7 +67,9 @@ unfolding slot_changes
 slot_self s =
     ap (λ b. (if b then [] else Points s.number s.ip s.past ∷ []) ++ state_changes s s ++ flat_map (register_changes s s) (range_with_len 0 16) ++ load_changes s s) (pair_self (Ptr s.ip) s.past)
     ∙ ap (λ b. (if b then [] else Stands s.number s.state ∷ []) ++ flat_map (register_changes s s) (range_with_len 0 16) ++ load_changes s s) (state_self s.state)
-    ∙ ap (λ l. l ++ load_changes s s) (flat_none (register_changes s s) (range_with_len 0 16) (each_none (register_changes s s) (λ r. ap (λ b. if b then [] else register_now s r ∷ []) (pair_self (register s r) (is_empty s r))) (range_with_len 0 16)))
+    ∙ ap (λ l. l ++ load_changes s s) (flat_none (register_changes s s) (range_with_len 0 16)
+    (each_none (register_changes s s) (λ r. ap (λ b. if b then [] else register_now s r ∷ [])
+    (pair_self (register s r) (is_empty s r))) (range_with_len 0 16)))
     ∙ ap (map (Issues s.number)) (drop-length s.pending)
 
 pub changes_self : (o : Option Slot) → changes_between o o ≡ []

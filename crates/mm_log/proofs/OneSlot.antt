@@ -106,7 +106,9 @@ module _ (core : Core) (m : Memory) (n : ℕ) (formed : IsFormed core) (s : Slot
   alone h = alone_by (λ k ne. still_own k ne (h k ne))
 
   -- one other slot may change
-  pub beside : (j : ℕ) → j < 64 → (second : List Line) → (j ≢ s.number → told_at j ≡ second) → ((k : ℕ) → k ≢ s.number → k ≢ j → NoOther core m n k) → slots_changed core later ≡ in_order s.number j (seen_of later s) second
+  pub beside : (j : ℕ) → j < 64 → (second : List Line) → (j ≢ s.number → told_at j ≡ second)
+      → ((k : ℕ) → k ≢ s.number → k ≢ j → NoOther core m n k) → slots_changed core later ≡ in_order s.number j
+      (seen_of later s) second
   beside j low second told h = elim (cases_eq s.number j) [
     | inl e ↦ alone (λ k ne. h k ne (λ same. ne (same ∙ sym e))) ∙ sym (order_same s.number j (seen_of later s) second e)
     | inr ne ↦ elim (apart_ways s.number j ne) [

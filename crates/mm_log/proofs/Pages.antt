@@ -1,5 +1,7 @@
 -- What is told of a memory after what a turn can do to it, and that these lines make the later memory.
-use Rattle.std.proofs.Common.{◌≡◌, ◌≢◌, ℕ, zero, suc, ◌+◌, ◌*◌, ◌<◌, inl, inr, Bool, true, false, cond, not, nat_eq, if◌then◌else◌, List, [], ◌∷◌, ◌++◌, map, slice_get, slice_set, Option, Some, None, is_some, refl, sym, ap, ◌∙◌, subst, arith, T, eq-eqb, append-nil}
+use Rattle.std.proofs.Common.{◌≡◌, ◌≢◌, ℕ, zero, suc, ◌+◌, ◌*◌, ◌<◌, inl, inr, Bool, true, false, cond, not, nat_eq}
+use Rattle.std.proofs.Common.{if◌then◌else◌, List, [], ◌∷◌, ◌++◌, map, slice_get, slice_set, Option, Some, None}
+use Rattle.std.proofs.Common.{is_some, refl, sym, ap, ◌∙◌, subst, arith, T, eq-eqb, append-nil}
 use Rattle.std.specs.List.{AllByRecursion, filter, flat_map}
 use Rattle.std.specs.Ordering.{nat_cmp}
 use Rattle.std.specs.declared.cmp.Ordering.TheVariants.{Less, Equal, Greater}
@@ -20,7 +22,9 @@ use Rattle.mm_model.specs.Ask.Ask.{Reach, MapPage, UnmapPage}
 use Rattle.mm_model.specs.Spelling.{HoldsWords}
 use Rattle.mm_model.specs.Report.{same_cell, changes_from}
 use Rattle.mm_model.proofs.CoreRows.{each_map, each_both}
-use Rattle.mm_model.proofs.Memories.{cell_at-aligned, aligned, page_of_cell, page_at-put_same, page_at-put_other, page_at-map_other, page_at-unmap_same, page_at-unmap_other, put_frames, put_pages, cell_at-put_same}
+use Rattle.mm_model.proofs.Memories.{cell_at-aligned, aligned, page_of_cell, page_at-put_same, page_at-put_other}
+use Rattle.mm_model.proofs.Memories.{page_at-map_other, page_at-unmap_same, page_at-unmap_other, put_frames, put_pages}
+use Rattle.mm_model.proofs.Memories.{cell_at-put_same}
 use Rattle.mm_model.proofs.EffectWords.{page_words}
 use Rattle.mm_log.specs.Lines.{Line}
 use Rattle.mm_log.specs.Lines.Line.{Maps, Removes, Sets}
@@ -86,7 +90,8 @@ module _ (f : ℕ × List Cell → List Line) where
       by Greater is rest = ap (λ l. l ++ flat_map f (put nat_cmp k v es)) h.0 ∙ rest
 
   -- where it is told of one page alone, that
-  flat_one : (es : List (ℕ × List Cell)) → T (is_sorted nat_cmp es) → (k : ℕ) (v : List Cell) → find nat_cmp k es ≡ Some v → AllByRecursion (λ (e : ℕ × List Cell). e.0 ≢ k → f e ≡ []) es → flat_map f es ≡ f (k, v)
+  flat_one : (es : List (ℕ × List Cell)) → T (is_sorted nat_cmp es) → (k : ℕ) (v : List Cell) → find nat_cmp k es ≡ Some
+      v → AllByRecursion (λ (e : ℕ × List Cell). e.0 ≢ k → f e ≡ []) es → flat_map f es ≡ f (k, v)
   flat_one [] sorted k v found h = cc
   flat_one (e ∷ es) sorted k v found h = elim (cases_eq k e.0) [
     | inl is ↦
@@ -94,7 +99,9 @@ module _ (f : ℕ × List Cell → List Line) where
         let same : e.1 ≡ v = cc in
         ap (λ l. f e ++ l)
         (flat_none f es
-        (each_both (λ (x : ℕ × List Cell). e.0 < x.0) (λ (x : ℕ × List Cell). x.0 ≢ k → f x ≡ []) (λ (x : ℕ × List Cell). f x ≡ []) (λ x lt none. let ne : x.0 ≢ k = omega arith in none ne) es (all_below e.0 es (below_rest e es sorted)) h.1))
+        (each_both (λ (x : ℕ × List Cell). e.0 < x.0) (λ (x : ℕ × List Cell). x.0 ≢ k → f x ≡ [])
+        (λ (x : ℕ × List Cell). f x ≡ []) (λ x lt none. let ne : x.0 ≢ k = omega arith in none ne) es
+        (all_below e.0 es (below_rest e es sorted)) h.1))
         ∙ append-nil (f e)
         ∙ ap (λ n. f (n, e.1)) (sym is)
         ∙ ap (λ c. f (k, c)) same
@@ -134,8 +141,10 @@ pub data MemoryTold (m : Memory) (asked : Ask) (later : Memory) : Type 0 where
   nothing : later ≡ m → pages_mapped m later ≡ [] → pages_removed m later ≡ [] → cells_changed m later ≡ [] → MemoryTold m asked later
   cell : (a : Touch) (pre : Pre) (old c : Cell) → asked ≡ Reach a pre → cell_at m a.addr ≡ Some old → later ≡ put_cell m a.addr c → pages_mapped m later ≡ [] → pages_removed m later ≡ []
       → cells_changed m later ≡ (if same_cell c old then [] else Sets a.addr c ∷ []) → MemoryTold m asked later
-  mapped : (p : ℕ) → asked ≡ MapPage p → is_mapped m p ≡ false → later ≡ map_page m p → pages_mapped m later ≡ Maps p ∷ [] → pages_removed m later ≡ [] → cells_changed m later ≡ [] → MemoryTold m asked later
-  removed : (p : ℕ) → asked ≡ UnmapPage p → is_mapped m p ≡ true → later ≡ unmap_page m p → pages_mapped m later ≡ [] → pages_removed m later ≡ Removes p ∷ [] → cells_changed m later ≡ [] → MemoryTold m asked later
+  mapped : (p : ℕ) → asked ≡ MapPage p → is_mapped m p ≡ false → later ≡ map_page m p → pages_mapped m later ≡ Maps p ∷
+      [] → pages_removed m later ≡ [] → cells_changed m later ≡ [] → MemoryTold m asked later
+  removed : (p : ℕ) → asked ≡ UnmapPage p → is_mapped m p ≡ true → later ≡ unmap_page m p → pages_mapped m later ≡ []
+      → pages_removed m later ≡ Removes p ∷ [] → cells_changed m later ≡ [] → MemoryTold m asked later
 
 module _ (m : Memory) (pages : ArePages m.pages) where
   sorted : T (is_sorted nat_cmp m.pages)
@@ -162,12 +171,16 @@ module _ (m : Memory) (pages : ArePages m.pages) where
   stays_told : (asked : Ask) → MemoryTold m asked m
   stays_told asked =
       MemoryTold.nothing refl (flat_none (unless_mapped m Maps) m.pages old_mapped)
-      (flat_none (unless_mapped m Removes) m.pages (each_map (λ (e : ℕ × List Cell). page_at m e.0 ≡ Some e.1) (λ (e : ℕ × List Cell). unless_mapped m Removes e ≡ []) (λ e is. mapped_not m Removes e.0 e.1 is) m.pages found))
+      (flat_none (unless_mapped m Removes) m.pages (each_map (λ (e : ℕ × List Cell). page_at m e.0 ≡ Some e.1)
+      (λ (e : ℕ × List Cell). unless_mapped m Removes e ≡ []) (λ e is. mapped_not m Removes e.0 e.1 is) m.pages
+      found))
       (flat_none (λ (e : ℕ × List Cell). cells_changed_in (page_at m e.0) e) m.pages old_cells)
 
   -- a page that is mapped in both is not told of
   removed_not : (later : Memory) → AllByRecursion (λ (e : ℕ × List Cell). is_mapped later e.0 ≡ true) m.pages → pages_removed m later ≡ []
-  removed_not later h = flat_none (unless_mapped later Removes) m.pages (each_map (λ (e : ℕ × List Cell). is_mapped later e.0 ≡ true) (λ (e : ℕ × List Cell). unless_mapped later Removes e ≡ []) (λ e is. ap (λ b. if b then [] else Removes e.0 ∷ []) is) m.pages h)
+  removed_not later h = flat_none (unless_mapped later Removes) m.pages
+      (each_map (λ (e : ℕ × List Cell). is_mapped later e.0 ≡ true) (λ (e : ℕ × List Cell). unless_mapped later Removes
+      e ≡ []) (λ e is. ap (λ b. if b then [] else Removes e.0 ∷ []) is) m.pages h)
 
   module _ (a : Touch) (pre : Pre) (old c : Cell) (at : cell_at m a.addr ≡ Some old) where
     w : ℕ
@@ -242,7 +255,9 @@ module _ (m : Memory) (pages : ArePages m.pages) where
           (each_map (λ (e : ℕ × List Cell). page_at m e.0 ≡ Some e.1) (λ (e : ℕ × List Cell). e.0 ≢ p → unless_mapped (unmap_page m p) Removes e ≡ [])
           (λ e stands ne. mapped_not (unmap_page m p) Removes e.0 e.1 (page_at-unmap_other m p e.0 ne ∙ stands)) m.pages found)
           ∙ ap (λ b. if b then [] else Removes p ∷ []) gone)
-          (flat_none (λ (e : ℕ × List Cell). cells_changed_in (page_at m e.0) e) (unmap_page m p).pages (each_left (λ (e : ℕ × List Cell). cells_changed_in (page_at m e.0) e ≡ []) (λ e. not (nat_eq e.0 p)) m.pages old_cells))
+          (flat_none (λ (e : ℕ × List Cell). cells_changed_in (page_at m e.0) e) (unmap_page m p).pages
+          (each_left (λ (e : ℕ × List Cell). cells_changed_in (page_at m e.0) e ≡ []) (λ e. not (nat_eq e.0 p))
+          m.pages old_cells))
 
   pub memory_told : (asked : Ask) (later : Memory) → MemoryMove m asked later → MemoryTold m asked later
   memory_told asked later (MemoryMove.stays is) = subst (MemoryTold m asked) (sym is) (stays_told asked)
@@ -295,9 +310,17 @@ cell_word m h w c at =
 
 pub memory_made : (m : Memory) → ArePages m.pages → AllByRecursion HoldsWords m.pages → (later : Memory) → AllByRecursion HoldsWords later.pages → (asked : Ask) → MemoryTold m asked later
     → run_on memory_line (memory_lines m later) m ≡ later
-memory_made m pages words later after asked (MemoryTold.nothing is a b c) = ap (λ l. run_on memory_line (l ++ pages_removed m later ++ cells_changed m later) m) a ∙ ap (λ l. run_on memory_line (l ++ cells_changed m later) m) b ∙ ap (λ l. run_on memory_line l m) c ∙ sym is
-memory_made m pages words later after asked (MemoryTold.mapped p is free made a b c) = ap (λ l. run_on memory_line (l ++ pages_removed m later ++ cells_changed m later) m) a ∙ ap (λ l. run_on memory_line (l ++ cells_changed m later) (map_page m p)) b ∙ ap (λ l. run_on memory_line l (map_page m p)) c ∙ sym made
-memory_made m pages words later after asked (MemoryTold.removed p is there made a b c) = ap (λ l. run_on memory_line (l ++ pages_removed m later ++ cells_changed m later) m) a ∙ ap (λ l. run_on memory_line (l ++ cells_changed m later) m) b ∙ ap (λ l. run_on memory_line l (unmap_page m p)) c ∙ sym made
+memory_made m pages words later after asked (MemoryTold.nothing is a b c) = ap
+    (λ l. run_on memory_line (l ++ pages_removed m later ++ cells_changed m later) m) a
+    ∙ ap (λ l. run_on memory_line (l ++ cells_changed m later) m) b ∙ ap (λ l. run_on memory_line l m) c ∙ sym is
+memory_made m pages words later after asked (MemoryTold.mapped p is free made a b c) = ap
+    (λ l. run_on memory_line (l ++ pages_removed m later ++ cells_changed m later) m) a
+    ∙ ap (λ l. run_on memory_line (l ++ cells_changed m later) (map_page m p)) b
+    ∙ ap (λ l. run_on memory_line l (map_page m p)) c ∙ sym made
+memory_made m pages words later after asked (MemoryTold.removed p is there made a b c) = ap
+    (λ l. run_on memory_line (l ++ pages_removed m later ++ cells_changed m later) m) a
+    ∙ ap (λ l. run_on memory_line (l ++ cells_changed m later) m) b ∙ ap (λ l. run_on memory_line l (unmap_page m p)) c
+    ∙ sym made
 memory_made m pages words later after asked (MemoryTold.cell a pre old c is at made x y z) =
     ap (λ l. run_on memory_line (l ++ pages_removed m later ++ cells_changed m later) m) x ∙ ap (λ l. run_on memory_line (l ++ cells_changed m later) m) y ∙ ap (λ l. run_on memory_line l m) z
     ∙ by (same_cell c old) refl

@@ -1,5 +1,8 @@
 -- The lines of a slot make the later slot.
-use Rattle.std.proofs.Common.{◌≡◌, ◌≢◌, ℕ, zero, suc, ◌+◌, ◌<◌, ◌≤◌, inl, inr, Bool, true, false, ◌&&◌, nat_eq, nat_lt, if◌then◌else◌, List, [], ◌∷◌, ◌++◌, length, drop, map, slice_set, slice_index_or, refl, sym, ap, ◌∙◌, subst, arith, eq-eqb, append-nil, append_assoc, length-set, get_or-set_same, get_or-set_other}
+use Rattle.std.proofs.Common.{◌≡◌, ◌≢◌, ℕ, zero, suc, ◌+◌, ◌<◌, ◌≤◌, inl, inr, Bool, true, false, ◌&&◌, nat_eq, nat_lt}
+use Rattle.std.proofs.Common.{if◌then◌else◌, List, [], ◌∷◌, ◌++◌, length, drop, map, slice_set, slice_index_or, refl}
+use Rattle.std.proofs.Common.{sym, ap, ◌∙◌, subst, arith, eq-eqb, append-nil, append_assoc, length-set, get_or-set_same}
+use Rattle.std.proofs.Common.{get_or-set_other}
 use Rattle.std.specs.List.{AllByRecursion, flat_map, range_with_len}
 use Rattle.std.proofs.lemmas.Bool.{cases_eq}
 use Rattle.std.proofs.lemmas.Bool.Decides.{nat_tests}
@@ -30,7 +33,9 @@ use Rattle.mm_log.proofs.Carried.{slot_line}
 
 -- 1. Which lines these are.
 
-pub slot_all : (P : Line → Type 0) (was now : Slot) → ((p : Pointer) (b : Bool) → P (Points now.number p b)) → ((st : SlotState) → P (Stands now.number st)) → ((r : ℕ) (w : Word) → P (Holds now.number r w)) → ((r : ℕ) → P (Empties now.number r))
+pub slot_all : (P : Line → Type 0) (was now : Slot) → ((p : Pointer) (b : Bool) → P (Points now.number p b))
+    → ((st : SlotState) → P (Stands now.number st)) → ((r : ℕ) (w : Word) → P (Holds now.number r w))
+    → ((r : ℕ) → P (Empties now.number r))
     → ((load : Pending) → P (Issues now.number load)) → AllByRecursion P (slot_changes was now)
 unfolding slot_changes
 slot_all P was now points stands holds empties issues =
@@ -39,7 +44,9 @@ slot_all P was now points stands holds empties issues =
     (all_append P (pointer_changes was now) (state_changes was now)
     (all_unless P (same_word (Ptr was.ip) (Ptr now.ip) && same_bit was.past now.past) (Points now.number now.ip now.past) (points now.ip now.past))
     (all_unless P (same_state was.state now.state) (Stands now.number now.state) (stands now.state)))
-    (all_flat P (register_changes was now) (λ r. all_unless P (same_word (register was r) (register now r) && same_bit (is_empty was r) (is_empty now r)) (register_now now r) (one r (is_empty now r))) (range_with_len 0 16)))
+    (all_flat P (register_changes was now)
+    (λ r. all_unless P (same_word (register was r) (register now r) && same_bit (is_empty was r) (is_empty now r))
+    (register_now now r) (one r (is_empty now r))) (range_with_len 0 16)))
     (all_map P (Issues now.number) issues (drop (length was.pending) now.pending))
   where
     one : (r : ℕ) (b : Bool) → P (if b then Empties now.number r else Holds now.number r (register now r))
@@ -135,7 +142,9 @@ pends was now match long (LoadsMove.deliver p rest is later flags) = record {
 
 -- 3. The registers that were told so far are the later ones, the others the earlier ones.
 
-module _ (was now : Slot) (old : IsSlot was) (new : IsSlot now) (old_words : SlotHoldsWords was) (new_words : SlotHoldsWords now) (zeros : (r : ℕ) → is_empty now r ≡ true → register now r ≡ Int 0) (p : Pends was now) where
+module _ (was now : Slot) (old : IsSlot was) (new : IsSlot now) (old_words : SlotHoldsWords was)
+    (new_words : SlotHoldsWords now) (zeros : (r : ℕ) → is_empty now r ≡ true → register now r ≡ Int 0)
+    (p : Pends was now) where
   abbrev pub n : ℕ
   n = now.number
 
@@ -235,13 +244,15 @@ module _ (was now : Slot) (old : IsSlot was) (new : IsSlot now) (old_words : Slo
       told_by true e = waiting e
       told_by false e = held e
 
-      by : (b : Bool) → (same_word (register was r) (register now r) && same_bit (is_empty was r) (is_empty now r)) ≡ b → Half base (r + 1) (run_on (slot_line n) (if b then [] else register_now now r ∷ []) x)
+      by : (b : Bool) → (same_word (register was r) (register now r) && same_bit (is_empty was r) (is_empty now r)) ≡ b
+          → Half base (r + 1) (run_on (slot_line n) (if b then [] else register_now now r ∷ []) x)
       by true e =
           let two = both (same_word (register was r) (register now r)) (same_bit (is_empty was r) (is_empty now r)) e in
           half_same base r x h (words_same (register was r) (register now r) (word was old old_words) (word now new new_words) two.0) (bits_same (is_empty was r) (is_empty now r) two.1)
       by false e = told_by (is_empty now r) refl
 
-  registers_told : (base : Slot) (first count : ℕ) (x : Slot) → first + count ≡ 16 → Half base first x → Half base 16 (run_on (slot_line n) (flat_map (register_changes was now) (range_with_len first count)) x)
+  registers_told : (base : Slot) (first count : ℕ) (x : Slot) → first + count ≡ 16 → Half base first x
+      → Half base 16 (run_on (slot_line n) (flat_map (register_changes was now) (range_with_len first count)) x)
   registers_told base first zero x e h = let last : first ≡ 16 = omega arith in subst (λ k. Half base k x) last h
   registers_told base first (suc count) x e h =
       subst (Half base 16) (sym (run_append (slot_line n) (register_changes was now first) (flat_map (register_changes was now) (range_with_len (first + 1) count)) x))
@@ -257,7 +268,8 @@ module _ (was now : Slot) (old : IsSlot was) (new : IsSlot now) (old_words : Slo
   pointer_told : (x : Slot) → x.ip ≡ was.ip → x.past ≡ was.past → run_on (slot_line n) (pointer_changes was now) x ≡ record x { ip = now.ip; past = now.past }
   pointer_told x ip past = by (same_word (Ptr was.ip) (Ptr now.ip) && same_bit was.past now.past) refl
     where
-      by : (b : Bool) → (same_word (Ptr was.ip) (Ptr now.ip) && same_bit was.past now.past) ≡ b → run_on (slot_line n) (if b then [] else Points n now.ip now.past ∷ []) x ≡ record x { ip = now.ip; past = now.past }
+      by : (b : Bool) → (same_word (Ptr was.ip) (Ptr now.ip) && same_bit was.past now.past) ≡ b → run_on (slot_line n)
+          (if b then [] else Points n now.ip now.past ∷ []) x ≡ record x { ip = now.ip; past = now.past }
       by true e =
           let two = both (same_word (Ptr was.ip) (Ptr now.ip)) (same_bit was.past now.past) e in
           let one = ip ∙ pointers_same was.ip now.ip old_words.ip new_words.ip two.0 in
@@ -327,6 +339,7 @@ module _ (was now : Slot) (old : IsSlot was) (new : IsSlot now) (old_words : Slo
       ∙ all
 
 -- where its loads match and an empty register reads as integer 0
-pub slot_replayed : (was now : Slot) → IsSlot was → IsSlot now → SlotHoldsWords was → SlotHoldsWords now → LoadsMatch was → ((r : ℕ) → is_empty now r ≡ true → register now r ≡ Int 0) → SlotMove was now
+pub slot_replayed : (was now : Slot) → IsSlot was → IsSlot now → SlotHoldsWords was → SlotHoldsWords now
+    → LoadsMatch was → ((r : ℕ) → is_empty now r ≡ true → register now r ≡ Int 0) → SlotMove was now
     → run_on (slot_line now.number) (slot_changes was now) (record was { turns = now.turns }) ≡ now
 slot_replayed was now old new old_words new_words match zeros move = slot_made was now old new old_words new_words zeros (pends was now match old.flags move.loads) move

@@ -1,5 +1,6 @@
 -- Each row of the table of instructions: what it moves around its slot.
-use Rattle.std.proofs.Common.{◌≡◌, ℕ, ◌+◌, ◌%◌, ◌^◌, Bool, true, false, ◌&&◌, ◌==◌, nat_lt, if◌then◌else◌, List, [], ◌∷◌, ◌++◌, length, Option, Some, None, Result, Ok, Err, refl, sym, ap, ◌∙◌, slice_set}
+use Rattle.std.proofs.Common.{◌≡◌, ℕ, ◌+◌, ◌%◌, ◌^◌, Bool, true, false, ◌&&◌, ◌==◌, nat_lt, if◌then◌else◌, List, []}
+use Rattle.std.proofs.Common.{◌∷◌, ◌++◌, length, Option, Some, None, Result, Ok, Err, refl, sym, ap, ◌∙◌, slice_set}
 use Rattle.std.specs.Int.{w64, cast_unsigned, cast_signed}
 use Rattle.mm_word.specs.declared.perm.Kind.TheVariants.{Store}
 use Rattle.mm_word.specs.declared.cause.Cause.{Cause}
@@ -17,7 +18,10 @@ use Rattle.mm_isa.specs.declared.instr.DivZero.{DivZero}
 use Rattle.mm_isa.specs.declared.instr.How.{How}
 use Rattle.mm_isa.specs.declared.instr.How.TheVariants.{Retry, Skip, Kill}
 use Rattle.mm_isa.specs.declared.instr.Instr.{Instr}
-use Rattle.mm_isa.specs.declared.instr.Instr.TheVariants.{Halt, Nop, Ldi, Ldhi, Mov, Isptr, Eqw, Out, SelfSlot, Alu, Addi, Lea, Leai, Leab, Restrict, Subseg, Setptr, Ld, St, Br, Bz, Bnz, Jmp, Jal, Lip, Trap, Evt, Resume, Rreg, Wreg, Map, Unmap}
+use Rattle.mm_isa.specs.declared.instr.Instr.TheVariants.{Halt, Nop, Ldi, Ldhi, Mov, Isptr, Eqw, Out, SelfSlot, Alu}
+use Rattle.mm_isa.specs.declared.instr.Instr.TheVariants.{Addi, Lea, Leai, Leab, Restrict, Subseg, Setptr, Ld, St, Br}
+use Rattle.mm_isa.specs.declared.instr.Instr.TheVariants.{Bz, Bnz, Jmp, Jal, Lip, Trap, Evt, Resume, Rreg, Wreg, Map}
+use Rattle.mm_isa.specs.declared.instr.Instr.TheVariants.{Unmap}
 use Rattle.mm_isa.specs.Alu.{alu_result}
 use Rattle.mm_model.specs.declared.slot.SlotState.TheVariants.{Taken}
 use Rattle.mm_model.specs.declared.slot.Pending.{Pending}
@@ -28,7 +32,10 @@ use Rattle.mm_model.specs.State.{Core, slot_at, queue_at, output_of}
 use Rattle.mm_model.specs.Image.{output_limit}
 use Rattle.mm_model.specs.Ask.{Ask, ask, is_privileged, load_kind, reaching}
 use Rattle.mm_model.specs.Ask.Ask.{Nothing, Refuse, Reach, MapPage, UnmapPage, NextEvent, Room, Serve}
-use Rattle.mm_model.specs.Effect.{Reply, Change, Effect, effect, plain, sets, sets_pointer, sets_number, if_pointer, test, same_word, high_and_low, puts_out, loaded, stored, at_distance, branches, jumps, links, takes, resumed_by, resumes, delivers, delivered, reads_of, writes_of, maps, unmaps}
+use Rattle.mm_model.specs.Effect.{Reply, Change, Effect, effect, plain, sets, sets_pointer, sets_number, if_pointer}
+use Rattle.mm_model.specs.Effect.{test, same_word, high_and_low, puts_out, loaded, stored, at_distance, branches, jumps}
+use Rattle.mm_model.specs.Effect.{links, takes, resumed_by, resumes, delivers, delivered, reads_of, writes_of, maps}
+use Rattle.mm_model.specs.Effect.{unmaps}
 use Rattle.mm_model.specs.Effect.Reply.{Fine, Refused, Got, Paged, Served}
 use Rattle.mm_model.specs.Effect.Effect.{Fault, Block, Deliver, Does}
 use Rattle.mm_model.specs.Turn.{reply, reached, event_reply, first_event, served, is_taken, is_handler, memory_after}
@@ -59,7 +66,8 @@ module _ (core : Core) (n : ℕ) (asked : Ask) where
   -- another slot: one that was asked for, or that of the first event
   pub data OtherMove (o : Slot) : Type 0 where
     serves : (old : Slot) → asked ≡ Serve o.number → slot_at core o.number ≡ Some old → SlotMove old o → o.turns ≡ old.turns → OtherMove o
-    takes_first : (old : Slot) (e : Event) (rest : List Event) → asked ≡ NextEvent → queue_at core n ≡ e ∷ rest → e.slot ≡ o.number → slot_at core o.number ≡ Some old → o ≡ record old { state = Taken } → OtherMove o
+    takes_first : (old : Slot) (e : Event) (rest : List Event) → asked ≡ NextEvent → queue_at core n ≡ e ∷ rest
+        → e.slot ≡ o.number → slot_at core o.number ≡ Some old → o ≡ record old { state = Taken } → OtherMove o
 
   abbrev pub OtherMoves : Option Slot → Type 0
   OtherMoves None = Unit {0}
@@ -204,7 +212,9 @@ module _ (core : Core) (m : Memory) (s : Slot) (asked : Ask) where
   -- a slot that is served
 
   module _ (k : ℕ) (is : asked ≡ Serve k) where
-    serve_moves : (f : Reply → Effect) → ((c : Cause) → Moves (f (Refused c))) → ((of : Slot) → slot_at core k ≡ Some of → Moves (f (Served of))) → (o : Option Slot) → slot_at core k ≡ o → Moves (f (served s.number o))
+    serve_moves : (f : Reply → Effect) → ((c : Cause) → Moves (f (Refused c)))
+        → ((of : Slot) → slot_at core k ≡ Some of → Moves (f (Served of))) → (o : Option Slot) → slot_at core k ≡ o
+        → Moves (f (served s.number o))
     serve_moves f denied done None at = denied cause.NoSlot
     serve_moves f denied done (Some of) at = by (is_handler s.number of.handler && is_taken of.state)
       where
@@ -239,10 +249,17 @@ module _ (core : Core) (m : Memory) (s : Slot) (asked : Ask) where
 
     write_moves : (split : Bool) (reg : ℕ) (w : Word) (of : Slot) → slot_at core k ≡ Some of → Moves (writes_of split s reg w (Served of))
     unfolding plain memory_after
-    write_moves split reg w of at = if_moves (split && is_empty of reg) (Deliver (delivered of)) (Does (record (plain s) { other = Some (record of { regs = slice_set of.regs reg w }) })) (deliver_moves of at) done
+    write_moves split reg w of at = if_moves (split && is_empty of reg) (Deliver (delivered of))
+        (Does (record (plain s) { other = Some (record of { regs = slice_set of.regs reg w }) })) (deliver_moves of at)
+        done
       where
         done : Moves (Does (record (plain s) { other = Some (record of { regs = slice_set of.regs reg w }) }))
-        done = record { other = other_moves of (record of { regs = slice_set of.regs reg w }) at (record { number = refl; group = refl; handler = refl; loads = LoadsMove.stay refl refl }) refl; queue = tt; memory = MemoryMove.stays refl }
+        done = record {
+          other = other_moves of (record of { regs = slice_set of.regs reg w }) at
+              (record { number = refl; group = refl; handler = refl; loads = LoadsMove.stay refl refl }) refl;
+          queue = tt;
+          memory = MemoryMove.stays refl;
+        }
 
   -- pages
 
@@ -267,13 +284,15 @@ module _ (core : Core) (m : Memory) (s : Slot) where
   store_row w pre post (Ok a) = stored_moves core m s (Reach a pre) a pre refl w post (cell_at m a.addr) refl
   store_row w pre post (Err c) = tt
 
-  map_row : (rd page : ℕ) (b c : Bool) → let asked = if b then (if c then MapPage page else Refuse cause.Bounds) else Refuse cause.Priv in EffectMoves core m s asked (maps s rd (reply core m s.number asked))
+  map_row : (rd page : ℕ) (b c : Bool) → let asked = if b then (if c then MapPage page else Refuse cause.Bounds) else
+      Refuse cause.Priv in EffectMoves core m s asked (maps s rd (reply core m s.number asked))
   unfolding reply
   map_row rd page true true = map_moves core m s (MapPage page) rd page (can_map m page) refl refl
   map_row rd page true false = tt
   map_row rd page false c = tt
 
-  unmap_row : (rd page : ℕ) (b c : Bool) → let asked = if b then (if c then UnmapPage page else Refuse cause.Bounds) else Refuse cause.Priv in EffectMoves core m s asked (unmaps s rd (reply core m s.number asked))
+  unmap_row : (rd page : ℕ) (b c : Bool) → let asked = if b then (if c then UnmapPage page else Refuse cause.Bounds)
+      else Refuse cause.Priv in EffectMoves core m s asked (unmaps s rd (reply core m s.number asked))
   unfolding reply
   unmap_row rd page true true = unmap_moves core m s (UnmapPage page) rd page (is_mapped m page) refl refl
   unmap_row rd page true false = tt
@@ -295,24 +314,44 @@ module _ (core : Core) (m : Memory) (s : Slot) where
   effect_moves (SelfSlot rd) = sets_moves core m s Nothing rd (Int s.number)
   effect_moves (Alu op rd ra rb) = number_moves core m s Nothing rd (alu_result op (word_bits (register s ra)) (word_bits (register s rb)))
   effect_moves (Addi rd ra imm) = sets_moves core m s Nothing rd (Int ((word_bits (register s ra) + cast_unsigned w64 imm) % 2 ^ 64))
-  effect_moves (Lea rd ra rb) = through_moves core m s Nothing (register s ra) (λ p. sets_pointer s rd (lea_result p (cast_signed w64 (word_bits (register s rb))))) (λ p. pointer_moves core m s Nothing rd (lea_result p (cast_signed w64 (word_bits (register s rb)))))
+  effect_moves (Lea rd ra rb) = through_moves core m s Nothing (register s ra)
+      (λ p. sets_pointer s rd (lea_result p (cast_signed w64 (word_bits (register s rb)))))
+      (λ p. pointer_moves core m s Nothing rd (lea_result p (cast_signed w64 (word_bits (register s rb)))))
   effect_moves (Leai rd ra imm) = through_moves core m s Nothing (register s ra) (λ p. sets_pointer s rd (lea_result p imm)) (λ p. pointer_moves core m s Nothing rd (lea_result p imm))
-  effect_moves (Leab rd ra rb) = through_moves core m s Nothing (register s ra) (λ p. sets_pointer s rd (leab_result p (cast_signed w64 (word_bits (register s rb))))) (λ p. pointer_moves core m s Nothing rd (leab_result p (cast_signed w64 (word_bits (register s rb)))))
-  effect_moves (Restrict rd ra rb) = through_moves core m s Nothing (register s ra) (λ p. sets_pointer s rd (restrict_result p (word_bits (register s rb)))) (λ p. pointer_moves core m s Nothing rd (restrict_result p (word_bits (register s rb))))
-  effect_moves (Subseg rd ra rb) = through_moves core m s Nothing (register s ra) (λ p. sets_pointer s rd (subseg_result p (word_bits (register s rb)))) (λ p. pointer_moves core m s Nothing rd (subseg_result p (word_bits (register s rb))))
-  effect_moves (Setptr rd ra) = if_moves core m s Nothing (is_privileged s.ip.perm) (sets_pointer s rd (setptr_result (word_bits (register s ra)))) (Fault cause.Priv) (pointer_moves core m s Nothing rd (setptr_result (word_bits (register s ra)))) tt
+  effect_moves (Leab rd ra rb) = through_moves core m s Nothing (register s ra)
+      (λ p. sets_pointer s rd (leab_result p (cast_signed w64 (word_bits (register s rb)))))
+      (λ p. pointer_moves core m s Nothing rd (leab_result p (cast_signed w64 (word_bits (register s rb)))))
+  effect_moves (Restrict rd ra rb) = through_moves core m s Nothing (register s ra)
+      (λ p. sets_pointer s rd (restrict_result p (word_bits (register s rb))))
+      (λ p. pointer_moves core m s Nothing rd (restrict_result p (word_bits (register s rb))))
+  effect_moves (Subseg rd ra rb) = through_moves core m s Nothing (register s ra)
+      (λ p. sets_pointer s rd (subseg_result p (word_bits (register s rb))))
+      (λ p. pointer_moves core m s Nothing rd (subseg_result p (word_bits (register s rb))))
+  effect_moves (Setptr rd ra) = if_moves core m s Nothing (is_privileged s.ip.perm)
+      (sets_pointer s rd (setptr_result (word_bits (register s ra)))) (Fault cause.Priv)
+      (pointer_moves core m s Nothing rd (setptr_result (word_bits (register s ra)))) tt
   effect_moves (Ld rd ra pre post imm) = load_row core.split rd pre post (check_result (register s ra) imm (load_kind post))
   effect_moves (St ra rb pre post imm) = store_row (register s rb) pre post (check_result (register s ra) imm Store)
   effect_moves (Br imm) = branch_moves core m s Nothing (at_distance s imm)
-  effect_moves (Bz ra imm) = if_moves core m s Nothing (word_bits (register s ra) == 0) (branches s (at_distance s imm)) (Does (plain s)) (branch_moves core m s Nothing (at_distance s imm)) (plain_moves core m s Nothing)
-  effect_moves (Bnz ra imm) = if_moves core m s Nothing (word_bits (register s ra) == 0) (Does (plain s)) (branches s (at_distance s imm)) (plain_moves core m s Nothing) (branch_moves core m s Nothing (at_distance s imm))
+  effect_moves (Bz ra imm) = if_moves core m s Nothing (word_bits (register s ra) == 0) (branches s (at_distance s imm))
+      (Does (plain s)) (branch_moves core m s Nothing (at_distance s imm)) (plain_moves core m s Nothing)
+  effect_moves (Bnz ra imm) = if_moves core m s Nothing (word_bits (register s ra) == 0) (Does (plain s))
+      (branches s (at_distance s imm)) (plain_moves core m s Nothing)
+      (branch_moves core m s Nothing (at_distance s imm))
   effect_moves (Jmp ra) = through_moves core m s Nothing (register s ra) (λ p. jumps s p (enter_result p)) (λ p. jump_moves core m s Nothing p (enter_result p))
-  effect_moves (Jal rd ra) = through_moves core m s Nothing (register s ra) (λ p. links s rd p (enter_result p) (next_result s.ip)) (λ p. link_moves core m s Nothing rd p (enter_result p) (next_result s.ip))
+  effect_moves (Jal rd ra) = through_moves core m s Nothing (register s ra)
+      (λ p. links s rd p (enter_result p) (next_result s.ip)) (λ p. link_moves core m s Nothing rd p (enter_result p)
+      (next_result s.ip))
   effect_moves (Lip rd imm) = pointer_moves core m s Nothing rd (at_distance s imm)
   effect_moves (Trap imm) = tt
   effect_moves (Evt rd) = event_moves core m s NextEvent refl rd (queue_at core s.number) refl
-  effect_moves (Resume ra how) = let k = word_bits (register s ra) in serve_moves core m s (Serve k) k refl (resumes s how) (λ c. tt) (λ of at. resume_moves core m s (Serve k) k refl how of at) (slot_at core k) refl
-  effect_moves (Rreg rd ra reg) = let k = word_bits (register s ra) in serve_moves core m s (Serve k) k refl (reads_of core.split s rd reg) (λ c. tt) (λ of at. read_moves core m s (Serve k) k refl core.split rd reg of at) (slot_at core k) refl
-  effect_moves (Wreg ra rb reg) = let k = word_bits (register s ra) in serve_moves core m s (Serve k) k refl (writes_of core.split s reg (register s rb)) (λ c. tt) (λ of at. write_moves core m s (Serve k) k refl core.split reg (register s rb) of at) (slot_at core k) refl
+  effect_moves (Resume ra how) = let k = word_bits (register s ra) in serve_moves core m s (Serve k) k refl
+      (resumes s how) (λ c. tt) (λ of at. resume_moves core m s (Serve k) k refl how of at) (slot_at core k) refl
+  effect_moves (Rreg rd ra reg) = let k = word_bits (register s ra) in serve_moves core m s (Serve k) k refl
+      (reads_of core.split s rd reg) (λ c. tt) (λ of at. read_moves core m s (Serve k) k refl core.split rd reg of at)
+      (slot_at core k) refl
+  effect_moves (Wreg ra rb reg) = let k = word_bits (register s ra) in serve_moves core m s (Serve k) k refl
+      (writes_of core.split s reg (register s rb)) (λ c. tt) (λ of at. write_moves core m s (Serve k) k refl core.split
+      reg (register s rb) of at) (slot_at core k) refl
   effect_moves (Map rd ra) = map_row rd (word_bits (register s ra)) (is_privileged s.ip.perm) (nat_lt (word_bits (register s ra)) (2 ^ 42))
   effect_moves (Unmap rd ra) = unmap_row rd (word_bits (register s ra)) (is_privileged s.ip.perm) (nat_lt (word_bits (register s ra)) (2 ^ 42))

@@ -1,5 +1,7 @@
 -- What was looked at before a cycle tells all that the cycle changes: bytes, events and the memory.
-use Rattle.std.proofs.Common.{◌≡◌, ◌≢◌, ◌⊎◌, ℕ, ◌-◌, ◌<◌, inl, inr, Bool, true, false, nat_le, nat_lt, if◌then◌else◌, List, [], ◌∷◌, ◌++◌, length, drop, map, Option, Some, None, is_some, refl, sym, ap, ◌∙◌, subst, slice_index_or, get_or-set_other}
+use Rattle.std.proofs.Common.{◌≡◌, ◌≢◌, ◌⊎◌, ℕ, ◌-◌, ◌<◌, inl, inr, Bool, true, false, nat_le, nat_lt, if◌then◌else◌}
+use Rattle.std.proofs.Common.{List, [], ◌∷◌, ◌++◌, length, drop, map, Option, Some, None, is_some, refl, sym, ap, ◌∙◌}
+use Rattle.std.proofs.Common.{subst, slice_index_or, get_or-set_other}
 use Rattle.std.proofs.Math.Seq.{drop-length}
 use Rattle.mm_word.specs.declared.word.Cell.{Cell}
 use Rattle.mm_word.specs.Access.{Touch}
@@ -54,7 +56,8 @@ module _ (core : Core) (m : Memory) (n : ℕ) where
       by true = refl
       by false = refl
 
-  change_outs : (s : Slot) (own : Slot) (o : Option Slot) (q : Option (List Event)) (b : Option ℕ) (g : ℕ) → g ≢ s.group → output_of (with_out (with_queue (put_slot (with_other core o) own) s.number q) s.group b) g ≡ output_of core g
+  change_outs : (s : Slot) (own : Slot) (o : Option Slot) (q : Option (List Event)) (b : Option ℕ) (g : ℕ) → g ≢ s.group
+      → output_of (with_out (with_queue (put_slot (with_other core o) own) s.number q) s.group b) g ≡ output_of core g
   unfolding put_slot put_queue put_output output_of
   change_outs s own None None None g ne = refl
   change_outs s own None (Some q) None g ne = refl
@@ -75,7 +78,8 @@ module _ (core : Core) (m : Memory) (n : ℕ) where
   way_outs t (Way.does s i c f u us r comes made moves is) = subst OutsStill (sym is) (λ g no. change_outs s (slot_after s c) c.other c.queue c.out g (no s (runs_own core n s r)))
 
   -- the bytes that were put out are those of the own group
-  pub outs_seen : (s : Slot) → own_of core n ≡ Some s → s.group < 64 → let t = turn core m n in each_number (put_out_by core t.core) ≡ map (Puts s.group) (drop (length (output_of core s.group)) (output_of t.core s.group))
+  pub outs_seen : (s : Slot) → own_of core n ≡ Some s → s.group < 64 → let t = turn core m n in each_number
+      (put_out_by core t.core) ≡ map (Puts s.group) (drop (length (output_of core s.group)) (output_of t.core s.group))
   outs_seen s own few =
       let later : Core = (turn core m n).core in
       one_number (put_out_by core later) s.group few
@@ -100,7 +104,15 @@ module _ (core : Core) (m : Memory) (n : ℕ) where
   memory_way t (Way.faults s c f u us r is) = inl (ap (λ (x : Turned). x.memory) is)
   memory_way t (Way.waits s x f u us r same is) = inl (ap (λ (x : Turned). x.memory) is)
   memory_way t (Way.helps s o i f u us r comes made other is) = inl (ap (λ (x : Turned). x.memory) is)
-  memory_way t (Way.does s i c f u us r comes made moves is) = inr (record { slot = s; instr = i; own = runs_own core n s r; comes = comes; move = subst (MemoryMove m (ask i s)) (sym (ap (λ (x : Turned). x.memory) is)) moves.memory })
+  memory_way t (Way.does s i c f u us r comes made moves is) = inr
+      (record {
+        slot = s;
+        instr = i;
+        own = runs_own core n s r;
+        comes = comes;
+        move = subst (MemoryMove m (ask i s))
+            (sym (ap (λ (x : Turned). x.memory) is)) moves.memory;
+      })
 
   told_none : (p : ℕ) (b : Bool) → page_told p b b ≡ []
   told_none p true = refl

@@ -1,5 +1,8 @@
 -- What was looked at before a cycle of `evt` tells the slots that the cycle changes.
-use Rattle.std.proofs.Common.{◌≡◌, ◌≢◌, ℕ, ◌+◌, ◌*◌, ◌/◌, ◌%◌, ◌<◌, ◌^◌, inl, inr, Bool, true, false, nat_lt, if◌then◌else◌, List, [], ◌∷◌, ◌++◌, length, map, Option, Some, None, Result, Ok, Err, pos, refl, sym, ap, ◌∙◌, subst, arith, slice_set, slice_index_or, get_or-set_same, get_or-set_other}
+use Rattle.std.proofs.Common.{◌≡◌, ◌≢◌, ℕ, ◌+◌, ◌*◌, ◌/◌, ◌%◌, ◌<◌, ◌^◌, inl, inr, Bool, true, false, nat_lt}
+use Rattle.std.proofs.Common.{if◌then◌else◌, List, [], ◌∷◌, ◌++◌, length, map, Option, Some, None, Result, Ok, Err, pos}
+use Rattle.std.proofs.Common.{refl, sym, ap, ◌∙◌, subst, arith, slice_set, slice_index_or, get_or-set_same}
+use Rattle.std.proofs.Common.{get_or-set_other}
 use Rattle.std.specs.List.{AllByRecursion, flat_map, range_with_len}
 use Rattle.std.proofs.Math.Seq.{drop-length}
 use Rattle.mm_word.specs.declared.cause.Cause.{Cause}
@@ -135,9 +138,13 @@ taken_changes : (of : Slot) → is_waiting of.state ≡ true → slot_changes of
 unfolding slot_changes register is_empty
 taken_changes of waits =
     let now : Slot = record of { state = Taken } in
-    ap (λ b. (if b then [] else Points of.number of.ip of.past ∷ []) ++ state_changes of now ++ flat_map (register_changes of now) (range_with_len 0 16) ++ load_changes of now) (pair_self (Ptr of.ip) of.past)
+    ap (λ b. (if b then [] else Points of.number of.ip of.past ∷ []) ++ state_changes of now ++ flat_map
+    (register_changes of now) (range_with_len 0 16) ++ load_changes of now) (pair_self (Ptr of.ip) of.past)
     ∙ ap (λ b. (if b then [] else Stands of.number Taken ∷ []) ++ flat_map (register_changes of now) (range_with_len 0 16) ++ load_changes of now) (waits_only of.state waits)
-    ∙ ap (λ l. (Stands of.number Taken ∷ []) ++ l ++ load_changes of now) (flat_none (register_changes of now) (range_with_len 0 16) (each_none (register_changes of now) (λ r. ap (λ b. if b then [] else register_now now r ∷ []) (pair_self (register of r) (is_empty of r))) (range_with_len 0 16)))
+    ∙ ap (λ l. (Stands of.number Taken ∷ []) ++ l ++ load_changes of now)
+    (flat_none (register_changes of now) (range_with_len 0 16)
+    (each_none (register_changes of now) (λ r. ap (λ b. if b then [] else register_now now r ∷ [])
+    (pair_self (register of r) (is_empty of r))) (range_with_len 0 16)))
     ∙ ap (λ l. (Stands of.number Taken ∷ []) ++ map (Issues of.number) l) (drop-length of.pending)
 
 -- 4. What an `evt` does that is carried out.
@@ -194,7 +201,8 @@ module _ (core : Core) (m : Memory) (s : Slot) (rd : ℕ) where
 
 -- 5. The slots that change.
 
-module _ (core : Core) (m : Memory) (n : ℕ) (formed : IsFormed core) (match : Matches core) (s : Slot) (own : own_of core n ≡ Some s) (i : Instr) (comes : comes_to m s ≡ Some i) (asks : ask i s ≡ NextEvent) where
+module _ (core : Core) (m : Memory) (n : ℕ) (formed : IsFormed core) (match : Matches core) (s : Slot)
+    (own : own_of core n ≡ Some s) (i : Instr) (comes : comes_to m s ≡ Some i) (asks : ask i s ≡ NextEvent) where
   abbrev later : Core
   later = (turn core m n).core
 
@@ -233,7 +241,8 @@ module _ (core : Core) (m : Memory) (n : ℕ) (formed : IsFormed core) (match : 
       let formed_of = slot_has IsSlot core e.slot of formed.slots r.there in
       let few : e.slot < 64 = let low = formed_of.number in omega arith in
       let formed_own = slot_has IsSlot core s.number s formed.slots at in
-      let queued = (subst (AllByRecursion (λ (x : Event). x.slot ≡ e.slot → (is_waiting of.state ≡ true) × (of.handler ≡ Some s.number))) r.queue (queued_waits core match e.slot of r.there s.number)).0 refl in
+      let queued = (subst (AllByRecursion (λ (x : Event). x.slot ≡ e.slot → (is_waiting of.state ≡ true)
+      × (of.handler ≡ Some s.number))) r.queue (queued_waits core match e.slot of r.there s.number)).0 refl in
       let waits : is_waiting of.state ≡ true = queued.0 in
       let small = evt_small evt.rd (subst IsInstr evt.is (comes_instr m s i comes)) in
       let done : Change = change_of core m s evt.rd e r.rest of in
@@ -274,7 +283,9 @@ module _ (core : Core) (m : Memory) (n : ℕ) (formed : IsFormed core) (match : 
   way_slots t e (Way.faults x c f u us r is) =
       let one = same_own core n s x own (runs_own core n x r) in
       finish t e
-      (λ k ne. ap (λ (y : Turned). slot_at y.core k) is ∙ fault_still core m n x (event_of x c (address_told (comes_to m x) x) (value_told (comes_to m x) x)) x.handler k (λ same. ne (same ∙ ap (λ (z : Slot). z.number) one)))
+      (λ k ne. ap (λ (y : Turned). slot_at y.core k) is ∙ fault_still core m n x
+      (event_of x c (address_told (comes_to m x) x) (value_told (comes_to m x) x)) x.handler k
+      (λ same. ne (same ∙ ap (λ (z : Slot). z.number) one)))
       (ap (λ (y : Turned). read_in (comes_to m s) y.step.tick (slot_at later s.number)) is ∙ fault_reads c x.handler (slot_at later s.number))
   way_slots t e (Way.waits x y f u us r same is) =
       let one = same_own core n s x own (runs_own core n x r) in
@@ -288,12 +299,15 @@ module _ (core : Core) (m : Memory) (n : ℕ) (formed : IsFormed core) (match : 
       let one = same_own core n s x own (runs_own core n x r) in
       let two : ◌≡◌ {A = Option Instr} (Some y) (Some i) = sym found ∙ ap (comes_to m) one ∙ comes in
       let instr : y ≡ i = cc in
-      absurd (never_delivers core m s evt.rd o (queue_at core s.number) (made_by (Deliver o) (ap (λ (z : Instr). effect core.split z s (reply core m s.number (ask z s))) (sym instr) ∙ ap (λ (z : Slot). effect core.split y z (reply core m z.number (ask y z))) (sym one) ∙ made)))
+      absurd (never_delivers core m s evt.rd o (queue_at core s.number)
+      (made_by (Deliver o) (ap (λ (z : Instr). effect core.split z s (reply core m s.number (ask z s))) (sym instr)
+      ∙ ap (λ (z : Slot). effect core.split y z (reply core m z.number (ask y z))) (sym one) ∙ made)))
   way_slots t e (Way.does x y c f u us r found made moves is) =
       let one = same_own core n s x own (runs_own core n x r) in
       let two : ◌≡◌ {A = Option Instr} (Some y) (Some i) = sym found ∙ ap (comes_to m) one ∙ comes in
       let instr : y ≡ i = cc in
-      let done = made_by (Does c) (ap (λ (z : Instr). effect core.split z s (reply core m s.number (ask z s))) (sym instr) ∙ ap (λ (z : Slot). effect core.split y z (reply core m z.number (ask y z))) (sym one) ∙ made) in
+      let done = made_by (Does c) (ap (λ (z : Instr). effect core.split z s (reply core m s.number (ask z s)))
+      (sym instr) ∙ ap (λ (z : Slot). effect core.split y z (reply core m z.number (ask y z))) (sym one) ∙ made) in
       let read = reads_event core m s evt.rd c (queue_at core s.number) refl done in
       let tick : t.step.tick ≡ Did = ap (λ (z : Turned). z.step.tick) is in
       subst Goal (sym tick) (read_slots c read t e (ap (λ (z : Turned). z.core) is ∙ ap (λ (z : Slot). core_after core z c) one) tick)

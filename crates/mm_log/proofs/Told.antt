@@ -33,7 +33,9 @@ slot_text was now =
     (text_append (pointer_changes was now ++ state_changes was now) (flat_map (register_changes was now) (range_with_len 0 16))
     ∙ ap (λ l. l ++ text_of (flat_map (register_changes was now) (range_with_len 0 16))) (text_append (pointer_changes was now) (state_changes was now)))
     ∙ ap (λ l. text_of (pointer_changes was now) ++ text_of (state_changes was now) ++ l ++ text_of (load_changes was now)) (text_flat (register_changes was now) (range_with_len 0 16))
-    ∙ ap (λ l. text_of (pointer_changes was now) ++ text_of (state_changes was now) ++ flat_map (λ r. text_of (register_changes was now r)) (range_with_len 0 16) ++ l) (flat_map-map line_text (Issues now.number) (drop (length was.pending) now.pending)))
+    ∙ ap (λ l. text_of (pointer_changes was now) ++ text_of (state_changes was now) ++ flat_map
+    (λ r. text_of (register_changes was now r)) (range_with_len 0 16) ++ l)
+    (flat_map-map line_text (Issues now.number) (drop (length was.pending) now.pending)))
 
 -- the texts of two slots in order
 pub order_text : (a b : ℕ) (first second : List Line)
@@ -48,7 +50,9 @@ page_text p was now = sym (text_append (if now && not was then Maps p ∷ [] els
 
 -- the text of what was seen of a cycle
 pub seen_text : (later : State) (b : Before) (tick : Tick)
-    → text_of (slots_seen later.core b tick) ++ text_of (queued_seen b tick) ++ text_of (read_seen b.instr b.own.number tick) ++ flat_map (λ x. line_text (Puts b.own.group x)) (drop b.output (output_of later.core b.own.group))
+    → text_of (slots_seen later.core b tick) ++ text_of (queued_seen b tick) ++ text_of
+    (read_seen b.instr b.own.number tick) ++ flat_map (λ x. line_text (Puts b.own.group x))
+    (drop b.output (output_of later.core b.own.group))
     ++ text_of (page_seen later.memory b.there ++ cell_seen later.memory b.there)
     ≡ text_of (seen later b tick)
 unfolding seen

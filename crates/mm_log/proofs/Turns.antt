@@ -1,5 +1,6 @@
 -- What a turn moves of a core and of a memory.
-use Rattle.std.proofs.Common.{◌≡◌, ◌⊎◌, ℕ, zero, suc, ◌+◌, ◌-◌, inl, inr, Bool, true, false, if◌then◌else◌, List, [], ◌∷◌, ◌++◌, Option, Some, None, refl, sym, ap, ◌∙◌, subst, slice_index_or, slice_set}
+use Rattle.std.proofs.Common.{◌≡◌, ◌⊎◌, ℕ, zero, suc, ◌+◌, ◌-◌, inl, inr, Bool, true, false, if◌then◌else◌, List, []}
+use Rattle.std.proofs.Common.{◌∷◌, ◌++◌, Option, Some, None, refl, sym, ap, ◌∙◌, subst, slice_index_or, slice_set}
 use Rattle.std.specs.Prelude.{IfSome}
 use Rattle.std.proofs.lemmas.Bool.{cases_eq}
 use Rattle.mm_word.specs.declared.cause.Cause.{Cause}
@@ -23,7 +24,9 @@ use Rattle.mm_model.specs.Ask.{Ask, ask}
 use Rattle.mm_model.specs.Ask.Ask.{Nothing}
 use Rattle.mm_model.specs.Effect.{Change, Effect, effect, delivered}
 use Rattle.mm_model.specs.Effect.Effect.{Fault, Block, Deliver, Does}
-use Rattle.mm_model.specs.Turn.{Turned, reply, put_all, state_after, with_issue, slot_after, with_other, with_queue, with_out, core_after, stood, is_sync, event_of, core_faulted, tick_faulted, faulted, touch_of, asked_use, blocked, ended, executed, idle, arrives, turn}
+use Rattle.mm_model.specs.Turn.{Turned, reply, put_all, state_after, with_issue, slot_after, with_other, with_queue}
+use Rattle.mm_model.specs.Turn.{with_out, core_after, stood, is_sync, event_of, core_faulted, tick_faulted, faulted}
+use Rattle.mm_model.specs.Turn.{touch_of, asked_use, blocked, ended, executed, idle, arrives, turn}
 use Rattle.mm_model.proofs.CoreRows.{slot_at-number, slot_at-put_same, slot_at-put_other, queue_at-put_slot, slot_at-put_queue, queue_at-put_same, queue_at-put_other, slot_has, other_at}
 use Rattle.mm_model.proofs.CoreSteps.{Fitting}
 use Rattle.mm_model.proofs.TurnShapes.{TurnShape, turn_shape}
@@ -162,7 +165,9 @@ module _ (core : Core) (m : Memory) (h : IsFormed core) (fit : Fitting core) whe
     fault_slots : (C : ℕ → Type 0) → C s.number → (e : Event) (o : Option ℕ) → SlotsMove C core (core_faulted core s e o)
     unfolding core_faulted
     fault_slots C counts e (Some g) =
-        queue_moves_not C core (put_slot core (stood s Waiting)) g (queue_at (put_slot core (stood s Waiting)) g ++ e ∷ []) (put_moves C core core (slots_stay C core) s (stood s Waiting) at (stood_move s s Waiting (own_move s)) (inr counts))
+        queue_moves_not C core (put_slot core (stood s Waiting)) g (queue_at (put_slot core (stood s Waiting)) g ++ e ∷
+        []) (put_moves C core core (slots_stay C core) s (stood s Waiting) at (stood_move s s Waiting (own_move s))
+        (inr counts))
     fault_slots C counts e None = by (is_sync e.cause)
       where
         by : (b : Bool) → SlotsMove C core (if b then put_slot core (stood s Running) else put_slot core (stood s (Halted (Some e.cause))))
@@ -215,7 +220,9 @@ module _ (core : Core) (m : Memory) (h : IsFormed core) (fit : Fitting core) whe
     put_outs mid x same = same
 
     -- the slot waits, and a load of its own or of a slot that it serves may have been delivered
-    blocked_moves : (mid : Core) (x : Slot) → ((C : ℕ → Type 0) → SlotsMove C core mid) → ((k : ℕ) → queue_at mid k ≡ queue_at core k) → mid.outputs ≡ core.outputs → SlotMove s x → (f : Touch) (u : Option Touch) (us : List Use)
+    blocked_moves : (mid : Core) (x : Slot) → ((C : ℕ → Type 0) → SlotsMove C core mid)
+        → ((k : ℕ) → queue_at mid k ≡ queue_at core k) → mid.outputs ≡ core.outputs → SlotMove s x
+        → (f : Touch) (u : Option Touch) (us : List Use)
         → TurnMoves core m (blocked mid m x f u us)
     unfolding blocked
     blocked_moves mid x slots queues outs move f u us = record {
@@ -233,7 +240,13 @@ module _ (core : Core) (m : Memory) (h : IsFormed core) (fit : Fitting core) whe
       other_slots C o (OtherMove.takes_first old e rest is queue slot there made) =
           let number : old.number ≡ o.number = sym (ap (λ (x : Slot). x.number) made) in
           put_moves C core core (slots_stay C core) old o (ap (slot_at core) number ∙ there)
-          (record { number = sym number; group = ap (λ (x : Slot). x.group) made; handler = ap (λ (x : Slot). x.handler) made; loads = LoadsMove.stay (ap (λ (x : Slot). x.empty) made) (ap (λ (x : Slot). x.pending) made) })
+          (record {
+            number = sym number;
+            group = ap (λ (x : Slot). x.group) made;
+            handler = ap (λ (x : Slot). x.handler)
+                made;
+            loads = LoadsMove.stay (ap (λ (x : Slot). x.empty) made) (ap (λ (x : Slot). x.pending) made);
+          })
           (inl (ap (λ (x : Slot). x.turns) made))
 
       with_slots : (C : ℕ → Type 0) (o : Option Slot) → OtherMoves core s.number asked o → SlotsMove C core (with_other core o)
@@ -275,7 +288,8 @@ module _ (core : Core) (m : Memory) (h : IsFormed core) (fit : Fitting core) whe
         queued_queues None y j = QueueMove.keeps (mid_queue j)
         queued_queues (Some q) y j = elim (cases_eq j s.number) [
           | inl e ↦
-              let now : queue_at (put_queue mid s.number q) j ≡ q = ap (queue_at (put_queue mid s.number q)) e ∙ queue_at-put_same mid s.number q ((mid_slots (λ n. Unit {0}) tt) s.number s at).now own_there in
+              let now : queue_at (put_queue mid s.number q) j ≡ q = ap (queue_at (put_queue mid s.number q)) e
+              ∙ queue_at-put_same mid s.number q ((mid_slots (λ n. Unit {0}) tt) s.number s at).now own_there in
               QueueMove.loses y.1.0 (ap (queue_at core) e ∙ y.1.1 ∙ ap (λ l. y.1.0 ∷ l) (sym now))
           | inr ne ↦ QueueMove.keeps (queue_at-put_other mid s.number q j ne ∙ mid_queue j)
         ]
@@ -323,7 +337,15 @@ module _ (core : Core) (m : Memory) (h : IsFormed core) (fit : Fitting core) whe
 
   idle_moves : (n : ℕ) → TurnMoves core m (idle core m n)
   unfolding idle
-  idle_moves n = record { slots = slots_stay (Counts (idle core m n)) core; queues = λ k. QueueMove.keeps refl; outputs = λ g. OutMove.keeps refl; asked = Nothing; memory = MemoryMove.stays refl; idle = λ e. (refl, refl) }
+  idle_moves n = record {
+    slots = slots_stay (Counts (idle core m n)) core;
+    queues = λ k. QueueMove.keeps refl;
+    outputs
+        = λ g. OutMove.keeps refl;
+    asked = Nothing;
+    memory = MemoryMove.stays refl;
+    idle = λ e. (refl, refl);
+  }
 
   at_its_number : (n : ℕ) (s : Slot) → slot_at core n ≡ Some s → slot_at core s.number ≡ Some s
   at_its_number n s is = ap (slot_at core) (slot_at-number core n s is) ∙ is

@@ -16,7 +16,9 @@ use Rattle.mm_model.specs.Operands.{lacks}
 use Rattle.mm_model.specs.Ask.{ask}
 use Rattle.mm_model.specs.Effect.{Change, Effect, effect, delivered}
 use Rattle.mm_model.specs.Effect.Effect.{Fault, Block, Deliver, Does}
-use Rattle.mm_model.specs.Turn.{Turned, reply, faulted, touch_of, asked_use, blocked, ended, executed, issued, decoded, instr_in, fetched, aimed, started, idle, arrives, taken_by_port, taken_by, is_running, turn}
+use Rattle.mm_model.specs.Turn.{Turned, reply, faulted, touch_of, asked_use, blocked, ended, executed, issued, decoded}
+use Rattle.mm_model.specs.Turn.{instr_in, fetched, aimed, started, idle, arrives, taken_by_port, taken_by, is_running}
+use Rattle.mm_model.specs.Turn.{turn}
 use Rattle.mm_model.specs.Outcomes.{Runs}
 use Rattle.mm_log.specs.Looks.{in_cell, found_by, comes_to, address_told, value_told}
 use Rattle.mm_log.proofs.Rows.{OtherMove, ChangeMoves, EffectMoves, effect_moves}
@@ -24,15 +26,20 @@ use Rattle.mm_log.proofs.Rows.{OtherMove, ChangeMoves, EffectMoves, effect_moves
 pub data Way (core : Core) (m : Memory) (n : ℕ) (t : Turned) : Type 0 where
   idles : (k : ℕ) → t ≡ idle core m k → Way core m n t
   -- a port delivers a load
-  arrives_at : (s : Slot) (p : Pending) (rest : List Pending) → slot_at core n ≡ None → nat_le 128 n ≡ true → slot_at core (n - 128) ≡ Some s → s.pending ≡ p ∷ rest → t ≡ arrives core m s (p ∷ rest) → Way core m n t
+  arrives_at : (s : Slot) (p : Pending) (rest : List Pending) → slot_at core n ≡ None → nat_le 128 n ≡ true
+      → slot_at core (n - 128) ≡ Some s → s.pending ≡ p ∷ rest → t ≡ arrives core m s (p ∷ rest) → Way core m n t
   -- the turn faults
   faults : (s : Slot) (c : Cause) (f u : Option Touch) (us : List Use) → Runs core n s → t ≡ faulted core m s c (address_told (comes_to m s) s) (value_told (comes_to m s) s) f u us → Way core m n t
   -- the slot waits; a load of its own may be delivered
   waits : (s x : Slot) (f : Touch) (u : Option Touch) (us : List Use) → Runs core n s → (x ≡ s) ⊎ (x ≡ delivered s) → t ≡ blocked core m x f u us → Way core m n t
   -- or a load of a slot that it serves
-  helps : (s o : Slot) (i : Instr) (f : Touch) (u : Option Touch) (us : List Use) → Runs core n s → comes_to m s ≡ Some i → effect core.split i s (reply core m s.number (ask i s)) ≡ Deliver o → OtherMove core s.number (ask i s) o → t ≡ blocked (put_slot core o) m s f u us → Way core m n t
+  helps : (s o : Slot) (i : Instr) (f : Touch) (u : Option Touch) (us : List Use) → Runs core n s → comes_to m s ≡ Some
+      i → effect core.split i s (reply core m s.number (ask i s)) ≡ Deliver o → OtherMove core s.number (ask i s) o
+      → t ≡ blocked (put_slot core o) m s f u us → Way core m n t
   -- the instruction is carried out
-  does : (s : Slot) (i : Instr) (c : Change) (f : Touch) (u : Option Touch) (us : List Use) → Runs core n s → comes_to m s ≡ Some i → effect core.split i s (reply core m s.number (ask i s)) ≡ Does c → ChangeMoves core m s (ask i s) c → t ≡ ended core m s i f u us (Does c) → Way core m n t
+  does : (s : Slot) (i : Instr) (c : Change) (f : Touch) (u : Option Touch) (us : List Use) → Runs core n s
+      → comes_to m s ≡ Some i → effect core.split i s (reply core m s.number (ask i s)) ≡ Does c → ChangeMoves core m s
+      (ask i s) c → t ≡ ended core m s i f u us (Does c) → Way core m n t
 
 both : (a b : Bool) → (a && b) ≡ true → (a ≡ true) × (b ≡ true)
 both true b e = (refl, e)
@@ -46,7 +53,9 @@ module _ (core : Core) (m : Memory) (n : ℕ) where
     fault_way : (o : Option Instr) → comes_to m s ≡ o → (c : Cause) (f u : Option Touch) (us : List Use) → Goes (faulted core m s c (address_told o s) (value_told o s) f u us)
     fault_way o is c f u us = Way.faults s c f u us r (ap (λ x. faulted core m s c (address_told x s) (value_told x s) f u us) (sym is))
 
-    ended_way : (i : Instr) → comes_to m s ≡ Some i → (f : Touch) (u : Option Touch) (us : List Use) (x : Effect) → effect core.split i s (reply core m s.number (ask i s)) ≡ x → EffectMoves core m s (ask i s) x → Goes (ended core m s i f u us x)
+    ended_way : (i : Instr) → comes_to m s ≡ Some i → (f : Touch) (u : Option Touch) (us : List Use) (x : Effect)
+        → effect core.split i s (reply core m s.number (ask i s)) ≡ x → EffectMoves core m s (ask i s) x
+        → Goes (ended core m s i f u us x)
     unfolding ended
     ended_way i is f u us (Fault c) e k = fault_way (Some i) is c (Some f) u us
     ended_way i is f u us Block e k = Way.waits s s f u us r (inl refl) refl

@@ -72,12 +72,15 @@ module _ (core : Core) (m : Memory) (n : ℕ) (formed : IsFormed core) (match : 
       let two : ◌≡◌ {A = Option Instr} (Some y) None = sym found ∙ ap (comes_to m) one ∙ none in
       absurd (cc two)
 
-  quiet : (i : Instr) → comes_to m s ≡ Some i → ((k : ℕ) → k ≢ s.number → NoOther core m n k) → (ask i s ≡ NextEvent → ⊥) → slots_changed core later ≡ with_taken later s (read_in (comes_to m s) tick (slot_at later s.number))
+  quiet : (i : Instr) → comes_to m s ≡ Some i → ((k : ℕ) → k ≢ s.number → NoOther core m n k)
+      → (ask i s ≡ NextEvent → ⊥) → slots_changed core later ≡ with_taken later s
+      (read_in (comes_to m s) tick (slot_at later s.number))
   quiet i comes others never =
       alone core m n formed s own others
       ∙ sym (ap (with_taken later s) (ap (λ o. read_in o tick (slot_at later s.number)) comes ∙ read_none (Some i) (slot_at later s.number) tick (no_read_row i s (slot_at later s.number) never)))
 
-  plainly : (i : Instr) → comes_to m s ≡ Some i → ((j : ℕ) → ask i s ≡ Serve j → ⊥) → (ask i s ≡ NextEvent → ⊥) → slots_changed core later ≡ with_taken later s (read_in (comes_to m s) tick (slot_at later s.number))
+  plainly : (i : Instr) → comes_to m s ≡ Some i → ((j : ℕ) → ask i s ≡ Serve j → ⊥) → (ask i s ≡ NextEvent → ⊥)
+      → slots_changed core later ≡ with_taken later s (read_in (comes_to m s) tick (slot_at later s.number))
   plainly i comes serves never = quiet i comes (λ k ne. no_other core m n formed s own i comes serves never k) never
 
   -- a slot that is not there is not served
@@ -175,18 +178,28 @@ module _ (s : State) (n : ℕ) (k : Kept s) where
   -- nothing where core and memory stay
   none_changed : (turn_of s n).core ≡ s.core → (turn_of s n).memory ≡ s.memory → changes s (after s n) ≡ []
   unfolding changes after
-  none_changed core memory = ap (λ (c : Core). changes_of c (turn_of s n).memory) core ∙ ap (changes_of s.core) memory ∙ self (memory_told s.memory k.state.pages Nothing s.memory (MemoryMove.stays refl))
+  none_changed core memory = ap (λ (c : Core). changes_of c (turn_of s n).memory) core ∙ ap (changes_of s.core) memory
+      ∙ self (memory_told s.memory k.state.pages Nothing s.memory (MemoryMove.stays refl))
     where
       changes_of : Core → Memory → List Line
-      changes_of c m = slots_changed s.core c ++ each_number (queued_at s.core c) ++ each_number (read_at s.core c) ++ each_number (put_out_by s.core c) ++ pages_mapped s.memory m ++ pages_removed s.memory m ++ cells_changed s.memory m
+      changes_of c m = slots_changed s.core c ++ each_number (queued_at s.core c) ++ each_number (read_at s.core c) ++
+          each_number (put_out_by s.core c) ++ pages_mapped s.memory m ++ pages_removed s.memory m ++ cells_changed
+          s.memory m
 
       self : MemoryTold s.memory Nothing s.memory → changes_of s.core s.memory ≡ []
       self (MemoryTold.nothing is a b c) =
-          ap (λ l. l ++ each_number (queued_at s.core s.core) ++ each_number (read_at s.core s.core) ++ each_number (put_out_by s.core s.core) ++ pages_mapped s.memory s.memory ++ pages_removed s.memory s.memory ++ cells_changed s.memory s.memory)
+          ap (λ l. l ++ each_number (queued_at s.core s.core) ++ each_number (read_at s.core s.core) ++ each_number
+          (put_out_by s.core s.core) ++ pages_mapped s.memory s.memory ++ pages_removed s.memory s.memory ++
+          cells_changed s.memory s.memory)
           (no_number (λ j. changes_between (slot_at s.core j) (slot_at s.core j)) (λ j. changes_self (slot_at s.core j)))
-          ∙ ap (λ l. l ++ each_number (read_at s.core s.core) ++ each_number (put_out_by s.core s.core) ++ pages_mapped s.memory s.memory ++ pages_removed s.memory s.memory ++ cells_changed s.memory s.memory) (none_queued s.core s.core (λ h. refl))
-          ∙ ap (λ l. l ++ each_number (put_out_by s.core s.core) ++ pages_mapped s.memory s.memory ++ pages_removed s.memory s.memory ++ cells_changed s.memory s.memory) (none_read s.core s.core (λ h. refl))
-          ∙ ap (λ l. l ++ pages_mapped s.memory s.memory ++ pages_removed s.memory s.memory ++ cells_changed s.memory s.memory) (no_number (put_out_by s.core s.core) (λ g. ap (map (Puts g)) (drop-length (output_of s.core g))))
+          ∙ ap (λ l. l ++ each_number (read_at s.core s.core) ++ each_number (put_out_by s.core s.core) ++ pages_mapped
+          s.memory s.memory ++ pages_removed s.memory s.memory ++ cells_changed s.memory s.memory)
+          (none_queued s.core s.core (λ h. refl))
+          ∙ ap (λ l. l ++ each_number (put_out_by s.core s.core) ++ pages_mapped s.memory s.memory ++ pages_removed
+          s.memory s.memory ++ cells_changed s.memory s.memory) (none_read s.core s.core (λ h. refl))
+          ∙ ap (λ l. l ++ pages_mapped s.memory s.memory ++ pages_removed s.memory s.memory ++ cells_changed s.memory
+          s.memory) (no_number (put_out_by s.core s.core)
+          (λ g. ap (map (Puts g)) (drop-length (output_of s.core g))))
           ∙ ap (λ l. l ++ pages_removed s.memory s.memory ++ cells_changed s.memory s.memory) a
           ∙ ap (λ l. l ++ cells_changed s.memory s.memory) b ∙ c
       self (MemoryTold.cell a pre old c is at made x y z) = cc
@@ -212,7 +225,8 @@ module _ (s : State) (n : ℕ) (k : Kept s) where
 
   -- 3. The text of a cycle.
 
-  cycle_text : step_line (turns_in (turn_of s n)) (turn_of s n).step (turn_of s n).step.tick ++ text_of (seen_by (after s n) (looks s.core s.memory n) (turn_of s n).step.tick) ≡ text_of (cycle_log s n)
+  cycle_text : step_line (turns_in (turn_of s n)) (turn_of s n).step (turn_of s n).step.tick ++ text_of
+      (seen_by (after s n) (looks s.core s.memory n) (turn_of s n).step.tick) ≡ text_of (cycle_log s n)
   unfolding cycle_log line_text step_line
   cycle_text = ap (λ l. step_line (turns_in t) t.step t.step.tick ++ text_of l) (sym (whole_seen (own_of s.core n) refl)) ∙ by t.step.tick refl
     where
@@ -232,7 +246,9 @@ module _ (s : State) (n : ℕ) (k : Kept s) where
       by (Faulted c) e = refl
       by (Delivered r) e = refl
 
-pub line_is : (s t : State) (n : ℕ) (before : Option Before) (step : Step) (turns : ℕ) → ∥ Kept s ∥₁ → before ≡ looks s.core s.memory n → step ≡ (turn_of s n).step → t ≡ after s n → turns ≡ turns_of (slot_at t.core step.slot)
+pub line_is : (s t : State) (n : ℕ) (before : Option Before) (step : Step) (turns : ℕ) → ∥ Kept s ∥₁
+    → before ≡ looks s.core s.memory n → step ≡ (turn_of s n).step → t ≡ after s n → turns ≡ turns_of
+    (slot_at t.core step.slot)
     → step_line turns step step.tick ++ text_of (seen_by t before step.tick) ≡ text_of (cycle_log s n)
 unfolding after
 line_is s t n before step turns kept looked is left counted =

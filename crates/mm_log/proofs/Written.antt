@@ -13,13 +13,18 @@ use Rattle.mm_word.specs.Word.{word_bits, is_pointer}
 use Rattle.mm_word.specs.Pointer.{Pointer, lea_result, leab_result, restrict_result, subseg_result, setptr_result, next_result, enter_result}
 use Rattle.mm_isa.specs.declared.instr.DivZero.{DivZero}
 use Rattle.mm_isa.specs.declared.instr.Instr.{Instr}
-use Rattle.mm_isa.specs.declared.instr.Instr.TheVariants.{Halt, Nop, Ldi, Ldhi, Mov, Isptr, Eqw, Out, SelfSlot, Alu, Addi, Lea, Leai, Leab, Restrict, Subseg, Setptr, Ld, St, Br, Bz, Bnz, Jmp, Jal, Lip, Trap, Evt, Resume, Rreg, Wreg, Map, Unmap}
+use Rattle.mm_isa.specs.declared.instr.Instr.TheVariants.{Halt, Nop, Ldi, Ldhi, Mov, Isptr, Eqw, Out, SelfSlot, Alu}
+use Rattle.mm_isa.specs.declared.instr.Instr.TheVariants.{Addi, Lea, Leai, Leab, Restrict, Subseg, Setptr, Ld, St, Br}
+use Rattle.mm_isa.specs.declared.instr.Instr.TheVariants.{Bz, Bnz, Jmp, Jal, Lip, Trap, Evt, Resume, Rreg, Wreg, Map}
+use Rattle.mm_isa.specs.declared.instr.Instr.TheVariants.{Unmap}
 use Rattle.mm_isa.specs.Alu.{alu_result}
 use Rattle.mm_model.specs.declared.slot.Pending.{Pending}
 use Rattle.mm_model.specs.Slot.{Slot, register, is_empty}
 use Rattle.mm_model.specs.Ask.{Ask, ask, is_privileged, load_kind, reaching}
 use Rattle.mm_model.specs.Ask.Ask.{Nothing as AskNothing, Refuse, Reach, MapPage, UnmapPage, NextEvent, Room, Serve}
-use Rattle.mm_model.specs.Effect.{Reply, Change, Effect, effect, plain, sets, sets_pointer, sets_number, if_pointer, test, same_word, high_and_low, puts_out, loaded, stored, at_distance, branches, jumps, links}
+use Rattle.mm_model.specs.Effect.{Reply, Change, Effect, effect, plain, sets, sets_pointer, sets_number, if_pointer}
+use Rattle.mm_model.specs.Effect.{test, same_word, high_and_low, puts_out, loaded, stored, at_distance, branches, jumps}
+use Rattle.mm_model.specs.Effect.{links}
 use Rattle.mm_model.specs.Effect.Reply.{Fine, Refused, Got}
 use Rattle.mm_model.specs.Effect.Effect.{Fault, Block, Deliver, Does}
 use Rattle.mm_model.specs.Turn.{put_all, state_after, with_issue, slot_after}
@@ -158,12 +163,22 @@ module _ (s : Slot) (k : ℕ) where
   row_leaves split (SelfSlot rd) r h = sets_leaves rd h (Int s.number)
   row_leaves split (Alu op rd ra rb) r h = number_leaves rd h (alu_result op (word_bits (register s ra)) (word_bits (register s rb)))
   row_leaves split (Addi rd ra imm) r h = sets_leaves rd h (Int ((word_bits (register s ra) + cast_unsigned w64 imm) % 2 ^ 64))
-  row_leaves split (Lea rd ra rb) r h = through_leaves (register s ra) (λ p. sets_pointer s rd (lea_result p (cast_signed w64 (word_bits (register s rb))))) (λ p. pointer_leaves rd h (lea_result p (cast_signed w64 (word_bits (register s rb)))))
+  row_leaves split (Lea rd ra rb) r h = through_leaves (register s ra)
+      (λ p. sets_pointer s rd (lea_result p (cast_signed w64 (word_bits (register s rb)))))
+      (λ p. pointer_leaves rd h (lea_result p (cast_signed w64 (word_bits (register s rb)))))
   row_leaves split (Leai rd ra imm) r h = through_leaves (register s ra) (λ p. sets_pointer s rd (lea_result p imm)) (λ p. pointer_leaves rd h (lea_result p imm))
-  row_leaves split (Leab rd ra rb) r h = through_leaves (register s ra) (λ p. sets_pointer s rd (leab_result p (cast_signed w64 (word_bits (register s rb))))) (λ p. pointer_leaves rd h (leab_result p (cast_signed w64 (word_bits (register s rb)))))
-  row_leaves split (Restrict rd ra rb) r h = through_leaves (register s ra) (λ p. sets_pointer s rd (restrict_result p (word_bits (register s rb)))) (λ p. pointer_leaves rd h (restrict_result p (word_bits (register s rb))))
-  row_leaves split (Subseg rd ra rb) r h = through_leaves (register s ra) (λ p. sets_pointer s rd (subseg_result p (word_bits (register s rb)))) (λ p. pointer_leaves rd h (subseg_result p (word_bits (register s rb))))
-  row_leaves split (Setptr rd ra) r h = if_leaves (is_privileged s.ip.perm) (sets_pointer s rd (setptr_result (word_bits (register s ra)))) (Fault cause.Priv) (pointer_leaves rd h (setptr_result (word_bits (register s ra)))) tt
+  row_leaves split (Leab rd ra rb) r h = through_leaves (register s ra)
+      (λ p. sets_pointer s rd (leab_result p (cast_signed w64 (word_bits (register s rb)))))
+      (λ p. pointer_leaves rd h (leab_result p (cast_signed w64 (word_bits (register s rb)))))
+  row_leaves split (Restrict rd ra rb) r h = through_leaves (register s ra)
+      (λ p. sets_pointer s rd (restrict_result p (word_bits (register s rb))))
+      (λ p. pointer_leaves rd h (restrict_result p (word_bits (register s rb))))
+  row_leaves split (Subseg rd ra rb) r h = through_leaves (register s ra)
+      (λ p. sets_pointer s rd (subseg_result p (word_bits (register s rb))))
+      (λ p. pointer_leaves rd h (subseg_result p (word_bits (register s rb))))
+  row_leaves split (Setptr rd ra) r h = if_leaves (is_privileged s.ip.perm)
+      (sets_pointer s rd (setptr_result (word_bits (register s ra)))) (Fault cause.Priv)
+      (pointer_leaves rd h (setptr_result (word_bits (register s ra)))) tt
   row_leaves split (Ld rd ra pre post imm) r h = load_leaves split rd post h r
   row_leaves split (St ra rb pre post imm) r h = store_leaves (register s rb) post r
   row_leaves split (Br imm) r h = branch_leaves (at_distance s imm)

@@ -1,5 +1,7 @@
 -- What is copied of a state makes a snapshot.
-use Rattle.std.proofs.Common.{◌≡◌, ◌≢◌, ℕ, zero, suc, ◌+◌, ◌<◌, ◌≤◌, inl, inr, Bool, true, false, cond, ◌||◌, eqb, List, [], ◌∷◌, ◌++◌, length, map, Option, Some, None, refl, sym, ap, subst, ◌∙◌, arith, append-nil}
+use Rattle.std.proofs.Common.{◌≡◌, ◌≢◌, ℕ, zero, suc, ◌+◌, ◌<◌, ◌≤◌, inl, inr, Bool, true, false, cond, ◌||◌, eqb, List}
+use Rattle.std.proofs.Common.{[], ◌∷◌, ◌++◌, length, map, Option, Some, None, refl, sym, ap, subst, ◌∙◌, arith}
+use Rattle.std.proofs.Common.{append-nil}
 use Rattle.std.specs.Prelude.{IfSome, IsSomeAnd, IsTrue, slice_index}
 use Rattle.std.specs.List.{AllByRecursion, flat_map}
 use Rattle.std.specs.List.Sorted.{IsStrictlyIncreasing}
@@ -21,7 +23,9 @@ use Rattle.mm_model.specs.Groups.{has_group}
 use Rattle.mm_model.specs.Spelling.{numbers_of}
 use Rattle.mm_model.specs.Flags.{one_if}
 use Rattle.mm_model.specs.Turn.{is_taken}
-use Rattle.mm_model.specs.Fits.{is_waiting, waits_for, events_of, slots_of, IsSlot, LoadsMatch, WaitsForSome, IsAtSlot, LoadsAreKept, TakenBySome, IsOfVersion, IsCore, SlotHoldsWords, EventHoldsWords, RowHoldsWords}
+use Rattle.mm_model.specs.Fits.{is_waiting, waits_for, events_of, slots_of, IsSlot, LoadsMatch, WaitsForSome, IsAtSlot}
+use Rattle.mm_model.specs.Fits.{LoadsAreKept, TakenBySome, IsOfVersion, IsCore, SlotHoldsWords, EventHoldsWords}
+use Rattle.mm_model.specs.Fits.{RowHoldsWords}
 use Rattle.mm_model.proofs.CoreRows.{each_map, each_both, rest_rises, above_first, Rises, slot_has, slots_found}
 use Rattle.mm_model.proofs.CoreSteps.{some_true, events_of-here, waits_for-rests, waits_for-at}
 use Rattle.mm_image.proofs.SortedEntries.{rises}
@@ -31,7 +35,9 @@ use Rattle.mm_thread.proofs.Cores.{output_short}
 use Rattle.mm_thread.proofs.Sound.{queue-none}
 use Rattle.mm_model.specs.Typed.{IsTypedSlot}
 use Rattle.mm_machine.specs.Kept.{Kept}
-use Rattle.mm_machine.specs.Snapshot.{parts_of, numbered, has_output, page_numbers, queues_of, IsEventOf, IsAwaited, HasOneEvent, IsPending, DoesNotFall, IsSnapshot, IsOutputOf, IsTypedEvent, IsTyped, queued, queued_at}
+use Rattle.mm_machine.specs.Snapshot.{parts_of, numbered, has_output, page_numbers, queues_of, IsEventOf, IsAwaited}
+use Rattle.mm_machine.specs.Snapshot.{HasOneEvent, IsPending, DoesNotFall, IsSnapshot, IsOutputOf, IsTypedEvent}
+use Rattle.mm_machine.specs.Snapshot.{IsTyped, queued, queued_at}
 use Rattle.mm_machine.specs.Capture.{OutputsBelow}
 use Rattle.mm_machine.proofs.Keeping.{kept_core}
 use Rattle.mm_machine.proofs.Pendings.{loads_counted}
@@ -222,7 +228,8 @@ own_group : (slots : List Slot) → AllByRecursion (λ (s : Slot). has_group slo
 own_group [] = tt
 own_group (s ∷ slots) = (
   ap (λ b. b || has_group slots s.group) (same_test s.group s.group refl),
-  each_map (λ (x : Slot). has_group slots x.group ≡ true) (λ (x : Slot). has_group (s ∷ slots) x.group ≡ true) (λ x has. ap (λ b. eqb s.group x.group || b) has ∙ or_true (eqb s.group x.group)) slots (own_group slots),
+  each_map (λ (x : Slot). has_group slots x.group ≡ true) (λ (x : Slot). has_group (s ∷ slots) x.group ≡ true)
+      (λ x has. ap (λ b. eqb s.group x.group || b) has ∙ or_true (eqb s.group x.group)) slots (own_group slots),
 )
 
 pub snapshot_taken : (s : State) (outputs : List Output) → OutputsBelow s.core (slots_of s.core) 64 outputs → Kept s
@@ -234,21 +241,32 @@ snapshot_taken s outputs out k =
       groups = out.rising;
       pages = pages_rise s.memory.pages k.state.pages.rising;
       used = out.used;
-      shown = each_both (λ (x : Slot). x.group < 64) (λ (x : Slot). has_group (slots_of s.core) x.group ≡ true) (λ (x : Slot). has_output outputs x.group ≡ true) (λ x small has. out.shown x.group small has)
+      shown = each_both (λ (x : Slot). x.group < 64) (λ (x : Slot). has_group (slots_of s.core) x.group ≡ true)
+          (λ (x : Slot). has_output outputs x.group ≡ true) (λ x small has. out.shown x.group small has)
           (slots_of s.core) (each_map (IsOfVersion 2) (λ (x : Slot). x.group < 64) (λ x is. is.group) (slots_of s.core) whole.numbers) (own_group (slots_of s.core));
       events = (queues_rise s.core 0 (slots_of s.core) whole.formed.rising (from_zero (numbers_of (slots_of s.core)))).0;
       awaited = queued_awaited s.core whole;
       one_event = queued_once s.core whole;
       taken = each_map TakenBySome (λ (x : Slot). x.state ≡ Taken → x.handler ≢ None) (λ x is taken. is (ap is_taken taken)) (slots_of s.core) whole.kept.taken;
       outputs = each_map (IsOutputOf s.core) (λ (o : Output). length o.bytes ≤ 65536) (λ o is. omega (arith, ap length is, output_short s.core whole o.group)) outputs out.said;
-      pending = each_both LoadsMatch (LoadsAreKept s.core.split) IsPending (λ x match kept r. record { loads = sym (loads_counted r x.pending) ∙ match.each r; zero = kept.zero r }) (slots_of s.core) whole.matched.loads whole.kept.loads;
+      pending = each_both LoadsMatch (LoadsAreKept s.core.split) IsPending
+          (λ x match kept r. record { loads = sym (loads_counted r x.pending) ∙ match.each r; zero = kept.zero r })
+          (slots_of s.core) whole.matched.loads whole.kept.loads;
       turns = k.turns;
     }
 
 pub typed_taken : (s : State) (outputs : List Output) → Kept s → IsTyped (record { slots = slots_of s.core; events = queued s.core; outputs = outputs; pages = s.memory.pages; cycles = s.cycles })
 typed_taken s outputs k = record {
   slots = each_both IsSlot SlotHoldsWords IsTypedSlot
-      (λ x is words. record { executable = is.executable; well_formed = words.ip; registers = is.registers; words = words.registers; flags = is.flags; loads = words.pending }) (slots_of s.core) k.state.core.slots (slots_words s.core.rows k.state.rows);
+      (λ x is words. record {
+        executable = is.executable;
+        well_formed = words.ip;
+        registers = is.registers;
+        words = words.registers;
+        flags = is.flags;
+        loads = words.pending;
+      }) (slots_of s.core) k.state.core.slots
+      (slots_words s.core.rows k.state.rows);
   events = each_queued s.core IsTypedEvent (queues_words s.core k.state.rows) (slots_of s.core);
   whole = k.state.pages.whole;
   words = k.state.cells;

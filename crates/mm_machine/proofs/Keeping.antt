@@ -58,7 +58,8 @@ run_more s (m ∷ items) n = run_more (after s m) items n
 pub uses_more : (s : State) (items : List ℕ) (n : ℕ) → uses s (items ++ n ∷ []) ≡ uses s items ++ (turn_of (run s items) n).uses
 unfolding run uses
 uses_more s [] n = append-nil (turn_of s n).uses
-uses_more s (m ∷ items) n = ap (λ (us : List Use). (turn_of s m).uses ++ us) (uses_more (after s m) items n) ∙ sym (append_assoc (turn_of s m).uses (uses (after s m) items) (turn_of (run (after s m) items) n).uses)
+uses_more s (m ∷ items) n = ap (λ (us : List Use). (turn_of s m).uses ++ us) (uses_more (after s m) items n)
+    ∙ sym (append_assoc (turn_of s m).uses (uses (after s m) items) (turn_of (run (after s m) items) n).uses)
 
 -- what is kept, from a state to the next
 

@@ -20,7 +20,9 @@ use Rattle.mm_model.specs.Flags.{one_if}
 use Rattle.mm_model.specs.Turn.{is_taken}
 use Rattle.mm_model.specs.Groups.{has_group}
 use Rattle.mm_model.specs.Spelling.{numbers_of, IsOther}
-use Rattle.mm_model.specs.Fits.{waits_for, events_of, identity_of, slots_of, IsSlot, IsFormed, LoadsMatch, WaitsForSome, Matches, IsAtSlot, LoadsAreKept, TakenBySome, IsKept, IsOfVersion, HandlersAreOthers, IsCore, EventHoldsWords, RowHoldsWords}
+use Rattle.mm_model.specs.Fits.{waits_for, events_of, identity_of, slots_of, IsSlot, IsFormed, LoadsMatch, WaitsForSome}
+use Rattle.mm_model.specs.Fits.{Matches, IsAtSlot, LoadsAreKept, TakenBySome, IsKept, IsOfVersion, HandlersAreOthers}
+use Rattle.mm_model.specs.Fits.{IsCore, EventHoldsWords, RowHoldsWords}
 use Rattle.mm_model.proofs.Causes.{some_of}
 use Rattle.mm_model.proofs.CoreRows.{each_map, each_both, of_version_by, rest_rises, above_first, Rises, each_slot, slot_has, other_at, other_in, identities_of, stays_by}
 use Rattle.mm_model.proofs.CoreSteps.{waits_for-says}
@@ -227,7 +229,9 @@ module _ (old : Core) (p : Parts) (was : IsHost old) (rules : IsSnapshot p) (typ
     core_kept = record {
       in_place = core_in_place;
       loads = on_slots (LoadsAreKept old.split)
-          (each_both IsPending (λ (s : Slot). old.split ≡ false → s.pending ≡ []) (LoadsAreKept old.split) (λ s pending off. record { zero = λ r empty. (pending r).zero empty; mode = off }) p.slots rules.pending (modes old.split refl));
+          (each_both IsPending (λ (s : Slot). old.split ≡ false → s.pending ≡ []) (LoadsAreKept old.split)
+          (λ s pending off. record { zero = λ r empty. (pending r).zero empty; mode = off }) p.slots rules.pending
+          (modes old.split refl));
       taken = on_slots TakenBySome core_taken;
       within = outputs_within (output_limit old.version) p.outputs (replicate 64 []) short (nothing_within (output_limit old.version) 64);
       silent = core_silent;
@@ -243,7 +247,14 @@ module _ (old : Core) (p : Parts) (was : IsHost old) (rules : IsSnapshot p) (typ
 
 rows_words : (events : List (ℕ × Event)) → AllByRecursion IsTypedEvent events → (slots : List Slot) → AllByRecursion IsTypedSlot slots → AllByRecursion RowHoldsWords (map (row_with events) slots)
 rows_words events good [] h = tt
-rows_words events good (s ∷ slots) h = (record { slot = record { registers = h.0.words; ip = h.0.well_formed; pending = h.0.loads }; events = each_for EventHoldsWords s.number events good }, rows_words events good slots h.1)
+rows_words events good (s ∷ slots) h = (
+  record {
+    slot = record { registers = h.0.words; ip = h.0.well_formed; pending = h.0.loads };
+    events = each_for
+        EventHoldsWords s.number events good;
+  },
+  rows_words events good slots h.1,
+)
 
 module _ (s : State) (p : Parts) (rules : IsSnapshot p) (typed : IsTyped p) (can : CanRestore s p) where
   restored_keeps : Kept s → Kept (restored s p)
@@ -276,7 +287,8 @@ module _ (s : State) (p : Parts) (rules : IsSnapshot p) (typed : IsTyped p) (can
 
 -- 4. From the parts as they were read.
 
-module _ (s : State) (p : Parts) (slots : List Slot) (events : List (ℕ × Event)) (outputs : List Output) (is_slots : slots ≡ p.slots) (is_events : events ≡ p.events) (is_outputs : outputs ≡ p.outputs) where
+module _ (s : State) (p : Parts) (slots : List Slot) (events : List (ℕ × Event)) (outputs : List Output)
+    (is_slots : slots ≡ p.slots) (is_events : events ≡ p.events) (is_outputs : outputs ≡ p.outputs) where
   pub parts_read : IsSnapshot p → IsTyped p → CanRestore s p → ∥ Kept s ∥₁ → AreParts s.core slots events outputs
   parts_read rules typed can kept =
       subst (λ (xs : List Slot). AreParts s.core xs events outputs) (sym is_slots)

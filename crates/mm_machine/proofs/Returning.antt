@@ -30,14 +30,17 @@ own_queues (row ∷ rows) rising =
     let numbers : List ℕ = numbers_of (map (λ (x : Row). x.slot) rows) in (
       rw (same_test row.slot.number row.slot.number refl) refl,
       each_both (λ (x : Row). row.slot.number < x.slot.number) (λ (x : Row). queue_of (row_in rows x.slot.number) ≡ x.queue) (λ (x : Row). queue_of (row_in (row ∷ rows) x.slot.number) ≡ x.queue)
-          (λ x up is. rw (other_test row.slot.number x.slot.number (λ e. omega arith)) is) rows (above_rows row.slot.number rows (above_first row.slot.number numbers rising)) (own_queues rows (rest_rises row.slot.number numbers rising)),
+          (λ x up is. rw (other_test row.slot.number x.slot.number (λ e. omega arith)) is) rows
+          (above_rows row.slot.number rows (above_first row.slot.number numbers rising))
+          (own_queues rows (rest_rises row.slot.number numbers rising)),
     )
 
 own_rows : (core : Core) → IsStrictlyIncreasing (numbers_of (slots_of core)) → AllByRecursion (λ (row : Row). queue_at core row.slot.number ≡ row.queue) core.rows
 unfolding queue_at
 own_rows core rising = own_queues core.rows rising
 
-rows_back : (events : List (ℕ × Event)) (rows : List Row) → AllByRecursion (λ (row : Row). events_for row.slot.number events ≡ row.queue) rows → map (row_with events) (map (λ (row : Row). row.slot) rows) ≡ rows
+rows_back : (events : List (ℕ × Event)) (rows : List Row) → AllByRecursion (λ (row : Row). events_for row.slot.number
+    events ≡ row.queue) rows → map (row_with events) (map (λ (row : Row). row.slot) rows) ≡ rows
 rows_back events [] h = refl
 rows_back events (row ∷ rows) h =
     ap (λ (es : List Event). let first : Row = record { slot = row.slot; queue = es } in first ∷ map (row_with events) (map (λ (x : Row). x.slot) rows)) h.0
@@ -66,7 +69,9 @@ module _ (t : State) (p : Parts) (host : IsHost t.core) (is : IsSnapshotOf t p) 
   unfolding output_of
   there g has =
       output_has (λ n. get_or all n [] ≡ get_or t.core.outputs n []) p.outputs g
-      (each_both (λ (o : Output). get_or all o.group [] ≡ o.bytes) (IsOutputOf t.core) (λ (o : Output). get_or all o.group [] ≡ get_or t.core.outputs o.group []) (λ o given said. given ∙ said) p.outputs
+      (each_both (λ (o : Output). get_or all o.group [] ≡ o.bytes) (IsOutputOf t.core)
+      (λ (o : Output). get_or all o.group [] ≡ get_or t.core.outputs o.group []) (λ o given said. given ∙ said)
+      p.outputs
       (outputs_given p.outputs (replicate 64 []) is.rules.groups small) is.outputs) has
 
   nowhere : (g : ℕ) → has_output p.outputs g ≡ false → get_or all g [] ≡ get_or t.core.outputs g []
@@ -91,7 +96,9 @@ module _ (t : State) (p : Parts) (host : IsHost t.core) (is : IsSnapshotOf t p) 
       ap (λ (events : List (ℕ × Event)). map (row_with events) p.slots) is.events
       ∙ ap (map (row_with (queued t.core))) is.slots
       ∙ rows_back (queued t.core) t.core.rows
-      (each_map (λ (row : Row). queue_at t.core row.slot.number ≡ row.queue) (λ (row : Row). events_for row.slot.number (queued t.core) ≡ row.queue) (λ row own. queued_for t.core host.rising row.slot.number ∙ own) t.core.rows (own_rows t.core host.rising))
+      (each_map (λ (row : Row). queue_at t.core row.slot.number ≡ row.queue) (λ (row : Row). events_for row.slot.number
+      (queued t.core) ≡ row.queue) (λ row own. queued_for t.core host.rising row.slot.number ∙ own) t.core.rows
+      (own_rows t.core host.rising))
 
 -- 3. The state.
 

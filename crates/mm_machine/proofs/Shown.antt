@@ -47,7 +47,8 @@ apart n [] h = tt
 apart n (s ∷ slots) h = (h.0, apart n slots h.1)
 
 -- an event that stands before all others begins the blocks
-first_block : (x : ℕ × Event) (xs : List (ℕ × Event)) (slots : List Slot) (s : Slot) → IsStrictlyIncreasing (numbers_of slots) → numbered slots x.0 ≡ Some s → AllByRecursion (λ y. x.0 ≤ y) (queues_of xs)
+first_block : (x : ℕ × Event) (xs : List (ℕ × Event)) (slots : List Slot) (s : Slot) → IsStrictlyIncreasing
+    (numbers_of slots) → numbered slots x.0 ≡ Some s → AllByRecursion (λ y. x.0 ≤ y) (queues_of xs)
     → blocks (x ∷ xs) slots ≡ x ∷ blocks xs slots
 first_block x xs [] s up is low = cc
 first_block x xs (t ∷ slots) s up is low =
@@ -56,7 +57,9 @@ first_block x xs (t ∷ slots) s up is low =
       | inl here ↦
           rw (same_test x.0 t.number (sym here))
           (ap (λ (n : ℕ). (n, x.1) ∷ (block xs t ++ blocks (x ∷ xs) slots)) here
-          ∙ ap (λ (rest : List (ℕ × Event)). x ∷ (block xs t ++ rest)) (other_blocks x xs slots (each_map (λ (u : Slot). t.number < u.number) (λ (u : Slot). x.0 ≢ u.number) (λ u more same. omega (arith, here, same, more)) slots above)))
+          ∙ ap (λ (rest : List (ℕ × Event)). x ∷ (block xs t ++ rest))
+          (other_blocks x xs slots (each_map (λ (u : Slot). t.number < u.number) (λ (u : Slot). x.0 ≢ u.number)
+          (λ u more same. omega (arith, here, same, more)) slots above)))
       | inr there ↦
           let later : numbered slots x.0 ≡ Some s = rw (other_test t.number x.0 there) at is in
           let at_s = numbered_has (λ (u : Slot). t.number < u.number) slots x.0 s above later in
@@ -77,7 +80,9 @@ low_first a (y ∷ ys) h =
     let first : a ≤ y = h 0 (omega arith) in
     (first, each_map (λ z. y ≤ z) (λ z. a ≤ z) (λ z more. omega arith) ys (low_first y ys (fall_not a (y ∷ ys) h)))
 
-in_blocks : (xs : List (ℕ × Event)) (slots : List Slot) → IsStrictlyIncreasing (numbers_of slots) → DoesNotFall (queues_of xs) → AllByRecursion (λ (x : ℕ × Event). is_some (numbered slots x.0) ≡ true) xs → xs ≡ blocks xs slots
+in_blocks : (xs : List (ℕ × Event)) (slots : List Slot) → IsStrictlyIncreasing (numbers_of slots)
+    → DoesNotFall (queues_of xs) → AllByRecursion (λ (x : ℕ × Event). is_some (numbered slots x.0) ≡ true) xs
+    → xs ≡ blocks xs slots
 in_blocks [] slots up h there = sym (no_blocks slots)
 in_blocks (x ∷ xs) slots up h there =
     let slot = some_of (numbered slots x.0) there.0 in
@@ -109,7 +114,9 @@ module _ (s : State) (p : Parts) (rules : IsSnapshot p) (typed : IsTyped p) (can
   unfolding slot_at queue_at
   own_blocks =
       each_map (λ (t : Slot). slot_at core t.number ≡ Some t) (λ (t : Slot). block p.events t ≡ queued_at core t)
-      (λ t is. ap (λ (es : List Event). map (λ (e : Event). (t.number, e)) es) (sym (queue-with p.events t.number p.slots t is))) (slots_of core) (slots_found core (rising s.core p host rules typed can.slots))
+      (λ t is. ap (λ (es : List Event). map (λ (e : Event). (t.number, e)) es)
+      (sym (queue-with p.events t.number p.slots t is))) (slots_of core)
+      (slots_found core (rising s.core p host rules typed can.slots))
 
   pub shows : IsSnapshotOf (restored s p) p
   shows = record {

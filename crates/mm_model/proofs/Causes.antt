@@ -1,5 +1,7 @@
 -- What each cycle comes to, exactly, and what a fault changes.
-use Rattle.std.proofs.Common.{◌≡◌, ◌≢◌, ℕ, ◌-◌, ◌<◌, ◌≤◌, ◌↔◌, inl, inr, Bool, true, false, ◌&&◌, nat_le, eq-eqb, if◌then◌else◌, List, [], ◌∷◌, ◌++◌, Option, Some, None, refl, sym, ap, ◌∙◌, subst, arith, append-nil}
+use Rattle.std.proofs.Common.{◌≡◌, ◌≢◌, ℕ, ◌-◌, ◌<◌, ◌≤◌, ◌↔◌, inl, inr, Bool, true, false, ◌&&◌, nat_le, eq-eqb}
+use Rattle.std.proofs.Common.{if◌then◌else◌, List, [], ◌∷◌, ◌++◌, Option, Some, None, refl, sym, ap, ◌∙◌, subst, arith}
+use Rattle.std.proofs.Common.{append-nil}
 use Rattle.std.specs.Prelude.{is_some, slice_get, IfSome}
 use Rattle.std.specs.List.{AllByRecursion}
 use Rattle.std.proofs.lemmas.Bool.{cases_eq, ne_eqb, leb-true, leb-false}
@@ -43,7 +45,9 @@ some_of (Some x) h = (x, refl)
 pub orderly : (core : Core) → IsFormed core → Fitting core → IsOrderly core
 orderly core h fit = record {
   low = λ n there. low n (slot_at core n) refl there;
-  queued = λ g. each_map (λ (e : Event). waits_for g (slot_at core e.slot) ≡ true) (λ (e : Event). is_some (slot_at core e.slot) ≡ true) (λ e. waiting_there g (slot_at core e.slot)) (queue_at core g) (queued_at core fit.matched g);
+  queued = λ g. each_map (λ (e : Event). waits_for g (slot_at core e.slot) ≡ true)
+      (λ (e : Event). is_some (slot_at core e.slot) ≡ true) (λ e. waiting_there g (slot_at core e.slot))
+      (queue_at core g) (queued_at core fit.matched g);
   handlers = λ n g s is handler.
       let other = slot_has (λ (t : Slot). IfSome t.handler (IsOther (slots_of core) t.number)) core n s fit.handlers is in
       ap is_some (other_at core h.rising s.number g (subst (λ o. IfSome o (IsOther (slots_of core) s.number)) handler other)).1.1;
@@ -381,7 +385,9 @@ module _ (core : Core) (h : IsOrderly core) (s : Slot) (at : slot_at core s.numb
         | inr ne ↦ let some = some_of (slot_at core g) (h.handlers s.number g s at handler) in (some.0, slot_at-put_other core (stood s Waiting) g ne ∙ some.1)
       ]
 
-      queues : (k : ℕ) → queue_at (put_queue (put_slot core (stood s Waiting)) g (queue_at (put_slot core (stood s Waiting)) g ++ e ∷ [])) k ≡ queue_at core k ++ (if is_handler k (Some g) then e ∷ [] else [])
+      queues : (k : ℕ) → queue_at (put_queue (put_slot core (stood s Waiting)) g
+          (queue_at (put_slot core (stood s Waiting)) g ++ e ∷ [])) k ≡ queue_at core k ++
+          (if is_handler k (Some g) then e ∷ [] else [])
       queues k = elim (cases_eq g k) [
         | inl same ↦
             ap (queue_at (put_queue (put_slot core (stood s Waiting)) g (queue_at (put_slot core (stood s Waiting)) g ++ e ∷ []))) (sym same)
@@ -428,7 +434,8 @@ fault_changes old n s c h stops = by (cycle_shape old.core old.memory n)
     by : CycleShape old.core old.memory n (turn_of old n) → FaultChanges s c old (state_of old (turn_of old n))
     by (CycleShape.runs t also k) =
         let same = same_runner old.core n t s also stops.runs in
-        let stands : Stands old.core old.memory s (first_stop old.core old.memory s) (turn_of old n) = subst (λ x. Stands old.core old.memory x (first_stop old.core old.memory x) (turn_of old n)) same k in
+        let stands : Stands old.core old.memory s (first_stop old.core old.memory s) (turn_of old n) = subst
+        (λ x. Stands old.core old.memory x (first_stop old.core old.memory x) (turn_of old n)) same k in
         made (subst (λ o. Stands old.core old.memory s o (turn_of old n)) stops.stop stands)
     by (CycleShape.delivers t p free port tick) = absurd (absent_runs_not old.core old.memory n free s stops.runs)
     by (CycleShape.idles none no_ports tick) = absurd (none s stops.runs)

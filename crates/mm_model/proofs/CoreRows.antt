@@ -1,5 +1,7 @@
 -- What stands where in a core after a slot, a queue or an output was put.
-use Rattle.std.proofs.Common.{◌≡◌, ◌≢◌, ℕ, zero, suc, ◌+◌, ◌<◌, ◌≤◌, inl, inr, Bool, true, false, ◌||◌, nat_eq, if◌then◌else◌, List, [], ◌∷◌, ◌++◌, length, map, Option, Some, None, refl, sym, ap, ◌∙◌, subst, arith, eq-eqb, slice_index_or, slice_set}
+use Rattle.std.proofs.Common.{◌≡◌, ◌≢◌, ℕ, zero, suc, ◌+◌, ◌<◌, ◌≤◌, inl, inr, Bool, true, false, ◌||◌, nat_eq}
+use Rattle.std.proofs.Common.{if◌then◌else◌, List, [], ◌∷◌, ◌++◌, length, map, Option, Some, None, refl, sym, ap, ◌∙◌}
+use Rattle.std.proofs.Common.{subst, arith, eq-eqb, slice_index_or, slice_set}
 use Rattle.std.specs.Prelude.{option_map, Contains, slice_index}
 use Rattle.std.specs.List.{AllByRecursion, list_any}
 use Rattle.std.specs.List.Sorted.{IsStrictlyIncreasing}
@@ -224,20 +226,28 @@ both_put n q s row = elim (cases_eq row.slot.number s.number) [
       ∙ elim (cases_eq row.slot.number n) [
         | inl d ↦
             at_here n (λ (x : Row). record x { queue = q }) (record row { slot = s }) (sym e ∙ d)
-            ∙ sym (ap (λ (r : Row). at_number s.number (λ (x : Row). record x { slot = s }) r) (at_here n (λ (x : Row). record x { queue = q }) row d) ∙ at_here s.number (λ (x : Row). record x { slot = s }) (record row { queue = q }) e)
+            ∙ sym (ap (λ (r : Row). at_number s.number (λ (x : Row). record x { slot = s }) r)
+            (at_here n (λ (x : Row). record x { queue = q }) row d) ∙ at_here s.number
+            (λ (x : Row). record x { slot = s }) (record row { queue = q }) e)
         | inr nd ↦
             at_other n (λ (x : Row). record x { queue = q }) (record row { slot = s }) (λ d. nd (e ∙ d))
-            ∙ sym (ap (λ (r : Row). at_number s.number (λ (x : Row). record x { slot = s }) r) (at_other n (λ (x : Row). record x { queue = q }) row nd) ∙ at_here s.number (λ (x : Row). record x { slot = s }) row e)
+            ∙ sym (ap (λ (r : Row). at_number s.number (λ (x : Row). record x { slot = s }) r)
+            (at_other n (λ (x : Row). record x { queue = q }) row nd) ∙ at_here s.number
+            (λ (x : Row). record x { slot = s }) row e)
       ]
   | inr ne ↦
       ap (λ (r : Row). at_number n (λ (x : Row). record x { queue = q }) r) (at_other s.number (λ (x : Row). record x { slot = s }) row ne)
       ∙ elim (cases_eq row.slot.number n) [
         | inl d ↦
             at_here n (λ (x : Row). record x { queue = q }) row d
-            ∙ sym (ap (λ (r : Row). at_number s.number (λ (x : Row). record x { slot = s }) r) (at_here n (λ (x : Row). record x { queue = q }) row d) ∙ at_other s.number (λ (x : Row). record x { slot = s }) (record row { queue = q }) ne)
+            ∙ sym (ap (λ (r : Row). at_number s.number (λ (x : Row). record x { slot = s }) r)
+            (at_here n (λ (x : Row). record x { queue = q }) row d) ∙ at_other s.number
+            (λ (x : Row). record x { slot = s }) (record row { queue = q }) ne)
         | inr nd ↦
             at_other n (λ (x : Row). record x { queue = q }) row nd
-            ∙ sym (ap (λ (r : Row). at_number s.number (λ (x : Row). record x { slot = s }) r) (at_other n (λ (x : Row). record x { queue = q }) row nd) ∙ at_other s.number (λ (x : Row). record x { slot = s }) row ne)
+            ∙ sym (ap (λ (r : Row). at_number s.number (λ (x : Row). record x { slot = s }) r)
+            (at_other n (λ (x : Row). record x { queue = q }) row nd) ∙ at_other s.number
+            (λ (x : Row). record x { slot = s }) row ne)
       ]
 ]
 
@@ -266,14 +276,17 @@ below_all : (x : ℕ) (slots : List Slot) → AllByRecursion (λ y. x < y) (numb
 below_all x [] h = tt
 below_all x (s ∷ slots) h = (h.0, below_all x slots h.1)
 
-found_all : (rows : List Row) → IsStrictlyIncreasing (numbers_of (map (λ (row : Row). row.slot) rows)) → AllByRecursion (λ (s : Slot). slot_of (row_in rows s.number) ≡ Some s) (map (λ (row : Row). row.slot) rows)
+found_all : (rows : List Row) → IsStrictlyIncreasing (numbers_of (map (λ (row : Row). row.slot) rows))
+    → AllByRecursion (λ (s : Slot). slot_of (row_in rows s.number) ≡ Some s) (map (λ (row : Row). row.slot) rows)
 found_all [] h = tt
 found_all (row ∷ rows) h =
     let slots : List Slot = map (λ (r : Row). r.slot) rows in
     let rest = found_all rows (rest_rises row.slot.number (numbers_of slots) h) in
     let above = below_all row.slot.number slots (above_first row.slot.number (numbers_of slots) h) in (
       ap slot_of (row_here row rows row.slot.number refl),
-      each_both (λ (s : Slot). row.slot.number < s.number) (λ (s : Slot). slot_of (row_in rows s.number) ≡ Some s) (λ (s : Slot). slot_of (row_in (row ∷ rows) s.number) ≡ Some s) (λ s lt is. in_later row rows s lt is) slots above rest,
+      each_both (λ (s : Slot). row.slot.number < s.number) (λ (s : Slot). slot_of (row_in rows s.number) ≡ Some s)
+          (λ (s : Slot). slot_of (row_in (row ∷ rows) s.number) ≡ Some s) (λ s lt is. in_later row rows s lt is) slots
+          above rest,
     )
 
 -- where numbers rise, each slot is found at its number
@@ -348,7 +361,8 @@ out_of_map P f [] h = tt
 out_of_map P f (x ∷ xs) h = (h.0, out_of_map P f xs h.1)
 
 -- what holds of the identities of slots holds of those of others that are the same
-pub by_identities : (P : ℕ × ℕ × Option ℕ → Type 0) (xs ys : List Slot) → map identity_of xs ≡ map identity_of ys → AllByRecursion (λ (s : Slot). P (identity_of s)) ys → AllByRecursion (λ (s : Slot). P (identity_of s)) xs
+pub by_identities : (P : ℕ × ℕ × Option ℕ → Type 0) (xs ys : List Slot) → map identity_of xs ≡ map identity_of ys
+    → AllByRecursion (λ (s : Slot). P (identity_of s)) ys → AllByRecursion (λ (s : Slot). P (identity_of s)) xs
 by_identities P xs ys same h = out_of_map P identity_of xs (subst (AllByRecursion P) (sym same) (into_map P identity_of ys h))
 
 pub of_version_by : (version : ℕ) (xs ys : List Slot) → map identity_of xs ≡ map identity_of ys → AllByRecursion (IsOfVersion version) ys → AllByRecursion (IsOfVersion version) xs

@@ -1,6 +1,8 @@
 -- What a core goes on to be where a slot is put, where one begins to wait and its event is queued, where an event is taken,
 -- and where a byte is put out.
-use Rattle.std.proofs.Common.{◌≡◌, ◌≢◌, ℕ, ◌+◌, ◌≤◌, inl, inr, Bool, true, false, nat_eq, if◌then◌else◌, List, [], ◌∷◌, ◌++◌, length, map, Option, Some, None, refl, sym, ap, ◌∙◌, subst, arith, eq-eqb, eqb-true, slice_index_or, length-set, get_or-set_other}
+use Rattle.std.proofs.Common.{◌≡◌, ◌≢◌, ℕ, ◌+◌, ◌≤◌, inl, inr, Bool, true, false, nat_eq, if◌then◌else◌, List, [], ◌∷◌}
+use Rattle.std.proofs.Common.{◌++◌, length, map, Option, Some, None, refl, sym, ap, ◌∙◌, subst, arith, eq-eqb, eqb-true}
+use Rattle.std.proofs.Common.{slice_index_or, length-set, get_or-set_other}
 use Rattle.std.specs.Prelude.{IfSome}
 use Rattle.std.specs.List.{AllByRecursion}
 use Rattle.std.proofs.lemmas.Bool.{cases_eq, ne_eqb}
@@ -12,8 +14,14 @@ use Rattle.mm_model.specs.Image.{output_limit}
 use Rattle.mm_model.specs.Groups.{has_group}
 use Rattle.mm_model.specs.Spelling.{IsOther}
 use Rattle.mm_model.specs.Turn.{is_handler, is_taken}
-use Rattle.mm_model.specs.Fits.{is_waiting, waits_for, events_of, slots_of, identity_of, IsSlot, IsFormed, LoadsMatch, WaitsForSome, Matches, IsAtSlot, EventsAreAtSlots, LoadsAreKept, TakenBySome, IsKept, HandlersAreOthers}
-use Rattle.mm_model.proofs.CoreRows.{each_map, each_both, each_push, each_set, slot_at-number, slot_at-put_same, slot_at-put_other, queue_at-put_slot, AfterPut, put_slot-cases, slot_at-put_queue, queue_at-put_same, queue_at-put_other, slots_of-put_queue, Rises, each_slot, slot_has, other_at, other_in, identities_of, rises_by, has_group_by, stays_by, identities_of-put_slot}
+use Rattle.mm_model.specs.Fits.{is_waiting, waits_for, events_of, slots_of, identity_of, IsSlot, IsFormed, LoadsMatch}
+use Rattle.mm_model.specs.Fits.{WaitsForSome, Matches, IsAtSlot, EventsAreAtSlots, LoadsAreKept, TakenBySome, IsKept}
+use Rattle.mm_model.specs.Fits.{HandlersAreOthers}
+use Rattle.mm_model.proofs.CoreRows.{each_map, each_both, each_push, each_set, slot_at-number, slot_at-put_same}
+use Rattle.mm_model.proofs.CoreRows.{slot_at-put_other, queue_at-put_slot, AfterPut, put_slot-cases, slot_at-put_queue}
+use Rattle.mm_model.proofs.CoreRows.{queue_at-put_same, queue_at-put_other, slots_of-put_queue, Rises, each_slot}
+use Rattle.mm_model.proofs.CoreRows.{slot_has, other_at, other_in, identities_of, rises_by, has_group_by, stays_by}
+use Rattle.mm_model.proofs.CoreRows.{identities_of-put_slot}
 use Rattle.mm_model.proofs.SlotSteps.{GoesOn}
 
 -- 1. Events in a queue.
@@ -28,7 +36,8 @@ pub events_of-push_same : (n : ℕ) (q : List Event) (e : Event) → e.slot ≡ 
 events_of-push_same n [] e is = events_of-here n e [] is
 events_of-push_same n (x ∷ q) e is =
     let rest = events_of-push_same n q e is in
-    elim (nat_eq x.slot n) as (λ b. (if b then events_of n (q ++ e ∷ []) + 1 else events_of n (q ++ e ∷ [])) ≡ (if b then events_of n q + 1 else events_of n q) + 1) [ true ↦ omega arith | false ↦ rest ]
+    elim (nat_eq x.slot n) as (λ b. (if b then events_of n (q ++ e ∷ []) + 1 else events_of n (q ++ e ∷ [])) ≡
+    (if b then events_of n q + 1 else events_of n q) + 1) [ true ↦ omega arith | false ↦ rest ]
 
 pub events_of-push_other : (n : ℕ) (q : List Event) (e : Event) → e.slot ≢ n → events_of n (q ++ e ∷ []) ≡ events_of n q
 events_of-push_other n [] e ne = events_of-other n e [] ne
@@ -189,9 +198,13 @@ module _ (core after : Core) (new : Slot) (h : IsFormed core) (ids : identities_
     replaced_kept fit kept taken in_place = record {
       in_place = in_place;
       loads = subst (λ (b : Bool). AllByRecursion (LoadsAreKept b) (slots_of after)) (sym split)
-          (each_put (LoadsAreKept core.split) (r.goes_on.kept (slot_has LoadsMatch core new.number r.old fit.matched.loads r.stands) (slot_has (LoadsAreKept core.split) core new.number r.old kept.loads r.stands)) kept.loads);
+          (each_put (LoadsAreKept core.split)
+          (r.goes_on.kept (slot_has LoadsMatch core new.number r.old fit.matched.loads r.stands)
+          (slot_has (LoadsAreKept core.split) core new.number r.old kept.loads r.stands)) kept.loads);
       taken = each_put TakenBySome taken kept.taken;
-      within = subst (λ v. AllByRecursion (λ (bytes : List ℕ). length bytes ≤ output_limit v) after.outputs) (sym version) (subst (AllByRecursion (λ (bytes : List ℕ). length bytes ≤ output_limit core.version)) (sym outputs) kept.within);
+      within = subst (λ v. AllByRecursion (λ (bytes : List ℕ). length bytes ≤ output_limit v) after.outputs)
+          (sym version) (subst (AllByRecursion (λ (bytes : List ℕ). length bytes ≤ output_limit core.version))
+          (sym outputs) kept.within);
       silent = λ g none. ap (λ (all : List (List ℕ)). slice_index_or all g []) outputs ∙ kept.silent g (sym (has_group_by core after g ids) ∙ none);
     }
 
@@ -233,7 +246,8 @@ module _ (core : Core) (new : Slot) (p : Puts core new) where
   put_waits_for match w none = slot_has WaitsForSome core new.number p.replaces.old match.waiting p.replaces.stands (p.waits ∙ w) (p.replaces.handler ∙ none)
 
 -- A slot is put in the place of one with its identity. That it goes on from that one need be known only where the core fits.
-pub put_keeps : (core mid : Core) (new now : Slot) → Keeps core mid → slot_at mid new.number ≡ Some now → identity_of now ≡ identity_of new → IsSlot new → (Fitting core → Puts mid new) → Keeps core (put_slot mid new)
+pub put_keeps : (core mid : Core) (new now : Slot) → Keeps core mid → slot_at mid new.number ≡ Some now
+    → identity_of now ≡ identity_of new → IsSlot new → (Fitting core → Puts mid new) → Keeps core (put_slot mid new)
 unfolding put_slot
 put_keeps core mid new now to at same own puts =
     let ids = identities_of-put_slot mid new now to.formed.rising at same in
@@ -393,12 +407,15 @@ module _ (core : Core) (new : Slot) (n : ℕ) (e : Event) (rest : List Event) (h
   module _ (match : Matches core) where
     -- its slot waited for this handler
     pub waited : (is_waiting r.old.state ≡ true) × (r.old.handler ≡ Some n)
-    waited = let all = subst (AllByRecursion (λ (x : Event). x.slot ≡ new.number → (is_waiting r.old.state ≡ true) × (r.old.handler ≡ Some n))) queue (queued_waits core match new.number r.old r.stands n) in all.0 slot
+    waited = let all = subst (AllByRecursion (λ (x : Event). x.slot ≡ new.number → (is_waiting r.old.state ≡ true)
+        × (r.old.handler ≡ Some n))) queue (queued_waits core match new.number r.old r.stands n) in all.0 slot
 
     taken_own : (k : ℕ) → events_of new.number (queue_at taken k) ≡ 0
     taken_own k = elim (cases_eq k n) [
       | inl same ↦
-          let was : events_of new.number rest + 1 ≡ one_if (waits_for n (slot_at core new.number)) = sym (events_of-here new.number e rest slot) ∙ sym (ap (events_of new.number) queue) ∙ match.events new.number n in
+          let was : events_of new.number rest + 1 ≡ one_if (waits_for n (slot_at core new.number)) = sym
+          (events_of-here new.number e rest slot) ∙ sym (ap (events_of new.number) queue) ∙ match.events new.number
+          n in
           ap (λ j. events_of new.number (queue_at taken j)) same ∙ ap (events_of new.number) rest_now ∙ none_left (waits_for n (slot_at core new.number)) (events_of new.number rest) was
       | inr ne ↦
           ap (events_of new.number) (queue_then k ne) ∙ match.events new.number k

@@ -7,7 +7,8 @@ use Rattle.mm_model.specs.Uses.{Use, Accessed, Removed}
 use Rattle.mm_model.specs.Counted.{latest, written, writes, kept, is_block, is_hit, block_of, line_of, page_of_block}
 use Rattle.mm_model.specs.CountFacts.{NoneWithLine, NotRemoved, LatestWas, WroteSinceMiss}
 
-later_access : {line block : ℕ} {us : List Use} (kind : Kind) (addr : ℕ) (done : Bool) → line_of (block_of addr) ≢ line → LatestWas line block us → LatestWas line block (Accessed kind addr true done ∷ us)
+later_access : {line block : ℕ} {us : List Use} (kind : Kind) (addr : ℕ) (done : Bool) → line_of (block_of addr) ≢ line
+    → LatestWas line block us → LatestWas line block (Accessed kind addr true done ∷ us)
 later_access kind addr done other was = record {
   later = Accessed kind addr true done ∷ was.later;
   kind = was.kind;
@@ -89,7 +90,8 @@ latest_says line block (Accessed kind addr true done ∷ us) is = elim (cases_eq
 ]
 
 -- a list that starts as it says
-latest_after : (line : ℕ) (kind : Kind) (addr : ℕ) (done : Bool) (earlier later : List Use) → line_of (block_of addr) ≡ line → NoneWithLine line later → NotRemoved (page_of_block (block_of addr)) later →
+latest_after : (line : ℕ) (kind : Kind) (addr : ℕ) (done : Bool) (earlier later : List Use) → line_of (block_of addr) ≡
+    line → NoneWithLine line later → NotRemoved (page_of_block (block_of addr)) later →
     latest line (later ++ Accessed kind addr true done ∷ earlier) ≡ Some (block_of addr)
 latest_after line kind addr done earlier [] same none stays =
     let test : (line_of (block_of addr) == line) ≡ true = grind (arith, nat_tests, same) in
@@ -109,7 +111,8 @@ latest_after line kind addr done earlier (Removed p ∷ later) same none stays =
 pub says_latest : (line block : ℕ) (us : List Use) → LatestWas line block us → latest line us ≡ Some block
 says_latest line block us was =
     ap (λ (vs : List Use). latest line vs) was.split
-    ∙ latest_after line was.kind was.addr was.done was.earlier was.later (ap line_of was.its_block ∙ was.its_line) was.latest (subst (λ (b : ℕ). NotRemoved (page_of_block b) was.later) (sym was.its_block) was.stays)
+    ∙ latest_after line was.kind was.addr was.done was.earlier was.later (ap line_of was.its_block ∙ was.its_line)
+    was.latest (subst (λ (b : ℕ). NotRemoved (page_of_block b) was.later) (sym was.its_block) was.stays)
     ∙ ap (λ (b : ℕ). Some b) was.its_block
 
 -- a hit, as a fact about the list
@@ -126,7 +129,9 @@ says_hit block us was =
     ap (λ (o : Option ℕ). is_block o block) (says_latest (line_of block) block us was) ∙ self
 
 -- one more use before which it was so
-wrote_access : {block : ℕ} {us : List Use} (kind : Kind) (addr : ℕ) (done : Bool) → (block_of addr ≡ block → is_hit block us ≡ true) → WroteSinceMiss block us → WroteSinceMiss block (Accessed kind addr true done ∷ us)
+wrote_access : {block : ℕ} {us : List Use} (kind : Kind) (addr : ℕ) (done : Bool)
+    → (block_of addr ≡ block → is_hit block us ≡ true) → WroteSinceMiss block us → WroteSinceMiss block
+    (Accessed kind addr true done ∷ us)
 wrote_access {block = block} kind addr done hit was = record {
   later = Accessed kind addr true done ∷ was.later;
   kind = was.kind;
@@ -139,10 +144,28 @@ wrote_access {block = block} kind addr done hit was = record {
 }
 
 wrote_no_page : {block : ℕ} {us : List Use} (kind : Kind) (addr : ℕ) (done : Bool) → WroteSinceMiss block us → WroteSinceMiss block (Accessed kind addr false done ∷ us)
-wrote_no_page kind addr done was = record { later = Accessed kind addr false done ∷ was.later; kind = was.kind; addr = was.addr; earlier = was.earlier; split = ap (λ (vs : List Use). Accessed kind addr false done ∷ vs) was.split; its_block = was.its_block; wrote = was.wrote; hits = was.hits }
+wrote_no_page kind addr done was = record {
+  later = Accessed kind addr false done ∷ was.later;
+  kind = was.kind;
+  addr = was.addr;
+  earlier = was.earlier;
+  split = ap (λ (vs : List Use). Accessed kind addr false done ∷ vs) was.split;
+  its_block = was.its_block;
+  wrote = was.wrote;
+  hits = was.hits;
+}
 
 wrote_removed : {block : ℕ} {us : List Use} (page : ℕ) → WroteSinceMiss block us → WroteSinceMiss block (Removed page ∷ us)
-wrote_removed page was = record { later = Removed page ∷ was.later; kind = was.kind; addr = was.addr; earlier = was.earlier; split = ap (λ (vs : List Use). Removed page ∷ vs) was.split; its_block = was.its_block; wrote = was.wrote; hits = was.hits }
+wrote_removed page was = record {
+  later = Removed page ∷ was.later;
+  kind = was.kind;
+  addr = was.addr;
+  earlier = was.earlier;
+  split = ap (λ (vs : List Use). Removed page ∷ vs) was.split;
+  its_block = was.its_block;
+  wrote = was.wrote;
+  hits = was.hits;
+}
 
 wrote_here : (block : ℕ) (us : List Use) (kind : Kind) (addr : ℕ) (done : Bool) → (writes kind && done) ≡ true → block_of addr ≡ block → WroteSinceMiss block (Accessed kind addr true done ∷ us)
 wrote_here block us kind addr done w its =

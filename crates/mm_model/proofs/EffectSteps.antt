@@ -1,5 +1,7 @@
 -- Each row of the table of instructions: what it does lets a core go on.
-use Rattle.std.proofs.Common.{◌≡◌, ℕ, ◌+◌, ◌<◌, ◌^◌, ◌%◌, Bool, true, false, ◌&&◌, ◌||◌, ◌==◌, nat_lt, if◌then◌else◌, List, [], ◌∷◌, length, Option, Some, None, Result, Ok, Err, refl, sym, ap, ◌∙◌, ltb-true, ℤ, pos, negsuc, ◌*ℤ◌, ◌+ℤ◌, slice_set}
+use Rattle.std.proofs.Common.{◌≡◌, ℕ, ◌+◌, ◌<◌, ◌^◌, ◌%◌, Bool, true, false, ◌&&◌, ◌||◌, ◌==◌, nat_lt, if◌then◌else◌}
+use Rattle.std.proofs.Common.{List, [], ◌∷◌, length, Option, Some, None, Result, Ok, Err, refl, sym, ap, ◌∙◌, ltb-true}
+use Rattle.std.proofs.Common.{ℤ, pos, negsuc, ◌*ℤ◌, ◌+ℤ◌, slice_set}
 use Rattle.std.specs.Prelude.{option_map}
 use Rattle.std.specs.Int.{w64, cast_unsigned, cast_signed}
 use Rattle.std.specs.List.{AllByRecursion}
@@ -21,7 +23,10 @@ use Rattle.mm_isa.specs.declared.instr.DivZero.{DivZero}
 use Rattle.mm_isa.specs.declared.instr.How.{How}
 use Rattle.mm_isa.specs.declared.instr.How.TheVariants.{Retry, Skip, Kill}
 use Rattle.mm_isa.specs.declared.instr.Instr.{Instr}
-use Rattle.mm_isa.specs.declared.instr.Instr.TheVariants.{Halt, Nop, Ldi, Ldhi, Mov, Isptr, Eqw, Out, SelfSlot, Alu, Addi, Lea, Leai, Leab, Restrict, Subseg, Setptr, Ld, St, Br, Bz, Bnz, Jmp, Jal, Lip, Trap, Evt, Resume, Rreg, Wreg, Map, Unmap}
+use Rattle.mm_isa.specs.declared.instr.Instr.TheVariants.{Halt, Nop, Ldi, Ldhi, Mov, Isptr, Eqw, Out, SelfSlot, Alu}
+use Rattle.mm_isa.specs.declared.instr.Instr.TheVariants.{Addi, Lea, Leai, Leab, Restrict, Subseg, Setptr, Ld, St, Br}
+use Rattle.mm_isa.specs.declared.instr.Instr.TheVariants.{Bz, Bnz, Jmp, Jal, Lip, Trap, Evt, Resume, Rreg, Wreg, Map}
+use Rattle.mm_isa.specs.declared.instr.Instr.TheVariants.{Unmap}
 use Rattle.mm_isa.specs.Alu.{alu_result}
 use Rattle.mm_model.specs.declared.slot.SlotState.{SlotState}
 use Rattle.mm_model.specs.declared.slot.SlotState.TheVariants.{Running, Waiting, Taken, Halted}
@@ -34,7 +39,10 @@ use Rattle.mm_model.specs.Image.{output_limit}
 use Rattle.mm_model.specs.Operands.{fields_d}
 use Rattle.mm_model.specs.Ask.{ask, is_privileged, load_kind, reaching}
 use Rattle.mm_model.specs.Ask.Ask.{Refuse, MapPage, UnmapPage}
-use Rattle.mm_model.specs.Effect.{Reply, Change, Effect, effect, advanced, runs_past, plain, moved_on, sets, sets_pointer, sets_number, if_pointer, test, same_word, high_and_low, puts_out, loaded, stored, at_distance, branches, jumps, links, takes, resumed_by, resumes, delivered, reads_of, writes_of, maps, unmaps}
+use Rattle.mm_model.specs.Effect.{Reply, Change, Effect, effect, advanced, runs_past, plain, moved_on, sets}
+use Rattle.mm_model.specs.Effect.{sets_pointer, sets_number, if_pointer, test, same_word, high_and_low, puts_out}
+use Rattle.mm_model.specs.Effect.{loaded, stored, at_distance, branches, jumps, links, takes, resumed_by, resumes}
+use Rattle.mm_model.specs.Effect.{delivered, reads_of, writes_of, maps, unmaps}
 use Rattle.mm_model.specs.Effect.Reply.{Fine, Refused, Got, Paged, Took, Served}
 use Rattle.mm_model.specs.Effect.Effect.{Fault, Block, Deliver, Does}
 use Rattle.mm_model.specs.Turn.{reply, reached, event_reply, first_event, served, is_running, is_taken, is_handler}
@@ -199,7 +207,13 @@ module _ (core : Core) (h : IsFormed core) (s : Slot) (at : slot_at core s.numbe
 
   out_keeps : (byte : ℕ) (b : Bool) → nat_lt (length (output_of core s.group)) (output_limit core.version) ≡ b → EffectKeeps core s (puts_out s byte (if b then Fine else Refused cause.OutFull))
   unfolding plain
-  out_keeps byte true room = record { runs = own_advances; writes = tt; issue = tt; moves = Moves.keeps_all refl refl; room = ltb-true (length (output_of core s.group)) (output_limit core.version) room }
+  out_keeps byte true room = record {
+    runs = own_advances;
+    writes = tt;
+    issue = tt;
+    moves = Moves.keeps_all refl refl;
+    room = ltb-true (length (output_of core s.group)) (output_limit core.version) room;
+  }
   out_keeps byte false room = tt
 
   got_keeps : (rd : ℕ) (post : Post) (a : Touch) (c : Cell) (b : Bool) → core.split ≡ b → Free rd → rd < 16 → EffectKeeps core s (loaded b s rd post (Got a c))
@@ -265,7 +279,14 @@ module _ (core : Core) (h : IsFormed core) (s : Slot) (at : slot_at core s.numbe
         issue = tt;
         moves = Moves.takes_event (record of { state = Taken }) rest
             (record {
-              replaces = record { old = of; stands = ap (slot_at core) number ∙ is; group = refl; handler = refl; ip = λ w. refl; goes_on = slot_stands core.split of of.ip of.past of.turns Taken old old.executable };
+              replaces = record {
+                old = of;
+                stands = ap (slot_at core) number ∙ is;
+                group = refl;
+                handler = refl;
+                ip = λ w. refl;
+                goes_on = slot_stands core.split of of.ip of.past of.turns Taken old old.executable;
+              };
               event = e;
               queue = queue;
               slot = sym number;
@@ -285,7 +306,9 @@ module _ (core : Core) (h : IsFormed core) (s : Slot) (at : slot_at core s.numbe
       by (Some of) is = took_keeps rd e rest of queue is free
 
   -- a slot that is served
-  serve_keeps : (k : ℕ) (f : Reply → Effect) → ((c : Cause) → EffectKeeps core s (f (Refused c))) → ((of : Slot) → IsServed core s.number k of → EffectKeeps core s (f (Served of))) → EffectKeeps core s (f (served s.number (slot_at core k)))
+  serve_keeps : (k : ℕ) (f : Reply → Effect) → ((c : Cause) → EffectKeeps core s (f (Refused c)))
+      → ((of : Slot) → IsServed core s.number k of → EffectKeeps core s (f (Served of))) → EffectKeeps core s
+      (f (served s.number (slot_at core k)))
   serve_keeps k f refused served_keeps = by (slot_at core k) refl
     where
       passed : (of : Slot) (b : Bool) → slot_at core k ≡ Some of → (is_handler s.number of.handler && is_taken of.state) ≡ b → EffectKeeps core s (f (if b then Served of else Refused cause.NoSlot))
@@ -299,7 +322,9 @@ module _ (core : Core) (h : IsFormed core) (s : Slot) (at : slot_at core s.numbe
       by (Some of) is = passed of (is_handler s.number of.handler && is_taken of.state) is refl
 
   -- it goes on, and neither runs nor waits before
-  other_keeps : (k : ℕ) (of o : Slot) → IsServed core s.number k of → identity_of of ≡ identity_of o → is_waiting o.state ≡ false → of.turns ≡ o.turns → (is_waiting of.state ≡ true → of.ip ≡ o.ip) → GoesOn core.split of o → OtherKeeps core s.number o
+  other_keeps : (k : ℕ) (of o : Slot) → IsServed core s.number k of → identity_of of ≡ identity_of o
+      → is_waiting o.state ≡ false → of.turns ≡ o.turns → (is_waiting of.state ≡ true → of.ip ≡ o.ip)
+      → GoesOn core.split of o → OtherKeeps core s.number o
   other_keeps k of o served same rests turns ip goes =
       let before = taken_rests of.state served.taken in
       record {
@@ -339,10 +364,13 @@ module _ (core : Core) (h : IsFormed core) (s : Slot) (at : slot_at core s.numbe
       let number = from.number in
       let group = from.group in
       let handler = from.handler in
-      other_keeps k of (delivered of) served (cc) (ap is_waiting from.state ∙ (taken_rests of.state served.taken).1) (sym from.turns) (λ w. sym from.ip) (slot_delivered core.split of (slot_has IsSlot core k of h.slots served.stands))
+      other_keeps k of (delivered of) served (cc) (ap is_waiting from.state ∙ (taken_rests of.state served.taken).1)
+      (sym from.turns) (λ w. sym from.ip)
+      (slot_delivered core.split of (slot_has IsSlot core k of h.slots served.stands))
 
   read_keeps : (rd reg k : ℕ) (of : Slot) → Free rd → IsServed core s.number k of → EffectKeeps core s (reads_of core.split s rd reg (Served of))
-  read_keeps rd reg k of free served = if_keeps (core.split && is_empty of reg) (Deliver (delivered of)) (sets s rd (register of reg)) (delivered_keeps k of served) (sets_keeps rd (register of reg) free)
+  read_keeps rd reg k of free served = if_keeps (core.split && is_empty of reg) (Deliver (delivered of))
+      (sets s rd (register of reg)) (delivered_keeps k of served) (sets_keeps rd (register of reg) free)
 
   write_keeps : (reg k : ℕ) (w : Word) (of : Slot) → IsServed core s.number k of → EffectKeeps core s (writes_of core.split s reg w (Served of))
   unfolding plain
@@ -352,7 +380,9 @@ module _ (core : Core) (h : IsFormed core) (s : Slot) (at : slot_at core s.numbe
       free true e on = e
       free false e on = cc
 
-      by : (b : Bool) → (core.split && is_empty of reg) ≡ b → EffectKeeps core s (if b then Deliver (delivered of) else Does (record (plain s) { other = Some (record of { regs = slice_set of.regs reg w }) }))
+      by : (b : Bool) → (core.split && is_empty of reg) ≡ b → EffectKeeps core s
+          (if b then Deliver (delivered of) else Does
+          (record (plain s) { other = Some (record of { regs = slice_set of.regs reg w }) }))
       by true e = delivered_keeps k of served
       by false e =
           let goes = slot_written core.split of reg w (slot_has IsSlot core k of h.slots served.stands) (free core.split e) in
@@ -360,7 +390,9 @@ module _ (core : Core) (h : IsFormed core) (s : Slot) (at : slot_at core s.numbe
             runs = own_advances;
             writes = tt;
             issue = tt;
-            moves = Moves.frees (record of { regs = slice_set of.regs reg w }) (other_keeps k of (record of { regs = slice_set of.regs reg w }) served refl (taken_rests of.state served.taken).1 refl (λ y. refl) goes) refl refl;
+            moves = Moves.frees (record of { regs = slice_set of.regs reg w })
+                (other_keeps k of (record of { regs = slice_set of.regs reg w }) served refl
+                (taken_rests of.state served.taken).1 refl (λ y. refl) goes) refl refl;
             room = tt;
           }
 
@@ -374,20 +406,25 @@ module _ (core : Core) (h : IsFormed core) (s : Slot) (at : slot_at core s.numbe
   unpaged_keeps rd page true free = record { runs = own_advances; writes = (free, tt); issue = tt; moves = Moves.keeps_all refl refl; room = tt }
   unpaged_keeps rd page false free = sets_keeps rd (Int 0) free
 
-  map_keeps : (m : Memory) (rd page : ℕ) (b c : Bool) → Free rd → EffectKeeps core s (maps s rd (reply core m s.number (if b then (if c then MapPage page else Refuse cause.Bounds) else Refuse cause.Priv)))
+  map_keeps : (m : Memory) (rd page : ℕ) (b c : Bool) → Free rd → EffectKeeps core s
+      (maps s rd (reply core m s.number (if b then (if c then MapPage page else Refuse cause.Bounds) else Refuse
+      cause.Priv)))
   unfolding reply
   map_keeps m rd page true true free = paged_keeps rd page (can_map m page) free
   map_keeps m rd page true false free = tt
   map_keeps m rd page false c free = tt
 
-  unmap_keeps : (m : Memory) (rd page : ℕ) (b c : Bool) → Free rd → EffectKeeps core s (unmaps s rd (reply core m s.number (if b then (if c then UnmapPage page else Refuse cause.Bounds) else Refuse cause.Priv)))
+  unmap_keeps : (m : Memory) (rd page : ℕ) (b c : Bool) → Free rd → EffectKeeps core s
+      (unmaps s rd (reply core m s.number (if b then (if c then UnmapPage page else Refuse cause.Bounds) else Refuse
+      cause.Priv)))
   unfolding reply
   unmap_keeps m rd page true true free = unpaged_keeps rd page (is_mapped m page) free
   unmap_keeps m rd page true false free = tt
   unmap_keeps m rd page false c free = tt
 
   -- what an instruction does lets the core go on, where the registers that it names for results wait for no load in a split machine
-  pub effect_keeps : (m : Memory) (i : Instr) → AllByRecursion Free (fields_d i) → AllByRecursion (λ (r : ℕ). r < 16) (fields_d i) → EffectKeeps core s (effect core.split i s (reply core m s.number (ask i s)))
+  pub effect_keeps : (m : Memory) (i : Instr) → AllByRecursion Free (fields_d i) → AllByRecursion (λ (r : ℕ). r < 16)
+      (fields_d i) → EffectKeeps core s (effect core.split i s (reply core m s.number (ask i s)))
   unfolding effect ask reply
   effect_keeps m Halt free small = halts_keeps
   effect_keeps m Nop free small = plain_keeps
@@ -400,24 +437,39 @@ module _ (core : Core) (h : IsFormed core) (s : Slot) (at : slot_at core s.numbe
   effect_keeps m (SelfSlot rd) free small = sets_keeps rd (Int s.number) free.0
   effect_keeps m (Alu op rd ra rb) free small = number_keeps rd (alu_result op (word_bits (register s ra)) (word_bits (register s rb))) free.0
   effect_keeps m (Addi rd ra imm) free small = sets_keeps rd (Int ((word_bits (register s ra) + cast_unsigned w64 imm) % 2 ^ 64)) free.0
-  effect_keeps m (Lea rd ra rb) free small = if_pointer_keeps (register s ra) (λ p. sets_pointer s rd (lea_result p (cast_signed w64 (word_bits (register s rb))))) (λ p. pointer_keeps rd (lea_result p (cast_signed w64 (word_bits (register s rb)))) free.0)
+  effect_keeps m (Lea rd ra rb) free small = if_pointer_keeps (register s ra)
+      (λ p. sets_pointer s rd (lea_result p (cast_signed w64 (word_bits (register s rb)))))
+      (λ p. pointer_keeps rd (lea_result p (cast_signed w64 (word_bits (register s rb)))) free.0)
   effect_keeps m (Leai rd ra imm) free small = if_pointer_keeps (register s ra) (λ p. sets_pointer s rd (lea_result p imm)) (λ p. pointer_keeps rd (lea_result p imm) free.0)
-  effect_keeps m (Leab rd ra rb) free small = if_pointer_keeps (register s ra) (λ p. sets_pointer s rd (leab_result p (cast_signed w64 (word_bits (register s rb))))) (λ p. pointer_keeps rd (leab_result p (cast_signed w64 (word_bits (register s rb)))) free.0)
-  effect_keeps m (Restrict rd ra rb) free small = if_pointer_keeps (register s ra) (λ p. sets_pointer s rd (restrict_result p (word_bits (register s rb)))) (λ p. pointer_keeps rd (restrict_result p (word_bits (register s rb))) free.0)
-  effect_keeps m (Subseg rd ra rb) free small = if_pointer_keeps (register s ra) (λ p. sets_pointer s rd (subseg_result p (word_bits (register s rb)))) (λ p. pointer_keeps rd (subseg_result p (word_bits (register s rb))) free.0)
-  effect_keeps m (Setptr rd ra) free small = if_keeps (is_privileged s.ip.perm) (sets_pointer s rd (setptr_result (word_bits (register s ra)))) (Fault cause.Priv) (pointer_keeps rd (setptr_result (word_bits (register s ra))) free.0) tt
+  effect_keeps m (Leab rd ra rb) free small = if_pointer_keeps (register s ra)
+      (λ p. sets_pointer s rd (leab_result p (cast_signed w64 (word_bits (register s rb)))))
+      (λ p. pointer_keeps rd (leab_result p (cast_signed w64 (word_bits (register s rb)))) free.0)
+  effect_keeps m (Restrict rd ra rb) free small = if_pointer_keeps (register s ra)
+      (λ p. sets_pointer s rd (restrict_result p (word_bits (register s rb))))
+      (λ p. pointer_keeps rd (restrict_result p (word_bits (register s rb))) free.0)
+  effect_keeps m (Subseg rd ra rb) free small = if_pointer_keeps (register s ra)
+      (λ p. sets_pointer s rd (subseg_result p (word_bits (register s rb))))
+      (λ p. pointer_keeps rd (subseg_result p (word_bits (register s rb))) free.0)
+  effect_keeps m (Setptr rd ra) free small = if_keeps (is_privileged s.ip.perm)
+      (sets_pointer s rd (setptr_result (word_bits (register s ra)))) (Fault cause.Priv)
+      (pointer_keeps rd (setptr_result (word_bits (register s ra))) free.0) tt
   effect_keeps m (Ld rd ra pre post imm) free small = load_keeps rd post pre m (check_result (register s ra) imm (load_kind post)) free.0 small.0
   effect_keeps m (St ra rb pre post imm) free small = store_keeps (register s rb) post pre m (check_result (register s ra) imm Store)
   effect_keeps m (Br imm) free small = branch_keeps imm
   effect_keeps m (Bz ra imm) free small = if_keeps (word_bits (register s ra) == 0) (branches s (at_distance s imm)) (Does (plain s)) (branch_keeps imm) plain_keeps
   effect_keeps m (Bnz ra imm) free small = if_keeps (word_bits (register s ra) == 0) (Does (plain s)) (branches s (at_distance s imm)) plain_keeps (branch_keeps imm)
   effect_keeps m (Jmp ra) free small = if_pointer_keeps (register s ra) (λ p. jumps s p (enter_result p)) (λ p. jump_keeps p (enter_result p) refl)
-  effect_keeps m (Jal rd ra) free small = if_pointer_keeps (register s ra) (λ p. links s rd p (enter_result p) (next_result s.ip)) (λ p. link_keeps rd p (enter_result p) (next_result s.ip) refl free.0)
+  effect_keeps m (Jal rd ra) free small = if_pointer_keeps (register s ra)
+      (λ p. links s rd p (enter_result p) (next_result s.ip)) (λ p. link_keeps rd p (enter_result p) (next_result s.ip)
+      refl free.0)
   effect_keeps m (Lip rd imm) free small = pointer_keeps rd (at_distance s imm) free.0
   effect_keeps m (Trap imm) free small = tt
   effect_keeps m (Evt rd) free small = event_keeps rd (queue_at core s.number) refl free
   effect_keeps m (Resume ra how) free small = serve_keeps (word_bits (register s ra)) (resumes s how) (λ c. tt) (λ of served. resumed_keeps how (word_bits (register s ra)) of served)
-  effect_keeps m (Rreg rd ra reg) free small = serve_keeps (word_bits (register s ra)) (reads_of core.split s rd reg) (λ c. tt) (λ of served. read_keeps rd reg (word_bits (register s ra)) of free.0 served)
-  effect_keeps m (Wreg ra rb reg) free small = serve_keeps (word_bits (register s ra)) (writes_of core.split s reg (register s rb)) (λ c. tt) (λ of served. write_keeps reg (word_bits (register s ra)) (register s rb) of served)
+  effect_keeps m (Rreg rd ra reg) free small = serve_keeps (word_bits (register s ra)) (reads_of core.split s rd reg)
+      (λ c. tt) (λ of served. read_keeps rd reg (word_bits (register s ra)) of free.0 served)
+  effect_keeps m (Wreg ra rb reg) free small = serve_keeps (word_bits (register s ra))
+      (writes_of core.split s reg (register s rb)) (λ c. tt) (λ of served. write_keeps reg (word_bits (register s ra))
+      (register s rb) of served)
   effect_keeps m (Map rd ra) free small = map_keeps m rd (word_bits (register s ra)) (is_privileged s.ip.perm) (nat_lt (word_bits (register s ra)) (2 ^ 42)) free.0
   effect_keeps m (Unmap rd ra) free small = unmap_keeps m rd (word_bits (register s ra)) (is_privileged s.ip.perm) (nat_lt (word_bits (register s ra)) (2 ^ 42)) free.0

@@ -1,5 +1,8 @@
 -- No row of the table of instructions makes a malformed pointer or a word that does not fit.
-use Rattle.std.proofs.Common.{◌≡◌, ℕ, zero, suc, ◌+◌, ◌*◌, ◌<◌, ◌≤◌, ◌^◌, ◌%◌, Bool, true, false, cond, ◌&&◌, ◌==◌, nat_lt, if◌then◌else◌, List, [], ◌∷◌, length, Option, Some, None, Result, Ok, Err, refl, ap, ◌∙◌, subst, arith, ltb-true, ℤ, pos, negsuc, ◌*ℤ◌, ◌+ℤ◌, slice_set, slice_get, slice_index_or, IfOk, FitsSigned, lit<, unwrap_or}
+use Rattle.std.proofs.Common.{◌≡◌, ℕ, zero, suc, ◌+◌, ◌*◌, ◌<◌, ◌≤◌, ◌^◌, ◌%◌, Bool, true, false, cond, ◌&&◌, ◌==◌}
+use Rattle.std.proofs.Common.{nat_lt, if◌then◌else◌, List, [], ◌∷◌, length, Option, Some, None, Result, Ok, Err, refl}
+use Rattle.std.proofs.Common.{ap, ◌∙◌, subst, arith, ltb-true, ℤ, pos, negsuc, ◌*ℤ◌, ◌+ℤ◌, slice_set, slice_get}
+use Rattle.std.proofs.Common.{slice_index_or, IfOk, FitsSigned, lit<, unwrap_or}
 use Rattle.std.specs.Int.{w32, w64, cast_unsigned, cast_signed}
 use Rattle.std.specs.List.{AllByRecursion}
 use Rattle.std.specs.Ordering.{nat_cmp, eq_by_cmp}
@@ -27,7 +30,10 @@ use Rattle.mm_isa.specs.declared.instr.DivZero.{DivZero}
 use Rattle.mm_isa.specs.declared.instr.How.{How}
 use Rattle.mm_isa.specs.declared.instr.How.TheVariants.{Retry, Skip, Kill}
 use Rattle.mm_isa.specs.declared.instr.Instr.{Instr}
-use Rattle.mm_isa.specs.declared.instr.Instr.TheVariants.{Halt, Nop, Ldi, Ldhi, Mov, Isptr, Eqw, Out, SelfSlot, Alu, Addi, Lea, Leai, Leab, Restrict, Subseg, Setptr, Ld, St, Br, Bz, Bnz, Jmp, Jal, Lip, Trap, Evt, Resume, Rreg, Wreg, Map, Unmap}
+use Rattle.mm_isa.specs.declared.instr.Instr.TheVariants.{Halt, Nop, Ldi, Ldhi, Mov, Isptr, Eqw, Out, SelfSlot, Alu}
+use Rattle.mm_isa.specs.declared.instr.Instr.TheVariants.{Addi, Lea, Leai, Leab, Restrict, Subseg, Setptr, Ld, St, Br}
+use Rattle.mm_isa.specs.declared.instr.Instr.TheVariants.{Bz, Bnz, Jmp, Jal, Lip, Trap, Evt, Resume, Rreg, Wreg, Map}
+use Rattle.mm_isa.specs.declared.instr.Instr.TheVariants.{Unmap}
 use Rattle.mm_isa.specs.Alu.{alu_result}
 use Rattle.mm_isa.specs.declared.operand.Operand.{Operand}
 use Rattle.mm_isa.specs.declared.operand.Operand.TheVariants.{Imm, Distance, RegisterNumber}
@@ -45,7 +51,10 @@ use Rattle.mm_model.specs.Spelling.{HoldsWords}
 use Rattle.mm_model.specs.Operands.{addr_operand, value_operand, word_a, word_b, first, field_a, field_b, imm_in, field_imm}
 use Rattle.mm_model.specs.Ask.{ask, is_privileged, load_kind, reaching}
 use Rattle.mm_model.specs.Ask.Ask.{Refuse, MapPage, UnmapPage}
-use Rattle.mm_model.specs.Effect.{Reply, Change, Pages, Effect, effect, advanced, plain, moved_on, sets, sets_pointer, sets_number, if_pointer, test, same_word, high_and_low, puts_out, set_by, loaded, stored, at_distance, branches, jumps, links, takes, resumed_by, resumes, delivers, delivered, reads_of, writes_of, maps, unmaps}
+use Rattle.mm_model.specs.Effect.{Reply, Change, Pages, Effect, effect, advanced, plain, moved_on, sets, sets_pointer}
+use Rattle.mm_model.specs.Effect.{sets_number, if_pointer, test, same_word, high_and_low, puts_out, set_by, loaded}
+use Rattle.mm_model.specs.Effect.{stored, at_distance, branches, jumps, links, takes, resumed_by, resumes, delivers}
+use Rattle.mm_model.specs.Effect.{delivered, reads_of, writes_of, maps, unmaps}
 use Rattle.mm_model.specs.Effect.Reply.{Fine, Refused, Got, Paged, Took, Served}
 use Rattle.mm_model.specs.Effect.Pages.{Keep, Add, Remove}
 use Rattle.mm_model.specs.Effect.Effect.{Fault, Block, Deliver, Does}
@@ -127,7 +136,9 @@ row_words : (rows : List Row) (n : ℕ) (s : Slot) → AllByRecursion RowHoldsWo
 row_words [] n s h is = cc
 row_words (row ∷ rows) n s h is = by (row.slot.number == n) is h (λ k e. row_words rows n s k e)
   where
-    by : (b : Bool) → slot_of (if b then Some row else row_in rows n) ≡ Some s → AllByRecursion RowHoldsWords (row ∷ rows) → (AllByRecursion RowHoldsWords rows → slot_of (row_in rows n) ≡ Some s → SlotHoldsWords s) → SlotHoldsWords s
+    by : (b : Bool) → slot_of (if b then Some row else row_in rows n) ≡ Some s → AllByRecursion RowHoldsWords
+        (row ∷ rows) → (AllByRecursion RowHoldsWords rows → slot_of (row_in rows n) ≡ Some s → SlotHoldsWords s)
+        → SlotHoldsWords s
     by true e k later = let same : row.slot ≡ s = cc in subst SlotHoldsWords same k.0.slot
     by false e k later = later k.1 e
 
@@ -151,7 +162,9 @@ pub page_words : (es : List (ℕ × List Cell)) (q : ℕ) (cells : List Cell) �
 page_words [] q cells h is = cc
 page_words (e ∷ es) q cells h is = by (eq_by_cmp nat_cmp q e.0) is (λ at. page_words es q cells h.1 at)
   where
-    by : (b : Bool) → cond b (Some e.1) (find nat_cmp q es) ≡ Some cells → (find nat_cmp q es ≡ Some cells → AllByRecursion (λ (c : Cell). IsWord c.word) cells) → AllByRecursion (λ (c : Cell). IsWord c.word) cells
+    by : (b : Bool) → cond b (Some e.1) (find nat_cmp q es) ≡ Some cells
+        → (find nat_cmp q es ≡ Some cells → AllByRecursion (λ (c : Cell). IsWord c.word) cells)
+        → AllByRecursion (λ (c : Cell). IsWord c.word) cells
     by true found later = let same : e.1 ≡ cells = cc in subst (AllByRecursion (λ (c : Cell). IsWord c.word)) same h.0
     by false found later = later found
 
@@ -229,7 +242,8 @@ value_operand-fits i s instr h = by (field_b i)
     by None = imm_of_operands (operation_of i).operands instr.operands
     by (Some r) = register_fits s r h
 
-module _ (core : Core) (h : IsFormed core) (rows : AllByRecursion RowHoldsWords core.rows) (m : Memory) (cells : AllByRecursion HoldsWords m.pages) (s : Slot) (at : slot_at core s.number ≡ Some s) where
+module _ (core : Core) (h : IsFormed core) (rows : AllByRecursion RowHoldsWords core.rows) (m : Memory)
+    (cells : AllByRecursion HoldsWords m.pages) (s : Slot) (at : slot_at core s.number ≡ Some s) where
   own_words : SlotHoldsWords s
   own_words = slot_words core s.number s rows at
 
@@ -331,9 +345,22 @@ module _ (core : Core) (h : IsFormed core) (rows : AllByRecursion RowHoldsWords 
   link_words rd p None behind fits is next = tt
   link_words rd p (Some to) None fits is next = tt
   link_words rd p (Some to) (Some back) fits is next =
-      record { next = enter_result-well_formed p to fits is; writes = (IsBelow-well_formed s.ip back own_words.ip (next_result-IsBelow s.ip back next), tt); issue = tt; cell = tt; pages = tt; queue = tt; other = tt }
+      record {
+        next = enter_result-well_formed p to fits is;
+        writes = (
+          IsBelow-well_formed s.ip back own_words.ip
+              (next_result-IsBelow s.ip back next),
+          tt,
+        );
+        issue = tt;
+        cell = tt;
+        pages = tt;
+        queue = tt;
+        other = tt;
+      }
 
-  took_words : (rd : ℕ) (e : Event) (rest : List Event) (of : Slot) → slot_at core e.slot ≡ Some of → EventHoldsWords e → AllByRecursion EventHoldsWords rest → EffectWords m (takes s rd (Took e rest of))
+  took_words : (rd : ℕ) (e : Event) (rest : List Event) (of : Slot) → slot_at core e.slot ≡ Some of → EventHoldsWords e
+      → AllByRecursion EventHoldsWords rest → EffectWords m (takes s rd (Took e rest of))
   unfolding plain
   took_words rd e rest of is first others =
       let old = slot_words core e.slot of rows is in
@@ -357,7 +384,9 @@ module _ (core : Core) (h : IsFormed core) (rows : AllByRecursion RowHoldsWords 
       by None is = tt
       by (Some of) is = took_words rd e rest of is k.0 k.1
 
-  serve_words : (k : ℕ) (f : Reply → Effect) → ((c : Cause) → EffectWords m (f (Refused c))) → ((of : Slot) → SlotHoldsWords of → EffectWords m (f (Served of))) → EffectWords m (f (served s.number (slot_at core k)))
+  serve_words : (k : ℕ) (f : Reply → Effect) → ((c : Cause) → EffectWords m (f (Refused c)))
+      → ((of : Slot) → SlotHoldsWords of → EffectWords m (f (Served of)))
+      → EffectWords m (f (served s.number (slot_at core k)))
   serve_words k f refused served_words = by (slot_at core k) refl
     where
       passed : (of : Slot) (b : Bool) → slot_at core k ≡ Some of → EffectWords m (f (if b then Served of else Refused cause.NoSlot))
@@ -378,18 +407,30 @@ module _ (core : Core) (h : IsFormed core) (rows : AllByRecursion RowHoldsWords 
   resume_words how of k = record { next = advances; writes = tt; issue = tt; cell = tt; pages = tt; queue = tt; other = resumed_words how of k }
 
   read_words : (split : Bool) (rd reg : ℕ) (of : Slot) → SlotHoldsWords of → EffectWords m (reads_of split s rd reg (Served of))
-  read_words split rd reg of k = if_words (split && is_empty of reg) (Deliver (delivered of)) (sets s rd (register of reg)) (delivered_words of k) (sets_words rd (register of reg) (register_fits of reg k.registers))
+  read_words split rd reg of k = if_words (split && is_empty of reg) (Deliver (delivered of))
+      (sets s rd (register of reg)) (delivered_words of k)
+      (sets_words rd (register of reg) (register_fits of reg k.registers))
 
   write_words : (split : Bool) (reg : ℕ) (w : Word) (of : Slot) → IsWord w → SlotHoldsWords of → EffectWords m (writes_of split s reg w (Served of))
   unfolding plain
   write_words split reg w of fits k =
       if_words (split && is_empty of reg) (Deliver (delivered of)) (Does (record (plain s) { other = Some (record of { regs = slice_set of.regs reg w }) })) (delivered_words of k)
-      (record { next = advances; writes = tt; issue = tt; cell = tt; pages = tt; queue = tt; other = record { registers = each_set IsWord of.regs reg w k.registers fits; ip = k.ip; pending = k.pending } })
+      (record {
+        next = advances;
+        writes = tt;
+        issue = tt;
+        cell = tt;
+        pages = tt;
+        queue = tt;
+        other = record { registers = each_set IsWord of.regs reg w k.registers fits; ip = k.ip; pending = k.pending };
+      })
 
   one_fits : IsWord (Int 1)
   one_fits = lit< tt
 
-  map_words : (rd page : ℕ) (b c : Bool) → nat_lt page (2 ^ 42) ≡ c → EffectWords m (maps s rd (reply core m s.number (if b then (if c then MapPage page else Refuse cause.Bounds) else Refuse cause.Priv)))
+  map_words : (rd page : ℕ) (b c : Bool) → nat_lt page (2 ^ 42) ≡ c
+      → EffectWords m (maps s rd (reply core m s.number (if b then (if c then MapPage page else Refuse cause.Bounds)
+      else Refuse cause.Priv)))
   unfolding reply plain
   map_words rd page true true small = by (can_map m page) refl
     where
@@ -425,16 +466,24 @@ module _ (core : Core) (h : IsFormed core) (rows : AllByRecursion RowHoldsWords 
   effect_words (Eqw rd ra rb) instr = sets_words rd (Int (test (same_word (register s ra) (register s rb)))) (test_fits (same_word (register s ra) (register s rb)))
   effect_words (Out ra) instr = out_words (word_bits (register s ra) % 256) (nat_lt (length (output_of core s.group)) (output_limit core.version))
   effect_words (SelfSlot rd) instr = sets_words rd (Int s.number) (let few = own_slot.number in omega arith)
-  effect_words (Alu op rd ra rb) instr = number_words rd (alu_result op (word_bits (register s ra)) (word_bits (register s rb))) (alu_result-fits op (word_bits (register s ra)) (word_bits (register s rb)) (bits ra) (bits rb))
+  effect_words (Alu op rd ra rb) instr = number_words rd (alu_result op (word_bits (register s ra))
+      (word_bits (register s rb))) (alu_result-fits op (word_bits (register s ra)) (word_bits (register s rb)) (bits ra)
+      (bits rb))
   effect_words (Addi rd ra imm) instr = sets_words rd (Int ((word_bits (register s ra) + cast_unsigned w64 imm) % 2 ^ 64)) (omega arith)
   effect_words (Lea rd ra rb) instr =
       if_pointer_words (register s ra) (λ p. sets_pointer s rd (lea_result p (cast_signed w64 (word_bits (register s rb))))) (reg ra)
-      (λ p fits. pointer_words rd (lea_result p (cast_signed w64 (word_bits (register s rb)))) (λ q is. IsBelow-well_formed p q fits (lea_result-IsBelow p q (cast_signed w64 (word_bits (register s rb))) is)))
+      (λ p fits. pointer_words rd (lea_result p (cast_signed w64 (word_bits (register s rb))))
+      (λ q is. IsBelow-well_formed p q fits (lea_result-IsBelow p q (cast_signed w64 (word_bits (register s rb)))
+      is)))
   effect_words (Leai rd ra imm) instr =
-      if_pointer_words (register s ra) (λ p. sets_pointer s rd (lea_result p imm)) (reg ra) (λ p fits. pointer_words rd (lea_result p imm) (λ q is. IsBelow-well_formed p q fits (lea_result-IsBelow p q imm is)))
+      if_pointer_words (register s ra) (λ p. sets_pointer s rd (lea_result p imm)) (reg ra)
+      (λ p fits. pointer_words rd (lea_result p imm)
+      (λ q is. IsBelow-well_formed p q fits (lea_result-IsBelow p q imm is)))
   effect_words (Leab rd ra rb) instr =
       if_pointer_words (register s ra) (λ p. sets_pointer s rd (leab_result p (cast_signed w64 (word_bits (register s rb))))) (reg ra)
-      (λ p fits. pointer_words rd (leab_result p (cast_signed w64 (word_bits (register s rb)))) (λ q is. IsBelow-well_formed p q fits (leab_result-IsBelow p q (cast_signed w64 (word_bits (register s rb))) is)))
+      (λ p fits. pointer_words rd (leab_result p (cast_signed w64 (word_bits (register s rb))))
+      (λ q is. IsBelow-well_formed p q fits (leab_result-IsBelow p q (cast_signed w64 (word_bits (register s rb)))
+      is)))
   effect_words (Restrict rd ra rb) instr =
       if_pointer_words (register s ra) (λ p. sets_pointer s rd (restrict_result p (word_bits (register s rb)))) (reg ra)
       (λ p fits. pointer_words rd (restrict_result p (word_bits (register s rb))) (λ q is. IsBelow-well_formed p q fits (restrict_result-IsBelow p q (word_bits (register s rb)) is)))
@@ -450,7 +499,9 @@ module _ (core : Core) (h : IsFormed core) (rows : AllByRecursion RowHoldsWords 
   effect_words (Bz ra imm) instr = if_words (word_bits (register s ra) == 0) (branches s (at_distance s imm)) (Does (plain s)) (branch_words imm) plain_words
   effect_words (Bnz ra imm) instr = if_words (word_bits (register s ra) == 0) (Does (plain s)) (branches s (at_distance s imm)) plain_words (branch_words imm)
   effect_words (Jmp ra) instr = if_pointer_words (register s ra) (λ p. jumps s p (enter_result p)) (reg ra) (λ p fits. jump_words p (enter_result p) fits refl)
-  effect_words (Jal rd ra) instr = if_pointer_words (register s ra) (λ p. links s rd p (enter_result p) (next_result s.ip)) (reg ra) (λ p fits. link_words rd p (enter_result p) (next_result s.ip) fits refl refl)
+  effect_words (Jal rd ra) instr = if_pointer_words (register s ra)
+      (λ p. links s rd p (enter_result p) (next_result s.ip)) (reg ra) (λ p fits. link_words rd p (enter_result p)
+      (next_result s.ip) fits refl refl)
   effect_words (Lip rd imm) instr = pointer_words rd (at_distance s imm) (distance_words imm)
   effect_words (Trap imm) instr = tt
   effect_words (Evt rd) instr = event_words rd (queue_at core s.number) (queue_words core s.number rows)

@@ -40,8 +40,11 @@ filter_ascends : (p : Slot → Bool) (slots : List Slot) → Ascends slots → A
 filter_ascends p [] h = tt
 filter_ascends p (s ∷ slots) h = elim (cases_Bool (p s)) [
   | inl t ↦
-      subst Ascends (sym (filter_takes p s slots t))
-      (each_map (λ (x : Slot). (s.number < x.number) × (p x ≡ true)) (λ (x : Slot). s.number < x.number) (λ x k. k.0) (filter p slots) (each_filter p (λ (x : Slot). s.number < x.number) slots h.0), filter_ascends p slots h.1)
+      subst Ascends (sym (filter_takes p s slots t)) (
+        each_map (λ (x : Slot). (s.number < x.number) × (p x ≡ true)) (λ (x : Slot). s.number < x.number) (λ x k. k.0)
+            (filter p slots) (each_filter p (λ (x : Slot). s.number < x.number) slots h.0),
+        filter_ascends p slots h.1,
+      )
   | inr f ↦ subst Ascends (sym (filter_drops p s slots f)) (filter_ascends p slots h.1)
 ]
 
@@ -81,7 +84,9 @@ module _ (i : Image) (c : ℕ → Bool) (img : IsImage i) (has : HasSlot i c) (s
 
   own_fresh : AllByRecursion (IsFresh (slot_limit i.version) (own_slots c i.slots)) (own_slots c i.slots)
   own_fresh =
-      each_map (λ (s : Slot). (Contains i.slots s × IsFresh (slot_limit i.version) i.slots s) × (c s.group ≡ true)) (IsFresh (slot_limit i.version) (own_slots c i.slots)) (λ s k. own_fresh_slot s k.0.0 k.1 k.0.1) (own_slots c i.slots)
+      each_map (λ (s : Slot). (Contains i.slots s × IsFresh (slot_limit i.version) i.slots s) × (c s.group ≡ true))
+      (IsFresh (slot_limit i.version) (own_slots c i.slots)) (λ s k. own_fresh_slot s k.0.0 k.1 k.0.1)
+      (own_slots c i.slots)
       (each_filter (λ (s : Slot). c s.group) (λ (s : Slot). Contains i.slots s × IsFresh (slot_limit i.version) i.slots s) i.slots
       (each_both (Contains i.slots) (IsFresh (slot_limit i.version) i.slots) (λ (s : Slot). Contains i.slots s × IsFresh (slot_limit i.version) i.slots s) (λ s a b. (a, b)) i.slots
       (recursion_from_All (Contains i.slots) i.slots (All-contains_itself i.slots)) img.fresh))

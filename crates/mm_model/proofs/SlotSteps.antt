@@ -1,5 +1,7 @@
 -- What a slot of a machine goes on to be: with another standing, with words written, with a load issued or delivered.
-use Rattle.std.proofs.Common.{◌≡◌, ◌≢◌, ℕ, zero, suc, ◌+◌, ◌<◌, ◌≤◌, inl, inr, Bool, true, false, nat_eq, if◌then◌else◌, List, [], ◌∷◌, ◌++◌, length, Some, refl, sym, ap, ◌∙◌, arith, eq-eqb, slice_set, slice_index_or, length-set, get_or-set_same, get_or-set_other}
+use Rattle.std.proofs.Common.{◌≡◌, ◌≢◌, ℕ, zero, suc, ◌+◌, ◌<◌, ◌≤◌, inl, inr, Bool, true, false, nat_eq, if◌then◌else◌}
+use Rattle.std.proofs.Common.{List, [], ◌∷◌, ◌++◌, length, Some, refl, sym, ap, ◌∙◌, arith, eq-eqb, slice_set}
+use Rattle.std.proofs.Common.{slice_index_or, length-set, get_or-set_same, get_or-set_other}
 use Rattle.std.specs.List.{AllByRecursion}
 use Rattle.std.proofs.lemmas.Bool.{cases_eq, ne_eqb}
 use Rattle.mm_word.specs.declared.word.Word.{Word}
@@ -36,13 +38,15 @@ loads_for-push_same : (r : ℕ) (ps : List Pending) (p : Pending) → p.reg ≡ 
 loads_for-push_same r [] p e = one_for r p e 0
 loads_for-push_same r (x ∷ ps) p e =
     let rest = loads_for-push_same r ps p e in
-    elim (nat_eq x.reg r) as (λ b. (if b then loads_for r (ps ++ p ∷ []) + 1 else loads_for r (ps ++ p ∷ [])) ≡ (if b then loads_for r ps + 1 else loads_for r ps) + 1) [ true ↦ omega arith | false ↦ rest ]
+    elim (nat_eq x.reg r) as (λ b. (if b then loads_for r (ps ++ p ∷ []) + 1 else loads_for r (ps ++ p ∷ [])) ≡
+    (if b then loads_for r ps + 1 else loads_for r ps) + 1) [ true ↦ omega arith | false ↦ rest ]
 
 loads_for-push_other : (r : ℕ) (ps : List Pending) (p : Pending) → p.reg ≢ r → loads_for r (ps ++ p ∷ []) ≡ loads_for r ps
 loads_for-push_other r [] p ne = none_for r p ne 0
 loads_for-push_other r (x ∷ ps) p ne =
     let rest = loads_for-push_other r ps p ne in
-    elim (nat_eq x.reg r) as (λ b. (if b then loads_for r (ps ++ p ∷ []) + 1 else loads_for r (ps ++ p ∷ [])) ≡ (if b then loads_for r ps + 1 else loads_for r ps)) [ true ↦ omega arith | false ↦ rest ]
+    elim (nat_eq x.reg r) as (λ b. (if b then loads_for r (ps ++ p ∷ []) + 1 else loads_for r (ps ++ p ∷ [])) ≡
+    (if b then loads_for r ps + 1 else loads_for r ps)) [ true ↦ omega arith | false ↦ rest ]
 
 pub at_most_one : (b : Bool) → one_if b ≤ 1
 at_most_one true = omega arith
@@ -81,7 +85,8 @@ module _ (split : Bool) where
   }
 
   -- with another instruction pointer, another state and other turns
-  pub slot_stands : (s : Slot) (ip : Pointer) (past : Bool) (turns : ℕ) (state : SlotState) → IsSlot s → can_fetch ip.perm ≡ true → GoesOn split s (record s { ip = ip; past = past; turns = turns; state = state })
+  pub slot_stands : (s : Slot) (ip : Pointer) (past : Bool) (turns : ℕ) (state : SlotState) → IsSlot s
+      → can_fetch ip.perm ≡ true → GoesOn split s (record s { ip = ip; past = past; turns = turns; state = state })
   unfolding register is_empty
   slot_stands s ip past turns state h runs = record {
     slot = record { number = h.number; executable = runs; registers = h.registers; flags = h.flags };

@@ -1,5 +1,6 @@
 -- The machine's start is a state, fits its image, and keeps what the types keep.
-use Rattle.std.proofs.Common.{◌≡◌, ℕ, zero, suc, ◌≤◌, Bool, true, false, nat_eq, if◌then◌else◌, List, [], ◌∷◌, length, map, replicate, Option, Some, None, refl, sym, ap, ◌∙◌, subst, arith, slice_index_or}
+use Rattle.std.proofs.Common.{◌≡◌, ℕ, zero, suc, ◌≤◌, Bool, true, false, nat_eq, if◌then◌else◌, List, [], ◌∷◌, length}
+use Rattle.std.proofs.Common.{map, replicate, Option, Some, None, refl, sym, ap, ◌∙◌, subst, arith, slice_index_or}
 use Rattle.std.specs.Prelude.{IfSome}
 use Rattle.std.specs.List.{AllByRecursion}
 use Rattle.std.specs.List.Sorted.{IsStrictlyIncreasing}
@@ -12,7 +13,10 @@ use Rattle.mm_model.specs.State.{Row, row_in, slot_of, queue_of, slot_at, queue_
 use Rattle.mm_model.specs.Image.{Image, slot_in, slot_limit, output_limit, start}
 use Rattle.mm_model.specs.Spelling.{Begins, numbers_of, IsOther, IsFresh, IsImage}
 use Rattle.mm_model.specs.Turn.{is_taken}
-use Rattle.mm_model.specs.Fits.{loads_for, is_waiting, waits_for, events_of, slots_of, identity_of, SlotHoldsWords, RowHoldsWords, IsSlot, IsFormed, IsState, LoadsMatch, WaitsForSome, Matches, Fits, IsAtSlot, LoadsAreKept, TakenBySome, IsKept, IsOfVersion, HandlersAreOthers, IsCore, TurnsWithin}
+use Rattle.mm_model.specs.Fits.{loads_for, is_waiting, waits_for, events_of, slots_of, identity_of, SlotHoldsWords}
+use Rattle.mm_model.specs.Fits.{RowHoldsWords, IsSlot, IsFormed, IsState, LoadsMatch, WaitsForSome, Matches, Fits}
+use Rattle.mm_model.specs.Fits.{IsAtSlot, LoadsAreKept, TakenBySome, IsKept, IsOfVersion, HandlersAreOthers, IsCore}
+use Rattle.mm_model.specs.Fits.{TurnsWithin}
 use Rattle.mm_model.proofs.CoreRows.{each_map, slot_limit-few, slot_has}
 use Rattle.mm_model.proofs.CoreSteps.{waits_for-rests}
 
@@ -105,7 +109,13 @@ module _ (i : Image) (rising : IsStrictlyIncreasing (numbers_of i.slots)) (fresh
   unfolding start
   start_formed = record {
     rising = subst (λ (slots : List Slot). IsStrictlyIncreasing (numbers_of slots)) (sym (start_slots i)) rising;
-    slots = each_start IsSlot (λ s k. record { number = let low = k.number in let few = slot_limit-few i.version in omega arith; executable = k.executable; registers = k.registers; flags = ap length k.empty });
+    slots = each_start IsSlot (λ s k. record {
+      number = let low = k.number in let few = slot_limit-few i.version in
+          omega arith;
+      executable = k.executable;
+      registers = k.registers;
+      flags = ap length k.empty;
+    });
     outputs = refl;
   }
 

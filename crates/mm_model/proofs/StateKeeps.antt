@@ -1,5 +1,7 @@
 -- A turn keeps a state one, keeps it fitting its image, and keeps what the types keep of it.
-use Rattle.std.proofs.Common.{◌≡◌, ℕ, zero, suc, ◌+◌, ◌-◌, ◌≤◌, Bool, true, false, nat_eq, if◌then◌else◌, List, [], ◌∷◌, ◌++◌, length, map, Option, Some, None, refl, sym, ap, ◌∙◌, subst, arith, slice_set, cond, replicate, not, lit<}
+use Rattle.std.proofs.Common.{◌≡◌, ℕ, zero, suc, ◌+◌, ◌-◌, ◌≤◌, Bool, true, false, nat_eq, if◌then◌else◌, List, [], ◌∷◌}
+use Rattle.std.proofs.Common.{◌++◌, length, map, Option, Some, None, refl, sym, ap, ◌∙◌, subst, arith, slice_set, cond}
+use Rattle.std.proofs.Common.{replicate, not, lit<}
 use Rattle.std.specs.List.{AllByRecursion, filter}
 use Rattle.std.specs.Ordering.{nat_cmp}
 use Rattle.std.specs.declared.cmp.Ordering.TheVariants.{Less, Equal, Greater}
@@ -28,12 +30,16 @@ use Rattle.mm_model.specs.Ask.{ask}
 use Rattle.mm_model.specs.Effect.{Change, Pages, Effect, effect, delivered}
 use Rattle.mm_model.specs.Effect.Pages.{Keep, Add, Remove}
 use Rattle.mm_model.specs.Effect.Effect.{Fault, Block, Deliver, Does}
-use Rattle.mm_model.specs.Turn.{Turned, reply, put_all, state_after, with_issue, slot_after, with_other, with_queue, with_out, with_cell, with_pages, core_after, memory_after, stood, is_sync, event_of, core_faulted, faulted, touch_of, asked_use, blocked, ended, executed, idle, turn}
+use Rattle.mm_model.specs.Turn.{Turned, reply, put_all, state_after, with_issue, slot_after, with_other, with_queue}
+use Rattle.mm_model.specs.Turn.{with_out, with_cell, with_pages, core_after, memory_after, stood, is_sync, event_of}
+use Rattle.mm_model.specs.Turn.{core_faulted, faulted, touch_of, asked_use, blocked, ended, executed, idle, turn}
 use Rattle.mm_model.specs.Run.{after}
 use Rattle.mm_model.specs.Fits.{SlotHoldsWords, EventHoldsWords, RowHoldsWords, IsFormed, IsState, Fits, IsKept}
 use Rattle.mm_model.proofs.Memories.{put_frames, map_frames, unmap_frames, put_pages, put_count, map_pages, map_fitting, unmap_pages, unmap_count}
 use Rattle.mm_model.proofs.CoreRows.{each_set, slot_at-number, each_push}
-use Rattle.mm_model.proofs.EffectWords.{page_words, IssueWords, CellWords, PagesFit, QueueWords, OtherWords, ChangeWords, EffectWords, slot_words, queue_words, delivered_words, addr_operand-fits, value_operand-fits, effect_words}
+use Rattle.mm_model.proofs.EffectWords.{page_words, IssueWords, CellWords, PagesFit, QueueWords, OtherWords}
+use Rattle.mm_model.proofs.EffectWords.{ChangeWords, EffectWords, slot_words, queue_words, delivered_words}
+use Rattle.mm_model.proofs.EffectWords.{addr_operand-fits, value_operand-fits, effect_words}
 use Rattle.mm_model.proofs.Fitted.{fitting_of}
 use Rattle.mm_model.proofs.TurnKeeps.{turn_keeps}
 use Rattle.mm_model.proofs.TurnShapes.{decoded_instr, TurnShape, turn_shape}
@@ -158,9 +164,12 @@ change_rows : (core : Core) (m : Memory) (s : Slot) (c : Change) → AllByRecurs
 unfolding core_after
 change_rows core m s c h own k =
     byte_words (with_queue (put_slot (with_other core c.other) (slot_after s c)) s.number c.queue) s.group c.out
-    (later_words (put_slot (with_other core c.other) (slot_after s c)) s.number c.queue (put_slot-words (with_other core c.other) (slot_after s c) (other_words core c.other h k.other) (slot_after-words m s c own k)) k.queue)
+    (later_words (put_slot (with_other core c.other) (slot_after s c)) s.number c.queue
+    (put_slot-words (with_other core c.other) (slot_after s c) (other_words core c.other h k.other)
+    (slot_after-words m s c own k)) k.queue)
 
-faulted_rows : (core : Core) (s : Slot) (e : Event) (o : Option ℕ) → AllByRecursion RowHoldsWords core.rows → SlotHoldsWords s → EventHoldsWords e → AllByRecursion RowHoldsWords (core_faulted core s e o).rows
+faulted_rows : (core : Core) (s : Slot) (e : Event) (o : Option ℕ) → AllByRecursion RowHoldsWords core.rows
+    → SlotHoldsWords s → EventHoldsWords e → AllByRecursion RowHoldsWords (core_faulted core s e o).rows
 unfolding core_faulted
 faulted_rows core s e (Some g) h own k =
     let waits : Core = put_slot core (stood s Waiting) in
@@ -183,11 +192,16 @@ module _ (core : Core) (m : Memory) (h : IsFormed core) (rows : AllByRecursion R
 
   fault_words : (s : Slot) (c : Cause) (a v : Word) (f t : Option Touch) (us : List Use) → SlotHoldsWords s → IsWord a → IsWord v → TurnWords m (faulted core m s c a v f t us)
   unfolding faulted event_of
-  fault_words s c a v f t us own fits_a fits_v = record { memory = same_memory; rows = faulted_rows core s (event_of s c a v) s.handler rows own (record { ip = own.ip; address = fits_a; value = fits_v }) }
+  fault_words s c a v f t us own fits_a fits_v = record {
+    memory = same_memory;
+    rows = faulted_rows core s
+        (event_of s c a v) s.handler rows own (record { ip = own.ip; address = fits_a; value = fits_v });
+  }
 
   ended_words : (s : Slot) (i : Instr) (f : Touch) (t : Option Touch) (us : List Use) (x : Effect) → SlotHoldsWords s → IsInstr i → EffectWords m x → TurnWords m (ended core m s i f t us x)
   unfolding ended blocked
-  ended_words s i f t us (Fault c) own instr k = fault_words s c (addr_operand i s) (value_operand i s) (Some f) t us own (addr_operand-fits i s own.registers) (value_operand-fits i s instr own.registers)
+  ended_words s i f t us (Fault c) own instr k = fault_words s c (addr_operand i s) (value_operand i s) (Some f) t us
+      own (addr_operand-fits i s own.registers) (value_operand-fits i s instr own.registers)
   ended_words s i f t us Block own instr k = record { memory = same_memory; rows = put_slot-words core (stood s Running) rows (stood-words s Running own) }
   ended_words s i f t us (Deliver o) own instr k = record { memory = same_memory; rows = put_slot-words (put_slot core o) (stood s Running) (put_slot-words core o rows k) (stood-words s Running own) }
   ended_words s i f t us (Does c) own instr k = record { memory = change_memory m c pages cells k; rows = change_rows core m s c rows own k }
@@ -203,7 +217,12 @@ module _ (core : Core) (m : Memory) (h : IsFormed core) (rows : AllByRecursion R
   shape_words n t (TurnShape.faults_early s c us r is) = subst (TurnWords m) (sym is) (fault_words s c (Int 0) (Int 0) None None us (slot_words core n s rows r.at) (lit< tt) (lit< tt))
   shape_words n t (TurnShape.faults_fetching s c f us r aim is) = subst (TurnWords m) (sym is) (fault_words s c (Int 0) (Int 0) (Some f) None us (slot_words core n s rows r.at) (lit< tt) (lit< tt))
   shape_words n t (TurnShape.lacks_register s f i us r aim found on lacking is) =
-      subst (TurnWords m) (sym is) (record { memory = same_memory; rows = put_slot-words core (stood (delivered s) Running) rows (stood-words (delivered s) Running (delivered_words s (slot_words core n s rows r.at))) })
+      subst (TurnWords m) (sym is) (record {
+        memory = same_memory;
+        rows = put_slot-words core
+            (stood (delivered s) Running) rows
+            (stood-words (delivered s) Running (delivered_words s (slot_words core n s rows r.at)));
+      })
   shape_words n t (TurnShape.carries_out s f u i r aim found has is) =
       let instr = decoded_instr m f i found in
       subst (TurnWords m) (sym is)

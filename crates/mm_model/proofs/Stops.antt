@@ -1,5 +1,7 @@
 -- Where a turn stops: its first test that fails decides what it comes to.
-use Rattle.std.proofs.Common.{◌≡◌, ℕ, ◌+◌, ◌%◌, ◌^◌, Bool, true, false, not, ◌&&◌, ◌==◌, nat_lt, if◌then◌else◌, ℤ, pos, negsuc, ◌+ℤ◌, List, [], ◌∷◌, ◌++◌, map, Option, Some, None, Result, Ok, Err, ◌⊎◌, inl, inr, refl, sym, ap, subst, ◌/◌, ◌*ℤ◌, slice_set}
+use Rattle.std.proofs.Common.{◌≡◌, ℕ, ◌+◌, ◌%◌, ◌^◌, Bool, true, false, not, ◌&&◌, ◌==◌, nat_lt, if◌then◌else◌, ℤ, pos}
+use Rattle.std.proofs.Common.{negsuc, ◌+ℤ◌, List, [], ◌∷◌, ◌++◌, map, Option, Some, None, Result, Ok, Err, ◌⊎◌, inl}
+use Rattle.std.proofs.Common.{inr, refl, sym, ap, subst, ◌/◌, ◌*ℤ◌, slice_set}
 use Rattle.std.specs.Prelude.{is_some, option_map, option_and_then}
 use Rattle.mm_word.specs.declared.perm.Perm.{Perm}
 use Rattle.mm_word.specs.declared.perm.Kind.{Kind}
@@ -15,7 +17,9 @@ use Rattle.mm_word.specs.declared.word.Cell.{Cell}
 use Rattle.mm_word.specs.Access.{Touch, check_result, touch_at, holds_word_at, is_aligned}
 use Rattle.mm_word.specs.Cause.{first_failing}
 use Rattle.mm_word.specs.Perm.{perm_of, can_become, can_move, can_fetch, allows, execute_form}
-use Rattle.mm_word.specs.Pointer.{Pointer, in_segment, holds_word, spells_pointer, pointer_of, base_of, moved_to, lea_result, leab_result, restrict_result, subseg_result, restricted_to, next_result, enter_result}
+use Rattle.mm_word.specs.Pointer.{Pointer, in_segment, holds_word, spells_pointer, pointer_of, base_of, moved_to}
+use Rattle.mm_word.specs.Pointer.{lea_result, leab_result, restrict_result, subseg_result, restricted_to, next_result}
+use Rattle.mm_word.specs.Pointer.{enter_result}
 use Rattle.mm_isa.specs.declared.instr.AluOp.{AluOp}
 use Rattle.mm_isa.specs.declared.instr.AluOp.TheVariants.{Divu, Remu}
 use Rattle.mm_isa.specs.declared.instr.How.{How}
@@ -31,11 +35,17 @@ use Rattle.mm_model.specs.Uses.{Use, Accessed}
 use Rattle.mm_model.specs.Operands.{lacks, addr_operand, value_operand}
 use Rattle.mm_model.specs.Ask.{ask, is_privileged, load_kind, reaching}
 use Rattle.mm_model.specs.Ask.Ask.{Refuse, MapPage, UnmapPage}
-use Rattle.mm_model.specs.Effect.{Reply, Effect, effect, plain, sets, sets_pointer, sets_number, if_pointer, puts_out, loaded, stored, at_distance, branches, jumps, links, takes, resumes, delivered, reads_of, writes_of, maps, unmaps}
+use Rattle.mm_model.specs.Effect.{Reply, Effect, effect, plain, sets, sets_pointer, sets_number, if_pointer, puts_out}
+use Rattle.mm_model.specs.Effect.{loaded, stored, at_distance, branches, jumps, links, takes, resumes, delivered}
+use Rattle.mm_model.specs.Effect.{reads_of, writes_of, maps, unmaps}
 use Rattle.mm_model.specs.Effect.Reply.{Fine, Refused, Got, Paged, Served}
 use Rattle.mm_model.specs.Effect.Effect.{Fault, Block, Deliver, Does}
-use Rattle.mm_model.specs.Turn.{Turned, reply, reached, first_event, event_reply, served, is_taken, is_handler, faulted, blocked, ended, executed, issued, decoded, instr_in, fetched, aimed, started, asked_use, touch_of}
-use Rattle.mm_model.specs.Tests.{Stop, fault_test, cell_at_sum, cell_tests, reach_tests, bits_in, signed_in, pointer_tests, in_segment_at, move_tests, restrict_tests, distance_tests, can_jump, has_room, has_event, serves, serve_tests, tests, instr_at, instr_tests, first_stop}
+use Rattle.mm_model.specs.Turn.{Turned, reply, reached, first_event, event_reply, served, is_taken, is_handler, faulted}
+use Rattle.mm_model.specs.Turn.{blocked, ended, executed, issued, decoded, instr_in, fetched, aimed, started, asked_use}
+use Rattle.mm_model.specs.Turn.{touch_of}
+use Rattle.mm_model.specs.Tests.{Stop, fault_test, cell_at_sum, cell_tests, reach_tests, bits_in, signed_in}
+use Rattle.mm_model.specs.Tests.{pointer_tests, in_segment_at, move_tests, restrict_tests, distance_tests, can_jump}
+use Rattle.mm_model.specs.Tests.{has_room, has_event, serves, serve_tests, tests, instr_at, instr_tests, first_stop}
 use Rattle.mm_model.specs.Tests.Stop.{Fails, Lacks, Awaits}
 use Rattle.mm_model.proofs.EffectWords.{executable_moves}
 
@@ -79,7 +89,9 @@ module _ (core : Core) (m : Memory) (s : Slot) where
       page t (Some c) = bit t c (passes pre c.full)
 
       align : (a : ℕ) (b : Bool)
-          → Reaches (first_failing (map fault_test ((b, cause.Align) ∷ [] ++ cell_tests (cell_at m a) pre))) (reply core m s.number (reaching (if b then Ok (record { ptr = p; addr = a; kind = kind }) else Err cause.Align) pre))
+          → Reaches (first_failing (map fault_test ((b, cause.Align) ∷ [] ++ cell_tests (cell_at m a) pre)))
+          (reply core m s.number (reaching (if b then Ok (record { ptr = p; addr = a; kind = kind }) else Err
+          cause.Align) pre))
       align a true = page (record { ptr = p; addr = a; kind = kind }) (cell_at m a)
       align a false = refl
 
@@ -89,12 +101,16 @@ module _ (core : Core) (m : Memory) (s : Slot) where
       whole a true = align a (a % 8 == 0)
       whole a false = refl
 
-      sum : (z : ℤ) → Reaches (first_failing (map fault_test ((holds_word_at p z, cause.Bounds) ∷ (is_aligned z, cause.Align) ∷ [] ++ cell_tests (cell_at_sum m z) pre))) (reply core m s.number (reaching (touch_at p z kind) pre))
+      sum : (z : ℤ) → Reaches (first_failing
+          (map fault_test ((holds_word_at p z, cause.Bounds) ∷ (is_aligned z, cause.Align) ∷ [] ++ cell_tests
+          (cell_at_sum m z) pre))) (reply core m s.number (reaching (touch_at p z kind) pre))
       sum (pos a) = whole a (holds_word p a)
       sum (negsuc a) = refl
 
       right : (b : Bool)
-          → Reaches (first_failing (map fault_test ((true, cause.NotPointer) ∷ (b, cause.Perm) ∷ (holds_word_at p (pos p.addr +ℤ by), cause.Bounds) ∷ (is_aligned (pos p.addr +ℤ by), cause.Align) ∷ [] ++ cell_tests (cell_at_sum m (pos p.addr +ℤ by)) pre)))
+          → Reaches (first_failing (map fault_test ((true, cause.NotPointer) ∷ (b, cause.Perm) ∷
+          (holds_word_at p (pos p.addr +ℤ by), cause.Bounds) ∷ (is_aligned (pos p.addr +ℤ by), cause.Align) ∷ [] ++
+          cell_tests (cell_at_sum m (pos p.addr +ℤ by)) pre)))
           (reply core m s.number (reaching (if b then touch_at p (pos p.addr +ℤ by) kind else Err cause.Perm) pre))
       right true = sum (pos p.addr +ℤ by)
       right false = refl
@@ -111,7 +127,9 @@ module _ (core : Core) (m : Memory) (s : Slot) where
   stores w post (Some (Lacks of)) r none = absurd none
   stores w post (Some Awaits) r none = absurd none
 
-  through_stops : (w : Word) (f : Pointer → List (Bool × Stop)) (g : Pointer → Effect) → ((p : Pointer) → Comes core s.number (first_failing (f p)) (g p)) → Comes core s.number (first_failing (pointer_tests w f)) (if_pointer w g)
+  through_stops : (w : Word) (f : Pointer → List (Bool × Stop)) (g : Pointer → Effect)
+      → ((p : Pointer) → Comes core s.number (first_failing (f p)) (g p)) → Comes core s.number
+      (first_failing (pointer_tests w f)) (if_pointer w g)
   through_stops (Int b) f g k = refl
   through_stops (Ptr p) f g k = k p
 
@@ -132,7 +150,8 @@ module _ (core : Core) (m : Memory) (s : Slot) where
       by true = inside p z (sets_pointer s rd) (λ q. tt) (λ c. refl)
       by false = refl
 
-  restricts : (rd : ℕ) (p : Pointer) (o : Option Perm) → Comes core s.number (first_failing (restrict_tests p o)) (sets_pointer s rd (elim o [ Some to ↦ restricted_to p to | None ↦ Err cause.Malformed ]))
+  restricts : (rd : ℕ) (p : Pointer) (o : Option Perm) → Comes core s.number (first_failing (restrict_tests p o))
+      (sets_pointer s rd (elim o [ Some to ↦ restricted_to p to | None ↦ Err cause.Malformed ]))
   restricts rd p None = refl
   restricts rd p (Some to) = by (can_become p.perm to)
     where
@@ -141,13 +160,16 @@ module _ (core : Core) (m : Memory) (s : Slot) where
       by false = refl
 
   shortens : (rd : ℕ) (p : Pointer) (log : ℕ) (a b : Bool)
-      → Comes core s.number (first_failing ((a, Fails cause.Perm) ∷ (b, Fails cause.Bounds) ∷ [])) (sets_pointer s rd (if a then (if b then Ok (record p { log = log }) else Err cause.Bounds) else Err cause.Perm))
+      → Comes core s.number (first_failing ((a, Fails cause.Perm) ∷ (b, Fails cause.Bounds) ∷ []))
+      (sets_pointer s rd (if a then (if b then Ok (record p { log = log }) else Err cause.Bounds) else Err
+      cause.Perm))
   shortens rd p log true true = tt
   shortens rd p log true false = refl
   shortens rd p log false b = refl
 
   spells : (rd bits : ℕ) (a b : Bool)
-      → Comes core s.number (first_failing ((a, Fails cause.Priv) ∷ (b, Fails cause.Malformed) ∷ [])) (if a then sets_pointer s rd (if b then Ok (pointer_of bits) else Err cause.Malformed) else Fault cause.Priv)
+      → Comes core s.number (first_failing ((a, Fails cause.Priv) ∷ (b, Fails cause.Malformed) ∷ []))
+      (if a then sets_pointer s rd (if b then Ok (pointer_of bits) else Err cause.Malformed) else Fault cause.Priv)
   spells rd bits true true = tt
   spells rd bits true false = refl
   spells rd bits false b = refl
@@ -178,7 +200,9 @@ module _ (core : Core) (m : Memory) (s : Slot) where
   jumps_stop p (Some perm) = tt
 
   links_stop : can_move s.ip.perm ≡ true → (rd : ℕ) (p : Pointer) (o : Option Perm)
-      → Comes core s.number (first_failing ((is_some o, Fails cause.Perm) ∷ (in_segment s.ip (s.ip.addr + 8), Fails cause.Bounds) ∷ [])) (links s rd p (option_map (λ perm. record p { perm = perm }) o) (next_result s.ip))
+      → Comes core s.number (first_failing
+      ((is_some o, Fails cause.Perm) ∷ (in_segment s.ip (s.ip.addr + 8), Fails cause.Bounds) ∷ []))
+      (links s rd p (option_map (λ perm. record p { perm = perm }) o) (next_result s.ip))
   links_stop moved rd p None = refl
   links_stop moved rd p (Some perm) = by (can_move s.ip.perm) (in_segment s.ip (s.ip.addr + 8)) moved
     where
@@ -216,7 +240,9 @@ module _ (core : Core) (m : Memory) (s : Slot) where
       empty true = refl
       empty false = tt
 
-      by : (a b : Bool) → Comes core s.number (first_failing ((a, Fails cause.NoSlot) ∷ (not (core.split && is_empty of reg), Lacks of) ∷ [])) (reads_of core.split s rd reg (if a then Served of else Refused cause.NoSlot))
+      by : (a b : Bool) → Comes core s.number
+          (first_failing ((a, Fails cause.NoSlot) ∷ (not (core.split && is_empty of reg), Lacks of) ∷ []))
+          (reads_of core.split s rd reg (if a then Served of else Refused cause.NoSlot))
       by true b = empty (core.split && is_empty of reg)
       by false b = refl
 
@@ -224,16 +250,22 @@ module _ (core : Core) (m : Memory) (s : Slot) where
   writes reg w None = refl
   writes reg w (Some of) = by (is_handler s.number of.handler && is_taken of.state)
     where
-      empty : (b : Bool) → Comes core s.number (first_failing ((not b, Lacks of) ∷ [])) (if b then Deliver (delivered of) else Does (record (plain s) { other = Some (record of { regs = slice_set of.regs reg w }) }))
+      empty : (b : Bool) → Comes core s.number (first_failing ((not b, Lacks of) ∷ []))
+          (if b then Deliver (delivered of) else Does
+          (record (plain s) { other = Some (record of { regs = slice_set of.regs reg w }) }))
       empty true = refl
       empty false = tt
 
-      by : (a : Bool) → Comes core s.number (first_failing ((a, Fails cause.NoSlot) ∷ (not (core.split && is_empty of reg), Lacks of) ∷ [])) (writes_of core.split s reg w (if a then Served of else Refused cause.NoSlot))
+      by : (a : Bool) → Comes core s.number
+          (first_failing ((a, Fails cause.NoSlot) ∷ (not (core.split && is_empty of reg), Lacks of) ∷ []))
+          (writes_of core.split s reg w (if a then Served of else Refused cause.NoSlot))
       by true = empty (core.split && is_empty of reg)
       by false = refl
 
   mapped : (rd page : ℕ) (a b : Bool)
-      → Comes core s.number (first_failing ((a, Fails cause.Priv) ∷ (b, Fails cause.Bounds) ∷ [])) (maps s rd (reply core m s.number (if a then (if b then MapPage page else Refuse cause.Bounds) else Refuse cause.Priv)))
+      → Comes core s.number (first_failing ((a, Fails cause.Priv) ∷ (b, Fails cause.Bounds) ∷ []))
+      (maps s rd (reply core m s.number (if a then (if b then MapPage page else Refuse cause.Bounds) else Refuse
+      cause.Priv)))
   unfolding reply
   mapped rd page true true = by (can_map m page)
     where
@@ -244,7 +276,9 @@ module _ (core : Core) (m : Memory) (s : Slot) where
   mapped rd page false b = refl
 
   unmapped : (rd page : ℕ) (a b : Bool)
-      → Comes core s.number (first_failing ((a, Fails cause.Priv) ∷ (b, Fails cause.Bounds) ∷ [])) (unmaps s rd (reply core m s.number (if a then (if b then UnmapPage page else Refuse cause.Bounds) else Refuse cause.Priv)))
+      → Comes core s.number (first_failing ((a, Fails cause.Priv) ∷ (b, Fails cause.Bounds) ∷ []))
+      (unmaps s rd (reply core m s.number (if a then (if b then UnmapPage page else Refuse cause.Bounds) else Refuse
+      cause.Priv)))
   unfolding reply
   unmapped rd page true true = by (is_mapped m page)
     where
@@ -259,18 +293,27 @@ module _ (core : Core) (m : Memory) (s : Slot) where
   unfolding tests effect ask reply
   effect_stops moved (Out ra) = outs (bits_in s ra % 256) (has_room core s.group)
   effect_stops moved (Alu op rd ra rb) = operates rd (bits_in s ra) (bits_in s rb) op
-  effect_stops moved (Lea rd ra rb) = through_stops (register s ra) (λ p. move_tests p (pos p.addr +ℤ signed_in s rb)) (λ p. sets_pointer s rd (lea_result p (signed_in s rb))) (λ p. moves rd p (pos p.addr +ℤ signed_in s rb))
+  effect_stops moved (Lea rd ra rb) = through_stops (register s ra) (λ p. move_tests p (pos p.addr +ℤ signed_in s rb))
+      (λ p. sets_pointer s rd (lea_result p (signed_in s rb))) (λ p. moves rd p (pos p.addr +ℤ signed_in s rb))
   effect_stops moved (Leai rd ra imm) = through_stops (register s ra) (λ p. move_tests p (pos p.addr +ℤ imm)) (λ p. sets_pointer s rd (lea_result p imm)) (λ p. moves rd p (pos p.addr +ℤ imm))
-  effect_stops moved (Leab rd ra rb) = through_stops (register s ra) (λ p. move_tests p (pos (base_of p) +ℤ signed_in s rb)) (λ p. sets_pointer s rd (leab_result p (signed_in s rb))) (λ p. moves rd p (pos (base_of p) +ℤ signed_in s rb))
-  effect_stops moved (Restrict rd ra rb) = through_stops (register s ra) (λ p. restrict_tests p (perm_of (bits_in s rb))) (λ p. sets_pointer s rd (restrict_result p (bits_in s rb))) (λ p. restricts rd p (perm_of (bits_in s rb)))
+  effect_stops moved (Leab rd ra rb) = through_stops (register s ra)
+      (λ p. move_tests p (pos (base_of p) +ℤ signed_in s rb)) (λ p. sets_pointer s rd (leab_result p (signed_in s rb)))
+      (λ p. moves rd p (pos (base_of p) +ℤ signed_in s rb))
+  effect_stops moved (Restrict rd ra rb) = through_stops (register s ra)
+      (λ p. restrict_tests p (perm_of (bits_in s rb))) (λ p. sets_pointer s rd (restrict_result p (bits_in s rb)))
+      (λ p. restricts rd p (perm_of (bits_in s rb)))
   effect_stops moved (Subseg rd ra rb) =
       through_stops (register s ra) (λ p. (can_move p.perm, Fails cause.Perm) ∷ (nat_lt (bits_in s rb) p.log, Fails cause.Bounds) ∷ []) (λ p. sets_pointer s rd (subseg_result p (bits_in s rb)))
       (λ p. shortens rd p (bits_in s rb) (can_move p.perm) (nat_lt (bits_in s rb) p.log))
   effect_stops moved (Setptr rd ra) = spells rd (bits_in s ra) (is_privileged s.ip.perm) (spells_pointer (bits_in s ra))
   effect_stops moved (Ld rd ra pre post imm) =
-      loads rd post (first_failing (reach_tests m (register s ra) imm (load_kind post) pre)) (reply core m s.number (reaching (check_result (register s ra) imm (load_kind post)) pre)) (reach_stops (register s ra) imm (load_kind post) pre)
+      loads rd post (first_failing (reach_tests m (register s ra) imm (load_kind post) pre))
+      (reply core m s.number (reaching (check_result (register s ra) imm (load_kind post)) pre))
+      (reach_stops (register s ra) imm (load_kind post) pre)
   effect_stops moved (St ra rb pre post imm) =
-      stores (register s rb) post (first_failing (reach_tests m (register s ra) imm Store pre)) (reply core m s.number (reaching (check_result (register s ra) imm Store) pre)) (reach_stops (register s ra) imm Store pre)
+      stores (register s rb) post (first_failing (reach_tests m (register s ra) imm Store pre))
+      (reply core m s.number (reaching (check_result (register s ra) imm Store) pre))
+      (reach_stops (register s ra) imm Store pre)
   effect_stops moved (Br imm) = branches_stop imm
   effect_stops moved (Bz ra imm) = taken imm (bits_in s ra == 0)
   effect_stops moved (Bnz ra imm) = taken_not imm (bits_in s ra == 0)
@@ -330,7 +373,9 @@ module _ (core : Core) (m : Memory) (s : Slot) where
     decoded_stands f u None = record { address = Int 0; value = Int 0; fetched = Some f; touched = None; uses = u ∷ []; is = refl }
     decoded_stands f u (Some i) = issued_stands f u i
 
-    fetched_stands : (f : Touch) (o : Option Cell) → Stands core m s (first_failing (map fault_test (cell_tests o Any) ++ instr_tests core m s (option_and_then (λ c. instr_in c.word) o))) (fetched core m s f o)
+    fetched_stands : (f : Touch) (o : Option Cell) → Stands core m s
+        (first_failing (map fault_test (cell_tests o Any) ++ instr_tests core m s
+        (option_and_then (λ c. instr_in c.word) o))) (fetched core m s f o)
     fetched_stands f None = record { address = Int 0; value = Int 0; fetched = Some f; touched = None; uses = Accessed f.kind f.addr false false ∷ []; is = refl }
     fetched_stands f (Some c) = decoded_stands f (Accessed f.kind f.addr true true) (instr_in c.word)
 
@@ -360,7 +405,10 @@ module _ (core : Core) (m : Memory) (s : Slot) where
       sum (negsuc a) moved = early cause.Bounds
 
       right : (b : Bool) → can_fetch s.ip.perm ≡ b
-          → Stands core m s (first_failing ((b, Fails cause.Perm) ∷ (holds_word_at s.ip (pos s.ip.addr +ℤ pos 0), Fails cause.Bounds) ∷ (is_aligned (pos s.ip.addr +ℤ pos 0), Fails cause.Align) ∷ behind (cell_at_sum m (pos s.ip.addr +ℤ pos 0))))
+          → Stands core m s (first_failing
+          ((b, Fails cause.Perm) ∷ (holds_word_at s.ip (pos s.ip.addr +ℤ pos 0), Fails cause.Bounds) ∷
+          (is_aligned (pos s.ip.addr +ℤ pos 0), Fails cause.Align) ∷ behind
+          (cell_at_sum m (pos s.ip.addr +ℤ pos 0))))
           (aimed core m s (if b then touch_at s.ip (pos s.ip.addr +ℤ pos 0) Fetch else Err cause.Perm))
       right true is = sum (pos s.ip.addr +ℤ pos 0) (executable_moves s.ip.perm is)
       right false is = early cause.Perm

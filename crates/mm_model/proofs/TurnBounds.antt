@@ -13,7 +13,9 @@ use Rattle.mm_model.specs.Operands.{addr_operand, value_operand}
 use Rattle.mm_model.specs.Ask.{ask}
 use Rattle.mm_model.specs.Effect.{Change, Effect, effect, delivered}
 use Rattle.mm_model.specs.Effect.Effect.{Fault, Block, Deliver, Does}
-use Rattle.mm_model.specs.Turn.{Turned, reply, slot_after, with_other, with_queue, with_out, core_after, stood, is_sync, event_of, core_faulted, faulted, touch_of, asked_use, blocked, ended, executed, idle, is_running, turn}
+use Rattle.mm_model.specs.Turn.{Turned, reply, slot_after, with_other, with_queue, with_out, core_after, stood, is_sync}
+use Rattle.mm_model.specs.Turn.{event_of, core_faulted, faulted, touch_of, asked_use, blocked, ended, executed, idle}
+use Rattle.mm_model.specs.Turn.{is_running, turn}
 use Rattle.mm_model.specs.Run.{after}
 use Rattle.mm_model.specs.Fits.{IsFormed, Matches, TurnsWithin}
 use Rattle.mm_model.specs.Outcomes.{Runs}
@@ -45,7 +47,8 @@ module _ (core : Core) (n : ℕ) where
   ]
 
   -- the running slot takes its turn
-  own_takes : (mid : Core) (new old s : Slot) → TakesTurns core n mid → slot_at mid new.number ≡ Some old → new.number ≡ n → Runs core n s → new.turns ≡ s.turns + 1 → TakesTurns core n (put_slot mid new)
+  own_takes : (mid : Core) (new old s : Slot) → TakesTurns core n mid → slot_at mid new.number ≡ Some old
+      → new.number ≡ n → Runs core n s → new.turns ≡ s.turns + 1 → TakesTurns core n (put_slot mid new)
   own_takes mid new old s h there number r more k now is = elim (put_slot-cases mid new old k now there is) [
     | AfterPut.here e f ↦ record { was = s; stands = ap (slot_at core) (e ∙ number) ∙ r.at; turns = inr (e ∙ number, r.running, ap (λ (x : Slot). x.turns) f ∙ more) }
     | AfterPut.there ne at ↦ h k now at
@@ -71,7 +74,8 @@ module _ (core : Core) (n : ℕ) (h : IsFormed core) (match : Matches core) (s :
   own_at = ap (slot_at core) number ∙ r.at
 
   -- another slot that does not run is put, and then the running slot
-  other_takes : (o : Slot) (p : Replaces core o) → p.old.turns ≡ o.turns → is_running p.old.state ≡ false → (new : Slot) → new.number ≡ s.number → new.turns ≡ s.turns + 1 → TakesTurns core n (put_slot (put_slot core o) new)
+  other_takes : (o : Slot) (p : Replaces core o) → p.old.turns ≡ o.turns → is_running p.old.state ≡ false → (new : Slot)
+      → new.number ≡ s.number → new.turns ≡ s.turns + 1 → TakesTurns core n (put_slot (put_slot core o) new)
   other_takes o p same runs_not new at more =
       own_takes core n (put_slot core o) new s s (same_takes core n core o p.old p.old (none_takes core n) p.stands p.stands (sym same))
       (ap (slot_at (put_slot core o)) at ∙ still_there core h s own_at r.running o p runs_not) (at ∙ number) r more
@@ -79,7 +83,8 @@ module _ (core : Core) (n : ℕ) (h : IsFormed core) (match : Matches core) (s :
   stood_takes : (new : Slot) → new.number ≡ s.number → new.turns ≡ s.turns + 1 → TakesTurns core n (put_slot core new)
   stood_takes new at more = own_takes core n core new s s (none_takes core n) (ap (slot_at core) at ∙ own_at) (at ∙ number) r more
 
-  moved_takes : (c : Change) → Moves core s.number c → (o : Option Slot) → c.other ≡ o → (new : Slot) → new.number ≡ s.number → new.turns ≡ s.turns + 1 → TakesTurns core n (put_slot (with_other core o) new)
+  moved_takes : (c : Change) → Moves core s.number c → (o : Option Slot) → c.other ≡ o → (new : Slot)
+      → new.number ≡ s.number → new.turns ≡ s.turns + 1 → TakesTurns core n (put_slot (with_other core o) new)
   moved_takes c moves None is new at more = stood_takes new at more
   moved_takes c (Moves.keeps_all a b) (Some o) is new at more = cc (b, is)
   moved_takes c (Moves.frees p f a b) (Some o) is new at more =
@@ -121,8 +126,11 @@ shape_takes core m n h match t (TurnShape.arrives_at s p rest on at pending is) 
     let from = delivered_from s in
     let own : slot_at core (delivered s).number ≡ Some s = ap (slot_at core) (from.number ∙ slot_at-number core (n - 128) s at) ∙ at in
     subst (λ (x : Turned). TakesTurns core n x.core) (sym is) (same_takes core n core (delivered s) s s (none_takes core n) own own from.turns)
-shape_takes core m n h match t (TurnShape.faults_early s c us r is) = subst (λ (x : Turned). TakesTurns core n x.core) (sym is) (faulted_takes core n h match s r (event_of s c (Int 0) (Int 0)) s.handler)
-shape_takes core m n h match t (TurnShape.faults_fetching s c f us r aim is) = subst (λ (x : Turned). TakesTurns core n x.core) (sym is) (faulted_takes core n h match s r (event_of s c (Int 0) (Int 0)) s.handler)
+shape_takes core m n h match t (TurnShape.faults_early s c us r is) = subst (λ (x : Turned). TakesTurns core n x.core)
+    (sym is) (faulted_takes core n h match s r (event_of s c (Int 0) (Int 0)) s.handler)
+shape_takes core m n h match t (TurnShape.faults_fetching s c f us r aim is) = subst
+    (λ (x : Turned). TakesTurns core n x.core) (sym is) (faulted_takes core n h match s r (event_of s c (Int 0) (Int 0))
+    s.handler)
 shape_takes core m n h match t (TurnShape.lacks_register s f i us r aim found on lacking is) =
     let from = delivered_from s in
     subst (λ (x : Turned). TakesTurns core n x.core) (sym is) (stood_takes core n h match s r (stood (delivered s) Running) from.number (ap (λ k. k + 1) from.turns))

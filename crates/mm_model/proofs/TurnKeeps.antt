@@ -1,5 +1,7 @@
 -- A turn keeps what a core is, what matches in it, and what the types keep of it.
-use Rattle.std.proofs.Common.{flat_map, ◌≡◌, ℕ, ◌+◌, ◌-◌, ◌<◌, ◌≤◌, Bool, true, false, ◌&&◌, ◌||◌, nat_eq, if◌then◌else◌, List, [], ◌∷◌, ◌++◌, length, Option, Some, None, refl, sym, ap, ◌∙◌, subst, arith, eq-eqb, slice_set, slice_index_or, get_or-set_same, length-append}
+use Rattle.std.proofs.Common.{flat_map, ◌≡◌, ℕ, ◌+◌, ◌-◌, ◌<◌, ◌≤◌, Bool, true, false, ◌&&◌, ◌||◌, nat_eq}
+use Rattle.std.proofs.Common.{if◌then◌else◌, List, [], ◌∷◌, ◌++◌, length, Option, Some, None, refl, sym, ap, ◌∙◌, subst}
+use Rattle.std.proofs.Common.{arith, eq-eqb, slice_set, slice_index_or, get_or-set_same, length-append}
 use Rattle.std.specs.List.{AllByRecursion, list_any}
 use Rattle.mm_word.specs.declared.cause.Cause.{Cause}
 use Rattle.mm_word.specs.declared.word.Word.{Word}
@@ -24,9 +26,12 @@ use Rattle.mm_model.specs.Operands.{addr_operand, value_operand, field_a, field_
 use Rattle.mm_model.specs.Ask.{ask}
 use Rattle.mm_model.specs.Effect.{Change, Effect, effect, delivered}
 use Rattle.mm_model.specs.Effect.Effect.{Fault, Block, Deliver, Does}
-use Rattle.mm_model.specs.Turn.{Turned, reply, put_all, state_after, with_issue, slot_after, with_other, with_queue, with_out, core_after, stood, is_sync, event_of, core_faulted, faulted, touch_of, asked_use, blocked, ended, executed, idle, arrives, is_running, is_taken, turn}
+use Rattle.mm_model.specs.Turn.{Turned, reply, put_all, state_after, with_issue, slot_after, with_other, with_queue}
+use Rattle.mm_model.specs.Turn.{with_out, core_after, stood, is_sync, event_of, core_faulted, faulted, touch_of}
+use Rattle.mm_model.specs.Turn.{asked_use, blocked, ended, executed, idle, arrives, is_running, is_taken, turn}
 use Rattle.mm_model.specs.Fits.{is_waiting, identity_of, slots_of, IsSlot, IsFormed, Matches, IsOfVersion, IsCore}
-use Rattle.mm_model.proofs.CoreRows.{slot_at-number, slot_at-put_other, slot_at-put_queue, put_queue-put_slot, slot_has, slot_contained, each_contained, each_map, of_version_by, has_group_by, stays_by}
+use Rattle.mm_model.proofs.CoreRows.{slot_at-number, slot_at-put_other, slot_at-put_queue, put_queue-put_slot, slot_has}
+use Rattle.mm_model.proofs.CoreRows.{slot_contained, each_contained, each_map, of_version_by, has_group_by, stays_by}
 use Rattle.mm_model.proofs.SlotSteps.{GoesOn, goes_then, slot_stands, slot_stood, slot_put_all, slot_issued, slot_delivered, delivered_from}
 use Rattle.mm_model.proofs.CoreSteps.{Fitting, Keeps, keeps_self, keeps_then, Replaces, put_keeps, puts_keep, wait_keeps, waited, take_keeps, out_keeps}
 use Rattle.mm_model.proofs.EffectSteps.{OtherKeeps, EventTaken, Moves, IssueKeeps, OutKeeps, ChangeKeeps, EffectKeeps, running_waits_not, waiting_runs_not, effect_keeps}
@@ -68,7 +73,9 @@ fields_free true s i e =
 fields_free false s i e = each_of (λ (r : ℕ). false ≡ true → is_empty s r ≡ false) (λ r on. cc) (fields_d i)
 
 -- what an instruction does lets the core go on
-pub row_keeps : (core : Core) → IsFormed core → (s : Slot) → slot_at core s.number ≡ Some s → (m : Memory) (i : Instr) → IsInstr i → (core.split && lacks i s) ≡ false → EffectKeeps core s (effect core.split i s (reply core m s.number (ask i s)))
+pub row_keeps : (core : Core) → IsFormed core → (s : Slot) → slot_at core s.number ≡ Some s → (m : Memory) (i : Instr)
+    → IsInstr i → (core.split && lacks i s) ≡ false → EffectKeeps core s
+    (effect core.split i s (reply core m s.number (ask i s)))
 row_keeps core h s at m i instr e = effect_keeps core h s at m i (fields_free core.split s i e) (fields_small i instr)
 
 -- 2. What the slot itself goes on to be.
@@ -129,7 +136,8 @@ each_any p (x ∷ xs) = (
 
 pub has_own_group : (core : Core) (n : ℕ) (s : Slot) → slot_at core n ≡ Some s → has_group (slots_of core) s.group ≡ true
 has_own_group core n s is =
-    each_contained (λ (t : Slot). nat_eq t.group s.group ≡ true → has_group (slots_of core) s.group ≡ true) (slots_of core) s (each_any (λ (t : Slot). nat_eq t.group s.group) (slots_of core)) (slot_contained core n s is)
+    each_contained (λ (t : Slot). nat_eq t.group s.group ≡ true → has_group (slots_of core) s.group ≡ true)
+    (slots_of core) s (each_any (λ (t : Slot). nat_eq t.group s.group) (slots_of core)) (slot_contained core n s is)
     (eq-eqb s.group s.group refl)
 
 module _ (core : Core) (h : IsFormed core) (s : Slot) (at : slot_at core s.number ≡ Some s) (running : is_running s.state ≡ true) where
@@ -220,14 +228,16 @@ module _ (core : Core) (h : IsFormed core) (s : Slot) (at : slot_at core s.numbe
   byte_keeps mid to same None room = to
   byte_keeps mid to same (Some byte) room =
       let was : output_of mid s.group ≡ output_of core s.group = ap (λ (all : List (List ℕ)). slice_index_or all s.group []) same in
-      let long : length (output_of mid s.group ++ byte ∷ []) ≡ length (output_of core s.group) + 1 = length-append (output_of mid s.group) (byte ∷ []) ∙ ap (λ (bytes : List ℕ). length bytes + 1) was in
+      let long : length (output_of mid s.group ++ byte ∷ []) ≡ length (output_of core s.group) + 1 = length-append
+      (output_of mid s.group) (byte ∷ []) ∙ ap (λ (bytes : List ℕ). length bytes + 1) was in
       let few : length (output_of mid s.group ++ byte ∷ []) ≤ output_limit mid.version = subst (λ v. length (output_of mid s.group ++ byte ∷ []) ≤ output_limit v) (sym to.version) (omega arith) in
       keeps_then core mid (put_output mid s.group (output_of mid s.group ++ byte ∷ [])) to
       (out_keeps mid s.group (output_of mid s.group ++ byte ∷ []) to.formed (has_group_by core mid s.group to.identities ∙ has_own_group core s.number s at) few)
 
   change_keeps : (c : Change) → ChangeKeeps core s c → Keeps core (core_after core s c)
   unfolding core_after
-  change_keeps c k = byte_keeps (with_queue (put_slot (with_other core c.other) (slot_after s c)) s.number c.queue) (moved_keeps c k k.moves c.queue c.other refl refl) (outputs_kept c c.other c.queue) c.out k.room
+  change_keeps c k = byte_keeps (with_queue (put_slot (with_other core c.other) (slot_after s c)) s.number c.queue)
+      (moved_keeps c k k.moves c.queue c.other refl refl) (outputs_kept c c.other c.queue) c.out k.room
 
   -- 4. What a fault and a wait make of the core.
 
@@ -317,7 +327,9 @@ module _ (core : Core) (m : Memory) (h : IsFormed core) where
   shape_keeps n t (TurnShape.carries_out s f u i r aim found has is) =
       let own = at_its_number n s r.at in
       subst Kept (sym is)
-      (ended_keeps core h s own r.running m i f (touch_of (ask i s)) (u ∷ asked_use m (ask i s)) (effect core.split i s (reply core m s.number (ask i s))) (row_keeps core h s own m i (decoded_instr m f i found) has))
+      (ended_keeps core h s own r.running m i f (touch_of (ask i s)) (u ∷ asked_use m (ask i s))
+      (effect core.split i s (reply core m s.number (ask i s)))
+      (row_keeps core h s own m i (decoded_instr m f i found) has))
 
   -- what a turn leaves
   pub turn_keeps : (n : ℕ) → Keeps core (turn core m n).core

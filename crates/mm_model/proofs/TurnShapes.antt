@@ -47,7 +47,8 @@ pub data TurnShape (core : Core) (m : Memory) (n : ℕ) (t : Turned) : Type 0 wh
   faults_early : (s : Slot) (c : Cause) (us : List Use) → Runs core n s → t ≡ faulted core m s c (Int 0) (Int 0) None None us → TurnShape core m n t
   faults_fetching : (s : Slot) (c : Cause) (f : Touch) (us : List Use) → Runs core n s → Fetches s f → t ≡ faulted core m s c (Int 0) (Int 0) (Some f) None us → TurnShape core m n t
   -- the instruction needs a register that waits for a load
-  lacks_register : (s : Slot) (f : Touch) (i : Instr) (us : List Use) → Runs core n s → Fetches s f → Decodes m f i → core.split ≡ true → lacks i s ≡ true → t ≡ blocked core m (delivered s) f None us → TurnShape core m n t
+  lacks_register : (s : Slot) (f : Touch) (i : Instr) (us : List Use) → Runs core n s → Fetches s f → Decodes m f i
+      → core.split ≡ true → lacks i s ≡ true → t ≡ blocked core m (delivered s) f None us → TurnShape core m n t
   -- the instruction is executed
   carries_out : (s : Slot) (f : Touch) (u : Use) (i : Instr) → Runs core n s → Fetches s f → Decodes m f i → (core.split && lacks i s) ≡ false → t ≡ executed core m s f u i → TurnShape core m n t
 

@@ -19,10 +19,15 @@ pub among-names : (name : List ℕ) (segments : List Segment) → has_name name 
 among-names name segments = sym (any-map (same_name name) (λ (s : Segment). s.name) segments)
 
 pub is_found : (name : List ℕ) (segments : List Segment) (i : ℕ) (s : Segment) → s ≡ get_or segments i s → i < length segments → same_name name s.name ≡ true → true ≡ is_among name (names_of segments)
-is_found name segments i s is lt same = sym (sym (among-names name segments) ∙ list_any_at (λ (s : Segment). same_name name s.name) segments i s lt (ap (λ (x : Segment). same_name name x.name) (sym is) ∙ same))
+is_found name segments i s is lt same = sym (sym (among-names name segments)
+    ∙ list_any_at (λ (s : Segment). same_name name s.name) segments i s lt (ap (λ (x : Segment). same_name name x.name)
+    (sym is) ∙ same))
 
-pub not_yet : (name : List ℕ) (segments : List Segment) (i : ℕ) (s : Segment) → s ≡ get_or segments i s → i < length segments → same_name name s.name ≡ false → has_name name (take i segments) ≡ false → has_name name (take (i + 1) segments) ≡ false
-not_yet name segments i s is lt other so_far = list_any_more (λ (s : Segment). same_name name s.name) segments i s lt ∙ none_of _ _ so_far (ap (λ (x : Segment). same_name name x.name) (sym is) ∙ other)
+pub not_yet : (name : List ℕ) (segments : List Segment) (i : ℕ) (s : Segment) → s ≡ get_or segments i s
+    → i < length segments → same_name name s.name ≡ false → has_name name (take i segments) ≡ false
+    → has_name name (take (i + 1) segments) ≡ false
+not_yet name segments i s is lt other so_far = list_any_more (λ (s : Segment). same_name name s.name) segments i s lt
+    ∙ none_of _ _ so_far (ap (λ (x : Segment). same_name name x.name) (sym is) ∙ other)
 
 pub not_found : (name : List ℕ) (segments : List Segment) (i : ℕ) → has_name name (take i segments) ≡ false → length segments ≤ i → false ≡ is_among name (names_of segments)
 not_found name segments i so_far le = whole_any (λ (s : Segment). same_name name s.name) segments i so_far le ∙ among-names name segments

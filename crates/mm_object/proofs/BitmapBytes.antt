@@ -67,7 +67,9 @@ module _ (bytes : List ℕ) where
       let all : 8 * q + r ≡ n = omega arith in
       let from : 0 + 8 * q ≡ 8 * q = omega arith in
       let start : 8 * q + 0 ≡ 8 * q = omega arith in
-      let rest : drop (8 * q) (map f (range_with_len 0 n)) ≡ map f (range_with_len (8 * q) r) = ap (λ m. drop (8 * q) (map f (range_with_len 0 m))) (sym all) ∙ drop-range f 0 (8 * q) r ∙ ap (λ m. map f (range_with_len m r)) from in
+      let rest : drop (8 * q) (map f (range_with_len 0 n)) ≡ map f (range_with_len (8 * q) r) = ap
+      (λ m. drop (8 * q) (map f (range_with_len 0 m))) (sym all) ∙ drop-range f 0 (8 * q) r
+      ∙ ap (λ m. map f (range_with_len m r)) from in
       let bits : map f (range_with_len (8 * q) r) ≡ map (λ j. byte / 2 ^ j % 2 == 1) (range_with_len 0 r) =
       ap (λ m. map f (range_with_len m r)) (sym start) ∙ map-shift f 0 (8 * q) r
       ∙ map-same (λ j. f (8 * q + j)) (λ j. byte / 2 ^ j % 2 == 1) 0 r (λ j low high.
@@ -78,7 +80,8 @@ module _ (bytes : List ℕ) where
       ∙ ap number_of_flags (take_all 8 (map (λ j. byte / 2 ^ j % 2 == 1) (range_with_len 0 r)) (omega (arith, length-map-range_with_len (λ j. byte / 2 ^ j % 2 == 1) 0 r)))
       ∙ number_of_bits r byte small
 
-  pub bits_part : IsBytes bytes → (at n : ℕ) → at + (n + 7) / 8 ≤ length bytes → has_unused_bit bytes at n ≡ false → bitmap ((n + 7) / 8) (map (bit_at bytes at) (range_with_len 0 n)) ≡ part bytes at ((n + 7) / 8)
+  pub bits_part : IsBytes bytes → (at n : ℕ) → at + (n + 7) / 8 ≤ length bytes → has_unused_bit bytes at n ≡ false
+      → bitmap ((n + 7) / 8) (map (bit_at bytes at) (range_with_len 0 n)) ≡ part bytes at ((n + 7) / 8)
   bits_part fits at n le used =
       let q = n / 8 in
       let f = bit_at bytes at in
@@ -100,7 +103,8 @@ module _ (bytes : List ℕ) where
 
   -- 2. Bits that are spelled.
 
-  byte_of_flags : (at count : ℕ) (fs : List Bool) → at + count ≤ length bytes → part bytes at count ≡ bitmap count fs → (i : ℕ) → i < count → number_at bytes (at + i) 1 ≡ number_of_flags (take 8 (drop (8 * i) fs))
+  byte_of_flags : (at count : ℕ) (fs : List Bool) → at + count ≤ length bytes → part bytes at count ≡ bitmap count fs
+      → (i : ℕ) → i < count → number_at bytes (at + i) 1 ≡ number_of_flags (take 8 (drop (8 * i) fs))
   byte_of_flags at count fs le e i lt =
       field_1 bytes (at + i) (omega arith) ∙ sym (get_or-take count (drop at bytes) i 0 lt ∙ get_or-drop at bytes i 0) ∙ ap (λ xs. get_or xs i 0) e ∙ bitmap-get count fs i lt
 

@@ -1,5 +1,6 @@
 -- The relocation of a word, as a search by halving finds it among those that rise.
-use Rattle.std.proofs.Common.{◌≡◌, ◌≢◌, ℕ, zero, suc, ◌+◌, ◌*◌, ◌^◌, ◌<◌, ◌≤◌, Bool, true, false, if◌then◌else◌, List, [], ◌∷◌, map, length, get_or, slice_get, Some, None, refl, sym, ap, ◌∙◌, arith, inl, inr}
+use Rattle.std.proofs.Common.{◌≡◌, ◌≢◌, ℕ, zero, suc, ◌+◌, ◌*◌, ◌^◌, ◌<◌, ◌≤◌, Bool, true, false, if◌then◌else◌, List}
+use Rattle.std.proofs.Common.{[], ◌∷◌, map, length, get_or, slice_get, Some, None, refl, sym, ap, ◌∙◌, arith, inl, inr}
 use Rattle.std.specs.Prelude.{find, ◌==◌, ◌&&◌}
 use Rattle.std.specs.List.{HoldsAt, list_all}
 use Rattle.std.specs.List.Sorted.{IsStrictlyIncreasing, IsNonDecreasingBy, IsPartitionPoint}
@@ -97,7 +98,9 @@ module _ (segment word : ℕ) where
     -- a relocation of the word is the only one
     pub found_at : (i : ℕ) (d : Reloc) → i < length xs → is_at segment word (get_or xs i d) ≡ true → find (is_at segment word) xs ≡ Some (get_or xs i d)
     found_at i d lt this =
-        found_here (is_at segment word) xs i d lt this (λ j less. elsewhere (get_or xs j d) (λ e. let up = rises j i d less lt in let at = at_its_place (get_or xs i d) this in omega (arith, up, at, e)))
+        found_here (is_at segment word) xs i d lt this
+        (λ j less. elsewhere (get_or xs j d) (λ e. let up = rises j i d less lt in let at = at_its_place
+        (get_or xs i d) this in omega (arith, up, at, e)))
 
     module _ (q : ℕ) (is : q ≡ segment * 2 ^ 32 + word) where
       pub found_reloc : (i : ℕ) (d : Reloc) → i < length xs → HoldsAt (λ (x : Reloc). nat_cmp (place_of x) q ≡ Equal) xs i → HaveSmallWords xs → word < 2 ^ 32

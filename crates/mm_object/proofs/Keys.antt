@@ -54,7 +54,8 @@ key_more (x ∷ keys) k name = by (order_of k x) (is_equal k.now x.now) (key_mor
     by Greater e later = ap (λ b. same_name name x.now || b) later ∙ swapped (same_name name x.now) (same_name name k.now) (is_among name (bytes_of keys))
 
 -- the name of one segment more
-pub segment_known : (old new : List (Bor (List ℕ))) (k : Bor (List ℕ)) (segments : List Segment) (i : ℕ) (s : Segment) → s ≡ get_or segments i s → i < length segments → k.now ≡ s.name → new ≡ insert_key order_of old k
+pub segment_known : (old new : List (Bor (List ℕ))) (k : Bor (List ℕ)) (segments : List Segment) (i : ℕ) (s : Segment)
+    → s ≡ get_or segments i s → i < length segments → k.now ≡ s.name → new ≡ insert_key order_of old k
     → AreTheSame (bytes_of old) (names_of (take i segments)) → AreTheSame (bytes_of new) (names_of (take (i + 1) segments))
 segment_known old new k segments i s is lt same more before = λ name.
     ap (λ keys. is_among name (bytes_of keys)) more

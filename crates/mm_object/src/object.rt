@@ -32,7 +32,8 @@ impl Model for Object {
 
     ghost view = { λ o. object_from o.segments.items o.externals.items o.relocs.items o.threads.items o.spare };
 
-    ghost invariant = { λ o. IsObject (object_from o.segments.items o.externals.items o.relocs.items o.threads.items o.spare) };
+    ghost invariant = { λ o. IsObject
+        (object_from o.segments.items o.externals.items o.relocs.items o.threads.items o.spare) };
 }
 
 // The place of a relocation: its segment, and then its word.

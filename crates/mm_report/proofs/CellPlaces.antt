@@ -1,5 +1,7 @@
 -- Where the cells of a page are, and their lines place by place.
-use Rattle.std.proofs.Common.{◌≡◌, ℕ, zero, suc, ◌+◌, ◌*◌, ◌%◌, ◌<◌, ◌^◌, Bool, true, false, cond, if◌then◌else◌, is_eq, List, [], ◌∷◌, ◌++◌, length, map, Option, Some, None, slice_get, slice_index_or, refl, sym, ap, ◌∙◌, arith}
+use Rattle.std.proofs.Common.{◌≡◌, ℕ, zero, suc, ◌+◌, ◌*◌, ◌%◌, ◌<◌, ◌^◌, Bool, true, false, cond, if◌then◌else◌, is_eq}
+use Rattle.std.proofs.Common.{List, [], ◌∷◌, ◌++◌, length, map, Option, Some, None, slice_get, slice_index_or, refl}
+use Rattle.std.proofs.Common.{sym, ap, ◌∙◌, arith}
 use Rattle.std.specs.List.{flat_map, range_with_len, AllByRecursion}
 use Rattle.std.specs.Prelude.{IsTrue}
 use Rattle.std.specs.Ordering.{nat_cmp}
@@ -71,7 +73,8 @@ was_whole pages number h = size_of (find nat_cmp number pages) (find_whole numbe
 abbrev pub page_changes : Memory → ℕ × List Cell → List (ℕ × Cell)
 page_changes was page = changes_from (page.0 * 4096) page.1 (cells_or_zero (page_at was page.0))
 
-pub changes_here : (m was : Memory) (i n : ℕ) (d : ℕ × List Cell) → IsPaged m → slice_get (map (λ e. e.0) m.pages) i ≡ Some n → changes_of m was n ≡ lines_of (page_changes was (slice_index_or m.pages i d))
+pub changes_here : (m was : Memory) (i n : ℕ) (d : ℕ × List Cell) → IsPaged m → slice_get (map (λ e. e.0) m.pages) i ≡
+    Some n → changes_of m was n ≡ lines_of (page_changes was (slice_index_or m.pages i d))
 changes_here m was i n d paged e =
     let here = at_place m.pages i n e in
     let page : ℕ × List Cell = slice_index_or m.pages i d in

@@ -1,5 +1,7 @@
 -- The pages of two memories, in the order of their numbers.
-use Rattle.std.proofs.Common.{◌≡◌, ℕ, zero, suc, ◌+◌, ◌*◌, ◌<◌, ◌≤◌, ◌==◌, nat_eq, min, Bool, true, false, ◌&&◌, if◌then◌else◌, List, [], ◌∷◌, ◌++◌, fold, drop, length, Option, Some, None, is_some, inl, inr, ◌⊎◌, ◌^◌, slice_get, slice_index_or, refl, sym, ap, ◌∙◌, subst, arith, T}
+use Rattle.std.proofs.Common.{◌≡◌, ℕ, zero, suc, ◌+◌, ◌*◌, ◌<◌, ◌≤◌, ◌==◌, nat_eq, min, Bool, true, false, ◌&&◌}
+use Rattle.std.proofs.Common.{if◌then◌else◌, List, [], ◌∷◌, ◌++◌, fold, drop, length, Option, Some, None, is_some, inl}
+use Rattle.std.proofs.Common.{inr, ◌⊎◌, ◌^◌, slice_get, slice_index_or, refl, sym, ap, ◌∙◌, subst, arith, T}
 use Rattle.std.specs.Prelude.{IsTrue, MatchOption}
 use Rattle.std.specs.Option.{option_eq}
 use Rattle.std.specs.List.{flat_map, AllByRecursion}

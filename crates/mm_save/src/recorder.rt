@@ -50,7 +50,8 @@ impl<M: Reset> Recorder<M> {
     ghost use Rattle.mm_debug.specs.Session.{total_of};
     ghost use Rattle.mm_debug.specs.Shown.{session_of};
     ghost use Rattle.mm_debug.specs.Standing.{StandsFor, total_at};
-    ghost use Rattle.mm_save.specs.Recorder.{Recalls, recalled, recorded, bare, IsKept, AreKept, totals_before, gone_back};
+    ghost use Rattle.mm_save.specs.Recorder.{Recalls, recalled, recorded, bare, IsKept, AreKept, totals_before};
+    ghost use Rattle.mm_save.specs.Recorder.{gone_back};
     ghost use Rattle.mm_save.specs.Shown.{recording_of};
 
     /// A recorder of a session that has issued nothing. The ring is empty. `NoMemory` comes if memory ran out.

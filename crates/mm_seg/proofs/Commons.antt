@@ -22,7 +22,8 @@ bases_rise xs i p set le lt = elim (same_or_below i p (omega arith)) [
 ]
 
 module _ (xs ys : List (ℕ × ℕ)) (left : IsSet xs) (right : IsSet ys) (i j : ℕ) (li : i < length xs) (lj : j < length ys) (inv : (p q a : ℕ) → At xs p a → At ys q a → (i ≤ p) × (j ≤ q)) where
-  pub least_here : (r : ℕ) → (segment_at xs i).0 ≤ r → (segment_at ys j).0 ≤ r → (r ≤ (segment_at xs i).0) ⊎ (r ≤ (segment_at ys j).0) → r < end_of (segment_at xs i) → r < end_of (segment_at ys j) → IsLeast xs ys r
+  pub least_here : (r : ℕ) → (segment_at xs i).0 ≤ r → (segment_at ys j).0 ≤ r → (r ≤ (segment_at xs i).0) ⊎
+      (r ≤ (segment_at ys j).0) → r < end_of (segment_at xs i) → r < end_of (segment_at ys j) → IsLeast xs ys r
   least_here r a b one c d = record {
     left = record { by = i; at = (li, a, c) };
     right = record { by = j; at = (lj, b, d) };

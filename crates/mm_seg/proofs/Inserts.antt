@@ -3,7 +3,8 @@ use Rattle.std.proofs.Math.Nat.{mul-le-mul_right, mul_assoc}
 use Rattle.std.specs.List.{Contains, slice_index_or}
 use Rattle.std.proofs.lemmas.List.{get_or-drop, get_or_default}
 use Rattle.std.proofs.lemmas.List.Elements.{Contains-get_or}
-use Rattle.std.proofs.Common.{◌≡◌, ℕ, zero, suc, ◌+◌, ◌-◌, ◌*◌, ◌/◌, ◌^◌, ◌<◌, ◌≤◌, ◌⊎◌, inl, inr, List, [], ◌∷◌, ◌++◌, length, take, drop, refl, sym, ap, ◌∙◌, subst, arith, pow_pos, pow-add, length-drop}
+use Rattle.std.proofs.Common.{◌≡◌, ℕ, zero, suc, ◌+◌, ◌-◌, ◌*◌, ◌/◌, ◌^◌, ◌<◌, ◌≤◌, ◌⊎◌, inl, inr, List, [], ◌∷◌, ◌++◌}
+use Rattle.std.proofs.Common.{length, take, drop, refl, sym, ap, ◌∙◌, subst, arith, pow_pos, pow-add, length-drop}
 use Rattle.mm_seg.specs.Segments.{IsSet, IsSegment, LiesIn, SomeHolds, IsMaximal, EndsBy, BeginsBy, segment_at, end_of}
 use Rattle.mm_seg.proofs.Searches.{compare}
 
@@ -170,7 +171,13 @@ module _ (xs : List (ℕ × ℕ)) (set : IsSet xs) (s : ℕ × ℕ) (seg : IsSeg
       | right n a e ↦ in_rest s _ xs (subst (Contains xs) (sym e) (at_in xs (j + n) (let l = len in omega arith)))
     ];
     holds = λ t h. elim (in_cases s t xs h) [
-      | inl e ↦ record { at = i; small = (let l = len in let f = begins.fits in omega arith); within = subst (λ v. LiesIn t v) (sym (at_mid xs i j s order first)) (subst (λ v. LiesIn v s) (sym e) (omega arith, omega arith)) }
+      | inl e ↦ record {
+        at = i;
+        small = (let l = len in let f = begins.fits in omega arith);
+        within = subst
+            (λ v. LiesIn t v) (sym (at_mid xs i j s order first))
+            (subst (λ v. LiesIn v s) (sym e) (omega arith, omega arith));
+      }
       | inr m ↦ let f = in_at xs t m in subst (SomeHolds (put xs i j s)) (sym f.is) (held f.at f.small)
     ];
   }
@@ -180,12 +187,28 @@ module _ (xs : List (ℕ × ℕ)) (set : IsSet xs) (s : ℕ × ℕ) (seg : IsSeg
 
       held : (k : ℕ) → k < length xs → SomeHolds (put xs i j s) (segment_at xs k)
       held k lt = elim (compare k i) [
-        | inl less ↦ record { at = k; small = (let l = len in let f = begins.fits in omega arith); within = subst (LiesIn (segment_at xs k)) (sym (at_left xs i j s k order first less)) (itself (segment_at xs k)) }
+        | inl less ↦ record {
+          at = k;
+          small = (let l = len in let f = begins.fits in omega arith);
+          within = subst
+              (LiesIn (segment_at xs k)) (sym (at_left xs i j s k order first less)) (itself (segment_at xs k));
+        }
         | inr ge ↦ elim (compare k j) [
           | inr far ↦
               let e : j + (k - j) ≡ k = omega arith in
-              record { at = i + 1 + (k - j); small = (let l = len in omega arith); within = subst (LiesIn (segment_at xs k)) (sym (at_right xs i j s (k - j) order first ∙ ap (segment_at xs) e)) (itself (segment_at xs k)) }
-          | inl near ↦ record { at = i; small = (let l = len in let f = begins.fits in omega arith); within = subst (LiesIn (segment_at xs k)) (sym (at_mid xs i j s order first)) (inside k lt ge near) }
+              record {
+                at = i + 1 + (k - j);
+                small = (let l = len in omega arith);
+                within = subst
+                    (LiesIn (segment_at xs k)) (sym (at_right xs i j s (k - j) order first ∙ ap (segment_at xs) e))
+                    (itself (segment_at xs k));
+              }
+          | inl near ↦ record {
+            at = i;
+            small = (let l = len in let f = begins.fits in omega arith);
+            within = subst
+                (LiesIn (segment_at xs k)) (sym (at_mid xs i j s order first)) (inside k lt ge near);
+          }
         ]
       ]
         where

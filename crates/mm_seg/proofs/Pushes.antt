@@ -36,9 +36,20 @@ module _ (xs : List (ℕ × ℕ)) (s : ℕ × ℕ) where
       | inr e ↦ subst (Contains (s ∷ xs)) (sym (pushed_last k e)) (in_first s xs)
     ];
     holds = λ t h. elim (in_cases s t xs h) [
-      | inl e ↦ record { at = length xs; small = (let l = len in omega arith); within = subst (λ v. LiesIn t v) (sym (pushed_last (length xs) refl)) (subst (λ v. LiesIn v s) (sym e) (omega arith, omega arith)) }
+      | inl e ↦ record {
+        at = length xs;
+        small = (let l = len in omega arith);
+        within = subst (λ v. LiesIn t v)
+            (sym (pushed_last (length xs) refl)) (subst (λ v. LiesIn v s) (sym e) (omega arith, omega arith));
+      }
       | inr m ↦
           let f = in_at xs t m in
-          record { at = f.at; small = (let l = len in let lt = f.small in omega arith); within = subst (λ v. LiesIn t v) (sym (pushed_before f.at f.small)) (subst (λ v. LiesIn v (segment_at xs f.at)) (sym f.is) (omega arith, omega arith)) }
+          record {
+            at = f.at;
+            small = (let l = len in let lt = f.small in omega arith);
+            within = subst (λ v. LiesIn t v)
+                (sym (pushed_before f.at f.small)) (subst (λ v. LiesIn v (segment_at xs f.at)) (sym f.is)
+                (omega arith, omega arith));
+          }
     ];
   }

@@ -1,6 +1,7 @@
 //! Inserts into a set of segments.
 
-ghost use Rattle.std.specs.Prelude.{◌≡◌, ◌<◌, ◌≤◌, ◌∷◌, ◌++◌, take, drop, length, IsTrue, ◌↔◌, MatchOption, OnOk, OnErr};
+ghost use Rattle.std.specs.Prelude.{◌≡◌, ◌<◌, ◌≤◌, ◌∷◌, ◌++◌, take, drop, length, IsTrue, ◌↔◌, MatchOption, OnOk};
+ghost use Rattle.std.specs.Prelude.{OnErr};
 ghost use Rattle.mm_seg.specs.Segments.{IsSet, IsSegment, IsMaximal, IsPlace, SomeHolds, LiesIn, segment_at};
 
 use crate::search::{begins_by, end, ends_by};

@@ -17,7 +17,8 @@ front_length : {A : Type 0} (xs : List A) (n : ℕ) → n < length xs → length
 front_length xs n lt = omega (arith, length-take n xs)
 
 module _ (range : ℕ × ℕ) where
-  registers_last : (slot r : ℕ) (words : List Word) (word : Word) → register_holders range slot r (words ++ word ∷ []) ≡ register_holders range slot r words ++ holder_line range (register_place slot (r + length words)) word
+  registers_last : (slot r : ℕ) (words : List Word) (word : Word) → register_holders range slot r (words ++ word ∷ []) ≡
+      register_holders range slot r words ++ holder_line range (register_place slot (r + length words)) word
   registers_last slot r [] word =
       append-nil (holder_line range (register_place slot r) word) ∙ ap (λ n. holder_line range (register_place slot n) word) (let same : r ≡ r + 0 = omega arith in same)
   registers_last slot r (first ∷ words) word =
@@ -35,7 +36,8 @@ module _ (range : ℕ × ℕ) where
       let place : 0 + length front ≡ n = omega (arith, front_length words n lt) in
       sym (ap (register_holders range slot 0) more ∙ registers_last slot 0 front word ∙ ap (λ k. register_holders range slot 0 front ++ holder_line range (register_place slot k) word) place)
 
-  cells_last : (address : ℕ) (cells : List Cell) (cell : Cell) → cell_holders range address (cells ++ cell ∷ []) ≡ cell_holders range address cells ++ holder_line range (cell_place (address + 8 * length cells)) cell.word
+  cells_last : (address : ℕ) (cells : List Cell) (cell : Cell) → cell_holders range address (cells ++ cell ∷ []) ≡
+      cell_holders range address cells ++ holder_line range (cell_place (address + 8 * length cells)) cell.word
   cells_last address [] cell =
       append-nil (holder_line range (cell_place address) cell.word) ∙ ap (λ n. holder_line range (cell_place n) cell.word) (let same : address ≡ address + 8 * 0 = omega arith in same)
   cells_last address (first ∷ cells) cell =

@@ -155,6 +155,8 @@ module _ (most : AllGrantMost) (range : ℕ × ℕ) (i : Image) (can : CanSweep 
   touches_free e g touches h = each_map (TouchGranted (swept range i) e g) (λ (t : Touch). ¬ (InRange range t.addr)) (touch_free e g) touches h
 
 -- so does the answer of a call that sweeps
-pub revokes_swept : SweepingRevokes → {range range' : ℕ × ℕ} → range ≡ range' → (i : Image) (r : Result Image SweepError) → IfOk r (λ j. CanSweep range i) → IfOk r (λ j. j ≡ swept range i) → IfOk r (λ j. Revokes range' i j)
+pub revokes_swept : SweepingRevokes → {range range' : ℕ × ℕ} → range ≡ range'
+    → (i : Image) (r : Result Image SweepError) → IfOk r (λ j. CanSweep range i) → IfOk r (λ j. j ≡ swept range i)
+    → IfOk r (λ j. Revokes range' i j)
 revokes_swept law {range} {range'} same i (Ok j) can is = subst (λ v. Revokes v i j) same (subst (Revokes range i) (sym is) (law range i can))
 revokes_swept law same i (Err e) can is = tt

@@ -97,7 +97,9 @@ module _ (range : ℕ × ℕ) where
         some_slots = (let some = h.some_slots in omega arith);
         few_slots = (let few = h.few_slots in omega arith);
         rising = subst IsStrictlyIncreasing (sym (same_numbers i.slots)) h.rising;
-        fresh = each_mapped (IsFresh (slot_limit i.version) i.slots) (IsFresh (slot_limit i.version) (map (swept_slot range) i.slots)) (swept_slot range) (slot_fresh (slot_limit i.version) i.slots) i.slots h.fresh;
+        fresh = each_mapped (IsFresh (slot_limit i.version) i.slots)
+            (IsFresh (slot_limit i.version) (map (swept_slot range) i.slots)) (swept_slot range)
+            (slot_fresh (slot_limit i.version) i.slots) i.slots h.fresh;
         some_frames = h.some_frames;
         few_frames = h.few_frames;
         paged = memory_paged i.memory h.paged;
@@ -108,6 +110,8 @@ pub swept_is_image : (range : ℕ × ℕ) (i : Image) → IsImage i → IsImage 
 swept_is_image range i h = swept_image range i h
 
 -- the image of equal parts
-pub same_image : {version version' frames frames' : ℕ} {split split' : Bool} {slots slots' : List Slot} {pages pages' : List (ℕ × List Cell)} → version ≡ version' → split ≡ split' → slots ≡ slots' → pages ≡ pages' → frames ≡ frames'
+pub same_image : {version version' frames frames' : ℕ} {split split' : Bool} {slots slots' : List Slot}
+    {pages pages' : List (ℕ × List Cell)} → version ≡ version' → split ≡ split' → slots ≡ slots' → pages ≡ pages'
+    → frames ≡ frames'
     → image_from version split slots pages frames ≡ image_from version' split' slots' pages' frames'
 same_image a b c d e j = image_from (a j) (b j) (c j) (d j) (e j)

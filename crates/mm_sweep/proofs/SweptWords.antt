@@ -1,5 +1,7 @@
 -- What stands in a swept image stood in the image before.
-use Rattle.std.proofs.Common.{◌≡◌, ℕ, zero, suc, ◌+◌, ◌%◌, ◌<◌, ◌≤◌, Bool, true, false, cond, is_eq, ◌==◌, if◌then◌else◌, List, [], ◌∷◌, length, map, get_or, slice_set, Option, Some, None, refl, sym, ap, ◌∙◌, subst, arith}
+use Rattle.std.proofs.Common.{◌≡◌, ℕ, zero, suc, ◌+◌, ◌%◌, ◌<◌, ◌≤◌, Bool, true, false, cond, is_eq, ◌==◌}
+use Rattle.std.proofs.Common.{if◌then◌else◌, List, [], ◌∷◌, length, map, get_or, slice_set, Option, Some, None, refl}
+use Rattle.std.proofs.Common.{sym, ap, ◌∙◌, subst, arith}
 use Rattle.std.specs.Prelude.{Contains}
 use Rattle.std.specs.Option.{option_map}
 use Rattle.std.specs.Ordering.{nat_cmp}
@@ -99,7 +101,8 @@ module _ (range : ℕ × ℕ) where
       ap (λ (o : Option (List Cell)). if w % 8 == 0 then cell_in o (place_of w) else None) (find_swept m.pages (page_of w))
       ∙ by (w % 8 == 0)
     where
-      by : (b : Bool) → (if b then cell_in (option_map (map (swept_cell range)) (page_at m (page_of w))) (place_of w) else None) ≡ option_map (swept_cell range) (if b then cell_in (page_at m (page_of w)) (place_of w) else None)
+      by : (b : Bool) → (if b then cell_in (option_map (map (swept_cell range)) (page_at m (page_of w))) (place_of w)
+          else None) ≡ option_map (swept_cell range) (if b then cell_in (page_at m (page_of w)) (place_of w) else None)
       by true = cell_swept (page_at m (page_of w)) (place_of w)
       by false = refl
 

@@ -36,7 +36,8 @@ slot_holders range s = holder_line range (ip_place s.number) (Ptr s.ip) ++ regis
 -- the lines of cells, from an address on
 abbrev pub cell_holders : ℕ × ℕ → (address : ℕ) → List Cell → List ℕ
 cell_holders range address [] = []
-cell_holders range address (cell ∷ cells) = holder_line range (cell_place address) cell.word ++ cell_holders range (address + 8) cells
+cell_holders range address (cell ∷ cells) = holder_line range (cell_place address) cell.word
+    ++ cell_holders range (address + 8) cells
 
 abbrev pub page_holders : ℕ × ℕ → ℕ × List Cell → List ℕ
 page_holders range page = cell_holders range (page.0 * 4096) page.1

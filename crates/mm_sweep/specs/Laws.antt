@@ -48,4 +48,5 @@ SweepingRevokes = (range : ℕ × ℕ) (i : Image) → CanSweep range i → Revo
 abbrev pub SweptSilent : Type 0
 SweptSilent =
     (range : ℕ × ℕ) (i : Image) (before : List ℕ) (n : ℕ) → IsSegment range → IsImage i → CanSweep range i
-    → AllByRecursion (λ (t : Touch). ¬ InRange range t.addr) (touches (turn_of (run (start (swept range i)) before) n).step)
+    → AllByRecursion (λ (t : Touch). ¬ InRange range t.addr)
+    (touches (turn_of (run (start (swept range i)) before) n).step)

@@ -60,7 +60,8 @@ fn put_slot<O: Sink>(text: &mut Gather, out: &mut O, range: &Range, slot: &Slot)
 
 /// Appends the lines of a slot's registers.
 fn put_registers<O: Sink>(text: &mut Gather, out: &mut O, range: &Range, slot: &Slot)
-    ensures { Gathers O.taken O.faults out.old out.new text.old text.new (register_holders range.now slot.now.number 0 slot.now.regs) }
+    ensures { Gathers O.taken O.faults out.old out.new text.old text.new
+        (register_holders range.now slot.now.number 0 slot.now.regs) }
 {
     for (number, word) in slot.regs.iter().enumerate() {
         let place = Place::Register {

@@ -34,7 +34,8 @@ pub fn held(range: &Range, img: &Image) -> Option<u8>
 
 /// The least group that is privileged.
 pub fn privileged(survey: &Survey) -> Option<u8>
-    ensures { (i : ImageValue) → Surveys i All survey.now → MatchOption result (NonePrivileged i) (λ g. FirstPrivileged i g) }
+    ensures { (i : ImageValue) → Surveys i All survey.now
+        → MatchOption result (NonePrivileged i) (λ g. FirstPrivileged i g) }
 {
     for group in 0..64 {
         if survey.privileged(group) {

@@ -89,8 +89,13 @@ module _ (core : Core) (apart : AreNumbered core.rows) (p : ℕ) (within : p < l
   load_leaves m a rd pre post None = record { core_is = refl; memory_is = refl; outcome_is = refl; stays = λ e. cc }
   load_leaves m a rd pre post (Some c) = by (passes pre c.full)
     where
-      by : (b : Bool) → Leaves core m s (loaded core.split s rd post (cond b (Rattle.mm_model.specs.Effect.Reply.Got a c) (Refused Sync))) (core_loaded core p rd (cond b (Rattle.mm_mem.specs.declared.answer.Loaded.TheVariants.Value c.word) Rattle.mm_mem.specs.declared.answer.Loaded.TheVariants.NotReady))
-          (cond b (Rattle.mm_model.specs.Turn.with_cell m (set_by post a.addr c)) m) (outcome_loaded (cond b (Rattle.mm_mem.specs.declared.answer.Loaded.TheVariants.Value c.word) Rattle.mm_mem.specs.declared.answer.Loaded.TheVariants.NotReady))
+      by : (b : Bool) → Leaves core m s
+          (loaded core.split s rd post (cond b (Rattle.mm_model.specs.Effect.Reply.Got a c) (Refused Sync)))
+          (core_loaded core p rd (cond b (Rattle.mm_mem.specs.declared.answer.Loaded.TheVariants.Value c.word)
+          Rattle.mm_mem.specs.declared.answer.Loaded.TheVariants.NotReady))
+          (cond b (Rattle.mm_model.specs.Turn.with_cell m (set_by post a.addr c)) m)
+          (outcome_loaded (cond b (Rattle.mm_mem.specs.declared.answer.Loaded.TheVariants.Value c.word)
+          Rattle.mm_mem.specs.declared.answer.Loaded.TheVariants.NotReady))
       by true = record {
         core_is = sym (load_core core.split rd c.word (set_by post a.addr c));
         memory_is = sym (load_memory m core.split rd c.word (set_by post a.addr c));
@@ -100,26 +105,40 @@ module _ (core : Core) (apart : AreNumbered core.rows) (p : ℕ) (within : p < l
       by false = record { core_is = refl; memory_is = refl; outcome_is = refl; stays = λ e. cc }
 
   pub store_leaves : (m : Memory) (a : Touch) (w : Word) (pre : Pre) (post : Post) (o : Option Cell)
-      → Leaves core m s (stored s w post (reached a pre o)) (core_stored core p (stored_answer pre o)) (put_where m a.addr pre o (λ c. record { word = w; full = Rattle.mm_model.specs.Memory.full_after post c.full })) (outcome_stored (stored_answer pre o))
+      → Leaves core m s (stored s w post (reached a pre o)) (core_stored core p (stored_answer pre o))
+      (put_where m a.addr pre o (λ c. record {
+        word = w;
+        full = Rattle.mm_model.specs.Memory.full_after post c.full;
+      })) (outcome_stored (stored_answer pre o))
   unfolding core_after memory_after plain slot_after
   store_leaves m a w pre post None = record { core_is = refl; memory_is = refl; outcome_is = refl; stays = λ e. cc }
   store_leaves m a w pre post (Some c) = by (passes pre c.full)
     where
-      by : (b : Bool) → Leaves core m s (stored s w post (cond b (Rattle.mm_model.specs.Effect.Reply.Got a c) (Refused Sync))) (core_stored core p (cond b Rattle.mm_mem.specs.declared.answer.Stored.TheVariants.Done Rattle.mm_mem.specs.declared.answer.Stored.TheVariants.NotReady))
-          (cond b (Rattle.mm_model.specs.Memory.put_cell m a.addr (record { word = w; full = Rattle.mm_model.specs.Memory.full_after post c.full })) m) (outcome_stored (cond b Rattle.mm_mem.specs.declared.answer.Stored.TheVariants.Done Rattle.mm_mem.specs.declared.answer.Stored.TheVariants.NotReady))
+      by : (b : Bool) → Leaves core m s
+          (stored s w post (cond b (Rattle.mm_model.specs.Effect.Reply.Got a c) (Refused Sync)))
+          (core_stored core p (cond b Rattle.mm_mem.specs.declared.answer.Stored.TheVariants.Done
+          Rattle.mm_mem.specs.declared.answer.Stored.TheVariants.NotReady))
+          (cond b (Rattle.mm_model.specs.Memory.put_cell m a.addr
+          (record { word = w; full = Rattle.mm_model.specs.Memory.full_after post c.full })) m)
+          (outcome_stored (cond b Rattle.mm_mem.specs.declared.answer.Stored.TheVariants.Done
+          Rattle.mm_mem.specs.declared.answer.Stored.TheVariants.NotReady))
       by true = record { core_is = sym (own_put core apart p within (plain s)); memory_is = refl; outcome_is = refl; stays = λ e. cc }
       by false = record { core_is = refl; memory_is = refl; outcome_is = refl; stays = λ e. cc }
 
   -- 3. Pages.
 
   pub map_leaves : (m : Memory) (rd page : ℕ) (b : Bool)
-      → Leaves core m s (maps s rd (Paged page b)) (with_slot core p (slot_after s (record (plain s) { writes = (rd, Int (test b)) ∷ [] }))) (cond b (Rattle.mm_model.specs.Memory.map_page m page) m) (Goes None)
+      → Leaves core m s (maps s rd (Paged page b))
+      (with_slot core p (slot_after s (record (plain s) { writes = (rd, Int (test b)) ∷ [] })))
+      (cond b (Rattle.mm_model.specs.Memory.map_page m page) m) (Goes None)
   unfolding core_after memory_after plain slot_after
   map_leaves m rd page true = record { core_is = sym (own_put core apart p within (record (plain s) { writes = (rd, Int 1) ∷ [] })); memory_is = refl; outcome_is = refl; stays = λ e. cc }
   map_leaves m rd page false = record { core_is = sym (own_put core apart p within (record (plain s) { writes = (rd, Int 0) ∷ [] })); memory_is = refl; outcome_is = refl; stays = λ e. cc }
 
   pub unmap_leaves : (m : Memory) (rd page : ℕ) (b : Bool)
-      → Leaves core m s (unmaps s rd (Paged page b)) (with_slot core p (slot_after s (record (plain s) { writes = (rd, Int (test b)) ∷ [] }))) (cond b (Rattle.mm_model.specs.Memory.unmap_page m page) m) (Goes None)
+      → Leaves core m s (unmaps s rd (Paged page b))
+      (with_slot core p (slot_after s (record (plain s) { writes = (rd, Int (test b)) ∷ [] })))
+      (cond b (Rattle.mm_model.specs.Memory.unmap_page m page) m) (Goes None)
   unfolding core_after memory_after plain slot_after
   unmap_leaves m rd page true = record { core_is = sym (own_put core apart p within (record (plain s) { writes = (rd, Int 1) ∷ [] })); memory_is = refl; outcome_is = refl; stays = λ e. cc }
   unmap_leaves m rd page false = record { core_is = sym (own_put core apart p within (record (plain s) { writes = (rd, Int 0) ∷ [] })); memory_is = refl; outcome_is = refl; stays = λ e. cc }
@@ -178,7 +197,8 @@ module _ {M : Type 0} (meaning : M → Memory) (uses : M → ℕ) (stands : M �
       (leaves_all core (meaning old) s _ core' (meaning old) o core' (meaning old) told.outcome leaves refl refl (ap (λ (x : Retired). x.outcome) is))
       (ap (λ (x : Retired). x.touched) is)
 
-pub is_alone-others : (i : Instr) → ((ra : ℕ) → i ≡ Out ra → ⊥) → ((rd ra : ℕ) (pre : Pre) (post : Post) (imm : ℤ) → i ≡ Ld rd ra pre post imm → ⊥) → ((ra rb : ℕ) (pre : Pre) (post : Post) (imm : ℤ) → i ≡ St ra rb pre post imm → ⊥)
+pub is_alone-others : (i : Instr) → ((ra : ℕ) → i ≡ Out ra → ⊥) → ((rd ra : ℕ) (pre : Pre) (post : Post) (imm : ℤ)
+    → i ≡ Ld rd ra pre post imm → ⊥) → ((ra rb : ℕ) (pre : Pre) (post : Post) (imm : ℤ) → i ≡ St ra rb pre post imm → ⊥)
     → ((rd : ℕ) → i ≡ Evt rd → ⊥) → ((ra : ℕ) (how : How) → i ≡ Resume ra how → ⊥) → ((rd ra reg : ℕ) → i ≡ Rreg rd ra reg → ⊥) → ((ra rb reg : ℕ) → i ≡ Wreg ra rb reg → ⊥)
     → ((rd ra : ℕ) → i ≡ Map rd ra → ⊥) → ((rd ra : ℕ) → i ≡ Unmap rd ra → ⊥) → is_alone i ≡ true
 is_alone-others (Out ra) out ld st evt resume rreg wreg mapped unmapped = absurd (out ra refl)

@@ -295,7 +295,8 @@ pub leaves_at : (core : Core) (m : Memory) (s : Slot) (e : Effect) (k core' : Co
 leaves_at core m s e k core' o h same = record { core_is = same ∙ h.core_is; memory_is = h.memory_is; outcome_is = h.outcome_is; stays = λ e. ap (λ (x : Core). slot_at x s.number) same ∙ h.stays e }
 
 -- a change of the slot at p after one of the slot at q
-pub goes_after : (core : Core) (q p : ℕ) (o : Slot) (f : Slot → Slot) → q ≢ p → (k k' : Core) → k ≡ with_slot core q o → k' ≡ with_slot k p (f (slot_in k p)) → k' ≡ with_slot (with_slot core q o) p (f (slot_in core p))
+pub goes_after : (core : Core) (q p : ℕ) (o : Slot) (f : Slot → Slot) → q ≢ p → (k k' : Core) → k ≡ with_slot core q o
+    → k' ≡ with_slot k p (f (slot_in k p)) → k' ≡ with_slot (with_slot core q o) p (f (slot_in core p))
 goes_after core q p o f other k k' first second =
     second ∙ ap (λ (x : Core). with_slot x p (f (slot_in x p))) first ∙ ap (λ (x : Slot). with_slot (with_slot core q o) p (f x)) (slot_in-other core q p o (λ same. other (sym same)))
 

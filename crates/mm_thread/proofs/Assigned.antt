@@ -1,5 +1,7 @@
 -- How a core is put back part by part.
-use Rattle.std.proofs.Common.{◌≡◌, ◌≢◌, ℕ, ◌+◌, ◌<◌, ◌≤◌, ◌⊎◌, inl, inr, Bool, true, false, cond, eqb, List, [], ◌∷◌, ◌++◌, length, map, take, drop, get_or, set, replicate, Option, Some, None, refl, sym, ap, subst, ◌∙◌, arith}
+use Rattle.std.proofs.Common.{◌≡◌, ◌≢◌, ℕ, ◌+◌, ◌<◌, ◌≤◌, ◌⊎◌, inl, inr, Bool, true, false, cond, eqb, List, [], ◌∷◌}
+use Rattle.std.proofs.Common.{◌++◌, length, map, take, drop, get_or, set, replicate, Option, Some, None, refl, sym, ap}
+use Rattle.std.proofs.Common.{subst, ◌∙◌, arith}
 use Rattle.std.specs.Prelude.{IfSome}
 use Rattle.std.specs.List.{AllByRecursion}
 use Rattle.std.proofs.Math.Seq.{get_or-append_seam}
@@ -57,7 +59,9 @@ events_for-append : (n : ℕ) (xs ys : List (ℕ × Event)) → events_for n (xs
 events_for-append n [] ys = refl
 events_for-append n (x ∷ xs) ys = by (eqb x.0 n) (events_for-append n xs ys)
   where
-    by : (b : Bool) → events_for n (xs ++ ys) ≡ events_for n xs ++ events_for n ys → cond b (x.1 ∷ events_for n (xs ++ ys)) (events_for n (xs ++ ys)) ≡ cond b (x.1 ∷ events_for n xs) (events_for n xs) ++ events_for n ys
+    by : (b : Bool) → events_for n (xs ++ ys) ≡ events_for n xs ++ events_for n ys
+        → cond b (x.1 ∷ events_for n (xs ++ ys)) (events_for n (xs ++ ys)) ≡ cond b (x.1 ∷ events_for n xs)
+        (events_for n xs) ++ events_for n ys
     by true rest = ap (λ (es : List Event). x.1 ∷ es) rest
     by false rest = rest
 
@@ -75,7 +79,8 @@ module _ (xs : List (ℕ × Event)) (n : ℕ) (e : Event) where
   more_here = events_for-append n xs ((n, e) ∷ []) ∙ ap (λ (es : List Event). events_for n xs ++ es) (events_for-same n e)
 
   more_other : (k : ℕ) → k ≢ n → events_for k more ≡ events_for k xs
-  more_other k other = events_for-append k xs ((n, e) ∷ []) ∙ ap (λ (es : List Event). events_for k xs ++ es) (events_for-other k n e (λ same. other (sym same))) ∙ Rattle.std.proofs.lemmas.List.append-nil (events_for k xs)
+  more_other k other = events_for-append k xs ((n, e) ∷ []) ∙ ap (λ (es : List Event). events_for k xs ++ es)
+      (events_for-other k n e (λ same. other (sym same))) ∙ Rattle.std.proofs.lemmas.List.append-nil (events_for k xs)
 
   queue_is : (slots : List Slot) → (queue_of (row_in (map (row_with xs) slots) n) ≡ events_for n xs) ⊎ AllByRecursion (λ (s : Slot). s.number ≢ n) slots
   queue_is [] = inr tt
@@ -90,13 +95,18 @@ module _ (xs : List (ℕ × Event)) (n : ℕ) (e : Event) where
   rows_put : (q : List Event) → q ≡ events_for n xs ++ e ∷ [] → (slots : List Slot) → map (at_number n (λ row. record row { queue = q })) (map (row_with xs) slots) ≡ map (row_with more) slots
   rows_put q is [] = refl
   rows_put q is (s ∷ slots) = elim (cases_eq s.number n) as (λ _. map (at_number n (λ row. record row { queue = q })) (map (row_with xs) (s ∷ slots)) ≡ map (row_with more) (s ∷ slots)) [
-    | inl same ↦ rw (same_test s.number n same, rows_put q is slots) (ap (λ (es : List Event). record { slot = s; queue = es } ∷ map (row_with more) slots) (is ∙ sym more_here ∙ ap (λ (k : ℕ). events_for k more) (sym same)))
+    | inl same ↦ rw (same_test s.number n same, rows_put q is slots)
+        (ap (λ (es : List Event). record { slot = s; queue = es } ∷ map (row_with more) slots)
+        (is ∙ sym more_here ∙ ap (λ (k : ℕ). events_for k more) (sym same)))
     | inr other ↦ rw (other_test s.number n other, rows_put q is slots) (ap (λ (es : List Event). record { slot = s; queue = es } ∷ map (row_with more) slots) (sym (more_other s.number other)))
   ]
 
-  rows_unput : (q : List Event) (slots : List Slot) → AllByRecursion (λ (s : Slot). s.number ≢ n) slots → map (at_number n (λ row. record row { queue = q })) (map (row_with xs) slots) ≡ map (row_with more) slots
+  rows_unput : (q : List Event) (slots : List Slot) → AllByRecursion (λ (s : Slot). s.number ≢ n) slots
+      → map (at_number n (λ row. record row { queue = q })) (map (row_with xs) slots) ≡ map (row_with more) slots
   rows_unput q [] none = refl
-  rows_unput q (s ∷ slots) none = rw (other_test s.number n none.0, rows_unput q slots none.1) (ap (λ (es : List Event). record { slot = s; queue = es } ∷ map (row_with more) slots) (sym (more_other s.number none.0)))
+  rows_unput q (s ∷ slots) none = rw (other_test s.number n none.0, rows_unput q slots none.1)
+      (ap (λ (es : List Event). record { slot = s; queue = es } ∷ map (row_with more) slots)
+      (sym (more_other s.number none.0)))
 
   -- one more event in its queue
   pub event_more : (core : Core) (slots : List Slot) → let before = record core { rows = map (row_with xs) slots } in
@@ -110,18 +120,31 @@ module _ (xs : List (ℕ × Event)) (n : ℕ) (e : Event) where
       ])
 
   -- its queue has room
-  pub event_room : (ys : List (ℕ × Event)) (slots : List Slot) → AllByRecursion (λ (s : Slot). length (events_for s.number (more ++ ys)) ≤ 64) slots → IfSome (row_in (map (row_with xs) slots) n) (λ row. length row.queue < 64)
+  pub event_room : (ys : List (ℕ × Event)) (slots : List Slot)
+      → AllByRecursion (λ (s : Slot). length (events_for s.number (more ++ ys)) ≤ 64) slots
+      → IfSome (row_in (map (row_with xs) slots) n) (λ row. length row.queue < 64)
   event_room ys [] few = tt
   event_room ys (s ∷ slots) few = elim (cases_eq s.number n) as (λ _. IfSome (row_in (map (row_with xs) (s ∷ slots)) n) (λ row. length row.queue < 64)) [
     | inl same ↦
         let some : length (events_for n (more ++ ys)) ≤ 64 = let one = few.0 in omega (arith, ap (λ (k : ℕ). length (events_for k (more ++ ys))) same) in
-        let here : length (events_for s.number xs) < 64 = omega (arith, some, ap length (events_for-append n more ys), length-append (events_for n more) (events_for n ys), ap length more_here, length-append (events_for n xs) (e ∷ []), ap (λ (k : ℕ). length (events_for k xs)) same) in
+        let here : length (events_for s.number xs) < 64 = omega (
+          arith,
+          some,
+          ap length (events_for-append n more ys),
+          length-append (events_for n more) (events_for n ys),
+          ap length more_here,
+          length-append (events_for n xs)
+              (e ∷ []),
+          ap (λ (k : ℕ). length (events_for k xs)) same,
+        ) in
         rw (same_test s.number n same) here
     | inr other ↦ rw (other_test s.number n other) (event_room ys slots few.1)
   ]
 
 -- the queue of a slot that is there
-pub queue-with : (xs : List (ℕ × Event)) (n : ℕ) (slots : List Slot) (s : Slot) → slot_of (row_in (map (row_with xs) slots) n) ≡ Some s → queue_of (row_in (map (row_with xs) slots) n) ≡ events_for n xs
+pub queue-with : (xs : List (ℕ × Event)) (n : ℕ) (slots : List Slot) (s : Slot)
+    → slot_of (row_in (map (row_with xs) slots) n) ≡ Some s → queue_of (row_in (map (row_with xs) slots) n) ≡ events_for
+    n xs
 queue-with xs n [] s is = cc
 queue-with xs n (t ∷ slots) s is = elim (cases_eq t.number n) as (λ _. queue_of (row_in (map (row_with xs) (t ∷ slots)) n) ≡ events_for n xs) [
   | inl same ↦ rw (same_test t.number n same) (ap (λ (k : ℕ). events_for k xs) same)
@@ -140,12 +163,16 @@ slots-alone (s ∷ slots) = ap (λ (ss : List Slot). s ∷ ss) (slots-alone slot
 
 -- 3. Rows and outputs in a front that grows.
 
-pub front_more : {A B : Type 0} (f : A → B) (xs : List A) (ys : List B) (i : ℕ) (d : A) (b : B) → i < length xs → i < length ys → set (map f (take i xs) ++ drop i ys) i (f (get_or xs i d)) ≡ map f (take (i + 1) xs) ++ drop (i + 1) ys
+pub front_more : {A B : Type 0} (f : A → B) (xs : List A) (ys : List B) (i : ℕ) (d : A) (b : B) → i < length xs
+    → i < length ys → set (map f (take i xs) ++ drop i ys) i (f (get_or xs i d)) ≡ map f (take (i + 1) xs) ++ drop
+    (i + 1) ys
 front_more f xs ys i d b within inside =
     let long : length (map f (take i xs)) ≡ i = length-map (take i xs) f ∙ length-take-le i xs (omega arith) in
     ap (λ rest. set (map f (take i xs) ++ rest) i (f (get_or xs i d))) (drop_more ys i b inside)
     ∙ set_at (map f (take i xs)) (get_or ys i b) (drop (i + 1) ys) (f (get_or xs i d)) i long
-    ∙ sym (ap (λ front. map f front ++ drop (i + 1) ys) (take_more xs i d within) ∙ ap (λ front. front ++ drop (i + 1) ys) (map_push f (take i xs) (get_or xs i d)) ∙ append_assoc (map f (take i xs)) (f (get_or xs i d) ∷ []) (drop (i + 1) ys))
+    ∙ sym (ap (λ front. map f front ++ drop (i + 1) ys) (take_more xs i d within)
+    ∙ ap (λ front. front ++ drop (i + 1) ys) (map_push f (take i xs) (get_or xs i d))
+    ∙ append_assoc (map f (take i xs)) (f (get_or xs i d) ∷ []) (drop (i + 1) ys))
 
 -- what stands next behind the front
 pub front_next : {B : Type 0} (front ys : List B) (i : ℕ) (d : B) → length front ≡ i → i < length ys → get_or (front ++ drop i ys) i d ≡ get_or ys i d
@@ -180,4 +207,6 @@ module _ (version : ℕ) (split : Bool) (slots : List Slot) (events : List (ℕ 
       (slots_of core) (slots_found core whole.formed.rising))
 
   pub parts_short : AllByRecursion (λ (o : Output). output_of core o.group ≡ o.bytes) outputs → AllByRecursion (λ (o : Output). length o.bytes ≤ 65536) outputs
-  parts_short given = each_map (λ (o : Output). output_of core o.group ≡ o.bytes) (λ (o : Output). length o.bytes ≤ 65536) (λ o is. omega (arith, output_short core whole o.group, ap length is)) outputs given
+  parts_short given = each_map (λ (o : Output). output_of core o.group ≡ o.bytes)
+      (λ (o : Output). length o.bytes ≤ 65536) (λ o is. omega (arith, output_short core whole o.group, ap length is))
+      outputs given

@@ -104,7 +104,9 @@ module _ (core : Core) (whole : IsCore core) where
     pub handler_there : (h : ℕ) → (slot_in core p).handler ≡ Some h → slot_at core h ≡ None → ⊥
     handler_there h is none =
         let s = slot_in core p in
-        let other : IfSome s.handler (IsOther (slots_of core) s.number) = slot_has (λ (t : Slot). IfSome t.handler (IsOther (slots_of core) t.number)) core s.number s whole.handlers (slot_found core apart p within) in
+        let other : IfSome s.handler (IsOther (slots_of core) s.number) = slot_has
+        (λ (t : Slot). IfSome t.handler (IsOther (slots_of core) t.number)) core s.number s whole.handlers
+        (slot_found core apart p within) in
         let at = other_at core whole.formed.rising s.number h (subst (λ o. IfSome o (IsOther (slots_of core) s.number)) is other) in
         cc (at.1.1)
 

@@ -22,7 +22,9 @@ use Rattle.mm_model.specs.Ask.Ask.{Reach, UnmapPage}
 use Rattle.mm_model.specs.Effect.{Effect, delivered}
 use Rattle.mm_model.specs.Effect.Effect.{Fault, Block, Deliver, Does}
 use Rattle.mm_model.specs.Fits.{IsCore}
-use Rattle.mm_model.specs.Turn.{Turned, removal_use, asked_use, touch_of, faulted, blocked, ended, executed, issued, decoded, instr_in, fetched, aimed, started, idle, arrives, port_of, taken_by, taken_by_port, is_running, turn}
+use Rattle.mm_model.specs.Turn.{Turned, removal_use, asked_use, touch_of, faulted, blocked, ended, executed, issued}
+use Rattle.mm_model.specs.Turn.{decoded, instr_in, fetched, aimed, started, idle, arrives, port_of, taken_by}
+use Rattle.mm_model.specs.Turn.{taken_by_port, is_running, turn}
 use Rattle.mm_model.specs.declared.step.Step.{Step}
 use Rattle.mm_model.proofs.Causes.{EndsExactly, core_orderly, ends_exactly}
 use Rattle.mm_thread.specs.Told.{accesses_in, access_told, accesses_told}
@@ -82,7 +84,9 @@ module _ (core : Core) (m : Memory) (s : Slot) (f : Touch) (done found : Bool) w
 
   told_executed : (i : Instr) → IsTold (executed core m s f u i)
   unfolding executed
-  told_executed i = told_ended core m s i f (touch_of (ask i s)) (u ∷ asked_use m (ask i s)) (ap (λ (xs : List (Kind × ℕ)). (f.kind, f.addr) ∷ xs) (asked_is m (ask i s))) (omega (arith, asked_few m (ask i s))) _
+  told_executed i = told_ended core m s i f (touch_of (ask i s)) (u ∷ asked_use m (ask i s))
+      (ap (λ (xs : List (Kind × ℕ)). (f.kind, f.addr) ∷ xs) (asked_is m (ask i s)))
+      (omega (arith, asked_few m (ask i s))) _
 
   told_issued : (i : Instr) → IsTold (issued core m s f u i)
   unfolding issued

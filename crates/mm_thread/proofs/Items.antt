@@ -53,7 +53,9 @@ module _ (core : Core) (apart : AreNumbered core.rows) (p : ℕ) (within : p < l
       → AsksNothing (arrives core m s ps) m core' step
   unfolding delivered
   port_arrives m core' step core_is [] none step_is =
-      idles_at (core_is ∙ ap (λ (ps : List Pending). with_slot core p (delivers s ps)) none ∙ ap (λ (rows : List Row). record core { rows = rows }) (set-get_or core.rows p no_row)) (idles core m s.number step step_is)
+      idles_at (core_is ∙ ap (λ (ps : List Pending). with_slot core p (delivers s ps)) none
+      ∙ ap (λ (rows : List Row). record core { rows = rows }) (set-get_or core.rows p no_row))
+      (idles core m s.number step step_is)
     where
       idles_at : core' ≡ core → AsksNothing (idle core m s.number) m core step → AsksNothing (idle core m s.number) m core' step
       idles_at same h = record { core_is = same ∙ h.core_is; memory_is = h.memory_is; step_is = h.step_is; uses_are = h.uses_are }
@@ -64,7 +66,9 @@ module _ (core : Core) (apart : AreNumbered core.rows) (p : ℕ) (within : p < l
     uses_are = refl;
   }
 
-  pub port_delivers : (m : Memory) (n : ℕ) (core' : Core) (step : Step) (tick : Tick) → port_of core n ≡ Some s → core' ≡ with_slot core p (delivered s) → tick ≡ arrival (first_register s.pending) → step ≡ step_of tick s.number
+  pub port_delivers : (m : Memory) (n : ℕ) (core' : Core) (step : Step) (tick : Tick) → port_of core n ≡ Some s
+      → core' ≡ with_slot core p (delivered s) → tick ≡ arrival (first_register s.pending) → step ≡ step_of tick
+      s.number
       → AsksNothing (taken_by_port core m n (port_of core n)) m core' step
   port_delivers m n core' step tick port core_is tick_is step_is =
       rw port (port_arrives m core' step core_is s.pending refl (step_is ∙ ap (λ (t : Tick). step_of t s.number) tick_is))

@@ -99,7 +99,8 @@ core_numbered core rising small = record {
   small = number_at-small core small;
   own = λ j k first second e. elim (cases_eq j k) [
     | inl same ↦ same
-    | inr other ↦ absurd (differs_between (numbers_in core) rising j k other (omega (arith, length-numbers core)) (omega (arith, length-numbers core)) (number-get core j first ∙ e ∙ sym (number-get core k second)))
+    | inr other ↦ absurd (differs_between (numbers_in core) rising j k other (omega (arith, length-numbers core))
+        (omega (arith, length-numbers core)) (number-get core j first ∙ e ∙ sym (number-get core k second)))
   ];
 }
 

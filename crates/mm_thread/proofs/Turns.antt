@@ -43,7 +43,9 @@ put_number s row = by (eqb row.slot.number s.number) refl
     by true e = sym (eqb-true row.slot.number s.number e)
     by false e = refl
 
-put_numbers : (s : Slot) (rows : List Row) → map (λ (t : Slot). t.number) (map (λ (r : Row). r.slot) (map (at_number s.number (λ r. record r { slot = s })) rows)) ≡ map (λ (t : Slot). t.number) (map (λ (r : Row). r.slot) rows)
+put_numbers : (s : Slot) (rows : List Row) → map (λ (t : Slot). t.number)
+    (map (λ (r : Row). r.slot) (map (at_number s.number (λ r. record r { slot = s })) rows)) ≡ map
+    (λ (t : Slot). t.number) (map (λ (r : Row). r.slot) rows)
 put_numbers s [] = refl
 put_numbers s (row ∷ rows) = rw (put_number s row, put_numbers s rows) refl
 
@@ -169,7 +171,8 @@ module _ {M : Type 0} (meaning : M → Memory) (uses : M → ℕ) (stands : M �
   module _ (core : Core) (p : ℕ) (can : CanTurn core p) (f : Touch) (u : Use) (i : Instr) (before mid : M)
       (first : TakesUses stands before mid (u ∷ [])) (same : meaning mid ≡ meaning before) (counted : uses mid ≡ uses before + accesses (u ∷ [])) where
     -- the instruction is carried out
-    pub issued_gives : (core.split && lacks i (slot_in core p)) ≡ false → (new : M) (core1 core2 : Core) (told : Retired) (step : Step) → Executes meaning uses stands core (slot_in core p) i mid new core1 told
+    pub issued_gives : (core.split && lacks i (slot_in core p)) ≡ false → (new : M) (core1 core2 : Core)
+        (told : Retired) (step : Step) → Executes meaning uses stands core (slot_in core p) i mid new core1 told
         → core2 ≡ core_ended i core1 (slot_in core1 p) p told.outcome → step ≡ step_ended (slot_in core p).number (slot_in core1 p) (Some f) told.touched told.outcome
         → Gives meaning uses stands (issued core (meaning before) (slot_in core p) f u i) before new core2 step
     unfolding issued executed
@@ -195,7 +198,9 @@ module _ {M : Type 0} (meaning : M → Memory) (uses : M → ℕ) (stands : M �
         })
 
     -- the slot waits for a register
-    pub issued_waits : (core.split && lacks i (slot_in core p)) ≡ true → (core1 core2 : Core) (step : Step) (n : ℕ) → core1 ≡ with_slot core p (delivered (slot_in core p)) → core2 ≡ with_slot core1 p (stood (slot_in core1 p) Running)
+    pub issued_waits : (core.split && lacks i (slot_in core p)) ≡ true → (core1 core2 : Core) (step : Step) (n : ℕ)
+        → core1 ≡ with_slot core p (delivered (slot_in core p)) → core2 ≡ with_slot core1 p
+        (stood (slot_in core1 p) Running)
         → n ≡ (slot_in core p).number → step ≡ record { tick = Blocked; slot = n; fetched = Some f; touched = None; entered = None }
         → Gives meaning uses stands (issued core (meaning before) (slot_in core p) f u i) before mid core2 step
     unfolding issued blocked

@@ -5,7 +5,9 @@ use Rattle.mm_word.specs.declared.perm.Kind.{Kind}
 use Rattle.mm_word.specs.declared.word.Word.{Word}
 use Rattle.mm_word.specs.declared.word.Word.TheVariants.{Int, Ptr}
 use Rattle.mm_word.specs.Perm.{can_move, allows}
-use Rattle.mm_word.specs.Pointer.{Pointer, IsWellFormed, InSegment, Covers, holds_word, moved_to, lea_result, leab_result, restrict_result, subseg_result, setptr_result, next_result, enter_result, IsBelow}
+use Rattle.mm_word.specs.Pointer.{Pointer, IsWellFormed, InSegment, Covers, holds_word, moved_to, lea_result}
+use Rattle.mm_word.specs.Pointer.{leab_result, restrict_result, subseg_result, setptr_result, next_result, enter_result}
+use Rattle.mm_word.specs.Pointer.{IsBelow}
 use Rattle.mm_word.specs.Word.{IsWord}
 use Rattle.mm_word.specs.Access.{Touch, IsGranted, touch_at, check_result}
 use Rattle.mm_word.proofs.Segments.{segment_below}

@@ -28,15 +28,21 @@ module _ (bytes : List ℕ) where
 
   pub number_in_8 : (at n : ℕ) → n < 2 ^ 64 → part bytes at 8 ≡ to_be_bytes w64 n → number_at bytes at 8 ≡ n
   unfolding number_at
-  number_in_8 at n lt e = number_is_8 (part bytes at 8) (ap length e) ∙ ap (from_be_bytes w64) (sym (Rattle.mm_model.proofs.ImageBytes.Numbers.eight (part bytes at 8) (ap length e)) ∙ e) ∙ from_be_bytes-to_be_bytes_8 n lt
+  number_in_8 at n lt e = number_is_8 (part bytes at 8) (ap length e) ∙ ap (from_be_bytes w64)
+      (sym (Rattle.mm_model.proofs.ImageBytes.Numbers.eight (part bytes at 8) (ap length e)) ∙ e)
+      ∙ from_be_bytes-to_be_bytes_8 n lt
 
   pub number_in_4 : (at n : ℕ) → n < 2 ^ 32 → part bytes at 4 ≡ to_be_bytes w32 n → number_at bytes at 4 ≡ n
   unfolding number_at
-  number_in_4 at n lt e = number_is_4 (part bytes at 4) (ap length e) ∙ ap (from_be_bytes w32) (sym (Rattle.mm_model.proofs.ImageBytes.Numbers.four (part bytes at 4) (ap length e)) ∙ e) ∙ from_be_bytes-to_be_bytes_4 n lt
+  number_in_4 at n lt e = number_is_4 (part bytes at 4) (ap length e) ∙ ap (from_be_bytes w32)
+      (sym (Rattle.mm_model.proofs.ImageBytes.Numbers.four (part bytes at 4) (ap length e)) ∙ e)
+      ∙ from_be_bytes-to_be_bytes_4 n lt
 
   pub number_in_2 : (at n : ℕ) → n < 2 ^ 16 → part bytes at 2 ≡ to_be_bytes w16 n → number_at bytes at 2 ≡ n
   unfolding number_at
-  number_in_2 at n lt e = number_is_2 (part bytes at 2) (ap length e) ∙ ap (from_be_bytes w16) (sym (Rattle.mm_model.proofs.ImageBytes.Numbers.two (part bytes at 2) (ap length e)) ∙ e) ∙ from_be_bytes-to_be_bytes_2 n lt
+  number_in_2 at n lt e = number_is_2 (part bytes at 2) (ap length e) ∙ ap (from_be_bytes w16)
+      (sym (Rattle.mm_model.proofs.ImageBytes.Numbers.two (part bytes at 2) (ap length e)) ∙ e)
+      ∙ from_be_bytes-to_be_bytes_2 n lt
 
   pub number_in_1 : (at n : ℕ) → part bytes at 1 ≡ n ∷ [] → number_at bytes at 1 ≡ n
   unfolding number_at

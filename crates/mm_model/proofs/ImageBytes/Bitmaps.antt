@@ -63,9 +63,13 @@ module _ (bytes : List ℕ) (fits : IsBytes bytes) where
       let all : 8 * suc count ≡ 8 + 8 * count = omega arith in
       let next : 8 * i + 8 ≡ 8 * (i + 1) = omega arith in
       let f = bit_at bytes at in
-      let front : number_of_flags (take 8 (map f (range_with_len (8 * i) (8 + 8 * count)))) ≡ number_at bytes (at + i) 1 = ap number_of_flags (take-map-range_with_len f (8 * i) (8 + 8 * count) 8 (omega arith)) ∙ one_byte_of at i (omega arith) in
+      let front : number_of_flags (take 8 (map f (range_with_len (8 * i) (8 + 8 * count)))) ≡ number_at bytes (at + i) 1
+      = ap number_of_flags (take-map-range_with_len f (8 * i) (8 + 8 * count) 8 (omega arith)) ∙ one_byte_of at i
+      (omega arith) in
       let back : bitmap count (drop 8 (map f (range_with_len (8 * i) (8 + 8 * count)))) ≡ part bytes (at + (i + 1)) count =
       ap (bitmap count) (drop-range f (8 * i) 8 (8 * count) ∙ ap (λ k. map f (range_with_len k (8 * count))) next) ∙ bitmap-part at (i + 1) count (omega arith) in
       ap (λ m. bitmap (suc count) (map f (range_with_len (8 * i) m))) all
       ∙ ap (λ n. n ∷ bitmap count (drop 8 (map f (range_with_len (8 * i) (8 + 8 * count))))) front
-      ∙ join_at bytes (at + i) (at + (i + 1)) 1 count (suc count) (number_at bytes (at + i) 1 ∷ []) (bitmap count (drop 8 (map f (range_with_len (8 * i) (8 + 8 * count))))) (one_byte bytes (at + i) (omega arith)) back (omega arith) (omega arith)
+      ∙ join_at bytes (at + i) (at + (i + 1)) 1 count (suc count) (number_at bytes (at + i) 1 ∷ [])
+      (bitmap count (drop 8 (map f (range_with_len (8 * i) (8 + 8 * count)))))
+      (one_byte bytes (at + i) (omega arith)) back (omega arith) (omega arith)

@@ -18,7 +18,8 @@ has_place h (s ∷ slots) e = first h s slots (s.number == h) refl e (has_place 
         let found = later (sym (ap (λ b. b || has_number slots h) other) ∙ e) in
         (found.0, (suc found.1.0, omega (arith, found.1.1), found.1.2), found.2)
 
-pub handler_is_other : (slots : List Slot) (n : ℕ) (handler : Option ℕ) → elim handler as (λ _. Bool) [ None ↦ false | Some h ↦ h == n || not (has_number slots h) ] ≡ false → IfSome handler (IsOther slots n)
+pub handler_is_other : (slots : List Slot) (n : ℕ) (handler : Option ℕ) → elim handler as (λ _. Bool)
+    [ None ↦ false | Some h ↦ h == n || not (has_number slots h) ] ≡ false → IfSome handler (IsOther slots n)
 handler_is_other slots n None e = tt
 handler_is_other slots n (Some h) e =
     let tests = neither _ _ e in

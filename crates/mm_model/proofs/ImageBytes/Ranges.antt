@@ -8,7 +8,8 @@ map-map g f (x ∷ xs) = ap (λ ys. g (f x) ∷ ys) (map-map g f xs)
 
 pub map-same : {A : Type 0} (f g : ℕ → A) (from n : ℕ) → ((k : ℕ) → from ≤ k → k < from + n → f k ≡ g k) → map f (range_with_len from n) ≡ map g (range_with_len from n)
 map-same f g from zero h = refl
-map-same f g from (suc n) h = ap (λ x. x ∷ map f (range_with_len (from + 1) n)) (h from (omega arith) (omega arith)) ∙ ap (λ xs. g from ∷ xs) (map-same f g (from + 1) n (λ k low high. h k (omega arith) (omega arith)))
+map-same f g from (suc n) h = ap (λ x. x ∷ map f (range_with_len (from + 1) n)) (h from (omega arith) (omega arith))
+    ∙ ap (λ xs. g from ∷ xs) (map-same f g (from + 1) n (λ k low high. h k (omega arith) (omega arith)))
 
 -- the same, from another number on
 pub map-shift : {A : Type 0} (f : ℕ → A) (from by n : ℕ) → map f (range_with_len (by + from) n) ≡ map (λ k. f (by + k)) (range_with_len from n)

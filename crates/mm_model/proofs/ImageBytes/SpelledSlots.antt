@@ -23,7 +23,8 @@ differ a b ne = grind (arith, nat_tests)
 
 -- 2. Handlers.
 
-pub handler_small : (limit : ℕ) (slots : List Slot) (n : ℕ) (handler : Option ℕ) → limit ≤ 64 → AllByRecursion (IsFresh limit slots) slots → IfSome handler (IsOther slots n) → IfSome handler (λ h. h < 64)
+pub handler_small : (limit : ℕ) (slots : List Slot) (n : ℕ) (handler : Option ℕ) → limit ≤ 64
+    → AllByRecursion (IsFresh limit slots) slots → IfSome handler (IsOther slots n) → IfSome handler (λ h. h < 64)
 handler_small limit slots n None small all other = tt
 handler_small limit slots n (Some h) small all other =
     let found = other.1 in
@@ -31,7 +32,8 @@ handler_small limit slots n (Some h) small all other =
     let same = ap (λ (s : Slot). s.number) found.1.2 in
     omega (arith, fresh.number, same, found.2)
 
-pub handler_good : (slots : List Slot) (n : ℕ) (handler : Option ℕ) → IfSome handler (IsOther slots n) → elim handler as (λ _. Bool) [ None ↦ false | Some h ↦ h == n || not (has_number slots h) ] ≡ false
+pub handler_good : (slots : List Slot) (n : ℕ) (handler : Option ℕ) → IfSome handler (IsOther slots n)
+    → elim handler as (λ _. Bool) [ None ↦ false | Some h ↦ h == n || not (has_number slots h) ] ≡ false
 handler_good slots n None other = refl
 handler_good slots n (Some h) other =
     let found = other.1 in

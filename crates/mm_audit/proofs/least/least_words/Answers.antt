@@ -42,7 +42,8 @@ loop-k-preserved c = record {
         let old = c.loop-k.invariant.met.rows.len in
         subst (λ (t : List Meets). HasWord t h g) (sym (ap (λ v. v.items) w.table-is ∙ with_items_is c.loop-k.table w.note_all.new.table (let l = w.note_all.ensures.rows.len in omega arith)))
         (noted_all c.args.spans.now c.requires c.loop-k.k c.loop-k-test.true c.in_ok-now.now c.in_ok-now.ensures.users c.loop-k.table.items c.loop-k.invariant.met w.note_all.new.table
-        (subst (λ v. NotesAll c.in_ok-now.now.write c.in_ok-now.now.touch (base_at c.args.spans.now c.loop-k.k) 64 v w.note_all.new.table) w.deref_mut.ensures.value w.note_all.ensures) h g lt small a b)
+        (subst (λ v. NotesAll c.in_ok-now.now.write c.in_ok-now.now.touch (base_at c.args.spans.now c.loop-k.k) 64 v
+        w.note_all.new.table) w.deref_mut.ensures.value w.note_all.ensures) h g lt small a b)
     | else-now-last+else-now-last-2 w ↦
         subst (λ (t : List Meets). HasWord t h g) (sym (ap (λ v. v.items) w.table-is))
         (c.loop-k.invariant.last h g lt small (subst (λ v. bit_at v h ≡ 1) w.if-now-last-2.false a) (subst (λ v. bit_at v g ≡ 1) w.if-now-last.false b))

@@ -16,6 +16,8 @@ loop-slot-preserved c =
     let member : c.is_inside.result ≡ test s = c.is_inside.ensures ∙ ap test c.slot.view_is in
     elim c.if-is_inside.branch [
       | then-is_inside+in_ok-push w ↦ rw w.kept-is
-          (w.in_ok-push.ensures.items ∙ ap (λ l. l ++ w.copy.result ∷ []) c.loop-slot.invariant ∙ ap (λ (v : Slot). filter test before ++ v ∷ []) w.copy.ensures ∙ sym (filter_last_in test before s (sym member ∙ w.if-is_inside.true)) ∙ sym more)
+          (w.in_ok-push.ensures.items ∙ ap (λ l. l ++ w.copy.result ∷ []) c.loop-slot.invariant
+          ∙ ap (λ (v : Slot). filter test before ++ v ∷ []) w.copy.ensures
+          ∙ sym (filter_last_in test before s (sym member ∙ w.if-is_inside.true)) ∙ sym more)
       | else-is_inside w ↦ rw w.kept-is (c.loop-slot.invariant ∙ sym (filter_last_out test before s (sym member ∙ w.if-is_inside.false)) ∙ sym more)
     ]

@@ -5,7 +5,9 @@ use Rattle.mm_audit.proofs.refusing.first_leaving.Goals as goal
 
 pub returns-then-leaves : goal.returns-then-leaves
 returns-then-leaves c =
-    ap (λ (v : Slot). Some v.number) c.slot.view_is ∙ sym (leaving_here c.args.inside c.args.slots.now c.loop-slot.slot-index c.slot-item.result c.loop-slot-test.true c.slot-item.is (sym c.leaves.ensures ∙ c.if-leaves.true))
+    ap (λ (v : Slot). Some v.number) c.slot.view_is
+    ∙ sym (leaving_here c.args.inside c.args.slots.now c.loop-slot.slot-index c.slot-item.result
+    c.loop-slot-test.true c.slot-item.is (sym c.leaves.ensures ∙ c.if-leaves.true))
     ∙ sym c.loop-slot.invariant
 
 pub loop-slot-preserved : goal.loop-slot-preserved

@@ -19,8 +19,12 @@ loop-slot-preserved c =
     let member : c.is_inside.result ≡ test s.group = c.is_inside.ensures ∙ ap (λ (v : Slot). test v.group) c.slot.view_is in
     elim c.if-is_inside.branch [
       | then-is_inside w ↦
-          subst (λ m. IsNumbers m (take (c.loop-slot.slot-index + 1) c.args.slots.now) test) (sym (w.inside-is ∙ ap (λ (v : Slot). bit_or c.loop-slot.inside (1 * 2 ^ v.number % 2 ^ 64)) c.slot.view_is))
-          (subst (λ l. IsNumbers (bit_or c.loop-slot.inside (1 * 2 ^ s.number % 2 ^ 64)) l test) (sym more) (numbers_more c.loop-slot.inside before test s c.loop-slot.invariant small (sym member ∙ w.if-is_inside.true)))
+          subst (λ m. IsNumbers m (take (c.loop-slot.slot-index + 1) c.args.slots.now) test)
+          (sym (w.inside-is ∙ ap (λ (v : Slot). bit_or c.loop-slot.inside (1 * 2 ^ v.number % 2 ^ 64))
+          c.slot.view_is))
+          (subst (λ l. IsNumbers (bit_or c.loop-slot.inside (1 * 2 ^ s.number % 2 ^ 64)) l test) (sym more)
+          (numbers_more c.loop-slot.inside before test s c.loop-slot.invariant small
+          (sym member ∙ w.if-is_inside.true)))
       | else-is_inside w ↦
           subst (λ m. IsNumbers m (take (c.loop-slot.slot-index + 1) c.args.slots.now) test) (sym w.inside-is)
           (subst (λ l. IsNumbers c.loop-slot.inside l test) (sym more) (numbers_skip c.loop-slot.inside before test s c.loop-slot.invariant (sym member ∙ w.if-is_inside.false)))

@@ -11,7 +11,9 @@ unreachable-requires c =
     let i = c.args.img.now in
     let test = among c.args.groups.now in
     let image = c.slots.ensures.image in
-    let same = same_image c.version.ensures.version c.split.ensures.split (c.in-Ok.ensures ∙ ap (own_slots test) c.slots.ensures.slots) (c.in-Ok-copies.ensures ∙ c.pages.ensures.pages) c.frames.ensures.frames in
+    let same = same_image c.version.ensures.version c.split.ensures.split
+    (c.in-Ok.ensures ∙ ap (own_slots test) c.slots.ensures.slots) (c.in-Ok-copies.ensures ∙ c.pages.ensures.pages)
+    c.frames.ensures.frames in
     c.in-None.ensures (subst IsImage (sym same) (own_image i test image c.requires.some c.requires.closed i.memory refl image.paged image.words))
 
 pub returns : goal.returns
@@ -19,5 +21,7 @@ unfolding alone
 returns c =
     let i = c.args.img.now in
     let test = among c.args.groups.now in
-    let same = same_image c.version.ensures.version c.split.ensures.split (c.in-Ok.ensures ∙ ap (own_slots test) c.slots.ensures.slots) (c.in-Ok-copies.ensures ∙ c.pages.ensures.pages) c.frames.ensures.frames in
+    let same = same_image c.version.ensures.version c.split.ensures.split
+    (c.in-Ok.ensures ∙ ap (own_slots test) c.slots.ensures.slots) (c.in-Ok-copies.ensures ∙ c.pages.ensures.pages)
+    c.frames.ensures.frames in
     c.in-Some.ensures.1 ∙ same

@@ -10,5 +10,7 @@ loop-k-init c =
 
 pub loop-k-preserved : goal.loop-k-preserved
 loop-k-preserved c =
-    spans_more c.args.keys.now c.args.nodes.now c.args.marks.now c.args.privileged c.requires.rising c.requires.keys c.requires.words c.loop-k.k c.loop-k-test.true c.loop-k.spans.items c.loop-k.invariant c.add-in-loop-k.new.spans.items
+    spans_more c.args.keys.now c.args.nodes.now c.args.marks.now c.args.privileged c.requires.rising c.requires.keys
+    c.requires.words c.loop-k.k c.loop-k-test.true c.loop-k.spans.items c.loop-k.invariant
+    c.add-in-loop-k.new.spans.items
     (subst (λ v. Added v c.loop-k.spans.items c.add-in-loop-k.new.spans.items) c.node_span.ensures c.in_ok-add-2.ensures)

@@ -15,13 +15,26 @@ returns-then-apart g c =
     let (line, then, answers) = c.put_apart.ensures in (
       own ++ line,
       gathers_then wrote then,
-      λ surveys. one_part c.args.img.now c.args.apart (has_group c.args.img.now.slots c.args.group) c.args.group own line (has c.args.group c.slots.ensures.slots c.has_group.ensures c.if-has_group.true) c.if-apart.true (is c.args.img.now surveys) (answers c.args.img.now surveys),
+      λ surveys. one_part c.args.img.now c.args.apart (has_group c.args.img.now.slots c.args.group) c.args.group own
+          line (has c.args.group c.slots.ensures.slots c.has_group.ensures c.if-has_group.true) c.if-apart.true
+          (is c.args.img.now surveys) (answers c.args.img.now surveys),
     )
 
 pub returns-else-apart : goal.returns-else-apart
 returns-else-apart g c =
-    let (own, wrote, is) = c.put_group.ensures in
-    (own, wrote, λ surveys. one_alone c.args.img.now c.args.apart (has_group c.args.img.now.slots c.args.group) c.args.group own (has c.args.group c.slots.ensures.slots c.has_group.ensures c.if-has_group.true) c.if-apart.false (is c.args.img.now surveys))
+    let (own, wrote, is) = c.put_group.ensures in (
+      own,
+      wrote,
+      λ surveys. one_alone c.args.img.now c.args.apart (has_group c.args.img.now.slots c.args.group)
+          c.args.group own (has c.args.group c.slots.ensures.slots c.has_group.ensures c.if-has_group.true)
+          c.if-apart.false (is c.args.img.now surveys),
+    )
 
 pub returns-else-has_group : goal.returns-else-has_group
-returns-else-has_group g c = ([], search rules, λ surveys. no_part c.args.img.now c.args.apart (has_group c.args.img.now.slots c.args.group) c.args.group (has c.args.group c.slots.ensures.slots c.has_group.ensures c.if-has_group.false))
+returns-else-has_group g c = (
+  [],
+  search rules,
+  λ surveys. no_part c.args.img.now c.args.apart
+      (has_group c.args.img.now.slots c.args.group) c.args.group
+      (has c.args.group c.slots.ensures.slots c.has_group.ensures c.if-has_group.false),
+)

@@ -29,8 +29,10 @@ loop-place-preserved c =
     let (word, is_of, says, fits, said) = c.in_ok-word.ensures in
     record {
       count = omega (arith, c.push.ensures.len, c.loop-place.invariant.count);
-      formed = formed_more c.args.places.now c.loop-place.place-index _ c.loop-place.read.items c.push.new.self.items c.in_ok-word.word c.loop-place-test.true c.loop-place.invariant.formed is_of c.push.ensures.items;
-      so_far = read_more c.args.places.now c.args.last (texts c.args.words.now) c.loop-place.place-index _ (spoken c.loop-place.read.items) (spoken c.push.new.self.items) word (texts c.loop-place.rest.now)
+      formed = formed_more c.args.places.now c.loop-place.place-index _ c.loop-place.read.items c.push.new.self.items
+          c.in_ok-word.word c.loop-place-test.true c.loop-place.invariant.formed is_of c.push.ensures.items;
+      so_far = read_more c.args.places.now c.args.last (texts c.args.words.now) c.loop-place.place-index _
+          (spoken c.loop-place.read.items) (spoken c.push.new.self.items) word (texts c.loop-place.rest.now)
           (texts c.in_ok-word.after.now) c.loop-place-test.true c.loop-place.invariant.so_far fits said
           (spoken_more c.loop-place.read.items c.push.new.self.items c.in_ok-word.word c.push.ensures.items ∙ ap (λ (ws : List Spoken). spoken c.loop-place.read.items ++ ws) says);
     }

@@ -7,22 +7,40 @@ use Rattle.mm_cli.proofs.words.read_word.Goals as goal
 pub returns-in-File : goal.returns-in-File
 returns-in-File c =
     let name = c.as_str.result.now in
-    let fits : FitsPlace c.args.place (file_word c.in-File.kind name) = subst (λ (place : Place). FitsPlace place (file_word c.in-File.kind name)) (sym c.in-File.is) refl in
-    (file_word c.in-File.kind name, subst (λ (place : Place). IsOfPlace place (read.File c.in-File.kind c.as_str.result)) (sym c.in-File.is) refl, refl, fits, ap (λ (text : List ℕ). text ∷ []) (sym c.as_str.ensures.value))
+    let fits : FitsPlace c.args.place (file_word c.in-File.kind name) = subst (λ (place : Place). FitsPlace place (file_word c.in-File.kind name)) (sym c.in-File.is) refl in (
+      file_word c.in-File.kind name,
+      subst
+          (λ (place : Place). IsOfPlace place (read.File c.in-File.kind c.as_str.result)) (sym c.in-File.is) refl,
+      refl,
+      fits,
+      ap (λ (text : List ℕ). text ∷ []) (sym c.as_str.ensures.value),
+    )
 
 pub returns-in_ok-read_number-in-Number : goal.returns-in_ok-read_number-in-Number
 returns-in_ok-read_number-in-Number c =
     let n = c.in_ok-read_number-in-Number.field-0 in
     let said = c.in_ok-read_number-in-Number.ensures in
-    let fits : FitsPlace c.args.place (number_word n) = subst (λ (place : Place). FitsPlace place (number_word n)) (sym c.in-Number.is) (said.1, said.2) in
-    (number_word n, subst (λ (place : Place). IsOfPlace place (read.Number n)) (sym c.in-Number.is) (said.1, said.2), refl, fits, ap (λ (text : List ℕ). text ∷ []) (sym c.as_bytes.ensures.value ∙ said.0))
+    let fits : FitsPlace c.args.place (number_word n) = subst (λ (place : Place). FitsPlace place (number_word n)) (sym c.in-Number.is) (said.1, said.2) in (
+      number_word n,
+      subst (λ (place : Place). IsOfPlace place (read.Number n)) (sym c.in-Number.is) (said.1, said.2),
+      refl,
+      fits,
+      ap (λ (text : List ℕ). text ∷ []) (sym c.as_bytes.ensures.value ∙ said.0),
+    )
 
 pub returns-in_ok-read_groups-in-Groups : goal.returns-in_ok-read_groups-in-Groups
 returns-in_ok-read_groups-in-Groups c =
     let groups = c.in_ok-read_groups-in-Groups.field-0.items in
     let said = c.in_ok-read_groups-in-Groups.ensures in
-    let fits : FitsPlace c.args.place (groups_word groups) = subst (λ (place : Place). FitsPlace place (groups_word groups)) (sym c.in-Groups.is) said.1 in
-    (groups_word groups, subst (λ (place : Place). IsOfPlace place (read.Groups c.in_ok-read_groups-in-Groups.field-0)) (sym c.in-Groups.is) said.1, refl, fits, ap (λ (text : List ℕ). text ∷ []) (sym c.as_bytes-in-Groups.ensures.value ∙ said.0))
+    let fits : FitsPlace c.args.place (groups_word groups) = subst (λ (place : Place). FitsPlace place (groups_word groups)) (sym c.in-Groups.is) said.1 in (
+      groups_word groups,
+      subst (λ (place : Place). IsOfPlace place (read.Groups c.in_ok-read_groups-in-Groups.field-0))
+          (sym c.in-Groups.is) said.1,
+      refl,
+      fits,
+      ap (λ (text : List ℕ). text ∷ [])
+          (sym c.as_bytes-in-Groups.ensures.value ∙ said.0),
+    )
 
 pub returns-in_ok-read_mode-in-Mode : goal.returns-in_ok-read_mode-in-Mode
 returns-in_ok-read_mode-in-Mode c =
@@ -35,8 +53,13 @@ pub returns-in_ok-read_address-in-Address : goal.returns-in_ok-read_address-in-A
 returns-in_ok-read_address-in-Address c =
     let n = c.in_ok-read_address-in-Address.field-0 in
     let said = c.in_ok-read_address-in-Address.ensures in
-    let fits : FitsPlace c.args.place (number_word n) = subst (λ (place : Place). FitsPlace place (number_word n)) (sym c.in-Address.is) said.1 in
-    (number_word n, subst (λ (place : Place). IsOfPlace place (read.Number n)) (sym c.in-Address.is) said.1, refl, fits, ap (λ (text : List ℕ). text ∷ []) (sym c.as_bytes-in-Address.ensures.value ∙ said.0))
+    let fits : FitsPlace c.args.place (number_word n) = subst (λ (place : Place). FitsPlace place (number_word n)) (sym c.in-Address.is) said.1 in (
+      number_word n,
+      subst (λ (place : Place). IsOfPlace place (read.Number n)) (sym c.in-Address.is) said.1,
+      refl,
+      fits,
+      ap (λ (text : List ℕ). text ∷ []) (sym c.as_bytes-in-Address.ensures.value ∙ said.0),
+    )
 
 pub returns-in_ok-read_use-in-Use : goal.returns-in_ok-read_use-in-Use
 returns-in_ok-read_use-in-Use c =

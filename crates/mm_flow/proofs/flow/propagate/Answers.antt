@@ -30,7 +30,9 @@ returns-then-not-has_propagated-clause-marks c =
 pub returns-then-not-has_propagated-clause-stays : goal.returns-then-not-has_propagated-clause-stays
 returns-then-not-has_propagated-clause-stays c =
     let below : slice_index c.args.marks.now c.args.to < 2 ^ 64 = omega arith in
-    stays_waiting c.args.marks.now c.args.work.now.pending.items c.args.mask c.args.to c.requires.node below c.args.work.now.propagated.items (λ e. let yes = c.has_propagated-2.ensures.1 e in let no = c.if-not-has_propagated.true in cc)
+    stays_waiting c.args.marks.now c.args.work.now.pending.items c.args.mask c.args.to c.requires.node below
+    c.args.work.now.propagated.items (λ e. let yes = c.has_propagated-2.ensures.1 e in let no =
+    c.if-not-has_propagated.true in cc)
 
 pub returns-clause-marks : goal.returns-clause-marks
 returns-clause-marks c =

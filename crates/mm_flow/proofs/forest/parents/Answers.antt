@@ -15,6 +15,8 @@ loop-k-preserved c =
     let more : IsForest c.args.bases.now c.args.ends.now (c.loop-k.par.items ++ c.if-k-eq0.up ∷ []) =
     elim c.if-k-eq0.branch [
       | then-k-eq0 w ↦ forest_first c.args.bases.now c.args.ends.now c.loop-k.par.items c.if-k-eq0.up c.requires f (omega arith) (omega arith)
-      | else-k-eq0 w ↦ forest_climbed c.args.bases.now c.args.ends.now c.loop-k.par.items c.if-k-eq0.up c.loop-k.k c.requires f e (omega arith) (omega arith) (along _ _ _ _ _ _ _ _ w.deref.ensures.value w.up-is w.climb-up.ensures)
+      | else-k-eq0 w ↦ forest_climbed c.args.bases.now c.args.ends.now c.loop-k.par.items c.if-k-eq0.up c.loop-k.k
+          c.requires f e (omega arith) (omega arith) (along _ _ _ _ _ _ _ _ w.deref.ensures.value w.up-is
+          w.climb-up.ensures)
     ] in
     rw c.in_ok-push.ensures.items (more, push_length c.loop-k.par.items c.if-k-eq0.up c.loop-k.k e)

@@ -9,6 +9,16 @@ loop-k-preserved c =
     let small : c.loop-k.k < length c.loop-k.marks = omega arith in
     let below : slice_index c.loop-k.marks c.loop-k.k < 2 ^ 64 = omega arith in
     elim c.if-new-old.branch [
-      | then-new-old w ↦ (rw (w.marks-is, w.changed-is) (shared_write c.args.sharing.now c.args.marks.now c.loop-k.marks c.loop-k.changed c.loop-k.k c.shared_next-shared_now.result c.loop-k.invariant.0 small c.shared_next-shared_now.ensures w.if-new-old.true below), c.shared_next-shared_now.ensures)
-      | else-new-old w ↦ (rw (w.marks-is, w.changed-is) (shared_keep c.args.sharing.now c.args.marks.now c.loop-k.marks c.loop-k.changed c.loop-k.k c.shared_next-shared_now.result c.loop-k.invariant.0 small c.shared_next-shared_now.ensures w.if-new-old.false), c.shared_next-shared_now.ensures)
+      | then-new-old w ↦ (
+        rw (w.marks-is, w.changed-is) (shared_write c.args.sharing.now c.args.marks.now c.loop-k.marks
+            c.loop-k.changed c.loop-k.k c.shared_next-shared_now.result c.loop-k.invariant.0 small
+            c.shared_next-shared_now.ensures w.if-new-old.true below),
+        c.shared_next-shared_now.ensures,
+      )
+      | else-new-old w ↦ (
+        rw (w.marks-is, w.changed-is) (shared_keep c.args.sharing.now c.args.marks.now c.loop-k.marks
+            c.loop-k.changed c.loop-k.k c.shared_next-shared_now.result c.loop-k.invariant.0 small
+            c.shared_next-shared_now.ensures w.if-new-old.false),
+        c.shared_next-shared_now.ensures,
+      )
     ]

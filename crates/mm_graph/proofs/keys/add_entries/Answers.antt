@@ -15,7 +15,9 @@ loop-k-preserved c =
     c.index-key.ensures ∙ ap (λ v. get_or v c.loop-k.k c.index-key.result.now) c.loop-k.invariant.0
     ∙ get_or_append_left c.args.keys.now.items (filter_map entry_key (take c.loop-k.k c.args.keys.now.items)) c.index-key.result.now c.loop-k.k lt in
     let more = filter_map-more entry_key c.args.keys.now.items c.loop-k.k c.index-key.result.now lt in (
-      grown c.args.keys.now.items c.loop-k.keys.items c.add_entry.new.keys.items (filter_map entry_key (take c.loop-k.k c.args.keys.now.items)) (option_to_list (entry_key c.index-key.result.now)) _ c.loop-k.invariant.0 c.in_ok-add_entry.ensures
+      grown c.args.keys.now.items c.loop-k.keys.items c.add_entry.new.keys.items
+          (filter_map entry_key (take c.loop-k.k c.args.keys.now.items))
+          (option_to_list (entry_key c.index-key.result.now)) _ c.loop-k.invariant.0 c.in_ok-add_entry.ensures
           (more ∙ ap (λ v. filter_map entry_key (take c.loop-k.k c.args.keys.now.items) ++ option_to_list (entry_key v)) (sym read)),
       c.loop-k.invariant.1,
     )

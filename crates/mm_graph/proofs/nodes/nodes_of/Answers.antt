@@ -16,5 +16,6 @@ pub loop-k-preserved : goal.loop-k-preserved
 loop-k-preserved c =
     rw c.in_ok-push.ensures.items (
       length_push c.loop-k.nodes.items c.node_for-node.result ∙ ap (λ v. v + 1) c.loop-k.invariant.0,
-      pushed (λ j n. IsNode c.args.keys.now c.args.found.now (slice_index c.args.masks.now j) j n) c.loop-k.nodes.items c.node_for-node.result c.loop-k.k c.loop-k.invariant.0 c.loop-k.invariant.1 c.node_for-node.ensures,
+      pushed (λ j n. IsNode c.args.keys.now c.args.found.now (slice_index c.args.masks.now j) j n) c.loop-k.nodes.items
+          c.node_for-node.result c.loop-k.k c.loop-k.invariant.0 c.loop-k.invariant.1 c.node_for-node.ensures,
     )

@@ -12,7 +12,8 @@ loop-k-preserved c =
     let small = c.loop-k-test.true in
     elim c.if-place-targets.branch [
       | then-place-targets w ↦ (
-        rw w.targets-is (filled_write c.args.keys.now c.args.placed.now c.loop-k.targets c.loop-k.k c.loop-k.invariant.0 c.near-at.result small c.near-at.ensures.small c.near-at.ensures.at w.if-place-targets.true),
+        rw w.targets-is (filled_write c.args.keys.now c.args.placed.now c.loop-k.targets c.loop-k.k c.loop-k.invariant.0
+            c.near-at.result small c.near-at.ensures.small c.near-at.ensures.at w.if-place-targets.true),
         c.if-place-targets.auto.targets ∙ c.loop-k.invariant.1,
       )
       | else-place-targets w ↦ (

@@ -5,7 +5,9 @@ use Rattle.mm_model.specs.Typed.{IsTypedSlot}
 use Rattle.mm_model.proofs.ImageBytes.CleanRecords.{handler_is_other}
 use Rattle.mm_model.proofs.ImageBytes.SpelledSlots.{handler_good}
 use Rattle.mm_image.proofs.fits.is_fresh.Goals as goal
-use Rattle.mm_image.proofs.fits.is_fresh.Goals.{then-slot-limit-via-then-slot-limit, then-slot-limit-via-else-slot-limit+then-slot-limit-2, then-slot-limit-via-else-slot-limit+else-slot-limit-2+then-is_bad_handler}
+use Rattle.mm_image.proofs.fits.is_fresh.Goals.{then-slot-limit-via-then-slot-limit}
+use Rattle.mm_image.proofs.fits.is_fresh.Goals.{then-slot-limit-via-else-slot-limit+then-slot-limit-2}
+use Rattle.mm_image.proofs.fits.is_fresh.Goals.{then-slot-limit-via-else-slot-limit+else-slot-limit-2+then-is_bad_handler}
 
 pub returns-then-slot-limit : goal.returns-then-slot-limit
 returns-then-slot-limit c = λ slots holds.

@@ -6,7 +6,8 @@ pub returns-then-number-least : goal.returns-then-number-least
 returns-then-number-least c =
     let l = c.loop-page in (
       λ f. absurd cc,
-      λ sorted. sym (pages_fall c.args.pages.now l.page-index l.least c.page-item.result l.invariant c.loop-page-test.true c.page-item.is (omega (arith, c.number.ensures.number, c.if-number-least.true)) sorted),
+      λ sorted. sym (pages_fall c.args.pages.now l.page-index l.least c.page-item.result l.invariant
+          c.loop-page-test.true c.page-item.is (omega (arith, c.number.ensures.number, c.if-number-least.true)) sorted),
     )
 
 pub returns : goal.returns

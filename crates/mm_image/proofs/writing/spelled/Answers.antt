@@ -13,7 +13,9 @@ returns-clause-written c =
     let n1 = c.put_header.new.out.items in
     let n2 = c.put_slots.new.out.items in
     let head : n1 ≡ header i = c.in_ok-put_header.ensures ∙ ap (λ (t : List ℕ). t ++ header i) c.in_ok-out.ensures.items in
-    let slots : n2 ≡ header i ++ flat_map slot_record i.slots = c.in_ok-put_slots.ensures ∙ ap (λ (t : List ℕ). t ++ flat_map slot_record c.slots-2.result.now) head ∙ ap (λ (xs : List Slot). header i ++ flat_map slot_record xs) c.slots-2.ensures.slots in
+    let slots : n2 ≡ header i ++ flat_map slot_record i.slots = c.in_ok-put_slots.ensures
+    ∙ ap (λ (t : List ℕ). t ++ flat_map slot_record c.slots-2.result.now) head
+    ∙ ap (λ (xs : List Slot). header i ++ flat_map slot_record xs) c.slots-2.ensures.slots in
     c.in_ok-put_pages.ensures ∙ ap (λ (t : List ℕ). t ++ flat_map page_record c.pages-2.result.now) slots
     ∙ ap (λ (xs : List (ℕ × List Cell)). header i ++ flat_map slot_record i.slots ++ flat_map page_record xs) c.pages-2.ensures.pages
 

@@ -13,7 +13,8 @@ pub returns-in_err-value : goal.returns-in_err-value
 returns-in_err-value c =
     let big : 2 ^ 64 ≤ c.loop-digit.value * c.args.radix + digit_value (get_or c.args.digits.now c.loop-digit.digit-index 0) =
     let product : c.in_ok-checked_mul.field-0 ≡ c.loop-digit.value * c.args.radix = grind (arith, c.in_ok-checked_mul.ensures, c.from-in-loop-digit.ensures) in
-    let digit : c.from-in-loop-digit-2.result ≡ digit_value (get_or c.args.digits.now c.loop-digit.digit-index 0) = grind (arith, c.from-in-loop-digit-2.ensures, c.to_digit.ensures.value, c.unwrap-digit.ensures) in
+    let digit : c.from-in-loop-digit-2.result ≡ digit_value (get_or c.args.digits.now c.loop-digit.digit-index 0) =
+    grind (arith, c.from-in-loop-digit-2.ensures, c.to_digit.ensures.value, c.unwrap-digit.ensures) in
     omega (arith, c.in_err-value.ensures) in
     c.from_residual-in_err-value.ensures ∙ sym (past c.args.radix c.loop-digit.value c.args.digits.now _ c.loop-digit.digit-index c.requires.low c.loop-digit-test.true c.loop-digit.invariant.same big)
 

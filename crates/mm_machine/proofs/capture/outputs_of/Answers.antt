@@ -13,6 +13,10 @@ loop-group-preserved c =
     elim c.if-is_group_of.branch [
       | then-is_group_of+in_ok-output_copy+in_ok-push w ↦
           subst (OutputsBelow core slots _) (sym (ap (λ v. v.items) w.outputs-is ∙ w.in_ok-push.ensures.items))
-          (output_more core slots group so_far c.loop-group.invariant w.in_ok-output_copy.field-0 w.in_ok-output_copy.ensures.group w.in_ok-output_copy.ensures.bytes (sym c.is_group_of.ensures ∙ w.if-is_group_of.true))
-      | else-is_group_of w ↦ subst (OutputsBelow core slots _) (sym (ap (λ v. v.items) w.outputs-is)) (output_not core slots group so_far c.loop-group.invariant (sym c.is_group_of.ensures ∙ w.if-is_group_of.false))
+          (output_more core slots group so_far c.loop-group.invariant w.in_ok-output_copy.field-0
+          w.in_ok-output_copy.ensures.group w.in_ok-output_copy.ensures.bytes (sym c.is_group_of.ensures
+          ∙ w.if-is_group_of.true))
+      | else-is_group_of w ↦ subst (OutputsBelow core slots _) (sym (ap (λ v. v.items) w.outputs-is))
+          (output_not core slots group so_far c.loop-group.invariant (sym c.is_group_of.ensures
+          ∙ w.if-is_group_of.false))
     ]

@@ -14,7 +14,8 @@ pub loop-reloc-preserved : goal.loop-reloc-preserved
 loop-reloc-preserved c = λ before holds.
     let l = c.loop-reloc in
     let target : Reloc → Target = λ r. r.target in
-    let more = append_assoc before (map target (take l.reloc-index c.args.relocs.now)) (_ ∷ []) ∙ ap (λ ts. before ++ ts) (sym (map-more target c.args.relocs.now l.reloc-index _ c.loop-reloc-test.true)) in
+    let more = append_assoc before (map target (take l.reloc-index c.args.relocs.now)) (_ ∷ [])
+    ∙ ap (λ ts. before ++ ts) (sym (map-more target c.args.relocs.now l.reloc-index _ c.loop-reloc-test.true)) in
     subst (HoldsUses c.mark.new.used c.args.segments) more (c.mark.ensures (before ++ map target (take l.reloc-index c.args.relocs.now)) (l.invariant before holds))
 
 pub returns : goal.returns

@@ -14,7 +14,9 @@ loop-value-init c = λ before holds. no_more c.args.used.now c.args.segments bef
 pub loop-value-preserved : goal.loop-value-preserved
 loop-value-preserved c = λ before holds.
     let l = c.loop-value in
-    let more = append_assoc before (flat_map value_targets (take l.value-index c.args.values.now)) _ ∙ ap (λ ts. before ++ ts) (sym (flat_map-more value_targets c.args.values.now l.value-index _ c.loop-value-test.true)) in
+    let more = append_assoc before (flat_map value_targets (take l.value-index c.args.values.now)) _
+    ∙ ap (λ ts. before ++ ts) (sym (flat_map-more value_targets c.args.values.now l.value-index _
+    c.loop-value-test.true)) in
     subst (HoldsUses c.mark_value.new.used c.args.segments) more (c.mark_value.ensures (before ++ flat_map value_targets (take l.value-index c.args.values.now)) (l.invariant before holds))
 
 pub returns : goal.returns

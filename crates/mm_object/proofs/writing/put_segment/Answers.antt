@@ -24,6 +24,9 @@ returns c =
     let items = ap (λ (x : Segment). x.items) c.segment.view_is in
     let e1 = c.in_ok-put_name.ensures ∙ ap (λ (x : Segment). old ++ name_record x.name) c.segment.view_is in
     let e2 = both_written old n1 n2 (name_record s.name) (s.log ∷ []) e1 (c.in_ok-push.ensures.items ∙ ap (λ (x : Segment). n1 ++ x.log ∷ []) c.segment.view_is) in
-    let e3 = both_written old n2 n3 (name_record s.name ++ (s.log ∷ [])) count e2 (c.in_ok-put_count.ensures ∙ ap (λ (xs : List Item). n2 ++ to_be_bytes w32 (length xs)) (c.deref.ensures.value ∙ items)) in
-    let e4 = both_written old n3 n4 (name_record s.name ++ (s.log ∷ []) ++ count) (full s.items) e3 (c.in_ok-put_full_bits.ensures ∙ ap (λ (xs : List Item). n3 ++ full xs) (c.deref-2.ensures.value ∙ items)) in
-    both_written old n4 n5 (name_record s.name ++ (s.log ∷ []) ++ count ++ full s.items) (words s.items) e4 (c.in_ok-put_words.ensures ∙ ap (λ (xs : List Item). n4 ++ words xs) (c.deref-3.ensures.value ∙ items))
+    let e3 = both_written old n2 n3 (name_record s.name ++ (s.log ∷ [])) count e2 (c.in_ok-put_count.ensures
+    ∙ ap (λ (xs : List Item). n2 ++ to_be_bytes w32 (length xs)) (c.deref.ensures.value ∙ items)) in
+    let e4 = both_written old n3 n4 (name_record s.name ++ (s.log ∷ []) ++ count) (full s.items) e3
+    (c.in_ok-put_full_bits.ensures ∙ ap (λ (xs : List Item). n3 ++ full xs) (c.deref-2.ensures.value ∙ items)) in
+    both_written old n4 n5 (name_record s.name ++ (s.log ∷ []) ++ count ++ full s.items) (words s.items) e4
+    (c.in_ok-put_words.ensures ∙ ap (λ (xs : List Item). n4 ++ words xs) (c.deref-3.ensures.value ∙ items))

@@ -21,5 +21,6 @@ returns c =
     let tags = to_be_bytes w16 (number_of_flags (map is_tagged t.regs)) in
     let e1 = c.in_ok-extend_from_slice.ensures.items ∙ ap (λ (x : List ℕ). old ++ x) c.thread_head.ensures in
     let e2 = both_written old n1 n2 head (target_record t.target) e1 c.in_ok-put_target.ensures in
-    let e3 = both_written old n2 n3 (head ++ target_record t.target) tags e2 (c.in_ok-extend_from_slice-2.ensures.items ∙ ap (λ (x : List ℕ). n2 ++ x) (c.to_be_bytes.ensures ∙ ap (to_be_bytes w16) c.tags_of.ensures.value)) in
+    let e3 = both_written old n2 n3 (head ++ target_record t.target) tags e2 (c.in_ok-extend_from_slice-2.ensures.items
+    ∙ ap (λ (x : List ℕ). n2 ++ x) (c.to_be_bytes.ensures ∙ ap (to_be_bytes w16) c.tags_of.ensures.value)) in
     both_written old n3 n4 (head ++ target_record t.target ++ tags) (flat_map value_record t.regs) e3 c.in_ok-put_values.ensures

@@ -17,4 +17,5 @@ returns-then-eq-clause-place g c =
     omega (arith, length_numbers (g.M.Memory.meaning c.args.mem.now).pages)
 
 pub returns-then-eq-clause-rest : goal.returns-then-eq-clause-rest
-returns-then-eq-clause-rest g c = rest_behind (numbers (g.M.Memory.meaning c.args.mem.now).pages) c.args.i c.args.number (sym c.mapped_at.ensures.number ∙ equal_says c.mapped_at.result c.args.number (sym c.if-eq.true ∙ c.eq.ensures))
+returns-then-eq-clause-rest g c = rest_behind (numbers (g.M.Memory.meaning c.args.mem.now).pages) c.args.i c.args.number
+    (sym c.mapped_at.ensures.number ∙ equal_says c.mapped_at.result c.args.number (sym c.if-eq.true ∙ c.eq.ensures))

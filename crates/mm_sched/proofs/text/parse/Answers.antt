@@ -14,7 +14,8 @@ loop-at-init c = record {
 
 -- the run here is no item
 no_item : (c : After-drop-items) → FaultsAt c.args.bytes.now c.loop-at.at
-no_item c = read_fault c.args.bytes.now c.loop-at.at c.run_end-end.result (slice_range c.args.bytes.now c.loop-at.at c.run_end-end.result) c.loop-at.items.items c.loop-at.invariant.read c.run_end-end.ensures.run
+no_item c = read_fault c.args.bytes.now c.loop-at.at c.run_end-end.result (slice_range c.args.bytes.now c.loop-at.at
+    c.run_end-end.result) c.loop-at.items.items c.loop-at.invariant.read c.run_end-end.ensures.run
     (λ n k item. absurd (c.in_default-item.ensures.none refl n k item))
 
 pub returns-in_default-item-clause-fault : goal.returns-in_default-item-clause-fault

@@ -5,7 +5,10 @@ use Rattle.std.proofs.lemmas.List.{take_rest}
 use Rattle.std.proofs.lemmas.Bool.Decides.{nat_tests}
 use Rattle.mm_sched.proofs.Numbers.{EndsAt, at_least, first_digit, no_leading_zero, digits_more, value_more, begins_with, not_digit}
 use Rattle.mm_sched.proofs.word.leading_number.Goals as goal
-use Rattle.mm_sched.proofs.word.leading_number.Goals.{then-loop-end-test+else-is_ascii_digit, else-loop-end-test, then-end-eq0-via-then-end-eq0, then-end-eq0-via-else-end-eq0+then-text-eq48, then-end-gt1, else-end-gt1}
+use Rattle.mm_sched.proofs.word.leading_number.Goals.{then-loop-end-test+else-is_ascii_digit, else-loop-end-test}
+use Rattle.mm_sched.proofs.word.leading_number.Goals.{then-end-eq0-via-then-end-eq0}
+use Rattle.mm_sched.proofs.word.leading_number.Goals.{then-end-eq0-via-else-end-eq0+then-text-eq48, then-end-gt1}
+use Rattle.mm_sched.proofs.word.leading_number.Goals.{else-end-gt1}
 
 pub returns-in_err-number-clause-none : goal.returns-in_err-number-clause-none
 returns-in_err-number-clause-none c _ n rest le begins =
@@ -33,7 +36,9 @@ returns-then-end-eq0-clause-none c _ n rest le begins =
     elim c.then-end-eq0.branch [
       | then-end-eq0-via-then-end-eq0 w ↦
           elim c.loop-end-test.branch [
-            | then-loop-end-test+else-is_ascii_digit v ↦ not_digit (get_or c.args.text.now c.loop-end.end 0) v.if-is_ascii_digit.ensures.cases (subst (λ (i : ℕ). IsAsciiDigit (get_or c.args.text.now i 0)) (sym w.if-end-eq0.true) first.1)
+            | then-loop-end-test+else-is_ascii_digit v ↦ not_digit (get_or c.args.text.now c.loop-end.end 0)
+                v.if-is_ascii_digit.ensures.cases (subst (λ (i : ℕ). IsAsciiDigit (get_or c.args.text.now i 0))
+                (sym w.if-end-eq0.true) first.1)
             | else-loop-end-test v ↦ omega arith
           ]
       | then-end-eq0-via-else-end-eq0+then-text-eq48 w ↦
@@ -52,5 +57,8 @@ returns-clause-some c =
     let lead : get_or c.args.text.now 0 0 ≡ 48 → c.loop-end.end ≡ 1 = λ zero. elim c.if-end-gt1.branch [
       | then-end-gt1 w ↦ absurd (grind (arith, nat_tests))
       | else-end-gt1 w ↦ omega arith
-    ] in
-    (rw whole (begins_with c.args.text.now c.loop-end.end c.loop-end.number (omega arith) c.loop-end.invariant.inside c.loop-end.invariant.digits c.loop-end.invariant.value (omega arith) lead ends), c.loop-end.invariant.limit)
+    ] in (
+      rw whole (begins_with c.args.text.now c.loop-end.end c.loop-end.number (omega arith) c.loop-end.invariant.inside
+          c.loop-end.invariant.digits c.loop-end.invariant.value (omega arith) lead ends),
+      c.loop-end.invariant.limit,
+    )

@@ -10,8 +10,11 @@ returns-then-y-x_end c =
     let ey = c.end-y_end.ensures in
     let here = least_here c.args.xs.now c.args.ys.now c.requires.left c.requires.right c.loop-i.i c.loop-i.j c.loop-i-test.true c.if-j-ys.true c.loop-i.invariant c.if-x-y.result in
     elim c.if-x-y.branch [
-      | then-x-y w ↦ let r = w.result-is in let lt = w.if-x-y.true in here (omega arith) (omega arith) (inr (omega arith)) (omega arith) (let seg = c.requires.right.segments c.loop-i.j c.if-j-ys.true in let some = some_in (segment_at c.args.ys.now c.loop-i.j) in omega arith)
-      | else-x-y w ↦ let r = w.result-is in let le = w.if-x-y.false in here (omega arith) (omega arith) (inl (omega arith)) (let some = some_in (segment_at c.args.xs.now c.loop-i.i) in omega arith) (omega arith)
+      | then-x-y w ↦ let r = w.result-is in let lt = w.if-x-y.true in here (omega arith) (omega arith)
+          (inr (omega arith)) (omega arith) (let seg = c.requires.right.segments c.loop-i.j c.if-j-ys.true in let some =
+          some_in (segment_at c.args.ys.now c.loop-i.j) in omega arith)
+      | else-x-y w ↦ let r = w.result-is in let le = w.if-x-y.false in here (omega arith) (omega arith)
+          (inl (omega arith)) (let some = some_in (segment_at c.args.xs.now c.loop-i.i) in omega arith) (omega arith)
     ]
 
 pub loop-i-preserved-then-x_end-y_end : goal.loop-i-preserved-then-x_end-y_end

@@ -18,7 +18,9 @@ pub loop-i-preserved : goal.loop-i-preserved
 loop-i-preserved c =
     let rows = c.args.rows.now in
     let i = c.loop-i.i in
-    let number : c.number-number.result ≡ (slot_of_row rows i).number = c.number-number.ensures ∙ ap (λ (s : Rattle.mm_model.specs.Slot.Slot). s.number) (slot_there rows i (omega arith) _ _ c.index-rows-i.is) in
+    let number : c.number-number.result ≡ (slot_of_row rows i).number = c.number-number.ensures
+    ∙ ap (λ (s : Rattle.mm_model.specs.Slot.Slot). s.number) (slot_there rows i (omega arith) _ _ c.index-rows-i.is)
+    in
     let P : ℕ → Type 0 = λ n. IsIndexBelow rows (set c.loop-i.index n i) (i + 1) in
     subst P (sym number) (index_more rows c.loop-i.index i c.requires.apart (omega arith) c.loop-i.invariant)
 

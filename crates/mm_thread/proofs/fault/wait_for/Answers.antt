@@ -17,7 +17,9 @@ pub push_event-requires-clause-room : goal.push_event-requires-clause-room
 push_event-requires-clause-room c =
     let a = c.args in
     let r = c.requires.can in
-    let same = ap (λ (core : Core). length (queue_in core c.in-Some.at)) c.stand.ensures ∙ ap length (queue_in-slot a.tables.now a.place c.in-Some.at (stood (slot_in a.tables.now a.place) Waiting) r.within) in
+    let same = ap (λ (core : Core). length (queue_in core c.in-Some.at)) c.stand.ensures
+    ∙ ap length (queue_in-slot a.tables.now a.place c.in-Some.at (stood (slot_in a.tables.now a.place) Waiting)
+    r.within) in
     omega (arith, queue_room a.tables.now r.whole a.place r.within r.runs c.in-Some.at c.in-Some.ensures.within)
 
 pub returns : goal.returns

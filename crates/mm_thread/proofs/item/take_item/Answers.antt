@@ -41,4 +41,5 @@ returns-else-is_running g c =
     let m = g.M.Memory.meaning a.mem.now in
     let found = ap (slot_at t) (sym (c.in-Some.ensures.number ∙ c.from.ensures)) ∙ slot_found t (apart_in t c.requires.whole) p c.in-Some.ensures.within in
     let rests = ap (λ (x : Slot). is_running x.state) (sym c.slot.ensures) ∙ sym c.is_running.ensures ∙ c.if-is_running.false in
-    rw (turn-resting t m a.item (slot_in t p) found rests) (nothing_gives g.M.Memory.meaning g.M.Memory.uses g.M.Memory.stands _ a.mem.now t c.tell.new.step (idles t m a.item c.tell.new.step c.tell.ensures))
+    rw (turn-resting t m a.item (slot_in t p) found rests) (nothing_gives g.M.Memory.meaning g.M.Memory.uses
+    g.M.Memory.stands _ a.mem.now t c.tell.new.step (idles t m a.item c.tell.new.step c.tell.ensures))

@@ -55,7 +55,9 @@ returns-in-Ok g c =
     let fits : FitsSigned w32 a.at.offset = search rules in
     let checked = rw (to_z-of_z w32 a.at.offset fits, c.load_kind.ensures, c.slot.ensures) at c.in-Ok.ensures.value in
     let answer = c.load-loaded.ensures.answer in
-    executes_by g.M.Memory.meaning g.M.Memory.uses g.M.Memory.stands t s (Ld a.rd a.at.base a.at.pre a.at.post a.at.offset) a.mem.now c.load-loaded.new.self c.receive-outcome.new.tables c.touching.result (Reach access a.at.pre)
+    executes_by g.M.Memory.meaning g.M.Memory.uses g.M.Memory.stands t s
+    (Ld a.rd a.at.base a.at.pre a.at.post a.at.offset) a.mem.now c.load-loaded.new.self c.receive-outcome.new.tables
+    c.touching.result (Reach access a.at.pre)
     (ap (λ (x : Result Touch Cause). reaching x a.at.pre) (sym checked))
     (leaves_all t m s _ (core_loaded t a.place a.rd (loaded a.at.pre (cell_at m access.addr))) _ (outcome_loaded (loaded a.at.pre (cell_at m access.addr)))
     c.receive-outcome.new.tables (g.M.Memory.meaning c.load-loaded.new.self) c.touching.result.outcome

@@ -49,7 +49,9 @@ returns-in-Ok g c =
     let checked = rw (to_z-of_z w32 a.at.offset fits, c.slot.ensures) at c.in-Ok.ensures.value in
     let answer = c.store-stored.ensures.answer in
     let word : c.word_of-word.result ≡ register s a.rb = c.word_of-word.ensures ∙ ap (λ (x : Slot). register x a.rb) c.slot-in-Ok.ensures in
-    executes_by g.M.Memory.meaning g.M.Memory.uses g.M.Memory.stands t s (St a.at.base a.rb a.at.pre a.at.post a.at.offset) a.mem.now c.store-stored.new.self c.finish_store-outcome.new.tables c.touching.result (Reach access a.at.pre)
+    executes_by g.M.Memory.meaning g.M.Memory.uses g.M.Memory.stands t s
+    (St a.at.base a.rb a.at.pre a.at.post a.at.offset) a.mem.now c.store-stored.new.self
+    c.finish_store-outcome.new.tables c.touching.result (Reach access a.at.pre)
     (ap (λ (x : Result Touch Cause). reaching x a.at.pre) (sym checked))
     (leaves_all t m s _ (core_stored t a.place (stored a.at.pre (cell_at m access.addr))) _ (outcome_stored (stored a.at.pre (cell_at m access.addr)))
     c.finish_store-outcome.new.tables (g.M.Memory.meaning c.store-stored.new.self) c.touching.result.outcome

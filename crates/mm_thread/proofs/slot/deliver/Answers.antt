@@ -28,4 +28,5 @@ returns-clause-slot c =
     let all : AllByRecursion (λ (q : Pending). q.reg < 16) i.pending.items = rw (← c.slot.view_is) at c.requires in
     let some = sym c.is_empty.ensures ∙ c.if-is_empty.false in
     let small = first_small i.pending.items p all some c.remove-arrived.ensures.value in
-    rw (c.set_register.ensures, flags_clear16 i.empty p.reg small, c.remove-arrived.ensures.items) (sym (delivers-first s i.pending.items p some c.remove-arrived.ensures.value)) ∙ ap delivered c.slot.view_is
+    rw (c.set_register.ensures, flags_clear16 i.empty p.reg small, c.remove-arrived.ensures.items)
+    (sym (delivers-first s i.pending.items p some c.remove-arrived.ensures.value)) ∙ ap delivered c.slot.view_is

@@ -63,4 +63,6 @@ returns c = λ m.
     let after : Core = with_slot (with_slot t q o) p (f (slot_in t p)) in
     leaves_at t m (slot_in t p) _ (with_queue_in after p (drop 1 (queue_in after p))) c.remove_event.new.self _
     (takes_event t (apart_in t r.whole) p r.within m e rest some q inside other found c.args.rd)
-    (c.remove_event.ensures ∙ ap (λ (k : Core). with_queue_in k p (drop 1 (queue_in k p))) (goes_after t q p o f other c.set_taken.new.self c.take_event.new.self c.set_taken.ensures c.take_event.ensures))
+    (c.remove_event.ensures ∙ ap (λ (k : Core). with_queue_in k p (drop 1 (queue_in k p)))
+    (goes_after t q p o f other c.set_taken.new.self c.take_event.new.self c.set_taken.ensures
+    c.take_event.ensures))

@@ -61,4 +61,6 @@ returns-else-has_room c = λ m.
     let r = c.requires in
     let t = c.args.tables.now in
     let group = ap (λ (x : Slot). x.group) (c.slot.view_is ∙ c.slot-slot.ensures) in
-    no_room_left t (apart_in t r.whole) c.args.place r.within m c.args.ra (ap (λ (g : ℕ). ltb (length (output_of t g)) (output_limit t.version)) (sym group) ∙ sym c.has_room.ensures ∙ c.if-has_room.false)
+    no_room_left t (apart_in t r.whole) c.args.place r.within m c.args.ra
+    (ap (λ (g : ℕ). ltb (length (output_of t g)) (output_limit t.version)) (sym group) ∙ sym c.has_room.ensures
+    ∙ c.if-has_room.false)

@@ -19,7 +19,9 @@ returns-then-is_taken-clause-served c =
     let number : c.slot.inside.number ≡ s.number = ap (λ (x : Slot). x.number) (c.slot.view_is ∙ c.slot-slot.ensures) in
     let named = c.bits.ensures.value ∙ ap word_bits (c.word_of.ensures ∙ ap (λ (x : Slot). register x c.args.ra) c.slot-slot.ensures) in
     let found = ap (slot_at t) (sym (c.in_ok-of.ensures.number ∙ named)) ∙ slot_found t (apart_in t r.whole) q c.in_ok-of.ensures.within in
-    let handles = ap (λ (n : ℕ). is_handler n (slot_in t q).handler) (sym number) ∙ ap (λ (x : Slot). is_handler c.slot.inside.number x.handler) (sym c.slot-other.ensures) ∙ sym c.is_handled_by.ensures ∙ c.if-is_handled_by.true in
+    let handles = ap (λ (n : ℕ). is_handler n (slot_in t q).handler) (sym number)
+    ∙ ap (λ (x : Slot). is_handler c.slot.inside.number x.handler) (sym c.slot-other.ensures)
+    ∙ sym c.is_handled_by.ensures ∙ c.if-is_handled_by.true in
     let taken = ap (λ (x : Slot). is_taken x.state) (sym c.slot-other.ensures) ∙ sym c.is_taken.ensures ∙ c.if-is_taken.true in
     served-is t s.number (word_bits (register s c.args.ra)) (slot_in t q) found handles taken
 
@@ -34,8 +36,12 @@ returns-else-is_handled_by-clause-none c =
     let found = ap (slot_at t) (sym (c.in_ok-of.ensures.number ∙ named)) ∙ slot_found t (apart_in t r.whole) q c.in_ok-of.ensures.within in
     elim c.else-is_handled_by.branch [
       | else-is_handled_by-via-then-is_handled_by+else-is_taken w ↦
-          served-untaken t s.number (word_bits (register s c.args.ra)) (slot_in t q) found (ap (λ (x : Slot). is_taken x.state) (sym c.slot-other.ensures) ∙ sym w.is_taken.ensures ∙ w.if-is_taken.false)
+          served-untaken t s.number (word_bits (register s c.args.ra)) (slot_in t q) found
+          (ap (λ (x : Slot). is_taken x.state) (sym c.slot-other.ensures) ∙ sym w.is_taken.ensures
+          ∙ w.if-is_taken.false)
       | else-is_handled_by-via-else-is_handled_by w ↦
           served-unhandled t s.number (word_bits (register s c.args.ra)) (slot_in t q) found
-          (ap (λ (n : ℕ). is_handler n (slot_in t q).handler) (sym number) ∙ ap (λ (x : Slot). is_handler c.slot.inside.number x.handler) (sym c.slot-other.ensures) ∙ sym c.is_handled_by.ensures ∙ w.if-is_handled_by.false)
+          (ap (λ (n : ℕ). is_handler n (slot_in t q).handler) (sym number)
+          ∙ ap (λ (x : Slot). is_handler c.slot.inside.number x.handler) (sym c.slot-other.ensures)
+          ∙ sym c.is_handled_by.ensures ∙ w.if-is_handled_by.false)
     ]

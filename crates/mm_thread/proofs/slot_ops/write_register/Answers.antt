@@ -40,5 +40,6 @@ returns c = λ m.
     let o : Slot = record of { regs = set of.regs c.args.reg (register s c.args.rb) } in
     let written = c.set_register.ensures ∙ ap (λ (w : Word). with_slot t q (record of { regs = set of.regs c.args.reg w })) word in
     leaves_at t m s _ (with_slot (with_slot t q o) p (slot_after s (plain s))) c.advance.new.self _
-    (write_writes t (apart_in t r.whole) p r.within q c.in-Some.ensures.within c.in-Some.ensures.other m c.args.ra c.args.rb c.args.reg c.in-Some.ensures.served (sym c.lacks.ensures ∙ c.if-lacks.false))
+    (write_writes t (apart_in t r.whole) p r.within q c.in-Some.ensures.within c.in-Some.ensures.other m c.args.ra
+    c.args.rb c.args.reg c.in-Some.ensures.served (sym c.lacks.ensures ∙ c.if-lacks.false))
     (goes_after t q p o (λ (x : Slot). slot_after x (plain x)) c.in-Some.ensures.other c.set_register.new.self c.advance.new.self written c.advance.ensures)

@@ -11,4 +11,10 @@ returns-clause-step c =
     let s = slot_in a.tables.now a.place in
     c.tell.ensures
     ∙ ap (λ (t : Tick). record { tick = t; slot = c.behind-tables.inside.number; fetched = a.fetched; touched = None; entered = None }) c.fault-tick.ensures.tick
-    ∙ ap (λ (n : ℕ). record { tick = tick_faulted a.cause s.handler; slot = n; fetched = a.fetched; touched = None; entered = None }) (ap (λ (x : Slot). x.number) (c.behind-tables.view_is ∙ c.slot.ensures))
+    ∙ ap (λ (n : ℕ). record {
+      tick = tick_faulted a.cause s.handler;
+      slot = n;
+      fetched = a.fetched;
+      touched = None;
+      entered = None;
+    }) (ap (λ (x : Slot). x.number) (c.behind-tables.view_is ∙ c.slot.ensures))

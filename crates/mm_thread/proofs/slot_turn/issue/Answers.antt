@@ -20,12 +20,14 @@ returns-then-must_wait g c = λ before u first same counted.
     let a = c.args in
     let number = ap (λ (x : Slot). x.number) (c.behind-tables.view_is ∙ c.slot.ensures) in
     issued_waits g.M.Memory.meaning g.M.Memory.uses g.M.Memory.stands a.tables.now a.place c.requires.can a.access u a.instr before a.mem.now first same counted
-    (sym c.must_wait.ensures ∙ c.if-must_wait.true) c.deliver-register.new.self c.stand.new.self c.tell.new.step c.behind-tables.inside.number c.deliver-register.ensures.slot c.stand.ensures number c.tell.ensures
+    (sym c.must_wait.ensures ∙ c.if-must_wait.true) c.deliver-register.new.self c.stand.new.self c.tell.new.step
+    c.behind-tables.inside.number c.deliver-register.ensures.slot c.stand.ensures number c.tell.ensures
 
 pub end-requires : goal.end-requires
 end-requires g c =
     let a = c.args in
-    can_end a.tables.now a.place c.requires.can (g.M.Memory.meaning a.mem.now) _ c.execute-told.new.tables (g.M.Memory.meaning c.execute-told.new.mem) c.execute-told.result.outcome c.execute-told.ensures.leaves
+    can_end a.tables.now a.place c.requires.can (g.M.Memory.meaning a.mem.now) _ c.execute-told.new.tables
+    (g.M.Memory.meaning c.execute-told.new.mem) c.execute-told.result.outcome c.execute-told.ensures.leaves
 
 pub returns : goal.returns
 returns g c = λ before u first same counted.

@@ -28,7 +28,8 @@ returns-in-Err g c =
     let past : s.past ≡ false = ap (λ (x : Slot). x.past) (sym same) ∙ c.if-past.false in
     let checked : check_result (Ptr s.ip) (pos 0) Fetch ≡ Err c.in-Err.cause = ap (λ (x : Slot). check_result (Ptr x.ip) (pos 0) Fetch) (sym same) ∙ sym c.in-Err.ensures.value in
     rw (starts_unfetched t (g.M.Memory.meaning a.mem.now) s c.in-Err.cause past checked)
-    (faults_give g.M.Memory.meaning g.M.Memory.uses g.M.Memory.stands t (g.M.Memory.meaning a.mem.now) s c.in-Err.cause None [] a.mem.now a.mem.now c.fail_fetch-in-Err.new.tables c.fail_fetch-in-Err.new.step
+    (faults_give g.M.Memory.meaning g.M.Memory.uses g.M.Memory.stands t (g.M.Memory.meaning a.mem.now) s c.in-Err.cause
+    None [] a.mem.now a.mem.now c.fail_fetch-in-Err.new.tables c.fail_fetch-in-Err.new.step
     c.fail_fetch-in-Err.ensures.core refl c.fail_fetch-in-Err.ensures.step (takes_none a.mem.now) (omega arith))
 
 pub returns-in-Ok : goal.returns-in-Ok

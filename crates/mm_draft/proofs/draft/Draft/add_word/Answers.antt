@@ -15,4 +15,6 @@ pub returns : goal.returns
 returns c =
     let xs = c.self.inside.segments in
     let e : last xs.items ≡ Some c.in-Some.segment.now = last_read xs.items xs.len c.in-Some.segment.now xs.ok.0 (c.in-Some.ensures.variant.0 refl) c.in-Some.ensures.value in
-    segments_step _ c.args.self.now (with_words (c.args.word ∷ [])) _ c.self.view_is (set_last (with_words (c.args.word ∷ [])) xs.items xs.len c.in-Some.segment.now _ xs.ok.0 e c.in_ok-push.ensures.done)
+    segments_step _ c.args.self.now (with_words (c.args.word ∷ [])) _ c.self.view_is
+    (set_last (with_words (c.args.word ∷ [])) xs.items xs.len c.in-Some.segment.now _ xs.ok.0 e
+    c.in_ok-push.ensures.done)

@@ -11,7 +11,8 @@ use Rattle.mm_draft.proofs.draft.Draft.read_line.Goals as goal
 pub returns-in_err-read_label : goal.returns-in_err-read_label
 returns-in_err-read_label c =
     let p = err_from_is_err_and c.from_residual.result c.from_residual.ensures.1 in
-    rw (p.1, p.2) (label_err (Unit {0}) c.args.number c.args.bytes.now c.read_line-line.result c.args.self.now c.read_label.new.self c.in_err-read_label.field-0.0 c.read_line-line.ensures c.in_err-read_label.ensures)
+    rw (p.1, p.2) (label_err (Unit {0}) c.args.number c.args.bytes.now c.read_line-line.result c.args.self.now
+    c.read_label.new.self c.in_err-read_label.field-0.0 c.read_line-line.ensures c.in_err-read_label.ensures)
 
 pub read_body-requires-clause-in_range : goal.read_body-requires-clause-in_range
 read_body-requires-clause-in_range c =
@@ -23,4 +24,6 @@ read_body-requires-clause-claims c = subst (λ (l : Line). NamesItsClaim l.body)
 
 pub returns : goal.returns
 returns c =
-    subst (Leaves c.read_body.result c.read_body.new.self) (sym (goes c.args.number c.args.bytes.now c.read_line-line.result c.args.self.now c.read_label.new.self c.read_line-line.ensures c.in_ok-read_label.ensures)) c.read_body.ensures
+    subst (Leaves c.read_body.result c.read_body.new.self)
+    (sym (goes c.args.number c.args.bytes.now c.read_line-line.result c.args.self.now c.read_label.new.self
+    c.read_line-line.ensures c.in_ok-read_label.ensures)) c.read_body.ensures

@@ -19,4 +19,7 @@ returns-in-Some c =
     let len : c.len.result ≡ length s.words = c.len.ensures ∙ c.segment.inside.words.ok.0 ∙ ap (λ (x : Segment). length x.words) c.segment.view_is in
     let full = c.fault_if-in-Some.ensures ∙ (λ i. first_of (fault_if (nat_lt (c.room.ensures i) (len i + c.args.words)) Full left)) in
     let limit = c.fault_if-in-Some-2.ensures ∙ ap (λ b. first_of (fault_if b Limit left)) c.is_past_limit.ensures in
-    c.first.ensures ∙ (λ i. first_of_both (full i) (limit i)) ∙ sym (first_of_append (fault_if (nat_lt (room_of s) (length s.words + c.args.words)) Full left) (fault_if past Limit left)) ∙ ap (λ o. first_of (words_faults c.args.self.now c.args.words c.args.pointers left o)) (sym e2)
+    c.first.ensures ∙ (λ i. first_of_both (full i) (limit i))
+    ∙ sym (first_of_append (fault_if (nat_lt (room_of s) (length s.words + c.args.words)) Full left)
+    (fault_if past Limit left)) ∙ ap
+    (λ o. first_of (words_faults c.args.self.now c.args.words c.args.pointers left o)) (sym e2)

@@ -31,16 +31,20 @@ set_version-requires-clause-silent c = no_output c.in_ok-core.core.outputs c.in_
 pub set_split-requires : goal.set_split-requires
 set_split-requires c =
     let i = c.args.img.now in
-    let rows : c.set_version.new.self.rows ≡ map row_alone i.slots = ap (λ (k : Core). k.rows) c.set_version.ensures ∙ c.in_ok-core.ensures.rows ∙ ap (λ (l : List Slot). map row_alone l) c.slots.ensures.slots in
+    let rows : c.set_version.new.self.rows ≡ map row_alone i.slots = ap (λ (k : Core). k.rows) c.set_version.ensures
+    ∙ c.in_ok-core.ensures.rows ∙ ap (λ (l : List Slot). map row_alone l) c.slots.ensures.slots in
     each_fresh i (λ (s : Slot). s.pending ≡ []) c.set_version.new.self c.slots.ensures.image rows (λ s f. f.pending)
 
 pub returns-clause-start : goal.returns-clause-start
 returns-clause-start c =
     let i = c.args.img.now in
     let core = c.set_split.new.self in
-    let is : core ≡ record c.in_ok-core.core { version = c.version.result; split = c.split.result } = c.set_split.ensures ∙ ap (λ (k : Core). record k { split = c.split.result }) c.set_version.ensures in
+    let is : core ≡ record c.in_ok-core.core { version = c.version.result; split = c.split.result } =
+    c.set_split.ensures ∙ ap (λ (k : Core). record k { split = c.split.result }) c.set_version.ensures in
     let rows = ap (λ (k : Core). k.rows) is ∙ c.in_ok-core.ensures.rows ∙ ap (λ (l : List Slot). map row_alone l) c.slots.ensures.slots in
-    let begins = start_made i core rows (ap (λ (k : Core). k.outputs) is ∙ c.in_ok-core.ensures.outputs) (ap (λ (k : Core). k.version) is ∙ c.version.ensures.version) (ap (λ (k : Core). k.split) is ∙ c.split.ensures.split) in
+    let begins = start_made i core rows (ap (λ (k : Core). k.outputs) is ∙ c.in_ok-core.ensures.outputs)
+    (ap (λ (k : Core). k.version) is ∙ c.version.ensures.version) (ap (λ (k : Core). k.split) is
+    ∙ c.split.ensures.split) in
     record {
       image = c.slots.ensures.image;
       machine = begun i core c.in_ok-held.held.mem.memory begins c.in_ok-held.ensures.held.memory;
@@ -51,7 +55,8 @@ pub returns-clause-ready : goal.returns-clause-ready
 returns-clause-ready c =
     let i = c.args.img.now in
     let core = c.set_split.new.self in
-    let is : core ≡ record c.in_ok-core.core { version = c.version.result; split = c.split.result } = c.set_split.ensures ∙ ap (λ (k : Core). record k { split = c.split.result }) c.set_version.ensures in
+    let is : core ≡ record c.in_ok-core.core { version = c.version.result; split = c.split.result } =
+    c.set_split.ensures ∙ ap (λ (k : Core). record k { split = c.split.result }) c.set_version.ensures in
     let rows = ap (λ (k : Core). k.rows) is ∙ c.in_ok-core.ensures.rows ∙ ap (λ (l : List Slot). map row_alone l) c.slots.ensures.slots in
     let none = c.in_ok-held.ensures.unused in
     record {

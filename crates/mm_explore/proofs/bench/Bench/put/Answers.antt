@@ -22,7 +22,9 @@ assign-requires c =
     let some = c.requires.some in
     let parts = c.requires.parts in
     let like = core_like i core c.args.self.now.held.mem.memory (run (start i) some.0) (runs_state_of i some.0 some.1.image) some.1.machine in
-    let given = parts_given i (run (start i) parts.0) core p.slots.items p.events.items p.outputs.items (option_map (λ v. v.items) p.pages) p.cells.items some.1.image (runs_state_of i parts.0 some.1.image) parts.1 like.0 like.1 like.2 in
+    let given = parts_given i (run (start i) parts.0) core p.slots.items p.events.items p.outputs.items
+    (option_map (λ v. v.items) p.pages) p.cells.items some.1.image (runs_state_of i parts.0 some.1.image) parts.1
+    like.0 like.1 like.2 in
     subst (λ (l : List Output). AreParts core c.as_slice.result.now c.as_slice-2.result.now l) (sym c.as_slice-3.ensures.value)
     (subst (λ (l : List (ℕ × Event)). AreParts core c.as_slice.result.now l p.outputs.items) (sym c.as_slice-2.ensures.value)
     (subst (λ (l : List Slot). AreParts core l p.events.items p.outputs.items) (sym c.as_slice.ensures.value) given))

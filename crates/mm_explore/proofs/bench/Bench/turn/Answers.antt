@@ -20,7 +20,8 @@ note-requires-clause-old c =
     let h : IsMemoryOf i m = subst (IsMemoryOf i) (sym some.1.held.memory) (memory_of i (run (start i) some.0) some.1.image (runs_state_of i some.0 some.1.image)) in (
       m,
       h,
-      moved_by b.core m c.turn-step.new.mem.memory c.args.item c.turn-step.result c.written.result h.paged c.turn-step.ensures.memory c.turn-step.ensures.step c.written.ensures.word c.written.ensures.place,
+      moved_by b.core m c.turn-step.new.mem.memory c.args.item c.turn-step.result c.written.result h.paged
+          c.turn-step.ensures.memory c.turn-step.ensures.step c.written.ensures.word c.written.ensures.place,
       sym c.pages-count.ensures.count,
       subst (λ (k : Memory). AreListed i k b.held.cells.items (numbers_in b.held)) (sym some.1.held.memory) some.1.held.listed,
     )

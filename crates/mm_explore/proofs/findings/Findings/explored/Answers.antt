@@ -51,7 +51,10 @@ returns c = λ limit explored is_all is_more.
               ∙ ap (λ groups. flat_map (λ y. reached_lines y.0 y.1) (zip groups reached)) c.requires.groups;
           faults =
               c.in_ok-list_faults.ensures
-              ∙ ap (λ l. flat_map fault_lines l ++ flat_map (λ (s : Slot). flat_map (λ cause. fault_found list s.number cause (get order f.faults (s.number, cause))) (range_with_len 1 13)) c.slots.result.now) c.new-faults.ensures.items
+              ∙ ap (λ l. flat_map fault_lines l ++ flat_map
+              (λ (s : Slot). flat_map (λ cause. fault_found list s.number cause
+              (get order f.faults (s.number, cause))) (range_with_len 1 13)) c.slots.result.now)
+              c.new-faults.ensures.items
               ∙ ap (flat_map (λ (s : Slot). flat_map (λ cause. fault_found list s.number cause (get order f.faults (s.number, cause))) (range_with_len 1 13))) c.slots.ensures.slots
               ∙ faults_text i list (λ slot cause. get order f.faults (slot, cause)) noted.faults i.slots;
           outcomes =

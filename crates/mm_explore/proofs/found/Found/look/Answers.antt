@@ -33,5 +33,6 @@ returns-in-Ok c =
     let limit = limit_is (λ v. v.items) k.kept.keys k.origins.items k.limit c.args.self.now c.self.view_is in (
       none_there (λ v. v.items) k.kept.keys k.origins.items k.limit c.args.self.now c.self.view_is c.args.numbers.now (c.has.ensures.no c.if-has.false),
       omega (arith, count, few, long, left, lists, limit),
-      seen_more (λ v. v.items) k.kept.keys k.origins.items k.limit c.args.self.now c.self.view_is c.args.origin c.args.numbers.now c.add.new.kept.keys c.push.new.self.items c.in_ok-push.ensures.items c.in-Ok.ensures.forms,
+      seen_more (λ v. v.items) k.kept.keys k.origins.items k.limit c.args.self.now c.self.view_is c.args.origin
+          c.args.numbers.now c.add.new.kept.keys c.push.new.self.items c.in_ok-push.ensures.items c.in-Ok.ensures.forms,
     )

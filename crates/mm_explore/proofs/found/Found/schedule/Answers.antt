@@ -29,5 +29,7 @@ pub returns : goal.returns
 returns c =
     let k = c.self.inside in
     let left = c.loop-at-test.false in
-    c.reverse.ensures.items ∙ sym (all_read c.args.self.now.list k.origins.items (list_is (λ v. v.items) k.kept.keys k.origins.items k.limit c.args.self.now c.self.view_is) c.loop-at.at (omega (arith, left)) c.loop-at.items.items)
+    c.reverse.ensures.items ∙ sym (all_read c.args.self.now.list k.origins.items
+    (list_is (λ v. v.items) k.kept.keys k.origins.items k.limit c.args.self.now c.self.view_is) c.loop-at.at
+    (omega (arith, left)) c.loop-at.items.items)
     ∙ c.loop-at.invariant.spells

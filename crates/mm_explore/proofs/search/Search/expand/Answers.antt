@@ -34,5 +34,7 @@ returns-clause-before c =
     let count : vec_len node.moves ≡ length node.moves.items = let h = node.moves.ok in omega (arith, h) in
     let none = none_so c.is_empty.result node.moves.items _ w.is.moves (c.is_empty.ensures ∙ ap (λ (n : ℕ). n == 0) count) in
     more_ok c.note_end.result (λ h. subst (IsBefore i (record s { findings = c.note_end.new.self })) (ap (λ a. a + 1) at)
-    (all_made i s node w c.note_end.new.self (h.0 i s.found.list (turns_before i s.found.list node.at (length node.moves.items)) w.come.noted) (h.1 i s.found.list _ t w.come.image w.come.ended here final none w.is.parts)))
+    (all_made i s node w c.note_end.new.self
+    (h.0 i s.found.list (turns_before i s.found.list node.at (length node.moves.items)) w.come.noted)
+    (h.1 i s.found.list _ t w.come.image w.come.ended here final none w.is.parts)))
     (both_ok _ _ c.note_end.result c.note_end.ensures.noted c.note_end.ensures.ended)

@@ -30,9 +30,11 @@ returns-clause-within c =
     let at : IsAt i t c.put.new.self = c.in_ok-put.ensures.at t w.is.parts in
     let step = c.in_ok-step.ensures.step t at in
     let group = c.in_ok-step.ensures.group t at in
-    let noted = c.in_ok-note.ensures.noted i s.found.list (turns_before i s.found.list node.at c.args.k) x w.come.noted (record { schedule = get_inside s.found.list node.at [] w.is.inside; item = refl }) step group in
+    let noted = c.in_ok-note.ensures.noted i s.found.list (turns_before i s.found.list node.at c.args.k) x w.come.noted
+    (record { schedule = get_inside s.found.list node.at [] w.is.inside; item = refl }) step group in
     let ended = c.in_ok-note.ensures.ended i s.found.list _ w.come.ended in
-    more_ok c.meet.result (λ met. (moved_by i s node c.args.k w c.requires.inside c.turn.new.self m is (c.in_ok-step.ensures.at t at) c.meet.new.self c.note.new.self noted ended met).within) c.meet.ensures.met
+    more_ok c.meet.result (λ met. (moved_by i s node c.args.k w c.requires.inside c.turn.new.self m is
+    (c.in_ok-step.ensures.at t at) c.meet.new.self c.note.new.self noted ended met).within) c.meet.ensures.met
 
 pub returns-clause-stays : goal.returns-clause-stays
 returns-clause-stays c =

@@ -18,7 +18,9 @@ new-requires-clause-fresh g c = subst (λ (slots : List Slot). AllByRecursion (I
 
 pub set_version-requires-clause-slots : goal.set_version-requires-clause-slots
 set_version-requires-clause-slots g c =
-    within c.args.img.now c.in_ok-core.core c.version.result c.slots.ensures.image (rows_made c.args.img.now c.in_ok-core.core c.slots.result.now c.in_ok-core.ensures.rows c.slots.ensures.slots) c.version.ensures.version
+    within c.args.img.now c.in_ok-core.core c.version.result c.slots.ensures.image
+    (rows_made c.args.img.now c.in_ok-core.core c.slots.result.now c.in_ok-core.ensures.rows c.slots.ensures.slots)
+    c.version.ensures.version
 
 pub set_version-requires-clause-silent : goal.set_version-requires-clause-silent
 set_version-requires-clause-silent g c = no_output c.in_ok-core.core.outputs c.in_ok-core.ensures.outputs
@@ -37,7 +39,9 @@ returns-clause-state g c =
 
 pub invariant_of-result : goal.invariant_of-result
 invariant_of-result g c =
-    let is : record { core = c.set_split.new.self; memory = g.M.Memory.meaning c.args.mem; cycles = 0 } ≡ start c.args.img.now = start_made c.args.img.now c.in_ok-core.core c.set_version.new.self c.set_split.new.self c.version.result c.split.result (g.M.Memory.meaning c.args.mem)
+    let is : record { core = c.set_split.new.self; memory = g.M.Memory.meaning c.args.mem; cycles = 0 } ≡ start
+    c.args.img.now = start_made c.args.img.now c.in_ok-core.core c.set_version.new.self c.set_split.new.self
+    c.version.result c.split.result (g.M.Memory.meaning c.args.mem)
     (rows_made c.args.img.now c.in_ok-core.core c.slots.result.now c.in_ok-core.ensures.rows c.slots.ensures.slots) c.in_ok-core.ensures.outputs
     c.set_version.ensures c.set_split.ensures c.version.ensures.version c.split.ensures.split c.requires.memory in
     let none : g.M.Memory.uses c.args.mem ≡ 0 = g.M.Memory.counted c.args.mem [] c.requires.unused in

@@ -18,7 +18,8 @@ assign-requires g c =
     c.slots.ensures.snapshot c.slots.ensures.typed c.requires c.args.self.now.kept
 
 pub reset-requires-clause-ascend : goal.reset-requires-clause-ascend
-reset-requires-clause-ascend g c = subst (λ (pages : List (ℕ × List Cell)). IsTrue (is_sorted nat_cmp pages)) (sym c.pages.ensures.pages) (pages_sorted c.args.s.now.pages c.pages.ensures.snapshot.pages)
+reset-requires-clause-ascend g c = subst (λ (pages : List (ℕ × List Cell)). IsTrue (is_sorted nat_cmp pages))
+    (sym c.pages.ensures.pages) (pages_sorted c.args.s.now.pages c.pages.ensures.snapshot.pages)
 
 pub invariant_of-self : goal.invariant_of-self
 invariant_of-self g c =

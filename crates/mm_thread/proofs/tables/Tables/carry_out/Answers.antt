@@ -20,7 +20,9 @@ kept-self-inside-requires-clause-ran c =
     let rows = c.self.inside.rows.items in
     let within : c.args.place < length rows = omega (arith, ap (λ (k : Core). length k.rows) c.self.view_is) in
     let here = slot_there rows c.args.place within _ _ (c.row.view_is ∙ c.index_mut-row.ensures.value) in
-    ap (bit_at c.self.inside.runners) (alone_number _ _ _ _ (c.carry_out-entered.ensures false) ∙ ap (λ (s : Slot). s.number) here) ∙ c.self.invariant.running.bits.each c.args.place within ∙ ap one_if (ap (λ (k : Core). is_running (slot_in k c.args.place).state) c.self.view_is ∙ c.requires.runs)
+    ap (bit_at c.self.inside.runners) (alone_number _ _ _ _ (c.carry_out-entered.ensures false)
+    ∙ ap (λ (s : Slot). s.number) here) ∙ c.self.invariant.running.bits.each c.args.place within
+    ∙ ap one_if (ap (λ (k : Core). is_running (slot_in k c.args.place).state) c.self.view_is ∙ c.requires.runs)
 
 pub invariant_of-self : goal.invariant_of-self
 invariant_of-self c =

@@ -16,4 +16,5 @@ invariant_of-self c =
     let rows = c.self.inside.rows.items in
     let within : c.args.place < length rows = omega (arith, ap (λ (k : Core). length k.rows) c.self.view_is) in
     let here = slot_there rows c.args.place within _ _ (c.row.view_is ∙ c.index_mut-row.ensures.value) in
-    known_set rows c.args.place within _ (ap (λ (s : Slot). s.number) c.resume.ensures ∙ resumed_number c.args.how _ ∙ ap (λ (s : Slot). s.number) here) _ _ _ c.self.invariant c.noted-self-inside.ensures
+    known_set rows c.args.place within _ (ap (λ (s : Slot). s.number) c.resume.ensures ∙ resumed_number c.args.how _
+    ∙ ap (λ (s : Slot). s.number) here) _ _ _ c.self.invariant c.noted-self-inside.ensures
