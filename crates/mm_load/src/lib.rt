@@ -1,13 +1,15 @@
 //! The inputs of a command: their kinds, how each is read and parsed, why it is refused, and the line that says so.
 #![tactic(auto)]
 
+mod each;
 mod lines;
 mod load;
 mod status;
 
+pub use each::{load_images, load_objects};
 pub use lines::write_line;
 pub use load::{
-    Checkpoint, load_checkpoint, load_events, load_image, load_images, load_input, load_links,
-    load_object, load_objects, load_order, load_schedule, load_source,
+    Checkpoint, load_checkpoint, load_events, load_image, load_input, load_links, load_object,
+    load_order, load_schedule, load_source,
 };
 pub use status::{Refusal, Status, Stop, ended};

@@ -1,5 +1,5 @@
 //! The inputs of a command, each read and parsed.
-ghost use Rattle.std.specs.Prelude.{◌≡◌, ◌+◌, ◌<◌, ◌≤◌, ◌^◌, ◌∷◌, [], List, length, map, IfOk, IfErr, OnOk};
+ghost use Rattle.std.specs.Prelude.{◌≡◌, ◌+◌, ◌<◌, ◌≤◌, ◌^◌, ◌∷◌, [], List, length, IfOk, IfErr, OnOk};
 ghost use Rattle.std.specs.Option.{option_map};
 ghost use Rattle.std.specs.Io.KnownBytes.{IsAtEnd};
 ghost use Rattle.mm_io.specs.Files.{Rose, NoneFell, Holds, AsksOnly, AsksWhole};
@@ -11,7 +11,6 @@ ghost use Rattle.mm_cli.specs.declared.table.Kind.TheVariants.{Events as events_
 ghost use Rattle.mm_load.specs.Kinds.{Value, an_image, a_list, an_object, a_checkpoint, a_links, an_events, a_text};
 ghost use Rattle.mm_load.specs.Files.{Stops, IsTooLong, FilesRead, InputRead, reading, drawing};
 ghost use Rattle.mm_cli.specs.Words.{file_word, files_in, perhaps};
-ghost use Rattle.mm_load.specs.Files.{files_named};
 ghost use Rattle.mm_load.specs.Kinds.{values_of};
 ghost use Rattle.mm_load.specs.Stops.{stop_of_error};
 
@@ -297,52 +296,4 @@ pub fn load_input<I: Source>(alloc: Global, input: &mut I) -> Result<Vec<u8>, St
         Ok(bytes) => Ok(bytes),
         Err(error) => Err(stop_of(error, 0)),
     }
-}
-
-/// Reads and parses object files in their order. The first is the command's file `first`.
-pub fn load_objects<F: Files>(
-    alloc: Global,
-    files: &mut F,
-    names: &[String],
-    first: u8,
-) -> Result<Vec<Object>, Stop>
-    requires few { length names.now ≤ 16 }
-    requires early { first ≤ 16 }
-    ensures read { (before : List Value) → first ≡ length before + 1
-        → FilesRead (reading F.held F.faults F.asked files.old files.new) before (files_named object_file names.now)
-        (λ objects. map an_object objects.items) result }
-    ensures count { IfOk result (λ objects. length objects.items ≡ length names.now) }
-{
-    let mut objects = Vec::new(alloc);
-    for at in 0..names.len() {
-        let object = load_object(alloc, files, names[at].as_str(), first + at as u8)?;
-        let Ok(()) = objects.push(object) else {
-            return Err(Stop::NoMemory);
-        };
-    }
-    Ok(objects)
-}
-
-/// Reads and parses image files in their order. The first is the command's file `first`.
-pub fn load_images<F: Files>(
-    alloc: Global,
-    files: &mut F,
-    names: &[String],
-    first: u8,
-) -> Result<Vec<Image>, Stop>
-    requires few { length names.now ≤ 16 }
-    requires early { first ≤ 16 }
-    ensures read { (before : List Value) → first ≡ length before + 1
-        → FilesRead (reading F.held F.faults F.asked files.old files.new) before (files_named image_file names.now)
-        (λ images. map an_image images.items) result }
-    ensures count { IfOk result (λ images. length images.items ≡ length names.now) }
-{
-    let mut images = Vec::new(alloc);
-    for at in 0..names.len() {
-        let image = load_image(alloc, files, names[at].as_str(), first + at as u8)?;
-        let Ok(()) = images.push(image) else {
-            return Err(Stop::NoMemory);
-        };
-    }
-    Ok(images)
 }

@@ -3,6 +3,8 @@ use Rattle.std.proofs.Common.{◌≡◌, ℕ, ◌≤◌, false, ◌⊎◌, inl, 
 use Rattle.std.proofs.Math.ListN.{drop_of_length-le}
 use Rattle.mm_model.specs.Schedule.{runs_of}
 use Rattle.mm_sched.specs.Places.{runs_in}
+use Rattle.mm_net.specs.declared.fault.NetError.{NetError}
+use Rattle.mm_net.specs.declared.fault.NetError.TheVariants.{Fault, NoMemory}
 use Rattle.mm_net.specs.Words.{Lists, TextMeans, TextFaultsAt}
 use Rattle.mm_net.specs.Words.Lists.{no_word, word}
 
@@ -137,10 +139,10 @@ pub record IsRead {A : Type 0} (Says : List ℕ → List A → Type 0) (Keeps : 
   pub lists : Lists Says before items
   pub rules : Keeps items
 
-pub read_none : {A : Type 0} (Says : List ℕ → List A → Type 0) (Keeps : List A → Type 0) → IsGrammar Says Keeps → (text : List ℕ) (at : ℕ)
+pub read_none : {A : Type 0} (Says : List ℕ → List A → Type 0) (Keeps : List A → Type 0) → Keeps [] → (text : List ℕ) (at : ℕ)
     → runs_in false text at ≡ runs_in false text 0 → IsRead Says Keeps text at []
 unfolding runs_of
-read_none Says Keeps g text at e = record { before = []; split = sym e; lists = no_word; rules = g.none }
+read_none Says Keeps none text at e = record { before = []; split = sym e; lists = no_word; rules = none }
 
 -- one word more
 pub read_more : {A : Type 0} (Says : List ℕ → List A → Type 0) (Keeps : List A → Type 0) (text : List ℕ) (at end next : ℕ) (w : List ℕ) (items said : List A)
@@ -173,3 +175,19 @@ read_all Says Keeps text at items h r =
     let none : runs_in false text at ≡ [] = rw (drop_of_length-le text h) refl in
     let P : Runs → Type 0 = λ runs. Lists Says runs items in
     record { lists = subst P (sym (r.split ∙ ap (λ (runs : Runs). r.before ++ runs) none ∙ append-nil r.before)) r.lists; rules = r.rules }
+
+-- 4. What is answered of a text that has a meaning or a fault.
+
+-- the faults that the answer tells are the text's
+abbrev pub IsTold : {A : Type 0} → (List ℕ → List A → Type 0) → (List A → Type 0) → List ℕ → NetError → Type 0
+IsTold Says Keeps text error = (place : ℕ) → error ≡ Fault place → TextFaultsAt Says Keeps text place
+
+pub means_no_fault : {A : Type 0} (Says : List ℕ → List A → Type 0) (Keeps : List A → Type 0) → IsGrammar Says Keeps → (text : List ℕ) (items : List A)
+    → TextMeans Says Keeps text items → (error : NetError) → IsTold Says Keeps text error → error ≡ NoMemory
+means_no_fault Says Keeps g text items means (Fault place) told = absurd (never_both Says Keeps g text items place means (told place refl))
+means_no_fault Says Keeps g text items means NoMemory told = refl
+
+pub one_fault : {A : Type 0} (Says : List ℕ → List A → Type 0) (Keeps : List A → Type 0) → IsGrammar Says Keeps → (text : List ℕ) (place : ℕ)
+    → TextFaultsAt Says Keeps text place → (error : NetError) → IsTold Says Keeps text error → (error ≡ Fault place) ⊎ (error ≡ NoMemory)
+one_fault Says Keeps g text place fault (Fault other) told = inl (ap Fault (fault_unique Says Keeps g text other place (told other refl) fault))
+one_fault Says Keeps g text place fault NoMemory told = inr refl

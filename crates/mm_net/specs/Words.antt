@@ -1,5 +1,5 @@
 -- Texts of words: the meaning and the fault of a text, given what one word says and the rules that items keep.
-use Rattle.std.specs.Prelude.{◌≡◌, ℕ, List, [], ◌∷◌, ◌++◌}
+use Rattle.std.specs.Prelude.{◌≡◌, ℕ, Bool, true, false, List, [], ◌∷◌, ◌++◌}
 use Rattle.mm_model.specs.Schedule.{runs_of}
 
 -- the words say the items, in order
@@ -25,3 +25,10 @@ pub record TextFaultsAt {A : Type 0} (Says : List ℕ → List A → Type 0) (Ke
   pub lists : Lists Says before items
   pub rules : Keeps items
   pub fault : (said : List A) → Says word said → Keeps (items ++ said) → ⊥
+
+-- The items of a word were added, and all keep the rules; or they were not, since the word says none, or these break a
+-- rule.
+abbrev pub AddsWord : {A : Type 0} → (Says : List ℕ → List A → Type 0) → (Keeps : List A → Type 0) → (word : List ℕ)
+    → (old new : List A) → (added : Bool) → Type 0
+AddsWord {A = A} Says Keeps w old new true = (said : List A) × Says w said × (new ≡ old ++ said) × Keeps new
+AddsWord {A = A} Says Keeps w old new false = (said : List A) → Says w said → Keeps (old ++ said) → ⊥

@@ -4,9 +4,8 @@ ghost use Rattle.std.specs.Prelude.{◌≡◌, ◌⊎◌, ℕ, List, ◌++◌, r
 ghost use Rattle.mm_net.specs.Events.{Means, FaultsAt};
 
 use crate::event::event;
-use crate::fault::fault;
+use crate::read::{TextItem, read_items};
 use crate::{NetError, NetItem};
-use mm_sched::{run_end, run_start};
 use mm_word::NoMemory;
 use std::alloc::Global;
 use std::marker::Model;
@@ -57,6 +56,25 @@ fn append(items: &mut Vec<NetItem>, item: NetItem, count: u32) -> Result<(), NoM
     Ok(())
 }
 
+impl TextItem for NetItem {
+    ghost use Rattle.mm_net.specs.Events.{Says, AreEvents};
+
+    ghost says = { λ word said. Says word said };
+
+    ghost keeps = { λ items. AreEvents items };
+
+    fn add_word(items: &mut Vec<NetItem>, word: &[u8]) -> Result<bool, NoMemory> {
+        let Some((item, count)) = event(word) else {
+            return Ok(false); // no event
+        };
+        if count as usize > EVENT_LIMIT - items.len() {
+            return Ok(false); // too many
+        }
+        append(items, item, count)?;
+        Ok(true)
+    }
+}
+
 /// The events that a text means: items between blanks, and comments from `#` to the end of the line. `N:S` is a turn or
 /// port item S of node N, and `N:S*K` is K of them; `+L` lets link L take, and `L@K` lets it carry its integer K. A
 /// text that means none has a fault. `NoMemory` comes if memory ran out.
@@ -70,20 +88,6 @@ pub fn read_events(alloc: Global, bytes: &[u8]) -> Result<Events, NetError>
     ensures refuses { (offset : ℕ) → FaultsAt bytes.now offset → (result ≡ Err (NetError.Fault offset))
         ⊎ (result ≡ Err NetError.NoMemory) }
 {
-    let mut items = Vec::new(alloc);
-    let mut at = run_start(bytes, 0);
-    while at < bytes.len() {
-        let end = run_end(bytes, at);
-        let Some((item, count)) = event(&bytes[at..end]) else {
-            return Err(fault(at)); // no event
-        };
-        if count as usize > EVENT_LIMIT - items.len() {
-            return Err(fault(at)); // too many
-        }
-        let Ok(()) = append(&mut items, item, count) else {
-            return Err(NetError::NoMemory);
-        };
-        at = run_start(bytes, end);
-    }
+    let items = read_items(alloc, bytes)?;
     Ok(Events { items })
 }

@@ -11,6 +11,7 @@ pub mod laws;
 mod link;
 mod links;
 mod net;
+mod read;
 mod summary;
 mod tick;
 mod wire;

@@ -6,9 +6,9 @@ ghost use Rattle.mm_net.specs.Links.{IsLink, AreLinks, Means, FaultsAt};
 ghost use Rattle.mm_net.specs.Marks.{has_end};
 
 use crate::end::link;
-use crate::fault::fault;
+use crate::read::{TextItem, read_items};
 use crate::{Link, NetError};
-use mm_sched::{run_end, run_start};
+use mm_word::NoMemory;
 use std::alloc::Global;
 use std::marker::Model;
 
@@ -72,6 +72,27 @@ fn fits(links: &[Link], more: Link) -> bool
     !is_end(links, more.to, more.put)
 }
 
+impl TextItem for Link {
+    ghost use Rattle.mm_net.specs.Links.{Says, AreLinks};
+
+    ghost says = { λ word said. Says word said };
+
+    ghost keeps = { λ links. AreLinks links };
+
+    fn add_word(links: &mut Vec<Link>, word: &[u8]) -> Result<bool, NoMemory> {
+        let Some(more) = link(word) else {
+            return Ok(false); // no link
+        };
+        if !fits(links, more) {
+            return Ok(false); // one too many, or an end that occurs twice
+        }
+        let Ok(()) = links.push(more) else {
+            return Err(NoMemory);
+        };
+        Ok(true)
+    }
+}
+
 /// The links that a text means: items `A.X>B.Y` between blanks, and comments from `#` to the end of the line. The link
 /// takes at address X of node A and puts at address Y of node B. A text that means none has a fault. `NoMemory` comes
 /// if memory ran out.
@@ -85,20 +106,6 @@ pub fn read_links(alloc: Global, bytes: &[u8]) -> Result<Links, NetError>
     ensures refuses { (offset : ℕ) → FaultsAt bytes.now offset → (result ≡ Err (NetError.Fault offset))
         ⊎ (result ≡ Err NetError.NoMemory) }
 {
-    let mut items = Vec::new(alloc);
-    let mut at = run_start(bytes, 0);
-    while at < bytes.len() {
-        let end = run_end(bytes, at);
-        let Some(more) = link(&bytes[at..end]) else {
-            return Err(fault(at)); // no link
-        };
-        if !fits(&items, more) {
-            return Err(fault(at)); // one too many, or an end that occurs twice
-        }
-        let Ok(()) = items.push(more) else {
-            return Err(NetError::NoMemory);
-        };
-        at = run_start(bytes, end);
-    }
+    let items = read_items(alloc, bytes)?;
     Ok(Links { items })
 }

@@ -146,15 +146,7 @@ fn derivation(
     know(alloc, context.image, context.graph, &mut work, owner.group)?;
     let place = own_line(context, &mut work, owner.group, word, how)?;
     let pointer = pointer_of(&work.lines, place);
-    let last = give(
-        alloc,
-        context,
-        &mut work,
-        owner.round,
-        owner.group,
-        pointer,
-        group,
-    )?;
+    let last = give(alloc, context, &mut work, owner, pointer, group)?;
     let lines = prune(alloc, &work.lines, last)?;
     Ok(lines)
 }

@@ -1,6 +1,7 @@
 //! The lines by which a pointer comes from group to group.
 
 ghost use Rattle.std.specs.Prelude.{◌≡◌, ℕ, ◌<◌, ◌↔◌, IsTrue, IfOk, MatchOption, Some, length};
+ghost use Rattle.mm_word.specs.Pointer.{Pointer as PointerValue};
 ghost use Rattle.mm_flow.specs.Flow.{Has};
 ghost use Rattle.mm_graph.specs.GraphOf.{CommonWord};
 ghost use Rattle.mm_why.specs.declared.search.Search.{Search as SearchValue};
@@ -17,6 +18,7 @@ use crate::line::Rule;
 use crate::lines::find;
 use crate::reasons::{Hand, Reason, reason_for};
 use crate::rounds::{Rounds, has};
+use crate::uses::Owner;
 use crate::work::{Work, know, put, whole};
 use mm_flow::Right;
 use mm_graph::Graph;
@@ -181,25 +183,24 @@ fn joining(slots: &[Slot], one: usize, other: usize) -> Option<u8>
     None
 }
 
-/// The line by which a group is granted a pointer that a line grants to the group `owner`, if in this round all that the
-/// owner has of its own has come to the group.
+/// The line by which a group is granted a pointer that a line grants to the group of `owner`, if in the round all that
+/// the owner has of its own has come to the group.
 #[cycle(handing)]
 pub fn give(
     alloc: Global,
     context: &Context<'_>,
     work: &mut Work,
-    round: usize,
-    owner: usize,
+    owner: Owner,
     pointer: GuardedPtr,
     to: usize,
 ) -> Result<usize, NoMemory>
     requires context { IsContext context.now.image.now context.now.graph.now context.now.rounds.now }
     requires work { IsWork context.now.image.now context.now.graph.now work.old }
-    requires owner { owner < 64 }
+    requires owner { owner.group < 64 }
     requires to { to < 64 }
-    requires round { round < length context.now.rounds.now.rounds.items }
-    requires come { Has (round_at context.now.rounds.now.rounds.items round) owner to }
-    requires line { HasLine work.old.lines.items owner pointer }
+    requires round { owner.round < length context.now.rounds.now.rounds.items }
+    requires come { Has (round_at context.now.rounds.now.rounds.items owner.round) owner.group to }
+    requires line { HasLine work.old.lines.items owner.group pointer }
     ensures goes_on { IfOk result (λ k. GoesOn context.now.image.now context.now.graph.now work.old work.new) }
     ensures says { IfOk result (λ k. Says work.new.lines.items (length work.new.lines.items) k to pointer) }
 {
@@ -207,35 +208,38 @@ pub fn give(
     if let Some(place) = find(&work.lines, to as u8, pointer) {
         return Ok(place);
     }
-    if round == 0 {
+    if owner.round == 0 {
         unreachable!()
     }
-    let before = round - 1;
-    if had_come(context.rounds, before, owner, to) {
-        let place = give(alloc, context, work, before, owner, pointer, to)?;
+    let before = Owner {
+        group: owner.group,
+        round: owner.round - 1,
+    };
+    if had_come(context.rounds, before, to) {
+        let place = give(alloc, context, work, before, pointer, to)?;
         return Ok(place);
     }
-    let Some(reason) = reason_for(context.rounds, before, owner, to) else {
+    let Some(reason) = reason_for(context.rounds, before.round, before.group, to) else {
         unreachable!()
     };
-    let from = give(alloc, context, work, before, owner, pointer, reason.by)?;
-    let rule = hand(alloc, context, work, before, reason, pointer, from, to)?;
+    let from = give(alloc, context, work, before, pointer, reason.by)?;
+    let rule = hand(alloc, context, work, before.round, reason, from, to)?;
     let place = put(work, to, pointer, rule)?;
     Ok(place)
 }
 
 /// Whether all that a group has of its own has come to another in a round.
-fn had_come(rounds: &Rounds, round: usize, owner: usize, to: usize) -> bool
+fn had_come(rounds: &Rounds, owner: Owner, to: usize) -> bool
     requires rounds { AreRounds rounds.now.links rounds.now.meets rounds.now.rounds.items }
-    requires round { round < length rounds.now.rounds.items }
-    requires owner { owner < 64 }
-    ensures { IsTrue result ↔ Has (round_at rounds.now.rounds.items round) owner to }
+    requires round { owner.round < length rounds.now.rounds.items }
+    requires owner { owner.group < 64 }
+    ensures { IsTrue result ↔ Has (round_at rounds.now.rounds.items owner.round) owner.group to }
 {
-    let now = rounds.rounds[round];
-    has(now[owner], to)
+    let now = rounds.rounds[owner.round];
+    has(now[owner.group], to)
 }
 
-/// The rule by which one group hands the pointer of a line to another.
+/// The rule by which one group hands the pointer of the line `from` to another.
 #[cycle(handing)]
 fn hand(
     alloc: Global,
@@ -243,7 +247,6 @@ fn hand(
     work: &mut Work,
     round: usize,
     reason: Reason,
-    pointer: GuardedPtr,
     from: usize,
     to: usize,
 ) -> Result<Rule, NoMemory>
@@ -259,9 +262,10 @@ fn hand(
         reason.by
         to
         reason.hand }
-    requires from { Says work.old.lines.items (length work.old.lines.items) from reason.by pointer }
     ensures goes_on { IfOk result (λ rule. GoesOn context.now.image.now context.now.graph.now work.old work.new) }
-    ensures follows { IfOk result (λ rule. Follows context.now.image.now work.new.lines.items (length work.new.lines.items) to pointer rule) }
+    ensures follows { IfOk result (λ rule. (pointer : PointerValue)
+        → Says work.old.lines.items (length work.old.lines.items) from reason.by pointer
+        → Follows context.now.image.now work.new.lines.items (length work.new.lines.items) to pointer rule) }
 {
     match reason.hand {
         Hand::Linked => match joining(context.image.slots(), reason.by, to) {
@@ -271,8 +275,16 @@ fn hand(
         Hand::Met { giver, taker } => {
             let Carriers { store, load } = carried(alloc, context, work, giver, taker)?;
             let word = common_word(store, load);
-            let by_store = give(alloc, context, work, round, giver, store, reason.by)?;
-            let by_load = give(alloc, context, work, round, taker, load, to)?;
+            let of_giver = Owner {
+                group: giver,
+                round,
+            };
+            let by_store = give(alloc, context, work, of_giver, store, reason.by)?;
+            let of_taker = Owner {
+                group: taker,
+                round,
+            };
+            let by_load = give(alloc, context, work, of_taker, load, to)?;
             Ok(Rule::Passed {
                 word,
                 from,

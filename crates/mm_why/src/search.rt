@@ -32,6 +32,14 @@ pub struct Search {
     pub queue: Vec<usize>,
 }
 
+/// What is searched: a group of an image, along the edges of the image's graph.
+#[derive(Clone, Copy)]
+struct Subject<'a> {
+    image: &'a Image,
+    graph: &'a Graph,
+    group: u8,
+}
+
 /// Gives a node its line.
 fn set(places: &mut Vec<Option<usize>>, node: usize, place: usize)
     requires { node < length places.old.items }
@@ -269,31 +277,32 @@ fn target_of(graph: &Graph, k: usize) -> usize
 fn reach_cell(
     search: &mut Search,
     lines: &mut Vec<Line>,
-    image: &Image,
-    graph: &Graph,
-    group: u8,
+    subject: &Subject<'_>,
     by: usize,
     k: usize,
 ) -> Result<(), NoMemory>
-    requires graph { IsGraph image.now graph.now }
-    requires small { k < length graph.now.found.items }
-    requires len { length search.old.places.items ≡ length graph.now.keys.items }
-    ensures len { length search.new.places.items ≡ length graph.now.keys.items }
+    requires graph { IsGraph subject.now.image.now subject.now.graph.now }
+    requires small { k < length subject.now.graph.now.found.items }
+    requires len { length search.old.places.items ≡ length subject.now.graph.now.keys.items }
+    ensures len { length search.new.places.items ≡ length subject.now.graph.now.keys.items }
     ensures placed { OnOk result ((a : ℕ)
         → place_at search.old.places.items a ≡ Some by
-        → (node_at graph.now.nodes.items a).low ≤ k
-        → k < (node_at graph.now.nodes.items a).high
-        → Searching image.now graph.now.keys.items group (stage_of search.old lines.old.items)
-        → Advances image.now graph.now.keys.items group (stage_of search.old lines.old.items) (stage_of search.new lines.new.items)
-        × IsPlaced search.new.places.items (slice_index graph.now.targets.items k)) }
+        → (node_at subject.now.graph.now.nodes.items a).low ≤ k
+        → k < (node_at subject.now.graph.now.nodes.items a).high
+        → Searching subject.now.image.now subject.now.graph.now.keys.items subject.now.group
+        (stage_of search.old lines.old.items)
+        → Advances subject.now.image.now subject.now.graph.now.keys.items subject.now.group
+        (stage_of search.old lines.old.items) (stage_of search.new lines.new.items)
+        × IsPlaced search.new.places.items (slice_index subject.now.graph.now.targets.items k)) }
 {
-    let to = target_of(graph, k);
+    let to = target_of(subject.graph, k);
     if is_placed(&search.places, to) {
         return Ok(());
     }
-    let pointer = pointer_at(image, graph, k);
-    let word = word_at(graph, k);
-    reach(search, lines, group, to, pointer, Rule::Cell { word, by })?;
+    let pointer = pointer_at(subject.image, subject.graph, k);
+    let word = word_at(subject.graph, k);
+    let rule = Rule::Cell { word, by };
+    reach(search, lines, subject.group, to, pointer, rule)?;
     Ok(())
 }
 
@@ -301,23 +310,24 @@ fn reach_cell(
 fn reach_cells(
     search: &mut Search,
     lines: &mut Vec<Line>,
-    image: &Image,
-    graph: &Graph,
-    group: u8,
+    subject: &Subject<'_>,
     node: usize,
     by: usize,
 ) -> Result<(), NoMemory>
-    requires graph { IsGraph image.now graph.now }
-    requires node { node < length graph.now.keys.items }
-    requires len { length search.old.places.items ≡ length graph.now.keys.items }
-    ensures len { length search.new.places.items ≡ length graph.now.keys.items }
+    requires graph { IsGraph subject.now.image.now subject.now.graph.now }
+    requires node { node < length subject.now.graph.now.keys.items }
+    requires len { length search.old.places.items ≡ length subject.now.graph.now.keys.items }
+    ensures len { length search.new.places.items ≡ length subject.now.graph.now.keys.items }
     ensures placed { OnOk result (place_at search.old.places.items node ≡ Some by
-        → Searching image.now graph.now.keys.items group (stage_of search.old lines.old.items)
-        → CellsPlaced image.now graph.now group node (node_at graph.now.nodes.items node).high (stage_of search.old lines.old.items) (stage_of search.new lines.new.items)) }
+        → Searching subject.now.image.now subject.now.graph.now.keys.items subject.now.group
+        (stage_of search.old lines.old.items)
+        → CellsPlaced subject.now.image.now subject.now.graph.now subject.now.group node
+        (node_at subject.now.graph.now.nodes.items node).high
+        (stage_of search.old lines.old.items) (stage_of search.new lines.new.items)) }
 {
-    let here = node_of(graph, node);
+    let here = node_of(subject.graph, node);
     for k in here.low..here.high {
-        reach_cell(search, lines, image, graph, group, by, k)?;
+        reach_cell(search, lines, subject, by, k)?;
     }
     Ok(())
 }
@@ -326,24 +336,24 @@ fn reach_cells(
 fn reach_entry(
     search: &mut Search,
     lines: &mut Vec<Line>,
-    image: &Image,
-    graph: &Graph,
-    group: u8,
+    subject: &Subject<'_>,
     node: usize,
     by: usize,
 ) -> Result<(), NoMemory>
-    requires graph { IsGraph image.now graph.now }
-    requires node { node < length graph.now.keys.items }
-    requires len { length search.old.places.items ≡ length graph.now.keys.items }
+    requires graph { IsGraph subject.now.image.now subject.now.graph.now }
+    requires node { node < length subject.now.graph.now.keys.items }
+    requires len { length search.old.places.items ≡ length subject.now.graph.now.keys.items }
     requires by { by < length lines.old.items }
-    ensures len { length search.new.places.items ≡ length graph.now.keys.items }
+    ensures len { length search.new.places.items ≡ length subject.now.graph.now.keys.items }
     ensures placed { OnOk result (place_at search.old.places.items node ≡ Some by
-        → Searching image.now graph.now.keys.items group (stage_of search.old lines.old.items)
-        → Advances image.now graph.now.keys.items group (stage_of search.old lines.old.items) (stage_of search.new lines.new.items)
-        × ((node_at graph.now.nodes.items node).enters ≢ 0
-        → IsPlaced search.new.places.items (node_at graph.now.nodes.items node).entry)) }
+        → Searching subject.now.image.now subject.now.graph.now.keys.items subject.now.group
+        (stage_of search.old lines.old.items)
+        → Advances subject.now.image.now subject.now.graph.now.keys.items subject.now.group
+        (stage_of search.old lines.old.items) (stage_of search.new lines.new.items)
+        × ((node_at subject.now.graph.now.nodes.items node).enters ≢ 0
+        → IsPlaced search.new.places.items (node_at subject.now.graph.now.nodes.items node).entry)) }
 {
-    let gate = node_of(graph, node);
+    let gate = node_of(subject.graph, node);
     if gate.enters == 0 {
         return Ok(());
     }
@@ -352,7 +362,7 @@ fn reach_entry(
             reach(
                 search,
                 lines,
-                group,
+                subject.group,
                 gate.entry,
                 pointer,
                 Rule::Entered { by },
@@ -367,22 +377,23 @@ fn reach_entry(
 fn expand(
     search: &mut Search,
     lines: &mut Vec<Line>,
-    image: &Image,
-    graph: &Graph,
-    group: u8,
+    subject: &Subject<'_>,
     node: usize,
 ) -> Result<(), NoMemory>
-    requires graph { IsGraph image.now graph.now }
-    requires now { Searching image.now graph.now.keys.items group (stage_of search.old lines.old.items) }
+    requires graph { IsGraph subject.now.image.now subject.now.graph.now }
+    requires now { Searching subject.now.image.now subject.now.graph.now.keys.items subject.now.group
+        (stage_of search.old lines.old.items) }
     requires placed { IsPlaced search.old.places.items node }
-    ensures { OnOk result (Advances image.now graph.now.keys.items group (stage_of search.old lines.old.items) (stage_of search.new lines.new.items)
-        × IsClosed graph.now.nodes.items graph.now.targets.items search.new.places.items node) }
+    ensures { OnOk result (Advances subject.now.image.now subject.now.graph.now.keys.items subject.now.group
+        (stage_of search.old lines.old.items) (stage_of search.new lines.new.items)
+        × IsClosed subject.now.graph.now.nodes.items subject.now.graph.now.targets.items search.new.places.items
+        node) }
 {
     let Some(by) = line_of(&search.places, node) else {
         unreachable!()
     };
-    reach_entry(search, lines, image, graph, group, node, by)?;
-    reach_cells(search, lines, image, graph, group, node, by)?;
+    reach_entry(search, lines, subject, node, by)?;
+    reach_cells(search, lines, subject, node, by)?;
     Ok(())
 }
 
@@ -390,21 +401,21 @@ fn expand(
 fn expand_all(
     search: &mut Search,
     lines: &mut Vec<Line>,
-    image: &Image,
-    graph: &Graph,
-    group: u8,
+    subject: &Subject<'_>,
 ) -> Result<(), NoMemory>
-    requires graph { IsGraph image.now graph.now }
-    requires now { Searching image.now graph.now.keys.items group (stage_of search.old lines.old.items) }
-    ensures advances { OnOk result (Advances image.now graph.now.keys.items group (stage_of search.old lines.old.items) (stage_of search.new lines.new.items)) }
+    requires graph { IsGraph subject.now.image.now subject.now.graph.now }
+    requires now { Searching subject.now.image.now subject.now.graph.now.keys.items subject.now.group
+        (stage_of search.old lines.old.items) }
+    ensures advances { OnOk result (Advances subject.now.image.now subject.now.graph.now.keys.items subject.now.group
+        (stage_of search.old lines.old.items) (stage_of search.new lines.new.items)) }
     ensures closed { OnOk result ((k : ℕ)
         → IsPlaced search.new.places.items k
-        → IsClosed graph.now.nodes.items graph.now.targets.items search.new.places.items k) }
+        → IsClosed subject.now.graph.now.nodes.items subject.now.graph.now.targets.items search.new.places.items k) }
 {
     let mut at = 0;
     while at < search.queue.len() {
         let node = queued(&search.queue, at);
-        expand(search, lines, image, graph, group, node)?;
+        expand(search, lines, subject, node)?;
         at += 1;
     }
     Ok(())
@@ -484,6 +495,11 @@ pub fn search_group(
 {
     let mut search = none_found(alloc, graph.keys.len())?;
     reach_slots(&mut search, lines, image, &graph.keys, group)?;
-    expand_all(&mut search, lines, image, graph, group)?;
+    let subject = Subject {
+        image,
+        graph,
+        group,
+    };
+    expand_all(&mut search, lines, &subject)?;
     Ok(search)
 }

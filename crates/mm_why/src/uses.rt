@@ -78,7 +78,7 @@ pub fn givers(graph: &Graph, marks: &[u64], how: Use, word: u64) -> u64
     all
 }
 
-/// A group that has the use of its own, and the first round in which what it has comes to another.
+/// A group, and a round in which all that it has of its own has come to another.
 #[derive(Clone, Copy, Debug)]
 pub struct Owner {
     pub group: usize,
@@ -100,7 +100,7 @@ fn owner_in(now: &Masks, owners: u64, to: usize) -> Option<usize>
     None
 }
 
-/// The owner whose pointers come first to a group.
+/// The first group of a mask whose own pointers come to a group, and the first round in which they have come.
 pub fn first_owner(rounds: &Rounds, owners: u64, to: usize) -> Option<Owner>
     requires { AreRounds rounds.now.links rounds.now.meets rounds.now.rounds.items }
     ensures { MatchOption

@@ -1,69 +1,38 @@
-use Rattle.std.proofs.Common.{◌≡◌, ◌∙◌, inl, ℕ, List, [], ◌∷◌, ◌++◌, Ok, Err, slice_range, refl, sym, ap, subst, arith}
-use Rattle.mm_net.specs.declared.link.Link.{Link}
+use Rattle.std.proofs.Common.{◌≡◌, ◌∙◌, inl, inr, Ok, Err, ap}
+use Rattle.std.proofs.lemmas.Result.{err_from_is_err_and}
 use Rattle.mm_net.specs.declared.fault.NetError.TheVariants.{Fault}
-use Rattle.mm_net.specs.Links.{Says, AreLinks, Means, FaultsAt}
-use Rattle.mm_net.proofs.Parts.{true_false}
-use Rattle.mm_net.proofs.Reading.{IsRead, read_none, read_more, read_fault, read_all, never_both, fault_unique, means_unique}
-use Rattle.mm_net.proofs.LinkWords.{links_grammar, says_link, says_only}
+use Rattle.mm_net.specs.Links.{Says, AreLinks}
+use Rattle.mm_net.proofs.Reading.{IsTold, means_unique, means_no_fault, one_fault, never_both}
+use Rattle.mm_net.proofs.LinkWords.{links_grammar}
 use Rattle.mm_net.proofs.links.read_links.Goals as goal
 
-pub loop-at-init : goal.loop-at-init
-loop-at-init c = record {
-  read = subst (λ (items : List Link). IsRead Says AreLinks c.args.bytes.now c.run_start-at.result items) (sym c.new-items.ensures.items)
-      (read_none Says AreLinks links_grammar c.args.bytes.now c.run_start-at.result c.run_start-at.ensures.same);
-  begins = c.run_start-at.ensures.begins;
-  inside = c.run_start-at.ensures.end;
-}
+pub read_items-requires : goal.read_items-requires
+read_items-requires c = links_grammar.none
 
--- the word here is no link
-no_link : (c : goal.After-drop-items) → FaultsAt c.args.bytes.now c.loop-at.at
-no_link c = read_fault Says AreLinks c.args.bytes.now c.loop-at.at c.run_end-end.result (slice_range c.args.bytes.now c.loop-at.at c.run_end-end.result) c.loop-at.items.items c.loop-at.invariant.read c.run_end-end.ensures.run
-    (λ said says rules. c.in_default.ensures.none refl says.link says.range says.spelled)
+pub returns-in_err-items-clause-fault : goal.returns-in_err-items-clause-fault
+returns-in_err-items-clause-fault c offset e =
+    let p = err_from_is_err_and c.from_residual.result c.from_residual.ensures.1 in
+    c.in_err-items.ensures.fault offset (let same : c.in_err-items.field-0.0 ≡ Fault offset = cc in ap Err same)
 
-pub returns-in_default-clause-fault : goal.returns-in_default-clause-fault
-returns-in_default-clause-fault c offset e = let same : c.loop-at.at ≡ offset = cc in subst (λ (at : ℕ). FaultsAt c.args.bytes.now at) same (no_link c)
+pub returns-in_err-items-clause-reads : goal.returns-in_err-items-clause-reads
+returns-in_err-items-clause-reads c items means =
+    let p = err_from_is_err_and c.from_residual.result c.from_residual.ensures.1 in
+    let told : IsTold Says AreLinks c.args.bytes.now c.in_err-items.field-0.0 = λ place is. c.in_err-items.ensures.fault place (ap Err is) in
+    inr (p.1 ∙ ap Err (p.2 ∙ means_no_fault Says AreLinks links_grammar c.args.bytes.now items means c.in_err-items.field-0.0 told))
 
-pub returns-in_default-clause-reads : goal.returns-in_default-clause-reads
-returns-in_default-clause-reads c items means = absurd (never_both Says AreLinks links_grammar c.args.bytes.now items c.loop-at.at means (no_link c))
-
-pub returns-in_default-clause-refuses : goal.returns-in_default-clause-refuses
-returns-in_default-clause-refuses c offset fault = inl (ap Err (c.fault.ensures ∙ ap Fault (fault_unique Says AreLinks links_grammar c.args.bytes.now c.loop-at.at offset (no_link c) fault)))
-
--- the link here breaks a rule
-breaks_rule : (c : goal.After-drop-items-then-not-fits) → FaultsAt c.args.bytes.now c.loop-at.at
-breaks_rule c =
-    let word : List ℕ = slice_range c.args.bytes.now c.loop-at.at c.run_end-end.result in
-    read_fault Says AreLinks c.args.bytes.now c.loop-at.at c.run_end-end.result word c.loop-at.items.items c.loop-at.invariant.read c.run_end-end.ensures.run
-    (says_only word c.in-Some.more c.loop-at.items.items c.in-Some.ensures.some.0 c.in-Some.ensures.some.1 (λ are. true_false (c.fits.ensures.1 (subst (λ (links : List Link). AreLinks (links ++ c.in-Some.more ∷ [])) (sym c.deref.ensures.value) are)) c.if-not-fits.true))
-
-pub returns-then-not-fits-clause-fault : goal.returns-then-not-fits-clause-fault
-returns-then-not-fits-clause-fault c offset e = let same : c.loop-at.at ≡ offset = cc in subst (λ (at : ℕ). FaultsAt c.args.bytes.now at) same (breaks_rule c)
-
-pub returns-then-not-fits-clause-reads : goal.returns-then-not-fits-clause-reads
-returns-then-not-fits-clause-reads c items means = absurd (never_both Says AreLinks links_grammar c.args.bytes.now items c.loop-at.at means (breaks_rule c))
-
-pub returns-then-not-fits-clause-refuses : goal.returns-then-not-fits-clause-refuses
-returns-then-not-fits-clause-refuses c offset fault = inl (ap Err (c.fault-then-not-fits.ensures ∙ ap Fault (fault_unique Says AreLinks links_grammar c.args.bytes.now c.loop-at.at offset (breaks_rule c) fault)))
-
-pub loop-at-preserved : goal.loop-at-preserved
-loop-at-preserved c = record {
-  read =
-      let word : List ℕ = slice_range c.args.bytes.now c.loop-at.at c.run_end-end.result in
-      subst (λ (items : List Link). IsRead Says AreLinks c.args.bytes.now c.run_start-at-in-loop-at.result items) (sym c.in-Ok.ensures.items)
-      (read_more Says AreLinks c.args.bytes.now c.loop-at.at c.run_end-end.result c.run_start-at-in-loop-at.result word c.loop-at.items.items (c.in-Some.more ∷ [])
-      c.loop-at.invariant.read c.run_end-end.ensures.run c.run_start-at-in-loop-at.ensures.same
-      (says_link word c.in-Some.more c.in-Some.ensures.some.0 c.in-Some.ensures.some.1)
-      (subst (λ (links : List Link). AreLinks (links ++ c.in-Some.more ∷ [])) c.deref.ensures.value (c.fits.ensures.0 c.if-not-fits.false)));
-  begins = c.run_start-at-in-loop-at.ensures.begins;
-  inside = c.run_start-at-in-loop-at.ensures.end;
-}
+pub returns-in_err-items-clause-refuses : goal.returns-in_err-items-clause-refuses
+returns-in_err-items-clause-refuses c offset fault =
+    let p = err_from_is_err_and c.from_residual.result c.from_residual.ensures.1 in
+    let told : IsTold Says AreLinks c.args.bytes.now c.in_err-items.field-0.0 = λ place is. c.in_err-items.ensures.fault place (ap Err is) in
+    elim (one_fault Says AreLinks links_grammar c.args.bytes.now offset fault c.in_err-items.field-0.0 told) [
+      | inl is ↦ inl (p.1 ∙ ap Err (p.2 ∙ is))
+      | inr is ↦ inr (p.1 ∙ ap Err (p.2 ∙ is))
+    ]
 
 pub returns-clause-reads : goal.returns-clause-reads
 returns-clause-reads c items means =
-    let read : Means c.args.bytes.now c.loop-at.items.items = read_all Says AreLinks c.args.bytes.now c.loop-at.at c.loop-at.items.items (omega arith) c.loop-at.invariant.read in
-    inl (ap Ok (means_unique Says AreLinks links_grammar c.args.bytes.now c.loop-at.items.items items read means))
+    inl (ap Ok (means_unique Says AreLinks links_grammar c.args.bytes.now c.in_ok-items.items.items items c.in_ok-items.ensures.means means))
 
 pub returns-clause-refuses : goal.returns-clause-refuses
 returns-clause-refuses c offset fault =
-    let read : Means c.args.bytes.now c.loop-at.items.items = read_all Says AreLinks c.args.bytes.now c.loop-at.at c.loop-at.items.items (omega arith) c.loop-at.invariant.read in
-    absurd (never_both Says AreLinks links_grammar c.args.bytes.now c.loop-at.items.items offset read fault)
+    absurd (never_both Says AreLinks links_grammar c.args.bytes.now c.in_ok-items.items.items offset c.in_ok-items.ensures.means fault)

@@ -10,10 +10,10 @@ use Rattle.mm_why.proofs.give.+handing.Goals as goal
 
 pub give-give-requires : goal.give-give-requires
 give-give-requires t c =
-    let lt : 2 * (c.args.round - 1) < 2 * c.args.round = (let f = c.if-round-eq0.false in omega (arith, f)) in
-    let come : Has (round_at c.args.context.now.rounds.now.rounds.items (c.args.round - 1)) c.args.owner c.args.to = c.if-had_come.ensures.0 refl in
-    let line : HasLine c.know.new.work.lines.items c.args.owner c.args.pointer =
-    line_on c.args.context.now.image.now c.args.context.now.graph.now c.args.work.now c.know.new.work c.args.owner c.args.pointer c.in_ok-know.ensures.goes_on c.requires.line in (
+    let lt : 2 * (c.args.owner.round - 1) < 2 * c.args.owner.round = (let f = c.if-owner-eq0.false in omega (arith, f)) in
+    let come : Has (round_at c.args.context.now.rounds.now.rounds.items (c.args.owner.round - 1)) c.args.owner.group c.args.to = c.if-had_come.ensures.0 refl in
+    let line : HasLine c.know.new.work.lines.items c.args.owner.group c.args.pointer =
+    line_on c.args.context.now.image.now c.args.context.now.graph.now c.args.work.now c.know.new.work c.args.owner.group c.args.pointer c.in_ok-know.ensures.goes_on c.requires.line in (
       omega (arith, lt, c.decreases),
       (c.requires.context, (c.in_ok-know.ensures.goes_on.work, (c.requires.owner, (c.requires.to, (omega (arith, c.requires.round), (come, line)))))),
     )
@@ -25,14 +25,14 @@ give-returns-then-had_come-clause-goes_on t c =
 pub give-unreachable-requires-in_default-reason_for : goal.give-unreachable-requires-in_default-reason_for
 give-unreachable-requires-in_default-reason_for t c =
     c.in_default-reason_for.ensures
-    (handed_on c.args.context.now.rounds.now.links c.args.context.now.rounds.now.meets c.args.context.now.rounds.now.rounds.items (c.args.round - 1) c.args.round c.args.owner c.args.to
-    c.requires.context.rounds c.requires.round (let f = c.if-round-eq0.false in omega (arith, f)) c.requires.come (λ h. let bad = c.if-had_come.ensures.1 h in cc))
+    (handed_on c.args.context.now.rounds.now.links c.args.context.now.rounds.now.meets c.args.context.now.rounds.now.rounds.items (c.args.owner.round - 1) c.args.owner.round c.args.owner.group c.args.to
+    c.requires.context.rounds c.requires.round (let f = c.if-owner-eq0.false in omega (arith, f)) c.requires.come (λ h. let bad = c.if-had_come.ensures.1 h in cc))
 
 pub give-give-requires-2 : goal.give-give-requires-2
 give-give-requires-2 t c =
-    let lt : 2 * (c.args.round - 1) < 2 * c.args.round = (let f = c.if-round-eq0.false in omega (arith, f)) in
-    let line : HasLine c.know.new.work.lines.items c.args.owner c.args.pointer =
-    line_on c.args.context.now.image.now c.args.context.now.graph.now c.args.work.now c.know.new.work c.args.owner c.args.pointer c.in_ok-know.ensures.goes_on c.requires.line in (
+    let lt : 2 * (c.args.owner.round - 1) < 2 * c.args.owner.round = (let f = c.if-owner-eq0.false in omega (arith, f)) in
+    let line : HasLine c.know.new.work.lines.items c.args.owner.group c.args.pointer =
+    line_on c.args.context.now.image.now c.args.context.now.graph.now c.args.work.now c.know.new.work c.args.owner.group c.args.pointer c.in_ok-know.ensures.goes_on c.requires.line in (
       omega (arith, lt, c.decreases),
       (c.requires.context, (c.in_ok-know.ensures.goes_on.work, (c.requires.owner, (c.in-Some-reason_for.ensures.small, (omega (arith, c.requires.round), (c.in-Some-reason_for.ensures.come, line)))))),
     )
@@ -42,7 +42,7 @@ give-returns-clause-goes_on t c =
     let i = c.args.context.now.image.now in
     let g = c.args.context.now.graph.now in
     let known = c.in_ok-rule.ensures.goes_on.known c.args.to (c.in_ok-from.ensures.goes_on.known c.args.to c.in_ok-know.ensures.known) in
-    let done = c.in_ok-place-2.ensures i g c.in_ok-rule.ensures.goes_on.work known c.in_ok-rule.ensures.follows in
+    let done = c.in_ok-place-2.ensures i g c.in_ok-rule.ensures.goes_on.work known (c.in_ok-rule.ensures.follows c.args.pointer c.in_ok-from.ensures.says) in
     let two = goes_trans i g c.args.work.now c.know.new.work c.give-2.new.work c.in_ok-know.ensures.goes_on c.in_ok-from.ensures.goes_on in
     let three = goes_trans i g c.args.work.now c.give-2.new.work c.hand.new.work two c.in_ok-rule.ensures.goes_on in
     goes_trans i g c.args.work.now c.hand.new.work c.put.new.work three done.0
@@ -50,7 +50,7 @@ give-returns-clause-goes_on t c =
 pub give-returns-clause-says : goal.give-returns-clause-says
 give-returns-clause-says t c =
     let known = c.in_ok-rule.ensures.goes_on.known c.args.to (c.in_ok-from.ensures.goes_on.known c.args.to c.in_ok-know.ensures.known) in
-    (c.in_ok-place-2.ensures c.args.context.now.image.now c.args.context.now.graph.now c.in_ok-rule.ensures.goes_on.work known c.in_ok-rule.ensures.follows).1
+    (c.in_ok-place-2.ensures c.args.context.now.image.now c.args.context.now.graph.now c.in_ok-rule.ensures.goes_on.work known (c.in_ok-rule.ensures.follows c.args.pointer c.in_ok-from.ensures.says)).1
 
 pub hand-unreachable-requires : goal.hand-unreachable-requires
 hand-unreachable-requires t c =
@@ -72,9 +72,9 @@ hand-give-requires-in-Met t c =
     (omega (arith, c.decreases), (c.requires.context, (c.in_ok-by_store-in-Met.ensures.goes_on.work, (m.small_taker, (c.requires.to, (c.requires.round, (m.come_to, line)))))))
 
 pub hand-returns-in-Some-clause-follows : goal.hand-returns-in-Some-clause-follows
-hand-returns-in-Some-clause-follows t c =
-    served_by c.args.context.now.image.now c.args.work.now.lines.items c.in-Some.slot c.args.reason.by c.args.to c.args.from c.args.pointer
-    (subst (λ (v : List Slot). JoinedAt v (length v) c.args.reason.by c.args.to c.in-Some.slot) c.slots.ensures.slots c.in-Some.ensures) c.requires.from
+hand-returns-in-Some-clause-follows t c = λ pointer says.
+    served_by c.args.context.now.image.now c.args.work.now.lines.items c.in-Some.slot c.args.reason.by c.args.to c.args.from pointer
+    (subst (λ (v : List Slot). JoinedAt v (length v) c.args.reason.by c.args.to c.in-Some.slot) c.slots.ensures.slots c.in-Some.ensures) says
 
 pub hand-returns-in_ok-by_load-in-Met-clause-goes_on : goal.hand-returns-in_ok-by_load-in-Met-clause-goes_on
 hand-returns-in_ok-by_load-in-Met-clause-goes_on t c =
@@ -84,15 +84,15 @@ hand-returns-in_ok-by_load-in-Met-clause-goes_on t c =
     (goes_trans i g c.args.work.now c.carried.new.work c.give.new.work c.in_ok-store-in-Met.ensures.goes_on c.in_ok-by_store-in-Met.ensures.goes_on) c.in_ok-by_load-in-Met.ensures.goes_on
 
 pub hand-returns-in_ok-by_load-in-Met-clause-follows : goal.hand-returns-in_ok-by_load-in-Met-clause-follows
-hand-returns-in_ok-by_load-in-Met-clause-follows t c =
+hand-returns-in_ok-by_load-in-Met-clause-follows t c = λ pointer says.
     let i = c.args.context.now.image.now in
     let g = c.args.context.now.graph.now in
     let on = goes_trans i g c.args.work.now c.give.new.work c.give-in-Met.new.work
     (goes_trans i g c.args.work.now c.carried.new.work c.give.new.work c.in_ok-store-in-Met.ensures.goes_on c.in_ok-by_store-in-Met.ensures.goes_on) c.in_ok-by_load-in-Met.ensures.goes_on in
     let w = c.in_ok-store-in-Met.ensures.carriers.common in
     let word = c.common_word-word.ensures w.word w.stores w.loads in
-    passes i c.give-in-Met.new.work.lines.items c.common_word-word.result c.args.from c.in_ok-by_store-in-Met.by_store c.in_ok-by_load-in-Met.by_load c.args.reason.by c.args.to c.args.pointer
+    passes i c.give-in-Met.new.work.lines.items c.common_word-word.result c.args.from c.in_ok-by_store-in-Met.by_store c.in_ok-by_load-in-Met.by_load c.args.reason.by c.args.to pointer
     c.in_ok-store-in-Met.field-0.store c.in_ok-store-in-Met.field-0.load
-    (says_on i g c.args.work.now c.give-in-Met.new.work c.args.from c.args.reason.by c.args.pointer on c.requires.from)
+    (says_on i g c.args.work.now c.give-in-Met.new.work c.args.from c.args.reason.by pointer on says)
     (says_on i g c.give.new.work c.give-in-Met.new.work c.in_ok-by_store-in-Met.by_store c.args.reason.by c.in_ok-store-in-Met.field-0.store c.in_ok-by_load-in-Met.ensures.goes_on c.in_ok-by_store-in-Met.ensures.says)
     c.in_ok-by_load-in-Met.ensures.says word.0 word.1

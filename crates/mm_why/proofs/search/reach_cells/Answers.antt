@@ -10,18 +10,18 @@ loop-k-preserved c = (
   c.in_ok-reach_cell.ensures.len,
   λ at now.
       let r = c.loop-k.invariant.1 at now in
-      let lo : (node_at c.args.graph.now.nodes.items c.args.node).low ≤ c.loop-k.k = subst (λ v. v.low ≤ c.loop-k.k) c.node_of-here.ensures c.loop-k.auto.k in
-      let hi : c.loop-k.k < (node_at c.args.graph.now.nodes.items c.args.node).high = subst (λ v. c.loop-k.k < v.high) c.node_of-here.ensures c.loop-k-test.true in
-      cells_more c.args.image.now c.args.graph.now c.requires.graph c.args.group c.args.node c.args.by (stage_of c.args.search.now c.args.lines.now.items) at
+      let lo : (node_at c.args.subject.now.graph.now.nodes.items c.args.node).low ≤ c.loop-k.k = subst (λ v. v.low ≤ c.loop-k.k) c.node_of-here.ensures c.loop-k.auto.k in
+      let hi : c.loop-k.k < (node_at c.args.subject.now.graph.now.nodes.items c.args.node).high = subst (λ v. c.loop-k.k < v.high) c.node_of-here.ensures c.loop-k-test.true in
+      cells_more c.args.subject.now.image.now c.args.subject.now.graph.now c.requires.graph c.args.subject.now.group c.args.node c.args.by (stage_of c.args.search.now c.args.lines.now.items) at
       (stage_of c.loop-k.search c.loop-k.lines.items) (stage_of c.reach_cell.new.search c.reach_cell.new.lines.items) c.loop-k.k r
       (c.in_ok-reach_cell.ensures.placed c.args.node (r.advances.further.places c.args.node c.args.by at) lo hi r.advances.now),
 )
 
 pub returns-clause-placed : goal.returns-clause-placed
 returns-clause-placed c = λ at now.
-    let o = order c.args.image.now c.args.graph.now c.requires.graph c.args.node c.requires.node in
-    let e : c.loop-k.k ≡ (node_at c.args.graph.now.nodes.items c.args.node).high =
+    let o = order c.args.subject.now.image.now c.args.subject.now.graph.now c.requires.graph c.args.node c.requires.node in
+    let e : c.loop-k.k ≡ (node_at c.args.subject.now.graph.now.nodes.items c.args.node).high =
     (let h = ap (λ v. v.high) c.node_of-here.ensures in let l = ap (λ v. v.low) c.node_of-here.ensures in let a = c.loop-k-test.false in
     let b = c.loop-k.auto.k-end (omega (arith, o, h, l)) in omega (arith, a, b, h)) in
-    subst (λ v. CellsPlaced c.args.image.now c.args.graph.now c.args.group c.args.node v (stage_of c.args.search.now c.args.lines.now.items) (stage_of c.loop-k.search c.loop-k.lines.items)) e
+    subst (λ v. CellsPlaced c.args.subject.now.image.now c.args.subject.now.graph.now c.args.subject.now.group c.args.node v (stage_of c.args.search.now c.args.lines.now.items) (stage_of c.loop-k.search c.loop-k.lines.items)) e
     (c.loop-k.invariant.1 at now)
