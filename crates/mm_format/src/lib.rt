@@ -1,9 +1,9 @@
-//! Formats of files: one description of each, which says how a value is spelled, what bytes are read as, and which fault
-//! is the first.
+//! Formats of files: one description of each, which says how a value is spelled, what bytes are read as, and which
+//! fault is the first.
 //!
 //! A format (`specs/Formats`) says which values have a spelling, how each is spelled, and what is read from bytes at a
-//! place. It is made of fields, tests, parts one after the other, lists, and tests that are made later. Each way to make
-//! one keeps two facts: what is read is spelled where it was read, and what is spelled is read.
+//! place. It is made of fields, tests, parts one after the other, lists, and tests that are made later. Each way to
+//! make one keeps two facts: what is read is spelled where it was read, and what is spelled is read.
 //!
 //! | a row | what it is |
 //! |---|---|

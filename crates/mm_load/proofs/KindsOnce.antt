@@ -36,7 +36,10 @@ use Rattle.mm_asm.proofs.Texts.{meanings_are_one, meaning_has_no_fault}
 use Rattle.mm_load.specs.declared.status.Refusal.{Refusal}
 use Rattle.mm_load.specs.declared.status.Refusal.TheVariants as refusal
 use Rattle.mm_cli.specs.declared.table.Kind.{Kind}
-use Rattle.mm_cli.specs.declared.table.Kind.TheVariants.{Image as image_file, Schedule as schedule_file, Source as source_file, Object as object_file, Checkpoint as checkpoint_file, Links as links_file, Events as events_file, Text as text_input}
+use Rattle.mm_cli.specs.declared.table.Kind.TheVariants.{Image as image_file, Schedule as schedule_file}
+use Rattle.mm_cli.specs.declared.table.Kind.TheVariants.{Source as source_file, Object as object_file}
+use Rattle.mm_cli.specs.declared.table.Kind.TheVariants.{Checkpoint as checkpoint_file, Links as links_file}
+use Rattle.mm_cli.specs.declared.table.Kind.TheVariants.{Events as events_file, Text as text_input}
 use Rattle.mm_load.specs.Kinds.{Value, an_image, a_list, an_object, a_checkpoint, a_links, an_events, a_text, Accepts, Faults}
 
 -- 1. Images.

@@ -141,7 +141,8 @@ module _ (a b : Reading) (asks : List PieceRead → Type 0) (on : GoesOn a b ask
   stops_then before xs ys vs stop.NoMemory front says = says
 
 -- both read their files in order
-asked_then : {T U : Type 0} {a b : Reading} {asks : List PieceRead → Type 0} {before : List Value} {xs ys : List (List ℕ × Kind)} {values : T → List Value} {others : U → List Value} {t : T} {result : Result U Stop}
+asked_then : {T U : Type 0} {a b : Reading} {asks : List PieceRead → Type 0} {before : List Value}
+    {xs ys : List (List ℕ × Kind)} {values : T → List Value} {others : U → List Value} {t : T} {result : Result U Stop}
     → FilesRead a before xs values (Ok t) → FilesRead b (before ++ values t) ys others result → GoesOn a b asks → AsksFiles (both a b asks) before (xs ++ ys)
 asked_then {a = a} {before = before} {xs = xs} {ys = ys} {values = values} {t = t} front back on = record {
   reads = front.asked.reads ++ back.asked.reads;
@@ -161,7 +162,8 @@ whole_then {a = a} {xs = xs} {ys = ys} front back on = record {
 }
 
 -- the files behind were read too, or their reading stopped
-pub files_then : {T U : Type 0} {a b : Reading} {asks : List PieceRead → Type 0} {before : List Value} {xs ys : List (List ℕ × Kind)} {values : T → List Value} {others : U → List Value} {t : T} {result : Result U Stop}
+pub files_then : {T U : Type 0} {a b : Reading} {asks : List PieceRead → Type 0} {before : List Value}
+    {xs ys : List (List ℕ × Kind)} {values : T → List Value} {others : U → List Value} {t : T} {result : Result U Stop}
     → FilesRead a before xs values (Ok t) → FilesRead b (before ++ values t) ys others result → GoesOn a b asks
     → FilesRead (both a b asks) before (xs ++ ys) (λ u. values t ++ others u) result
 files_then {a = a} {b = b} {before = before} {xs = xs} {ys = ys} {values = values} {others = others} {t = t} {result = Ok u} front back on = record {

@@ -94,7 +94,8 @@ fn write_named<'a, D: Sink>(
 
 /// Writes the line of a fault at an offset of a file. `fault` says which, up to the offset.
 fn write_placed<D: Sink>(diag: &mut D, file: u8, fault: &str, offset: u64) -> Result<(), WriteFault>
-    ensures { Writes D.taken D.faults diag.old diag.new (in_file file ++ fault.now ++ decimal offset ++ codes "\n") result }
+    ensures { Writes D.taken D.faults diag.old diag.new (in_file file ++ fault.now ++ decimal offset ++ codes "\n")
+        result }
 {
     write_pieces(
         diag,

@@ -164,7 +164,18 @@ module _ (images others : List Image) (links : List Link) (c : ℕ → ℕ → B
       | NodesAt.absent no_image no_one no_other ↦ NodesAt.absent no_image (one.elsewhere m ne ∙ no_one) (other.elsewhere m ne ∙ no_other)
       | NodesAt.present k ↦
           NodesAt.present
-          (record { i = k.i; j = k.j; a = k.a; b = k.b; in_images = k.in_images; in_others = k.in_others; in_one = one.elsewhere m ne ∙ k.in_one; in_other = other.elsewhere m ne ∙ k.in_other; alike = k.alike })
+          (record {
+            i = k.i;
+            j = k.j;
+            a = k.a;
+            b = k.b;
+            in_images = k.in_images;
+            in_others = k.in_others;
+            in_one =
+                one.elsewhere m ne ∙ k.in_one;
+            in_other = other.elsewhere m ne ∙ k.in_other;
+            alike = k.alike;
+          })
     ]
   ]
 
@@ -210,7 +221,8 @@ module _ (images others : List Image) (links : List Link) (c : ℕ → ℕ → B
         sent_fits = each_put (λ m. SentFits) s.links l new both.sent_fits fits;
       }
 
-      pub link_one : (a : State) (link : Link) → slice_get links l ≡ Some link → (IsLinkOf images c link → ⊥) → AlikeAt images links c n h.i h.j a h.b → Both images others links c (with_both s n a l new) t
+      pub link_one : (a : State) (link : Link) → slice_get links l ≡ Some link → (IsLinkOf images c link → ⊥)
+          → AlikeAt images links c n h.i h.j a h.b → Both images others links c (with_both s n a l new) t
       link_one a link is outside alike = record {
         nodes = (turn_one a alike).nodes;
         carried = carries_one s.links t.links (slice_set s.links l new) l link new both.carried is outside (moves s.links l old new stands);

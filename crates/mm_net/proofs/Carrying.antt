@@ -1,5 +1,7 @@
 -- What a link took and put.
-use Rattle.std.proofs.Common.{◌≡◌, ◌⊎◌, inl, inr, ℕ, ◌+◌, ◌<◌, ◌≤◌, Bool, true, false, not, eqb, if◌then◌else◌, List, [], ◌∷◌, ◌++◌, length, take, slice_get, Option, Some, None, refl, sym, ap, ◌∙◌, subst, arith}
+use Rattle.std.proofs.Common.{◌≡◌, ◌⊎◌, inl, inr, ℕ, ◌+◌, ◌<◌, ◌≤◌, Bool, true, false, not, eqb, if◌then◌else◌, List}
+use Rattle.std.proofs.Common.{[], ◌∷◌, ◌++◌, length, take, slice_get, Option, Some, None, refl, sym, ap, ◌∙◌, subst}
+use Rattle.std.proofs.Common.{arith}
 use Rattle.std.proofs.lemmas.List.{take_more, length-take-le}
 use Rattle.std.proofs.lemmas.Option.{slice_get_within, get_or_from_slice_get}
 use Rattle.mm_word.specs.declared.word.Word.{Word}
@@ -58,7 +60,8 @@ pub took_nothing : (cell : Option Cell) (answer : Loaded) → loaded Full cell �
 took_nothing None answer is never = refl
 took_nothing (Some cell) answer is never = by cell.full is never
   where
-    by : (full : Bool) → (if full then loads.Value cell.word else loads.NotReady) ≡ answer → ((word : Word) → answer ≡ loads.Value word → ⊥) → (if full then Some (word_bits cell.word) else None) ≡ None
+    by : (full : Bool) → (if full then loads.Value cell.word else loads.NotReady) ≡ answer
+        → ((word : Word) → answer ≡ loads.Value word → ⊥) → (if full then Some (word_bits cell.word) else None) ≡ None
     by true is never = absurd (never cell.word (sym is))
     by false is never = refl
 

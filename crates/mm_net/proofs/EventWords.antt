@@ -142,7 +142,8 @@ keeps_more items i k are range few = record {
   each = All-append IsEvent items (replicate k i) are.each (All-replicate IsEvent k i range);
 }
 
-pub too_many : (w : List ℕ) (items : List NetItem) (i : NetItem) (k : ℕ) → IsEvent i → Spells w i k → item_limit < length items + k → (said : List NetItem) → Says w said → AreEvents (items ++ said) → ⊥
+pub too_many : (w : List ℕ) (items : List NetItem) (i : NetItem) (k : ℕ) → IsEvent i → Spells w i k
+    → item_limit < length items + k → (said : List NetItem) → Says w said → AreEvents (items ++ said) → ⊥
 too_many w items i k range spelled many said says are =
     let same : said ≡ replicate k i = says_unique w said (replicate k i) says (record { item = i; count = k; range = range; spelled = spelled; repeated = refl }) in
     let size : length said ≡ k = ap length same ∙ length-replicate k i in

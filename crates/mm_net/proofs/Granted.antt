@@ -128,7 +128,8 @@ module _ (images : List Image) (are : EachAt (λ (n : ℕ). IsImage) images) (li
       both_granted link.from l node (taken_from node link.take) (with_sent carried (bits_in (cell_at node.memory link.take))) is (λ i. taken_granted i (no_more link.from) node link.take)
       (sent_fits carried (bits_in (cell_at node.memory link.take)) (h.sent l carried has) (λ bits. taken_fits node link.take bits state))
 
-  put_both : (l k : ℕ) (link : Link) (node : State) (carried : Carried) (bits : ℕ) → slice_get links l ≡ Some link → slice_get s.nodes link.to ≡ Some node → slice_get s.links l ≡ Some carried → due carried k ≡ Some bits
+  put_both : (l k : ℕ) (link : Link) (node : State) (carried : Carried) (bits : ℕ) → slice_get links l ≡ Some link
+      → slice_get s.nodes link.to ≡ Some node → slice_get s.links l ≡ Some carried → due carried k ≡ Some bits
       → NetGranted images no_more (with_both s link.to (put_into node link.put bits) l (with_arrived carried bits (is_free (cell_at node.memory link.put))))
   put_both l k link node carried bits at is has next =
       let fits = due_fits carried k bits (h.sent l carried has) next in
@@ -169,7 +170,8 @@ nodes_granted images links items n i node are_images is at =
     let own = all.nodes n node at in
     let found : ◌≡◌ {A = Option Image} (Some own.image) (Some i) = sym own.stands ∙ is in
     let same : own.image ≡ i = cc in
-    let granted : NodeGranted i (These (net_entries links (net_start images links) items n)) node = subst (λ j. NodeGranted j (These (net_entries links (net_start images links) items n)) node) same own.granted in
+    let granted : NodeGranted i (These (net_entries links (net_start images links) items n)) node = subst
+    (λ j. NodeGranted j (These (net_entries links (net_start images links) items n)) node) same own.granted in
     record {
       state = granted.state;
       fits = granted.fits;

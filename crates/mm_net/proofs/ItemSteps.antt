@@ -28,7 +28,8 @@ module _ (images others : List Image) (links : List Link) (c : ℕ → ℕ → B
 
   -- 1. Turns.
 
-  turn_by : (n item : ℕ) → NodesAt images others links c s.nodes t.nodes n → IsItemOf images links c (Turn n item) → Alike (turns s n item (slice_get s.nodes n)).net (turns t n item (slice_get t.nodes n)).net
+  turn_by : (n item : ℕ) → NodesAt images others links c s.nodes t.nodes n → IsItemOf images links c (Turn n item)
+      → Alike (turns s n item (slice_get s.nodes n)).net (turns t n item (slice_get t.nodes n)).net
   turn_by n item (NodesAt.absent no_image no_one no_other) own = absurd (subst (λ o. IsSomeAnd o (λ i. is_kept i (c n) item ≡ true)) no_image own)
   turn_by n item (NodesAt.present h) own =
       subst (λ o. Alike (turns s n item o).net (turns t n item (slice_get t.nodes n)).net) (sym h.in_one)
@@ -65,7 +66,9 @@ module _ (images others : List Image) (links : List Link) (c : ℕ → ℕ → B
           let new : Carried = with_sent x (bits_in (cell_at h.a.memory link.take)) in
           let fits : SentFits new = sent_fits x (bits_in (cell_at h.a.memory link.take)) (both.sent_fits l x is) (λ bits at. taken_fits h.a link.take bits h.alike.worlds.one_state at) in
           subst (λ cell. Alike (with_both s link.from (taken_from h.a link.take) l new) (with_both t link.from (taken_from h.b link.take) l (with_sent x (bits_in cell)))) equal
-          (link_both images others links c s t both link.from h l x new is fits (taken_from h.a link.take) (taken_from h.b link.take) (there_too x is) (alike_takes images links c link.from h.i h.j h.a h.b h.alike link.take equal))
+          (link_both images others links c s t both link.from h l x new is fits (taken_from h.a link.take)
+          (taken_from h.b link.take) (there_too x is) (alike_takes images links c link.from h.i h.j h.a h.b h.alike
+          link.take equal))
 
       take_by : NodesAt images others links c s.nodes t.nodes link.from → (o : Option Carried) → slice_get s.links l ≡ o
           → Alike (takes_at s l link (slice_get s.nodes link.from) o).net (takes_at t l link (slice_get t.nodes link.from) o).net
@@ -75,13 +78,17 @@ module _ (images others : List Image) (links : List Link) (c : ℕ → ℕ → B
           subst (λ p. Alike (takes_at s l link p o).net (takes_at t l link (slice_get t.nodes link.from) o).net) (sym h.in_one)
           (subst (λ p. Alike (takes_at s l link (Some h.a) o).net (takes_at t l link p o).net) (sym h.in_other) (taken h o is))
 
-      carried : (h : Here link.to) (x : Carried) (o : Option ℕ) → slice_get s.links l ≡ Some x → ((bits : ℕ) → o ≡ Some bits → bits < 2 ^ 64) → Alike (puts_at s l link x (Some h.a) o).net (puts_at t l link x (Some h.b) o).net
+      carried : (h : Here link.to) (x : Carried) (o : Option ℕ) → slice_get s.links l ≡ Some x
+          → ((bits : ℕ) → o ≡ Some bits → bits < 2 ^ 64) → Alike (puts_at s l link x (Some h.a) o).net
+          (puts_at t l link x (Some h.b) o).net
       carried h x None is fits = both
       carried h x (Some bits) is fits =
           let equal = h.alike.ends link.put put_end_is in
           let new : Carried = with_arrived x bits (is_free (cell_at h.a.memory link.put)) in
           subst (λ cell. Alike (with_both s link.to (put_into h.a link.put bits) l new) (with_both t link.to (put_into h.b link.put bits) l (with_arrived x bits (is_free cell)))) equal
-          (link_both images others links c s t both link.to h l x new is (arrived_fits x bits (is_free (cell_at h.a.memory link.put)) (both.sent_fits l x is)) (put_into h.a link.put bits) (put_into h.b link.put bits) (there_too x is)
+          (link_both images others links c s t both link.to h l x new is
+          (arrived_fits x bits (is_free (cell_at h.a.memory link.put)) (both.sent_fits l x is))
+          (put_into h.a link.put bits) (put_into h.b link.put bits) (there_too x is)
           (alike_puts images links c link.to h.i h.j h.a h.b h.alike link.put bits (fits bits refl) equal))
 
       put_by : NodesAt images others links c s.nodes t.nodes link.to → (x : Carried) (o : Option ℕ) → slice_get s.links l ≡ Some x → ((bits : ℕ) → o ≡ Some bits → bits < 2 ^ 64)
@@ -98,7 +105,8 @@ module _ (images others : List Image) (links : List Link) (c : ℕ → ℕ → B
 
       send_own : Alike (takes s l (Some link)).net (takes t l (Some link)).net
       send_own =
-          subst (λ o. Alike (takes s l (Some link)).net (takes_at t l link (slice_get t.nodes link.from) o).net) (both.carried l link stands own) (take_by (both.nodes link.from) (slice_get s.links l) refl)
+          subst (λ o. Alike (takes s l (Some link)).net (takes_at t l link (slice_get t.nodes link.from) o).net)
+          (both.carried l link stands own) (take_by (both.nodes link.from) (slice_get s.links l) refl)
 
       carry_own : (k : ℕ) → Alike (puts s l k (Some link)).net (puts t l k (Some link)).net
       carry_own k = subst (λ o. Alike (puts s l k (Some link)).net (puts_of t l k link o).net) (both.carried l link stands own) (put_of k (slice_get s.links l) refl)
@@ -111,7 +119,9 @@ module _ (images others : List Image) (links : List Link) (c : ℕ → ℕ → B
       taken_one h (Some x) is =
           let cell = cell_at h.a.memory link.take in
           let fits : SentFits (with_sent x (bits_in cell)) = sent_fits x (bits_in cell) (both.sent_fits l x is) (λ bits at. taken_fits h.a link.take bits h.alike.worlds.one_state at) in
-          let untouched = λ (touched : Touchable h.i entries.All (c link.from) link.take). outside (inl (and_there (slice_get images link.from) h.i (λ i. Touchable i entries.All (c link.from) link.take) h.in_images touched)) in
+          let untouched = λ (touched : Touchable h.i entries.All (c link.from) link.take). outside
+          (inl (and_there (slice_get images link.from) h.i (λ i. Touchable i entries.All (c link.from) link.take)
+          h.in_images touched)) in
           link_one images others links c s t both link.from h l x (with_sent x (bits_in cell)) is fits (taken_from h.a link.take) link stands outside
           (alike_take images links c link.from h.i h.j h.a h.b h.alike link.take untouched (not_own images others links c g l link stands outside link.from link.take (take_end links l link stands)))
 
@@ -123,9 +133,13 @@ module _ (images others : List Image) (links : List Link) (c : ℕ → ℕ → B
       carried_one h x None is fits = both
       carried_one h x (Some bits) is fits =
           let free = is_free (cell_at h.a.memory link.put) in
-          let untouched = λ (touched : Touchable h.i entries.All (c link.to) link.put). outside (inr (and_there (slice_get images link.to) h.i (λ i. Touchable i entries.All (c link.to) link.put) h.in_images touched)) in
+          let untouched = λ (touched : Touchable h.i entries.All (c link.to) link.put). outside
+          (inr (and_there (slice_get images link.to) h.i (λ i. Touchable i entries.All (c link.to) link.put)
+          h.in_images touched)) in
           link_one images others links c s t both link.to h l x (with_arrived x bits free) is (arrived_fits x bits free (both.sent_fits l x is)) (put_into h.a link.put bits) link stands outside
-          (alike_put images links c link.to h.i h.j h.a h.b h.alike link.put untouched (not_own images others links c g l link stands outside link.to link.put (put_end links l link stands)) bits (fits bits refl))
+          (alike_put images links c link.to h.i h.j h.a h.b h.alike link.put untouched
+          (not_own images others links c g l link stands outside link.to link.put (put_end links l link stands))
+          bits (fits bits refl))
 
       put_one_by : NodesAt images others links c s.nodes t.nodes link.to → (x : Carried) (o : Option ℕ) → slice_get s.links l ≡ Some x → ((bits : ℕ) → o ≡ Some bits → bits < 2 ^ 64)
           → Alike (puts_at s l link x (slice_get s.nodes link.to) o).net t

@@ -32,7 +32,8 @@ use Rattle.mm_net.proofs.BothNets.{OwnEnd, AlikeAt, unwritten, agree_at, end_oth
 -- 1. Cells after a take and a put.
 
 -- the same cell put at the same word of two memories
-both_changed : (m p : Memory) (w : ℕ) (old new : Cell) → cell_at m w ≡ Some old → cell_at p w ≡ Some old → (v : ℕ) → cell_at m v ≡ cell_at p v → cell_at (put_cell m w new) v ≡ cell_at (put_cell p w new) v
+both_changed : (m p : Memory) (w : ℕ) (old new : Cell) → cell_at m w ≡ Some old → cell_at p w ≡ Some old → (v : ℕ)
+    → cell_at m v ≡ cell_at p v → cell_at (put_cell m w new) v ≡ cell_at (put_cell p w new) v
 both_changed m p w old new in_m in_p v same = elim (cases_eq v w) [
   | inl here ↦ ap (cell_at (put_cell m w new)) here ∙ cell_at-put_same m w new old in_m ∙ sym (cell_at-put_same p w new old in_p) ∙ sym (ap (cell_at (put_cell p w new)) here)
   | inr ne ↦ cell_at-put_other m w v new (aligned m w old in_m) ne ∙ same ∙ sym (cell_at-put_other p w v new (aligned p w old in_p) ne)
@@ -68,10 +69,12 @@ module _ (a b : State) (w : ℕ) (equal : cell_at a.memory w ≡ cell_at b.memor
 
 -- cells of other words stay
 one_taken : (s : State) (w v : ℕ) → (v ≡ w → ⊥) → cell_at (taken_from s w).memory v ≡ cell_at s.memory v
-one_taken s w v ne = taken_by (λ x. cell_at x.memory v ≡ cell_at s.memory v) s w refl (λ c is full. cell_at-put_other s.memory w v (record { word = c.word; full = false }) (aligned s.memory w c is) ne)
+one_taken s w v ne = taken_by (λ x. cell_at x.memory v ≡ cell_at s.memory v) s w refl
+    (λ c is full. cell_at-put_other s.memory w v (record { word = c.word; full = false }) (aligned s.memory w c is) ne)
 
 one_put : (s : State) (w bits v : ℕ) → (v ≡ w → ⊥) → cell_at (put_into s w bits).memory v ≡ cell_at s.memory v
-one_put s w bits v ne = put_by (λ x. cell_at x.memory v ≡ cell_at s.memory v) s w bits refl (λ c is free. cell_at-put_other s.memory w v (record { word = Int bits; full = true }) (aligned s.memory w c is) ne)
+one_put s w bits v ne = put_by (λ x. cell_at x.memory v ≡ cell_at s.memory v) s w bits refl
+    (λ c is free. cell_at-put_other s.memory w v (record { word = Int bits; full = true }) (aligned s.memory w c is) ne)
 
 -- 2. Turns.
 
@@ -155,15 +158,20 @@ module _ (images : List Image) (links : List Link) (c : ℕ → ℕ → Bool) (n
 
   pub alike_takes : (w : ℕ) → cell_at a.memory w ≡ cell_at b.memory w → AlikeAt images links c n i j (taken_from a w) (taken_from b w)
   alike_takes w equal =
-      both_change (taken_from a w).memory (taken_from b w).memory (taken_granted i entries.All a w granted_one) (taken_granted j entries.All b w granted_other) (λ v same. both_taken a b w equal v same)
+      both_change (taken_from a w).memory (taken_from b w).memory (taken_granted i entries.All a w granted_one)
+      (taken_granted j entries.All b w granted_other) (λ v same. both_taken a b w equal v same)
 
   pub alike_puts : (w bits : ℕ) → bits < 2 ^ 64 → cell_at a.memory w ≡ cell_at b.memory w → AlikeAt images links c n i j (put_into a w bits) (put_into b w bits)
   alike_puts w bits fits equal =
-      both_change (put_into a w bits).memory (put_into b w bits).memory (put_granted i entries.All a w bits fits granted_one) (put_granted j entries.All b w bits fits granted_other) (λ v same. both_put a b w equal v same bits)
+      both_change (put_into a w bits).memory (put_into b w bits).memory (put_granted i entries.All a w bits fits
+      granted_one) (put_granted j entries.All b w bits fits granted_other)
+      (λ v same. both_put a b w equal v same bits)
 
   -- the memory of one changes, at a word that the groups cannot touch and that is no end of theirs
   module _ (w : ℕ) (untouched : Touchable i entries.All (c n) w → ⊥) (no_end : OwnEnd images links c n w → ⊥) where
-    one_changes : (m : Memory) → NodeGranted i entries.All (record a { memory = m }) → ((v : ℕ) → (v ≡ w → ⊥) → cell_at m v ≡ cell_at a.memory v) → AlikeAt images links c n i j (record a { memory = m }) b
+    one_changes : (m : Memory) → NodeGranted i entries.All (record a { memory = m })
+        → ((v : ℕ) → (v ≡ w → ⊥) → cell_at m v ≡ cell_at a.memory v) → AlikeAt images links c n i j
+        (record a { memory = m }) b
     one_changes m one stays = record {
       worlds = record {
         one_state = one.state;

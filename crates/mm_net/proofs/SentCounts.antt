@@ -54,7 +54,8 @@ send_sent : (s : NetState) (l : ℕ) (o : Option Link) → sent_count (takes s l
 send_sent s l None = omega arith
 send_sent s l (Some link) = takes_sent s l link (slice_get s.nodes link.from) (slice_get s.links l) refl
 
-puts_sent : (s : NetState) (l : ℕ) (link : Link) (carried : Carried) (o : Option State) (p : Option ℕ) → slice_get s.links l ≡ Some carried → sent_count (puts_at s l link carried o p).net ≤ sent_count s + 0
+puts_sent : (s : NetState) (l : ℕ) (link : Link) (carried : Carried) (o : Option State) (p : Option ℕ)
+    → slice_get s.links l ≡ Some carried → sent_count (puts_at s l link carried o p).net ≤ sent_count s + 0
 puts_sent s l link carried None p here = omega arith
 puts_sent s l link carried (Some node) None here = omega arith
 puts_sent s l link carried (Some node) (Some bits) here =

@@ -24,7 +24,9 @@ use Rattle.mm_net.specs.declared.item.NetItem.TheVariants.{Turn, Send, Carry}
 use Rattle.mm_net.specs.declared.tick.NetTick.{NetTick}
 use Rattle.mm_net.specs.declared.tick.NetTick.TheVariants.{Idle, Turned}
 use Rattle.mm_net.specs.declared.net.Net.{Net}
-use Rattle.mm_net.specs.Nets.{Carried, NetState, NetStep, idles, turns, turn_tick, takes, takes_at, bits_in, with_sent, sent_tick, taken_from, puts, puts_of, puts_at, due, is_free, with_arrived, arrived_tick, put_into, net_step, net_after, asked_of}
+use Rattle.mm_net.specs.Nets.{Carried, NetState, NetStep, idles, turns, turn_tick, takes, takes_at, bits_in, with_sent}
+use Rattle.mm_net.specs.Nets.{sent_tick, taken_from, puts, puts_of, puts_at, due, is_free, with_arrived, arrived_tick}
+use Rattle.mm_net.specs.Nets.{put_into, net_step, net_after, asked_of}
 use Rattle.mm_net.specs.Wires.{Wired, Reaches}
 use Rattle.mm_net.specs.Net.{net_of, links_of, room_of, steps_of, NodesTake, Steps}
 use Rattle.mm_net.proofs.ListPlaces.{set_same, set_other, map_at, unequal, equal}

@@ -6,7 +6,9 @@ use Rattle.mm_model.specs.Run.{after}
 use Rattle.mm_net.specs.declared.link.Link.{Link}
 use Rattle.mm_net.specs.declared.item.NetItem.{NetItem}
 use Rattle.mm_net.specs.declared.item.NetItem.TheVariants.{Turn, Send, Carry}
-use Rattle.mm_net.specs.Nets.{Carried, NetState, NetStep, idles, with_node, with_both, turns, bits_in, with_sent, taken_from, takes_at, takes, due, is_free, with_arrived, put_into, puts_at, puts_of, puts, net_step, net_after, net_run}
+use Rattle.mm_net.specs.Nets.{Carried, NetState, NetStep, idles, with_node, with_both, turns, bits_in, with_sent}
+use Rattle.mm_net.specs.Nets.{taken_from, takes_at, takes, due, is_free, with_arrived, put_into, puts_at, puts_of, puts}
+use Rattle.mm_net.specs.Nets.{net_step, net_after, net_run}
 
 -- 1. Steps of links.
 
@@ -30,13 +32,15 @@ module _ (links : List Link) (s : NetState) (l : ℕ) where
 
   -- and likewise where it can put the integer that is due
   pub put_cases : (k : ℕ) (P : NetStep → Type 0) → P (idles s)
-      → ((link : Link) (node : State) (carried : Carried) (bits : ℕ) → slice_get links l ≡ Some link → slice_get s.nodes link.to ≡ Some node → slice_get s.links l ≡ Some carried → due carried k ≡ Some bits
+      → ((link : Link) (node : State) (carried : Carried) (bits : ℕ) → slice_get links l ≡ Some link → slice_get s.nodes
+      link.to ≡ Some node → slice_get s.links l ≡ Some carried → due carried k ≡ Some bits
       → P (puts_at s l link carried (Some node) (Some bits)))
       → P (net_step links s (Carry l k))
   unfolding net_step
   put_cases k P idle put = by (slice_get links l) refl
     where
-      by_ends : (link : Link) (carried : Carried) → slice_get links l ≡ Some link → slice_get s.links l ≡ Some carried → (o : Option State) (p : Option ℕ) → slice_get s.nodes link.to ≡ o → due carried k ≡ p
+      by_ends : (link : Link) (carried : Carried) → slice_get links l ≡ Some link → slice_get s.links l ≡ Some carried
+          → (o : Option State) (p : Option ℕ) → slice_get s.nodes link.to ≡ o → due carried k ≡ p
           → P (puts_at s l link carried o p)
       by_ends link carried at has None p is next = idle
       by_ends link carried at has (Some node) None is next = idle
@@ -72,14 +76,16 @@ module _ (P : NetState → Type 0) (links : List Link) (s : NetState) where
 
   -- and likewise of a put of the integer that is due
   pub after_put : (l k : ℕ) → P s
-      → ((link : Link) (node : State) (carried : Carried) (bits : ℕ) → slice_get links l ≡ Some link → slice_get s.nodes link.to ≡ Some node → slice_get s.links l ≡ Some carried → due carried k ≡ Some bits
+      → ((link : Link) (node : State) (carried : Carried) (bits : ℕ) → slice_get links l ≡ Some link → slice_get s.nodes
+      link.to ≡ Some node → slice_get s.links l ≡ Some carried → due carried k ≡ Some bits
       → P (with_both s link.to (put_into node link.put bits) l (with_arrived carried bits (is_free (cell_at node.memory link.put)))))
       → P (net_after links s (Carry l k))
   unfolding net_after
   after_put l k = put_cases links s l k (λ t. P t.net)
 
 -- what each item keeps, each list of items keeps
-pub after_run : (P : NetState → Type 0) (links : List Link) → ((s : NetState) (item : NetItem) → P s → P (net_after links s item)) → (s : NetState) (items : List NetItem) → P s → P (net_run links s items)
+pub after_run : (P : NetState → Type 0) (links : List Link) → ((s : NetState) (item : NetItem) → P s
+    → P (net_after links s item)) → (s : NetState) (items : List NetItem) → P s → P (net_run links s items)
 unfolding net_run
 after_run P links keeps s [] h = h
 after_run P links keeps s (item ∷ items) h = after_run P links keeps (net_after links s item) items (keeps s item h)

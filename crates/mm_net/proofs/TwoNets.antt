@@ -33,7 +33,8 @@ module _ (images others : List Image) (links : List Link) (c : ℕ → ℕ → B
       subst (λ x. Both images others links c x (net_run links t own)) (sym (run_step links s item all))
       (runs rest (net_after links s item) t (one_step images others links c g s t both item outside))
 
-  pub runs_from_start : {items own : List NetItem} → AreItemsOf images links c items own → Both images others links c (net_run links (net_start images links) items) (net_run links (net_start others links) own)
+  pub runs_from_start : {items own : List NetItem} → AreItemsOf images links c items own → Both images others links c
+      (net_run links (net_start images links) items) (net_run links (net_start others links) own)
   runs_from_start own = runs own (net_start images links) (net_start others links) (start_both images others links c g)
 
 -- 2. A net agrees with itself.

@@ -73,8 +73,8 @@ struct Pointers {
     threads: Vec<Thread>,
 }
 
-// Reads the externals, the relocations and the threads of an object of these segments, and tests that each external is a
-// target.
+// Reads the externals, the relocations and the threads of an object of these segments, and tests that each external is
+// a target.
 fn read_used(
     alloc: Global,
     reader: &mut Reader,

@@ -1,5 +1,6 @@
 -- Nets of images: links whose nodes are there, machines at their start, and room for what is sent.
-use Rattle.std.proofs.Common.{◌≡◌, ℕ, ◌+◌, ◌<◌, ◌≤◌, inl, inr, List, [], ◌∷◌, ◌++◌, length, get_or, take, drop, cond, slice_get, Option, Some, Result, Ok, Err, refl, sym, ap, ◌∙◌, subst, arith, append_assoc}
+use Rattle.std.proofs.Common.{◌≡◌, ℕ, ◌+◌, ◌<◌, ◌≤◌, inl, inr, List, [], ◌∷◌, ◌++◌, length, get_or, take, drop, cond}
+use Rattle.std.proofs.Common.{slice_get, Option, Some, Result, Ok, Err, refl, sym, ap, ◌∙◌, subst, arith, append_assoc}
 use Rattle.std.specs.Prelude.{IsSomeAnd, IfOk}
 use Rattle.std.specs.List.{All, AllZip, count_by}
 use Rattle.std.proofs.lemmas.Bool.{cases_lt}

@@ -56,7 +56,9 @@ own_port i c n k false is e has = cc
 
 member_belongs : (i : Image) (c : ℕ → Bool) (n : ℕ) → list_any (λ m. m == n) (named 0 (own_slots c i.slots) ++ ports i.split (own_slots c i.slots)) ≡ true → Belongs i c n
 member_belongs i c n e =
-    elim (or_cases (list_any (λ m. m == n) (named 0 (own_slots c i.slots))) (list_any (λ m. m == n) (ports i.split (own_slots c i.slots))) (sym (list_any-append (λ m. m == n) (named 0 (own_slots c i.slots)) (ports i.split (own_slots c i.slots))) ∙ e)) [
+    elim (or_cases (list_any (λ m. m == n) (named 0 (own_slots c i.slots)))
+    (list_any (λ m. m == n) (ports i.split (own_slots c i.slots)))
+    (sym (list_any-append (λ m. m == n) (named 0 (own_slots c i.slots)) (ports i.split (own_slots c i.slots))) ∙ e)) [
       | inl slot ↦ let found = own_slot i c 0 n slot in let same : n ≡ found.0 = omega (arith, found.1) in inl (subst (HasSlotAt i.slots c) (sym same) found.2)
       | inr port ↦ inr (port_own i c n i.split port)
     ]

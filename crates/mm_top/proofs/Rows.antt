@@ -16,7 +16,8 @@ use Rattle.mm_top.specs.Commands.{Declines}
 use Rattle.mm_top.specs.Answers.{CommandEnds, Ends, EndsWith, Writing}
 
 -- the reading of its files stops
-stopped : (files : Reading) (out : Writing) (Text : Row → List Value → List ℕ → Type 0) (row : Row) (s : Stop) → Stops (FilesRefused files.held [] (files_of row)) (FilesFailed files [] (files_of row)) s
+stopped : (files : Reading) (out : Writing) (Text : Row → List Value → List ℕ → Type 0) (row : Row) (s : Stop)
+    → Stops (FilesRefused files.held [] (files_of row)) (FilesFailed files [] (files_of row)) s
     → AsksFiles files [] (files_of row) → out.taken ≡ out.taken_before → CommandEnds files out Text row (Err s)
 stopped files out Text row (stop.Refused r) says asked same = record { ends = (inl says, same); asked = asked; whole = tt }
 stopped files out Text row stop.ReadFault says asked same = record { ends = (says, same); asked = asked; whole = tt }
@@ -24,7 +25,8 @@ stopped files out Text row stop.WriteFault says asked same = absurd says
 stopped files out Text row stop.NoMemory says asked same = record { ends = same; asked = asked; whole = tt }
 
 -- the reading of all of some files stops if that of the first of them does
-pub reading_stops : {T U : Type 0} {files : Reading} {before : List Value} {xs all : List (List ℕ × Kind)} {values : T → List Value} {others : U → List Value} {s : Stop} (ys : List (List ℕ × Kind)) (result : Result U Stop)
+pub reading_stops : {T U : Type 0} {files : Reading} {before : List Value} {xs all : List (List ℕ × Kind)}
+    {values : T → List Value} {others : U → List Value} {s : Stop} (ys : List (List ℕ × Kind)) (result : Result U Stop)
     → FilesRead files before xs values (Err s) → all ≡ xs ++ ys → IsErrAnd result (λ e. e ≡ s) → FilesRead files before all others result
 reading_stops ys (Ok u) read first is = absurd is
 reading_stops {files = files} {before = before} {xs = xs} {all = all} {s = s} ys (Err e) read first is =
@@ -51,7 +53,9 @@ reading_ends {files = files} {before = before} {xs = xs} {values = values} {t = 
       whole = subst (λ (fs : List (List ℕ × Kind)). ReadsWhole files fs) (sym is) read.whole;
     }
 
-pub row_stops : {T : Type 0} {files : Reading} {out : Writing} {Text : Row → List Value → List ℕ → Type 0} {row : Row} {xs : List (List ℕ × Kind)} {values : T → List Value} {s : Stop} (ys : List (List ℕ × Kind)) (result : Result (Unit {0}) Stop)
+pub row_stops : {T : Type 0} {files : Reading} {out : Writing} {Text : Row → List Value → List ℕ → Type 0} {row : Row}
+    {xs : List (List ℕ × Kind)} {values : T → List Value} {s : Stop} (ys : List (List ℕ × Kind))
+    (result : Result (Unit {0}) Stop)
     → FilesRead files [] xs values (Err s) → files_of row ≡ xs ++ ys → out.taken ≡ out.taken_before → IsErrAnd result (λ e. e ≡ s) → CommandEnds files out Text row result
 row_stops ys (Ok t) read first same is = absurd is
 row_stops {files = files} {out = out} {Text = Text} {row = row} ys (Err e) read first same is =
@@ -59,17 +63,22 @@ row_stops {files = files} {out = out} {Text = Text} {row = row} ys (Err e) read 
     stopped files out Text row e all.stopped all.asked same
 
 -- they are read, and the command ends with their values
-ends_read : (files : Reading) (out : Writing) (Text : Row → List Value → List ℕ → Type 0) (row : Row) (values : List Value) (Refuses : Refusal → Type 0) (IsText : List ℕ → Type 0) (result : Result (Unit {0}) Stop)
+ends_read : (files : Reading) (out : Writing) (Text : Row → List Value → List ℕ → Type 0) (row : Row)
+    (values : List Value) (Refuses : Refusal → Type 0) (IsText : List ℕ → Type 0) (result : Result (Unit {0}) Stop)
     → FilesAccepted files.held [] (files_of row) values → AsksFiles files [] (files_of row) → ReadsWhole files (files_of row) → Ends out Refuses ⊥ IsText result
     → ((r : Refusal) → Refuses r → Declines row values r) → ((text : List ℕ) → IsText text → Text row values text) → CommandEnds files out Text row result
-ends_read files out Text row values Refuses IsText (Ok done) accepted asked whole (text, is, took) refuses writes = record { ends = (text, (values, accepted, writes text is), took); asked = asked; whole = whole }
-ends_read files out Text row values Refuses IsText (Err (stop.Refused r)) accepted asked whole (is, same) refuses writes = record { ends = (inr (values, accepted, refuses r is), same); asked = asked; whole = tt }
+ends_read files out Text row values Refuses IsText (Ok done) accepted asked whole (text, is, took) refuses writes =
+    record { ends = (text, (values, accepted, writes text is), took); asked = asked; whole = whole }
+ends_read files out Text row values Refuses IsText (Err (stop.Refused r)) accepted asked whole (is, same) refuses writes
+    = record { ends = (inr (values, accepted, refuses r is), same); asked = asked; whole = tt }
 ends_read files out Text row values Refuses IsText (Err stop.ReadFault) accepted asked whole ends refuses writes = absurd ends.0
 ends_read files out Text row values Refuses IsText (Err stop.WriteFault) accepted asked whole (text, is, part, rose) refuses writes =
     record { ends = (text, (values, accepted, writes text is), part, rose); asked = asked; whole = tt }
 ends_read files out Text row values Refuses IsText (Err stop.NoMemory) accepted asked whole ends refuses writes = record { ends = ends; asked = asked; whole = tt }
 
-pub row_ends : {T : Type 0} {files : Reading} {out : Writing} {Text : Row → List Value → List ℕ → Type 0} {row : Row} {xs : List (List ℕ × Kind)} {values : T → List Value} {t : T} (Refuses : Refusal → Type 0) (IsText : List ℕ → Type 0)
+pub row_ends : {T : Type 0} {files : Reading} {out : Writing} {Text : Row → List Value → List ℕ → Type 0} {row : Row}
+    {xs : List (List ℕ × Kind)} {values : T → List Value} {t : T} (Refuses : Refusal → Type 0)
+    (IsText : List ℕ → Type 0)
     {result : Result (Unit {0}) Stop} → FilesRead files [] xs values (Ok t) → files_of row ≡ xs → Ends out Refuses ⊥ IsText result
     → ((r : Refusal) → Refuses r → Declines row (values t) r) → ((text : List ℕ) → IsText text → Text row (values t) text) → CommandEnds files out Text row result
 row_ends {files = files} {out = out} {Text = Text} {row = row} {values = values} {t = t} Refuses IsText {result = result} read all ends refuses writes =

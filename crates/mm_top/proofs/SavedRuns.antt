@@ -135,7 +135,8 @@ issued_small i a [] items image is = subst (λ (xs : List ℕ). IsSmall (last_it
 issued_small i a (list ∷ lists) items image is = tt
 
 -- a checkpoint that bytes are read as is the one that they are
-one_checkpoint : (i : Image) (ck : List ℕ) (p : Parts) (last : Option ℕ) → IsImage i → Saves ck i p last → (c : Saved) → Accepts checkpoint_file (an_image i ∷ []) ck (a_checkpoint c) → c ≡ saved_of p last
+one_checkpoint : (i : Image) (ck : List ℕ) (p : Parts) (last : Option ℕ) → IsImage i → Saves ck i p last → (c : Saved)
+    → Accepts checkpoint_file (an_image i ∷ []) ck (a_checkpoint c) → c ≡ saved_of p last
 one_checkpoint i ck p last image saves c (q, also, others, read) = read ∙ are_one i ck q p also last image others saves
 
 pub goes_on : SavesGoOn

@@ -1,5 +1,6 @@
 -- Lines of nodes at or above others, and words that two pointers share.
-use Rattle.std.proofs.Common.{◌≡◌, ℕ, ◌+◌, ◌%◌, ◌<◌, ◌≤◌, ◌⊎◌, inl, inr, Bool, true, List, [], ◌∷◌, ◌++◌, length, slice_index, Option, Some, None, MatchOption, refl, sym, ap, ◌∙◌, subst, arith, pow_pos}
+use Rattle.std.proofs.Common.{◌≡◌, ℕ, ◌+◌, ◌%◌, ◌<◌, ◌≤◌, ◌⊎◌, inl, inr, Bool, true, List, [], ◌∷◌, ◌++◌, length}
+use Rattle.std.proofs.Common.{slice_index, Option, Some, None, MatchOption, refl, sym, ap, ◌∙◌, subst, arith, pow_pos}
 use Rattle.std.proofs.lemmas.Bool.{cases_lt}
 use Rattle.std.proofs.lemmas.List.{get_or_push, get_or_append_left, length_push}
 use Rattle.mm_word.specs.Pointer.{Pointer, InSegment, Covers, base_of}

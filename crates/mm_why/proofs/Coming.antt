@@ -67,7 +67,13 @@ module _ (i : Image) (g : Graph) (r : Rounds) (c : IsContext i g r) (size : leng
       ends o h t k sh st so has f hands = record { owner = o; small = so; comes = c.rounds.end o t so st (record { by = h; small = sh; has = has; hands = hands }); flows = f }
 
       pub owned : (t k : ℕ) → t < 64 → Reaches t k → Owned t k
-      owned t k st (reached_from x) = record { owner = t; small = st; comes = c.rounds.steps.own (length r.rounds.items - 1) t (let s = c.rounds.steps.some in omega (arith, s)) st; flows = flows_from x }
+      owned t k st (reached_from x) = record {
+        owner = t;
+        small = st;
+        comes = c.rounds.steps.own
+            (length r.rounds.items - 1) t (let s = c.rounds.steps.some in omega (arith, s)) st;
+        flows = flows_from x;
+      }
       owned t k st (reached_along a j x lt low high at) =
           let o = owned t a st x in
           record { owner = o.owner; small = o.small; comes = o.comes; flows = flows_along a j o.flows lt low high at }

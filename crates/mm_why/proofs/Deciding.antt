@@ -1,5 +1,7 @@
 -- A granted use is one that some owner has of its own, and an owner's use can be granted.
-use Rattle.std.proofs.Common.{◌≡◌, ℕ, zero, suc, ◌+◌, ◌-◌, ◌%◌, ◌^◌, ◌<◌, ◌≤◌, ◌⊎◌, ◌↔◌, inl, inr, Bool, true, false, ◌==◌, ◌&&◌, IsTrue, List, length, slice_index, replicate, map, bit_and, bit_or, Option, Some, None, refl, sym, ap, ◌∙◌, subst, arith, eqb-true, eq-eqb, add-zero}
+use Rattle.std.proofs.Common.{◌≡◌, ℕ, zero, suc, ◌+◌, ◌-◌, ◌%◌, ◌^◌, ◌<◌, ◌≤◌, ◌⊎◌, ◌↔◌, inl, inr, Bool, true, false}
+use Rattle.std.proofs.Common.{◌==◌, ◌&&◌, IsTrue, List, length, slice_index, replicate, map, bit_and, bit_or, Option}
+use Rattle.std.proofs.Common.{Some, None, refl, sym, ap, ◌∙◌, subst, arith, eqb-true, eq-eqb, add-zero}
 use Rattle.std.specs.Int.{bit_at}
 use Rattle.std.proofs.lemmas.Bool.{cases_lt}
 use Rattle.std.proofs.lemmas.Grind.{common_steps}
@@ -249,7 +251,11 @@ module _ (i : Image) (g : Graph) (h : IsGraph i g) where
 
   -- an entry of one group is one of each
   entries_of_all : (a x y : ℕ) → x < 64 → bit_at (enters_at (edges_of g) a) y ≡ 1 → bit_at (enters_at (edges_of g) a) x ≡ 1
-  entries_of_all a x y lt bit = elim (cases_lt a (length g.keys.items)) [ inl small ↦ at small (is_entry (pointer_at (key_at g.keys.items a)).perm) refl (entry_key (key_at g.keys.items a)) refl | inr le ↦ absurd (past le) ]
+  entries_of_all a x y lt bit = elim (cases_lt a (length g.keys.items)) [
+    | inl small ↦ at small (is_entry (pointer_at (key_at g.keys.items a)).perm) refl
+        (entry_key (key_at g.keys.items a)) refl
+    | inr le ↦ absurd (past le)
+  ]
     where
       past : length g.keys.items ≤ a → ⊥
       past le =

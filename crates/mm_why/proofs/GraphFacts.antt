@@ -1,5 +1,7 @@
 -- What the parts of an image's graph say of pointers for which nodes stand.
-use Rattle.std.proofs.Common.{◌≡◌, ◌≢◌, ℕ, ◌+◌, ◌%◌, ◌^◌, ◌<◌, ◌≤◌, ◌⊎◌, inl, inr, Bool, true, false, if◌then◌else◌, List, length, slice_index, slice_index_or, get_or, Option, Some, None, refl, sym, ap, ◌∙◌, subst, arith}
+use Rattle.std.proofs.Common.{◌≡◌, ◌≢◌, ℕ, ◌+◌, ◌%◌, ◌^◌, ◌<◌, ◌≤◌, ◌⊎◌, inl, inr, Bool, true, false, if◌then◌else◌}
+use Rattle.std.proofs.Common.{List, length, slice_index, slice_index_or, get_or, Option, Some, None, refl, sym, ap, ◌∙◌}
+use Rattle.std.proofs.Common.{subst, arith}
 use Rattle.std.proofs.lemmas.Bool.{cases_lt}
 use Rattle.std.proofs.lemmas.List.{get_or_past}
 use Rattle.std.specs.List.{Contains, AllByRecursion}
@@ -84,7 +86,12 @@ module _ (i : Image) (g : Graph) (graph : IsGraph i g) where
           cell = x.cell;
           at = ap (cell_at i.memory) word ∙ x.at;
           holds = q.1;
-          node = record { small = t.small k small; stands = q.2 ∙ ap Some (sym (t.at k small)); fits = well_formed i.memory graph.image.words (get_or (page_keys i.memory.pages) k nothing).word x.cell q.0 x.at q.1 };
+          node = record {
+            small = t.small k small;
+            stands = q.2 ∙ ap Some (sym (t.at k small));
+            fits = well_formed
+                i.memory graph.image.words (get_or (page_keys i.memory.pages) k nothing).word x.cell q.0 x.at q.1;
+          };
         },
       )
 
@@ -121,7 +128,13 @@ module _ (i : Image) (g : Graph) (graph : IsGraph i g) where
           let right = loads_then node load in
           let word : found_word g.found.items k ≡ found_word (page_keys i.memory.pages) k = ap (λ v. found_word v k) graph.found in
           below-loads p node (found_word g.found.items k) below
-          (record { word = f.aligned; right = right.0; covers = in_covers node (found_word g.found.items k) right.1 f.aligned (subst (λ v. base_of node ≤ v) (sym word) bound.0) (subst (λ v. v < base_of node + 2 ^ node.log) (sym word) bound.1) })
+          (record {
+            word = f.aligned;
+            right = right.0;
+            covers = in_covers node (found_word g.found.items k) right.1
+                f.aligned (subst (λ v. base_of node ≤ v) (sym word) bound.0) (subst (λ v. v < base_of node + 2 ^ node.log)
+                (sym word) bound.1);
+          })
 
   pub target_small : (a k : ℕ) → a < length keys → k < (node_at g.nodes.items a).high → k < length g.found.items
   target_small a k lt hi = let f = (each_node a lt).range.fits in let l = found_len in omega (arith, f, l, hi)

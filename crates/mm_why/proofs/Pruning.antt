@@ -127,7 +127,8 @@ module _ (lines : List Line) (earlier : NameEarlier lines) (needed : List Bool) 
       smaller j h (inr lt) = let l = longer in let t = other j lt in let s = kept.small j lt h in omega (arith, l, t, s)
 
       at : (j : ℕ) → IsNeeded needed j → (j ≡ k) ⊎ (j < k) → line_at (out ++ line ∷ []) (get_or after j 0) ≡ moved_line after (line_at lines j)
-      at j h (inl e) = ap (λ v. line_at (out ++ line ∷ []) (get_or after v 0)) e ∙ ap (line_at (out ++ line ∷ [])) there ∙ get_or_push out line no_line (length out) refl ∙ sym (ap (λ v. moved_line after (line_at lines v)) e)
+      at j h (inl e) = ap (λ v. line_at (out ++ line ∷ []) (get_or after v 0)) e ∙ ap (line_at (out ++ line ∷ [])) there
+          ∙ get_or_push out line no_line (length out) refl ∙ sym (ap (λ v. moved_line after (line_at lines v)) e)
       at j h (inr lt) = before_last j lt h
 
       ordered : (j m : ℕ) → j < m → IsNeeded needed j → IsNeeded needed m → (m ≡ k) ⊎ (m < k) → get_or after j 0 < get_or after m 0

@@ -114,7 +114,8 @@ module _ (links meets now : List ℕ) where
         is_before = sym (length_push rounds now)
 
         len : (p : ℕ) → (p ≡ length all) ⊎ (p < length all) → length (round_at (all ++ after ∷ []) p) ≡ 64
-        len p (inl e) = ap (λ v. length (round_at (all ++ after ∷ []) v)) e ∙ ap length last ∙ d.len ∙ ap length (sym (newest before is_before)) ∙ f.len before (let e2 = is_before in omega (arith, e2))
+        len p (inl e) = ap (λ v. length (round_at (all ++ after ∷ []) v)) e ∙ ap length last ∙ d.len
+            ∙ ap length (sym (newest before is_before)) ∙ f.len before (let e2 = is_before in omega (arith, e2))
         len p (inr lt) = ap length (front p lt) ∙ f.len p lt
 
         own : (p h : ℕ) → (p ≡ length all) ⊎ (p < length all) → h < 64 → Has (round_at (all ++ after ∷ []) p) h h

@@ -1,5 +1,7 @@
 -- The search of a group goes on.
-use Rattle.std.proofs.Common.{◌≡◌, ◌≢◌, ℕ, zero, suc, ◌+◌, ◌<◌, ◌≤◌, ◌⊎◌, inl, inr, List, [], ◌∷◌, ◌++◌, length, slice_index, slice_index_or, slice_set, Option, Some, None, refl, sym, ap, ◌∙◌, subst, arith}
+use Rattle.std.proofs.Common.{◌≡◌, ◌≢◌, ℕ, zero, suc, ◌+◌, ◌<◌, ◌≤◌, ◌⊎◌, inl, inr, List, [], ◌∷◌, ◌++◌, length}
+use Rattle.std.proofs.Common.{slice_index, slice_index_or, slice_set, Option, Some, None, refl, sym, ap, ◌∙◌, subst}
+use Rattle.std.proofs.Common.{arith}
 use Rattle.std.proofs.lemmas.Bool.{cases_lt}
 use Rattle.std.proofs.lemmas.List.{get_or_default, get_or-set_same, get_or-set_other, get_or_push, get_or_append_left, length_push, length-set}
 use Rattle.mm_word.specs.declared.word.Word.{Word}
@@ -173,7 +175,9 @@ pub placed_as : (i : Image) (keys : List CanonicalPtr) (g : ℕ) (s new : Stage)
 placed_as i keys g s new k line rising now empty at of follows lines places queue =
     subst (λ v. Advances i keys g s (record { lines = v; places = new.places; queue = new.queue }) × IsPlaced new.places k) (sym lines)
     (subst (λ v. Advances i keys g s (record { lines = s.lines ++ line ∷ []; places = v; queue = new.queue }) × IsPlaced v k) (sym places)
-    (subst (λ v. Advances i keys g s (record { lines = s.lines ++ line ∷ []; places = slice_set s.places k (Some (length s.lines)); queue = v }) × IsPlaced (slice_set s.places k (Some (length s.lines))) k) (sym queue)
+    (subst (λ v. Advances i keys g s
+    (record { lines = s.lines ++ line ∷ []; places = slice_set s.places k (Some (length s.lines)); queue = v })
+    × IsPlaced (slice_set s.places k (Some (length s.lines))) k) (sym queue)
     (place_more i keys g s rising now k line empty at of follows)))
 
 pub placed_before : (i : Image) (keys : List CanonicalPtr) (g : ℕ) (s : Stage) (k : ℕ) → Searching i keys g s → IsPlaced s.places k

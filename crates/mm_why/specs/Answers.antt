@@ -29,7 +29,8 @@ Owns g group how word = ReachesUse g group how word ⊎ ReachesRight g group Mak
 -- the rounds of those groups that meet by the marks
 pub record IsSharing (g : Graph) (marks : List ℕ) (r : Rounds) : Type 0 where
   pub links : r.links ≡ g.links
-  pub meets : AreSharingEdges (record { nodes = g.nodes.items; parents = g.parents.items; links = replicate 64 0 }) marks r.meets
+  pub meets : AreSharingEdges (record { nodes = g.nodes.items; parents = g.parents.items; links = replicate 64 0 })
+      marks r.meets
   pub rounds : AreRounds r.links r.meets r.rounds.items
 
 -- the owner has the use of its own, and all that it has comes to the group in this round

@@ -37,12 +37,14 @@ pub record IsFound (i : Image) (g : Graph) (k : ℕ) (p : Pointer) : Type 0 wher
 -- the search has gone on, and the targets of the node at indices below `top` have lines
 pub record CellsPlaced (i : Image) (g : Graph) (group node top : ℕ) (old new : Stage) : Type 0 where
   pub advances : Advances i g.keys.items group old new
-  pub cells : (j : ℕ) → (node_at g.nodes.items node).low ≤ j → j < top → IsPlaced new.places (slice_index g.targets.items j)
+  pub cells : (j : ℕ) → (node_at g.nodes.items node).low ≤ j → j < top
+      → IsPlaced new.places (slice_index g.targets.items j)
 
 -- the search has gone on, and the nodes of the pointers of the group's slots among the first have lines
 pub record SlotsPlaced (i : Image) (keys : List CanonicalPtr) (group top : ℕ) (old new : Stage) : Type 0 where
   pub advances : Advances i keys group old new
-  pub slots : (k : ℕ) (s : Slot) → k < top → slice_index_or i.slots k s ≡ s → s.group ≡ group → SlotPlaced keys s new.places
+  pub slots : (k : ℕ) (s : Slot) → k < top → slice_index_or i.slots k s ≡ s → s.group ≡ group
+      → SlotPlaced keys s new.places
 
 -- no line is of the group
 abbrev pub HasNoLine : List Line → ℕ → Type 0

@@ -46,6 +46,7 @@ pub record IsUsable (lines : List Line) (places : List (Option ℕ)) (how : Use)
   pub can : CanUse how (line_at lines t).pointer word
 
 -- the line of the node, if its pointer can be used
-pub record UsableAt (lines : List Line) (places : List (Option ℕ)) (how : Use) (word k : ℕ) (result : Option ℕ) : Type 0 where
+pub record UsableAt (lines : List Line) (places : List (Option ℕ)) (how : Use) (word k : ℕ)
+    (result : Option ℕ) : Type 0 where
   pub some : (t : ℕ) → result ≡ Some t → (place_at places k ≡ Some t) × CanUse how (line_at lines t).pointer word
   pub none : (t : ℕ) → result ≡ None → place_at places k ≡ Some t → CanUse how (line_at lines t).pointer word → ⊥

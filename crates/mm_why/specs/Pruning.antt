@@ -52,8 +52,10 @@ moved_line places line = record line { rule = moved (λ j. slice_index places j)
 pub record AreKept (lines : List Line) (needed : List Bool) (top : ℕ) (places : List ℕ) (out : List Line) : Type 0 where
   pub len : length places ≡ length needed
   pub small : (j : ℕ) → j < top → IsNeeded needed j → slice_index places j < length out
-  pub at : (j : ℕ) → j < top → IsNeeded needed j → line_at out (slice_index places j) ≡ moved_line places (line_at lines j)
-  pub order : (j k : ℕ) → j < k → k < top → IsNeeded needed j → IsNeeded needed k → slice_index places j < slice_index places k
+  pub at : (j : ℕ) → j < top → IsNeeded needed j → line_at out (slice_index places j) ≡ moved_line places
+      (line_at lines j)
+  pub order : (j k : ℕ) → j < k → k < top → IsNeeded needed j → IsNeeded needed k
+      → slice_index places j < slice_index places k
   pub each : (m : ℕ) → m < length out → (j : ℕ) × (j < top) × IsNeeded needed j × (slice_index places j ≡ m)
 
 -- the needed lines stand at some places, in their order, and no others

@@ -1,5 +1,7 @@
--- The search of one group: its lines so far, for each node its line, and the nodes in the order in which they were found.
-use Rattle.std.specs.Prelude.{◌≡◌, ℕ, suc, ◌+◌, ◌<◌, ◌≤◌, ◌≢◌, List, [], ◌∷◌, length, slice_index, slice_index_or, Contains, Option, Some, None}
+-- The search of one group: its lines so far, for each node its line, and the nodes in the order in which they were
+-- found.
+use Rattle.std.specs.Prelude.{◌≡◌, ℕ, suc, ◌+◌, ◌<◌, ◌≤◌, ◌≢◌, List, [], ◌∷◌, length, slice_index, slice_index_or}
+use Rattle.std.specs.Prelude.{Contains, Option, Some, None}
 use Rattle.mm_word.specs.declared.word.Word.{Word}
 use Rattle.mm_word.specs.declared.word.Word.TheVariants.{Int, Ptr}
 use Rattle.mm_word.specs.Pointer.{Pointer, IsWellFormed}
@@ -69,7 +71,8 @@ pub record Advances (i : Image) (keys : List CanonicalPtr) (g : ℕ) (old new : 
 
 -- by the rule the group is granted the pointer of the word, whatever the lines
 abbrev pub HeldBy : Image → ℕ → Word → Rule → Type 0
-HeldBy i g word rule = (lines : List Line) (top : ℕ) (p : Pointer) → word ≡ Ptr p → Follows i lines top g p rule × IsWellFormed p
+HeldBy i g word rule = (lines : List Line) (top : ℕ) (p : Pointer) → word ≡ Ptr p → Follows i lines top g p rule
+    × IsWellFormed p
 
 -- the node of the word's pointer has a line
 abbrev pub WordPlaced : List CanonicalPtr → Word → List (Option ℕ) → Type 0
@@ -93,7 +96,8 @@ pub record HasWords (s : Slot) (g n : ℕ) (words : List Word) : Type 0 where
   pub regs : s.regs ≡ words
 
 -- the search has gone on, and the nodes of the pointers among the first words have lines
-pub record RegistersPlaced (i : Image) (keys : List CanonicalPtr) (g : ℕ) (words : List Word) (top : ℕ) (old new : Stage) : Type 0 where
+pub record RegistersPlaced (i : Image) (keys : List CanonicalPtr) (g : ℕ) (words : List Word) (top : ℕ)
+    (old new : Stage) : Type 0 where
   pub advances : Advances i keys g old new
   pub regs : (r : ℕ) → r < top → WordPlaced keys (slice_index_or words r (Int 0)) new.places
 
@@ -103,7 +107,8 @@ pub record IsClosed (nodes : List Node) (targets : List ℕ) (places : List (Opt
   pub entry : (node_at nodes a).enters ≢ 0 → IsPlaced places (node_at nodes a).entry
 
 -- the nodes of the queue before an index lead to nodes with lines
-pub record Expanding (i : Image) (keys : List CanonicalPtr) (g : ℕ) (nodes : List Node) (targets : List ℕ) (old : Stage) (at : ℕ) (now : Stage) : Type 0 where
+pub record Expanding (i : Image) (keys : List CanonicalPtr) (g : ℕ) (nodes : List Node) (targets : List ℕ) (old : Stage)
+    (at : ℕ) (now : Stage) : Type 0 where
   pub advances : Advances i keys g old now
   pub fits : at ≤ length now.queue
   pub closed : (m : ℕ) → m < at → IsClosed nodes targets now.places (slice_index now.queue m)

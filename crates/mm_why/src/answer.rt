@@ -65,7 +65,8 @@ fn meetings(alloc: Global, graph: &Graph, marks: &[u64]) -> Result<Masks, NoMemo
     requires nodes { length graph.now.nodes.items ≡ length marks.now }
     requires parents { length graph.now.parents.items ≡ length marks.now }
     ensures { IfOk result (λ m. AreSharingEdges
-        (record { nodes = graph.now.nodes.items; parents = graph.now.parents.items; links = replicate 64 0 }) marks.now m) }
+        (record { nodes = graph.now.nodes.items; parents = graph.now.parents.items; links = replicate 64 0 }) marks.now
+        m) }
 {
     let mut meets = [0u64; 64];
     match sharing_edges(alloc, marks, &graph.nodes, &graph.parents, &mut meets) {

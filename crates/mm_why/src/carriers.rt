@@ -1,6 +1,7 @@
 //! Two pointers by which one group can store where another can load.
 
-ghost use Rattle.std.specs.Prelude.{◌≡◌, ℕ, ◌+◌, ◌<◌, ◌⊎◌, [], ◌∷◌, ◌++◌, IfOk, OnOk, MatchOption, None, Some, length, slice_index};
+ghost use Rattle.std.specs.Prelude.{◌≡◌, ℕ, ◌+◌, ◌<◌, ◌⊎◌, [], ◌∷◌, ◌++◌, IfOk, OnOk, MatchOption, None, Some, length};
+ghost use Rattle.std.specs.Prelude.{slice_index};
 ghost use Rattle.mm_model.specs.Reach.{LoadsAt, StoresAt};
 ghost use Rattle.mm_flow.specs.Edges.{right_at};
 ghost use Rattle.mm_why.specs.Carrying.{AreNearest, IsOneOf, IsKept, IsOver, BothAt, IsPair, NoPair, IsWith};
@@ -103,7 +104,8 @@ fn nearest(
     requires places { length places.now.items ≡ length graph.now.nodes.items }
     requires parents { length graph.now.parents.items ≡ length graph.now.nodes.items }
     ensures len { IfOk result (λ v. length v.items ≡ length graph.now.nodes.items) }
-    ensures nearest { IfOk result (λ v. AreNearest graph.now.parents.items places.now.items (right_at graph.now.nodes.items right) v.items) }
+    ensures nearest { IfOk result (λ v. AreNearest graph.now.parents.items places.now.items
+        (right_at graph.now.nodes.items right) v.items) }
 {
     let mut above = Vec::new(alloc);
     for k in 0..graph.nodes.len() {

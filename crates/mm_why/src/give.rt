@@ -10,7 +10,8 @@ ghost use Rattle.mm_why.specs.Rounds.{AreRounds, round_at};
 ghost use Rattle.mm_why.specs.Reasons.{IsHand};
 ghost use Rattle.mm_why.specs.Works.{search_at, IsKnown, IsWork, GoesOn, ReachesRight, HasRightAt, whole_pointer};
 ghost use Rattle.mm_why.specs.Graphs.{IsGraph};
-ghost use Rattle.mm_why.specs.Giving.{MeetsAt, Meets, IsContext, HasLine, AreCarriers, CarryBetween, Joins, JoinedBy, JoinedAt};
+ghost use Rattle.mm_why.specs.Giving.{MeetsAt, Meets, IsContext, HasLine, AreCarriers, CarryBetween, Joins, JoinedBy};
+ghost use Rattle.mm_why.specs.Giving.{JoinedAt};
 ghost use Rattle.mm_flow.specs.declared.node.Right.TheVariants.{Make as ToMake};
 
 use crate::carriers::{Carriers, carriers_of, common_word, first_with, meeting_places};

@@ -1,7 +1,7 @@
 //! Why a group is granted a word: the derivation by which it is.
 //!
-//! A derivation is a list of lines. Each says that a group is granted a pointer, and by which rule that follows from the
-//! image and from earlier lines. It is found in these steps:
+//! A derivation is a list of lines. Each says that a group is granted a pointer, and by which rule that follows from
+//! the image and from earlier lines. It is found in these steps:
 //!
 //! | step | made in |
 //! |---|---|

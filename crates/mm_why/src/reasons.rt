@@ -13,8 +13,8 @@ use crate::rounds::{Masks, Rounds, has};
 pub enum Hand {
     /// A slot of one of them has its handler in the other.
     Linked,
-    /// What the group `giver` has of its own has come to the one, what `taker` has to the other, and the giver can store
-    /// where the taker can load.
+    /// What the group `giver` has of its own has come to the one, what `taker` has to the other, and the giver can
+    /// store where the taker can load.
     Met { giver: usize, taker: usize },
 }
 

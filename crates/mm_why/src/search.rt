@@ -1,6 +1,7 @@
 //! The pointers that one group has by its own slots, by cells that it loads and by entries.
 
-ghost use Rattle.std.specs.Prelude.{◌≡◌, ◌≢◌, ℕ, ◌<◌, ◌≤◌, [], ◌∷◌, ◌++◌, OnOk, IfOk, Some, replicate, None, length, slice_index, slice_set, List, IsTrue, false};
+ghost use Rattle.std.specs.Prelude.{◌≡◌, ◌≢◌, ℕ, ◌<◌, ◌≤◌, [], ◌∷◌, ◌++◌, OnOk, IfOk, Some, replicate, None, length};
+ghost use Rattle.std.specs.Prelude.{slice_index, slice_set, List, IsTrue, false};
 ghost use Rattle.mm_word.specs.declared.word.Word.TheVariants.{Ptr};
 ghost use Rattle.mm_word.specs.Pointer.{Pointer as PointerValue};
 ghost use Rattle.mm_flow.specs.Edges.{node_at};
@@ -13,7 +14,8 @@ ghost use Rattle.mm_graph.specs.Nodes.{found_word};
 ghost use Rattle.mm_why.specs.Derivations.{Follows};
 ghost use Rattle.mm_why.specs.Graphs.{IsGraph, IsFound, CellsPlaced, SlotsPlaced, HasNoLine, IsSearch};
 ghost use Rattle.mm_why.specs.Traces.{IsTrace};
-ghost use Rattle.mm_why.specs.Searches.{stage_of, place_at, IsPlaced, AtNode, Searching, Further, Advances, HeldBy, WordPlaced, SlotPlaced, IsSlotOf, HasWords, RegistersPlaced, IsClosed};
+ghost use Rattle.mm_why.specs.Searches.{stage_of, place_at, IsPlaced, AtNode, Searching, Further, Advances, HeldBy};
+ghost use Rattle.mm_why.specs.Searches.{WordPlaced, SlotPlaced, IsSlotOf, HasWords, RegistersPlaced, IsClosed};
 
 use crate::line::{Line, Rule};
 use crate::lines::{pointer_of, push};
@@ -69,8 +71,10 @@ fn place(
 ) -> Result<(), NoMemory>
     requires { node < length search.old.places.items }
     ensures len { length search.new.places.items ≡ length search.old.places.items }
-    ensures lines { OnOk result (lines.new.items ≡ lines.old.items ++ record { group = group; pointer = pointer; rule = rule } ∷ []) }
-    ensures places { OnOk result (search.new.places.items ≡ slice_set search.old.places.items node (Some (length lines.old.items))) }
+    ensures lines { OnOk result (lines.new.items ≡ lines.old.items
+        ++ record { group = group; pointer = pointer; rule = rule } ∷ []) }
+    ensures places { OnOk result (search.new.places.items ≡ slice_set search.old.places.items node
+        (Some (length lines.old.items))) }
     ensures queue { OnOk result (search.new.queue.items ≡ search.old.queue.items ++ node ∷ []) }
 {
     let line = Line {
@@ -187,7 +191,8 @@ fn reach_registers(
         → IsSlotOf i s
         → HasWords s group slot words.now
         → Searching i keys.now group (stage_of search.old lines.old.items)
-        → RegistersPlaced i keys.now group words.now (length words.now) (stage_of search.old lines.old.items) (stage_of search.new lines.new.items)) }
+        → RegistersPlaced i keys.now group words.now (length words.now) (stage_of search.old lines.old.items)
+        (stage_of search.new lines.new.items)) }
 {
     for k in 0..words.len() {
         let word = words[k];
@@ -456,7 +461,8 @@ fn reach_slots(
     requires image { IsImage image.now }
     requires rising { IsRising keys.now }
     requires now { Searching image.now keys.now group (stage_of search.old lines.old.items) }
-    ensures { OnOk result (SlotsPlaced image.now keys.now group (length image.now.slots) (stage_of search.old lines.old.items) (stage_of search.new lines.new.items)) }
+    ensures { OnOk result (SlotsPlaced image.now keys.now group (length image.now.slots)
+        (stage_of search.old lines.old.items) (stage_of search.new lines.new.items)) }
 {
     let slots = image.slots();
     for k in 0..slots.len() {

@@ -13,9 +13,18 @@ loop-at-preserved g c =
       kept = c.from_file.ensures.kept ∙ c.loop-at.invariant.kept;
       later = λ n. omega (arith, c.loop-at.invariant.later n, c.from_file.ensures.later n);
       read = λ before counted.
-          let number : c.args.first + c.loop-at.at ≡ length (before ++ map g.T.FromFile.meaning loaded) + 1 = omega (arith, length-append before (map g.T.FromFile.meaning loaded), length-map loaded g.T.FromFile.meaning, c.loop-at.invariant.count) in
-          let P : List ℕ → Type 0 = λ text. FilesRead (reading g.F.Files.held g.F.Files.faults g.F.Files.asked c.loop-at.files c.from_file.new.files) (before ++ map g.T.FromFile.meaning loaded) ((text, g.T.FromFile.of_kind) ∷ []) (λ x. g.T.FromFile.meaning x ∷ []) (Ok c.in_ok-one.one) in
-          value_more g.T.FromFile.of_kind g.T.FromFile.meaning c.args.names.now c.loop-at.at c.index-names-at.result loaded _ c.in_ok-one.one c.loop-at-test.true c.index-names-at.is c.in-Ok.ensures.items (c.loop-at.invariant.read before counted)
+          let number : c.args.first + c.loop-at.at ≡ length (before ++ map g.T.FromFile.meaning loaded) + 1 = omega (
+            arith,
+            length-append before (map g.T.FromFile.meaning loaded),
+            length-map loaded g.T.FromFile.meaning,
+            c.loop-at.invariant.count,
+          ) in
+          let P : List ℕ → Type 0 = λ text. FilesRead (reading g.F.Files.held g.F.Files.faults g.F.Files.asked
+          c.loop-at.files c.from_file.new.files) (before ++ map g.T.FromFile.meaning loaded)
+          ((text, g.T.FromFile.of_kind) ∷ []) (λ x. g.T.FromFile.meaning x ∷ []) (Ok c.in_ok-one.one) in
+          value_more g.T.FromFile.of_kind g.T.FromFile.meaning c.args.names.now c.loop-at.at c.index-names-at.result
+          loaded _ c.in_ok-one.one c.loop-at-test.true c.index-names-at.is c.in-Ok.ensures.items
+          (c.loop-at.invariant.read before counted)
           (subst P c.as_str.ensures.value (c.in_ok-one.ensures.read (before ++ map g.T.FromFile.meaning loaded) number))
           (record { kept = c.loop-at.invariant.kept; counts = refl; later = c.loop-at.invariant.later; asked = λ names more one two. adds_both one two });
     }
@@ -23,13 +32,22 @@ loop-at-preserved g c =
 pub returns-in_default-clause-read : goal.returns-in_default-clause-read
 returns-in_default-clause-read g c before counted =
     let loaded = c.loop-at.loaded.items in
-    let number : c.args.first + c.loop-at.at ≡ length (before ++ map g.T.FromFile.meaning loaded) + 1 = omega (arith, length-append before (map g.T.FromFile.meaning loaded), length-map loaded g.T.FromFile.meaning, c.loop-at.invariant.count) in
-    let P : List ℕ → Type 0 = λ text. FilesRead (reading g.F.Files.held g.F.Files.faults g.F.Files.asked c.loop-at.files c.from_file.new.files) (before ++ map g.T.FromFile.meaning loaded) ((text, g.T.FromFile.of_kind) ∷ []) (λ x. g.T.FromFile.meaning x ∷ []) (Ok c.in_ok-one.one) in
+    let number : c.args.first + c.loop-at.at ≡ length (before ++ map g.T.FromFile.meaning loaded) + 1 = omega (
+      arith,
+      length-append before (map g.T.FromFile.meaning loaded),
+      length-map loaded g.T.FromFile.meaning,
+      c.loop-at.invariant.count,
+    ) in
+    let P : List ℕ → Type 0 = λ text. FilesRead (reading g.F.Files.held g.F.Files.faults g.F.Files.asked c.loop-at.files
+    c.from_file.new.files) (before ++ map g.T.FromFile.meaning loaded) ((text, g.T.FromFile.of_kind) ∷ [])
+    (λ x. g.T.FromFile.meaning x ∷ []) (Ok c.in_ok-one.one) in
     record {
       accepted = tt;
       stopped = tt;
       whole = tt;
-      asked = values_asked g.T.FromFile.of_kind g.T.FromFile.meaning c.args.names.now c.loop-at.at c.index-names-at.result loaded _ _ c.loop-at-test.true c.index-names-at.is (c.loop-at.invariant.read before counted)
+      asked = values_asked g.T.FromFile.of_kind g.T.FromFile.meaning c.args.names.now c.loop-at.at
+          c.index-names-at.result loaded _ _ c.loop-at-test.true c.index-names-at.is
+          (c.loop-at.invariant.read before counted)
           (subst P c.as_str.ensures.value (c.in_ok-one.ensures.read (before ++ map g.T.FromFile.meaning loaded) number))
           (record { kept = c.loop-at.invariant.kept; counts = refl; later = c.loop-at.invariant.later; asked = λ names more one two. adds_both one two });
     }
@@ -37,8 +55,16 @@ returns-in_default-clause-read g c before counted =
 pub returns-in_err-one-clause-read : goal.returns-in_err-one-clause-read
 returns-in_err-one-clause-read g c before counted =
     let loaded = c.loop-at.loaded.items in
-    let number : c.args.first + c.loop-at.at ≡ length (before ++ map g.T.FromFile.meaning loaded) + 1 = omega (arith, length-append before (map g.T.FromFile.meaning loaded), length-map loaded g.T.FromFile.meaning, c.loop-at.invariant.count) in
-    let P : List ℕ → Type 0 = λ text. FilesRead (reading g.F.Files.held g.F.Files.faults g.F.Files.asked c.loop-at.files c.from_file.new.files) (before ++ map g.T.FromFile.meaning loaded) ((text, g.T.FromFile.of_kind) ∷ []) (λ x. g.T.FromFile.meaning x ∷ []) (Err c.in_err-one.field-0.0) in
-    value_stops g.T.FromFile.of_kind g.T.FromFile.meaning c.args.names.now c.loop-at.at c.index-names-at.result loaded _ _ c.from_residual.result c.loop-at-test.true c.index-names-at.is (c.loop-at.invariant.read before counted)
+    let number : c.args.first + c.loop-at.at ≡ length (before ++ map g.T.FromFile.meaning loaded) + 1 = omega (
+      arith,
+      length-append before (map g.T.FromFile.meaning loaded),
+      length-map loaded g.T.FromFile.meaning,
+      c.loop-at.invariant.count,
+    ) in
+    let P : List ℕ → Type 0 = λ text. FilesRead (reading g.F.Files.held g.F.Files.faults g.F.Files.asked c.loop-at.files
+    c.from_file.new.files) (before ++ map g.T.FromFile.meaning loaded) ((text, g.T.FromFile.of_kind) ∷ [])
+    (λ x. g.T.FromFile.meaning x ∷ []) (Err c.in_err-one.field-0.0) in
+    value_stops g.T.FromFile.of_kind g.T.FromFile.meaning c.args.names.now c.loop-at.at c.index-names-at.result loaded _
+    _ c.from_residual.result c.loop-at-test.true c.index-names-at.is (c.loop-at.invariant.read before counted)
     (subst P c.as_str.ensures.value (c.in_err-one.ensures.read (before ++ map g.T.FromFile.meaning loaded) number))
     (record { kept = c.loop-at.invariant.kept; counts = refl; later = c.loop-at.invariant.later; asked = λ names more one two. adds_both one two }) c.from_residual.ensures.1

@@ -12,5 +12,7 @@ invariant-loop-at g l = record {
   kept : g.F.Files.held l.files ≡ g.F.Files.held l.initial.files;
   later : NoneFell (g.F.Files.faults l.initial.files) (g.F.Files.faults l.files);
   read : (before : List Value) → l.first ≡ length before + 1
-      → FilesRead {T = Unit {0}} (reading g.F.Files.held g.F.Files.faults g.F.Files.asked l.initial.files l.files) before (files_named g.T.FromFile.of_kind (take l.at l.names)) (λ t. map g.T.FromFile.meaning l.loaded.items) (Ok tt);
+      → FilesRead {T = Unit {0}} (reading g.F.Files.held g.F.Files.faults g.F.Files.asked l.initial.files l.files)
+      before (files_named g.T.FromFile.of_kind (take l.at l.names)) (λ t. map g.T.FromFile.meaning l.loaded.items)
+      (Ok tt);
 }

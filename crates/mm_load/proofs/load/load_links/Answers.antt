@@ -11,7 +11,9 @@ returns-in-Err-Fault-clause-read g c before counted =
     let offset = c.in-Err-Fault.offset in
     let P : List ℕ → Type 0 = λ bytes. FaultsAt bytes offset in
     let says = subst P c.deref.ensures.value (c.read_links.ensures.fault offset (c.in-Err-Fault.is ∙ ap (λ (e : NetError). Err e) c.in-Err-Fault.field-0-is)) in
-    refused_file _ _ c.in_ok-bytes.ensures.bytes c.in_ok-bytes.ensures.short (offset, ap (λ (n : ℕ). refusal.Links n offset) counted, says) c.read_file.ensures.asks.of_name c.read_file.ensures.asks.asks
+    refused_file _ _ c.in_ok-bytes.ensures.bytes c.in_ok-bytes.ensures.short
+    (offset, ap (λ (n : ℕ). refusal.Links n offset) counted, says) c.read_file.ensures.asks.of_name
+    c.read_file.ensures.asks.asks
 
 pub returns-in-Ok-clause-read : goal.returns-in-Ok-clause-read
 returns-in-Ok-clause-read g c before counted =

@@ -14,6 +14,10 @@ pub returns : goal.returns
 returns c =
     says_not c.is_end-2.result (AreLinks (c.args.links.now ++ c.args.more ∷ []))
     (λ free. one_more c.args.links.now c.args.more c.requires.links c.requires.more (omega arith)
-    (λ same. elim c.else-more.branch [ else-more-via-then-more+else-more-2 w ↦ w.if-more-2.false (ends_same c.args.more same).1 | else-more-via-else-more w ↦ w.if-more.false (ends_same c.args.more same).0 ])
+    (λ same. elim c.else-more.branch [
+      | else-more-via-then-more+else-more-2 w ↦ w.if-more-2.false
+          (ends_same c.args.more same).1
+      | else-more-via-else-more w ↦ w.if-more.false (ends_same c.args.more same).0
+    ])
     (sym c.is_end.ensures ∙ c.if-is_end.false) (sym c.is_end-2.ensures ∙ free))
     (λ there. put_there c.args.links.now c.args.more (sym c.is_end-2.ensures ∙ there))

@@ -18,7 +18,9 @@ loop-link-preserved g c =
     let inside : l < length links = omega (arith, c.link_count-link-end.ensures.count, c.loop-link-test.true, length-map wires link_by, length-map wires carried_by) in
     let carried : Carried = get_or links l nothing_carried in
     let is : slice_get links l ≡ Some carried = slice_get-get_or links l nothing_carried inside in
-    gathers_item (λ x. link_line x.0 x.1) (enumerate_from 0 links) l (l, carried) (omega (arith, inside, places_count links)) (placed links l carried inside (sym (get_or_from_slice_get links l carried carried is)))
+    gathers_item (λ x. link_line x.0 x.1) (enumerate_from 0 links) l (l, carried)
+    (omega (arith, inside, places_count links))
+    (placed links l carried inside (sym (get_or_from_slice_get links l carried carried is)))
     c.loop-link.invariant (c.put_link.ensures carried is)
 
 pub returns : goal.returns

@@ -31,7 +31,9 @@ loop-n-preserved g c uses stands =
     let here = looked_up c.node.result (node_in net n) c.unwrap-node.result c.node.ensures c.unwrap-node.ensures in
     let item = is_item c.args.images.now states n c.index-images-n.result (state_of m) c.requires (omega (arith, c.node_count-n-end.ensures.count, c.loop-n-test.true)) c.index-images-n.is
     (map_at state_of net.nodes.items n (Some m) here) in
-    writes_item {T = Unit {0}} {result = Ok tt} (λ x. node_text g.M.Inspect.tells x.0 x.1.0 x.1.1 (uses x.0)) (enumerate_from 0 (zip c.args.images.now states)) n (n, (c.index-images-n.result, state_of m)) item.inside item.item
+    writes_item {T = Unit {0}} {result = Ok tt} (λ x. node_text g.M.Inspect.tells x.0 x.1.0 x.1.1 (uses x.0))
+    (enumerate_from 0 (zip c.args.images.now states)) n (n, (c.index-images-n.result, state_of m)) item.inside
+    item.item
     (c.loop-n.invariant uses stands) (c.in_ok-write_node.ensures (uses n) (stands n m here))
 
 pub returns : goal.returns

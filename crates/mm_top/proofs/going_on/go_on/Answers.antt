@@ -25,26 +25,44 @@ pub returns-in_err-order : goal.returns-in_err-order
 returns-in_err-order g c =
     let i = c.in_ok-image.image in
     let k = c.in_ok-checkpoint.checkpoint in
-    let both : FilesRead (reading g.F.Files.held g.F.Files.faults g.F.Files.asked c.args.files.now c.load_checkpoint.new.files) [] ((name_of (slice_get c.args.words.now 0), image_file) ∷ (name_of (slice_get c.args.words.now 1), checkpoint_file) ∷ [])
+    let both : FilesRead (reading g.F.Files.held g.F.Files.faults g.F.Files.asked c.args.files.now
+    c.load_checkpoint.new.files) [] ((name_of (slice_get c.args.words.now 0), image_file) ∷
+    (name_of (slice_get c.args.words.now 1), checkpoint_file) ∷ [])
     (λ k. an_image i ∷ a_checkpoint (saved_of k.snapshot k.last) ∷ []) (Ok k) =
     files_then (named c.name_at.ensures (c.in_ok-image.ensures.read [] refl)) (named c.name_at-2.ensures c.in_ok-checkpoint.ensures.read)
     (record { kept = c.load_image.ensures.kept; counts = refl; later = c.load_image.ensures.later; asked = λ names more one two. adds_both one two }) in
     row_stops _ c.from_residual-in_err-order.result
     (files_then both (schedule_named c.name_perhaps_at.ensures (c.in_err-order.ensures (an_image i ∷ a_checkpoint (saved_of k.snapshot k.last) ∷ []) refl))
-    (record { kept = c.load_checkpoint.ensures.kept ∙ c.load_image.ensures.kept; counts = refl; later = λ n. omega (arith, c.load_image.ensures.later n, c.load_checkpoint.ensures.later n); asked = λ names more one two. adds_both one two }))
+    (record {
+      kept = c.load_checkpoint.ensures.kept ∙ c.load_image.ensures.kept;
+      counts = refl;
+      later = λ n. omega
+          (arith, c.load_image.ensures.later n, c.load_checkpoint.ensures.later n);
+      asked = λ names more one two.
+          adds_both one two;
+    }))
     (sym (append-nil _)) refl c.from_residual-in_err-order.ensures.1
 
 pub returns : goal.returns
 returns g c =
     let i = c.in_ok-image.image in
     let k = c.in_ok-checkpoint.checkpoint in
-    let both : FilesRead (reading g.F.Files.held g.F.Files.faults g.F.Files.asked c.args.files.now c.load_checkpoint.new.files) [] ((name_of (slice_get c.args.words.now 0), image_file) ∷ (name_of (slice_get c.args.words.now 1), checkpoint_file) ∷ [])
+    let both : FilesRead (reading g.F.Files.held g.F.Files.faults g.F.Files.asked c.args.files.now
+    c.load_checkpoint.new.files) [] ((name_of (slice_get c.args.words.now 0), image_file) ∷
+    (name_of (slice_get c.args.words.now 1), checkpoint_file) ∷ [])
     (λ k. an_image i ∷ a_checkpoint (saved_of k.snapshot k.last) ∷ []) (Ok k) =
     files_then (named c.name_at.ensures (c.in_ok-image.ensures.read [] refl)) (named c.name_at-2.ensures c.in_ok-checkpoint.ensures.read)
     (record { kept = c.load_image.ensures.kept; counts = refl; later = c.load_image.ensures.later; asked = λ names more one two. adds_both one two }) in
     row_ends _ _
     (files_then both (schedule_named c.name_perhaps_at.ensures (c.in_ok-order.ensures (an_image i ∷ a_checkpoint (saved_of k.snapshot k.last) ∷ []) refl))
-    (record { kept = c.load_checkpoint.ensures.kept ∙ c.load_image.ensures.kept; counts = refl; later = λ n. omega (arith, c.load_image.ensures.later n, c.load_checkpoint.ensures.later n); asked = λ names more one two. adds_both one two }))
+    (record {
+      kept = c.load_checkpoint.ensures.kept ∙ c.load_image.ensures.kept;
+      counts = refl;
+      later = λ n. omega
+          (arith, c.load_image.ensures.later n, c.load_checkpoint.ensures.later n);
+      asked = λ names more one two.
+          adds_both one two;
+    }))
     refl c.write_further.ensures (λ r no. no)
     (λ text is.
     let P : ℕ → Type 0 = λ cycles. Continues g.M.Inspect.tells i (saved_of k.snapshot k.last) cycles (values_of c.in_ok-order.order) text in

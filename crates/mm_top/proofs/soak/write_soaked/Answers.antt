@@ -18,5 +18,6 @@ returns g c =
     let i = generated c.args.number c.args.size in
     let m = c.in_ok-machine.machine in
     let begun : StandsFor i [] m = subst (λ (j : Image). StandsFor j [] m) c.in_ok-image.ensures c.in_ok-machine.ensures.stands in
-    let stands : StandsFor i (robin_from (start i) None c.args.cycles) c.round_robin.new.self = issued_from_start i order.Robin c.args.cycles m c.round_robin.new.self begun c.round_robin.ensures.goes in
+    let stands : StandsFor i (robin_from (start i) None c.args.cycles) c.round_robin.new.self = issued_from_start i
+    order.Robin c.args.cycles m c.round_robin.new.self begun c.round_robin.ensures.goes in
     ends_written _ _ _ _ refl _ _ c.ended.ensures (writes_same c.summary.ensures (ap summary stands.state))

@@ -27,7 +27,9 @@ returns g c =
     (c.as_slice.ensures.value ∙ c.members.ensures ∙ ap members_of c.in_ok-own.ensures.own)
     ∙ members_keep i inside (subst IsImage c.image.view_is c.image.invariant) (take c.args.cycles c.args.list.now) in
     let stands : StandsFor own c.in_ok-items.items c.follow.new.self =
-    subst (λ (xs : List ℕ). StandsFor own xs c.follow.new.self) c.items-2.ensures.items (went_from_start own c.in_ok-machine.machine c.follow.new.self _ c.in_ok-machine.ensures.stands c.follow.ensures.goes) in
+    subst (λ (xs : List ℕ). StandsFor own xs c.follow.new.self) c.items-2.ensures.items
+    (went_from_start own c.in_ok-machine.machine c.follow.new.self _ c.in_ok-machine.ensures.stands
+    c.follow.ensures.goes) in
     ends_written _ _ _ _
     (c.in_ok-own.ensures.stand, ap (λ (j : Image). report_after g.M.Inspect.tells j c.in_ok-items.items) c.in_ok-own.ensures.own ∙ ap (report_after g.M.Inspect.tells (worlds.alone i inside)) items)
     _ _ c.ended.ensures (reported g.M.Inspect.tells own c.in_ok-items.items c.follow.new.self stands c.report.ensures.counts)

@@ -18,7 +18,9 @@ returns-in_err-write_lines g c =
     let rest = report_after g.M.Inspect.tells p.image (items_planned p) in
     let text = λ (s : State). told_of c.args.told s (items_of p.order s p.cycles) ++ rest in
     ends_cut {T = Unit {0}} _ _ _ _ _ refl
-    (writes_cut c.in_err-write_lines.ensures.lines (text (start p.image)) rest (ap text (sym (start_state p.image c.in_ok-machine.machine c.in_ok-machine.ensures.stands))) (Err c.in_err-write_lines.field-0) refl)
+    (writes_cut c.in_err-write_lines.ensures.lines (text (start p.image)) rest
+    (ap text (sym (start_state p.image c.in_ok-machine.machine c.in_ok-machine.ensures.stands)))
+    (Err c.in_err-write_lines.field-0) refl)
     c.from_residual-in_err-write_lines.ensures.1
 
 pub returns : goal.returns

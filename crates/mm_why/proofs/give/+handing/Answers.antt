@@ -25,7 +25,9 @@ give-returns-then-had_come-clause-goes_on t c =
 pub give-unreachable-requires-in_default-reason_for : goal.give-unreachable-requires-in_default-reason_for
 give-unreachable-requires-in_default-reason_for t c =
     c.in_default-reason_for.ensures
-    (handed_on c.args.context.now.rounds.now.links c.args.context.now.rounds.now.meets c.args.context.now.rounds.now.rounds.items (c.args.owner.round - 1) c.args.owner.round c.args.owner.group c.args.to
+    (handed_on c.args.context.now.rounds.now.links c.args.context.now.rounds.now.meets
+    c.args.context.now.rounds.now.rounds.items (c.args.owner.round - 1) c.args.owner.round c.args.owner.group
+    c.args.to
     c.requires.context.rounds c.requires.round (let f = c.if-owner-eq0.false in omega (arith, f)) c.requires.come (λ h. let bad = c.if-had_come.ensures.1 h in cc))
 
 pub give-give-requires-2 : goal.give-give-requires-2
@@ -50,7 +52,8 @@ give-returns-clause-goes_on t c =
 pub give-returns-clause-says : goal.give-returns-clause-says
 give-returns-clause-says t c =
     let known = c.in_ok-rule.ensures.goes_on.known c.args.to (c.in_ok-from.ensures.goes_on.known c.args.to c.in_ok-know.ensures.known) in
-    (c.in_ok-place-2.ensures c.args.context.now.image.now c.args.context.now.graph.now c.in_ok-rule.ensures.goes_on.work known (c.in_ok-rule.ensures.follows c.args.pointer c.in_ok-from.ensures.says)).1
+    (c.in_ok-place-2.ensures c.args.context.now.image.now c.args.context.now.graph.now c.in_ok-rule.ensures.goes_on.work
+    known (c.in_ok-rule.ensures.follows c.args.pointer c.in_ok-from.ensures.says)).1
 
 pub hand-unreachable-requires : goal.hand-unreachable-requires
 hand-unreachable-requires t c =
@@ -94,5 +97,6 @@ hand-returns-in_ok-by_load-in-Met-clause-follows t c = λ pointer says.
     passes i c.give-in-Met.new.work.lines.items c.common_word-word.result c.args.from c.in_ok-by_store-in-Met.by_store c.in_ok-by_load-in-Met.by_load c.args.reason.by c.args.to pointer
     c.in_ok-store-in-Met.field-0.store c.in_ok-store-in-Met.field-0.load
     (says_on i g c.args.work.now c.give-in-Met.new.work c.args.from c.args.reason.by pointer on says)
-    (says_on i g c.give.new.work c.give-in-Met.new.work c.in_ok-by_store-in-Met.by_store c.args.reason.by c.in_ok-store-in-Met.field-0.store c.in_ok-by_load-in-Met.ensures.goes_on c.in_ok-by_store-in-Met.ensures.says)
+    (says_on i g c.give.new.work c.give-in-Met.new.work c.in_ok-by_store-in-Met.by_store c.args.reason.by
+    c.in_ok-store-in-Met.field-0.store c.in_ok-by_load-in-Met.ensures.goes_on c.in_ok-by_store-in-Met.ensures.says)
     c.in_ok-by_load-in-Met.ensures.says word.0 word.1

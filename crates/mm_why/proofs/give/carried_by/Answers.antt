@@ -5,12 +5,16 @@ use Rattle.mm_why.proofs.give.carried_by.Goals as goal
 
 pub own_first-load-requires-clause-some : goal.own_first-load-requires-clause-some
 own_first-load-requires-clause-some c =
-    let none = subst (λ v. MatchOption v (MeetsAt c.args.context.now.graph.now c.args.giver c.args.taker → ⊥) (λ (pair : ℕ × ℕ). AreCarriers c.args.work.now.lines.items c.args.giver c.args.taker pair.0 pair.1)) c.in-None.is c.in_ok-store.ensures in
+    let none = subst (λ v. MatchOption v (MeetsAt c.args.context.now.graph.now c.args.giver c.args.taker → ⊥)
+    (λ (pair : ℕ × ℕ). AreCarriers c.args.work.now.lines.items c.args.giver c.args.taker pair.0 pair.1))
+    c.in-None.is c.in_ok-store.ensures in
     (maker_of c.args.context.now.graph.now c.args.giver c.args.taker none c.requires.meets).1
 
 pub make_whole-requires-clause-some : goal.make_whole-requires-clause-some
 make_whole-requires-clause-some c =
-    let none = subst (λ v. MatchOption v (MeetsAt c.args.context.now.graph.now c.args.giver c.args.taker → ⊥) (λ (pair : ℕ × ℕ). AreCarriers c.args.work.now.lines.items c.args.giver c.args.taker pair.0 pair.1)) c.in-None.is c.in_ok-store.ensures in
+    let none = subst (λ v. MatchOption v (MeetsAt c.args.context.now.graph.now c.args.giver c.args.taker → ⊥)
+    (λ (pair : ℕ × ℕ). AreCarriers c.args.work.now.lines.items c.args.giver c.args.taker pair.0 pair.1))
+    c.in-None.is c.in_ok-store.ensures in
     (maker_of c.args.context.now.graph.now c.args.giver c.args.taker none c.requires.meets).0
 
 pub returns-in_ok-store-in-None-clause-carriers : goal.returns-in_ok-store-in-None-clause-carriers

@@ -18,6 +18,10 @@ loop-k-preserved c = λ k lt g p. elim (same_or_before k c.loop-k.k lt) [
   | inr before ↦ c.loop-k.invariant k before g p
   | inl e ↦
       let s = same_line c.args.lines.now c.loop-k.k c.index-lines-k.result c.loop-k-test.true c.index-lines-k.is in
-      let bad = c.if-grants.ensures.1 (ap (λ v. v.group) s ∙ ap (λ v. (line_at c.args.lines.now v).group) (sym e) ∙ g, ap (λ v. v.pointer) s ∙ ap (λ v. (line_at c.args.lines.now v).pointer) (sym e) ∙ p) in
+      let bad = c.if-grants.ensures.1 (
+        ap (λ v. v.group) s ∙ ap (λ v. (line_at c.args.lines.now v).group) (sym e)
+            ∙ g,
+        ap (λ v. v.pointer) s ∙ ap (λ v. (line_at c.args.lines.now v).pointer) (sym e) ∙ p,
+      ) in
       cc
 ]

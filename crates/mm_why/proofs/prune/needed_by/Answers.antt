@@ -12,5 +12,7 @@ loop-k-preserved c =
     subst (Needs c.args.lines.now c.args.last (c.args.last - c.loop-k.k + 1)) (sym c.deref_mut.ensures.value) (subst (λ v. Needs c.args.lines.now c.args.last v c.loop-k.needed.items) e here)) in
     let now = c.need_at.ensures c.args.last before in
     let e : c.args.last - c.loop-k.k ≡ c.args.last + 1 - (c.loop-k.k + 1) = omega arith in
-    subst (Needs c.args.lines.now c.args.last (c.args.last + 1 - (c.loop-k.k + 1))) (sym (whole c.need_at.new.needed _ c.loop-k.needed.len (let l = now.len in let h = here.len in let ok = c.loop-k.needed.ok.0 in omega (arith, l, h, ok))))
+    subst (Needs c.args.lines.now c.args.last (c.args.last + 1 - (c.loop-k.k + 1)))
+    (sym (whole c.need_at.new.needed _ c.loop-k.needed.len (let l = now.len in let h = here.len in let ok =
+    c.loop-k.needed.ok.0 in omega (arith, l, h, ok))))
     (subst (λ v. Needs c.args.lines.now c.args.last v c.need_at.new.needed) e now)

@@ -12,7 +12,9 @@ returns c =
     let at : place_at c.args.search.now.places.items c.args.node ≡ Some c.in-Some.by = sym c.line_of.ensures ∙ c.in-Some.is in
     let e = c.in_ok-reach_entry.ensures.placed at c.requires.now in
     let r = c.in_ok-reach_cells.ensures.placed (e.0.further.places c.args.node c.in-Some.by at) e.0.now in (
-      advances_trans c.args.subject.now.image.now c.args.subject.now.graph.now.keys.items c.args.subject.now.group (stage_of c.args.search.now c.args.lines.now.items) (stage_of c.reach_entry.new.search c.reach_entry.new.lines.items)
+      advances_trans c.args.subject.now.image.now c.args.subject.now.graph.now.keys.items c.args.subject.now.group
+          (stage_of c.args.search.now c.args.lines.now.items)
+          (stage_of c.reach_entry.new.search c.reach_entry.new.lines.items)
           (stage_of c.reach_cells.new.search c.reach_cells.new.lines.items) e.0 r.advances,
       record {
         cells = r.cells;

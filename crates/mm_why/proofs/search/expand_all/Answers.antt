@@ -11,8 +11,12 @@ pub loop-at-preserved : goal.loop-at-preserved
 loop-at-preserved c =
     expand_more c.args.subject.now.image.now c.args.subject.now.graph.now.keys.items c.args.subject.now.group c.args.subject.now.graph.now.nodes.items c.args.subject.now.graph.now.targets.items
     (stage_of c.args.search.now c.args.lines.now.items) (stage_of c.loop-at.search c.loop-at.lines.items) (stage_of c.expand.new.search c.expand.new.lines.items) c.loop-at.at
-    c.loop-at.invariant (search rules)
-    (c.in_ok-expand.ensures.0, subst (IsClosed c.args.subject.now.graph.now.nodes.items c.args.subject.now.graph.now.targets.items c.expand.new.search.places.items) c.queued-node.ensures c.in_ok-expand.ensures.1)
+    c.loop-at.invariant (search rules) (
+      c.in_ok-expand.ensures.0,
+      subst (IsClosed c.args.subject.now.graph.now.nodes.items
+          c.args.subject.now.graph.now.targets.items c.expand.new.search.places.items) c.queued-node.ensures
+          c.in_ok-expand.ensures.1,
+    )
 
 pub returns-clause-closed : goal.returns-clause-closed
 returns-clause-closed c =

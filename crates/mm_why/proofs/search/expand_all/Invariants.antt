@@ -4,7 +4,9 @@ use Rattle.mm_why.proofs.search.expand_all.Given as goal
 
 abbrev pub invariant-loop-at : goal.invariant-loop-at
 invariant-loop-at l =
-    Expanding l.subject.image.now l.subject.graph.now.keys.items l.subject.group l.subject.graph.now.nodes.items l.subject.graph.now.targets.items (stage_of l.initial.search l.initial.lines.items) l.at (stage_of l.search l.lines.items)
+    Expanding l.subject.image.now l.subject.graph.now.keys.items l.subject.group l.subject.graph.now.nodes.items
+    l.subject.graph.now.targets.items (stage_of l.initial.search l.initial.lines.items) l.at
+    (stage_of l.search l.lines.items)
 
 abbrev pub decreases-loop-at : goal.decreases-loop-at
 decreases-loop-at l = room l.search.places.items + length l.search.queue.items - l.at

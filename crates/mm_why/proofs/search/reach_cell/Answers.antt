@@ -8,14 +8,20 @@ use Rattle.mm_why.proofs.search.reach_cell.Goals as goal
 
 pub returns-then-is_placed-clause-placed : goal.returns-then-is_placed-clause-placed
 returns-then-is_placed-clause-placed c = λ a at lo hi now.
-    placed_before c.args.subject.now.image.now c.args.subject.now.graph.now.keys.items c.args.subject.now.group (stage_of c.args.search.now c.args.lines.now.items) (slice_index c.args.subject.now.graph.now.targets.items c.args.k) now
+    placed_before c.args.subject.now.image.now c.args.subject.now.graph.now.keys.items c.args.subject.now.group
+    (stage_of c.args.search.now c.args.lines.now.items) (slice_index c.args.subject.now.graph.now.targets.items
+    c.args.k) now
     (subst (IsPlaced c.args.search.now.places.items) c.target_of-to.ensures (c.if-is_placed.ensures.placed refl))
 
 pub returns-clause-placed : goal.returns-clause-placed
 returns-clause-placed c = λ a at lo hi now.
     let f = c.pointer_at-pointer.ensures in
-    let follows = cell_now c.args.subject.now.image.now c.args.subject.now.graph.now c.requires.graph c.args.subject.now.group a c.args.by c.args.k (stage_of c.args.search.now c.args.lines.now.items) c.pointer_at-pointer.result at now f lo hi in
+    let follows = cell_now c.args.subject.now.image.now c.args.subject.now.graph.now c.requires.graph
+    c.args.subject.now.group a c.args.by c.args.k (stage_of c.args.search.now c.args.lines.now.items)
+    c.pointer_at-pointer.result at now f lo hi in
     let h = c.in_ok-reach.ensures.reached c.args.subject.now.image.now c.args.subject.now.graph.now.keys.items (rising c.args.subject.now.image.now c.args.subject.now.graph.now c.requires.graph) now
     (subst (λ v. AtNode c.args.subject.now.graph.now.keys.items v c.pointer_at-pointer.result) (sym c.target_of-to.ensures) f.node)
-    (subst (λ v. Follows c.args.subject.now.image.now c.args.lines.now.items (length c.args.lines.now.items) c.args.subject.now.group c.pointer_at-pointer.result (rules.Cell v c.args.by)) (sym c.word_at-word.ensures) follows) in
+    (subst (λ v. Follows c.args.subject.now.image.now c.args.lines.now.items (length c.args.lines.now.items)
+    c.args.subject.now.group c.pointer_at-pointer.result (rules.Cell v c.args.by)) (sym c.word_at-word.ensures)
+    follows) in
     (h.0, subst (IsPlaced c.reach.new.search.places.items) c.target_of-to.ensures h.1)

@@ -23,5 +23,7 @@ returns-clause-placed c = λ at now.
     let e : c.loop-k.k ≡ (node_at c.args.subject.now.graph.now.nodes.items c.args.node).high =
     (let h = ap (λ v. v.high) c.node_of-here.ensures in let l = ap (λ v. v.low) c.node_of-here.ensures in let a = c.loop-k-test.false in
     let b = c.loop-k.auto.k-end (omega (arith, o, h, l)) in omega (arith, a, b, h)) in
-    subst (λ v. CellsPlaced c.args.subject.now.image.now c.args.subject.now.graph.now c.args.subject.now.group c.args.node v (stage_of c.args.search.now c.args.lines.now.items) (stage_of c.loop-k.search c.loop-k.lines.items)) e
+    subst (λ v. CellsPlaced c.args.subject.now.image.now c.args.subject.now.graph.now c.args.subject.now.group
+    c.args.node v (stage_of c.args.search.now c.args.lines.now.items)
+    (stage_of c.loop-k.search c.loop-k.lines.items)) e
     (c.loop-k.invariant.1 at now)
