@@ -19,7 +19,7 @@ CHECKOUT = os.path.dirname(os.path.dirname(os.path.dirname(os.path.abspath(__fil
 NOT_THERE = (
     "mm: the program `mmachine` is needed, and was not found.",
     f"    It was looked for in ${VARIABLE}, beside `mm`, in {BUILT} of this checkout, and on the path.",
-    "    Build it with `cd crates/mmachine && rt run -- run ../../examples/hello.img 10` (docs/INSTALL.md, From the sources),",
+    "    Build it with `tools/build` (docs/INSTALL.md, From the sources),",
     f"    or say where it is: `mm --program FILE ..`, or `export {VARIABLE}=FILE`.",
 )
 
