@@ -1,14 +1,11 @@
 -- Names in a set, and the place of a name among those that rise.
-use Rattle.std.proofs.Common.{◌≡◌, ℕ, zero, suc, ◌+◌, ◌<◌, ◌≤◌, Bool, true, false, not, ◌&&◌, ◌||◌, if◌then◌else◌, List}
-use Rattle.std.proofs.Common.{[], ◌∷◌, ◌++◌, map, length, get_or, take, Option, Some, None, is_some, refl, sym, ap, ◌∙◌}
+use Rattle.std.proofs.Common.{◌≡◌, ℕ, zero, suc, ◌+◌, ◌<◌, Bool, true, false, not, ◌&&◌, ◌||◌, if◌then◌else◌, List}
+use Rattle.std.proofs.Common.{[], ◌∷◌, ◌++◌, length, get_or, take, Option, is_some, refl, sym, ap, ◌∙◌}
 use Rattle.std.proofs.Common.{subst, arith, inl, inr}
-use Rattle.std.specs.Prelude.{nat_le}
 use Rattle.std.specs.declared.cmp.Ordering.{Ordering}
 use Rattle.std.specs.declared.cmp.Ordering.TheVariants.{Less, Equal, Greater}
-use Rattle.std.specs.Ordering.{ordering_index, nat_cmp, match_ordering, is_lt, is_eq}
+use Rattle.std.specs.Ordering.{ordering_index, nat_cmp, is_lt, is_eq}
 use Rattle.std.specs.Cmp.Lexicographic.{slice_cmp}
-use Rattle.std.specs.BTreeSet.{insert_key}
-use Rattle.std.specs.List.{list_any}
 use Rattle.std.proofs.lemmas.Bool.Decides.{nat_tests}
 use Rattle.std.proofs.lemmas.Cmp.{same_from_slice_cmp, nat_list_cmp_total, tied_itself}
 use Rattle.std.proofs.lemmas.Bool.{cases_lt}
@@ -23,7 +20,7 @@ use Rattle.mm_object.specs.Names.{is_before}
 use Rattle.mm_object.specs.Objects.{same_name, is_among, ascend}
 use Rattle.mm_model.proofs.ImageBytes.Rising.{both}
 use Rattle.mm_object.proofs.Bools.{is_false}
-use Rattle.mm_asm.specs.Names.{Use, insert_name, position_of, externals_with, with_use, is_external, name_of}
+use Rattle.mm_asm.specs.Names.{Use, position_of, externals_with, with_use, is_external, name_of}
 use Rattle.mm_asm.specs.Faults.{limit_failures, in_source, is_too_many}
 use Rattle.mm_asm.specs.Steps.{limit_failure}
 use Rattle.mm_asm.specs.Answers.{bytes_of, Meets}

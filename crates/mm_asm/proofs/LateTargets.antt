@@ -14,7 +14,7 @@ use Rattle.mm_draft.specs.declared.segment.Word.{Word}
 use Rattle.mm_draft.specs.declared.place.Place.{Place}
 use Rattle.mm_draft.specs.declared.thread.Register.{Register}
 use Rattle.mm_draft.specs.Drafts as draft
-use Rattle.mm_draft.specs.Drafts.{Thread, Draft, place_of}
+use Rattle.mm_draft.specs.Drafts.{Draft, place_of}
 use Rattle.mm_object.specs.Objects.{Segment, is_within}
 use Rattle.mm_model.proofs.ImageBytes.Rising.{both}
 use Rattle.mm_asm.specs.Names.{Use, uses_of, externals_of, segment_uses, word_uses, content_uses, constant_uses, thread_uses, register_uses, meant_by, position_of}

@@ -1,9 +1,8 @@
 -- What is in a list, and what holds of each item, also of one whose last item changes.
-use Rattle.std.proofs.Common.{◌≡◌, ◌⊎◌, ℕ, zero, suc, ◌+◌, ◌<◌, ◌≤◌, Bool, true, false, ◌&&◌, ◌||◌, if◌then◌else◌, List}
-use Rattle.std.proofs.Common.{[], ◌∷◌, ◌++◌, map, length, slice_get, Some, None, option_map, refl, sym, ap, ◌∙◌, subst}
+use Rattle.std.proofs.Common.{◌≡◌, ℕ, zero, suc, ◌+◌, ◌≤◌, Bool, true, false, ◌&&◌, ◌||◌, if◌then◌else◌, List}
+use Rattle.std.proofs.Common.{[], ◌∷◌, ◌++◌, map, length, slice_get, Some, None, option_map, refl, sym, ap, ◌∙◌}
 use Rattle.std.proofs.Common.{inl, inr, arith}
-use Rattle.std.specs.List.{flat_map, filter, list_any, list_all, range_with_len, AllByRecursion}
-use Rattle.std.proofs.lemmas.Bool.{cases_lt}
+use Rattle.std.specs.List.{flat_map, filter, list_any, list_all, AllByRecursion}
 use Rattle.mm_draft.specs.Drafts.{last, change_last}
 use Rattle.mm_model.proofs.ImageBytes.Rising.{and_true}
 use Rattle.mm_object.proofs.Bools.{is_false}

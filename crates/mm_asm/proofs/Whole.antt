@@ -8,7 +8,7 @@ use Rattle.std.proofs.lemmas.List.{length-map}
 use Rattle.std.proofs.lemmas.Bool.Decides.{nat_tests}
 use Rattle.mm_draft.specs.declared.place.Place.{Place}
 use Rattle.mm_draft.specs.Drafts as draft
-use Rattle.mm_draft.specs.Drafts.{Draft, place_of, pointers_of}
+use Rattle.mm_draft.specs.Drafts.{Draft, place_of}
 use Rattle.mm_object.specs.declared.target.Target.{Target}
 use Rattle.mm_object.specs.declared.target.Reloc.{Reloc}
 use Rattle.mm_object.specs.declared.thread.Thread.{Thread}
@@ -18,7 +18,7 @@ use Rattle.mm_asm.specs.Names.{Use, meant_by, segment_uses, thread_uses, uses_of
 use Rattle.mm_asm.specs.Meaning.{segment_of, target_by, target_of, segments_relocs, thread_of, by_slot, object_of}
 use Rattle.mm_asm.specs.Faults.{late_failures}
 use Rattle.mm_asm.specs.Bounds as bounds
-use Rattle.mm_asm.specs.Bounds.{IsPlaced, IsDraft}
+use Rattle.mm_asm.specs.Bounds.{IsDraft}
 use Rattle.mm_asm.proofs.Lists.{passes, any_found, none_found}
 use Rattle.mm_object.proofs.Members.{In, in_left, in_right, in_map, in_flat, from_flat, each_in, each_from, each_map}
 use Rattle.mm_asm.proofs.Order.{rising_ascends, each_among, position_at}

@@ -1,5 +1,5 @@
 -- The words at which groups meet, with one span more.
-use Rattle.std.proofs.Common.{◌≡◌, ℕ, ◌+◌, ◌<◌, ◌≤◌, ◌⊎◌, inl, inr, List, length, slice_index, slice_set, refl, sym, ap, ◌∙◌, subst, arith}
+use Rattle.std.proofs.Common.{◌≡◌, ℕ, ◌+◌, ◌<◌, ◌≤◌, ◌⊎◌, inl, inr, List, length, slice_index, slice_set, sym, ap, ◌∙◌, subst, arith}
 use Rattle.std.specs.Int.{bit_at}
 use Rattle.std.proofs.lemmas.List.{get_or-set_same, get_or-set_other, length-set}
 use Rattle.std.proofs.lemmas.Nat.Bits.{bit_at-zero}
@@ -10,7 +10,7 @@ use Rattle.mm_audit.specs.declared.opening.Open.{Open}
 use Rattle.mm_audit.specs.declared.meets.Meets.{Meets}
 use Rattle.mm_audit.specs.Spans.{AreInOrder, base_at}
 use Rattle.mm_audit.specs.Opening.{IsOpenAt}
-use Rattle.mm_audit.specs.Meeting.{NotesWord, NotesAll, AreRows, AreNoRows, MeetAt, IsMeeting, HaveMet, HasWord, no_row, row_at, word_at}
+use Rattle.mm_audit.specs.Meeting.{NotesWord, NotesAll, AreNoRows, MeetAt, IsMeeting, HaveMet, HasWord, no_row, row_at, word_at}
 use Rattle.mm_audit.proofs.Bits.{zero_or_one}
 
 nat_cases : (k h : ℕ) → (k ≡ h) ⊎ (k ≡ h → ⊥)

@@ -56,8 +56,7 @@ fn kept_cell(keep: bool, cell: Cell) -> Cell
 
 /// The cells of a page, with integer 0, full, at the words that the set does not cover.
 fn cells_of(alloc: Global, set: &SegSet, page: &Page) -> Result<Vec<Cell>, AllocError>
-    ensures cells { IfOk result (λ cells. cells.items ≡ kept_cells (is_covered set.now) (page.now.0 * 4096) page.now.1)
-        }
+    ensures cells { IfOk result (λ cells. cells.items ≡ kept_cells (is_covered set.now) (page.now.0 * 4096) page.now.1) }
     ensures whole { IfOk result (λ cells. length cells.items ≡ 512) }
 {
     let base = page.number() * 4096;
@@ -72,8 +71,7 @@ fn cells_of(alloc: Global, set: &SegSet, page: &Page) -> Result<Vec<Cell>, Alloc
 
 /// The page with integer 0, full, at the words that the set does not cover.
 fn page_of(alloc: Global, set: &SegSet, page: &Page) -> Result<Page, AllocError>
-    ensures { IfOk result (λ kept. kept ≡ (page.now.0, kept_cells (is_covered set.now) (page.now.0 * 4096) page.now.1))
-        }
+    ensures { IfOk result (λ kept. kept ≡ (page.now.0, kept_cells (is_covered set.now) (page.now.0 * 4096) page.now.1)) }
 {
     let cells = cells_of(alloc, set, page)?;
     match Page::new(page.number(), cells) {

@@ -22,7 +22,7 @@ use Rattle.mm_cli.specs.declared.words.Word.{Word as Read}
 use Rattle.mm_cli.specs.Words.{AreOfRow, Word, file_word, number_word, groups_word, mode_word, range_word, use_word}
 use Rattle.mm_cli.specs.Words.{mode_text, use_text, text_list, FitsPlace, FitsLast, FitsRow, room, spelled, spoken}
 use Rattle.mm_cli.specs.Words.{texts}
-use Rattle.mm_cli.specs.Table.{Listed, Row, IsInTable, Asks, Fits, InNoRow, NoneIsNamed, is_same, row_for, table}
+use Rattle.mm_cli.specs.Table.{Listed, Row, IsInTable, Asks, Fits, InNoRow, is_same, row_for, table}
 use Rattle.mm_cli.specs.Said.{said, said_by}
 use Rattle.mm_cli.proofs.GroupWords.{one_list}
 use Rattle.mm_cli.proofs.SaidWords.{said_row}

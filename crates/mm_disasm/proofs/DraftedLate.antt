@@ -10,7 +10,7 @@ use Rattle.mm_line.specs.declared.statement.Content.TheVariants as content
 use Rattle.mm_draft.specs.declared.segment.Word.{Word}
 use Rattle.mm_draft.specs.declared.place.Place.{Place}
 use Rattle.mm_draft.specs.Drafts as draft
-use Rattle.mm_draft.specs.Drafts.{Draft, place_of}
+use Rattle.mm_draft.specs.Drafts.{Draft}
 use Rattle.mm_draft.specs.Faults.{fault_if}
 use Rattle.mm_object.specs.declared.item.Item.{Item}
 use Rattle.mm_object.specs.declared.target.Reloc.{Reloc}

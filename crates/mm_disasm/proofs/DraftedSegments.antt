@@ -8,7 +8,7 @@ use Rattle.std.proofs.lemmas.Bool.{not-true}
 use Rattle.std.proofs.lemmas.Bool.Decides.{nat_tests}
 use Rattle.std.proofs.lemmas.Slice.Eq.{bytes_eq-Decides}
 use Rattle.mm_draft.specs.Drafts as draft
-use Rattle.mm_draft.specs.Drafts.{Entry, Draft, place_in, pointers_of, pointers_among}
+use Rattle.mm_draft.specs.Drafts.{Entry, Draft, place_in, pointers_of}
 use Rattle.mm_draft.specs.Faults as faults
 use Rattle.mm_draft.specs.Faults.{lines_from}
 use Rattle.mm_object.specs.Objects.{Segment, Object, IsSegment, same_name, is_among, are_apart, names_of, words_of}

@@ -1,5 +1,5 @@
 -- The header of an image file as a format.
-use Rattle.std.proofs.Common.{◌≡◌, ℕ, ◌-◌, false, not, nat_lt, List, length, refl, ap, ◌∙◌, codes, arith}
+use Rattle.std.proofs.Common.{◌≡◌, ℕ, ◌-◌, false, not, nat_lt, length, refl, ap, ◌∙◌, codes, arith}
 use Rattle.std.specs.Prelude.{◌==◌, ◌||◌}
 use Rattle.std.proofs.lemmas.Bool.Decides.{nat_tests}
 use Rattle.mm_model.specs.Spelling.{mode_of}

@@ -20,7 +20,7 @@ use Rattle.mm_model.proofs.ImageBytes.Clean.{neither, not_not, is_above, is_not}
 use Rattle.mm_model.proofs.ImageBytes.CleanWords.{bits_again}
 use Rattle.mm_model.proofs.ImageBytes.Bitmaps.{number_of_flags-flags, bitmap-part}
 use Rattle.mm_model.proofs.ImageBytes.Ranges.{map-map}
-use Rattle.mm_format.specs.Formats.{Format, IsFormat, u16, u64, byte, raw, each, times, late}
+use Rattle.mm_format.specs.Formats.{IsFormat, u64, byte, each}
 use Rattle.mm_format.specs.Images.{mask, flags_of, bits_in, bits, word, ip, slot, cells_of, page, handler_tests}
 use Rattle.mm_format.specs.Images.{slots, header_in, image}
 use Rattle.mm_format.proofs.Formats.{byte_is, u16_is, u64_is, raw_is, test_is, then_is, done_is}

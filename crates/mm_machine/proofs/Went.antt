@@ -1,5 +1,5 @@
 -- Cycles of a machine: one more at a time, and for the run of an image.
-use Rattle.std.proofs.Common.{◌≡◌, ℕ, ◌<◌, inl, inr, List, [], ◌∷◌, ◌++◌, Option, Some, None, refl, sym, ap, ◌∙◌, subst, append_assoc}
+use Rattle.std.proofs.Common.{◌≡◌, ℕ, List, [], ◌∷◌, ◌++◌, Option, Some, refl, sym, ap, ◌∙◌, subst, append_assoc}
 use Rattle.mm_mem.specs.declared.memory.Memory.{Ghosts}
 use Rattle.mm_model.specs.Uses.{Use, takes_none, takes_both}
 use Rattle.mm_model.specs.State.{State}
@@ -8,7 +8,6 @@ use Rattle.mm_model.specs.Run.{after, run, uses, turn_of, last_item}
 use Rattle.mm_machine.specs.declared.machine.Machine.{Machine}
 use Rattle.mm_machine.specs.Machine.{state_of, Takes, StandsTo, StandsFor}
 use Rattle.mm_machine.proofs.Keeping.{run_more, uses_more}
-use Rattle.mm_sched.specs.Following.{IsNext}
 use Rattle.mm_machine.specs.Going.{WentOn}
 
 -- items behind items

@@ -29,7 +29,7 @@ use Rattle.mm_model.specs.Effect.Effect.{Fault, Block, Deliver, Does}
 use Rattle.mm_model.specs.Turn.{Turned, reply, put_all, state_after, with_issue, slot_after, with_other, with_queue}
 use Rattle.mm_model.specs.Turn.{with_out, core_after, stood, is_sync, event_of, core_faulted, faulted, touch_of}
 use Rattle.mm_model.specs.Turn.{asked_use, blocked, ended, executed, idle, arrives, is_running, is_taken, turn}
-use Rattle.mm_model.specs.Fits.{is_waiting, identity_of, slots_of, IsSlot, IsFormed, Matches, IsOfVersion, IsCore}
+use Rattle.mm_model.specs.Fits.{is_waiting, identity_of, slots_of, IsSlot, IsFormed, Matches, IsCore}
 use Rattle.mm_model.proofs.CoreRows.{slot_at-number, slot_at-put_other, slot_at-put_queue, put_queue-put_slot, slot_has}
 use Rattle.mm_model.proofs.CoreRows.{slot_contained, each_contained, each_map, of_version_by, has_group_by, stays_by}
 use Rattle.mm_model.proofs.SlotSteps.{GoesOn, goes_then, slot_stands, slot_stood, slot_put_all, slot_issued, slot_delivered, delivered_from}

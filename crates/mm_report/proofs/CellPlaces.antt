@@ -1,5 +1,5 @@
 -- Where the cells of a page are, and their lines place by place.
-use Rattle.std.proofs.Common.{◌≡◌, ℕ, zero, suc, ◌+◌, ◌*◌, ◌%◌, ◌<◌, ◌^◌, Bool, true, false, cond, if◌then◌else◌, is_eq}
+use Rattle.std.proofs.Common.{◌≡◌, ℕ, suc, ◌+◌, ◌*◌, ◌<◌, Bool, true, false, cond, if◌then◌else◌, is_eq}
 use Rattle.std.proofs.Common.{List, [], ◌∷◌, ◌++◌, length, map, Option, Some, None, slice_get, slice_index_or, refl}
 use Rattle.std.proofs.Common.{sym, ap, ◌∙◌, arith}
 use Rattle.std.specs.List.{flat_map, range_with_len, AllByRecursion}
@@ -9,7 +9,7 @@ use Rattle.std.specs.FinMap.{is_sorted, find}
 use Rattle.std.proofs.lemmas.Grind.{flat_map-append}
 use Rattle.std.proofs.lemmas.List.{get_or-replicate, length-replicate}
 use Rattle.mm_word.specs.declared.word.Cell.{Cell}
-use Rattle.mm_model.specs.Memory.{Memory, page_of, place_of, page_at, is_mapped, cell_in, cell_at, zero_cell, zero_page, IsPage, IsPaged}
+use Rattle.mm_model.specs.Memory.{Memory, page_at, zero_cell, zero_page, IsPage, IsPaged}
 use Rattle.mm_model.specs.Lines.{cell_line}
 use Rattle.mm_model.specs.Report.{same_cell, changes_from, cells_or_zero}
 use Rattle.mm_mem.specs.Places.{IsAt}

@@ -7,7 +7,6 @@ use Rattle.mm_why.specs.declared.line.Line.{Line}
 use Rattle.mm_why.specs.declared.line.Rule.{Rule}
 use Rattle.mm_why.specs.declared.line.Rule.TheVariants as rules
 use Rattle.mm_why.specs.Derivations.{line_at, no_line, Names, Says, Follows, LineFollows, EachFollows, NoneTwice}
-use Rattle.mm_why.specs.Pruning.{NameEarlier}
 use Rattle.mm_why.specs.Traces.{Extends, IsFresh, Adds}
 use Rattle.mm_why.proofs.Pruning.{same_or_before}
 

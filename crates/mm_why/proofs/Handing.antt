@@ -1,5 +1,5 @@
 -- How one group hands a pointer to another.
-use Rattle.std.proofs.Common.{◌≡◌, ℕ, ◌+◌, ◌<◌, ◌⊎◌, inl, inr, List, length, refl, sym, ◌∙◌, subst, arith}
+use Rattle.std.proofs.Common.{◌≡◌, ℕ, ◌+◌, ◌<◌, ◌⊎◌, inl, inr, List, length, refl, sym, subst, arith}
 use Rattle.std.specs.List.{Contains}
 use Rattle.std.proofs.lemmas.List.Elements.{Contains-get_or, at_from_Contains}
 use Rattle.mm_word.specs.Pointer.{Pointer}
@@ -13,7 +13,6 @@ use Rattle.mm_why.specs.declared.line.Line.{Line}
 use Rattle.mm_why.specs.declared.line.Rule.TheVariants as rules
 use Rattle.mm_why.specs.declared.work.Work.{Work}
 use Rattle.mm_why.specs.Derivations.{Says, Follows}
-use Rattle.mm_why.specs.Traces.{IsFresh}
 use Rattle.mm_why.specs.Rounds.{HandsOn, round_at, AreRounds}
 use Rattle.mm_why.specs.Works.{GoesOn}
 use Rattle.mm_why.specs.Giving.{HasLine, JoinedAt}

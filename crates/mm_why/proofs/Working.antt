@@ -13,7 +13,7 @@ use Rattle.mm_why.specs.Traces.{IsTrace, Extends, Adds}
 use Rattle.mm_why.specs.Searches.{AtNode}
 use Rattle.mm_why.specs.Graphs.{HasNoLine, IsSearch}
 use Rattle.mm_why.specs.Works.{search_at, IsKnown, IsSearched, IsWork, GoesOn}
-use Rattle.mm_why.proofs.Growing.{extends_same, extends_trans}
+use Rattle.mm_why.proofs.Growing.{extends_trans}
 use Rattle.mm_why.proofs.Pruning.{same_or_before}
 use Rattle.mm_why.proofs.Searching.{Which, which}
 use Rattle.mm_why.proofs.Searching.Which.{same, other}

@@ -1,5 +1,5 @@
 -- What the result of a check tells.
-use Rattle.std.proofs.Common.{◌≡◌, ◌≢◌, ◌↔◌, ℕ, ◌+◌, ◌<◌, ◌%◌, refl, sym, ap, ◌∙◌, subst, add-zero, true, false, Option}
+use Rattle.std.proofs.Common.{◌≡◌, ◌≢◌, ◌↔◌, ℕ, ◌+◌, ◌%◌, refl, sym, ap, ◌∙◌, subst, add-zero, true, false, Option}
 use Rattle.std.proofs.Common.{None, Some, Result, Ok, Err, OnOk, IfOk, IfErr, pos, negsuc, ◌+ℤ◌, [], ◌∷◌, arith}
 use Rattle.std.specs.Prelude.{ℤ, if◌then◌else◌}
 use Rattle.std.proofs.lemmas.Grind.{common_steps}

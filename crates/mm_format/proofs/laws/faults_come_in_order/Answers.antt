@@ -1,4 +1,4 @@
-use Rattle.std.proofs.Common.{◌≡◌, ℕ, Some, sym, ap, ◌∙◌}
+use Rattle.std.proofs.Common.{◌≡◌, ℕ, Some, ap, ◌∙◌}
 use Rattle.mm_format.specs.Formats.{Outcome, after, fault_in, Outcome.{Got, Bad}}
 use Rattle.mm_format.specs.{Headers.header, Images.{slots, pages, image, image_fault}}
 use Rattle.mm_format.proofs.laws.faults_come_in_order.Goals as goal
