@@ -5,7 +5,7 @@ use Rattle.mm_model.specs.Bytes.{number_at}
 use Rattle.mm_format.specs.Formats.{cons}
 use Rattle.mm_format.specs.Headers.{header}
 use Rattle.mm_format.specs.Images.{flags_of, mask, bits_in, bits, word, ip, slot, page, slots, image, image_fault}
-use Rattle.mm_examples.specs.Worked.{SpelledInBytes, FirstFaults}
+use Rattle.mm_examples.specs.Worked.{SpelledInBytes, FirstFaults, HandlersAreLate}
 
 pub spelled_in_bytes : SpelledInBytes
 unfolding slot_record page_record spelling
@@ -13,4 +13,27 @@ spelled_in_bytes = (refl, refl)
 
 pub first_faults : FirstFaults
 unfolding image_fault number_at cons header flags_of mask bits_in bits word ip slot page slots image
-first_faults = (refl, refl, refl, refl, refl, refl, refl)
+first_faults = (
+  refl,
+  refl,
+  refl,
+  refl,
+  refl,
+  refl,
+  refl,
+  refl,
+  refl,
+  refl,
+  refl,
+  refl,
+  refl,
+  refl,
+  refl,
+  refl,
+  refl,
+  refl,
+)
+
+pub handlers_are_late : HandlersAreLate
+unfolding image_fault number_at cons header flags_of mask bits_in bits word ip slot page slots image
+handlers_are_late = (refl, refl, refl)

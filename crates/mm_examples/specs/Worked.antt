@@ -1,5 +1,5 @@
 -- Worked examples of runs.
-use Rattle.std.specs.Prelude.{◌≡◌, ℕ, true, false, List, [], ◌∷◌, ◌++◌, length, take, slice_set, map, replicate, codes}
+use Rattle.std.specs.Prelude.{◌≡◌, ℕ, true, false, List, [], ◌∷◌, ◌++◌, length, take, drop, slice_set, map, replicate, codes}
 use Rattle.std.specs.Prelude.{Option, Some, None}
 use Rattle.mm_word.specs.declared.word.Word.{Word}
 use Rattle.mm_word.specs.declared.word.Word.TheVariants.{Int}
@@ -115,6 +115,25 @@ FirstFaults =
     × (image_fault malformed_bytes ≡ Some (9, 54))
     × (image_fault (slice_set smallest_bytes 16 16) ≡ Some (5, 16))
     × (image_fault (slice_set (slice_set smallest_bytes 5 2) 16 64) ≡ Some (5, 16))
+    × (image_fault (slice_set smallest_bytes 0 0) ≡ Some (2, 0))
+    × (image_fault (slice_set smallest_bytes 5 3) ≡ Some (3, 4))
+    × (image_fault (slice_set smallest_bytes 7 17) ≡ Some (4, 6))
+    × (image_fault (slice_set smallest_bytes 9 0) ≡ Some (12, 8))
+    × (image_fault (slice_set smallest_bytes 11 2) ≡ Some (12, 10))
+    × (image_fault (slice_set smallest_bytes 15 1) ≡ Some (4, 12))
+    × (image_fault (slice_set smallest_bytes 17 16) ≡ Some (6, 17))
+    × (image_fault (slice_set smallest_bytes 18 0) ≡ Some (7, 18))
+    × (image_fault (slice_set smallest_bytes 19 2) ≡ Some (8, 19))
+    × (image_fault (slice_set smallest_bytes 20 0x23) ≡ Some (10, 20))
+    × (image_fault (slice_set smallest_bytes 11 1 ++ replicate 8 255) ≡ Some (11, 158))
+
+-- handlers are tested after the last slot, and before the first page
+abbrev pub HandlersAreLate : Type 0
+HandlersAreLate =
+    (image_fault (slice_set (slice_set smallest_bytes 18 0) 19 2) ≡ Some (8, 19))
+    × (image_fault (slice_set (slice_set smallest_bytes 11 1) 18 0 ++ replicate 8 255) ≡ Some (7, 18))
+    × (image_fault (slice_set smallest_bytes 7 2 ++ slice_set (slice_set (drop 16 smallest_bytes) 0 1) 2 7)
+    ≡ Some (7, 160))
 
 -- 2. Runs of several slots.
 

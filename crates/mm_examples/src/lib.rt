@@ -8,6 +8,7 @@ ghost use Rattle.mm_examples.specs.Worked.{ReadingIsNoSignal, NoForgery, MapsFra
 ghost use Rattle.mm_examples.specs.Worked.{CountsBehindTheGate, TakesEvents, ResumesTakenAlone, TwoGroups};
 ghost use Rattle.mm_examples.specs.Worked.{AbsentSlotsIdle, TracesTheGate, WaitsInTheTrace, Issues, Delivers};
 ghost use Rattle.mm_examples.specs.Worked.{LoadsAtOnce, WaitsToWrite, CountsDoneStores, SpelledInBytes, FirstFaults};
+ghost use Rattle.mm_examples.specs.Worked.{HandlersAreLate};
 ghost use Rattle.mm_examples.specs.Worked.{CountsHello, CountsGated, CountsSweeper};
 ghost use Rattle.mm_examples.specs.WorkedSchedules.{MeansItems, MeansNothing, MeansAbsentSlots, SkipsComments};
 ghost use Rattle.mm_examples.specs.WorkedSchedules.{CountsTooMany, ListsTooMany, CountsNone, LeadsWithZero};
@@ -89,10 +90,11 @@ pub fn counts_of_runs()
 {}
 
 /// Examples of the bytes of images, and of their first faults.
-#[tactic(auto, using(crate::proofs::Spelled::spelled_in_bytes, crate::proofs::Spelled::first_faults))]
+#[tactic(auto, using(crate::proofs::Spelled::spelled_in_bytes, crate::proofs::Spelled::first_faults, crate::proofs::Spelled::handlers_are_late))]
 pub fn bytes_of_images()
     ensures spelled_in_bytes { SpelledInBytes }
     ensures first_faults { FirstFaults }
+    ensures handlers_are_late { HandlersAreLate }
 {}
 
 /// Examples of schedules: their meanings and faults, and what is kept of them for a group.

@@ -8,7 +8,7 @@ use Rattle.mm_format.specs.declared.reader.ReadError.{ReadError}
 use Rattle.mm_format.specs.declared.reader.ReadError.TheVariants.{Fault, NoMemory}
 use Rattle.mm_format.specs.Formats.{Outcome, Format, IsFormat, Stands, file, fault_in, RoundTrips, IsOneToOne}
 use Rattle.mm_format.specs.Formats.Outcome.{Got, Bad}
-use Rattle.mm_format.specs.Reading.{Fails, AnswersFile, named}
+use Rattle.mm_format.specs.Reading.{Fails, AnswersFile, fault_named_by}
 use Rattle.mm_format.proofs.Formats.{after_got}
 
 module _ {A : Type 0} (f : Format A) (is : IsFormat f) where
@@ -76,7 +76,7 @@ module _ {A K E : Type 0} (file : Outcome A) (Spells : A → Type 0)
     first = λ f some. let clash : None ≡ Some f = sym (ap fault_in is) ∙ some in absurd cc;
   }
 
-  pub answers_err : (e : ReadError K) (told : E) → fault_of told ≡ named number e → Fails number file e
+  pub answers_err : (e : ReadError K) (told : E) → fault_of told ≡ fault_named_by number e → Fails number file e
       → AnswersFile fault_of Spells (fault_in file) (Err told)
   answers_err NoMemory told same h = record {
     spelled = tt;

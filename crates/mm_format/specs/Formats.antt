@@ -134,7 +134,7 @@ RoundTrips {A} f =
 abbrev pub IsOneToOne : {A : Type 0} → Format A → Type 0
 IsOneToOne {A} f = (a b : A) → f.Fits a → f.Fits b → f.spell a ≡ f.spell b → a ≡ b
 
--- the number and the place of the fault that is read, if it is one
+-- the number and the place of the fault, if that is what was read
 abbrev pub fault_in : {A : Type 0} → Outcome A → Option (ℕ × ℕ)
 fault_in (Outcome.Got value next) = None
 fault_in (Outcome.Bad number at) = Some (number, at)

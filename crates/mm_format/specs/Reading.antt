@@ -34,16 +34,16 @@ ReadsFile number view read (Ok x) = (next : ℕ) × (read ≡ Outcome.Got (view 
 ReadsFile number view read (Err e) = Fails number read e
 
 -- the number and the offset of the fault that an error names, if memory did not run out
-abbrev pub named : {K : Type 0} → (K → ℕ) → ReadError K → Option (ℕ × ℕ)
-named number (Fault kind offset) = Some (number kind, offset)
-named number NoMemory = None
+abbrev pub fault_named_by : {K : Type 0} → (K → ℕ) → ReadError K → Option (ℕ × ℕ)
+fault_named_by number (Fault kind offset) = Some (number kind, offset)
+fault_named_by number NoMemory = None
 
--- what a reader of a whole file answers, whose errors name these faults, or none if memory ran out
+-- what the reader of a whole file answers; `fault_of` is the fault that an error names, none if memory ran out
 pub record AnswersFile {A E : Type 0} (fault_of : E → Option (ℕ × ℕ)) (Spells : A → Type 0) (fault : Option (ℕ × ℕ))
     (answer : Result A E) : Type 0 where
   -- the bytes spell the value that is read, and a value that they spell is read, unless memory ran out
   pub spelled : IfOk answer Spells
   pub again : (value : A) → Spells value → IfOk answer (λ x. x ≡ value) × IfErr answer (λ e. fault_of e ≡ None)
-  -- a fault that is named is the first one, and if there is one, it is named, unless memory ran out
+  -- a fault that is named is the first one, and if the file has a fault, it is named, unless memory ran out
   pub named : IfErr answer (λ e. (f : ℕ × ℕ) → fault_of e ≡ Some f → fault ≡ Some f)
   pub first : (f : ℕ × ℕ) → fault ≡ Some f → IsErrAnd answer (λ e. (fault_of e ≡ None) ⊎ (fault_of e ≡ Some f))

@@ -7,7 +7,8 @@ ghost use Rattle.mm_format.specs.Headers.{header};
 ghost use Rattle.mm_format.specs.Images.{image};
 ghost use Rattle.mm_format.specs.Laws.{FaultsComeInOrder, ImagesFit, ImagesAreSpelled};
 
-/// The first fault of an image file is that of the first of its parts that has one: header, slots, pages.
+/// The first fault of an image file is that of the first of its parts that has one: header, records of slots, their
+/// handlers, pages; and else it is a byte too many.
 pub fn faults_come_in_order()
     ensures { (bytes : List ℕ) → FaultsComeInOrder bytes }
 {}

@@ -1,4 +1,4 @@
-//! Values of sixteen places, one after the other.
+//! Sixteen values, one after the other.
 
 ghost use Rattle.std.specs.Prelude.{◌≡◌, ◌<◌, ◌==◌, ◌/◌, ◌%◌, ◌^◌, IfOk, length};
 ghost use Rattle.std.specs.List.{AllByRecursion};
@@ -15,7 +15,7 @@ pub fn is_set(bits: u16, place: usize) -> bool
     bits >> place & 1 == 1
 }
 
-/// Values of sixteen places, each read by its place.
+/// Sixteen values, one after the other. How one is read depends on its place.
 pub trait Sixteen<K: FaultKind> {
     ghost use Rattle.std.specs.Prelude.{ℕ, List, ⊤};
     ghost use Rattle.mm_format.specs.Formats.{Outcome};
@@ -37,11 +37,11 @@ pub trait Sixteen<K: FaultKind> {
         ensures each { IfOk result holds };
 }
 
-/// The values of sixteen places. They are written over `first`.
+/// Sixteen values. `filler` is in the array until they are read.
 pub fn read_sixteen<K: FaultKind, S: Sixteen<K>>(
     reader: &mut Reader,
     places: &S,
-    first: S::Item,
+    filler: S::Item,
 ) -> Result<[S::Item; 16], ReadError<K>>
     ensures read { ReadsAlone K.number (λ xs. xs)
         (sixteen (S.reads places.now) reader.old.bytes.now reader.old.at) reader.new.at result }
@@ -49,7 +49,7 @@ pub fn read_sixteen<K: FaultKind, S: Sixteen<K>>(
     ensures count { IfOk result (λ xs. length xs ≡ 16) }
     ensures each { IfOk result (λ xs. AllByRecursion S.holds xs) }
 {
-    let mut items = [first; 16];
+    let mut items = [filler; 16];
     for place in 0..16 {
         let item = places.item(reader, place)?;
         items[place] = item;

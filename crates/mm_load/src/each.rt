@@ -12,7 +12,7 @@ use mm_io::Files;
 use mm_object::Object;
 use std::alloc::Global;
 
-/// What the files of one kind are read as.
+/// A type that the files of one kind are read as.
 trait FromFile: Drop + Sized {
     ghost use Rattle.mm_cli.specs.declared.table.Kind.{Kind};
     ghost use Rattle.mm_load.specs.Kinds.{Value};
@@ -20,7 +20,7 @@ trait FromFile: Drop + Sized {
     /// The kind of the files.
     ghost of_kind: { Kind };
 
-    /// What such a file means, by what it is read as.
+    /// What it means.
     ghost meaning: { Self → Value };
 
     /// Reads and parses a file, the command's file `number`.

@@ -26,8 +26,7 @@ pub record TextFaultsAt {A : Type 0} (Says : List ℕ → List A → Type 0) (Ke
   pub rules : Keeps items
   pub fault : (said : List A) → Says word said → Keeps (items ++ said) → ⊥
 
--- The items of a word were added, and all keep the rules; or they were not, since the word says none, or these break a
--- rule.
+-- The items of a word were added, and all keep the rules; or the word says none, or these break a rule.
 abbrev pub AddsWord : {A : Type 0} → (Says : List ℕ → List A → Type 0) → (Keeps : List A → Type 0) → (word : List ℕ)
     → (old new : List A) → (added : Bool) → Type 0
 AddsWord {A = A} Says Keeps w old new true = (said : List A) × Says w said × (new ≡ old ++ said) × Keeps new

@@ -9,7 +9,7 @@ use mm_sched::{run_end, run_start};
 use mm_word::NoMemory;
 use std::alloc::Global;
 
-/// An item that words of a text say.
+/// An item of a text of words.
 pub trait TextItem: Copy {
     ghost use Rattle.std.specs.Prelude.{ℕ, List};
     ghost use Rattle.mm_net.specs.Words.{AddsWord};

@@ -10,7 +10,7 @@ use Rattle.mm_model.specs.Spelling.{bitmap, handler_byte}
 use Rattle.mm_format.specs.Formats.{each, cons, file, fault_in}
 use Rattle.mm_format.specs.Formats.Outcome.{Got}
 use Rattle.mm_format.specs.declared.reader.ReadError.{ReadError, TheVariants.{Fault, NoMemory}}
-use Rattle.mm_format.specs.Reading.{named}
+use Rattle.mm_format.specs.Reading.{fault_named_by}
 use Rattle.mm_format.specs.Images.{mask}
 use Rattle.mm_format.proofs.Files.{spelled_by, read_whole, same_value, clean_got}
 use Rattle.mm_format.proofs.Lists.{times_spell}
@@ -127,6 +127,6 @@ module _ (bytes : List ℕ) where
   spelled_one a b s t = same_value (sym (spelled_read a s) ∙ spelled_read b t)
 
 -- the error that is told names the fault that was met
-pub told_right : (e : ReadError ObjectFault) → fault_of (told e) ≡ named number_of e
+pub told_right : (e : ReadError ObjectFault) → fault_of (told e) ≡ fault_named_by number_of e
 told_right (Fault kind offset) = refl
 told_right NoMemory = refl

@@ -69,7 +69,7 @@ fn read_value(reader: &mut Reader, tagged: bool) -> Result<Value, ReadError<Obje
     }
 }
 
-// The tags of sixteen registers, of which those that are set become pointers.
+/// The tags of sixteen registers. A register whose tag is set becomes a pointer.
 #[derive(Drop)]
 struct Tags {
     tags: u16,

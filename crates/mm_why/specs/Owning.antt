@@ -27,16 +27,17 @@ can_use how p w = allows p.perm (asked how) && holds_word p w
 abbrev pub CanUse : Use → Pointer → ℕ → Type 0
 CanUse how p w = (allows p.perm (asked how) ≡ true) × Covers p w
 
--- a group of the mask; all that it has comes to the other group in this round
+-- no group of the mask has its own come to the other in a round before this one
+abbrev pub NoOwner : List (List ℕ) → ℕ → ℕ → ℕ → Type 0
+NoOwner rounds owners to top = (p h : ℕ) → p < top → h < 64 → bit_at owners h ≡ 1 → Has (round_at rounds p) h to → ⊥
+
+-- a group of the mask; this round is the first in which all that one of them has comes to the other group
 pub record IsOwner (rounds : List (List ℕ)) (owners to : ℕ) (o : Owner) : Type 0 where
   pub small : o.group < 64
   pub round : o.round < length rounds
   pub owns : bit_at owners o.group ≡ 1
   pub comes : Has (round_at rounds o.round) o.group to
-
--- no group of the mask has its own come to the other in a round before this one
-abbrev pub NoOwner : List (List ℕ) → ℕ → ℕ → ℕ → Type 0
-NoOwner rounds owners to top = (p h : ℕ) → p < top → h < 64 → bit_at owners h ≡ 1 → Has (round_at rounds p) h to → ⊥
+  pub first : NoOwner rounds owners to o.round
 
 -- the line of a node below `top` has a pointer that can be used
 pub record IsUsable (lines : List Line) (places : List (Option ℕ)) (how : Use) (word top t : ℕ) : Type 0 where

@@ -184,8 +184,8 @@ fn joining(slots: &[Slot], one: usize, other: usize) -> Option<u8>
     None
 }
 
-/// The line by which a group is granted a pointer that a line grants to the group of `owner`, if in the round all that
-/// the owner has of its own has come to the group.
+/// The line by which the group `to` is granted a pointer that a line grants to `owner.group`. All that the owner has of
+/// its own has come to `to` in the round `owner.round`.
 #[cycle(handing)]
 pub fn give(
     alloc: Global,

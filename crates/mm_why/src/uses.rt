@@ -100,7 +100,7 @@ fn owner_in(now: &Masks, owners: u64, to: usize) -> Option<usize>
     None
 }
 
-/// The first group of a mask whose own pointers come to a group, and the first round in which they have come.
+/// A group of a mask whose own pointers come to a group before those of any other, and the round in which they have come.
 pub fn first_owner(rounds: &Rounds, owners: u64, to: usize) -> Option<Owner>
     requires { AreRounds rounds.now.links rounds.now.meets rounds.now.rounds.items }
     ensures { MatchOption
