@@ -3,6 +3,7 @@ pub mod ManySlots
 pub mod Split
 pub mod CountsOf
 pub mod Spelled
+pub mod SpelledObjects
 pub mod Items
 pub mod Listed
 pub mod Reach

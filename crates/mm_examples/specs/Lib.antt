@@ -4,3 +4,4 @@ pub mod WorkedSchedules
 pub mod WorkedReach
 pub mod WorkedWords
 pub mod WorkedCommands
+pub mod WorkedObjects

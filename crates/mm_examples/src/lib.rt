@@ -14,6 +14,7 @@ ghost use Rattle.mm_examples.specs.WorkedSchedules.{MeansItems, MeansNothing, Me
 ghost use Rattle.mm_examples.specs.WorkedSchedules.{CountsTooMany, ListsTooMany, CountsNone, LeadsWithZero};
 ghost use Rattle.mm_examples.specs.WorkedSchedules.{KeepsOneGroup, KeepsIdleItems, KeepsPorts, RobinBeginsLate};
 ghost use Rattle.mm_examples.specs.WorkedCommands.{TableIsWrittenOut};
+ghost use Rattle.mm_examples.specs.WorkedObjects.{FirstObjectFaults, UsesAreLate};
 ghost use Rattle.mm_examples.specs.WorkedReach.{TouchesItsCode, NoGroupWrites, WritesNoCode, TwoGroupsStandApart};
 ghost use Rattle.mm_examples.specs.WorkedReach.{BothCanWrite, NeitherStandsApart};
 ghost use Rattle.mm_examples.specs.WorkedWords.{MakesPointers, MakesNone, Moves, MovesFromTheBase, Restricts, Shortens};
@@ -95,6 +96,13 @@ pub fn bytes_of_images()
     ensures spelled_in_bytes { SpelledInBytes }
     ensures first_faults { FirstFaults }
     ensures handlers_are_late { HandlersAreLate }
+{}
+
+/// Examples of the first faults of object files.
+#[tactic(auto, using(crate::proofs::SpelledObjects::first_object_faults, crate::proofs::SpelledObjects::uses_are_late))]
+pub fn faults_of_objects()
+    ensures first_object_faults { FirstObjectFaults }
+    ensures uses_are_late { UsesAreLate }
 {}
 
 /// Examples of schedules: their meanings and faults, and what is kept of them for a group.
