@@ -96,8 +96,7 @@ fn put_cells<O: Sink>(text: &mut Gather, out: &mut O, range: &Range, page: &Page
 
 /// Appends the line of a place, if it holds a pointer whose segment meets the range.
 fn put_holder<O: Sink>(text: &mut Gather, out: &mut O, range: &Range, place: Place, word: Word)
-    ensures { Gathers O.taken O.faults out.old out.new text.old text.new (holder_line range.now (place_text place) word)
-        }
+    ensures { Gathers O.taken O.faults out.old out.new text.old text.new (holder_line range.now (place_text place) word) }
 {
     if range.meets_word(&word) {
         put_place(text, out, place);
